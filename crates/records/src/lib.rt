@@ -1,0 +1,1 @@
+// The record form: its definitions stand in specs/.
