@@ -97,16 +97,19 @@ pub fn mangle(name: &[u8], params: &[(Vec<u8>, Ty)], variadic: bool) -> Vec<u8> 
 pub struct Layout {
     pub records: Vec<Record>,
     pub text: Vec<u8>,
-    types: Vec<Ty>,
+    /// The types by record, the twelve first.
+    pub types: Vec<Ty>,
     /// Takes an equal text that stands in the buffer already, where set.
     pub share_texts: bool,
     /// Writes a list's cells between its items, last first, where set; else after them.
     pub interleave: bool,
     /// Key texts other than `key_text`, by type record.
     pub keys: Vec<(usize, Vec<u8>)>,
+    /// Types that nothing need refer to.
+    pub extra_types: Vec<Ty>,
     /// How many statements, expressions, functions and parameters were met: each takes a span that
     /// tells its number, so that a person can name it.
-    met: [u32; 4],
+    pub met: [u32; 4],
 }
 
 pub const STATEMENT: usize = 0;
@@ -125,6 +128,9 @@ impl Layout {
 
     pub fn add(&mut self, functions: &[Fun]) {
         self.first_types();
+        for ty in self.extra_types.clone() {
+            self.ty(&ty);
+        }
         functions.iter().for_each(|func| self.types_of_function(func));
         self.type_records();
         for func in functions {

@@ -4,6 +4,7 @@
 pub mod ask;
 pub mod ast;
 pub mod convert;
+pub mod generate;
 pub mod judge;
 pub mod program;
 pub mod show;
@@ -21,5 +22,6 @@ pub mod elf {
 include!(concat!(env!("OUT_DIR"), "/krc.rs"));
 
 pub use convert::{Answer, convert};
+pub use generate::{Case, classes, generate};
 pub use judge::{Refusal, judge, needed};
 pub use tables::Tables;
