@@ -282,3 +282,18 @@ fn sizes_of_arrays() {
     assert_eq!(size(array(Ty::Byte, i64::MAX as u64)), most);
     assert_eq!(size(array(Ty::Byte, 1 << 63)), "27 e0");
 }
+
+#[test]
+fn bits_of_a_nan_are_kept() {
+    use oracle::{Answer, ast::Layout, convert, needed};
+    let nan = 0xFFF0_0000_0000_0001u64;
+    let body =
+        vec![declare("가", SINGLE), init("가", Ex::Float(nan, true)), init("나", Ex::Float(nan, false))];
+    let layout = Layout::program(&[func("하다", &[], None, body)]);
+    let tree = layout.tree();
+    let Answer::Converted(tables) = convert(&tree, &layout.text, false, needed(tree.len())) else {
+        panic!("the program converts")
+    };
+    let entry = |bits: u64, short: u8| [bits.to_le_bytes(), [short, 0, 0, 0, 0, 0, 0, 0]].concat();
+    assert_eq!(tables.floats, [entry(0, 1), entry(nan, 1), entry(nan, 0)].concat());
+}

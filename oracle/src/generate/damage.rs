@@ -9,7 +9,7 @@ use crate::write::*;
 pub fn every_kind() -> Vec<Fun> {
     let print = external("printf", &[("글", address(Ty::Char))], Some(SHORT), true);
     let print_call = call_of("printf", vec![string("%f"), float(0.5), Ex::Null]);
-    let sum = binary(Ex::SizeOf(array(custom("꼴"), 2)), ADD, unary(NEG, int(1)));
+    let sum = binary(Ex::SizeOf(array(custom("꼴"), 2)), ADD, unary(NEG, int(-1)));
     let inner =
         vec![St::If(Ex::Bool(true), vec![St::Break], Some(vec![St::Continue])), declare("나", address(LONG))];
     let body = vec![

@@ -47,11 +47,12 @@ pub fn program(rng: &mut Rng, number: u32) -> Vec<Fun> {
     }
     let faulty = func("틀리다", &miss.params, miss.ret, around);
     functions.push(faulty);
-    functions.splice(0..0, miss.before);
     functions.push(plain);
-    if number == 10 {
+    // Another `main` would come first, or be the one that is needed.
+    if number == 10 || number == 11 {
         functions.retain(|func| func.name != b"main");
     }
+    functions.splice(0..0, miss.before);
     functions
 }
 
@@ -186,7 +187,10 @@ fn wrong_operands(rng: &mut Rng) -> Miss {
         4 => binary(float(1.0), REM, float(2.0)),
         5 => binary(Ex::Bool(true), LT, Ex::Bool(false)),
         6 => binary(int(1), EQ, Ex::Bool(true)),
-        _ => binary(Ex::Int(1, true, false), ADD, binary(int(1), SHL, int(128))),
+        _ => {
+            let short = |value| Ex::Int(value, true, false);
+            binary(binary(short(1), SHL, short(128)), ADD, binary(int(1), SHL, int(128)))
+        }
     };
     body(vec![[init("가", bad.clone()), St::Call(bad)][rng.below(2)].clone()])
 }

@@ -4,6 +4,7 @@ pub mod constants;
 pub mod damage;
 pub mod list;
 pub mod misses;
+pub mod odd;
 pub mod programs;
 pub mod rng;
 pub mod shapes;
@@ -50,7 +51,10 @@ pub fn generate(seed: u64, class: &str) -> Case {
     let salt = class.bytes().fold(0u64, |salt, byte| salt.wrapping_mul(31).wrapping_add(u64::from(byte)));
     let mut rng = Rng::new(seed ^ salt << 40);
     let mut case = match class {
-        "near" => program(&mut rng, 25),
+        "near" => {
+            let wrong = [8, 20, 50, 150][rng.below(4)];
+            program(&mut rng, wrong)
+        }
         "miss" => miss(&mut rng, seed),
         "soup" => whole(soup::layout(&mut rng)),
         "integers" => laid_out(&mut rng, &constants::program(&mut seeded(seed), false)),

@@ -6,8 +6,8 @@ use crate::ast::{Ar, Ex, Fun, St, Ty};
 use crate::write::*;
 
 #[derive(Clone)]
-struct Variable {
-    name: String,
+pub(super) struct Variable {
+    pub(super) name: String,
     ty: Ty,
     constant: bool,
 }
@@ -15,14 +15,14 @@ struct Variable {
 pub struct Maker<'r> {
     pub rng: &'r mut Rng,
     /// The functions that can be called.
-    functions: Vec<Fun>,
+    pub(super) functions: Vec<Fun>,
     scopes: Vec<Vec<Variable>>,
     named: usize,
     loops: usize,
     ret: Option<Ty>,
     /// Expressions that may still be made; none left, and only leaves are.
     budget: usize,
-    /// Of a thousand expressions, how many take a type that their place does not ask for.
+    /// Of a thousand expressions or statements, how many are taken without regard to their place.
     wrong: usize,
 }
 
@@ -150,6 +150,9 @@ impl<'r> Maker<'r> {
     }
 
     pub fn statement(&mut self, depth: usize) -> St {
+        if self.rng.below(1000) < self.wrong {
+            return self.odd_statement();
+        }
         match self.rng.below(if depth == 0 { 10 } else { 16 }) {
             0 | 1 => {
                 let types: Vec<Ty> =
@@ -197,7 +200,7 @@ impl<'r> Maker<'r> {
         self.rng.pick(&types).clone()
     }
 
-    fn variables(&self) -> impl Iterator<Item = &Variable> {
+    pub(super) fn variables(&self) -> impl Iterator<Item = &Variable> {
         self.scopes.iter().flatten()
     }
 
@@ -268,13 +271,12 @@ impl<'r> Maker<'r> {
     /// An expression of type `ty`; where `fit` is set, one of another type that fits there too.
     pub fn expr(&mut self, ty: &Ty, depth: usize, fit: bool) -> Ex {
         if self.rng.below(1000) < self.wrong {
-            let other = self.rng.pick(&all_types()).clone();
-            return self.right(&other, depth.min(1), fit);
+            return self.odd_expr();
         }
         self.right(ty, depth, fit)
     }
 
-    fn right(&mut self, ty: &Ty, depth: usize, fit: bool) -> Ex {
+    pub(super) fn right(&mut self, ty: &Ty, depth: usize, fit: bool) -> Ex {
         let depth = if self.budget == 0 { 0 } else { depth };
         self.budget = self.budget.saturating_sub(1);
         let leafless = matches!(ty, Ty::Array(..) | Ty::Custom(_) | Ty::Char | Ty::Byte);

@@ -31,7 +31,7 @@ fn ty(rng: &mut Rng) -> Ty {
 
 fn function(rng: &mut Rng) -> Fun {
     let name = rng.pick(&VERBS).to_vec();
-    let external = if name.is_ascii() { rng.chance(95) } else { rng.chance(3) };
+    let external = if name.is_ascii() { rng.chance(99) } else { rng.chance(1) };
     let base = if rng.chance(80) { name.clone() } else { rng.pick(&VERBS).to_vec() };
     let mangled = [base, rng.pick(&TAILS).to_vec()].concat();
     let count = rng.below(3);
@@ -40,6 +40,28 @@ fn function(rng: &mut Rng) -> Fun {
     let body = rng.chance(10).then(|| vec![St::Return(int(1))]);
     let body = if ret == Some(LONG) { body } else { None };
     Fun { name, mangled, params, ret, body, external, variadic: rng.chance(30) }
+}
+
+/// A leaf of type `ty`: a literal or the caller's parameter.
+fn leaf(rng: &mut Rng, ty: &Ty) -> Ex {
+    let at = types().iter().position(|other| other == ty).unwrap_or(0);
+    match ty {
+        Ty::Int { short, .. } if rng.flip() => Ex::Int(1, *short, false),
+        Ty::Float { short } if rng.flip() => Ex::Float(0.5f64.to_bits(), *short),
+        _ => Ex::Name(vec![0x90 + at as u8]),
+    }
+}
+
+/// A call that is meant for `func`, with now and then an argument more or of another kind.
+fn call_for(rng: &mut Rng, func: &Fun, depth: usize) -> Ex {
+    let mut args = Vec::new();
+    for (_, ty) in &func.params {
+        args.push(if rng.chance(10) { argument(rng, depth) } else { Ar::Value(leaf(rng, ty)) });
+    }
+    if func.variadic || rng.chance(5) {
+        args.extend((0..rng.below(3)).map(|_| argument(rng, depth)));
+    }
+    Ex::Call(func.name.clone(), args)
 }
 
 fn argument(rng: &mut Rng, depth: usize) -> Ar {
@@ -65,6 +87,14 @@ fn call(rng: &mut Rng, depth: usize) -> Ex {
     Ex::Call(verb, (0..count).map(|_| argument(rng, depth)).collect())
 }
 
+fn one_call(rng: &mut Rng, functions: &[Fun]) -> Ex {
+    if functions.is_empty() || rng.chance(20) {
+        return call(rng, 2);
+    }
+    let func = rng.pick(functions).clone();
+    call_for(rng, &func, 1)
+}
+
 /// A program of odd functions and a few calls, laid out with odd key texts.
 pub fn layout(rng: &mut Rng) -> Layout {
     let mut functions: Vec<Fun> = Vec::new();
@@ -83,7 +113,7 @@ pub fn layout(rng: &mut Rng) -> Layout {
     }
     let params: Vec<(Vec<u8>, Ty)> =
         types().into_iter().enumerate().map(|(at, ty)| (vec![0x90 + at as u8], ty)).collect();
-    let body = (0..1 + rng.below(3)).map(|_| St::Call(call(rng, 2))).collect();
+    let body = (0..1 + rng.below(3)).map(|_| St::Call(one_call(rng, &functions))).collect();
     let caller = func("\u{AC00}", &[], None, body);
     functions.insert(rng.below(functions.len() + 1), Fun { params, ..caller });
     let keys = (0..13).map(|at| (at, rng.pick(&KEYS).to_vec())).collect();
