@@ -23,7 +23,7 @@ fn refuse(message: &str) -> ! {
 }
 
 fn source_root() -> PathBuf {
-    let Some(root) = env::var_os("KRC_SRC") else {
+    let Some(root) = env::var_os("KRC_SRC").filter(|root| !root.is_empty()) else {
         refuse("KRC_SRC is not set");
     };
     let root = Path::new(&root).join("src");
@@ -52,7 +52,7 @@ fn main() {
     text += "}\n#[allow(dead_code)] pub mod parser {\npub use crate::stand_ins::parser_token;\n";
     text += "pub mod postparser {\n";
     text += &module("structs", "parser/postparser/structs.rs");
-    text += "}\n}\n#[allow(dead_code)] pub mod converter {\npub mod ir {\n";
+    text += "}\n}\n#[allow(dead_code, clippy::all)] pub mod converter {\npub mod ir {\n";
     text += &module("structs", "converter/ir/structs.rs");
     text += "}\n";
     for name in ["convert_error", "converter", "expressions", "functions", "scope", "statements", "types"] {

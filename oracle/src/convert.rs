@@ -59,13 +59,23 @@ pub fn try_convert(tree: &[u8], text: &[u8], needs_main: bool, lens: [usize; 7])
     set_key_texts(build.key_texts());
     let program = build.program();
     match quietly(|| Converter::new(&program, needs_main).convert()) {
-        Ok(Ok(ir)) => Ok(Answer::Converted(tables(&build, &ir)?)),
+        Ok(Ok(ir)) => within(tables(&build, &ir)?, lens),
         Ok(Err(error)) => {
             let (number, place) = error_place(&error);
             Ok(Answer::Refused(refusal_at(&tree, number, place)))
         }
         Err(panic) => Ok(Answer::Refused(refusal_at(&tree, 27, stop_place(&tree, &panic)?))),
     }
+}
+
+/// The tables, which must lie within the buffers.
+fn within(tables: Tables, lens: [usize; 7]) -> Result<Answer, String> {
+    let [instructions, variables, labels, functions, strings, floats, _] = lens;
+    let lens = [functions, instructions, variables, labels, strings, floats];
+    if tables.in_order().iter().zip(lens).any(|(table, len)| table.len() > len) {
+        return Err(format!("a table leaves its buffer: {:?}", tables.counts()));
+    }
+    Ok(Answer::Converted(tables))
 }
 
 fn refusal_at(tree: &Tree, number: u32, place: u32) -> Refusal {

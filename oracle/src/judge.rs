@@ -32,7 +32,7 @@ pub fn needed(tree_len: usize) -> [usize; 7] {
 /// The rows lengths, buffers, records and nesting; the first that applies wins.
 pub fn judge(tree: &[u8], text: &[u8], lens: [usize; 7]) -> Result<(), Refusal> {
     let n = tree.len() / RECORD_BYTES;
-    if tree.len() % RECORD_BYTES != 0 || !(FEWEST_RECORDS..=MOST_RECORDS).contains(&n) {
+    if !tree.len().is_multiple_of(RECORD_BYTES) || !(FEWEST_RECORDS..=MOST_RECORDS).contains(&n) {
         return Err(Refusal::new(24, NONE));
     }
     if needed(tree.len()).iter().zip(lens).any(|(need, len)| len < *need) {

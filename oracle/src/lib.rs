@@ -8,6 +8,7 @@ pub mod generate;
 pub mod judge;
 pub mod program;
 pub mod show;
+pub mod source;
 pub mod stand_ins;
 pub mod tables;
 pub mod tree;

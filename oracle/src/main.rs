@@ -7,6 +7,7 @@ use std::{env, fs};
 
 use oracle::convert::try_convert;
 use oracle::generate::list::{bytes, cases};
+use oracle::source::source_text;
 use oracle::tree::Tree;
 use oracle::{Answer, classes, generate, judge, needed, show};
 
@@ -46,6 +47,9 @@ fn show_files(tree: &str, text: &str, options: &[&str]) -> Result<(), String> {
     let (bytes, text) = (read(tree)?, read(text)?);
     let tree = Tree::new(&bytes, &text);
     print!("{}", show::tree_text(&tree));
+    if judge(&bytes, &text, needed(bytes.len())).is_ok() {
+        print!("\n{}\n", source_text(&tree));
+    }
     match try_convert(&bytes, &text, options.contains(&"--main"), needed(bytes.len()))? {
         Answer::Converted(tables) => print!("{}", show::tables_text(&tables, &|at| format!("#{at}"))),
         Answer::Refused(refusal) => print!("{}", show::refusal_text(&tree, &refusal)),
@@ -89,7 +93,15 @@ fn count(n: &str, seed: &str, class: Option<&str>) -> Result<(), String> {
 fn list(seed: &str, n: &str, file: &str) -> Result<(), String> {
     let cases = cases(number(seed)?, number(n)? as usize);
     let bytes = bytes(&cases);
+    let mut numbers: BTreeMap<(u32, bool), u32> = BTreeMap::new();
+    for case in &cases {
+        let refusal = judge(&case.tree, &case.text, case.lens).err();
+        *numbers.entry(refusal.map_or((0, false), |r| (r.number, r.place != u32::MAX))).or_default() += 1;
+    }
     println!("{} cases, {} bytes", cases.len(), bytes.len());
+    for ((number, placed), count) in numbers {
+        println!("{number:2} {count}{}", if placed { " with a place" } else { "" });
+    }
     fs::write(file, bytes).map_err(|err| format!("{file}: {err}"))
 }
 

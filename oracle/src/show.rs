@@ -7,8 +7,8 @@ use crate::judge::Refusal;
 use crate::tables::Tables;
 use crate::tree::*;
 
-const UNARY_SIGNS: [&str; 3] = ["-", "~", "not"];
-const BINARY_SIGNS: [&str; 18] =
+pub const UNARY_SIGNS: [&str; 3] = ["-", "~", "not"];
+pub const BINARY_SIGNS: [&str; 18] =
     ["or", "and", "|", "^", "&", "==", "!=", "<", "<=", ">", ">=", "<<", ">>", "+", "-", "*", "/", "%"];
 const LABEL_KINDS: [&str; 8] =
     ["?", "loop start", "loop end", "loop check", "otherwise", "condition end", "logic rhs", "logic end"];

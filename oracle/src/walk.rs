@@ -75,11 +75,7 @@ impl<'t> Walk<'t> {
     fn statement(&mut self, record: u32, block: &mut Block) {
         let own = self.tree.at(record);
         match own.kind {
-            DECLARE => {
-                if self.tree.at(own.c()).detail == 8 {
-                    self.stops.push((Stop::DeclareCustom, record));
-                }
-            }
+            DECLARE if self.tree.at(own.c()).detail == 8 => self.stops.push((Stop::DeclareCustom, record)),
             INIT => self.expr(own.c()),
             RETURN => self.expr(own.a()),
             // An expression that is no call is typed and never converted.

@@ -37,7 +37,7 @@ pub const FLOAT_BITS: [u64; 24] = [
 /// A value at or near a power of two, or a small one.
 pub fn integer(rng: &mut Rng) -> i64 {
     match rng.below(6) {
-        0 => rng.next() as i64,
+        0 => rng.draw() as i64,
         1 | 2 => rng.below(20) as i64 - 5,
         _ => {
             let power = [31, 32, 63, 64, 30, 62, 16, 8][rng.below(8)];
@@ -86,7 +86,7 @@ pub fn integer_constant(rng: &mut Rng, depth: usize) -> Ex {
 
 pub fn float_leaf(rng: &mut Rng) -> Ex {
     let bits = match rng.below(4) {
-        0 => rng.next(),
+        0 => rng.draw(),
         1 => ((rng.below(4001) as f64 - 2000.0) / 16.0).to_bits(),
         _ => *rng.pick(&FLOAT_BITS),
     };

@@ -2,7 +2,7 @@
 
 use super::rng::Rng;
 use super::{Case, damage, generate, shapes, whole};
-use crate::ast::{Layout, St};
+use crate::ast::{Layout, St, Ty};
 use crate::judge::{MOST_RECORDS, judge};
 use crate::tree::*;
 use crate::write::*;
@@ -68,14 +68,16 @@ fn rules(cases: &mut Vec<Case>, rng: &mut Rng, count: usize) {
     }
 }
 
+/// A good tree with the last record of one kind changed.
+fn change(functions: usize, kind: u8, edit: &dyn Fn(&mut Record)) -> Case {
+    let mut layout = Layout::program(&damage::small_good(functions));
+    let record = layout.records.iter_mut().rfind(|record| record.kind == kind);
+    edit(record.expect("the program has a record of that kind"));
+    named("rule by hand", layout)
+}
+
 /// The rules of 'The call', each broken by hand.
 fn by_hand(cases: &mut Vec<Case>) {
-    let change = |functions: usize, kind: u8, edit: &dyn Fn(&mut Record)| {
-        let mut layout = Layout::program(&damage::small_good(functions));
-        let record = layout.records.iter_mut().rfind(|record| record.kind == kind);
-        edit(record.expect("the program has a record of that kind"));
-        named("rule by hand", layout)
-    };
     let outside = u32::MAX - 1;
     cases.push(change(0, TYPE, &|r| r.words[0] = 5));
     cases.push(change(0, TYPE, &|r| r.words[4] = outside));
@@ -104,6 +106,45 @@ fn by_hand(cases: &mut Vec<Case>) {
     cases.push(change(0, BINARY, &|r| r.words[1] = r.words[0]));
     cases.push(change(0, NAME, &|r| r.words[0] = outside));
     cases.push(change(0, NAME, &|r| r.words[1] = 0));
+    cases.push(change(0, RETURN, &|r| r.pad[0] = 1));
+    cases.push(change(0, RETURN, &|r| r.words[4] = 1));
+    cases.push(change(0, RETURN, &|r| r.kind = 26));
+    cases.push(change(0, UNARY, &|r| r.words[0] += 1));
+    cases.push(change(2, CONTINUE, &|r| (r.kind, r.words[0]) = (VALUE, 16)));
+    cases.push(change(4, CALL, &|r| r.words[1] = outside));
+}
+
+/// Records added to or changed among the types, and records that nothing refers to.
+fn types_by_hand(cases: &mut Vec<Case>) {
+    let with = |types: Vec<Ty>, edit: &dyn Fn(&mut Layout)| {
+        let mut layout = Layout { extra_types: types, ..Layout::default() };
+        layout.add(&damage::small_good(0));
+        edit(&mut layout);
+        named("types by hand", layout)
+    };
+    let arrays = || vec![array(Ty::Byte, 0), array(Ty::Byte, 1 << 32)];
+    cases.push(with(arrays(), &|_| {}));
+    cases.push(with(arrays(), &|l| l.records[13].words[2] = 0));
+    cases.push(with(arrays(), &|l| l.records[13].words[0] = 13));
+    cases.push(with(vec![custom("aa"), custom("ba")], &|l| {
+        l.records[12].words[1] = 1;
+        l.records[13].words[0] += 1;
+        l.records[13].words[1] = 1;
+    }));
+    cases.push(with(vec![custom(""), custom("a")], &|l| l.records[13].words[1] = 0));
+    cases.push(with(vec![address(LONG)], &|l| l.records[12].words[0] = 7));
+    cases.push(with(vec![address(LONG)], &|l| l.records[12].detail = 22));
+    cases.push(with(vec![], &|l| l.records.push(Record::new(TYPE, 7, [0; 5]))));
+    cases.push(with(vec![], &|l| l.records.push(Record::new(BREAK, 0, [0; 5]))));
+    cases.push(with(vec![], &|l| l.records.push(Record::new(LIST, 0, [22, NONE, 0, 0, 0]))));
+    cases.push(with(vec![], &|l| l.records.swap(4, 5)));
+    cases.push(with(vec![], &|l| l.records[4] = l.records[16]));
+    for (offset, length) in [(0, 0), (0, 1), (1, 0), (NONE, NONE)] {
+        cases.push(with(vec![], &|l| {
+            let end = l.text.len() as u32;
+            l.records[13].words[..2].copy_from_slice(&[end.wrapping_add(offset), length]);
+        }));
+    }
 }
 
 /// The cases of the list, at most about `count` beside the fixed ones.
@@ -112,12 +153,13 @@ pub fn cases(seed: u64, count: usize) -> Vec<Case> {
     bounds(&mut cases);
     nesting(&mut cases);
     by_hand(&mut cases);
+    types_by_hand(&mut cases);
     let fixed = cases.len();
     let mut rng = Rng::new(seed);
     let random = count.saturating_sub(fixed);
     rules(&mut cases, &mut rng, random * 3 / 4);
     while cases.len() < count {
-        let case = generate(rng.next(), "bytes");
+        let case = generate(rng.draw(), "bytes");
         if case.tree.len() <= 40 * RECORD_BYTES {
             cases.push(case);
         }

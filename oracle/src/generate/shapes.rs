@@ -71,12 +71,12 @@ pub fn dense(rng: &mut Rng, table: usize) -> Vec<Fun> {
         let count = (MOST_RECORDS - 12) / 3;
         return (0..count).map(|at| func(&format!("함{at}"), &[], None, vec![])).collect();
     }
-    let chain = 20 + rng.below(38);
+    let (chain, mixed) = (30 + rng.below(31), rng.flip());
     let mut body = vec![declare("짧", SINGLE), declare("참", Ty::Bool)];
     let mut records = 12 + 3 + 4;
     loop {
         let at = body.len();
-        let (cost, statement) = dense_statement(table, chain, at);
+        let (cost, statement) = dense_statement(table, chain, at, mixed);
         records += cost;
         if records > MOST_RECORDS {
             return vec![func("가다", &[], None, body)];
@@ -86,9 +86,9 @@ pub fn dense(rng: &mut Rng, table: usize) -> Vec<Fun> {
 }
 
 /// One statement for a dense tree, with the records that it takes.
-fn dense_statement(table: usize, chain: usize, at: usize) -> (usize, St) {
+fn dense_statement(table: usize, chain: usize, at: usize, mixed: bool) -> (usize, St) {
     let truth = || name("참");
-    match (table, at % 2) {
+    match (table, if mixed { at % 2 } else { 0 }) {
         (0, 0) => (2 * chain + 3, init("참", (0..chain).fold(truth(), |expr, _| binary(expr, OR, truth())))),
         (0, _) => (5, for_loop(&format!("수{at}"), Some(LONG), int(0), int(9), vec![])),
         (1, _) => (chain + 3, init(&format!("수{at}"), (0..chain).fold(int(1), |expr, _| unary(NEG, expr)))),
@@ -96,7 +96,8 @@ fn dense_statement(table: usize, chain: usize, at: usize) -> (usize, St) {
         (2, _) => (3, St::If(Ex::Bool(true), vec![], Some(vec![]))),
         (4, _) => {
             let text = |at: usize| string(&format!("글{at}"));
-            (5, init("참", binary(text(2 * at), EQ, text(2 * at + 1))))
+            let pair = |i: usize| binary(text(at * 200 + 2 * i), EQ, text(at * 200 + 2 * i + 1));
+            (4 * chain + 1, init("참", (1..chain).fold(pair(0), |expr, i| binary(expr, AND, pair(i)))))
         }
         _ => {
             let literal = |i: usize| float((at * 100 + i) as f64);
