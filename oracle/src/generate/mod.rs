@@ -68,7 +68,7 @@ pub fn generate(seed: u64, class: &str) -> Case {
         "bytes" => random_bytes(&mut rng),
         _ => program(&mut rng, 0),
     };
-    case.label = format!("{class} {seed} {}", case.label);
+    case.label = format!("{class} {seed} {}", case.label).trim_end().to_string();
     case
 }
 
