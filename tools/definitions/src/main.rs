@@ -1,0 +1,63 @@
+//! Writes generated trees with the oracle's answers, one to a line, for tools/compare-definitions:
+//! label | 1 if main is needed | tree | text | 0 and six tables, or number, place, span.
+//!
+//! definitions SEED N MOST CLASS..: from each class, the first N accepted trees of at most MOST records.
+
+use std::env;
+
+use oracle::convert::try_convert;
+use oracle::{Answer, classes, generate};
+
+/// Seeds tried for each tree that is wanted.
+const TRIES: u64 = 60;
+
+fn hex(bytes: &[u8]) -> String {
+    bytes.iter().map(|byte| format!("{byte:02x}")).collect()
+}
+
+fn answer_text(answer: &Answer) -> String {
+    match answer {
+        Answer::Converted(tables) => {
+            let tables = tables.in_order().map(|table| format!(" {}.", hex(table)));
+            format!("0{}", tables.concat())
+        }
+        Answer::Refused(r) => format!("{} {} {} {}", r.number, r.place, r.start, r.end),
+    }
+}
+
+fn write_class(class: &str, seed: u64, wanted: u64, most: usize) {
+    let mut found = 0;
+    for at in 0..wanted * TRIES {
+        if found == wanted {
+            break;
+        }
+        let case = generate(seed + at, class);
+        if case.tree.len() > most * 32 {
+            continue;
+        }
+        let answer = match try_convert(&case.tree, &case.text, case.needs_main, case.lens) {
+            Ok(answer) => answer,
+            Err(message) => panic!("{}: {message}", case.label),
+        };
+        if (24..=26).contains(&answer.number()) {
+            continue;
+        }
+        let main = u8::from(case.needs_main);
+        println!("{}|{main}|{}|{}|{}", case.label, hex(&case.tree), hex(&case.text), answer_text(&answer));
+        found += 1;
+    }
+}
+
+fn main() {
+    let args: Vec<String> = env::args().skip(1).collect();
+    let number = |i: usize| args.get(i).and_then(|text| text.parse::<u64>().ok());
+    let (Some(seed), Some(wanted), Some(most)) = (number(0), number(1), number(2)) else {
+        eprintln!("usage: definitions SEED N MOST [CLASS..]");
+        std::process::exit(1);
+    };
+    let named: Vec<&str> = args.iter().skip(3).map(String::as_str).collect();
+    let chosen = if named.is_empty() { classes() } else { &named[..] };
+    for class in chosen {
+        write_class(class, seed, wanted, most as usize);
+    }
+}
