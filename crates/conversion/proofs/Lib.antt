@@ -1,1 +1,3 @@
 pub mod Marked
+pub mod Within
+pub mod Sizes

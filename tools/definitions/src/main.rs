@@ -1,12 +1,12 @@
 //! Writes generated trees with the oracle's answers, one to a line, for tools/compare-definitions:
 //! label | 1 if main is needed | tree | text | 0 and six tables, or number, place, span.
 //!
-//! definitions SEED N MOST CLASS..: from each class, the first N accepted trees of at most MOST records.
+//! definitions CLASS SEED N LEAST MOST: of that class, the first N accepted trees of LEAST to MOST records.
 
 use std::env;
 
 use oracle::convert::try_convert;
-use oracle::{Answer, classes, generate};
+use oracle::{Answer, generate};
 
 /// Seeds tried for each tree that is wanted.
 const TRIES: u64 = 60;
@@ -25,14 +25,14 @@ fn answer_text(answer: &Answer) -> String {
     }
 }
 
-fn write_class(class: &str, seed: u64, wanted: u64, most: usize) {
+fn write_class(class: &str, seed: u64, wanted: u64, least: usize, most: usize) {
     let mut found = 0;
     for at in 0..wanted * TRIES {
         if found == wanted {
             break;
         }
         let case = generate(seed + at, class);
-        if case.tree.len() > most * 32 {
+        if !(least * 32..=most * 32).contains(&case.tree.len()) {
             continue;
         }
         let answer = match try_convert(&case.tree, &case.text, case.needs_main, case.lens) {
@@ -51,13 +51,11 @@ fn write_class(class: &str, seed: u64, wanted: u64, most: usize) {
 fn main() {
     let args: Vec<String> = env::args().skip(1).collect();
     let number = |i: usize| args.get(i).and_then(|text| text.parse::<u64>().ok());
-    let (Some(seed), Some(wanted), Some(most)) = (number(0), number(1), number(2)) else {
-        eprintln!("usage: definitions SEED N MOST [CLASS..]");
+    let (Some(class), Some(seed), Some(wanted), Some(least), Some(most)) =
+        (args.first(), number(1), number(2), number(3), number(4))
+    else {
+        eprintln!("usage: definitions CLASS SEED N LEAST MOST");
         std::process::exit(1);
     };
-    let named: Vec<&str> = args.iter().skip(3).map(String::as_str).collect();
-    let chosen = if named.is_empty() { classes() } else { &named[..] };
-    for class in chosen {
-        write_class(class, seed, wanted, most as usize);
-    }
+    write_class(class, seed, wanted, least as usize, most as usize);
 }
