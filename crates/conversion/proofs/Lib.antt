@@ -1,3 +1,5 @@
+pub mod Trees
 pub mod Marked
+pub mod Traps
 pub mod Within
 pub mod Sizes

@@ -1,39 +1,16 @@
 -- Document 01's marked cases 1 to 10, as one table: what the definitions compute is what the document says.
 -- By computing: each tree is written out as bytes, decoded and converted. Assumes nothing.
 use mathlib.Core.Path.{_≡_, refl}
-use Prim.Native.Nat.{ℕ, zero, suc, _-_, _^_}
+use Prim.Native.Nat.{ℕ, _-_, _^_}
 use mathlib.Core.Bool.{Bool, true, false}
 use mathlib.Core.List.{List, [], _∷_, _++_}
 use mathlib.Core.Option.{Option, none as nothing, some}
-use lib.IntN.{ℤ, pos, negsuc, negℤ}
-use lib.ListN.{length, replicate}
+use lib.IntN.{ℤ, pos, negsuc}
 use Rattle.records.specs.Words.{none}
-use Rattle.syntax.specs.Syntax.{Expr, EInt, EUnary, EBinary, Neg, Shl, Div}
-use Rattle.syntax.specs.Decode.{program}
-use Rattle.conversion.specs.ConvertError.{Result, ok, err, number}
-use Rattle.conversion.specs.Ir.{VarId, OVar, Instr, Copy, Label, Jump, JumpIfNot, Return, Comment, LabelName, loopStart, logicRhs, logicEnd, FloatEntry, IrProgram}
+use Rattle.syntax.specs.Syntax.{Expr, EInt, EBinary, Shl, Div}
+use Rattle.conversion.specs.Ir.{VarId, OVar, Copy, Label, Jump, JumpIfNot, Return, Comment, logicRhs, logicEnd, FloatEntry}
 use Rattle.conversion.specs.Types.{int-value}
-use Rattle.conversion.specs.Converter.{convert}
-use Rattle.conversion.specs.Written.{word, allCode, allLabels}
-
--- ---- trees: a record from its kind, its detail and its words A to E; the span is zero
-
-row : ℕ → ℕ → ℕ → ℕ → ℕ → ℕ → ℕ → List ℕ
-unfolding word
-row k d a b c e f = k ∷ d ∷ 0 ∷ 0 ∷ (word a ++ word b ++ word c ++ word e ++ word f ++ word 0 ++ word 0)
-
-type : ℕ → ℕ → List ℕ
-unfolding row
-type d a = row 1 d a 0 0 0 0
-
--- the twelve first types, records 0 to 11
-types : List ℕ
-unfolding type
-types = type 1 0 ++ type 17 0 ++ type 33 0 ++ type 49 0 ++ type 2 0 ++ type 18 0 ++ type 3 0 ++ type 4 0 ++ type 5 0 ++ type 9 0 ++ type 6 7 ++ type 6 9
-
--- the names p, q and one that is not ASCII
-text : List ℕ
-text = 112 ∷ 113 ∷ 0xEA ∷ 0xB0 ∷ 0x80 ∷ []
+use Rattle.conversion.proofs.Trees.{row, types, Said, body, floats, answers, folds, bodyOf, floatsOf, answerOf, convertTree}
 
 -- a function that returns p `o` q, o an operator on Bools
 logic : ℕ → List ℕ
@@ -84,36 +61,6 @@ nameless : List ℕ
 unfolding types row
 nameless = types ++ row 6 0 0 0 0 0 0 ++ row 6 0 0 0 0 0 0 ++ row 25 0 12 13 none none none
 
--- ---- what is said of a case
-
-pub data Said : Type 0 where
-  -- a body and its labels
-  body : List Instr → List LabelName → Said
-  floats : List FloatEntry → Said
-  -- 0 where it converts, else the number of the refusal
-  answers : ℕ → Said
-  -- what an integer constant folds to
-  folds : Option ℤ → Said
-
-bodyOf : Result IrProgram → Said
-unfolding allCode allLabels number
-bodyOf (ok p) = body (allCode (p .funcs)) (allLabels (p .funcs))
-bodyOf (err k r) = answers (number k)
-
-floatsOf : Result IrProgram → Said
-unfolding number
-floatsOf (ok p) = floats (p .floats)
-floatsOf (err k r) = answers (number k)
-
-answerOf : Result IrProgram → Said
-unfolding number
-answerOf (ok p) = answers 0
-answerOf (err k r) = answers (number k)
-
-convertTree : List ℕ → Result IrProgram
-unfolding convert program text
-convertTree tree = convert (program tree text) false
-
 int : ℤ → Expr
 int v = EInt 0 v false false
 
@@ -155,14 +102,14 @@ expected =
     ∷ Return (OVar (bool 2)) ∷ []) (logicRhs 18 ∷ logicEnd 18 ∷ [])
     ∷ body (Comment 19 ∷ Copy (bool 2) (OVar (bool 0)) ∷ JumpIfNot (OVar (bool 2)) 0 ∷ Jump 1 ∷ Label 0 ∷ Copy (bool 2) (OVar (bool 1))
     ∷ Label 1 ∷ Return (OVar (bool 2)) ∷ []) (logicRhs 18 ∷ logicEnd 18 ∷ [])
-    ∷ answers 0
-    ∷ answers 16
-    ∷ answers 0
+    ∷ answers 0 0
+    ∷ answers 16 13
+    ∷ answers 0 0
     ∷ folds (some least)
     ∷ folds nothing
     ∷ folds nothing
     ∷ floats (float 0 true ∷ float 0x3FE0000000000000 false ∷ float 0x3FE0000000000000 true ∷ [])
-    ∷ answers 22
+    ∷ answers 22 14
     ∷ []
 
 pub marked : computed ≡ expected
