@@ -1,5 +1,5 @@
 pub mod Trees
 pub mod Marked
-pub mod Traps
+pub mod Mistakes
 pub mod Within
 pub mod Sizes

@@ -95,6 +95,6 @@ expected =
     ∷ labelled (loopCheck 15 ∷ loopStart 15 ∷ loopEnd 15 ∷ [])
     ∷ []
 
-pub traps : computed ≡ expected
+pub mistakes : computed ≡ expected
 unfolding computed expected
-traps = refl
+mistakes = refl
