@@ -4,13 +4,16 @@ use mathlib.Core.Path.{_≡_, refl, sym, ap, _∙_}
 use mathlib.Core.Bool.{Bool, true, false, not, _&&_}
 use mathlib.Core.List.{List, [], _∷_, _++_}
 use mathlib.Core.Option.{Option, none, some}
-use Prim.Native.Nat.{ℕ, zero, suc, _+_, _*_, _≤_}
+use Prim.Native.Nat.{ℕ, zero, suc, _+_, _*_, _≤_, _<_}
 use native.Mathlib.Omega.{arith}
 use lib.Dec.{eqb}
 use lib.IntN.{pos}
 use lib.ListN.{length, length-append}
 use Rattle.laws.specs.Fix.{pick}
 use Rattle.syntax.specs.Syntax.{Text, Ty, TInt, TFloat, TBool, TChar, TByte, TAddress, TArray, TCustom, TNull, UnaryOp, BinaryOp, Or, And, BitOr, BitXor, BitAnd, Eq, NotEq, Lt, Le, Gt, Ge, Shl, Shr, Add, Sub, Mul, Div, Rem, Expr, EInt, EFloat, EStr, EBool, EName, ENull, ESizeOf, EUnary, EBinary, ECall, Args, noArgs, Value, ToType, Statement, SDeclare, SInit, SReturn, SCall, SIf, SIfElse, SWhile, SFor, SBreak, SContinue, Block, done, next, Param, Function, Program, place, boolType, nullType, addressOfNull}
+use Rattle.records.specs.Words.{records}
+use Rattle.syntax.specs.Decode.{program, functionsBelow}
+use Rattle.syntax.proofs.Held.{Complete, Once, functions-records}
 use Rattle.syntax.specs.Count.{under, argsRecords, exprRecords, statementRecords, blockRecords, bodyRecords, functionRecords, allRecords}
 use Rattle.conversion.specs.ConvertError as C
 use Rattle.conversion.specs.ConvertError.{Result, ok, err, ConvertErrorKind, AssignToConstant, LiteralOutOfRange, NotBool, NotInteger, UnknownVariable, ReturnWithoutType, BreakOutOfLoop, ContinueOutOfLoop, WrongAssignType, WrongReturnType, AlreadyDeclared, MissingReturn, Panic}
@@ -50,12 +53,12 @@ done-within a = pure-within Any a tt
 
 name-within : (r : ℕ) (o : Option Variable) → Within Any 0 0 0 0 0 (nameOperand r o)
 unfolding nameOperand
-name-within r (some v) = done-within (OVar (v .var-id))
+name-within r (some v) = done-within _
 name-within r none = fail-within Any 0 0 0 0 0 _ _
 
 size-within : (r : ℕ) (o : Option ℕ) → Within Any 0 0 0 0 0 (sizeOperand r o)
 unfolding sizeOperand
-size-within r (some n) = done-within (OInt (pos n) false false)
+size-within r (some n) = done-within _
 size-within r none = fail-within Any 0 0 0 0 0 _ _
 
 cast-within : (b : Bool) (x : VarId) (y : ℕ) → Within Any 1 1 0 0 1 (castOperand b x y)
@@ -596,3 +599,16 @@ suffice P needsMain = ifOk-then Any (Suffice (allRecords (P .functions))) (get-a
     any : {A : Type 0} (x : Result A) → IfOk Any x
     any (ok a) = tt
     any (err k r) = tt
+
+-- ---- over the records of the tree
+
+pub more-room : (m n : ℕ) (q : IrProgram) → m ≤ n → Suffice m q → Suffice n q
+more-room m n q h s = omega (arith, h, s .functions, s .instructions, s .variables, s .labels, s .strings, s .floats)
+
+-- a tree of n records, each of which has what it must lead to and, but for types and functions, is referred to at most once
+pub tree-suffices : (tree text : List ℕ) (needsMain : Bool) → ((r : ℕ) → r < records tree → Complete tree text r)
+    → ((j : ℕ) → j < records tree → Once tree text (records tree) j) → IfOk (Suffice (records tree)) (convert (program tree text) needsMain)
+unfolding program
+tree-suffices tree text needsMain c o = ifOk-map (convert (program tree text) needsMain)
+    (λ q s. more-room (allRecords (functionsBelow tree text (records tree))) (records tree) q (functions-records tree text (records tree) c o) s)
+    (suffice (program tree text) needsMain)
