@@ -558,7 +558,7 @@ added m n l p x q h s a = record {
   floats = omega (arith, s .floats, a .floats);
 }
 
-ifOk-map : {A : Type 0} {Q R : A → Type 0} (x : Result A) → ((a : A) → Q a → R a) → IfOk Q x → IfOk R x
+pub ifOk-map : {A : Type 0} {Q R : A → Type 0} (x : Result A) → ((a : A) → Q a → R a) → IfOk Q x → IfOk R x
 ifOk-map (ok a) h q = h a q
 ifOk-map (err k r) h q = tt
 
