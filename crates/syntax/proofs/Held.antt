@@ -144,10 +144,10 @@ pub record Leads : Type 0 where
   pub all : List ℕ
   pub must : List ℕ
 
-abbrev leads : List ℕ → List ℕ → Leads
+abbrev pub leads : List ℕ → List ℕ → Leads
 leads a m = record { all = a; must = m }
 
-abbrev nowhere : Leads
+abbrev pub nowhere : Leads
 nowhere = leads [] []
 
 abbrev pub leadsByKind : List Leads
@@ -165,7 +165,7 @@ module _ (tree text : List ℕ) where
   heldBy g r (k ∷ ks) = held (child tree text g r k) + heldBy g r ks
 
   -- the words ks of record r lead to something
-  abbrev Present : (ℕ → Node) → ℕ → List ℕ → Type 0
+  abbrev pub Present : (ℕ → Node) → ℕ → List ℕ → Type 0
   Present g r [] = Unit {0}
   Present g r (k ∷ ks) = (1 ≤ held (child tree text g r k)) × Present g r ks
 
@@ -341,7 +341,7 @@ module _ (tree text : List ℕ) where
 
   -- ---- how often record r refers to record j by words that lead to records of its own
 
-  unfoldable mentionsBy : ℕ → List ℕ → ℕ → ℕ
+  unfoldable pub mentionsBy : ℕ → List ℕ → ℕ → ℕ
   unfolding hit
   mentionsBy r [] j = 0
   mentionsBy r (k ∷ ks) j = hit (wordOf tree r k) j + mentionsBy r ks j
