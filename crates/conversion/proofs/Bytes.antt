@@ -1,9 +1,9 @@
 -- Sizes suffice, in bytes: a tree of n records needs at most 128n bytes of instructions (320n are lent), 12n of variables, 24n of labels, 32n of functions, 8n of strings, 32n of floats.
 -- Each table is its entries, of one width each, and the entries are counted. Assumes nothing.
-use mathlib.Core.Path.{_≡_, refl, sym, ap, _∙_}
+use mathlib.Core.Path.{_≡_, refl, _∙_}
 use mathlib.Core.Bool.{Bool}
-use mathlib.Core.List.{List, [], _∷_, _++_}
-use Prim.Native.Nat.{ℕ, zero, suc, _+_, _*_, _≤_, _<_}
+use mathlib.Core.List.{List, [], _∷_}
+use Prim.Native.Nat.{ℕ, _+_, _*_, _≤_, _<_}
 use native.Mathlib.Omega.{arith}
 use lib.ListN.{length, length-append}
 use Rattle.records.specs.Words.{records}
@@ -11,7 +11,7 @@ use Rattle.syntax.specs.Decode.{program}
 use Rattle.syntax.proofs.Held.{Complete, Once}
 use Rattle.conversion.specs.Ir.{Instr, LabelName, StringEntry, FloatEntry, IrFunction, IrProgram}
 use Rattle.conversion.specs.Converter.{convert}
-use Rattle.conversion.specs.Written.{bytesOf, word, wide, Fields, tagOf, valueOf, fieldsOf, encodeFields, encodeInstr, encodeVar, encodeLabel, encodeString, encodeFloat, encodeAll, encodeFunctions, codeOf, bodyMark, allCode, allVars, allLabels, Tables, tablesOf}
+use Rattle.conversion.specs.Written.{bytesOf, word, wide, encodeFields, encodeInstr, encodeVar, encodeLabel, encodeString, encodeFloat, encodeAll, encodeFunctions, codeOf, allCode, allVars, allLabels, Tables, tablesOf}
 use Rattle.conversion.proofs.Sizes.{IfOk, Suffice, ifOk-map, tree-suffices}
 
 word-length : (w : ℕ) → length (word w) ≡ 4

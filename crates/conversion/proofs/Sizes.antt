@@ -1,10 +1,10 @@
 -- Sizes suffice: the tables of functions that are made of n records hold at most 4n instructions, 3n variables, 3n labels, n functions, n strings, 2n floats.
 -- By recursion over the syntax tree: each construct adds at most so much for its own records. Assumes nothing.
-use mathlib.Core.Path.{_≡_, refl, sym, ap, _∙_}
+use mathlib.Core.Path.{_≡_, refl, ap, _∙_}
 use mathlib.Core.Bool.{Bool, true, false, not, _&&_}
 use mathlib.Core.List.{List, [], _∷_, _++_}
 use mathlib.Core.Option.{Option, none, some}
-use Prim.Native.Nat.{ℕ, zero, suc, _+_, _*_, _≤_, _<_}
+use Prim.Native.Nat.{ℕ, suc, _+_, _*_, _≤_, _<_}
 use native.Mathlib.Omega.{arith}
 use lib.Dec.{eqb}
 use lib.IntN.{pos}
@@ -17,15 +17,15 @@ use Rattle.syntax.proofs.Held.{Complete, Once, functions-records}
 use Rattle.syntax.specs.Count.{under, argsRecords, exprRecords, statementRecords, blockRecords, bodyRecords, functionRecords, allRecords}
 use Rattle.conversion.specs.ConvertError as C
 use Rattle.conversion.specs.ConvertError.{Result, ok, err, ConvertErrorKind, AssignToConstant, LiteralOutOfRange, NotBool, NotInteger, UnknownVariable, ReturnWithoutType, BreakOutOfLoop, ContinueOutOfLoop, WrongAssignType, WrongReturnType, AlreadyDeclared, MissingReturn, Panic}
-use Rattle.conversion.specs.Ir.{Copy, Unary, Binary, Cast, Zero, Arg, Call, Label, Jump, JumpIfNot, Return, Comment, loopStart, loopEnd, loopCheck, otherwiseLabel, conditionEnd, logicRhs, logicEnd, VarId, Operand, OVar, OInt, OFloat, OBool, ODataAddress, ONull, Instr, State, Out, made, failed, M, _>>=_, _>>_, pure, fail, lift, emit, new-var, label-id, string-id, float-id, floatBits, IrFunction, IrProgram}
-use Rattle.conversion.specs.Types.{onInt, onFloat, isFloat, isSome, fits, range-error, size}
+use Rattle.conversion.specs.Ir.{Copy, Unary, Binary, Cast, Zero, Arg, Call, Label, Jump, JumpIfNot, Return, Comment, loopStart, loopEnd, loopCheck, otherwiseLabel, conditionEnd, logicRhs, logicEnd, VarId, Operand, OVar, OInt, OFloat, OBool, ODataAddress, ONull, State, Out, M, _>>=_, pure, lift, IrFunction, IrProgram}
+use Rattle.conversion.specs.Types.{isFloat, isSome, fits, range-error, size}
 use Rattle.conversion.specs.Scope.{Variable, Scope, find-variable, withVariable, withLoop, declare}
 use Rattle.conversion.specs.Expressions.{Callee, CallFunction, CallCast, Functions, unwrapOr, get-type, resolve-call, common-type}
-use Rattle.conversion.specs.Statements.{nameOperand, sizeOperand, castOperand, refloat, fit-operand, parameterType, fitFrom, fit-args, emitArgs, convert-unary, convertAnd, convertOr, asCall, castFirst, convertOther, convertBinaryBy, convert-binary, callFunction, callValue, convert-call-value, convert-expr, convert-args, convert-cond, checkFits, zeroValue, convert-declare, assignTo, convert-assign, initNew, initBy, convert-init, returnAs, convert-return, callStatement, convert-call, convert-if, convertIfElse, convert-while-loop, checkBound, forLoop, forInt, forKnown, convert-for-loop, convert-break, convert-continue, convert-statement, convert-block}
+use Rattle.conversion.specs.Statements.{nameOperand, sizeOperand, castOperand, refloat, fit-operand, fitFrom, fit-args, emitArgs, convert-unary, convertAnd, convertOr, asCall, castFirst, convertOther, convertBinaryBy, convert-binary, callFunction, callValue, convert-call-value, convert-expr, convert-args, convert-cond, checkFits, zeroValue, convert-declare, assignTo, convert-assign, initNew, initBy, convert-init, returnAs, convert-return, callStatement, convert-call, convert-if, convertIfElse, convert-while-loop, checkBound, forLoop, forInt, forKnown, convert-for-loop, convert-break, convert-continue, convert-statement, convert-block}
 use Rattle.conversion.specs.Functions.{Pool, declareParams, convertBody, always-returns, finished, convertFunction, convert-func, get-all-functions, check-main}
 use Rattle.conversion.specs.Converter.{convertAll, convert}
 use Rattle.conversion.specs.Written.{codeOf, allCode, allVars, allLabels}
-use Rattle.conversion.proofs.Within.{Grew, Grown, grew, fell, Within, Any, pure-within, fail-within, lift-within, emit-within, new-var-within, floatBits-within, label-within, string-within, float-within, then-using, then-within, seq-within, widen, pick-within, onInt-within, onFloat-within}
+use Rattle.conversion.proofs.Within.{Grown, grew, fell, Within, Any, pure-within, fail-within, lift-within, emit-within, new-var-within, floatBits-within, label-within, string-within, float-within, then-using, then-within, seq-within, widen, pick-within, onInt-within, onFloat-within}
 
 -- ---- what is counted of arguments: their expressions' records below their own, and how many values there are
 

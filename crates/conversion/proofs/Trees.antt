@@ -1,7 +1,7 @@
 -- Trees written out as bytes, and what can be said of their conversion: the means of the computed tables.
 -- Definitions for proofs, which compute. Assumes nothing.
 use Prim.Native.Nat.{ℕ}
-use mathlib.Core.Bool.{Bool, true, false}
+use mathlib.Core.Bool.{false}
 use mathlib.Core.List.{List, [], _∷_, _++_}
 use mathlib.Core.Option.{Option}
 use lib.IntN.{ℤ}

@@ -6,12 +6,11 @@ use mathlib.Core.Bool.{Bool, true, false, not, _&&_}
 use mathlib.Core.List.{List, [], _∷_}
 use mathlib.Core.Option.{Option, none, some}
 use lib.Dec.{eqb}
-use lib.IntN.{ℤ, pos}
-use lib.ListN.{getD}
+use lib.IntN.{pos}
 use Rattle.laws.specs.Fix.{pick}
 use Rattle.syntax.specs.Syntax.{Text, Ty, TInt, TFloat, TBool, TChar, TByte, TAddress, TArray, TCustom, TNull, UnaryOp, BinaryOp, Or, And, BitOr, BitXor, BitAnd, Eq, NotEq, Lt, Le, Gt, Ge, Shl, Shr, Add, Sub, Mul, Div, Rem, Expr, EInt, EFloat, EStr, EBool, EName, ENull, ESizeOf, EUnary, EBinary, ECall, Args, noArgs, Value, ToType, Statement, SDeclare, SInit, SReturn, SCall, SIf, SIfElse, SWhile, SFor, SBreak, SContinue, Block, done, next, Param, Function, Program, place, floatType, boolType, nullType, addressOfNull}
-use Rattle.conversion.specs.ConvertError.{ConvertErrorKind, Result, UnknownVariable, AssignToConstant, ReturnWithoutType, WrongReturnType, WrongAssignType, LiteralOutOfRange, NotBool, NotInteger, BreakOutOfLoop, ContinueOutOfLoop, Panic}
-use Rattle.conversion.specs.Ir.{VarId, Operand, OVar, OInt, OFloat, OBool, ODataAddress, ONull, Instr, Copy, Unary, Binary, Cast, Zero, Arg, Call, Label, Jump, JumpIfNot, Return, Comment, LabelName, loopStart, loopEnd, loopCheck, otherwiseLabel, conditionEnd, logicRhs, logicEnd, M, _>>=_, _>>_, pure, fail, lift, emit, new-var, label-id, string-id, float-id, floatBits}
+use Rattle.conversion.specs.ConvertError.{ConvertErrorKind, UnknownVariable, AssignToConstant, ReturnWithoutType, WrongReturnType, WrongAssignType, LiteralOutOfRange, NotBool, NotInteger, BreakOutOfLoop, ContinueOutOfLoop, Panic}
+use Rattle.conversion.specs.Ir.{VarId, Operand, OVar, OInt, OFloat, OBool, ODataAddress, ONull, Copy, Unary, Binary, Cast, Zero, Arg, Call, Label, Jump, JumpIfNot, Return, Comment, loopStart, loopEnd, loopCheck, otherwiseLabel, conditionEnd, logicRhs, logicEnd, M, _>>=_, _>>_, pure, fail, lift, emit, new-var, label-id, string-id, float-id, floatBits}
 use Rattle.conversion.specs.Types.{onInt, onFloat, isFloat, fits, range-error, size}
 use Rattle.conversion.specs.Scope.{Variable, Scope, find-variable, withLoop, declare}
 use Rattle.conversion.specs.Expressions.{Callee, CallFunction, CallCast, Functions, unwrapOr, get-type, resolve-call, common-type}

@@ -1,10 +1,10 @@
 -- The functions of a tree of n records are made of at most n records, where each record but types and functions is referred to at most once
 -- and the words that must refer to an expression, a variable or a name do.
 -- Each record adds 1 to what the records that it refers to hold; all that is held is summed up twice, by holder and by held. Assumes nothing.
-use mathlib.Core.Path.{_≡_, refl, sym, ap, _∙_}
+use mathlib.Core.Path.{_≡_, refl, sym}
 use mathlib.Core.Bool.{Bool, true, false}
 use mathlib.Core.List.{List, [], _∷_, _++_}
-use mathlib.Core.Option.{Option, none as nothing, some}
+use mathlib.Core.Option.{none as nothing, some}
 use Prim.Native.Nat.{ℕ, zero, suc, _+_, _*_, _≤_, _<_}
 use native.Mathlib.Decide.{decLt, ℕ-discrete}
 use native.Mathlib.Omega.{arith}
@@ -12,8 +12,8 @@ use lib.Dec.{eqb}
 use lib.ListN.{length, getD, drop}
 use Rattle.laws.specs.Fix.{pick}
 use Rattle.laws.proofs.FixLaws.{below-in, below-out}
-use Rattle.records.specs.Words.{kindOf, detailOf, wordOf, records, A, B, C, D, E}
-use Rattle.syntax.specs.Syntax.{Expr, Args, Statement, SDeclare, SInit, SReturn, SCall, SIf, SIfElse, SWhile, SFor, SBreak, SContinue, Block, Param, Function}
+use Rattle.records.specs.Words.{kindOf, detailOf, wordOf, A, B, C, D, E}
+use Rattle.syntax.specs.Syntax.{Args, Statement, SDeclare, SInit, SReturn, SCall, SIf, SIfElse, SWhile, SFor, SBreak, SContinue, Block, Param, Function}
 use Rattle.syntax.specs.Count.{under, argsRecords, exprRecords, statementRecords, blockRecords, bodyRecords, functionRecords, allRecords}
 use Rattle.syntax.specs.Decode.{Node, absent, expr, value, toType, stmt, variable, func, cell, exprOf, withArg, argsOf, withStatement, blockOf, withParam, paramsOf, functionsIn, bit, child, exprIn, blockIn, nothingAt, intAt, floatAt, strAt, boolAt, nameAt, nullAt, sizeOfAt, unaryAt, binaryAt, callAt, listAt, valueAt, typeArgumentAt, declareAt, initAt, returnAt, callStatementAt, ifAt, whileAt, forAt, breakAt, continueAt, variableAt, functionAt, kinds, node, functionsBelow}
 use Rattle.syntax.proofs.Sums.{sumBelow, sum-le, sum-add, sum-one, sum-swap, sum-times, hit, sum-hit}
