@@ -16,7 +16,7 @@ use Rattle.syntax.specs.Decode.{program, functionsBelow}
 use Rattle.syntax.proofs.Held.{Complete, Once, functions-records}
 use Rattle.syntax.specs.Count.{under, argsRecords, exprRecords, statementRecords, blockRecords, bodyRecords, functionRecords, allRecords}
 use Rattle.conversion.specs.ConvertError as C
-use Rattle.conversion.specs.ConvertError.{Result, ok, err, ConvertErrorKind, AssignToConstant, LiteralOutOfRange, NotBool, NotInteger, UnknownVariable, ReturnWithoutType, BreakOutOfLoop, ContinueOutOfLoop, WrongAssignType, WrongReturnType, AlreadyDeclared, MissingReturn, Panic}
+use Rattle.conversion.specs.ConvertError.{Result, ok, err, ConvertErrorKind, AssignToConstant, LiteralOutOfRange, NotBool, NotInteger, UnknownVariable, ReturnWithoutType, BreakOutOfLoop, ContinueOutOfLoop, WrongAssignType, WrongReturnType, AlreadyDeclared, MissingReturn, WouldPanic}
 use Rattle.conversion.specs.Ir.{Copy, Unary, Binary, Cast, Zero, Arg, Call, Label, Jump, JumpIfNot, Return, Comment, loopStart, loopEnd, loopCheck, otherwiseLabel, conditionEnd, logicRhs, logicEnd, VarId, Operand, OVar, OInt, OFloat, OBool, ODataAddress, ONull, State, Out, M, _>>=_, pure, lift, IrFunction, IrProgram}
 use Rattle.conversion.specs.Types.{isFloat, isSome, fits, range-error, size}
 use Rattle.conversion.specs.Scope.{Variable, Scope, find-variable, withVariable, withLoop, declare}
@@ -254,7 +254,7 @@ module _ (P : Program) (F : Functions) where
   zeroValue-within r x (TAddress y) = widen (emit-within (Copy x ONull)) (omega arith)
   zeroValue-within r x TNull = widen (emit-within (Copy x ONull)) (omega arith)
   zeroValue-within r x (TArray y n) = widen (emit-within (Zero x)) (omega arith)
-  zeroValue-within r x (TCustom t) = fail-within Any 1 0 0 0 1 Panic r
+  zeroValue-within r x (TCustom t) = fail-within Any 1 0 0 0 1 WouldPanic r
 
   declare-within : (r : ℕ) (n : Text) (y : ℕ) (sc : Scope) → Within Any 1 1 0 0 1 (convert-declare P F r n y sc)
   unfolding convert-declare
@@ -316,7 +316,7 @@ module _ (P : Program) (F : Functions) where
       (then-using {R = Any} (args-within l sc) (λ os e.
       widen {i′ = 2 * values l + 1} {v′ = values l} {l′ = 0} {s′ = 0} {f′ = values l} (function-call-within none f os) (omega (arith, e))))
       (omega (arith, args-count l))
-  callStatement-within r l sc (CallCast y) = fail-within Any _ _ _ _ _ Panic r
+  callStatement-within r l sc (CallCast y) = fail-within Any _ _ _ _ _ WouldPanic r
 
   typed-within : (e : Expr) (sc : Scope) → Over (under e) (lift (get-type P F e sc) >>= λ y. pure sc)
   typed-within e sc = widen (then-within (lift-within (get-type P F e sc)) (λ y. done-within sc)) (omega arith)

@@ -6,7 +6,7 @@ pub data ConvertErrorKind : Type 0 where
   SameSignature SameSymbol AlreadyDeclared UnknownVariable UnknownFunction AssignToConstant ReturnWithoutType NoValue MissingReturn : ConvertErrorKind
   NoMain MainNotInteger WrongReturnType WrongAssignType WrongOperands AmbiguousCall LiteralOutOfRange InvalidCast NotBool NotInteger : ConvertErrorKind
   BreakOutOfLoop ContinueOutOfLoop LatinCharInNonLibCFunction ExternNotLatin : ConvertErrorKind
-  Panic : ConvertErrorKind
+  WouldPanic : ConvertErrorKind
 
 -- '`ConvertErrorKind` in its declared order, SameSignature 1 to ExternNotLatin 23'; '27: Rust would panic'
 unfoldable pub number : ConvertErrorKind → ℕ
@@ -33,7 +33,7 @@ number BreakOutOfLoop = 20
 number ContinueOutOfLoop = 21
 number LatinCharInNonLibCFunction = 22
 number ExternNotLatin = 23
-number Panic = 27
+number WouldPanic = 27
 
 -- `Result<A, ConvertError>`: an error with the record whose span the Rust reports
 pub data Result (A : Type 0) : Type 0 where

@@ -9,7 +9,7 @@ use lib.Dec.{eqb}
 use lib.IntN.{pos}
 use Rattle.laws.specs.Fix.{pick}
 use Rattle.syntax.specs.Syntax.{Text, Ty, TInt, TFloat, TBool, TChar, TByte, TAddress, TArray, TCustom, TNull, UnaryOp, BinaryOp, Or, And, BitOr, BitXor, BitAnd, Eq, NotEq, Lt, Le, Gt, Ge, Shl, Shr, Add, Sub, Mul, Div, Rem, Expr, EInt, EFloat, EStr, EBool, EName, ENull, ESizeOf, EUnary, EBinary, ECall, Args, noArgs, Value, ToType, Statement, SDeclare, SInit, SReturn, SCall, SIf, SIfElse, SWhile, SFor, SBreak, SContinue, Block, done, next, Param, Function, Program, place, floatType, boolType, nullType, addressOfNull}
-use Rattle.conversion.specs.ConvertError.{ConvertErrorKind, UnknownVariable, AssignToConstant, ReturnWithoutType, WrongReturnType, WrongAssignType, LiteralOutOfRange, NotBool, NotInteger, BreakOutOfLoop, ContinueOutOfLoop, Panic}
+use Rattle.conversion.specs.ConvertError.{ConvertErrorKind, UnknownVariable, AssignToConstant, ReturnWithoutType, WrongReturnType, WrongAssignType, LiteralOutOfRange, NotBool, NotInteger, BreakOutOfLoop, ContinueOutOfLoop, WouldPanic}
 use Rattle.conversion.specs.Ir.{VarId, Operand, OVar, OInt, OFloat, OBool, ODataAddress, ONull, Copy, Unary, Binary, Cast, Zero, Arg, Call, Label, Jump, JumpIfNot, Return, Comment, loopStart, loopEnd, loopCheck, otherwiseLabel, conditionEnd, logicRhs, logicEnd, M, _>>=_, _>>_, pure, fail, lift, emit, new-var, label-id, string-id, float-id, floatBits}
 use Rattle.conversion.specs.Types.{onInt, onFloat, isFloat, fits, range-error, size}
 use Rattle.conversion.specs.Scope.{Variable, Scope, find-variable, withLoop, declare}
@@ -26,7 +26,7 @@ nameOperand r none = fail UnknownVariable r
 unfoldable pub sizeOperand : ℕ → Option ℕ → M Operand
 unfolding pure fail
 sizeOperand r (some n) = pure (OInt (pos n) false false)
-sizeOperand r none = fail Panic r
+sizeOperand r none = fail WouldPanic r
 
 -- `fit_operand` by the expected type y and what it is: a literal takes its size, a Float variable of the other size goes through a Cast
 unfoldable pub castOperand : Bool → VarId → ℕ → M Operand
@@ -147,7 +147,7 @@ asCall (EBinary r o a b) d f = d
 -- 'a cast value with no value argument': 27 at the call; else 'a cast computes all and uses the first'
 unfoldable pub castFirst : ℕ → VarId → List Operand → M Operand
 unfolding _>>_ pure fail emit
-castFirst r dest [] = fail Panic r
+castFirst r dest [] = fail WouldPanic r
 castFirst r dest (o ∷ l) = do
   emit (Cast dest o)
   pure (OVar dest)
@@ -281,7 +281,7 @@ module _ (P : Program) (F : Functions) where
   zeroValue r x (TAddress y) = emit (Copy x ONull)
   zeroValue r x TNull = emit (Copy x ONull)
   zeroValue r x (TArray y n) = emit (Zero x)
-  zeroValue r x (TCustom t) = fail Panic r
+  zeroValue r x (TCustom t) = fail WouldPanic r
 
   -- `convert_declare`
   unfoldable pub convert-declare : ℕ → Text → ℕ → Scope → M Scope
@@ -352,7 +352,7 @@ module _ (P : Program) (F : Functions) where
   callStatement r l sc (CallFunction f) = do
     operands ← convert-args l sc
     callFunction none f operands
-  callStatement r l sc (CallCast y) = fail Panic r
+  callStatement r l sc (CallCast y) = fail WouldPanic r
 
   -- `convert_call`: 'A call statement whose expression is no call is typed and never run'
   unfoldable pub convert-call : ℕ → Expr → Scope → M Scope
