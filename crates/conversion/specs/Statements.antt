@@ -28,7 +28,7 @@ unfolding pure fail
 sizeOperand r (some n) = pure (OInt (pos n) false false)
 sizeOperand r none = fail WouldPanic r
 
--- `fit_operand` by the expected type y and what it is: a literal takes its size, a Float variable of the other size goes through a Cast
+-- a Float variable of the other size than y goes through a Cast
 unfoldable pub castOperand : Bool → VarId → ℕ → M Operand
 unfolding _>>=_ _>>_ pure emit new-var
 castOperand true x y = do
@@ -37,6 +37,7 @@ castOperand true x y = do
   pure (OVar dest)
 castOperand false x y = pure (OVar x)
 
+-- a float literal takes the expected size
 unfoldable pub refloat : ℕ → Bool → M Operand
 unfolding _>>=_ pure floatBits float-id
 refloat i short = do
@@ -44,7 +45,16 @@ refloat i short = do
   j ← float-id (record { bits = b; short = short })
   pure (OFloat j)
 
+-- the type that the k-th value of a call is fitted to: 'The k-th value argument is fitted to the k-th parameter, type arguments not
+-- counted; beyond the parameters to long Float'
+unfoldable pub parameterType : List Param → ℕ → ℕ
+unfolding floatType
+parameterType [] k = floatType false
+parameterType (p ∷ l) zero = p .ty
+parameterType (p ∷ l) (suc k) = parameterType l k
+
 module _ (P : Program) where
+  -- `fit_operand` for a place of type y
   unfoldable pub fit-operand : Operand → ℕ → M Operand
   unfolding pure onInt onFloat refloat castOperand isFloat
   fit-operand (OFloat i) y = onFloat (P .typeOf y) (pure (OFloat i)) (λ short. refloat i short)
@@ -55,22 +65,14 @@ module _ (P : Program) where
   fit-operand (ODataAddress i) y = pure (ODataAddress i)
   fit-operand ONull y = pure ONull
 
-  -- the type that the k-th value of a call is fitted to: 'The k-th value argument is fitted to the k-th parameter, type arguments not
-  -- counted; beyond the parameters to long Float'
-  unfoldable pub parameterType : List Param → ℕ → ℕ
-  unfolding floatType
-  parameterType [] k = floatType false
-  parameterType (p ∷ l) zero = p .ty
-  parameterType (p ∷ l) (suc k) = parameterType l k
-
   -- `fit_args`, from the k-th value on
   unfoldable pub fitFrom : ℕ → List Operand → Function → M (List Operand)
   unfolding _>>=_ pure fit-operand parameterType
   fitFrom k [] f = pure []
   fitFrom k (o ∷ l) f = do
     a ← fit-operand o (parameterType (f .params) k)
-    as' ← fitFrom (suc k) l f
-    pure (a ∷ as')
+    rest ← fitFrom (suc k) l f
+    pure (a ∷ rest)
 
   unfoldable pub fit-args : List Operand → Function → M (List Operand)
   unfolding fitFrom
