@@ -9,7 +9,7 @@ pub data ConvertErrorKind : Type 0 where
   WouldPanic : ConvertErrorKind
 
 -- '`ConvertErrorKind` in its declared order, SameSignature 1 to ExternNotLatin 23'; '27: Rust would panic'
-unfoldable pub number : ConvertErrorKind → ℕ
+abbrev pub number : ConvertErrorKind → ℕ
 number SameSignature = 1
 number SameSymbol = 2
 number AlreadyDeclared = 3
