@@ -1,0 +1,4 @@
+pub mod Unfold
+pub mod Cases
+pub mod Sums
+pub mod Held
