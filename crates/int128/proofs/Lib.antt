@@ -1,0 +1,9 @@
+-- Laws that the proofs share, and that callers' proofs may cite.
+pub mod Difference
+pub mod Range
+pub mod Halves
+pub mod Whole
+pub mod Signs
+pub mod Complement
+pub mod Compare
+pub mod Small

@@ -1,0 +1,56 @@
+-- What each operation of `i128` answers, as the Rust library documents it, over whole numbers: `checked_add` "returning None if overflow
+-- occurred", `checked_div` and `checked_rem` "returning None if rhs == 0 or the division results in overflow", `checked_shl` and
+-- `checked_shr` "returning None if rhs is larger than or equal to the number of bits".
+use Prim.Native.Nat.{ℕ, _-_, _*_, _%_, _^_}
+use mathlib.Core.Bool.{Bool, true, false, cond, _&&_}
+use mathlib.Core.Option.{Option, none, some}
+use lib.Dec.{ltb}
+use lib.IntN.{ℤ, pos, negsuc, negℤ, _+ℤ_, _-ℤ_, _*ℤ_}
+use lib.Signed.{leZ, ltZ, quotZ, remZ, shrZ}
+use lib.Bits.{bitAnd, bitOr, bitXor}
+use mir.Syntax.{w128}
+use mir.Val.{toZ, ofZ}
+
+-- z lies in -2 ^ 127 .. 2 ^ 127 - 1
+abbrev pub inRange : ℤ → Bool
+inRange z = leZ (negℤ (pos (2 ^ 127))) z && ltZ z (pos (2 ^ 127))
+
+-- z where it lies in the range, else nothing
+abbrev pub exact : ℤ → Option ℤ
+exact z = cond (inRange z) (some z) none
+
+abbrev pub addOf : ℤ → ℤ → Option ℤ
+addOf a b = exact (a +ℤ b)
+
+abbrev pub subOf : ℤ → ℤ → Option ℤ
+subOf a b = exact (a -ℤ b)
+
+abbrev pub negOf : ℤ → Option ℤ
+negOf a = exact (negℤ a)
+
+-- the complement of each of the 128 bits
+abbrev pub notOf : ℤ → ℤ
+notOf a = toZ w128 ((2 ^ 128 - 1) - ofZ w128 a)
+
+-- The four ranges of `int_fits` (Krc's converter/types.rs): of 32 bits where short, else of 64; from 0 where unsigned.
+abbrev pub leastOf : Bool → Bool → ℤ
+leastOf true false = negℤ (pos (2 ^ 31))
+leastOf true true = pos 0
+leastOf false false = negℤ (pos (2 ^ 63))
+leastOf false true = pos 0
+
+abbrev pub greatestOf : Bool → Bool → ℤ
+greatestOf true false = pos (2 ^ 31 - 1)
+greatestOf true true = pos (2 ^ 32 - 1)
+greatestOf false false = pos (2 ^ 63 - 1)
+greatestOf false true = pos (2 ^ 64 - 1)
+
+abbrev pub intFits : ℤ → Bool → Bool → Bool
+intFits z short unsigned = leZ (leastOf short unsigned) z && leZ z (greatestOf short unsigned)
+
+-- z where an i64 or a u64 holds it, else nothing: `i64::try_from(z).ok()`, `u64::try_from(z).ok()`
+abbrev pub toI64Of : ℤ → Option ℤ
+toI64Of z = cond (intFits z false false) (some z) none
+
+abbrev pub toU64Of : ℤ → Option ℤ
+toU64Of z = cond (intFits z false true) (some z) none
