@@ -7,12 +7,11 @@ use Prim.Native.Nat.{ℕ, zero, suc, _+_, _-_, _*_, _^_, _≤_, _<_}
 use native.Mathlib.Omega.{arith}
 use lib.IntN.{ℤ, pos, negsuc, negℤ, subℕ}
 use lib.Signed.{mag}
-use lib.Dec.{lit<}
 use mir.Syntax.{w128}
 use mir.Val.{toZ, ofZ, Fits, SFits}
 use mir.ValLaws.{toZ-fits}
 use borrow.Author.Tests.{lt-ltb, le-ltb, le-leb, lt-leb}
-use Rattle.int128.specs.Ops.{exact}
+use Rattle.int128.specs.Ops.{exact, exactIn}
 use Rattle.int128.proofs.Difference.{sub-less, sub-more, sub-zero, sub-eq}
 
 pub low : (n : ℕ) → n < 2 ^ 127 → toZ w128 n ≡ subℕ n 0
@@ -21,20 +20,20 @@ low n h = simp (lt-ltb n (2 ^ 127) h) (sym (sub-zero n))
 pub high : (n : ℕ) → 2 ^ 127 ≤ n → n < 2 ^ 128 → toZ w128 n ≡ subℕ n (2 ^ 128)
 high n h k = simp (le-ltb n (2 ^ 127) h) (sym (sub-less n (2 ^ 128) k))
 
--- the library's laws of one number and another, at a bound that is a variable: `omega` takes no numeral of more than 38 digits
-le-pred : (H n : ℕ) → n < H → n ≤ H - 1
-le-pred H n h = omega arith
+-- inside and outside a range of any width: `mag z` is n both for n and for -(n + 1)
+pub inside : (h : ℕ) (z : ℤ) → mag z < suc h → exactIn (suc h) z ≡ some z
+inside h (pos n) l = simp (lt-ltb n (suc h) l)
+inside h (negsuc n) l = simp (le-leb n h (omega arith))
 
-pred-lt : (H n : ℕ) → 0 < H → H ≤ n → H - 1 < n
-pred-lt H n h k = omega arith
+pub outside : (h : ℕ) (z : ℤ) → suc h ≤ mag z → exactIn (suc h) z ≡ none
+outside h (pos n) l = simp (le-ltb n (suc h) l)
+outside h (negsuc n) l = simp (lt-leb n h (omega arith))
 
 pub exact-yes : (z : ℤ) → mag z < 2 ^ 127 → exact z ≡ some z
-exact-yes (pos n) h = simp (lt-ltb n (2 ^ 127) h)
-exact-yes (negsuc n) h = simp (le-leb n (2 ^ 127 - 1) (le-pred (2 ^ 127) n h))
+exact-yes z l = inside (2 ^ 127 - 1) z l
 
 pub exact-no : (z : ℤ) → 2 ^ 127 ≤ mag z → exact z ≡ none
-exact-no (pos n) h = simp (le-ltb n (2 ^ 127) h)
-exact-no (negsuc n) h = simp (lt-leb n (2 ^ 127 - 1) (pred-lt (2 ^ 127) n (lit< tt) h))
+exact-no z l = outside (2 ^ 127 - 1) z l
 
 -- what 128 bits hold lies in the range
 pub exact-bits : (n : ℕ) → n < 2 ^ 128 → exact (toZ w128 n) ≡ some (toZ w128 n)

@@ -11,13 +11,13 @@ use lib.Bits.{bitAnd, bitOr, bitXor}
 use mir.Syntax.{w128}
 use mir.Val.{toZ, ofZ}
 
--- z lies in -2 ^ 127 .. 2 ^ 127 - 1
-abbrev pub inRange : ℤ → Bool
-inRange z = leZ (negℤ (pos (2 ^ 127))) z && ltZ z (pos (2 ^ 127))
+-- z where it lies in -h .. h - 1, else nothing
+abbrev pub exactIn : ℕ → ℤ → Option ℤ
+exactIn h z = cond (leZ (negℤ (pos h)) z && ltZ z (pos h)) (some z) none
 
--- z where it lies in the range, else nothing
+-- z where it lies in -2 ^ 127 .. 2 ^ 127 - 1, else nothing
 abbrev pub exact : ℤ → Option ℤ
-exact z = cond (inRange z) (some z) none
+exact = exactIn (2 ^ 127)
 
 abbrev pub addOf : ℤ → ℤ → Option ℤ
 addOf a b = exact (a +ℤ b)
@@ -50,7 +50,7 @@ intFits z short unsigned = leZ (leastOf short unsigned) z && leZ z (greatestOf s
 
 -- z where an i64 or a u64 holds it, else nothing: `i64::try_from(z).ok()`, `u64::try_from(z).ok()`
 abbrev pub toI64Of : ℤ → Option ℤ
-toI64Of z = cond (intFits z false false) (some z) none
+toI64Of = exactIn (2 ^ 63)
 
 abbrev pub toU64Of : ℤ → Option ℤ
-toU64Of z = cond (intFits z false true) (some z) none
+toU64Of z = cond (leZ (pos 0) z && ltZ z (pos (2 ^ 64))) (some z) none

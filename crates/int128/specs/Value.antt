@@ -4,12 +4,16 @@
 use Prim.Native.Nat.{ℕ, _+_, _*_, _^_}
 use mathlib.Core.Bool.{Bool}
 use mathlib.Core.Option.{Option, none, some}
-use lib.IntN.{ℤ}
+use lib.IntN.{ℤ, pos}
 use mir.Syntax.{w128}
 use mir.Val.{toZ}
 use Rattle.int128.specs.declared.Int128.{Int128}
 use Rattle.int128.specs.declared.Checked.{Checked}
 use Rattle.int128.specs.declared.Checked.the-variants.{Value, Nothing}
+use Rattle.int128.specs.declared.words.CheckedU64.{CheckedU64}
+use Rattle.int128.specs.declared.words.CheckedU64.the-variants as U64
+use Rattle.int128.specs.declared.words.CheckedI64.{CheckedI64}
+use Rattle.int128.specs.declared.words.CheckedI64.the-variants as I64
 
 -- the 128 bits as one number below 2 ^ 128: the upper half, then the lower
 abbrev pub bitsOf : Int128 → ℕ
@@ -23,3 +27,11 @@ valueOf x = toZ w128 (bitsOf x)
 abbrev pub answerOf : Checked → Option ℤ
 answerOf (Value x) = some (valueOf x)
 answerOf Nothing = none
+
+abbrev pub wordOf : CheckedU64 → Option ℤ
+wordOf (U64.Value x) = some (pos x)
+wordOf U64.Nothing = none
+
+abbrev pub longOf : CheckedI64 → Option ℤ
+longOf (I64.Value x) = some x
+longOf I64.Nothing = none
