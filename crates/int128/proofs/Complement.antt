@@ -9,9 +9,12 @@ use mir.Syntax.{w128}
 use mir.Val.{toZ, ofZ}
 use mir.ValLaws.{ofZ-toZ}
 use lib.Dec.{lit<}
+use Rattle.int128.specs.declared.Int128.{Int128}
+use Rattle.int128.specs.Value.{bitsOf, valueOf}
 use Rattle.int128.specs.Ops.{notOf}
 use Rattle.int128.proofs.Difference.{lt-or-ge, sub-zero, sub-add, sub-eq, sub-neg}
 use Rattle.int128.proofs.Range.{low, high}
+use Rattle.int128.proofs.Whole.{Sized, fits, bits-back}
 
 pub not-bits : (n : ℕ) → n < 2 ^ 128 → notOf (toZ w128 n) ≡ toZ w128 ((2 ^ 128 - 1) - n)
 not-bits n h = ap (λ (m : ℕ). toZ w128 ((2 ^ 128 - 1) - m)) (ofZ-toZ w128 n (record { fits = h }))
@@ -45,3 +48,11 @@ not-one n h =
 -- a - b as a + !b + 1
 pub minus : (z : ℤ) (n : ℕ) → n < 2 ^ 128 → z +ℤ notOf (toZ w128 n) +ℤ pos 1 ≡ z -ℤ toZ w128 n
 minus z n h = +ℤ-assoc z (notOf (toZ w128 n)) (pos 1) ∙ ap (λ (y : ℤ). z +ℤ y) (not-one n h)
+
+-- the bits of a complement
+pub bits-not : (x y : Int128) → Sized x → Sized y → valueOf y ≡ notOf (valueOf x) → bitsOf y ≡ (2 ^ 128 - 1) - bitsOf x
+bits-not x y s t e =
+    sym (bits-back y t) ∙ ap (ofZ w128) (e ∙ not-bits (bitsOf x) (fits x s)) ∙ ofZ-toZ w128 ((2 ^ 128 - 1) - bitsOf x) (record { fits = still (2 ^ 128) (bitsOf x) (lit< tt) })
+  where
+    still : (M n : ℕ) → 0 < M → (M - 1) - n < M
+    still M n p = omega arith

@@ -7,3 +7,6 @@ pub mod Signs
 pub mod Complement
 pub mod Compare
 pub mod Small
+pub mod Bitwise
+pub mod Moved
+pub mod Counts

@@ -28,7 +28,7 @@ word x h = ap (toZ w128) (go x) ∙ toZ-pos w128 x (lt-of-lt-of-le h (lit≤ tt)
     go : (x : ℕ) → 0 * 2 ^ 64 + x ≡ x
     go x = omega arith
 
-negative : (n : ℕ) → 2 ^ 127 ≤ n → toZ w128 n ≡ negsuc (2 ^ 128 - suc n)
+pub negative : (n : ℕ) → 2 ^ 127 ≤ n → toZ w128 n ≡ negsuc (2 ^ 128 - suc n)
 negative n h = simp (le-ltb n (2 ^ 127) h)
 
 negative64 : (n : ℕ) → 2 ^ 63 ≤ n → toZ w64 n ≡ negsuc (2 ^ 64 - suc n)

@@ -54,3 +54,26 @@ toI64Of = exactIn (2 ^ 63)
 
 abbrev pub toU64Of : ℤ → Option ℤ
 toU64Of z = cond (leZ (pos 0) z && ltZ z (pos (2 ^ 64))) (some z) none
+
+-- each of the 128 bits by itself
+abbrev pub andOf : ℤ → ℤ → ℤ
+andOf a b = toZ w128 (bitAnd (ofZ w128 a) (ofZ w128 b))
+
+abbrev pub orOf : ℤ → ℤ → ℤ
+orOf a b = toZ w128 (bitOr (ofZ w128 a) (ofZ w128 b))
+
+abbrev pub xorOf : ℤ → ℤ → ℤ
+xorOf a b = toZ w128 (bitXor (ofZ w128 a) (ofZ w128 b))
+
+-- the bits moved up by n, of which the low 128 are kept
+abbrev pub shlOf : ℤ → ℕ → Option ℤ
+shlOf a n = cond (ltb n 128) (some (toZ w128 (ofZ w128 a * 2 ^ n % 2 ^ 128))) none
+
+-- a / 2 ^ n, rounded down
+abbrev pub shrOf : ℤ → ℕ → Option ℤ
+shrOf a n = cond (ltb n 128) (some (shrZ a (2 ^ n))) none
+
+-- a count that is itself a whole number: none below 0
+abbrev pub byCount : (ℕ → Option ℤ) → ℤ → Option ℤ
+byCount f (pos n) = f n
+byCount f (negsuc n) = none
