@@ -10,3 +10,6 @@ pub mod Small
 pub mod Bitwise
 pub mod Moved
 pub mod Counts
+pub mod Sign
+pub mod Columns
+pub mod Products

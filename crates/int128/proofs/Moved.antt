@@ -7,6 +7,19 @@ use native.Mathlib.Omega.{arith}
 use lib.Arith.{digits-lt, digits-div, digits-mod, mod-mul}
 use lib.Pow.{pow-pos, pow-add}
 
+-- (hi * W + lo) * P by the digits of the two halves' products
+pub spread : (P W hi lo a₁ a₀ l₁ l₀ : ℕ) → hi * P ≡ a₁ * W + a₀ → lo * P ≡ l₁ * W + l₀ → (hi * W + lo) * P ≡ a₁ * (W * W) + ((a₀ + l₁) * W + l₀)
+spread P W hi lo a₁ a₀ l₁ l₀ e f =
+    add-mul (hi * W) lo P
+    ∙ ap₂ _+_ (swap hi W P ∙ ap (λ (n : ℕ). n * W) e) f
+    ∙ gather a₁ a₀ l₁ l₀ W
+  where
+    swap : (x y z : ℕ) → x * y * z ≡ x * z * y
+    swap x y z = mul-assoc x y z ∙ ap (λ (n : ℕ). x * n) (mul-comm y z) ∙ sym (mul-assoc x z y)
+
+    gather : (a₁ a₀ l₁ l₀ W : ℕ) → (a₁ * W + a₀) * W + (l₁ * W + l₀) ≡ a₁ * (W * W) + ((a₀ + l₁) * W + l₀)
+    gather a₁ a₀ l₁ l₀ W = simp (add-mul, mul-assoc, add-assoc)
+
 module _ (P Q : ℕ) (hp : 0 < P) (hq : 0 < Q) where
   -- the upper bits of a half, moved up by P, leave room for what comes from the other half
   room : (x : ℕ) → x * P % (Q * P) ≡ x % Q * P
@@ -22,24 +35,11 @@ module _ (P Q : ℕ) (hp : 0 < P) (hq : 0 < Q) where
   moved : (x : ℕ) → x * P ≡ x / Q * (Q * P) + x * P % (Q * P)
   moved x = sym (div-add-mod' (x * P) (Q * P)) ∙ ap (λ (n : ℕ). n * (Q * P) + x * P % (Q * P)) (mul-div-mul-right x Q hp)
 
-  -- W for Q * P, and the digits that the two halves give
-  spread : (W hi lo a₁ a₀ l₁ l₀ : ℕ) → hi * P ≡ a₁ * W + a₀ → lo * P ≡ l₁ * W + l₀ → (hi * W + lo) * P ≡ a₁ * (W * W) + ((a₀ + l₁) * W + l₀)
-  spread W hi lo a₁ a₀ l₁ l₀ e f =
-      add-mul (hi * W) lo P
-      ∙ ap₂ _+_ (swap hi W P ∙ ap (λ (n : ℕ). n * W) e) f
-      ∙ gather a₁ a₀ l₁ l₀ W
-    where
-      swap : (x y z : ℕ) → x * y * z ≡ x * z * y
-      swap x y z = mul-assoc x y z ∙ ap (λ (n : ℕ). x * n) (mul-comm y z) ∙ sym (mul-assoc x z y)
-
-      gather : (a₁ a₀ l₁ l₀ W : ℕ) → (a₁ * W + a₀) * W + (l₁ * W + l₀) ≡ a₁ * (W * W) + ((a₀ + l₁) * W + l₀)
-      gather a₁ a₀ l₁ l₀ W = simp (add-mul, mul-assoc, add-assoc)
-
   pub up : (hi lo : ℕ) → lo < Q * P
       → (hi * P % (Q * P) + lo / Q) * (Q * P) + lo * P % (Q * P) ≡ (hi * (Q * P) + lo) * P % (Q * P * (Q * P))
   up hi lo h =
       sym
-      (ap (λ (n : ℕ). n % (Q * P * (Q * P))) (spread (Q * P) hi lo (hi * P / (Q * P)) (hi * P % (Q * P)) (lo / Q) (lo * P % (Q * P)) (sym (div-add-mod' (hi * P) (Q * P))) (moved lo))
+      (ap (λ (n : ℕ). n % (Q * P * (Q * P))) (spread P (Q * P) hi lo (hi * P / (Q * P)) (hi * P % (Q * P)) (lo / Q) (lo * P % (Q * P)) (sym (div-add-mod' (hi * P) (Q * P))) (moved lo))
       ∙ digits-mod (hi * P / (Q * P)) (digits-lt (room-lt hi (lo / Q) (moved-lt lo h)) (mod-lt (lo * P) positive)))
     where
       positive : 0 < Q * P

@@ -25,6 +25,9 @@ addOf a b = exact (a +ℤ b)
 abbrev pub subOf : ℤ → ℤ → Option ℤ
 subOf a b = exact (a -ℤ b)
 
+abbrev pub mulOf : ℤ → ℤ → Option ℤ
+mulOf a b = exact (a *ℤ b)
+
 abbrev pub negOf : ℤ → Option ℤ
 negOf a = exact (negℤ a)
 
@@ -77,3 +80,8 @@ shrOf a n = cond (ltb n 128) (some (shrZ a (2 ^ n))) none
 abbrev pub byCount : (ℕ → Option ℤ) → ℤ → Option ℤ
 byCount f (pos n) = f n
 byCount f (negsuc n) = none
+
+-- n or -n: a number by its sign and its magnitude
+abbrev pub signedOf : Bool → ℕ → ℤ
+signedOf false n = pos n
+signedOf true n = negℤ (pos n)

@@ -1,7 +1,9 @@
 // Signed integers of 128 bits, as two halves of 64 bits in two's complement. The operations are those of Rust's i128, under its names; each
 // contract gives the exact whole number, or nothing where that does not fit.
 pub mod bits;
+pub mod magnitude;
 pub mod order;
+pub mod product;
 pub mod shifts;
 pub mod sums;
 pub mod words;
