@@ -4,6 +4,7 @@ pub mod bits;
 pub mod magnitude;
 pub mod order;
 pub mod product;
+pub mod quotient;
 pub mod shifts;
 pub mod sums;
 pub mod words;
