@@ -9,6 +9,10 @@ pub mod shifts;
 pub mod sums;
 pub mod words;
 
+pub use order::int_fits;
+pub use words::CheckedI64;
+pub use words::CheckedU64;
+
 // hi * 2^64 + lo, less 2^128 where hi is 2^63 or more.
 pub struct Int128 {
     pub hi: u64,
