@@ -1,0 +1,4 @@
+pub mod Numbers
+pub mod Entries
+pub mod Instructions
+pub mod RoundTrip
