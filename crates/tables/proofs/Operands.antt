@@ -1,0 +1,212 @@
+-- What converting an expression emits names only what exists, and so does the operand that it leaves.
+-- By induction over the expression, one law for each definition that conversion calls. Assumes nothing.
+use mathlib.Core.Path.{_≡_, refl}
+use Prim.Native.Nat.{ℕ, zero, suc, _<_, _^_}
+use mathlib.Core.Bool.{Bool, true, false, not, _&&_}
+use mathlib.Core.List.{List, [], _∷_}
+use mathlib.Core.Option.{Option, none as nothing, some}
+use native.Mathlib.Omega.{arith}
+use lib.Dec.{eqb, ltb}
+use lib.IntN.{ℤ, pos}
+use borrow.Author.Tests.{ltb-true}
+use mir.Syntax.{w64}
+use mir.Val.{SFits}
+use Rattle.laws.specs.Fix.{pick, fix}
+use Rattle.syntax.specs.Syntax.{Text, Ty, TInt, TFloat, TBool, TChar, TByte, TAddress, TArray, TCustom, TNull, UnaryOp, BinaryOp, Or, And, BitOr, BitXor, BitAnd, Eq, NotEq, Lt, Le, Gt, Ge, Shl, Shr, Add, Sub, Mul, Div, Rem, Expr, EInt, EFloat, EStr, EBool, EName, ENull, ESizeOf, EUnary, EBinary, ECall, Args, noArgs, Value, ToType, Param, Function, Program}
+use Rattle.conversion.specs.ConvertError.{Panic, UnknownVariable}
+use Rattle.conversion.specs.Ir.{VarId, Operand, OVar, OInt, OFloat, OBool, ODataAddress, ONull, Instr, Copy, Unary, Binary, Cast, Arg, Call, Label, Jump, JumpIfNot, logicRhs, logicEnd, LabelName, State, M, pure}
+use Rattle.conversion.specs.Types.{onInt, onFloat, isFloat, within, sizeStep, size}
+use Rattle.conversion.specs.Scope.{Variable, Scope, find-variable}
+use Rattle.conversion.specs.Expressions.{Callee, CallFunction, CallCast, Functions, unwrapOr, get-type, resolve-call, common-type}
+use Rattle.conversion.specs.Statements.{nameOperand, sizeOperand, castOperand, refloat, fit-operand, parameterType, fitFrom, fit-args, emitArgs, convert-unary, convertAnd, convertOr, castFirst, convertOther, convertBinaryBy, convert-binary, callFunction, callValue, convert-call-value, convert-expr, convert-args}
+use Rattle.tables.specs.Exists.{All, Word, VarIn, OperandIn, DestinationIn, LabelFits}
+use Rattle.tables.proofs.SyntaxFits.{OptIs, noneIs, someIs, ExprFits, ArgsFit, SignatureFits, TreeFits}
+use Rattle.tables.proofs.Typing.{TypeFits, CalleeFits, unwrap-is, float-type-word, find-is, type-word, resolve-fits, common-type-word}
+use Rattle.tables.proofs.Keeps.{all-map, Extends, var-up, operand-up, Up, _&_, Always, Typed, Named, Labelled, Keeps, then, and-then, from, gives, fails, emits, new-variable, label-number, string-number, float-number, float-bits, knowing, lift-then}
+
+-- ---- facts
+
+-- all of a list of operands
+abbrev pub NamedAll : List Operand → Up
+NamedAll l = record { holds = λ s. All (OperandIn s) l; up = λ s t e h. all-map (OperandIn s) (OperandIn t) (operand-up s t e) l h }
+
+abbrev pub Done : Unit {0} → Up
+Done u = Always (Unit {0})
+
+module _ (text : Text) where
+  -- every name in scope is a variable with its type, the innermost loop is a record, and the function's types are words
+  pub record ScopeIn (sc : Scope) (s : State) : Type 0 where
+    pub variables : All (λ v. VarIn s (v .var-id) × TypeFits v) (sc .variables)
+    pub inLoop : OptIs Word (sc .inLoop)
+    pub function : SignatureFits text (sc .function)
+
+  abbrev pub Scoped : Scope → Up
+  Scoped sc = record {
+    holds = ScopeIn sc;
+    up = λ s t e h. record {
+      variables = all-map (λ v. VarIn s (v .var-id) × TypeFits v) (λ v. VarIn t (v .var-id) × TypeFits v)
+          (λ v k. (var-up s t e (v .var-id) (k .0), k .1)) (sc .variables) (h .variables);
+      inLoop = h .inLoop;
+      function = h .function;
+    };
+  }
+
+  pub types-in : (sc : Scope) (s : State) → ScopeIn sc s → All TypeFits (sc .variables)
+  types-in sc s h = all-map (λ v. VarIn s (v .var-id) × TypeFits v) TypeFits (λ v k. k .1) (sc .variables) (h .variables)
+
+  -- ---- operands
+
+  pub on-float : {A : Type 0} {G : Up} {Q : A → Up} {d : M A} {f : Bool → M A} (t : Ty) → Keeps text G Q d → ((b : Bool) → Keeps text G Q (f b))
+      → Keeps text G Q (onFloat t d f)
+  unfolding onFloat
+  on-float (TFloat s) h k = k s
+  on-float (TInt s u) h k = h
+  on-float TBool h k = h
+  on-float TChar h k = h
+  on-float TByte h k = h
+  on-float (TAddress y) h k = h
+  on-float (TArray y n) h k = h
+  on-float (TCustom t) h k = h
+  on-float TNull h k = h
+
+  pub on-int : {A : Type 0} {G : Up} {Q : A → Up} {d : M A} {f : Bool → Bool → M A} (t : Ty) → Keeps text G Q d
+      → ((b c : Bool) → Keeps text G Q (f b c)) → Keeps text G Q (onInt t d f)
+  unfolding onInt
+  on-int (TInt s u) h k = k s u
+  on-int (TFloat s) h k = h
+  on-int TBool h k = h
+  on-int TChar h k = h
+  on-int TByte h k = h
+  on-int (TAddress y) h k = h
+  on-int (TArray y n) h k = h
+  on-int (TCustom t) h k = h
+  on-int TNull h k = h
+
+  cast-keeps : {G : Up} (b : Bool) (x : VarId) (y : ℕ) → Word y → ((s : State) → G .holds s → VarIn s x) → Keeps text G Named (castOperand b x y)
+  unfolding castOperand
+  cast-keeps true x y h k = then text (new-variable text h) λ dest.
+      and-then text (emits text (Cast dest (OVar x)) (λ s g. (g .1 .0, k s (g .0))))
+      (gives text (OVar dest) (λ s g. g .1 .0))
+  cast-keeps false x y h k = gives text (OVar x) k
+
+  refloat-keeps : {G : Up} (i : ℕ) (short : Bool) → Keeps text G Named (refloat i short)
+  unfolding refloat
+  refloat-keeps i short = then text (float-bits text i) λ b.
+      knowing text (λ s g. g .1) λ h.
+      then text (float-number text {e = record { bits = b; short = short }} (record { bits = h })) λ j.
+      gives text (OFloat j) (λ s g. g .1)
+
+  pub fit-keeps : {G : Up} (P : Program) (o : Operand) (y : ℕ) → Word y → ((s : State) → G .holds s → OperandIn s o)
+      → Keeps text G Named (fit-operand P o y)
+  unfolding fit-operand
+  fit-keeps P (OFloat i) y h k = on-float (P .typeOf y) (gives text (OFloat i) k) (λ short. refloat-keeps i short)
+  fit-keeps P (OInt v a u) y h k = on-int (P .typeOf y) (gives text (OInt v a u) k) (λ short unsigned. gives text (OInt v short unsigned) k)
+  fit-keeps P (OVar x) y h k = on-float (P .typeOf y) (gives text (OVar x) k)
+      (λ short. cast-keeps (isFloat (P .typeOf (x .ty)) && not (eqb (x .ty) y)) x y h k)
+  fit-keeps P (OBool b) y h k = gives text (OBool b) k
+  fit-keeps P (ODataAddress i) y h k = gives text (ODataAddress i) k
+  fit-keeps P ONull y h k = gives text ONull k
+
+  parameter-word : (P : Program) (l : List Param) (k : ℕ) → All (λ p. Word (p .ty)) l → Word (parameterType P l k)
+  unfolding parameterType
+  parameter-word P [] k h = float-type-word false
+  parameter-word P (p ∷ l) zero h = h .0
+  parameter-word P (p ∷ l) (suc k) h = parameter-word P l k (h .1)
+
+  fit-from : {G : Up} (P : Program) (k : ℕ) (l : List Operand) (f : Function) → SignatureFits text f
+      → ((s : State) → G .holds s → All (OperandIn s) l) → Keeps text G NamedAll (fitFrom P k l f)
+  unfolding fitFrom
+  fit-from P k [] f h n = gives text [] (λ s g. tt)
+  fit-from P k (o ∷ l) f h n = then text (fit-keeps P o (parameterType P (f .params) k) (parameter-word P (f .params) k (h .params)) (λ s g. (n s g) .0)) λ a.
+      then text (fit-from P (suc k) l f h (λ s g. (n s (g .0)) .1)) λ b.
+      gives text (a ∷ b) (λ s g. (g .0 .1, g .1))
+
+  emit-args : {G : Up} (l : List Operand) → ((s : State) → G .holds s → All (OperandIn s) l) → Keeps text G Done (emitArgs l)
+  unfolding emitArgs
+  emit-args [] n = gives text tt (λ s g. tt)
+  emit-args (o ∷ l) n = and-then text (emits text (Arg o) (λ s g. (n s g) .0)) (emit-args l (λ s g. (n s g) .1))
+
+  -- ---- unary and binary
+
+  unary-keeps : {G : Up} {m : M Operand} (o : UnaryOp) (y : ℕ) → Word y → Keeps text G Named m → Keeps text G Named (convert-unary o y m)
+  unfolding convert-unary
+  unary-keeps o y h k = then text k λ src.
+      then text (new-variable text h) λ dest.
+      and-then text (emits text (Unary dest o src) (λ s g. (g .1 .0, g .0 .1)))
+      (gives text (OVar dest) (λ s g. g .1 .0))
+
+  rhs-fits : (r : ℕ) → Word r → LabelFits (logicRhs r)
+  rhs-fits r h = record { some-kind = omega arith; known = omega arith; opener = h }
+
+  end-fits : (r : ℕ) → Word r → LabelFits (logicEnd r)
+  end-fits r h = record { some-kind = omega arith; known = omega arith; opener = h }
+
+  and-keeps : {G : Up} {a b : M Operand} (r y : ℕ) → Word r → Word y → Keeps text G Named a → Keeps text G Named b
+      → Keeps text G Named (convertAnd r y a b)
+  unfolding convertAnd
+  and-keeps {G} r y h w left right = then text (new-variable text w) λ dest.
+      then text (label-number text (rhs-fits r h)) λ i.
+      then text (label-number text (end-fits r h)) λ j.
+      then text (from text (λ s g. g .0 .0 .0) left) λ a.
+      and-then text (emits text (Copy dest a) (λ s g. (g .0 .0 .0 .1 .0, g .1)))
+      (then text (label-number text (end-fits r h)) λ target.
+      and-then text (emits text (JumpIfNot (OVar dest) target) (λ s g. (g .0 .0 .0 .0 .1 .0, g .1)))
+      (then text (from text (λ s g. g .0 .0 .0 .0 .0) right) λ b.
+      and-then text (emits text (Copy dest b) (λ s g. (g .0 .0 .0 .0 .0 .1 .0, g .1)))
+      (then text (label-number text (end-fits r h)) λ end.
+      and-then text (emits text (Label end) (λ s g. g .1))
+      (gives text (OVar dest) (λ s g. g .0 .0 .0 .0 .0 .0 .1 .0)))))
+
+  or-keeps : {G : Up} {a b : M Operand} (r y : ℕ) → Word r → Word y → Keeps text G Named a → Keeps text G Named b
+      → Keeps text G Named (convertOr r y a b)
+  unfolding convertOr
+  or-keeps {G} r y h w left right = then text (new-variable text w) λ dest.
+      then text (label-number text (rhs-fits r h)) λ i.
+      then text (label-number text (end-fits r h)) λ j.
+      then text (from text (λ s g. g .0 .0 .0) left) λ a.
+      and-then text (emits text (Copy dest a) (λ s g. (g .0 .0 .0 .1 .0, g .1)))
+      (then text (label-number text (rhs-fits r h)) λ target.
+      and-then text (emits text (JumpIfNot (OVar dest) target) (λ s g. (g .0 .0 .0 .0 .1 .0, g .1)))
+      (then text (label-number text (end-fits r h)) λ end.
+      and-then text (emits text (Jump end) (λ s g. g .1))
+      (then text (label-number text (rhs-fits r h)) λ rhs.
+      and-then text (emits text (Label rhs) (λ s g. g .1))
+      (then text (from text (λ s g. g .0 .0 .0 .0 .0 .0 .0) right) λ b.
+      and-then text (emits text (Copy dest b) (λ s g. (g .0 .0 .0 .0 .0 .0 .0 .1 .0, g .1)))
+      (then text (label-number text (end-fits r h)) λ stop.
+      and-then text (emits text (Label stop) (λ s g. g .1))
+      (gives text (OVar dest) (λ s g. g .0 .0 .0 .0 .0 .0 .0 .0 .1 .0)))))))
+
+  module _ (P : Program) (F : Functions) where
+    other-keeps : {G : Up} {a b : M Operand} (o : BinaryOp) (y q : ℕ) → Word y → Word q → Keeps text G Named a → Keeps text G Named b
+        → Keeps text G Named (convertOther P F o y q a b)
+    unfolding convertOther
+    other-keeps o y q h k left right = then text left λ a.
+        then text (from text (λ s g. g .0) right) λ b.
+        then text (fit-keeps P a q k (λ s g. g .0 .1)) λ a1.
+        then text (fit-keeps P b q k (λ s g. g .0 .1)) λ b1.
+        then text (new-variable text h) λ dest.
+        and-then text (emits text (Binary dest o a1 b1) (λ s g. (g .1 .0, g .0 .0 .1, g .0 .1)))
+        (gives text (OVar dest) (λ s g. g .1 .0))
+
+    binary-by : {G : Up} {a b : M Operand} (o : BinaryOp) (r y q : ℕ) → Word r → Word y → Word q → Keeps text G Named a → Keeps text G Named b
+        → Keeps text G Named (convertBinaryBy P F o r y q a b)
+    unfolding convertBinaryBy
+    binary-by And r y q i h k left right = and-keeps r y i h left right
+    binary-by Or r y q i h k left right = or-keeps r y i h left right
+    binary-by BitOr r y q i h k left right = other-keeps BitOr y q h k left right
+    binary-by BitXor r y q i h k left right = other-keeps BitXor y q h k left right
+    binary-by BitAnd r y q i h k left right = other-keeps BitAnd y q h k left right
+    binary-by Eq r y q i h k left right = other-keeps Eq y q h k left right
+    binary-by NotEq r y q i h k left right = other-keeps NotEq y q h k left right
+    binary-by Lt r y q i h k left right = other-keeps Lt y q h k left right
+    binary-by Le r y q i h k left right = other-keeps Le y q h k left right
+    binary-by Gt r y q i h k left right = other-keeps Gt y q h k left right
+    binary-by Ge r y q i h k left right = other-keeps Ge y q h k left right
+    binary-by Shl r y q i h k left right = other-keeps Shl y q h k left right
+    binary-by Shr r y q i h k left right = other-keeps Shr y q h k left right
+    binary-by Add r y q i h k left right = other-keeps Add y q h k left right
+    binary-by Sub r y q i h k left right = other-keeps Sub y q h k left right
+    binary-by Mul r y q i h k left right = other-keeps Mul y q h k left right
+    binary-by Div r y q i h k left right = other-keeps Div y q h k left right
+    binary-by Rem r y q i h k left right = other-keeps Rem y q h k left right
