@@ -6,3 +6,4 @@ pub mod SyntaxFits
 pub mod Typing
 pub mod Keeps
 pub mod Operands
+pub mod Blocks

@@ -14,14 +14,14 @@ use mir.Val.{SFits}
 use Rattle.laws.specs.Fix.{pick, fix}
 use Rattle.syntax.specs.Syntax.{Text, Ty, TInt, TFloat, TBool, TChar, TByte, TAddress, TArray, TCustom, TNull, UnaryOp, BinaryOp, Or, And, BitOr, BitXor, BitAnd, Eq, NotEq, Lt, Le, Gt, Ge, Shl, Shr, Add, Sub, Mul, Div, Rem, Expr, EInt, EFloat, EStr, EBool, EName, ENull, ESizeOf, EUnary, EBinary, ECall, Args, noArgs, Value, ToType, Param, Function, Program}
 use Rattle.conversion.specs.ConvertError.{Panic, UnknownVariable}
-use Rattle.conversion.specs.Ir.{VarId, Operand, OVar, OInt, OFloat, OBool, ODataAddress, ONull, Instr, Copy, Unary, Binary, Cast, Arg, Call, Label, Jump, JumpIfNot, logicRhs, logicEnd, LabelName, State, M, pure}
+use Rattle.conversion.specs.Ir.{VarId, Operand, OVar, OInt, OFloat, OBool, ODataAddress, ONull, Instr, Copy, Unary, Binary, Cast, Arg, Call, Label, Jump, JumpIfNot, logicRhs, logicEnd, LabelName, State, M, _>>=_, pure, lift}
 use Rattle.conversion.specs.Types.{onInt, onFloat, isFloat, within, sizeStep, size}
 use Rattle.conversion.specs.Scope.{Variable, Scope, find-variable}
 use Rattle.conversion.specs.Expressions.{Callee, CallFunction, CallCast, Functions, unwrapOr, get-type, resolve-call, common-type}
 use Rattle.conversion.specs.Statements.{nameOperand, sizeOperand, castOperand, refloat, fit-operand, parameterType, fitFrom, fit-args, emitArgs, convert-unary, convertAnd, convertOr, castFirst, convertOther, convertBinaryBy, convert-binary, callFunction, callValue, convert-call-value, convert-expr, convert-args}
 use Rattle.tables.specs.Exists.{All, Word, VarIn, OperandIn, DestinationIn, LabelFits}
-use Rattle.tables.proofs.SyntaxFits.{OptIs, noneIs, someIs, ExprFits, ArgsFit, SignatureFits, TreeFits}
-use Rattle.tables.proofs.Typing.{TypeFits, CalleeFits, unwrap-is, float-type-word, find-is, type-word, resolve-fits, common-type-word}
+use Rattle.tables.proofs.SyntaxFits.{OptIs, noneIs, someIs, held, ExprFits, ArgsFit, SignatureFits, CalleeFits, TreeFits}
+use Rattle.tables.proofs.Typing.{TypeFits, unwrap-is, float-type-word, find-is, type-word, resolve-fits, common-type-word}
 use Rattle.tables.proofs.Keeps.{all-map, Extends, var-up, operand-up, Up, _&_, Always, Typed, Named, Labelled, Keeps, then, and-then, from, gives, fails, emits, new-variable, label-number, string-number, float-number, float-bits, knowing, lift-then}
 
 -- ---- facts
@@ -210,3 +210,112 @@ module _ (text : Text) where
     binary-by Mul r y q i h k left right = other-keeps Mul y q h k left right
     binary-by Div r y q i h k left right = other-keeps Div y q h k left right
     binary-by Rem r y q i h k left right = other-keeps Rem y q h k left right
+
+    -- ---- calls
+
+    pub call-keeps : {G : Up} (dest : Option VarId) (f : Function) (l : List Operand) → SignatureFits text f
+        → ((s : State) → G .holds s → DestinationIn s dest) → ((s : State) → G .holds s → All (OperandIn s) l)
+        → Keeps text G Done (callFunction P F dest f l)
+    unfolding callFunction fit-args
+    call-keeps dest f l h d n = then text (fit-from P 0 l f h n) λ a.
+        and-then text (emit-args a (λ s g. g .1))
+        (emits text (Call dest (f .recOf)) (λ s g. (d s (g .0), h .recOf)))
+
+    cast-first : {G : Up} (r : ℕ) (dest : VarId) (l : List Operand) → ((s : State) → G .holds s → VarIn s dest)
+        → ((s : State) → G .holds s → All (OperandIn s) l) → Keeps text G Named (castFirst r dest l)
+    unfolding castFirst
+    cast-first r dest [] d n = fails text Panic r
+    cast-first r dest (o ∷ l) d n = and-then text (emits text (Cast dest o) (λ s g. (d s g, (n s g) .0))) (gives text (OVar dest) d)
+
+    call-value : {G : Up} (r : ℕ) (dest : VarId) (l : List Operand) (c : Callee) → CalleeFits text c
+        → ((s : State) → G .holds s → VarIn s dest) → ((s : State) → G .holds s → All (OperandIn s) l)
+        → Keeps text G Named (callValue P F r dest l c)
+    unfolding callValue
+    call-value r dest l (CallFunction f) h d n = and-then text (call-keeps (some dest) f l h d n) (gives text (OVar dest) d)
+    call-value r dest l (CallCast y) h d n = cast-first r dest l d n
+
+    -- ---- leaves
+
+    found-keeps : {G : Up} (r : ℕ) (o : Option Variable) → ((s : State) → G .holds s → OptIs (λ v. VarIn s (v .var-id) × TypeFits v) o)
+        → Keeps text G Named (nameOperand r o)
+    unfolding nameOperand
+    found-keeps r (some v) h = gives text (OVar (v .var-id)) (λ s g. (held (h s g)) .0)
+    found-keeps r nothing h = fails text UnknownVariable r
+
+    name-keeps : (r : ℕ) (t : Text) (sc : Scope) → Keeps text (Scoped sc) Named (nameOperand r (find-variable t sc))
+    unfolding find-variable
+    name-keeps r t sc = found-keeps r (find-variable t sc)
+        (λ s g. find-is (λ v. VarIn s (v .var-id) × TypeFits v) t (sc .variables) (g .variables))
+
+    within-small : (o : Option ℕ) → OptIs (λ n. n < 2 ^ 63) (within o)
+    unfolding within
+    within-small nothing = noneIs
+    within-small (some n) = by (ltb n (2 ^ 63)) refl
+      where
+        by : (b : Bool) → ltb n (2 ^ 63) ≡ b → OptIs (λ k. k < 2 ^ 63) (pick b (some n) nothing)
+        by true e = someIs (ltb-true n (2 ^ 63) e)
+        by false e = noneIs
+
+    size-small : (y : ℕ) → OptIs (λ n. n < 2 ^ 63) (size (P .typeOf) y)
+    unfolding size
+    size-small y = within-small (fix nothing (sizeStep (P .typeOf)) y)
+
+    size-keeps : {G : Up} (r : ℕ) (o : Option ℕ) → OptIs (λ n. n < 2 ^ 63) o → Keeps text G Named (sizeOperand r o)
+    unfolding sizeOperand
+    size-keeps r (some n) h = gives text (OInt (pos n) false false) (λ s g. record { sfits = held h })
+    size-keeps r nothing h = fails text Panic r
+
+    -- ---- expressions
+
+    module _ (treeFits : TreeFits text P) (functionsFit : All (λ e. SignatureFits text (e .1)) F) where
+      pub type-then : {A : Type 0} {R : A → Up} {f : ℕ → M A} {G : Up} (e : Expr) (sc : Scope) → ((s : State) → G .holds s → ScopeIn sc s)
+          → ExprFits text e → ((y : ℕ) → Word y → Keeps text G R (f y)) → Keeps text G R (lift (get-type P F e sc) >>= f)
+      type-then e sc n h k = lift-then text (λ s g. type-word text P F treeFits functionsFit sc (types-in sc s (n s g)) e h) k
+
+      pub resolve-then : {A : Type 0} {R : A → Up} {f : Callee → M A} {G : Up} (verb : Text) (l : Args) (sc : Scope) (r : ℕ)
+          → ((s : State) → G .holds s → ScopeIn sc s) → ArgsFit text l → ((c : Callee) → CalleeFits text c → Keeps text G R (f c))
+          → Keeps text G R (lift (resolve-call P F verb l sc r) >>= f)
+      resolve-then verb l sc r n h k = lift-then text (λ s g. resolve-fits text P F treeFits functionsFit sc (types-in sc s (n s g)) verb l r h) k
+
+      binary-keeps : {a b : M Operand} (r : ℕ) (o : BinaryOp) (x z : Expr) (y : ℕ) (sc : Scope) → Word r → Word y → ExprFits text x → ExprFits text z
+          → Keeps text (Scoped sc) Named a → Keeps text (Scoped sc) Named b → Keeps text (Scoped sc) Named (convert-binary P F r o x z y sc a b)
+      unfolding convert-binary
+      binary-keeps r o x z y sc i h j k left right =
+          lift-then text (λ s g. common-type-word text P F treeFits functionsFit sc (types-in sc s g) x z j k)
+          λ c w. binary-by o r y (unwrapOr y c) i h (unwrap-is y h w) left right
+
+      call-value-keeps : {m : M (List Operand)} (r : ℕ) (verb : Text) (l : Args) (y : ℕ) (sc : Scope) → Word y → ArgsFit text l
+          → Keeps text (Scoped sc) NamedAll m → Keeps text (Scoped sc) Named (convert-call-value P F r verb l y sc m)
+      unfolding convert-call-value
+      call-value-keeps r verb l y sc h k values = resolve-then verb l sc r (λ s g. g) k λ c j.
+          then text values λ operands.
+          then text (new-variable text h) λ dest.
+          call-value r dest operands c j (λ s g. g .1 .0) (λ s g. g .0 .1)
+
+      mutual
+        unfolding convert-expr
+
+        pub expr-keeps : (e : Expr) (sc : Scope) → ExprFits text e → Keeps text (Scoped sc) Named (convert-expr P F e sc)
+        expr-keeps (EInt r v short unsigned) sc h = gives text (OInt v short unsigned) (λ s g. h)
+        expr-keeps (EFloat r b short) sc h = then text (float-number text {e = record { bits = b; short = short }} (record { bits = h })) λ i.
+            gives text (OFloat i) (λ s g. g .1)
+        expr-keeps (EBool r b) sc h = gives text (OBool b) (λ s g. tt)
+        expr-keeps (ENull r) sc h = gives text ONull (λ s g. tt)
+        expr-keeps (EName r t) sc h = name-keeps r t sc
+        expr-keeps (EStr r o n t) sc h =
+            then text (string-number text {e = record { offset = o; len = n; text = t }} (record { offset = h .0; len = h .1; same = h .2 })) λ i.
+            gives text (ODataAddress i) (λ s g. g .1)
+        expr-keeps (ESizeOf r y) sc h = size-keeps r (size (P .typeOf) y) (size-small y)
+        expr-keeps (EUnary r o a) sc h = type-then (EUnary r o a) sc (λ s g. g) h λ y w.
+            unary-keeps o y w (expr-keeps a sc h)
+        expr-keeps (EBinary r o a b) sc h = type-then (EBinary r o a b) sc (λ s g. g) h λ y w.
+            binary-keeps r o a b y sc (h .0) w (h .1) (h .2) (expr-keeps a sc (h .1)) (expr-keeps b sc (h .2))
+        expr-keeps (ECall r verb l) sc h = type-then (ECall r verb l) sc (λ s g. g) h λ y w.
+            call-value-keeps r verb l y sc w h (args-keeps l sc h)
+
+        pub args-keeps : (l : Args) (sc : Scope) → ArgsFit text l → Keeps text (Scoped sc) NamedAll (convert-args P F l sc)
+        args-keeps noArgs sc h = gives text [] (λ s g. tt)
+        args-keeps (Value r e l) sc h = then text (expr-keeps e sc (h .0)) λ o.
+            then text (from text (λ s g. g .0) (args-keeps l sc (h .1))) λ os.
+            gives text (o ∷ os) (λ s g. (g .0 .1, g .1))
+        args-keeps (ToType r y l) sc h = args-keeps l sc (h .1)

@@ -10,6 +10,7 @@ use mir.Val.{SFits}
 use Rattle.records.specs.Words.{textAt}
 use Rattle.syntax.specs.Syntax.{Text, Expr, EInt, EFloat, EStr, EBool, EName, ENull, ESizeOf, EUnary, EBinary, ECall, Args, noArgs, Value, ToType, Statement, SDeclare, SInit, SReturn, SCall, SIf, SIfElse, SWhile, SFor, SBreak, SContinue, Block, done, next, Param, Function, Program}
 use Rattle.conversion.specs.ConvertError.{ConvertErrorKind, Result, ok, err}
+use Rattle.conversion.specs.Expressions.{Callee, CallFunction, CallCast}
 use Rattle.tables.specs.Exists.{All, Word}
 
 -- Q holds of what a result holds, of what an option holds
@@ -20,6 +21,9 @@ pub data OkIs {A : Type 0} (Q : A → Type 0) : Result A → Type 0 where
 pub data OptIs {A : Type 0} (Q : A → Type 0) : Option A → Type 0 where
   noneIs : OptIs Q nothing
   someIs : {a : A} → Q a → OptIs Q (some a)
+
+pub held : {A : Type 0} {Q : A → Type 0} {a : A} → OptIs Q (some a) → Q a
+held (someIs h) = h
 
 module _ (text : Text) where
   abbrev mutual
@@ -62,6 +66,10 @@ module _ (text : Text) where
     pub recOf : Word (f .recOf)
     pub returnType : OptIs Word (f .returnType)
     pub params : All (λ p. Word (p .ty)) (f .params)
+
+  abbrev pub CalleeFits : Callee → Type 0
+  CalleeFits (CallFunction f) = SignatureFits f
+  CalleeFits (CallCast y) = Word y
 
   pub record FunctionFitsIn (f : Function) : Type 0 where
     pub signature : SignatureFits f

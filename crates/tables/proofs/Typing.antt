@@ -16,7 +16,7 @@ use Rattle.conversion.specs.Types.{fits, range-error, can-cast}
 use Rattle.conversion.specs.Scope.{Variable, Scope, findIn, find-variable}
 use Rattle.conversion.specs.Expressions.{Callee, CallFunction, CallCast, return-type, TypedArg, castVerb, variadicMark, Functions, getFunction, is-mangled, filterOption, orElse, unwrapOr, operandClass, givesBool, targetType, sourceType, nameType, chosen, valueType, commonOf, acceptsClass, acceptsUnary, unaryType, operandsError, accepted, binaryType, takes-args, castChecked, castTo, cast-type, suffixes, mangledFunction, joined, variadicFunction, find-exact-function, byLiterals, find-functions-by-literals, exactOr, resolveFunction, resolveTyped, get-type, get-argument-types, resolve-call, common-type}
 use Rattle.tables.specs.Exists.{All, Word}
-use Rattle.tables.proofs.SyntaxFits.{OkIs, okIs, errIs, OptIs, noneIs, someIs, ExprFits, ArgsFit, SignatureFits, FunctionFitsIn, TreeFits}
+use Rattle.tables.proofs.SyntaxFits.{OkIs, okIs, errIs, OptIs, noneIs, someIs, ExprFits, ArgsFit, SignatureFits, CalleeFits, FunctionFitsIn, TreeFits}
 
 -- ---- results and options
 
@@ -76,10 +76,6 @@ find-is Q n (v ∷ l) h = by (sameText n (v .name)) (h .0) (find-is Q n l (h .1)
 
 module _ (text : Text) (P : Program) (F : Functions) (treeFits : TreeFits text P)
     (functionsFit : All (λ e. SignatureFits text (e .1)) F) where
-  abbrev pub CalleeFits : Callee → Type 0
-  CalleeFits (CallFunction f) = SignatureFits text f
-  CalleeFits (CallCast y) = Word y
-
   abbrev ArgFits : TypedArg → Type 0
   ArgFits a = Word (a .ty)
 
@@ -145,18 +141,18 @@ module _ (text : Text) (P : Program) (F : Functions) (treeFits : TreeFits text P
       pick-is (All (SignatureFits text)) (sameText (f .name) verb && is-mangled f && takes-args P F f l) (f ∷ byLiterals P F verb l fs)
       (byLiterals P F verb l fs) (h .0 .signature, rest) rest
 
-  chosen-fits : (l : List Function) (r : ℕ) → All (SignatureFits text) l → OkIs CalleeFits (chosen l r)
+  chosen-fits : (l : List Function) (r : ℕ) → All (SignatureFits text) l → OkIs (CalleeFits text) (chosen l r)
   unfolding chosen
   chosen-fits [] r h = errIs
   chosen-fits (f ∷ []) r h = okIs (h .0)
   chosen-fits (f ∷ g ∷ l) r h = errIs
 
-  exact-or-fits : {o : Option Function} {c : Result Callee} → OptIs (SignatureFits text) o → OkIs CalleeFits c → OkIs CalleeFits (exactOr P F o c)
+  exact-or-fits : {o : Option Function} {c : Result Callee} → OptIs (SignatureFits text) o → OkIs (CalleeFits text) c → OkIs (CalleeFits text) (exactOr P F o c)
   unfolding exactOr
   exact-or-fits (someIs h) k = okIs h
   exact-or-fits noneIs k = k
 
-  resolve-function-fits : (verb : Text) (l : List TypedArg) (r : ℕ) {o : Option ℕ} → OptIs Word o → OkIs CalleeFits (resolveFunction P F verb l r o)
+  resolve-function-fits : (verb : Text) (l : List TypedArg) (r : ℕ) {o : Option ℕ} → OptIs Word o → OkIs (CalleeFits text) (resolveFunction P F verb l r o)
   unfolding resolveFunction find-functions-by-literals
   resolve-function-fits verb l r (someIs h) = okIs h
   resolve-function-fits verb l r noneIs = exact-or-fits (exact-fits verb l)
@@ -181,7 +177,7 @@ module _ (text : Text) (P : Program) (F : Functions) (treeFits : TreeFits text P
   cast-to r l noneIs = okIs noneIs
   cast-to r l (someIs {a} h) = cast-checked r a (sourceType l) h
 
-  resolve-typed : (verb : Text) (r : ℕ) (l : List TypedArg) → All ArgFits l → OkIs CalleeFits (resolveTyped P F verb r l)
+  resolve-typed : (verb : Text) (r : ℕ) (l : List TypedArg) → All ArgFits l → OkIs (CalleeFits text) (resolveTyped P F verb r l)
   unfolding resolveTyped cast-type
   resolve-typed verb r l h = ok-bind
       (pick-is (OkIs (OptIs Word)) (sameText verb castVerb) (castTo P F r l (targetType l)) (ok nothing) (cast-to r l (target-word l h)) (okIs noneIs))
@@ -199,7 +195,7 @@ module _ (text : Text) (P : Program) (F : Functions) (treeFits : TreeFits text P
   given-word r (someIs h) = okIs h
   given-word r noneIs = errIs
 
-  value-word : (r : ℕ) (c : Callee) → CalleeFits c → OkIs Word (valueType r (return-type c))
+  value-word : (r : ℕ) (c : Callee) → CalleeFits text c → OkIs Word (valueType r (return-type c))
   unfolding valueType return-type
   value-word r (CallFunction f) h = given-word r (h .returnType)
   value-word r (CallCast y) h = okIs h
@@ -228,7 +224,7 @@ module _ (text : Text) (P : Program) (F : Functions) (treeFits : TreeFits text P
           (λ y k. ok-bind (types-words l (h .1)) (λ ts j. okIs (k, j)))
       types-words (ToType r y l) h = ok-bind (types-words l (h .1)) (λ ts j. okIs (h .0, j))
 
-    pub resolve-fits : (verb : Text) (l : Args) (r : ℕ) → ArgsFit text l → OkIs CalleeFits (resolve-call P F verb l sc r)
+    pub resolve-fits : (verb : Text) (l : Args) (r : ℕ) → ArgsFit text l → OkIs (CalleeFits text) (resolve-call P F verb l sc r)
     unfolding resolve-call
     resolve-fits verb l r h = ok-bind (types-words l h) (λ ts k. resolve-typed verb r ts k)
 
