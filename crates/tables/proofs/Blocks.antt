@@ -20,7 +20,7 @@ use Rattle.conversion.specs.Scope.{Variable, Scope, find-variable, withVariable
 use Rattle.conversion.specs.Expressions.{Callee, CallFunction, CallCast, Functions, get-type}
 use Rattle.conversion.specs.Statements.{asCall, convert-expr, convert-cond, checkFits, zeroValue, convert-declare, assignTo, convert-assign, initNew, initBy, convert-init, returnAs, convert-return, callStatement, convert-call, convert-if, convertIfElse, convert-while-loop, checkBound, forLoop, forInt, forKnown, convert-for-loop, convert-break, convert-continue, convert-statement, convert-block}
 use Rattle.tables.specs.Exists.{All, Word, VarIn, OperandIn, LabelFits}
-use Rattle.tables.proofs.SyntaxFits.{OkIs, okIs, errIs, OptIs, noneIs, someIs, held, ExprFits, ArgsFit, StatementFits, BlockFits, SignatureFits, CalleeFits, TreeFits}
+use Rattle.tables.proofs.SyntaxFits.{OkIs, okIs, errIs, OptIs, noneIs, someIs, held, ExprFits, ArgsFit, StatementFits, BlockFits, SignatureFits, CalleeFits, KeyedFit, TreeFits}
 use Rattle.tables.proofs.Typing.{TypeFits, pick-is, find-is}
 use Rattle.tables.proofs.Keeps.{Up, _&_, Typed, Named, Keeps, then, and-then, from, gives, fails, emits, picks, new-variable, label-number, float-number, knowing, lift-then, lift-any}
 use Rattle.tables.proofs.Operands.{Done, ScopeIn, Scoped, on-int, fit-keeps, call-keeps, type-then, resolve-then, expr-keeps, args-keeps}
@@ -54,7 +54,7 @@ abbrev Known : State → Variable → Type 0
 Known s v = VarIn s (v .var-id) × TypeFits v
 
 module _ (text : Text) where
-  with-more : (sc d : Scope) (v : Variable) (s : State) → d ≡ withVariable v sc → ScopeIn text sc s → Known s v → ScopeIn text d s
+  pub with-more : (sc d : Scope) (v : Variable) (s : State) → d ≡ withVariable v sc → ScopeIn text sc s → Known s v → ScopeIn text d s
   unfolding withVariable
   with-more sc d v s e h k = rw e (record { variables = (k, h .variables); inLoop = h .inLoop; function = h .function })
 
@@ -62,7 +62,7 @@ module _ (text : Text) where
   unfolding withLoop
   with-loop r sc s w h = record { variables = h .variables; inLoop = someIs w; function = h .function }
 
-  module _ (P : Program) (F : Functions) (treeFits : TreeFits text P) (functionsFit : All (λ e. SignatureFits text (e .1)) F) where
+  module _ (P : Program) (F : Functions) (treeFits : TreeFits text P) (functionsFit : KeyedFit text F) where
     known-in : (n : Text) (sc : Scope) (s : State) → ScopeIn text sc s → OptIs (Known s) (find-variable n sc)
     unfolding find-variable
     known-in n sc s h = find-is (Known s) n (sc .variables) (h .variables)

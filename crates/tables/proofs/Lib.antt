@@ -7,3 +7,4 @@ pub mod Typing
 pub mod Keeps
 pub mod Operands
 pub mod Blocks
+pub mod Converted

@@ -20,7 +20,7 @@ use Rattle.conversion.specs.Scope.{Variable, Scope, find-variable}
 use Rattle.conversion.specs.Expressions.{Callee, CallFunction, CallCast, Functions, unwrapOr, get-type, resolve-call, common-type}
 use Rattle.conversion.specs.Statements.{nameOperand, sizeOperand, castOperand, refloat, fit-operand, parameterType, fitFrom, fit-args, emitArgs, convert-unary, convertAnd, convertOr, castFirst, convertOther, convertBinaryBy, convert-binary, callFunction, callValue, convert-call-value, convert-expr, convert-args}
 use Rattle.tables.specs.Exists.{All, Word, VarIn, OperandIn, DestinationIn, LabelFits}
-use Rattle.tables.proofs.SyntaxFits.{OptIs, noneIs, someIs, held, ExprFits, ArgsFit, SignatureFits, CalleeFits, TreeFits}
+use Rattle.tables.proofs.SyntaxFits.{OptIs, noneIs, someIs, held, ExprFits, ArgsFit, SignatureFits, CalleeFits, KeyedFit, TreeFits}
 use Rattle.tables.proofs.Typing.{TypeFits, unwrap-is, float-type-word, find-is, type-word, resolve-fits, common-type-word}
 use Rattle.tables.proofs.Keeps.{all-map, Extends, var-up, operand-up, Up, _&_, Always, Typed, Named, Labelled, Keeps, then, and-then, from, gives, fails, emits, new-variable, label-number, string-number, float-number, float-bits, knowing, lift-then}
 
@@ -267,7 +267,7 @@ module _ (text : Text) where
 
     -- ---- expressions
 
-    module _ (treeFits : TreeFits text P) (functionsFit : All (λ e. SignatureFits text (e .1)) F) where
+    module _ (treeFits : TreeFits text P) (functionsFit : KeyedFit text F) where
       pub type-then : {A : Type 0} {R : A → Up} {f : ℕ → M A} {G : Up} (e : Expr) (sc : Scope) → ((s : State) → G .holds s → ScopeIn sc s)
           → ExprFits text e → ((y : ℕ) → Word y → Keeps text G R (f y)) → Keeps text G R (lift (get-type P F e sc) >>= f)
       type-then e sc n h k = lift-then text (λ s g. type-word text P F treeFits functionsFit sc (types-in sc s (n s g)) e h) k

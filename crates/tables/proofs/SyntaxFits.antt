@@ -10,7 +10,7 @@ use mir.Val.{SFits}
 use Rattle.records.specs.Words.{textAt}
 use Rattle.syntax.specs.Syntax.{Text, Expr, EInt, EFloat, EStr, EBool, EName, ENull, ESizeOf, EUnary, EBinary, ECall, Args, noArgs, Value, ToType, Statement, SDeclare, SInit, SReturn, SCall, SIf, SIfElse, SWhile, SFor, SBreak, SContinue, Block, done, next, Param, Function, Program}
 use Rattle.conversion.specs.ConvertError.{ConvertErrorKind, Result, ok, err}
-use Rattle.conversion.specs.Expressions.{Callee, CallFunction, CallCast}
+use Rattle.conversion.specs.Expressions.{Functions, Callee, CallFunction, CallCast}
 use Rattle.tables.specs.Exists.{All, Word}
 
 -- Q holds of what a result holds, of what an option holds
@@ -70,6 +70,10 @@ module _ (text : Text) where
   abbrev pub CalleeFits : Callee → Type 0
   CalleeFits (CallFunction f) = SignatureFits f
   CalleeFits (CallCast y) = Word y
+
+  -- the functions by key
+  abbrev pub KeyedFit : Functions → Type 0
+  KeyedFit F = All (λ e. SignatureFits (e .1)) F
 
   pub record FunctionFitsIn (f : Function) : Type 0 where
     pub signature : SignatureFits f

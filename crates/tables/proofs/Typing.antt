@@ -16,7 +16,7 @@ use Rattle.conversion.specs.Types.{fits, range-error, can-cast}
 use Rattle.conversion.specs.Scope.{Variable, Scope, findIn, find-variable}
 use Rattle.conversion.specs.Expressions.{Callee, CallFunction, CallCast, return-type, TypedArg, castVerb, variadicMark, Functions, getFunction, is-mangled, filterOption, orElse, unwrapOr, operandClass, givesBool, targetType, sourceType, nameType, chosen, valueType, commonOf, acceptsClass, acceptsUnary, unaryType, operandsError, accepted, binaryType, takes-args, castChecked, castTo, cast-type, suffixes, mangledFunction, joined, variadicFunction, find-exact-function, byLiterals, find-functions-by-literals, exactOr, resolveFunction, resolveTyped, get-type, get-argument-types, resolve-call, common-type}
 use Rattle.tables.specs.Exists.{All, Word}
-use Rattle.tables.proofs.SyntaxFits.{OkIs, okIs, errIs, OptIs, noneIs, someIs, ExprFits, ArgsFit, SignatureFits, CalleeFits, FunctionFitsIn, TreeFits}
+use Rattle.tables.proofs.SyntaxFits.{OkIs, okIs, errIs, OptIs, noneIs, someIs, ExprFits, ArgsFit, SignatureFits, CalleeFits, FunctionFitsIn, KeyedFit, TreeFits}
 
 -- ---- results and options
 
@@ -75,7 +75,7 @@ find-is Q n (v ∷ l) h = by (sameText n (v .name)) (h .0) (find-is Q n l (h .1)
     by false p q = q
 
 module _ (text : Text) (P : Program) (F : Functions) (treeFits : TreeFits text P)
-    (functionsFit : All (λ e. SignatureFits text (e .1)) F) where
+    (functionsFit : KeyedFit text F) where
   abbrev ArgFits : TypedArg → Type 0
   ArgFits a = Word (a .ty)
 
@@ -107,7 +107,7 @@ module _ (text : Text) (P : Program) (F : Functions) (treeFits : TreeFits text P
 
   -- ---- calls
 
-  get-fits : (k : Text) (G : Functions) → All (λ e. SignatureFits text (e .1)) G → OptIs (SignatureFits text) (getFunction k G)
+  get-fits : (k : Text) (G : Functions) → KeyedFit text G → OptIs (SignatureFits text) (getFunction k G)
   unfolding getFunction
   get-fits k [] h = noneIs
   get-fits k (e ∷ l) h = by (sameText k (e .0)) (h .0) (get-fits k l (h .1))
