@@ -135,9 +135,11 @@ module _ (text : Text) where
         λ q a. all-fit fs (l ++ (q .0 ∷ [])) (q .1) (h .1) (record {
           funcs = all-append (FunctionFits (programOf (l ++ (q .0 ∷ [])) (q .1))) l (q .0 ∷ [])
               (all-map (FunctionFits (programOf l p)) (FunctionFits (programOf (l ++ (q .0 ∷ [])) (q .1)))
-              (λ g k. function-up l (l ++ (q .0 ∷ [])) p (q .1) g (a .more) k) l (m .funcs))
-              (function-up [] (l ++ (q .0 ∷ [])) (q .1) (q .1) (q .0)
-              (record { strings = prefix-refl (q .1 .strings); floats = prefix-refl (q .1 .floats) }) (a .func), tt);
+              (λ g k. function-up l (l ++ (q .0 ∷ [])) p (q .1) g (a .more) k) l (m .funcs)) (
+                function-up [] (l ++ (q .0 ∷ [])) (q .1) (q .1) (q .0)
+                    (record { strings = prefix-refl (q .1 .strings); floats = prefix-refl (q .1 .floats) }) (a .func),
+                tt,
+              );
           strings = a .strings;
           floats = a .floats;
         })

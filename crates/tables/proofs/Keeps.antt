@@ -229,17 +229,24 @@ module _ (text : Text) where
 
   pub new-variable : {G : Up} {y : ℕ} → Word y → Keeps G Typed (new-var y)
   unfolding new-var
-  new-variable {G} {y} h = record { runs = λ s g w. (record {
-    vars = prefix-append (s .vars) (y ∷ []);
-    labels = prefix-refl (s .labels);
-    strings = prefix-refl (s .strings);
-    floats = prefix-refl (s .floats);
-  }, record {
-    vars = all-append Word (s .vars) (y ∷ []) (w .vars) (h, tt);
-    labels = w .labels;
-    strings = w .strings;
-    floats = w .floats;
-  }, tt, (record { typed = found-last (s .vars) y }, h)) }
+  new-variable {G} {y} h = record {
+    runs = λ s g w. (
+      record {
+        vars = prefix-append (s .vars) (y ∷ []);
+        labels = prefix-refl (s .labels);
+        strings = prefix-refl (s .strings);
+        floats = prefix-refl (s .floats);
+      },
+      record {
+        vars = all-append Word (s .vars) (y ∷ []) (w .vars) (h, tt);
+        labels = w .labels;
+        strings = w .strings;
+        floats = w .floats;
+      },
+      tt,
+      (record { typed = found-last (s .vars) y }, h),
+    );
+  }
 
   last-below : {X : Type 0} (l : List X) (x : X) → length l < length (l ++ (x ∷ []))
   last-below l x = omega (arith, length-append l (x ∷ []))
@@ -255,55 +262,61 @@ module _ (text : Text) where
 
   pub label-number : {G : Up} {l : LabelName} → LabelFits l → Keeps G Labelled (label-id l)
   unfolding label-id
-  label-number {G} {l} h = record { runs = λ s g w.
-    let t : State = record { vars = s .vars; labels = s .labels ++ (l ∷ []); strings = s .strings; floats = s .floats } in
-    numbered-keeps (λ u. u .labels) s t l
-    (record {
-      vars = prefix-refl (s .vars);
-      labels = prefix-append (s .labels) (l ∷ []);
-      strings = prefix-refl (s .strings);
-      floats = prefix-refl (s .floats);
-    }) refl w (record {
-      vars = w .vars;
-      labels = all-append LabelFits (s .labels) (l ∷ []) (w .labels) (h, tt);
-      strings = w .strings;
-      floats = w .floats;
-    }) Labelled (λ u n b. b) (position (sameLabel l) (s .labels)) (position-below (sameLabel l) (s .labels)) }
+  label-number {G} {l} h = record {
+    runs = λ s g w.
+        let t : State = record { vars = s .vars; labels = s .labels ++ (l ∷ []); strings = s .strings; floats = s .floats } in
+        numbered-keeps (λ u. u .labels) s t l
+        (record {
+          vars = prefix-refl (s .vars);
+          labels = prefix-append (s .labels) (l ∷ []);
+          strings = prefix-refl (s .strings);
+          floats = prefix-refl (s .floats);
+        }) refl w (record {
+          vars = w .vars;
+          labels = all-append LabelFits (s .labels) (l ∷ []) (w .labels) (h, tt);
+          strings = w .strings;
+          floats = w .floats;
+        }) Labelled (λ u n b. b) (position (sameLabel l) (s .labels)) (position-below (sameLabel l) (s .labels));
+  }
 
   pub string-number : {G : Up} {e : StringEntry} → StringFits text e → Keeps G (λ n. Named (ODataAddress n)) (string-id e)
   unfolding string-id
-  string-number {G} {e} h = record { runs = λ s g w.
-    let t : State = record { vars = s .vars; labels = s .labels; strings = s .strings ++ (e ∷ []); floats = s .floats } in
-    numbered-keeps (λ u. u .strings) s t e
-    (record {
-      vars = prefix-refl (s .vars);
-      labels = prefix-refl (s .labels);
-      strings = prefix-append (s .strings) (e ∷ []);
-      floats = prefix-refl (s .floats);
-    }) refl w (record {
-      vars = w .vars;
-      labels = w .labels;
-      strings = all-append (StringFits text) (s .strings) (e ∷ []) (w .strings) (h, tt);
-      floats = w .floats;
-    }) (λ n. Named (ODataAddress n)) (λ u n b. b)
-    (position (λ x. sameText (e .text) (x .text)) (s .strings)) (position-below (λ x. sameText (e .text) (x .text)) (s .strings)) }
+  string-number {G} {e} h = record {
+    runs = λ s g w.
+        let t : State = record { vars = s .vars; labels = s .labels; strings = s .strings ++ (e ∷ []); floats = s .floats } in
+        numbered-keeps (λ u. u .strings) s t e
+        (record {
+          vars = prefix-refl (s .vars);
+          labels = prefix-refl (s .labels);
+          strings = prefix-append (s .strings) (e ∷ []);
+          floats = prefix-refl (s .floats);
+        }) refl w (record {
+          vars = w .vars;
+          labels = w .labels;
+          strings = all-append (StringFits text) (s .strings) (e ∷ []) (w .strings) (h, tt);
+          floats = w .floats;
+        }) (λ n. Named (ODataAddress n)) (λ u n b. b)
+        (position (λ x. sameText (e .text) (x .text)) (s .strings)) (position-below (λ x. sameText (e .text) (x .text)) (s .strings));
+  }
 
   pub float-number : {G : Up} {e : FloatEntry} → FloatFits e → Keeps G (λ n. Named (OFloat n)) (float-id e)
   unfolding float-id
-  float-number {G} {e} h = record { runs = λ s g w.
-    let t : State = record { vars = s .vars; labels = s .labels; strings = s .strings; floats = s .floats ++ (e ∷ []) } in
-    numbered-keeps (λ u. u .floats) s t e
-    (record {
-      vars = prefix-refl (s .vars);
-      labels = prefix-refl (s .labels);
-      strings = prefix-refl (s .strings);
-      floats = prefix-append (s .floats) (e ∷ []);
-    }) refl w (record {
-      vars = w .vars;
-      labels = w .labels;
-      strings = w .strings;
-      floats = all-append FloatFits (s .floats) (e ∷ []) (w .floats) (h, tt);
-    }) (λ n. Named (OFloat n)) (λ u n b. b) (position (sameFloat e) (s .floats)) (position-below (sameFloat e) (s .floats)) }
+  float-number {G} {e} h = record {
+    runs = λ s g w.
+        let t : State = record { vars = s .vars; labels = s .labels; strings = s .strings; floats = s .floats ++ (e ∷ []) } in
+        numbered-keeps (λ u. u .floats) s t e
+        (record {
+          vars = prefix-refl (s .vars);
+          labels = prefix-refl (s .labels);
+          strings = prefix-refl (s .strings);
+          floats = prefix-append (s .floats) (e ∷ []);
+        }) refl w (record {
+          vars = w .vars;
+          labels = w .labels;
+          strings = w .strings;
+          floats = all-append FloatFits (s .floats) (e ∷ []) (w .floats) (h, tt);
+        }) (λ n. Named (OFloat n)) (λ u n b. b) (position (sameFloat e) (s .floats)) (position-below (sameFloat e) (s .floats));
+  }
 
   bits-at : (l : List FloatEntry) (i : ℕ) → All FloatFits l → (getD l i (record { bits = 0; short = false })) .bits < 2 ^ 64
   bits-at [] i h = omega arith

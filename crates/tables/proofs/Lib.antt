@@ -8,3 +8,5 @@ pub mod Keeps
 pub mod Operands
 pub mod Blocks
 pub mod Converted
+pub mod Decoded
+pub mod ReadBack

@@ -17,7 +17,10 @@ abbrev pub All : {X : Type 0} → (X → Type 0) → List X → Type 0
 All P [] = Unit {0}
 All P (x ∷ l) = P x × All P l
 
--- a word holds it
+-- a byte, and a word of 32 bits, holds it
+abbrev pub Byte : ℕ → Type 0
+Byte n = n < 256
+
 abbrev pub Word : ℕ → Type 0
 Word n = n < 4294967296
 
