@@ -2,12 +2,12 @@
 -- By induction on the entries; a table is what stands before the part, the part, and the rest. Assumes nothing.
 use mathlib.Core.Path.{_≡_, refl, sym, ap, _∙_}
 use Prim.Native.Nat.{ℕ, zero, suc, _+_, _*_, _<_, _≤_}
-use native.Mathlib.Nat.{suc-mul}
+use native.Mathlib.Nat.{suc-mul, zero-mul, add-comm}
 use mathlib.Core.List.{List, [], _∷_, _++_, append-assoc}
 use mathlib.Core.Option.{Option, none as nothing, some}
 use native.Mathlib.Omega.{arith}
 use lib.ListN.{length, drop, getElem?, length-append}
-use lib.Seq.{drop-at}
+use lib.Seq.{drop-at, drop-drop}
 use Rattle.conversion.specs.Written.{encodeAll}
 use Rattle.tables.specs.Read.{_>>=_, entries, part}
 use Rattle.tables.specs.Exists.{All}
@@ -72,3 +72,36 @@ module _ {X : Type 0} (enc : X → List ℕ) (size : ℕ) (sized : (x : X) → l
     unfolding part
     part-back a b c rest h = rw (drop-entries a (b ++ c) rest, encode-append b c, append-assoc (encodeAll enc b) (encodeAll enc c) rest)
         (entries-back b (encodeAll enc c ++ rest) h)
+
+-- ---- where entries are read as a list, each of them is read as its element: what a reader of single entries meets
+
+module _ {X : Type 0} (read : List ℕ → Option X) (size : ℕ) where
+  -- the first entry and the others
+  record Opened (n : ℕ) (b : List ℕ) (l : List X) : Type 0 where
+    head : X
+    tail : List X
+    whole : l ≡ head ∷ tail
+    first : read b ≡ some head
+    others : entries read size n (drop size b) ≡ some tail
+
+  opened : (n : ℕ) (b : List ℕ) (l : List X) (o : Option X) (p : Option (List X)) → read b ≡ o → entries read size n (drop size b) ≡ p
+      → (o >>= λ x. p >>= λ t. some (x ∷ t)) ≡ some l → Opened n b l
+  unfolding _>>=_
+  opened n b l nothing p f g e = let z : _≡_ {A = ℕ} 0 1 = cc in absurd (omega arith)
+  opened n b l (some x) nothing f g e = let z : _≡_ {A = ℕ} 0 1 = cc in absurd (omega arith)
+  opened n b l (some x) (some t) f g e = record { head = x; tail = t; whole = cc; first = f; others = g }
+
+  entry-in : (n : ℕ) (b : List ℕ) (l : List X) (k : ℕ) (x : X) (o : Opened n b l)
+      → ((j : ℕ) → getElem? (o .tail) j ≡ some x → read (drop (j * size) (drop size b)) ≡ some x)
+      → getElem? (o .head ∷ o .tail) k ≡ some x → read (drop (k * size) b) ≡ some x
+  entry-in n b l zero x o h e = rw (zero-mul size) (o .first ∙ e)
+  entry-in n b l (suc k) x o h e = rw (suc-mul k size, add-comm (k * size) size, ← drop-drop (k * size) size b) (h k e)
+
+  pub entry-at : (n : ℕ) (b : List ℕ) (l : List X) (k : ℕ) (x : X) → entries read size n b ≡ some l → getElem? l k ≡ some x
+      → read (drop (k * size) b) ≡ some x
+  unfolding entries
+  entry-at zero b [] k x e f = let z : _≡_ {A = ℕ} 0 1 = cc in absurd (omega arith)
+  entry-at zero b (y ∷ l) k x e f = let z : _≡_ {A = ℕ} 0 1 = cc in absurd (omega arith)
+  entry-at (suc n) b l k x e f =
+      let o = opened n b l (read b) (entries read size n (drop size b)) refl refl e in
+      entry-in n b l k x o (λ j g. entry-at n (drop size b) (o .tail) j x (o .others) g) (rw (o .whole) at f)

@@ -3,8 +3,10 @@
 use mathlib.Core.Path.{_≡_, refl}
 use Prim.Native.Nat.{ℕ, zero, suc, _+_, _*_, _/_, _%_, _^_, _<_}
 use mathlib.Core.List.{List, _++_}
-use native.Mathlib.Nat.{div-add-mod'}
+use native.Mathlib.Nat.{div-add-mod', add-assoc}
 use native.Mathlib.Omega.{arith}
+use lib.ListN.{drop}
+use lib.Seq.{getD-drop}
 use Rattle.records.specs.Words.{byteAt, wordAt}
 use Rattle.conversion.specs.Written.{bytesOf, word, wide}
 use Rattle.tables.specs.Read.{wideAt}
@@ -34,3 +36,17 @@ wide-back w rest h = omega (
   step (w / 256 / 256 / 256 / 256 / 256 / 256),
   step (w / 256 / 256 / 256 / 256 / 256 / 256 / 256),
 )
+
+-- ---- a number in what follows the first n bytes stands n further on
+
+pub byte-drop : (n : ℕ) (b : List ℕ) (i : ℕ) → byteAt (drop n b) i ≡ byteAt b (n + i)
+unfolding byteAt
+byte-drop n b i = getD-drop n b i 0
+
+pub word-drop : (n : ℕ) (b : List ℕ) (i : ℕ) → wordAt (drop n b) i ≡ wordAt b (n + i)
+unfolding wordAt
+word-drop n b i = simp (byte-drop, add-assoc)
+
+pub wide-drop : (n : ℕ) (b : List ℕ) (i : ℕ) → wideAt (drop n b) i ≡ wideAt b (n + i)
+unfolding wideAt
+wide-drop n b i = rw (word-drop n b i, word-drop n b (i + 4), add-assoc n i 4)

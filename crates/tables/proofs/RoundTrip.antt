@@ -15,7 +15,7 @@ use Rattle.records.specs.Words.{byteAt, wordAt, textAt}
 use Rattle.syntax.specs.Syntax.{Text}
 use Rattle.conversion.specs.Ir.{Instr, LabelName, StringEntry, FloatEntry, State, IrFunction, IrProgram}
 use Rattle.conversion.specs.Written.{bytesOf, word, wide, boolNumber, encodeInstr, encodeVar, encodeLabel, encodeString, encodeFloat, encodeAll, codeOf, bodyMark, encodeFunctions, allCode, allVars, allLabels, Tables, Counts, tablesOf, countsOf}
-use Rattle.tables.specs.Read.{_>>=_, check, unused, wideAt, markOf, instrAt, variableAt, labelAt, stringAt, floatAt, FunctionEntry, functionAt, entries, part, Body, textsOf, bodyAt, Holds, bodyOf}
+use Rattle.tables.specs.Read.{_>>=_, check, unused, wideAt, markOf, instrAt, variableAt, labelAt, stringAt, floatAt, FunctionEntry, functionAt, entries, part, Body, textsOf, bodyAt, Begin, bodyOf}
 use Rattle.tables.specs.Exists.{All, Word, InstrIn, LabelFits, StringFits, FloatFits, stateOf, FunctionFits, CountsFit, ProgramFits}
 use Rattle.tables.proofs.Numbers.{word-back, wide-back}
 use Rattle.tables.proofs.Entries.{all-at, Cut, cut, not-found, drop-entries, part-back, entries-back}
@@ -184,7 +184,7 @@ parts-words l a b d e h = (
   omega (arith, ap length e, length-append a (b ++ d), length-append b d),
 )
 
-module _ (text : Text) (p : IrProgram) (t : Tables) (fits : ProgramFits text p) (held : Holds p t) where
+module _ (text : Text) (p : IrProgram) (t : Tables) (fits : ProgramFits text p) (held : Begin (tablesOf p) t) where
   strings-back : part (stringAt text) 8 (t .strings) 0 (countsOf p .strings) ≡ some (p .strings)
   unfolding part tablesOf countsOf
   strings-back = rw (held .strings .same)

@@ -14,7 +14,7 @@ use Rattle.laws.specs.Fix.{pick}
 use Rattle.records.specs.Words.{byteAt, wordAt, textAt, none}
 use Rattle.syntax.specs.Syntax.{Text, unaryOps, binaryOps}
 use Rattle.conversion.specs.Ir.{VarId, Operand, OVar, OInt, OFloat, OBool, ODataAddress, ONull, Instr, Copy, Unary, Binary, Cast, Zero, Arg, Call, Label, Jump, JumpIfNot, Return, Comment, LabelName, StringEntry, FloatEntry, IrProgram}
-use Rattle.conversion.specs.Written.{Fields, tagOf, Tables, Counts, tablesOf}
+use Rattle.conversion.specs.Written.{Fields, tagOf, Tables, Counts}
 
 -- ---- reading
 
@@ -319,14 +319,14 @@ pub record Begins (table buffer : List ℕ) : Type 0 where
   pub rest : List ℕ
   pub same : buffer ≡ table ++ rest
 
--- six buffers that begin with the tables of a program
-pub record Holds (p : IrProgram) (t : Tables) : Type 0 where
-  pub instructions : Begins (tablesOf p .instructions) (t .instructions)
-  pub variables : Begins (tablesOf p .variables) (t .variables)
-  pub labels : Begins (tablesOf p .labels) (t .labels)
-  pub functions : Begins (tablesOf p .functions) (t .functions)
-  pub strings : Begins (tablesOf p .strings) (t .strings)
-  pub floats : Begins (tablesOf p .floats) (t .floats)
+-- six buffers that begin with six tables
+pub record Begin (w t : Tables) : Type 0 where
+  pub instructions : Begins (w .instructions) (t .instructions)
+  pub variables : Begins (w .variables) (t .variables)
+  pub labels : Begins (w .labels) (t .labels)
+  pub functions : Begins (w .functions) (t .functions)
+  pub strings : Begins (w .strings) (t .strings)
+  pub floats : Begins (w .floats) (t .floats)
 
 -- the body of function i of a program
 unfoldable pub bodyOf : IrProgram → ℕ → Option Body
