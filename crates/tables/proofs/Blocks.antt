@@ -22,23 +22,23 @@ use Rattle.conversion.specs.Statements.{asCall, convert-expr, convert-cond, che
 use Rattle.tables.specs.Exists.{All, Word, VarIn, OperandIn, LabelFits}
 use Rattle.tables.proofs.SyntaxFits.{OkIs, okIs, errIs, OptIs, noneIs, someIs, held, ExprFits, ArgsFit, StatementFits, BlockFits, SignatureFits, CalleeFits, KeyedFit, TreeFits}
 use Rattle.tables.proofs.Typing.{TypeFits, pick-is, find-is}
-use Rattle.tables.proofs.Keeps.{Up, _&_, Typed, Named, Keeps, then, and-then, from, gives, fails, emits, picks, new-variable, label-number, float-number, knowing, lift-then, lift-any}
+use Rattle.tables.proofs.Keeps.{known-label, Up, _&_, Typed, Named, Keeps, then, and-then, from, gives, fails, emits, picks, new-variable, label-number, float-number, knowing, lift-then, lift-any}
 use Rattle.tables.proofs.Operands.{Done, ScopeIn, Scoped, on-int, fit-keeps, call-keeps, type-then, resolve-then, expr-keeps, args-keeps}
 
 start-fits : (r : ℕ) → Word r → LabelFits (loopStart r)
-start-fits r h = record { some-kind = omega arith; known = omega arith; opener = h }
+start-fits r h = known-label 1 r tt h
 
 end-fits : (r : ℕ) → Word r → LabelFits (loopEnd r)
-end-fits r h = record { some-kind = omega arith; known = omega arith; opener = h }
+end-fits r h = known-label 2 r tt h
 
 check-fits : (r : ℕ) → Word r → LabelFits (loopCheck r)
-check-fits r h = record { some-kind = omega arith; known = omega arith; opener = h }
+check-fits r h = known-label 3 r tt h
 
 otherwise-fits : (r : ℕ) → Word r → LabelFits (otherwiseLabel r)
-otherwise-fits r h = record { some-kind = omega arith; known = omega arith; opener = h }
+otherwise-fits r h = known-label 4 r tt h
 
 condition-fits : (r : ℕ) → Word r → LabelFits (conditionEnd r)
-condition-fits r h = record { some-kind = omega arith; known = omega arith; opener = h }
+condition-fits r h = known-label 5 r tt h
 
 declared-by : (o : Option Variable) (v : Variable) (r : ℕ) (sc : Scope) → OkIs (λ d. d ≡ withVariable v sc) (declareNew o v r sc)
 unfolding declareNew

@@ -7,7 +7,9 @@ use mathlib.Core.Bool.{Bool, true, false, _&&_}
 use mathlib.Core.List.{List, [], _∷_, _++_, append-assoc, append-nil}
 use mathlib.Core.Option.{Option, none as nothing, some}
 use native.Mathlib.Omega.{arith}
+use lib.Dec.{T, ltb, ltb→lt}
 use lib.ListN.{length, getD, getElem?, length-append}
+use mir.Facts.{and-yes}
 use Rattle.laws.specs.Fix.{pick}
 use Rattle.syntax.specs.Syntax.{Text}
 use Rattle.conversion.specs.ConvertError.{ConvertErrorKind, Result, ok, err}
@@ -121,6 +123,12 @@ module _ (s t : State) (e : Extends s t) where
   instr-up (JumpIfNot o l) h = (operand-up o (h .0), label-up l (h .1))
   instr-up (Return o) h = operand-up o h
   instr-up (Comment r) h = h
+
+-- a label of one of the seven kinds
+pub known-label : (k r : ℕ) → T (ltb 0 k && ltb k 8) → Word r → LabelFits (record { kind = k; opener = r })
+known-label k r h w =
+    let t = and-yes (ltb 0 k) (ltb k 8) h in
+    record { some-kind = ltb→lt 0 k (t .0); known = ltb→lt k 8 (t .1); opener = w }
 
 -- ---- facts that later states keep
 

@@ -22,7 +22,7 @@ use Rattle.conversion.specs.Statements.{nameOperand, sizeOperand, castOperand, 
 use Rattle.tables.specs.Exists.{All, Word, VarIn, OperandIn, DestinationIn, LabelFits}
 use Rattle.tables.proofs.SyntaxFits.{OptIs, noneIs, someIs, held, ExprFits, ArgsFit, SignatureFits, CalleeFits, KeyedFit, TreeFits}
 use Rattle.tables.proofs.Typing.{TypeFits, unwrap-is, float-type-word, find-is, type-word, resolve-fits, common-type-word}
-use Rattle.tables.proofs.Keeps.{all-map, Extends, var-up, operand-up, Up, _&_, Always, Typed, Named, Labelled, Keeps, then, and-then, from, gives, fails, emits, new-variable, label-number, string-number, float-number, float-bits, knowing, lift-then}
+use Rattle.tables.proofs.Keeps.{known-label, all-map, Extends, var-up, operand-up, Up, _&_, Always, Typed, Named, Labelled, Keeps, then, and-then, from, gives, fails, emits, new-variable, label-number, string-number, float-number, float-bits, knowing, lift-then}
 
 -- ---- facts
 
@@ -136,10 +136,10 @@ module _ (text : Text) where
       (gives text (OVar dest) (λ s g. g .1 .0))
 
   rhs-fits : (r : ℕ) → Word r → LabelFits (logicRhs r)
-  rhs-fits r h = record { some-kind = omega arith; known = omega arith; opener = h }
+  rhs-fits r h = known-label 6 r tt h
 
   end-fits : (r : ℕ) → Word r → LabelFits (logicEnd r)
-  end-fits r h = record { some-kind = omega arith; known = omega arith; opener = h }
+  end-fits r h = known-label 7 r tt h
 
   and-keeps : {G : Up} {a b : M Operand} (r y : ℕ) → Word r → Word y → Keeps text G Named a → Keeps text G Named b
       → Keeps text G Named (convertAnd r y a b)

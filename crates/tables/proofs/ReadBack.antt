@@ -1,19 +1,19 @@
 -- What a tree of records converts to is read back from its tables: each function's body, and every variable, label, string and float that it
--- names exists. By the round trip, from a tree whose syntax fits. The counts must fit a word; that they do, for a tree of at most 2,048
--- records, is the theorem that the sizes suffice: each count is at most ten for a record. Assumes nothing.
+-- names exists. By the round trip, from a tree whose syntax fits. That the counts fit a word follows where the sizes suffice. Assumes nothing.
 use mathlib.Core.Path.{_≡_, refl, sym}
-use Prim.Native.Nat.{ℕ}
+use Prim.Native.Nat.{ℕ, _*_, _<_, _≤_}
 use mathlib.Core.Bool.{Bool, true, false}
 use mathlib.Core.List.{List}
 use native.Mathlib.Omega.{arith}
 use lib.Dec.{eqb}
+use lib.ListN.{length}
 use Rattle.laws.specs.Fix.{pick}
 use Rattle.records.specs.Words.{wordOf, records, none, spanStart, spanEnd}
 use Rattle.syntax.specs.Decode.{program}
 use Rattle.conversion.specs.ConvertError.{Result, ok, err, number}
 use Rattle.conversion.specs.Ir.{IrProgram}
 use Rattle.conversion.specs.Converter.{convert}
-use Rattle.conversion.specs.Written.{Tables, Counts, Refused, Converted, refusedAt, answerOf, conversion, tablesOf, countsOf}
+use Rattle.conversion.specs.Written.{Tables, Counts, Refused, Converted, refusedAt, answerOf, conversion, allCode, allVars, allLabels, tablesOf, countsOf}
 use Rattle.tables.specs.Read.{bodyAt, bodyOf, Begin}
 use Rattle.tables.specs.Exists.{All, Byte, Word, CountsFit, ProgramFits}
 use Rattle.tables.proofs.SyntaxFits.{OkIs, okIs}
@@ -23,6 +23,20 @@ use Rattle.tables.proofs.Decoded.{program-fits}
 
 ok-holds : {A : Type 0} {Q : A → Type 0} {a : A} → OkIs Q (ok a) → Q a
 ok-holds (okIs h) = h
+
+-- the tables of n records, each table of at most so many entries for a record
+pub counts-fit : (n : ℕ) (p : IrProgram) → n < 1073741824 → length (p .funcs) ≤ n → length (allCode (p .funcs)) ≤ 4 * n
+    → length (allVars (p .funcs)) ≤ 3 * n → length (allLabels (p .funcs)) ≤ 3 * n → length (p .strings) ≤ n → length (p .floats) ≤ 2 * n
+    → CountsFit (countsOf p)
+unfolding countsOf
+counts-fit n p h f i v l s r = record {
+  functions = omega arith;
+  instructions = omega arith;
+  variables = omega arith;
+  labels = omega arith;
+  strings = omega arith;
+  floats = omega arith;
+}
 
 module _ (tree text : List ℕ) (needsMain : Bool) (bytes : All Byte tree) (few : Word (records tree)) where
   module _ (p : IrProgram) (converts : convert (program tree text) needsMain ≡ ok p) (counts : CountsFit (countsOf p)) where
