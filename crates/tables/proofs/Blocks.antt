@@ -1,28 +1,24 @@
 -- What converting a statement or a block emits names only what exists, and the scope that it leaves names variables that exist.
 -- By induction over the block, one law for each definition that conversion calls. Assumes nothing.
 use mathlib.Core.Path.{_≡_, refl}
-use Prim.Native.Nat.{ℕ, zero, suc, _<_, _^_}
-use mathlib.Core.Bool.{Bool, true, false, not, _&&_}
-use mathlib.Core.List.{List, [], _∷_}
+use Prim.Native.Nat.{ℕ}
+use mathlib.Core.Bool.{Bool, true, false}
 use mathlib.Core.Option.{Option, none as nothing, some}
 use native.Mathlib.Omega.{arith}
 use lib.Dec.{eqb}
-use lib.IntN.{ℤ, pos}
-use mir.Syntax.{w64}
-use mir.Val.{SFits}
+use lib.IntN.{pos}
 use mir.Facts.{sfits-lit}
-use Rattle.laws.specs.Fix.{pick}
-use Rattle.syntax.specs.Syntax.{Text, Ty, TInt, TFloat, TBool, TChar, TByte, TAddress, TArray, TCustom, TNull, Add, Lt, Expr, EInt, EFloat, EStr, EBool, EName, ENull, ESizeOf, EUnary, EBinary, ECall, Args, Statement, SDeclare, SInit, SReturn, SCall, SIf, SIfElse, SWhile, SFor, SBreak, SContinue, Block, done, next, Function, Program, place, boolType, nullType, addressOfNull}
-use Rattle.conversion.specs.ConvertError.{ConvertErrorKind, Result, ok, err, UnknownVariable, AssignToConstant, ReturnWithoutType, WrongReturnType, WrongAssignType, LiteralOutOfRange, NotBool, NotInteger, BreakOutOfLoop, ContinueOutOfLoop, Panic}
-use Rattle.conversion.specs.Ir.{VarId, Operand, OVar, OInt, OFloat, OBool, ODataAddress, ONull, Instr, Copy, Binary, Zero, Label, Jump, JumpIfNot, Return, Comment, LabelName, loopStart, loopEnd, loopCheck, otherwiseLabel, conditionEnd, State, M, _>>_, emit}
+use Rattle.syntax.specs.Syntax.{Text, Ty, TInt, TFloat, TBool, TChar, TByte, TAddress, TArray, TCustom, TNull, Add, Lt, Expr, EInt, EFloat, EStr, EBool, EName, ENull, ESizeOf, EUnary, EBinary, ECall, Args, Statement, SDeclare, SInit, SReturn, SCall, SIf, SIfElse, SWhile, SFor, SBreak, SContinue, Block, done, next, Program, place, boolType, nullType, addressOfNull}
+use Rattle.conversion.specs.ConvertError.{ConvertErrorKind, UnknownVariable, AssignToConstant, ReturnWithoutType, WrongReturnType, WrongAssignType, LiteralOutOfRange, NotBool, NotInteger, BreakOutOfLoop, ContinueOutOfLoop, Panic}
+use Rattle.conversion.specs.Ir.{VarId, OVar, OInt, OFloat, OBool, ONull, Copy, Binary, Zero, Label, Jump, JumpIfNot, Return, Comment, loopStart, loopEnd, loopCheck, otherwiseLabel, conditionEnd, State, M, _>>_, emit}
 use Rattle.conversion.specs.Types.{fits, range-error}
 use Rattle.conversion.specs.Scope.{Variable, Scope, find-variable, withVariable, withLoop, declareNew, declare}
 use Rattle.conversion.specs.Expressions.{Callee, CallFunction, CallCast, Functions, get-type}
 use Rattle.conversion.specs.Statements.{asCall, convert-expr, convert-cond, checkFits, zeroValue, convert-declare, assignTo, convert-assign, initNew, initBy, convert-init, returnAs, convert-return, callStatement, convert-call, convert-if, convertIfElse, convert-while-loop, checkBound, forLoop, forInt, forKnown, convert-for-loop, convert-break, convert-continue, convert-statement, convert-block}
-use Rattle.tables.specs.Exists.{All, Word, VarIn, OperandIn, LabelFits}
-use Rattle.tables.proofs.SyntaxFits.{OkIs, okIs, errIs, OptIs, noneIs, someIs, held, ExprFits, ArgsFit, StatementFits, BlockFits, SignatureFits, CalleeFits, KeyedFit, TreeFits}
+use Rattle.tables.specs.Exists.{Word, VarIn, LabelFits}
+use Rattle.tables.proofs.SyntaxFits.{OkIs, okIs, errIs, OptIs, someIs, held, ExprFits, ArgsFit, StatementFits, BlockFits, CalleeFits, KeyedFit, TreeFits}
 use Rattle.tables.proofs.Typing.{TypeFits, pick-is, find-is}
-use Rattle.tables.proofs.Keeps.{known-label, Up, _&_, Typed, Named, Keeps, then, and-then, from, gives, fails, emits, picks, new-variable, label-number, float-number, knowing, lift-then, lift-any}
+use Rattle.tables.proofs.Keeps.{known-label, Up, Typed, Named, Keeps, then, and-then, from, gives, fails, emits, picks, new-variable, label-number, float-number, knowing, lift-then, lift-any}
 use Rattle.tables.proofs.Operands.{Done, ScopeIn, Scoped, on-int, fit-keeps, call-keeps, type-then, resolve-then, expr-keeps, args-keeps}
 
 start-fits : (r : ℕ) → Word r → LabelFits (loopStart r)

@@ -1,27 +1,25 @@
 -- A program that converts from a tree whose numbers fit: every variable, label, string and float that an instruction names exists, and every
 -- number fits its field. By the laws of blocks for each function, and by induction over the functions for the strings and floats that
 -- they share. Assumes nothing.
-use mathlib.Core.Path.{_≡_, refl}
-use Prim.Native.Nat.{ℕ}
-use mathlib.Core.Bool.{Bool, true, false, not, _&&_, _||_}
+use mathlib.Core.Path.{refl}
+use mathlib.Core.Bool.{Bool, false, not, _&&_, _||_}
 use mathlib.Core.List.{List, [], _∷_, _++_}
 use mathlib.Core.Option.{Option, none as nothing, some}
-use Rattle.laws.specs.Fix.{pick}
 use Rattle.syntax.specs.Syntax.{Text, Block, Param, Function, Program}
 use Rattle.conversion.specs.ConvertError as C
 use Rattle.conversion.specs.ConvertError.{Result, ok, err, AlreadyDeclared, MissingReturn, ExternNotLatin, SameSymbol, LatinCharInNonLibCFunction, SameSignature}
-use Rattle.conversion.specs.Ir.{Instr, StringEntry, FloatEntry, State, Out, made, failed, M, sameText, IrFunction, IrProgram}
+use Rattle.conversion.specs.Ir.{Out, made, failed, sameText, IrFunction, IrProgram}
 use Rattle.conversion.specs.Types.{isSome}
-use Rattle.conversion.specs.Scope.{Variable, Scope, find-variable, withVariable}
+use Rattle.conversion.specs.Scope.{Scope, find-variable, withVariable}
 use Rattle.conversion.specs.Expressions.{Functions, mainName}
 use Rattle.conversion.specs.Functions.{is-ascii, contains-key, addFunction, get-all-functions, check-main, always-returns, declareParams, convertBody, Pool, finished, convertFunction, convert-func}
 use Rattle.conversion.specs.Converter.{convertAll, convert}
 use Rattle.conversion.specs.Written.{codeOf, countsOf}
-use Rattle.tables.specs.Exists.{All, Word, VarIn, InstrIn, LabelFits, StringFits, FloatFits, stateOf, FunctionFits, CountsFit, ProgramFits}
+use Rattle.tables.specs.Exists.{All, Word, InstrIn, StringFits, FloatFits, stateOf, FunctionFits, CountsFit, ProgramFits}
 use Rattle.tables.proofs.SyntaxFits.{OkIs, okIs, errIs, OptIs, noneIs, held, BlockFits, SignatureFits, FunctionFitsIn, KeyedFit, TreeFits}
-use Rattle.tables.proofs.Typing.{TypeFits, ok-bind, pick-is}
-use Rattle.tables.proofs.Keeps.{Prefix, prefix-refl, prefix-trans, all-append, all-map, Extends, instr-up, Up, Always, StateFits, Post, Keeps, then, from, gives, fails, picks, new-variable}
-use Rattle.tables.proofs.Operands.{Done, ScopeIn, Scoped}
+use Rattle.tables.proofs.Typing.{ok-bind, pick-is}
+use Rattle.tables.proofs.Keeps.{Prefix, prefix-refl, all-append, all-map, instr-up, Always, Post, Keeps, then, from, gives, fails, picks, new-variable}
+use Rattle.tables.proofs.Operands.{Done, Scoped}
 use Rattle.tables.proofs.Blocks.{with-more, block-keeps}
 
 module _ (text : Text) where

@@ -1,20 +1,20 @@
 -- The syntax tree of a record tree fits: record and type numbers are words, literals have 64 bits, a string is the bytes that it refers to.
 -- By induction on the steps down from a record; a word of four bytes fits whatever the record says. Assumes nothing.
-use mathlib.Core.Path.{_≡_, refl}
-use Prim.Native.Nat.{ℕ, zero, suc, _+_, _*_, _<_, _≤_, _^_}
-use mathlib.Core.Bool.{Bool, true, false}
-use mathlib.Core.List.{List, [], _∷_, _++_}
+use mathlib.Core.Path.{refl}
+use Prim.Native.Nat.{ℕ, zero, suc, _+_, _*_, _<_, _^_}
+use mathlib.Core.List.{List, [], _∷_}
 use mathlib.Core.Option.{Option, none as nothing, some}
 use native.Mathlib.Omega.{arith}
 use lib.Dec.{eqb, ltb}
-use lib.ListN.{length, getD}
+use lib.ListN.{getD}
 use mir.Facts.{sfits-toZ}
-use Rattle.laws.specs.Fix.{pick, below, fixF, fix}
-use Rattle.records.specs.Words.{byteAt, wordAt, kindOf, detailOf, wordOf, textAt, records, none, A, B, C, D, E}
-use Rattle.syntax.specs.Syntax.{Text, Expr, Args, Block, Param, Function, Program}
+use Rattle.laws.specs.Fix.{below, fixF, fix}
+use Rattle.records.specs.Words.{kindOf, detailOf, wordOf, records, none, A, B, C, D, E}
+use Rattle.syntax.specs.Syntax.{Args, Block, Param}
 use Rattle.syntax.specs.Decode.{Node, absent, expr, value, toType, stmt, variable, func, cell, exprOf, withArg, argsOf, withStatement, blockOf, orZero, withParam, paramsOf, variableType, functionsIn, bit, reference, textOf, wideOf, child, exprIn, blockIn, nothingAt, intAt, floatAt, strAt, boolAt, nameAt, nullAt, sizeOfAt, unaryAt, binaryAt, callAt, listAt, valueAt, typeArgumentAt, declareAt, initAt, returnAt, callStatementAt, ifAt, whileAt, forAt, breakAt, continueAt, variableAt, functionAt, kinds, nodeStep, node, functionsBelow, program}
 use Rattle.tables.specs.Exists.{All, Word, Byte}
-use Rattle.tables.proofs.SyntaxFits.{OptIs, noneIs, someIs, ExprFits, ArgsFit, StatementFits, BlockFits, SignatureFits, FunctionFitsIn, TreeFits}
+use Rattle.tables.proofs.Numbers.{word-small}
+use Rattle.tables.proofs.SyntaxFits.{OptIs, noneIs, someIs, ExprFits, ArgsFit, StatementFits, BlockFits, FunctionFitsIn, TreeFits}
 use Rattle.tables.proofs.Typing.{pick-is}
 use Rattle.tables.proofs.Keeps.{all-append}
 
@@ -139,16 +139,9 @@ module _ (tree text : List ℕ) where
   functions-in (cell a b) h = tt
 
   module _ (bytes : All Byte tree) where
-    byte-at : (l : List ℕ) (i : ℕ) → All Byte l → getD l i 0 < 256
-    byte-at [] i h = omega arith
-    byte-at (b ∷ l) zero h = h .0
-    byte-at (b ∷ l) (suc i) h = byte-at l i (h .1)
-
     word-fits : (r k : ℕ) → Word (wordOf tree r k)
-    unfolding wordOf wordAt byteAt
-    word-fits r k =
-        let i = r * 32 + 4 + k * 4 in
-        omega (arith, byte-at tree i bytes, byte-at tree (i + 1) bytes, byte-at tree (i + 2) bytes, byte-at tree (i + 3) bytes)
+    unfolding wordOf
+    word-fits r k = word-small tree bytes (r * 32 + 4 + k * 4)
 
     wide-fits : (r k : ℕ) → wideOf tree text r k < 2 ^ 64
     unfolding wideOf

@@ -1,7 +1,7 @@
 -- A part of a table of entries, each of one size, reads back as the entries that were written there: one law for all tables.
 -- By induction on the entries; a table is what stands before the part, the part, and the rest. Assumes nothing.
-use mathlib.Core.Path.{_≡_, refl, sym, ap, _∙_}
-use Prim.Native.Nat.{ℕ, zero, suc, _+_, _*_, _<_, _≤_}
+use mathlib.Core.Path.{_≡_, refl, ap, _∙_}
+use Prim.Native.Nat.{ℕ, zero, suc, _*_, _≤_}
 use native.Mathlib.Nat.{suc-mul, zero-mul, add-comm}
 use mathlib.Core.List.{List, [], _∷_, _++_, append-assoc}
 use mathlib.Core.Option.{Option, none as nothing, some}

@@ -1,7 +1,7 @@
 -- An instruction's 32 bytes read back as the instruction, for one whose names exist and whose numbers fit.
 -- In two halves: the bytes give back the fields, and the fields of an instruction give back the instruction, by cases. Assumes nothing.
-use mathlib.Core.Path.{_≡_, refl, sym, ap, _∙_}
-use Prim.Native.Nat.{ℕ, zero, suc, _+_, _*_, _/_, _%_, _^_, _<_, _≤_}
+use mathlib.Core.Path.{_≡_, refl, _∙_}
+use Prim.Native.Nat.{ℕ, zero, suc, _^_, _<_}
 use mathlib.Core.Bool.{Bool, true, false}
 use mathlib.Core.List.{List, [], _∷_, _++_}
 use mathlib.Core.Option.{Option, none as nothing, some}
@@ -11,7 +11,7 @@ use lib.IntN.{ℤ}
 use lib.ListN.{length, getElem?}
 use borrow.Author.Tests.{ne-eqb}
 use mir.Syntax.{w64}
-use mir.Val.{SFits, Fits, ofZ}
+use mir.Val.{SFits, ofZ}
 use mir.Facts.{fits-ofZ, toZ-ofZ}
 use Rattle.laws.specs.Fix.{pick}
 use Rattle.laws.proofs.FixLaws.{pick-no}
@@ -19,8 +19,8 @@ use Rattle.records.specs.Words.{byteAt, wordAt, none}
 use Rattle.syntax.specs.Syntax.{UnaryOp, Neg, BitNot, Not, BinaryOp, Or, And, BitOr, BitXor, BitAnd, Eq, NotEq, Lt, Le, Gt, Ge, Shl, Shr, Add, Sub, Mul, Div, Rem, unaryOps, binaryOps, unaryNumber, binaryNumber}
 use Rattle.conversion.specs.Ir.{VarId, Operand, OVar, OInt, OFloat, OBool, ODataAddress, ONull, Instr, Copy, Unary, Binary, Cast, Zero, Arg, Call, Label, Jump, JumpIfNot, Return, Comment, State}
 use Rattle.conversion.specs.Written.{bytesOf, word, wide, boolNumber, tag, operandValue, Fields, tagOf, valueOf, destination, fieldsOf, encodeFields, encodeInstr}
-use Rattle.tables.specs.Read.{_>>=_, unused, wideAt, markOf, variable, noOperand, varOperand, intOperand, floatOperand, boolOperand, stringOperand, nullOperand, badOperand, operandOf, fieldsAt, noInstr, copyOf, unaryOf, binaryOf, castOf, zeroOf, argOf, destinationOf, callOf, labelOf, jumpOf, jumpIfNotOf, returnOf, commentOf, instrOf, instrAt}
-use Rattle.tables.specs.Exists.{Word, VarIn, OperandIn, DestinationIn, LabelIn, InstrIn}
+use Rattle.tables.specs.Read.{_>>=_, unused, wideAt, markOf, variable, noOperand, varOperand, intOperand, floatOperand, boolOperand, stringOperand, nullOperand, operandOf, fieldsAt, copyOf, unaryOf, binaryOf, castOf, zeroOf, argOf, destinationOf, callOf, labelOf, jumpOf, jumpIfNotOf, returnOf, commentOf, instrOf, instrAt}
+use Rattle.tables.specs.Exists.{Word, VarIn, OperandIn, DestinationIn, InstrIn}
 use Rattle.tables.proofs.Numbers.{word-back, wide-back}
 
 -- the numbers of variables, labels, strings and floats are words

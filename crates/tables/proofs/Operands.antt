@@ -5,24 +5,21 @@ use Prim.Native.Nat.{ℕ, zero, suc, _<_, _^_}
 use mathlib.Core.Bool.{Bool, true, false, not, _&&_}
 use mathlib.Core.List.{List, [], _∷_}
 use mathlib.Core.Option.{Option, none as nothing, some}
-use native.Mathlib.Omega.{arith}
 use lib.Dec.{eqb, ltb}
-use lib.IntN.{ℤ, pos}
+use lib.IntN.{pos}
 use borrow.Author.Tests.{ltb-true}
-use mir.Syntax.{w64}
-use mir.Val.{SFits}
 use Rattle.laws.specs.Fix.{pick, fix}
 use Rattle.syntax.specs.Syntax.{Text, Ty, TInt, TFloat, TBool, TChar, TByte, TAddress, TArray, TCustom, TNull, UnaryOp, BinaryOp, Or, And, BitOr, BitXor, BitAnd, Eq, NotEq, Lt, Le, Gt, Ge, Shl, Shr, Add, Sub, Mul, Div, Rem, Expr, EInt, EFloat, EStr, EBool, EName, ENull, ESizeOf, EUnary, EBinary, ECall, Args, noArgs, Value, ToType, Param, Function, Program}
 use Rattle.conversion.specs.ConvertError.{Panic, UnknownVariable}
-use Rattle.conversion.specs.Ir.{VarId, Operand, OVar, OInt, OFloat, OBool, ODataAddress, ONull, Instr, Copy, Unary, Binary, Cast, Arg, Call, Label, Jump, JumpIfNot, logicRhs, logicEnd, LabelName, State, M, _>>=_, pure, lift}
+use Rattle.conversion.specs.Ir.{VarId, Operand, OVar, OInt, OFloat, OBool, ODataAddress, ONull, Copy, Unary, Binary, Cast, Arg, Call, Label, Jump, JumpIfNot, logicRhs, logicEnd, State, M, _>>=_, lift}
 use Rattle.conversion.specs.Types.{onInt, onFloat, isFloat, within, sizeStep, size}
 use Rattle.conversion.specs.Scope.{Variable, Scope, find-variable}
-use Rattle.conversion.specs.Expressions.{Callee, CallFunction, CallCast, Functions, unwrapOr, get-type, resolve-call, common-type}
+use Rattle.conversion.specs.Expressions.{Callee, CallFunction, CallCast, Functions, unwrapOr, get-type, resolve-call}
 use Rattle.conversion.specs.Statements.{nameOperand, sizeOperand, castOperand, refloat, fit-operand, parameterType, fitFrom, fit-args, emitArgs, convert-unary, convertAnd, convertOr, castFirst, convertOther, convertBinaryBy, convert-binary, callFunction, callValue, convert-call-value, convert-expr, convert-args}
 use Rattle.tables.specs.Exists.{All, Word, VarIn, OperandIn, DestinationIn, LabelFits}
 use Rattle.tables.proofs.SyntaxFits.{OptIs, noneIs, someIs, held, ExprFits, ArgsFit, SignatureFits, CalleeFits, KeyedFit, TreeFits}
 use Rattle.tables.proofs.Typing.{TypeFits, unwrap-is, float-type-word, find-is, type-word, resolve-fits, common-type-word}
-use Rattle.tables.proofs.Keeps.{known-label, all-map, Extends, var-up, operand-up, Up, _&_, Always, Typed, Named, Labelled, Keeps, then, and-then, from, gives, fails, emits, new-variable, label-number, string-number, float-number, float-bits, knowing, lift-then}
+use Rattle.tables.proofs.Keeps.{known-label, all-map, var-up, operand-up, Up, Always, Named, Keeps, then, and-then, from, gives, fails, emits, new-variable, label-number, string-number, float-number, float-bits, knowing, lift-then}
 
 -- ---- facts
 

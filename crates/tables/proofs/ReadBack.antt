@@ -1,6 +1,6 @@
 -- What a tree of records converts to is read back from its tables: each function's body, and every variable, label, string and float that it
 -- names exists. By the round trip, from a tree whose syntax fits. That the counts fit a word follows where the sizes suffice. Assumes nothing.
-use mathlib.Core.Path.{_≡_, refl, sym}
+use mathlib.Core.Path.{_≡_, refl}
 use Prim.Native.Nat.{ℕ, _*_, _<_, _≤_}
 use mathlib.Core.Bool.{Bool, true, false}
 use mathlib.Core.List.{List}

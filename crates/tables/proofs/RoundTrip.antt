@@ -1,8 +1,8 @@
 -- Reading the six tables of a program back gives each function's body, for a program whose names exist and whose numbers fit.
 -- By the law of parts of a table, once for each table, and the totals that a function's entry starts from. Assumes nothing.
-use mathlib.Core.Path.{_≡_, refl, sym, ap, _∙_}
-use Prim.Native.Nat.{ℕ, zero, suc, _+_, _*_, _<_, _≤_}
-use mathlib.Core.Bool.{Bool, true, false, _&&_}
+use mathlib.Core.Path.{_≡_, refl, ap, _∙_}
+use Prim.Native.Nat.{ℕ, suc, _+_, _*_}
+use mathlib.Core.Bool.{Bool, true, false}
 use mathlib.Core.List.{List, [], _∷_, _++_, append-assoc}
 use mathlib.Core.Option.{Option, none as nothing, some}
 use native.Mathlib.Nat.{add-zero, zero-add, add-assoc}
@@ -11,12 +11,12 @@ use lib.Dec.{ltb}
 use lib.ListN.{length, drop, getElem?, length-append}
 use borrow.Author.Tests.{lt-ltb, le-ltb}
 use Rattle.laws.specs.Fix.{pick}
-use Rattle.records.specs.Words.{byteAt, wordAt, textAt}
+use Rattle.records.specs.Words.{byteAt, wordAt}
 use Rattle.syntax.specs.Syntax.{Text}
-use Rattle.conversion.specs.Ir.{Instr, LabelName, StringEntry, FloatEntry, State, IrFunction, IrProgram}
-use Rattle.conversion.specs.Written.{bytesOf, word, wide, boolNumber, encodeInstr, encodeVar, encodeLabel, encodeString, encodeFloat, encodeAll, codeOf, bodyMark, encodeFunctions, allCode, allVars, allLabels, Tables, Counts, tablesOf, countsOf}
-use Rattle.tables.specs.Read.{_>>=_, check, unused, wideAt, markOf, instrAt, variableAt, labelAt, stringAt, floatAt, FunctionEntry, functionAt, entries, part, Body, textsOf, bodyAt, Begin, bodyOf}
-use Rattle.tables.specs.Exists.{All, Word, InstrIn, LabelFits, StringFits, FloatFits, stateOf, FunctionFits, CountsFit, ProgramFits}
+use Rattle.conversion.specs.Ir.{Instr, LabelName, StringEntry, FloatEntry, IrFunction, IrProgram}
+use Rattle.conversion.specs.Written.{bytesOf, word, wide, boolNumber, encodeInstr, encodeVar, encodeLabel, encodeString, encodeFloat, encodeAll, codeOf, bodyMark, encodeFunctions, allCode, allVars, allLabels, Tables, tablesOf, countsOf}
+use Rattle.tables.specs.Read.{_>>=_, check, unused, wideAt, instrAt, variableAt, labelAt, stringAt, floatAt, FunctionEntry, functionAt, part, bodyAt, Begin, bodyOf}
+use Rattle.tables.specs.Exists.{Word, InstrIn, LabelFits, StringFits, FloatFits, stateOf, FunctionFits, ProgramFits}
 use Rattle.tables.proofs.Numbers.{word-back, wide-back}
 use Rattle.tables.proofs.Entries.{all-at, Cut, cut, not-found, drop-entries, part-back, entries-back}
 use Rattle.tables.proofs.Instructions.{Small, found-below, mark-back, instr-back, instr-length}

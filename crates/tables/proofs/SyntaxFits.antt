@@ -2,13 +2,11 @@
 -- refer to. By recursion over the tree; these are the premises that a tree of records meets. Assumes nothing.
 use mathlib.Core.Path.{_≡_}
 use Prim.Native.Nat.{ℕ, _<_, _^_}
-use mathlib.Core.Bool.{Bool}
-use mathlib.Core.List.{List, [], _∷_}
 use mathlib.Core.Option.{Option, none as nothing, some}
 use mir.Syntax.{w64}
 use mir.Val.{SFits}
 use Rattle.records.specs.Words.{textAt}
-use Rattle.syntax.specs.Syntax.{Text, Expr, EInt, EFloat, EStr, EBool, EName, ENull, ESizeOf, EUnary, EBinary, ECall, Args, noArgs, Value, ToType, Statement, SDeclare, SInit, SReturn, SCall, SIf, SIfElse, SWhile, SFor, SBreak, SContinue, Block, done, next, Param, Function, Program}
+use Rattle.syntax.specs.Syntax.{Text, Expr, EInt, EFloat, EStr, EBool, EName, ENull, ESizeOf, EUnary, EBinary, ECall, Args, noArgs, Value, ToType, Statement, SDeclare, SInit, SReturn, SCall, SIf, SIfElse, SWhile, SFor, SBreak, SContinue, Block, done, next, Function, Program}
 use Rattle.conversion.specs.ConvertError.{ConvertErrorKind, Result, ok, err}
 use Rattle.conversion.specs.Expressions.{Functions, Callee, CallFunction, CallCast}
 use Rattle.tables.specs.Exists.{All, Word}

@@ -1,13 +1,11 @@
 -- The type of an expression, and all that a call's resolution gives, fit a word.
 -- By induction over the expression: each type is one of the twelve, a variable's, a parameter's, a function's or a type argument's.
 -- Assumes nothing.
-use mathlib.Core.Path.{_≡_, refl}
-use Prim.Native.Nat.{ℕ, _<_}
-use mathlib.Core.Bool.{Bool, true, false, not, _&&_, _||_}
+use Prim.Native.Nat.{ℕ}
+use mathlib.Core.Bool.{Bool, true, false, _&&_}
 use mathlib.Core.List.{List, [], _∷_, _++_}
 use mathlib.Core.Option.{Option, none as nothing, some}
 use native.Mathlib.Omega.{arith}
-use lib.ListN.{length}
 use Rattle.laws.specs.Fix.{pick}
 use Rattle.syntax.specs.Syntax.{Text, BinaryOp, UnaryOp, Expr, EInt, EFloat, EStr, EBool, EName, ENull, ESizeOf, EUnary, EBinary, ECall, Args, noArgs, Value, ToType, Function, Program, place, intType, floatType, boolType, nullType, addressOfChar}
 use Rattle.conversion.specs.ConvertError.{Result, ok, err, _>>=_, LiteralOutOfRange, WrongOperands}
