@@ -10,4 +10,4 @@ pub mod Blocks
 pub mod Converted
 pub mod Decoded
 pub mod ReadBack
-pub mod Exact
+pub mod Strict
