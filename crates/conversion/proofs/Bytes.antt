@@ -1,14 +1,16 @@
 -- Sizes suffice, in bytes: a tree of n records needs at most 128n bytes of instructions (320n are lent), 12n of variables, 24n of labels, 32n of functions, 8n of strings, 32n of floats.
 -- Each table is its entries, of one width each, and the entries are counted. Assumes nothing.
 use mathlib.Core.Path.{_≡_, refl, _∙_}
-use mathlib.Core.Bool.{Bool}
+use mathlib.Core.Bool.{Bool, true}
 use mathlib.Core.List.{List, [], _∷_}
 use Prim.Native.Nat.{ℕ, _+_, _*_, _≤_, _<_}
 use native.Mathlib.Omega.{arith}
 use lib.ListN.{length, length-append}
 use Rattle.records.specs.Words.{records}
 use Rattle.syntax.specs.Decode.{program}
+use Rattle.records.specs.Rules.{recordOk}
 use Rattle.syntax.proofs.Held.{Complete, Once}
+use Rattle.syntax.proofs.Judged.{judged-complete, judged-once}
 use Rattle.conversion.specs.Ir.{Instr, LabelName, StringEntry, FloatEntry, IrFunction, IrProgram}
 use Rattle.conversion.specs.Converter.{convert}
 use Rattle.conversion.specs.Written.{bytesOf, word, wide, encodeFields, encodeInstr, encodeVar, encodeLabel, encodeString, encodeFloat, encodeAll, encodeFunctions, codeOf, allCode, allVars, allLabels, Tables, tablesOf}
@@ -77,3 +79,8 @@ tables-fit n p s = record {
 pub tree-fits : (tree text : List ℕ) (needsMain : Bool) → ((r : ℕ) → r < records tree → Complete tree text r)
     → ((j : ℕ) → j < records tree → Once tree text (records tree) j) → IfOk (λ p. Fit (records tree) (tablesOf p)) (convert (program tree text) needsMain)
 tree-fits tree text needsMain c o = ifOk-map (convert (program tree text) needsMain) (λ p s. tables-fit (records tree) p s) (tree-suffices tree text needsMain c o)
+
+-- THE CLAIM: in a tree whose records keep the rules, what is lent for n records suffices
+pub judged-fits : (tree text : List ℕ) (needsMain : Bool) → ((r : ℕ) → r < records tree → recordOk tree text r ≡ true)
+    → IfOk (λ p. Fit (records tree) (tablesOf p)) (convert (program tree text) needsMain)
+judged-fits tree text needsMain ok = tree-fits tree text needsMain (judged-complete tree text ok) (judged-once tree text ok)

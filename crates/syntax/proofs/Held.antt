@@ -11,12 +11,13 @@ use native.Mathlib.Omega.{arith}
 use lib.Dec.{eqb}
 use lib.ListN.{length, getD, drop}
 use Rattle.laws.specs.Fix.{pick}
+use Rattle.laws.specs.Below.{sumBelow}
 use Rattle.laws.proofs.FixLaws.{below-in, below-out}
 use Rattle.records.specs.Words.{kindOf, detailOf, wordOf, A, B, C, D, E}
 use Rattle.syntax.specs.Syntax.{Args, Statement, SDeclare, SInit, SReturn, SCall, SIf, SIfElse, SWhile, SFor, SBreak, SContinue, Block, Param, Function}
 use Rattle.syntax.specs.Count.{under, argsRecords, exprRecords, statementRecords, blockRecords, bodyRecords, functionRecords, allRecords}
 use Rattle.syntax.specs.Decode.{Node, absent, expr, value, toType, stmt, variable, func, cell, exprOf, withArg, argsOf, withStatement, blockOf, withParam, paramsOf, functionsIn, bit, child, exprIn, blockIn, nothingAt, intAt, floatAt, strAt, boolAt, nameAt, nullAt, sizeOfAt, unaryAt, binaryAt, callAt, listAt, valueAt, typeArgumentAt, declareAt, initAt, returnAt, callStatementAt, ifAt, whileAt, forAt, breakAt, continueAt, variableAt, functionAt, kinds, node, functionsBelow}
-use Rattle.syntax.proofs.Sums.{sumBelow, sum-le, sum-add, sum-one, sum-swap, sum-times, hit, sum-hit}
+use Rattle.syntax.proofs.Sums.{sum-le, sum-add, sum-one, sum-swap, sum-times, hit, sum-hit}
 use Rattle.syntax.proofs.Unfold.{node-is}
 
 -- ---- what a node holds where it is referred to; a function is referred to by nobody

@@ -2,3 +2,4 @@ pub mod Unfold
 pub mod Cases
 pub mod Sums
 pub mod Held
+pub mod Judged
