@@ -24,7 +24,6 @@ abbrev pub Vars : Type 0 → Type 0
 Vars W = ℕ → W
 
 unfoldable pub write : {W : Type 0} → Vars W → ℕ → W → Vars W
-unfolding pick
 write ρ d v x = pick (eqb x d) v (ρ x)
 
 -- 'Both runs read a literal at its tag's or mark's type, null or a string at that of the unfitted expression'
@@ -53,7 +52,6 @@ isLabel l (Comment r) = false
 
 -- the place of a label: the number of instructions before it
 unfoldable pub labelPlace : List Instr → ℕ → ℕ
-unfolding isLabel
 labelPlace [] l = 0
 labelPlace (i ∷ r) l = elim (isLabel l i) [ true ↦ 0 | false ↦ suc (labelPlace r l) ]
 
@@ -64,7 +62,6 @@ pub data Spot (W : Type 0) : Type 0 where
 
 -- the answer u into the variable d, then on at p; 'A stop ends either run'
 unfoldable pub putTo : {W : Type 0} → Answer W → ℕ → ℕ → List (Typed W) → Vars W → Calls W → Spot W
-unfolding write
 putTo (gives v) d p q ρ h = spot p q (write ρ d v) h
 putTo halt d p q ρ h = over stopped h
 
@@ -83,14 +80,12 @@ finishWith halt h = over stopped h
 
 module _ {W : Type 0} (R : Rule W) (A : Answers W) (B : Body) where
   unfoldable pub operand : Vars W → Operand → Typed W
-  unfolding datum read
   operand ρ o = read R (datum (B .strings) (B .floats) ρ o)
 
   -- one instruction, p being the place behind it. 'Copy, Unary, Binary, Cast and Zero write the rule's answer for operands and types. Arg
   -- queues its operand; Call takes the queue and writes its answer, given a destination. Jump goes to its label, JumpIfNot if truth says no;
   -- Label and Comment do nothing. Return ends with the rule's answer'; 'a call that stops was made'
   unfoldable pub execute : Instr → ℕ → List (Typed W) → Vars W → Calls W → Spot W
-  unfolding putTo dropTo branchTo finishWith operand labelPlace
   execute (Copy d a) p q ρ h = putTo (R .copy (d .ty) (operand ρ a)) (d .id) p q ρ h
   execute (Unary d o a) p q ρ h = putTo (R .unary o (d .ty) (operand ρ a)) (d .id) p q ρ h
   execute (Binary d o a b) p q ρ h = putTo (R .binary o (d .ty) (operand ρ a) (operand ρ b)) (d .id) p q ρ h
@@ -106,21 +101,17 @@ module _ {W : Type 0} (R : Rule W) (A : Answers W) (B : Body) where
   execute (Comment r) p q ρ h = spot p q ρ h
 
   unfoldable pub fetch : Option Instr → ℕ → List (Typed W) → Vars W → Calls W → Spot W
-  unfolding execute
   fetch none p q ρ h = over passed h
   fetch (some i) p q ρ h = execute i (suc p) q ρ h
 
   unfoldable pub step : Spot W → Spot W
-  unfolding fetch
   step (spot p q ρ h) = fetch (getElem? (B .instrs) p) p q ρ h
   step (over e h) = over e h
 
   unfoldable pub steps : ℕ → Spot W → Spot W
-  unfolding step
   steps zero c = c
   steps (suc n) c = steps n (step c)
 
   -- n steps from the first instruction
   unfoldable pub bodyRun : Vars W → ℕ → Spot W
-  unfolding steps
   bodyRun ρ n = steps n (spot 0 [] ρ [])

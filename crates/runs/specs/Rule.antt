@@ -71,7 +71,6 @@ content NullLiteral = NullContent
 
 -- 'Both runs read a literal at its tag's or mark's type, null or a string at that of the unfitted expression'
 unfoldable pub literalType : Literal → ℕ
-unfolding intType floatType
 literalType (IntLiteral v s u) = intType s u
 literalType (FloatLiteral b s) = floatType s
 literalType (BoolLiteral b) = boolType
@@ -84,12 +83,10 @@ pub data Datum (W : Type 0) : Type 0 where
   computed : ℕ → W → Datum W
 
 unfoldable pub read : {W : Type 0} → Rule W → Datum W → Typed W
-unfolding content literalType
 read R (constant l) = (literalType l, R .literal (content l) (literalType l))
 read R (computed y v) = (y, v)
 
 unfoldable pub readAll : {W : Type 0} → Rule W → List (Datum W) → List (Typed W)
-unfolding read
 readAll R [] = []
 readAll R (d ∷ ds) = read R d ∷ readAll R ds
 

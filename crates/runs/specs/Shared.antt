@@ -67,7 +67,6 @@ texts (e ∷ l) = e .text ∷ texts l
 
 -- a body's instructions c with the tables of the program that was made
 unfoldable pub bodyOf : Function → List Instr → IrProgram → Body
-unfolding texts
 bodyOf f c ir = record { instrs = c; result = f .returnType; strings = texts (ir .strings); floats = ir .floats }
 
 -- demand 3 for one function f with the body b and what it became, g
@@ -106,8 +105,6 @@ logicOpens Div r x = 0
 logicOpens Rem r x = 0
 
 unfoldable mutual
-  unfolding logicOpens
-
   pub opensE : Expr → ℕ → ℕ
   opensE (EInt r v s u) x = 0
   opensE (EFloat r b s) x = 0
@@ -126,8 +123,6 @@ unfoldable mutual
   opensA (ToType r y l) x = opensA l x
 
 unfoldable mutual
-  unfolding opensE
-
   pub opensS : Statement → ℕ → ℕ
   opensS (SDeclare r n y) x = 0
   opensS (SInit r c n e) x = opensE e x

@@ -27,11 +27,9 @@ abbrev pub Values : Type 0 → Type 0
 Values W = Text → W
 
 unfoldable pub set : {W : Type 0} → Values W → Text → W → Values W
-unfolding pick sameText
 set σ n v m = pick (sameText m n) v (σ m)
 
 unfoldable pub typeIn : Text → List Known → Option ℕ
-unfolding sameText
 typeIn n [] = none
 typeIn n (k ∷ l) = elim (sameText n (k .name)) [ true ↦ some (k .ty) | false ↦ typeIn n l ]
 
@@ -41,7 +39,6 @@ variables [] = []
 variables (k ∷ l) = record { name = k .name; constant = false; var-id = record { id = 0; ty = k .ty } } ∷ variables l
 
 unfoldable pub scopeOf : Function → List Known → Scope
-unfolding variables
 scopeOf f l = record { variables = variables l; inLoop = none; function = f }
 
 -- ---- what a part of the run comes to, each with the calls so far
@@ -117,7 +114,6 @@ typedO (err k r) h f = stopped h
 
 -- 'Fitting gives a literal or SizeOf the tag, and a float literal the mark, that the Rust gives it at the expected type'
 unfoldable pub fitLiteral : Ty → Literal → Literal
-unfolding onInt onFloat
 fitLiteral t (IntLiteral v s u) = onInt t (IntLiteral v s u) (λ short unsigned. IntLiteral v short unsigned)
 fitLiteral t (FloatLiteral b s) = onFloat t (FloatLiteral b s) (λ short. FloatLiteral b short)
 fitLiteral t (BoolLiteral b) = BoolLiteral b
@@ -132,26 +128,22 @@ sizeDatum (some n) h = value (constant (IntLiteral (pos n) false false)) h
 module _ {W : Type 0} (P : Program) (R : Rule W) where
   -- 'casts any other float of another width, and keeps the rest'
   unfoldable pub fitComputed : Bool → ℕ → ℕ → W → Calls W → Got W (Datum W)
-  unfolding answered
   fitComputed true y u v h = answered y (R .cast y (u, v)) h
   fitComputed false y u v h = value (computed u v) h
 
   -- fitted to the type y
   unfoldable pub fit : ℕ → Datum W → Calls W → Got W (Datum W)
-  unfolding fitLiteral fitComputed isFloat
   fit y (constant l) h = value (constant (fitLiteral (P .typeOf y) l)) h
   fit y (computed u v) h = fitComputed (isFloat (P .typeOf y) && (isFloat (P .typeOf u) && not (eqb u y))) y u v h
 
   -- the k-th value and those behind it, each to its parameter of g
   unfoldable pub fitArguments : ℕ → List (Datum W) → Function → Calls W → Got W (List (Datum W))
-  unfolding bindG fit parameterType
   fitArguments k [] g h = value [] h
   fitArguments k (d ∷ ds) g h = bindG (fit (parameterType P (g .params) k) d h) λ u h1.
       bindG (fitArguments (suc k) ds g h1) λ us h2. value (u ∷ us) h2
 
   -- 'Declare writes the zero value that the Rust writes, through the rule's copy or Zero as there'
   unfoldable pub zeroOf : ℕ → Ty → Answer W
-  unfolding read
   zeroOf y (TInt short unsigned) = R .copy y (read R (constant (IntLiteral (pos 0) short unsigned)))
   zeroOf y (TFloat short) = R .copy y (read R (constant (FloatLiteral 0 short)))
   zeroOf y TBool = R .copy y (read R (constant (BoolLiteral false)))
@@ -167,28 +159,23 @@ module _ {W : Type 0} (P : Program) (R : Rule W) where
 module _ {W : Type 0} (P : Program) (F : Functions) (f : Function) (R : Rule W) (A : Answers W) where
   -- 'And and Or copy each side that they reach into Bool, and the copy of the left is tested'
   unfoldable pub toBool : Datum W → Calls W → Got W (Datum W)
-  unfolding answered read
   toBool u h = answered boolType (R .copy boolType (read R u)) h
 
   unfoldable pub evalAnd : (Calls W → Got W (Datum W)) → (Calls W → Got W (Datum W)) → Calls W → Got W (Datum W)
-  unfolding bindG toBool test read
   evalAnd left right h = bindG (left h) λ u h1. bindG (toBool u h1) λ c h2.
       test (R .truth (read R c)) h2 (bindG (right h2) toBool) (value c h2)
 
   unfoldable pub evalOr : (Calls W → Got W (Datum W)) → (Calls W → Got W (Datum W)) → Calls W → Got W (Datum W)
-  unfolding bindG toBool test read
   evalOr left right h = bindG (left h) λ u h1. bindG (toBool u h1) λ c h2.
       test (R .truth (read R c)) h2 (value c h2) (bindG (right h2) toBool)
 
   -- 'A binary other than And and Or computes left, right, then fits both as the Rust does, then applies the operator': y is its type,
   -- q the type that both are fitted to
   unfoldable pub evalOther : BinaryOp → ℕ → ℕ → (Calls W → Got W (Datum W)) → (Calls W → Got W (Datum W)) → Calls W → Got W (Datum W)
-  unfolding bindG fit answered read
   evalOther o y q left right h = bindG (left h) λ u h1. bindG (right h1) λ v h2.
       bindG (fit P R q u h2) λ u1 h3. bindG (fit P R q v h3) λ v1 h4. answered y (R .binary o y (read R u1) (read R v1)) h4
 
   unfoldable pub evalBinary : BinaryOp → ℕ → ℕ → (Calls W → Got W (Datum W)) → (Calls W → Got W (Datum W)) → Calls W → Got W (Datum W)
-  unfolding evalAnd evalOr evalOther
   evalBinary And y q left right h = evalAnd left right h
   evalBinary Or y q left right h = evalOr left right h
   evalBinary BitOr y q left right h = evalOther BitOr y q left right h
@@ -210,20 +197,16 @@ module _ {W : Type 0} (P : Program) (F : Functions) (f : Function) (R : Rule W) 
 
   -- 'a cast computes all and uses the first'
   unfoldable pub castFirst : ℕ → List (Datum W) → Calls W → Got W (Datum W)
-  unfolding answered read
   castFirst y [] h = stop h
   castFirst y (u ∷ us) h = answered y (R .cast y (read R u)) h
 
   -- 'A call computes all its arguments, fits them in order, then calls'
   unfoldable pub callWith : ℕ → Callee → List (Datum W) → Calls W → Got W (Datum W)
-  unfolding bindG fitArguments answered readAll castFirst
   callWith y (CallFunction g) vs h = bindG (fitArguments P R 0 vs g h) λ us h1.
       answered y (A h1 (g .recOf) (readAll R us) .0) (h1 ++ A h1 (g .recOf) (readAll R us) .1)
   callWith y (CallCast t) vs h = castFirst y vs h
 
   unfoldable mutual
-    unfolding bindG typed answered read scopeOf sizeDatum evalBinary callWith
-
     pub evalExpr : Expr → List Known → Values W → Calls W → Got W (Datum W)
     evalExpr (EInt r v short unsigned) N σ h = value (constant (IntLiteral v short unsigned)) h
     evalExpr (EFloat r b short) N σ h = value (constant (FloatLiteral b short)) h
@@ -249,53 +232,44 @@ module _ {W : Type 0} (P : Program) (F : Functions) (f : Function) (R : Rule W) 
   -- ---- statements
 
   unfoldable pub store : Text → Answer W → Values W → Calls W → Out W
-  unfolding bindO bare set
   store n u σ h = bindO (bare u h) λ v h1. normal (set σ n v) h1
 
   -- 'Init copies', fitted to the type y of a known name
   unfoldable pub assign : Text → ℕ → Expr → List Known → Values W → Calls W → Out W
-  unfolding bindO evalExpr fit store read
   assign n y e N σ h = bindO (evalExpr e N σ h) λ u h1. bindO (fit P R y u h1) λ u1 h2. store n (R .copy y (read R u1)) σ h2
 
   -- the type of a new name: that of its value, Address of Null for Null
   unfoldable pub newType : ℕ → ℕ
-  unfolding pick
   newType y = pick (eqb y nullType) addressOfNull y
 
   -- a new name, nothing fitted
   unfoldable pub introduce : Text → Expr → List Known → Values W → Calls W → Out W
-  unfolding typedO scopeOf bindO evalExpr store read newType
   introduce n e N σ h = typedO (get-type P F e (scopeOf f N)) h λ y. bindO (evalExpr e N σ h) λ u h1. store n (R .copy (newType y) (read R u)) σ h1
 
   -- 'A plain Init of a known name assigns'
   unfoldable pub initialise : Bool → Option ℕ → Text → Expr → List Known → Values W → Calls W → Out W
-  unfolding assign introduce
   initialise false (some y) n e N σ h = assign n y e N σ h
   initialise false none n e N σ h = introduce n e N σ h
   initialise true o n e N σ h = introduce n e N σ h
 
   -- 'Return returns, fitted as in the Rust'
   unfoldable pub giveBack : Option ℕ → Expr → List Known → Values W → Calls W → Out W
-  unfolding bindO evalExpr fit bare read
   giveBack none e N σ h = stopped h
   giveBack (some y) e N σ h = bindO (evalExpr e N σ h) λ u h1. bindO (fit P R y u h1) λ u1 h2.
       bindO (bare (R .return (some y) (read R u1)) h2) λ v h3. returned v h3
 
   -- a call statement; one that is a cast does not convert
   unfoldable pub callOnly : Callee → Args → List Known → Values W → Calls W → Out W
-  unfolding bindO evalArgs fitArguments bare readAll
   callOnly (CallCast t) l N σ h = stopped h
   callOnly (CallFunction g) l N σ h = bindO (evalArgs l N σ h) λ vs h1. bindO (fitArguments P R 0 vs g h1) λ us h2.
       bindO (bare (A h2 (g .recOf) (readAll R us) .0) (h2 ++ A h2 (g .recOf) (readAll R us) .1)) λ v h3. normal σ h3
 
   -- 'A call statement whose expression is no call is typed and never run'
   unfoldable pub callStatement : Expr → List Known → Values W → Calls W → Out W
-  unfolding asCall typedO scopeOf callOnly
   callStatement e N σ h = asCall e (normal σ h) λ c verb l. typedO (resolve-call P F verb l (scopeOf f N) c) h λ callee. callOnly callee l N σ h
 
   -- 'While tests truth': at most n turns
   unfoldable pub turns : ℕ → (Values W → Calls W → Got W (Datum W)) → (Values W → Calls W → Out W) → Values W → Calls W → Out W
-  unfolding bindO testO bindT read
   turns zero cond body σ h = unfinished h
   turns (suc n) cond body σ h = bindO (cond σ h) λ v h1.
       testO (R .truth (read R v)) h1 (bindT (body σ h1) λ σ2 h2. turns n cond body σ2 h2) (normal σ h1)
@@ -303,7 +277,6 @@ module _ {W : Type 0} (P : Program) (F : Functions) (f : Function) (R : Rule W) 
   -- a For over x of type y: 'each turn tests, as a Bool, variable < fitted `until`', here computed and fitted anew each turn as the Rust does;
   -- '`continue` and the body's end add a literal 1 of its type', the sum written straight
   unfoldable pub rounds : ℕ → Text → ℕ → Literal → (Values W → Calls W → Got W (Datum W)) → (Values W → Calls W → Out W) → Values W → Calls W → Out W
-  unfolding bindO fit bare testO bindT read set
   rounds zero x y one until body σ h = unfinished h
   rounds (suc n) x y one until body σ h = bindO (until σ h) λ d h1. bindO (fit P R y d h1) λ d1 h2.
       bindO (bare (R .binary Lt boolType (y, σ x) (read R d1)) h2) λ c h3.
@@ -313,36 +286,30 @@ module _ {W : Type 0} (P : Program) (F : Functions) (f : Function) (R : Rule W) 
 
   -- 'For copies the fitted `from` in'
   unfoldable pub forLoop : ℕ → Text → ℕ → Literal → Expr → Expr → List Known → (Values W → Calls W → Out W) → Values W → Calls W → Out W
-  unfolding bindO evalExpr fit bare rounds read set
   forLoop n x y one from until N body σ h = bindO (evalExpr from N σ h) λ d h1. bindO (fit P R y d h1) λ d1 h2.
       bindO (bare (R .copy y (read R d1)) h2) λ v h3. rounds n x y one (λ σ1 h4. evalExpr until N σ1 h4) body (set σ x v) h3
 
   unfoldable pub forInt : ℕ → Text → ℕ → Expr → Expr → List Known → (Values W → Calls W → Out W) → Values W → Calls W → Out W
-  unfolding onInt forLoop
   forInt n x y from until N body σ h = onInt (P .typeOf y) (stopped h) λ short unsigned.
       forLoop n x y (IntLiteral (pos 1) short unsigned) from until N body σ h
 
   -- a variable of the loop's own, or of the blocks around; the body runs with the names that it is given
   unfoldable pub forOver : ℕ → Text → Option ℕ → Option ℕ → Expr → Expr → List Known → (List Known → Values W → Calls W → Out W) → Values W → Calls W → Out W
-  unfolding forInt
   forOver n x (some y) o from until N body σ h = forInt n x y from until N (body (record { name = x; ty = y } ∷ N)) σ h
   forOver n x none (some y) from until N body σ h = forInt n x y from until N (body N) σ h
   forOver n x none none from until N body σ h = stopped h
 
   -- the names that are known after a statement
   unfoldable pub withNew : Text → Result ℕ → List Known → List Known
-  unfolding newType
   withNew n (ok y) N = record { name = n; ty = newType y } ∷ N
   withNew n (err k r) N = N
 
   unfoldable pub knownInit : Bool → Option ℕ → Text → Result ℕ → List Known → List Known
-  unfolding withNew
   knownInit false (some y) n t N = N
   knownInit false none n t N = withNew n t N
   knownInit true o n t N = withNew n t N
 
   unfoldable pub knownAfter : Statement → List Known → List Known
-  unfolding knownInit typeIn scopeOf
   knownAfter (SDeclare r n y) N = record { name = n; ty = y } ∷ N
   knownAfter (SInit r c n e) N = knownInit c (typeIn n N) n (get-type P F e (scopeOf f N)) N
   knownAfter (SReturn r e) N = N
@@ -356,8 +323,6 @@ module _ {W : Type 0} (P : Program) (F : Functions) (f : Function) (R : Rule W) 
 
   -- a statement, a block: with at most n turns of each entry of a loop
   unfoldable mutual
-    unfolding bindO bindS testO read store zeroOf initialise typeIn giveBack callStatement turns forOver knownAfter
-
     pub runStatement : Statement → ℕ → List Known → Values W → Calls W → Out W
     runStatement (SDeclare r n y) k N σ h = store n (zeroOf P R y (P .typeOf y)) σ h
     runStatement (SInit r c n e) k N σ h = initialise c (typeIn n N) n e N σ h
@@ -383,13 +348,11 @@ parametersKnown [] N = N
 parametersKnown (p ∷ l) N = parametersKnown l (record { name = p .name; ty = p .ty } ∷ N)
 
 unfoldable pub parameterValues : {W : Type 0} → List Param → List W → Values W → Values W
-unfolding set
 parameterValues [] vs σ = σ
 parameterValues (p ∷ l) [] σ = σ
 parameterValues (p ∷ l) (v ∷ vs) σ = parameterValues l vs (set σ (p .name) v)
 
 -- with at most n turns of each entry of a loop; no other name has a value that is ever read
 unfoldable pub treeRun : {W : Type 0} → Program → Functions → Function → Rule W → Answers W → Block → List W → ℕ → Out W
-unfolding runBlock parametersKnown parameterValues
 treeRun P F f R A b vs n =
     runBlock P F f R A b n (parametersKnown (f .params) []) (parameterValues (f .params) vs (λ t. R .literal NullContent nullType)) []
