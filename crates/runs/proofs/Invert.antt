@@ -251,3 +251,31 @@ ask-float {e} {s} {i} {c} {t} q = go (numbered-view _ _ _ _ i c t q)
       code = z;
       grow = rw u (record { vars = le-refl _; labels = prefix-refl; strings = prefix-refl; floats = prefix-end e });
     }
+
+abbrev pub AskedLabel : LabelName → State → ℕ → State → Type 0
+AskedLabel l s n t = Asked (sameLabel l) l (λ u. u .labels) s n [] t
+
+-- asking for a label, and then
+pub record Labelled {Y : Type 0} (l : LabelName) (f : ℕ → M Y) (s : State) (y : Y) (c : List Instr) (t : State) : Type 0 where
+  pub num : ℕ
+  pub st : State
+  pub asked : Asked (sameLabel l) l (λ u. u .labels) s num [] st
+  pub rest : f num st ≡ made y c t
+
+pub inv-label : {Y : Type 0} {l : LabelName} {f : ℕ → M Y} {s : State} {y : Y} {c : List Instr} {t : State} → (label-id l >>= f) s ≡ made y c t → Labelled l f s y c t
+inv-label {Y} {l} {f} {s} {y} {c} {t} q =
+    let i = inv q in
+    let a = ask-label (i .first) in
+    record {
+      num = i .got;
+      st = i .st;
+      asked = record { found = a .found; code = refl; grow = a .grow };
+      rest = i .rest ∙ ap (λ x. made y x t) (sym (i .code ∙ ap (λ x. x ++ i .c2) (a .code)));
+    }
+
+-- the code of a chain, put together
+pub joinE : {i : Instr} {c d e : List Instr} → c ≡ i ∷ d → d ≡ e → c ≡ i ∷ e
+joinE {i} p q = p ∙ ap (λ x. i ∷ x) q
+
+pub joinS : {X Y : Type 0} {m : M X} {f : X → M Y} {s : State} {y : Y} {c : List Instr} {t : State} {e : List Instr} (i : Split m f s y c t) → i .c2 ≡ e → c ≡ i .c1 ++ e
+joinS i q = i .code ∙ ap (λ x. i .c1 ++ x) q
