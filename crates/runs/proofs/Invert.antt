@@ -7,9 +7,9 @@ use mathlib.Core.Bool.{Bool, true, false}
 use Prim.Native.Nat.{ℕ, zero, suc, _+_, _≤_, _<_}
 use native.Mathlib.Nat.{le-refl}
 use native.Mathlib.Omega.{arith}
-use lib.ListN.{length, length-append, getD, getElem?}
+use lib.ListN.{length, length-append, getD, getElem?, List·getD-append}
 use Rattle.conversion.specs.ConvertError.{ConvertErrorKind, Result, ok, err}
-use Rattle.conversion.specs.Ir.{VarId, Instr, LabelName, StringEntry, FloatEntry, State, Out, made, failed, M, after, bind, _>>=_, _>>_, pure, fail, lift, emit, position, numbered, new-var, sameLabel, label-id, sameText, string-id, sameFloat, float-id}
+use Rattle.conversion.specs.Ir.{VarId, Instr, LabelName, StringEntry, FloatEntry, State, Out, made, failed, M, after, bind, _>>=_, _>>_, pure, fail, lift, emit, position, numbered, new-var, sameLabel, label-id, sameText, string-id, sameFloat, float-id, floatBits}
 
 -- ---- the tables grow at their ends
 
@@ -279,3 +279,30 @@ joinE {i} p q = p ∙ ap (λ x. i ∷ x) q
 
 pub joinS : {X Y : Type 0} {m : M X} {f : X → M Y} {s : State} {y : Y} {c : List Instr} {t : State} {e : List Instr} (i : Split m f s y c t) → i .c2 ≡ e → c ≡ i .c1 ++ e
 joinS i q = i .code ∙ ap (λ x. i .c1 ++ x) q
+
+-- `floatBits`, and then
+abbrev pub noFloat : FloatEntry
+noFloat = record { bits = 0; short = false }
+
+pub record Bits {Y : Type 0} (i : ℕ) (f : ℕ → M Y) (s : State) (y : Y) (c : List Instr) (t : State) : Type 0 where
+  pub rest : f (getD (s .floats) i noFloat .bits) s ≡ made y c t
+
+pub inv-bits : {Y : Type 0} {i : ℕ} {f : ℕ → M Y} {s : State} {y : Y} {c : List Instr} {t : State} → (floatBits i >>= f) s ≡ made y c t → Bits i f s y c t
+unfolding floatBits _>>=_ bind after
+inv-bits {Y} {i} {f} {s} {y} {c} {t} q = record { rest = go (f (getD (s .floats) i noFloat .bits) s) refl q }
+  where
+    go : (v : Out Y) → f (getD (s .floats) i noFloat .bits) s ≡ v → after [] v ≡ made y c t → f (getD (s .floats) i noFloat .bits) s ≡ made y c t
+    go (made b c2 s2) e z = cc
+    go (failed k r) e z = let w : _≡_ {A = ℕ} 0 1 = cc in absurd (omega arith)
+
+pub prefix-getD : {X : Type 0} {a b : List X} (i : ℕ) (d : X) → i < length a → Prefix a b → getD b i d ≡ getD a i d
+prefix-getD {a = a} i d l p = ap (λ x. getD x i d) (sym (p .whole)) ∙ List·getD-append a (p .more) d i l
+
+-- the last emit of a chain
+pub record Last (i : Instr) (s : State) (c : List Instr) (t : State) : Type 0 where
+  pub code : c ≡ i ∷ []
+  pub st : t ≡ s
+
+pub inv-last : {i : Instr} {s : State} {u : Unit {0}} {c : List Instr} {t : State} → emit i s ≡ made u c t → Last i s c t
+unfolding emit
+inv-last q = record { code = cc; st = cc }

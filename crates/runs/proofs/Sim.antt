@@ -11,7 +11,7 @@ use native.Mathlib.Omega.{arith}
 use lib.Dec.{eqb}
 use lib.ListN.{length, getD}
 use Rattle.syntax.specs.Syntax.{Function, Program}
-use Rattle.conversion.specs.Ir.{VarId, Operand, OVar, OInt, OFloat, OBool, ODataAddress, ONull, Instr, Label, LabelName, loopStart, StringEntry, FloatEntry, State, made, M, position, sameLabel, label-id}
+use Rattle.conversion.specs.Ir.{VarId, Operand, OVar, OInt, OFloat, OBool, ODataAddress, ONull, Instr, Label, LabelName, loopStart, StringEntry, FloatEntry, State, made, M, position, sameLabel, sameText, sameFloat}
 use Rattle.conversion.specs.Scope.{Variable}
 use Rattle.conversion.specs.Expressions.{Functions}
 use Rattle.runs.specs.Rule.{Answer, gives, halt, Truth, holds, fails, halts, Calls, Rule, Answers, Datum, constant, computed, read, Ending, stopped}
@@ -19,8 +19,8 @@ use Rattle.runs.specs.TreeRun.{Values, Got, value, stop, bindG, answered
 use Rattle.runs.specs.BodyRun.{Body, Vars, write, datum, operand}
 use Rattle.runs.specs.Shared.{bit, texts}
 use Rattle.runs.proofs.Machine.{Code, Queue, Cfg, at, ended, Same, is, isnt, same, write-same, write-other, count, goto, Placed, put, branch, step, To, here, one, to-trans, to-label, dat, dats}
-use Rattle.runs.proofs.Invert.{Prefix, prefix-trans, prefix-length, Grow, Asked, position-holds, found-in, ask-label}
-use Rattle.runs.proofs.Texts.{label-eq, label-refl}
+use Rattle.runs.proofs.Invert.{Prefix, prefix-trans, prefix-length, Grow, Asked, position-holds, found-in, noFloat}
+use Rattle.runs.proofs.Texts.{label-eq, label-refl, text-eq, text-refl, float-eq, float-refl}
 use Rattle.runs.proofs.Names.{Scoped, Sub, Frame, Agree}
 
 -- a function of a program, a rule, and what conversion made in the end: the function's code and labels, the program's strings and floats
@@ -63,6 +63,12 @@ pub lows-mono : (s t : State) (os : List Operand) → Grow s t → Lows s os →
 lows-mono s t [] g l = tt
 lows-mono s t (o ∷ os) g l = (low-mono s t o g (l .0), lows-mono s t os g (l .1))
 
+texts-at : (l : List StringEntry) (i : ℕ) (d : StringEntry) → i < length l → getD (texts l) i [] ≡ getD l i d .text
+unfolding texts
+texts-at [] i d h = absurd (omega arith)
+texts-at (e ∷ l) zero d h = refl
+texts-at (e ∷ l) (suc i) d h = texts-at l i d (omega arith)
+
 module _ {W : Type 0} (X : Ctx W) where
   -- the tables at the end grew out of those of s
   pub record Within (s : State) : Type 0 where
@@ -96,6 +102,16 @@ module _ {W : Type 0} (X : Ctx W) where
           let z : sameLabel (getD (X .labels) n (loopStart 0)) l ≡ true = ap (λ x. sameLabel (getD (X .labels) x (loopStart 0)) l) p ∙ (ap (λ x. sameLabel x l) (sym q) ∙ label-refl l) in
           rw z (rw e (le-refl 1))
       go (isnt p e) = rw e (omega arith)
+
+  pub float-at : {e : FloatEntry} {s : State} {n : ℕ} {c : List Instr} {t : State} → Asked (sameFloat e) e (λ u. u .floats) s n c t → Within t → e ≡ getD (X .floats) n noFloat
+  float-at {e} {n = n} q w = float-eq e _ (position-holds (sameFloat e) (X .floats) n noFloat (found-in (float-refl e) (q .found) (w .floats)) .0)
+
+  pub string-at : {e : StringEntry} {s : State} {n : ℕ} {c : List Instr} {t : State} → Asked (λ x. sameText (e .text) (x .text)) e (λ u. u .strings) s n c t → Within t
+      → getD (texts (X .strings)) n [] ≡ e .text
+  string-at {e} {n = n} q w =
+      let p = found-in (text-refl (e .text)) (q .found) (w .strings) in
+      let h = position-holds (λ x. sameText (e .text) (x .text)) (X .strings) n e p in
+      texts-at (X .strings) n e (h .1) ∙ sym (text-eq (e .text) _ (h .0))
 
   abbrev pub Goes : Cfg W → Cfg W → Type 0
   Goes c d = To (X .rule) (X .answers) (body X) c d
