@@ -9,14 +9,17 @@ use Prim.Native.Nat.{ℕ, zero, suc, _+_, _≤_, _<_}
 use native.Mathlib.Nat.{le-refl}
 use native.Mathlib.Omega.{arith}
 use lib.Dec.{eqb}
+use lib.IntN.{ℤ, pos}
 use lib.ListN.{length, getD}
-use Rattle.syntax.specs.Syntax.{Text, Ty, TInt, TFloat, TBool, TChar, TByte, TAddress, TArray, TCustom, TNull, UnaryOp, BinaryOp, Or, And, BitOr, BitXor, BitAnd, Eq, NotEq, Lt, Le, Gt, Ge, Shl, Shr, Add, Sub, Mul, Div, Rem, Expr, EInt, EFloat, EStr, EBool, EName, ENull, ESizeOf, EUnary, EBinary, ECall, Args, noArgs, Value, ToType, Function, Program, boolType}
-use Rattle.conversion.specs.ConvertError.{Result, ok, err}
-use Rattle.conversion.specs.Types.{onInt, onFloat, isFloat}
+use Rattle.syntax.specs.Syntax.{Text, Ty, TInt, TFloat, TBool, TChar, TByte, TAddress, TArray, TCustom, TNull, UnaryOp, BinaryOp, Or, And, BitOr, BitXor, BitAnd, Eq, NotEq, Lt, Le, Gt, Ge, Shl, Shr, Add, Sub, Mul, Div, Rem, Expr, EInt, EFloat, EStr, EBool, EName, ENull, ESizeOf, EUnary, EBinary, ECall, Args, noArgs, Value, ToType, Function, Program, place, boolType}
+use Rattle.laws.specs.Fix.{pick}
+use Rattle.conversion.specs.ConvertError as C
+use Rattle.conversion.specs.ConvertError.{Result, ok, err, LiteralOutOfRange, WrongOperands}
+use Rattle.conversion.specs.Types.{onInt, onFloat, isFloat, range-error, size}
 use Rattle.conversion.specs.Ir.{pure, VarId, Operand, OVar, OInt, OFloat, OBool, ODataAddress, ONull, Instr, Copy, Unary, Binary, Cast, Zero, Arg, Call, Label, Jump, JumpIfNot, Return, Comment, LabelName, logicRhs, logicEnd, StringEntry, FloatEntry, State, made, failed, M, sameLabel}
-use Rattle.conversion.specs.Scope.{Variable, Scope}
-use Rattle.conversion.specs.Expressions.{Callee, CallFunction, CallCast, Functions, givesBool, get-type, resolve-call, common-type}
-use Rattle.conversion.specs.Statements.{castOperand, refloat, fit-operand, parameterType, fitFrom, fit-args, emitArgs, convert-unary, convertAnd, convertOr, castFirst, convertOther, convertBinaryBy, callFunction, callValue, convert-expr, convert-args}
+use Rattle.conversion.specs.Scope.{Variable, Scope, findIn, find-variable}
+use Rattle.conversion.specs.Expressions.{Callee, CallFunction, CallCast, Functions, givesBool, accepted, operandsError, binaryType, filterOption, acceptsClass, operandClass, commonOf, nameType, unwrapOr, get-type, resolve-call, common-type}
+use Rattle.conversion.specs.Statements.{castOperand, refloat, fit-operand, parameterType, fitFrom, fit-args, emitArgs, convert-unary, convertAnd, convertOr, castFirst, convertOther, convertBinaryBy, callFunction, callValue, convert-expr, convert-args, nameOperand, sizeOperand}
 use Rattle.runs.specs.Rule.{Answer, gives, halt, Truth, Calls, Rule, Answers, Literal, IntLiteral, FloatLiteral, BoolLiteral, StringLiteral, NullLiteral, Datum, constant, computed, read, readAll}
 use Rattle.runs.specs.TreeRun.{Values, Got, value, stop, bindG, answered, test, typed, fitLiteral, fitComputed, fit, fitArguments, toBool, evalAnd, evalOr, evalOther, evalBinary, callWith, evalExpr, evalArgs, scopeOf, sizeDatum}
 use Rattle.runs.specs.TreeRun as Tree
@@ -26,8 +29,71 @@ use Rattle.runs.proofs.Machine.{Code, Cfg, at, ended, count, count-appe
 use Rattle.runs.proofs.Invert.{Prefix, Grow, grow-refl, grow-trans, Split, inv, inv-then, inv-pure, inv-emit, inv-lift, inv-last, inv-new, inv-label, joinE, joinS, AskedLabel, noFloat, inv-bits, prefix-getD, prefix-refl, prefix-trans, position-holds, found-in, nextVar, withVar, withVar-length, withVar-grow, Asked, ask-label, ask-string, ask-float}
 use Rattle.runs.proofs.Texts.{kinds-once, float-refl}
 use Rattle.runs.proofs.Names.{known, typing, resolving, commoning, Scoped, scoped-mono, Frame, Agree, agree-frame}
-use Rattle.runs.proofs.Steps.{castSteps-is, refloatSteps-is, fitSteps-is, argSteps-is, unarySteps-is, andSteps-is, orSteps-is, castFirstSteps-is, otherSteps-is, binarySteps-is, unaryExprSteps-is, floatSteps-is, stringSteps-is, callSteps-is, valueSteps-is, functionSteps-is}
+use Rattle.runs.proofs.Steps.{castSteps-is, refloatSteps-is, fitSteps-is, argSteps-is, unarySteps-is, andSteps-is, orSteps-is, castFirstSteps-is, otherSteps-is, binarySteps-is, unaryExprSteps-is, floatSteps, floatSteps-is, stringSteps, stringSteps-is, callSteps-is, valueSteps-is, functionSteps-is, fits-is, callValue-is, castValue-is}
 use Rattle.runs.proofs.Sim.{Ctx, body, Low, Lows, low-mono, lows-mono, Within, within-back, Num, num-same, num-of, nameOf, num-count, float-at, string-at, Goes, stay, go1, goes, go-label, holding, holdings, hold-frame, holds-frame, SimE, gets, stops, sim-before, sim-after, sim-frame, sim-bind, sim-put, sim-test, Good, Sound, Sounds, good-as}
+
+none-emitted : (s : State) (u : Unit {0}) (c : Code) (t : State) → emitArgs [] s ≡ made u c t → (c ≡ []) × (t ≡ s)
+unfolding emitArgs
+none-emitted s u c t q = let i = inv-pure q in (i .code, i .st)
+
+-- Arg for each operand
+pub args-code : (os : List Operand) (s : State) (u : Unit {0}) (c : Code) (t : State) → emitArgs os s ≡ made u c t → (c ≡ argsOf os) × (t ≡ s)
+unfolding argsOf
+args-code [] s u c t q = none-emitted s u c t q
+args-code (o ∷ os) s u c t q =
+    let i = inv-emit (sym (argSteps-is o os s) ∙ q) in
+    let h = args-code os s u (i .c2) t (i .rest) in
+    (joinE (i .code) (h .0), h .1)
+
+pub args-clear : (n : ℕ) (os : List Operand) → count n (argsOf os) ≡ 0
+unfolding argsOf count isLabel
+args-clear n [] = refl
+args-clear n (o ∷ os) = omega (arith, args-clear n os)
+
+-- the call itself, taken apart
+pub record Called (P : Program) (dest : Option VarId) (g : Function) (os : List Operand) (s : State) (c : Code) (t : State) : Type 0 where
+  pub args : List Operand
+  pub fits : Code
+  pub fitted : fitFrom P 0 os g s ≡ made args fits t
+  pub code : c ≡ fits ++ (argsOf args ++ (Call dest (g .recOf) ∷ []))
+
+pub called : (P : Program) (F : Functions) (dest : Option VarId) (g : Function) (os : List Operand) (s : State) (u : Unit {0}) (c : Code) (t : State)
+    → callFunction P F dest g os s ≡ made u c t → Called P dest g os s c t
+called P F dest g os s u c t q =
+    let i1 = inv (sym (functionSteps-is P F dest g os s) ∙ q) in
+    let i2 = inv-then (i1 .rest) in
+    let i3 = inv-last (i2 .rest) in
+    let a = args-code (i1 .got) (i1 .st) (i2 .got) (i2 .c1) (i2 .st) (i2 .first) in
+    record {
+      args = i1 .got;
+      fits = i1 .c1;
+      fitted = subst (λ x. fitFrom P 0 os g s ≡ made (i1 .got) (i1 .c1) x) (sym (i3 .st ∙ a .1)) (sym (fits-is P os g s) ∙ i1 .first);
+      code = joinS i1 (i2 .code ∙ (ap (λ x. x ++ i2 .c2) (a .0) ∙ ap (λ x. argsOf (i1 .got) ++ x) (i3 .code)));
+    }
+
+-- And and Or are Bools
+accepted-bool : (P : Program) (F : Functions) (o : BinaryOp) (u : Option ℕ) (e : Result ℕ) (y : ℕ) → ((z : ℕ) → e ≡ ok z → ⊥) → givesBool o ≡ true → accepted P F o u e ≡ ok y → y ≡ boolType
+unfolding accepted pick
+accepted-bool P F o none e y n g q = absurd (n y q)
+accepted-bool P F o (some x) e y n g q = let z : ok (pick (givesBool o) boolType x) ≡ ok y = q in let w : pick (givesBool o) boolType x ≡ boolType = rw g refl in cc
+
+never-fits : (P : Program) (F : Functions) (r : ℕ) (a : Expr) (l : ℕ) (b : Expr) (m z : ℕ) → operandsError P F r a l b m ≡ ok z → ⊥
+unfolding operandsError pick
+never-fits P F r a l b m z q = go (range-error (P .typeOf) b m l) (range-error (P .typeOf) a l m) q
+  where
+    go : (u v : Bool) → pick u (err LiteralOutOfRange (place b)) (pick v (err LiteralOutOfRange (place a)) (err WrongOperands r)) ≡ ok z → ⊥
+    go true v e = let w : _≡_ {A = ℕ} 0 1 = cc in omega arith
+    go false true e = let w : _≡_ {A = ℕ} 0 1 = cc in omega arith
+    go false false e = let w : _≡_ {A = ℕ} 0 1 = cc in omega arith
+
+binary-bool : (P : Program) (F : Functions) (r : ℕ) (o : BinaryOp) (a b : Expr) (sc : Scope) (y : ℕ) → get-type P F (EBinary r o a b) sc ≡ ok y → givesBool o ≡ true → y ≡ boolType
+unfolding get-type
+binary-bool P F r o a b sc y q g = go (get-type P F a sc) (get-type P F b sc) q
+  where
+    go : (u v : Result ℕ) → C._>>=_ u (λ l. C._>>=_ v (λ m. binaryType P F r o a l b m)) ≡ ok y → y ≡ boolType
+    go (ok l) (ok m) e = accepted-bool P F o (filterOption (acceptsClass P F (operandClass o)) (commonOf P F a l b m)) (operandsError P F r a l b m) y (λ z. never-fits P F r a l b m z) g e
+    go (ok l) (err k n) e = let w : _≡_ {A = ℕ} 0 1 = cc in absurd (omega arith)
+    go (err k n) v e = let w : _≡_ {A = ℕ} 0 1 = cc in absurd (omega arith)
 
 module _ {W : Type 0} (X : Ctx W) where
   unary-made : {vs : List Variable} {z : ℕ → ℕ} {ev : Values W → Calls W → Got W (Datum W)} {s s1 : State} {a : Operand} {c : Code} (o : UnaryOp) (y : ℕ)
@@ -402,3 +468,247 @@ module _ {W : Type 0} (X : Ctx W) where
   good-binary vs Mul r y p left right zl zr evl evr e Hl Hr = plus-none (good-other vs Mul y p left right zl zr evl evr Hl Hr)
   good-binary vs Div r y p left right zl zr evl evr e Hl Hr = plus-none (good-other vs Div y p left right zl zr evl evr Hl Hr)
   good-binary vs Rem r y p left right zl zr evl evr e Hl Hr = plus-none (good-other vs Rem y p left right zl zr evl evr Hl Hr)
+
+  -- ---- calls
+
+  ask-made : {vs : List Variable} {z : ℕ → ℕ} {ev : Values W → Calls W → Got W (List (Datum W))} {s s1 t : State} {os us : List Operand} {ca fs : Code} (y : ℕ) (g : Function)
+      → Good X Lows (holdings X) vs z ev s os ca s1
+      → Fitted (Lows (withVar y s1) os) Lows (holdings X) (λ ρ h. fitArguments (X .prog) (X .rule) 0 (holdings X ρ os) g h) (withVar y s1) us fs t
+      → Good X Low (holding X) vs z (λ σ h. bindG (ev σ h) λ vs h1. callWith (X .prog) (X .funs) (X .fun) (X .rule) (X .answers) y (CallFunction g) vs h1)
+      s (OVar (nextVar y s1)) (ca ++ (fs ++ (argsOf us ++ (Call (some (nextVar y s1)) (g .recOf) ∷ [])))) t
+  unfolding nextVar count isLabel step exec callWith
+  ask-made {s = s} {s1} {t} {os} {us} {ca} {fs} y g G H =
+      let gv = withVar-grow y s1 in
+      let n1 : length (s .vars) ≤ length (withVar y s1 .vars) = omega (arith, G .grow .vars, gv .vars) in
+      record {
+        grow = grow-trans (G .grow) (grow-trans gv (H .grow));
+        low = λ g. omega (arith, withVar-length y s1, H .grow .vars);
+        once = λ w n. simp (count-append, args-clear) (omega (arith, G .once (within-back X (grow-trans gv (H .grow)) w) n, H .clear n));
+        sim = λ w g1 k ρ σ h ag. rw (append-assoc ca _ k, append-assoc fs _ k, append-assoc (argsOf us) _ k) λ pl.
+            sim-bind X _ (le-refl _) (G .sim (within-back X (grow-trans gv (H .grow)) w) g1 _ ρ σ h ag pl) λ ρ1 h1 f1.
+            sim-bind X _ n1 (H .sim (lows-mono s1 (withVar y s1) os gv (G .low g1)) w _ ρ1 h1) λ ρ2 h2 f2.
+            sim-before X (push (X .rule) (X .answers) (body X) us _ [] ρ2 h2) (sim-put X (nextVar y s1) _ _ (G .grow .vars) refl);
+      }
+
+  cast-made : {vs : List Variable} {z : ℕ → ℕ} {ev : Values W → Calls W → Got W (List (Datum W))} {s s1 : State} {o : Operand} {os : List Operand} {ca : Code} (y u : ℕ)
+      → Good X Lows (holdings X) vs z ev s (o ∷ os) ca s1
+      → Good X Low (holding X) vs z (λ σ h. bindG (ev σ h) λ vs h1. callWith (X .prog) (X .funs) (X .fun) (X .rule) (X .answers) y (CallCast u) vs h1)
+      s (OVar (nextVar y s1)) (ca ++ (Cast (nextVar y s1) o ∷ [])) (withVar y s1)
+  unfolding nextVar count isLabel step exec operand dat dats callWith Tree.castFirst
+  cast-made {s = s} {s1} {o} {os} {ca} y u G =
+      let gv = withVar-grow y s1 in
+      record {
+        grow = grow-trans (G .grow) gv;
+        low = λ g. omega (arith, withVar-length y s1);
+        once = λ w n. simp count-append (omega (arith, G .once (within-back X gv w) n));
+        sim = λ w g k ρ σ h ag. rw (append-assoc ca _ k) λ pl.
+            sim-bind X _ (le-refl _) (G .sim (within-back X gv w) g _ ρ σ h ag pl) λ ρ1 h1 f1. sim-put X (nextVar y s1) _ h1 (G .grow .vars) refl;
+      }
+
+  no-cast : (r : ℕ) (d : VarId) (s : State) (x : Operand) (c : Code) (t : State) → castFirst r d [] s ≡ made x c t → ⊥
+  unfolding castFirst
+  no-cast r d s x c t q = let w : _≡_ {A = ℕ} 0 1 = cc in omega arith
+
+  good-call : {vs : List Variable} {z : ℕ → ℕ} {ev : Values W → Calls W → Got W (List (Datum W))} {s s1 : State} {os : List Operand} {ca : Code} (r y : ℕ) (callee : Callee)
+      → Good X Lows (holdings X) vs z ev s os ca s1
+      → (x : Operand) (c : Code) (t : State) → callValue (X .prog) (X .funs) r (nextVar y s1) os callee (withVar y s1) ≡ made x c t
+      → Good X Low (holding X) vs z (λ σ h. bindG (ev σ h) λ vs h1. callWith (X .prog) (X .funs) (X .fun) (X .rule) (X .answers) y callee vs h1) s x (ca ++ c) t
+  good-call {s1 = s1} {os = os} {ca = ca} r y (CallFunction g) G x c t q =
+      let i = inv-then (sym (callValue-is (X .prog) (X .funs) r (nextVar y s1) os g (withVar y s1)) ∙ q) in
+      let k = called (X .prog) (X .funs) (some (nextVar y s1)) g os (withVar y s1) (i .got) (i .c1) (i .st) (i .first) in
+      let p = inv-pure (i .rest) in
+      good-as X (p .got) (ap (λ z. ca ++ z) (i .code ∙ (ap (λ z. i .c1 ++ z) (p .code) ∙ (append-nil (i .c1) ∙ k .code)))) (p .st)
+      (ask-made y g G (good-fits 0 os g (withVar y s1) _ _ _ (k .fitted)))
+  good-call {s1 = s1} {os = []} r y (CallCast u) G x c t q =
+      absurd (no-cast r (nextVar y s1) (withVar y s1) x c t (sym (castValue-is (X .prog) (X .funs) r (nextVar y s1) [] u (withVar y s1)) ∙ q))
+  good-call {s1 = s1} {os = o ∷ os} {ca = ca} r y (CallCast u) G x c t q =
+      let i = inv-emit (sym (castFirstSteps-is r (nextVar y s1) o os (withVar y s1)) ∙ (sym (castValue-is (X .prog) (X .funs) r (nextVar y s1) (o ∷ os) u (withVar y s1)) ∙ q)) in
+      let p = inv-pure (i .rest) in
+      good-as X (p .got) (ap (λ z. ca ++ z) (joinE (i .code) (p .code))) (p .st) (cast-made y u G)
+
+  -- ---- leaves
+
+  good-leaf : {vs : List Variable} {s : State} {x : Operand} {c : Code} {t : State} (o : Operand) (l : Literal) → Low s o → ((ρ : Vars W) → holding X ρ o ≡ constant l) → pure o s ≡ made x c t
+      → Good X Low (holding X) vs (λ n. 0) (λ σ h. value (constant l) h) s x c t
+  unfolding count
+  good-leaf o l lo e q =
+      let i = inv-pure q in
+      good-as X (i .got) (i .code) (i .st) (record { grow = grow-refl; low = λ g. lo; once = λ w n. le-refl 0; sim = λ w g k ρ σ h ag pl. gets ρ (stay X) (λ x b. refl) (e ρ) })
+
+  good-float : {vs : List Variable} (b : ℕ) (short : Bool) (s : State) (x : Operand) (c : Code) (t : State) → floatSteps b short s ≡ made x c t
+      → Good X Low (holding X) vs (λ n. 0) (λ σ h. value (constant (FloatLiteral b short)) h) s x c t
+  unfolding count dat datum
+  good-float b short s x c t q =
+      let i = inv q in
+      let p = inv-pure (i .rest) in
+      let a = ask-float (i .first) in
+      good-as X (p .got) (i .code ∙ (ap (λ z. z ++ i .c2) (a .code) ∙ p .code)) (p .st) (record {
+        grow = a .grow;
+        low = λ g. position-holds _ (i .st .floats) (i .got) noFloat (found-in (float-refl _) (a .found) prefix-refl) .1;
+        once = λ w n. le-refl 0;
+        sim = λ w g k ρ σ h ag pl. gets ρ (stay X) (λ x b. refl) (ap (λ (e : FloatEntry). constant (FloatLiteral (e .bits) (e .short))) (sym (float-at X a w)));
+      })
+
+  good-string : {vs : List Variable} (o n : ℕ) (u : Text) (s : State) (x : Operand) (c : Code) (t : State) → stringSteps o n u s ≡ made x c t
+      → Good X Low (holding X) vs (λ n. 0) (λ σ h. value (constant (StringLiteral u)) h) s x c t
+  unfolding count dat datum
+  good-string o n u s x c t q =
+      let i = inv q in
+      let p = inv-pure (i .rest) in
+      let a = ask-string (i .first) in
+      good-as X (p .got) (i .code ∙ (ap (λ z. z ++ i .c2) (a .code) ∙ p .code)) (p .st) (record {
+        grow = a .grow;
+        low = λ g. tt;
+        once = λ w n. le-refl 0;
+        sim = λ w g k ρ σ h ag pl. gets ρ (stay X) (λ x b. refl) (ap (λ e. constant (StringLiteral e)) (string-at X a w));
+      })
+
+  good-size : {vs : List Variable} (r : ℕ) (u : Option ℕ) (s : State) (x : Operand) (c : Code) (t : State) → sizeOperand r u s ≡ made x c t
+      → Good X Low (holding X) vs (λ n. 0) (λ σ h. sizeDatum u h) s x c t
+  unfolding sizeOperand sizeDatum dat datum
+  good-size r none s x c t q = let w : _≡_ {A = ℕ} 0 1 = cc in absurd (omega arith)
+  good-size r (some n) s x c t q = good-leaf (OInt (pos n) false false) (IntLiteral (pos n) false false) tt (λ ρ. refl) q
+
+  good-name : (sc : Scope) (r : ℕ) (n : Text) (s : State) (x : Operand) (c : Code) (t : State) → nameOperand r (findIn n (sc .variables)) s ≡ made x c t
+      → Good X Low (holding X) (sc .variables) (λ n. 0)
+      (λ σ h. typed (get-type (X .prog) (X .funs) (EName r n) (scopeOf (X .fun) (known (sc .variables)))) h λ y. value (computed y (σ n)) h) s x c t
+  unfolding nameOperand count dat datum typed nameType get-type findIn
+  good-name sc r n s x c t q = rw (typing (X .prog) (X .funs) (X .fun) sc (EName r n)) (go (findIn n (sc .variables)) refl q)
+    where
+      go : (o : Option Variable) → findIn n (sc .variables) ≡ o → nameOperand r o s ≡ made x c t
+          → Good X Low (holding X) (sc .variables) (λ n. 0) (λ σ h. typed (nameType r (findIn n (sc .variables))) h λ y. value (computed y (σ n)) h) s x c t
+      go none e z = let w : _≡_ {A = ℕ} 0 1 = cc in absurd (omega arith)
+      go (some v) e z =
+          let i = inv-pure z in
+          good-as X (i .got) (i .code) (i .st) (rw e (record {
+            grow = grow-refl;
+            low = λ g. g .low n v e;
+            once = λ w m. le-refl 0;
+            sim = λ w g k ρ σ h ag pl. gets ρ (stay X) (λ x b. refl) (ap (computed (v .var-id .ty)) (ag .same n v e));
+          }))
+
+  good-typed : {vs : List Variable} {z : ℕ → ℕ} {s : State} {x : Operand} {c : Code} {t : State} {Q : Type 0} (u : Result Q) (y : Q) (ev : Q → Values W → Calls W → Got W (Datum W))
+      → u ≡ ok y → Good X Low (holding X) vs z (ev y) s x c t → Good X Low (holding X) vs z (λ σ h. typed u h (λ a. ev a σ h)) s x c t
+  unfolding typed
+  good-typed u y ev e g = rw e g
+
+  more-made : {vs : List Variable} {z zs : ℕ → ℕ} {ev : Values W → Calls W → Got W (Datum W)} {evs : Values W → Calls W → Got W (List (Datum W))} {s s1 t : State} {a : Operand} {b : List Operand} {ca cb : Code}
+      → Good X Low (holding X) vs z ev s a ca s1 → Good X Lows (holdings X) vs zs evs s1 b cb t
+      → Good X Lows (holdings X) vs (λ x. z x + zs x) (λ σ h. bindG (ev σ h) λ u h1. bindG (evs σ h1) λ us h2. value (u ∷ us) h2) s (a ∷ b) (ca ++ cb) t
+  unfolding dats
+  more-made {s = s} {s1} {t} {a} {b} {ca} {cb} G H = record {
+    grow = grow-trans (G .grow) (H .grow);
+    low = λ g. (low-mono s1 t a (H .grow) (G .low g), H .low (scoped-mono (G .grow .vars) g));
+    once = λ w n. simp count-append (omega (arith, G .once (within-back X (H .grow) w) n, H .once w n));
+    sim = λ w g k ρ σ h ag. rw (append-assoc ca cb k) λ pl.
+        sim-bind X _ (le-refl _) (G .sim (within-back X (H .grow) w) g _ ρ σ h ag pl) λ ρ1 h1 f1.
+        sim-bind X _ (G .grow .vars) (H .sim w (scoped-mono (G .grow .vars) g) _ ρ1 σ h1 (agree-frame g f1 ag) (placed-drop (X .code) ca _ pl)) λ ρ2 h2 f2.
+        gets ρ2 (stay X) (λ x b1. refl) (ap (λ u. u ∷ holdings X ρ2 b) (hold-frame X s1 a ρ1 ρ2 (G .low g) f2));
+  }
+
+  none-made : {vs : List Variable} (s : State) (x : List Operand) (c : Code) (t : State) → pure [] s ≡ made x c t → Good X Lows (holdings X) vs (λ n. 0) (λ σ h. value [] h) s x c t
+  unfolding dats count
+  none-made s x c t q = let i = inv-pure q in
+      good-as X (i .got) (i .code) (i .st) (record { grow = grow-refl; low = λ g. tt; once = λ w n. le-refl 0; sim = λ w g k ρ σ h ag pl. gets ρ (stay X) (λ x b. refl) refl })
+
+  holds-int : (ρ : Vars W) (v : ℤ) (a b : Bool) → holding X ρ (OInt v a b) ≡ constant (IntLiteral v a b)
+  unfolding dat datum
+  holds-int ρ v a b = refl
+
+  holds-bool : (ρ : Vars W) (b : Bool) → holding X ρ (OBool b) ≡ constant (BoolLiteral b)
+  unfolding dat datum
+  holds-bool ρ b = refl
+
+  holds-null : (ρ : Vars W) → holding X ρ ONull ≡ constant NullLiteral
+  unfolding dat datum
+  holds-null ρ = refl
+
+  module _ (sc : Scope) where
+    -- the compound expressions, from what is known of their parts
+    expr-unary : (r : ℕ) (o : UnaryOp) (a : Expr) (z : ℕ → ℕ) (ev : Values W → Calls W → Got W (Datum W))
+        → Sound X (sc .variables) (λ s. convert-expr (X .prog) (X .funs) a sc s) z ev
+        → Sound X (sc .variables) (λ s. convert-expr (X .prog) (X .funs) (EUnary r o a) sc s) z
+        (λ σ h. typed (get-type (X .prog) (X .funs) (EUnary r o a) (scopeOf (X .fun) (known (sc .variables)))) h λ y.
+        bindG (ev σ h) λ u h1. answered y (X .rule .unary o y (read (X .rule) u)) h1)
+    expr-unary r o a z ev H s x c t q =
+        let i = inv-lift (sym (unaryExprSteps-is (X .prog) (X .funs) r o a sc s) ∙ q) in
+        good-typed _ (i .got) (λ y σ h. bindG (ev σ h) λ u h1. answered y (X .rule .unary o y (read (X .rule) u)) h1)
+        (typing (X .prog) (X .funs) (X .fun) sc (EUnary r o a) ∙ i .known)
+        (good-unary (sc .variables) o (i .got) (λ s1. convert-expr (X .prog) (X .funs) a sc s1) z ev H s x c t (i .rest))
+
+    expr-binary : (r : ℕ) (o : BinaryOp) (a b : Expr) (zl zr : ℕ → ℕ) (evl evr : Values W → Calls W → Got W (Datum W))
+        → Sound X (sc .variables) (λ s. convert-expr (X .prog) (X .funs) a sc s) zl evl → Sound X (sc .variables) (λ s. convert-expr (X .prog) (X .funs) b sc s) zr evr
+        → Sound X (sc .variables) (λ s. convert-expr (X .prog) (X .funs) (EBinary r o a b) sc s) (λ x. logicOpens o r x + (zl x + zr x))
+        (λ σ h. typed (get-type (X .prog) (X .funs) (EBinary r o a b) (scopeOf (X .fun) (known (sc .variables)))) h λ y.
+        typed (common-type (X .prog) (X .funs) a b (scopeOf (X .fun) (known (sc .variables)))) h λ u.
+        evalBinary (X .prog) (X .funs) (X .fun) (X .rule) (X .answers) o y (unwrapOr y u) (evl σ) (evr σ) h)
+    expr-binary r o a b zl zr evl evr Hl Hr s x c t q =
+        let i = inv-lift (sym (binarySteps-is (X .prog) (X .funs) r o a b sc s) ∙ q) in
+        let j = inv-lift (i .rest) in
+        good-typed _ (i .got)
+        (λ y σ h. typed (common-type (X .prog) (X .funs) a b (scopeOf (X .fun) (known (sc .variables)))) h λ u.
+        evalBinary (X .prog) (X .funs) (X .fun) (X .rule) (X .answers) o y (unwrapOr y u) (evl σ) (evr σ) h)
+        (typing (X .prog) (X .funs) (X .fun) sc (EBinary r o a b) ∙ i .known)
+        (good-typed _ (j .got)
+        (λ u σ h. evalBinary (X .prog) (X .funs) (X .fun) (X .rule) (X .answers) o (i .got) (unwrapOr (i .got) u) (evl σ) (evr σ) h)
+        (commoning (X .prog) (X .funs) (X .fun) sc a b ∙ j .known)
+        (good-binary (sc .variables) o r (i .got) (unwrapOr (i .got) (j .got)) (λ s1. convert-expr (X .prog) (X .funs) a sc s1) (λ s1. convert-expr (X .prog) (X .funs) b sc s1)
+        zl zr evl evr (binary-bool (X .prog) (X .funs) r o a b sc (i .got) (i .known)) Hl Hr s x c t (j .rest)))
+
+    expr-call : (r : ℕ) (verb : Text) (l : Args) (z : ℕ → ℕ) (ev : Values W → Calls W → Got W (List (Datum W)))
+        → Sounds X (sc .variables) (λ s. convert-args (X .prog) (X .funs) l sc s) z ev
+        → Sound X (sc .variables) (λ s. convert-expr (X .prog) (X .funs) (ECall r verb l) sc s) z
+        (λ σ h. typed (get-type (X .prog) (X .funs) (ECall r verb l) (scopeOf (X .fun) (known (sc .variables)))) h λ y.
+        typed (resolve-call (X .prog) (X .funs) verb l (scopeOf (X .fun) (known (sc .variables))) r) h λ u.
+        bindG (ev σ h) λ vs h1. callWith (X .prog) (X .funs) (X .fun) (X .rule) (X .answers) y u vs h1)
+    expr-call r verb l z ev H s x c t q =
+        let i = inv-lift (sym (callSteps-is (X .prog) (X .funs) r verb l sc s) ∙ q) in
+        let j = inv-lift (i .rest) in
+        let k = inv (j .rest) in
+        let n = inv-new (k .rest) in
+        good-typed _ (i .got)
+        (λ y σ h. typed (resolve-call (X .prog) (X .funs) verb l (scopeOf (X .fun) (known (sc .variables))) r) h λ u.
+        bindG (ev σ h) λ vs h1. callWith (X .prog) (X .funs) (X .fun) (X .rule) (X .answers) y u vs h1)
+        (typing (X .prog) (X .funs) (X .fun) sc (ECall r verb l) ∙ i .known)
+        (good-typed _ (j .got) (λ u σ h. bindG (ev σ h) λ vs h1. callWith (X .prog) (X .funs) (X .fun) (X .rule) (X .answers) (i .got) u vs h1)
+        (resolving (X .prog) (X .funs) (X .fun) sc verb l r ∙ j .known)
+        (good-as X refl (k .code) refl (good-call r (i .got) (j .got) (H s (k .got) (k .c1) (k .st) (k .first)) x (k .c2) t (n .rest))))
+
+    args-value : (r : ℕ) (e : Expr) (l : Args) (z zs : ℕ → ℕ) (ev : Values W → Calls W → Got W (Datum W)) (evs : Values W → Calls W → Got W (List (Datum W)))
+        → Sound X (sc .variables) (λ s. convert-expr (X .prog) (X .funs) e sc s) z ev → Sounds X (sc .variables) (λ s. convert-args (X .prog) (X .funs) l sc s) zs evs
+        → Sounds X (sc .variables) (λ s. convert-args (X .prog) (X .funs) (Value r e l) sc s) (λ x. z x + zs x)
+        (λ σ h. bindG (ev σ h) λ u h1. bindG (evs σ h1) λ us h2. value (u ∷ us) h2)
+    args-value r e l z zs ev evs G H s x c t q =
+        let i = inv (sym (valueSteps-is (X .prog) (X .funs) r e l sc s) ∙ q) in
+        let j = inv (i .rest) in
+        let p = inv-pure (j .rest) in
+        good-as X (p .got) (joinS i (j .code ∙ (ap (λ z. j .c1 ++ z) (p .code) ∙ append-nil (j .c1)))) (p .st)
+        (more-made (G s (i .got) (i .c1) (i .st) (i .first)) (H (i .st) (j .got) (j .c1) (j .st) (j .first)))
+
+    mutual
+      unfolding convert-expr evalExpr opensE
+
+      pub goodE : (e : Expr) → Sound X (sc .variables) (λ s. convert-expr (X .prog) (X .funs) e sc s) (opensE e)
+          (λ σ h. evalExpr (X .prog) (X .funs) (X .fun) (X .rule) (X .answers) e (known (sc .variables)) σ h)
+      goodE (EInt r v a b) s x c t q = good-leaf (OInt v a b) (IntLiteral v a b) tt (λ ρ. holds-int ρ v a b) q
+      goodE (EFloat r b short) s x c t q = good-float b short s x c t q
+      goodE (EStr r o n u) s x c t q = good-string o n u s x c t q
+      goodE (EBool r b) s x c t q = good-leaf (OBool b) (BoolLiteral b) tt (λ ρ. holds-bool ρ b) q
+      goodE (EName r n) s x c t q = good-name sc r n s x c t q
+      goodE (ENull r) s x c t q = good-leaf ONull NullLiteral tt (λ ρ. holds-null ρ) q
+      goodE (ESizeOf r y) s x c t q = good-size r (size (X .prog .typeOf) y) s x c t q
+      goodE (EUnary r o a) s x c t q = expr-unary r o a (opensE a)
+          (λ σ h. evalExpr (X .prog) (X .funs) (X .fun) (X .rule) (X .answers) a (known (sc .variables)) σ h) (λ s1 x1 c1 t1 q1. goodE a s1 x1 c1 t1 q1) s x c t q
+      goodE (EBinary r o a b) s x c t q = expr-binary r o a b (opensE a) (opensE b)
+          (λ σ h. evalExpr (X .prog) (X .funs) (X .fun) (X .rule) (X .answers) a (known (sc .variables)) σ h)
+          (λ σ h. evalExpr (X .prog) (X .funs) (X .fun) (X .rule) (X .answers) b (known (sc .variables)) σ h) (λ s1 x1 c1 t1 q1. goodE a s1 x1 c1 t1 q1) (λ s1 x1 c1 t1 q1. goodE b s1 x1 c1 t1 q1) s x c t q
+      goodE (ECall r verb l) s x c t q = expr-call r verb l (opensA l)
+          (λ σ h. evalArgs (X .prog) (X .funs) (X .fun) (X .rule) (X .answers) l (known (sc .variables)) σ h) (λ s1 x1 c1 t1 q1. goodA l s1 x1 c1 t1 q1) s x c t q
+
+      pub goodA : (l : Args) → Sounds X (sc .variables) (λ s. convert-args (X .prog) (X .funs) l sc s) (opensA l)
+          (λ σ h. evalArgs (X .prog) (X .funs) (X .fun) (X .rule) (X .answers) l (known (sc .variables)) σ h)
+      goodA noArgs s x c t q = none-made s x c t q
+      goodA (Value r e l) s x c t q = args-value r e l (opensE e) (opensA l)
+          (λ σ h. evalExpr (X .prog) (X .funs) (X .fun) (X .rule) (X .answers) e (known (sc .variables)) σ h)
+          (λ σ h. evalArgs (X .prog) (X .funs) (X .fun) (X .rule) (X .answers) l (known (sc .variables)) σ h) (λ s1 x1 c1 t1 q1. goodE e s1 x1 c1 t1 q1) (λ s1 x1 c1 t1 q1. goodA l s1 x1 c1 t1 q1) s x c t q
+      goodA (ToType r y l) s x c t q = goodA l s x c t q

@@ -12,7 +12,7 @@ use Rattle.syntax.specs.Syntax.{Text, Ty, UnaryOp, BinaryOp, Lt, Add, Expr, EFl
 use Rattle.conversion.specs.ConvertError.{ConvertErrorKind, WrongAssignType, WrongReturnType, NotBool, NotInteger}
 use Rattle.conversion.specs.Ir.{VarId, Operand, OVar, OInt, OFloat, ODataAddress, Instr, Copy, Unary, Binary, Cast, Arg, Call, Label, Jump, JumpIfNot, Return, Comment, loopStart, loopEnd, loopCheck, otherwiseLabel, conditionEnd, logicRhs, logicEnd, State, M, _>>=_, _>>_, pure, fail, lift, emit, new-var, label-id, string-id, float-id, floatBits}
 use Rattle.conversion.specs.Scope.{Variable, Scope, find-variable, withLoop, declare}
-use Rattle.conversion.specs.Expressions.{Callee, CallFunction, Functions, unwrapOr, get-type, resolve-call, common-type}
+use Rattle.conversion.specs.Expressions.{Callee, CallFunction, CallCast, Functions, unwrapOr, get-type, resolve-call, common-type}
 use Rattle.conversion.specs.Statements.{castOperand, refloat, fit-operand, parameterType, fitFrom, fit-args, emitArgs, convert-unary, convertAnd, convertOr, castFirst, convertOther, convertBinaryBy, convert-binary, callFunction, callValue, convert-call-value, convert-expr, convert-args, convert-cond, checkFits, zeroValue, convert-declare, assignTo, convert-init, initNew, returnAs, convert-return, callStatement, convert-call, convert-if, convertIfElse, convert-while-loop, checkBound, forLoop, forInt, forKnown, convert-for-loop, convert-break, convert-continue, convert-statement, convert-block}
 
 abbrev pub castSteps : VarId → ℕ → M Operand
@@ -454,3 +454,17 @@ breakStatement-is P F r sc s = refl
 pub continueStatement-is : (P : Program) (F : Functions) (r : ℕ) (sc : Scope) (s : State) → convert-statement P F (SContinue r) sc s ≡ (emit (Comment r) >> convert-continue P F r (sc .inLoop) sc) s
 unfolding convert-statement
 continueStatement-is P F r sc s = refl
+
+pub fits-is : (P : Program) (l : List Operand) (f : Function) (s : State) → fit-args P l f s ≡ fitFrom P 0 l f s
+unfolding fit-args
+fits-is P l f s = refl
+
+pub callValue-is : (P : Program) (F : Functions) (r : ℕ) (dest : VarId) (l : List Operand) (f : Function) (s : State)
+    → callValue P F r dest l (CallFunction f) s ≡ (callFunction P F (some dest) f l >> pure (OVar dest)) s
+unfolding callValue
+callValue-is P F r dest l f s = refl
+
+pub castValue-is : (P : Program) (F : Functions) (r : ℕ) (dest : VarId) (l : List Operand) (y : ℕ) (s : State)
+    → callValue P F r dest l (CallCast y) s ≡ castFirst r dest l s
+unfolding callValue
+castValue-is P F r dest l y s = refl
