@@ -306,3 +306,14 @@ pub record Last (i : Instr) (s : State) (c : List Instr) (t : State) : Type 0 wh
 pub inv-last : {i : Instr} {s : State} {u : Unit {0}} {c : List Instr} {t : State} → emit i s ≡ made u c t → Last i s c t
 unfolding emit
 inv-last q = record { code = cc; st = cc }
+
+-- a part that emits nothing and keeps the state, and then
+pub record Rest {Y : Type 0} (f : M Y) (s : State) (y : Y) (c : List Instr) (t : State) : Type 0 where
+  pub rest : f s ≡ made y c t
+
+abbrev pub Quiet : {X : Type 0} → M X → State → Type 0
+Quiet {X} m s = (x : X) (c : List Instr) (t : State) → m s ≡ made x c t → (c ≡ []) × (t ≡ s)
+
+pub quiet : {X Y : Type 0} {m : M X} {f : X → M Y} {s : State} {y : Y} {c : List Instr} {t : State} (i : Split m f s y c t) → (i .c1 ≡ []) × (i .st ≡ s) → Rest (f (i .got)) s y c t
+quiet {f = f} {s} {y} {c} {t} i e =
+  record { rest = ap (f (i .got)) (sym (e .1)) ∙ (i .rest ∙ ap (λ x. made y x t) (sym (i .code ∙ ap (λ x. x ++ i .c2) (e .0)))) }

@@ -6,3 +6,5 @@ pub mod Names
 pub mod Steps
 pub mod Sim
 pub mod Exprs
+pub mod SimS
+pub mod Stmts

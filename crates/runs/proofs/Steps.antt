@@ -8,7 +8,7 @@ use Prim.Native.Nat.{ℕ, zero, suc}
 use lib.Dec.{eqb}
 use lib.IntN.{ℤ, pos}
 use Rattle.laws.specs.Fix.{pick}
-use Rattle.syntax.specs.Syntax.{Text, Ty, UnaryOp, BinaryOp, Lt, Add, Expr, EFloat, EStr, EUnary, EBinary, ECall, Args, Value, Statement, SDeclare, SInit, SReturn, SCall, SIf, SIfElse, SWhile, SFor, SBreak, SContinue, Block, next, Function, Program, place, boolType, nullType, addressOfNull}
+use Rattle.syntax.specs.Syntax.{Text, Ty, TFloat, UnaryOp, BinaryOp, Lt, Add, Expr, EFloat, EStr, EUnary, EBinary, ECall, Args, Value, Statement, SDeclare, SInit, SReturn, SCall, SIf, SIfElse, SWhile, SFor, SBreak, SContinue, Block, next, Function, Program, place, boolType, nullType, addressOfNull}
 use Rattle.conversion.specs.ConvertError.{ConvertErrorKind, WrongAssignType, WrongReturnType, NotBool, NotInteger}
 use Rattle.conversion.specs.Ir.{VarId, Operand, OVar, OInt, OFloat, ODataAddress, Instr, Copy, Unary, Binary, Cast, Arg, Call, Label, Jump, JumpIfNot, Return, Comment, loopStart, loopEnd, loopCheck, otherwiseLabel, conditionEnd, logicRhs, logicEnd, State, M, _>>=_, _>>_, pure, fail, lift, emit, new-var, label-id, string-id, float-id, floatBits}
 use Rattle.conversion.specs.Scope.{Variable, Scope, find-variable, withLoop, declare}
@@ -468,3 +468,8 @@ pub castValue-is : (P : Program) (F : Functions) (r : ℕ) (dest : VarId) (l : L
     → callValue P F r dest l (CallCast y) s ≡ castFirst r dest l s
 unfolding callValue
 castValue-is P F r dest l y s = refl
+
+pub zeroFloat-is : (P : Program) (F : Functions) (r : ℕ) (x : VarId) (short : Bool) (s : State)
+  → zeroValue P F r x (TFloat short) s ≡ (float-id (record { bits = 0; short = short }) >>= λ i. emit (Copy x (OFloat i))) s
+unfolding zeroValue
+zeroFloat-is P F r x short s = refl
