@@ -316,4 +316,4 @@ Quiet {X} m s = (x : X) (c : List Instr) (t : State) → m s ≡ made x c t → 
 
 pub quiet : {X Y : Type 0} {m : M X} {f : X → M Y} {s : State} {y : Y} {c : List Instr} {t : State} (i : Split m f s y c t) → (i .c1 ≡ []) × (i .st ≡ s) → Rest (f (i .got)) s y c t
 quiet {f = f} {s} {y} {c} {t} i e =
-  record { rest = ap (f (i .got)) (sym (e .1)) ∙ (i .rest ∙ ap (λ x. made y x t) (sym (i .code ∙ ap (λ x. x ++ i .c2) (e .0)))) }
+    record { rest = ap (f (i .got)) (sym (e .1)) ∙ (i .rest ∙ ap (λ x. made y x t) (sym (i .code ∙ ap (λ x. x ++ i .c2) (e .0)))) }

@@ -470,6 +470,6 @@ unfolding callValue
 castValue-is P F r dest l y s = refl
 
 pub zeroFloat-is : (P : Program) (F : Functions) (r : ℕ) (x : VarId) (short : Bool) (s : State)
-  → zeroValue P F r x (TFloat short) s ≡ (float-id (record { bits = 0; short = short }) >>= λ i. emit (Copy x (OFloat i))) s
+    → zeroValue P F r x (TFloat short) s ≡ (float-id (record { bits = 0; short = short }) >>= λ i. emit (Copy x (OFloat i))) s
 unfolding zeroValue
 zeroFloat-is P F r x short s = refl
