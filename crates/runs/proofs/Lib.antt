@@ -8,3 +8,5 @@ pub mod Sim
 pub mod Exprs
 pub mod SimS
 pub mod Stmts
+pub mod Branches
+pub mod Loops
