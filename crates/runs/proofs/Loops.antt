@@ -110,3 +110,115 @@ module _ {W : Type 0} (X : Ctx W) where
     goodS-as X (i11 .got) (joinE (i2 .code) (joinS i3 (joinE (i5 .code) (joinS i6 (joinE (i8 .code) (joinE (i10 .code) (i11 .code))))))) (i11 .st)
       (while-made r sc (i1 .asked) (goodE X sc e (i1 .st) (i3 .got) (i3 .c1) (i3 .st) (cond-expr (X .prog) (X .funs) e sc (i1 .st) (i3 .got) (i3 .c1) (i3 .st) (i3 .first))) (i4 .asked)
         (H (i4 .st) (i6 .got) (i6 .c1) (i6 .st) (i6 .first)) (i7 .asked) (i9 .asked))
+
+  -- ---- For over the name nm, whose variable is v: vs are the names around, ds, over the variables below t0, those of the body; u the bound's operand,
+  -- fitted u1; the test is written into the variable t3; mk, ls, le are the labels of the check, the start, the end
+
+  module _ (n : ℕ) (nm : Text) (v : Variable) (short unsigned : Bool) (u u1 : Operand) (t3 : ℕ) (cu fu cb : Code) {vs ds us : List Variable} {t0 t1 t2 mk ls le : ℕ}
+    {ev : Values W → Calls W → Got W (Datum W)} {evb : Values W → Calls W → Out W}
+    (gd : Scoped ds t0) (n1 : t0 ≤ t1) (n2 : t0 ≤ t2) (n3 : t0 ≤ t3) (sx : findIn nm ds ≡ some v) (sub : Sub vs ds) (inner : Sub ds us)
+    (Hu : (k : Code) (ρ : Vars W) (σ : Values W) (h : Calls W) → Agree vs σ ρ → Placed (X .code) (cu ++ k) → SimE X (at (cu ++ k) [] ρ h) k t1 ρ (λ ρ′. holding X ρ′ u) (ev σ h))
+    (Hf : (k : Code) (ρ : Vars W) (h : Calls W) → SimE X (at (fu ++ k) [] ρ h) k t2 ρ (λ ρ′. holding X ρ′ u1) (fit (X .prog) (X .rule) (v .var-id .ty) (holding X ρ u) h))
+    (Hb : (k : Code) (ρ : Vars W) (σ : Values W) (h : Calls W) → Agree ds σ ρ → Placed (X .code) (cb ++ k) → SimS X n true ds ls le (at (cb ++ k) [] ρ h) k us (evb σ h))
+    (k : Code) (pl : Placed (X .code) (Label ls ∷ Binary (v .var-id) Add (OVar (v .var-id)) (OInt (pos 1) short unsigned) ∷ Label mk ∷ (cu ++ (fu ++ (Binary (record { id = t3; ty = boolType }) Lt (OVar (v .var-id)) u1
+      ∷ JumpIfNot (OVar (record { id = t3; ty = boolType })) le ∷ (cb ++ (Jump ls ∷ Label le ∷ k))))))) where
+
+    for-rounds : {lp : Bool} {lvs : List Variable} {ls0 le0 : ℕ} (m : ℕ) → m ≤ n → (ρ : Vars W) (σ : Values W) (h : Calls W) → Agree ds σ ρ
+      → SimS X m lp lvs ls0 le0 (at (goto (X .code) mk) [] ρ h) k vs (rounds (X .prog) (X .funs) (X .fun) (X .rule) (X .answers) m nm (v .var-id .ty) (IntLiteral (pos 1) short unsigned) ev evb σ h)
+    unfolding rounds step exec go1 one operand dat datum read
+    for-rounds zero i ρ σ h ag = long (goto (X .code) mk) [] ρ (stay X) (omega arith)
+    for-rounds (suc m) i ρ σ h ag = rw (pl .1 .1 .0)
+      (let pf = placed-drop (X .code) cu _ (pl .1 .1 .1) in
+       let pb = placed-drop (X .code) fu _ pf .1 .1 in
+       let pe = placed-drop (X .code) cb _ pb .1 .0 in
+       s-later X {n = m} (go1 X refl) (omega arith)
+       (s-bindO X _ (Hu _ ρ σ h (agree-sub sub ag) (pl .1 .1 .1)) λ ρ1 h1 f1.
+        s-bindO X _ (Hf _ ρ1 h1) λ ρ2 h2 f2.
+        let a2 : Agree ds σ ρ2 = agree-frame gd (λ z c. f2 z (omega (arith, n2)) ∙ f1 z (omega (arith, n1))) ag in
+        rw (sym (a2 .same nm v sx))
+        (s-bare X _ ρ2 t3 _ h2 refl λ w.
+         let a3 : Agree ds σ (write ρ2 t3 w) = agree-frame gd (λ z c. write-other ρ2 t3 z w (omega (arith, n3))) a2 in
+         s-test X _ (ap (λ z. branch (X .rule .truth (boolType, z)) (cb ++ (Jump ls ∷ Label le ∷ k)) (goto (X .code) le) [] (write ρ2 t3 w) h2) (write-same ρ2 t3 w))
+           (s-bindT X _ (omega arith) inner sub (Hb _ (write ρ2 t3 w) σ h2 a3 pb)
+             (λ ρ4 h4. go1 X refl) (λ ρ4 h4. go-label X pe)
+             (λ σ4 ρ4 h4 a4. rw (pl .0) (s-before X (go1 X refl)
+               (rw (sym (a4 .same nm v sx))
+                (s-bare X _ ρ4 (v .var-id .id) _ h4 refl λ w1.
+                 rw (← pl .1 .1 .0) (for-rounds m (omega arith) (write ρ4 (v .var-id .id) w1) (set σ4 nm w1) h4 (agree-set σ4 ρ4 nm v w1 gd sx a4)))))))
+           (runs (write ρ2 t3 w) (go-label X pe) (agree-sub sub a3)))))
+
+  -- the whole For, in the scope sc from s on; sd is the scope of its body, s0 the state in which its variable is there
+  for-made : {z zu zb : ℕ → ℕ} {N : List Known} {ev evu : Values W → Calls W → Got W (Datum W)} {evb : ℕ → Values W → Calls W → Out W}
+    {s s0 s1 s2 s3 s4 s5 s6 s7 s9 s10 s11 t : State} {a a1 u u1 : Operand} {ca fa cu fu cb : Code} {m1 ls mk le m2 m3 : ℕ} {sb : Scope}
+    (r : ℕ) (sc sd : Scope) (nm : Text) (v : Variable) (short unsigned : Bool)
+    → Grow s s0 → Sub (sc .variables) (sd .variables) → findIn nm (sd .variables) ≡ some v
+    → (Scoped (sc .variables) (length (s .vars)) → Scoped (sd .variables) (length (s0 .vars)))
+    → (Scoped (sc .variables) (length (s .vars)) → (σ : Values W) (ρ : Vars W) (w : W) → Agree (sc .variables) σ ρ → Agree (sd .variables) (set σ nm w) (write ρ (v .var-id .id) w))
+    → Good X Low (holding X) (sc .variables) z ev s0 a ca s1
+    → Fitted X (Low s1 a) Low (holding X) (λ ρ h. fit (X .prog) (X .rule) (v .var-id .ty) (holding X ρ a) h) s1 a1 fa s2
+    → AskedLabel (loopCheck r) s2 m1 s3 → AskedLabel (loopStart r) s3 ls s4 → AskedLabel (loopCheck r) s4 mk s5
+    → Good X Low (holding X) (sc .variables) zu evu s5 u cu s6
+    → Fitted X (Low s6 u) Low (holding X) (λ ρ h. fit (X .prog) (X .rule) (v .var-id .ty) (holding X ρ u) h) s6 u1 fu s7
+    → AskedLabel (loopEnd r) (withVar boolType s7) le s9 → GoodS X (withLoop r sd) zb N evb s9 sb cb s10
+    → AskedLabel (loopStart r) s10 m2 s11 → AskedLabel (loopEnd r) s11 m3 t
+    → GoodS X sc (λ x. bit (eqb x r) + (z x + (zu x + zb x))) (known (sc .variables))
+        (λ i σ h. bindO (ev σ h) λ d h1. bindO (fit (X .prog) (X .rule) (v .var-id .ty) d h1) λ d1 h2. bindO (bare (X .rule .copy (v .var-id .ty) (read (X .rule) d1)) h2) λ w h3.
+          rounds (X .prog) (X .funs) (X .fun) (X .rule) (X .answers) i nm (v .var-id .ty) (IntLiteral (pos 1) short unsigned) evu (evb i) (set σ nm w) h3)
+        s sc (ca ++ (fa ++ (Copy (v .var-id) a1 ∷ Jump m1 ∷ Label ls ∷ Binary (v .var-id) Add (OVar (v .var-id)) (OInt (pos 1) short unsigned) ∷ Label mk
+          ∷ (cu ++ (fu ++ (Binary (nextVar boolType s7) Lt (OVar (v .var-id)) u1 ∷ JumpIfNot (OVar (nextVar boolType s7)) le ∷ (cb ++ (Jump m2 ∷ Label m3 ∷ [])))))))) t
+  unfolding count isLabel withLoop nextVar step exec operand dat
+  for-made {s = s} {s0} {s1} {s2} {s3} {s4} {s5} {s6} {s7} {s9} {s10} {s11} {t} {a} {a1} {u} {u1} {ca} {fa} {cu} {fu} {cb} {m1} {ls} {mk} {le} {m2} {m3} r sc sd nm v short unsigned g0 sub sx scd first G A l3 l4 l5 U B l9 H l11 l12 =
+    let gv = withVar-grow boolType s7 in
+    let g2 = grow-trans (G .grow) (A .grow) in
+    let g5 = grow-trans (l3 .grow) (grow-trans (l4 .grow) (l5 .grow)) in
+    let g7 = grow-trans (U .grow) (B .grow) in
+    let g9 = grow-trans gv (l9 .grow) in
+    let g12 = grow-trans (l11 .grow) (l12 .grow) in
+    let k2 : length (s0 .vars) ≤ length (s2 .vars) = g2 .vars in
+    let k5 : length (s0 .vars) ≤ length (s5 .vars) = omega (arith, k2, g5 .vars) in
+    let k6 : length (s0 .vars) ≤ length (s6 .vars) = omega (arith, k5, U .grow .vars) in
+    let k7 : length (s0 .vars) ≤ length (s7 .vars) = omega (arith, k6, B .grow .vars) in
+    let k9 : length (s0 .vars) ≤ length (s9 .vars) = omega (arith, k7, g9 .vars) in
+    let k0 : length (s .vars) ≤ length (s0 .vars) = g0 .vars in
+    record {
+      grow = grow-trans g0 (grow-trans g2 (grow-trans g5 (grow-trans g7 (grow-trans g9 (grow-trans (H .grow) g12)))));
+      sub = sub-refl; loop = refl; func = refl; knows = refl;
+      scoped = λ g. scoped-mono (omega (arith, k0, k9, H .grow .vars, g12 .vars)) g;
+      once = λ w x.
+        let w10 = within-back X g12 w in
+        let w7 = within-back X g9 (within-back X (H .grow) w10) in
+        let w6 = within-back X (B .grow) w7 in
+        let w5 = within-back X (U .grow) w6 in
+        let w4 = within-back X (l5 .grow) w5 in
+        let w2 = within-back X g5 w5 in
+        simp count-append (omega (arith, G .once (within-back X (A .grow) w2) x, A .clear x, U .once w6 x, B .clear x, H .once w10 x,
+        num-count X (loopStart r) ls x (num-of X l4 w4), num-count X (loopCheck r) mk x (num-of X l5 w5), num-count X (loopEnd r) m3 x (num-of X l12 w),
+        kinds-once 1 2 3 (nameOf X x) r (λ e. omega arith) (λ e. omega arith) (λ e. omega arith)));
+      sim = λ w g lvs il sb i k ρ σ h ag.
+        let w11 = within-back X (l12 .grow) w in
+        let w10 = within-back X (l11 .grow) w11 in
+        let w9 = within-back X (H .grow) w10 in
+        let w7 = within-back X g9 w9 in
+        let w6 = within-back X (B .grow) w7 in
+        let w5 = within-back X (U .grow) w6 in
+        let w4 = within-back X (l5 .grow) w5 in
+        let w3 = within-back X (l4 .grow) w4 in
+        let w2 = within-back X (l3 .grow) w3 in
+        let ns = num-of X l4 w4 in
+        let ne = num-of X l9 w9 in
+        let e1 : m1 ≡ mk = num-same X (num-of X l3 w3) (num-of X l5 w5) in
+        let e2 : m2 ≡ ls = num-same X (num-of X l11 w11) ns in
+        let e3 : m3 ≡ le = num-same X (num-of X l12 w) ne in
+        let gd = scd g in
+        rw (append-assoc ca _ k, append-assoc fa _ k, append-assoc cu _ k, append-assoc fu _ k, append-assoc cb _ k, e1, e2, e3) λ pl.
+        let pc = placed-drop (X .code) fa _ (placed-drop (X .code) ca _ pl) in
+        s-bindO X _ (G .sim (within-back X (A .grow) w2) (scoped-mono k0 g) _ ρ σ h ag pl) λ ρ1 h1 f1.
+        s-bindO X _ (A .sim (G .low (scoped-mono k0 g)) w2 _ ρ1 h1) λ ρ2 h2 f2.
+        s-bare X _ ρ2 (v .var-id .id) _ h2 refl λ w1.
+        s-before X (go1 X refl)
+          (for-rounds i nm v short unsigned u u1 (length (s7 .vars)) cu fu cb gd k5 k6 k7 sx sub (H .sub)
+            (λ k1 ρ3 σ3 h3 a3 p3. U .sim w6 (scoped-mono (omega (arith, k0, k5)) g) k1 ρ3 σ3 h3 a3 p3)
+            (λ k1 ρ3 h3. B .sim (U .low (scoped-mono (omega (arith, k0, k5)) g)) w7 k1 ρ3 h3)
+            (λ k1 ρ3 σ3 h3 a3 p3. H .sim w10 (scoped-mono k9 gd) (sd .variables) (inside ns ne) sub-refl i k1 ρ3 σ3 h3 a3 p3)
+            k (pc .1 .1) i (le-refl i) (write ρ2 (v .var-id .id) w1) (set σ nm w1) h2
+            (first g σ ρ2 w1 (agree-frame g (λ z b. f2 z (omega (arith, k0, G .grow .vars)) ∙ f1 z (omega (arith, k0))) ag))) }
