@@ -222,3 +222,49 @@ module _ {W : Type 0} (X : Ctx W) where
             (λ k1 ρ3 σ3 h3 a3 p3. H .sim w10 (scoped-mono k9 gd) (sd .variables) (inside ns ne) sub-refl i k1 ρ3 σ3 h3 a3 p3)
             k (pc .1 .1) i (le-refl i) (write ρ2 (v .var-id .id) w1) (set σ nm w1) h2
             (first g σ ρ2 w1 (agree-frame g (λ z b. f2 z (omega (arith, k0, G .grow .vars)) ∙ f1 z (omega (arith, k0))) ag))) }
+
+  for-loop : (za : ℕ → ℕ) (N : List Known) (evb : ℕ → Values W → Calls W → Out W) (s s0 : State) (r : ℕ) (sc sd : Scope) (nm : Text) (v : Variable) (short unsigned : Bool) (from until : Expr) (m : M Scope)
+    → Grow s s0 → Sub (sc .variables) (sd .variables) → findIn nm (sd .variables) ≡ some v
+    → (Scoped (sc .variables) (length (s .vars)) → Scoped (sd .variables) (length (s0 .vars)))
+    → (Scoped (sc .variables) (length (s .vars)) → (σ : Values W) (ρ : Vars W) (w : W) → Agree (sc .variables) σ ρ → Agree (sd .variables) (set σ nm w) (write ρ (v .var-id .id) w))
+    → SoundS X (withLoop r sd) m za N evb
+    → (x : Scope) (c : Code) (t : State) → forLoop (X .prog) (X .funs) r (v .var-id) short unsigned from until sc m s0 ≡ made x c t
+    → GoodS X sc (λ x. bit (eqb x r) + (opensE from x + (opensE until x + za x))) (known (sc .variables))
+        (λ i σ h. Tree.forLoop (X .prog) (X .funs) (X .fun) (X .rule) (X .answers) i nm (v .var-id .ty) (IntLiteral (pos 1) short unsigned) from until (known (sc .variables)) (evb i) σ h)
+        s x c t
+  unfolding Tree.forLoop
+  for-loop za N evb s s0 r sc sd nm v short unsigned from until m g0 sub sx scd first H x c t q =
+    let j1 = inv-then (sym (forSteps-is (X .prog) (X .funs) r (v .var-id) short unsigned from until sc m s0) ∙ q) in
+    let k1 = quiet j1 (bound-quiet (X .prog) (X .funs) from _ sc _ (j1 .got) (j1 .c1) (j1 .st) (j1 .first)) in
+    let j2 = inv-then (k1 .rest) in
+    let k2 = quiet j2 (bound-quiet (X .prog) (X .funs) until _ sc _ (j2 .got) (j2 .c1) (j2 .st) (j2 .first)) in
+    let i1 = inv (k2 .rest) in
+    let i2 = inv (i1 .rest) in
+    let i3 = inv-emit (i2 .rest) in
+    let i4 = inv-label (i3 .rest) in
+    let i5 = inv-emit (i4 .rest) in
+    let i6 = inv-label (i5 .rest) in
+    let i7 = inv-emit (i6 .rest) in
+    let i8 = inv-emit (i7 .rest) in
+    let i9 = inv-label (i8 .rest) in
+    let i10 = inv-emit (i9 .rest) in
+    let i11 = inv (i10 .rest) in
+    let i12 = inv (i11 .rest) in
+    let i13 = inv-new (i12 .rest) in
+    let i14 = inv-emit (i13 .rest) in
+    let i15 = inv-label (i14 .rest) in
+    let i16 = inv-emit (i15 .rest) in
+    let i17 = inv-then (i16 .rest) in
+    let i18 = inv-label (i17 .rest) in
+    let i19 = inv-emit (i18 .rest) in
+    let i20 = inv-label (i19 .rest) in
+    let i21 = inv-emit (i20 .rest) in
+    let i22 = inv-pure (i21 .rest) in
+    goodS-as X (i22 .got)
+      (joinS i1 (joinS i2 (joinE (i3 .code) (joinE (i5 .code) (joinE (i7 .code) (joinE (i8 .code) (joinE (i10 .code) (joinS i11 (joinS i12 (joinE (i14 .code) (joinE (i16 .code)
+        (joinS i17 (joinE (i19 .code) (joinE (i21 .code) (i22 .code))))))))))))))) (i22 .st)
+      (for-made r sc sd nm v short unsigned g0 sub sx scd first
+        (goodE X sc from s0 (i1 .got) (i1 .c1) (i1 .st) (i1 .first)) (good-fit X (i1 .got) (v .var-id .ty) (i1 .st) (i2 .got) (i2 .c1) (i2 .st) (i2 .first))
+        (i4 .asked) (i6 .asked) (i9 .asked)
+        (goodE X sc until (i9 .st) (i11 .got) (i11 .c1) (i11 .st) (i11 .first)) (good-fit X (i11 .got) (v .var-id .ty) (i11 .st) (i12 .got) (i12 .c1) (i12 .st) (i12 .first))
+        (i15 .asked) (H (i15 .st) (i17 .got) (i17 .c1) (i17 .st) (i17 .first)) (i18 .asked) (i20 .asked))
