@@ -27,11 +27,20 @@ use Rattle.runs.proofs.Machine.{Code, at, write-same, write-other, coun
 use Rattle.runs.proofs.Invert.{Grow, grow-refl, grow-trans, inv, inv-then, inv-pure, inv-emit, inv-lift, inv-new, inv-label, quiet, joinE, joinS, AskedLabel, nextVar, withVar, withVar-length, withVar-grow}
 use Rattle.runs.proofs.Texts.{kinds-once}
 use Rattle.runs.proofs.Names.{known, foundType, type-known, Scoped, scoped-mono, scoped-new, Sub, sub-refl, sub-new, find-same, Frame, Agree, agree-frame, agree-sub, agree-set, agree-new, declared}
-use Rattle.runs.proofs.Steps.{whileSteps-is, forSteps-is, forNewSteps-is}
+use Rattle.runs.proofs.Steps.{whileSteps-is, forSteps-is, forRest, forNewSteps-is}
 use Rattle.runs.proofs.Sim.{Ctx, body, Low, Within, within-back, Num, num-same, num-of, nameOf, num-count, Goes, stay, go1, goes, go-label, holding, SimE, Good, Sound}
 use Rattle.runs.proofs.Exprs.{Fitted, good-fit, goodE}
 use Rattle.runs.proofs.SimS.{SimS, runs, long, s-later, s-before, s-after, s-bindO, s-bare, s-bindT, s-test, InLoop, outside, inside, GoodS, SoundS, goodS-as}
 use Rattle.runs.proofs.Stmts.{cond-expr, bound-quiet, pick-made}
+
+no-int : (r : ℕ) (s : State) (x : Scope) (c : Code) (t : State) → fail NotInteger r s ≡ made x c t → ⊥
+unfolding fail
+no-int r s x c t q = let w : _≡_ {A = ℕ} 0 1 = cc in omega arith
+
+not-constant : (b : Bool) (r : ℕ) (m : M Scope) (s : State) (x : Scope) (c : Code) (t : State) → pick b (fail AssignToConstant r) m s ≡ made x c t → m s ≡ made x c t
+unfolding pick fail
+not-constant true r m s x c t q = let w : _≡_ {A = ℕ} 0 1 = cc in absurd (omega arith)
+not-constant false r m s x c t q = q
 
 module _ {W : Type 0} (X : Ctx W) where
   -- ---- While: vs are the names, over the variables below t; o the condition's operand; ls, le the labels
@@ -223,6 +232,42 @@ module _ {W : Type 0} (X : Ctx W) where
             k (pc .1 .1) i (le-refl i) (write ρ2 (v .var-id .id) w1) (set σ nm w1) h2
             (first g σ ρ2 w1 (agree-frame g (λ z b. f2 z (omega (arith, k0, G .grow .vars)) ∙ f1 z (omega (arith, k0))) ag))) }
 
+  -- the second half of a For, from the bound on: the parts before it are given
+  for-rest : {z : ℕ → ℕ} {ev : Values W → Calls W → Got W (Datum W)} {s s0 s1 s2 s3 s4 s5 : State} {a a1 : Operand} {ca fa : Code} {m1 ls mk : ℕ}
+    (za : ℕ → ℕ) (N : List Known) (evb : ℕ → Values W → Calls W → Out W) (r : ℕ) (sc sd : Scope) (nm : Text) (v : Variable) (short unsigned : Bool) (until : Expr) (m : M Scope)
+    → Grow s s0 → Sub (sc .variables) (sd .variables) → findIn nm (sd .variables) ≡ some v
+    → (Scoped (sc .variables) (length (s .vars)) → Scoped (sd .variables) (length (s0 .vars)))
+    → (Scoped (sc .variables) (length (s .vars)) → (σ : Values W) (ρ : Vars W) (w : W) → Agree (sc .variables) σ ρ → Agree (sd .variables) (set σ nm w) (write ρ (v .var-id .id) w))
+    → SoundS X (withLoop r sd) m za N evb
+    → Good X Low (holding X) (sc .variables) z ev s0 a ca s1
+    → Fitted X (Low s1 a) Low (holding X) (λ ρ h. fit (X .prog) (X .rule) (v .var-id .ty) (holding X ρ a) h) s1 a1 fa s2
+    → AskedLabel (loopCheck r) s2 m1 s3 → AskedLabel (loopStart r) s3 ls s4 → AskedLabel (loopCheck r) s4 mk s5
+    → (x : Scope) (c : Code) (t : State) → forRest (X .prog) (X .funs) r (v .var-id) until sc m s5 ≡ made x c t
+    → GoodS X sc (λ x. bit (eqb x r) + (z x + (opensE until x + za x))) (known (sc .variables))
+        (λ i σ h. bindO (ev σ h) λ d h1. bindO (fit (X .prog) (X .rule) (v .var-id .ty) d h1) λ d1 h2. bindO (bare (X .rule .copy (v .var-id .ty) (read (X .rule) d1)) h2) λ w h3.
+          rounds (X .prog) (X .funs) (X .fun) (X .rule) (X .answers) i nm (v .var-id .ty) (IntLiteral (pos 1) short unsigned)
+            (λ σ1 h4. evalExpr (X .prog) (X .funs) (X .fun) (X .rule) (X .answers) until (known (sc .variables)) σ1 h4) (evb i) (set σ nm w) h3)
+        s x (ca ++ (fa ++ (Copy (v .var-id) a1 ∷ Jump m1 ∷ Label ls ∷ Binary (v .var-id) Add (OVar (v .var-id)) (OInt (pos 1) short unsigned) ∷ Label mk ∷ c))) t
+  for-rest {s5 = s5} {a1 = a1} {ca = ca} {fa} {m1} {ls} {mk} za N evb r sc sd nm v short unsigned until m g0 sub sx scd first H G A l3 l4 l5 x c t q =
+    let i11 = inv q in
+    let i12 = inv (i11 .rest) in
+    let i13 = inv-new (i12 .rest) in
+    let i14 = inv-emit (i13 .rest) in
+    let i15 = inv-label (i14 .rest) in
+    let i16 = inv-emit (i15 .rest) in
+    let i17 = inv-then (i16 .rest) in
+    let i18 = inv-label (i17 .rest) in
+    let i19 = inv-emit (i18 .rest) in
+    let i20 = inv-label (i19 .rest) in
+    let i21 = inv-emit (i20 .rest) in
+    let i22 = inv-pure (i21 .rest) in
+    goodS-as X (i22 .got)
+      (ap (λ z. ca ++ (fa ++ (Copy (v .var-id) a1 ∷ Jump m1 ∷ Label ls ∷ Binary (v .var-id) Add (OVar (v .var-id)) (OInt (pos 1) short unsigned) ∷ Label mk ∷ z)))
+        (joinS i11 (joinS i12 (joinE (i14 .code) (joinE (i16 .code) (joinS i17 (joinE (i19 .code) (joinE (i21 .code) (i22 .code))))))))) (i22 .st)
+      (for-made r sc sd nm v short unsigned g0 sub sx scd first G A l3 l4 l5
+        (goodE X sc until s5 (i11 .got) (i11 .c1) (i11 .st) (i11 .first)) (good-fit X (i11 .got) (v .var-id .ty) (i11 .st) (i12 .got) (i12 .c1) (i12 .st) (i12 .first))
+        (i15 .asked) (H (i15 .st) (i17 .got) (i17 .c1) (i17 .st) (i17 .first)) (i18 .asked) (i20 .asked))
+
   for-loop : (za : ℕ → ℕ) (N : List Known) (evb : ℕ → Values W → Calls W → Out W) (s s0 : State) (r : ℕ) (sc sd : Scope) (nm : Text) (v : Variable) (short unsigned : Bool) (from until : Expr) (m : M Scope)
     → Grow s s0 → Sub (sc .variables) (sd .variables) → findIn nm (sd .variables) ≡ some v
     → (Scoped (sc .variables) (length (s .vars)) → Scoped (sd .variables) (length (s0 .vars)))
@@ -248,23 +293,43 @@ module _ {W : Type 0} (X : Ctx W) where
     let i8 = inv-emit (i7 .rest) in
     let i9 = inv-label (i8 .rest) in
     let i10 = inv-emit (i9 .rest) in
-    let i11 = inv (i10 .rest) in
-    let i12 = inv (i11 .rest) in
-    let i13 = inv-new (i12 .rest) in
-    let i14 = inv-emit (i13 .rest) in
-    let i15 = inv-label (i14 .rest) in
-    let i16 = inv-emit (i15 .rest) in
-    let i17 = inv-then (i16 .rest) in
-    let i18 = inv-label (i17 .rest) in
-    let i19 = inv-emit (i18 .rest) in
-    let i20 = inv-label (i19 .rest) in
-    let i21 = inv-emit (i20 .rest) in
-    let i22 = inv-pure (i21 .rest) in
-    goodS-as X (i22 .got)
-      (joinS i1 (joinS i2 (joinE (i3 .code) (joinE (i5 .code) (joinE (i7 .code) (joinE (i8 .code) (joinE (i10 .code) (joinS i11 (joinS i12 (joinE (i14 .code) (joinE (i16 .code)
-        (joinS i17 (joinE (i19 .code) (joinE (i21 .code) (i22 .code))))))))))))))) (i22 .st)
-      (for-made r sc sd nm v short unsigned g0 sub sx scd first
+    goodS-as X refl (joinS i1 (joinS i2 (joinE (i3 .code) (joinE (i5 .code) (joinE (i7 .code) (joinE (i8 .code) (i10 .code))))))) refl
+      (for-rest za N evb r sc sd nm v short unsigned until m g0 sub sx scd first H
         (goodE X sc from s0 (i1 .got) (i1 .c1) (i1 .st) (i1 .first)) (good-fit X (i1 .got) (v .var-id .ty) (i1 .st) (i2 .got) (i2 .c1) (i2 .st) (i2 .first))
-        (i4 .asked) (i6 .asked) (i9 .asked)
-        (goodE X sc until (i9 .st) (i11 .got) (i11 .c1) (i11 .st) (i11 .first)) (good-fit X (i11 .got) (v .var-id .ty) (i11 .st) (i12 .got) (i12 .c1) (i12 .st) (i12 .first))
-        (i15 .asked) (H (i15 .st) (i17 .got) (i17 .c1) (i17 .st) (i17 .first)) (i18 .asked) (i20 .asked))
+        (i4 .asked) (i6 .asked) (i9 .asked) x (i10 .c2) t (i10 .rest))
+
+  for-int : (za : ℕ → ℕ) (N : List Known) (evb : ℕ → Values W → Calls W → Out W) (s s0 : State) (r : ℕ) (sc sd : Scope) (nm : Text) (v : Variable) (from until : Expr) (m : M Scope)
+    → Grow s s0 → Sub (sc .variables) (sd .variables) → findIn nm (sd .variables) ≡ some v
+    → (Scoped (sc .variables) (length (s .vars)) → Scoped (sd .variables) (length (s0 .vars)))
+    → (Scoped (sc .variables) (length (s .vars)) → (σ : Values W) (ρ : Vars W) (w : W) → Agree (sc .variables) σ ρ → Agree (sd .variables) (set σ nm w) (write ρ (v .var-id .id) w))
+    → SoundS X (withLoop r sd) m za N evb
+    → (x : Scope) (c : Code) (t : State) → forInt (X .prog) (X .funs) r (v .var-id) from until sc m s0 ≡ made x c t
+    → GoodS X sc (λ x. bit (eqb x r) + (opensE from x + (opensE until x + za x))) (known (sc .variables))
+        (λ i σ h. Tree.forInt (X .prog) (X .funs) (X .fun) (X .rule) (X .answers) i nm (v .var-id .ty) from until (known (sc .variables)) (evb i) σ h) s x c t
+  unfolding forInt Tree.forInt onInt
+  for-int za N evb s s0 r sc sd nm v from until m g0 sub sx scd first H x c t q = go (X .prog .typeOf (v .var-id .ty)) q
+    where
+      go : (y : Ty) → onInt y (fail NotInteger r) (λ short unsigned. forLoop (X .prog) (X .funs) r (v .var-id) short unsigned from until sc m) s0 ≡ made x c t
+        → GoodS X sc (λ x. bit (eqb x r) + (opensE from x + (opensE until x + za x))) (known (sc .variables))
+            (λ i σ h. onInt y (stopped h) λ short unsigned.
+              Tree.forLoop (X .prog) (X .funs) (X .fun) (X .rule) (X .answers) i nm (v .var-id .ty) (IntLiteral (pos 1) short unsigned) from until (known (sc .variables)) (evb i) σ h) s x c t
+      go (TInt short unsigned) z = for-loop za N evb s s0 r sc sd nm v short unsigned from until m g0 sub sx scd first H x c t z
+      go (TFloat b) z = absurd (no-int r s0 x c t z)
+      go TBool z = absurd (no-int r s0 x c t z)
+      go TChar z = absurd (no-int r s0 x c t z)
+      go TByte z = absurd (no-int r s0 x c t z)
+      go (TAddress b) z = absurd (no-int r s0 x c t z)
+      go (TArray b d) z = absurd (no-int r s0 x c t z)
+      go (TCustom b) z = absurd (no-int r s0 x c t z)
+      go TNull z = absurd (no-int r s0 x c t z)
+
+  for-known : (za : ℕ → ℕ) (N : List Known) (evb : ℕ → Values W → Calls W → Out W) (r : ℕ) (sc : Scope) (nm : Text) (from until : Expr) (m : M Scope) (o : Option Variable) → findIn nm (sc .variables) ≡ o
+    → SoundS X (withLoop r sc) m za N evb
+    → (s : State) (x : Scope) (c : Code) (t : State) → forKnown (X .prog) (X .funs) r o from until sc m s ≡ made x c t
+    → GoodS X sc (λ x. bit (eqb x r) + (opensE from x + (opensE until x + za x))) (known (sc .variables))
+        (λ i σ h. forOver (X .prog) (X .funs) (X .fun) (X .rule) (X .answers) i nm none (foundType o) from until (known (sc .variables)) (λ K. evb i) σ h) s x c t
+  unfolding forKnown forOver foundType
+  for-known za N evb r sc nm from until m none e H s x c t q = let w : _≡_ {A = ℕ} 0 1 = cc in absurd (omega arith)
+  for-known za N evb r sc nm from until m (some v) e H s x c t q =
+    for-int za N evb s s r sc sc nm v from until m grow-refl sub-refl e (λ g. g) (λ g σ ρ w ag. agree-set σ ρ nm v w g e ag) H x c t
+      (not-constant (v .constant) r (forInt (X .prog) (X .funs) r (v .var-id) from until sc m) s x c t q)

@@ -345,6 +345,22 @@ pub boundSteps-is : (P : Program) (F : Functions) (e : Expr) (y : ℕ) (sc : Sco
 unfolding checkBound
 boundSteps-is P F e y sc s = refl
 
+-- a For from its bound on
+abbrev pub forRest : Program → Functions → ℕ → VarId → Expr → Scope → M Scope → M Scope
+forRest P F r x until sc body = do
+  b ← convert-expr P F until sc
+  b1 ← fit-operand P b (x .ty)
+  cond ← new-var boolType
+  emit (Binary cond Lt (OVar x) b1)
+  target ← label-id (loopEnd r)
+  emit (JumpIfNot (OVar cond) target)
+  body
+  again ← label-id (loopStart r)
+  emit (Jump again)
+  end ← label-id (loopEnd r)
+  emit (Label end)
+  pure sc
+
 abbrev pub forSteps : Program → Functions → ℕ → VarId → Bool → Bool → Expr → Expr → Scope → M Scope → M Scope
 forSteps P F r x short unsigned from until sc body = do
   checkBound P F from (x .ty) sc
@@ -359,18 +375,7 @@ forSteps P F r x short unsigned from until sc body = do
   emit (Binary x Add (OVar x) (OInt (pos 1) short unsigned))
   check ← label-id (loopCheck r)
   emit (Label check)
-  b ← convert-expr P F until sc
-  b1 ← fit-operand P b (x .ty)
-  cond ← new-var boolType
-  emit (Binary cond Lt (OVar x) b1)
-  target ← label-id (loopEnd r)
-  emit (JumpIfNot (OVar cond) target)
-  body
-  again ← label-id (loopStart r)
-  emit (Jump again)
-  end ← label-id (loopEnd r)
-  emit (Label end)
-  pure sc
+  forRest P F r x until sc body
 
 pub forSteps-is : (P : Program) (F : Functions) (r : ℕ) (x : VarId) (short unsigned : Bool) (from until : Expr) (sc : Scope) (body : M Scope) (s : State) → forLoop P F r x short unsigned from until sc body s ≡ forSteps P F r x short unsigned from until sc body s
 unfolding forLoop
