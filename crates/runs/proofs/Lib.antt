@@ -10,3 +10,4 @@ pub mod SimS
 pub mod Stmts
 pub mod Branches
 pub mod Loops
+pub mod Blocks
