@@ -63,3 +63,52 @@ module _ {W : Type 0} (X : Ctx W) where
         s-bindS X _ (G .sim (within-back X (H .grow) w) g lvs il sb i _ ρ σ h ag pl) λ σ1 ρ1 h1 a1.
         H .sim w (G .scoped g) lvs (rw (sym (G .loop)) at il) (sub-trans sb (G .sub)) i k ρ1 σ1 h1 a1 (placed-drop (X .code) ca _ pl);
   }
+
+  block-next : (t : Statement) (b : Block) (sc : Scope) (z zb : ℕ → ℕ) (ev : ℕ → Values W → Calls W → Out W) (evb : ℕ → List Known → Values W → Calls W → Out W) (N : List Known) → sc .function ≡ X .fun
+      → SoundS X sc (λ s. convert-statement (X .prog) (X .funs) t sc s) z N ev
+      → ((sc1 : Scope) → sc1 .function ≡ X .fun
+      → SoundS X sc1 (λ s. convert-block (X .prog) (X .funs) b sc1 s) zb (knownEnd b (known (sc1 .variables))) (λ i σ h. evb i (known (sc1 .variables)) σ h))
+      → SoundS X sc (λ s. convert-block (X .prog) (X .funs) (next t b) sc s) (λ x. z x + zb x) (knownEnd b N) (λ i σ h. bindS (ev i σ h) λ σ1 h1. evb i N σ1 h1)
+  block-next t b sc z zb ev evb N fe H K s x c u q =
+      let i = inv (sym (blockSteps-is (X .prog) (X .funs) t b sc s) ∙ q) in
+      let G = H s (i .got) (i .c1) (i .st) (i .first) in
+      goodS-as X refl (i .code) refl (next-made sc (i .got) G
+      (subst (λ L. GoodS X (i .got) zb (knownEnd b L) (λ j σ h. evb j L σ h) (i .st) x (i .c2) u) (G .knows) (K (i .got) (G .func ∙ fe) (i .st) x (i .c2) u (i .rest))))
+
+  mutual
+    unfolding convert-statement runStatement opensS knownAfter knownEnd withLoop
+
+    pub goodS : (t : Statement) (sc : Scope) → sc .function ≡ X .fun
+        → SoundS X sc (λ s. convert-statement (X .prog) (X .funs) t sc s) (opensS t) (knownAfter (X .prog) (X .funs) (X .fun) (X .rule) (X .answers) t (known (sc .variables)))
+        (λ i σ h. runStatement (X .prog) (X .funs) (X .fun) (X .rule) (X .answers) t i (known (sc .variables)) σ h)
+    goodS (SDeclare r n y) sc fe s x c u q = good-comment X sc r _ _ _ _ (good-declare X sc r n y) s x c u q
+    goodS (SInit r b n e) sc fe s x c u q = good-comment X sc r _ _ _ _ (good-init X sc r b n e) s x c u q
+    goodS (SReturn r e) sc fe s x c u q = good-comment X sc r _ _ _ _ (good-return X sc r e fe) s x c u q
+    goodS (SCall r e) sc fe s x c u q = good-comment X sc r _ _ _ _ (good-call-statement X sc r e) s x c u q
+    goodS (SIf r e a) sc fe s x c u q = good-comment X sc r _ _ _ _
+        (good-if X sc r e (λ s1. convert-block (X .prog) (X .funs) a sc s1) (opensB a) (knownEnd a (known (sc .variables)))
+        (λ i σ h. runBlock (X .prog) (X .funs) (X .fun) (X .rule) (X .answers) a i (known (sc .variables)) σ h) (λ s1 x1 c1 u1 q1. goodB a sc fe s1 x1 c1 u1 q1)) s x c u q
+    goodS (SIfElse r e a b) sc fe s x c u q = good-comment X sc r _ _ _ _
+        (good-if-else X sc r e (λ s1. convert-block (X .prog) (X .funs) a sc s1) (λ s1. convert-block (X .prog) (X .funs) b sc s1) (opensB a) (opensB b)
+        (knownEnd a (known (sc .variables))) (knownEnd b (known (sc .variables)))
+        (λ i σ h. runBlock (X .prog) (X .funs) (X .fun) (X .rule) (X .answers) a i (known (sc .variables)) σ h)
+        (λ i σ h. runBlock (X .prog) (X .funs) (X .fun) (X .rule) (X .answers) b i (known (sc .variables)) σ h)
+        (λ s1 x1 c1 u1 q1. goodB a sc fe s1 x1 c1 u1 q1) (λ s1 x1 c1 u1 q1. goodB b sc fe s1 x1 c1 u1 q1)) s x c u q
+    goodS (SWhile r e a) sc fe s x c u q = good-comment X sc r _ _ _ _
+        (good-while X sc r e (λ s1. convert-block (X .prog) (X .funs) a (withLoop r sc) s1) (opensB a) (knownEnd a (known (sc .variables)))
+        (λ i σ h. runBlock (X .prog) (X .funs) (X .fun) (X .rule) (X .answers) a i (known (sc .variables)) σ h) (λ s1 x1 c1 u1 q1. goodB a (withLoop r sc) fe s1 x1 c1 u1 q1)) s x c u q
+    goodS (SFor r n y from until a) sc fe s x c u q = good-comment X sc r _ _ _ _
+        (good-for X (opensB a) (λ N. knownEnd a N) (λ i N σ h. runBlock (X .prog) (X .funs) (X .fun) (X .rule) (X .answers) a i N σ h) r sc n y from until
+        (λ sc1 s1. convert-block (X .prog) (X .funs) a (withLoop r sc1) s1) (λ sd e s1 x1 c1 u1 q1. goodB a (withLoop r sd) (e ∙ fe) s1 x1 c1 u1 q1)) s x c u q
+    goodS (SBreak r) sc fe s x c u q = good-comment X sc r _ _ _ _ (good-break X sc r) s x c u q
+    goodS (SContinue r) sc fe s x c u q = good-comment X sc r _ _ _ _ (good-continue X sc r) s x c u q
+
+    pub goodB : (b : Block) (sc : Scope) → sc .function ≡ X .fun
+        → SoundS X sc (λ s. convert-block (X .prog) (X .funs) b sc s) (opensB b) (knownEnd b (known (sc .variables)))
+        (λ i σ h. runBlock (X .prog) (X .funs) (X .fun) (X .rule) (X .answers) b i (known (sc .variables)) σ h)
+    goodB done sc fe s x c u q = done-made sc s x c u q
+    goodB (next t b) sc fe s x c u q = block-next t b sc (opensS t) (opensB b)
+        (λ i σ h. runStatement (X .prog) (X .funs) (X .fun) (X .rule) (X .answers) t i (known (sc .variables)) σ h)
+        (λ i N σ h. runBlock (X .prog) (X .funs) (X .fun) (X .rule) (X .answers) b i N σ h)
+        (knownAfter (X .prog) (X .funs) (X .fun) (X .rule) (X .answers) t (known (sc .variables))) fe
+        (λ s1 x1 c1 u1 q1. goodS t sc fe s1 x1 c1 u1 q1) (λ sc1 f1 s1 x1 c1 u1 q1. goodB b sc1 f1 s1 x1 c1 u1 q1) s x c u q
