@@ -11,3 +11,6 @@ pub mod Stmts
 pub mod Branches
 pub mod Loops
 pub mod Blocks
+pub mod Whole
+pub mod Returns
+pub mod OneFunction

@@ -8,11 +8,13 @@ use Prim.Native.Nat.{ℕ, zero, suc}
 use lib.Dec.{eqb}
 use lib.IntN.{ℤ, pos}
 use Rattle.laws.specs.Fix.{pick}
-use Rattle.syntax.specs.Syntax.{Text, Ty, TFloat, UnaryOp, BinaryOp, Lt, Add, Expr, EFloat, EStr, EUnary, EBinary, ECall, Args, Value, Statement, SDeclare, SInit, SReturn, SCall, SIf, SIfElse, SWhile, SFor, SBreak, SContinue, Block, next, Function, Program, place, boolType, nullType, addressOfNull}
-use Rattle.conversion.specs.ConvertError.{ConvertErrorKind, WrongAssignType, WrongReturnType, NotBool, NotInteger}
+use Rattle.syntax.specs.Syntax.{Text, Ty, TFloat, UnaryOp, BinaryOp, Lt, Add, Expr, EFloat, EStr, EUnary, EBinary, ECall, Args, Value, Statement, SDeclare, SInit, SReturn, SCall, SIf, SIfElse, SWhile, SFor, SBreak, SContinue, Block, next, Param, Function, Program, place, boolType, nullType, addressOfNull}
+use Rattle.conversion.specs.ConvertError.{ConvertErrorKind, AlreadyDeclared, MissingReturn, WrongAssignType, WrongReturnType, NotBool, NotInteger}
 use Rattle.conversion.specs.Ir.{VarId, Operand, OVar, OInt, OFloat, ODataAddress, Instr, Copy, Unary, Binary, Cast, Arg, Call, Label, Jump, JumpIfNot, Return, Comment, loopStart, loopEnd, loopCheck, otherwiseLabel, conditionEnd, logicRhs, logicEnd, State, M, _>>=_, _>>_, pure, fail, lift, emit, new-var, label-id, string-id, float-id, floatBits}
-use Rattle.conversion.specs.Scope.{Variable, Scope, find-variable, withLoop, declare}
+use Rattle.conversion.specs.Scope.{Variable, Scope, find-variable, withVariable, withLoop, declare}
 use Rattle.conversion.specs.Expressions.{Callee, CallFunction, CallCast, Functions, unwrapOr, get-type, resolve-call, common-type}
+use Rattle.conversion.specs.Types.{isSome}
+use Rattle.conversion.specs.Functions.{declareParams, convertBody, always-returns}
 use Rattle.conversion.specs.Statements.{castOperand, refloat, fit-operand, parameterType, fitFrom, fit-args, emitArgs, convert-unary, convertAnd, convertOr, castFirst, convertOther, convertBinaryBy, convert-binary, callFunction, callValue, convert-call-value, convert-expr, convert-args, convert-cond, checkFits, zeroValue, convert-declare, assignTo, convert-init, initNew, returnAs, convert-return, callStatement, convert-call, convert-if, convertIfElse, convert-while-loop, checkBound, forLoop, forInt, forKnown, convert-for-loop, convert-break, convert-continue, convert-statement, convert-block}
 
 abbrev pub castSteps : VarId → ℕ → M Operand
@@ -478,3 +480,21 @@ pub zeroFloat-is : (P : Program) (F : Functions) (r : ℕ) (x : VarId) (short : 
     → zeroValue P F r x (TFloat short) s ≡ (float-id (record { bits = 0; short = short }) >>= λ i. emit (Copy x (OFloat i))) s
 unfolding zeroValue
 zeroFloat-is P F r x short s = refl
+
+-- ---- functions
+
+abbrev pub bodySteps : Program → Functions → Function → Block → M (Unit {0})
+bodySteps P F f b = do
+  sc ← declareParams (f .params) (record { variables = []; inLoop = none; function = f })
+  _ ← convert-block P F b sc
+  pick (isSome (f .returnType) && not (always-returns b)) (fail MissingReturn (f .recOf)) (pure tt)
+
+pub bodySteps-is : (P : Program) (F : Functions) (f : Function) (b : Block) (s : State) → convertBody P F f b s ≡ bodySteps P F f b s
+unfolding convertBody
+bodySteps-is P F f b s = refl
+
+pub param-is : (p : Param) (l : List Param) (sc : Scope) (s : State)
+    → declareParams (p ∷ l) sc s ≡ pick (isSome (find-variable (p .name) sc)) (fail AlreadyDeclared (p .recOf))
+    (new-var (p .ty) >>= λ x. declareParams l (withVariable (record { name = p .name; constant = false; var-id = x }) sc)) s
+unfolding declareParams
+param-is p l sc s = refl
