@@ -14,3 +14,4 @@ pub mod Blocks
 pub mod Whole
 pub mod Returns
 pub mod OneFunction
+pub mod Demand3

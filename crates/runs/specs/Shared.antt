@@ -69,11 +69,14 @@ texts (e ∷ l) = e .text ∷ texts l
 unfoldable pub bodyOf : Function → List Instr → IrProgram → Body
 bodyOf f c ir = record { instrs = c; result = f .returnType; strings = texts (ir .strings); floats = ir .floats }
 
--- demand 3 for one function f with the body b and what it became, g
-pub record Agrees (P : Program) (F : Functions) (ir : IrProgram) (f : Function) (b : Block) (g : IrFunction) : Type 1 where
-  pub same : g .func ≡ f .recOf
+-- demand 3 for f, the i-th function of the program, with the body b: it became the i-th function of ir, and for every rule, whoever answers calls,
+-- all parameters' values vs and all contents ρ of the variables, the two runs share all that is seen outside
+pub record Agrees (P : Program) (F : Functions) (ir : IrProgram) (i : ℕ) (f : Function) (b : Block) : Type 1 where
+  pub function : IrFunction
+  pub listed : getElem? (ir .funcs) i ≡ some function
+  pub same : function .func ≡ f .recOf
   pub code : List Instr
-  pub body : g .body ≡ some code
+  pub body : function .body ≡ some code
   pub shared : {W : Type 0} (R : Rule W) (A : Answers W) (vs : List W) (ρ : Vars W) → length vs ≡ length (f .params) → InPlace vs ρ
       → Shared (treeRun P F f R A b vs) (bodyRun R A (bodyOf f code ir) ρ) (f .returnType)
 
