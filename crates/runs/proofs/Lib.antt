@@ -1,3 +1,4 @@
+pub mod Example
 pub mod Machine
 pub mod Place
 pub mod Invert
