@@ -9,7 +9,7 @@ use lib.Dec.{eqb}
 use lib.IntN.{pos}
 use mir.Facts.{sfits-lit}
 use Rattle.syntax.specs.Syntax.{Text, Ty, TInt, TFloat, TBool, TChar, TByte, TAddress, TArray, TCustom, TNull, Add, Lt, Expr, EInt, EFloat, EStr, EBool, EName, ENull, ESizeOf, EUnary, EBinary, ECall, Args, Statement, SDeclare, SInit, SReturn, SCall, SIf, SIfElse, SWhile, SFor, SBreak, SContinue, Block, done, next, Program, place, boolType, nullType, addressOfNull}
-use Rattle.conversion.specs.ConvertError.{ConvertErrorKind, UnknownVariable, AssignToConstant, ReturnWithoutType, WrongReturnType, WrongAssignType, LiteralOutOfRange, NotBool, NotInteger, BreakOutOfLoop, ContinueOutOfLoop, Panic}
+use Rattle.conversion.specs.ConvertError.{ConvertErrorKind, UnknownVariable, AssignToConstant, ReturnWithoutType, WrongReturnType, WrongAssignType, LiteralOutOfRange, NotBool, NotInteger, BreakOutOfLoop, ContinueOutOfLoop, WouldPanic}
 use Rattle.conversion.specs.Ir.{VarId, OVar, OInt, OFloat, OBool, ONull, Copy, Binary, Zero, Label, Jump, JumpIfNot, Return, Comment, loopStart, loopEnd, loopCheck, otherwiseLabel, conditionEnd, State, M, _>>_, emit}
 use Rattle.conversion.specs.Types.{fits, range-error}
 use Rattle.conversion.specs.Scope.{Variable, Scope, find-variable, withVariable, withLoop, declareNew, declare}
@@ -89,7 +89,7 @@ module _ (text : Text) where
     zero-keeps r x (TAddress y) d = emits text (Copy x ONull) (λ s g. (d s g, tt))
     zero-keeps r x TNull d = emits text (Copy x ONull) (λ s g. (d s g, tt))
     zero-keeps r x (TArray y n) d = emits text (Zero x) d
-    zero-keeps r x (TCustom t) d = fails text Panic r
+    zero-keeps r x (TCustom t) d = fails text WouldPanic r
 
     declare-keeps : (r : ℕ) (n : Text) (y : ℕ) (sc : Scope) → Word y → Keeps text (Scoped text sc) (Scoped text) (convert-declare P F r n y sc)
     unfolding convert-declare
@@ -155,7 +155,7 @@ module _ (text : Text) where
     unfolding callStatement
     call-statement r l sc (CallFunction f) h k = then text (args-keeps text P F treeFits functionsFit l sc h) λ operands.
         call-keeps text P F nothing f operands k (λ s g. tt) (λ s g. g .1)
-    call-statement r l sc (CallCast y) h k = fails text Panic r
+    call-statement r l sc (CallCast y) h k = fails text WouldPanic r
 
     as-call : {A : Type 0} {G : Up} {Q : A → Up} {d : M A} {f : ℕ → Text → Args → M A} (e : Expr) → ExprFits text e → Keeps text G Q d
         → ((r : ℕ) (v : Text) (l : Args) → ArgsFit text l → Keeps text G Q (f r v l)) → Keeps text G Q (asCall e d f)

@@ -11,3 +11,4 @@ pub mod Converted
 pub mod Decoded
 pub mod ReadBack
 pub mod Strict
+pub mod Judged

@@ -10,7 +10,7 @@ use lib.IntN.{pos}
 use borrow.Author.Tests.{ltb-true}
 use Rattle.laws.specs.Fix.{pick, fix}
 use Rattle.syntax.specs.Syntax.{Text, Ty, TInt, TFloat, TBool, TChar, TByte, TAddress, TArray, TCustom, TNull, UnaryOp, BinaryOp, Or, And, BitOr, BitXor, BitAnd, Eq, NotEq, Lt, Le, Gt, Ge, Shl, Shr, Add, Sub, Mul, Div, Rem, Expr, EInt, EFloat, EStr, EBool, EName, ENull, ESizeOf, EUnary, EBinary, ECall, Args, noArgs, Value, ToType, Param, Function, Program}
-use Rattle.conversion.specs.ConvertError.{Panic, UnknownVariable}
+use Rattle.conversion.specs.ConvertError.{WouldPanic, UnknownVariable}
 use Rattle.conversion.specs.Ir.{VarId, Operand, OVar, OInt, OFloat, OBool, ODataAddress, ONull, Copy, Unary, Binary, Cast, Arg, Call, Label, Jump, JumpIfNot, logicRhs, logicEnd, State, M, _>>=_, lift}
 use Rattle.conversion.specs.Types.{onInt, onFloat, isFloat, within, sizeStep, size}
 use Rattle.conversion.specs.Scope.{Variable, Scope, find-variable}
@@ -221,7 +221,7 @@ module _ (text : Text) where
     cast-first : {G : Up} (r : ℕ) (dest : VarId) (l : List Operand) → ((s : State) → G .holds s → VarIn s dest)
         → ((s : State) → G .holds s → All (OperandIn s) l) → Keeps text G Named (castFirst r dest l)
     unfolding castFirst
-    cast-first r dest [] d n = fails text Panic r
+    cast-first r dest [] d n = fails text WouldPanic r
     cast-first r dest (o ∷ l) d n = and-then text (emits text (Cast dest o) (λ s g. (d s g, (n s g) .0))) (gives text (OVar dest) d)
 
     call-value : {G : Up} (r : ℕ) (dest : VarId) (l : List Operand) (c : Callee) → CalleeFits text c
@@ -260,7 +260,7 @@ module _ (text : Text) where
     size-keeps : {G : Up} (r : ℕ) (o : Option ℕ) → OptIs (λ n. n < 2 ^ 63) o → Keeps text G Named (sizeOperand r o)
     unfolding sizeOperand
     size-keeps r (some n) h = gives text (OInt (pos n) false false) (λ s g. record { sfits = held h })
-    size-keeps r nothing h = fails text Panic r
+    size-keeps r nothing h = fails text WouldPanic r
 
     -- ---- expressions
 
