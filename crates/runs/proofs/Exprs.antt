@@ -390,7 +390,7 @@ module _ {W : Type 0} (X : Ctx W) where
       let i2 = inv (i1 .rest) in
       let i3 = inv-pure (i2 .rest) in
       fitted-as (i3 .got) (joinS i1 (i2 .code ∙ (ap (λ z. i2 .c1 ++ z) (i3 .code) ∙ append-nil (i2 .c1)))) (i3 .st)
-      (fits-made o os (λ d h. fit (X .prog) (X .rule) (parameterType (X .prog) (g .params) k) d h) (λ ds h. fitArguments (X .prog) (X .rule) (suc k) ds g h)
+      (fits-made o os (λ d h. fit (X .prog) (X .rule) (parameterType (g .params) k) d h) (λ ds h. fitArguments (X .prog) (X .rule) (suc k) ds g h)
       (good-fit o _ s _ _ _ (i1 .first)) (good-fits (suc k) os g _ _ _ _ (i2 .first)))
 
   -- ---- binaries other than And and Or

@@ -39,7 +39,7 @@ refloatSteps-is i short s = refl
 
 abbrev pub fitSteps : Program → ℕ → Operand → List Operand → Function → M (List Operand)
 fitSteps P k o l f = do
-  a ← fit-operand P o (parameterType P (f .params) k)
+  a ← fit-operand P o (parameterType (f .params) k)
   as' ← fitFrom P (suc k) l f
   pure (a ∷ as')
 

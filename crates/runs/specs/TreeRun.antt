@@ -139,7 +139,7 @@ module _ {W : Type 0} (P : Program) (R : Rule W) where
   -- the k-th value and those behind it, each to its parameter of g
   unfoldable pub fitArguments : ℕ → List (Datum W) → Function → Calls W → Got W (List (Datum W))
   fitArguments k [] g h = value [] h
-  fitArguments k (d ∷ ds) g h = bindG (fit (parameterType P (g .params) k) d h) λ u h1.
+  fitArguments k (d ∷ ds) g h = bindG (fit (parameterType (g .params) k) d h) λ u h1.
       bindG (fitArguments (suc k) ds g h1) λ us h2. value (u ∷ us) h2
 
   -- 'Declare writes the zero value that the Rust writes, through the rule's copy or Zero as there'

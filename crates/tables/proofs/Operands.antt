@@ -104,7 +104,7 @@ module _ (text : Text) where
   fit-keeps P (ODataAddress i) y h k = gives text (ODataAddress i) k
   fit-keeps P ONull y h k = gives text ONull k
 
-  parameter-word : (P : Program) (l : List Param) (k : ℕ) → All (λ p. Word (p .ty)) l → Word (parameterType P l k)
+  parameter-word : (P : Program) (l : List Param) (k : ℕ) → All (λ p. Word (p .ty)) l → Word (parameterType l k)
   unfolding parameterType
   parameter-word P [] k h = float-type-word false
   parameter-word P (p ∷ l) zero h = h .0
@@ -114,7 +114,7 @@ module _ (text : Text) where
       → ((s : State) → G .holds s → All (OperandIn s) l) → Keeps text G NamedAll (fitFrom P k l f)
   unfolding fitFrom
   fit-from P k [] f h n = gives text [] (λ s g. tt)
-  fit-from P k (o ∷ l) f h n = then text (fit-keeps P o (parameterType P (f .params) k) (parameter-word P (f .params) k (h .params)) (λ s g. (n s g) .0)) λ a.
+  fit-from P k (o ∷ l) f h n = then text (fit-keeps P o (parameterType (f .params) k) (parameter-word P (f .params) k (h .params)) (λ s g. (n s g) .0)) λ a.
       then text (fit-from P (suc k) l f h (λ s g. (n s (g .0)) .1)) λ b.
       gives text (a ∷ b) (λ s g. (g .0 .1, g .1))
 
