@@ -47,7 +47,7 @@ hasSpan number = not (eqb number 10) && not (leb 24 number && leb number 26)
 -- word k of the place's span, where the place is a record and the number comes with a span
 unfoldable pub spanWord : List ℕ → ℕ → ℕ → ℕ → ℕ
 unfolding pick hasSpan wordOf
-spanWord tree number place k = pick (hasSpan number && ltb place (records tree)) (wordOf tree place k) 0
+spanWord tree number place k = pick (ltb place (records tree)) (pick (hasSpan number) (wordOf tree place k) 0) 0
 
 -- 'An answer is the number, place and the record's span'
 unfoldable pub wordsOf : List ℕ → ConvertError → AnswerWords

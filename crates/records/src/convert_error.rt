@@ -89,7 +89,10 @@ fn span_word(tree: &[u8], number: u32, place: u32, k: usize) -> u32
     ensures { λ r. ⌜ r ≡ spanWord (now (tree .entry)) number place k ⌝ }
 {
     let r = place as usize;
-    if (number != 10) & !((24 <= number) & (number <= 26)) & (r < tree.len() / 32) {
+    if r >= tree.len() / 32 {
+        return 0;
+    }
+    if (number != 10) & !((24 <= number) & (number <= 26)) {
         return word(tree, r, k);
     }
     0

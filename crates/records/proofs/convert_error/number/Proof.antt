@@ -227,4 +227,3 @@ number-spec =
     returns-25
     returns-26
     returns-27)
-

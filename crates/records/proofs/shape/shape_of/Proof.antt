@@ -11,13 +11,13 @@ type-shape-requires : tie.Need-type-shape-requires
 type-shape-requires c κs = search needs
 
 returns : tie.Need-returns
-returns c = search shape-type
+returns c = shape-type _ _ _ (c .type-shape .ensures) (c .before .if1 .taken)
 
 returns-2 : tie.Need-returns-2
-returns-2 c = search shape-kind
+returns-2 c = shape-kind _ _ (c .before .if1 .left) (c .if2 .taken)
 
 returns-3 : tie.Need-returns-3
-returns-3 c = search shape-unknown
+returns-3 c = shape-unknown _ _ (c .before .if1 .left) (c .if2 .left)
 
 pub shape-of-spec : {M : Type 1} → statement M
 shape-of-spec = tie.close (tie.spec type-shape-requires returns returns-2 returns-3)
