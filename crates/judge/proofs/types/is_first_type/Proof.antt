@@ -11,35 +11,27 @@ use Rattle.records.proofs.words.detail.Reads as detail-reads
 use Rattle.records.proofs.words.kind.Reads as kind-reads
 use Rattle.records.proofs.words.word.Reads as word-reads
 
--- src/types.rt:25:9
 returns : tie.Need-returns
 returns c = first-past _ _ (c .if1 .taken)
 
--- src/types.rt:27:6
 kind-requires : tie.Need-kind-requires
 kind-requires c κs = search needs
 
--- src/types.rt:27:29
 detail-requires : tie.Need-detail-requires
 detail-requires c κs = search needs
 
--- src/types.rt:27:48
 array-read-result : tie.Need-array-read-result
 array-read-result c = search needs
 
--- src/types.rt:27:62
 word-requires : tie.Need-word-requires
 word-requires c κs = search needs
 
--- src/types.rt:27:82
 mul-result : tie.Need-mul-result
 mul-result c = search needs
 
--- src/types.rt:27:82
 array-read-result-2 : tie.Need-array-read-result-2
 array-read-result-2 c = search needs
 
--- src/types.rt:20:1
 returns-2 : tie.Need-returns-2
 returns-2 c =
     rw (c .before .before .kind .ensures, c .before .detail .ensures, c .word .ensures)

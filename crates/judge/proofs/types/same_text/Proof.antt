@@ -17,66 +17,51 @@ Inv-loop text p m q n i₀ i = (i ≤ m) × (allBelow i (sameByte text p q) ≡ 
 abbrev μ-loop : tie.MeasureT-loop
 μ-loop text p m q n i₀ i = m - i
 
--- src/types.rt:50:8
 add-if1 : tie.Need-add-if1 Inv-loop μ-loop
 add-if1 c = omega arith
 
--- src/types.rt:51:9
 returns : tie.Need-returns Inv-loop μ-loop
 returns c = text-past _ _ _ _ _ (c .if1 .taken)
 
--- src/types.rt:53:8
 add-if2 : tie.Need-add-if2 Inv-loop μ-loop
 add-if2 c = omega arith
 
--- src/types.rt:54:9
 returns-2 : tie.Need-returns-2 Inv-loop μ-loop
 returns-2 c = text-past-2 _ _ _ _ _ (c .before .if1 .left) (c .if2 .taken)
 
--- src/types.rt:57:9
 returns-3 : tie.Need-returns-3 Inv-loop μ-loop
 returns-3 c = text-lengths _ _ _ _ _ (c .before .before .if1 .left) (c .before .if2 .left) (c .if3 .taken)
 
--- src/types.rt:60:5
 loop-holds : tie.Need-loop-holds Inv-loop μ-loop
 unfolding allBelow
 loop-holds c = (omega arith, refl)
 
--- src/types.rt:61:17
 add-if4 : tie.Need-add-if4 Inv-loop μ-loop
 add-if4 c = omega arith
 
--- src/types.rt:61:12
 shared-slice-read-if4 : tie.Need-shared-slice-read-if4 Inv-loop μ-loop
 shared-slice-read-if4 c = omega arith
 
--- src/types.rt:61:32
 add-if4-2 : tie.Need-add-if4-2 Inv-loop μ-loop
 add-if4-2 c = omega arith
 
--- src/types.rt:61:27
 shared-slice-read-if4-2 : tie.Need-shared-slice-read-if4-2 Inv-loop μ-loop
 shared-slice-read-if4-2 c = omega arith
 
--- src/types.rt:62:13
 returns-4 : tie.Need-returns-4 Inv-loop μ-loop
 returns-4 c =
     text-differ _ _ _ _ _ (c .before .before .before .before .before .before .before .if1 .left) (c .before .before .before .before .before .before .if2 .left) (c .before .before .before .before .before .if3 .left)
     (c .before .before .before .before .loop .i) (c .before .before .before .loop-test .taken) (c .if4 .taken)
 
--- src/types.rt:64:9
 add-i : tie.Need-add-i Inv-loop μ-loop
 add-i c = omega arith
 
--- src/types.rt:60:5
 loop-less : tie.Need-loop-less Inv-loop μ-loop
 loop-less c = omega arith
 
--- src/types.rt:60:5
 loop-again : tie.Need-loop-again Inv-loop μ-loop
 loop-again c = (omega arith, text-next _ _ _ _ (c .before .before .before .before .loop .inv .1) (c .if4 .left))
 
--- src/types.rt:46:1
 returns-5 : tie.Need-returns-5 Inv-loop μ-loop
 returns-5 c =
     text-same _ _ _ _ _ (c .before .before .before .before .if1 .left) (c .before .before .before .if2 .left) (c .before .before .if3 .left) (c .before .loop .i) (c .before .loop .inv .1)

@@ -12,70 +12,54 @@ use Rattle.judge.proofs.types.same_text.Reads as same-text-reads
 use Rattle.records.proofs.words.detail.Reads as detail-reads
 use Rattle.records.proofs.words.word.Reads as word-reads
 
--- src/types.rt:74:9
 detail-requires : tie.Need-detail-requires
 detail-requires c κs = search needs
 
--- src/types.rt:75:8
 detail-requires-2 : tie.Need-detail-requires-2
 detail-requires-2 c κs = search needs
 
--- src/types.rt:76:9
 returns : tie.Need-returns
 returns c = type-detail _ _ _ _ (λ e. c .if1 .taken (c .before .detail2 .ensures ∙ e ∙ sym (c .before .before .detail .ensures)))
 
--- src/types.rt:78:9
 word-requires : tie.Need-word-requires
 word-requires c κs = search needs
 
--- src/types.rt:79:9
 word-requires-2 : tie.Need-word-requires-2
 word-requires-2 c κs = search needs
 
--- src/types.rt:80:9
 word-requires-3 : tie.Need-word-requires-3
 word-requires-3 c κs = search needs
 
--- src/types.rt:81:9
 word-requires-4 : tie.Need-word-requires-4
 word-requires-4 c κs = search needs
 
--- src/types.rt:83:32
 size-requires : tie.Need-size-requires
 size-requires c κs = search needs
 
--- src/types.rt:83:42
 size-requires-2 : tie.Need-size-requires-2
 size-requires-2 c κs = search needs
 
--- src/types.rt:83:52
 size-requires-3 : tie.Need-size-requires-3
 size-requires-3 c κs = search needs
 
--- src/types.rt:83:62
 size-requires-4 : tie.Need-size-requires-4
 size-requires-4 c κs = search needs
 
--- src/types.rt:83:9
 same-text-requires : tie.Need-same-text-requires
 same-text-requires c κs = search needs
 
--- src/types.rt:83:9
 returns-2 : tie.Need-returns-2
 returns-2 c =
     rw (c .same-text .ensures, c .before .size4 .ensures, c .before .before .size3 .ensures, c .before .before .before .size2 .ensures, c .before .before .before .before .size .ensures, c .before .before .before .before .before .before .word4 .ensures, c .before .before .before .before .before .before .before .word3 .ensures, c .before .before .before .before .before .before .before .before .word2 .ensures, c .before .before .before .before .before .before .before .before .before .word .ensures)
     (type-custom _ _ _ _ (sym (c .before .before .before .before .before .before .before .before .before .before .before .detail2 .ensures) ∙ c .before .before .before .before .before .before .before .before .before .before .if1 .left ∙ c .before .before .before .before .before .before .before .before .before .before .before .before .detail .ensures)
     (sym (c .before .before .before .before .before .before .before .before .before .before .before .before .detail .ensures) ∙ c .before .before .before .before .before .if2 .taken))
 
--- src/types.rt:85:32
 word-requires-5 : tie.Need-word-requires-5
 word-requires-5 c κs = search needs
 
--- src/types.rt:85:52
 word-requires-6 : tie.Need-word-requires-6
 word-requires-6 c κs = search needs
 
--- src/types.rt:70:1
 returns-3 : tie.Need-returns-3
 returns-3 c =
     rw (c .word6 .ensures, c .before .word5 .ensures, c .before .before .before .word4 .ensures, c .before .before .before .before .word3 .ensures, c .before .before .before .before .before .word2 .ensures, c .before .before .before .before .before .before .word .ensures)

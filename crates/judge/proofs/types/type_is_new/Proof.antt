@@ -20,49 +20,39 @@ Inv-loop tree text r j₀ j = (j ≤ r) × (anyBelow j (equalType tree text r) �
 abbrev μ-loop : tie.MeasureT-loop
 μ-loop tree text r j₀ j = r - j
 
--- src/types.rt:93:8
 kind-requires : tie.Need-kind-requires Inv-loop μ-loop
 kind-requires c κs = omega arith
 
--- src/types.rt:94:9
 returns : tie.Need-returns Inv-loop μ-loop
 returns c = new-other _ _ _ (λ e. c .if1 .taken (c .before .kind .ensures ∙ e))
 
--- src/types.rt:97:5
 loop-holds : tie.Need-loop-holds Inv-loop μ-loop
 unfolding anyBelow
 loop-holds c = (omega arith, refl)
 
--- src/types.rt:98:13
 kind-requires-2 : tie.Need-kind-requires-2 Inv-loop μ-loop
 kind-requires-2 c κs = omega arith
 
--- src/types.rt:98:35
 same-type-requires : tie.Need-same-type-requires Inv-loop μ-loop
 same-type-requires c κs = omega arith
 
--- src/types.rt:99:13
 returns-2 : tie.Need-returns-2 Inv-loop μ-loop
 returns-2 c =
     new-found _ _ _ (sym (c .before .before .before .before .before .before .kind .ensures) ∙ c .before .before .before .before .before .if1 .left) (c .before .before .before .before .loop .j) (c .before .before .before .loop-test .taken)
     (equal-test _ _ _ _ _ _ _ (c .before .before .kind2 .ensures) (c .before .same-type .ensures) (c .if2 .taken))
 
--- src/types.rt:101:9
 add-j : tie.Need-add-j Inv-loop μ-loop
 add-j c = omega arith
 
--- src/types.rt:97:5
 loop-less : tie.Need-loop-less Inv-loop μ-loop
 loop-less c = omega arith
 
--- src/types.rt:97:5
 loop-again : tie.Need-loop-again Inv-loop μ-loop
 loop-again c = (
   omega arith,
   any-more _ _ (c .before .before .before .before .loop .inv .1) (equal-test _ _ _ _ _ _ _ (c .before .before .kind2 .ensures) (c .before .same-type .ensures) (c .if2 .left)),
 )
 
--- src/types.rt:89:1
 returns-3 : tie.Need-returns-3 Inv-loop μ-loop
 returns-3 c =
     new-none _ _ _ (sym (c .before .before .before .kind .ensures) ∙ c .before .before .if1 .left) (c .before .loop .j) (c .before .loop .inv .1) (c .before .loop .inv .0) (c .loop-test .left)
