@@ -1,5 +1,5 @@
--- The kind of the record that a word refers to, by the test that was passed or left.
--- Assumes nothing.
+-- The kind of the record that a word refers to, as the code reads it.
+-- Each picks its arm of `kindBelow` by the test that was passed or left. Assumes nothing.
 use mathlib.Core.Path.{_≡_, refl, sym}
 use Prim.Native.Nat.{ℕ, _≤_, _<_}
 use mathlib.Core.List.{List}

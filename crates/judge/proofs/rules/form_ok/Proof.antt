@@ -1,4 +1,5 @@
--- The form of a record: the tests are the definition's, over what the calls ensure. Assumes nothing.
+-- The form of a record is judged.
+-- The tests are the definition's, over what the calls ensure. Assumes nothing.
 use Rattle.records.specs.Shapes.{rowAt}
 use Rattle.records.specs.Rules.{formOk}
 use borrow.Author.Needs.{needs}

@@ -1,4 +1,5 @@
--- An item by the role of its list: each arm is the definition's, over what the calls ensure. Assumes nothing.
+-- An item is judged by the role of its list.
+-- Each arm is the definition's, over what the calls ensure. Assumes nothing.
 use Rattle.records.specs.Rules.{itemOk}
 use Rattle.judge.proofs.RoleCases.{item-other}
 use borrow.Author.Needs.{needs}

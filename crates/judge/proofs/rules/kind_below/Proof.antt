@@ -1,4 +1,5 @@
--- The kind of a lower record, else 0: each return is a case of the definition. Assumes nothing.
+-- The kind of the lower record that a word refers to, else 0.
+-- Each return is a case of the definition. Assumes nothing.
 use Rattle.records.proofs.RuleLaws.{kind-lower, kind-none}
 use borrow.Author.Needs.{needs}
 use Rattle.judge.proofs.rules.kind_below.Statement.{statement}

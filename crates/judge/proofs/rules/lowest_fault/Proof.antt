@@ -1,4 +1,5 @@
--- The lowest record that breaks a rule. The loop's invariant: every record passed breaks none. Assumes nothing.
+-- The lowest record that breaks a rule is found.
+-- The loop's invariant: every record passed breaks none. Assumes nothing.
 use Prim.Native.Nat.{ℕ, _≤_, _<_, _-_}
 use mathlib.Core.Path.{_≡_, sym}
 use mathlib.Core.Bool.{false, not}

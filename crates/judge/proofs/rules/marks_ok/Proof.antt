@@ -1,4 +1,5 @@
--- The marks of an If and of a function: the tests are the definition's, over what the calls ensure. Assumes nothing.
+-- The marks of an If and of a function are judged.
+-- The tests are the definition's, over what the calls ensure. Assumes nothing.
 use Rattle.records.specs.Rules.{otherwiseMarked, bodyMarked}
 use borrow.Author.Needs.{needs}
 use Rattle.judge.proofs.rules.marks_ok.Statement.{statement}

@@ -1,4 +1,5 @@
--- All rules for a record: one law over what the calls ensure, the types that lead and the counts of references. Assumes nothing.
+-- All rules for a record are judged.
+-- One law over what the calls ensure, the types that lead and the counts of references. Assumes nothing.
 use Rattle.judge.proofs.RecordCases.{record-all}
 use borrow.Author.Needs.{needs}
 use Rattle.judge.proofs.rules.record_ok.Statement.{statement}

@@ -1,4 +1,5 @@
--- A word by its role: each arm of the match is the definition's, over what the calls ensure. Assumes nothing.
+-- A word is judged by its role.
+-- Each arm of the match is the definition's, over what the calls ensure. Assumes nothing.
 use Rattle.records.specs.Rules.{wordOk}
 use borrow.Author.Needs.{needs}
 use Rattle.judge.proofs.rules.word_ok.Statement.{statement}

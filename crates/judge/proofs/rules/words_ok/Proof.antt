@@ -1,4 +1,5 @@
--- The five words of a record: the tests are the definition's, over what the calls ensure. Assumes nothing.
+-- The five words of a record are judged.
+-- The tests are the definition's, over what the calls ensure. Assumes nothing.
 use Rattle.records.specs.Rules.{wordsOk}
 use borrow.Author.Needs.{needs}
 use Rattle.judge.proofs.rules.words_ok.Statement.{statement}

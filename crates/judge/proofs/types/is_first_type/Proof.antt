@@ -1,5 +1,5 @@
--- A record past the twelve passes; one of the twelve is held to its row of both tables. Each part is what the call ensures.
--- Assumes nothing.
+-- A record past the twelve passes; one of the twelve is held to its row of both tables.
+-- Each return is a case of the definition, over what the calls ensure. Assumes nothing.
 use borrow.Author.Needs.{needs}
 use mathlib.Core.Path.{_∙_}
 use Rattle.records.proofs.TypeLaws.{first-past, first-twelve}
