@@ -7,7 +7,7 @@ use mathlib.Core.List.{List}
 use native.Mathlib.Omega.{arith}
 use lib.Dec.{eqb, ltb}
 use lib.ListN.{length, getD}
-use borrow.Author.Tests.{eq-eqb, ne-eqb, lt-ltb, le-ltb, eqb-true, ltb-true, ltb-false}
+use borrow.Author.Tests.{eq-eqb, ne-eqb, le-ltb, eqb-true, ltb-true, ltb-false}
 use Rattle.laws.specs.Fix.{pick}
 use Rattle.laws.specs.Below.{allBelow}
 use Rattle.laws.proofs.AllBelow.{all-of, all-stop}

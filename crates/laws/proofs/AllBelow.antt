@@ -15,7 +15,7 @@ split : {P : Type 0} (n i : ℕ) (b : Bool) → b ≡ eqb i n → i < suc n → 
 split n i true e h last before = last (eqb-true i n (sym e))
 split n i false e h last before = let d : i ≡ n → ⊥ = eqb-false i n (sym e) in before (omega arith)
 
-pub and-false : (a b : Bool) → b ≡ false → (a && b) ≡ false
+and-false : (a b : Bool) → b ≡ false → (a && b) ≡ false
 and-false true b e = e
 and-false false b e = refl
 
@@ -23,11 +23,11 @@ or-true-right : (a b : Bool) → b ≡ true → (a || b) ≡ true
 or-true-right true b e = refl
 or-true-right false b e = e
 
-pub or-left : (a b : Bool) → (a || b) ≡ false → a ≡ false
+or-left : (a b : Bool) → (a || b) ≡ false → a ≡ false
 or-left true b e = absurd (false≢true (sym e))
 or-left false b e = refl
 
-pub or-right : (a b : Bool) → (a || b) ≡ false → b ≡ false
+or-right : (a b : Bool) → (a || b) ≡ false → b ≡ false
 or-right true b e = absurd (false≢true (sym e))
 or-right false b e = e
 

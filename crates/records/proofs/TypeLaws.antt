@@ -2,14 +2,14 @@
 -- Each picks its arm of the definition by the test that was passed or left. Assumes nothing.
 use mathlib.Core.Path.{_≡_, refl, sym, ap, _∙_}
 use Prim.Native.Nat.{ℕ, _+_, _≤_, _<_}
-use mathlib.Core.Bool.{Bool, true, false, not, _&&_, _||_}
+use mathlib.Core.Bool.{Bool, true, false, not, _&&_}
 use mathlib.Core.List.{List}
-use lib.Dec.{eqb, leb}
+use lib.Dec.{eqb}
 use lib.ListN.{length, getD}
 use borrow.Author.Tests.{eq-eqb, ne-eqb, le-leb, lt-leb}
 use Rattle.laws.specs.Fix.{pick}
 use Rattle.laws.specs.Below.{allBelow, anyBelow}
-use Rattle.laws.proofs.AllBelow.{all-more, all-stop, all-done, any-more, any-stop, any-done, and-false}
+use Rattle.laws.proofs.AllBelow.{all-more, all-stop, all-done, any-stop, any-done}
 use Rattle.records.specs.Words.{byteAt, kindOf, detailOf, wordOf, A, B, C}
 use Rattle.records.specs.Rules.{isFirstType, sameText, sameType, typeIsNew, twelveDetails, twelveInner}
 

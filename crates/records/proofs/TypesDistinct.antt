@@ -5,18 +5,18 @@ use Prim.Native.Nat.{ℕ, zero, suc, _+_, _*_, _≤_, _<_}
 use mathlib.Core.Bool.{Bool, true, false, not, _&&_, _||_, false≢true}
 use mathlib.Core.List.{List}
 use native.Mathlib.Omega.{arith}
-use lib.Dec.{eqb, leb, ltb}
+use lib.Dec.{eqb, ltb}
 use lib.ListN.{length, getD, length-take, length-drop}
 use lib.Seq.{getD-take, getD-drop}
-use borrow.Author.Tests.{eq-eqb, ne-eqb, eqb-true, eqb-false, lt-ltb, ltb-true, leb-true, not-true}
-use Rattle.laws.specs.Fix.{pick, below, fix}
-use Rattle.laws.specs.Below.{allBelow, anyBelow}
-use Rattle.laws.proofs.FixLaws.{Local, fix-step, below-in, below-cong, pick-yes, pick-no}
-use Rattle.laws.proofs.AllBelow.{all-at, all-of, any-at}
+use borrow.Author.Tests.{eq-eqb, ne-eqb, eqb-true, eqb-false, ltb-true, leb-true}
+use Rattle.laws.specs.Fix.{pick, below}
+use Rattle.laws.specs.Below.{allBelow}
+use Rattle.laws.proofs.FixLaws.{Local, fix-step, below-in, below-cong}
+use Rattle.laws.proofs.AllBelow.{all-at, all-of}
 use Rattle.records.specs.declared.shape.Row.{Row}
-use Rattle.records.specs.Words.{byteAt, wordAt, kindOf, detailOf, padOf, wordOf, textAt, records, A, B, C, D, E}
+use Rattle.records.specs.Words.{byteAt, wordAt, kindOf, detailOf, wordOf, textAt, records, A, B, C}
 use Rattle.records.specs.Shapes.{rowOf, rowAt, plainType, typeShape, shapeOf}
-use Rattle.records.specs.Rules.{kindBelow, wordOk, wordsOk, formOk, otherwiseMarked, bodyMarked, isFirstType, typesFirst, sameText, sameType, typeIsNew, referredOnce, recordOk}
+use Rattle.records.specs.Rules.{kindBelow, wordOk, sameText, sameType, recordOk}
 use Rattle.records.specs.Types.{KrcType, KInt, KFloat, KBool, KChar, KByte, KAddress, KArray, KCustom, KNull, plainOf, typeStep, typeAt}
 use Rattle.records.proofs.Good.{Formed, WordsGood, good-of, formed-of, words-of}
 use Rattle.records.proofs.TypeLaws.{sameByte, text-same, type-custom, type-words, equal-test, new-found}

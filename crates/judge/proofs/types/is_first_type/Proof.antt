@@ -1,7 +1,6 @@
 -- A record past the twelve passes; one of the twelve is held to its row of both tables.
 -- Each return is a case of the definition, over what the calls ensure. Assumes nothing.
 use borrow.Author.Needs.{needs}
-use mathlib.Core.Path.{_∙_}
 use Rattle.records.proofs.TypeLaws.{first-past, first-twelve}
 use Rattle.judge.proofs.types.is_first_type.Statement.{statement}
 use Rattle.judge.proofs.types.is_first_type.Tie as tie

@@ -1,6 +1,6 @@
 -- Two types are compared by detail, then by name or by words.
 -- Each return is a case of the definition, over what the calls ensure. Assumes nothing.
-use mathlib.Core.Path.{_≡_, sym, _∙_}
+use mathlib.Core.Path.{sym, _∙_}
 use Rattle.records.proofs.TypeLaws.{type-detail, type-custom, type-words}
 use borrow.Author.Needs.{needs}
 use Rattle.judge.proofs.types.same_type.Statement.{statement}
