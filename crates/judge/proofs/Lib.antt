@@ -1,0 +1,4 @@
+pub mod BelowLaws
+pub mod CountLaws
+pub mod DepthLaws
+pub mod RowLaws
