@@ -27,18 +27,21 @@ pub larger-first : (x y : ℕ) → y < x → x ≡ larger x y
 unfolding larger
 larger-first x y h = sym (pick-no (leb x y) y x (lt-leb x y h))
 
-module _ (g : ℕ → ℕ) (r : ℕ) (role : Role) (w : ℕ) where
-  pub below-told : refers role ≡ true → w < r → g w ≡ depthBelow g r role w
-  unfolding depthBelow
-  below-told e h = sym (pick-yes (refers role) (below g r w 0) 0 e ∙ below-in g r w 0 h)
+-- one word: the code's test is b, and the record that the word refers to is i
+module _ (g : ℕ → ℕ) (r : ℕ) (role : Role) (w : ℕ) (b : Bool) where
+  module _ (i : ℕ) (told : b ≡ refers role) (e : b ≡ true) (same : i ≡ w) where
+    pub below-told : i < r → g i ≡ depthBelow g r role w
+    unfolding depthBelow
+    below-told h =
+        sym (pick-yes (refers role) (below g r w 0) 0 (sym told ∙ e) ∙ below-in g r w 0 (omega arith) ∙ ap g (sym same))
 
-  pub below-later : refers role ≡ true → r ≤ w → 0 ≡ depthBelow g r role w
-  unfolding depthBelow
-  below-later e h = sym (pick-yes (refers role) (below g r w 0) 0 e ∙ below-out g r w 0 h)
+    pub below-later : r ≤ i → 0 ≡ depthBelow g r role w
+    unfolding depthBelow
+    below-later h = sym (pick-yes (refers role) (below g r w 0) 0 (sym told ∙ e) ∙ below-out g r w 0 (omega arith))
 
-  pub below-none : refers role ≡ false → 0 ≡ depthBelow g r role w
+  pub below-none : b ≡ refers role → b ≡ false → 0 ≡ depthBelow g r role w
   unfolding depthBelow
-  below-none e = sym (pick-no (refers role) (below g r w 0) 0 e)
+  below-none told e = sym (pick-no (refers role) (below g r w 0) 0 (sym told ∙ e))
 
 below-same : (g h : ℕ → ℕ) (r : ℕ) (role : Role) (w : ℕ) → Agree g h r → depthBelow g r role w ≡ depthBelow h r role w
 unfolding depthBelow
@@ -64,34 +67,38 @@ pub depth-told : (tree : List ℕ) (g : ℕ → ℕ) (r : ℕ) → Agree g (dept
 unfolding depth
 depth-told tree g r e = fix-step 0 (depthStep tree) (local tree) r ∙ local tree (depth tree) g r (λ k hk. sym (e k hk))
 
--- what the five words say
-pub deepest-words : (tree : List ℕ) (g : ℕ → ℕ) (r : ℕ) (row : Row) (va vb vc vd ve a b c d e : ℕ)
+-- what the five words say, and the largest of it
+pub deepest-words : (tree : List ℕ) (g : ℕ → ℕ) (r : ℕ) (row : Row) (va vb vc vd ve a b c d e de ce be ae : ℕ)
     → row ≡ rowAt tree r
     → va ≡ wordOf tree r A → vb ≡ wordOf tree r B → vc ≡ wordOf tree r C → vd ≡ wordOf tree r D → ve ≡ wordOf tree r E
     → a ≡ depthBelow g r (row .a) va → b ≡ depthBelow g r (row .b) vb → c ≡ depthBelow g r (row .c) vc → d ≡ depthBelow g r (row .d) vd → e ≡ depthBelow g r (row .e) ve
-    → larger a (larger b (larger c (larger d e))) ≡ deepest tree g r
+    → de ≡ larger d e → ce ≡ larger c de → be ≡ larger b ce → ae ≡ larger a be
+    → ae ≡ deepest tree g r
 unfolding deepest
-deepest-words tree g r row va vb vc vd ve a b c d e w wa wb wc wd we pa pb pc pd pe = rw (pa, pb, pc, pd, pe, wa, wb, wc, wd, we, w) refl
+deepest-words tree g r row va vb vc vd ve a b c d e de ce be ae w wa wb wc wd we pa pb pc pd pe m m₂ m₃ m₄ =
+    rw (m₄, m₃, m₂, m, pa, pb, pc, pd, pe, wa, wb, wc, wd, we, w) refl
 
-module _ (tree : List ℕ) (r x : ℕ) (l : List ℕ) (told : Depths tree r l) (e : x ≡ deepest tree (λ k. getD l k 0) r) where
-  agree : Agree (λ k. getD l k 0) (depth tree) r
-  agree k hk = told .depths k hk
+-- how deep record r is, by its kind and the deepest that it refers to
+module _ (tree : List ℕ) (r x kind : ℕ) (l : List ℕ) (told : Depths tree r l) (e : x ≡ deepest tree (λ k. getD l k 0) r) (same : kind ≡ kindOf tree r) where
+  g : ℕ → ℕ
+  g k = getD l k 0
 
-  -- a list
-  pub depth-list : kindOf tree r ≡ 12 → depth tree r ≡ x
-  unfolding depthStep
+  pub depth-list : kind ≡ 12 → depth tree r ≡ x
+  unfolding depthStep g
   depth-list k =
-      depth-told tree (λ k. getD l k 0) r agree
-      ∙ pick-yes (eqb (kindOf tree r) 12) (deepest tree (λ k. getD l k 0) r) (deepest tree (λ k. getD l k 0) r + 1) (eq-eqb (kindOf tree r) 12 k)
+      depth-told tree g r (told .depths)
+      ∙ pick-yes (eqb (kindOf tree r) 12) (deepest tree g r) (deepest tree g r + 1) (eq-eqb (kindOf tree r) 12 (sym same ∙ k))
       ∙ sym e
 
-  -- any other record
-  pub depth-other : (kindOf tree r ≡ 12 → ⊥) → depth tree r ≡ x + 1
-  unfolding depthStep
+  pub depth-other : (kind ≡ 12 → ⊥) → depth tree r ≡ x + 1
+  unfolding depthStep g
   depth-other k =
-      depth-told tree (λ k. getD l k 0) r agree
-      ∙ pick-no (eqb (kindOf tree r) 12) (deepest tree (λ k. getD l k 0) r) (deepest tree (λ k. getD l k 0) r + 1) (ne-eqb (kindOf tree r) 12 k)
+      depth-told tree g r (told .depths)
+      ∙ pick-no (eqb (kindOf tree r) 12) (deepest tree g r) (deepest tree g r + 1) (ne-eqb (kindOf tree r) 12 (λ q. k (same ∙ q)))
       ∙ sym (ap (λ (v : ℕ). v + 1) e)
+
+pub depths-none : (tree l : List ℕ) → Depths tree 0 l
+depths-none tree l = record { depths = λ k hk. absurd (omega arith); low = λ k hk. absurd (omega arith) }
 
 -- one byte more says how deep its record is
 pub depths-more : (tree : List ℕ) (r v : ℕ) (l : List ℕ) → Depths tree r l → r < length l → depth tree r ≡ v → v ≤ 64 → Depths tree (r + 1) (set l r v)
@@ -115,9 +122,9 @@ depths-more tree r v l d h e s =
 pub not-deep : (tree : List ℕ) (r : ℕ) (l : List ℕ) → Depths tree r l → (k : ℕ) → k < r → ltb 64 (depth tree k) ≡ false
 not-deep tree r l d k hk = le-ltb 64 (depth tree k) (omega (arith, d .depths k hk, d .low k hk))
 
-pub deep-here : (tree : List ℕ) (n r : ℕ) (l : List ℕ) → Depths tree r l → r < n → 64 < depth tree r → Lowest n (λ k. ltb 64 (depth tree k)) r
-deep-here tree n r l d h t =
-    record { within = omega arith; before = not-deep tree r l d; found = λ _. lt-ltb 64 (depth tree r) t }
+pub deep-here : (tree : List ℕ) (n r : ℕ) (l : List ℕ) → Depths tree r l → r < n → (v : ℕ) → depth tree r ≡ v → 64 < v → Lowest n (λ k. ltb 64 (depth tree k)) r
+deep-here tree n r l d h v e t =
+    record { within = omega arith; before = not-deep tree r l d; found = λ _. lt-ltb 64 (depth tree r) (omega arith) }
 
 pub deep-nowhere : (tree : List ℕ) (n r : ℕ) (l : List ℕ) → Depths tree r l → r ≡ n → Lowest n (λ k. ltb 64 (depth tree k)) n
 deep-nowhere tree n r l d e =
