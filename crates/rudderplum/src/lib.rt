@@ -31,7 +31,7 @@ fn put_answer(buffer: &mut [u8], a: AnswerWords)
 }
 
 // A judged tree in document 01's words; an accepted one has number 0 and no place.
-fn answer_words(tree: &[u8], judged: Judged) -> AnswerWords
+pub fn answer_words(tree: &[u8], judged: Judged) -> AnswerWords
     ensures { λ r. ⌜ r ≡ answered (now (tree .entry)) judged ⌝ }
 {
     match judged {
