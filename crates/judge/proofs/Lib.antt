@@ -1,0 +1,2 @@
+pub mod RecordCases
+pub mod RoleCases
