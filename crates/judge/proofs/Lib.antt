@@ -1,2 +1,6 @@
+pub mod BelowLaws
+pub mod CountLaws
+pub mod DepthLaws
 pub mod RecordCases
 pub mod RoleCases
+pub mod RowLaws

@@ -2,6 +2,7 @@
 ghost use mathlib.Core.Path.{_≡_};
 ghost use Prim.Native.Nat.{_*_, _≤_};
 ghost use lib.ListN.{length};
+ghost use Rattle.judge.specs.Inner.{Clears};
 ghost use Rattle.judge.specs.Judge.{lengthsOk, buffersOk, lowestFault, lowestDeep, recordsRow, nestingRow, judged, refused, outputAfter, scratchAfter, cleared};
 use records::convert_error::ConvertError;
 use records::convert_error::ConvertErrorKind;
@@ -69,7 +70,7 @@ fn buffers_ok(n: usize, l: Lengths, scratch: usize) -> bool
 fn judge_records(tree: &[u8], text: &[u8], n: usize, scratch: &mut [u8]) -> Judged
     requires { ⌜ (n * 32 ≡ length (now tree)) × (n ≤ 2048) × (n ≤ length (now scratch)) ⌝ }
     requires { ⌜ now scratch ≡ cleared (now scratch) ⌝ }
-    ensures { λ r. ⌜ (r ≡ recordsRow (lowestFault (now (tree .entry)) (now (text .entry))) (nestingRow (lowestDeep (now (tree .entry))))) × (length (now (scratch .exit)) ≡ length (now (scratch .entry))) ⌝ }
+    ensures { λ r. ⌜ (r ≡ recordsRow (lowestFault (now (tree .entry)) (now (text .entry))) (nestingRow (lowestDeep (now (tree .entry))))) × Clears r × (length (now (scratch .exit)) ≡ length (now (scratch .entry))) ⌝ }
 {
     references::count_references(tree, n, scratch);
     let types = types::leading_types(tree, n);

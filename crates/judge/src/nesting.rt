@@ -45,12 +45,20 @@ fn deepest_below(tree: &[u8], depths: &[u8], r: usize) -> u8
     let rc = row.c;
     let rd = row.d;
     let re = row.e;
-    let a = depth_below(depths, r, ra, word(tree, r, 0));
-    let b = depth_below(depths, r, rb, word(tree, r, 1));
-    let c = depth_below(depths, r, rc, word(tree, r, 2));
-    let d = depth_below(depths, r, rd, word(tree, r, 3));
-    let e = depth_below(depths, r, re, word(tree, r, 4));
-    max(a, max(b, max(c, max(d, e))))
+    let wa = word(tree, r, 0);
+    let wb = word(tree, r, 1);
+    let wc = word(tree, r, 2);
+    let wd = word(tree, r, 3);
+    let we = word(tree, r, 4);
+    let a = depth_below(depths, r, ra, wa);
+    let b = depth_below(depths, r, rb, wb);
+    let c = depth_below(depths, r, rc, wc);
+    let d = depth_below(depths, r, rd, wd);
+    let e = depth_below(depths, r, re, we);
+    let de = max(d, e);
+    let ce = max(c, de);
+    let be = max(b, ce);
+    max(a, be)
 }
 
 // The lowest record deeper than 64, or n. Byte k below it becomes how deep record k is.
@@ -61,15 +69,19 @@ pub(crate) fn lowest_deep(tree: &[u8], n: usize, depths: &mut [u8]) -> usize
     let mut r = 0;
     while r < n {
         let below = deepest_below(tree, depths, r);
-        let list = kind(tree, r) == 12;
-        if below > 64 {
-            return r;
+        let next = r + 1;
+        if kind(tree, r) == 12 {
+            if below > 64 {
+                return r;
+            }
+            depths[r] = below;
+        } else {
+            if below >= 64 {
+                return r;
+            }
+            depths[r] = below + 1;
         }
-        if !list & (below == 64) {
-            return r;
-        }
-        depths[r] = if list { below } else { below + 1 };
-        r += 1;
+        r = next;
     }
     n
 }

@@ -41,16 +41,21 @@ fn count_record(tree: &[u8], r: usize, n: usize, counts: &mut [u8])
     ensures { λ _. ⌜ Counted n (λ k. refersFrom (now (tree .entry)) k r) (now (counts .entry)) (now (counts .exit)) ⌝ }
 {
     let row = row_of(shape_of(kind(tree, r), detail(tree, r)));
-    let a = row.a;
-    let b = row.b;
-    let c = row.c;
-    let d = row.d;
-    let e = row.e;
-    count_word(a, word(tree, r, 0), n, counts);
-    count_word(b, word(tree, r, 1), n, counts);
-    count_word(c, word(tree, r, 2), n, counts);
-    count_word(d, word(tree, r, 3), n, counts);
-    count_word(e, word(tree, r, 4), n, counts);
+    let ra = row.a;
+    let rb = row.b;
+    let rc = row.c;
+    let rd = row.d;
+    let re = row.e;
+    let a = word(tree, r, 0);
+    let b = word(tree, r, 1);
+    let c = word(tree, r, 2);
+    let d = word(tree, r, 3);
+    let e = word(tree, r, 4);
+    count_word(ra, a, n, counts);
+    count_word(rb, b, n, counts);
+    count_word(rc, c, n, counts);
+    count_word(rd, d, n, counts);
+    count_word(re, e, n, counts);
 }
 
 // Byte k of a cleared slice becomes the count of references to record k, up to 2.
