@@ -12,6 +12,8 @@ use lib.Seq.{getD-set-same, getD-set-other}
 use borrow.Author.Tests.{lt-ltb, le-ltb, ltb-true, ltb-false, eq-eqb, ne-eqb, eqb-true, eqb-false}
 use Rattle.laws.specs.Fix.{pick}
 use Rattle.laws.specs.Below.{sumBelow}
+use Rattle.laws.proofs.BelowLaws.{sumBelow-more}
+use Rattle.laws.proofs.Tests.{tested}
 use Rattle.records.specs.declared.shape.Role.{Role}
 use Rattle.records.specs.declared.shape.Row.{Row}
 use Rattle.records.specs.Words.{kindOf, detailOf, wordOf, A, B, C, D, E}
@@ -19,12 +21,6 @@ use Rattle.records.specs.Shapes.{refers, shapeOf, rowOf, rowAt}
 use Rattle.records.specs.Rules.{refersTo, refersFrom, references}
 use Rattle.judge.specs.Inner.{cap, Counted, Counts}
 use Rattle.judge.specs.Judge.{cleared}
-use Rattle.judge.proofs.BelowLaws.{sumBelow-more}
-
--- a test is passed or failed
-pub tested : {P : Type 0} (b : Bool) → (b ≡ true → P) → (b ≡ false → P) → P
-tested true y n = y refl
-tested false y n = n refl
 
 pub cap-low : (x : ℕ) → x ≤ 2 → cap x ≡ x
 unfolding cap pick

@@ -17,7 +17,7 @@ use Rattle.records.specs.Words.{kindOf, wordOf, A, B, C, D, E}
 use Rattle.records.specs.Shapes.{rowAt, refers}
 use Rattle.records.specs.Depth.{larger, depthBelow, deepest, depthStep, depth}
 use Rattle.judge.specs.Inner.{Depths, Lowest}
-use Rattle.judge.proofs.CountLaws.{tested}
+use Rattle.laws.proofs.Tests.{tested}
 
 pub larger-second : (x y : ℕ) → x ≤ y → y ≡ larger x y
 unfolding larger

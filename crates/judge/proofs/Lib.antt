@@ -1,4 +1,3 @@
-pub mod BelowLaws
 pub mod CountLaws
 pub mod DepthLaws
 pub mod RecordCases

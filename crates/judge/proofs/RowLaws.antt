@@ -2,7 +2,7 @@
 -- Each picks its arm by the tests that were passed or left. Assumes nothing.
 use mathlib.Core.Path.{_≡_, refl, sym, ap, _∙_}
 use Prim.Native.Nat.{ℕ, _*_, _/_, _%_, _≤_, _<_}
-use mathlib.Core.Bool.{Bool, true, false, not, _&&_}
+use mathlib.Core.Bool.{Bool, true, false, not, _&&_, false≢true}
 use mathlib.Core.List.{List, _++_, append-nil}
 use mathlib.Core.Option.{Option, none as nothing, some}
 use native.Mathlib.Omega.{arith}
@@ -10,7 +10,7 @@ use Rattle.laws.proofs.Tests.{and-left, and-right}
 use lib.Dec.{eqb, leb, ltb}
 use lib.ListN.{length, drop, replicate, length-replicate}
 use lib.Seq.{drop-length}
-use borrow.Author.Tests.{ne-eqb, eqb-true, leb-true}
+use borrow.Author.Tests.{ne-eqb, eqb-true, leb-true, not-true, not-false}
 use Rattle.laws.specs.Fix.{pick}
 use Rattle.laws.specs.Below.{lowest}
 use Rattle.records.specs.Words.{records, none}
@@ -21,9 +21,9 @@ use Rattle.records.specs.declared.convert_error.ConvertErrorKind.the-variants.{
 use Rattle.judge.specs.declared.Lengths.{Lengths}
 use Rattle.judge.specs.declared.Judged.{Judged}
 use Rattle.judge.specs.declared.Judged.the-variants.{Accepted, Refused}
-use Rattle.judge.specs.Inner.{Lowest, Clears}
+use Rattle.judge.specs.Inner.{Lowest, Clears, placed}
 use Rattle.judge.specs.Judge.{lengthsOk, buffersOk, lowestFault, lowestDeep, refused, nestingRow, recordsRow, judged, outputAfter, scratchAfter, cleared}
-use Rattle.judge.proofs.BelowLaws.{lowest-none, lowest-some}
+use Rattle.laws.proofs.BelowLaws.{lowest-none, lowest-some}
 
 pub records-told : (tree : List ℕ) (n : ℕ) → n * 32 ≡ length tree → records tree ≡ n
 records-told tree n e = omega arith
@@ -132,3 +132,14 @@ module _ (tree text : List ℕ) (l : Lengths) (scratch : List ℕ) (answer : Jud
     pub judged-records : room ≡ true → answer ≡ recordsRow (lowestFault tree text) (nestingRow (lowestDeep tree)) → answer ≡ judged tree text l (length scratch)
     unfolding judged pick
     judged-records e a = rw (sym okIs ∙ yes, sym roomIs ∙ e) a
+
+-- an output after a refusal with a place, and after any other answer: b is the code's test
+pub output-cleared : (answer : Judged) (b : Bool) → b ≡ placed answer → b ≡ true → (l m : List ℕ) → m ≡ cleared l → m ≡ outputAfter answer l
+unfolding placed outputAfter pick
+output-cleared Accepted b told e l m q = absurd (false≢true (sym told ∙ e))
+output-cleared (Refused e) b told t l m q = rw (not-true (eqb (e .place) none) (sym told ∙ t)) q
+
+pub output-kept : (answer : Judged) (b : Bool) → b ≡ placed answer → b ≡ false → (l : List ℕ) → l ≡ outputAfter answer l
+unfolding placed outputAfter pick
+output-kept Accepted b told e l = refl
+output-kept (Refused e) b told t l = rw (not-false (eqb (e .place) none) (sym told ∙ t)) refl

@@ -1,15 +1,17 @@
--- What the judge's inner functions are held to: a lowest number, reference counts that stop at 2. Assumes nothing: these are definitions.
+-- What the judge's inner functions are held to: a lowest number, reference counts that stop at 2, depths, answers with a place.
+-- Assumes nothing: these are definitions.
 use mathlib.Core.Path.{_≡_}
 use Prim.Native.Nat.{ℕ, _+_, _*_, _≤_, _<_}
-use mathlib.Core.Bool.{Bool, true, false}
+use mathlib.Core.Bool.{Bool, true, false, not}
 use mathlib.Core.List.{List}
 use lib.Dec.{eqb, ltb}
 use lib.ListN.{length, getD}
 use Rattle.laws.specs.Fix.{pick}
-use Rattle.records.specs.Words.{kindOf}
+use Rattle.records.specs.Words.{kindOf, none}
 use Rattle.records.specs.Rules.{references}
 use Rattle.records.specs.Depth.{depth}
 use Rattle.judge.specs.declared.Judged.{Judged}
+use Rattle.judge.specs.declared.Judged.the-variants.{Accepted, Refused}
 use Rattle.judge.specs.Judge.{scratchAfter, cleared}
 
 -- r is the lowest number below n of which f holds, or n where there is none
@@ -43,6 +45,11 @@ pub record Depths (tree : List ℕ) (r : ℕ) (l : List ℕ) : Type 0 where
   pub depths : (k : ℕ) → k < r → getD l k 0 ≡ depth tree k
   pub low : (k : ℕ) → k < r → getD l k 0 ≤ 64
 
--- the answer accepts or has a place: scratch is left zero
+-- the answer has a place or accepts: scratch is left zero
 pub record Clears (answer : Judged) : Type 0 where
   pub zero : (l : List ℕ) → scratchAfter answer l ≡ cleared l
+
+-- the answer is a refusal with a place
+unfoldable pub placed : Judged → Bool
+placed Accepted = false
+placed (Refused e) = not (eqb (e .place) none)

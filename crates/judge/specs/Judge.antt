@@ -39,6 +39,18 @@ buffersOk n l scratch =
     && leb (32 * n) (l .floats)
     && leb (64 * n) scratch
 
+-- how long the six outputs are
+abbrev pub lengthsOf : List ℕ → List ℕ → List ℕ → List ℕ → List ℕ → List ℕ → Lengths
+lengthsOf instructions variables labels functions strings floats =
+    record {
+      instructions = length instructions;
+      variables = length variables;
+      labels = length labels;
+      functions = length functions;
+      strings = length strings;
+      floats = length floats;
+    }
+
 -- 'a record breaks a rule above or its text leaves the buffer': the 'lowest such record'
 unfoldable pub lowestFault : List ℕ → List ℕ → Option ℕ
 unfolding lowest recordOk

@@ -2,8 +2,8 @@
 ghost use mathlib.Core.Path.{_≡_};
 ghost use Prim.Native.Nat.{_*_, _≤_};
 ghost use lib.ListN.{length};
-ghost use Rattle.judge.specs.Inner.{Clears};
-ghost use Rattle.judge.specs.Judge.{lengthsOk, buffersOk, lowestFault, lowestDeep, recordsRow, nestingRow, judged, refused, outputAfter, scratchAfter, cleared};
+ghost use Rattle.judge.specs.Inner.{Clears, placed};
+ghost use Rattle.judge.specs.Judge.{lengthsOk, buffersOk, lengthsOf, lowestFault, lowestDeep, recordsRow, nestingRow, judged, refused, outputAfter, scratchAfter, cleared};
 use records::convert_error::ConvertError;
 use records::convert_error::ConvertErrorKind;
 use records::words::NONE;
@@ -99,5 +99,69 @@ pub fn judge_tree(tree: &[u8], text: &[u8], l: Lengths, scratch: &mut [u8]) -> J
     clear(scratch);
     let answer = judge_records(tree, text, n, scratch);
     clear(scratch);
+    answer
+}
+
+// The answer is a refusal with a place, which leaves all outputs zero.
+fn has_place(answer: Judged) -> bool
+    ensures { λ r. ⌜ r ≡ placed answer ⌝ }
+{
+    match answer {
+        Judged::Accepted => false,
+        Judged::Refused(e) => {
+            let place = e.place;
+            place != NONE
+        }
+    }
+}
+
+// Zero in every byte of the six outputs.
+fn clear_outputs(
+    instructions: &mut [u8],
+    variables: &mut [u8],
+    labels: &mut [u8],
+    functions: &mut [u8],
+    strings: &mut [u8],
+    floats: &mut [u8],
+)
+    ensures { λ _. ⌜ (now (instructions .exit) ≡ cleared (now (instructions .entry))) × (now (variables .exit) ≡ cleared (now (variables .entry))) × (now (labels .exit) ≡ cleared (now (labels .entry))) × (now (functions .exit) ≡ cleared (now (functions .entry))) × (now (strings .exit) ≡ cleared (now (strings .entry))) × (now (floats .exit) ≡ cleared (now (floats .entry))) ⌝ }
+{
+    clear(instructions);
+    clear(variables);
+    clear(labels);
+    clear(functions);
+    clear(strings);
+    clear(floats);
+}
+
+// Judges a tree. Rows one and two leave every buffer as found, the others leave all of them zero; an accepted tree leaves the
+// outputs as found and scratch zero.
+pub fn judge(
+    tree: &[u8],
+    text: &[u8],
+    instructions: &mut [u8],
+    variables: &mut [u8],
+    labels: &mut [u8],
+    functions: &mut [u8],
+    strings: &mut [u8],
+    floats: &mut [u8],
+    scratch: &mut [u8],
+) -> Judged
+    ensures { λ r. ⌜ r ≡ judged (now (tree .entry)) (now (text .entry)) (lengthsOf (now (instructions .entry)) (now (variables .entry)) (now (labels .entry)) (now (functions .entry)) (now (strings .entry)) (now (floats .entry))) (length (now (scratch .entry))) ⌝ }
+    ensures { λ r. ⌜ (now (instructions .exit) ≡ outputAfter r (now (instructions .entry))) × (now (variables .exit) ≡ outputAfter r (now (variables .entry))) × (now (labels .exit) ≡ outputAfter r (now (labels .entry))) × (now (functions .exit) ≡ outputAfter r (now (functions .entry))) × (now (strings .exit) ≡ outputAfter r (now (strings .entry))) × (now (floats .exit) ≡ outputAfter r (now (floats .entry))) × (now (scratch .exit) ≡ scratchAfter r (now (scratch .entry))) ⌝ }
+{
+    let l = Lengths {
+        instructions: instructions.len(),
+        variables: variables.len(),
+        labels: labels.len(),
+        functions: functions.len(),
+        strings: strings.len(),
+        floats: floats.len(),
+    };
+    let answer = judge_tree(tree, text, l, scratch);
+    if has_place(answer) {
+        clear_outputs(instructions, variables, labels, functions, strings, floats);
+        return answer;
+    }
     answer
 }
