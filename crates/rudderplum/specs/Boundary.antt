@@ -10,8 +10,7 @@ use Rattle.laws.specs.Splice.{splice}
 use Rattle.records.specs.Words.{none}
 use Rattle.records.specs.Answer.{wordsOf}
 use Rattle.records.specs.declared.convert_error.AnswerWords.{AnswerWords}
-use Rattle.judge.specs.Judge.{judged, outputAfter, scratchAfter}
-use Rattle.judge.specs.declared.Lengths.{Lengths}
+use Rattle.judge.specs.Judge.{lengthsOf, judged, outputAfter, scratchAfter}
 use Rattle.judge.specs.declared.Judged.{Judged}
 use Rattle.judge.specs.declared.Judged.the-variants.{Accepted, Refused}
 
@@ -68,14 +67,7 @@ unfoldable pub judgedOf : List ℕ → List ℕ → Lent → Judged
 unfolding judged
 judgedOf tree text b =
     judged tree text
-    (record {
-      instructions = length (b .instructions);
-      variables = length (b .variables);
-      labels = length (b .labels);
-      functions = length (b .functions);
-      strings = length (b .strings);
-      floats = length (b .floats);
-    })
+    (lengthsOf (b .instructions) (b .variables) (b .labels) (b .functions) (b .strings) (b .floats))
     (length (b .scratch))
 
 -- the buffers once a tree was judged: outputs and scratch as the judge leaves them, and the answer's first sixteen bytes
