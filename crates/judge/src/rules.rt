@@ -24,7 +24,10 @@ fn kind_below(tree: &[u8], r: usize, w: u32) -> u8
     ensures { λ v. ⌜ v ≡ kindBelow (now (tree .entry)) r w ⌝ }
 {
     let i = size(w);
-    if i < r { kind(tree, i) } else { 0 }
+    if i < r {
+        return kind(tree, i);
+    }
+    0
 }
 
 // Record a is an item for a list of this role.

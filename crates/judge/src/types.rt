@@ -43,11 +43,17 @@ pub(crate) fn leading_types(tree: &[u8], n: usize) -> usize
 }
 
 // Two texts of m bytes, at p and q, are inside the buffer and the same: the one place where texts are compared.
-pub fn same_text(text: &[u8], p: usize, m: usize, q: usize, n: usize) -> bool
+pub(crate) fn same_text(text: &[u8], p: usize, m: usize, q: usize, n: usize) -> bool
     requires { ⌜ (p < 4294967296) × (m < 4294967296) × (q < 4294967296) × (n < 4294967296) ⌝ }
     ensures { λ v. ⌜ v ≡ sameText (now (text .entry)) p m q n ⌝ }
 {
-    if (p + m > text.len()) | (q + n > text.len()) | (m != n) {
+    if p + m > text.len() {
+        return false;
+    }
+    if q + n > text.len() {
+        return false;
+    }
+    if m != n {
         return false;
     }
     let mut i = 0;

@@ -78,6 +78,14 @@ rows =
     row 64 Text Length Unused Text Length ∷
     []
 
+-- the roles by number, as a table of numbers has them
+abbrev pub roles : List Role
+roles =
+    Unused ∷ Number ∷ Text ∷ Length ∷ Expr ∷ TypeRef ∷ TypeOrNone ∷ Name ∷ Variable ∷ Arguments ∷ Parameters ∷ Body ∷ Item ∷ Rest ∷ []
+
+unfoldable pub roleOf : ℕ → Role
+roleOf n = getD roles n Unused
+
 unfoldable pub rowOf : ℕ → Row
 rowOf shape = getD rows shape (row 0 Unused Unused Unused Unused Unused)
 
