@@ -1,41 +1,32 @@
--- Row 'buffers': the code's tests are those of the definition, in its order. Assumes nothing.
+-- Row 'buffers'.
+-- The code's tests are those of the definition, in its order. Assumes nothing.
 use mathlib.Core.Path.{refl}
 use Rattle.judge.specs.Judge.{buffersOk}
 use borrow.Author.Needs.{needs}
 use Rattle.judge.proofs.buffers_ok.Statement.{statement}
 use Rattle.judge.proofs.buffers_ok.Tie as tie
-use Rattle.judge.proofs.buffers_ok.Reads as reads
-use Rattle.judge.proofs.buffers_ok.Lts as lts
 
--- src/lib.rt:60:6
 mul-result : tie.Need-mul-result
 mul-result c = search needs
 
--- src/lib.rt:61:12
 mul-result-2 : tie.Need-mul-result-2
 mul-result-2 c = search needs
 
--- src/lib.rt:62:12
 mul-result-3 : tie.Need-mul-result-3
 mul-result-3 c = search needs
 
--- src/lib.rt:63:12
 mul-result-4 : tie.Need-mul-result-4
 mul-result-4 c = search needs
 
--- src/lib.rt:64:12
 mul-result-5 : tie.Need-mul-result-5
 mul-result-5 c = search needs
 
--- src/lib.rt:65:12
 mul-result-6 : tie.Need-mul-result-6
 mul-result-6 c = search needs
 
--- src/lib.rt:66:12
 mul-result-7 : tie.Need-mul-result-7
 mul-result-7 c = search needs
 
--- src/lib.rt:56:1
 returns : tie.Need-returns
 unfolding buffersOk
 returns c =

@@ -9,8 +9,6 @@ use borrow.Author.Fill.{fill-none, fill-more}
 use Rattle.judge.proofs.RowLaws.{filled}
 use Rattle.judge.proofs.clear.Statement.{statement}
 use Rattle.judge.proofs.clear.Tie as tie
-use Rattle.judge.proofs.clear.Reads as reads
-use Rattle.judge.proofs.clear.Lts as lts
 
 abbrev Inv-loop : tie.InvT-loop
 Inv-loop buffer₀ i₀ buffer i =
@@ -19,37 +17,30 @@ Inv-loop buffer₀ i₀ buffer i =
 abbrev μ-loop : tie.MeasureT-loop
 μ-loop buffer₀ i₀ buffer i = length buffer₀ - i
 
--- src/lib.rt:42:5
 loop-holds : tie.Need-loop-holds Inv-loop μ-loop
 loop-holds c =
     (fill-none _ 0, omega arith, refl)
 
--- src/lib.rt:43:9
 slice-write-buffer : tie.Need-slice-write-buffer Inv-loop μ-loop
 slice-write-buffer c =
     c .loop-test .taken
 
--- src/lib.rt:44:9
 add-i : tie.Need-add-i Inv-loop μ-loop
 add-i c =
     omega arith
 
--- src/lib.rt:42:5
 loop-less : tie.Need-loop-less Inv-loop μ-loop
 loop-less c =
     omega arith
 
--- src/lib.rt:42:5
 loop-again : tie.Need-loop-again Inv-loop μ-loop
 loop-again c =
     (rw (c .before .loop .inv .0) (fill-more (c .before .loop .i) 0 (c .before .before .args .buffer .now) (omega arith)), omega arith, simp length-set (c .before .loop .inv .2))
 
--- src/lib.rt:38:1
 same-length : tie.Need-same-length Inv-loop μ-loop
 same-length c =
     c .before .loop .inv .2
 
--- src/lib.rt:38:1
 returns : tie.Need-returns Inv-loop μ-loop
 returns c =
     c .before .loop .inv .0 ∙ filled (c .before .loop .i) (c .before .before .args .buffer .now) (omega arith)

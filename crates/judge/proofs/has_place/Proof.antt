@@ -1,26 +1,21 @@
--- A refusal has a place unless it is NONE: by the case that the match met. Assumes nothing.
+-- Whether a refusal has a place.
+-- By the case that the match met. Assumes nothing.
 use mathlib.Core.Path.{sym, ap}
 use Rattle.judge.specs.Inner.{placed}
 use borrow.Author.Needs.{needs}
 use Rattle.judge.proofs.has_place.Statement.{statement}
 use Rattle.judge.proofs.has_place.Tie as tie
-use Rattle.judge.proofs.has_place.Reads as reads
-use Rattle.judge.proofs.has_place.Lts as lts
 
--- src/lib.rt:110:29
 enum-told : tie.Need-enum-told
 enum-told c = search needs
 
--- src/lib.rt:111:25
 enum-known-answer : tie.Need-enum-known-answer
 enum-known-answer c = search needs
 
--- src/lib.rt:106:1
 returns : tie.Need-returns
 unfolding placed
 returns c = sym (ap placed (c .enum-told .given .1))
 
--- src/lib.rt:106:1
 returns-2 : tie.Need-returns-2
 unfolding placed
 returns-2 c = sym (ap placed (c .before .answer .given .1))

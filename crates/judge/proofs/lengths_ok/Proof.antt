@@ -1,12 +1,10 @@
--- Row 'lengths': the code's tests are those of the definition, in its order. Assumes nothing.
+-- Row 'lengths'.
+-- The code's tests are those of the definition, in its order. Assumes nothing.
 use mathlib.Core.Path.{refl}
 use Rattle.judge.specs.Judge.{lengthsOk}
 use Rattle.judge.proofs.lengths_ok.Statement.{statement}
 use Rattle.judge.proofs.lengths_ok.Tie as tie
-use Rattle.judge.proofs.lengths_ok.Reads as reads
-use Rattle.judge.proofs.lengths_ok.Lts as lts
 
--- src/lib.rt:49:1
 returns : tie.Need-returns
 unfolding lengthsOk
 returns c =

@@ -1,4 +1,5 @@
--- A refusal is the one that the definition makes of its kind and place, by unfolding it. Assumes nothing.
+-- A refusal is the one that the definition makes of its kind and place.
+-- By unfolding it. Assumes nothing.
 use mathlib.Core.Path.{refl}
 use Rattle.judge.specs.Judge.{refused}
 use Rattle.judge.proofs.refuse.Statement.{statement}

@@ -1,36 +1,27 @@
--- How deep the record is that a word refers to: each way through the code is a case of the definition. Assumes nothing.
+-- How deep the record is that a word refers to.
+-- Each way through the code is a case of the definition. Assumes nothing.
 use Rattle.judge.proofs.DepthLaws.{below-told, below-later, below-none}
 use borrow.Author.Needs.{needs}
 use Rattle.judge.proofs.nesting.depth_below.Statement.{statement}
 use Rattle.judge.proofs.nesting.depth_below.Tie as tie
-use Rattle.judge.proofs.nesting.depth_below.Reads as reads
-use Rattle.judge.proofs.nesting.depth_below.Lts as lts
-use Rattle.judge.proofs.references.size.Reads as size-reads
-use Rattle.records.proofs.shape.refers_to.Reads as refers-to-reads
 
--- src/nesting.rt:28:8
 refers-to-requires : tie.Need-refers-to-requires
 refers-to-requires c κs = search needs
 
--- src/nesting.rt:29:13
 size-requires : tie.Need-size-requires
 size-requires c κs = search needs
 
--- src/nesting.rt:31:20
 shared-slice-read-result : tie.Need-shared-slice-read-result
 shared-slice-read-result c = search needs
 
--- src/nesting.rt:31:13
 returns : tie.Need-returns
 returns c =
     below-told _ _ _ _ _ _ (c .before .before .before .before .refers-to .ensures) (c .before .before .before .if1 .taken) (c .before .before .size .ensures) (c .before .if2 .taken)
 
--- src/nesting.rt:24:1
 returns-2 : tie.Need-returns-2
 returns-2 c =
     below-later _ _ _ _ _ _ (c .before .before .before .refers-to .ensures) (c .before .before .if1 .taken) (c .before .size .ensures) (c .if2 .left)
 
--- src/nesting.rt:24:1
 returns-3 : tie.Need-returns-3
 returns-3 c =
     below-none _ _ _ _ _ (c .before .refers-to .ensures) (c .if1 .left)

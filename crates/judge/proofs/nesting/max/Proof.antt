@@ -1,16 +1,13 @@
--- The larger of two bytes, by the test that was passed or left. Assumes nothing.
+-- The larger of two bytes.
+-- By the test that was passed or left. Assumes nothing.
 use Rattle.judge.proofs.DepthLaws.{larger-second, larger-first}
 use Rattle.judge.proofs.nesting.max.Statement.{statement}
 use Rattle.judge.proofs.nesting.max.Tie as tie
-use Rattle.judge.proofs.nesting.max.Reads as reads
-use Rattle.judge.proofs.nesting.max.Lts as lts
 
--- src/nesting.rt:17:1
 returns : tie.Need-returns
 returns c =
     larger-second _ _ (c .if1 .taken)
 
--- src/nesting.rt:17:1
 returns-2 : tie.Need-returns-2
 returns-2 c =
     larger-first _ _ (c .if1 .left)

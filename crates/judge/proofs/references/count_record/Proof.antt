@@ -1,93 +1,84 @@
--- The counts of one record: its row and words are read, and the five counts follow one another. Assumes nothing.
+-- The counts of one record: one more for each record that it refers to.
+-- Its row and its words are read, and the five counts follow one another (`counted-words`). Assumes nothing.
 use native.Mathlib.Omega.{arith}
 use Rattle.judge.proofs.CountLaws.{counted-words, row-told}
 use borrow.Author.Needs.{needs}
 use Rattle.judge.proofs.references.count_record.Statement.{statement}
 use Rattle.judge.proofs.references.count_record.Tie as tie
-use Rattle.judge.proofs.references.count_record.Reads as reads
-use Rattle.judge.proofs.references.count_record.Lts as lts
-use Rattle.judge.proofs.references.count_word.Reads as count-word-reads
-use Rattle.records.proofs.shape.row_of.Reads as row-of-reads
-use Rattle.records.proofs.shape.shape_of.Reads as shape-of-reads
-use Rattle.records.proofs.words.detail.Reads as detail-reads
-use Rattle.records.proofs.words.kind.Reads as kind-reads
-use Rattle.records.proofs.words.word.Reads as word-reads
 
--- src/references.rt:43:31
 kind-requires : tie.Need-kind-requires
 kind-requires c κs = search needs
 
--- src/references.rt:43:46
 detail-requires : tie.Need-detail-requires
 detail-requires c κs = search needs
 
--- src/references.rt:43:22
 shape-of-requires : tie.Need-shape-of-requires
 shape-of-requires c κs = search needs
 
--- src/references.rt:43:9
 row-of-requires : tie.Need-row-of-requires
 row-of-requires c κs = search needs
 
--- src/references.rt:49:9
 word-requires : tie.Need-word-requires
 word-requires c κs = search needs
 
--- src/references.rt:50:9
 word-requires-2 : tie.Need-word-requires-2
 word-requires-2 c κs = search needs
 
--- src/references.rt:51:9
 word-requires-3 : tie.Need-word-requires-3
 word-requires-3 c κs = search needs
 
--- src/references.rt:52:9
 word-requires-4 : tie.Need-word-requires-4
 word-requires-4 c κs = search needs
 
--- src/references.rt:53:9
 word-requires-5 : tie.Need-word-requires-5
 word-requires-5 c κs = search needs
 
--- src/references.rt:54:5
 count-word-requires : tie.Need-count-word-requires
 count-word-requires c κs = search needs
 
--- src/references.rt:55:5
 count-word-requires-2 : tie.Need-count-word-requires-2
 count-word-requires-2 c κs =
     omega (arith, c .before .before .before .before .before .before .before .before .before .before .before .before .before .before .before .before .pre .1, c .before .before .before .count-word .ensures .same)
 
--- src/references.rt:56:5
 count-word-requires-3 : tie.Need-count-word-requires-3
 count-word-requires-3 c κs =
     omega (arith, c .before .before .before .before .before .before .before .before .before .before .before .before .before .before .before .before .before .before .before .before .pre .1, c .before .before .before .before .before .before .before .count-word .ensures .same, c .before .before .before .count-word2 .ensures .same)
 
--- src/references.rt:57:5
 count-word-requires-4 : tie.Need-count-word-requires-4
 count-word-requires-4 c κs =
     omega (arith, c .before .before .before .before .before .before .before .before .before .before .before .before .before .before .before .before .before .before .before .before .before .before .before .before .pre .1, c .before .before .before .before .before .before .before .before .before .before .before .count-word .ensures .same, c .before .before .before .before .before .before .before .count-word2 .ensures .same, c .before .before .before .count-word3 .ensures .same)
 
--- src/references.rt:58:5
 count-word-requires-5 : tie.Need-count-word-requires-5
 count-word-requires-5 c κs =
     omega (arith, c .before .before .before .before .before .before .before .before .before .before .before .before .before .before .before .before .before .before .before .before .before .before .before .before .before .before .before .before .pre .1, c .before .before .before .before .before .before .before .before .before .before .before .before .before .before .before .count-word .ensures .same, c .before .before .before .before .before .before .before .before .before .before .before .count-word2 .ensures .same, c .before .before .before .before .before .before .before .count-word3 .ensures .same, c .before .before .before .count-word4 .ensures .same)
 
--- src/references.rt:39:1
 same-length : tie.Need-same-length
 same-length c = search needs
 
--- src/references.rt:39:1
 returns : tie.Need-returns
 returns c =
+    let at-count-word5 = c .before .before in
+    let at-count-word4 = at-count-word5 .before .before .before .before in
+    let at-count-word3 = at-count-word4 .before .before .before .before in
+    let at-count-word2 = at-count-word3 .before .before .before .before in
+    let at-count-word = at-count-word2 .before .before .before .before in
+    let at-word5 = at-count-word .before .before in
+    let at-word4 = at-word5 .before in
+    let at-word3 = at-word4 .before in
+    let at-word2 = at-word3 .before in
+    let at-word = at-word2 .before in
+    let at-row-of = at-word .before in
+    let at-shape-of = at-row-of .before in
+    let at-detail = at-shape-of .before in
+    let at-kind = at-detail .before in
     counted-words _ _ _ _ _ _ _ _ _ _ _ _ _ _ _
-    (row-told _ _ _ _ _ _ (c .before .before .before .before .before .before .before .before .before .before .before .before .before .before .before .before .before .before .before .before .before .before .before .before .before .before .before .before .kind .ensures) (c .before .before .before .before .before .before .before .before .before .before .before .before .before .before .before .before .before .before .before .before .before .before .before .before .before .before .before .detail .ensures) (c .before .before .before .before .before .before .before .before .before .before .before .before .before .before .before .before .before .before .before .before .before .before .before .before .before .before .shape-of .ensures .0) (c .before .before .before .before .before .before .before .before .before .before .before .before .before .before .before .before .before .before .before .before .before .before .before .before .before .row-of .ensures))
-    (c .before .before .before .before .before .before .before .before .before .before .before .before .before .before .before .before .before .before .before .before .before .before .before .before .word .ensures) (c .before .before .before .before .before .before .before .before .before .before .before .before .before .before .before .before .before .before .before .before .before .before .before .word2 .ensures) (c .before .before .before .before .before .before .before .before .before .before .before .before .before .before .before .before .before .before .before .before .before .before .word3 .ensures) (c .before .before .before .before .before .before .before .before .before .before .before .before .before .before .before .before .before .before .before .before .before .word4 .ensures) (c .before .before .before .before .before .before .before .before .before .before .before .before .before .before .before .before .before .before .before .before .word5 .ensures)
-    (c .before .before .before .before .before .before .before .before .before .before .before .before .before .before .before .before .before .before .count-word .ensures)
-    (c .before .before .before .before .before .before .before .before .before .before .before .before .before .before .count-word2 .ensures)
-    (c .before .before .before .before .before .before .before .before .before .before .count-word3 .ensures)
-    (c .before .before .before .before .before .before .count-word4 .ensures)
-    (c .before .before .count-word5 .ensures)
+    (row-told _ _ _ _ _ _ (at-kind .kind .ensures) (at-detail .detail .ensures) (at-shape-of .shape-of .ensures .0) (at-row-of .row-of .ensures))
+    (at-word .word .ensures) (at-word2 .word2 .ensures) (at-word3 .word3 .ensures) (at-word4 .word4 .ensures) (at-word5 .word5 .ensures)
+    (at-count-word .count-word .ensures)
+    (at-count-word2 .count-word2 .ensures)
+    (at-count-word3 .count-word3 .ensures)
+    (at-count-word4 .count-word4 .ensures)
+    (at-count-word5 .count-word5 .ensures)
 
 pub count-record-spec : {M : Type 1} → statement M
 count-record-spec =

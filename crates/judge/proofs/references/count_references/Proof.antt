@@ -10,9 +10,6 @@ use Rattle.judge.specs.Inner.{cap}
 use Rattle.judge.proofs.CountLaws.{counts-none, counts-more, counts-all}
 use Rattle.judge.proofs.references.count_references.Statement.{statement}
 use Rattle.judge.proofs.references.count_references.Tie as tie
-use Rattle.judge.proofs.references.count_references.Reads as reads
-use Rattle.judge.proofs.references.count_references.Lts as lts
-use Rattle.judge.proofs.references.count_record.Reads as count-record-reads
 
 abbrev Inv-loop : tie.InvT-loop
 Inv-loop tree n counts₀ r₀ counts r =
@@ -21,37 +18,30 @@ Inv-loop tree n counts₀ r₀ counts r =
 abbrev μ-loop : tie.MeasureT-loop
 μ-loop tree n counts₀ r₀ counts r = n - r
 
--- src/references.rt:63:5
 loop-holds : tie.Need-loop-holds Inv-loop μ-loop
 loop-holds c =
     (omega arith, refl, counts-none _ _ _ (c .before .before .pre .1) (c .before .before .pre .0 .1))
 
--- src/references.rt:64:9
 count-record-requires : tie.Need-count-record-requires Inv-loop μ-loop
 count-record-requires c κs =
     (omega arith, omega arith)
 
--- src/references.rt:65:9
 add-r : tie.Need-add-r Inv-loop μ-loop
 add-r c =
     omega arith
 
--- src/references.rt:63:5
 loop-less : tie.Need-loop-less Inv-loop μ-loop
 loop-less c =
     omega arith
 
--- src/references.rt:63:5
 loop-again : tie.Need-loop-again Inv-loop μ-loop
 loop-again c =
     (omega arith, c .before .before .count-record .ensures .same ∙ c .before .before .before .before .before .loop .inv .1, counts-more _ _ _ _ _ (c .before .before .before .before .before .loop .inv .2) (c .before .before .count-record .ensures))
 
--- src/references.rt:57:1
 same-length : tie.Need-same-length Inv-loop μ-loop
 same-length c =
     omega arith
 
--- src/references.rt:57:1
 returns : tie.Need-returns Inv-loop μ-loop
 returns c =
     let last : c .before .loop .r ≡ c .before .before .before .before .args .n = omega arith in
