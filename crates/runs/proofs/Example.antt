@@ -143,7 +143,7 @@ guard-code : codeOf (converted (convert program false) .funcs) 2
 unfolding converted codeOf convert program ask bound guard either loop guardBody eitherBody rate typeOf loopBody
 guard-code = refl
 
--- ---- the guard, walked: of rate 3 `ask` is asked, and its 5 becomes a Bool's 1; of rate 0 nothing is asked. Other variables begin with 7
+-- ---- the guard, walked: of rate 3 `ask` is asked, and its 5 becomes a Bool's 1; of rate 0 nothing is asked; of rate 2 `ask` says no. Other variables begin with 7
 
 guardTree : ℕ → Out ℕ
 guardTree r = treeRun program (functions (get-all-functions (program .functions) [])) guard rule (asked rule) guardBody (r ∷ []) 1
@@ -166,6 +166,14 @@ guard-tree-0 = (refl, refl)
 guard-run-0 : (callsB (guardRun 0) ≡ []) × (endB (guardRun 0) ≡ some (returns 0))
 unfolding guardRun program ask bound guard either loop guardBody eitherBody rate typeOf loopBody rule number compute answer odd pick asked converted codeOf convert bodyRun steps step fetch execute putTo dropTo branchTo finishWith operand datum read literalType content write labelPlace isLabel bodyOf texts callsB endB
 guard-run-0 = (refl, refl)
+
+guard-tree-2 : (callsT (guardTree 2) ≡ (50, (0, 2) ∷ []) ∷ []) × (endT (guardTree 2) ≡ some (returns 0))
+unfolding guardTree program ask bound guard either loop guardBody eitherBody rate typeOf loopBody functions get-all-functions rule number compute answer odd pick asked treeRun parametersKnown parameterValues set runStatement bindS bindO giveBack evalExpr typed scopeOf Tree.variables evalBinary evalAnd toBool answered bindG test evalOther fit fitLiteral fitComputed read readAll literalType content bare callWith fitArguments get-type common-type unwrapOr resolve-call parameterType callsT endT
+guard-tree-2 = (refl, refl)
+
+guard-run-2 : (callsB (guardRun 2) ≡ (50, (0, 2) ∷ []) ∷ []) × (endB (guardRun 2) ≡ some (returns 0))
+unfolding guardRun program ask bound guard either loop guardBody eitherBody rate typeOf loopBody rule number compute answer odd pick asked converted codeOf convert bodyRun steps step fetch execute putTo dropTo branchTo finishWith operand datum read literalType content write labelPlace isLabel bodyOf texts callsB endB
+guard-run-2 = (refl, refl)
 
 -- ---- the other way round: of rate 0 `ask` is asked, of rate 3 nothing
 
