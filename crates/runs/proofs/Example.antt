@@ -18,8 +18,8 @@ use Rattle.conversion.specs.Functions.{get-all-functions}
 use Rattle.conversion.specs.Converter.{convert}
 use Rattle.runs.specs.TreeRun as Tree
 use Rattle.runs.specs.Rule.{content, literalType, read, readAll, Answer, gives, halt, Truth, holds, fails, Typed, Calls, Content, IntContent, FloatContent, BoolContent, StringContent, NullContent, Rule, asked, Ending, passed, returns}
-use Rattle.runs.specs.TreeRun.{Out, treeRun, parametersKnown, parameterValues, set, runStatement, bindS, bindO, bindT, testO, giveBack, evalExpr, typed, typedO, scopeOf, evalBinary, evalAnd, evalOr, toBool, answered, bindG, test, evalOther, fit, fitLiteral, fitComputed, bare, callWith, fitArguments, forOver, forInt, forLoop, rounds, typeIn, knownAfter, callStatement, callOnly}
-use Rattle.runs.specs.BodyRun.{Spot, bodyRun, steps, step, fetch, execute, putTo, dropTo, branchTo, finishWith, operand, datum, write, labelPlace, isLabel}
+use Rattle.runs.specs.TreeRun.{Out, treeRun, parametersKnown, parameterValues, set, runStatement, bindS, bindO, bindT, testO, giveBack, evalExpr, typed, typedO, scopeOf, evalBinary, evalAnd, evalOr, toBool, answered, bindG, test, evalOther, replied, handed, fit, fitLiteral, fitComputed, bare, callWith, fitArguments, forOver, forInt, forLoop, rounds, typeIn, knownAfter, callStatement, callOnly}
+use Rattle.runs.specs.BodyRun.{Spot, bodyRun, steps, step, fetch, execute, putTo, dropTo, putReply, dropReply, branchTo, finishWith, operand, datum, write, labelPlace, isLabel}
 use Rattle.runs.specs.Shared.{bit, callsT, endT, callsB, endB, bodyOf, texts}
 
 -- ---- the program: types 0 (Int) and 6 (Bool); two external functions, `a` (ask, record 50) and `b` (bound, record 51)
@@ -143,7 +143,7 @@ guard-code : codeOf (converted (convert program false) .funcs) 2
 unfolding converted codeOf convert program ask bound guard either loop guardBody eitherBody rate typeOf loopBody
 guard-code = refl
 
--- ---- the guard, walked: of rate 3 `ask` is asked, and its 5 becomes a Bool's 1; of rate 0 nothing is asked. Other variables begin with 7
+-- ---- the guard, walked: of rate 3 `ask` is asked, and its 5 becomes a Bool's 1; of rate 0 nothing is asked; of rate 2 `ask` says no. Other variables begin with 7
 
 guardTree : ℕ → Out ℕ
 guardTree r = treeRun program (functions (get-all-functions (program .functions) [])) guard rule (asked rule) guardBody (r ∷ []) 1
@@ -152,20 +152,28 @@ guardRun : ℕ → Spot ℕ
 guardRun r = bodyRun rule (asked rule) (bodyOf guard (codeOf (converted (convert program false) .funcs) 2) (converted (convert program false))) (λ x. pick (eqb x 0) r 7) 10
 
 guard-tree-3 : (callsT (guardTree 3) ≡ (50, (0, 3) ∷ []) ∷ []) × (endT (guardTree 3) ≡ some (returns 1))
-unfolding guardTree program ask bound guard either loop guardBody eitherBody rate typeOf loopBody functions get-all-functions rule number compute answer odd pick asked treeRun parametersKnown parameterValues set runStatement bindS bindO giveBack evalExpr typed scopeOf Tree.variables evalBinary evalAnd toBool answered bindG test evalOther fit fitLiteral fitComputed read readAll literalType content bare callWith fitArguments get-type common-type unwrapOr resolve-call parameterType callsT endT
+unfolding guardTree program ask bound guard either loop guardBody eitherBody rate typeOf loopBody functions get-all-functions rule number compute answer odd pick asked treeRun parametersKnown parameterValues set runStatement bindS bindO giveBack evalExpr typed scopeOf Tree.variables evalBinary evalAnd toBool answered bindG test evalOther replied handed fit fitLiteral fitComputed read readAll literalType content bare callWith fitArguments get-type common-type unwrapOr resolve-call parameterType callsT endT
 guard-tree-3 = (refl, refl)
 
 guard-run-3 : (callsB (guardRun 3) ≡ (50, (0, 3) ∷ []) ∷ []) × (endB (guardRun 3) ≡ some (returns 1))
-unfolding guardRun program ask bound guard either loop guardBody eitherBody rate typeOf loopBody rule number compute answer odd pick asked converted codeOf convert bodyRun steps step fetch execute putTo dropTo branchTo finishWith operand datum read literalType content write labelPlace isLabel bodyOf texts callsB endB
+unfolding guardRun program ask bound guard either loop guardBody eitherBody rate typeOf loopBody rule number compute answer odd pick asked converted codeOf convert bodyRun steps step fetch execute putTo dropTo putReply dropReply branchTo finishWith operand datum read literalType content write labelPlace isLabel bodyOf texts callsB endB
 guard-run-3 = (refl, refl)
 
 guard-tree-0 : (callsT (guardTree 0) ≡ []) × (endT (guardTree 0) ≡ some (returns 0))
-unfolding guardTree program ask bound guard either loop guardBody eitherBody rate typeOf loopBody functions get-all-functions rule number compute answer odd pick asked treeRun parametersKnown parameterValues set runStatement bindS bindO giveBack evalExpr typed scopeOf Tree.variables evalBinary evalAnd toBool answered bindG test evalOther fit fitLiteral fitComputed read readAll literalType content bare callWith fitArguments get-type common-type unwrapOr resolve-call parameterType callsT endT
+unfolding guardTree program ask bound guard either loop guardBody eitherBody rate typeOf loopBody functions get-all-functions rule number compute answer odd pick asked treeRun parametersKnown parameterValues set runStatement bindS bindO giveBack evalExpr typed scopeOf Tree.variables evalBinary evalAnd toBool answered bindG test evalOther replied handed fit fitLiteral fitComputed read readAll literalType content bare callWith fitArguments get-type common-type unwrapOr resolve-call parameterType callsT endT
 guard-tree-0 = (refl, refl)
 
 guard-run-0 : (callsB (guardRun 0) ≡ []) × (endB (guardRun 0) ≡ some (returns 0))
-unfolding guardRun program ask bound guard either loop guardBody eitherBody rate typeOf loopBody rule number compute answer odd pick asked converted codeOf convert bodyRun steps step fetch execute putTo dropTo branchTo finishWith operand datum read literalType content write labelPlace isLabel bodyOf texts callsB endB
+unfolding guardRun program ask bound guard either loop guardBody eitherBody rate typeOf loopBody rule number compute answer odd pick asked converted codeOf convert bodyRun steps step fetch execute putTo dropTo putReply dropReply branchTo finishWith operand datum read literalType content write labelPlace isLabel bodyOf texts callsB endB
 guard-run-0 = (refl, refl)
+
+guard-tree-2 : (callsT (guardTree 2) ≡ (50, (0, 2) ∷ []) ∷ []) × (endT (guardTree 2) ≡ some (returns 0))
+unfolding guardTree program ask bound guard either loop guardBody eitherBody rate typeOf loopBody functions get-all-functions rule number compute answer odd pick asked treeRun parametersKnown parameterValues set runStatement bindS bindO giveBack evalExpr typed scopeOf Tree.variables evalBinary evalAnd toBool answered bindG test evalOther replied handed fit fitLiteral fitComputed read readAll literalType content bare callWith fitArguments get-type common-type unwrapOr resolve-call parameterType callsT endT
+guard-tree-2 = (refl, refl)
+
+guard-run-2 : (callsB (guardRun 2) ≡ (50, (0, 2) ∷ []) ∷ []) × (endB (guardRun 2) ≡ some (returns 0))
+unfolding guardRun program ask bound guard either loop guardBody eitherBody rate typeOf loopBody rule number compute answer odd pick asked converted codeOf convert bodyRun steps step fetch execute putTo dropTo putReply dropReply branchTo finishWith operand datum read literalType content write labelPlace isLabel bodyOf texts callsB endB
+guard-run-2 = (refl, refl)
 
 -- ---- the other way round: of rate 0 `ask` is asked, of rate 3 nothing
 
@@ -176,11 +184,11 @@ eitherRun : ℕ → Spot ℕ
 eitherRun r = bodyRun rule (asked rule) (bodyOf either (codeOf (converted (convert program false) .funcs) 4) (converted (convert program false))) (λ x. pick (eqb x 0) r 7) 12
 
 either-tree : (callsT (eitherTree 0) ≡ (50, (0, 0) ∷ []) ∷ []) × (endT (eitherTree 0) ≡ some (returns 0)) × (callsT (eitherTree 3) ≡ []) × (endT (eitherTree 3) ≡ some (returns 1))
-unfolding eitherTree program ask bound guard either loop guardBody eitherBody rate typeOf loopBody functions get-all-functions rule number compute answer odd pick asked treeRun parametersKnown parameterValues set runStatement bindS bindO giveBack evalExpr typed scopeOf Tree.variables evalBinary evalOr toBool answered bindG test evalOther fit fitLiteral fitComputed read readAll literalType content bare callWith fitArguments get-type common-type unwrapOr resolve-call parameterType callsT endT
+unfolding eitherTree program ask bound guard either loop guardBody eitherBody rate typeOf loopBody functions get-all-functions rule number compute answer odd pick asked treeRun parametersKnown parameterValues set runStatement bindS bindO giveBack evalExpr typed scopeOf Tree.variables evalBinary evalOr toBool answered bindG test evalOther replied handed fit fitLiteral fitComputed read readAll literalType content bare callWith fitArguments get-type common-type unwrapOr resolve-call parameterType callsT endT
 either-tree = (refl, refl, refl, refl)
 
 either-run : (callsB (eitherRun 0) ≡ (50, (0, 0) ∷ []) ∷ []) × (endB (eitherRun 0) ≡ some (returns 0)) × (callsB (eitherRun 3) ≡ []) × (endB (eitherRun 3) ≡ some (returns 1))
-unfolding eitherRun program ask bound guard either loop guardBody eitherBody rate typeOf loopBody rule number compute answer odd pick asked converted codeOf convert bodyRun steps step fetch execute putTo dropTo branchTo finishWith operand datum read literalType content write labelPlace isLabel bodyOf texts callsB endB
+unfolding eitherRun program ask bound guard either loop guardBody eitherBody rate typeOf loopBody rule number compute answer odd pick asked converted codeOf convert bodyRun steps step fetch execute putTo dropTo putReply dropReply branchTo finishWith operand datum read literalType content write labelPlace isLabel bodyOf texts callsB endB
 either-run = (refl, refl, refl, refl)
 
 -- ---- the loop: the bound is asked before each turn; after turn 1 `continue` goes on with the addition; three tests, two turns
@@ -195,14 +203,14 @@ loopRun : ℕ → Spot ℕ
 loopRun n = bodyRun rule (asked rule) (bodyOf loop (codeOf (converted (convert program false) .funcs) 3) (converted (convert program false))) (λ x. 7) n
 
 loop-tree : (callsT (loopTree 3) ≡ loopCalls) × (endT (loopTree 3) ≡ some passed)
-unfolding loopTree loopCalls program ask bound guard either loop guardBody eitherBody rate typeOf loopBody functions get-all-functions rule number compute answer odd pick asked treeRun parametersKnown parameterValues set runStatement bindS bindO giveBack evalExpr typed scopeOf Tree.variables evalBinary evalAnd toBool answered bindG test evalOther fit fitLiteral fitComputed read readAll literalType content bare callWith fitArguments get-type common-type unwrapOr resolve-call parameterType testO bindT typedO forOver forInt forLoop rounds onInt typeIn knownAfter callStatement callOnly asCall callsT endT
+unfolding loopTree loopCalls program ask bound guard either loop guardBody eitherBody rate typeOf loopBody functions get-all-functions rule number compute answer odd pick asked treeRun parametersKnown parameterValues set runStatement bindS bindO giveBack evalExpr typed scopeOf Tree.variables evalBinary evalAnd toBool answered bindG test evalOther replied handed fit fitLiteral fitComputed read readAll literalType content bare callWith fitArguments get-type common-type unwrapOr resolve-call parameterType testO bindT typedO forOver forInt forLoop rounds onInt typeIn knownAfter callStatement callOnly asCall callsT endT
 loop-tree = (refl, refl)
 
 loop-run : (callsB (loopRun 60) ≡ loopCalls) × (endB (loopRun 60) ≡ some passed)
-unfolding loopRun loopCalls program ask bound guard either loop guardBody eitherBody rate typeOf loopBody rule number compute answer odd pick asked converted codeOf convert bodyRun steps step fetch execute putTo dropTo branchTo finishWith operand datum read literalType content write labelPlace isLabel bodyOf texts callsB endB
+unfolding loopRun loopCalls program ask bound guard either loop guardBody eitherBody rate typeOf loopBody rule number compute answer odd pick asked converted codeOf convert bodyRun steps step fetch execute putTo dropTo putReply dropReply branchTo finishWith operand datum read literalType content write labelPlace isLabel bodyOf texts callsB endB
 loop-run = (refl, refl)
 
 -- out of turns a run is unfinished, with the calls so far
 loop-tree-2 : endT (loopTree 2) ≡ none
-unfolding loopTree program ask bound guard either loop guardBody eitherBody rate typeOf loopBody functions get-all-functions rule number compute answer odd pick asked treeRun parametersKnown parameterValues set runStatement bindS bindO giveBack evalExpr typed scopeOf Tree.variables evalBinary evalAnd toBool answered bindG test evalOther fit fitLiteral fitComputed read readAll literalType content bare callWith fitArguments get-type common-type unwrapOr resolve-call parameterType testO bindT typedO forOver forInt forLoop rounds onInt typeIn knownAfter callStatement callOnly asCall callsT endT
+unfolding loopTree program ask bound guard either loop guardBody eitherBody rate typeOf loopBody functions get-all-functions rule number compute answer odd pick asked treeRun parametersKnown parameterValues set runStatement bindS bindO giveBack evalExpr typed scopeOf Tree.variables evalBinary evalAnd toBool answered bindG test evalOther replied handed fit fitLiteral fitComputed read readAll literalType content bare callWith fitArguments get-type common-type unwrapOr resolve-call parameterType testO bindT typedO forOver forInt forLoop rounds onInt typeIn knownAfter callStatement callOnly asCall callsT endT
 loop-tree-2 = refl

@@ -30,7 +30,7 @@ use Rattle.runs.proofs.Invert.{Prefix, Grow, grow-refl, grow-trans, Spl
 use Rattle.runs.proofs.Texts.{kinds-once, float-refl}
 use Rattle.runs.proofs.Names.{known, typing, resolving, commoning, Scoped, scoped-mono, Frame, Agree, agree-frame}
 use Rattle.runs.proofs.Steps.{castSteps-is, refloatSteps-is, fitSteps-is, argSteps-is, unarySteps-is, andSteps-is, orSteps-is, castFirstSteps-is, otherSteps-is, binarySteps-is, unaryExprSteps-is, floatSteps, floatSteps-is, stringSteps, stringSteps-is, callSteps-is, valueSteps-is, functionSteps-is, fits-is, callValue-is, castValue-is}
-use Rattle.runs.proofs.Sim.{Ctx, body, Low, Lows, low-mono, lows-mono, Within, within-back, Num, num-same, num-of, nameOf, num-count, float-at, string-at, Goes, stay, go1, goes, go-label, holding, holdings, hold-frame, holds-frame, SimE, gets, stops, sim-before, sim-after, sim-frame, sim-bind, sim-put, sim-test, Good, Sound, Sounds, good-as}
+use Rattle.runs.proofs.Sim.{Ctx, body, Low, Lows, low-mono, lows-mono, Within, within-back, Num, num-same, num-of, nameOf, num-count, float-at, string-at, Goes, stay, go1, goes, go-label, holding, holdings, hold-frame, holds-frame, SimE, gets, stops, sim-before, sim-after, sim-frame, sim-bind, sim-put, sim-reply, sim-test, Good, Sound, Sounds, good-as}
 
 none-emitted : (s : State) (u : Unit {0}) (c : Code) (t : State) → emitArgs [] s ≡ made u c t → (c ≡ []) × (t ≡ s)
 unfolding emitArgs
@@ -487,7 +487,7 @@ module _ {W : Type 0} (X : Ctx W) where
         sim = λ w g1 k ρ σ h ag. rw (append-assoc ca _ k, append-assoc fs _ k, append-assoc (argsOf us) _ k) λ pl.
             sim-bind X _ (le-refl _) (G .sim (within-back X (grow-trans gv (H .grow)) w) g1 _ ρ σ h ag pl) λ ρ1 h1 f1.
             sim-bind X _ n1 (H .sim (lows-mono s1 (withVar y s1) os gv (G .low g1)) w _ ρ1 h1) λ ρ2 h2 f2.
-            sim-before X (push (X .rule) (X .answers) (body X) us _ [] ρ2 h2) (sim-put X (nextVar y s1) _ _ (G .grow .vars) refl);
+            sim-before X (push (X .rule) (X .answers) (body X) us _ [] ρ2 h2) (sim-reply X (nextVar y s1) _ _ (G .grow .vars) refl);
       }
 
   cast-made : {vs : List Variable} {z : ℕ → ℕ} {ev : Values W → Calls W → Got W (List (Datum W))} {s s1 : State} {o : Operand} {os : List Operand} {ca : Code} (y u : ℕ)

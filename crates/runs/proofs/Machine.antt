@@ -11,7 +11,7 @@ use native.Mathlib.Omega.{arith}
 use lib.Dec.{eqb, T, eqb→eq, eqb-refl}
 use Rattle.laws.specs.Fix.{pick}
 use Rattle.conversion.specs.Ir.{VarId, Operand, OVar, OInt, OFloat, OBool, ODataAddress, ONull, Instr, Copy, Unary, Binary, Cast, Zero, Arg, Call, Label, Jump, JumpIfNot, Return, Comment}
-use Rattle.runs.specs.Rule.{Answer, gives, halt, Truth, holds, fails, halts, Typed, Calls, Rule, Answers, Datum, constant, computed, read, readAll, Ending, passed, returns, stopped}
+use Rattle.runs.specs.Rule.{Answer, gives, halt, Truth, holds, fails, halts, Typed, Calls, Rule, Reply, comes, pending, Answers, Datum, constant, computed, read, readAll, Ending, passed, returns, stopped}
 use Rattle.runs.specs.BodyRun.{Body, Vars, write, datum, isLabel, operand}
 use Rattle.runs.specs.Shared.{bit}
 
@@ -24,6 +24,7 @@ Queue W = List (Typed W)
 pub data Cfg (W : Type 0) : Type 0 where
   at : Code → Queue W → Vars W → Calls W → Cfg W
   ended : Ending W → Calls W → Cfg W
+  waiting : Calls W → Cfg W
 
 -- ---- tests on numbers
 
@@ -148,6 +149,14 @@ unfoldable pub pass : {W : Type 0} → Answer W → Code → Queue W → Vars W 
 pass (gives v) r q ρ h = at r q ρ h
 pass halt r q ρ h = ended stopped h
 
+unfoldable pub putR : {W : Type 0} → Reply W → ℕ → Code → Queue W → Vars W → Calls W → Cfg W
+putR (comes u) d r q ρ h = put u d r q ρ h
+putR pending d r q ρ h = waiting h
+
+unfoldable pub passR : {W : Type 0} → Reply W → Code → Queue W → Vars W → Calls W → Cfg W
+passR (comes u) r q ρ h = pass u r q ρ h
+passR pending r q ρ h = waiting h
+
 unfoldable pub branch : {W : Type 0} → Truth → Code → Code → Queue W → Vars W → Calls W → Cfg W
 branch holds r s q ρ h = at r q ρ h
 branch fails r s q ρ h = at s q ρ h
@@ -169,8 +178,8 @@ module _ {W : Type 0} (R : Rule W) (A : Answers W) (B : Body) where
   exec (Cast d a) r q ρ h = put (R .cast (d .ty) (operand R A B ρ a)) (d .id) r q ρ h
   exec (Zero d) r q ρ h = put (R .zero (d .ty)) (d .id) r q ρ h
   exec (Arg a) r q ρ h = at r (q ++ (operand R A B ρ a ∷ [])) ρ h
-  exec (Call (some d) f) r q ρ h = put (A h f q .0) (d .id) r [] ρ (h ++ A h f q .1)
-  exec (Call none f) r q ρ h = pass (A h f q .0) r [] ρ (h ++ A h f q .1)
+  exec (Call (some d) f) r q ρ h = putR (A h f q .0) (d .id) r [] ρ (h ++ A h f q .1)
+  exec (Call none f) r q ρ h = passR (A h f q .0) r [] ρ (h ++ A h f q .1)
   exec (Label l) r q ρ h = at r q ρ h
   exec (Jump l) r q ρ h = at (goto (B .instrs) l) q ρ h
   exec (JumpIfNot a l) r q ρ h = branch (R .truth (operand R A B ρ a)) r (goto (B .instrs) l) q ρ h
@@ -181,6 +190,7 @@ module _ {W : Type 0} (R : Rule W) (A : Answers W) (B : Body) where
   step (at [] q ρ h) = ended passed h
   step (at (i ∷ r) q ρ h) = exec i r q ρ h
   step (ended e h) = ended e h
+  step (waiting h) = waiting h
 
   unfoldable pub steps : ℕ → Cfg W → Cfg W
   steps zero c = c

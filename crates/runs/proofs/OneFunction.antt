@@ -18,7 +18,7 @@ use Rattle.conversion.specs.Scope.{Variable, Scope, findIn, find-variable, with
 use Rattle.conversion.specs.Expressions.{Functions}
 use Rattle.conversion.specs.Statements.{convert-block}
 use Rattle.conversion.specs.Functions.{declareParams, convertBody, always-returns}
-use Rattle.runs.specs.Rule.{Answer, halt, Truth, halts, Calls, Rule, Answers, NullContent, passed}
+use Rattle.runs.specs.Rule.{Answer, halt, Truth, halts, Calls, Rule, comes, Answers, NullContent, passed}
 use Rattle.runs.specs.TreeRun.{Known, Values, set, Out, runBlock, parametersKnown, parameterValues, treeRun}
 use Rattle.runs.specs.BodyRun.{Vars, bodyRun}
 use Rattle.runs.specs.Shared.{endT, Shared, InPlace, texts, opensB}
@@ -198,7 +198,7 @@ anyRule P F f = record {
   funs = F;
   fun = f;
   rule = record { literal = λ c y. tt; copy = λ y v. halt; zero = λ y. halt; unary = λ o y v. halt; binary = λ o y v w. halt; cast = λ y v. halt; truth = λ v. halts; return = λ y v. halt; call = λ h g v. halt };
-  answers = λ h g v. (halt, []);
+  answers = λ h g v. (comes halt, []);
   code = [];
   labels = [];
   strings = [];

@@ -7,15 +7,16 @@ use Prim.Native.Nat.{ℕ, zero, suc, _+_, _≤_, _<_}
 use mathlib.Core.Bool.{Bool, true, false}
 use lib.ListN.{getElem?, drop}
 use Rattle.conversion.specs.Ir.{VarId, Operand, Instr, Copy, Unary, Binary, Cast, Zero, Arg, Call, Label, Jump, JumpIfNot, Return, Comment}
-use Rattle.runs.specs.Rule.{Answer, gives, halt, Truth, holds, fails, halts, Typed, Calls, Rule, Answers, Ending}
+use Rattle.runs.specs.Rule.{Answer, gives, halt, Truth, holds, fails, halts, Typed, Calls, Rule, Reply, comes, pending, Answers, Ending}
 use Rattle.runs.specs.BodyRun as P
-use Rattle.runs.specs.BodyRun.{Body, Vars, isLabel, labelPlace, Spot, spot, over, putTo, dropTo, branchTo, finishWith, execute, fetch}
-use Rattle.runs.proofs.Machine.{Code, Queue, Cfg, at, ended, goto, put, pass, branch, finish, exec, step, steps}
+use Rattle.runs.specs.BodyRun.{Body, Vars, isLabel, labelPlace, Spot, spot, over, waits, putTo, dropTo, putReply, dropReply, branchTo, finishWith, execute, fetch}
+use Rattle.runs.proofs.Machine.{Code, Queue, Cfg, at, ended, waiting, goto, put, pass, putR, passR, branch, finish, exec, step, steps}
 
 -- a place as the rest from there on
 unfoldable pub seen : {W : Type 0} → Code → Spot W → Cfg W
 seen C (spot p q ρ h) = at (drop p C) q ρ h
 seen C (over e h) = ended e h
+seen C (waits h) = waiting h
 
 drop-place : (C : Code) (l : ℕ) → drop (labelPlace C l) C ≡ goto C l
 unfolding labelPlace goto
@@ -52,6 +53,16 @@ module _ {W : Type 0} (R : Rule W) (A : Answers W) (B : Body) where
   pass-seen (gives v) p q ρ h = refl
   pass-seen halt p q ρ h = refl
 
+  reply-seen : (u : Reply W) (d p : ℕ) (q : Queue W) (ρ : Vars W) (h : Calls W) → seen (B .instrs) (putReply u d p q ρ h) ≡ putR u d (drop p (B .instrs)) q ρ h
+  unfolding seen putReply putR
+  reply-seen (comes u) d p q ρ h = put-seen u d p q ρ h
+  reply-seen pending d p q ρ h = refl
+
+  drop-seen : (u : Reply W) (p : ℕ) (q : Queue W) (ρ : Vars W) (h : Calls W) → seen (B .instrs) (dropReply u p q ρ h) ≡ passR u (drop p (B .instrs)) q ρ h
+  unfolding seen dropReply passR
+  drop-seen (comes u) p q ρ h = pass-seen u p q ρ h
+  drop-seen pending p q ρ h = refl
+
   branch-seen : (u : Truth) (p l : ℕ) (q : Queue W) (ρ : Vars W) (h : Calls W)
       → seen (B .instrs) (branchTo u p (labelPlace (B .instrs) l) q ρ h) ≡ branch u (drop p (B .instrs)) (goto (B .instrs) l) q ρ h
   unfolding seen branchTo branch
@@ -72,8 +83,8 @@ module _ {W : Type 0} (R : Rule W) (A : Answers W) (B : Body) where
   exec-seen (Cast d a) p q ρ h = put-seen _ _ p q ρ h
   exec-seen (Zero d) p q ρ h = put-seen _ _ p q ρ h
   exec-seen (Arg a) p q ρ h = refl
-  exec-seen (Call (some d) f) p q ρ h = put-seen _ _ p [] ρ _
-  exec-seen (Call none f) p q ρ h = pass-seen _ p [] ρ _
+  exec-seen (Call (some d) f) p q ρ h = reply-seen _ _ p [] ρ _
+  exec-seen (Call none f) p q ρ h = drop-seen _ p [] ρ _
   exec-seen (Label l) p q ρ h = refl
   exec-seen (Jump l) p q ρ h = rw (drop-place (B .instrs) l) refl
   exec-seen (JumpIfNot a l) p q ρ h = branch-seen _ p l q ρ h
@@ -83,6 +94,7 @@ module _ {W : Type 0} (R : Rule W) (A : Answers W) (B : Body) where
   step-seen : (c : Spot W) → seen (B .instrs) (P.step R A B c) ≡ step R A B (seen (B .instrs) c)
   unfolding seen P.step step fetch
   step-seen (over e h) = refl
+  step-seen (waits h) = refl
   step-seen (spot p q ρ h) = go (view (B .instrs) p)
     where
       go : View (B .instrs) p → seen (B .instrs) (fetch R A B (getElem? (B .instrs) p) p q ρ h) ≡ step R A B (at (drop p (B .instrs)) q ρ h)

@@ -10,7 +10,7 @@ use Rattle.syntax.specs.Syntax.{Expr, Statement, SDeclare, SInit, SReturn, SCal
 use Rattle.conversion.specs.Expressions.{Functions}
 use Rattle.conversion.specs.Functions.{statementReturns, always-returns}
 use Rattle.runs.specs.Rule.{Truth, holds, fails, halts, Calls, Rule, Answers, passed}
-use Rattle.runs.specs.TreeRun.{Known, Values, Got, value, stop, Out, normal, broke, continued, returned, stopped, unfinished, bindO, bindS, testO, giveBack, runStatement, runBlock, knownAfter}
+use Rattle.runs.specs.TreeRun.{Known, Values, Got, value, stop, wait, Out, normal, broke, continued, returned, stopped, unfinished, bindO, bindS, testO, giveBack, runStatement, runBlock, knownAfter}
 use Rattle.runs.specs.Shared.{endT}
 
 abbrev pub NotNormal : {W : Type 0} → Out W → Type 0
@@ -34,6 +34,7 @@ n-bindO : {W Y : Type 0} (r : Got W Y) (f : Y → Calls W → Out W) → ((a : Y
 unfolding bindO
 n-bindO (value a h) f H = H a h
 n-bindO (stop h) f H = tt
+n-bindO (wait h) f H = tt
 
 n-testO : {W : Type 0} (u : Truth) (h : Calls W) (a b : Out W) → NotNormal a → NotNormal b → NotNormal (testO u h a b)
 unfolding testO

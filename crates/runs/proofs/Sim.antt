@@ -14,11 +14,11 @@ use Rattle.syntax.specs.Syntax.{Function, Program}
 use Rattle.conversion.specs.Ir.{VarId, Operand, OVar, OInt, OFloat, OBool, ODataAddress, ONull, Instr, Label, LabelName, loopStart, StringEntry, FloatEntry, State, made, M, position, sameLabel, sameText, sameFloat}
 use Rattle.conversion.specs.Scope.{Variable}
 use Rattle.conversion.specs.Expressions.{Functions}
-use Rattle.runs.specs.Rule.{Answer, gives, halt, Truth, holds, fails, halts, Calls, Rule, Answers, Datum, constant, computed, read, Ending, stopped}
-use Rattle.runs.specs.TreeRun.{Values, Got, value, stop, bindG, answered, bare, test}
+use Rattle.runs.specs.Rule.{Answer, gives, halt, Truth, holds, fails, halts, Calls, Rule, Reply, comes, pending, Answers, Datum, constant, computed, read, Ending, stopped}
+use Rattle.runs.specs.TreeRun.{Values, Got, value, stop, wait, bindG, answered, bare, replied, test}
 use Rattle.runs.specs.BodyRun.{Body, Vars, write, datum, operand}
 use Rattle.runs.specs.Shared.{bit, texts}
-use Rattle.runs.proofs.Machine.{Code, Queue, Cfg, at, ended, Same, is, isnt, same, write-same, write-other, count, goto, Placed, put, branch, step, To, here, one, to-trans, to-label, dat, dats}
+use Rattle.runs.proofs.Machine.{Code, Queue, Cfg, at, ended, waiting, Same, is, isnt, same, write-same, write-other, count, goto, Placed, put, putR, branch, step, To, here, one, to-trans, to-label, dat, dats}
 use Rattle.runs.proofs.Invert.{Prefix, prefix-trans, prefix-length, Grow, Asked, position-holds, found-in, noFloat}
 use Rattle.runs.proofs.Texts.{label-eq, label-refl, text-eq, text-refl, float-eq, float-refl}
 use Rattle.runs.proofs.Names.{Scoped, Sub, Frame, Agree}
@@ -152,21 +152,25 @@ module _ {W : Type 0} (X : Ctx W) where
   pub data SimE {Y : Type 0} (c : Cfg W) (k : Code) (t : ℕ) (ρ : Vars W) (get : Vars W → Y) : Got W Y → Type 0 where
     gets : {v : Y} {h : Calls W} (ρ′ : Vars W) → Goes c (at k [] ρ′ h) → Frame t ρ ρ′ → get ρ′ ≡ v → SimE c k t ρ get (value v h)
     stops : {h : Calls W} → Goes c (ended stopped h) → SimE c k t ρ get (stop h)
+    hangs : {h : Calls W} → Goes c (waiting h) → SimE c k t ρ get (wait h)
 
   pub sim-before : {Y : Type 0} {c d : Cfg W} {k : Code} {t : ℕ} {ρ : Vars W} {get : Vars W → Y} {r : Got W Y}
       → Goes c d → SimE d k t ρ get r → SimE c k t ρ get r
   sim-before p (gets ρ′ q f e) = gets ρ′ (goes p q) f e
   sim-before p (stops q) = stops (goes p q)
+  sim-before p (hangs q) = hangs (goes p q)
 
   pub sim-after : {Y : Type 0} {c : Cfg W} {j k : Code} {t : ℕ} {ρ : Vars W} {get : Vars W → Y} {r : Got W Y}
       → ((ρ′ : Vars W) (h : Calls W) → Goes (at j [] ρ′ h) (at k [] ρ′ h)) → SimE c j t ρ get r → SimE c k t ρ get r
   sim-after p (gets {h = h} ρ′ q f e) = gets ρ′ (goes q (p ρ′ h)) f e
   sim-after p (stops q) = stops q
+  sim-after p (hangs q) = hangs q
 
   pub sim-frame : {Y : Type 0} {c : Cfg W} {k : Code} {s t : ℕ} {ρ ρ₁ : Vars W} {get : Vars W → Y} {r : Got W Y}
       → s ≤ t → Frame s ρ ρ₁ → SimE c k t ρ₁ get r → SimE c k s ρ get r
   sim-frame g f (gets ρ′ q f′ e) = gets ρ′ q (λ x h. f′ x (omega arith) ∙ f x h) e
   sim-frame g f (stops q) = stops q
+  sim-frame g f (hangs q) = hangs q
 
   pub sim-bind : {Y Z : Type 0} {c : Cfg W} {j k : Code} {s t : ℕ} {ρ : Vars W} {get : Vars W → Y} {get′ : Vars W → Z} {r : Got W Y} (f : Y → Calls W → Got W Z)
       → s ≤ t → SimE c j t ρ get r
@@ -176,12 +180,19 @@ module _ {W : Type 0} (X : Ctx W) where
   sim-bind f g (gets {h = h} ρ′ q fr e) H =
       sim-before q (sim-frame (le-refl _) (λ x b. fr x (omega arith)) (rw e at (H ρ′ h fr)))
   sim-bind f g (stops q) H = stops q
+  sim-bind f g (hangs q) H = hangs q
 
   pub sim-put : {c : Cfg W} {k : Code} {t : ℕ} {ρ : Vars W} (d : VarId) (a : Answer W) (h : Calls W)
       → t ≤ d .id → step (X .rule) (X .answers) (body X) c ≡ put a (d .id) k [] ρ h → SimE c k t ρ (λ ρ′. holding ρ′ (OVar d)) (answered (d .ty) a h)
   unfolding answered put dat datum
   sim-put {ρ = ρ} d (gives v) h g e = gets (write ρ (d .id) v) (go1 e) (λ x b. write-other ρ (d .id) x v (omega arith)) (ap (computed (d .ty)) (write-same ρ (d .id) v))
   sim-put d halt h g e = stops (go1 e)
+
+  pub sim-reply : {c : Cfg W} {k : Code} {t : ℕ} {ρ : Vars W} (d : VarId) (a : Reply W) (h : Calls W)
+      → t ≤ d .id → step (X .rule) (X .answers) (body X) c ≡ putR a (d .id) k [] ρ h → SimE c k t ρ (λ ρ′. holding ρ′ (OVar d)) (replied (d .ty) a h)
+  unfolding replied putR
+  sim-reply d (comes a) h g e = sim-put d a h g e
+  sim-reply d pending h g e = hangs (go1 e)
 
   pub sim-test : {Y : Type 0} {c : Cfg W} {k p q : Code} {t : ℕ} {ρ : Vars W} {h : Calls W} {get : Vars W → Y} {a b : Got W Y} (u : Truth)
       → step (X .rule) (X .answers) (body X) c ≡ branch u p q [] ρ h → SimE (at p [] ρ h) k t ρ get a → SimE (at q [] ρ h) k t ρ get b → SimE c k t ρ get (test u h a b)

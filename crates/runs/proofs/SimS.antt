@@ -11,14 +11,14 @@ use lib.Dec.{T}
 use lib.ListN.{length}
 use Rattle.conversion.specs.Ir.{VarId, Operand, Instr, LabelName, loopStart, loopEnd, State, made, M}
 use Rattle.conversion.specs.Scope.{Variable, Scope}
-use Rattle.runs.specs.Rule.{Answer, gives, halt, Truth, holds, fails, halts, Calls, Rule, Answers, Datum, Ending, passed, returns}
+use Rattle.runs.specs.Rule.{Answer, gives, halt, Truth, holds, fails, halts, Calls, Rule, Reply, comes, pending, Answers, Datum, Ending, passed, returns}
 use Rattle.runs.specs.Rule as Rule
-use Rattle.runs.specs.TreeRun.{Known, Values, Got, value, stop, bare, Out, normal, broke, continued, returned, stopped, unfinished, bindO, bindS, bindT, testO}
+use Rattle.runs.specs.TreeRun.{Known, Values, Got, value, stop, wait, bare, handed, Out, normal, broke, continued, returned, stopped, unfinished, bindO, bindS, bindT, testO}
 use Rattle.runs.specs.BodyRun.{Vars, write}
-use Rattle.runs.proofs.Machine.{Code, Queue, Cfg, at, ended, count, goto, Placed, put, pass, branch, finish, step, to-trans, one}
+use Rattle.runs.proofs.Machine.{Code, Queue, Cfg, at, ended, waiting, count, goto, Placed, put, pass, passR, branch, finish, step, to-trans, one}
 use Rattle.runs.proofs.Invert.{Grow}
 use Rattle.runs.proofs.Names.{known, Scoped, Sub, Frame, Agree, agree-sub}
-use Rattle.runs.proofs.Sim.{Ctx, body, Within, Num, nameOf, Goes, stay, go1, goes, SimE, gets, stops}
+use Rattle.runs.proofs.Sim.{Ctx, body, Within, Num, nameOf, Goes, stay, go1, goes, SimE, gets, stops, hangs}
 
 module _ {W : Type 0} (X : Ctx W) where
   -- from c the body does what the tree's run came to; if that is unfinished, then in n steps or more the same calls
@@ -30,6 +30,7 @@ module _ {W : Type 0} (X : Ctx W) where
     gives-back : {v : W} {h : Calls W} → Goes X c (ended (returns v) h) → SimS n lp lvs ls le c k vs (returned v h)
     halting : {h : Calls W} → Goes X c (ended Rule.stopped h) → SimS n lp lvs ls le c k vs (stopped h)
     long : {h : Calls W} (j : Code) (q : Queue W) (ρ : Vars W) (p : Goes X c (at j q ρ h)) → n ≤ p .many → SimS n lp lvs ls le c k vs (unfinished h)
+    held : {h : Calls W} → Goes X c (waiting h) → SimS n lp lvs ls le c k vs (unfinished h)
 
   module _ {lp : Bool} {lvs : List Variable} {ls le : ℕ} where
     pub s-later : {n m : ℕ} {c d : Cfg W} {k : Code} {vs : List Variable} {r : Out W} (p : Goes X c d) → m ≤ n + p .many → SimS n lp lvs ls le d k vs r → SimS m lp lvs ls le c k vs r
@@ -40,6 +41,7 @@ module _ {W : Type 0} (X : Ctx W) where
     s-later p g (gives-back q) = gives-back (goes X p q)
     s-later p g (halting q) = halting (goes X p q)
     s-later p g (long j z ρ q u) = long j z ρ (goes X p q) (omega arith)
+    s-later p g (held q) = held (goes X p q)
 
     pub s-before : {n : ℕ} {c d : Cfg W} {k : Code} {vs : List Variable} {r : Out W} → Goes X c d → SimS n lp lvs ls le d k vs r → SimS n lp lvs ls le c k vs r
     s-before p s = s-later p (omega arith) s
@@ -52,6 +54,7 @@ module _ {W : Type 0} (X : Ctx W) where
     s-after p s (gives-back q) = gives-back q
     s-after p s (halting q) = halting q
     s-after p s (long j z ρ q u) = long j z ρ q u
+    s-after p s (held q) = held q
 
     pub s-bindO : {n : ℕ} {Y : Type 0} {c : Cfg W} {j k : Code} {vs : List Variable} {t : ℕ} {ρ : Vars W} {get : Vars W → Y} {r : Got W Y} (f : Y → Calls W → Out W)
         → SimE X c j t ρ get r
@@ -60,6 +63,7 @@ module _ {W : Type 0} (X : Ctx W) where
     unfolding bindO
     s-bindO f (gets {h = h} ρ′ q fr e) H = s-before q (rw e at (H ρ′ h fr))
     s-bindO f (stops q) H = halting q
+    s-bindO f (hangs q) H = held q
 
     pub s-bare : {n : ℕ} {c : Cfg W} {j k : Code} {vs : List Variable} (f : W → Calls W → Out W) (ρ : Vars W) (d : ℕ) (u : Answer W) (h : Calls W)
         → step (X .rule) (X .answers) (body X) c ≡ put u d j [] ρ h
@@ -69,11 +73,12 @@ module _ {W : Type 0} (X : Ctx W) where
     s-bare f ρ d (gives w) h e H = s-before (go1 X e) (H w)
     s-bare f ρ d halt h e H = halting (go1 X e)
 
-    pub s-pass : {n : ℕ} {c : Cfg W} {k : Code} {vs : List Variable} {ρ : Vars W} {σ : Values W} (h : Calls W) (u : Answer W) → Agree vs σ ρ
-        → step (X .rule) (X .answers) (body X) c ≡ pass u k [] ρ h → SimS n lp lvs ls le c k vs (bindO (bare u h) λ q h2. normal σ h2)
-    unfolding bare pass bindO
-    s-pass {ρ = ρ} {σ = σ} h (gives v) a e = runs ρ (go1 X e) a
-    s-pass h halt a e = halting (go1 X e)
+    pub s-pass : {n : ℕ} {c : Cfg W} {k : Code} {vs : List Variable} {ρ : Vars W} {σ : Values W} (h : Calls W) (u : Reply W) → Agree vs σ ρ
+        → step (X .rule) (X .answers) (body X) c ≡ passR u k [] ρ h → SimS n lp lvs ls le c k vs (bindO (handed u h) λ q h2. normal σ h2)
+    unfolding bare handed pass passR bindO
+    s-pass {ρ = ρ} {σ = σ} h (comes (gives v)) a e = runs ρ (go1 X e) a
+    s-pass h (comes halt) a e = halting (go1 X e)
+    s-pass h pending a e = held (go1 X e)
 
     pub s-finish : {n : ℕ} {c : Cfg W} {k : Code} {vs : List Variable} (h : Calls W) (u : Answer W) → step (X .rule) (X .answers) (body X) c ≡ finish u h
         → SimS n lp lvs ls le c k vs (bindO (bare u h) λ q h2. returned q h2)
@@ -92,6 +97,7 @@ module _ {W : Type 0} (X : Ctx W) where
     s-bindS f (gives-back q) H = gives-back q
     s-bindS f (halting q) H = halting q
     s-bindS f (long j z ρ q u) H = long j z ρ q u
+    s-bindS f (held q) H = held q
 
     pub s-test : {n : ℕ} {c : Cfg W} {k p q : Code} {vs : List Variable} {ρ : Vars W} {h : Calls W} {a b : Out W} (u : Truth)
         → step (X .rule) (X .answers) (body X) c ≡ branch u p q [] ρ h → SimS n lp lvs ls le (at p [] ρ h) k vs a → SimS n lp lvs ls le (at q [] ρ h) k vs b
@@ -115,6 +121,7 @@ module _ {W : Type 0} (X : Ctx W) where
     s-bindT f g s1 s2 (gives-back q) S E H = gives-back q
     s-bindT f g s1 s2 (halting q) S E H = halting q
     s-bindT f g s1 s2 (long j z ρ q u) S E H = long j z ρ q (omega arith)
+    s-bindT f g s1 s2 (held q) S E H = held q
 
   -- the labels of the loop around, if there is one
   pub data InLoop : Option ℕ → Bool → ℕ → ℕ → Type 0 where

@@ -20,7 +20,7 @@ use Rattle.conversion.specs.Expressions.{Callee, CallFunction, CallCast, Functi
 use Rattle.conversion.specs.Statements.{fit-operand, convert-expr, convert-args, convert-cond, checkFits, zeroValue, convert-declare, assignTo, convert-assign, initNew, initBy, convert-init, returnAs, convert-return, callStatement, convert-call, convert-if, convertIfElse, checkBound, convert-break, convert-continue}
 use Rattle.runs.specs.Rule.{Answer, gives, halt, Truth, Calls, Rule, Answers, Literal, IntLiteral, FloatLiteral, BoolLiteral, StringLiteral, NullLiteral, Datum, constant, computed, read, readAll}
 use Rattle.runs.specs.TreeRun as Tree
-use Rattle.runs.specs.TreeRun.{Known, Values, set, typeIn, scopeOf, Got, value, stop, bindG, bare, Out, normal, broke, continued, returned, stopped, bindO, bindS, testO, typedO, fit, fitArguments, zeroOf, evalExpr, evalArgs, store, newType, introduce, initialise, giveBack, callOnly, withNew, knownInit}
+use Rattle.runs.specs.TreeRun.{Known, Values, set, typeIn, scopeOf, Got, value, stop, bindG, bare, handed, Out, normal, broke, continued, returned, stopped, bindO, bindS, testO, typedO, fit, fitArguments, zeroOf, evalExpr, evalArgs, store, newType, introduce, initialise, giveBack, callOnly, withNew, knownInit}
 use Rattle.runs.specs.BodyRun.{Body, Vars, write, datum, isLabel, operand}
 use Rattle.runs.specs.Shared.{bit, opensE, opensA}
 use Rattle.runs.proofs.Machine.{Code, Cfg, at, count, count-append, Placed, placed-drop, put, exec, step, dat, dats, argsOf, push}
@@ -326,7 +326,7 @@ module _ {W : Type 0} (X : Ctx W) where
       → Fitted X (Lows s1 os) Lows (holdings X) (λ ρ h. fitArguments (X .prog) (X .rule) 0 (holdings X ρ os) g h) s1 us fs t
       → GoodS X sc z (known (sc .variables))
       (λ m σ h. bindO (ev σ h) λ vs h1. bindO (fitArguments (X .prog) (X .rule) 0 vs g h1) λ ws h2.
-      bindO (bare (X .answers h2 (g .recOf) (readAll (X .rule) ws) .0) (h2 ++ X .answers h2 (g .recOf) (readAll (X .rule) ws) .1)) λ v h3. normal σ h3)
+      bindO (handed (X .answers h2 (g .recOf) (readAll (X .rule) ws) .0) (h2 ++ X .answers h2 (g .recOf) (readAll (X .rule) ws) .1)) λ v h3. normal σ h3)
       s sc (ca ++ (fs ++ (argsOf us ++ (Call none (g .recOf) ∷ [])))) t
   unfolding count isLabel step exec
   invoke-made {ev = ev} {s} {s1} {t} {os} {us} {ca} {fs} sc g G H = record {

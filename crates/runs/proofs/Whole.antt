@@ -11,35 +11,39 @@ use mathlib.Core.Bool.{Bool, true, false}
 use lib.ListN.{getElem?, drop}
 use Rattle.conversion.specs.Ir.{VarId, Operand, Instr, Copy, Unary, Binary, Cast, Zero, Arg, Call, Label, Jump, JumpIfNot, Return, Comment}
 use Rattle.conversion.specs.Scope.{Variable}
-use Rattle.runs.specs.Rule.{Answer, gives, halt, Truth, holds, fails, halts, Typed, Calls, Rule, Answers, Ending, passed, returns, stopped}
+use Rattle.runs.specs.Rule.{Answer, gives, halt, Truth, holds, fails, halts, Typed, Calls, Rule, Reply, comes, pending, Answers, Ending, passed, returns, stopped}
 use Rattle.runs.specs.TreeRun as Tree
 use Rattle.runs.specs.TreeRun.{Out, normal, broke, continued, returned, unfinished}
 use Rattle.runs.specs.BodyRun as Body
-use Rattle.runs.specs.BodyRun.{Vars, Spot, spot, over, bodyRun}
+use Rattle.runs.specs.BodyRun.{Vars, Spot, spot, over, waits, bodyRun}
 use Rattle.runs.specs.Shared.{callsT, endT, callsB, endB, Shared}
-use Rattle.runs.proofs.Machine.{Code, Queue, Cfg, at, ended, put, pass, branch, finish, exec, step, steps, steps-add, To}
+use Rattle.runs.proofs.Machine.{Code, Queue, Cfg, at, ended, waiting, put, pass, putR, passR, branch, finish, exec, step, steps, steps-add, To}
 use Rattle.runs.proofs.Place.{seen, steps-seen}
 use Rattle.runs.proofs.Sim.{Ctx, body, Goes, go1, goes}
-use Rattle.runs.proofs.SimS.{SimS, runs, breaks, continues, gives-back, halting, long}
+use Rattle.runs.proofs.SimS.{SimS, runs, breaks, continues, gives-back, halting, long, held}
 
 -- what is seen of the machine whose place is the rest of the code
 unfoldable callsM : {W : Type 0} → Cfg W → Calls W
 callsM (at r q ρ h) = h
 callsM (ended e h) = h
+callsM (waiting h) = h
 
 unfoldable endM : {W : Type 0} → Cfg W → Option (Ending W)
 endM (at r q ρ h) = none
 endM (ended e h) = some e
+endM (waiting h) = none
 
 calls-seen : {W : Type 0} (C : Code) (c : Spot W) → callsM (seen C c) ≡ callsB c
 unfolding callsM callsB seen
 calls-seen C (spot p q ρ h) = refl
 calls-seen C (over e h) = refl
+calls-seen C (waits h) = refl
 
 end-seen : {W : Type 0} (C : Code) (c : Spot W) → endM (seen C c) ≡ endB c
 unfolding endM endB seen
 end-seen C (spot p q ρ h) = refl
 end-seen C (over e h) = refl
+end-seen C (waits h) = refl
 
 -- a call once made stays
 get-append : {A : Type 0} (a b : List A) (i : ℕ) (q : A) → getElem? a i ≡ some q → getElem? (a ++ b) i ≡ some q
@@ -56,6 +60,16 @@ pass-calls : {W : Type 0} (u : Answer W) (r : Code) (q : Queue W) (ρ : Vars W) 
 unfolding pass callsM
 pass-calls (gives v) r q ρ h = refl
 pass-calls halt r q ρ h = refl
+
+putR-calls : {W : Type 0} (u : Reply W) (d : ℕ) (r : Code) (q : Queue W) (ρ : Vars W) (h : Calls W) → callsM (putR u d r q ρ h) ≡ h
+unfolding putR callsM
+putR-calls (comes u) d r q ρ h = put-calls u d r q ρ h
+putR-calls pending d r q ρ h = refl
+
+passR-calls : {W : Type 0} (u : Reply W) (r : Code) (q : Queue W) (ρ : Vars W) (h : Calls W) → callsM (passR u r q ρ h) ≡ h
+unfolding passR callsM
+passR-calls (comes u) r q ρ h = pass-calls u r q ρ h
+passR-calls pending r q ρ h = refl
 
 branch-calls : {W : Type 0} (u : Truth) (r s : Code) (q : Queue W) (ρ : Vars W) (h : Calls W) → callsM (branch u r s q ρ h) ≡ h
 unfolding branch callsM
@@ -78,8 +92,8 @@ module _ {W : Type 0} (X : Ctx W) where
   exec-keeps (Cast d a) r z ρ h i q e = rw put-calls e
   exec-keeps (Zero d) r z ρ h i q e = rw put-calls e
   exec-keeps (Arg o) r z ρ h i q e = e
-  exec-keeps (Call (some d) f) r z ρ h i q e = rw put-calls (get-append h _ i q e)
-  exec-keeps (Call none f) r z ρ h i q e = rw pass-calls (get-append h _ i q e)
+  exec-keeps (Call (some d) f) r z ρ h i q e = rw putR-calls (get-append h _ i q e)
+  exec-keeps (Call none f) r z ρ h i q e = rw passR-calls (get-append h _ i q e)
   exec-keeps (Label l) r z ρ h i q e = e
   exec-keeps (Jump l) r z ρ h i q e = e
   exec-keeps (JumpIfNot o l) r z ρ h i q e = rw branch-calls e
@@ -91,6 +105,7 @@ module _ {W : Type 0} (X : Ctx W) where
   step-keeps (at [] z ρ h) i q e = e
   step-keeps (at (j ∷ r) z ρ h) i q e = exec-keeps j r z ρ h i q e
   step-keeps (ended x h) i q e = e
+  step-keeps (waiting h) i q e = e
 
   abbrev after : ℕ → Cfg W → Cfg W
   after n c = steps (X .rule) (X .answers) (body X) n c
@@ -105,6 +120,11 @@ module _ {W : Type 0} (X : Ctx W) where
   steps-ended zero e h = refl
   steps-ended (suc n) e h = steps-ended n e h
 
+  steps-waiting : (n : ℕ) (h : Calls W) → after n (waiting h) ≡ waiting h
+  unfolding steps step
+  steps-waiting zero h = refl
+  steps-waiting (suc n) h = steps-waiting n h
+
   -- of two counts of steps the larger goes on from the smaller
   steps-later : (m n : ℕ) (c : Cfg W) → m ≤ n → after n c ≡ after (n - m) (after m c)
   steps-later m n c g = ap (λ x. after x c) (omega arith) ∙ steps-add (X .rule) (X .answers) (body X) m (n - m) c
@@ -113,15 +133,21 @@ module _ {W : Type 0} (X : Ctx W) where
   past : {c : Cfg W} {e : Ending W} {h : Calls W} (p : Goes X c (ended e h)) (n : ℕ) → p .many ≤ n → after n c ≡ ended e h
   past {c} {e} {h} p n g = steps-later (p .many) n c g ∙ (ap (after (n - p .many)) (p .comes) ∙ steps-ended (n - p .many) e h)
 
+  -- and so does one that is held up
+  past-waiting : {c : Cfg W} {h : Calls W} (p : Goes X c (waiting h)) (n : ℕ) → p .many ≤ n → after n c ≡ waiting h
+  past-waiting {c} {h} p n g = steps-later (p .many) n c g ∙ (ap (after (n - p .many)) (p .comes) ∙ steps-waiting (n - p .many) h)
+
   is-ended : (c : Cfg W) (e : Ending W) → endM c ≡ some e → c ≡ ended e (callsM c)
   unfolding endM callsM
   is-ended (at r z1 ρ h) e q = let z : _≡_ {A = ℕ} 0 1 = cc in absurd (omega arith)
   is-ended (ended x h) e q = cc
+  is-ended (waiting h) e q = let z : _≡_ {A = ℕ} 0 1 = cc in absurd (omega arith)
 
   -- what the body's run from c has to do with what the tree's run o with n turns came to
   pub data Sum (n : ℕ) (c : Cfg W) (o : Out W) : Type 0 where
     settled : (e : Ending W) → endT o ≡ some e → Goes X c (ended e (callsT o)) → Sum n c o
     going : (j : Code) (z : Queue W) (ρ : Vars W) → endT o ≡ none → (p : Goes X c (at j z ρ (callsT o))) → n ≤ p .many → Sum n c o
+    hung : endT o ≡ none → Goes X c (waiting (callsT o)) → Sum n c o
 
   pub sum : {n ls le : ℕ} {lvs vs : List Variable} {c : Cfg W} {o : Out W} → SimS X n false lvs ls le c [] vs o → Sum n c o
   unfolding endT callsT step
@@ -131,12 +157,14 @@ module _ {W : Type 0} (X : Ctx W) where
   sum (gives-back {v = v} p) = settled (returns v) refl p
   sum (halting p) = settled stopped refl p
   sum (long j z ρ p u) = going j z ρ refl p u
+  sum (held p) = hung refl p
 
   module _ (o : Out W) (c : Cfg W) (n : ℕ) where
     calls-there : Sum n c o → (k : ℕ) (q : ℕ × List (Typed W)) → getElem? (callsT o) k ≡ some q → (m : ℕ) × (getElem? (callsM (after m c)) k ≡ some q)
     unfolding callsM
     calls-there (settled x e1 p) k q e = (p .many, rw (p .comes) e)
     calls-there (going j z1 ρ e1 p u) k q e = (p .many, rw (p .comes) e)
+    calls-there (hung e1 p) k q e = (p .many, rw (p .comes) e)
 
     calls-back : Sum n c o → (k : ℕ) (q : ℕ × List (Typed W)) → getElem? (callsM (after n c)) k ≡ some q → getElem? (callsT o) k ≡ some q
     unfolding callsM
@@ -147,11 +175,17 @@ module _ {W : Type 0} (X : Ctx W) where
         go (no g) = rw (past p n (omega arith)) at e
     calls-back (going j z1 ρ e1 p g) k q e =
         subst (λ z. getElem? (callsM z) k ≡ some q) (sym (steps-later n (p .many) c g) ∙ p .comes) (steps-keep (p .many - n) (after n c) k q e)
+    calls-back (hung e1 p) k q e = go (decLe n (p .many))
+      where
+        go : Dec (n ≤ p .many) → getElem? (callsT o) k ≡ some q
+        go (yes g) = subst (λ z. getElem? (callsM z) k ≡ some q) (sym (steps-later n (p .many) c g) ∙ p .comes) (steps-keep (p .many - n) (after n c) k q e)
+        go (no g) = rw (past-waiting p n (omega arith)) at e
 
     ends-there : Sum n c o → (e : Ending W) → endT o ≡ some e → (m : ℕ) × (endM (after m c) ≡ some e) × (callsM (after m c) ≡ callsT o)
     unfolding endM callsM
     ends-there (settled x e1 p) e q = (p .many, rw (p .comes) (sym e1 ∙ q), rw (p .comes) refl)
     ends-there (going j z1 ρ e1 p u) e q = let z : _≡_ {A = ℕ} 0 1 = cc in absurd (omega arith)
+    ends-there (hung e1 p) e q = let z : _≡_ {A = ℕ} 0 1 = cc in absurd (omega arith)
 
     ends-back : Sum n c o → (e : Ending W) → endM (after n c) ≡ some e → (endT o ≡ some e) × (callsT o ≡ callsM (after n c))
     unfolding endM callsM
@@ -166,6 +200,14 @@ module _ {W : Type 0} (X : Ctx W) where
         let z : after (p .many) c ≡ ended e (callsM (after n c)) = past (record { many = n; comes = is-ended (after n c) e q }) (p .many) g in
         let y = p .comes in
         let x : _≡_ {A = ℕ} 0 1 = cc in absurd (omega arith)
+    ends-back (hung e1 p) e q = go (decLe n (p .many))
+      where
+        go : Dec (n ≤ p .many) → (endT o ≡ some e) × (callsT o ≡ callsM (after n c))
+        go (yes g) =
+            let z : after (p .many) c ≡ ended e (callsM (after n c)) = past (record { many = n; comes = is-ended (after n c) e q }) (p .many) g in
+            let y = p .comes in
+            let x : _≡_ {A = ℕ} 0 1 = cc in absurd (omega arith)
+        go (no g) = let z : some e ≡ none = sym q ∙ ap endM (past-waiting p n (omega arith)) in let x : _≡_ {A = ℕ} 0 1 = cc in absurd (omega arith)
 
   -- the numbered machine shows what the other shows
   from-start : (ρ : Vars W) (n : ℕ) → seen (X .code) (bodyRun (X .rule) (X .answers) (body X) ρ n) ≡ after n (at (X .code) [] ρ [])

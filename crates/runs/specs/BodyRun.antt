@@ -10,7 +10,7 @@ use lib.ListN.{getElem?, getD}
 use Rattle.laws.specs.Fix.{pick}
 use Rattle.syntax.specs.Syntax.{Text}
 use Rattle.conversion.specs.Ir.{VarId, Operand, OVar, OInt, OFloat, OBool, ODataAddress, ONull, Instr, Copy, Unary, Binary, Cast, Zero, Arg, Call, Label, Jump, JumpIfNot, Return, Comment, FloatEntry}
-use Rattle.runs.specs.Rule.{Answer, gives, halt, Truth, holds, fails, halts, Typed, Calls, Rule, Answers, Literal, IntLiteral, FloatLiteral, BoolLiteral, StringLiteral, NullLiteral, Datum, constant, computed, read, Ending, passed, returns, stopped}
+use Rattle.runs.specs.Rule.{Answer, gives, halt, Truth, holds, fails, halts, Typed, Calls, Rule, Reply, comes, pending, Answers, Literal, IntLiteral, FloatLiteral, BoolLiteral, StringLiteral, NullLiteral, Datum, constant, computed, read, Ending, passed, returns, stopped}
 
 -- the instructions of a function, each variable with its type from the function's table; its return type; the program's strings and floats
 pub record Body : Type 0 where
@@ -55,10 +55,11 @@ unfoldable pub labelPlace : List Instr → ℕ → ℕ
 labelPlace [] l = 0
 labelPlace (i ∷ r) l = elim (isLabel l i) [ true ↦ 0 | false ↦ suc (labelPlace r l) ]
 
--- where the run stands: at an instruction, with the arguments that wait, the variables and the calls so far; or at its end
+-- where the run stands: at an instruction, with the arguments that wait, the variables and the calls so far; or at its end; or held up
 pub data Spot (W : Type 0) : Type 0 where
   spot : ℕ → List (Typed W) → Vars W → Calls W → Spot W
   over : Ending W → Calls W → Spot W
+  waits : Calls W → Spot W
 
 -- the answer u into the variable d, then on at p; 'A stop ends either run'
 unfoldable pub putTo : {W : Type 0} → Answer W → ℕ → ℕ → List (Typed W) → Vars W → Calls W → Spot W
@@ -68,6 +69,15 @@ putTo halt d p q ρ h = over stopped h
 unfoldable pub dropTo : {W : Type 0} → Answer W → ℕ → List (Typed W) → Vars W → Calls W → Spot W
 dropTo (gives v) p q ρ h = spot p q ρ h
 dropTo halt p q ρ h = over stopped h
+
+-- the same of a reply
+unfoldable pub putReply : {W : Type 0} → Reply W → ℕ → ℕ → List (Typed W) → Vars W → Calls W → Spot W
+putReply (comes u) d p q ρ h = putTo u d p q ρ h
+putReply pending d p q ρ h = waits h
+
+unfoldable pub dropReply : {W : Type 0} → Reply W → ℕ → List (Typed W) → Vars W → Calls W → Spot W
+dropReply (comes u) p q ρ h = dropTo u p q ρ h
+dropReply pending p q ρ h = waits h
 
 unfoldable pub branchTo : {W : Type 0} → Truth → ℕ → ℕ → List (Typed W) → Vars W → Calls W → Spot W
 branchTo holds p s q ρ h = spot p q ρ h
@@ -92,8 +102,8 @@ module _ {W : Type 0} (R : Rule W) (A : Answers W) (B : Body) where
   execute (Cast d a) p q ρ h = putTo (R .cast (d .ty) (operand ρ a)) (d .id) p q ρ h
   execute (Zero d) p q ρ h = putTo (R .zero (d .ty)) (d .id) p q ρ h
   execute (Arg a) p q ρ h = spot p (q ++ (operand ρ a ∷ [])) ρ h
-  execute (Call (some d) f) p q ρ h = putTo (A h f q .0) (d .id) p [] ρ (h ++ A h f q .1)
-  execute (Call none f) p q ρ h = dropTo (A h f q .0) p [] ρ (h ++ A h f q .1)
+  execute (Call (some d) f) p q ρ h = putReply (A h f q .0) (d .id) p [] ρ (h ++ A h f q .1)
+  execute (Call none f) p q ρ h = dropReply (A h f q .0) p [] ρ (h ++ A h f q .1)
   execute (Label l) p q ρ h = spot p q ρ h
   execute (Jump l) p q ρ h = spot (labelPlace (B .instrs) l) q ρ h
   execute (JumpIfNot a l) p q ρ h = branchTo (R .truth (operand ρ a)) p (labelPlace (B .instrs) l) q ρ h
@@ -107,6 +117,7 @@ module _ {W : Type 0} (R : Rule W) (A : Answers W) (B : Body) where
   unfoldable pub step : Spot W → Spot W
   step (spot p q ρ h) = fetch (getElem? (B .instrs) p) p q ρ h
   step (over e h) = over e h
+  step (waits h) = waits h
 
   unfoldable pub steps : ℕ → Spot W → Spot W
   steps zero c = c

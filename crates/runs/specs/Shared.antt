@@ -15,7 +15,7 @@ use Rattle.conversion.specs.Expressions.{Functions}
 use Rattle.runs.specs.Rule.{Typed, Calls, Rule, Answers, Ending, passed, returns, stopped}
 use Rattle.runs.specs.TreeRun as Tree
 use Rattle.runs.specs.TreeRun.{Out, normal, broke, continued, returned, unfinished, treeRun}
-use Rattle.runs.specs.BodyRun.{Body, Vars, Spot, spot, over, bodyRun}
+use Rattle.runs.specs.BodyRun.{Body, Vars, Spot, spot, over, waits, bodyRun}
 
 -- ---- what is seen of a run: the calls so far, and how it ended
 
@@ -38,10 +38,12 @@ endT (unfinished h) = none
 unfoldable pub callsB : {W : Type 0} → Spot W → Calls W
 callsB (spot p q ρ h) = h
 callsB (over e h) = h
+callsB (waits h) = h
 
 unfoldable pub endB : {W : Type 0} → Spot W → Option (Ending W)
 endB (spot p q ρ h) = none
 endB (over e h) = some e
+endB (waits h) = none
 
 -- ---- the claim
 

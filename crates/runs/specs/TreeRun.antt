@@ -15,7 +15,7 @@ use Rattle.conversion.specs.Types.{onInt, onFloat, isFloat, size}
 use Rattle.conversion.specs.Scope.{Variable, Scope}
 use Rattle.conversion.specs.Expressions.{Callee, CallFunction, CallCast, Functions, unwrapOr, get-type, resolve-call, common-type}
 use Rattle.conversion.specs.Statements.{parameterType, asCall}
-use Rattle.runs.specs.Rule.{Answer, gives, halt, Truth, holds, fails, halts, Typed, Calls, Rule, Answers, Literal, IntLiteral, FloatLiteral, BoolLiteral, StringLiteral, NullLiteral, NullContent, Datum, constant, computed, read, readAll}
+use Rattle.runs.specs.Rule.{Answer, gives, halt, Truth, holds, fails, halts, Typed, Calls, Rule, Reply, comes, pending, Answers, Literal, IntLiteral, FloatLiteral, BoolLiteral, StringLiteral, NullLiteral, NullContent, Datum, constant, computed, read, readAll}
 
 -- a name that is known, with its type
 pub record Known : Type 0 where
@@ -43,10 +43,11 @@ scopeOf f l = record { variables = variables l; inLoop = none; function = f }
 
 -- ---- what a part of the run comes to, each with the calls so far
 
--- an expression: what it gives, or a stop
+-- an expression: what it gives, or a stop, or a reply that is pending
 pub data Got (W A : Type 0) : Type 0 where
   value : A → Calls W → Got W A
   stop : Calls W → Got W A
+  wait : Calls W → Got W A
 
 -- a statement
 pub data Out (W : Type 0) : Type 0 where
@@ -60,10 +61,12 @@ pub data Out (W : Type 0) : Type 0 where
 unfoldable pub bindG : {W A B : Type 0} → Got W A → (A → Calls W → Got W B) → Got W B
 bindG (value a h) f = f a h
 bindG (stop h) f = stop h
+bindG (wait h) f = wait h
 
 unfoldable pub bindO : {W A : Type 0} → Got W A → (A → Calls W → Out W) → Out W
 bindO (value a h) f = f a h
 bindO (stop h) f = stopped h
+bindO (wait h) f = unfinished h
 
 -- one statement, then the next
 unfoldable pub bindS : {W : Type 0} → Out W → (Values W → Calls W → Out W) → Out W
@@ -91,6 +94,15 @@ answered y halt h = stop h
 unfoldable pub bare : {W : Type 0} → Answer W → Calls W → Got W W
 bare (gives v) h = value v h
 bare halt h = stop h
+
+-- the same of a reply
+unfoldable pub replied : {W : Type 0} → ℕ → Reply W → Calls W → Got W (Datum W)
+replied y (comes u) h = answered y u h
+replied y pending h = wait h
+
+unfoldable pub handed : {W : Type 0} → Reply W → Calls W → Got W W
+handed (comes u) h = bare u h
+handed pending h = wait h
 
 unfoldable pub test : {W A : Type 0} → Truth → Calls W → Got W A → Got W A → Got W A
 test holds h a b = a
@@ -203,7 +215,7 @@ module _ {W : Type 0} (P : Program) (F : Functions) (f : Function) (R : Rule W) 
   -- 'A call computes all its arguments, fits them in order, then calls'
   unfoldable pub callWith : ℕ → Callee → List (Datum W) → Calls W → Got W (Datum W)
   callWith y (CallFunction g) vs h = bindG (fitArguments P R 0 vs g h) λ us h1.
-      answered y (A h1 (g .recOf) (readAll R us) .0) (h1 ++ A h1 (g .recOf) (readAll R us) .1)
+      replied y (A h1 (g .recOf) (readAll R us) .0) (h1 ++ A h1 (g .recOf) (readAll R us) .1)
   callWith y (CallCast t) vs h = castFirst y vs h
 
   unfoldable mutual
@@ -262,7 +274,7 @@ module _ {W : Type 0} (P : Program) (F : Functions) (f : Function) (R : Rule W) 
   unfoldable pub callOnly : Callee → Args → List Known → Values W → Calls W → Out W
   callOnly (CallCast t) l N σ h = stopped h
   callOnly (CallFunction g) l N σ h = bindO (evalArgs l N σ h) λ vs h1. bindO (fitArguments P R 0 vs g h1) λ us h2.
-      bindO (bare (A h2 (g .recOf) (readAll R us) .0) (h2 ++ A h2 (g .recOf) (readAll R us) .1)) λ v h3. normal σ h3
+      bindO (handed (A h2 (g .recOf) (readAll R us) .0) (h2 ++ A h2 (g .recOf) (readAll R us) .1)) λ v h3. normal σ h3
 
   -- 'A call statement whose expression is no call is typed and never run'
   unfoldable pub callStatement : Expr → List Known → Values W → Calls W → Out W
