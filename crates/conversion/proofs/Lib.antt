@@ -1,0 +1,5 @@
+pub mod Trees
+pub mod Marked
+pub mod Mistakes
+pub mod Within
+pub mod Sizes

@@ -1,0 +1,10 @@
+pub mod ConvertError
+pub mod Int128
+pub mod Ir
+pub mod Types
+pub mod Scope
+pub mod Expressions
+pub mod Statements
+pub mod Functions
+pub mod Converter
+pub mod Written
