@@ -1,18 +1,18 @@
 -- types.rs: literals, what fits where, casts; and `Type::size`. Equality of types is equality of record numbers, since in a good tree no two
 -- types are equal. Assumes nothing: these are definitions.
-use Prim.Native.Nat.{ℕ, zero, suc, _*_, _-_, _^_}
+use Prim.Native.Nat.{ℕ, zero, suc, _*_, _%_, _^_}
 use mathlib.Core.Bool.{Bool, true, false, not, _&&_, _||_}
 use mathlib.Core.List.{List, [], _∷_}
 use mathlib.Core.Option.{Option, none, some}
 use lib.Dec.{eqb, leb, ltb}
-use lib.IntN.{ℤ, pos, negsuc, negℤ}
+use lib.IntN.{ℤ}
 use lib.ListN.{getD}
-use lib.Signed.{leZ}
 use lib.Ieee as Ieee
 use lib.Ieee.{Float, nan, inf, fin, binary64}
 use Rattle.laws.specs.Fix.{pick, below, fix}
 use Rattle.syntax.specs.Syntax.{Ty, TInt, TFloat, TBool, TChar, TByte, TAddress, TArray, TCustom, TNull, UnaryOp, Neg, BitNot, Not, BinaryOp, Or, And, BitOr, BitXor, BitAnd, Eq, NotEq, Lt, Le, Gt, Ge, Shl, Shr, Add, Sub, Mul, Div, Rem, Expr, EInt, EFloat, EStr, EBool, EName, ENull, ESizeOf, EUnary, EBinary, ECall, Args, nullType}
-use Rattle.conversion.specs.Int128.{negOf, notOf, addOf, subOf, mulOf, divOf, remOf, andOf, orOf, xorOf, shlOf, shrOf}
+use Rattle.int128.specs.Ops.{negOf, notOf, addOf, subOf, mulOf, andOf, orOf, xorOf, shlOf, shrOf, byCount, intFits}
+use Rattle.conversion.specs.Int128.{divOf, remOf}
 
 -- ---- a type taken apart: `matches!(ty, Type::Int { .. })` and its like
 
@@ -80,8 +80,8 @@ foldTwo Rem a b = remOf a b
 foldTwo BitAnd a b = some (andOf a b)
 foldTwo BitOr a b = some (orOf a b)
 foldTwo BitXor a b = some (xorOf a b)
-foldTwo Shl a b = shlOf a b
-foldTwo Shr a b = shrOf a b
+foldTwo Shl a b = byCount (shlOf a) b
+foldTwo Shr a b = byCount (shrOf a) b
 foldTwo Or a b = none
 foldTwo And a b = none
 foldTwo Eq a b = none
@@ -163,10 +163,7 @@ float-value (ECall r v l) = none
 
 -- `int_fits`: (min..=max).contains(&value)
 unfoldable pub int-fits : ℤ → Bool → Bool → Bool
-int-fits v true false = leZ (negℤ (pos (2 ^ 31))) v && leZ v (pos (2 ^ 31 - 1))
-int-fits v true true = leZ (pos 0) v && leZ v (pos (2 ^ 32 - 1))
-int-fits v false false = leZ (negℤ (pos (2 ^ 63))) v && leZ v (pos (2 ^ 63 - 1))
-int-fits v false true = leZ (pos 0) v && leZ v (pos (2 ^ 64 - 1))
+int-fits v short unsigned = intFits v short unsigned
 
 -- `float_fits`: 'finite and, for a short one, no further from zero than bits 47EFFFFFE0000000'
 unfoldable pub float-fits : Float → Bool → Bool
