@@ -1,0 +1,3 @@
+mod SizeCases
+mod Tables
+mod TypeCases

@@ -1,0 +1,6 @@
+// Literals, what fits where, casts, sizes and operators: Krc's converter/types.rs on records of a tree. A type is the number of its record;
+// in a judged tree no two types are equal, so types are equal where their numbers are.
+pub mod casts;
+pub mod form;
+pub mod operators;
+pub mod size;
