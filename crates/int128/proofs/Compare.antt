@@ -63,7 +63,7 @@ module _ (x y : Int128) (s : Sized x) (t : Sized y) where
       go : (a b M : ℕ) → a < M → a + 0 < b + M
       go a b M f = omega arith
 
-leb-not : (a b : ℕ) → not (ltb b a) ≡ leb a b
+pub leb-not : (a b : ℕ) → not (ltb b a) ≡ leb a b
 leb-not a b = ⊎-elim (λ (h : b < a). ap not (lt-ltb b a h) ∙ sym (lt-leb a b h)) (λ (h : a ≤ b). ap not (le-ltb b a h) ∙ sym (le-leb a b h)) (lt-or-ge b a)
 
 pub not-less : (a b : ℤ) → not (ltZ b a) ≡ leZ a b

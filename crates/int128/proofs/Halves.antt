@@ -1,10 +1,12 @@
 -- Halves to whole, for halves in any base W: `hi * W + lo`. Its order goes by the upper half, and a sum of wholes is the sums of the halves
 -- with a carry. `omega` takes a product of two variables as one unknown, so the products are first brought to one form.
 use mathlib.Core.Path.{_≡_, refl, sym, ap, ap₂, _∙_}
+use mathlib.Core.Logic.{⊎-elim}
 use Prim.Native.Nat.{ℕ, zero, suc, _+_, _-_, _*_, _/_, _%_, _^_, _≤_, _<_}
-use native.Mathlib.Nat.{add-mul, mul-assoc, mul-le-mul-right, le-trans, le-add-right, lt-of-lt-of-le}
+use native.Mathlib.Nat.{add-mul, mul-assoc, mul-le-mul-right, le-trans, le-add-right, lt-of-lt-of-le, sub-add-cancel, zero-mul, zero-add}
 use native.Mathlib.Omega.{arith}
 use lib.Arith.{digits-lt, digits-div, digits-mod}
+use Rattle.int128.proofs.Difference.{lt-or-ge}
 
 pub below : (W h : ℕ) {hi lo : ℕ} → hi < h → lo < W → hi * W + lo < h * W
 below W h k l = digits-lt k l
@@ -39,3 +41,48 @@ complement W hi lo h l =
   where
     go : (K J M : ℕ) → K + J + 1 * W ≡ M → K + ((W - 1) - lo) ≡ (M - 1) - (J + lo)
     go K J M e = omega arith
+
+-- differences, without and with a borrow
+pub sub-plain : (W ah al bh bl : ℕ) → bh ≤ ah → bl ≤ al → (ah - bh) * W + (al - bl) ≡ (ah * W + al) - (bh * W + bl)
+sub-plain W ah al bh bl h l =
+    let e : (ah - bh) * W + bh * W ≡ ah * W = sym (add-mul (ah - bh) bh W) ∙ ap (λ (x : ℕ). x * W) (sub-add-cancel h) in
+    go ((ah - bh) * W) (bh * W) (ah * W) e
+  where
+    go : (K J I : ℕ) → K + J ≡ I → K + (al - bl) ≡ (I + al) - (J + bl)
+    go K J I e = omega arith
+
+pub borrow-lt : (W ah al bh bl : ℕ) → al < bl → bh * W + bl ≤ ah * W + al → bh < ah
+borrow-lt W ah al bh bl l h =
+    ⊎-elim (λ (k : bh < ah). k) (λ (k : ah ≤ bh). absurd (go (ah * W) (bh * W) (mul-le-mul-right W k) h)) (lt-or-ge bh ah)
+  where
+    go : (I J : ℕ) → I ≤ J → J + bl ≤ I + al → ⊥
+    go I J k h = omega arith
+
+pub sub-borrow : (W ah al bh bl : ℕ) → al < bl → bl < W → bh < ah → (ah - bh - 1) * W + ((W - 1) - bl + 1 + al) ≡ (ah * W + al) - (bh * W + bl)
+sub-borrow W ah al bh bl l k h =
+    let e : (ah - bh - 1) * W + bh * W + 1 * W ≡ ah * W = sym (add-mul (ah - bh - 1 + bh) 1 W ∙ ap (λ (x : ℕ). x + 1 * W) (add-mul (ah - bh - 1) bh W)) ∙ ap (λ (x : ℕ). x * W) (one-back ah bh h) in
+    go ((ah - bh - 1) * W) (bh * W) (ah * W) e
+  where
+    one-back : (x y : ℕ) → y < x → x - y - 1 + y + 1 ≡ x
+    one-back x y h = omega arith
+
+    go : (K J I : ℕ) → K + J + 1 * W ≡ I → K + ((W - 1) - bl + 1 + al) ≡ (I + al) - (J + bl)
+    go K J I e = omega arith
+
+pub upper-le : (W ah al bh bl : ℕ) → al < W → bh * W + bl ≤ ah * W + al → bh ≤ ah
+upper-le W ah al bh bl l h =
+    ⊎-elim (λ (k : ah < bh). absurd (go (ah * W + al) (bh * W + bl) (below-upper W ah al bh bl l k) h)) (λ (k : bh ≤ ah). k) (lt-or-ge ah bh)
+  where
+    go : (x y : ℕ) → x < y → y ≤ x → ⊥
+    go x y k h = omega arith
+
+-- a whole of W or more has an upper half above 0, and one below W is its lower half
+pub upper-pos : (W h l : ℕ) → l < W → W ≤ h * W + l → 0 < h
+upper-pos W zero l k h = absurd (go (0 * W) (zero-mul W) k h)
+  where
+    go : (x : ℕ) → x ≡ 0 → l < W → W ≤ x + l → ⊥
+    go x e k h = omega arith
+upper-pos W (suc n) l k h = omega arith
+
+pub only-lower : (W h l n : ℕ) → l < W → n < W → h * W + l ≡ n → l ≡ n
+only-lower W h l n k m e = lower-is W h l 0 n k m (e ∙ sym (ap (λ (x : ℕ). x + n) (zero-mul W) ∙ zero-add n))

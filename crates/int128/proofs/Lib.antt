@@ -13,3 +13,5 @@ pub mod Counts
 pub mod Sign
 pub mod Columns
 pub mod Products
+pub mod Digits
+pub mod Normal

@@ -2,21 +2,21 @@
 -- The complement's law gives the magnitude below 0; the rest is by cases on the sign.
 use mathlib.Core.Path.{_≡_, refl, sym, ap, ap₂, _∙_, subst}
 use mathlib.Core.Logic.{⊎-elim}
-use mathlib.Core.Bool.{Bool, true, false, not, Bool·beq}
-use mathlib.Core.Option.{Option, none, some}
+use mathlib.Core.Bool.{Bool, true, false, not, cond, Bool·beq}
+use mathlib.Core.Option.{Option, none, some, Option·map}
 use Prim.Native.Nat.{ℕ, zero, suc, _+_, _-_, _*_, _/_, _%_, _^_, _≤_, _<_}
-use native.Mathlib.Nat.{le-trans, lt-of-lt-of-le, add-assoc}
+use native.Mathlib.Nat.{le-trans, lt-of-lt-of-le, lt-of-le-of-lt, add-assoc}
 use native.Mathlib.Omega.{arith}
-use lib.Dec.{leb, lit≤, lit<}
+use lib.Dec.{leb, eqb, lit≤, lit<}
 use lib.IntN.{ℤ, pos, negsuc, negℤ, natAbs, _*ℤ_}
-use lib.Signed.{nonNeg, mag, quotZ, remZ}
+use lib.Signed.{nonNeg, mag, mag-rem, quotZ, remZ}
 use mir.Syntax.{w128}
 use mir.Val.{toZ}
-use mir.ValLaws.{toZ-pos}
+use mir.ValLaws.{toZ-pos, toZ-fits}
 use borrow.Author.Tests.{le-leb, lt-leb}
 use Rattle.int128.specs.declared.Int128.{Int128}
 use Rattle.int128.specs.Value.{bitsOf, valueOf}
-use Rattle.int128.specs.Ops.{exact, signedOf}
+use Rattle.int128.specs.Ops.{exact, signedOf, divOf, remOf}
 use Rattle.int128.proofs.Difference.{lt-or-ge}
 use Rattle.int128.proofs.Range.{exact-yes, exact-no}
 use Rattle.int128.proofs.Halves.{above, complement}
@@ -118,3 +118,22 @@ rem-signed (negsuc a) b = refl
 -- a magnitude that was computed from two, with the signs as they were tested
 pub unlike-is : (a b : ℤ) (s t : Bool) (n k : ℕ) → s ≡ not (nonNeg a) → t ≡ not (nonNeg b) → n ≡ k → signedOf (not (Bool·beq s t)) n ≡ signedOf (unlike a b) k
 unlike-is a b s t n k e f g = ap₂ (λ (x y : Bool). signedOf (not (Bool·beq x y)) n) e f ∙ ap (signedOf (unlike a b)) g
+
+-- the answers of a division: nothing by 0, else the magnitudes' quotient with a sign, and a remainder where there is a quotient
+pub div-none : (a b : ℤ) → eqb (natAbs b) 0 ≡ true → none ≡ divOf a b
+div-none a b e = sym (ap (λ (t : Bool). cond t none (exact (quotZ a b))) e)
+
+pub div-is : (a b : ℤ) (s t : Bool) (n : ℕ) → s ≡ not (nonNeg a) → t ≡ not (nonNeg b) → n ≡ natAbs a / natAbs b → eqb (natAbs b) 0 ≡ false
+    → exact (signedOf (not (Bool·beq s t)) n) ≡ divOf a b
+div-is a b s t n e f g z =
+    ap exact (unlike-is a b s t n (natAbs a / natAbs b) e f g ∙ sym (quot-signed a b)) ∙ sym (ap (λ (x : Bool). cond x none (exact (quotZ a b))) z)
+
+pub rem-is : (a b q : ℤ) (s : Bool) (n : ℕ) → divOf a b ≡ some q → mag a < 2 ^ 127 → s ≡ not (nonNeg a) → n ≡ natAbs a % natAbs b → exact (signedOf s n) ≡ remOf a b
+rem-is a b q s n d h e f =
+    ap exact (ap₂ signedOf e f ∙ sym (rem-signed a b)) ∙ exact-yes (remZ a b) (lt-of-le-of-lt (mag-rem a b) h) ∙ sym (ap (Option·map (λ (z : ℤ). remZ a b)) d)
+
+pub rem-none : (a b : ℤ) → none ≡ divOf a b → none ≡ remOf a b
+rem-none a b e = ap (Option·map (λ (z : ℤ). remZ a b)) e
+
+pub value-mag : (x : Int128) → Sized x → mag (valueOf x) < 2 ^ 127
+value-mag x s = toZ-fits w128 (bitsOf x) (record { fits = fits x s }) .sfits

@@ -3,9 +3,9 @@
 -- `checked_shr` "returning None if rhs is larger than or equal to the number of bits".
 use Prim.Native.Nat.{ℕ, _-_, _*_, _%_, _^_}
 use mathlib.Core.Bool.{Bool, true, false, cond, _&&_}
-use mathlib.Core.Option.{Option, none, some}
-use lib.Dec.{ltb}
-use lib.IntN.{ℤ, pos, negsuc, negℤ, _+ℤ_, _-ℤ_, _*ℤ_}
+use mathlib.Core.Option.{Option, none, some, Option·map}
+use lib.Dec.{ltb, eqb}
+use lib.IntN.{ℤ, pos, negsuc, negℤ, natAbs, _+ℤ_, _-ℤ_, _*ℤ_}
 use lib.Signed.{leZ, ltZ, quotZ, remZ, shrZ}
 use lib.Bits.{bitAnd, bitOr, bitXor}
 use mir.Syntax.{w128}
@@ -85,3 +85,11 @@ byCount f (negsuc n) = none
 abbrev pub signedOf : Bool → ℕ → ℤ
 signedOf false n = pos n
 signedOf true n = negℤ (pos n)
+
+-- a / b, cut towards zero: nothing where b is 0 or the quotient does not fit
+abbrev pub divOf : ℤ → ℤ → Option ℤ
+divOf a b = cond (eqb (natAbs b) 0) none (exact (quotZ a b))
+
+-- a % b, with the sign of a: nothing where a / b is nothing
+abbrev pub remOf : ℤ → ℤ → Option ℤ
+remOf a b = Option·map (λ q. remZ a b) (divOf a b)

@@ -4,9 +4,14 @@ pub mod bits;
 pub mod magnitude;
 pub mod order;
 pub mod product;
+pub mod quotient;
 pub mod shifts;
 pub mod sums;
 pub mod words;
+
+pub use order::int_fits;
+pub use words::CheckedI64;
+pub use words::CheckedU64;
 
 // hi * 2^64 + lo, less 2^128 where hi is 2^63 or more.
 pub struct Int128 {

@@ -9,7 +9,7 @@ use super::Int128;
 use super::SIGN;
 
 // a < b, of the bits as unsigned numbers.
-fn below(a: Int128, b: Int128) -> bool
+pub(crate) fn below(a: Int128, b: Int128) -> bool
     ensures { λ r. ⌜ r ≡ ltb (bitsOf a) (bitsOf b) ⌝ }
 {
     if a.hi == b.hi {

@@ -16,7 +16,7 @@ pub(crate) enum Product {
     Over,
 }
 
-const BASE: u64 = 0x1_0000_0000;
+pub(crate) const BASE: u64 = 0x1_0000_0000;
 
 // The whole product of two words. Each is cut into digits of 32 bits, and the products of the digits are
 // added column by column with their carries, as in multiplying by hand.

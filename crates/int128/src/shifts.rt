@@ -8,7 +8,7 @@ use super::Int128;
 use super::SIGN;
 
 // The bits moved up by n, less those that leave at the top.
-fn shl_bits(x: Int128, n: u32) -> Int128
+pub(crate) fn shl_bits(x: Int128, n: u32) -> Int128
     requires { ⌜ n < 128 ⌝ }
     ensures { λ r. ⌜ bitsOf r ≡ bitsOf x * 2 ^ n % 2 ^ 128 ⌝ }
 {
@@ -30,7 +30,7 @@ fn shl_bits(x: Int128, n: u32) -> Int128
 }
 
 // The bits moved down by n, with zeros from the top.
-fn shr_bits(x: Int128, n: u32) -> Int128
+pub(crate) fn shr_bits(x: Int128, n: u32) -> Int128
     requires { ⌜ n < 128 ⌝ }
     ensures { λ r. ⌜ bitsOf r ≡ bitsOf x / 2 ^ n ⌝ }
 {
