@@ -1,3 +1,5 @@
+mod FoldCases
 mod SizeCases
 mod Tables
 mod TypeCases
+mod ValueCases

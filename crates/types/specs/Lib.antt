@@ -1,2 +1,3 @@
+pub mod Floats
 pub mod Operators
 pub mod Sizes
