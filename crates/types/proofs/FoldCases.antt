@@ -5,7 +5,6 @@ use mathlib.Core.Bool.{Bool, true, false}
 use mathlib.Core.List.{List, [], _∷_}
 use mathlib.Core.Option.{Option, none, some}
 use Prim.Native.Nat.{ℕ, zero, suc, _<_, _≤_}
-use native.Mathlib.Nat.{lt-or-ge}
 use native.Mathlib.Omega.{arith}
 use mathlib.Core.Logic.{⊎-elim}
 use lib.IntN.{ℤ}
@@ -16,13 +15,13 @@ use Rattle.int128.specs.declared.Int128.{Int128}
 use Rattle.int128.specs.declared.Checked.{Checked}
 use Rattle.int128.specs.declared.Checked.the-variants.{Value, Nothing}
 use Rattle.int128.specs.Value.{valueOf, answerOf}
-use Rattle.int128.specs.Ops.{negOf, notOf}
+use Rattle.int128.specs.Ops.{negOf, notOf, addOf, subOf, mulOf, divOf, remOf, andOf, orOf, xorOf, shlOf, shrOf, byCount}
 use Rattle.syntax.specs.Syntax.{UnaryOp, Neg, BinaryOp, Or, unaryOps, binaryOps}
 use Rattle.conversion.specs.Types.{foldUnary, foldTwo, foldBinary, negFloat, floatTwo, floatBinary}
 use Rattle.types.specs.declared.float_value.FloatValue.{FloatValue}
 use Rattle.types.specs.declared.float_value.FloatValue.the-variants as F
 use Rattle.types.specs.Floats.{floatOf}
-use Rattle.types.proofs.Tables.{at-each, past}
+use Rattle.types.proofs.Tables.{at-each, past, below-or-not}
 
 -- an operator that is neither BitNot nor Not
 neg-is : (op : ℕ) → (op ≡ 1 → ⊥) → (op ≡ 2 → ⊥) → getD unaryOps op Neg ≡ Neg
@@ -30,6 +29,12 @@ neg-is zero n₁ n₂ = refl
 neg-is (suc zero) n₁ n₂ = absurd (n₁ refl)
 neg-is (suc (suc zero)) n₁ n₂ = absurd (n₂ refl)
 neg-is (suc (suc (suc op))) n₁ n₂ = refl
+
+beyond-13 : (op : ℕ) → 11 ≤ op → (op ≡ 11 → ⊥) → (op ≡ 12 → ⊥) → (op ≡ 13 → ⊥) → 14 ≤ op
+beyond-13 op h n₁ n₂ n₃ = omega arith
+
+beyond-17 : (op : ℕ) → 14 ≤ op → (op ≡ 14 → ⊥) → (op ≡ 15 → ⊥) → (op ≡ 16 → ⊥) → (op ≡ 17 → ⊥) → 18 ≤ op
+beyond-17 op h n₁ n₂ n₃ n₄ = omega arith
 
 module _ (op : ℕ) where
   -- ---- integers
@@ -63,10 +68,56 @@ module _ (op : ℕ) where
     two-middle l h = at-each 11 (λ k. 4 < k → none ≡ foldTwo (getD binaryOps k Or) a b)
         (λ i. refl, (λ i. refl, (λ i. refl, (λ i. refl, (λ i. refl, (λ i. refl, (λ i. absurd (omega arith), (λ i. absurd (omega arith), (λ i. absurd (omega arith), (λ i. refl, (λ i. refl, tt))))))))))) op h l
 
-    pub two-past : 11 ≤ op → (op ≡ 11 → ⊥) → (op ≡ 12 → ⊥) → (op ≡ 13 → ⊥) → (op ≡ 14 → ⊥) → (op ≡ 15 → ⊥) → (op ≡ 16 → ⊥) → (op ≡ 17 → ⊥)
-        → none ≡ foldTwo (getD binaryOps op Or) a b
+    two-past : 18 ≤ op → none ≡ foldTwo (getD binaryOps op Or) a b
     unfolding foldTwo
-    two-past h n₁ n₂ n₃ n₄ n₅ n₆ n₇ = rw (past-or (omega arith))
+    two-past h = rw (past-or h)
+
+    pub two-shl : op ≡ 11 → (r : Checked) → answerOf r ≡ byCount (shlOf a) b → answerOf r ≡ foldTwo (getD binaryOps op Or) a b
+    unfolding foldTwo
+    two-shl e r q = rw e q
+
+    pub two-shr : op ≡ 12 → (r : Checked) → answerOf r ≡ byCount (shrOf a) b → answerOf r ≡ foldTwo (getD binaryOps op Or) a b
+    unfolding foldTwo
+    two-shr e r q = rw e q
+
+    pub two-add : op ≡ 13 → (r : Checked) → answerOf r ≡ addOf a b → answerOf r ≡ foldTwo (getD binaryOps op Or) a b
+    unfolding foldTwo
+    two-add e r q = rw e q
+
+    pub two-sub : op ≡ 14 → (r : Checked) → answerOf r ≡ subOf a b → answerOf r ≡ foldTwo (getD binaryOps op Or) a b
+    unfolding foldTwo
+    two-sub e r q = rw e q
+
+    pub two-mul : op ≡ 15 → (r : Checked) → answerOf r ≡ mulOf a b → answerOf r ≡ foldTwo (getD binaryOps op Or) a b
+    unfolding foldTwo
+    two-mul e r q = rw e q
+
+    pub two-div : op ≡ 16 → (r : Checked) → answerOf r ≡ divOf a b → answerOf r ≡ foldTwo (getD binaryOps op Or) a b
+    unfolding foldTwo
+    two-div e r q = rw e q
+
+    pub two-rem : op ≡ 17 → (r : Checked) → answerOf r ≡ remOf a b → answerOf r ≡ foldTwo (getD binaryOps op Or) a b
+    unfolding foldTwo
+    two-rem e r q = rw e q
+
+    pub two-or : op ≡ 2 → (v : ℤ) → v ≡ orOf a b → some v ≡ foldTwo (getD binaryOps op Or) a b
+    unfolding foldTwo
+    two-or e v q = rw e (ap some q)
+
+    pub two-xor : op ≡ 3 → (v : ℤ) → v ≡ xorOf a b → some v ≡ foldTwo (getD binaryOps op Or) a b
+    unfolding foldTwo
+    two-xor e v q = rw e (ap some q)
+
+    two-and-is : op ≡ 4 → (v : ℤ) → v ≡ andOf a b → some v ≡ foldTwo (getD binaryOps op Or) a b
+    unfolding foldTwo
+    two-and-is e v q = rw e (ap some q)
+
+    pub two-and : 2 ≤ op → op ≤ 4 → (op ≡ 2 → ⊥) → (op ≡ 3 → ⊥) → (v : ℤ) → v ≡ andOf a b → some v ≡ foldTwo (getD binaryOps op Or) a b
+    two-and h l n₂ n₃ v q = two-and-is (omega arith) v q
+
+    pub two-none : 11 ≤ op → (op ≡ 11 → ⊥) → (op ≡ 12 → ⊥) → (op ≡ 13 → ⊥) → (op ≡ 14 → ⊥) → (op ≡ 15 → ⊥) → (op ≡ 16 → ⊥) → (op ≡ 17 → ⊥)
+        → none ≡ foldTwo (getD binaryOps op Or) a b
+    two-none h n₁ n₂ n₃ n₄ n₅ n₆ n₇ = two-past (beyond-17 op (beyond-13 op h n₁ n₂ n₃) n₄ n₅ n₆ n₇)
 
   pub binary-left : (x y : Checked) → x ≡ Nothing → answerOf Nothing ≡ foldBinary (getD binaryOps op Or) (answerOf x) (answerOf y)
   unfolding foldBinary
@@ -120,13 +171,38 @@ module _ (op : ℕ) where
       unfolding floatOf negFloat
       neg-nothing e = rw e
 
+  pub float-add : op ≡ 13 → (a b : Float) (r : FloatValue) → floatOf r ≡ some (Ieee.add binary64 a b) → floatOf r ≡ floatTwo (getD binaryOps op Or) a b
+  unfolding floatTwo
+  float-add e a b r q = rw e q
+
+  pub float-sub : op ≡ 14 → (a b : Float) (r : FloatValue) → floatOf r ≡ some (Ieee.sub binary64 a b) → floatOf r ≡ floatTwo (getD binaryOps op Or) a b
+  unfolding floatTwo
+  float-sub e a b r q = rw e q
+
+  pub float-mul : op ≡ 15 → (a b : Float) (r : FloatValue) → floatOf r ≡ some (Ieee.mul binary64 a b) → floatOf r ≡ floatTwo (getD binaryOps op Or) a b
+  unfolding floatTwo
+  float-mul e a b r q = rw e q
+
+  pub float-div : op ≡ 16 → (a b : Float) (r : FloatValue) → floatOf r ≡ some (Ieee.div binary64 a b) → floatOf r ≡ floatTwo (getD binaryOps op Or) a b
+  unfolding floatTwo
+  float-div e a b r q = rw e q
+
   -- an operator that is none of the four
-  pub float-none : (13 ≤ op → op ≤ 16 → ⊥) → (a b : Float) → none ≡ floatTwo (getD binaryOps op Or) a b
+  float-none : (13 ≤ op → op ≤ 16 → ⊥) → (a b : Float) → none ≡ floatTwo (getD binaryOps op Or) a b
   unfolding floatTwo
   float-none n a b = ⊎-elim
       (λ h. at-each 18 (λ k. (13 ≤ k → k ≤ 16 → ⊥) → none ≡ floatTwo (getD binaryOps k Or) a b)
       (λ m. refl, (λ m. absurd (m (omega arith) (omega arith)), (λ m. absurd (m (omega arith) (omega arith)), (λ m. absurd (m (omega arith) (omega arith)), (λ m. absurd (m (omega arith) (omega arith)), (λ m. refl, (λ m. refl, (λ m. refl, (λ m. refl, (λ m. refl, (λ m. refl, (λ m. refl, (λ m. refl, (λ m. refl, (λ m. refl, (λ m. refl, (λ m. refl, (λ m. refl, tt)))))))))))))))))) op h n)
-      (λ h. rw (past-or h)) (lt-or-ge op 18)
+      (λ h. rw (past-or h)) (below-or-not op 18)
+
+  pub float-none-low : op < 13 → (a b : Float) → none ≡ floatTwo (getD binaryOps op Or) a b
+  float-none-low h = float-none (λ i j. omega arith)
+
+  pub float-none-high : 16 < op → (a b : Float) → none ≡ floatTwo (getD binaryOps op Or) a b
+  float-none-high h = float-none (λ i j. omega arith)
+
+  pub float-none-four : (op ≡ 13 → ⊥) → (op ≡ 14 → ⊥) → (op ≡ 15 → ⊥) → (op ≡ 16 → ⊥) → (a b : Float) → none ≡ floatTwo (getD binaryOps op Or) a b
+  float-none-four n₁ n₂ n₃ n₄ = float-none (λ i j. omega arith)
 
 nan-add : (x : Float) → nan ≡ Ieee.add binary64 x nan
 unfolding Ieee.add

@@ -1,3 +1,5 @@
+mod FitsCases
+mod FloatFacts
 mod FoldCases
 mod SizeCases
 mod Tables

@@ -1,7 +1,7 @@
 -- A table's rule at each index, from one test that antt computes over the whole table.
 -- By induction on the number of entries. Assumes nothing.
 use mathlib.Core.Path.{_≡_, refl, sym, subst}
-use mathlib.Core.Logic.{_⊎_, inl, inr}
+use mathlib.Core.Logic.{_⊎_, inl, inr, ⊎-elim}
 use mathlib.Core.Bool.{Bool, true, false, Bool·beq}
 use mathlib.Core.List.{List, [], _∷_}
 use Prim.Native.Nat.{ℕ, zero, suc, _<_, _≤_}
@@ -71,3 +71,9 @@ pub square : (n m : ℕ) (rule : ℕ → ℕ → Bool) (xs : List (List Bool)) (
 square n m rule xs a b ha hb t =
     beq→eq _ _ (passes m (λ j. Bool·beq (getD (getD xs a []) j false) (rule a j))
     (passes n (λ i. upto m (λ j. Bool·beq (getD (getD xs i []) j false) (rule i j))) t a ha) b hb)
+
+-- below n, or not
+pub below-or-not : (k n : ℕ) → (k < n) ⊎ (n ≤ k)
+below-or-not k zero = inr (omega arith)
+below-or-not zero (suc n) = inl (omega arith)
+below-or-not (suc k) (suc n) = ⊎-elim (λ h. inl (omega arith)) (λ h. inr (omega arith)) (below-or-not k n)

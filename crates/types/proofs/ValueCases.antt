@@ -6,7 +6,6 @@ use mathlib.Core.List.{List, [], _∷_}
 use mathlib.Core.Logic.{⊎-elim}
 use mathlib.Core.Option.{Option, none, some}
 use Prim.Native.Nat.{ℕ, zero, suc, _+_, _*_, _<_, _≤_}
-use native.Mathlib.Nat.{lt-or-ge}
 use native.Mathlib.Omega.{arith}
 use lib.Dec.{eqb, leb}
 use lib.IntN.{ℤ}
@@ -33,7 +32,7 @@ use Rattle.conversion.specs.Types.{foldUnary, foldBinary, int-value, negFloat, 
 use Rattle.types.specs.declared.float_value.FloatValue.{FloatValue}
 use Rattle.types.specs.declared.float_value.FloatValue.the-variants as F
 use Rattle.types.specs.Floats.{floatOf}
-use Rattle.types.proofs.Tables.{at-each, past}
+use Rattle.types.proofs.Tables.{at-each, past, below-or-not}
 
 -- no constant of either form
 NoValue : Expr → Type 0
@@ -77,7 +76,7 @@ module _ (tree text : List ℕ) (r k : ℕ) (ek : k ≡ kindOf tree r) where
       → NoValue (exprOf (getD (kinds tree text) j (nothingAt tree text) (node tree text) r)))
       (λ a b c d. (refl, refl), (λ a b c d. (refl, refl), (λ a b c d. (refl, refl), (λ a b c d. (refl, refl), (λ a b c d. (refl, refl), (λ a b c d. (refl, refl), (λ a b c d. if-none (bit 1 (detailOf tree r)) _ _ refl refl, (λ a b c d. (refl, refl), (λ a b c d. (refl, refl), (λ a b c d. (refl, refl), (λ a b c d. (refl, refl), (λ a b c d. (refl, refl), (λ a b c d. (refl, refl), (λ a b c d. (refl, refl), (λ a b c d. (refl, refl), (λ a b c d. absurd (d refl), (λ a b c d. absurd (c refl), (λ a b c d. (refl, refl), (λ a b c d. (refl, refl), (λ a b c d. (refl, refl), (λ a b c d. (refl, refl), (λ a b c d. (refl, refl), (λ a b c d. absurd (b refl), (λ a b c d. absurd (a refl), (λ a b c d. (refl, refl), (λ a b c d. (refl, refl), tt))))))))))))))))))))))))))
       k h n₂ n₃ n₉ n₁₀)
-      (λ h. rw (past (kinds tree text) (nothingAt tree text) k h) (refl, refl)) (lt-or-ge k 26))
+      (λ h. rw (past (kinds tree text) (nothingAt tree text) k h) (refl, refl)) (below-or-not k 26))
 
   -- ---- int_value
   pub int-is : k ≡ 2 → (b : ℕ) → b ≡ wordOf tree r 0 + wordOf tree r 1 * 4294967296 → (w : Int128) → valueOf w ≡ toZ w64 b
@@ -117,7 +116,7 @@ module _ (tree text : List ℕ) (r k : ℕ) (ek : k ≡ kindOf tree r) where
 
     pub int-right-out : r ≤ b → answerOf Nothing ≡ int-value (exprOf (node tree text r))
     unfolding int-value exprOf
-    int-right-out h = rw (binary-any q, not-lower B b eb h) (sym (two-none _ _))
+    int-right-out h = rw (binary-any q, not-lower B b eb h) (sym (two-none (getD binaryOps (detailOf tree r) Or) (int-value (exprOf (child tree text (node tree text) r A)))))
 
     pub float-binary : a < r → b < r → (d : ℕ) → d ≡ detailOf tree r → (x y v : FloatValue) → floatOf x ≡ float-value (exprOf (node tree text a))
         → floatOf y ≡ float-value (exprOf (node tree text b)) → floatOf v ≡ floatBinary (getD binaryOps d Or) (floatOf x) (floatOf y)
@@ -131,7 +130,7 @@ module _ (tree text : List ℕ) (r k : ℕ) (ek : k ≡ kindOf tree r) where
 
     pub float-right-out : r ≤ b → floatOf F.Nothing ≡ float-value (exprOf (node tree text r))
     unfolding float-value exprOf floatOf
-    float-right-out h = rw (binary-any q, not-lower B b eb h) (sym (float-two-none _ _))
+    float-right-out h = rw (binary-any q, not-lower B b eb h) (sym (float-two-none (getD binaryOps (detailOf tree r) Or) (float-value (exprOf (child tree text (node tree text) r A)))))
 
   pub int-other : (k ≡ 2 → ⊥) → (k ≡ 9 → ⊥) → (k ≡ 10 → ⊥) → answerOf Nothing ≡ int-value (exprOf (node tree text r))
   unfolding int-value exprOf NoValue
@@ -158,8 +157,8 @@ module _ (tree text : List ℕ) (r k : ℕ) (ek : k ≡ kindOf tree r) where
   -- ---- the literal null, of an expression
   pub null-is : isExpr (kindOf tree r) ≡ true → eqb k 7 ≡ isNullLiteral (exprOf (node tree text r))
   unfolding kinds exprOf isNullLiteral intAt floatAt strAt boolAt nameAt nullAt sizeOfAt unaryAt binaryAt callAt
-  null-is h = let l : 2 ≤ kindOf tree r = leb-true 2 (kindOf tree r) (and-left _ _ h) in
-      let u : kindOf tree r ≤ 11 = leb-true (kindOf tree r) 11 (and-right _ _ h) in
+  null-is h = let l : 2 ≤ kindOf tree r = leb-true 2 (kindOf tree r) (and-left (leb 2 (kindOf tree r)) (leb (kindOf tree r) 11) h) in
+      let u : kindOf tree r ≤ 11 = leb-true (kindOf tree r) 11 (and-right (leb 2 (kindOf tree r)) (leb (kindOf tree r) 11) h) in
       rw (node-is tree text r k ek) (at-each 12 (λ j. 2 ≤ j → eqb j 7 ≡ isNullLiteral (exprOf (getD (kinds tree text) j (nothingAt tree text) (node tree text) r)))
       (λ i. refl, (λ i. refl, (λ i. refl, (λ i. refl, (λ i. refl, (λ i. refl, (λ i. refl, (λ i. refl, (λ i. refl, (λ i. refl, (λ i. absurd (omega arith), (λ i. absurd (omega arith), tt))))))))))))
       k (omega arith) (omega arith))

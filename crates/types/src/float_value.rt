@@ -8,7 +8,7 @@ ghost use lib.Ieee.{Float, binary64, nan, nanBits, ofBits};
 ghost use Rattle.syntax.specs.Syntax.{unaryOps, binaryOps, Neg, Or};
 ghost use Rattle.syntax.specs.Decode.{exprOf, node};
 ghost use Rattle.conversion.specs.Types.{negFloat, floatTwo, floatBinary, float-value, float-fits};
-ghost use Rattle.types.specs.Floats.{floatOf, finite};
+ghost use Rattle.types.specs.Floats.{floatOf, finite, small};
 use crate::form::reference;
 use crate::form::two_words;
 use records::words::detail;
@@ -161,15 +161,19 @@ fn is_finite(x: f64) -> bool
     d == d
 }
 
+// No further from zero than the limit.
+fn is_small(x: f64) -> bool
+    ensures { λ r. ⌜ r ≡ small x ⌝ }
+{
+    if x <= LIMIT { -LIMIT <= x } else { false }
+}
+
 pub fn float_fits(value: f64, short: bool) -> bool
     ensures { λ r. ⌜ r ≡ float-fits value short ⌝ }
 {
     if is_finite(value) {
         if short {
-            if value <= LIMIT {
-                return -LIMIT <= value;
-            }
-            return false;
+            return is_small(value);
         }
         return true;
     }

@@ -52,16 +52,28 @@ fn fold_checked(op: u8, left: Int128, right: Int128) -> Checked
     requires { ⌜ 11 ≤ op ⌝ }
     ensures { λ r. ⌜ answerOf r ≡ foldTwo (getD binaryOps op Or) (valueOf left) (valueOf right) ⌝ }
 {
-    match op {
-        11 => left.checked_shl_by(right),
-        12 => left.checked_shr_by(right),
-        13 => left.checked_add(right),
-        14 => left.checked_sub(right),
-        15 => left.checked_mul(right),
-        16 => left.checked_div(right),
-        17 => left.checked_rem(right),
-        _ => Checked::Nothing,
+    if op == 11 {
+        return left.checked_shl_by(right);
     }
+    if op == 12 {
+        return left.checked_shr_by(right);
+    }
+    if op == 13 {
+        return left.checked_add(right);
+    }
+    if op == 14 {
+        return left.checked_sub(right);
+    }
+    if op == 15 {
+        return left.checked_mul(right);
+    }
+    if op == 16 {
+        return left.checked_div(right);
+    }
+    if op == 17 {
+        return left.checked_rem(right);
+    }
+    Checked::Nothing
 }
 
 fn fold_two(op: u8, left: Int128, right: Int128) -> Checked
