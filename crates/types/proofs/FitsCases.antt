@@ -175,9 +175,6 @@ module _ (tree text : List ℕ) (e ty expected : ℕ) where
     unfolding rangeErrorAt range-error literalAt
     range-no q = rw (sym el ∙ q)
 
--- one of two addresses is to Null
-pub nothing-left : (a a′ b : ℕ) → a ≡ a′ → a ≡ 9 → true ≡ (eqb a′ 9 || eqb b 9)
-nothing-left a a′ b e q = rw (eq-eqb a′ 9 (sym e ∙ q))
-
+-- the second of two addresses is to Null, where the first is not
 pub nothing-right : (a a′ b b′ : ℕ) → a ≡ a′ → (a ≡ 9 → ⊥) → b ≡ b′ → eqb b 9 ≡ (eqb a′ 9 || eqb b′ 9)
 nothing-right a a′ b b′ e n q = rw (ne-eqb a′ 9 (λ h. n (e ∙ h)), q)

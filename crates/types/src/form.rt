@@ -11,10 +11,15 @@ use records::words::word;
 
 // Document 01, kind 1.
 pub const INT: u8 = 1;
+
 pub const FLOAT: u8 = 2;
+
 pub const ADDRESS: u8 = 6;
+
 pub const ARRAY: u8 = 7;
+
 pub const CUSTOM: u8 = 8;
+
 pub const NULL: u8 = 9;
 
 // Which of the forms a type has: its detail without the marks.

@@ -67,7 +67,7 @@ returns-6 c text =
 -- src/fits.rt:67:1
 returns-7 : tie.Need-returns-7
 returns-7 c text =
-    into-rest _ text _ _ _ _ (c .before .before .before .before .before .before .form .ensures) _ (c .before .before .before .before .before .form2 .ensures) (c .before .before .before .before .if1 .left) (c .before .before .before .if3 .left) (c .before .if6 .left) (c .if7 .left) (c .before .before .before .before .before .before .before .before .pre .1 .least) (c .before .before .before .before .before .before .before .before .pre .1 .most)
+    into-rest _ text _ _ _ _ (c .before .before .before .before .before .before .form .ensures) _ (c .before .before .before .before .before .form2 .ensures) (c .before .before .before .before .if1 .left) (c .before .before .before .if3 .left) (c .before .if6 .left) (c .if7 .left) (c .before .before .before .before .before .before .before .before .pre .1 .0 .least) (c .before .before .before .before .before .before .before .before .pre .1 .0 .most)
 
 -- src/fits.rt:67:1
 returns-8 : tie.Need-returns-8

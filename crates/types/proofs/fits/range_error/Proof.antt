@@ -18,7 +18,7 @@ fits-requires c κs = search needs
 
 -- src/fits.rt:164:9
 returns : tie.Need-returns
-returns c text = range-yes _ text _ _ _ _ (c .before .before .is-literal .ensures text) (c .before .if1 .taken) _ (c .fits .ensures text)
+returns c text = range-yes _ text _ _ _ _ (c .before .before .is-literal .ensures text) (c .before .if1 .taken) _ (c .fits2 .ensures text)
 
 -- src/fits.rt:157:1
 returns-2 : tie.Need-returns-2

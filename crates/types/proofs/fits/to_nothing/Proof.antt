@@ -1,5 +1,7 @@
 -- One of two addresses is to Null, by the two tests. Assumes nothing.
-use Rattle.types.proofs.FitsCases.{nothing-left, nothing-right}
+use mathlib.Core.Path.{sym, _∙_}
+use borrow.Author.Tests.{eq-eqb}
+use Rattle.types.proofs.FitsCases.{nothing-right}
 use borrow.Author.Needs.{needs}
 use Rattle.types.proofs.fits.to_nothing.Statement.{statement}
 use Rattle.types.proofs.fits.to_nothing.Tie as tie
@@ -13,7 +15,7 @@ reference-requires c κs = search needs
 
 -- src/fits.rt:61:9
 returns : tie.Need-returns
-returns c = nothing-left _ _ _ (c .before .reference .ensures) (c .if1 .taken)
+returns c = rw (eq-eqb _ _ (sym (c .before .reference .ensures) ∙ c .if1 .taken))
 
 -- src/fits.rt:63:5
 reference-requires-2 : tie.Need-reference-requires-2

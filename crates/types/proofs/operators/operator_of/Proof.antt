@@ -33,11 +33,10 @@ table = entry 0 1 ∷ entry 0 1 ∷ entry 3 0 ∷ entry 3 0 ∷ entry 3 0 ∷ en
 
 returns : tie.Need-returns
 unfolding entry table operandClass givesBool
-returns c =
-    (
-      column (λ (x : Operator). x .operands) 18 (λ k. classNumber (operandClass (getD binaryOps k Or))) table (entry 0 0) (c .before .args .op) (search needs) tt,
-      column (λ (x : Operator). x .result) 18 (λ k. resultNumber (givesBool (getD binaryOps k Or))) table (entry 0 0) (c .before .args .op) (search needs) tt,
-    )
+returns c = (
+  column (λ (x : Operator). x .operands) 18 (λ k. classNumber (operandClass (getD binaryOps k Or))) table (entry 0 0) (c .before .args .op) (search needs) tt,
+  column (λ (x : Operator). x .result) 18 (λ k. resultNumber (givesBool (getD binaryOps k Or))) table (entry 0 0) (c .before .args .op) (search needs) tt,
+)
 
 pub operator-of-spec : {M : Type 1} → statement M
 operator-of-spec = tie.close (tie.spec mul-result array-copy-out-result returns)
