@@ -1,3 +1,4 @@
+pub mod Cases
 pub mod Unfold
 pub mod Cases
 pub mod Sums

@@ -1,0 +1,7 @@
+mod FitsCases
+mod FloatFacts
+mod FoldCases
+mod SizeCases
+mod Tables
+mod TypeCases
+mod ValueCases

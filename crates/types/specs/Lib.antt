@@ -1,0 +1,4 @@
+pub mod Fits
+pub mod Floats
+pub mod Operators
+pub mod Sizes
