@@ -173,10 +173,10 @@ fn differences(pairs: &[(i128, i128)]) -> u64 {
     found
 }
 
-/// Nanoseconds an operation, the better of three rounds over the pairs.
+/// Nanoseconds an operation: the best of many short rounds, so that another program on the machine counts for little.
 fn nanoseconds(pairs: &[(i128, i128)], mut f: impl FnMut(i128, i128)) -> f64 {
     let mut best = f64::MAX;
-    for _ in 0..3 {
+    for _ in 0..200 {
         let start = Instant::now();
         for &(a, b) in pairs {
             f(a, b);
@@ -203,7 +203,7 @@ fn main() {
     let found = differences(&pairs);
     println!("{boundary_pairs} boundary pairs and {count} random pairs: {found} differences");
     println!("nanoseconds an operation     int128     i128");
-    let sample = &pairs[boundary_pairs..];
+    let sample = &pairs[boundary_pairs..boundary_pairs + count.min(5000)];
     for (name, ours, theirs) in operations() {
         let counted: Vec<(i128, i128)> = match name.starts_with("sh") {
             true => sample.iter().map(|&(a, b)| (a, b.rem_euclid(128))).collect(),

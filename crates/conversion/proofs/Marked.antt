@@ -4,7 +4,7 @@ use mathlib.Core.Path.{_≡_, refl}
 use Prim.Native.Nat.{ℕ, _-_, _^_}
 use mathlib.Core.Bool.{Bool, true, false}
 use mathlib.Core.List.{List, [], _∷_, _++_}
-use mathlib.Core.Option.{Option, none as nothing, some}
+use mathlib.Core.Option.{none as nothing, some}
 use lib.IntN.{ℤ, pos, negsuc}
 use Rattle.records.specs.Words.{none}
 use Rattle.syntax.specs.Syntax.{Expr, EInt, EBinary, Shl, Div}

@@ -2,12 +2,12 @@
 -- By computing: each tree is written out as bytes, decoded and converted. Assumes nothing.
 use mathlib.Core.Path.{_≡_, refl}
 use Prim.Native.Nat.{ℕ}
-use mathlib.Core.Bool.{Bool, true, false}
+use mathlib.Core.Bool.{true, false}
 use mathlib.Core.List.{List, [], _∷_, _++_}
 use lib.IntN.{pos}
 use Rattle.records.specs.Words.{none}
 use Rattle.syntax.specs.Syntax.{Add}
-use Rattle.conversion.specs.Ir.{VarId, OVar, OInt, Copy, Binary, Comment, LabelName, loopStart, loopEnd, loopCheck, logicRhs, logicEnd, FloatEntry}
+use Rattle.conversion.specs.Ir.{VarId, OVar, OInt, Copy, Binary, Comment, loopStart, loopEnd, loopCheck, logicRhs, logicEnd, FloatEntry}
 use Rattle.conversion.proofs.Trees.{row, types, Said, body, floats, answers, labelled, bodyOf, floatsOf, answerOf, labelsOf, convertTree}
 
 -- p is SizeOf long Int

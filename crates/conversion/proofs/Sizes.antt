@@ -1,28 +1,31 @@
 -- Sizes suffice: the tables of functions that are made of n records hold at most 4n instructions, 3n variables, 3n labels, n functions, n strings, 2n floats.
 -- By recursion over the syntax tree: each construct adds at most so much for its own records. Assumes nothing.
-use mathlib.Core.Path.{_≡_, refl, sym, ap, _∙_}
+use mathlib.Core.Path.{_≡_, refl, ap, _∙_}
 use mathlib.Core.Bool.{Bool, true, false, not, _&&_}
 use mathlib.Core.List.{List, [], _∷_, _++_}
 use mathlib.Core.Option.{Option, none, some}
-use Prim.Native.Nat.{ℕ, zero, suc, _+_, _*_, _≤_}
+use Prim.Native.Nat.{ℕ, suc, _+_, _*_, _≤_, _<_}
 use native.Mathlib.Omega.{arith}
 use lib.Dec.{eqb}
 use lib.IntN.{pos}
 use lib.ListN.{length, length-append}
 use Rattle.laws.specs.Fix.{pick}
 use Rattle.syntax.specs.Syntax.{Text, Ty, TInt, TFloat, TBool, TChar, TByte, TAddress, TArray, TCustom, TNull, UnaryOp, BinaryOp, Or, And, BitOr, BitXor, BitAnd, Eq, NotEq, Lt, Le, Gt, Ge, Shl, Shr, Add, Sub, Mul, Div, Rem, Expr, EInt, EFloat, EStr, EBool, EName, ENull, ESizeOf, EUnary, EBinary, ECall, Args, noArgs, Value, ToType, Statement, SDeclare, SInit, SReturn, SCall, SIf, SIfElse, SWhile, SFor, SBreak, SContinue, Block, done, next, Param, Function, Program, place, boolType, nullType, addressOfNull}
+use Rattle.records.specs.Words.{records}
+use Rattle.syntax.specs.Decode.{program, functionsBelow}
+use Rattle.syntax.proofs.Held.{Complete, Once, functions-records}
 use Rattle.syntax.specs.Count.{under, argsRecords, exprRecords, statementRecords, blockRecords, bodyRecords, functionRecords, allRecords}
 use Rattle.conversion.specs.ConvertError as C
-use Rattle.conversion.specs.ConvertError.{Result, ok, err, ConvertErrorKind, AssignToConstant, LiteralOutOfRange, NotBool, NotInteger, UnknownVariable, ReturnWithoutType, BreakOutOfLoop, ContinueOutOfLoop, WrongAssignType, WrongReturnType, AlreadyDeclared, MissingReturn, Panic}
-use Rattle.conversion.specs.Ir.{Copy, Unary, Binary, Cast, Zero, Arg, Call, Label, Jump, JumpIfNot, Return, Comment, loopStart, loopEnd, loopCheck, otherwiseLabel, conditionEnd, logicRhs, logicEnd, VarId, Operand, OVar, OInt, OFloat, OBool, ODataAddress, ONull, Instr, State, Out, made, failed, M, _>>=_, _>>_, pure, fail, lift, emit, new-var, label-id, string-id, float-id, floatBits, IrFunction, IrProgram}
-use Rattle.conversion.specs.Types.{onInt, onFloat, isFloat, isSome, fits, range-error, size}
+use Rattle.conversion.specs.ConvertError.{Result, ok, err, ConvertErrorKind, AssignToConstant, LiteralOutOfRange, NotBool, NotInteger, UnknownVariable, ReturnWithoutType, BreakOutOfLoop, ContinueOutOfLoop, WrongAssignType, WrongReturnType, AlreadyDeclared, MissingReturn, WouldPanic}
+use Rattle.conversion.specs.Ir.{Copy, Unary, Binary, Cast, Zero, Arg, Call, Label, Jump, JumpIfNot, Return, Comment, loopStart, loopEnd, loopCheck, otherwiseLabel, conditionEnd, logicRhs, logicEnd, VarId, Operand, OVar, OInt, OFloat, OBool, ODataAddress, ONull, State, Out, M, _>>=_, pure, lift, IrFunction, IrProgram}
+use Rattle.conversion.specs.Types.{isFloat, isSome, fits, range-error, size}
 use Rattle.conversion.specs.Scope.{Variable, Scope, find-variable, withVariable, withLoop, declare}
 use Rattle.conversion.specs.Expressions.{Callee, CallFunction, CallCast, Functions, unwrapOr, get-type, resolve-call, common-type}
-use Rattle.conversion.specs.Statements.{nameOperand, sizeOperand, castOperand, refloat, fit-operand, parameterType, fitFrom, fit-args, emitArgs, convert-unary, convertAnd, convertOr, asCall, castFirst, convertOther, convertBinaryBy, convert-binary, callFunction, callValue, convert-call-value, convert-expr, convert-args, convert-cond, checkFits, zeroValue, convert-declare, assignTo, convert-assign, initNew, initBy, convert-init, returnAs, convert-return, callStatement, convert-call, convert-if, convertIfElse, convert-while-loop, checkBound, forLoop, forInt, forKnown, convert-for-loop, convert-break, convert-continue, convert-statement, convert-block}
+use Rattle.conversion.specs.Statements.{nameOperand, sizeOperand, castOperand, refloat, fit-operand, fitFrom, fit-args, emitArgs, convert-unary, convertAnd, convertOr, asCall, castFirst, convertOther, convertBinaryBy, convert-binary, callFunction, callValue, convert-call-value, convert-expr, convert-args, convert-cond, checkFits, zeroValue, convert-declare, assignTo, convert-assign, initNew, initBy, convert-init, returnAs, convert-return, callStatement, convert-call, convert-if, convertIfElse, convert-while-loop, checkBound, forLoop, forInt, forKnown, convert-for-loop, convert-break, convert-continue, convert-statement, convert-block}
 use Rattle.conversion.specs.Functions.{Pool, declareParams, convertBody, always-returns, finished, convertFunction, convert-func, get-all-functions, check-main}
 use Rattle.conversion.specs.Converter.{convertAll, convert}
 use Rattle.conversion.specs.Written.{codeOf, allCode, allVars, allLabels}
-use Rattle.conversion.proofs.Within.{Grew, Grown, grew, fell, Within, Any, pure-within, fail-within, lift-within, emit-within, new-var-within, floatBits-within, label-within, string-within, float-within, then-using, then-within, seq-within, widen, pick-within, onInt-within, onFloat-within}
+use Rattle.conversion.proofs.Within.{Grown, grew, fell, Within, Any, pure-within, fail-within, lift-within, emit-within, new-var-within, floatBits-within, label-within, string-within, float-within, then-using, then-within, seq-within, widen, pick-within, onInt-within, onFloat-within}
 
 -- ---- what is counted of arguments: their expressions' records below their own, and how many values there are
 
@@ -50,12 +53,12 @@ done-within a = pure-within Any a tt
 
 name-within : (r : ℕ) (o : Option Variable) → Within Any 0 0 0 0 0 (nameOperand r o)
 unfolding nameOperand
-name-within r (some v) = done-within (OVar (v .var-id))
+name-within r (some v) = done-within _
 name-within r none = fail-within Any 0 0 0 0 0 _ _
 
 size-within : (r : ℕ) (o : Option ℕ) → Within Any 0 0 0 0 0 (sizeOperand r o)
 unfolding sizeOperand
-size-within r (some n) = done-within (OInt (pos n) false false)
+size-within r (some n) = done-within _
 size-within r none = fail-within Any 0 0 0 0 0 _ _
 
 cast-within : (b : Bool) (x : VarId) (y : ℕ) → Within Any 1 1 0 0 1 (castOperand b x y)
@@ -251,7 +254,7 @@ module _ (P : Program) (F : Functions) where
   zeroValue-within r x (TAddress y) = widen (emit-within (Copy x ONull)) (omega arith)
   zeroValue-within r x TNull = widen (emit-within (Copy x ONull)) (omega arith)
   zeroValue-within r x (TArray y n) = widen (emit-within (Zero x)) (omega arith)
-  zeroValue-within r x (TCustom t) = fail-within Any 1 0 0 0 1 Panic r
+  zeroValue-within r x (TCustom t) = fail-within Any 1 0 0 0 1 WouldPanic r
 
   declare-within : (r : ℕ) (n : Text) (y : ℕ) (sc : Scope) → Within Any 1 1 0 0 1 (convert-declare P F r n y sc)
   unfolding convert-declare
@@ -313,7 +316,7 @@ module _ (P : Program) (F : Functions) where
       (then-using {R = Any} (args-within l sc) (λ os e.
       widen {i′ = 2 * values l + 1} {v′ = values l} {l′ = 0} {s′ = 0} {f′ = values l} (function-call-within none f os) (omega (arith, e))))
       (omega (arith, args-count l))
-  callStatement-within r l sc (CallCast y) = fail-within Any _ _ _ _ _ Panic r
+  callStatement-within r l sc (CallCast y) = fail-within Any _ _ _ _ _ WouldPanic r
 
   typed-within : (e : Expr) (sc : Scope) → Over (under e) (lift (get-type P F e sc) >>= λ y. pure sc)
   typed-within e sc = widen (then-within (lift-within (get-type P F e sc)) (λ y. done-within sc)) (omega arith)
@@ -555,7 +558,7 @@ added m n l p x q h s a = record {
   floats = omega (arith, s .floats, a .floats);
 }
 
-ifOk-map : {A : Type 0} {Q R : A → Type 0} (x : Result A) → ((a : A) → Q a → R a) → IfOk Q x → IfOk R x
+pub ifOk-map : {A : Type 0} {Q R : A → Type 0} (x : Result A) → ((a : A) → Q a → R a) → IfOk Q x → IfOk R x
 ifOk-map (ok a) h q = h a q
 ifOk-map (err k r) h q = tt
 
@@ -596,3 +599,16 @@ suffice P needsMain = ifOk-then Any (Suffice (allRecords (P .functions))) (get-a
     any : {A : Type 0} (x : Result A) → IfOk Any x
     any (ok a) = tt
     any (err k r) = tt
+
+-- ---- over the records of the tree
+
+pub more-room : (m n : ℕ) (q : IrProgram) → m ≤ n → Suffice m q → Suffice n q
+more-room m n q h s = omega (arith, h, s .functions, s .instructions, s .variables, s .labels, s .strings, s .floats)
+
+-- a tree of n records, each of which has what it must lead to and, but for types and functions, is referred to at most once
+pub tree-suffices : (tree text : List ℕ) (needsMain : Bool) → ((r : ℕ) → r < records tree → Complete tree text r)
+    → ((j : ℕ) → j < records tree → Once tree text (records tree) j) → IfOk (Suffice (records tree)) (convert (program tree text) needsMain)
+unfolding program
+tree-suffices tree text needsMain c o = ifOk-map (convert (program tree text) needsMain)
+    (λ q s. more-room (allRecords (functionsBelow tree text (records tree))) (records tree) q (functions-records tree text (records tree) c o) s)
+    (suffice (program tree text) needsMain)

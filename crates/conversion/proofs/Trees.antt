@@ -1,7 +1,7 @@
 -- Trees written out as bytes, and what can be said of their conversion: the means of the computed tables.
 -- Definitions for proofs, which compute. Assumes nothing.
 use Prim.Native.Nat.{ℕ}
-use mathlib.Core.Bool.{Bool, true, false}
+use mathlib.Core.Bool.{false}
 use mathlib.Core.List.{List, [], _∷_, _++_}
 use mathlib.Core.Option.{Option}
 use lib.IntN.{ℤ}
@@ -43,22 +43,20 @@ pub data Said : Type 0 where
   folds : Option ℤ → Said
 
 unfoldable pub bodyOf : Result IrProgram → Said
-unfolding allCode allLabels number
+unfolding allCode allLabels
 bodyOf (ok p) = body (allCode (p .funcs)) (allLabels (p .funcs))
 bodyOf (err k r) = answers (number k) r
 
 unfoldable pub floatsOf : Result IrProgram → Said
-unfolding number
 floatsOf (ok p) = floats (p .floats)
 floatsOf (err k r) = answers (number k) r
 
 unfoldable pub labelsOf : Result IrProgram → Said
-unfolding allLabels number
+unfolding allLabels
 labelsOf (ok p) = labelled (allLabels (p .funcs))
 labelsOf (err k r) = answers (number k) r
 
 unfoldable pub answerOf : Result IrProgram → Said
-unfolding number
 answerOf (ok p) = answers 0 0
 answerOf (err k r) = answers (number k) r
 

@@ -1,16 +1,15 @@
 -- How much converting adds, at most: instructions, variables, labels, strings, floats; and what holds of its result.
 -- A law for each way in which the definitions put steps together; the amounts add up. Assumes nothing.
-use mathlib.Core.Path.{_≡_, refl}
 use mathlib.Core.Bool.{Bool, true, false}
 use mathlib.Core.List.{List, [], _∷_, _++_}
 use mathlib.Core.Option.{Option, none, some}
-use Prim.Native.Nat.{ℕ, zero, suc, _+_, _≤_}
+use Prim.Native.Nat.{ℕ, _+_, _≤_}
 use native.Mathlib.Omega.{arith}
 use lib.ListN.{length, length-append}
 use Rattle.laws.specs.Fix.{pick}
 use Rattle.syntax.specs.Syntax.{Ty, TInt, TFloat, TBool, TChar, TByte, TAddress, TArray, TCustom, TNull}
 use Rattle.conversion.specs.ConvertError.{ConvertErrorKind, Result, ok, err}
-use Rattle.conversion.specs.Ir.{VarId, Instr, LabelName, StringEntry, FloatEntry, State, Out, made, failed, M, after, bind, _>>=_, _>>_, pure, fail, lift, emit, numbered, position, sameLabel, sameText, sameFloat, new-var, label-id, string-id, float-id, floatBits}
+use Rattle.conversion.specs.Ir.{Instr, LabelName, StringEntry, FloatEntry, State, Out, made, failed, M, after, bind, _>>=_, _>>_, pure, fail, lift, emit, numbered, position, sameLabel, sameText, sameFloat, new-var, label-id, string-id, float-id, floatBits}
 use Rattle.conversion.specs.Types.{onInt, onFloat}
 
 -- from the state st to the instructions c and the state t: at most so many more

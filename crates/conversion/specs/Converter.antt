@@ -2,7 +2,7 @@
 use mathlib.Core.Bool.{Bool}
 use mathlib.Core.List.{List, [], _∷_, _++_}
 use Rattle.syntax.specs.Syntax.{Function, Program}
-use Rattle.conversion.specs.ConvertError.{Result, ok, err, _>>=_}
+use Rattle.conversion.specs.ConvertError.{Result, ok, _>>=_}
 use Rattle.conversion.specs.Ir.{IrFunction, IrProgram}
 use Rattle.conversion.specs.Expressions.{Functions}
 use Rattle.conversion.specs.Functions.{Pool, get-all-functions, check-main, convert-func}

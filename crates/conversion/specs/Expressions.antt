@@ -7,8 +7,8 @@ use mathlib.Core.Option.{Option, none, some}
 use lib.Dec.{eqb, ltb}
 use lib.ListN.{length}
 use Rattle.laws.specs.Fix.{pick}
-use Rattle.syntax.specs.Syntax.{Text, Ty, UnaryOp, Neg, BitNot, Not, BinaryOp, Or, And, BitOr, BitXor, BitAnd, Eq, NotEq, Lt, Le, Gt, Ge, Shl, Shr, Add, Sub, Mul, Div, Rem, Expr, EInt, EFloat, EStr, EBool, EName, ENull, ESizeOf, EUnary, EBinary, ECall, Args, noArgs, Value, ToType, Param, Function, Program, place, intType, floatType, boolType, nullType, addressOfChar}
-use Rattle.conversion.specs.ConvertError.{ConvertErrorKind, Result, ok, err, _>>=_, UnknownVariable, UnknownFunction, NoValue, WrongOperands, AmbiguousCall, LiteralOutOfRange, InvalidCast}
+use Rattle.syntax.specs.Syntax.{Text, UnaryOp, Neg, BitNot, Not, BinaryOp, Or, And, BitOr, BitXor, BitAnd, Eq, NotEq, Lt, Le, Gt, Ge, Shl, Shr, Add, Sub, Mul, Div, Rem, Expr, EInt, EFloat, EStr, EBool, EName, ENull, ESizeOf, EUnary, EBinary, ECall, Args, noArgs, Value, ToType, Param, Function, Program, place, intType, floatType, boolType, nullType, addressOfChar}
+use Rattle.conversion.specs.ConvertError.{Result, ok, err, _>>=_, UnknownVariable, UnknownFunction, NoValue, WrongOperands, AmbiguousCall, LiteralOutOfRange, InvalidCast}
 use Rattle.conversion.specs.Ir.{sameText}
 use Rattle.conversion.specs.Types.{isInt, is-number, fits, range-error, can-cast}
 use Rattle.conversion.specs.Scope.{Variable, Scope, find-variable}

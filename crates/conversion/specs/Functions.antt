@@ -6,12 +6,12 @@ use mathlib.Core.Option.{Option, none as nothing, some}
 use lib.Dec.{ltb}
 use Rattle.laws.specs.Fix.{pick}
 use Rattle.records.specs.Words.{none}
-use Rattle.syntax.specs.Syntax.{Text, Ty, Expr, Statement, SDeclare, SInit, SReturn, SCall, SIf, SIfElse, SWhile, SFor, SBreak, SContinue, Block, done, next, Param, Function, Program}
+use Rattle.syntax.specs.Syntax.{Text, Ty, Statement, SDeclare, SInit, SReturn, SCall, SIf, SIfElse, SWhile, SFor, SBreak, SContinue, Block, done, next, Param, Function, Program}
 use Rattle.conversion.specs.ConvertError as C
 use Rattle.conversion.specs.ConvertError.{Result, ok, err, SameSignature, SameSymbol, AlreadyDeclared, MissingReturn, NoMain, MainNotInteger, LatinCharInNonLibCFunction, ExternNotLatin}
-use Rattle.conversion.specs.Ir.{Instr, StringEntry, FloatEntry, State, Out, made, failed, M, _>>=_, _>>_, pure, fail, new-var, sameText, IrFunction}
+use Rattle.conversion.specs.Ir.{StringEntry, FloatEntry, Out, made, failed, M, _>>=_, _>>_, pure, fail, new-var, sameText, IrFunction}
 use Rattle.conversion.specs.Types.{isInt, isSome}
-use Rattle.conversion.specs.Scope.{Variable, Scope, find-variable, withVariable}
+use Rattle.conversion.specs.Scope.{Scope, find-variable, withVariable}
 use Rattle.conversion.specs.Expressions.{Functions, getFunction, mainName}
 use Rattle.conversion.specs.Statements.{convert-block}
 

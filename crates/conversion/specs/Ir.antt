@@ -1,7 +1,7 @@
 -- ir/structs.rs: operands, instructions, and the numbering of variables, labels, strings and floats. Assumes nothing: these are definitions.
 -- What converts takes a `State` and leaves a result, the instructions that it emits, in order, and the next state: the Rust's `ir_func`,
 -- `self.ir` and `instrs`, which it changes in place.
-use Prim.Native.Nat.{ℕ, zero, suc}
+use Prim.Native.Nat.{ℕ, suc}
 use mathlib.Core.Bool.{Bool, true, false, _&&_, Bool·beq}
 use mathlib.Core.List.{List, [], _∷_, _++_}
 use mathlib.Core.Option.{Option, none, some}

@@ -3,6 +3,7 @@ pub mod Ir
 pub mod Types
 pub mod Scope
 pub mod Expressions
+pub mod BlockNumbers
 pub mod Statements
 pub mod Functions
 pub mod Converter

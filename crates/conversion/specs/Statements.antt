@@ -6,12 +6,11 @@ use mathlib.Core.Bool.{Bool, true, false, not, _&&_}
 use mathlib.Core.List.{List, [], _∷_}
 use mathlib.Core.Option.{Option, none, some}
 use lib.Dec.{eqb}
-use lib.IntN.{ℤ, pos}
-use lib.ListN.{getD}
+use lib.IntN.{pos}
 use Rattle.laws.specs.Fix.{pick}
 use Rattle.syntax.specs.Syntax.{Text, Ty, TInt, TFloat, TBool, TChar, TByte, TAddress, TArray, TCustom, TNull, UnaryOp, BinaryOp, Or, And, BitOr, BitXor, BitAnd, Eq, NotEq, Lt, Le, Gt, Ge, Shl, Shr, Add, Sub, Mul, Div, Rem, Expr, EInt, EFloat, EStr, EBool, EName, ENull, ESizeOf, EUnary, EBinary, ECall, Args, noArgs, Value, ToType, Statement, SDeclare, SInit, SReturn, SCall, SIf, SIfElse, SWhile, SFor, SBreak, SContinue, Block, done, next, Param, Function, Program, place, floatType, boolType, nullType, addressOfNull}
-use Rattle.conversion.specs.ConvertError.{ConvertErrorKind, Result, UnknownVariable, AssignToConstant, ReturnWithoutType, WrongReturnType, WrongAssignType, LiteralOutOfRange, NotBool, NotInteger, BreakOutOfLoop, ContinueOutOfLoop, Panic}
-use Rattle.conversion.specs.Ir.{VarId, Operand, OVar, OInt, OFloat, OBool, ODataAddress, ONull, Instr, Copy, Unary, Binary, Cast, Zero, Arg, Call, Label, Jump, JumpIfNot, Return, Comment, LabelName, loopStart, loopEnd, loopCheck, otherwiseLabel, conditionEnd, logicRhs, logicEnd, M, _>>=_, _>>_, pure, fail, lift, emit, new-var, label-id, string-id, float-id, floatBits}
+use Rattle.conversion.specs.ConvertError.{ConvertErrorKind, UnknownVariable, AssignToConstant, ReturnWithoutType, WrongReturnType, WrongAssignType, LiteralOutOfRange, NotBool, NotInteger, BreakOutOfLoop, ContinueOutOfLoop, WouldPanic}
+use Rattle.conversion.specs.Ir.{VarId, Operand, OVar, OInt, OFloat, OBool, ODataAddress, ONull, Copy, Unary, Binary, Cast, Zero, Arg, Call, Label, Jump, JumpIfNot, Return, Comment, loopStart, loopEnd, loopCheck, otherwiseLabel, conditionEnd, logicRhs, logicEnd, M, _>>=_, _>>_, pure, fail, lift, emit, new-var, label-id, string-id, float-id, floatBits}
 use Rattle.conversion.specs.Types.{onInt, onFloat, isFloat, fits, range-error, size}
 use Rattle.conversion.specs.Scope.{Variable, Scope, find-variable, withLoop, declare}
 use Rattle.conversion.specs.Expressions.{Callee, CallFunction, CallCast, Functions, unwrapOr, get-type, resolve-call, common-type}
@@ -27,9 +26,9 @@ nameOperand r none = fail UnknownVariable r
 unfoldable pub sizeOperand : ℕ → Option ℕ → M Operand
 unfolding pure fail
 sizeOperand r (some n) = pure (OInt (pos n) false false)
-sizeOperand r none = fail Panic r
+sizeOperand r none = fail WouldPanic r
 
--- `fit_operand` by the expected type y and what it is: a literal takes its size, a Float variable of the other size goes through a Cast
+-- a Float variable of the other size than y goes through a Cast
 unfoldable pub castOperand : Bool → VarId → ℕ → M Operand
 unfolding _>>=_ _>>_ pure emit new-var
 castOperand true x y = do
@@ -38,6 +37,7 @@ castOperand true x y = do
   pure (OVar dest)
 castOperand false x y = pure (OVar x)
 
+-- a float literal takes the expected size
 unfoldable pub refloat : ℕ → Bool → M Operand
 unfolding _>>=_ pure floatBits float-id
 refloat i short = do
@@ -45,7 +45,16 @@ refloat i short = do
   j ← float-id (record { bits = b; short = short })
   pure (OFloat j)
 
+-- the type that the k-th value of a call is fitted to: 'The k-th value argument is fitted to the k-th parameter, type arguments not
+-- counted; beyond the parameters to long Float'
+unfoldable pub parameterType : List Param → ℕ → ℕ
+unfolding floatType
+parameterType [] k = floatType false
+parameterType (p ∷ l) zero = p .ty
+parameterType (p ∷ l) (suc k) = parameterType l k
+
 module _ (P : Program) where
+  -- `fit_operand` for a place of type y
   unfoldable pub fit-operand : Operand → ℕ → M Operand
   unfolding pure onInt onFloat refloat castOperand isFloat
   fit-operand (OFloat i) y = onFloat (P .typeOf y) (pure (OFloat i)) (λ short. refloat i short)
@@ -56,22 +65,14 @@ module _ (P : Program) where
   fit-operand (ODataAddress i) y = pure (ODataAddress i)
   fit-operand ONull y = pure ONull
 
-  -- the type that the k-th value of a call is fitted to: 'The k-th value argument is fitted to the k-th parameter, type arguments not
-  -- counted; beyond the parameters to long Float'
-  unfoldable pub parameterType : List Param → ℕ → ℕ
-  unfolding floatType
-  parameterType [] k = floatType false
-  parameterType (p ∷ l) zero = p .ty
-  parameterType (p ∷ l) (suc k) = parameterType l k
-
   -- `fit_args`, from the k-th value on
   unfoldable pub fitFrom : ℕ → List Operand → Function → M (List Operand)
   unfolding _>>=_ pure fit-operand parameterType
   fitFrom k [] f = pure []
   fitFrom k (o ∷ l) f = do
     a ← fit-operand o (parameterType (f .params) k)
-    as' ← fitFrom (suc k) l f
-    pure (a ∷ as')
+    rest ← fitFrom (suc k) l f
+    pure (a ∷ rest)
 
   unfoldable pub fit-args : List Operand → Function → M (List Operand)
   unfolding fitFrom
@@ -148,7 +149,7 @@ asCall (EBinary r o a b) d f = d
 -- 'a cast value with no value argument': 27 at the call; else 'a cast computes all and uses the first'
 unfoldable pub castFirst : ℕ → VarId → List Operand → M Operand
 unfolding _>>_ pure fail emit
-castFirst r dest [] = fail Panic r
+castFirst r dest [] = fail WouldPanic r
 castFirst r dest (o ∷ l) = do
   emit (Cast dest o)
   pure (OVar dest)
@@ -282,7 +283,7 @@ module _ (P : Program) (F : Functions) where
   zeroValue r x (TAddress y) = emit (Copy x ONull)
   zeroValue r x TNull = emit (Copy x ONull)
   zeroValue r x (TArray y n) = emit (Zero x)
-  zeroValue r x (TCustom t) = fail Panic r
+  zeroValue r x (TCustom t) = fail WouldPanic r
 
   -- `convert_declare`
   unfoldable pub convert-declare : ℕ → Text → ℕ → Scope → M Scope
@@ -353,7 +354,7 @@ module _ (P : Program) (F : Functions) where
   callStatement r l sc (CallFunction f) = do
     operands ← convert-args l sc
     callFunction none f operands
-  callStatement r l sc (CallCast y) = fail Panic r
+  callStatement r l sc (CallCast y) = fail WouldPanic r
 
   -- `convert_call`: 'A call statement whose expression is no call is typed and never run'
   unfoldable pub convert-call : ℕ → Expr → Scope → M Scope

@@ -1,16 +1,16 @@
 -- types.rs: literals, what fits where, casts; and `Type::size`. Equality of types is equality of record numbers, since in a good tree no two
 -- types are equal. Assumes nothing: these are definitions.
-use Prim.Native.Nat.{ℕ, zero, suc, _*_, _%_, _^_}
+use Prim.Native.Nat.{ℕ, _*_, _^_}
 use mathlib.Core.Bool.{Bool, true, false, not, _&&_, _||_}
 use mathlib.Core.List.{List, [], _∷_}
 use mathlib.Core.Option.{Option, none, some}
-use lib.Dec.{eqb, leb, ltb}
+use lib.Dec.{eqb, ltb}
 use lib.IntN.{ℤ}
 use lib.ListN.{getD}
 use lib.Ieee as Ieee
 use lib.Ieee.{Float, nan, inf, fin, binary64}
 use Rattle.laws.specs.Fix.{pick, below, fix}
-use Rattle.syntax.specs.Syntax.{Ty, TInt, TFloat, TBool, TChar, TByte, TAddress, TArray, TCustom, TNull, UnaryOp, Neg, BitNot, Not, BinaryOp, Or, And, BitOr, BitXor, BitAnd, Eq, NotEq, Lt, Le, Gt, Ge, Shl, Shr, Add, Sub, Mul, Div, Rem, Expr, EInt, EFloat, EStr, EBool, EName, ENull, ESizeOf, EUnary, EBinary, ECall, Args, nullType}
+use Rattle.syntax.specs.Syntax.{Ty, TInt, TFloat, TBool, TChar, TByte, TAddress, TArray, TCustom, TNull, UnaryOp, Neg, BitNot, Not, BinaryOp, Or, And, BitOr, BitXor, BitAnd, Eq, NotEq, Lt, Le, Gt, Ge, Shl, Shr, Add, Sub, Mul, Div, Rem, Expr, EInt, EFloat, EStr, EBool, EName, ENull, ESizeOf, EUnary, EBinary, ECall, nullType}
 use Rattle.int128.specs.Ops.{negOf, notOf, addOf, subOf, mulOf, divOf, remOf, andOf, orOf, xorOf, shlOf, shrOf, byCount, intFits}
 
 -- ---- a type taken apart: `matches!(ty, Type::Int { .. })` and its like
@@ -158,11 +158,7 @@ float-value (ENull r) = none
 float-value (ESizeOf r y) = none
 float-value (ECall r v l) = none
 
--- ---- what fits
-
--- `int_fits`: (min..=max).contains(&value)
-unfoldable pub int-fits : ℤ → Bool → Bool → Bool
-int-fits v short unsigned = intFits v short unsigned
+-- ---- what fits; `int_fits` stands with the integers
 
 -- `float_fits`: 'finite and, for a short one, no further from zero than bits 47EFFFFFE0000000'
 unfoldable pub float-fits : Float → Bool → Bool
@@ -194,8 +190,8 @@ isNullLiteral (ECall r v l) = false
 
 -- e, of the first type, into a place of the second, the two not being equal
 unfoldable pub fitsInto : Expr → Ty → Ty → Bool
-unfolding onInt onFloat onAddress int-value float-value int-fits float-fits someAnd isNullLiteral
-fitsInto e (TInt s u) x = onInt x false (λ short unsigned. someAnd (int-value e) (λ v. int-fits v short unsigned))
+unfolding onInt onFloat onAddress int-value float-value float-fits someAnd isNullLiteral
+fitsInto e (TInt s u) x = onInt x false (λ short unsigned. someAnd (int-value e) (λ v. intFits v short unsigned))
 fitsInto e (TFloat s) x = onFloat x false (λ short. someAnd (float-value e) (λ v. float-fits v short))
 fitsInto e TNull x = onAddress x false (λ y. isNullLiteral e)
 fitsInto e (TAddress from) x = onAddress x false (λ to. eqb from nullType || eqb to nullType)

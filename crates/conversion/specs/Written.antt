@@ -220,7 +220,7 @@ unfolding pick wordOf
 refusedAt tree n r = pick (eqb r none) (Refused n none 0 0) (Refused n r (wordOf tree r spanStart) (wordOf tree r spanEnd))
 
 unfoldable pub answerOf : List ℕ → Result IrProgram → Answer
-unfolding refusedAt number countsOf tablesOf
+unfolding refusedAt countsOf tablesOf
 answerOf tree (ok p) = Converted (countsOf p) (tablesOf p)
 answerOf tree (err k r) = refusedAt tree (number k) r
 

@@ -17,7 +17,7 @@ use Rattle.int128.specs.declared.Int128.{Int128}
 use Rattle.int128.specs.Value.{bitsOf, valueOf}
 use Rattle.int128.specs.Ops.{shlOf, shrOf, byCount, notOf}
 use Rattle.int128.proofs.Difference.{lt-or-ge}
-use Rattle.int128.proofs.Halves.{above}
+use Rattle.int128.proofs.Halves.{above, positive}
 use Rattle.int128.proofs.Whole.{Sized, less, more, bits-back}
 use Rattle.int128.proofs.Small.{word, negative}
 
@@ -62,7 +62,3 @@ module _ (f : ℕ → Option ℤ) (x : Int128) where
       g (bitsOf x) (le-trans (lit≤ tt) (above (2 ^ 64) 1 {hi = x .hi} (x .lo) (positive (x .hi) n))) ∙ sym (ap (byCount f) (toZ-pos w128 (bitsOf x) (less x s l))))
       (λ (l : 2 ^ 63 ≤ x .hi). sym (ap (byCount f) (negative (bitsOf x) (more x l))))
       (lt-or-ge (x .hi) (2 ^ 63))
-    where
-      positive : (h : ℕ) → (h ≡ 0 → ⊥) → 1 ≤ h
-      positive zero n = absurd (n refl)
-      positive (suc h) n = omega arith

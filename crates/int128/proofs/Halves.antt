@@ -86,3 +86,11 @@ upper-pos W (suc n) l k h = omega arith
 
 pub only-lower : (W h l n : ℕ) → l < W → n < W → h * W + l ≡ n → l ≡ n
 only-lower W h l n k m e = lower-is W h l 0 n k m (e ∙ sym (ap (λ (x : ℕ). x + n) (zero-mul W) ∙ zero-add n))
+
+-- a whole with an upper half of 0 is its lower half
+pub no-upper : (x : ℕ) → 0 * 2 ^ 64 + x ≡ x
+no-upper x = omega arith
+
+pub positive : (n : ℕ) → (n ≡ 0 → ⊥) → 1 ≤ n
+positive zero f = absurd (f refl)
+positive (suc n) f = omega arith

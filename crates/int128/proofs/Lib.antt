@@ -15,3 +15,4 @@ pub mod Columns
 pub mod Products
 pub mod Digits
 pub mod Normal
+mod Examples

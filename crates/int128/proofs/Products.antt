@@ -8,12 +8,8 @@ use Rattle.int128.specs.declared.Int128.{Int128}
 use Rattle.int128.specs.declared.product.Product.{Product}
 use Rattle.int128.specs.Value.{bitsOf}
 use Rattle.int128.specs.Magnitude.{IsProduct}
-use Rattle.int128.proofs.Halves.{above}
+use Rattle.int128.proofs.Halves.{above, no-upper, positive}
 use Rattle.int128.proofs.Moved.{spread}
-
-pub positive : (h : ℕ) → (h ≡ 0 → ⊥) → 1 ≤ h
-positive zero n = absurd (n refl)
-positive (suc h) n = omega arith
 
 -- l and h hold the products of the halves with w
 module _ (W xh xl w : ℕ) (lh ll hh hl : ℕ) (e : lh * W + ll ≡ xl * w) (f : hh * W + hl ≡ xh * w) where
@@ -31,10 +27,7 @@ module _ (W xh xl w : ℕ) (lh ll hh hl : ℕ) (e : lh * W + ll ≡ xl * w) (f :
 
 -- a magnitude with an upper half of 0 is its lower half
 pub one-word : (a b : Int128) (r : Product) → a .hi ≡ 0 → IsProduct (bitsOf b * a .lo) r → IsProduct (bitsOf a * bitsOf b) r
-one-word a b r e h = subst (λ (n : ℕ). IsProduct n r) (mul-comm (bitsOf b) (a .lo) ∙ ap (λ (n : ℕ). n * bitsOf b) (sym (ap (λ (n : ℕ). n * 2 ^ 64 + a .lo) e ∙ go (a .lo)))) h
-  where
-    go : (x : ℕ) → 0 * 2 ^ 64 + x ≡ x
-    go x = omega arith
+one-word a b r e h = subst (λ (n : ℕ). IsProduct n r) (mul-comm (bitsOf b) (a .lo) ∙ ap (λ (n : ℕ). n * bitsOf b) (sym (ap (λ (n : ℕ). n * 2 ^ 64 + a .lo) e ∙ no-upper (a .lo)))) h
 
 pub other-word : (a b : Int128) (r : Product) → b .hi ≡ 0 → IsProduct (bitsOf a * b .lo) r → IsProduct (bitsOf a * bitsOf b) r
 other-word a b r e h = subst (λ (n : ℕ). IsProduct n r) (mul-comm (bitsOf b) (bitsOf a)) (one-word b a r e h)

@@ -19,14 +19,11 @@ use Rattle.int128.specs.Value.{bitsOf, valueOf}
 use Rattle.int128.specs.Ops.{toI64Of, toU64Of}
 use Rattle.int128.proofs.Difference.{lt-or-ge, sub-more}
 use Rattle.int128.proofs.Range.{inside, outside}
-use Rattle.int128.proofs.Halves.{below, above}
+use Rattle.int128.proofs.Halves.{below, above, no-upper, positive}
 use Rattle.int128.proofs.Whole.{Sized, less, more}
 
 pub word : (x : ℕ) → x < 2 ^ 64 → toZ w128 (0 * 2 ^ 64 + x) ≡ pos x
-word x h = ap (toZ w128) (go x) ∙ toZ-pos w128 x (lt-of-lt-of-le h (lit≤ tt))
-  where
-    go : (x : ℕ) → 0 * 2 ^ 64 + x ≡ x
-    go x = omega arith
+word x h = ap (toZ w128) (no-upper x) ∙ toZ-pos w128 x (lt-of-lt-of-le h (lit≤ tt))
 
 pub negative : (n : ℕ) → 2 ^ 127 ≤ n → toZ w128 n ≡ negsuc (2 ^ 128 - suc n)
 negative n h = simp (le-ltb n (2 ^ 127) h)
@@ -93,10 +90,6 @@ other x s n m =
     (far (2 ^ 64) (2 ^ 128) ((2 ^ 64 - 1) * 2 ^ 64) (bitsOf x) refl (below (2 ^ 64) (2 ^ 64 - 1) (short (x .hi) (s .upper) m) (s .lower))))
     (lt-or-ge (x .hi) (2 ^ 63))
   where
-    positive : (h : ℕ) → (h ≡ 0 → ⊥) → 1 ≤ h
-    positive zero n = absurd (n refl)
-    positive (suc h) n = omega arith
-
     short : (h : ℕ) → h < 2 ^ 64 → (h ≡ 2 ^ 64 - 1 → ⊥) → h < 2 ^ 64 - 1
     short h k m = ⊎-elim (λ (y : h < 2 ^ 64 - 1). y) (λ (y : 2 ^ 64 - 1 ≤ h). absurd (m (omega arith))) (lt-or-ge h (2 ^ 64 - 1))
 
@@ -117,10 +110,6 @@ unsigned-no x s n =
     sym (ap toU64Of (toZ-pos w128 (bitsOf x) (less x s l)) ∙ simp (le-leb 0 (bitsOf x) zero-le, le-ltb (bitsOf x) (2 ^ 64) (above (2 ^ 64) 1 {hi = x .hi} (x .lo) (positive (x .hi) n)))))
     (λ (l : 2 ^ 63 ≤ x .hi). sym (ap toU64Of (negative (bitsOf x) (more x l))))
     (lt-or-ge (x .hi) (2 ^ 63))
-  where
-    positive : (h : ℕ) → (h ≡ 0 → ⊥) → 1 ≤ h
-    positive zero n = absurd (n refl)
-    positive (suc h) n = omega arith
 
 -- a signed number of 64 bits below 0, and one that is not
 pub record Negative (z : ℤ) : Type 0 where

@@ -1,6 +1,10 @@
--- What a passed conjunction says of its parts, by the cases of the first. Assumes nothing.
+-- A test is passed or failed; what a passed conjunction says of its parts. By the cases of the first. Assumes nothing.
 use mathlib.Core.Path.{_≡_, refl}
 use mathlib.Core.Bool.{Bool, true, false, _&&_, false≢true}
+
+pub tested : {P : Type 0} (b : Bool) → (b ≡ true → P) → (b ≡ false → P) → P
+tested true y n = y refl
+tested false y n = n refl
 
 pub and-left : (a b : Bool) → (a && b) ≡ true → a ≡ true
 and-left true b e = refl

@@ -1,3 +1,9 @@
+pub mod Good
+pub mod GoodLaws
 pub mod LayoutFits
+pub mod ListLaws
+pub mod RuleLaws
 pub mod ShapeCases
 pub mod ShapeTable
+pub mod TypeLaws
+pub mod TypesDistinct

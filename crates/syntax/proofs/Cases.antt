@@ -1,17 +1,17 @@
 -- What a record of each kind stands for, as code meets it: the kind is known, and the words that must refer to lower records do.
 -- Each is the law `node-is` at one kind. Assumes nothing.
-use mathlib.Core.Path.{_≡_, refl, sym, ap, _∙_}
-use mathlib.Core.Bool.{Bool, true, false}
-use mathlib.Core.List.{List, [], _∷_}
-use Prim.Native.Nat.{ℕ, zero, suc, _≤_, _<_}
+use mathlib.Core.Path.{_≡_, sym, _∙_}
+use mathlib.Core.Bool.{true, false}
+use mathlib.Core.List.{List}
+use Prim.Native.Nat.{ℕ, _≤_, _<_}
 use lib.ListN.{getD}
 use mir.Syntax.{w64}
 use mir.Val.{toZ}
 use Rattle.laws.specs.Fix.{pick}
 use Rattle.laws.proofs.FixLaws.{below-in, below-out}
-use Rattle.records.specs.Words.{kindOf, detailOf, wordOf, A, B, C, D, E}
+use Rattle.records.specs.Words.{kindOf, detailOf, wordOf, A, B, C, D}
 use Rattle.syntax.specs.Syntax.{Expr, Neg, Or, EInt, EFloat, EStr, EBool, EName, ENull, ESizeOf, EUnary, EBinary, ECall, SDeclare, SInit, SReturn, SCall, SIf, SIfElse, SWhile, SFor, SBreak, SContinue, unaryOps, binaryOps}
-use Rattle.syntax.specs.Decode.{Node, absent, expr, value, toType, stmt, variable, cell, exprOf, argsOf, blockOf, variableName, variableType, bit, reference, textOf, wideOf, child, exprIn, blockIn, nothingAt, intAt, floatAt, strAt, boolAt, nameAt, nullAt, sizeOfAt, unaryAt, binaryAt, callAt, listAt, valueAt, typeArgumentAt, declareAt, initAt, returnAt, callStatementAt, ifAt, whileAt, forAt, breakAt, continueAt, variableAt, functionAt, kinds, node}
+use Rattle.syntax.specs.Decode.{absent, expr, value, toType, stmt, variable, cell, exprOf, argsOf, blockOf, variableName, variableType, bit, reference, textOf, wideOf, child, exprIn, blockIn, intAt, floatAt, strAt, boolAt, nameAt, nullAt, sizeOfAt, unaryAt, binaryAt, callAt, listAt, valueAt, typeArgumentAt, declareAt, initAt, returnAt, callStatementAt, ifAt, whileAt, forAt, breakAt, continueAt, variableAt, kinds, node}
 use Rattle.syntax.proofs.Unfold.{node-is}
 
 module _ (tree text : List ℕ) where

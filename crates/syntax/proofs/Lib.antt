@@ -1,2 +1,5 @@
-pub mod Cases
 pub mod Unfold
+pub mod Cases
+pub mod Sums
+pub mod Held
+pub mod Judged

@@ -1,10 +1,9 @@
 -- One level of the syntax tree: what a record stands for, made from what the records that it refers to stand for.
 -- By the law of `fix`: each kind's definition looks at lower records alone. Assumes nothing.
-use mathlib.Core.Path.{_≡_, refl, sym, ap, _∙_}
+use mathlib.Core.Path.{_≡_, refl}
 use mathlib.Core.List.{List, [], _∷_}
 use Prim.Native.Nat.{ℕ, zero, suc, _<_}
 use lib.ListN.{getD}
-use Rattle.laws.specs.Fix.{pick, below, fix}
 use Rattle.laws.proofs.FixLaws.{Agree, Local, below-cong, below-in, fix-step}
 use Rattle.records.specs.Words.{kindOf, wordOf, A, B, C, D, E}
 use Rattle.syntax.specs.Decode.{Node, absent, child, exprIn, blockIn, nothingAt, intAt, floatAt, strAt, boolAt, nameAt, nullAt, sizeOfAt, unaryAt, binaryAt, callAt, listAt, valueAt, typeArgumentAt, declareAt, initAt, returnAt, callStatementAt, ifAt, whileAt, forAt, breakAt, continueAt, variableAt, functionAt, kinds, nodeStep, node}

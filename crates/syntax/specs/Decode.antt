@@ -1,7 +1,7 @@
 -- The syntax tree that a good record tree stands for, document 01's table of kinds. What a record stands for is made from what the lower
 -- records that it refers to stand for. On a tree that breaks a rule the answer is some tree; nothing rests on which. Assumes nothing.
-use Prim.Native.Nat.{ℕ, zero, suc, _+_, _*_, _/_, _%_, _^_}
-use mathlib.Core.Bool.{Bool, true, false}
+use Prim.Native.Nat.{ℕ, zero, suc, _+_, _*_, _/_, _%_}
+use mathlib.Core.Bool.{Bool}
 use mathlib.Core.List.{List, [], _∷_, _++_}
 use mathlib.Core.Option.{Option, none as nothing, some}
 use lib.Dec.{eqb}

@@ -2,11 +2,12 @@
 //! label | 1 if main is needed | tree | text | 0 and six tables, or number, place, span.
 //!
 //! definitions CLASS SEED N LEAST MOST: of that class, the first N accepted trees of LEAST to MOST records.
+//! definitions file TREE TEXT [--main]: the tree of these two files.
 
-use std::env;
+use std::{env, fs};
 
 use oracle::convert::try_convert;
-use oracle::{Answer, generate};
+use oracle::{Answer, generate, needed};
 
 /// Seeds tried for each tree that is wanted.
 const TRIES: u64 = 60;
@@ -25,6 +26,19 @@ fn answer_text(answer: &Answer) -> String {
     }
 }
 
+/// The line of a tree, unless it is refused before conversion.
+fn line(label: &str, main: bool, tree: &[u8], text: &[u8], lens: [usize; 7]) -> Option<String> {
+    let answer = match try_convert(tree, text, main, lens) {
+        Ok(answer) => answer,
+        Err(message) => panic!("{label}: {message}"),
+    };
+    if (24..=26).contains(&answer.number()) {
+        return None;
+    }
+    let main = u8::from(main);
+    Some(format!("{label}|{main}|{}|{}|{}", hex(tree), hex(text), answer_text(&answer)))
+}
+
 fn write_class(class: &str, seed: u64, wanted: u64, least: usize, most: usize) {
     let mut found = 0;
     for at in 0..wanted * TRIES {
@@ -35,26 +49,34 @@ fn write_class(class: &str, seed: u64, wanted: u64, least: usize, most: usize) {
         if !(least * 32..=most * 32).contains(&case.tree.len()) {
             continue;
         }
-        let answer = match try_convert(&case.tree, &case.text, case.needs_main, case.lens) {
-            Ok(answer) => answer,
-            Err(message) => panic!("{}: {message}", case.label),
-        };
-        if (24..=26).contains(&answer.number()) {
-            continue;
+        if let Some(line) = line(&case.label, case.needs_main, &case.tree, &case.text, case.lens) {
+            println!("{line}");
+            found += 1;
         }
-        let main = u8::from(case.needs_main);
-        println!("{}|{main}|{}|{}|{}", case.label, hex(&case.tree), hex(&case.text), answer_text(&answer));
-        found += 1;
+    }
+}
+
+fn write_file(tree: &str, text: &str, main: bool) {
+    let read = |path: &str| fs::read(path).unwrap_or_else(|err| panic!("{path}: {err}"));
+    let (bytes, text) = (read(tree), read(text));
+    match line(tree, main, &bytes, &text, needed(bytes.len())) {
+        Some(line) => println!("{line}"),
+        None => eprintln!("{tree}: refused before conversion"),
     }
 }
 
 fn main() {
     let args: Vec<String> = env::args().skip(1).collect();
+    if let [mode, tree, text, options @ ..] = &args[..]
+        && mode == "file"
+    {
+        return write_file(tree, text, options.iter().any(|option| option == "--main"));
+    }
     let number = |i: usize| args.get(i).and_then(|text| text.parse::<u64>().ok());
     let (Some(class), Some(seed), Some(wanted), Some(least), Some(most)) =
         (args.first(), number(1), number(2), number(3), number(4))
     else {
-        eprintln!("usage: definitions CLASS SEED N LEAST MOST");
+        eprintln!("usage: definitions CLASS SEED N LEAST MOST | file TREE TEXT [--main]");
         std::process::exit(1);
     };
     write_class(class, seed, wanted, least as usize, most as usize);

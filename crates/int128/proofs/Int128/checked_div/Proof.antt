@@ -7,7 +7,7 @@ use lib.Dec.{eqb}
 use lib.IntN.{natAbs}
 use borrow.Author.Tests.{eqb-false}
 use Rattle.int128.specs.Value.{bitsOf, valueOf}
-use Rattle.int128.proofs.Products.{positive}
+use Rattle.int128.proofs.Halves.{positive}
 use Rattle.int128.proofs.Sign.{div-none, div-is}
 use borrow.Author.Needs.{needs}
 use Rattle.int128.proofs.Int128.checked_div.Statement.{statement}

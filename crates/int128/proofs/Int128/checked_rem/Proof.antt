@@ -8,8 +8,8 @@ use lib.IntN.{natAbs}
 use borrow.Author.Tests.{eqb-false}
 use Rattle.int128.specs.Value.{bitsOf, valueOf, answerOf}
 use Rattle.int128.specs.Ops.{divOf}
+use Rattle.int128.proofs.Halves.{positive}
 use Rattle.int128.proofs.Whole.{Sized}
-use Rattle.int128.proofs.Products.{positive}
 use Rattle.int128.proofs.Sign.{div-none, div-is, rem-is, rem-none, value-mag}
 use borrow.Author.Needs.{needs}
 use Rattle.int128.proofs.Int128.checked_rem.Statement.{statement}

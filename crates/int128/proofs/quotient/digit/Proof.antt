@@ -6,7 +6,7 @@ use native.Mathlib.Omega.{arith}
 use lib.Dec.{lit<}
 use lib.Pow.{pow-pos}
 use mathlib.Core.Path.{_≡_, _∙_, sym, ap, ap₂, subst₂}
-use Rattle.int128.proofs.Halves.{only-lower}
+use Rattle.int128.proofs.Halves.{only-lower, no-upper}
 use Rattle.int128.proofs.Digits.{estimate}
 use borrow.Author.Needs.{needs}
 use Rattle.int128.proofs.quotient.digit.Statement.{statement}
@@ -18,9 +18,6 @@ whole h l =
     sym (add-assoc (h / 2 ^ 32 * 2 ^ 64) (h % 2 ^ 32 * 2 ^ 32) l)
     ∙ ap (λ (x : ℕ). x + l) (ap (λ (x : ℕ). x + h % 2 ^ 32 * 2 ^ 32) (sym (mul-assoc (h / 2 ^ 32) (2 ^ 32) (2 ^ 32))) ∙ sym (add-mul (h / 2 ^ 32 * 2 ^ 32) (h % 2 ^ 32) (2 ^ 32)))
     ∙ ap (λ (x : ℕ). x * 2 ^ 32 + l) (div-add-mod' h (2 ^ 32))
-
-word : (d : ℕ) → 0 * 2 ^ 64 + d ≡ d
-word d = omega arith
 
 top : (d : ℕ) → 2 ^ 63 ≤ d → 2 ^ 32 ≤ 2 * (d / 2 ^ 32)
 top d h = omega arith
@@ -45,7 +42,7 @@ settle-requires c κs = let h = c .args .h in
     let l = c .args .l in
     let d = c .args .d in
     let e = estimate h l d (2 ^ 32) (pow-pos 32) (positive d (c .pre .0)) (top-pos d (c .pre .0)) (top d (c .pre .0)) (c .pre .1) (c .pre .2) in
-    subst₂ (λ (x y : ℕ). (0 < y) × (x / y ≤ h / (d / 2 ^ 32)) × (h / (d / 2 ^ 32) ≤ x / y + 2)) (sym (whole h l)) (sym (word d)) (positive d (c .pre .0), e .0, e .1)
+    subst₂ (λ (x y : ℕ). (0 < y) × (x / y ≤ h / (d / 2 ^ 32)) × (h / (d / 2 ^ 32) ≤ x / y + 2)) (sym (whole h l)) (sym (no-upper d)) (positive d (c .pre .0), e .0, e .1)
 
 rest-requires : tie.Need-rest-requires
 rest-requires c κs = search needs
@@ -56,8 +53,8 @@ returns c = let s = c .before .before in
     let l = s .args .l in
     let d = s .args .d in
     let r = c .rest .result in (
-      c .before .settle .ensures ∙ ap₂ _/_ (whole h l) (word d),
-      only-lower (2 ^ 64) (r .hi) (r .lo) ((h * 2 ^ 32 + l) % d) (search needs) (lt-trans (mod-lt (h * 2 ^ 32 + l) (positive d (s .pre .0))) (search needs)) (c .rest .ensures ∙ ap₂ _%_ (whole h l) (word d)),
+      c .before .settle .ensures ∙ ap₂ _/_ (whole h l) (no-upper d),
+      only-lower (2 ^ 64) (r .hi) (r .lo) ((h * 2 ^ 32 + l) % d) (search needs) (lt-trans (mod-lt (h * 2 ^ 32 + l) (positive d (s .pre .0))) (search needs)) (c .rest .ensures ∙ ap₂ _%_ (whole h l) (no-upper d)),
     )
 
 pub digit-spec : {M : Type 1} → statement M

@@ -8,20 +8,17 @@ use lib.Pow.{pow-pos}
 use mathlib.Core.Path.{_≡_, _∙_, sym, ap, ap₂, subst}
 use Rattle.int128.specs.Value.{bitsOf}
 use Rattle.int128.proofs.Whole.{fits}
-use Rattle.int128.proofs.Halves.{upper-pos, only-lower}
+use Rattle.int128.proofs.Halves.{upper-pos, only-lower, no-upper}
 use Rattle.int128.proofs.Digits.{over, near}
 use Rattle.int128.proofs.Normal.{Shift, top-lt, top-ge, leading-lt}
 use borrow.Author.Needs.{needs}
 use Rattle.int128.proofs.quotient.div_long.Statement.{statement}
 use Rattle.int128.proofs.quotient.div_long.Tie as tie
 
-word : (d : ℕ) → 0 * 2 ^ 64 + d ≡ d
-word d = omega arith
-
 shift : (c : tie.After-norm-shift) → Shift (c .before .args .d .hi) (c .norm-shift .result)
 shift c = record { short = c .norm-shift .ensures .0; top = c .norm-shift .ensures .1; fits = c .norm-shift .ensures .2 }
 
--- the divisor's leading part, one word with its top bit set
+-- the divisor's leading part, one no-upper with its top bit set
 part : (c : tie.After-shr-bits2) → ℕ
 part c = bitsOf (c .before .before .before .args .d) / 2 ^ (64 - c .before .before .norm-shift .result)
 
@@ -84,7 +81,7 @@ rest-requires : tie.Need-rest-requires
 rest-requires c κs = search needs
 
 returns : tie.Need-returns
-returns c = (word (c .before .settle .result) ∙ c .before .settle .ensures, c .rest .ensures)
+returns c = (no-upper (c .before .settle .result) ∙ c .before .settle .ensures, c .rest .ensures)
 
 pub div-long-spec : {M : Type 1} → statement M
 div-long-spec =

@@ -5,17 +5,13 @@ use native.Mathlib.Omega.{arith}
 use mathlib.Core.Path.{_≡_, _∙_, sym, ap, subst}
 use Rattle.int128.specs.declared.Int128.{Int128}
 use Rattle.int128.specs.Value.{bitsOf}
-use Rattle.int128.proofs.Halves.{above}
-use Rattle.int128.proofs.Products.{positive}
+use Rattle.int128.proofs.Halves.{above, no-upper, positive}
 use borrow.Author.Needs.{needs}
 use Rattle.int128.proofs.quotient.div_rem.Statement.{statement}
 use Rattle.int128.proofs.quotient.div_rem.Tie as tie
 
 one-word : (d : Int128) → d .hi ≡ 0 → bitsOf d ≡ d .lo
-one-word d e = ap (λ (x : ℕ). x * 2 ^ 64 + d .lo) e ∙ word (d .lo)
-  where
-    word : (x : ℕ) → 0 * 2 ^ 64 + x ≡ x
-    word x = omega arith
+one-word d e = ap (λ (x : ℕ). x * 2 ^ 64 + d .lo) e ∙ no-upper (d .lo)
 
 div-word-requires : tie.Need-div-word-requires
 div-word-requires c κs = subst (λ (x : ℕ). 0 < x) (one-word (c .before .before .args .d) (c .if1 .taken)) (c .before .before .pre)

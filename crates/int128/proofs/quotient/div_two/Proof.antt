@@ -1,5 +1,5 @@
 -- `int128::quotient::div_two` meets its contract: dividend and divisor are shifted alike, which leaves the quotient, and two digits of 32 bits are taken.
--- The laws of `Normal` for the shift and of `Digits` for the digits; with an upper word of 0 it is one division of words.
+-- The laws of `Normal` for the shift and of `Digits` for the digits; with an upper no-upper of 0 it is one division of words.
 use Prim.Native.Nat.{ℕ, _+_, _-_, _*_, _/_, _%_, _^_, _≤_, _<_, zero-le}
 use native.Mathlib.Nat.{mod-lt, mod-eq-of-lt, lt-of-le-of-lt, lt-of-lt-of-le}
 use native.Mathlib.Omega.{arith}
@@ -8,14 +8,12 @@ use lib.Arith.{digits-lt}
 use lib.Pow.{pow-pos}
 use mathlib.Core.Path.{_≡_, _∙_, sym, ap, ap₂, subst}
 use Rattle.int128.specs.Value.{bitsOf}
+use Rattle.int128.proofs.Halves.{no-upper}
 use Rattle.int128.proofs.Digits.{digit-lt, two-quotient, two-remainder}
 use Rattle.int128.proofs.Normal.{scaled-div, scaled-mod, shifted-fits, upper-lt}
 use borrow.Author.Needs.{needs}
 use Rattle.int128.proofs.quotient.div_two.Statement.{statement}
 use Rattle.int128.proofs.quotient.div_two.Tie as tie
-
-word : (d : ℕ) → 0 * 2 ^ 64 + d ≡ d
-word d = omega arith
 
 divisor-pos : {u v : ℕ} → u < v → 0 < v
 divisor-pos h = lt-of-le-of-lt zero-le h
@@ -73,7 +71,7 @@ rem-t12 c = search needs
 
 returns : tie.Need-returns
 returns c = let s = c .before .args in
-    let e = sym (ap (λ (x : ℕ). x * 2 ^ 64 + s .u0) (c .if1 .taken) ∙ word (s .u0)) in
+    let e = sym (ap (λ (x : ℕ). x * 2 ^ 64 + s .u0) (c .if1 .taken) ∙ no-upper (s .u0)) in
     (ap (λ (x : ℕ). x / s .v) e, ap (λ (x : ℕ). x % s .v) e)
 
 norm-shift-requires : tie.Need-norm-shift-requires

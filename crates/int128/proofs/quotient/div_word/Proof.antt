@@ -4,13 +4,11 @@ use Prim.Native.Nat.{ℕ, _+_, _*_, _/_, _%_, _^_}
 use native.Mathlib.Nat.{mod-lt}
 use native.Mathlib.Omega.{arith}
 use mathlib.Core.Path.{_≡_, _∙_, sym, ap}
+use Rattle.int128.proofs.Halves.{no-upper}
 use Rattle.int128.proofs.Digits.{carry-div, carry-mod}
 use borrow.Author.Needs.{needs}
 use Rattle.int128.proofs.quotient.div_word.Statement.{statement}
 use Rattle.int128.proofs.quotient.div_word.Tie as tie
-
-word : (d : ℕ) → 0 * 2 ^ 64 + d ≡ d
-word d = omega arith
 
 div-upper : tie.Need-div-upper
 div-upper c = search needs
@@ -26,7 +24,7 @@ returns c = let s = c .before .before .before in
     let n = s .args .n in
     let d = s .args .d in (
       ap (λ (x : ℕ). n .hi / d * 2 ^ 64 + x) (c .div-two .ensures .0) ∙ sym (carry-div (n .hi) (n .lo) (2 ^ 64) d (s .pre)),
-      word (c .div-two .result .remainder) ∙ c .div-two .ensures .1 ∙ sym (carry-mod (n .hi) (n .lo) (2 ^ 64) d (s .pre)),
+      no-upper (c .div-two .result .remainder) ∙ c .div-two .ensures .1 ∙ sym (carry-mod (n .hi) (n .lo) (2 ^ 64) d (s .pre)),
     )
 
 pub div-word-spec : {M : Type 1} → statement M

@@ -7,20 +7,16 @@ use lib.Dec.{eqb, lit≤}
 use mathlib.Core.Path.{_≡_, _∙_, sym, ap}
 use borrow.Author.Tests.{ne-eqb}
 use Rattle.int128.specs.Value.{bitsOf}
-use Rattle.int128.proofs.Halves.{above}
-use Rattle.int128.proofs.Products.{positive}
+use Rattle.int128.proofs.Halves.{above, no-upper, positive}
 use Rattle.int128.proofs.quotient.is_zero.Statement.{statement}
 use Rattle.int128.proofs.quotient.is_zero.Tie as tie
-
-word : (x : ℕ) → 0 * 2 ^ 64 + x ≡ x
-word x = omega arith
 
 not-zero : (x : ℕ) → 1 ≤ x → x ≡ 0 → ⊥
 not-zero x h e = omega arith
 
 returns : tie.Need-returns
 returns c = let x = c .before .before .before .args .x in
-    ap (λ (k : ℕ). eqb k 0) (sym (ap (λ (h : ℕ). h * 2 ^ 64 + x .lo) (c .before .if1 .taken) ∙ word (x .lo)))
+    ap (λ (k : ℕ). eqb k 0) (sym (ap (λ (h : ℕ). h * 2 ^ 64 + x .lo) (c .before .if1 .taken) ∙ no-upper (x .lo)))
 
 returns-2 : tie.Need-returns-2
 returns-2 c = let x = c .before .before .args .x in

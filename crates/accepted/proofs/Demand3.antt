@@ -1,0 +1,111 @@
+-- Demand 3 on bytes. The answer is taken back to the program behind it, whose bodies the buffers say and whose runs share all that is seen.
+-- By the theorem over the definitions, the round trip of the tables, and what a good tree has. Assumes nothing.
+use mathlib.Core.Path.{_≡_, refl, sym, _∙_, subst}
+use Prim.Native.Nat.{ℕ, _<_}
+use mathlib.Core.Bool.{Bool, true, false}
+use mathlib.Core.List.{List, [], _∷_}
+use mathlib.Core.Option.{Option, none as nothing, some}
+use native.Mathlib.Omega.{arith}
+use lib.Dec.{eqb}
+use lib.ListN.{length, getElem?}
+use Rattle.laws.specs.Fix.{pick}
+use Rattle.records.specs.Words.{wordOf, records, none, spanStart, spanEnd}
+use Rattle.records.specs.Good.{Good}
+use Rattle.syntax.specs.Syntax.{Block, Function, Program}
+use Rattle.syntax.specs.Decode.{program}
+use Rattle.conversion.specs.ConvertError as C
+use Rattle.conversion.specs.ConvertError.{Result, ok, err, number}
+use Rattle.conversion.specs.Ir.{StringEntry, IrProgram}
+use Rattle.conversion.specs.Expressions.{Functions}
+use Rattle.conversion.specs.Functions.{get-all-functions, check-main}
+use Rattle.conversion.specs.Converter.{convertAll, convert}
+use Rattle.conversion.specs.Written.{Counts, Tables, Refused, Converted, refusedAt, answerOf, conversion, countsOf, tablesOf}
+use Rattle.tables.specs.Exists.{All, Byte}
+use Rattle.tables.specs.Read as Read
+use Rattle.tables.specs.Read.{Begin, bodyAt, textsOf}
+use Rattle.tables.proofs.ReadBack.{converted-reads-back}
+use Rattle.runs.specs.Shared.{Agrees, bodyOf, texts}
+use Rattle.runs.proofs.Demand3.{demand3}
+use Rattle.accepted.specs.Demand3.{runnable, RunsAlike, Demand3}
+use Rattle.accepted.proofs.GoodLaws.{good-counts, good-well-formed}
+
+-- ---- the program behind an answer
+
+record Behind (tree text : List ℕ) (needsMain : Bool) (c : Counts) (w : Tables) : Type 0 where
+  pub of : IrProgram
+  pub converts : convert (program tree text) needsMain ≡ ok of
+  pub counted : c ≡ countsOf of
+  pub written : w ≡ tablesOf of
+
+refused : (b : Bool) (n r i j : ℕ) (c : Counts) (w : Tables) → pick b (Refused n none 0 0) (Refused n r i j) ≡ Converted c w → ⊥
+unfolding pick
+refused true n r i j c w e = let z : _≡_ {A = ℕ} 0 1 = cc in omega arith
+refused false n r i j c w e = let z : _≡_ {A = ℕ} 0 1 = cc in omega arith
+
+behind : (tree text : List ℕ) (needsMain : Bool) (c : Counts) (w : Tables) → conversion tree text needsMain ≡ Converted c w → Behind tree text needsMain c w
+unfolding conversion answerOf refusedAt
+behind tree text needsMain c w e = go (convert (program tree text) needsMain) refl e
+  where
+    go : (x : Result IrProgram) → convert (program tree text) needsMain ≡ x → answerOf tree x ≡ Converted c w → Behind tree text needsMain c w
+    go (ok p) f g = record { of = p; converts = f; counted = cc; written = cc }
+    go (err k r) f g = absurd (refused (eqb r none) (number k) r (wordOf tree r spanStart) (wordOf tree r spanEnd) c w g)
+
+-- a program that converts has its functions found
+record Found (P : Program) : Type 0 where
+  pub functions : Functions
+  pub found : get-all-functions (P .functions) [] ≡ ok functions
+
+found : (P : Program) (needsMain : Bool) (ir : IrProgram) → convert P needsMain ≡ ok ir → Found P
+unfolding convert
+found P needsMain ir e = go (get-all-functions (P .functions) []) refl e
+  where
+    go : (o : Result Functions) → get-all-functions (P .functions) [] ≡ o
+        → C._>>=_ o (λ G. C._>>=_ (check-main P needsMain) (λ u. convertAll P G (P .functions) [] (record { strings = []; floats = [] }))) ≡ ok ir → Found P
+    go (ok G) z w = record { functions = G; found = z }
+    go (err h r) z w = let n : _≡_ {A = ℕ} 0 1 = cc in absurd (omega arith)
+
+-- ---- the body that the buffers say is the one that runs
+
+texts-same : (l : List StringEntry) → textsOf l ≡ texts l
+unfolding textsOf texts
+texts-same [] = refl
+texts-same (e ∷ l) = rw (texts-same l)
+
+-- the body of a function that agrees, as it is read
+unfoldable bodyRead : {P : Program} {F : Functions} {ir : IrProgram} {i : ℕ} {f : Function} {b : Block} → Agrees P F ir i f b → Read.Body
+bodyRead {ir = ir} a = record {
+  func = a .function .func;
+  instrs = a .code;
+  vars = a .function .vars;
+  labels = a .function .labels;
+  strings = texts (ir .strings);
+  floats = ir .floats;
+}
+
+body-said : {P : Program} {F : Functions} {ir : IrProgram} {i : ℕ} {f : Function} {b : Block} (a : Agrees P F ir i f b) → Read.bodyOf ir i ≡ some (bodyRead a)
+unfolding Read.bodyOf Read._>>=_ bodyRead
+body-said {ir = ir} a = rw (a .listed, a .body, texts-same (ir .strings)) refl
+
+runs-alike : (tree text : List ℕ) (needsMain : Bool) (c : Counts) (t : Tables) (ir : IrProgram) (F : Functions) (i : ℕ) (f : Function) (b : Block)
+    → get-all-functions (program tree text .functions) [] ≡ ok F → bodyAt c t text i ≡ Read.bodyOf ir i → Agrees (program tree text) F ir i f b → RunsAlike tree text c t i f b
+unfolding runnable bodyOf bodyRead
+runs-alike tree text needsMain c t ir F i f b k r a = record {
+  functions = F;
+  found = k;
+  body = bodyRead a;
+  reads = r ∙ body-said a;
+  same = a .same;
+  shared = a .shared;
+}
+
+-- DEMAND 3 ON BYTES
+pub good-demand3 : Demand3
+good-demand3 tree text needsMain bytes good c w t e held i f b ef eb =
+    let h = behind tree text needsMain c w e in
+    let ir = h .of in
+    let k = found (program tree text) needsMain ir (h .converts) in
+    runs-alike tree text needsMain c t ir (k .functions) i f b (k .found)
+    (subst (λ n. bodyAt n t text i ≡ Read.bodyOf ir i) (sym (h .counted))
+    (converted-reads-back tree text needsMain bytes (omega (arith, good .few)) ir (h .converts) (good-counts tree text good needsMain ir (h .converts)) t
+    (subst (λ v. Begin v t) (h .written) held) i))
+    (demand3 (program tree text) needsMain ir (k .functions) (good-well-formed tree text good) (h .converts) (k .found) i f b ef eb)

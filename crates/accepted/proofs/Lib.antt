@@ -1,0 +1,4 @@
+pub mod Opened
+pub mod GoodLaws
+pub mod Demand3
+pub mod Accepted

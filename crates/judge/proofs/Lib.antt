@@ -1,0 +1,5 @@
+pub mod CountLaws
+pub mod DepthLaws
+pub mod RecordCases
+pub mod RoleCases
+pub mod RowLaws

@@ -1,0 +1,79 @@
+-- The entry: the core's answer, and what each lent buffer holds afterwards.
+-- The six outputs are cleared where the answer is a refusal with a place, and else are as found. Assumes nothing.
+use Rattle.judge.proofs.RowLaws.{output-cleared, output-kept}
+use borrow.Author.Needs.{needs}
+use Rattle.judge.proofs.judge.Statement.{statement}
+use Rattle.judge.proofs.judge.Tie as tie
+
+judge-tree-requires : tie.Need-judge-tree-requires
+judge-tree-requires c κs = search needs
+
+has-place-requires : tie.Need-has-place-requires
+has-place-requires c κs = search needs
+
+clear-outputs-requires : tie.Need-clear-outputs-requires
+clear-outputs-requires c κs = search needs
+
+same-length : tie.Need-same-length
+same-length c = search needs
+
+same-length-2 : tie.Need-same-length-2
+same-length-2 c = search needs
+
+same-length-3 : tie.Need-same-length-3
+same-length-3 c = search needs
+
+same-length-4 : tie.Need-same-length-4
+same-length-4 c = search needs
+
+same-length-5 : tie.Need-same-length-5
+same-length-5 c = search needs
+
+same-length-6 : tie.Need-same-length-6
+same-length-6 c = search needs
+
+same-length-7 : tie.Need-same-length-7
+same-length-7 c = search needs
+
+returns : tie.Need-returns
+returns c =
+    let at-clear-outputs = c .before .before .before .before .before .before .before .before .before .before .before .before in
+    let at-if1 = at-clear-outputs .before .before .before .before .before .before .before in
+    let at-has-place = at-if1 .before in
+    let at-judge-tree = at-has-place .before .before .before in (
+      at-judge-tree .judge-tree .ensures .0,
+      (
+        output-cleared _ _ (at-has-place .has-place .ensures) (at-if1 .if1 .taken) _ _ (at-clear-outputs .clear-outputs .ensures .0),
+        output-cleared _ _ (at-has-place .has-place .ensures) (at-if1 .if1 .taken) _ _ (at-clear-outputs .clear-outputs .ensures .1),
+        output-cleared _ _ (at-has-place .has-place .ensures) (at-if1 .if1 .taken) _ _ (at-clear-outputs .clear-outputs .ensures .2),
+        output-cleared _ _ (at-has-place .has-place .ensures) (at-if1 .if1 .taken) _ _ (at-clear-outputs .clear-outputs .ensures .3),
+        output-cleared _ _ (at-has-place .has-place .ensures) (at-if1 .if1 .taken) _ _ (at-clear-outputs .clear-outputs .ensures .4),
+        output-cleared _ _ (at-has-place .has-place .ensures) (at-if1 .if1 .taken) _ _ (at-clear-outputs .clear-outputs .ensures .5),
+        at-judge-tree .judge-tree .ensures .1,
+      ),
+    )
+
+same-length-8 : tie.Need-same-length-8
+same-length-8 c = search needs
+
+returns-2 : tie.Need-returns-2
+returns-2 c =
+    (c .before .before .before .before .judge-tree .ensures .0, (output-kept _ _ (c .before .has-place .ensures) (c .if1 .left) _, output-kept _ _ (c .before .has-place .ensures) (c .if1 .left) _, output-kept _ _ (c .before .has-place .ensures) (c .if1 .left) _, output-kept _ _ (c .before .has-place .ensures) (c .if1 .left) _, output-kept _ _ (c .before .has-place .ensures) (c .if1 .left) _, output-kept _ _ (c .before .has-place .ensures) (c .if1 .left) _, c .before .before .before .before .judge-tree .ensures .1))
+
+pub judge-spec : {M : Type 1} → statement M
+judge-spec =
+    tie.close
+    (tie.spec
+    judge-tree-requires
+    has-place-requires
+    clear-outputs-requires
+    same-length
+    same-length-2
+    same-length-3
+    same-length-4
+    same-length-5
+    same-length-6
+    same-length-7
+    returns
+    same-length-8
+    returns-2)

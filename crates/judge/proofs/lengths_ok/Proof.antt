@@ -1,0 +1,14 @@
+-- Row 'lengths'.
+-- The code's tests are those of the definition, in its order. Assumes nothing.
+use mathlib.Core.Path.{refl}
+use Rattle.judge.specs.Judge.{lengthsOk}
+use Rattle.judge.proofs.lengths_ok.Statement.{statement}
+use Rattle.judge.proofs.lengths_ok.Tie as tie
+
+returns : tie.Need-returns
+unfolding lengthsOk
+returns c =
+    refl
+
+pub lengths-ok-spec : {M : Type 1} → statement M
+lengths-ok-spec = tie.close (tie.spec returns)

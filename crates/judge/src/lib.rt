@@ -1,0 +1,167 @@
+// A tree of any bytes is judged, exactly as document 01's rows 'lengths', 'buffers', 'records' and 'nesting' say.
+ghost use mathlib.Core.Path.{_≡_};
+ghost use Prim.Native.Nat.{_*_, _≤_};
+ghost use lib.ListN.{length};
+ghost use Rattle.judge.specs.Inner.{Clears, placed};
+ghost use Rattle.judge.specs.Judge.{lengthsOk, buffersOk, lengthsOf, lowestFault, lowestDeep, recordsRow, nestingRow, judged, refused, outputAfter, scratchAfter, cleared};
+use records::convert_error::ConvertError;
+use records::convert_error::ConvertErrorKind;
+use records::words::NONE;
+
+mod nesting;
+mod references;
+mod rules;
+mod types;
+
+// How long the lent outputs are.
+pub struct Lengths {
+    pub instructions: usize,
+    pub variables: usize,
+    pub labels: usize,
+    pub functions: usize,
+    pub strings: usize,
+    pub floats: usize,
+}
+
+pub enum Judged {
+    Accepted,
+    Refused(ConvertError),
+}
+
+pub(crate) fn refuse(kind: ConvertErrorKind, place: u32) -> Judged
+    ensures { λ r. ⌜ r ≡ refused kind place ⌝ }
+{
+    Judged::Refused(ConvertError { kind, place })
+}
+
+// Zero in every byte.
+pub fn clear(buffer: &mut [u8])
+    ensures { λ _. ⌜ now (buffer .exit) ≡ cleared (now (buffer .entry)) ⌝ }
+{
+    let mut i = 0;
+    while i < buffer.len() {
+        buffer[i] = 0;
+        i += 1;
+    }
+}
+
+// Row 'lengths'.
+fn lengths_ok(bytes: usize) -> bool
+    ensures { λ r. ⌜ r ≡ lengthsOk bytes ⌝ }
+{
+    (bytes % 32 == 0) & (384 <= bytes) & (bytes <= 65536)
+}
+
+// Row 'buffers'.
+fn buffers_ok(n: usize, l: Lengths, scratch: usize) -> bool
+    requires { ⌜ n ≤ 2048 ⌝ }
+    ensures { λ r. ⌜ r ≡ buffersOk n l scratch ⌝ }
+{
+    (320 * n <= l.instructions)
+        & (12 * n <= l.variables)
+        & (24 * n <= l.labels)
+        & (32 * n <= l.functions)
+        & (8 * n <= l.strings)
+        & (32 * n <= l.floats)
+        & (64 * n <= scratch)
+}
+
+// Rows 'records' and 'nesting', over a cleared scratch; its first n bytes hold counts of references, and then depths.
+fn judge_records(tree: &[u8], text: &[u8], n: usize, scratch: &mut [u8]) -> Judged
+    requires { ⌜ (n * 32 ≡ length (now tree)) × (n ≤ 2048) × (n ≤ length (now scratch)) ⌝ }
+    requires { ⌜ now scratch ≡ cleared (now scratch) ⌝ }
+    ensures { λ r. ⌜ (r ≡ recordsRow (lowestFault (now (tree .entry)) (now (text .entry))) (nestingRow (lowestDeep (now (tree .entry))))) × Clears r × (length (now (scratch .exit)) ≡ length (now (scratch .entry))) ⌝ }
+{
+    references::count_references(tree, n, scratch);
+    let types = types::leading_types(tree, n);
+    let fault = rules::lowest_fault(tree, text, n, types, scratch);
+    if fault < n {
+        return refuse(ConvertErrorKind::BadTree, fault as u32);
+    }
+    let deep = nesting::lowest_deep(tree, n, scratch);
+    if deep < n {
+        return refuse(ConvertErrorKind::TooDeep, deep as u32);
+    }
+    Judged::Accepted
+}
+
+// The core: judges a tree, given how long the outputs are. Rows one and two leave scratch as found, the others leave it zero.
+pub fn judge_tree(tree: &[u8], text: &[u8], l: Lengths, scratch: &mut [u8]) -> Judged
+    ensures { λ r. ⌜ (r ≡ judged (now (tree .entry)) (now (text .entry)) l (length (now (scratch .entry)))) × (now (scratch .exit) ≡ scratchAfter r (now (scratch .entry))) ⌝ }
+{
+    if !lengths_ok(tree.len()) {
+        return refuse(ConvertErrorKind::BadTree, NONE);
+    }
+    let n = tree.len() / 32;
+    if !buffers_ok(n, l, scratch.len()) {
+        return refuse(ConvertErrorKind::ShortBuffer, NONE);
+    }
+    clear(scratch);
+    let answer = judge_records(tree, text, n, scratch);
+    clear(scratch);
+    answer
+}
+
+// The answer is a refusal with a place, which leaves all outputs zero.
+fn has_place(answer: Judged) -> bool
+    ensures { λ r. ⌜ r ≡ placed answer ⌝ }
+{
+    match answer {
+        Judged::Accepted => false,
+        Judged::Refused(e) => {
+            let place = e.place;
+            place != NONE
+        }
+    }
+}
+
+// Zero in every byte of the six outputs.
+fn clear_outputs(
+    instructions: &mut [u8],
+    variables: &mut [u8],
+    labels: &mut [u8],
+    functions: &mut [u8],
+    strings: &mut [u8],
+    floats: &mut [u8],
+)
+    ensures { λ _. ⌜ (now (instructions .exit) ≡ cleared (now (instructions .entry))) × (now (variables .exit) ≡ cleared (now (variables .entry))) × (now (labels .exit) ≡ cleared (now (labels .entry))) × (now (functions .exit) ≡ cleared (now (functions .entry))) × (now (strings .exit) ≡ cleared (now (strings .entry))) × (now (floats .exit) ≡ cleared (now (floats .entry))) ⌝ }
+{
+    clear(instructions);
+    clear(variables);
+    clear(labels);
+    clear(functions);
+    clear(strings);
+    clear(floats);
+}
+
+// Judges a tree. Rows one and two leave every buffer as found, the others leave all of them zero; an accepted tree leaves the
+// outputs as found and scratch zero.
+pub fn judge(
+    tree: &[u8],
+    text: &[u8],
+    instructions: &mut [u8],
+    variables: &mut [u8],
+    labels: &mut [u8],
+    functions: &mut [u8],
+    strings: &mut [u8],
+    floats: &mut [u8],
+    scratch: &mut [u8],
+) -> Judged
+    ensures { λ r. ⌜ r ≡ judged (now (tree .entry)) (now (text .entry)) (lengthsOf (now (instructions .entry)) (now (variables .entry)) (now (labels .entry)) (now (functions .entry)) (now (strings .entry)) (now (floats .entry))) (length (now (scratch .entry))) ⌝ }
+    ensures { λ r. ⌜ (now (instructions .exit) ≡ outputAfter r (now (instructions .entry))) × (now (variables .exit) ≡ outputAfter r (now (variables .entry))) × (now (labels .exit) ≡ outputAfter r (now (labels .entry))) × (now (functions .exit) ≡ outputAfter r (now (functions .entry))) × (now (strings .exit) ≡ outputAfter r (now (strings .entry))) × (now (floats .exit) ≡ outputAfter r (now (floats .entry))) × (now (scratch .exit) ≡ scratchAfter r (now (scratch .entry))) ⌝ }
+{
+    let l = Lengths {
+        instructions: instructions.len(),
+        variables: variables.len(),
+        labels: labels.len(),
+        functions: functions.len(),
+        strings: strings.len(),
+        floats: floats.len(),
+    };
+    let answer = judge_tree(tree, text, l, scratch);
+    if has_place(answer) {
+        clear_outputs(instructions, variables, labels, functions, strings, floats);
+        return answer;
+    }
+    answer
+}

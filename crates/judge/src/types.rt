@@ -1,0 +1,104 @@
+// The rules for types: the twelve first, types before all else, no two equal.
+ghost use mathlib.Core.Path.{_≡_};
+ghost use mathlib.Core.Bool.{not, _||_, _&&_};
+ghost use Prim.Native.Nat.{_+_, _*_, _≤_, _<_};
+ghost use lib.ListN.{length};
+ghost use Rattle.records.specs.Rules.{isFirstType, sameText, sameType, typeIsNew};
+ghost use Rattle.judge.specs.Inner.{TypesLead};
+use crate::references::size;
+use records::words::detail;
+use records::words::kind;
+use records::words::word;
+
+// The details of the twelve types that every tree begins with.
+const TWELVE: [u8; 12] = [1, 17, 33, 49, 2, 18, 3, 4, 5, 9, 6, 6];
+
+// What the two addresses among them are of: Char and Null.
+const INNER: [u32; 12] = [0, 0, 0, 0, 0, 0, 0, 0, 0, 0, 7, 9];
+
+// Record r is not among the first twelve, or it is the type that stands there in every tree.
+pub(crate) fn is_first_type(tree: &[u8], r: usize) -> bool
+    requires { ⌜ r * 32 + 32 ≤ length (now tree) ⌝ }
+    ensures { λ v. ⌜ v ≡ isFirstType (now (tree .entry)) r ⌝ }
+{
+    if r >= 12 {
+        return true;
+    }
+    (kind(tree, r) == 1) & (detail(tree, r) == TWELVE[r]) & (word(tree, r, 0) == INNER[r])
+}
+
+// How many records stand before the first that is no type.
+pub(crate) fn leading_types(tree: &[u8], n: usize) -> usize
+    requires { ⌜ n * 32 ≡ length (now tree) ⌝ }
+    ensures { λ v. ⌜ TypesLead (now (tree .entry)) n v ⌝ }
+{
+    let mut i = 0;
+    while i < n {
+        if kind(tree, i) != 1 {
+            return i;
+        }
+        i += 1;
+    }
+    n
+}
+
+// Two texts of m bytes, at p and q, are inside the buffer and the same: the one place where texts are compared.
+pub(crate) fn same_text(text: &[u8], p: usize, m: usize, q: usize, n: usize) -> bool
+    requires { ⌜ (p < 4294967296) × (m < 4294967296) × (q < 4294967296) × (n < 4294967296) ⌝ }
+    ensures { λ v. ⌜ v ≡ sameText (now (text .entry)) p m q n ⌝ }
+{
+    if p + m > text.len() {
+        return false;
+    }
+    if q + n > text.len() {
+        return false;
+    }
+    if m != n {
+        return false;
+    }
+    let mut i = 0;
+    while i < m {
+        if text[p + i] != text[q + i] {
+            return false;
+        }
+        i += 1;
+    }
+    true
+}
+
+// Types j and r are equal, key text aside.
+fn same_type(tree: &[u8], text: &[u8], j: usize, r: usize) -> bool
+    requires { ⌜ (j * 32 + 32 ≤ length (now tree)) × (r * 32 + 32 ≤ length (now tree)) ⌝ }
+    ensures { λ v. ⌜ v ≡ sameType (now (tree .entry)) (now (text .entry)) j r ⌝ }
+{
+    let d = detail(tree, r);
+    if detail(tree, j) != d {
+        return false;
+    }
+    let ja = word(tree, j, 0);
+    let jb = word(tree, j, 1);
+    let ra = word(tree, r, 0);
+    let rb = word(tree, r, 1);
+    if d == 8 {
+        return same_text(text, size(ja), size(jb), size(ra), size(rb));
+    }
+    (ja == ra) & (jb == rb) & (word(tree, j, 2) == word(tree, r, 2))
+}
+
+// No type before record r equals it, where it is a type.
+pub(crate) fn type_is_new(tree: &[u8], text: &[u8], r: usize) -> bool
+    requires { ⌜ r * 32 + 32 ≤ length (now tree) ⌝ }
+    ensures { λ v. ⌜ v ≡ typeIsNew (now (tree .entry)) (now (text .entry)) r ⌝ }
+{
+    if kind(tree, r) != 1 {
+        return true;
+    }
+    let mut j = 0;
+    while j < r {
+        if (kind(tree, j) == 1) & same_type(tree, text, j, r) {
+            return false;
+        }
+        j += 1;
+    }
+    true
+}

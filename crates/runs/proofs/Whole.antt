@@ -1,0 +1,241 @@
+-- A simulation of whole runs gives the claim: the same calls, endless runs included, and the same ends.
+-- The tree's run with n turns tells of n steps of the body's run or more, and the body's run is a function: so one direction gives both.
+use mathlib.Core.Path.{_≡_, refl, sym, _∙_, ap, subst}
+use mathlib.Core.List.{List, [], _∷_, _++_, append-assoc, append-nil}
+use mathlib.Core.Option.{Option, none, some}
+use Prim.Native.Nat.{ℕ, zero, suc, _+_, _-_, _≤_, _<_}
+use native.Mathlib.Nat.{le-refl}
+use native.Mathlib.Decide.{decLe}
+use native.Mathlib.Omega.{arith}
+use mathlib.Core.Bool.{Bool, true, false}
+use lib.ListN.{getElem?, drop}
+use Rattle.conversion.specs.Ir.{VarId, Operand, Instr, Copy, Unary, Binary, Cast, Zero, Arg, Call, Label, Jump, JumpIfNot, Return, Comment}
+use Rattle.conversion.specs.Scope.{Variable}
+use Rattle.runs.specs.Rule.{Answer, gives, halt, Truth, holds, fails, halts, Typed, Calls, Rule, Reply, comes, pending, Answers, Ending, passed, returns, stopped}
+use Rattle.runs.specs.TreeRun as Tree
+use Rattle.runs.specs.TreeRun.{Out, normal, broke, continued, returned, unfinished}
+use Rattle.runs.specs.BodyRun as Body
+use Rattle.runs.specs.BodyRun.{Vars, Spot, spot, over, waits, bodyRun}
+use Rattle.runs.specs.Shared.{callsT, endT, callsB, endB, Shared}
+use Rattle.runs.proofs.Machine.{Code, Queue, Cfg, at, ended, waiting, put, pass, putR, passR, branch, finish, exec, step, steps, steps-add, To}
+use Rattle.runs.proofs.Place.{seen, steps-seen}
+use Rattle.runs.proofs.Sim.{Ctx, body, Goes, go1, goes}
+use Rattle.runs.proofs.SimS.{SimS, runs, breaks, continues, gives-back, halting, long, held}
+
+-- what is seen of the machine whose place is the rest of the code
+unfoldable callsM : {W : Type 0} → Cfg W → Calls W
+callsM (at r q ρ h) = h
+callsM (ended e h) = h
+callsM (waiting h) = h
+
+unfoldable endM : {W : Type 0} → Cfg W → Option (Ending W)
+endM (at r q ρ h) = none
+endM (ended e h) = some e
+endM (waiting h) = none
+
+calls-seen : {W : Type 0} (C : Code) (c : Spot W) → callsM (seen C c) ≡ callsB c
+unfolding callsM callsB seen
+calls-seen C (spot p q ρ h) = refl
+calls-seen C (over e h) = refl
+calls-seen C (waits h) = refl
+
+end-seen : {W : Type 0} (C : Code) (c : Spot W) → endM (seen C c) ≡ endB c
+unfolding endM endB seen
+end-seen C (spot p q ρ h) = refl
+end-seen C (over e h) = refl
+end-seen C (waits h) = refl
+
+-- a call once made stays
+get-append : {A : Type 0} (a b : List A) (i : ℕ) (q : A) → getElem? a i ≡ some q → getElem? (a ++ b) i ≡ some q
+get-append [] b i q e = let z : _≡_ {A = ℕ} 0 1 = cc in absurd (omega arith)
+get-append (x ∷ a) b zero q e = e
+get-append (x ∷ a) b (suc i) q e = get-append a b i q e
+
+put-calls : {W : Type 0} (u : Answer W) (d : ℕ) (r : Code) (q : Queue W) (ρ : Vars W) (h : Calls W) → callsM (put u d r q ρ h) ≡ h
+unfolding put callsM
+put-calls (gives v) d r q ρ h = refl
+put-calls halt d r q ρ h = refl
+
+pass-calls : {W : Type 0} (u : Answer W) (r : Code) (q : Queue W) (ρ : Vars W) (h : Calls W) → callsM (pass u r q ρ h) ≡ h
+unfolding pass callsM
+pass-calls (gives v) r q ρ h = refl
+pass-calls halt r q ρ h = refl
+
+putR-calls : {W : Type 0} (u : Reply W) (d : ℕ) (r : Code) (q : Queue W) (ρ : Vars W) (h : Calls W) → callsM (putR u d r q ρ h) ≡ h
+unfolding putR callsM
+putR-calls (comes u) d r q ρ h = put-calls u d r q ρ h
+putR-calls pending d r q ρ h = refl
+
+passR-calls : {W : Type 0} (u : Reply W) (r : Code) (q : Queue W) (ρ : Vars W) (h : Calls W) → callsM (passR u r q ρ h) ≡ h
+unfolding passR callsM
+passR-calls (comes u) r q ρ h = pass-calls u r q ρ h
+passR-calls pending r q ρ h = refl
+
+branch-calls : {W : Type 0} (u : Truth) (r s : Code) (q : Queue W) (ρ : Vars W) (h : Calls W) → callsM (branch u r s q ρ h) ≡ h
+unfolding branch callsM
+branch-calls holds r s q ρ h = refl
+branch-calls fails r s q ρ h = refl
+branch-calls halts r s q ρ h = refl
+
+finish-calls : {W : Type 0} (u : Answer W) (h : Calls W) → callsM (finish u h) ≡ h
+unfolding finish callsM
+finish-calls (gives v) h = refl
+finish-calls halt h = refl
+
+module _ {W : Type 0} (X : Ctx W) where
+  exec-keeps : (j : Instr) (r : Code) (z : Queue W) (ρ : Vars W) (h : Calls W) (i : ℕ) (q : ℕ × List (Typed W)) → getElem? h i ≡ some q
+      → getElem? (callsM (exec (X .rule) (X .answers) (body X) j r z ρ h)) i ≡ some q
+  unfolding exec callsM
+  exec-keeps (Copy d a) r z ρ h i q e = rw put-calls e
+  exec-keeps (Unary d o a) r z ρ h i q e = rw put-calls e
+  exec-keeps (Binary d o a b) r z ρ h i q e = rw put-calls e
+  exec-keeps (Cast d a) r z ρ h i q e = rw put-calls e
+  exec-keeps (Zero d) r z ρ h i q e = rw put-calls e
+  exec-keeps (Arg o) r z ρ h i q e = e
+  exec-keeps (Call (some d) f) r z ρ h i q e = rw putR-calls (get-append h _ i q e)
+  exec-keeps (Call none f) r z ρ h i q e = rw passR-calls (get-append h _ i q e)
+  exec-keeps (Label l) r z ρ h i q e = e
+  exec-keeps (Jump l) r z ρ h i q e = e
+  exec-keeps (JumpIfNot o l) r z ρ h i q e = rw branch-calls e
+  exec-keeps (Return o) r z ρ h i q e = rw finish-calls e
+  exec-keeps (Comment s) r z ρ h i q e = e
+
+  step-keeps : (c : Cfg W) (i : ℕ) (q : ℕ × List (Typed W)) → getElem? (callsM c) i ≡ some q → getElem? (callsM (step (X .rule) (X .answers) (body X) c)) i ≡ some q
+  unfolding step callsM
+  step-keeps (at [] z ρ h) i q e = e
+  step-keeps (at (j ∷ r) z ρ h) i q e = exec-keeps j r z ρ h i q e
+  step-keeps (ended x h) i q e = e
+  step-keeps (waiting h) i q e = e
+
+  abbrev after : ℕ → Cfg W → Cfg W
+  after n c = steps (X .rule) (X .answers) (body X) n c
+
+  steps-keep : (n : ℕ) (c : Cfg W) (i : ℕ) (q : ℕ × List (Typed W)) → getElem? (callsM c) i ≡ some q → getElem? (callsM (after n c)) i ≡ some q
+  unfolding steps
+  steps-keep zero c i q e = e
+  steps-keep (suc n) c i q e = steps-keep n (step (X .rule) (X .answers) (body X) c) i q (step-keeps c i q e)
+
+  steps-ended : (n : ℕ) (e : Ending W) (h : Calls W) → after n (ended e h) ≡ ended e h
+  unfolding steps step
+  steps-ended zero e h = refl
+  steps-ended (suc n) e h = steps-ended n e h
+
+  steps-waiting : (n : ℕ) (h : Calls W) → after n (waiting h) ≡ waiting h
+  unfolding steps step
+  steps-waiting zero h = refl
+  steps-waiting (suc n) h = steps-waiting n h
+
+  -- of two counts of steps the larger goes on from the smaller
+  steps-later : (m n : ℕ) (c : Cfg W) → m ≤ n → after n c ≡ after (n - m) (after m c)
+  steps-later m n c g = ap (λ x. after x c) (omega arith) ∙ steps-add (X .rule) (X .answers) (body X) m (n - m) c
+
+  -- an ended run stays so
+  past : {c : Cfg W} {e : Ending W} {h : Calls W} (p : Goes X c (ended e h)) (n : ℕ) → p .many ≤ n → after n c ≡ ended e h
+  past {c} {e} {h} p n g = steps-later (p .many) n c g ∙ (ap (after (n - p .many)) (p .comes) ∙ steps-ended (n - p .many) e h)
+
+  -- and so does one that is held up
+  past-waiting : {c : Cfg W} {h : Calls W} (p : Goes X c (waiting h)) (n : ℕ) → p .many ≤ n → after n c ≡ waiting h
+  past-waiting {c} {h} p n g = steps-later (p .many) n c g ∙ (ap (after (n - p .many)) (p .comes) ∙ steps-waiting (n - p .many) h)
+
+  is-ended : (c : Cfg W) (e : Ending W) → endM c ≡ some e → c ≡ ended e (callsM c)
+  unfolding endM callsM
+  is-ended (at r z1 ρ h) e q = let z : _≡_ {A = ℕ} 0 1 = cc in absurd (omega arith)
+  is-ended (ended x h) e q = cc
+  is-ended (waiting h) e q = let z : _≡_ {A = ℕ} 0 1 = cc in absurd (omega arith)
+
+  -- what the body's run from c has to do with what the tree's run o with n turns came to
+  pub data Sum (n : ℕ) (c : Cfg W) (o : Out W) : Type 0 where
+    settled : (e : Ending W) → endT o ≡ some e → Goes X c (ended e (callsT o)) → Sum n c o
+    going : (j : Code) (z : Queue W) (ρ : Vars W) → endT o ≡ none → (p : Goes X c (at j z ρ (callsT o))) → n ≤ p .many → Sum n c o
+    hung : endT o ≡ none → Goes X c (waiting (callsT o)) → Sum n c o
+
+  pub sum : {n ls le : ℕ} {lvs vs : List Variable} {c : Cfg W} {o : Out W} → SimS X n false lvs ls le c [] vs o → Sum n c o
+  unfolding endT callsT step
+  sum (runs ρ p a) = settled passed refl (goes X p (go1 X refl))
+  sum (breaks ρ i p a) = absurd i
+  sum (continues ρ i p a) = absurd i
+  sum (gives-back {v = v} p) = settled (returns v) refl p
+  sum (halting p) = settled stopped refl p
+  sum (long j z ρ p u) = going j z ρ refl p u
+  sum (held p) = hung refl p
+
+  module _ (o : Out W) (c : Cfg W) (n : ℕ) where
+    calls-there : Sum n c o → (k : ℕ) (q : ℕ × List (Typed W)) → getElem? (callsT o) k ≡ some q → (m : ℕ) × (getElem? (callsM (after m c)) k ≡ some q)
+    unfolding callsM
+    calls-there (settled x e1 p) k q e = (p .many, rw (p .comes) e)
+    calls-there (going j z1 ρ e1 p u) k q e = (p .many, rw (p .comes) e)
+    calls-there (hung e1 p) k q e = (p .many, rw (p .comes) e)
+
+    calls-back : Sum n c o → (k : ℕ) (q : ℕ × List (Typed W)) → getElem? (callsM (after n c)) k ≡ some q → getElem? (callsT o) k ≡ some q
+    unfolding callsM
+    calls-back (settled x e1 p) k q e = go (decLe n (p .many))
+      where
+        go : Dec (n ≤ p .many) → getElem? (callsT o) k ≡ some q
+        go (yes g) = subst (λ z. getElem? (callsM z) k ≡ some q) (sym (steps-later n (p .many) c g) ∙ p .comes) (steps-keep (p .many - n) (after n c) k q e)
+        go (no g) = rw (past p n (omega arith)) at e
+    calls-back (going j z1 ρ e1 p g) k q e =
+        subst (λ z. getElem? (callsM z) k ≡ some q) (sym (steps-later n (p .many) c g) ∙ p .comes) (steps-keep (p .many - n) (after n c) k q e)
+    calls-back (hung e1 p) k q e = go (decLe n (p .many))
+      where
+        go : Dec (n ≤ p .many) → getElem? (callsT o) k ≡ some q
+        go (yes g) = subst (λ z. getElem? (callsM z) k ≡ some q) (sym (steps-later n (p .many) c g) ∙ p .comes) (steps-keep (p .many - n) (after n c) k q e)
+        go (no g) = rw (past-waiting p n (omega arith)) at e
+
+    ends-there : Sum n c o → (e : Ending W) → endT o ≡ some e → (m : ℕ) × (endM (after m c) ≡ some e) × (callsM (after m c) ≡ callsT o)
+    unfolding endM callsM
+    ends-there (settled x e1 p) e q = (p .many, rw (p .comes) (sym e1 ∙ q), rw (p .comes) refl)
+    ends-there (going j z1 ρ e1 p u) e q = let z : _≡_ {A = ℕ} 0 1 = cc in absurd (omega arith)
+    ends-there (hung e1 p) e q = let z : _≡_ {A = ℕ} 0 1 = cc in absurd (omega arith)
+
+    ends-back : Sum n c o → (e : Ending W) → endM (after n c) ≡ some e → (endT o ≡ some e) × (callsT o ≡ callsM (after n c))
+    unfolding endM callsM
+    ends-back (settled x e1 p) e q = go (decLe n (p .many))
+      where
+        go : Dec (n ≤ p .many) → (endT o ≡ some e) × (callsT o ≡ callsM (after n c))
+        go (yes g) =
+            let z : after (p .many) c ≡ ended e (callsM (after n c)) = past (record { many = n; comes = is-ended (after n c) e q }) (p .many) g in
+            let y = p .comes in (cc, cc)
+        go (no g) = let z = past p n (omega arith) in (e1 ∙ (sym (ap endM z) ∙ q), sym (ap callsM z))
+    ends-back (going j z1 ρ e1 p g) e q =
+        let z : after (p .many) c ≡ ended e (callsM (after n c)) = past (record { many = n; comes = is-ended (after n c) e q }) (p .many) g in
+        let y = p .comes in
+        let x : _≡_ {A = ℕ} 0 1 = cc in absurd (omega arith)
+    ends-back (hung e1 p) e q = go (decLe n (p .many))
+      where
+        go : Dec (n ≤ p .many) → (endT o ≡ some e) × (callsT o ≡ callsM (after n c))
+        go (yes g) =
+            let z : after (p .many) c ≡ ended e (callsM (after n c)) = past (record { many = n; comes = is-ended (after n c) e q }) (p .many) g in
+            let y = p .comes in
+            let x : _≡_ {A = ℕ} 0 1 = cc in absurd (omega arith)
+        go (no g) = let z : some e ≡ none = sym q ∙ ap endM (past-waiting p n (omega arith)) in let x : _≡_ {A = ℕ} 0 1 = cc in absurd (omega arith)
+
+  -- the numbered machine shows what the other shows
+  from-start : (ρ : Vars W) (n : ℕ) → seen (X .code) (bodyRun (X .rule) (X .answers) (body X) ρ n) ≡ after n (at (X .code) [] ρ [])
+  unfolding bodyRun seen
+  from-start ρ n = steps-seen (X .rule) (X .answers) (body X) n (spot 0 [] ρ [])
+
+  calls-from : (ρ : Vars W) (n : ℕ) → callsB (bodyRun (X .rule) (X .answers) (body X) ρ n) ≡ callsM (after n (at (X .code) [] ρ []))
+  calls-from ρ n = sym (calls-seen (X .code) _) ∙ ap callsM (from-start ρ n)
+
+  end-from : (ρ : Vars W) (n : ℕ) → endB (bodyRun (X .rule) (X .answers) (body X) ρ n) ≡ endM (after n (at (X .code) [] ρ []))
+  end-from ρ n = sym (end-seen (X .code) _) ∙ ap endM (from-start ρ n)
+
+  -- the claim, from the simulation and from a tree's run that with a return type does not pass
+  pub share : (tree : ℕ → Out W) (ρ : Vars W) (result : Option ℕ) → ((n : ℕ) → Sum n (at (X .code) [] ρ []) (tree n))
+      → ((y n : ℕ) → result ≡ some y → endT (tree n) ≡ some passed → ⊥)
+      → Shared tree (bodyRun (X .rule) (X .answers) (body X) ρ) result
+  share tree ρ result sums never = record {
+    calls = λ k q. (
+      (λ (n, e). let r = calls-there (tree n) c n (sums n) k q e in (r .0, rw (calls-from ρ (r .0)) (r .1))),
+      (λ (n, e). (n, calls-back (tree n) c n (sums n) k q (rw (calls-from ρ n) at e))),
+    );
+    ends = λ e h. (
+      (λ (n, p, q). let r = ends-there (tree n) c n (sums n) e p in (r .0, end-from ρ (r .0) ∙ r .1, calls-from ρ (r .0) ∙ (r .2 ∙ q))),
+      (λ (n, p, q). let r = ends-back (tree n) c n (sums n) e (sym (end-from ρ n) ∙ p) in (n, r .0, r .1 ∙ (sym (calls-from ρ n) ∙ q))),
+    );
+    treeReturns = never;
+    bodyReturns = λ y n e p. let r = ends-back (tree n) c n (sums n) passed (sym (end-from ρ n) ∙ p) in never y n e (r .0);
+  }
+    where
+      c : Cfg W
+      c = at (X .code) [] ρ []

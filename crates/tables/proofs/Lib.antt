@@ -1,0 +1,14 @@
+pub mod Numbers
+pub mod Entries
+pub mod Instructions
+pub mod RoundTrip
+pub mod SyntaxFits
+pub mod Typing
+pub mod Keeps
+pub mod Operands
+pub mod Blocks
+pub mod Converted
+pub mod Decoded
+pub mod ReadBack
+pub mod Strict
+pub mod Judged

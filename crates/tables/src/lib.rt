@@ -1,0 +1,1 @@
+// The output tables read back from their bytes, as definitions (specs/) and laws (proofs/).
