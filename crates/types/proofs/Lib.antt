@@ -1,6 +1,8 @@
+pub mod CastRule
 mod FitsCases
 mod FloatFacts
 mod FoldCases
+pub mod FromGood
 mod SizeCases
 mod Tables
 mod TypeCases

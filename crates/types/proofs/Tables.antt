@@ -14,11 +14,11 @@ abbrev pub both : Bool → Bool → Bool
 both true b = b
 both false b = false
 
-both-left : (a b : Bool) → T (both a b) → T a
+pub both-left : (a b : Bool) → T (both a b) → T a
 both-left true b t = tt
 both-left false b t = t
 
-both-right : (a b : Bool) → T (both a b) → T b
+pub both-right : (a b : Bool) → T (both a b) → T b
 both-right true b t = t
 both-right false b t = absurd t
 
@@ -27,7 +27,7 @@ abbrev pub upto : ℕ → (ℕ → Bool) → Bool
 upto zero f = true
 upto (suc n) f = both (f n) (upto n f)
 
-passes : (n : ℕ) (f : ℕ → Bool) → T (upto n f) → (k : ℕ) → k < n → T (f k)
+pub passes : (n : ℕ) (f : ℕ → Bool) → T (upto n f) → (k : ℕ) → k < n → T (f k)
 passes zero f t k h = absurd (omega arith)
 passes (suc n) f t k h = go (eq-or-lt-of-le (le-of-suc-le-suc h)) (passes n f (both-right (f n) (upto n f) t) k)
   where
