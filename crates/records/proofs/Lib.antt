@@ -1,0 +1,3 @@
+pub mod LayoutFits
+pub mod ShapeCases
+pub mod ShapeTable

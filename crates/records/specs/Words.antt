@@ -30,6 +30,11 @@ unfoldable pub detailOf : List ℕ → ℕ → ℕ
 unfolding byteAt
 detailOf tree r = byteAt tree (r * 32 + 1)
 
+-- 'bytes 2 and 3 zero': the number that they make
+unfoldable pub padOf : List ℕ → ℕ → ℕ
+unfolding byteAt
+padOf tree r = byteAt tree (r * 32 + 2) + byteAt tree (r * 32 + 3) * 256
+
 -- 'words (32 bits) A to E at 4, 8, 12, 16, 20, span start and end at 24 and 28': word k of record r, A being 0, E 4, the span 5 and 6
 unfoldable pub wordOf : List ℕ → ℕ → ℕ → ℕ
 unfolding wordAt

@@ -1,0 +1,30 @@
+-- Tests and sums over all numbers below a bound. Assumes nothing: these are definitions.
+use Prim.Native.Nat.{ℕ, zero, suc, _+_}
+use mathlib.Core.Bool.{Bool, true, false, _&&_, _||_}
+use mathlib.Core.Option.{Option, none, some}
+use Rattle.laws.specs.Fix.{pick}
+
+-- f holds of every number below n
+unfoldable pub allBelow : ℕ → (ℕ → Bool) → Bool
+allBelow zero f = true
+allBelow (suc n) f = allBelow n f && f n
+
+-- f holds of some number below n
+unfoldable pub anyBelow : ℕ → (ℕ → Bool) → Bool
+anyBelow zero f = false
+anyBelow (suc n) f = anyBelow n f || f n
+
+-- f 0 + .. + f (n - 1)
+unfoldable pub sumBelow : ℕ → (ℕ → ℕ) → ℕ
+sumBelow zero f = 0
+sumBelow (suc n) f = sumBelow n f + f n
+
+unfoldable pub orElse : Option ℕ → Option ℕ → Option ℕ
+orElse (some r) o = some r
+orElse none o = o
+
+-- the lowest number below n of which f holds
+unfoldable pub lowest : ℕ → (ℕ → Bool) → Option ℕ
+unfolding pick orElse
+lowest zero f = none
+lowest (suc n) f = orElse (lowest n f) (pick (f n) (some n) none)

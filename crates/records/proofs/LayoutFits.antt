@@ -1,0 +1,9 @@
+-- The regions of the scratch lie one behind the other within 64 bytes a record: the test is computed.
+-- Assumes nothing.
+use mathlib.Core.Path.{_≡_, refl}
+use mathlib.Core.Bool.{true}
+use Rattle.records.specs.Layout.{layout, fitsFrom}
+
+pub layout-fits : fitsFrom 0 layout ≡ true
+unfolding fitsFrom
+layout-fits = refl

@@ -1,0 +1,46 @@
+-- One layout of the scratch: 64 bytes a record, cut into regions that lie one behind the other. Assumes nothing: these are definitions.
+use Prim.Native.Nat.{ℕ, _+_, _*_}
+use mathlib.Core.Bool.{Bool, true, false, _&&_}
+use mathlib.Core.List.{List, [], _∷_}
+use lib.Dec.{leb}
+
+-- with n records, a region has `each` bytes for each record and starts at byte `from` times n
+pub record Region : Type 0 where
+  pub from : ℕ
+  pub each : ℕ
+
+-- what the judge counts: a byte for each record, first how often it is referred to, then how deep it is
+abbrev pub judging : Region
+judging = record { from = 0; each = 4 }
+
+-- the types of expressions that stand as arguments: a word at the slot of the expression's record
+abbrev pub argumentTypes : Region
+argumentTypes = record { from = 4; each = 4 }
+
+-- the open names, the innermost last: four words each (record that declares it, variable, type, whether constant)
+abbrev pub openNames : Region
+openNames = record { from = 8; each = 16 }
+
+-- the operands of calls whose arguments are being converted: 16 bytes each
+abbrev pub operands : Region
+operands = record { from = 24; each = 16 }
+
+-- left for later
+abbrev pub unused : Region
+unused = record { from = 40; each = 16 }
+
+-- for a later mark at each expression (whether it was typed, and its type)
+abbrev pub typedOnce : Region
+typedOnce = record { from = 56; each = 8 }
+
+abbrev pub layout : List Region
+layout = judging ∷ argumentTypes ∷ openNames ∷ operands ∷ unused ∷ typedOnce ∷ []
+
+-- 'scratch 64n'
+abbrev pub scratchEach : ℕ
+scratchEach = 64
+
+-- each region starts behind the one before, and the last ends within the scratch
+unfoldable pub fitsFrom : ℕ → List Region → Bool
+fitsFrom at [] = leb at scratchEach
+fitsFrom at (x ∷ l) = leb at (x .from) && fitsFrom (x .from + x .each) l

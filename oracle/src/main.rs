@@ -1,0 +1,135 @@
+//! The command `oracle`.
+
+use std::collections::BTreeMap;
+use std::path::Path;
+use std::process::ExitCode;
+use std::{env, fs};
+
+use oracle::convert::try_convert;
+use oracle::generate::list::{bytes, cases};
+use oracle::source::source_text;
+use oracle::tree::Tree;
+use oracle::{Answer, classes, generate, judge, needed, show};
+
+const USAGE: &str = "oracle judge TREE TEXT | convert TREE TEXT [--main] [--long] | show TREE TEXT [--main] |
+    gen SEED CLASS DIR | count N SEED [CLASS] | list judge SEED N FILE | classes";
+
+/// What document 01's program takes at most.
+const MOST_TREE_BYTES: usize = 6400;
+const MOST_TEXT_BYTES: usize = 4096;
+
+fn read(path: &str) -> Result<Vec<u8>, String> {
+    fs::read(path).map_err(|err| format!("{path}: {err}"))
+}
+
+fn judge_files(tree: &str, text: &str) -> Result<(), String> {
+    let (tree, text) = (read(tree)?, read(text)?);
+    match judge(&tree, &text, needed(tree.len())) {
+        Ok(()) => println!("accepted"),
+        Err(refusal) => println!("{}", Answer::Refused(refusal).line()),
+    }
+    Ok(())
+}
+
+fn convert_files(tree: &str, text: &str, options: &[&str]) -> Result<(), String> {
+    let (tree, text) = (read(tree)?, read(text)?);
+    let long = tree.len() > MOST_TREE_BYTES || text.len() > MOST_TEXT_BYTES;
+    if long && !options.contains(&"--long") {
+        println!("toolong");
+        return Ok(());
+    }
+    let answer = try_convert(&tree, &text, options.contains(&"--main"), needed(tree.len()))?;
+    println!("{}", answer.line());
+    Ok(())
+}
+
+fn show_files(tree: &str, text: &str, options: &[&str]) -> Result<(), String> {
+    let (bytes, text) = (read(tree)?, read(text)?);
+    let tree = Tree::new(&bytes, &text);
+    print!("{}", show::tree_text(&tree));
+    if judge(&bytes, &text, needed(bytes.len())).is_ok() {
+        print!("\n{}\n", source_text(&tree));
+    }
+    match try_convert(&bytes, &text, options.contains(&"--main"), needed(bytes.len()))? {
+        Answer::Converted(tables) => print!("{}", show::tables_text(&tables, &|at| format!("#{at}"))),
+        Answer::Refused(refusal) => print!("{}", show::refusal_text(&tree, &refusal)),
+    }
+    Ok(())
+}
+
+fn number(text: &str) -> Result<u64, String> {
+    text.parse().map_err(|_| format!("{text}: a number is wanted"))
+}
+
+fn gen_files(seed: &str, class: &str, dir: &str) -> Result<(), String> {
+    if !classes().contains(&class) {
+        return Err(format!("{class}: no such class; there are {}", classes().join(" ")));
+    }
+    let case = generate(number(seed)?, class);
+    for (name, bytes) in [("tree.bin", &case.tree), ("text.bin", &case.text)] {
+        fs::write(Path::new(dir).join(name), bytes).map_err(|err| format!("{dir}/{name}: {err}"))?;
+    }
+    println!("{}{}", case.label, if case.needs_main { " --main" } else { "" });
+    Ok(())
+}
+
+/// Converts `n` generated trees, and prints how many gave each number.
+fn count(n: &str, seed: &str, class: Option<&str>) -> Result<(), String> {
+    let (n, seed) = (number(n)?, number(seed)?);
+    let mut numbers: BTreeMap<u32, u64> = BTreeMap::new();
+    for at in 0..n {
+        let class = class.unwrap_or(classes()[at as usize % classes().len()]);
+        let case = generate(seed.wrapping_mul(1_000_003).wrapping_add(at), class);
+        let answer = try_convert(&case.tree, &case.text, case.needs_main, case.lens)
+            .map_err(|message| format!("internal error: {}: {message}", case.label))?;
+        *numbers.entry(answer.number()).or_default() += 1;
+    }
+    for (number, count) in numbers {
+        println!("{number:2} {count}");
+    }
+    Ok(())
+}
+
+fn list(seed: &str, n: &str, file: &str) -> Result<(), String> {
+    let cases = cases(number(seed)?, number(n)? as usize);
+    let bytes = bytes(&cases);
+    let mut numbers: BTreeMap<(u32, bool), u32> = BTreeMap::new();
+    for case in &cases {
+        let refusal = judge(&case.tree, &case.text, case.lens).err();
+        *numbers.entry(refusal.map_or((0, false), |r| (r.number, r.place != u32::MAX))).or_default() += 1;
+    }
+    println!("{} cases, {} bytes", cases.len(), bytes.len());
+    for ((number, placed), count) in numbers {
+        println!("{number:2} {count}{}", if placed { " with a place" } else { "" });
+    }
+    fs::write(file, bytes).map_err(|err| format!("{file}: {err}"))
+}
+
+fn run(args: &[&str]) -> Result<(), String> {
+    match args {
+        ["judge", tree, text] => judge_files(tree, text),
+        ["convert", tree, text, options @ ..] => convert_files(tree, text, options),
+        ["show", tree, text, options @ ..] => show_files(tree, text, options),
+        ["gen", seed, class, dir] => gen_files(seed, class, dir),
+        ["count", n, seed] => count(n, seed, None),
+        ["count", n, seed, class] => count(n, seed, Some(class)),
+        ["list", "judge", seed, n, file] => list(seed, n, file),
+        ["classes"] => {
+            println!("{}", classes().join(" "));
+            Ok(())
+        }
+        _ => Err(format!("usage: {USAGE}")),
+    }
+}
+
+fn main() -> ExitCode {
+    let args: Vec<String> = env::args().skip(1).collect();
+    let args: Vec<&str> = args.iter().map(String::as_str).collect();
+    match run(&args) {
+        Ok(()) => ExitCode::SUCCESS,
+        Err(message) => {
+            eprintln!("oracle: {message}");
+            ExitCode::FAILURE
+        }
+    }
+}
