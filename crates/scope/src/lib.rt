@@ -1,0 +1,1 @@
+// The names that are known at a place.
