@@ -63,7 +63,7 @@ below-product w m b zero hb h = absurd (omega arith)
 below-product w zero b (suc k) hb h = rw mul-suc (omega arith)
 below-product w (suc m) b (suc k) hb h = rw (mul-suc w m, mul-suc w k) (omega (arith, below-product w m b k hb (omega arith)))
 
-word-same : (l : List ℕ) (p : ℕ) (r : List ℕ) (b : ℕ) → getD l p 0 ≡ getD r b 0 → getD l (p + 1) 0 ≡ getD r (b + 1) 0
+pub word-same : (l : List ℕ) (p : ℕ) (r : List ℕ) (b : ℕ) → getD l p 0 ≡ getD r b 0 → getD l (p + 1) 0 ≡ getD r (b + 1) 0
     → getD l (p + 2) 0 ≡ getD r (b + 2) 0 → getD l (p + 3) 0 ≡ getD r (b + 3) 0 → wordAt l p ≡ wordAt r b
 unfolding wordAt byteAt
 word-same l p r b e₀ e₁ e₂ e₃ = rw (e₀, e₁, e₂, e₃)

@@ -10,6 +10,7 @@ use lib.Dec.{eqb}
 use lib.ListN.{length, take, drop, getD, length-take, length-drop}
 use lib.Seq.{drop-cons, take-all}
 use borrow.Author.Tests.{eq-eqb, ne-eqb}
+use Rattle.laws.proofs.Tests.{and-right}
 use Rattle.records.specs.Words.{textAt}
 use Rattle.conversion.specs.Ir.{sameText}
 
@@ -47,10 +48,6 @@ unfolding textAt
 text-taken t o n x e = rw e (take-taken n (drop o t))
 
 -- ---- two texts of other lengths, of none, of one length
-
-and-right : (p q : Bool) → (p && q) ≡ true → q ≡ true
-and-right true q e = e
-and-right false q e = absurd (let z : _≡_ {A = ℕ} 0 1 = cc in omega arith)
 
 same-lengths : (a b : List ℕ) → sameText a b ≡ true → length a ≡ length b
 unfolding sameText

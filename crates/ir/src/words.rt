@@ -28,7 +28,7 @@ pub fn low(x: u64) -> u32
 }
 
 pub fn high(x: u64) -> u32
-    ensures { λ r. ⌜ r ≡ x / 4294967296 ⌝ }
+    ensures { λ r. ⌜ (r ≡ x / 4294967296) × (r < 4294967296) ⌝ }
 {
     (x / 4294967296) as u32
 }
