@@ -50,6 +50,10 @@ emit-done i f k l l′ room small ef e =
       stands = λ text t h. (refl, emit-holds text t k l room h (instrOf i) l′ small w)
     }, w)
 
+-- a variable by its number and its type
+abbrev variable : ℕ → ℕ → Ir.VarId
+variable i y = record { id = i; ty = y }
+
 pub var-done : (y : ℕ) (v : VarId) (k : Counters) (l l′ : List ℕ) → Room k l → k .variables < 3 * k .records
     → v .0 ≡ k .variables - k .variables0 → v .1 ≡ y → l′ ≡ splice l (128 * k .records + 4 * k .variables) (word y)
     → NewVarMeets y k l (NewVariable.Is v (moreVariables k)) l′
@@ -61,8 +65,48 @@ var-done y v k l l′ room small e₀ e₁ e =
       records = refl;
       stands = λ text t h.
           let count : v .0 ≡ length (t .state .vars) = omega (arith, e₀, h .variables-hold .count, h .variables-before, length-append (allVars (t .done)) (t .state .vars)) in
-          (ap₂ (λ (a b : ℕ). record { id = a; ty = b }) count e₁, var-holds text t k l room h y l′ small e)
+          (ap₂ variable count e₁, var-holds text t k l room h y l′ small e)
     }, e)
+
+-- ---- no room
+
+pub emit-full : (i : Instr) (k : Counters) (l : List ℕ) → 4 * k .records ≤ k .instructions → EmitMeets i k l Emitted.Full l
+unfolding EmitMeets
+emit-full i k l h = record { full = h; same = refl }
+
+pub var-full : (y : ℕ) (k : Counters) (l : List ℕ) → 3 * k .records ≤ k .variables → NewVarMeets y k l NewVariable.Full l
+unfolding NewVarMeets
+var-full y k l h = record { full = h; same = refl }
+
+pub label-full : (kind opener : ℕ) (k : Counters) (l : List ℕ) → 3 * k .records ≤ k .labels → AddLabelMeets kind opener k l LabelNumber.Full l
+unfolding AddLabelMeets
+label-full kind opener k l h = record { full = h; same = refl }
+
+pub string-full : (offset len : ℕ) (k : Counters) (l : List ℕ) → k .records ≤ k .strings → AddStringMeets offset len k l PoolNumber.Full l
+unfolding AddStringMeets
+string-full offset len k l h = record { full = h; same = refl }
+
+pub float-full : (a b c d : ℕ) (k : Counters) (l : List ℕ) → 2 * k .records ≤ k .floats → AddFloatMeets a b c d k l PoolNumber.Full l
+unfolding AddFloatMeets
+float-full a b c d k l h = record { full = h; same = refl }
+
+-- ---- an entry at the end
+
+pub label-add : (kind opener : ℕ) (k : Counters) (l l′ : List ℕ) (x : Label) → k .labels < 3 * k .records → x .0 ≡ k .labels - k .labels0
+    → l′ ≡ splice l (140 * k .records + 8 * k .labels) (word kind ++ word opener) → AddLabelMeets kind opener k l (LabelNumber.Is x (moreLabels k)) l′
+unfolding AddLabelMeets encodeLabel
+label-add kind opener k l l′ x h q e = (q, record { room = h; next = refl; wrote = e })
+
+pub string-add : (offset len : ℕ) (k : Counters) (l l′ : List ℕ) → k .strings < k .records
+    → l′ ≡ splice l (196 * k .records + 8 * k .strings) (word offset ++ word len) → AddStringMeets offset len k l (PoolNumber.Is (k .strings) (moreStrings k)) l′
+unfolding AddStringMeets
+string-add offset len k l l′ h e = (refl, record { room = h; next = refl; wrote = e })
+
+pub float-add : (a b c d : ℕ) (k : Counters) (l l′ : List ℕ) → k .floats < 2 * k .records
+    → l′ ≡ splice l (204 * k .records + 16 * k .floats) (word a ++ word b ++ word c ++ word d)
+    → AddFloatMeets a b c d k l (PoolNumber.Is (k .floats) (moreFloats k)) l′
+unfolding AddFloatMeets
+float-add a b c d k l l′ h e = (refl, record { room = h; next = refl; wrote = e })
 
 -- ---- an entry that is found: nothing changes
 

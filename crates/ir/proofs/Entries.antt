@@ -97,16 +97,17 @@ module _ {X : Type 0} {f : X → List ℕ} {w : ℕ} {xs : List X} {at n : ℕ} 
 
   -- ---- read back
 
-  table-byte : (d : X) (m b : ℕ) → m < n → b < w → getD l (at + (w * m + b)) 0 ≡ getD (f (getD xs m d)) b 0
-  table-byte d m b hm hb =
-      part-element l at (encodeAll f xs) (w * m + b) (t .bytes .is)
+  table-byte : (d : X) (m b p : ℕ) → m < n → b < w → p ≡ at + (w * m + b) → getD l p 0 ≡ getD (f (getD xs m d)) b 0
+  table-byte d m b p hm hb e =
+      ap (λ (q : ℕ). getD l q 0) e
+      ∙ part-element l at (encodeAll f xs) (w * m + b) (t .bytes .is)
       (rw (encode-length f w (t .width) xs) (below-product w m b (length xs) hb (omega (arith, t .count))))
       ∙ encode-byte f w (t .width) d xs m b (omega (arith, t .count)) hb
 
   pub table-word : (d : X) (m b p : ℕ) → m < n → b + 4 ≤ w → p ≡ at + (w * m + b) → wordAt l p ≡ wordAt (f (getD xs m d)) b
   table-word d m b p hm hb e =
       word-same l p (f (getD xs m d)) b
-      (ap (λ (q : ℕ). getD l q 0) e ∙ table-byte d m b hm (omega arith))
-      (ap (λ (q : ℕ). getD l q 0) (omega (arith, e)) ∙ table-byte d m (b + 1) hm (omega arith))
-      (ap (λ (q : ℕ). getD l q 0) (omega (arith, e)) ∙ table-byte d m (b + 2) hm (omega arith))
-      (ap (λ (q : ℕ). getD l q 0) (omega (arith, e)) ∙ table-byte d m (b + 3) hm (omega arith))
+      (table-byte d m b p hm (omega arith) e)
+      (table-byte d m (b + 1) (p + 1) hm (omega arith) (omega (arith, e)))
+      (table-byte d m (b + 2) (p + 2) hm (omega arith) (omega (arith, e)))
+      (table-byte d m (b + 3) (p + 3) hm (omega arith) (omega (arith, e)))

@@ -1,6 +1,7 @@
 pub mod Answers
 pub mod Entries
 pub mod FloatLaws
+pub mod FunctionDone
 pub mod Kept
 pub mod Operators
 pub mod ReadBack

@@ -77,10 +77,17 @@ and-both : (a b : Bool) → a ≡ true → b ≡ true → (a && b) ≡ true
 and-both a b e q = rw (e, q)
 
 -- two numbers are equal if their halves are
+glue : (a b : ℕ) → a % 4294967296 ≡ b % 4294967296 → a / 4294967296 ≡ b / 4294967296 → a ≡ b
+glue a b p q = omega arith
+
 halves : (a b : ℕ) → (eqb (a % 4294967296) (b % 4294967296) && eqb (a / 4294967296) (b / 4294967296)) ≡ eqb a b
-halves a b = same-bool _ _
-    (λ e. eq-eqb a b (omega (arith, eqb-true _ _ (and-left _ (eqb (a / 4294967296) (b / 4294967296)) e), eqb-true _ _ (and-right (eqb (a % 4294967296) (b % 4294967296)) _ e))))
-    (λ e. let z : a ≡ b = eqb-true a b e in and-both _ _ (eq-eqb _ _ (omega arith)) (eq-eqb _ _ (omega arith)))
+halves a b =
+    let x : Bool = eqb (a % 4294967296) (b % 4294967296) in
+    let y : Bool = eqb (a / 4294967296) (b / 4294967296) in
+    same-bool (x && y) (eqb a b)
+    (λ e. eq-eqb a b (glue a b (eqb-true (a % 4294967296) (b % 4294967296) (and-left x y e)) (eqb-true (a / 4294967296) (b / 4294967296) (and-right x y e))))
+    (λ e. and-both x y (eq-eqb (a % 4294967296) (b % 4294967296) (ap (λ (z : ℕ). z % 4294967296) (eqb-true a b e)))
+    (eq-eqb (a / 4294967296) (b / 4294967296) (ap (λ (z : ℕ). z / 4294967296) (eqb-true a b e))))
 
 marks : (a b : Bool) → eqb (boolNumber a) (boolNumber b) ≡ Bool·beq a b
 unfolding boolNumber
@@ -122,8 +129,8 @@ module _ (text : List ℕ) (t : Tables) (k : Counters) (l : List ℕ) (h : Holds
   label-same kind opener j hj =
       let f : LabelFits (getD (t .state .labels) j no-label) = all-at LabelFits (t .state .labels) no-label j (h .labels-fit) hj in
       ap₂ (λ (x y : ℕ). eqb kind x && eqb opener y)
-      (label-word j 0 _ hj (omega arith) (omega arith) ∙ label-kind (getD (t .state .labels) j no-label) f)
-      (label-word j 4 _ hj (omega arith) (omega arith) ∙ label-opener (getD (t .state .labels) j no-label) f)
+      (label-word j 0 (140 * k .records + 8 * k .labels0 + 8 * j) hj (omega arith) (omega arith) ∙ label-kind (getD (t .state .labels) j no-label) f)
+      (label-word j 4 (140 * k .records + 8 * k .labels0 + 8 * j + 4) hj (omega arith) (omega arith) ∙ label-opener (getD (t .state .labels) j no-label) f)
 
   pub labels-read : (kind opener : ℕ)
       → first (k .labels - k .labels0) (pairAt l (140 * k .records + 8 * k .labels0) kind opener) 0 ≡ position (sameLabel (named kind opener)) (t .state .labels)
@@ -139,8 +146,8 @@ module _ (text : List ℕ) (t : Tables) (k : Counters) (l : List ℕ) (h : Holds
       let f : StringStands text (getD (t .state .strings) j no-string) = all-at (StringStands text) (t .state .strings) no-string j (h .strings-stand) hj in
       ap (sameText u)
       (ap₂ (textAt text)
-      (table-word (h .strings-hold) no-string j 0 _ (omega (arith, h .strings-hold .count)) (omega arith) (omega arith) ∙ string-offset text x f)
-      (table-word (h .strings-hold) no-string j 4 _ (omega (arith, h .strings-hold .count)) (omega arith) (omega arith) ∙ string-len text x f)
+      (table-word (h .strings-hold) no-string j 0 (196 * k .records + 8 * j) (omega (arith, h .strings-hold .count)) (omega arith) (omega arith) ∙ string-offset text x f)
+      (table-word (h .strings-hold) no-string j 4 (196 * k .records + 8 * j + 4) (omega (arith, h .strings-hold .count)) (omega arith) (omega arith) ∙ string-len text x f)
       ∙ sym (f .stands))
 
   pub strings-read : (u : List ℕ)
@@ -158,10 +165,10 @@ module _ (text : List ℕ) (t : Tables) (k : Counters) (l : List ℕ) (h : Holds
       let c : j < k .floats = omega (arith, h .floats-hold .count) in
       ap₂ (λ (p q : Bool). p && q)
       (ap₂ (λ (p q : ℕ). eqb (e .bits % 4294967296) p && eqb (e .bits / 4294967296) q)
-      (table-word (h .floats-hold) no-float j 0 _ c (omega arith) (omega arith) ∙ float-low x)
-      (table-word (h .floats-hold) no-float j 4 _ c (omega arith) (omega arith) ∙ float-high x f)
+      (table-word (h .floats-hold) no-float j 0 (204 * k .records + 16 * j) c (omega arith) (omega arith) ∙ float-low x)
+      (table-word (h .floats-hold) no-float j 4 (204 * k .records + 16 * j + 4) c (omega arith) (omega arith) ∙ float-high x f)
       ∙ halves (e .bits) (x .bits))
-      (ap (eqb (boolNumber (e .short))) (table-word (h .floats-hold) no-float j 8 _ c (omega arith) (omega arith) ∙ float-mark x)
+      (ap (eqb (boolNumber (e .short))) (table-word (h .floats-hold) no-float j 8 (204 * k .records + 16 * j + 8) c (omega arith) (omega arith) ∙ float-mark x)
       ∙ marks (e .short) (x .short))
 
   pub floats-read : (e : FloatEntry)

@@ -24,7 +24,7 @@ module _ (n : ℕ) (f : ℕ → Bool) where
   one-more i h = omega arith
 
   pub left-start : Left 0
-  left-start = ap (λ (m : ℕ). first m f 0) (omega arith)
+  left-start = let z : n ≡ n - 0 = omega arith in ap (λ (m : ℕ). first m f 0) z
 
   pub left-more : (i : ℕ) → i < n → f i ≡ false → Left i → Left (i + 1)
   unfolding first pick
@@ -58,8 +58,8 @@ first-shift : {X : Type 0} (p : X → Bool) (d : X) (f : ℕ → Bool) (xs : Lis
 unfolding first position
 first-shift p d f [] i h = refl
 first-shift p d f (x ∷ xs) i h =
-    first-by p f x xs i (first-shift p d f xs (suc i) (λ j hj. ap f (omega arith) ∙ h (suc j) (omega arith))) (p x)
-    (ap f (omega arith) ∙ h 0 (omega arith)) refl
+    first-by p f x xs i (first-shift p d f xs (suc i) (λ j hj. let z : suc i + j ≡ i + suc j = omega arith in ap f z ∙ h (suc j) (omega arith))) (p x)
+    (let z : i ≡ i + 0 = omega arith in ap f z ∙ h 0 (omega arith)) refl
 
 shift-zero : (o : Option ℕ) → shift 0 o ≡ o
 shift-zero none = refl
@@ -69,7 +69,7 @@ shift-zero (some j) = ap some (omega arith)
 pub first-position : {X : Type 0} (p : X → Bool) (d : X) (f : ℕ → Bool) (xs : List X) (n : ℕ) → n ≡ length xs
     → ((j : ℕ) → j < length xs → f j ≡ p (getD xs j d)) → first n f 0 ≡ position p xs
 first-position p d f xs n e h =
-    rw e (first-shift p d f xs 0 (λ j hj. ap f (omega arith) ∙ h j hj) ∙ shift-zero (position p xs))
+    rw e (first-shift p d f xs 0 (λ j hj. let z : 0 + j ≡ j = omega arith in ap f z ∙ h j hj) ∙ shift-zero (position p xs))
 
 -- what is found is below the end
 first-in : (n : ℕ) (f : ℕ → Bool) (i r : ℕ) → (first n f (suc i) ≡ some r → r < suc i + n) → (b : Bool) → f i ≡ b
@@ -91,3 +91,6 @@ found-some (some j) r a e q = let z : j ≡ r = cc in ap some z
 pub found-none : (o : Option ℕ) (a : Found) → a ≡ foundOf o → a ≡ Nothing → o ≡ none
 found-none none a e q = refl
 found-none (some j) a e q = absurd (let z : _≡_ {A = ℕ} 0 1 = cc in omega arith)
+
+pub found-small : (n : ℕ) (f : ℕ → Bool) (r : ℕ) (a : Found) → a ≡ foundOf (first n f 0) → a ≡ At r → r < n
+found-small n f r a e q = omega (arith, first-below n f 0 r (found-some (first n f 0) r a e q))

@@ -25,7 +25,7 @@ min-right : (a b : ℕ) → b ≤ a → b ≡ min a b
 min-right a b h = omega arith
 
 pub reach-none : (t : List ℕ) (o n : ℕ) → length t ≤ o → 0 ≡ length (textAt t o n)
-reach-none t o n h = min-right n 0 (omega arith) ∙ ap (min n) (omega arith) ∙ sym (text-length t o n)
+reach-none t o n h = let z : 0 ≡ length t - o = omega arith in min-right n 0 (omega arith) ∙ ap (min n) z ∙ sym (text-length t o n)
 
 pub reach-whole : (t : List ℕ) (o n : ℕ) → n ≤ length t - o → n ≡ length (textAt t o n)
 reach-whole t o n h = min-left n (length t - o) h ∙ sym (text-length t o n)
@@ -80,7 +80,11 @@ module _ (t : List ℕ) (a b n : ℕ) (ha : a + n ≤ length t) (hb : b + n ≤ 
   Same i = sameText (textAt t a n) (textAt t b n) ≡ sameText (textAt t (a + i) (n - i)) (textAt t (b + i) (n - i))
 
   pub same-start : Same 0
-  same-start = ap₂ sameText (ap₂ (textAt t) (omega arith) (omega arith)) (ap₂ (textAt t) (omega arith) (omega arith))
+  same-start =
+      let za : a ≡ a + 0 = omega arith in
+      let zb : b ≡ b + 0 = omega arith in
+      let zn : n ≡ n - 0 = omega arith in
+      ap₂ sameText (ap₂ (textAt t) za zn) (ap₂ (textAt t) zb zn)
 
   one : (o i : ℕ) → i < n → o + n ≤ length t → textAt t (o + i) (n - i) ≡ getD t (o + i) 0 ∷ textAt t (o + (i + 1)) (n - (i + 1))
   unfolding textAt

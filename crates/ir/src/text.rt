@@ -4,7 +4,6 @@ ghost use Prim.Native.Nat.{_+_, _≤_};
 ghost use lib.ListN.{length, take, drop};
 ghost use Rattle.records.specs.Words.{textAt};
 ghost use Rattle.conversion.specs.Ir.{sameText};
-use crate::words::size;
 
 // How many bytes a text has: none of them lie past the buffer's end.
 fn reach(text: &[u8], offset: usize, len: usize) -> usize
@@ -39,10 +38,10 @@ fn same_part(text: &[u8], a: usize, b: usize, n: usize) -> bool
 pub fn same_text(text: &[u8], a: u32, n: u32, b: u32, m: u32) -> bool
     ensures { λ r. ⌜ r ≡ sameText (textAt (now (text .entry)) a n) (textAt (now (text .entry)) b m) ⌝ }
 {
-    let i = size(a);
-    let j = size(b);
-    let x = reach(text, i, size(n));
-    let y = reach(text, j, size(m));
+    let i = a as usize;
+    let j = b as usize;
+    let x = reach(text, i, n as usize);
+    let y = reach(text, j, m as usize);
     if x != y {
         return false;
     }

@@ -9,12 +9,6 @@ ghost use Rattle.conversion.specs.Written.{word, boolNumber};
 ghost use Rattle.ir.specs.Search.{first, foundOf, pairAt, fourAt};
 use records::words::load;
 
-pub fn size(x: u32) -> usize
-    ensures { λ r. ⌜ (r ≡ x) × (r < 4294967296) ⌝ }
-{
-    x as usize
-}
-
 pub fn wide(x: u8) -> u32
     ensures { λ r. ⌜ (r ≡ x) × (r < 256) ⌝ }
 {

@@ -16,6 +16,7 @@ use Rattle.laws.specs.Fix.{pick}
 use Rattle.laws.specs.Splice.{splice}
 use Rattle.laws.proofs.Splices.{length-splice, part-grown, part-element}
 use Rattle.records.specs.Words.{byteAt, wordAt, textAt}
+use Rattle.conversion.specs.Ir as Ir
 use Rattle.conversion.specs.Ir.{sameText}
 use Rattle.conversion.specs.Scope.{Variable, findIn}
 use Rattle.conversion.specs.Written.{bytesOf, word, boolNumber}
@@ -72,6 +73,10 @@ search-is text s n u [] o = nowhere
 search-is text s n u (v ∷ l) o =
     search-by text s n u v l (o .0) (search-is text s n u l (o .1)) (nameIs text s n u (length l)) refl (ap (sameText u) (o .0 .named))
 
+-- a variable by its number and its type
+abbrev numbered : ℕ → ℕ → Ir.VarId
+numbered i y = record { id = i; ty = y }
+
 module _ (text s : List ℕ) (n : ℕ) where
   is-found : (o : Option ℕ) (m : Option Variable) (j : ℕ) (r : Known) → Search text s n o m → o ≡ some j → VariableAt s (8 * n + 16 * j) r → IsFound r m
   unfolding VariableAt IsFound
@@ -80,7 +85,7 @@ module _ (text s : List ℕ) (n : ℕ) where
   is-found (some i) (some x) j (Known.Is v c) (there i x en) e a =
       let z : i ≡ j = cc in
       let at : (q : ℕ) → wordAt s (8 * n + 16 * j + q) ≡ wordAt s (8 * n + 16 * i + q) = λ q. ap (λ (y : ℕ). wordAt s (8 * n + 16 * y + q)) (sym z) in
-      (ap₂ (λ (y w : ℕ). record { id = y; ty = w })
+      (ap₂ numbered
       (a .0 ∙ at 8 ∙ sym (en .number))
       (a .1 .0 ∙ ap (λ (y : ℕ). y / 2) (at 12) ∙ sym (en .typed)),
       a .1 .1 ∙ ap (λ (y : ℕ). eqb (y % 2) 1) (at 12) ∙ sym (en .fixed))
@@ -112,28 +117,31 @@ find-none text s sc u e l st =
     subst (λ (m : Option Variable). IsFound Known.Unknown m) (sym (not-found text s (sc .records) none (findIn u l) (looked text s sc u none l st e) refl)) tt
 
 -- what is found is below the count
+below-by : (n : ℕ) (f : ℕ → Bool) (r : ℕ) → (last n f ≡ some r → r < n) → (b : Bool) → f n ≡ b → last (suc n) f ≡ some r → r < suc n
+unfolding last pick
+below-by n f r rest true q e = let z : some n ≡ some r = (rw q at e) in let w : n ≡ r = cc in omega arith
+below-by n f r rest false q e = omega (arith, rest (rw q at e))
+
 pub last-below : (n : ℕ) (f : ℕ → Bool) (r : ℕ) → last n f ≡ some r → r < n
 unfolding last
 last-below zero f r e = absurd (let z : _≡_ {A = ℕ} 0 1 = cc in omega arith)
 last-below (suc n) f r e = below-by n f r (last-below n f r) (f n) refl e
-  where
-    below-by : (n : ℕ) (f : ℕ → Bool) (r : ℕ) → (last n f ≡ some r → r < n) → (b : Bool) → f n ≡ b → pick (f n) (some n) (last n f) ≡ some r → r < suc n
-    below-by n f r rest true q e = let z : some n ≡ some r = (rw q at e) in let w : n ≡ r = cc in omega arith
-    below-by n f r rest false q e = omega (arith, rest (rw q at e))
 
 -- ---- a name more
 
 -- words of a list after a run was written: inside it, and before it
+byte-in : (l : List ℕ) (i : ℕ) (vs : List ℕ) (j p : ℕ) → i + length vs ≤ length l → j < length vs → p ≡ i + j → getD (splice l i vs) p 0 ≡ getD vs j 0
+byte-in l i vs j p fit h e =
+    ap (λ (q : ℕ). getD (splice l i vs) q 0) e
+    ∙ part-element (splice l i vs) i vs j (part-grown l i vs i [] fit (omega arith) refl) h
+
 word-in : (l : List ℕ) (i : ℕ) (vs : List ℕ) (b p : ℕ) → i + length vs ≤ length l → b + 4 ≤ length vs → p ≡ i + b → wordAt (splice l i vs) p ≡ wordAt vs b
 word-in l i vs b p fit h e =
     word-same (splice l i vs) p vs b
-    (ap (λ (q : ℕ). getD (splice l i vs) q 0) e ∙ at b (omega arith))
-    (ap (λ (q : ℕ). getD (splice l i vs) q 0) (omega (arith, e)) ∙ at (b + 1) (omega arith))
-    (ap (λ (q : ℕ). getD (splice l i vs) q 0) (omega (arith, e)) ∙ at (b + 2) (omega arith))
-    (ap (λ (q : ℕ). getD (splice l i vs) q 0) (omega (arith, e)) ∙ at (b + 3) (omega arith))
-  where
-    at : (j : ℕ) → j < length vs → getD (splice l i vs) (i + j) 0 ≡ getD vs j 0
-    at j hj = part-element (splice l i vs) i vs j (part-grown l i vs i [] fit (omega arith) refl) hj
+    (byte-in l i vs b p fit (omega arith) e)
+    (byte-in l i vs (b + 1) (p + 1) fit (omega arith) (omega (arith, e)))
+    (byte-in l i vs (b + 2) (p + 2) fit (omega arith) (omega (arith, e)))
+    (byte-in l i vs (b + 3) (p + 3) fit (omega arith) (omega (arith, e)))
 
 byte-before : (l : List ℕ) (i : ℕ) (vs : List ℕ) (j : ℕ) → i ≤ length l → j < i → getD (splice l i vs) j 0 ≡ getD l j 0
 unfolding splice
