@@ -77,14 +77,14 @@ module _ {X : Type 0} {f : X → List ℕ} {w : ℕ} {xs : List X} {at n : ℕ} 
   table-before i vs l′ e fit h = record {
     bytes = has-before l i vs l′ e fit at (encodeAll f xs) (rw bytes-length h) (t .bytes);
     width = t .width;
-    count = t .count
+    count = t .count;
   }
 
   pub table-behind : (i : ℕ) (vs : List ℕ) (l′ : List ℕ) → l′ ≡ splice l i vs → i + length vs ≤ length l → i + length vs ≤ at → Table f w xs at n l′
   table-behind i vs l′ e fit h = record {
     bytes = has-behind l i vs l′ e fit at (encodeAll f xs) h (t .bytes);
     width = t .width;
-    count = t .count
+    count = t .count;
   }
 
   pub table-grown : (x : X) (i : ℕ) (l′ : List ℕ) → l′ ≡ splice l i (f x) → i + length (f x) ≤ length l → i ≡ at + w * n
@@ -92,7 +92,7 @@ module _ {X : Type 0} {f : X → List ℕ} {w : ℕ} {xs : List X} {at n : ℕ} 
   table-grown x i l′ e fit h = record {
     bytes = rw (encode-one f xs x) (has-grown l i (f x) l′ e fit at (encodeAll f xs) (rw bytes-length h) (t .bytes));
     width = t .width;
-    count = simp length-append (omega (arith, t .count))
+    count = simp length-append (omega (arith, t .count));
   }
 
   -- ---- read back

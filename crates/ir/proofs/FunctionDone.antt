@@ -139,12 +139,12 @@ module _ (r : ℕ) (body : Bool) (b : ℕ) (eb : b ≡ boolNumber body) (k : Cou
         strings-hold = table-behind (h .strings-hold) place words l′ e fit (omega (arith, words-length));
         floats-hold = table-behind (h .floats-hold) place words l′ e fit (omega (arith, words-length));
         functions-count = simp length-append (omega (arith, h .functions-count));
-        instructions-before = h .instructions-hold .count ∙ ap length (sym code-list ∙ append-nil _);
-        variables-before = h .variables-hold .count ∙ ap length (sym vars-list ∙ append-nil _);
-        labels-before = h .labels-hold .count ∙ ap length (sym labels-list ∙ append-nil _);
+        instructions-before = h .instructions-hold .count ∙ ap length (sym code-list ∙ append-nil (allCode (t .done ++ (f ∷ []))));
+        variables-before = h .variables-hold .count ∙ ap length (sym vars-list ∙ append-nil (allVars (t .done ++ (f ∷ []))));
+        labels-before = h .labels-hold .count ∙ ap length (sym labels-list ∙ append-nil (allLabels (t .done ++ (f ∷ []))));
         labels-fit = tt;
         strings-stand = h .strings-stand;
-        floats-fit = h .floats-fit
+        floats-fit = h .floats-fit;
       }
 
     pub function-done : FunctionMeets r body k l (Emitted.Done (nextFunction k)) l′
@@ -152,7 +152,7 @@ module _ (r : ℕ) (body : Bool) (b : ℕ) (eb : b ≡ boolNumber body) (k : Cou
     function-done = record {
       room = omega (arith, room, written-length l place words l′ e fit);
       records = refl;
-      stands = function-holds
+      stands = function-holds;
     }
 
 pub function-full : (r : ℕ) (body : Bool) (k : Counters) (l : List ℕ) → k .records ≤ k .functions → FunctionMeets r body k l Emitted.Full l

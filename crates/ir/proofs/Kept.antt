@@ -66,7 +66,7 @@ module _ (text : List ℕ) (t : Tables) (k : Counters) (l : List ℕ) (room : Ro
         labels-before = h .labels-before;
         labels-fit = h .labels-fit;
         strings-stand = h .strings-stand;
-        floats-fit = h .floats-fit
+        floats-fit = h .floats-fit;
       }
 
   pub var-holds : (y : ℕ) (l′ : List ℕ) → k .variables < 3 * k .records → l′ ≡ splice l (128 * k .records + 4 * k .variables) (encodeVar y)
@@ -93,7 +93,7 @@ module _ (text : List ℕ) (t : Tables) (k : Counters) (l : List ℕ) (room : Ro
         labels-before = h .labels-before;
         labels-fit = h .labels-fit;
         strings-stand = h .strings-stand;
-        floats-fit = h .floats-fit
+        floats-fit = h .floats-fit;
       })
 
   pub label-holds : (x : LabelName) (l′ : List ℕ) → LabelFits x → k .labels < 3 * k .records
@@ -120,7 +120,7 @@ module _ (text : List ℕ) (t : Tables) (k : Counters) (l : List ℕ) (room : Ro
         labels-before = h .labels-before;
         labels-fit = all-more LabelFits (t .state .labels) x (h .labels-fit) fits;
         strings-stand = h .strings-stand;
-        floats-fit = h .floats-fit
+        floats-fit = h .floats-fit;
       })
 
   pub string-holds : (x : StringEntry) (l′ : List ℕ) → StringStands text x → k .strings < k .records
@@ -144,7 +144,7 @@ module _ (text : List ℕ) (t : Tables) (k : Counters) (l : List ℕ) (room : Ro
         labels-before = h .labels-before;
         labels-fit = h .labels-fit;
         strings-stand = all-more (StringStands text) (t .state .strings) x (h .strings-stand) fits;
-        floats-fit = h .floats-fit
+        floats-fit = h .floats-fit;
       })
 
   pub float-holds : (x : FloatEntry) (l′ : List ℕ) → FloatFits x → k .floats < 2 * k .records
@@ -167,5 +167,5 @@ module _ (text : List ℕ) (t : Tables) (k : Counters) (l : List ℕ) (room : Ro
         labels-before = h .labels-before;
         labels-fit = h .labels-fit;
         strings-stand = h .strings-stand;
-        floats-fit = all-more FloatFits (t .state .floats) x (h .floats-fit) fits
+        floats-fit = all-more FloatFits (t .state .floats) x (h .floats-fit) fits;
       })

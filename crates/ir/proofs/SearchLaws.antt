@@ -47,11 +47,17 @@ shift-some : (i : ℕ) (o : Option ℕ) → shift (suc i) o ≡ shift i (elim o 
 shift-some i none = refl
 shift-some i (some j) = ap some (omega arith)
 
+-- the position, by the first element
+position-by : {X : Type 0} (p : X → Bool) (x : X) (xs : List X) (b : Bool) → p x ≡ b
+    → position p (x ∷ xs) ≡ elim b [ true ↦ some 0 | false ↦ elim (position p xs) [ none ↦ none | some j ↦ some (suc j) ] ]
+unfolding position
+position-by p x xs b q = ap (λ (z : Bool). elim z [ true ↦ some 0 | false ↦ elim (position p xs) [ none ↦ none | some j ↦ some (suc j) ] ]) q
+
 first-by : {X : Type 0} (p : X → Bool) (f : ℕ → Bool) (x : X) (xs : List X) (i : ℕ) → first (length xs) f (suc i) ≡ shift (suc i) (position p xs)
     → (b : Bool) → f i ≡ b → p x ≡ b → first (suc (length xs)) f i ≡ shift i (position p (x ∷ xs))
-unfolding first position pick
-first-by p f x xs i rest true e q = rw (e, q) (ap some (omega arith))
-first-by p f x xs i rest false e q = rw (e, q) (rest ∙ shift-some i (position p xs))
+unfolding first pick
+first-by p f x xs i rest true e q = rw e (ap some (omega arith) ∙ ap (shift i) (sym (position-by p x xs true q)))
+first-by p f x xs i rest false e q = rw e (rest ∙ shift-some i (position p xs) ∙ ap (shift i) (sym (position-by p x xs false q)))
 
 first-shift : {X : Type 0} (p : X → Bool) (d : X) (f : ℕ → Bool) (xs : List X) (i : ℕ)
     → ((j : ℕ) → j < length xs → f (i + j) ≡ p (getD xs j d)) → first (length xs) f i ≡ shift i (position p xs)

@@ -37,6 +37,9 @@ reach-end t o n h = min-right n (length t - o) (omega arith) ∙ sym (text-lengt
 pub text-inside : (t : List ℕ) (o n x : ℕ) → x ≡ length (textAt t o n) → (x ≡ 0 → ⊥) → o + x ≤ length t
 text-inside t o n x e h = omega (arith, e ∙ text-length t o n)
 
+pub text-inside-too : (t : List ℕ) (o n x y : ℕ) → y ≡ length (textAt t o n) → x ≡ y → (x ≡ 0 → ⊥) → o + x ≤ length t
+text-inside-too t o n x y e q h = text-inside t o n x (q ∙ e) h
+
 -- a text is as many bytes of the buffer as it has
 take-taken : (n : ℕ) (l : List ℕ) → take (length (take n l)) l ≡ take n l
 take-taken zero l = refl

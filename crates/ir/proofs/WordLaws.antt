@@ -58,15 +58,15 @@ put-eight l l₁ l₂ at a b c d e f g h room e₁ e₂ =
 -- an instruction's eight words
 pub field-words : (f : Fields) → f .kind < 256 → f .operator < 256 → f .first .tag < 256 → f .second .tag < 256
     → word (f .kind + f .operator * 256 + f .first .tag * 65536 + f .second .tag * 16777216) ++ word (f .target)
-      ++ word (f .first .value % 4294967296) ++ word (f .first .value / 4294967296)
-      ++ word (f .second .value % 4294967296) ++ word (f .second .value / 4294967296) ++ word (f .owner) ++ word 0
-      ≡ fieldBytes f
+    ++ word (f .first .value % 4294967296) ++ word (f .first .value / 4294967296)
+    ++ word (f .second .value % 4294967296) ++ word (f .second .value / 4294967296) ++ word (f .owner) ++ word 0
+    ≡ fieldBytes f
 unfolding fieldBytes word bytesOf
 field-words f hk ho ha hb =
     let x = f .first .value in
     let y = f .second .value in
     ap (λ (z : List ℕ). z ++ word (f .target) ++ word (x % 4294967296) ++ word (x / 4294967296) ++ word (y % 4294967296) ++ word (y / 4294967296)
-      ++ word (f .owner) ++ word 0)
+    ++ word (f .owner) ++ word 0)
     (word-head (f .kind) (f .operator) (f .first .tag) (f .second .tag) hk ho ha hb)
     ∙ sym
     (ap₂ (λ (u v : List ℕ). (f .kind ∷ f .operator ∷ f .first .tag ∷ f .second .tag ∷ []) ++ word (f .target) ++ u ++ v ++ word (f .owner) ++ word 0)

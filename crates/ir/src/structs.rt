@@ -9,9 +9,9 @@ ghost use Rattle.conversion.specs.Written.{tag, operandValue, encodeInstr};
 ghost use Rattle.ir.specs.Instructions.{operandOf, instrOf, fieldBytes, oneBytes, noneBytes, twoBytes};
 ghost use Rattle.ir.specs.Arena.{Room};
 ghost use Rattle.ir.specs.Steps.{EmitMeets, NewVarMeets, AddLabelMeets, LabelMeets, FunctionMeets};
-use crate::words::find_pair;
 use crate::words::Found;
 use crate::words::Four;
+use crate::words::find_pair;
 use crate::words::high;
 use crate::words::low;
 use crate::words::mark;
@@ -129,9 +129,7 @@ fn value_of(o: Operand) -> u64
         Operand::Var(v) => v.0 as u64,
         Operand::Int(bits, _, _) => bits,
         Operand::Float(i) => i as u64,
-        Operand::Bool(b) => {
-            if b { 1 } else { 0 }
-        }
+        Operand::Bool(b) => { if b { 1 } else { 0 } }
         Operand::DataAddress(i) => i as u64,
         Operand::Null => 0,
     }
@@ -235,7 +233,10 @@ fn put_fields(arena: &mut [u8], at: usize, f: Fields)
 {
     let one = f.first;
     let two = f.second;
-    let head = wide(f.kind) + wide(f.operator) * 256 + wide(one.tag) * 65536 + wide(two.tag) * 16777216;
+    let head = wide(f.kind)
+        + wide(f.operator) * 256
+        + wide(one.tag) * 65536
+        + wide(two.tag) * 16777216;
     let back = at + 16;
     let a = Four(head, f.target, low(one.value), high(one.value));
     let b = Four(low(two.value), high(two.value), f.owner, 0);
@@ -316,8 +317,18 @@ pub fn add_function(arena: &mut [u8], k: Counters, owner: u32, body: bool) -> Em
     }
     let at = 164 * k.records + 32 * n;
     let back = at + 16;
-    let a = Four(owner, mark(body), k.instructions0 as u32, (k.instructions - k.instructions0) as u32);
-    let b = Four(k.variables0 as u32, (k.variables - k.variables0) as u32, k.labels0 as u32, (k.labels - k.labels0) as u32);
+    let a = Four(
+        owner,
+        mark(body),
+        k.instructions0 as u32,
+        (k.instructions - k.instructions0) as u32,
+    );
+    let b = Four(
+        k.variables0 as u32,
+        (k.variables - k.variables0) as u32,
+        k.labels0 as u32,
+        (k.labels - k.labels0) as u32,
+    );
     let mut next = k;
     next.functions = n + 1;
     next.instructions0 = k.instructions;

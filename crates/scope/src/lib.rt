@@ -12,8 +12,8 @@ use ir::words::Found;
 use ir::words::Four;
 use ir::words::mark;
 use ir::words::put_four;
-use records::words::load;
 use records::words::NONE;
+use records::words::load;
 
 // For a tree of so many records: how many names are open, the record of the innermost loop (or NONE), and the function's record.
 pub struct Scope {
@@ -53,7 +53,14 @@ fn is_name(text: &[u8], scratch: &[u8], records: usize, j: usize, offset: u32, l
 }
 
 // The last of `count` open names that is the text.
-fn find_name(text: &[u8], scratch: &[u8], records: usize, count: usize, offset: u32, len: u32) -> Found
+fn find_name(
+    text: &[u8],
+    scratch: &[u8],
+    records: usize,
+    count: usize,
+    offset: u32,
+    len: u32,
+) -> Found
     requires { ⌜ 8 * records + 16 * count ≤ length (now scratch) ⌝ }
     ensures { λ r. ⌜ r ≡ foundOf (last count (nameIs (now (text .entry)) (now (scratch .entry)) records (textAt (now (text .entry)) offset len))) ⌝ }
 {
@@ -92,7 +99,15 @@ impl Scope {
     }
 
     // The scope with one name more, where no variable of this block or those around it has the name.
-    pub fn declare(self, text: &[u8], scratch: &mut [u8], offset: u32, len: u32, v: VarId, constant: bool) -> Declared
+    pub fn declare(
+        self,
+        text: &[u8],
+        scratch: &mut [u8],
+        offset: u32,
+        len: u32,
+        v: VarId,
+        constant: bool,
+    ) -> Declared
         requires { ⌜ Room self (now scratch) ⌝ }
         ensures { λ r. ⌜ DeclareMeets (now (text .entry)) offset len v constant self (now (scratch .entry)) r (now (scratch .exit)) ⌝ }
     {

@@ -1,6 +1,7 @@
 -- An operand's value, case by case; an Int's is its bits again.
 -- Each arm by what its match says of the operand. Assumes nothing.
 use mathlib.Core.Path.{sym}
+use mir.Syntax.{w64}
 use mir.Facts.{ofZ-toZ}
 use Rattle.conversion.specs.Written.{operandValue, boolNumber}
 use borrow.Author.Needs.{needs}
@@ -53,7 +54,7 @@ returns c = rw (c .before .before .o .given .1)
 -- src/structs.rt:125:1
 returns-2 : tie.Need-returns-2
 unfolding operandValue boolNumber
-returns-2 c = rw (c .before .o2 .given .1) (sym (ofZ-toZ (search needs)))
+returns-2 c = rw (c .before .o2 .given .1) (sym (ofZ-toZ {w = w64} (search needs)))
 
 -- src/structs.rt:125:1
 returns-3 : tie.Need-returns-3

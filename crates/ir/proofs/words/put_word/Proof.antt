@@ -65,7 +65,7 @@ same-length c = search needs
 
 -- src/words.rt:43:1
 returns : tie.Need-returns
-returns c = 
+returns c =
     let l = c .args .buf .now in
     let at = c .args .at in
     let v = c .args .v in
