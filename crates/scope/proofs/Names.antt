@@ -27,6 +27,7 @@ use Rattle.ir.specs.Search.{foundOf}
 use Rattle.ir.specs.Instructions.{varOf}
 use Rattle.ir.proofs.Entries.{word-same}
 use Rattle.ir.proofs.ReadBack.{word-back}
+use Rattle.ir.proofs.SearchLaws.{found-some, found-none}
 use Rattle.scope.specs.declared.Scope.{Scope}
 use Rattle.scope.specs.declared.Known.{Known}
 use Rattle.scope.specs.declared.Known.the-variants as Known
@@ -58,13 +59,20 @@ pub data Search (text s : List ℕ) (n : ℕ) : Option ℕ → Option Variable �
   nowhere : Search text s n none none
   there : (j : ℕ) (x : Variable) → Entry text s (8 * n + 16 * j) x → Search text s n (some j) (some x)
 
+find-by : (u : List ℕ) (v : Variable) (l : List Variable) (b : Bool) → sameText u (v .name) ≡ b
+    → findIn u (v ∷ l) ≡ elim b [ true ↦ some v | false ↦ findIn u l ]
+unfolding findIn
+find-by u v l b q = ap (λ (z : Bool). elim z [ true ↦ some v | false ↦ findIn u l ]) q
+
 search-by : (text s : List ℕ) (n : ℕ) (u : List ℕ) (v : Variable) (l : List Variable) → Entry text s (8 * n + 16 * length l) v
     → Search text s n (last (length l) (nameIs text s n u)) (findIn u l)
     → (b : Bool) → nameIs text s n u (length l) ≡ b → sameText u (v .name) ≡ b
     → Search text s n (last (suc (length l)) (nameIs text s n u)) (findIn u (v ∷ l))
-unfolding last pick findIn
-search-by text s n u v l e rest true p q = rw (p, q) (there (length l) v e)
-search-by text s n u v l e rest false p q = rw (p, q) rest
+unfolding last pick
+search-by text s n u v l e rest true p q =
+    subst (λ (m : Option Variable). Search text s n (last (suc (length l)) (nameIs text s n u)) m) (sym (find-by u v l true q)) (rw p (there (length l) v e))
+search-by text s n u v l e rest false p q =
+    subst (λ (m : Option Variable). Search text s n (last (suc (length l)) (nameIs text s n u)) m) (sym (find-by u v l false q)) (rw p rest)
 
 pub search-is : (text s : List ℕ) (n : ℕ) (u : List ℕ) (l : List Variable) → Open text s n l
     → Search text s n (last (length l) (nameIs text s n u)) (findIn u l)
@@ -78,43 +86,44 @@ abbrev numbered : ℕ → ℕ → Ir.VarId
 numbered i y = record { id = i; ty = y }
 
 module _ (text s : List ℕ) (n : ℕ) where
-  is-found : (o : Option ℕ) (m : Option Variable) (j : ℕ) (r : Known) → Search text s n o m → o ≡ some j → VariableAt s (8 * n + 16 * j) r → IsFound r m
+  is-found : {o : Option ℕ} {m : Option Variable} (j : ℕ) (r : Known) → Search text s n o m → o ≡ some j → VariableAt s (8 * n + 16 * j) r → IsFound r m
   unfolding VariableAt IsFound
-  is-found none none j r nowhere e a = absurd (let z : _≡_ {A = ℕ} 0 1 = cc in omega arith)
-  is-found (some i) (some x) j Known.Unknown (there i x en) e a = absurd a
-  is-found (some i) (some x) j (Known.Is v c) (there i x en) e a =
+  is-found j r nowhere e a = absurd (let z : _≡_ {A = ℕ} 0 1 = cc in omega arith)
+  is-found j Known.Unknown (there i x en) e a = absurd a
+  is-found j (Known.Is v c) (there i x en) e a =
       let z : i ≡ j = cc in
-      let at : (q : ℕ) → wordAt s (8 * n + 16 * j + q) ≡ wordAt s (8 * n + 16 * i + q) = λ q. ap (λ (y : ℕ). wordAt s (8 * n + 16 * y + q)) (sym z) in
-      (ap₂ numbered
-      (a .0 ∙ at 8 ∙ sym (en .number))
-      (a .1 .0 ∙ ap (λ (y : ℕ). y / 2) (at 12) ∙ sym (en .typed)),
-      a .1 .1 ∙ ap (λ (y : ℕ). eqb (y % 2) 1) (at 12) ∙ sym (en .fixed))
+      let at : (q : ℕ) → wordAt s (8 * n + 16 * j + q) ≡ wordAt s (8 * n + 16 * i + q) = λ q. ap (λ (y : ℕ). wordAt s (8 * n + 16 * y + q)) (sym z) in (
+        ap₂ numbered
+            (a .0 ∙ at 8 ∙ sym (en .number))
+            (a .1 ∙ ap (λ (y : ℕ). y / 2) (at 12) ∙ sym (en .typed)),
+        a .2 ∙ ap (λ (y : ℕ). eqb (y % 2) 1) (at 12) ∙ sym (en .fixed),
+      )
 
-  not-found : (o : Option ℕ) (m : Option Variable) → Search text s n o m → o ≡ none → m ≡ none
-  not-found none none nowhere e = refl
-  not-found (some i) (some x) (there i x en) e = absurd (let z : _≡_ {A = ℕ} 0 1 = cc in omega arith)
+  not-found : {o : Option ℕ} {m : Option Variable} → Search text s n o m → o ≡ none → m ≡ none
+  not-found nowhere e = refl
+  not-found (there i x en) e = absurd (let z : _≡_ {A = ℕ} 0 1 = cc in omega arith)
 
-  is-taken : (u : List ℕ) (l : List Variable) (o : Option ℕ) (m : Option Variable) (j : ℕ) → Search text s n o m → findIn u l ≡ m → o ≡ some j → Taken u l
-  is-taken u l none none j nowhere q e = absurd (let z : _≡_ {A = ℕ} 0 1 = cc in omega arith)
-  is-taken u l (some i) (some x) j (there i x en) q e = record { holder = x; found = q }
+  is-taken : (u : List ℕ) (l : List Variable) (j : ℕ) {o : Option ℕ} {m : Option Variable} → Search text s n o m → findIn u l ≡ m → o ≡ some j → Taken u l
+  is-taken u l j nowhere q e = absurd (let z : _≡_ {A = ℕ} 0 1 = cc in omega arith)
+  is-taken u l j (there i x en) q e = record { holder = x; found = q }
 
 -- the answer of the search, for what the scope stands for
 looked : (text s : List ℕ) (sc : Scope) (u : List ℕ) (o : Option ℕ) (l : List Variable) → Stands text s sc l
     → last (sc .names) (nameIs text s (sc .records) u) ≡ o → Search text s (sc .records) o (findIn u l)
 looked text s sc u o l st e =
     subst (λ (p : Option ℕ). Search text s (sc .records) p (findIn u l)) (ap (λ (m : ℕ). last m (nameIs text s (sc .records) u)) (sym (st .count)) ∙ e)
-    (search-is text s (sc .records) u l (st .open))
+    (search-is text s (sc .records) u l (st .names))
 
 pub find-hit : (text s : List ℕ) (sc : Scope) (u : List ℕ) (r : Known) (j : ℕ) → last (sc .names) (nameIs text s (sc .records) u) ≡ some j
     → VariableAt s (8 * sc .records + 16 * j) r → FindMeets text s sc u r
 unfolding FindMeets
-find-hit text s sc u r j e a l st = is-found text s (sc .records) (some j) (findIn u l) j r (looked text s sc u (some j) l st e) refl a
+find-hit text s sc u r j e a l st = is-found text s (sc .records) j r (looked text s sc u (some j) l st e) refl a
 
 pub find-none : (text s : List ℕ) (sc : Scope) (u : List ℕ) → last (sc .names) (nameIs text s (sc .records) u) ≡ none
     → FindMeets text s sc u Known.Unknown
 unfolding FindMeets IsFound
 find-none text s sc u e l st =
-    subst (λ (m : Option Variable). IsFound Known.Unknown m) (sym (not-found text s (sc .records) none (findIn u l) (looked text s sc u none l st e) refl)) tt
+    subst (λ (m : Option Variable). IsFound Known.Unknown m) (sym (not-found text s (sc .records) (looked text s sc u none l st e) refl)) tt
 
 -- what is found is below the count
 below-by : (n : ℕ) (f : ℕ → Bool) (r : ℕ) → (last n f ≡ some r → r < n) → (b : Bool) → f n ≡ b → last (suc n) f ≡ some r → r < suc n
@@ -168,13 +177,15 @@ open-kept text s n i vs (v ∷ l) h k o =
     let p : ℕ = 8 * n + 16 * length l in
     let w : (q : ℕ) → q + 4 ≤ 16 → wordAt (splice s i vs) (p + q) ≡ wordAt s (p + q) = λ q hq. word-before s i vs (p + q) h (omega arith) in
     let w₀ : wordAt (splice s i vs) p ≡ wordAt s p = word-before s i vs p h (omega arith) in
-    let e = o .0 in
-    (record {
-      named = e .named ∙ sym (ap₂ (textAt text) w₀ (w 4 (omega arith)));
-      number = e .number ∙ sym (w 8 (omega arith));
-      typed = e .typed ∙ sym (ap (λ (y : ℕ). y / 2) (w 12 (omega arith)));
-      fixed = e .fixed ∙ sym (ap (λ (y : ℕ). eqb (y % 2) 1) (w 12 (omega arith)))
-    }, open-kept text s n i vs l h (omega arith) (o .1))
+    let e = o .0 in (
+      record {
+        named = e .named ∙ sym (ap₂ (textAt text) w₀ (w 4 (omega arith)));
+        number = e .number ∙ sym (w 8 (omega arith));
+        typed = e .typed ∙ sym (ap (λ (y : ℕ). y / 2) (w 12 (omega arith)));
+        fixed = e .fixed ∙ sym (ap (λ (y : ℕ). eqb (y % 2) 1) (w 12 (omega arith)));
+      },
+      open-kept text s n i vs l h (omega arith) (o .1),
+    )
 
 fixed-mark : (y : ℕ) (c : Bool) → c ≡ eqb ((2 * y + boolNumber c) % 2) 1
 unfolding boolNumber
@@ -229,32 +240,81 @@ module _ (text : List ℕ) (offset len : ℕ) (v : VarId) (constant : Bool) (sc 
       named = sym (ap₂ (textAt text) word₀ word₁);
       number = sym word₂;
       typed = typed-mark (v .1) constant ∙ ap (λ (y : ℕ). y / 2) (sym word₃);
-      fixed = fixed-mark (v .1) constant ∙ ap (λ (y : ℕ). eqb (y % 2) 1) (sym word₃)
+      fixed = fixed-mark (v .1) constant ∙ ap (λ (y : ℕ). eqb (y % 2) 1) (sym word₃);
     }
 
     stands-more : (l : List Variable) → Stands text s sc l → Stands text s′ (more sc) (variable text offset len v constant ∷ l)
     unfolding Open
     stands-more l st = record {
-      open = (subst (λ (m : ℕ). Entry text s′ (8 * sc .records + 16 * m) (variable text offset len v constant)) (st .count) entry,
-          subst (λ (x : List ℕ). Open text x (sc .records) l) (sym e)
-          (open-kept text s (sc .records) place bytes l (omega (arith, fit)) (omega (arith, st .count)) (st .open)));
-      count = omega (arith, st .count)
+      names = (
+        subst (λ (m : ℕ). Entry text s′ (8 * sc .records + 16 * m) (variable text offset len v constant)) (st .count) entry,
+        subst (λ (x : List ℕ). Open text x (sc .records) l) (sym e)
+            (open-kept text s (sc .records) place bytes l (omega (arith, fit)) (omega (arith, st .count)) (st .names)),
+      );
+      count = omega (arith, st .count);
     }
 
     pub declare-done : last (sc .names) (nameIs text s (sc .records) (textAt text offset len)) ≡ none
         → DeclareMeets text offset len v constant sc s (Declared.Done (more sc)) s′
     unfolding DeclareMeets
-    declare-done q =
-        (refl, record { scratch = omega (arith, room .scratch, ap length e ∙ length-splice s place bytes fit); names-in = omega arith }, e,
-        λ l st. record {
-          free = not-found text s (sc .records) none (findIn (textAt text offset len) l) (looked text s sc (textAt text offset len) none l st q) refl;
-          stands = stands-more l st
-        })
+    declare-done q = (
+      refl,
+      record { scratch = omega (arith, room .scratch, ap length e ∙ length-splice s place bytes fit); names-in = omega arith },
+      e,
+      λ l st. record {
+        free = not-found text s (sc .records) (looked text s sc (textAt text offset len) none l st q) refl;
+        stands = stands-more l st;
+      },
+    )
 
 pub declare-taken : (text : List ℕ) (offset len : ℕ) (v : VarId) (constant : Bool) (sc : Scope) (s : List ℕ) (j : ℕ)
     → last (sc .names) (nameIs text s (sc .records) (textAt text offset len)) ≡ some j
     → DeclareMeets text offset len v constant sc s Declared.Taken s
 unfolding DeclareMeets
-declare-taken text offset len v constant sc s j q =
-    (refl, λ l st. is-taken text s (sc .records) (textAt text offset len) l (some j) (findIn (textAt text offset len) l) j
-    (looked text s sc (textAt text offset len) (some j) l st q) refl refl)
+declare-taken text offset len v constant sc s j q = (
+  refl,
+  λ l st. is-taken text s (sc .records) (textAt text offset len) l j
+      (looked text s sc (textAt text offset len) (some j) l st q) refl refl,
+)
+
+pub mark-one : (b : ℕ) (c : Bool) → b ≡ boolNumber c → b ≤ 1
+unfolding boolNumber
+mark-one b true e = omega arith
+mark-one b false e = omega arith
+
+-- ---- as the code meets them: what the search answered
+
+module _ (text s : List ℕ) (sc : Scope) (offset len : ℕ) (a : Found)
+    (e : a ≡ foundOf (last (sc .names) (nameIs text s (sc .records) (textAt text offset len)))) where
+  pub find-at : (r : Known) (j : ℕ) → a ≡ At j → VariableAt s (8 * sc .records + 16 * j) r → FindMeets text s sc (textAt text offset len) r
+  find-at r j q w = find-hit text s sc (textAt text offset len) r j (found-some (last (sc .names) (nameIs text s (sc .records) (textAt text offset len))) j a e q) w
+
+  pub find-nowhere : a ≡ Nothing → FindMeets text s sc (textAt text offset len) Known.Unknown
+  find-nowhere q = find-none text s sc (textAt text offset len) (found-none (last (sc .names) (nameIs text s (sc .records) (textAt text offset len))) a e q)
+
+  pub found-below : (j : ℕ) → a ≡ At j → j < sc .names
+  found-below j q = last-below (sc .names) (nameIs text s (sc .records) (textAt text offset len)) j
+      (found-some (last (sc .names) (nameIs text s (sc .records) (textAt text offset len))) j a e q)
+
+  pub declare-at : (v : VarId) (constant : Bool) (j : ℕ) → a ≡ At j → DeclareMeets text offset len v constant sc s Declared.Taken s
+  declare-at v constant j q =
+      declare-taken text offset len v constant sc s j (found-some (last (sc .names) (nameIs text s (sc .records) (textAt text offset len))) j a e q)
+
+  pub declare-new : (v : VarId) (constant : Bool) (b : ℕ) (s′ : List ℕ) → Room sc s → offset < 2 ^ 32 → len < 2 ^ 32 → v .0 < 2 ^ 32 → v .1 < 2147483648
+      → sc .names < sc .records → b ≡ boolNumber constant → a ≡ Nothing
+      → s′ ≡ splice s (8 * sc .records + 16 * sc .names) (word offset ++ word len ++ word (v .0) ++ word (2 * v .1 + b))
+      → DeclareMeets text offset len v constant sc s (Declared.Done (more sc)) s′
+  declare-new v constant b s′ room ho hn hv hy small eb q w =
+      declare-done text offset len v constant sc s s′ room ho hn hv hy small
+      (w ∙ ap (λ (x : ℕ). splice s (8 * sc .records + 16 * sc .names) (word offset ++ word len ++ word (v .0) ++ word (2 * v .1 + x))) eb)
+      (found-none (last (sc .names) (nameIs text s (sc .records) (textAt text offset len))) a e q)
+
+pub declare-full : (text : List ℕ) (offset len : ℕ) (v : VarId) (constant : Bool) (sc : Scope) (s : List ℕ) → sc .records ≤ sc .names
+    → DeclareMeets text offset len v constant sc s Declared.Full s
+unfolding DeclareMeets
+declare-full text offset len v constant sc s h = (refl, inl h)
+
+pub declare-wide : (text : List ℕ) (offset len : ℕ) (v : VarId) (constant : Bool) (sc : Scope) (s : List ℕ) → 2147483648 ≤ v .1
+    → DeclareMeets text offset len v constant sc s Declared.Full s
+unfolding DeclareMeets
+declare-wide text offset len v constant sc s h = (refl, inr h)

@@ -41,7 +41,7 @@ Open text s n (v ∷ l) = Entry text s (8 * n + 16 * length l) v × Open text s 
 
 -- the scope stands for these variables
 pub record Stands (text s : List ℕ) (sc : Scope) (l : List Variable) : Type 0 where
-  pub open : Open text s (sc .records) l
+  pub names : Open text s (sc .records) l
   pub count : sc .names ≡ length l
 
 -- the open names stay within their region, and the scratch is as long as document 01 lends it
