@@ -1,5 +1,4 @@
 pub mod ConvertError
-pub mod Int128
 pub mod Ir
 pub mod Types
 pub mod Scope

@@ -1,4 +1,5 @@
 pub mod Good
+pub mod GoodLaws
 pub mod LayoutFits
 pub mod ListLaws
 pub mod RuleLaws

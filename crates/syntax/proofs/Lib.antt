@@ -1,5 +1,5 @@
-pub mod Unfold
 pub mod Cases
-pub mod Sums
 pub mod Held
 pub mod Judged
+pub mod Sums
+pub mod Unfold

@@ -1,0 +1,171 @@
+-- The arena after an entry more: the table that grew holds it, and the other five hold what they held.
+-- The entry is written at the end of its region's part, before or behind every other region's. Assumes nothing.
+use mathlib.Core.Path.{_≡_, refl, sym, ap, _∙_, subst}
+use mathlib.Core.List.{List, [], _∷_, _++_, append-nil, append-assoc}
+use Prim.Native.Nat.{ℕ, _+_, _*_, _≤_, _<_}
+use native.Mathlib.Omega.{arith}
+use lib.ListN.{length, length-append}
+use Rattle.laws.specs.Splice.{splice}
+use Rattle.conversion.specs.Ir as Ir
+use Rattle.conversion.specs.Ir.{State, LabelName, StringEntry, FloatEntry}
+use Rattle.conversion.specs.Written.{encodeInstr, encodeVar, encodeLabel, encodeFunctions, encodeString, encodeFloat, allCode, allVars, allLabels}
+use Rattle.conversion.proofs.Bytes.{functions-length}
+use Rattle.ir.specs.declared.structs.Counters.{Counters}
+use Rattle.ir.specs.Arena.{Has, Table, All, Tables, LabelFits, StringStands, FloatFits, Holds, Room}
+use Rattle.ir.specs.Steps.{grown, moreInstructions, moreVariables, moreLabels, moreStrings, moreFloats}
+use Rattle.ir.proofs.Entries.{has-before, has-behind, table-before, table-behind, table-grown}
+
+-- a property of every entry, and of one more
+pub all-more : {X : Type 0} (P : X → Type 0) (xs : List X) (x : X) → All P xs → P x → All P (xs ++ (x ∷ []))
+unfolding All
+all-more P [] x a p = (p, tt)
+all-more P (y ∷ xs) x a p = (a .0, all-more P xs x (a .1) p)
+
+-- the state with one entry more
+abbrev pub withVar : ℕ → State → State
+withVar y s = record { vars = s .vars ++ (y ∷ []); labels = s .labels; strings = s .strings; floats = s .floats }
+
+abbrev pub withLabel : LabelName → State → State
+withLabel x s = record { vars = s .vars; labels = s .labels ++ (x ∷ []); strings = s .strings; floats = s .floats }
+
+abbrev pub withString : StringEntry → State → State
+withString x s = record { vars = s .vars; labels = s .labels; strings = s .strings ++ (x ∷ []); floats = s .floats }
+
+abbrev pub withFloat : FloatEntry → State → State
+withFloat x s = record { vars = s .vars; labels = s .labels; strings = s .strings; floats = s .floats ++ (x ∷ []) }
+
+module _ (text : List ℕ) (t : Tables) (k : Counters) (l : List ℕ) (room : Room k l) (h : Holds text t k l) where
+  functions-end : length (encodeFunctions 0 0 0 (t .done)) ≡ 32 * k .functions
+  functions-end = functions-length 0 0 0 (t .done) ∙ omega (arith, h .functions-count)
+
+  -- nothing emitted
+  pub no-code : (s : State) (k′ : Counters) (l′ : List ℕ) → Holds text (record { done = t .done; code = t .code; state = s }) k′ l′ → Holds text (grown t [] s) k′ l′
+  no-code s k′ l′ g = subst (λ (c : List Ir.Instr). Holds text (record { done = t .done; code = c; state = s }) k′ l′) (sym (append-nil (t .code))) g
+
+  pub emit-holds : (i : Ir.Instr) (l′ : List ℕ) → k .instructions < 4 * k .records → l′ ≡ splice l (32 * k .instructions) (encodeInstr i)
+      → Holds text (grown t (i ∷ []) (t .state)) (moreInstructions k) l′
+  emit-holds i l′ small e =
+      let at : ℕ = 32 * k .instructions in
+      let vs : List ℕ = encodeInstr i in
+      let w : length (encodeInstr i) ≡ 32 = h .instructions-hold .width i in
+      let fit : at + length vs ≤ length l = omega (arith, w, room .arena) in
+      let end : at + length vs ≤ 128 * k .records = omega (arith, w) in
+      record {
+        instructions-hold =
+            subst (λ (c : List Ir.Instr). Table encodeInstr 32 c (0 * k .records) (k .instructions + 1) l′)
+            (append-assoc (allCode (t .done)) (t .code) (i ∷ []))
+            (table-grown (h .instructions-hold) i at l′ e fit (omega arith));
+        variables-hold = table-behind (h .variables-hold) at vs l′ e fit end;
+        labels-hold = table-behind (h .labels-hold) at vs l′ e fit (omega arith);
+        functions-hold = has-behind l at vs l′ e fit (164 * k .records) (encodeFunctions 0 0 0 (t .done)) (omega arith) (h .functions-hold);
+        strings-hold = table-behind (h .strings-hold) at vs l′ e fit (omega arith);
+        floats-hold = table-behind (h .floats-hold) at vs l′ e fit (omega arith);
+        functions-count = h .functions-count;
+        instructions-before = h .instructions-before;
+        variables-before = h .variables-before;
+        labels-before = h .labels-before;
+        labels-fit = h .labels-fit;
+        strings-stand = h .strings-stand;
+        floats-fit = h .floats-fit;
+      }
+
+  pub var-holds : (y : ℕ) (l′ : List ℕ) → k .variables < 3 * k .records → l′ ≡ splice l (128 * k .records + 4 * k .variables) (encodeVar y)
+      → Holds text (grown t [] (withVar y (t .state))) (moreVariables k) l′
+  var-holds y l′ small e =
+      let at : ℕ = 128 * k .records + 4 * k .variables in
+      let vs : List ℕ = encodeVar y in
+      let w : length (encodeVar y) ≡ 4 = h .variables-hold .width y in
+      let fit : at + length vs ≤ length l = omega (arith, w, room .arena) in
+      let end : at + length vs ≤ 140 * k .records = omega (arith, w) in
+      no-code (withVar y (t .state)) (moreVariables k) l′ (record {
+        instructions-hold = table-before (h .instructions-hold) at vs l′ e fit (omega (arith, room .instructions-in));
+        variables-hold =
+            subst (λ (c : List ℕ). Table encodeVar 4 c (128 * k .records) (k .variables + 1) l′)
+            (append-assoc (allVars (t .done)) (t .state .vars) (y ∷ []))
+            (table-grown (h .variables-hold) y at l′ e fit (omega arith));
+        labels-hold = table-behind (h .labels-hold) at vs l′ e fit end;
+        functions-hold = has-behind l at vs l′ e fit (164 * k .records) (encodeFunctions 0 0 0 (t .done)) (omega arith) (h .functions-hold);
+        strings-hold = table-behind (h .strings-hold) at vs l′ e fit (omega arith);
+        floats-hold = table-behind (h .floats-hold) at vs l′ e fit (omega arith);
+        functions-count = h .functions-count;
+        instructions-before = h .instructions-before;
+        variables-before = h .variables-before;
+        labels-before = h .labels-before;
+        labels-fit = h .labels-fit;
+        strings-stand = h .strings-stand;
+        floats-fit = h .floats-fit;
+      })
+
+  pub label-holds : (x : LabelName) (l′ : List ℕ) → LabelFits x → k .labels < 3 * k .records
+      → l′ ≡ splice l (140 * k .records + 8 * k .labels) (encodeLabel x) → Holds text (grown t [] (withLabel x (t .state))) (moreLabels k) l′
+  label-holds x l′ fits small e =
+      let at : ℕ = 140 * k .records + 8 * k .labels in
+      let vs : List ℕ = encodeLabel x in
+      let w : length (encodeLabel x) ≡ 8 = h .labels-hold .width x in
+      let fit : at + length vs ≤ length l = omega (arith, w, room .arena) in
+      let end : at + length vs ≤ 164 * k .records = omega (arith, w) in
+      no-code (withLabel x (t .state)) (moreLabels k) l′ (record {
+        instructions-hold = table-before (h .instructions-hold) at vs l′ e fit (omega (arith, room .instructions-in));
+        variables-hold = table-before (h .variables-hold) at vs l′ e fit (omega (arith, room .variables-in));
+        labels-hold =
+            subst (λ (c : List LabelName). Table encodeLabel 8 c (140 * k .records) (k .labels + 1) l′)
+            (append-assoc (allLabels (t .done)) (t .state .labels) (x ∷ []))
+            (table-grown (h .labels-hold) x at l′ e fit (omega arith));
+        functions-hold = has-behind l at vs l′ e fit (164 * k .records) (encodeFunctions 0 0 0 (t .done)) end (h .functions-hold);
+        strings-hold = table-behind (h .strings-hold) at vs l′ e fit (omega arith);
+        floats-hold = table-behind (h .floats-hold) at vs l′ e fit (omega arith);
+        functions-count = h .functions-count;
+        instructions-before = h .instructions-before;
+        variables-before = h .variables-before;
+        labels-before = h .labels-before;
+        labels-fit = all-more LabelFits (t .state .labels) x (h .labels-fit) fits;
+        strings-stand = h .strings-stand;
+        floats-fit = h .floats-fit;
+      })
+
+  pub string-holds : (x : StringEntry) (l′ : List ℕ) → StringStands text x → k .strings < k .records
+      → l′ ≡ splice l (196 * k .records + 8 * k .strings) (encodeString x) → Holds text (grown t [] (withString x (t .state))) (moreStrings k) l′
+  string-holds x l′ fits small e =
+      let at : ℕ = 196 * k .records + 8 * k .strings in
+      let vs : List ℕ = encodeString x in
+      let w : length (encodeString x) ≡ 8 = h .strings-hold .width x in
+      let fit : at + length vs ≤ length l = omega (arith, w, room .arena) in
+      let end : at + length vs ≤ 204 * k .records = omega (arith, w) in
+      no-code (withString x (t .state)) (moreStrings k) l′ (record {
+        instructions-hold = table-before (h .instructions-hold) at vs l′ e fit (omega (arith, room .instructions-in));
+        variables-hold = table-before (h .variables-hold) at vs l′ e fit (omega (arith, room .variables-in));
+        labels-hold = table-before (h .labels-hold) at vs l′ e fit (omega (arith, room .labels-in));
+        functions-hold = has-before l at vs l′ e fit (164 * k .records) (encodeFunctions 0 0 0 (t .done)) (omega (arith, functions-end, room .functions-in)) (h .functions-hold);
+        strings-hold = table-grown (h .strings-hold) x at l′ e fit (omega arith);
+        floats-hold = table-behind (h .floats-hold) at vs l′ e fit end;
+        functions-count = h .functions-count;
+        instructions-before = h .instructions-before;
+        variables-before = h .variables-before;
+        labels-before = h .labels-before;
+        labels-fit = h .labels-fit;
+        strings-stand = all-more (StringStands text) (t .state .strings) x (h .strings-stand) fits;
+        floats-fit = h .floats-fit;
+      })
+
+  pub float-holds : (x : FloatEntry) (l′ : List ℕ) → FloatFits x → k .floats < 2 * k .records
+      → l′ ≡ splice l (204 * k .records + 16 * k .floats) (encodeFloat x) → Holds text (grown t [] (withFloat x (t .state))) (moreFloats k) l′
+  float-holds x l′ fits small e =
+      let at : ℕ = 204 * k .records + 16 * k .floats in
+      let vs : List ℕ = encodeFloat x in
+      let w : length (encodeFloat x) ≡ 16 = h .floats-hold .width x in
+      let fit : at + length vs ≤ length l = omega (arith, w, room .arena) in
+      no-code (withFloat x (t .state)) (moreFloats k) l′ (record {
+        instructions-hold = table-before (h .instructions-hold) at vs l′ e fit (omega (arith, room .instructions-in));
+        variables-hold = table-before (h .variables-hold) at vs l′ e fit (omega (arith, room .variables-in));
+        labels-hold = table-before (h .labels-hold) at vs l′ e fit (omega (arith, room .labels-in));
+        functions-hold = has-before l at vs l′ e fit (164 * k .records) (encodeFunctions 0 0 0 (t .done)) (omega (arith, functions-end, room .functions-in)) (h .functions-hold);
+        strings-hold = table-before (h .strings-hold) at vs l′ e fit (omega (arith, room .strings-in));
+        floats-hold = table-grown (h .floats-hold) x at l′ e fit (omega arith);
+        functions-count = h .functions-count;
+        instructions-before = h .instructions-before;
+        variables-before = h .variables-before;
+        labels-before = h .labels-before;
+        labels-fit = h .labels-fit;
+        strings-stand = h .strings-stand;
+        floats-fit = all-more FloatFits (t .state .floats) x (h .floats-fit) fits;
+      })

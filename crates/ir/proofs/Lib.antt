@@ -1,0 +1,10 @@
+pub mod Answers
+pub mod Entries
+pub mod FloatLaws
+pub mod FunctionDone
+pub mod Kept
+pub mod Operators
+pub mod ReadBack
+pub mod SearchLaws
+pub mod TextLaws
+pub mod WordLaws

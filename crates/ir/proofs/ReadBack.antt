@@ -1,0 +1,178 @@
+-- The searches through the arena are the definitions' searches through the tables that it holds.
+-- The words of each entry are read back, and compared as the definition compares. Assumes nothing.
+use mathlib.Core.Path.{_≡_, refl, sym, ap, ap₂, _∙_, subst}
+use mathlib.Core.Bool.{Bool, true, false, _&&_, Bool·beq}
+use mathlib.Core.List.{List, [], _∷_, _++_}
+use mathlib.Core.Option.{Option, none, some}
+use Prim.Native.Nat.{ℕ, zero, suc, _+_, _-_, _*_, _/_, _%_, _^_, _≤_, _<_}
+use native.Mathlib.Omega.{arith}
+use lib.Dec.{eqb}
+use lib.ListN.{length, getD, length-append}
+use lib.Seq.{getD-append-add}
+use borrow.Author.Tests.{eqb-true, eq-eqb, ne-eqb}
+use Rattle.laws.proofs.Tests.{and-left, and-right}
+use Rattle.records.specs.Words.{byteAt, wordAt, textAt}
+use Rattle.conversion.specs.Ir.{LabelName, StringEntry, FloatEntry, position, sameLabel, sameText, sameFloat}
+use Rattle.conversion.specs.Written.{bytesOf, word, wide, boolNumber, encodeLabel, encodeString, encodeFloat, allLabels}
+use Rattle.ir.specs.declared.structs.Counters.{Counters}
+use Rattle.ir.specs.Arena.{Table, All, Tables, LabelFits, StringStands, FloatFits, Holds}
+use Rattle.ir.specs.Steps.{named}
+use Rattle.ir.specs.Search.{first, pairAt, textOf, fourAt}
+use Rattle.ir.proofs.Entries.{table-word}
+use Rattle.ir.proofs.SearchLaws.{first-position}
+
+all-at : {X : Type 0} (P : X → Type 0) (xs : List X) (d : X) (j : ℕ) → All P xs → j < length xs → P (getD xs j d)
+unfolding All
+all-at P [] d j a h = absurd (omega arith)
+all-at P (x ∷ xs) d zero a h = a .0
+all-at P (x ∷ xs) d (suc j) a h = all-at P xs d j (a .1) (omega arith)
+
+-- a word's four bytes make it again
+pub word-back : (w : ℕ) → w < 2 ^ 32 → w % 256 + w / 256 % 256 * 256 + w / 256 / 256 % 256 * 65536 + w / 256 / 256 / 256 % 256 * 16777216 ≡ w
+word-back w h = omega arith
+
+-- ---- the words of entries
+
+label-kind : (x : LabelName) → LabelFits x → wordAt (encodeLabel x) 0 ≡ x .kind
+unfolding encodeLabel word bytesOf wordAt byteAt
+label-kind x f = word-back (x .kind) (f .kind)
+
+label-opener : (x : LabelName) → LabelFits x → wordAt (encodeLabel x) 4 ≡ x .opener
+unfolding encodeLabel word bytesOf wordAt byteAt
+label-opener x f = word-back (x .opener) (f .opener)
+
+string-offset : (text : List ℕ) (x : StringEntry) → StringStands text x → wordAt (encodeString x) 0 ≡ x .offset
+unfolding encodeString word bytesOf wordAt byteAt
+string-offset text x f = word-back (x .offset) (f .offset)
+
+string-len : (text : List ℕ) (x : StringEntry) → StringStands text x → wordAt (encodeString x) 4 ≡ x .len
+unfolding encodeString word bytesOf wordAt byteAt
+string-len text x f = word-back (x .len) (f .len)
+
+float-low : (x : FloatEntry) → wordAt (encodeFloat x) 0 ≡ x .bits % 4294967296
+unfolding encodeFloat word wide bytesOf wordAt byteAt
+float-low x = omega arith
+
+float-high : (x : FloatEntry) → FloatFits x → wordAt (encodeFloat x) 4 ≡ x .bits / 4294967296
+unfolding encodeFloat word wide bytesOf wordAt byteAt
+float-high x f = omega (arith, f .bits)
+
+mark-below : (b : Bool) → boolNumber b < 2 ^ 32
+unfolding boolNumber
+mark-below true = omega arith
+mark-below false = omega arith
+
+float-mark : (x : FloatEntry) → wordAt (encodeFloat x) 8 ≡ boolNumber (x .short)
+unfolding encodeFloat word wide bytesOf wordAt byteAt
+float-mark x = word-back (boolNumber (x .short)) (mark-below (x .short))
+
+-- ---- comparing
+
+same-bool : (a b : Bool) → (a ≡ true → b ≡ true) → (b ≡ true → a ≡ true) → a ≡ b
+same-bool true b f g = sym (f refl)
+same-bool false true f g = g refl
+same-bool false false f g = refl
+
+and-both : (a b : Bool) → a ≡ true → b ≡ true → (a && b) ≡ true
+and-both a b e q = rw (e, q)
+
+-- two numbers are equal if their halves are
+glue : (a b : ℕ) → a % 4294967296 ≡ b % 4294967296 → a / 4294967296 ≡ b / 4294967296 → a ≡ b
+glue a b p q = omega arith
+
+halves : (a b : ℕ) → (eqb (a % 4294967296) (b % 4294967296) && eqb (a / 4294967296) (b / 4294967296)) ≡ eqb a b
+halves a b =
+    let x : Bool = eqb (a % 4294967296) (b % 4294967296) in
+    let y : Bool = eqb (a / 4294967296) (b / 4294967296) in
+    same-bool (x && y) (eqb a b)
+    (λ e. eq-eqb a b (glue a b (eqb-true (a % 4294967296) (b % 4294967296) (and-left x y e)) (eqb-true (a / 4294967296) (b / 4294967296) (and-right x y e))))
+    (λ e. and-both x y (eq-eqb (a % 4294967296) (b % 4294967296) (ap (λ (z : ℕ). z % 4294967296) (eqb-true a b e)))
+    (eq-eqb (a / 4294967296) (b / 4294967296) (ap (λ (z : ℕ). z / 4294967296) (eqb-true a b e))))
+
+marks : (a b : Bool) → eqb (boolNumber a) (boolNumber b) ≡ Bool·beq a b
+unfolding boolNumber
+marks true true = refl
+marks true false = refl
+marks false true = refl
+marks false false = refl
+
+-- ---- the searches
+
+no-label : LabelName
+no-label = named 0 0
+
+no-string : StringEntry
+no-string = record { offset = 0; len = 0; text = [] }
+
+no-float : FloatEntry
+no-float = record { bits = 0; short = false }
+
+module _ (text : List ℕ) (t : Tables) (k : Counters) (l : List ℕ) (h : Holds text t k l) where
+  -- entry j of the labels of the function at hand
+  label-entry : (j : ℕ) → getD (allLabels (t .done) ++ t .state .labels) (k .labels0 + j) no-label ≡ getD (t .state .labels) j no-label
+  label-entry j =
+      ap (λ (m : ℕ). getD (allLabels (t .done) ++ t .state .labels) (m + j) no-label) (h .labels-before)
+      ∙ getD-append-add (allLabels (t .done)) (t .state .labels) j no-label
+
+  labels-count : k .labels ≡ k .labels0 + length (t .state .labels)
+  labels-count = h .labels-hold .count ∙ length-append (allLabels (t .done)) (t .state .labels) ∙ omega (arith, h .labels-before)
+
+  label-word : (j b p : ℕ) → j < length (t .state .labels) → b + 4 ≤ 8 → p ≡ 140 * k .records + (8 * (k .labels0 + j) + b)
+      → wordAt l p ≡ wordAt (encodeLabel (getD (t .state .labels) j no-label)) b
+  label-word j b p hj hb e =
+      table-word (h .labels-hold) no-label (k .labels0 + j) b p (omega (arith, labels-count)) hb e
+      ∙ ap (λ (x : LabelName). wordAt (encodeLabel x) b) (label-entry j)
+
+  label-same : (kind opener j : ℕ) → j < length (t .state .labels)
+      → pairAt l (140 * k .records + 8 * k .labels0) kind opener j ≡ sameLabel (named kind opener) (getD (t .state .labels) j no-label)
+  unfolding pairAt sameLabel
+  label-same kind opener j hj =
+      let f : LabelFits (getD (t .state .labels) j no-label) = all-at LabelFits (t .state .labels) no-label j (h .labels-fit) hj in
+      ap₂ (λ (x y : ℕ). eqb kind x && eqb opener y)
+      (label-word j 0 (140 * k .records + 8 * k .labels0 + 8 * j) hj (omega arith) (omega arith) ∙ label-kind (getD (t .state .labels) j no-label) f)
+      (label-word j 4 (140 * k .records + 8 * k .labels0 + 8 * j + 4) hj (omega arith) (omega arith) ∙ label-opener (getD (t .state .labels) j no-label) f)
+
+  pub labels-read : (kind opener : ℕ)
+      → first (k .labels - k .labels0) (pairAt l (140 * k .records + 8 * k .labels0) kind opener) 0 ≡ position (sameLabel (named kind opener)) (t .state .labels)
+  labels-read kind opener =
+      first-position (sameLabel (named kind opener)) no-label (pairAt l (140 * k .records + 8 * k .labels0) kind opener) (t .state .labels)
+      (k .labels - k .labels0) (omega (arith, labels-count)) (label-same kind opener)
+
+  string-same : (u : List ℕ) (j : ℕ) → j < length (t .state .strings)
+      → textOf text l (196 * k .records) u j ≡ sameText u (getD (t .state .strings) j no-string .text)
+  unfolding textOf
+  string-same u j hj =
+      let x : StringEntry = getD (t .state .strings) j no-string in
+      let f : StringStands text (getD (t .state .strings) j no-string) = all-at (StringStands text) (t .state .strings) no-string j (h .strings-stand) hj in
+      ap (sameText u)
+      (ap₂ (textAt text)
+      (table-word (h .strings-hold) no-string j 0 (196 * k .records + 8 * j) (omega (arith, h .strings-hold .count)) (omega arith) (omega arith) ∙ string-offset text x f)
+      (table-word (h .strings-hold) no-string j 4 (196 * k .records + 8 * j + 4) (omega (arith, h .strings-hold .count)) (omega arith) (omega arith) ∙ string-len text x f)
+      ∙ sym (f .stands))
+
+  pub strings-read : (u : List ℕ)
+      → first (k .strings) (textOf text l (196 * k .records) u) 0 ≡ position (λ x. sameText u (x .text)) (t .state .strings)
+  strings-read u =
+      first-position (λ x. sameText u (x .text)) no-string (textOf text l (196 * k .records) u) (t .state .strings)
+      (k .strings) (h .strings-hold .count) (string-same u)
+
+  float-same : (e : FloatEntry) (j : ℕ) → j < length (t .state .floats)
+      → fourAt l (204 * k .records) (e .bits % 4294967296) (e .bits / 4294967296) (boolNumber (e .short)) j ≡ sameFloat e (getD (t .state .floats) j no-float)
+  unfolding fourAt sameFloat
+  float-same e j hj =
+      let x : FloatEntry = getD (t .state .floats) j no-float in
+      let f : FloatFits (getD (t .state .floats) j no-float) = all-at FloatFits (t .state .floats) no-float j (h .floats-fit) hj in
+      let c : j < k .floats = omega (arith, h .floats-hold .count) in
+      ap₂ (λ (p q : Bool). p && q)
+      (ap₂ (λ (p q : ℕ). eqb (e .bits % 4294967296) p && eqb (e .bits / 4294967296) q)
+      (table-word (h .floats-hold) no-float j 0 (204 * k .records + 16 * j) c (omega arith) (omega arith) ∙ float-low x)
+      (table-word (h .floats-hold) no-float j 4 (204 * k .records + 16 * j + 4) c (omega arith) (omega arith) ∙ float-high x f)
+      ∙ halves (e .bits) (x .bits))
+      (ap (eqb (boolNumber (e .short))) (table-word (h .floats-hold) no-float j 8 (204 * k .records + 16 * j + 8) c (omega arith) (omega arith) ∙ float-mark x)
+      ∙ marks (e .short) (x .short))
+
+  pub floats-read : (e : FloatEntry)
+      → first (k .floats) (fourAt l (204 * k .records) (e .bits % 4294967296) (e .bits / 4294967296) (boolNumber (e .short))) 0 ≡ position (sameFloat e) (t .state .floats)
+  floats-read e =
+      first-position (sameFloat e) no-float (fourAt l (204 * k .records) (e .bits % 4294967296) (e .bits / 4294967296) (boolNumber (e .short)))
+      (t .state .floats) (k .floats) (h .floats-hold .count) (float-same e)

@@ -1,0 +1,18 @@
+-- The test of a NaN's pattern.
+-- The sign's bit off, and above an infinity's pattern. Assumes nothing.
+use mathlib.Core.Path.{sym, ap, _∙_}
+use lib.Dec.{ltb}
+use lib.Bits.{and-mask}
+use lib.Ieee.{binary64}
+use lib.Ieee.Bits.{nanBits-above}
+use Rattle.ir.proofs.floats.nan_bits.Statement.{statement}
+use Rattle.ir.proofs.floats.nan_bits.Tie as tie
+use Rattle.ir.proofs.floats.nan_bits.Reads as reads
+use Rattle.ir.proofs.floats.nan_bits.Lts as lts
+
+-- src/floats.rt:23:1
+returns : tie.Need-returns
+returns c = ap (ltb 9218868437227405312) (and-mask (c .args .b) 63) ∙ sym (nanBits-above binary64 (c .args .b))
+
+pub nan-bits-spec : {M : Type 1} → statement M
+nan-bits-spec = tie.close (tie.spec returns)

@@ -1,0 +1,108 @@
+-- The arena: one lent buffer that holds all six tables while a tree of n records is converted, each in a region of its own. It is the
+-- instruction buffer (320n bytes), whose first 128n bytes are the instructions' own place. Assumes nothing: these are definitions.
+use mathlib.Core.Path.{_≡_}
+use Prim.Native.Nat.{ℕ, _+_, _*_, _^_, _≤_, _<_}
+use mathlib.Core.List.{List, [], _∷_, _++_}
+use lib.ListN.{length, take, drop}
+use Rattle.records.specs.Layout.{Region}
+use Rattle.records.specs.Words.{textAt}
+use Rattle.conversion.specs.Ir as Ir
+use Rattle.conversion.specs.Ir.{LabelName, StringEntry, FloatEntry, State, IrFunction}
+use Rattle.conversion.specs.Written.{encodeAll, encodeInstr, encodeVar, encodeLabel, encodeFunctions, encodeString, encodeFloat, allCode, allVars, allLabels}
+use Rattle.ir.specs.declared.structs.Counters.{Counters}
+
+-- ---- regions, each at a multiple of n bytes
+
+-- 4n instructions of 32 bytes
+abbrev pub instructions : Region
+instructions = record { from = 0; each = 128 }
+
+-- 3n variables of 4
+abbrev pub variables : Region
+variables = record { from = 128; each = 12 }
+
+-- 3n labels of 8
+abbrev pub labels : Region
+labels = record { from = 140; each = 24 }
+
+-- n functions of 32
+abbrev pub functions : Region
+functions = record { from = 164; each = 32 }
+
+-- n strings of 8
+abbrev pub strings : Region
+strings = record { from = 196; each = 8 }
+
+-- 2n floats of 16
+abbrev pub floats : Region
+floats = record { from = 204; each = 32 }
+
+-- 'instructions 320n bytes'
+abbrev pub arenaEach : ℕ
+arenaEach = 320
+
+-- ---- what stands there
+
+-- l has the bytes bs from `at` on
+pub record Has (l : List ℕ) (at : ℕ) (bs : List ℕ) : Type 0 where
+  pub is : take (length bs) (drop at l) ≡ bs
+
+-- a table of n entries of w bytes: the encodings of xs, one behind the other
+pub record Table {X : Type 0} (f : X → List ℕ) (w : ℕ) (xs : List X) (at n : ℕ) (l : List ℕ) : Type 0 where
+  pub bytes : Has l at (encodeAll f xs)
+  pub width : (x : X) → length (f x) ≡ w
+  pub count : n ≡ length xs
+
+unfoldable pub All : {X : Type 0} → (X → Type 0) → List X → Type 0
+All P [] = Unit {0}
+All P (x ∷ l) = P x × All P l
+
+-- what is written so far: the functions that are done, the instructions of the function at hand, and the definitions' state
+pub record Tables : Type 0 where
+  pub done : List IrFunction
+  pub code : List Ir.Instr
+  pub state : State
+
+-- the numbers of a label fit their words
+pub record LabelFits (l : LabelName) : Type 0 where
+  pub kind : l .kind < 2 ^ 32
+  pub opener : l .opener < 2 ^ 32
+
+-- a string's place fits its words, and its text stands there
+pub record StringStands (text : List ℕ) (s : StringEntry) : Type 0 where
+  pub offset : s .offset < 2 ^ 32
+  pub len : s .len < 2 ^ 32
+  pub stands : s .text ≡ textAt text (s .offset) (s .len)
+
+pub record FloatFits (f : FloatEntry) : Type 0 where
+  pub bits : f .bits < 2 ^ 64
+
+-- the arena holds these tables, and the counters count them
+pub record Holds (text : List ℕ) (t : Tables) (k : Counters) (l : List ℕ) : Type 0 where
+  pub instructions-hold : Table encodeInstr 32 (allCode (t .done) ++ t .code) (instructions .from * k .records) (k .instructions) l
+  pub variables-hold : Table encodeVar 4 (allVars (t .done) ++ t .state .vars) (variables .from * k .records) (k .variables) l
+  pub labels-hold : Table encodeLabel 8 (allLabels (t .done) ++ t .state .labels) (labels .from * k .records) (k .labels) l
+  pub functions-hold : Has l (functions .from * k .records) (encodeFunctions 0 0 0 (t .done))
+  pub strings-hold : Table encodeString 8 (t .state .strings) (strings .from * k .records) (k .strings) l
+  pub floats-hold : Table encodeFloat 16 (t .state .floats) (floats .from * k .records) (k .floats) l
+  pub functions-count : k .functions ≡ length (t .done)
+  pub instructions-before : k .instructions0 ≡ length (allCode (t .done))
+  pub variables-before : k .variables0 ≡ length (allVars (t .done))
+  pub labels-before : k .labels0 ≡ length (allLabels (t .done))
+  pub labels-fit : All LabelFits (t .state .labels)
+  pub strings-stand : All (StringStands text) (t .state .strings)
+  pub floats-fit : All FloatFits (t .state .floats)
+
+-- the counters stay within the regions, and the arena is as long as document 01 lends it; its offsets fit a word
+pub record Room (k : Counters) (l : List ℕ) : Type 0 where
+  pub arena : 320 * k .records ≤ length l
+  pub small : 320 * k .records < 2 ^ 32
+  pub instructions-in : k .instructions ≤ 4 * k .records
+  pub variables-in : k .variables ≤ 3 * k .records
+  pub labels-in : k .labels ≤ 3 * k .records
+  pub functions-in : k .functions ≤ k .records
+  pub strings-in : k .strings ≤ k .records
+  pub floats-in : k .floats ≤ 2 * k .records
+  pub instructions-from : k .instructions0 ≤ k .instructions
+  pub variables-from : k .variables0 ≤ k .variables
+  pub labels-from : k .labels0 ≤ k .labels

@@ -1,0 +1,5 @@
+pub mod Arena
+pub mod Floats
+pub mod Instructions
+pub mod Search
+pub mod Steps

@@ -1,0 +1,6 @@
+// The emitter: the six tables while converting, and what a function's conversion adds to them. The definitions stand in specs/.
+pub mod floats;
+pub mod pool;
+pub mod structs;
+pub mod text;
+pub mod words;

@@ -1,0 +1,106 @@
+// The program's strings and floats: `string_id` and `float_id`. An entry's number is its index.
+ghost use mathlib.Core.Path.{_≡_};
+ghost use Prim.Native.Nat.{_+_, _*_, _≤_};
+ghost use lib.ListN.{length, getD};
+ghost use Rattle.records.specs.Words.{textAt};
+ghost use Rattle.ir.specs.Arena.{Room};
+ghost use Rattle.ir.specs.Floats.{entry, entryOf};
+ghost use Rattle.ir.specs.Search.{first, foundOf, textOf};
+ghost use Rattle.ir.specs.Steps.{stringAt, AddStringMeets, StringMeets, AddFloatMeets, FloatMeets};
+use crate::floats::FloatBits;
+use crate::floats::entry_bits;
+use crate::structs::Counters;
+use crate::text::same_text;
+use crate::words::Found;
+use crate::words::Four;
+use crate::words::find_four;
+use crate::words::high;
+use crate::words::low;
+use crate::words::mark;
+use crate::words::put_four;
+use crate::words::put_pair;
+use records::words::load;
+
+// An entry's number, or Full where its table has no room.
+pub enum PoolNumber {
+    Is(u32, Counters),
+    Full,
+}
+
+fn is_text(text: &[u8], s: &[u8], at: usize, j: usize, offset: u32, len: u32) -> bool
+    requires { ⌜ at + 8 * j + 8 ≤ length (now s) ⌝ }
+    ensures { λ r. ⌜ r ≡ textOf (now (text .entry)) (now (s .entry)) at (textAt (now (text .entry)) offset len) j ⌝ }
+{
+    let x = load(s, at + 8 * j);
+    let y = load(s, at + 8 * j + 4);
+    same_text(text, offset, len, x, y)
+}
+
+// The first of `count` strings that is the text.
+fn find_text(text: &[u8], s: &[u8], at: usize, count: usize, offset: u32, len: u32) -> Found
+    requires { ⌜ at + 8 * count ≤ length (now s) ⌝ }
+    ensures { λ r. ⌜ r ≡ foundOf (first count (textOf (now (text .entry)) (now (s .entry)) at (textAt (now (text .entry)) offset len)) 0) ⌝ }
+{
+    let mut j = 0;
+    while j < count {
+        if is_text(text, s, at, j, offset, len) {
+            return Found::At(j);
+        }
+        j += 1;
+    }
+    Found::Nothing
+}
+
+fn add_string(arena: &mut [u8], k: Counters, offset: u32, len: u32) -> PoolNumber
+    requires { ⌜ Room k (now arena) ⌝ }
+    ensures { λ r. ⌜ AddStringMeets offset len k (now (arena .entry)) r (now (arena .exit)) ⌝ }
+{
+    let n = k.records;
+    let v = k.strings;
+    if v >= n {
+        return PoolNumber::Full;
+    }
+    let mut next = k;
+    next.strings = v + 1;
+    put_pair(arena, 196 * n + 8 * v, offset, len);
+    PoolNumber::Is(v as u32, next)
+}
+
+// The string with this text, its entry the place of its first use.
+pub fn string_id(text: &[u8], arena: &mut [u8], k: Counters, offset: u32, len: u32) -> PoolNumber
+    requires { ⌜ Room k (now arena) ⌝ }
+    ensures { λ r. ⌜ StringMeets (now (text .entry)) (stringAt (now (text .entry)) offset len) k (now (arena .entry)) r (now (arena .exit)) ⌝ }
+{
+    match find_text(text, arena, 196 * k.records, k.strings, offset, len) {
+        Found::At(i) => PoolNumber::Is(i as u32, k),
+        Found::Nothing => add_string(arena, k, offset, len),
+    }
+}
+
+fn add_float(arena: &mut [u8], k: Counters, w: Four) -> PoolNumber
+    requires { ⌜ Room k (now arena) ⌝ }
+    ensures { λ r. ⌜ AddFloatMeets (w .0) (w .1) (w .2) (w .3) k (now (arena .entry)) r (now (arena .exit)) ⌝ }
+{
+    let n = k.records;
+    let v = k.floats;
+    if v >= 2 * n {
+        return PoolNumber::Full;
+    }
+    let mut next = k;
+    next.floats = v + 1;
+    put_four(arena, 204 * n + 16 * v, w);
+    PoolNumber::Is(v as u32, next)
+}
+
+// The float with these bits and this mark.
+pub fn float_id(arena: &mut [u8], k: Counters, f: FloatBits) -> PoolNumber
+    requires { ⌜ Room k (now arena) ⌝ }
+    ensures { λ r. ⌜ FloatMeets (entryOf f) k (now (arena .entry)) r (now (arena .exit)) ⌝ }
+{
+    let e = entry_bits(f);
+    let w = Four(low(e.bits), high(e.bits), mark(e.short), 0);
+    match find_four(arena, 204 * k.records, k.floats, w) {
+        Found::At(i) => PoolNumber::Is(i as u32, k),
+        Found::Nothing => add_float(arena, k, w),
+    }
+}

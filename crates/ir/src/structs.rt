@@ -1,0 +1,340 @@
+// ir/structs.rs: operands, instructions, and the numbering of a function's variables and labels. The tables stand as regions of one
+// lent buffer, the arena; how many entries each has goes in and comes back by value.
+ghost use mathlib.Core.Path.{_≡_};
+ghost use Prim.Native.Nat.{_+_, _*_, _≤_};
+ghost use lib.ListN.{length, getD};
+ghost use Rattle.laws.specs.Splice.{splice};
+ghost use Rattle.syntax.specs.Syntax.{unaryOps, binaryOps, unaryNumber, binaryNumber, Neg, Or};
+ghost use Rattle.conversion.specs.Written.{tag, operandValue, encodeInstr};
+ghost use Rattle.ir.specs.Instructions.{operandOf, instrOf, fieldBytes, oneBytes, noneBytes, twoBytes};
+ghost use Rattle.ir.specs.Arena.{Room};
+ghost use Rattle.ir.specs.Steps.{EmitMeets, NewVarMeets, AddLabelMeets, LabelMeets, FunctionMeets};
+use crate::words::Found;
+use crate::words::Four;
+use crate::words::find_pair;
+use crate::words::high;
+use crate::words::low;
+use crate::words::mark;
+use crate::words::put_four;
+use crate::words::put_pair;
+use crate::words::put_word;
+use crate::words::wide;
+use records::words::NONE;
+
+// A label's number in its function.
+pub struct Label(pub u32);
+
+// A variable: its number in its function, and its type's record.
+pub struct VarId(pub u32, pub u32);
+
+pub enum Operand {
+    Var(VarId),
+    // The 64 bits, short, unsigned.
+    Int(u64, bool, bool),
+    // Its number among the floats.
+    Float(u32),
+    Bool(bool),
+    // Its number among the strings.
+    DataAddress(u32),
+    Null,
+}
+
+// An operator is its number.
+pub enum Instr {
+    Copy(VarId, Operand),
+    Unary(VarId, u8, Operand),
+    Binary(VarId, u8, Operand, Operand),
+    Cast(VarId, Operand),
+    Zero(VarId),
+    Arg(Operand),
+    Call(VarId, u32),
+    CallOnly(u32),
+    Label(Label),
+    Jump(Label),
+    JumpIfNot(Operand, Label),
+    Return(Operand),
+    Comment(u32),
+}
+
+// An operand as it is written.
+pub struct Part {
+    pub tag: u8,
+    pub value: u64,
+}
+
+// An instruction as it is written; the last of its 32 bytes are zero.
+pub struct Fields {
+    pub kind: u8,
+    pub operator: u8,
+    pub first: Part,
+    pub second: Part,
+    pub target: u32,
+    pub owner: u32,
+}
+
+// How many entries each table has, for a tree of so many records, and (with a 0) how many instructions, variables and labels there
+// were when the function at hand began.
+pub struct Counters {
+    pub records: usize,
+    pub instructions: usize,
+    pub variables: usize,
+    pub labels: usize,
+    pub functions: usize,
+    pub strings: usize,
+    pub floats: usize,
+    pub instructions0: usize,
+    pub variables0: usize,
+    pub labels0: usize,
+}
+
+// Full: the table has no room. It has no number of document 01; that sizes suffice shows that it never comes.
+pub enum Emitted {
+    Done(Counters),
+    Full,
+}
+
+pub enum NewVariable {
+    Is(VarId, Counters),
+    Full,
+}
+
+pub enum LabelNumber {
+    Is(Label, Counters),
+    Full,
+}
+
+fn tag_of(o: Operand) -> u8
+    ensures { λ r. ⌜ r ≡ tag (operandOf o) ⌝ }
+{
+    match o {
+        Operand::Var(_) => 1,
+        Operand::Int(_, short, unsigned) => {
+            if short {
+                if unsigned { 5 } else { 3 }
+            } else {
+                if unsigned { 4 } else { 2 }
+            }
+        }
+        Operand::Float(_) => 6,
+        Operand::Bool(_) => 7,
+        Operand::DataAddress(_) => 8,
+        Operand::Null => 9,
+    }
+}
+
+fn value_of(o: Operand) -> u64
+    ensures { λ r. ⌜ r ≡ operandValue (operandOf o) ⌝ }
+{
+    match o {
+        Operand::Var(v) => v.0 as u64,
+        Operand::Int(bits, _, _) => bits,
+        Operand::Float(i) => i as u64,
+        Operand::Bool(b) => { if b { 1 } else { 0 } }
+        Operand::DataAddress(i) => i as u64,
+        Operand::Null => 0,
+    }
+}
+
+fn part_of(o: Operand) -> Part
+    ensures { λ r. ⌜ (r .tag ≡ tag (operandOf o)) × (r .value ≡ operandValue (operandOf o)) ⌝ }
+{
+    Part {
+        tag: tag_of(o),
+        value: value_of(o),
+    }
+}
+
+// A number that names no operator stands for the first.
+fn unary_number(op: u8) -> u8
+    ensures { λ r. ⌜ r ≡ unaryNumber (getD unaryOps op Neg) ⌝ }
+{
+    if op < 3 { op } else { 0 }
+}
+
+fn binary_number(op: u8) -> u8
+    ensures { λ r. ⌜ r ≡ binaryNumber (getD binaryOps op Or) ⌝ }
+{
+    if op < 18 { op } else { 0 }
+}
+
+// Nothing in an operand's place.
+fn no_part() -> Part
+    ensures { λ r. ⌜ (r .tag ≡ 0) × (r .value ≡ 0) ⌝ }
+{
+    Part { tag: 0, value: 0 }
+}
+
+// An instruction with one operand.
+fn with_one(kind: u8, operator: u8, target: u32, o: Operand) -> Fields
+    ensures { λ r. ⌜ fieldBytes r ≡ oneBytes kind operator target (operandOf o) ⌝ }
+{
+    Fields {
+        kind,
+        operator,
+        first: part_of(o),
+        second: no_part(),
+        target,
+        owner: 0,
+    }
+}
+
+// An instruction with none.
+fn with_none(kind: u8, target: u32, owner: u32) -> Fields
+    ensures { λ r. ⌜ fieldBytes r ≡ noneBytes kind target owner ⌝ }
+{
+    Fields {
+        kind,
+        operator: 0,
+        first: no_part(),
+        second: no_part(),
+        target,
+        owner,
+    }
+}
+
+fn with_two(operator: u8, target: u32, o: Operand, p: Operand) -> Fields
+    ensures { λ r. ⌜ fieldBytes r ≡ twoBytes operator target (operandOf o) (operandOf p) ⌝ }
+{
+    Fields {
+        kind: 3,
+        operator,
+        first: part_of(o),
+        second: part_of(p),
+        target,
+        owner: 0,
+    }
+}
+
+// The twelve kinds, each as it is written.
+fn fields_of(i: Instr) -> Fields
+    ensures { λ r. ⌜ fieldBytes r ≡ encodeInstr (instrOf i) ⌝ }
+{
+    match i {
+        Instr::Copy(v, o) => with_one(1, 0, v.0, o),
+        Instr::Unary(v, op, o) => with_one(2, unary_number(op), v.0, o),
+        Instr::Binary(v, op, o, p) => with_two(binary_number(op), v.0, o, p),
+        Instr::Cast(v, o) => with_one(4, 0, v.0, o),
+        Instr::Zero(v) => with_none(5, v.0, 0),
+        Instr::Arg(o) => with_one(6, 0, 0, o),
+        Instr::Call(v, f) => with_none(7, v.0, f),
+        Instr::CallOnly(f) => with_none(7, NONE, f),
+        Instr::Label(l) => with_none(8, l.0, 0),
+        Instr::Jump(l) => with_none(9, l.0, 0),
+        Instr::JumpIfNot(o, l) => with_one(10, 0, l.0, o),
+        Instr::Return(o) => with_one(11, 0, 0, o),
+        Instr::Comment(r) => with_none(12, 0, r),
+    }
+}
+
+// The 32 bytes of an instruction.
+fn put_fields(arena: &mut [u8], at: usize, f: Fields)
+    requires { ⌜ at + 32 ≤ length (now arena) ⌝ }
+    ensures { λ _. ⌜ now (arena .exit) ≡ splice (now (arena .entry)) at (fieldBytes f) ⌝ }
+{
+    let one = f.first;
+    let two = f.second;
+    let head = wide(f.kind)
+        + wide(f.operator) * 256
+        + wide(one.tag) * 65536
+        + wide(two.tag) * 16777216;
+    let back = at + 16;
+    let a = Four(head, f.target, low(one.value), high(one.value));
+    let b = Four(low(two.value), high(two.value), f.owner, 0);
+    put_four(arena, at, a);
+    put_four(arena, back, b);
+}
+
+// `instrs.push`.
+pub fn emit(arena: &mut [u8], k: Counters, i: Instr) -> Emitted
+    requires { ⌜ Room k (now arena) ⌝ }
+    ensures { λ r. ⌜ EmitMeets i k (now (arena .entry)) r (now (arena .exit)) ⌝ }
+{
+    let n = k.instructions;
+    if n >= 4 * k.records {
+        return Emitted::Full;
+    }
+    let f = fields_of(i);
+    let mut next = k;
+    next.instructions = n + 1;
+    put_fields(arena, 32 * n, f);
+    Emitted::Done(next)
+}
+
+// A new variable of this type: its number is its index among its function's variables.
+pub fn new_var(arena: &mut [u8], k: Counters, ty: u32) -> NewVariable
+    requires { ⌜ Room k (now arena) ⌝ }
+    ensures { λ r. ⌜ NewVarMeets ty k (now (arena .entry)) r (now (arena .exit)) ⌝ }
+{
+    let n = k.records;
+    let v = k.variables;
+    if v >= 3 * n {
+        return NewVariable::Full;
+    }
+    let id = VarId((v - k.variables0) as u32, ty);
+    let mut next = k;
+    next.variables = v + 1;
+    put_word(arena, 128 * n + 4 * v, ty);
+    NewVariable::Is(id, next)
+}
+
+// A label more at the end.
+fn add_label(arena: &mut [u8], k: Counters, kind: u32, opener: u32) -> LabelNumber
+    requires { ⌜ Room k (now arena) ⌝ }
+    ensures { λ r. ⌜ AddLabelMeets kind opener k (now (arena .entry)) r (now (arena .exit)) ⌝ }
+{
+    let n = k.records;
+    let v = k.labels;
+    if v >= 3 * n {
+        return LabelNumber::Full;
+    }
+    let id = Label((v - k.labels0) as u32);
+    let mut next = k;
+    next.labels = v + 1;
+    put_pair(arena, 140 * n + 8 * v, kind, opener);
+    LabelNumber::Is(id, next)
+}
+
+// The label of this kind that this record opens: its number is its index among its function's labels, added the first time it is asked.
+pub fn label_id(arena: &mut [u8], k: Counters, kind: u32, opener: u32) -> LabelNumber
+    requires { ⌜ Room k (now arena) ⌝ }
+    ensures { λ r. ⌜ LabelMeets kind opener k (now (arena .entry)) r (now (arena .exit)) ⌝ }
+{
+    let at = 140 * k.records + 8 * k.labels0;
+    match find_pair(arena, at, k.labels - k.labels0, kind, opener) {
+        Found::At(i) => LabelNumber::Is(Label(i as u32), k),
+        Found::Nothing => add_label(arena, k, kind, opener),
+    }
+}
+
+// The function at hand is done: its entry, and the next one begins.
+pub fn add_function(arena: &mut [u8], k: Counters, owner: u32, body: bool) -> Emitted
+    requires { ⌜ Room k (now arena) ⌝ }
+    ensures { λ r. ⌜ FunctionMeets owner body k (now (arena .entry)) r (now (arena .exit)) ⌝ }
+{
+    let n = k.functions;
+    if n >= k.records {
+        return Emitted::Full;
+    }
+    let at = 164 * k.records + 32 * n;
+    let back = at + 16;
+    let a = Four(
+        owner,
+        mark(body),
+        k.instructions0 as u32,
+        (k.instructions - k.instructions0) as u32,
+    );
+    let b = Four(
+        k.variables0 as u32,
+        (k.variables - k.variables0) as u32,
+        k.labels0 as u32,
+        (k.labels - k.labels0) as u32,
+    );
+    let mut next = k;
+    next.functions = n + 1;
+    next.instructions0 = k.instructions;
+    next.variables0 = k.variables;
+    next.labels0 = k.labels;
+    put_four(arena, at, a);
+    put_four(arena, back, b);
+    Emitted::Done(next)
+}

@@ -1,0 +1,71 @@
+-- Whether an open name is the text.
+-- By what `load` ensures of its words. Assumes nothing.
+use Rattle.scope.specs.Open.{nameIs}
+use borrow.Author.Needs.{needs}
+use Rattle.scope.proofs.is_name.Statement.{statement}
+use Rattle.scope.proofs.is_name.Tie as tie
+use Rattle.scope.proofs.is_name.Reads as reads
+use Rattle.scope.proofs.is_name.Lts as lts
+use Rattle.ir.proofs.text.same_text.Reads as same-text-reads
+use Rattle.records.proofs.words.load.Reads as load-reads
+
+-- src/lib.rt:50:27
+mul-load : tie.Need-mul-load
+mul-load c = search needs
+
+-- src/lib.rt:50:41
+mul-load-2 : tie.Need-mul-load-2
+mul-load-2 c = search needs
+
+-- src/lib.rt:50:27
+add-load : tie.Need-add-load
+add-load c = search needs
+
+-- src/lib.rt:50:9
+load-requires : tie.Need-load-requires
+load-requires c κs = search needs
+
+-- src/lib.rt:51:27
+mul-load-3 : tie.Need-mul-load-3
+mul-load-3 c = search needs
+
+-- src/lib.rt:51:41
+mul-load-4 : tie.Need-mul-load-4
+mul-load-4 c = search needs
+
+-- src/lib.rt:51:27
+add-load-2 : tie.Need-add-load-2
+add-load-2 c = search needs
+
+-- src/lib.rt:51:27
+add-load-3 : tie.Need-add-load-3
+add-load-3 c = search needs
+
+-- src/lib.rt:51:9
+load-requires-2 : tie.Need-load-requires-2
+load-requires-2 c κs = search needs
+
+-- src/lib.rt:52:5
+same-text-requires : tie.Need-same-text-requires
+same-text-requires c κs = search needs
+
+-- src/lib.rt:46:1
+returns : tie.Need-returns
+unfolding nameIs
+returns c = cc
+
+pub is-name-spec : {M : Type 1} → statement M
+is-name-spec =
+    tie.close
+    (tie.spec
+    mul-load
+    mul-load-2
+    add-load
+    load-requires
+    mul-load-3
+    mul-load-4
+    add-load-2
+    add-load-3
+    load-requires-2
+    same-text-requires
+    returns)

@@ -1,0 +1,32 @@
+-- 64 bits as a float, a NaN set apart. By the test of the pattern. Assumes nothing.
+use mathlib.Core.Path.{refl, sym, ap, _∙_}
+use mathlib.Core.Bool.{not}
+use denote.Floats.{passes}
+use Rattle.types.specs.Floats.{floatOf}
+use Rattle.types.proofs.FloatFacts.{bits-nan}
+use borrow.Author.Needs.{needs}
+use Rattle.types.proofs.float_value.from_bits.Statement.{statement}
+use Rattle.types.proofs.float_value.from_bits.Tie as tie
+use Rattle.types.proofs.float_value.from_bits.Reads as reads
+use Rattle.types.proofs.float_value.from_bits.Lts as lts
+use Rattle.types.proofs.float_value.nan_bits.Reads as nan-bits-reads
+
+-- src/float_value.rt:38:8
+nan-bits-requires : tie.Need-nan-bits-requires
+nan-bits-requires c κs = search needs
+
+-- src/float_value.rt:39:9
+returns : tie.Need-returns
+returns c = bits-nan _ (sym (c .before .nan-bits .ensures) ∙ c .if1 .taken)
+
+-- src/float_value.rt:41:23
+float-from-bits-t3 : tie.Need-float-from-bits-t3
+float-from-bits-t3 c = passes _ (ap not (sym (c .before .nan-bits .ensures) ∙ c .if1 .left))
+
+-- src/float_value.rt:35:1
+returns-2 : tie.Need-returns-2
+unfolding floatOf
+returns-2 c = refl
+
+pub from-bits-spec : {M : Type 1} → statement M
+from-bits-spec = tie.close (tie.spec nan-bits-requires returns float-from-bits-t3 returns-2)

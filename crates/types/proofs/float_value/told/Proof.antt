@@ -1,0 +1,20 @@
+-- What differs from itself is a NaN: a law of `FloatFacts`. Assumes nothing.
+use mathlib.Core.Path.{refl}
+use Rattle.types.specs.Floats.{floatOf}
+use Rattle.types.proofs.FloatFacts.{told-nan}
+use Rattle.types.proofs.float_value.told.Statement.{statement}
+use Rattle.types.proofs.float_value.told.Tie as tie
+use Rattle.types.proofs.float_value.told.Reads as reads
+use Rattle.types.proofs.float_value.told.Lts as lts
+
+-- src/float_value.rt:49:9
+returns : tie.Need-returns
+unfolding floatOf
+returns c = refl
+
+-- src/float_value.rt:45:1
+returns-2 : tie.Need-returns-2
+returns-2 c = told-nan _ (c .if1 .left)
+
+pub told-spec : {M : Type 1} → statement M
+told-spec = tie.close (tie.spec returns returns-2)

@@ -1,0 +1,5 @@
+pub mod Casts
+pub mod Fits
+pub mod Floats
+pub mod Operators
+pub mod Sizes

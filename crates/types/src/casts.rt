@@ -1,0 +1,64 @@
+// can_cast: by class of source against class of target.
+ghost use mathlib.Core.Path.{_≡_};
+ghost use mathlib.Core.List.{List};
+ghost use Prim.Native.Nat.{ℕ, _+_, _*_, _≤_, _<_};
+ghost use lib.ListN.{length};
+ghost use Rattle.syntax.specs.Decode.{typeAt};
+ghost use Rattle.conversion.specs.Types.{castClass, can-cast};
+use crate::form::ADDRESS;
+use crate::form::ARRAY;
+use crate::form::CUSTOM;
+use crate::form::INT;
+use crate::form::form;
+use crate::form::is_short;
+
+// A row for each source, an entry for each target: other scalar, long Int, address, Null, rest.
+const CASTS: [[bool; 5]; 5] = [
+    [true, true, false, false, false],
+    [true, true, true, false, false],
+    [false, true, true, false, false],
+    [false, true, true, false, false],
+    [false, false, false, false, false],
+];
+
+fn cast_class(tree: &[u8], ty: usize) -> usize
+    requires { ⌜ ty * 32 + 32 ≤ length (now tree) ⌝ }
+    ensures { λ r. ⌜ (r < 5) × ((text : List ℕ) → r ≡ castClass (typeAt (now (tree .entry)) text ty)) ⌝ }
+{
+    let f = form(tree, ty);
+    if f == INT {
+        if is_short(tree, ty) {
+            return 0;
+        }
+        return 1;
+    }
+    if f == ADDRESS {
+        return 2;
+    }
+    if f == ARRAY {
+        return 4;
+    }
+    if f == CUSTOM {
+        return 4;
+    }
+    if f < INT {
+        return 3;
+    }
+    if f < ADDRESS {
+        return 0;
+    }
+    3
+}
+
+pub fn can_cast(tree: &[u8], from: usize, to: usize) -> bool
+    requires { ⌜ from * 32 + 32 ≤ length (now tree) ⌝ }
+    requires { ⌜ to * 32 + 32 ≤ length (now tree) ⌝ }
+    ensures { λ r. ⌜ ((text : List ℕ) → r ≡ can-cast (typeAt (now (tree .entry)) text) from to) ⌝ }
+{
+    if from == to {
+        return true;
+    }
+    let a = cast_class(tree, from);
+    let b = cast_class(tree, to);
+    CASTS[a][b]
+}
