@@ -15,16 +15,16 @@ use Rattle.syntax.specs.Syntax.{Block, Function, Program}
 use Rattle.syntax.specs.Decode.{program}
 use Rattle.conversion.specs.ConvertError as C
 use Rattle.conversion.specs.ConvertError.{Result, ok, err, number}
-use Rattle.conversion.specs.Ir.{StringEntry, IrProgram}
+use Rattle.conversion.specs.Ir.{texts, IrProgram}
 use Rattle.conversion.specs.Expressions.{Functions}
 use Rattle.conversion.specs.Functions.{get-all-functions, check-main}
 use Rattle.conversion.specs.Converter.{convertAll, convert}
 use Rattle.conversion.specs.Written.{Counts, Tables, Refused, Converted, refusedAt, answerOf, conversion, countsOf, tablesOf}
 use Rattle.tables.specs.Exists.{All, Byte}
 use Rattle.tables.specs.Read as Read
-use Rattle.tables.specs.Read.{Begin, bodyAt, textsOf}
+use Rattle.tables.specs.Read.{Begin, bodyAt}
 use Rattle.tables.proofs.ReadBack.{converted-reads-back}
-use Rattle.runs.specs.Shared.{Agrees, bodyOf, texts}
+use Rattle.conversion.specs.Shared.{Agrees, bodyOf}
 use Rattle.runs.proofs.Demand3.{demand3}
 use Rattle.accepted.specs.Demand3.{runnable, RunsAlike, Demand3}
 use Rattle.accepted.proofs.GoodLaws.{good-counts, good-well-formed}
@@ -66,11 +66,6 @@ found P needsMain ir e = go (get-all-functions (P .functions) []) refl e
 
 -- ---- the body that the buffers say is the one that runs
 
-texts-same : (l : List StringEntry) → textsOf l ≡ texts l
-unfolding textsOf texts
-texts-same [] = refl
-texts-same (e ∷ l) = rw (texts-same l)
-
 -- the body of a function that agrees, as it is read
 unfoldable bodyRead : {P : Program} {F : Functions} {ir : IrProgram} {i : ℕ} {f : Function} {b : Block} → Agrees P F ir i f b → Read.Body
 bodyRead {ir = ir} a = record {
@@ -84,7 +79,7 @@ bodyRead {ir = ir} a = record {
 
 body-said : {P : Program} {F : Functions} {ir : IrProgram} {i : ℕ} {f : Function} {b : Block} (a : Agrees P F ir i f b) → Read.bodyOf ir i ≡ some (bodyRead a)
 unfolding Read.bodyOf Read._>>=_ bodyRead
-body-said {ir = ir} a = rw (a .listed, a .body, texts-same (ir .strings)) refl
+body-said {ir = ir} a = rw (a .listed, a .body) refl
 
 runs-alike : (tree text : List ℕ) (needsMain : Bool) (c : Counts) (t : Tables) (ir : IrProgram) (F : Functions) (i : ℕ) (f : Function) (b : Block)
     → get-all-functions (program tree text .functions) [] ≡ ok F → bodyAt c t text i ≡ Read.bodyOf ir i → Agrees (program tree text) F ir i f b → RunsAlike tree text c t i f b

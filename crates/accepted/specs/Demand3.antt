@@ -18,10 +18,10 @@ use Rattle.conversion.specs.Written.{Counts, Tables, Converted, conversion}
 use Rattle.tables.specs.Exists.{All, Byte}
 use Rattle.tables.specs.Read as Read
 use Rattle.tables.specs.Read.{Begin, bodyAt}
-use Rattle.runs.specs.Rule.{Rule, Answers}
-use Rattle.runs.specs.TreeRun.{treeRun}
-use Rattle.runs.specs.BodyRun.{Body, Vars, bodyRun}
-use Rattle.runs.specs.Shared.{Shared, InPlace}
+use Rattle.conversion.specs.Rule.{Rule, Answers}
+use Rattle.conversion.specs.TreeRun.{treeRun}
+use Rattle.conversion.specs.BodyRun.{Body, Vars, bodyRun}
+use Rattle.conversion.specs.Shared.{Shared, InPlace}
 
 -- what a run takes of a body that was read from bytes; the return type is that of the function in the tree
 unfoldable pub runnable : Function → Read.Body → Body

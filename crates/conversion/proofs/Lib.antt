@@ -1,3 +1,4 @@
+pub mod Alike
 pub mod Trees
 pub mod Casts
 pub mod Marked

@@ -82,6 +82,10 @@ pub record StringEntry : Type 0 where
   pub len : ℕ
   pub text : Text
 
+unfoldable pub texts : List StringEntry → List Text
+texts [] = []
+texts (e ∷ l) = e .text ∷ texts l
+
 -- 'a float entry is its value with its short mark'
 pub record FloatEntry : Type 0 where
   pub bits : ℕ

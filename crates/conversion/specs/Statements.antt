@@ -119,16 +119,16 @@ convertOr r y left right = do
   dest ← new-var y
   _ ← label-id (logicRhs r)
   _ ← label-id (logicEnd r)
-  a ← left
-  emit (Copy dest a)
+  u ← left
+  emit (Copy dest u)
   target ← label-id (logicRhs r)
   emit (JumpIfNot (OVar dest) target)
   end ← label-id (logicEnd r)
   emit (Jump end)
   rhs ← label-id (logicRhs r)
   emit (Label rhs)
-  b ← right
-  emit (Copy dest b)
+  v ← right
+  emit (Copy dest v)
   stop ← label-id (logicEnd r)
   emit (Label stop)
   pure (OVar dest)

@@ -12,11 +12,11 @@ use Rattle.syntax.specs.Syntax.{Text, Expr, Statement, SDeclare, SInit, SReturn
 use Rattle.conversion.specs.Ir.{Instr, State, made, M, pure}
 use Rattle.conversion.specs.Scope.{Variable, Scope, withLoop}
 use Rattle.conversion.specs.Statements.{convert-statement, convert-block}
-use Rattle.runs.specs.Rule.{Calls, Rule}
-use Rattle.runs.specs.TreeRun.{Known, Values, Out, normal, bindS, runStatement, runBlock, knownAfter, initialise, giveBack}
-use Rattle.runs.specs.TreeRun as Tree
-use Rattle.runs.specs.BodyRun.{Vars}
-use Rattle.runs.specs.Shared.{opensS, opensB}
+use Rattle.conversion.specs.Rule.{Calls, Rule}
+use Rattle.conversion.specs.TreeRun.{Known, Values, Out, normal, bindS, runStatement, runBlock, knownAfter, initialise, giveBack}
+use Rattle.conversion.specs.TreeRun as Tree
+use Rattle.conversion.specs.BodyRun.{Vars}
+use Rattle.conversion.specs.Shared.{opensS, opensB}
 use Rattle.runs.proofs.Machine.{Code, at, count, count-append, Placed, placed-drop}
 use Rattle.runs.proofs.Invert.{Grow, grow-refl, grow-trans, inv, inv-pure}
 use Rattle.runs.proofs.Names.{known, Scoped, Sub, sub-refl, sub-trans}

@@ -14,10 +14,10 @@ use Rattle.conversion.specs.Ir.{VarId, Operand, Instr, Label, Jump, JumpIfNot, 
 use Rattle.conversion.specs.Scope.{Variable, Scope}
 use Rattle.conversion.specs.Expressions.{Functions}
 use Rattle.conversion.specs.Statements.{convert-expr, convert-if, convertIfElse, convert-break, convert-continue}
-use Rattle.runs.specs.Rule.{Calls, Rule, Datum, read}
-use Rattle.runs.specs.TreeRun.{Known, Values, Got, Out, normal, broke, continued, bindO, testO, evalExpr}
-use Rattle.runs.specs.BodyRun.{Vars, isLabel, operand}
-use Rattle.runs.specs.Shared.{bit, opensE}
+use Rattle.conversion.specs.Rule.{Calls, Rule, Datum, read}
+use Rattle.conversion.specs.TreeRun.{Known, Values, Got, Out, normal, broke, continued, bindO, testO, evalExpr}
+use Rattle.conversion.specs.BodyRun.{Vars, isLabel, operand}
+use Rattle.conversion.specs.Shared.{bit, opensE}
 use Rattle.runs.proofs.Machine.{Code, at, count, count-append, Placed, placed-drop, exec, step, dat}
 use Rattle.runs.proofs.Invert.{Grow, grow-refl, grow-trans, inv, inv-then, inv-pure, inv-emit, inv-label, joinE, joinS, AskedLabel}
 use Rattle.runs.proofs.Texts.{kinds-once}

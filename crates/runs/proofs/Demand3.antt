@@ -14,7 +14,7 @@ use Rattle.conversion.specs.Ir.{Instr, State, Out, made, failed, IrFunction, Ir
 use Rattle.conversion.specs.Expressions.{Functions}
 use Rattle.conversion.specs.Functions.{Pool, get-all-functions, check-main, convertBody, finished, convertFunction, convert-func}
 use Rattle.conversion.specs.Converter.{convertAll, convert}
-use Rattle.runs.specs.Shared.{Agrees, bodyOf, texts, opensB, WellFormed}
+use Rattle.conversion.specs.Shared.{Agrees, bodyOf, opensB, WellFormed}
 use Rattle.runs.proofs.Invert.{Prefix, prefix-refl, prefix-trans, Grow}
 use Rattle.runs.proofs.OneFunction.{one-function, body-grows}
 

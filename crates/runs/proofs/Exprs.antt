@@ -20,11 +20,11 @@ use Rattle.conversion.specs.Ir.{pure, VarId, Operand, OVar, OInt, OFloat, OBool
 use Rattle.conversion.specs.Scope.{Variable, Scope, findIn, find-variable}
 use Rattle.conversion.specs.Expressions.{Callee, CallFunction, CallCast, Functions, givesBool, accepted, operandsError, binaryType, filterOption, acceptsClass, operandClass, commonOf, nameType, unwrapOr, get-type, resolve-call, common-type}
 use Rattle.conversion.specs.Statements.{castOperand, refloat, fit-operand, parameterType, fitFrom, fit-args, emitArgs, convert-unary, convertAnd, convertOr, castFirst, convertOther, convertBinaryBy, callFunction, callValue, convert-expr, convert-args, nameOperand, sizeOperand}
-use Rattle.runs.specs.Rule.{Answer, gives, halt, Truth, Calls, Rule, Answers, Literal, IntLiteral, FloatLiteral, BoolLiteral, StringLiteral, NullLiteral, Datum, constant, computed, read, readAll}
-use Rattle.runs.specs.TreeRun.{Values, Got, value, stop, bindG, answered, test, typed, fitLiteral, fitComputed, fit, fitArguments, toBool, evalAnd, evalOr, evalOther, evalBinary, callWith, evalExpr, evalArgs, scopeOf, sizeDatum}
-use Rattle.runs.specs.TreeRun as Tree
-use Rattle.runs.specs.BodyRun.{Body, Vars, write, datum, isLabel, operand}
-use Rattle.runs.specs.Shared.{bit, opensE, opensA, logicOpens}
+use Rattle.conversion.specs.Rule.{Answer, gives, halt, Truth, Calls, Rule, Answers, Literal, IntLiteral, FloatLiteral, BoolLiteral, StringLiteral, NullLiteral, Datum, constant, computed, read, readAll}
+use Rattle.conversion.specs.TreeRun.{Values, Got, value, stop, bindG, answered, test, typed, fitLiteral, fitComputed, fit, fitArguments, toBool, evalAnd, evalOr, evalOther, evalBinary, callWith, evalExpr, evalArgs, scopeOf, sizeDatum}
+use Rattle.conversion.specs.TreeRun as Tree
+use Rattle.conversion.specs.BodyRun.{Body, Vars, write, datum, isLabel, operand}
+use Rattle.conversion.specs.Shared.{bit, opensE, opensA, logicOpens}
 use Rattle.runs.proofs.Machine.{Code, Cfg, at, ended, count, count-append, goto, Placed, placed-drop, put, branch, exec, step, dat, dats, argsOf, push}
 use Rattle.runs.proofs.Invert.{Prefix, Grow, grow-refl, grow-trans, Split, inv, inv-then, inv-pure, inv-emit, inv-lift, inv-last, inv-new, inv-label, joinE, joinS, AskedLabel, noFloat, inv-bits, prefix-getD, prefix-refl, prefix-trans, position-holds, found-in, nextVar, withVar, withVar-length, withVar-grow, Asked, ask-label, ask-string, ask-float}
 use Rattle.runs.proofs.Texts.{kinds-once, float-refl}

@@ -1,4 +1,3 @@
-pub mod Example
 pub mod Machine
 pub mod Place
 pub mod Invert

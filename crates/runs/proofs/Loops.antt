@@ -18,11 +18,11 @@ use Rattle.conversion.specs.Ir.{VarId, Operand, OVar, OInt, Instr, Copy, Binary
 use Rattle.conversion.specs.Scope.{Variable, Scope, findIn, find-variable, withVariable, withLoop}
 use Rattle.conversion.specs.Expressions.{Functions}
 use Rattle.conversion.specs.Statements.{convert-expr, fit-operand, convert-while-loop, forLoop, forInt, forKnown, convert-for-loop}
-use Rattle.runs.specs.Rule.{Calls, Rule, Literal, IntLiteral, Datum, constant, computed, read}
-use Rattle.runs.specs.TreeRun as Tree
-use Rattle.runs.specs.TreeRun.{Known, Values, set, typeIn, Got, Out, normal, stopped, unfinished, bare, bindO, testO, bindT, fit, evalExpr, turns, rounds, forOver}
-use Rattle.runs.specs.BodyRun.{Vars, write, datum, isLabel, operand}
-use Rattle.runs.specs.Shared.{bit, opensE}
+use Rattle.conversion.specs.Rule.{Calls, Rule, Literal, IntLiteral, Datum, constant, computed, read}
+use Rattle.conversion.specs.TreeRun as Tree
+use Rattle.conversion.specs.TreeRun.{Known, Values, set, typeIn, Got, Out, normal, stopped, unfinished, bare, bindO, testO, bindT, fit, evalExpr, turns, rounds, forOver}
+use Rattle.conversion.specs.BodyRun.{Vars, write, datum, isLabel, operand}
+use Rattle.conversion.specs.Shared.{bit, opensE}
 use Rattle.runs.proofs.Machine.{Code, at, write-same, write-other, count, count-append, goto, Placed, placed-drop, branch, exec, step, dat, here, one}
 use Rattle.runs.proofs.Invert.{Grow, grow-refl, grow-trans, inv, inv-then, inv-pure, inv-emit, inv-lift, inv-new, inv-label, quiet, joinE, joinS, AskedLabel, nextVar, withVar, withVar-length, withVar-grow}
 use Rattle.runs.proofs.Texts.{kinds-once}

@@ -11,9 +11,9 @@ use native.Mathlib.Omega.{arith}
 use lib.Dec.{eqb, T, eqb→eq, eqb-refl}
 use Rattle.laws.specs.Fix.{pick}
 use Rattle.conversion.specs.Ir.{VarId, Operand, OVar, OInt, OFloat, OBool, ODataAddress, ONull, Instr, Copy, Unary, Binary, Cast, Zero, Arg, Call, Label, Jump, JumpIfNot, Return, Comment}
-use Rattle.runs.specs.Rule.{Answer, gives, halt, Truth, holds, fails, halts, Typed, Calls, Rule, Reply, comes, pending, Answers, Datum, constant, computed, read, readAll, Ending, passed, returns, stopped}
-use Rattle.runs.specs.BodyRun.{Body, Vars, write, datum, isLabel, operand}
-use Rattle.runs.specs.Shared.{bit}
+use Rattle.conversion.specs.Rule.{Answer, gives, halt, Truth, holds, fails, halts, Typed, Calls, Rule, Reply, comes, pending, Answers, Datum, constant, computed, read, readAll, Ending, passed, returns, stopped}
+use Rattle.conversion.specs.BodyRun.{Body, Vars, write, datum, isLabel, operand}
+use Rattle.conversion.specs.Shared.{bit}
 
 abbrev pub Code : Type 0
 Code = List Instr

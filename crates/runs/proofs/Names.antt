@@ -12,9 +12,9 @@ use Rattle.conversion.specs.ConvertError.{Result, ok, err, _>>=_, AlreadyDeclar
 use Rattle.conversion.specs.Ir.{VarId, sameText}
 use Rattle.conversion.specs.Scope.{Variable, Scope, findIn, find-variable, withVariable, declareNew, declare}
 use Rattle.conversion.specs.Expressions.{Callee, Functions, TypedArg, nameType, unaryType, binaryType, commonOf, resolveTyped, valueType, return-type, get-type, get-argument-types, resolve-call, common-type}
-use Rattle.runs.specs.TreeRun as Tree
-use Rattle.runs.specs.TreeRun.{Known, Values, set, typeIn, scopeOf}
-use Rattle.runs.specs.BodyRun.{Vars, write}
+use Rattle.conversion.specs.TreeRun as Tree
+use Rattle.conversion.specs.TreeRun.{Known, Values, set, typeIn, scopeOf}
+use Rattle.conversion.specs.BodyRun.{Vars, write}
 use Rattle.runs.proofs.Machine.{write-same, write-other}
 use Rattle.runs.proofs.Texts.{text-refl, SameName, one, two, same-name, set-same, set-other}
 

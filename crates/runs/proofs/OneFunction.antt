@@ -12,16 +12,16 @@ use lib.ListN.{length, getElem?}
 use Rattle.laws.specs.Fix.{pick}
 use Rattle.syntax.specs.Syntax.{Text, Block, Param, Function, Program, nullType}
 use Rattle.conversion.specs.ConvertError.{ConvertErrorKind, MissingReturn}
-use Rattle.conversion.specs.Ir.{Instr, StringEntry, FloatEntry, State, made, M, pure, fail}
+use Rattle.conversion.specs.Ir.{Instr, StringEntry, texts, FloatEntry, State, made, M, pure, fail}
 use Rattle.conversion.specs.Types.{isSome}
 use Rattle.conversion.specs.Scope.{Variable, Scope, findIn, find-variable, withVariable}
 use Rattle.conversion.specs.Expressions.{Functions}
 use Rattle.conversion.specs.Statements.{convert-block}
 use Rattle.conversion.specs.Functions.{declareParams, convertBody, always-returns}
-use Rattle.runs.specs.Rule.{Answer, halt, Truth, halts, Calls, Rule, comes, Answers, NullContent, passed}
-use Rattle.runs.specs.TreeRun.{Known, Values, set, Out, runBlock, parametersKnown, parameterValues, treeRun}
-use Rattle.runs.specs.BodyRun.{Vars, bodyRun}
-use Rattle.runs.specs.Shared.{endT, Shared, InPlace, texts, opensB}
+use Rattle.conversion.specs.Rule.{Answer, halt, Truth, halts, Calls, Rule, comes, Answers, NullContent, passed}
+use Rattle.conversion.specs.TreeRun.{Known, Values, set, Out, runBlock, parametersKnown, parameterValues, treeRun}
+use Rattle.conversion.specs.BodyRun.{Vars, bodyRun}
+use Rattle.conversion.specs.Shared.{endT, Shared, InPlace, opensB}
 use Rattle.runs.proofs.Machine.{Code, at, count, Placed, placed}
 use Rattle.runs.proofs.Invert.{Prefix, prefix-refl, prefix-trans, Grow, grow-refl, grow-trans, inv, inv-pure, inv-new, joinS, nextVar, withVar, withVar-length, withVar-grow}
 use Rattle.runs.proofs.Texts.{SameName, one, two, same-name, set-same, set-other}

@@ -7,9 +7,9 @@ use Prim.Native.Nat.{ℕ, zero, suc, _+_, _≤_, _<_}
 use mathlib.Core.Bool.{Bool, true, false}
 use lib.ListN.{getElem?, drop}
 use Rattle.conversion.specs.Ir.{VarId, Operand, Instr, Copy, Unary, Binary, Cast, Zero, Arg, Call, Label, Jump, JumpIfNot, Return, Comment}
-use Rattle.runs.specs.Rule.{Answer, gives, halt, Truth, holds, fails, halts, Typed, Calls, Rule, Reply, comes, pending, Answers, Ending}
-use Rattle.runs.specs.BodyRun as P
-use Rattle.runs.specs.BodyRun.{Body, Vars, isLabel, labelPlace, Spot, spot, over, waits, putTo, dropTo, putReply, dropReply, branchTo, finishWith, execute, fetch}
+use Rattle.conversion.specs.Rule.{Answer, gives, halt, Truth, holds, fails, halts, Typed, Calls, Rule, Reply, comes, pending, Answers, Ending}
+use Rattle.conversion.specs.BodyRun as P
+use Rattle.conversion.specs.BodyRun.{Body, Vars, isLabel, labelPlace, Spot, spot, over, waits, putTo, dropTo, putReply, dropReply, branchTo, finishWith, execute, fetch}
 use Rattle.runs.proofs.Machine.{Code, Queue, Cfg, at, ended, waiting, goto, put, pass, putR, passR, branch, finish, exec, step, steps}
 
 -- a place as the rest from there on

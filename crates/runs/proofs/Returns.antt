@@ -9,9 +9,9 @@ use native.Mathlib.Omega.{arith}
 use Rattle.syntax.specs.Syntax.{Expr, Statement, SDeclare, SInit, SReturn, SCall, SIf, SIfElse, SWhile, SFor, SBreak, SContinue, Block, done, next, Function, Program}
 use Rattle.conversion.specs.Expressions.{Functions}
 use Rattle.conversion.specs.Functions.{statementReturns, always-returns}
-use Rattle.runs.specs.Rule.{Truth, holds, fails, halts, Calls, Rule, Answers, passed}
-use Rattle.runs.specs.TreeRun.{Known, Values, Got, value, stop, wait, Out, normal, broke, continued, returned, stopped, unfinished, bindO, bindS, testO, giveBack, runStatement, runBlock, knownAfter}
-use Rattle.runs.specs.Shared.{endT}
+use Rattle.conversion.specs.Rule.{Truth, holds, fails, halts, Calls, Rule, Answers, passed}
+use Rattle.conversion.specs.TreeRun.{Known, Values, Got, value, stop, wait, Out, normal, broke, continued, returned, stopped, unfinished, bindO, bindS, testO, giveBack, runStatement, runBlock, knownAfter}
+use Rattle.conversion.specs.Shared.{endT}
 
 abbrev pub NotNormal : {W : Type 0} → Out W → Type 0
 NotNormal (normal σ h) = ⊥

@@ -11,13 +11,13 @@ use native.Mathlib.Omega.{arith}
 use lib.Dec.{eqb}
 use lib.ListN.{length, getD}
 use Rattle.syntax.specs.Syntax.{Function, Program}
-use Rattle.conversion.specs.Ir.{VarId, Operand, OVar, OInt, OFloat, OBool, ODataAddress, ONull, Instr, Label, LabelName, loopStart, StringEntry, FloatEntry, State, made, M, position, sameLabel, sameText, sameFloat}
+use Rattle.conversion.specs.Ir.{VarId, Operand, OVar, OInt, OFloat, OBool, ODataAddress, ONull, Instr, Label, LabelName, loopStart, StringEntry, texts, FloatEntry, State, made, M, position, sameLabel, sameText, sameFloat}
 use Rattle.conversion.specs.Scope.{Variable}
 use Rattle.conversion.specs.Expressions.{Functions}
-use Rattle.runs.specs.Rule.{Answer, gives, halt, Truth, holds, fails, halts, Calls, Rule, Reply, comes, pending, Answers, Datum, constant, computed, read, Ending, stopped}
-use Rattle.runs.specs.TreeRun.{Values, Got, value, stop, wait, bindG, answered, bare, replied, test}
-use Rattle.runs.specs.BodyRun.{Body, Vars, write, datum, operand}
-use Rattle.runs.specs.Shared.{bit, texts}
+use Rattle.conversion.specs.Rule.{Answer, gives, halt, Truth, holds, fails, halts, Calls, Rule, Reply, comes, pending, Answers, Datum, constant, computed, read, Ending, stopped}
+use Rattle.conversion.specs.TreeRun.{Values, Got, value, stop, wait, bindG, answered, bare, replied, test}
+use Rattle.conversion.specs.BodyRun.{Body, Vars, write, datum, operand}
+use Rattle.conversion.specs.Shared.{bit}
 use Rattle.runs.proofs.Machine.{Code, Queue, Cfg, at, ended, waiting, Same, is, isnt, same, write-same, write-other, count, goto, Placed, put, putR, branch, step, To, here, one, to-trans, to-label, dat, dats}
 use Rattle.runs.proofs.Invert.{Prefix, prefix-trans, prefix-length, Grow, Asked, position-holds, found-in, noFloat}
 use Rattle.runs.proofs.Texts.{label-eq, label-refl, text-eq, text-refl, float-eq, float-refl}

@@ -11,10 +11,10 @@ use lib.Dec.{T}
 use lib.ListN.{length}
 use Rattle.conversion.specs.Ir.{VarId, Operand, Instr, LabelName, loopStart, loopEnd, State, made, M}
 use Rattle.conversion.specs.Scope.{Variable, Scope}
-use Rattle.runs.specs.Rule.{Answer, gives, halt, Truth, holds, fails, halts, Calls, Rule, Reply, comes, pending, Answers, Datum, Ending, passed, returns}
-use Rattle.runs.specs.Rule as Rule
-use Rattle.runs.specs.TreeRun.{Known, Values, Got, value, stop, wait, bare, handed, Out, normal, broke, continued, returned, stopped, unfinished, bindO, bindS, bindT, testO}
-use Rattle.runs.specs.BodyRun.{Vars, write}
+use Rattle.conversion.specs.Rule.{Answer, gives, halt, Truth, holds, fails, halts, Calls, Rule, Reply, comes, pending, Answers, Datum, Ending, passed, returns}
+use Rattle.conversion.specs.Rule as Rule
+use Rattle.conversion.specs.TreeRun.{Known, Values, Got, value, stop, wait, bare, handed, Out, normal, broke, continued, returned, stopped, unfinished, bindO, bindS, bindT, testO}
+use Rattle.conversion.specs.BodyRun.{Vars, write}
 use Rattle.runs.proofs.Machine.{Code, Queue, Cfg, at, ended, waiting, count, goto, Placed, put, pass, passR, branch, finish, step, to-trans, one}
 use Rattle.runs.proofs.Invert.{Grow}
 use Rattle.runs.proofs.Names.{known, Scoped, Sub, Frame, Agree, agree-sub}

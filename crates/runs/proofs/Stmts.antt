@@ -18,11 +18,11 @@ use Rattle.conversion.specs.Types.{fits, range-error}
 use Rattle.conversion.specs.Scope.{Variable, Scope, findIn, find-variable, withVariable, declare}
 use Rattle.conversion.specs.Expressions.{Callee, CallFunction, CallCast, Functions, get-type, resolve-call}
 use Rattle.conversion.specs.Statements.{fit-operand, convert-expr, convert-args, convert-cond, checkFits, zeroValue, convert-declare, assignTo, convert-assign, initNew, initBy, convert-init, returnAs, convert-return, callStatement, convert-call, convert-if, convertIfElse, checkBound, convert-break, convert-continue}
-use Rattle.runs.specs.Rule.{Answer, gives, halt, Truth, Calls, Rule, Answers, Literal, IntLiteral, FloatLiteral, BoolLiteral, StringLiteral, NullLiteral, Datum, constant, computed, read, readAll}
-use Rattle.runs.specs.TreeRun as Tree
-use Rattle.runs.specs.TreeRun.{Known, Values, set, typeIn, scopeOf, Got, value, stop, bindG, bare, handed, Out, normal, broke, continued, returned, stopped, bindO, bindS, testO, typedO, fit, fitArguments, zeroOf, evalExpr, evalArgs, store, newType, introduce, initialise, giveBack, callOnly, withNew, knownInit}
-use Rattle.runs.specs.BodyRun.{Body, Vars, write, datum, isLabel, operand}
-use Rattle.runs.specs.Shared.{bit, opensE, opensA}
+use Rattle.conversion.specs.Rule.{Answer, gives, halt, Truth, Calls, Rule, Answers, Literal, IntLiteral, FloatLiteral, BoolLiteral, StringLiteral, NullLiteral, Datum, constant, computed, read, readAll}
+use Rattle.conversion.specs.TreeRun as Tree
+use Rattle.conversion.specs.TreeRun.{Known, Values, set, typeIn, scopeOf, Got, value, stop, bindG, bare, handed, Out, normal, broke, continued, returned, stopped, bindO, bindS, testO, typedO, fit, fitArguments, zeroOf, evalExpr, evalArgs, store, newType, introduce, initialise, giveBack, callOnly, withNew, knownInit}
+use Rattle.conversion.specs.BodyRun.{Body, Vars, write, datum, isLabel, operand}
+use Rattle.conversion.specs.Shared.{bit, opensE, opensA}
 use Rattle.runs.proofs.Machine.{Code, Cfg, at, count, count-append, Placed, placed-drop, put, exec, step, dat, dats, argsOf, push}
 use Rattle.runs.proofs.Invert.{Grow, grow-refl, grow-trans, Split, inv, inv-then, inv-pure, inv-emit, inv-lift, inv-last, inv-new, inv-label, quiet, Quiet, joinE, joinS, AskedLabel, noFloat, nextVar, withVar, withVar-length, withVar-grow, Asked, ask-float}
 use Rattle.runs.proofs.Texts.{kinds-once}

@@ -11,12 +11,12 @@ use mathlib.Core.Bool.{Bool, true, false}
 use lib.ListN.{getElem?, drop}
 use Rattle.conversion.specs.Ir.{VarId, Operand, Instr, Copy, Unary, Binary, Cast, Zero, Arg, Call, Label, Jump, JumpIfNot, Return, Comment}
 use Rattle.conversion.specs.Scope.{Variable}
-use Rattle.runs.specs.Rule.{Answer, gives, halt, Truth, holds, fails, halts, Typed, Calls, Rule, Reply, comes, pending, Answers, Ending, passed, returns, stopped}
-use Rattle.runs.specs.TreeRun as Tree
-use Rattle.runs.specs.TreeRun.{Out, normal, broke, continued, returned, unfinished}
-use Rattle.runs.specs.BodyRun as Body
-use Rattle.runs.specs.BodyRun.{Vars, Spot, spot, over, waits, bodyRun}
-use Rattle.runs.specs.Shared.{callsT, endT, callsB, endB, Shared}
+use Rattle.conversion.specs.Rule.{Answer, gives, halt, Truth, holds, fails, halts, Typed, Calls, Rule, Reply, comes, pending, Answers, Ending, passed, returns, stopped}
+use Rattle.conversion.specs.TreeRun as Tree
+use Rattle.conversion.specs.TreeRun.{Out, normal, broke, continued, returned, unfinished}
+use Rattle.conversion.specs.BodyRun as Body
+use Rattle.conversion.specs.BodyRun.{Vars, Spot, spot, over, waits, bodyRun}
+use Rattle.conversion.specs.Shared.{callsT, endT, callsB, endB, Shared}
 use Rattle.runs.proofs.Machine.{Code, Queue, Cfg, at, ended, waiting, put, pass, putR, passR, branch, finish, exec, step, steps, steps-add, To}
 use Rattle.runs.proofs.Place.{seen, steps-seen}
 use Rattle.runs.proofs.Sim.{Ctx, body, Goes, go1, goes}

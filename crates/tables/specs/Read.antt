@@ -13,7 +13,7 @@ use mir.Val.{toZ}
 use Rattle.laws.specs.Fix.{pick}
 use Rattle.records.specs.Words.{byteAt, wordAt, textAt, none}
 use Rattle.syntax.specs.Syntax.{Text, unaryOps, binaryOps}
-use Rattle.conversion.specs.Ir.{VarId, Operand, OVar, OInt, OFloat, OBool, ODataAddress, ONull, Instr, Copy, Unary, Binary, Cast, Zero, Arg, Call, Label, Jump, JumpIfNot, Return, Comment, LabelName, StringEntry, FloatEntry, IrProgram}
+use Rattle.conversion.specs.Ir.{VarId, Operand, OVar, OInt, OFloat, OBool, ODataAddress, ONull, Instr, Copy, Unary, Binary, Cast, Zero, Arg, Call, Label, Jump, JumpIfNot, Return, Comment, LabelName, StringEntry, texts, FloatEntry, IrProgram}
 use Rattle.conversion.specs.Written.{Fields, tagOf, Tables, Counts}
 
 -- ---- reading
@@ -294,13 +294,9 @@ pub record Body : Type 0 where
   pub strings : List Text
   pub floats : List FloatEntry
 
-unfoldable pub textsOf : List StringEntry → List Text
-textsOf [] = []
-textsOf (e ∷ l) = e .text ∷ textsOf l
-
 -- the body of function i, counted in the functions' table; `nothing` where there is no such function or it has no body
 unfoldable pub bodyAt : Counts → Tables → Text → ℕ → Option Body
-unfolding _>>=_ check functionAt part variableAt labelAt instrAt stringAt floatAt textsOf
+unfolding _>>=_ check functionAt part variableAt labelAt instrAt stringAt floatAt texts
 bodyAt c t text i = do
   _ ← check (ltb i (c .functions))
   f ← functionAt (drop (i * 32) (t .functions))
@@ -310,7 +306,7 @@ bodyAt c t text i = do
   instrs ← part (instrAt vars) 32 (t .instructions) (f .firstInstr) (f .instrs)
   strings ← part (stringAt text) 8 (t .strings) 0 (c .strings)
   floats ← part floatAt 16 (t .floats) 0 (c .floats)
-  some (record { func = f .func; instrs = instrs; vars = vars; labels = labels; strings = textsOf strings; floats = floats })
+  some (record { func = f .func; instrs = instrs; vars = vars; labels = labels; strings = texts strings; floats = floats })
 
 -- ---- what is to be read
 
@@ -330,8 +326,8 @@ pub record Begin (w t : Tables) : Type 0 where
 
 -- the body of function i of a program
 unfoldable pub bodyOf : IrProgram → ℕ → Option Body
-unfolding _>>=_ textsOf
+unfolding _>>=_ texts
 bodyOf p i = do
   f ← getElem? (p .funcs) i
   c ← f .body
-  some (record { func = f .func; instrs = c; vars = f .vars; labels = f .labels; strings = textsOf (p .strings); floats = p .floats })
+  some (record { func = f .func; instrs = c; vars = f .vars; labels = f .labels; strings = texts (p .strings); floats = p .floats })

@@ -9,13 +9,13 @@ use lib.Dec.{eqb}
 use lib.ListN.{getElem?, length}
 use Rattle.laws.specs.Fix.{pick}
 use Rattle.syntax.specs.Syntax.{Text, BinaryOp, Or, And, BitOr, BitXor, BitAnd, Eq, NotEq, Lt, Le, Gt, Ge, Shl, Shr, Add, Sub, Mul, Div, Rem, Expr, EInt, EFloat, EStr, EBool, EName, ENull, ESizeOf, EUnary, EBinary, ECall, Args, noArgs, Value, ToType, Statement, SDeclare, SInit, SReturn, SCall, SIf, SIfElse, SWhile, SFor, SBreak, SContinue, Block, done, next, Function, Program}
 use Rattle.conversion.specs.ConvertError.{Result, ok, err}
-use Rattle.conversion.specs.Ir.{Instr, StringEntry, IrFunction, IrProgram}
+use Rattle.conversion.specs.Ir.{Instr, texts, IrFunction, IrProgram}
 use Rattle.conversion.specs.Expressions.{Functions}
-use Rattle.runs.specs.Rule.{Typed, Calls, Rule, Answers, Ending, passed, returns, stopped}
-use Rattle.runs.specs.TreeRun as Tree
-use Rattle.runs.specs.TreeRun.{Out, normal, broke, continued, returned, unfinished, treeRun}
-use Rattle.runs.specs.BodyRun.{Body, Vars, Spot, spot, over, waits, bodyRun}
+use Rattle.conversion.specs.Rule.{Typed, Calls, Rule, Answers, Ending, passed, returns, stopped}
+use Rattle.conversion.specs.TreeRun as Tree
+use Rattle.conversion.specs.TreeRun.{Out, normal, broke, continued, returned, unfinished, treeRun}
+use Rattle.conversion.specs.BodyRun.{Body, Vars, Spot, spot, over, waits, bodyRun}
 
 -- ---- what is seen of a run: the calls so far, and how it ended
 
@@ -62,10 +62,6 @@ pub record Shared {W : Type 0} (tree : ℕ → Out W) (body : ℕ → Spot W) (r
 -- 'The body run starts with parameters in place, anything in other variables'
 abbrev pub InPlace : {W : Type 0} → List W → Vars W → Type 0
 InPlace {W} vs ρ = (i : ℕ) (v : W) → getElem? vs i ≡ some v → ρ i ≡ v
-
-unfoldable pub texts : List StringEntry → List Text
-texts [] = []
-texts (e ∷ l) = e .text ∷ texts l
 
 -- a body's instructions c with the tables of the program that was made
 unfoldable pub bodyOf : Function → List Instr → IrProgram → Body

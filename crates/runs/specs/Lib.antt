@@ -1,4 +1,0 @@
-pub mod Rule
-pub mod TreeRun
-pub mod BodyRun
-pub mod Shared
