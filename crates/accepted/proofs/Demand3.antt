@@ -1,16 +1,14 @@
 -- Demand 3 on bytes. The answer is taken back to the program behind it, whose bodies the buffers say and whose runs share all that is seen.
 -- By the theorem over the definitions, the round trip of the tables, and what a good tree has. Assumes nothing.
 use mathlib.Core.Path.{_≡_, refl, sym, _∙_, subst}
-use Prim.Native.Nat.{ℕ, _<_}
+use Prim.Native.Nat.{ℕ}
 use mathlib.Core.Bool.{Bool, true, false}
-use mathlib.Core.List.{List, [], _∷_}
-use mathlib.Core.Option.{Option, none as nothing, some}
+use mathlib.Core.List.{List, []}
+use mathlib.Core.Option.{some}
 use native.Mathlib.Omega.{arith}
 use lib.Dec.{eqb}
-use lib.ListN.{length, getElem?}
 use Rattle.laws.specs.Fix.{pick}
-use Rattle.records.specs.Words.{wordOf, records, none, spanStart, spanEnd}
-use Rattle.records.specs.Good.{Good}
+use Rattle.records.specs.Words.{wordOf, none, spanStart, spanEnd}
 use Rattle.syntax.specs.Syntax.{Block, Function, Program}
 use Rattle.syntax.specs.Decode.{program}
 use Rattle.conversion.specs.ConvertError as C
@@ -20,7 +18,6 @@ use Rattle.conversion.specs.Expressions.{Functions}
 use Rattle.conversion.specs.Functions.{get-all-functions, check-main}
 use Rattle.conversion.specs.Converter.{convertAll, convert}
 use Rattle.conversion.specs.Written.{Counts, Tables, Refused, Converted, refusedAt, answerOf, conversion, countsOf, tablesOf}
-use Rattle.tables.specs.Exists.{All, Byte}
 use Rattle.tables.specs.Read as Read
 use Rattle.tables.specs.Read.{Begin, bodyAt}
 use Rattle.tables.proofs.ReadBack.{converted-reads-back}

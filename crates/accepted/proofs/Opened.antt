@@ -1,6 +1,6 @@
 -- In a tree where each record is referred to at most once, a function's body meets each record that opens labels at most once.
 -- Each record opens what the records that it refers to open, and itself; all is summed up twice, by the one that refers and the one referred to.
-use mathlib.Core.Path.{_≡_, refl, sym, _∙_}
+use mathlib.Core.Path.{_≡_, refl, sym}
 use mathlib.Core.Bool.{Bool, true, false}
 use mathlib.Core.List.{List, [], _∷_, _++_}
 use mathlib.Core.Option.{Option, none as nothing, some}

@@ -4,20 +4,20 @@ use mathlib.Core.Path.{_≡_, refl}
 use Prim.Native.Nat.{ℕ, zero, suc, _+_}
 use mathlib.Core.Bool.{Bool, true, false}
 use mathlib.Core.List.{List, [], _∷_}
-use mathlib.Core.Option.{Option, none, some}
+use mathlib.Core.Option.{none, some}
 use lib.Dec.{eqb, ltb}
-use lib.IntN.{ℤ, pos, negsuc}
+use lib.IntN.{pos, negsuc}
 use Rattle.laws.specs.Fix.{pick}
-use Rattle.syntax.specs.Syntax.{Text, Ty, TInt, TBool, TNull, UnaryOp, BinaryOp, Or, And, BitOr, BitXor, BitAnd, Eq, NotEq, Lt, Le, Gt, Ge, Shl, Shr, Add, Sub, Mul, Div, Rem, Expr, EInt, EName, EBinary, ECall, noArgs, Value, Statement, SReturn, SCall, SIf, SFor, SContinue, Block, done, next, Param, Function, Program, boolType}
+use Rattle.syntax.specs.Syntax.{Text, Ty, TInt, TBool, TNull, BinaryOp, Or, And, BitOr, BitXor, BitAnd, Eq, NotEq, Lt, Le, Gt, Ge, Shl, Shr, Add, Sub, Mul, Div, Rem, EInt, EName, EBinary, ECall, noArgs, Value, SReturn, SCall, SIf, SFor, SContinue, Block, done, next, Function, Program, boolType}
 use Rattle.conversion.specs.ConvertError.{Result, ok, err}
-use Rattle.conversion.specs.Ir.{VarId, OVar, OInt, Instr, Copy, Binary, Arg, Call, Label, JumpIfNot, Return, Comment, texts, IrFunction, IrProgram}
+use Rattle.conversion.specs.Ir.{OVar, OInt, Instr, Copy, Binary, Arg, Call, Label, JumpIfNot, Return, Comment, texts, IrFunction, IrProgram}
 use Rattle.conversion.specs.Types.{onInt}
 use Rattle.conversion.specs.Statements.{parameterType, asCall}
 use Rattle.conversion.specs.Expressions.{Functions, get-type, common-type, unwrapOr, resolve-call}
 use Rattle.conversion.specs.Functions.{get-all-functions}
 use Rattle.conversion.specs.Converter.{convert}
 use Rattle.conversion.specs.TreeRun as Tree
-use Rattle.conversion.specs.Rule.{content, literalType, read, readAll, Answer, gives, halt, Truth, holds, fails, Typed, Calls, Content, IntContent, FloatContent, BoolContent, StringContent, NullContent, Rule, asked, Ending, passed, returns}
+use Rattle.conversion.specs.Rule.{content, literalType, read, readAll, gives, holds, fails, Typed, Calls, Content, IntContent, FloatContent, BoolContent, StringContent, NullContent, Rule, asked, Ending, passed, returns}
 use Rattle.conversion.specs.TreeRun.{Out, treeRun, parametersKnown, parameterValues, set, runStatement, bindS, bindO, bindT, testO, giveBack, evalExpr, typed, typedO, scopeOf, evalBinary, evalAnd, evalOr, toBool, answered, bindG, test, evalOther, replied, handed, fit, fitLiteral, fitComputed, bare, callWith, fitArguments, forOver, forInt, forLoop, rounds, typeIn, knownAfter, callStatement, callOnly}
 use Rattle.conversion.specs.BodyRun.{Vars, Spot, bodyRun, steps, step, fetch, execute, putTo, dropTo, putReply, dropReply, branchTo, finishWith, operand, datum, write, labelPlace, isLabel}
 use Rattle.conversion.specs.Shared.{bit, callsT, endT, callsB, endB, bodyOf}

@@ -6,16 +6,16 @@ use mathlib.Core.Bool.{Bool, true, false, not, _&&_}
 use mathlib.Core.List.{List, [], _∷_, _++_}
 use mathlib.Core.Option.{Option, none, some}
 use lib.Dec.{eqb}
-use lib.IntN.{ℤ, pos}
+use lib.IntN.{pos}
 use Rattle.laws.specs.Fix.{pick}
-use Rattle.syntax.specs.Syntax.{Text, Ty, TInt, TFloat, TBool, TChar, TByte, TAddress, TArray, TCustom, TNull, UnaryOp, BinaryOp, Or, And, BitOr, BitXor, BitAnd, Eq, NotEq, Lt, Le, Gt, Ge, Shl, Shr, Add, Sub, Mul, Div, Rem, Expr, EInt, EFloat, EStr, EBool, EName, ENull, ESizeOf, EUnary, EBinary, ECall, Args, noArgs, Value, ToType, Statement, SDeclare, SInit, SReturn, SCall, SIf, SIfElse, SWhile, SFor, SBreak, SContinue, Block, done, next, Param, Function, Program, boolType, nullType, addressOfNull}
+use Rattle.syntax.specs.Syntax.{Text, Ty, TInt, TFloat, TBool, TChar, TByte, TAddress, TArray, TCustom, TNull, BinaryOp, Or, And, BitOr, BitXor, BitAnd, Eq, NotEq, Lt, Le, Gt, Ge, Shl, Shr, Add, Sub, Mul, Div, Rem, Expr, EInt, EFloat, EStr, EBool, EName, ENull, ESizeOf, EUnary, EBinary, ECall, Args, noArgs, Value, ToType, Statement, SDeclare, SInit, SReturn, SCall, SIf, SIfElse, SWhile, SFor, SBreak, SContinue, Block, done, next, Param, Function, Program, boolType, nullType, addressOfNull}
 use Rattle.conversion.specs.ConvertError.{Result, ok, err}
 use Rattle.conversion.specs.Ir.{sameText}
 use Rattle.conversion.specs.Types.{onInt, onFloat, isFloat, size}
 use Rattle.conversion.specs.Scope.{Variable, Scope}
 use Rattle.conversion.specs.Expressions.{Callee, CallFunction, CallCast, Functions, unwrapOr, get-type, resolve-call, common-type}
 use Rattle.conversion.specs.Statements.{parameterType, asCall}
-use Rattle.conversion.specs.Rule.{Answer, gives, halt, Truth, holds, fails, halts, Typed, Calls, Rule, Reply, comes, pending, Answers, Literal, IntLiteral, FloatLiteral, BoolLiteral, StringLiteral, NullLiteral, NullContent, Datum, constant, computed, read, readAll}
+use Rattle.conversion.specs.Rule.{Answer, gives, halt, Truth, holds, fails, halts, Calls, Rule, Reply, comes, pending, Answers, Literal, IntLiteral, FloatLiteral, BoolLiteral, StringLiteral, NullLiteral, NullContent, Datum, constant, computed, read, readAll}
 
 -- a name that is known, with its type
 pub record Known : Type 0 where

@@ -1,28 +1,23 @@
 -- Converted statements and blocks do what the tree's run says.
 -- By induction on the statement and the block.
-use mathlib.Core.Path.{_≡_, refl, sym, _∙_, ap, subst}
-use mathlib.Core.List.{List, [], _∷_, _++_, append-assoc, append-nil}
-use mathlib.Core.Option.{Option, none, some}
-use mathlib.Core.Bool.{Bool, true, false}
-use Prim.Native.Nat.{ℕ, zero, suc, _+_, _≤_, _<_}
+use mathlib.Core.Path.{_≡_, refl, sym, _∙_, subst}
+use mathlib.Core.List.{List, _++_, append-assoc}
+use Prim.Native.Nat.{ℕ, _+_}
 use native.Mathlib.Nat.{le-refl}
 use native.Mathlib.Omega.{arith}
-use lib.ListN.{length}
-use Rattle.syntax.specs.Syntax.{Text, Expr, Statement, SDeclare, SInit, SReturn, SCall, SIf, SIfElse, SWhile, SFor, SBreak, SContinue, Block, done, next, Function}
-use Rattle.conversion.specs.Ir.{Instr, State, made, M, pure}
-use Rattle.conversion.specs.Scope.{Variable, Scope, withLoop}
+use Rattle.syntax.specs.Syntax.{Statement, SDeclare, SInit, SReturn, SCall, SIf, SIfElse, SWhile, SFor, SBreak, SContinue, Block, done, next}
+use Rattle.conversion.specs.Ir.{State, made, M, pure}
+use Rattle.conversion.specs.Scope.{Scope, withLoop}
 use Rattle.conversion.specs.Statements.{convert-statement, convert-block}
-use Rattle.conversion.specs.Rule.{Calls, Rule}
-use Rattle.conversion.specs.TreeRun.{Known, Values, Out, normal, bindS, runStatement, runBlock, knownAfter, initialise, giveBack}
-use Rattle.conversion.specs.TreeRun as Tree
-use Rattle.conversion.specs.BodyRun.{Vars}
+use Rattle.conversion.specs.Rule.{Calls}
+use Rattle.conversion.specs.TreeRun.{Known, Values, Out, normal, bindS, runStatement, runBlock, knownAfter}
 use Rattle.conversion.specs.Shared.{opensS, opensB}
-use Rattle.runs.proofs.Machine.{Code, at, count, count-append, Placed, placed-drop}
-use Rattle.runs.proofs.Invert.{Grow, grow-refl, grow-trans, inv, inv-pure}
-use Rattle.runs.proofs.Names.{known, Scoped, Sub, sub-refl, sub-trans}
+use Rattle.runs.proofs.Machine.{Code, at, count, count-append, placed-drop}
+use Rattle.runs.proofs.Invert.{grow-refl, grow-trans, inv, inv-pure}
+use Rattle.runs.proofs.Names.{known, sub-refl, sub-trans}
 use Rattle.runs.proofs.Steps.{blockSteps-is}
-use Rattle.runs.proofs.Sim.{Ctx, within-back, stay, nameOf}
-use Rattle.runs.proofs.SimS.{SimS, runs, s-bindS, GoodS, SoundS, goodS-as}
+use Rattle.runs.proofs.Sim.{Ctx, within-back, stay}
+use Rattle.runs.proofs.SimS.{runs, s-bindS, GoodS, SoundS, goodS-as}
 use Rattle.runs.proofs.Stmts.{good-declare, good-init, good-return, good-call-statement}
 use Rattle.runs.proofs.Branches.{good-if, good-if-else, good-break, good-continue, good-comment}
 use Rattle.runs.proofs.Loops.{good-while, good-for}

@@ -1,31 +1,31 @@
 -- Converted If, Break, Continue and comments do what the tree's run says.
 -- Each conversion is taken apart into its steps, and the facts about these are chained; a jump goes to where its label is placed.
-use mathlib.Core.Path.{_≡_, refl, sym, _∙_, ap, subst}
-use mathlib.Core.List.{List, [], _∷_, _++_, append-assoc, append-nil}
+use mathlib.Core.Path.{_≡_, refl, sym, _∙_}
+use mathlib.Core.List.{List, [], _∷_, _++_, append-assoc}
 use mathlib.Core.Option.{Option, none, some}
-use mathlib.Core.Bool.{Bool, true, false}
-use Prim.Native.Nat.{ℕ, zero, suc, _+_, _≤_, _<_}
+use mathlib.Core.Bool.{Bool}
+use Prim.Native.Nat.{ℕ, _+_, _≤_}
 use native.Mathlib.Nat.{le-refl}
 use native.Mathlib.Omega.{arith}
 use lib.Dec.{eqb}
 use lib.ListN.{length}
 use Rattle.syntax.specs.Syntax.{Expr, Program}
-use Rattle.conversion.specs.Ir.{VarId, Operand, Instr, Label, Jump, JumpIfNot, Comment, LabelName, loopStart, loopEnd, otherwiseLabel, conditionEnd, State, made, M, _>>_, emit}
+use Rattle.conversion.specs.Ir.{Operand, Label, Jump, JumpIfNot, Comment, loopStart, loopEnd, otherwiseLabel, conditionEnd, State, made, M, _>>_, emit}
 use Rattle.conversion.specs.Scope.{Variable, Scope}
 use Rattle.conversion.specs.Expressions.{Functions}
-use Rattle.conversion.specs.Statements.{convert-expr, convert-if, convertIfElse, convert-break, convert-continue}
-use Rattle.conversion.specs.Rule.{Calls, Rule, Datum, read}
+use Rattle.conversion.specs.Statements.{convert-if, convertIfElse, convert-break, convert-continue}
+use Rattle.conversion.specs.Rule.{Calls, Datum, read}
 use Rattle.conversion.specs.TreeRun.{Known, Values, Got, Out, normal, broke, continued, bindO, testO, evalExpr}
 use Rattle.conversion.specs.BodyRun.{Vars, isLabel, operand}
 use Rattle.conversion.specs.Shared.{bit, opensE}
-use Rattle.runs.proofs.Machine.{Code, at, count, count-append, Placed, placed-drop, exec, step, dat}
-use Rattle.runs.proofs.Invert.{Grow, grow-refl, grow-trans, inv, inv-then, inv-pure, inv-emit, inv-label, joinE, joinS, AskedLabel}
+use Rattle.runs.proofs.Machine.{Code, at, count, count-append, placed-drop, exec, step, dat}
+use Rattle.runs.proofs.Invert.{grow-trans, inv, inv-then, inv-pure, inv-emit, inv-label, joinE, joinS, AskedLabel}
 use Rattle.runs.proofs.Texts.{kinds-once}
-use Rattle.runs.proofs.Names.{known, Scoped, scoped-mono, Sub, sub-refl, Agree, agree-frame, agree-sub}
+use Rattle.runs.proofs.Names.{known, scoped-mono, Sub, sub-refl, Agree, agree-frame, agree-sub}
 use Rattle.runs.proofs.Steps.{ifSteps-is, ifElseSteps-is, breakSteps-is, continueSteps-is}
-use Rattle.runs.proofs.Sim.{Ctx, body, Low, Within, within-back, Num, num-same, num-of, nameOf, num-count, stay, go1, goes, go-label, holding, Good}
+use Rattle.runs.proofs.Sim.{Ctx, Low, within-back, Num, num-same, num-of, nameOf, num-count, go1, goes, go-label, holding, Good}
 use Rattle.runs.proofs.Exprs.{goodE}
-use Rattle.runs.proofs.SimS.{SimS, runs, breaks, continues, s-before, s-after, s-bindO, s-test, InLoop, outside, inside, GoodS, SoundS, goodS-as}
+use Rattle.runs.proofs.SimS.{SimS, runs, breaks, continues, s-before, s-after, s-bindO, s-test, InLoop, inside, GoodS, SoundS, goodS-as}
 use Rattle.runs.proofs.Stmts.{cond-expr}
 
 no-break : (P : Program) (F : Functions) (r : ℕ) (sc : Scope) (s : State) (x : Scope) (c : Code) (t : State) → convert-break P F r none sc s ≡ made x c t → ⊥

@@ -1,10 +1,10 @@
 -- Demand 3 over the definitions: for every program that converts and every function with a body, the two runs share all that is seen outside.
 -- By induction on the functions; strings and floats only grow, so a body that was converted early reads the same entries in the end.
 use mathlib.Core.Path.{_≡_, refl, sym, _∙_, ap, subst}
-use mathlib.Core.List.{List, [], _∷_, _++_, append-assoc, append-nil}
+use mathlib.Core.List.{List, [], _∷_, _++_}
 use mathlib.Core.Option.{Option, none, some}
-use mathlib.Core.Bool.{Bool, true, false}
-use Prim.Native.Nat.{ℕ, zero, suc, _+_, _≤_, _<_}
+use mathlib.Core.Bool.{Bool}
+use Prim.Native.Nat.{ℕ, zero, suc, _+_, _≤_}
 use native.Mathlib.Omega.{arith}
 use lib.ListN.{length, length-append, getElem?}
 use Rattle.syntax.specs.Syntax.{Block, Function, Program}
@@ -15,7 +15,7 @@ use Rattle.conversion.specs.Expressions.{Functions}
 use Rattle.conversion.specs.Functions.{Pool, get-all-functions, check-main, convertBody, finished, convertFunction, convert-func}
 use Rattle.conversion.specs.Converter.{convertAll, convert}
 use Rattle.conversion.specs.Shared.{Agrees, bodyOf, opensB, WellFormed}
-use Rattle.runs.proofs.Invert.{Prefix, prefix-refl, prefix-trans, Grow}
+use Rattle.runs.proofs.Invert.{Prefix, prefix-refl, prefix-trans}
 use Rattle.runs.proofs.OneFunction.{one-function, body-grows}
 
 -- what a later pool has more

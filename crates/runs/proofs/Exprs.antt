@@ -1,11 +1,10 @@
 -- Converted expressions do what the tree's run says.
 -- Each conversion is taken apart into its steps; then by induction on the expression.
 use mathlib.Core.Path.{_≡_, refl, sym, _∙_, ap, subst}
-use mathlib.Core.Logic.{_≢_}
 use mathlib.Core.List.{List, [], _∷_, _++_, append-assoc, append-nil}
 use mathlib.Core.Option.{Option, none, some}
 use mathlib.Core.Bool.{Bool, true, false, not, _&&_}
-use Prim.Native.Nat.{ℕ, zero, suc, _+_, _≤_, _<_}
+use Prim.Native.Nat.{ℕ, suc, _+_, _≤_, _<_}
 use native.Mathlib.Nat.{le-refl}
 use native.Mathlib.Omega.{arith}
 use lib.Dec.{eqb}
@@ -16,21 +15,21 @@ use Rattle.laws.specs.Fix.{pick}
 use Rattle.conversion.specs.ConvertError as C
 use Rattle.conversion.specs.ConvertError.{Result, ok, err, LiteralOutOfRange, WrongOperands}
 use Rattle.conversion.specs.Types.{onInt, onFloat, isFloat, range-error, size}
-use Rattle.conversion.specs.Ir.{pure, VarId, Operand, OVar, OInt, OFloat, OBool, ODataAddress, ONull, Instr, Copy, Unary, Binary, Cast, Zero, Arg, Call, Label, Jump, JumpIfNot, Return, Comment, LabelName, logicRhs, logicEnd, StringEntry, FloatEntry, State, made, failed, M, sameLabel}
-use Rattle.conversion.specs.Scope.{Variable, Scope, findIn, find-variable}
+use Rattle.conversion.specs.Ir.{pure, VarId, Operand, OVar, OInt, OFloat, OBool, ODataAddress, ONull, Copy, Unary, Binary, Cast, Call, Label, Jump, JumpIfNot, logicRhs, logicEnd, FloatEntry, State, made, M}
+use Rattle.conversion.specs.Scope.{Variable, Scope, findIn}
 use Rattle.conversion.specs.Expressions.{Callee, CallFunction, CallCast, Functions, givesBool, accepted, operandsError, binaryType, filterOption, acceptsClass, operandClass, commonOf, nameType, unwrapOr, get-type, resolve-call, common-type}
-use Rattle.conversion.specs.Statements.{castOperand, refloat, fit-operand, parameterType, fitFrom, fit-args, emitArgs, convert-unary, convertAnd, convertOr, castFirst, convertOther, convertBinaryBy, callFunction, callValue, convert-expr, convert-args, nameOperand, sizeOperand}
-use Rattle.conversion.specs.Rule.{Answer, gives, halt, Truth, Calls, Rule, Answers, Literal, IntLiteral, FloatLiteral, BoolLiteral, StringLiteral, NullLiteral, Datum, constant, computed, read, readAll}
-use Rattle.conversion.specs.TreeRun.{Values, Got, value, stop, bindG, answered, test, typed, fitLiteral, fitComputed, fit, fitArguments, toBool, evalAnd, evalOr, evalOther, evalBinary, callWith, evalExpr, evalArgs, scopeOf, sizeDatum}
+use Rattle.conversion.specs.Statements.{castOperand, refloat, fit-operand, parameterType, fitFrom, emitArgs, convert-unary, convertAnd, convertOr, castFirst, convertOther, convertBinaryBy, callFunction, callValue, convert-expr, convert-args, nameOperand, sizeOperand}
+use Rattle.conversion.specs.Rule.{Calls, Literal, IntLiteral, FloatLiteral, BoolLiteral, StringLiteral, NullLiteral, Datum, constant, computed, read}
+use Rattle.conversion.specs.TreeRun.{Values, Got, value, bindG, answered, typed, fitLiteral, fitComputed, fit, fitArguments, toBool, evalAnd, evalOr, evalOther, evalBinary, callWith, evalExpr, evalArgs, scopeOf, sizeDatum}
 use Rattle.conversion.specs.TreeRun as Tree
-use Rattle.conversion.specs.BodyRun.{Body, Vars, write, datum, isLabel, operand}
+use Rattle.conversion.specs.BodyRun.{Vars, datum, isLabel, operand}
 use Rattle.conversion.specs.Shared.{bit, opensE, opensA, logicOpens}
-use Rattle.runs.proofs.Machine.{Code, Cfg, at, ended, count, count-append, goto, Placed, placed-drop, put, branch, exec, step, dat, dats, argsOf, push}
-use Rattle.runs.proofs.Invert.{Prefix, Grow, grow-refl, grow-trans, Split, inv, inv-then, inv-pure, inv-emit, inv-lift, inv-last, inv-new, inv-label, joinE, joinS, AskedLabel, noFloat, inv-bits, prefix-getD, prefix-refl, prefix-trans, position-holds, found-in, nextVar, withVar, withVar-length, withVar-grow, Asked, ask-label, ask-string, ask-float}
+use Rattle.runs.proofs.Machine.{Code, at, count, count-append, placed-drop, exec, step, dat, dats, argsOf, push}
+use Rattle.runs.proofs.Invert.{Grow, grow-refl, grow-trans, inv, inv-then, inv-pure, inv-emit, inv-lift, inv-last, inv-new, inv-label, joinE, joinS, AskedLabel, noFloat, inv-bits, prefix-getD, prefix-refl, prefix-trans, position-holds, found-in, nextVar, withVar, withVar-length, withVar-grow, ask-string, ask-float}
 use Rattle.runs.proofs.Texts.{kinds-once, float-refl}
-use Rattle.runs.proofs.Names.{known, typing, resolving, commoning, Scoped, scoped-mono, Frame, Agree, agree-frame}
-use Rattle.runs.proofs.Steps.{castSteps-is, refloatSteps-is, fitSteps-is, argSteps-is, unarySteps-is, andSteps-is, orSteps-is, castFirstSteps-is, otherSteps-is, binarySteps-is, unaryExprSteps-is, floatSteps, floatSteps-is, stringSteps, stringSteps-is, callSteps-is, valueSteps-is, functionSteps-is, fits-is, callValue-is, castValue-is}
-use Rattle.runs.proofs.Sim.{Ctx, body, Low, Lows, low-mono, lows-mono, Within, within-back, Num, num-same, num-of, nameOf, num-count, float-at, string-at, Goes, stay, go1, goes, go-label, holding, holdings, hold-frame, holds-frame, SimE, gets, stops, sim-before, sim-after, sim-frame, sim-bind, sim-put, sim-reply, sim-test, Good, Sound, Sounds, good-as}
+use Rattle.runs.proofs.Names.{known, typing, resolving, commoning, scoped-mono, agree-frame}
+use Rattle.runs.proofs.Steps.{castSteps-is, refloatSteps-is, fitSteps-is, argSteps-is, unarySteps-is, andSteps-is, orSteps-is, castFirstSteps-is, otherSteps-is, binarySteps-is, unaryExprSteps-is, floatSteps, stringSteps, callSteps-is, valueSteps-is, functionSteps-is, fits-is, callValue-is, castValue-is}
+use Rattle.runs.proofs.Sim.{Ctx, body, Low, Lows, low-mono, lows-mono, Within, within-back, num-same, num-of, nameOf, num-count, float-at, string-at, stay, go1, goes, go-label, holding, holdings, hold-frame, holds-frame, SimE, gets, sim-before, sim-after, sim-bind, sim-put, sim-reply, sim-test, Good, Sound, Sounds, good-as}
 
 none-emitted : (s : State) (u : Unit {0}) (c : Code) (t : State) → emitArgs [] s ≡ made u c t → (c ≡ []) × (t ≡ s)
 unfolding emitArgs

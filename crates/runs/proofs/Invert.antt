@@ -1,15 +1,15 @@
 -- From 'this converted' back to the conversions that it was made of, and that the tables only grow.
 -- By cases on what the first part came to.
-use mathlib.Core.Path.{_≡_, refl, sym, _∙_, ap, subst}
+use mathlib.Core.Path.{_≡_, refl, sym, _∙_, ap}
 use mathlib.Core.List.{List, [], _∷_, _++_, append-assoc, append-nil}
 use mathlib.Core.Option.{Option, none, some}
 use mathlib.Core.Bool.{Bool, true, false}
-use Prim.Native.Nat.{ℕ, zero, suc, _+_, _≤_, _<_}
+use Prim.Native.Nat.{ℕ, suc, _≤_, _<_}
 use native.Mathlib.Nat.{le-refl}
 use native.Mathlib.Omega.{arith}
-use lib.ListN.{length, length-append, getD, getElem?, List·getD-append}
-use Rattle.conversion.specs.ConvertError.{ConvertErrorKind, Result, ok, err}
-use Rattle.conversion.specs.Ir.{VarId, Instr, LabelName, StringEntry, FloatEntry, State, Out, made, failed, M, after, bind, _>>=_, _>>_, pure, fail, lift, emit, position, numbered, new-var, sameLabel, label-id, sameText, string-id, sameFloat, float-id, floatBits}
+use lib.ListN.{length, length-append, getD, List·getD-append}
+use Rattle.conversion.specs.ConvertError.{Result, ok, err}
+use Rattle.conversion.specs.Ir.{VarId, Instr, LabelName, StringEntry, FloatEntry, State, Out, made, failed, M, after, bind, _>>=_, _>>_, pure, lift, emit, position, numbered, new-var, sameLabel, label-id, sameText, string-id, sameFloat, float-id, floatBits}
 
 -- ---- the tables grow at their ends
 

@@ -1,37 +1,36 @@
 -- Converted loops do what the tree's run says: as many turns as the tree makes, and on if that is unfinished.
 -- By induction on the turns that are left.
 use mathlib.Core.Path.{_≡_, refl, sym, _∙_, ap, subst}
-use mathlib.Core.List.{List, [], _∷_, _++_, append-assoc, append-nil}
+use mathlib.Core.List.{List, [], _∷_, _++_, append-assoc}
 use mathlib.Core.Option.{Option, none, some}
 use mathlib.Core.Bool.{Bool, true, false}
-use Prim.Native.Nat.{ℕ, zero, suc, _+_, _≤_, _<_}
+use Prim.Native.Nat.{ℕ, zero, suc, _+_, _≤_}
 use native.Mathlib.Nat.{le-refl}
 use native.Mathlib.Omega.{arith}
 use lib.Dec.{eqb}
-use lib.IntN.{ℤ, pos}
+use lib.IntN.{pos}
 use lib.ListN.{length}
 use Rattle.laws.specs.Fix.{pick}
-use Rattle.syntax.specs.Syntax.{Text, Ty, TInt, TFloat, TBool, TChar, TByte, TAddress, TArray, TCustom, TNull, Lt, Add, Expr, Program, boolType}
+use Rattle.syntax.specs.Syntax.{Text, Ty, TInt, TFloat, TBool, TChar, TByte, TAddress, TArray, TCustom, TNull, Lt, Add, Expr, boolType}
 use Rattle.conversion.specs.ConvertError.{AssignToConstant, NotInteger}
 use Rattle.conversion.specs.Types.{onInt}
-use Rattle.conversion.specs.Ir.{VarId, Operand, OVar, OInt, Instr, Copy, Binary, Label, Jump, JumpIfNot, LabelName, loopStart, loopEnd, loopCheck, State, made, M, fail}
-use Rattle.conversion.specs.Scope.{Variable, Scope, findIn, find-variable, withVariable, withLoop}
-use Rattle.conversion.specs.Expressions.{Functions}
-use Rattle.conversion.specs.Statements.{convert-expr, fit-operand, convert-while-loop, forLoop, forInt, forKnown, convert-for-loop}
-use Rattle.conversion.specs.Rule.{Calls, Rule, Literal, IntLiteral, Datum, constant, computed, read}
+use Rattle.conversion.specs.Ir.{Operand, OVar, OInt, Copy, Binary, Label, Jump, JumpIfNot, loopStart, loopEnd, loopCheck, State, made, M, fail}
+use Rattle.conversion.specs.Scope.{Variable, Scope, findIn, withVariable, withLoop}
+use Rattle.conversion.specs.Statements.{convert-while-loop, forLoop, forInt, forKnown, convert-for-loop}
+use Rattle.conversion.specs.Rule.{Calls, IntLiteral, Datum, constant, read}
 use Rattle.conversion.specs.TreeRun as Tree
-use Rattle.conversion.specs.TreeRun.{Known, Values, set, typeIn, Got, Out, normal, stopped, unfinished, bare, bindO, testO, bindT, fit, evalExpr, turns, rounds, forOver}
+use Rattle.conversion.specs.TreeRun.{Known, Values, set, typeIn, Got, Out, stopped, bare, bindO, fit, evalExpr, turns, rounds, forOver}
 use Rattle.conversion.specs.BodyRun.{Vars, write, datum, isLabel, operand}
 use Rattle.conversion.specs.Shared.{bit, opensE}
-use Rattle.runs.proofs.Machine.{Code, at, write-same, write-other, count, count-append, goto, Placed, placed-drop, branch, exec, step, dat, here, one}
+use Rattle.runs.proofs.Machine.{Code, at, write-same, write-other, count, count-append, goto, Placed, placed-drop, branch, exec, step, dat, one}
 use Rattle.runs.proofs.Invert.{Grow, grow-refl, grow-trans, inv, inv-then, inv-pure, inv-emit, inv-lift, inv-new, inv-label, quiet, joinE, joinS, AskedLabel, nextVar, withVar, withVar-length, withVar-grow}
 use Rattle.runs.proofs.Texts.{kinds-once}
-use Rattle.runs.proofs.Names.{known, foundType, type-known, Scoped, scoped-mono, scoped-new, Sub, sub-refl, sub-new, find-same, Frame, Agree, agree-frame, agree-sub, agree-set, agree-new, declared}
+use Rattle.runs.proofs.Names.{known, foundType, type-known, Scoped, scoped-mono, scoped-new, Sub, sub-refl, sub-new, find-same, Agree, agree-frame, agree-sub, agree-set, agree-new, declared}
 use Rattle.runs.proofs.Steps.{whileSteps-is, forSteps-is, forRest, forNewSteps-is}
-use Rattle.runs.proofs.Sim.{Ctx, body, Low, Within, within-back, Num, num-same, num-of, nameOf, num-count, Goes, stay, go1, goes, go-label, holding, SimE, Good, Sound}
+use Rattle.runs.proofs.Sim.{Ctx, Low, within-back, num-same, num-of, nameOf, num-count, stay, go1, go-label, holding, SimE, Good}
 use Rattle.runs.proofs.Exprs.{Fitted, good-fit, goodE}
-use Rattle.runs.proofs.SimS.{SimS, runs, long, s-later, s-before, s-after, s-bindO, s-bare, s-bindT, s-test, InLoop, outside, inside, GoodS, SoundS, goodS-as}
-use Rattle.runs.proofs.Stmts.{cond-expr, bound-quiet, pick-made}
+use Rattle.runs.proofs.SimS.{SimS, runs, long, s-later, s-before, s-bindO, s-bare, s-bindT, s-test, inside, GoodS, SoundS, goodS-as}
+use Rattle.runs.proofs.Stmts.{cond-expr, bound-quiet}
 
 no-int : (r : ℕ) (s : State) (x : Scope) (c : Code) (t : State) → fail NotInteger r s ≡ made x c t → ⊥
 unfolding fail

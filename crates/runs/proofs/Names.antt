@@ -5,13 +5,13 @@ use mathlib.Core.Logic.{_≢_}
 use mathlib.Core.List.{List, [], _∷_}
 use mathlib.Core.Option.{Option, none, some}
 use mathlib.Core.Bool.{Bool, true, false}
-use Prim.Native.Nat.{ℕ, zero, suc, _+_, _≤_, _<_}
+use Prim.Native.Nat.{ℕ, _≤_, _<_}
 use native.Mathlib.Omega.{arith}
 use Rattle.syntax.specs.Syntax.{Text, Expr, EInt, EFloat, EStr, EBool, EName, ENull, ESizeOf, EUnary, EBinary, ECall, Args, noArgs, Value, ToType, Function, Program}
-use Rattle.conversion.specs.ConvertError.{Result, ok, err, _>>=_, AlreadyDeclared}
-use Rattle.conversion.specs.Ir.{VarId, sameText}
-use Rattle.conversion.specs.Scope.{Variable, Scope, findIn, find-variable, withVariable, declareNew, declare}
-use Rattle.conversion.specs.Expressions.{Callee, Functions, TypedArg, nameType, unaryType, binaryType, commonOf, resolveTyped, valueType, return-type, get-type, get-argument-types, resolve-call, common-type}
+use Rattle.conversion.specs.ConvertError.{ok, _>>=_}
+use Rattle.conversion.specs.Ir.{sameText}
+use Rattle.conversion.specs.Scope.{Variable, Scope, findIn, withVariable, declareNew, declare}
+use Rattle.conversion.specs.Expressions.{Functions, nameType, unaryType, binaryType, commonOf, resolveTyped, valueType, return-type, get-type, get-argument-types, resolve-call, common-type}
 use Rattle.conversion.specs.TreeRun as Tree
 use Rattle.conversion.specs.TreeRun.{Known, Values, set, typeIn, scopeOf}
 use Rattle.conversion.specs.BodyRun.{Vars, write}

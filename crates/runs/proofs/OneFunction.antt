@@ -1,31 +1,30 @@
 -- The claim for one function: its parameters are in place, its body simulates, and its labels are placed once.
 -- By induction on the parameters; then from the simulation of its block.
 use mathlib.Core.Path.{_≡_, refl, sym, _∙_, ap, subst}
-use mathlib.Core.Logic.{_≢_}
-use mathlib.Core.List.{List, [], _∷_, _++_, append-assoc, append-nil}
-use mathlib.Core.Option.{Option, none, some}
+use mathlib.Core.List.{List, [], _∷_, _++_, append-nil}
+use mathlib.Core.Option.{none, some}
 use mathlib.Core.Bool.{Bool, true, false, not, _&&_}
-use Prim.Native.Nat.{ℕ, zero, suc, _+_, _≤_, _<_}
+use Prim.Native.Nat.{ℕ, zero, suc, _+_, _≤_}
 use native.Mathlib.Nat.{le-refl}
 use native.Mathlib.Omega.{arith}
 use lib.ListN.{length, getElem?}
 use Rattle.laws.specs.Fix.{pick}
 use Rattle.syntax.specs.Syntax.{Text, Block, Param, Function, Program, nullType}
 use Rattle.conversion.specs.ConvertError.{ConvertErrorKind, MissingReturn}
-use Rattle.conversion.specs.Ir.{Instr, StringEntry, texts, FloatEntry, State, made, M, pure, fail}
+use Rattle.conversion.specs.Ir.{StringEntry, texts, FloatEntry, State, made, M, pure, fail}
 use Rattle.conversion.specs.Types.{isSome}
 use Rattle.conversion.specs.Scope.{Variable, Scope, findIn, find-variable, withVariable}
 use Rattle.conversion.specs.Expressions.{Functions}
 use Rattle.conversion.specs.Statements.{convert-block}
 use Rattle.conversion.specs.Functions.{declareParams, convertBody, always-returns}
-use Rattle.conversion.specs.Rule.{Answer, halt, Truth, halts, Calls, Rule, comes, Answers, NullContent, passed}
-use Rattle.conversion.specs.TreeRun.{Known, Values, set, Out, runBlock, parametersKnown, parameterValues, treeRun}
+use Rattle.conversion.specs.Rule.{halt, halts, Rule, comes, Answers, NullContent}
+use Rattle.conversion.specs.TreeRun.{Known, Values, set, runBlock, parametersKnown, parameterValues, treeRun}
 use Rattle.conversion.specs.BodyRun.{Vars, bodyRun}
-use Rattle.conversion.specs.Shared.{endT, Shared, InPlace, opensB}
-use Rattle.runs.proofs.Machine.{Code, at, count, Placed, placed}
-use Rattle.runs.proofs.Invert.{Prefix, prefix-refl, prefix-trans, Grow, grow-refl, grow-trans, inv, inv-pure, inv-new, joinS, nextVar, withVar, withVar-length, withVar-grow}
+use Rattle.conversion.specs.Shared.{Shared, InPlace, opensB}
+use Rattle.runs.proofs.Machine.{Code, at, Placed, placed}
+use Rattle.runs.proofs.Invert.{Prefix, prefix-refl, Grow, grow-refl, grow-trans, inv, inv-pure, inv-new, nextVar, withVar, withVar-length, withVar-grow}
 use Rattle.runs.proofs.Texts.{SameName, one, two, same-name, set-same, set-other}
-use Rattle.runs.proofs.Names.{known, Scoped, scoped-new, find-same, find-other, Sub, sub-refl, Agree}
+use Rattle.runs.proofs.Names.{known, Scoped, scoped-new, find-same, find-other, sub-refl, Agree}
 use Rattle.runs.proofs.Steps.{bodySteps-is, param-is}
 use Rattle.runs.proofs.Sim.{Ctx, body, Within, nameOf}
 use Rattle.runs.proofs.SimS.{InLoop, outside, GoodS}

@@ -1,13 +1,13 @@
 -- The machine with a number for its place, seen as the rest of the code from there on, does the same steps.
 -- By cases on the instruction at a place; a label's place is where the code from that label on begins.
-use mathlib.Core.Path.{_≡_, refl, sym, _∙_, ap}
-use mathlib.Core.List.{List, [], _∷_, _++_}
-use mathlib.Core.Option.{Option, none, some}
-use Prim.Native.Nat.{ℕ, zero, suc, _+_, _≤_, _<_}
+use mathlib.Core.Path.{_≡_, refl, _∙_, ap}
+use mathlib.Core.List.{[], _∷_}
+use mathlib.Core.Option.{none, some}
+use Prim.Native.Nat.{ℕ, zero, suc}
 use mathlib.Core.Bool.{Bool, true, false}
 use lib.ListN.{getElem?, drop}
-use Rattle.conversion.specs.Ir.{VarId, Operand, Instr, Copy, Unary, Binary, Cast, Zero, Arg, Call, Label, Jump, JumpIfNot, Return, Comment}
-use Rattle.conversion.specs.Rule.{Answer, gives, halt, Truth, holds, fails, halts, Typed, Calls, Rule, Reply, comes, pending, Answers, Ending}
+use Rattle.conversion.specs.Ir.{Instr, Copy, Unary, Binary, Cast, Zero, Arg, Call, Label, Jump, JumpIfNot, Return, Comment}
+use Rattle.conversion.specs.Rule.{Answer, gives, halt, Truth, holds, fails, halts, Calls, Rule, Reply, comes, pending, Answers}
 use Rattle.conversion.specs.BodyRun as P
 use Rattle.conversion.specs.BodyRun.{Body, Vars, isLabel, labelPlace, Spot, spot, over, waits, putTo, dropTo, putReply, dropReply, branchTo, finishWith, execute, fetch}
 use Rattle.runs.proofs.Machine.{Code, Queue, Cfg, at, ended, waiting, goto, put, pass, putR, passR, branch, finish, exec, step, steps}

@@ -1,11 +1,10 @@
 -- What it means that converted code does what the tree's run says, for expressions, and how such facts chain.
 -- By cases on what the tree's run came to.
-use mathlib.Core.Path.{_≡_, refl, sym, _∙_, ap, subst}
-use mathlib.Core.Logic.{_≢_}
-use mathlib.Core.List.{List, [], _∷_, _++_, append-assoc, append-nil}
-use mathlib.Core.Option.{Option, none, some}
-use mathlib.Core.Bool.{Bool, true, false}
-use Prim.Native.Nat.{ℕ, zero, suc, _+_, _≤_, _<_}
+use mathlib.Core.Path.{_≡_, refl, sym, _∙_, ap}
+use mathlib.Core.List.{List, [], _∷_, _++_}
+use mathlib.Core.Option.{some}
+use mathlib.Core.Bool.{true}
+use Prim.Native.Nat.{ℕ, zero, suc, _≤_, _<_}
 use native.Mathlib.Nat.{le-refl}
 use native.Mathlib.Omega.{arith}
 use lib.Dec.{eqb}
@@ -14,14 +13,14 @@ use Rattle.syntax.specs.Syntax.{Function, Program}
 use Rattle.conversion.specs.Ir.{VarId, Operand, OVar, OInt, OFloat, OBool, ODataAddress, ONull, Instr, Label, LabelName, loopStart, StringEntry, texts, FloatEntry, State, made, M, position, sameLabel, sameText, sameFloat}
 use Rattle.conversion.specs.Scope.{Variable}
 use Rattle.conversion.specs.Expressions.{Functions}
-use Rattle.conversion.specs.Rule.{Answer, gives, halt, Truth, holds, fails, halts, Calls, Rule, Reply, comes, pending, Answers, Datum, constant, computed, read, Ending, stopped}
-use Rattle.conversion.specs.TreeRun.{Values, Got, value, stop, wait, bindG, answered, bare, replied, test}
-use Rattle.conversion.specs.BodyRun.{Body, Vars, write, datum, operand}
+use Rattle.conversion.specs.Rule.{Answer, gives, halt, Truth, holds, fails, halts, Calls, Rule, Reply, comes, pending, Answers, Datum, computed, stopped}
+use Rattle.conversion.specs.TreeRun.{Values, Got, value, stop, wait, bindG, answered, replied, test}
+use Rattle.conversion.specs.BodyRun.{Body, Vars, write, datum}
 use Rattle.conversion.specs.Shared.{bit}
 use Rattle.runs.proofs.Machine.{Code, Queue, Cfg, at, ended, waiting, Same, is, isnt, same, write-same, write-other, count, goto, Placed, put, putR, branch, step, To, here, one, to-trans, to-label, dat, dats}
 use Rattle.runs.proofs.Invert.{Prefix, prefix-trans, prefix-length, Grow, Asked, position-holds, found-in, noFloat}
 use Rattle.runs.proofs.Texts.{label-eq, label-refl, text-eq, text-refl, float-eq, float-refl}
-use Rattle.runs.proofs.Names.{Scoped, Sub, Frame, Agree}
+use Rattle.runs.proofs.Names.{Scoped, Frame, Agree}
 
 -- a function of a program, a rule, and what conversion made in the end: the function's code and labels, the program's strings and floats
 pub record Ctx (W : Type 0) : Type 0 where

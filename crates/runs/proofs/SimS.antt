@@ -1,24 +1,23 @@
 -- What it means that converted statements do what the tree's run says, endless runs included, and how such facts chain.
 -- By cases on what the tree's run came to.
-use mathlib.Core.Path.{_≡_, refl, sym, _∙_, ap, subst}
-use mathlib.Core.List.{List, [], _∷_, _++_, append-assoc, append-nil}
+use mathlib.Core.Path.{_≡_}
+use mathlib.Core.List.{List, [], _++_}
 use mathlib.Core.Option.{Option, none, some}
 use mathlib.Core.Bool.{Bool, true, false}
-use Prim.Native.Nat.{ℕ, zero, suc, _+_, _≤_, _<_}
-use native.Mathlib.Nat.{le-refl}
+use Prim.Native.Nat.{ℕ, _+_, _≤_}
 use native.Mathlib.Omega.{arith}
 use lib.Dec.{T}
 use lib.ListN.{length}
-use Rattle.conversion.specs.Ir.{VarId, Operand, Instr, LabelName, loopStart, loopEnd, State, made, M}
+use Rattle.conversion.specs.Ir.{loopStart, loopEnd, State, made, M}
 use Rattle.conversion.specs.Scope.{Variable, Scope}
-use Rattle.conversion.specs.Rule.{Answer, gives, halt, Truth, holds, fails, halts, Calls, Rule, Reply, comes, pending, Answers, Datum, Ending, passed, returns}
+use Rattle.conversion.specs.Rule.{Answer, gives, halt, Truth, holds, fails, halts, Calls, Rule, Reply, comes, pending, returns}
 use Rattle.conversion.specs.Rule as Rule
-use Rattle.conversion.specs.TreeRun.{Known, Values, Got, value, stop, wait, bare, handed, Out, normal, broke, continued, returned, stopped, unfinished, bindO, bindS, bindT, testO}
+use Rattle.conversion.specs.TreeRun.{Known, Values, Got, bare, handed, Out, normal, broke, continued, returned, stopped, unfinished, bindO, bindS, bindT, testO}
 use Rattle.conversion.specs.BodyRun.{Vars, write}
-use Rattle.runs.proofs.Machine.{Code, Queue, Cfg, at, ended, waiting, count, goto, Placed, put, pass, passR, branch, finish, step, to-trans, one}
+use Rattle.runs.proofs.Machine.{Code, Queue, Cfg, at, ended, waiting, count, goto, Placed, put, pass, passR, branch, finish, step, to-trans}
 use Rattle.runs.proofs.Invert.{Grow}
 use Rattle.runs.proofs.Names.{known, Scoped, Sub, Frame, Agree, agree-sub}
-use Rattle.runs.proofs.Sim.{Ctx, body, Within, Num, nameOf, Goes, stay, go1, goes, SimE, gets, stops, hangs}
+use Rattle.runs.proofs.Sim.{Ctx, body, Within, Num, nameOf, Goes, go1, goes, SimE, gets, stops, hangs}
 
 module _ {W : Type 0} (X : Ctx W) where
   -- from c the body does what the tree's run came to; if that is unfinished, then in n steps or more the same calls

@@ -3,34 +3,33 @@
 use mathlib.Core.Path.{_≡_, refl, sym, _∙_, ap, subst}
 use mathlib.Core.List.{List, [], _∷_, _++_, append-assoc, append-nil}
 use mathlib.Core.Option.{Option, none, some}
-use mathlib.Core.Bool.{Bool, true, false, not, _&&_}
-use Prim.Native.Nat.{ℕ, zero, suc, _+_, _≤_, _<_}
+use mathlib.Core.Bool.{Bool, true, false}
+use Prim.Native.Nat.{ℕ, _<_}
 use native.Mathlib.Nat.{le-refl}
 use native.Mathlib.Omega.{arith}
 use lib.Dec.{eqb}
-use lib.IntN.{ℤ, pos}
+use lib.IntN.{pos}
 use lib.ListN.{length, getD}
 use Rattle.laws.specs.Fix.{pick}
 use Rattle.syntax.specs.Syntax.{Text, Ty, TInt, TFloat, TBool, TChar, TByte, TAddress, TArray, TCustom, TNull, Expr, EInt, EFloat, EStr, EBool, EName, ENull, ESizeOf, EUnary, EBinary, ECall, Args, Function, Program, place, boolType, nullType, addressOfNull}
-use Rattle.conversion.specs.ConvertError.{ConvertErrorKind, Result, ok, err, AssignToConstant, LiteralOutOfRange, NotBool, NotInteger}
-use Rattle.conversion.specs.Ir.{VarId, Operand, OVar, OInt, OFloat, OBool, ODataAddress, ONull, Instr, Copy, Unary, Binary, Cast, Zero, Arg, Call, Label, Jump, JumpIfNot, Return, Comment, LabelName, loopStart, loopEnd, otherwiseLabel, conditionEnd, FloatEntry, State, made, failed, M, _>>=_, pure, fail, lift, emit}
+use Rattle.conversion.specs.ConvertError.{ConvertErrorKind, Result, ok, AssignToConstant, LiteralOutOfRange, NotBool, NotInteger}
+use Rattle.conversion.specs.Ir.{VarId, Operand, OInt, OFloat, OBool, ONull, Instr, Copy, Zero, Call, Return, FloatEntry, State, made, M, _>>=_, pure, fail, lift, emit}
 use Rattle.conversion.specs.Types.{fits, range-error}
-use Rattle.conversion.specs.Scope.{Variable, Scope, findIn, find-variable, withVariable, declare}
+use Rattle.conversion.specs.Scope.{Variable, Scope, findIn, withVariable}
 use Rattle.conversion.specs.Expressions.{Callee, CallFunction, CallCast, Functions, get-type, resolve-call}
-use Rattle.conversion.specs.Statements.{fit-operand, convert-expr, convert-args, convert-cond, checkFits, zeroValue, convert-declare, assignTo, convert-assign, initNew, initBy, convert-init, returnAs, convert-return, callStatement, convert-call, convert-if, convertIfElse, checkBound, convert-break, convert-continue}
-use Rattle.conversion.specs.Rule.{Answer, gives, halt, Truth, Calls, Rule, Answers, Literal, IntLiteral, FloatLiteral, BoolLiteral, StringLiteral, NullLiteral, Datum, constant, computed, read, readAll}
+use Rattle.conversion.specs.Statements.{convert-expr, convert-cond, checkFits, zeroValue, convert-declare, assignTo, convert-assign, initNew, initBy, convert-init, returnAs, convert-return, callStatement, convert-call, checkBound}
+use Rattle.conversion.specs.Rule.{Calls, Literal, IntLiteral, FloatLiteral, BoolLiteral, NullLiteral, Datum, constant, read, readAll}
 use Rattle.conversion.specs.TreeRun as Tree
-use Rattle.conversion.specs.TreeRun.{Known, Values, set, typeIn, scopeOf, Got, value, stop, bindG, bare, handed, Out, normal, broke, continued, returned, stopped, bindO, bindS, testO, typedO, fit, fitArguments, zeroOf, evalExpr, evalArgs, store, newType, introduce, initialise, giveBack, callOnly, withNew, knownInit}
-use Rattle.conversion.specs.BodyRun.{Body, Vars, write, datum, isLabel, operand}
+use Rattle.conversion.specs.TreeRun.{Known, Values, typeIn, scopeOf, Got, bare, handed, Out, normal, returned, bindO, typedO, fit, fitArguments, zeroOf, evalExpr, store, newType, introduce, initialise, giveBack, callOnly, withNew, knownInit}
+use Rattle.conversion.specs.BodyRun.{Vars, write, datum, isLabel, operand}
 use Rattle.conversion.specs.Shared.{bit, opensE, opensA}
-use Rattle.runs.proofs.Machine.{Code, Cfg, at, count, count-append, Placed, placed-drop, put, exec, step, dat, dats, argsOf, push}
-use Rattle.runs.proofs.Invert.{Grow, grow-refl, grow-trans, Split, inv, inv-then, inv-pure, inv-emit, inv-lift, inv-last, inv-new, inv-label, quiet, Quiet, joinE, joinS, AskedLabel, noFloat, nextVar, withVar, withVar-length, withVar-grow, Asked, ask-float}
-use Rattle.runs.proofs.Texts.{kinds-once}
-use Rattle.runs.proofs.Names.{known, foundType, type-known, typing, resolving, Scoped, scoped-mono, scoped-new, Sub, sub-refl, sub-new, Frame, Agree, agree-frame, agree-sub, agree-set, agree-new, Declared, declared}
-use Rattle.runs.proofs.Steps.{condSteps-is, declareSteps-is, assignSteps-is, initSteps-is, returnSteps-is, returnTyped-is, callOnlySteps-is, callStatementSteps-is, ifSteps-is, ifElseSteps-is, boundSteps-is, breakSteps-is, continueSteps-is, zeroFloat-is}
-use Rattle.runs.proofs.Sim.{Ctx, body, Low, Lows, low-mono, lows-mono, Within, within-back, Num, num-same, num-of, nameOf, num-count, float-at, Goes, stay, go1, goes, go-label, holding, holdings, hold-frame, holds-frame, SimE, Good, Sound, Sounds}
-use Rattle.runs.proofs.Exprs.{args-clear, Called, called, Fitted, good-fit, good-fits, goodE, goodA}
-use Rattle.runs.proofs.SimS.{SimS, runs, breaks, continues, s-later, s-before, s-after, s-bindO, s-bare, s-pass, s-finish, s-bindS, s-test, InLoop, outside, inside, GoodS, SoundS, goodS-as}
+use Rattle.runs.proofs.Machine.{Code, at, count, count-append, put, exec, step, dat, argsOf, push}
+use Rattle.runs.proofs.Invert.{Grow, grow-refl, grow-trans, inv, inv-then, inv-pure, inv-emit, inv-lift, inv-last, inv-new, quiet, Quiet, joinE, joinS, noFloat, nextVar, withVar, withVar-length, withVar-grow, ask-float}
+use Rattle.runs.proofs.Names.{known, foundType, type-known, typing, resolving, scoped-mono, scoped-new, sub-refl, sub-new, agree-frame, agree-set, agree-new, declared}
+use Rattle.runs.proofs.Steps.{condSteps-is, declareSteps-is, assignSteps-is, initSteps-is, returnSteps-is, returnTyped-is, callOnlySteps-is, callStatementSteps-is, boundSteps-is, zeroFloat-is}
+use Rattle.runs.proofs.Sim.{Ctx, body, Low, Lows, Within, within-back, float-at, stay, holding, holdings, Good}
+use Rattle.runs.proofs.Exprs.{args-clear, called, Fitted, good-fit, good-fits, goodE, goodA}
+use Rattle.runs.proofs.SimS.{runs, s-before, s-bindO, s-bare, s-pass, s-finish, GoodS, SoundS, goodS-as}
 
 -- ---- parts that emit nothing
 

@@ -1,23 +1,20 @@
 -- A simulation of whole runs gives the claim: the same calls, endless runs included, and the same ends.
 -- The tree's run with n turns tells of n steps of the body's run or more, and the body's run is a function: so one direction gives both.
 use mathlib.Core.Path.{_≡_, refl, sym, _∙_, ap, subst}
-use mathlib.Core.List.{List, [], _∷_, _++_, append-assoc, append-nil}
+use mathlib.Core.List.{List, [], _∷_, _++_}
 use mathlib.Core.Option.{Option, none, some}
-use Prim.Native.Nat.{ℕ, zero, suc, _+_, _-_, _≤_, _<_}
-use native.Mathlib.Nat.{le-refl}
+use Prim.Native.Nat.{ℕ, zero, suc, _-_, _≤_}
 use native.Mathlib.Decide.{decLe}
 use native.Mathlib.Omega.{arith}
-use mathlib.Core.Bool.{Bool, true, false}
-use lib.ListN.{getElem?, drop}
-use Rattle.conversion.specs.Ir.{VarId, Operand, Instr, Copy, Unary, Binary, Cast, Zero, Arg, Call, Label, Jump, JumpIfNot, Return, Comment}
+use mathlib.Core.Bool.{false}
+use lib.ListN.{getElem?}
+use Rattle.conversion.specs.Ir.{Instr, Copy, Unary, Binary, Cast, Zero, Arg, Call, Label, Jump, JumpIfNot, Return, Comment}
 use Rattle.conversion.specs.Scope.{Variable}
-use Rattle.conversion.specs.Rule.{Answer, gives, halt, Truth, holds, fails, halts, Typed, Calls, Rule, Reply, comes, pending, Answers, Ending, passed, returns, stopped}
-use Rattle.conversion.specs.TreeRun as Tree
-use Rattle.conversion.specs.TreeRun.{Out, normal, broke, continued, returned, unfinished}
-use Rattle.conversion.specs.BodyRun as Body
+use Rattle.conversion.specs.Rule.{Answer, gives, halt, Truth, holds, fails, halts, Typed, Calls, Reply, comes, pending, Ending, passed, returns, stopped}
+use Rattle.conversion.specs.TreeRun.{Out}
 use Rattle.conversion.specs.BodyRun.{Vars, Spot, spot, over, waits, bodyRun}
 use Rattle.conversion.specs.Shared.{callsT, endT, callsB, endB, Shared}
-use Rattle.runs.proofs.Machine.{Code, Queue, Cfg, at, ended, waiting, put, pass, putR, passR, branch, finish, exec, step, steps, steps-add, To}
+use Rattle.runs.proofs.Machine.{Code, Queue, Cfg, at, ended, waiting, put, pass, putR, passR, branch, finish, exec, step, steps, steps-add}
 use Rattle.runs.proofs.Place.{seen, steps-seen}
 use Rattle.runs.proofs.Sim.{Ctx, body, Goes, go1, goes}
 use Rattle.runs.proofs.SimS.{SimS, runs, breaks, continues, gives-back, halting, long, held}
