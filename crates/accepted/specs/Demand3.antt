@@ -1,7 +1,7 @@
 -- Demand 3 on bytes, 'as one claim about whole runs, not steps'. Assumes nothing: these are definitions.
 -- What a reader has to believe for it, in reading order: specs of records (Words, Shapes, Rules, Good: the form of a tree), of syntax (Syntax,
 -- Decode: what it stands for), of conversion (ConvertError, Ir, Types, Scope, Expressions, Statements, Functions, Converter: typing and
--- conversion; Written: the bytes), of tables (Read: what bytes say), of runs (Rule, TreeRun, BodyRun, Shared: both runs), and this file.
+-- conversion; Written: the bytes; Rule, TreeRun, BodyRun, Shared: both runs), of tables (Read: what bytes say), and this file.
 use mathlib.Core.Path.{_≡_}
 use Prim.Native.Nat.{ℕ}
 use mathlib.Core.Bool.{Bool}

@@ -1,5 +1,5 @@
--- Instances of the theorem `demand3` (crate runs), computed: for the program, the functions, the rule, the parameters and the first contents of the variables written
--- here, the tree's run and the run of the body that `convert` gives make the same calls and end alike. By computing both runs. Assumes nothing.
+-- Instances of the theorem `demand3` (crate runs): for the program, rule, parameters and first contents below, the tree's run and the run of the body that `convert` gives make the same calls and end alike.
+-- By computing both runs: each comes to what is written here, so that a conversion or a run that errs is seen. Assumes nothing.
 use mathlib.Core.Path.{_≡_, refl}
 use Prim.Native.Nat.{ℕ, zero, suc, _+_}
 use mathlib.Core.Bool.{Bool, true, false}
@@ -24,47 +24,47 @@ use Rattle.conversion.specs.Shared.{bit, callsT, endT, callsB, endB, bod
 
 -- ---- the program: types 0 (Int) and 6 (Bool); two external functions, `a` (ask, record 50) and `b` (bound, record 51)
 
-typeOf : ℕ → Ty
+unfoldable pub typeOf : ℕ → Ty
 unfolding pick
 typeOf y = pick (eqb y 0) (TInt false false) (pick (eqb y 6) TBool TNull)
 
-rate : Text
+unfoldable pub rate : Text
 rate = 114 ∷ []
 
-ask : Function
+unfoldable pub ask : Function
 ask = record { recOf = 50; name = 97 ∷ []; mangledName = 97 ∷ []; returnType = some 6; params = record { recOf = 40; name = rate; ty = 0 } ∷ []; variadic = false; body = none; external = true }
 
-bound : Function
+unfoldable pub bound : Function
 bound = record { recOf = 51; name = 98 ∷ []; mangledName = 98 ∷ []; returnType = some 0; params = []; variadic = false; body = none; external = true }
 
 -- return rate > 0 and ask(rate)
-pub guardBody : Block
+unfoldable pub guardBody : Block
 guardBody = next (SReturn 30 (EBinary 20 And (EBinary 21 Gt (EName 22 rate) (EInt 23 (pos 0) false false)) (ECall 24 (97 ∷ []) (Value 25 (EName 26 rate) noArgs)))) done
 
-pub guard : Function
+unfoldable pub guard : Function
 guard = record { recOf = 52; name = 200 ∷ []; mangledName = 200 ∷ []; returnType = some 6; params = record { recOf = 41; name = rate; ty = 0 } ∷ []; variadic = false; body = some guardBody; external = false }
 
 -- return rate > 2 or ask(rate)
-pub eitherBody : Block
+unfoldable pub eitherBody : Block
 eitherBody = next (SReturn 35 (EBinary 20 Or (EBinary 21 Gt (EName 22 rate) (EInt 23 (pos 2) false false)) (ECall 24 (97 ∷ []) (Value 25 (EName 26 rate) noArgs)))) done
 
-pub either : Function
+unfoldable pub either : Function
 either = record { recOf = 54; name = 202 ∷ []; mangledName = 202 ∷ []; returnType = some 6; params = record { recOf = 42; name = rate; ty = 0 } ∷ []; variadic = false; body = some eitherBody; external = false }
 
 -- for rate from 0 until bound(): if ask(rate): continue; bound()
-pub loopBody : Block
+unfoldable pub loopBody : Block
 loopBody = next (SFor 31 rate (some 0) (EInt 60 (pos 0) false false) (ECall 61 (98 ∷ []) noArgs)
     (next (SIf 32 (ECall 62 (97 ∷ []) (Value 63 (EName 64 rate) noArgs)) (next (SContinue 33) done)) (next (SCall 34 (ECall 65 (98 ∷ []) noArgs)) done))) done
 
-pub loop : Function
+unfoldable pub loop : Function
 loop = record { recOf = 53; name = 201 ∷ []; mangledName = 201 ∷ []; returnType = none; params = []; variadic = false; body = some loopBody; external = false }
 
-pub program : Program
+unfoldable pub program : Program
 program = record { functions = ask ∷ bound ∷ guard ∷ loop ∷ either ∷ []; typeOf = typeOf; keyOf = λ y. [] }
 
 -- ---- the rule: numbers; a copy into Bool makes 0 or 1; `ask` answers 5 for an odd number, else 0; `bound` answers 2
 
-number : Content → ℕ
+unfoldable pub number : Content → ℕ
 number (IntContent (pos n)) = n
 number (IntContent (negsuc n)) = 0
 number (FloatContent b) = 0
@@ -72,7 +72,7 @@ number (BoolContent b) = bit b
 number (StringContent t) = 0
 number NullContent = 0
 
-compute : BinaryOp → ℕ → ℕ → ℕ
+unfoldable pub compute : BinaryOp → ℕ → ℕ → ℕ
 compute Gt a b = bit (ltb b a)
 compute Lt a b = bit (ltb a b)
 compute Add a b = a + b
@@ -92,17 +92,17 @@ compute Mul a b = 0
 compute Div a b = 0
 compute Rem a b = 0
 
-odd : ℕ → Bool
+unfoldable pub odd : ℕ → Bool
 odd zero = false
 odd (suc zero) = true
 odd (suc (suc n)) = odd n
 
-answer : ℕ → List (Typed ℕ) → ℕ
+unfoldable pub answer : ℕ → List (Typed ℕ) → ℕ
 unfolding pick odd
 answer f [] = 2
 answer f (v ∷ vs) = pick (odd (v .1)) 5 0
 
-rule : Rule ℕ
+unfoldable pub rule : Rule ℕ
 unfolding number compute answer pick
 rule = record {
   literal = λ c y. number c;
@@ -118,26 +118,26 @@ rule = record {
 
 -- ---- the two runs, as the claim takes them
 
-functions : Result Functions → Functions
+unfoldable pub functions : Result Functions → Functions
 functions (ok F) = F
 functions (err k r) = []
 
-pub converted : Result IrProgram → IrProgram
+unfoldable pub converted : Result IrProgram → IrProgram
 converted (ok ir) = ir
 converted (err k r) = record { funcs = []; strings = []; floats = [] }
 
-pub codeOf : List IrFunction → ℕ → List Instr
+unfoldable pub codeOf : List IrFunction → ℕ → List Instr
 codeOf [] n = []
 codeOf (g ∷ l) zero = elim (g .body) [ none ↦ [] | some c ↦ c ]
 codeOf (g ∷ l) (suc n) = codeOf l n
 
 -- f with the body b, called with vs
-pub treeOf : Function → Block → List ℕ → ℕ → Out ℕ
+unfoldable pub treeOf : Function → Block → List ℕ → ℕ → Out ℕ
 unfolding program ask bound guard either loop guardBody eitherBody rate typeOf loopBody functions get-all-functions rule number compute answer odd pick asked treeRun parametersKnown parameterValues set runStatement bindS bindO giveBack evalExpr typed scopeOf Tree.variables evalBinary evalAnd evalOr toBool answered bindG test evalOther replied handed fit fitLiteral fitComputed read readAll literalType content bare callWith fitArguments get-type common-type unwrapOr resolve-call parameterType testO bindT typedO forOver forInt forLoop rounds onInt typeIn knownAfter callStatement callOnly asCall
 treeOf f b vs = treeRun program (functions (get-all-functions (program .functions) [])) f rule (asked rule) b vs
 
 -- f, the i-th function that is made, begun with the variables' contents ρ
-pub madeOf : ℕ → Function → Vars ℕ → ℕ → Spot ℕ
+unfoldable pub madeOf : ℕ → Function → Vars ℕ → ℕ → Spot ℕ
 unfolding program ask bound guard either loop guardBody eitherBody rate typeOf loopBody rule number compute answer odd pick asked converted codeOf convert bodyRun steps step fetch execute putTo dropTo putReply dropReply branchTo finishWith operand datum read literalType content write labelPlace isLabel bodyOf texts
 madeOf i f ρ = bodyRun rule (asked rule) (bodyOf f (codeOf (converted (convert program false) .funcs) i) (converted (convert program false))) ρ
 
@@ -147,7 +147,7 @@ pub record BothEnd (tree : ℕ → Out ℕ) (body : ℕ → Spot ℕ) (e : Endin
   pub ofBody : (n : ℕ) × (endB (body n) ≡ some e) × (callsB (body n) ≡ h)
 
 -- the parameter in place, 7 in the other variables
-pub begin : ℕ → Vars ℕ
+unfoldable pub begin : ℕ → Vars ℕ
 unfolding pick
 begin r x = pick (eqb x 0) r 7
 

@@ -15,3 +15,4 @@ pub mod Whole
 pub mod Returns
 pub mod OneFunction
 pub mod Demand3
+pub mod Instance
