@@ -82,6 +82,7 @@ pub record StringEntry : Type 0 where
   pub len : ℕ
   pub text : Text
 
+-- what strings say
 unfoldable pub texts : List StringEntry → List Text
 texts [] = []
 texts (e ∷ l) = e .text ∷ texts l
