@@ -15,7 +15,7 @@ use Rattle.records.specs.Words.{byteAt, wordAt, textAt}
 use Rattle.conversion.specs.Ir.{LabelName, StringEntry, FloatEntry, position, sameLabel, sameText, sameFloat}
 use Rattle.conversion.specs.Written.{bytesOf, word, wide, boolNumber, encodeLabel, encodeString, encodeFloat, allLabels}
 use Rattle.ir.specs.declared.structs.Counters.{Counters}
-use Rattle.ir.specs.Arena.{Table, All, Tables, LabelFits, StringStands, FloatFits, Holds}
+use Rattle.ir.specs.Arena.{Table, All, Tables, LabelFits, StringStands, FloatFits, FloatAt, Holds}
 use Rattle.ir.specs.Steps.{named}
 use Rattle.ir.specs.Search.{first, pairAt, textOf, fourAt}
 use Rattle.ir.proofs.Entries.{table-word}
@@ -104,7 +104,7 @@ no-label = named 0 0
 no-string : StringEntry
 no-string = record { offset = 0; len = 0; text = [] }
 
-no-float : FloatEntry
+abbrev pub no-float : FloatEntry
 no-float = record { bits = 0; short = false }
 
 module _ (text : List ℕ) (t : Tables) (k : Counters) (l : List ℕ) (h : Holds text t k l) where
@@ -156,20 +156,26 @@ module _ (text : List ℕ) (t : Tables) (k : Counters) (l : List ℕ) (h : Holds
       first-position (λ x. sameText u (x .text)) no-string (textOf text l (196 * k .records) u) (t .state .strings)
       (k .strings) (h .strings-hold .count) (string-same u)
 
+  -- entry j of the floats
+  pub floats-at : (j : ℕ) → j < length (t .state .floats) → FloatAt l (204 * k .records + 16 * j) (getD (t .state .floats) j no-float)
+  floats-at j hj =
+      let x : FloatEntry = getD (t .state .floats) j no-float in
+      let f : FloatFits x = all-at FloatFits (t .state .floats) no-float j (h .floats-fit) hj in
+      let c : j < k .floats = omega (arith, h .floats-hold .count) in record {
+        low = table-word (h .floats-hold) no-float j 0 (204 * k .records + 16 * j) c (omega arith) (omega arith) ∙ float-low x;
+        high = table-word (h .floats-hold) no-float j 4 (204 * k .records + 16 * j + 4) c (omega arith) (omega arith) ∙ float-high x f;
+        mark = table-word (h .floats-hold) no-float j 8 (204 * k .records + 16 * j + 8) c (omega arith) (omega arith) ∙ float-mark x;
+      }
+
   float-same : (e : FloatEntry) (j : ℕ) → j < length (t .state .floats)
       → fourAt l (204 * k .records) (e .bits % 4294967296) (e .bits / 4294967296) (boolNumber (e .short)) j ≡ sameFloat e (getD (t .state .floats) j no-float)
   unfolding fourAt sameFloat
   float-same e j hj =
       let x : FloatEntry = getD (t .state .floats) j no-float in
-      let f : FloatFits (getD (t .state .floats) j no-float) = all-at FloatFits (t .state .floats) no-float j (h .floats-fit) hj in
-      let c : j < k .floats = omega (arith, h .floats-hold .count) in
+      let a : FloatAt l (204 * k .records + 16 * j) x = floats-at j hj in
       ap₂ (λ (p q : Bool). p && q)
-      (ap₂ (λ (p q : ℕ). eqb (e .bits % 4294967296) p && eqb (e .bits / 4294967296) q)
-      (table-word (h .floats-hold) no-float j 0 (204 * k .records + 16 * j) c (omega arith) (omega arith) ∙ float-low x)
-      (table-word (h .floats-hold) no-float j 4 (204 * k .records + 16 * j + 4) c (omega arith) (omega arith) ∙ float-high x f)
-      ∙ halves (e .bits) (x .bits))
-      (ap (eqb (boolNumber (e .short))) (table-word (h .floats-hold) no-float j 8 (204 * k .records + 16 * j + 8) c (omega arith) (omega arith) ∙ float-mark x)
-      ∙ marks (e .short) (x .short))
+      (ap₂ (λ (p q : ℕ). eqb (e .bits % 4294967296) p && eqb (e .bits / 4294967296) q) (a .low) (a .high) ∙ halves (e .bits) (x .bits))
+      (ap (eqb (boolNumber (e .short))) (a .mark) ∙ marks (e .short) (x .short))
 
   pub floats-read : (e : FloatEntry)
       → first (k .floats) (fourAt l (204 * k .records) (e .bits % 4294967296) (e .bits / 4294967296) (boolNumber (e .short))) 0 ≡ position (sameFloat e) (t .state .floats)
