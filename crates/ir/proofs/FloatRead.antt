@@ -1,10 +1,10 @@
 -- A float read back: the words of an entry are its bits and its mark, `floatBits` is two of them, and the entry that `float_id` numbers is the one asked for.
 -- By the table's law, and by where the search finds it. Assumes nothing.
 use mathlib.Core.Path.{_≡_, refl, sym, ap, ap₂, _∙_, subst}
-use mathlib.Core.Bool.{Bool, true, false, _&&_, Bool·beq}
+use mathlib.Core.Bool.{Bool, true, false, Bool·beq}
 use mathlib.Core.List.{List, [], _∷_, _++_}
 use mathlib.Core.Option.{Option, none, some}
-use Prim.Native.Nat.{ℕ, _+_, _*_, _/_, _%_, _<_}
+use Prim.Native.Nat.{ℕ, zero, suc, _+_, _*_, _≤_, _<_}
 use native.Mathlib.Omega.{arith}
 use lib.Dec.{eqb}
 use lib.ListN.{length, getD, length-append}
@@ -12,7 +12,7 @@ use lib.Seq.{getD-append-add}
 use borrow.Author.Tests.{eqb-true}
 use Rattle.laws.proofs.Tests.{and-left, and-right}
 use Rattle.records.specs.Words.{wordAt}
-use Rattle.conversion.specs.Ir.{State, FloatEntry, position, numbered, sameFloat, float-id, floatBits}
+use Rattle.conversion.specs.Ir.{FloatEntry, position, numbered, sameFloat, float-id, floatBits}
 use Rattle.conversion.specs.Written.{boolNumber}
 use Rattle.ir.specs.declared.structs.Counters.{Counters}
 use Rattle.ir.specs.declared.pool.PoolNumber.the-variants as PoolNumber
@@ -38,19 +38,32 @@ mark-is false = refl
 pub short-read : (l : List ℕ) (p : ℕ) (x : FloatEntry) → FloatAt l p x → eqb (wordAt l (p + 8)) 1 ≡ x .short
 short-read l p x a = ap (λ (w : ℕ). eqb w 1) (a .mark) ∙ mark-is (x .short)
 
--- `floatBits` of an entry that is counted: its first two words
-pub bits-next : (k : Counters) (l : List ℕ) (i : ℕ) → Room k l → i < k .floats
-    → Next (floatBits i) k l (wordAt l (204 * k .records + 16 * i) + wordAt l (204 * k .records + 16 * i + 4) * 4294967296) k l
-unfolding Stands floatBits
-bits-next k l i room h = record {
-  room = room;
-  records = refl;
-  stands = λ text t holds. (
-    bits-read l (204 * k .records + 16 * i) (getD (t .state .floats) i no-float)
-        (floats-at text t k l holds i (omega (arith, holds .floats-hold .count))),
-    no-code text t k l room holds (t .state) k l holds,
-  );
-}
+past-end : (l : List FloatEntry) (i : ℕ) → length l ≤ i → getD l i no-float ≡ no-float
+past-end [] i h = refl
+past-end (x ∷ l) zero h = absurd (omega arith)
+past-end (x ∷ l) (suc i) h = past-end l i (omega arith)
+
+-- `floatBits` of an entry that is counted: its first two words; past the last it is 0
+module _ (k : Counters) (l : List ℕ) (i : ℕ) (room : Room k l) where
+  bits-are : (b : ℕ) → ((text : List ℕ) (t : Tables) → Holds text t k l → b ≡ getD (t .state .floats) i no-float .bits) → Next (floatBits i) k l b k l
+  unfolding Stands floatBits
+  bits-are b f = record {
+    room = room;
+    records = refl;
+    stands = λ text t h. (f text t h, no-code text t k l room h (t .state) k l h);
+  }
+
+  pub bits-next : i < k .floats → Next (floatBits i) k l (wordAt l (204 * k .records + 16 * i) + wordAt l (204 * k .records + 16 * i + 4) * 4294967296) k l
+  bits-next h = bits-are _ (λ text t holds. bits-read l (204 * k .records + 16 * i) (getD (t .state .floats) i no-float)
+      (floats-at text t k l holds i (omega (arith, holds .floats-hold .count))))
+
+  -- as the code loads them
+  pub bits-loaded : (x y : ℕ) → i < k .floats → x ≡ wordAt l (204 * k .records + 16 * i) → y ≡ wordAt l (204 * k .records + 16 * i + 4)
+      → Next (floatBits i) k l (x + y * 4294967296) k l
+  bits-loaded x y h ex ey = rw (ex, ey) (bits-next h)
+
+  pub bits-none : k .floats ≤ i → Next (floatBits i) k l 0 k l
+  bits-none h = bits-are 0 (λ text t holds. ap (λ (x : FloatEntry). x .bits) (sym (past-end (t .state .floats) i (omega (arith, holds .floats-hold .count)))))
 
 -- ---- what `float_id` wrote, or found
 

@@ -1,7 +1,7 @@
 -- Steps in a row: what two steps owe one after the other is what the definition's `>>=` owes, and an error ends both.
 -- By cases of what the first step gives; the code of both is one list. Assumes nothing.
 use mathlib.Core.Path.{_≡_, refl, sym, ap, _∙_, subst}
-use mathlib.Core.List.{List, [], _∷_, _++_, append-assoc}
+use mathlib.Core.List.{List, append-assoc}
 use Prim.Native.Nat.{ℕ}
 use Rattle.conversion.specs.ConvertError.{ConvertErrorKind, Result, ok, err}
 use Rattle.conversion.specs.Ir as Ir

@@ -15,12 +15,11 @@ use Rattle.laws.specs.Splice.{splice}
 use Rattle.laws.proofs.Splices.{length-splice, drop-splice}
 use Rattle.records.specs.Words as Words
 use Rattle.records.specs.Words.{wordAt, textAt}
-use Rattle.conversion.specs.ConvertError.{Result, ok, err, AlreadyDeclared}
+use Rattle.conversion.specs.ConvertError.{ok, err, AlreadyDeclared}
 use Rattle.conversion.specs.Scope as Defined
 use Rattle.conversion.specs.Scope.{Variable, findIn, find-variable, declare, declareNew, withVariable, withLoop}
 use Rattle.conversion.specs.Written.{bytesOf, word, boolNumber}
 use Rattle.ir.specs.declared.structs.VarId.{VarId}
-use Rattle.ir.specs.Instructions.{varOf}
 use Rattle.ir.proofs.Entries.{word-same}
 use Rattle.scope.specs.declared.Scope.{Scope}
 use Rattle.scope.specs.declared.Known.the-variants as Known
@@ -28,7 +27,7 @@ use Rattle.scope.specs.declared.Declared.{Declared}
 use Rattle.scope.specs.declared.Declared.the-variants as Declared
 use Rattle.scope.specs.declared.InLoop.{InLoop}
 use Rattle.scope.specs.declared.InLoop.the-variants as InLoop
-use Rattle.scope.specs.Open.{Entry, Open, Stands, Room, IsFound, FindMeets, more, variable, Added, Taken, DeclareMeets, loopOf, Kept, loopNumber, Is, Finds}
+use Rattle.scope.specs.Open.{Entry, Open, Stands, Room, IsFound, FindMeets, variable, Taken, DeclareMeets, loopOf, Kept, loopNumber, Is, Finds}
 
 -- ---- bytes that stay
 
