@@ -1,5 +1,6 @@
 pub mod Answers
 pub mod ArenaFits
+pub mod CutLaws
 pub mod Entries
 pub mod FloatLaws
 pub mod FloatRead
