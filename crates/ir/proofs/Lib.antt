@@ -10,5 +10,6 @@ pub mod Operators
 pub mod ReadBack
 pub mod SearchLaws
 pub mod StepLaws
+pub mod StepUses
 pub mod TextLaws
 pub mod WordLaws

@@ -1,6 +1,6 @@
 -- What callers cite: a scope stands as long as its names' bytes do, so also when a block is left; and `declare`, `find_variable` and the loop are the definition's.
 -- By recursion over the variables, byte for byte, and by unfolding the definition's functions. Assumes nothing.
-use mathlib.Core.Path.{_≡_, refl, sym, ap, ap₂, _∙_}
+use mathlib.Core.Path.{_≡_, refl, sym, ap, ap₂, _∙_, subst}
 use Prim.Native.Nat.{ℕ, _+_, _-_, _*_, _/_, _%_, _≤_, _<_}
 use mathlib.Core.Bool.{Bool, true, false}
 use mathlib.Core.List.{List, [], _∷_, _++_}
@@ -121,6 +121,15 @@ declare-keeps text offset len v constant sc s (Declared.Done sc′) s′ room d 
     (omega (arith, room .scratch, d .1 .names-in)) (omega arith)
 declare-keeps text offset len v constant sc s Declared.Taken s′ room d = rw (d .0) (kept-refl (sc .records) (sc .names) s)
 declare-keeps text offset len v constant sc s Declared.Full s′ room d = rw (d .0) (kept-refl (sc .records) (sc .names) s)
+
+-- a block is left: a name was declared, and then what follows kept it with those before; those before stay
+pub block-keeps : (text : List ℕ) (offset len : ℕ) (v : VarId) (constant : Bool) (sc sc′ : Scope) (s s₁ s₂ : List ℕ) → Room sc s
+    → DeclareMeets text offset len v constant sc s (Declared.Done sc′) s₁ → Kept (sc′ .records) (sc′ .names) s₁ s₂ → Kept (sc .records) (sc .names) s s₂
+unfolding DeclareMeets
+block-keeps text offset len v constant sc sc′ s s₁ s₂ room d k =
+    kept-then (sc .records) (sc .names) (sc .names + 1) s s₁ s₂ (omega arith)
+    (declare-keeps text offset len v constant sc s (Declared.Done sc′) s₁ room d)
+    (subst (λ (x : Scope). Kept (x .records) (x .names) s₁ s₂) (d .0) k)
 
 -- ---- the definition's scope
 
