@@ -116,7 +116,7 @@ module _ (text : List ℕ) (t : Tables) (k : Counters) (l l′ vs ys fs ss xs : 
   pub functions-are : fs ≡ alone (tablesOf (written t) .functions) (length fs)
   unfolding tablesOf
   functions-are =
-      let n : 32 * k .functions ≡ length (encodeFunctions 0 0 0 (t .done)) = omega (arith, functions-length 0 0 0 (t .done), h .functions-count) in
+      let n : 32 * k .functions ≡ length (encodeFunctions 0 0 0 (t .done)) = omega (arith, functions-length 0 0 0 (t .done), h .before .functions-count) in
       c .of-functions .functions-cut ∙ ap (λ (b : List ℕ). alone b (length fs)) (ap (part l (164 * k .records)) n ∙ h .functions-hold .is)
 
   pub strings-are : ss ≡ alone (tablesOf (written t) .strings) (length ss)
