@@ -69,7 +69,7 @@ var-done y v k l l′ room small e₀ e₁ e =
         room = omega (arith, room, len);
         records = refl;
         stands = λ text t h.
-            let count : v .0 ≡ length (t .state .vars) = omega (arith, e₀, h .variables-hold .count, h .variables-before, length-append (allVars (t .done)) (t .state .vars)) in
+            let count : v .0 ≡ length (t .state .vars) = omega (arith, e₀, h .variables-hold .count, h .before .variables-before, length-append (allVars (t .done)) (t .state .vars)) in
             (ap₂ variable count e₁, var-holds text t k l room h y l′ small e);
       },
       e,
@@ -160,7 +160,7 @@ label-new kind opener k l l′ (LabelNumber.Is x k′) room hk ho q m =
         stands = λ text t h.
             added text t (moreLabels k) l′ (position (sameLabel (named kind opener)) (t .state .labels)) (withLabel (named kind opener) (t .state))
             (length (t .state .labels)) (x .0) (sym (labels-read text t k l h kind opener) ∙ q)
-            (omega (arith, m .0, h .labels-hold .count, h .labels-before, length-append (allLabels (t .done)) (t .state .labels)))
+            (omega (arith, m .0, h .labels-hold .count, h .before .labels-before, length-append (allLabels (t .done)) (t .state .labels)))
             (label-holds text t k l room h (named kind opener) l′ (record { kind = hk; opener = ho }) small e);
       }),
       inl e,

@@ -99,19 +99,19 @@ module _ (r : ℕ) (body : Bool) (b : ℕ) (eb : b ≡ boolNumber body) (k : Cou
       f = record { func = r; body = pick body (some (t .code)) none; vars = t .state .vars; labels = t .state .labels }
 
       code-count : k .instructions - k .instructions0 ≡ length (codeOf (f .body))
-      code-count = omega (arith, h .instructions-hold .count, h .instructions-before, length-append (allCode (t .done)) (t .code), ap length (body-code body (t .code) bare))
+      code-count = omega (arith, h .instructions-hold .count, h .before .instructions-before, length-append (allCode (t .done)) (t .code), ap length (body-code body (t .code) bare))
 
       vars-count : k .variables - k .variables0 ≡ length (t .state .vars)
-      vars-count = omega (arith, h .variables-hold .count, h .variables-before, length-append (allVars (t .done)) (t .state .vars))
+      vars-count = omega (arith, h .variables-hold .count, h .before .variables-before, length-append (allVars (t .done)) (t .state .vars))
 
       labels-count : k .labels - k .labels0 ≡ length (t .state .labels)
-      labels-count = omega (arith, h .labels-hold .count, h .labels-before, length-append (allLabels (t .done)) (t .state .labels))
+      labels-count = omega (arith, h .labels-hold .count, h .before .labels-before, length-append (allLabels (t .done)) (t .state .labels))
 
       words-entry : words ≡ entry (0 + length (allCode (t .done))) (0 + length (allVars (t .done))) (0 + length (allLabels (t .done))) f
       words-entry =
-          let a : k .instructions0 ≡ 0 + length (allCode (t .done)) = omega (arith, h .instructions-before) in
-          let c : k .variables0 ≡ 0 + length (allVars (t .done)) = omega (arith, h .variables-before) in
-          let d : k .labels0 ≡ 0 + length (allLabels (t .done)) = omega (arith, h .labels-before) in
+          let a : k .instructions0 ≡ 0 + length (allCode (t .done)) = omega (arith, h .before .instructions-before) in
+          let c : k .variables0 ≡ 0 + length (allVars (t .done)) = omega (arith, h .before .variables-before) in
+          let d : k .labels0 ≡ 0 + length (allLabels (t .done)) = omega (arith, h .before .labels-before) in
           rw (eb ∙ sym (body-mark body (t .code)), code-count, vars-count, labels-count, a, c, d)
 
       code-list : allCode (t .done ++ (f ∷ [])) ++ [] ≡ allCode (t .done) ++ t .code
@@ -135,16 +135,16 @@ module _ (r : ℕ) (body : Bool) (b : ℕ) (eb : b ≡ boolNumber body) (k : Cou
         functions-hold = subst (λ (x : List ℕ). Has l′ (164 * k .records) x)
             (ap (λ (x : List ℕ). encodeFunctions 0 0 0 (t .done) ++ x) words-entry ∙ sym (functions-more 0 0 0 (t .done) f))
             (has-grown l place words l′ e fit (164 * k .records) (encodeFunctions 0 0 0 (t .done))
-            (omega (arith, functions-length 0 0 0 (t .done), h .functions-count)) (h .functions-hold));
+            (omega (arith, functions-length 0 0 0 (t .done), h .before .functions-count)) (h .functions-hold));
         strings-hold = table-behind (h .strings-hold) place words l′ e fit (omega (arith, words-length));
         floats-hold = table-behind (h .floats-hold) place words l′ e fit (omega (arith, words-length));
-        functions-count = simp length-append (omega (arith, h .functions-count));
-        instructions-before = h .instructions-hold .count ∙ ap length (sym code-list ∙ append-nil (allCode (t .done ++ (f ∷ []))));
-        variables-before = h .variables-hold .count ∙ ap length (sym vars-list ∙ append-nil (allVars (t .done ++ (f ∷ []))));
-        labels-before = h .labels-hold .count ∙ ap length (sym labels-list ∙ append-nil (allLabels (t .done ++ (f ∷ []))));
-        labels-fit = tt;
-        strings-stand = h .strings-stand;
-        floats-fit = h .floats-fit;
+        before = record {
+          functions-count = simp length-append (omega (arith, h .before .functions-count));
+          instructions-before = h .instructions-hold .count ∙ ap length (sym code-list ∙ append-nil (allCode (t .done ++ (f ∷ []))));
+          variables-before = h .variables-hold .count ∙ ap length (sym vars-list ∙ append-nil (allVars (t .done ++ (f ∷ []))));
+          labels-before = h .labels-hold .count ∙ ap length (sym labels-list ∙ append-nil (allLabels (t .done ++ (f ∷ []))));
+        };
+        fits = record { labels-fit = tt; strings-stand = h .fits .strings-stand; floats-fit = h .fits .floats-fit };
       }
 
     pub function-done : FunctionMeets r body k l (Emitted.Done (nextFunction k)) l′

@@ -36,7 +36,31 @@ withFloat x s = record { vars = s .vars; labels = s .labels; strings = s .string
 
 module _ (text : List ℕ) (t : Tables) (k : Counters) (l : List ℕ) (room : Room k l) (h : Holds text t k l) where
   functions-end : length (encodeFunctions 0 0 0 (t .done)) ≡ 32 * k .functions
-  functions-end = functions-length 0 0 0 (t .done) ∙ omega (arith, h .functions-count)
+  functions-end = functions-length 0 0 0 (t .done) ∙ omega (arith, h .before .functions-count)
+
+  -- what a write behind the functions' tables leaves of them, and what one before the functions' entries leaves of those and the program's tables
+  module _ (i : ℕ) (vs l′ : List ℕ) (e : l′ ≡ splice l i vs) (fit : i + length vs ≤ length l) where
+    front : 196 * k .records ≤ i
+        → Table encodeInstr 32 (allCode (t .done) ++ t .code) (0 * k .records) (k .instructions) l′
+        × Table encodeVar 4 (allVars (t .done) ++ t .state .vars) (128 * k .records) (k .variables) l′
+        × Table encodeLabel 8 (allLabels (t .done) ++ t .state .labels) (140 * k .records) (k .labels) l′
+        × Has l′ (164 * k .records) (encodeFunctions 0 0 0 (t .done))
+    front b = (
+      table-before (h .instructions-hold) i vs l′ e fit (omega (arith, room .instructions-in)),
+      table-before (h .variables-hold) i vs l′ e fit (omega (arith, room .variables-in)),
+      table-before (h .labels-hold) i vs l′ e fit (omega (arith, room .labels-in)),
+      has-before l i vs l′ e fit (164 * k .records) (encodeFunctions 0 0 0 (t .done)) (omega (arith, functions-end, room .functions-in)) (h .functions-hold),
+    )
+
+    back : i + length vs ≤ 164 * k .records
+        → Has l′ (164 * k .records) (encodeFunctions 0 0 0 (t .done))
+        × Table encodeString 8 (t .state .strings) (196 * k .records) (k .strings) l′
+        × Table encodeFloat 16 (t .state .floats) (204 * k .records) (k .floats) l′
+    back b = (
+      has-behind l i vs l′ e fit (164 * k .records) (encodeFunctions 0 0 0 (t .done)) b (h .functions-hold),
+      table-behind (h .strings-hold) i vs l′ e fit (omega arith),
+      table-behind (h .floats-hold) i vs l′ e fit (omega arith),
+    )
 
   -- nothing emitted
   pub no-code : (s : State) (k′ : Counters) (l′ : List ℕ) → Holds text (record { done = t .done; code = t .code; state = s }) k′ l′ → Holds text (grown t [] s) k′ l′
@@ -50,6 +74,7 @@ module _ (text : List ℕ) (t : Tables) (k : Counters) (l : List ℕ) (room : Ro
       let w : length (encodeInstr i) ≡ 32 = h .instructions-hold .width i in
       let fit : at + length vs ≤ length l = omega (arith, w, room .arena) in
       let end : at + length vs ≤ 128 * k .records = omega (arith, w) in
+      let rest = back at vs l′ e fit (omega arith) in
       record {
         instructions-hold =
             subst (λ (c : List Ir.Instr). Table encodeInstr 32 c (0 * k .records) (k .instructions + 1) l′)
@@ -57,16 +82,11 @@ module _ (text : List ℕ) (t : Tables) (k : Counters) (l : List ℕ) (room : Ro
             (table-grown (h .instructions-hold) i at l′ e fit (omega arith));
         variables-hold = table-behind (h .variables-hold) at vs l′ e fit end;
         labels-hold = table-behind (h .labels-hold) at vs l′ e fit (omega arith);
-        functions-hold = has-behind l at vs l′ e fit (164 * k .records) (encodeFunctions 0 0 0 (t .done)) (omega arith) (h .functions-hold);
-        strings-hold = table-behind (h .strings-hold) at vs l′ e fit (omega arith);
-        floats-hold = table-behind (h .floats-hold) at vs l′ e fit (omega arith);
-        functions-count = h .functions-count;
-        instructions-before = h .instructions-before;
-        variables-before = h .variables-before;
-        labels-before = h .labels-before;
-        labels-fit = h .labels-fit;
-        strings-stand = h .strings-stand;
-        floats-fit = h .floats-fit;
+        functions-hold = rest .0;
+        strings-hold = rest .1;
+        floats-hold = rest .2;
+        before = h .before;
+        fits = h .fits;
       }
 
   pub var-holds : (y : ℕ) (l′ : List ℕ) → k .variables < 3 * k .records → l′ ≡ splice l (128 * k .records + 4 * k .variables) (encodeVar y)
@@ -77,6 +97,7 @@ module _ (text : List ℕ) (t : Tables) (k : Counters) (l : List ℕ) (room : Ro
       let w : length (encodeVar y) ≡ 4 = h .variables-hold .width y in
       let fit : at + length vs ≤ length l = omega (arith, w, room .arena) in
       let end : at + length vs ≤ 140 * k .records = omega (arith, w) in
+      let rest = back at vs l′ e fit (omega arith) in
       no-code (withVar y (t .state)) (moreVariables k) l′ (record {
         instructions-hold = table-before (h .instructions-hold) at vs l′ e fit (omega (arith, room .instructions-in));
         variables-hold =
@@ -84,16 +105,11 @@ module _ (text : List ℕ) (t : Tables) (k : Counters) (l : List ℕ) (room : Ro
             (append-assoc (allVars (t .done)) (t .state .vars) (y ∷ []))
             (table-grown (h .variables-hold) y at l′ e fit (omega arith));
         labels-hold = table-behind (h .labels-hold) at vs l′ e fit end;
-        functions-hold = has-behind l at vs l′ e fit (164 * k .records) (encodeFunctions 0 0 0 (t .done)) (omega arith) (h .functions-hold);
-        strings-hold = table-behind (h .strings-hold) at vs l′ e fit (omega arith);
-        floats-hold = table-behind (h .floats-hold) at vs l′ e fit (omega arith);
-        functions-count = h .functions-count;
-        instructions-before = h .instructions-before;
-        variables-before = h .variables-before;
-        labels-before = h .labels-before;
-        labels-fit = h .labels-fit;
-        strings-stand = h .strings-stand;
-        floats-fit = h .floats-fit;
+        functions-hold = rest .0;
+        strings-hold = rest .1;
+        floats-hold = rest .2;
+        before = h .before;
+        fits = h .fits;
       })
 
   pub label-holds : (x : LabelName) (l′ : List ℕ) → LabelFits x → k .labels < 3 * k .records
@@ -104,6 +120,7 @@ module _ (text : List ℕ) (t : Tables) (k : Counters) (l : List ℕ) (room : Ro
       let w : length (encodeLabel x) ≡ 8 = h .labels-hold .width x in
       let fit : at + length vs ≤ length l = omega (arith, w, room .arena) in
       let end : at + length vs ≤ 164 * k .records = omega (arith, w) in
+      let rest = back at vs l′ e fit end in
       no-code (withLabel x (t .state)) (moreLabels k) l′ (record {
         instructions-hold = table-before (h .instructions-hold) at vs l′ e fit (omega (arith, room .instructions-in));
         variables-hold = table-before (h .variables-hold) at vs l′ e fit (omega (arith, room .variables-in));
@@ -111,16 +128,11 @@ module _ (text : List ℕ) (t : Tables) (k : Counters) (l : List ℕ) (room : Ro
             subst (λ (c : List LabelName). Table encodeLabel 8 c (140 * k .records) (k .labels + 1) l′)
             (append-assoc (allLabels (t .done)) (t .state .labels) (x ∷ []))
             (table-grown (h .labels-hold) x at l′ e fit (omega arith));
-        functions-hold = has-behind l at vs l′ e fit (164 * k .records) (encodeFunctions 0 0 0 (t .done)) end (h .functions-hold);
-        strings-hold = table-behind (h .strings-hold) at vs l′ e fit (omega arith);
-        floats-hold = table-behind (h .floats-hold) at vs l′ e fit (omega arith);
-        functions-count = h .functions-count;
-        instructions-before = h .instructions-before;
-        variables-before = h .variables-before;
-        labels-before = h .labels-before;
-        labels-fit = all-more LabelFits (t .state .labels) x (h .labels-fit) fits;
-        strings-stand = h .strings-stand;
-        floats-fit = h .floats-fit;
+        functions-hold = rest .0;
+        strings-hold = rest .1;
+        floats-hold = rest .2;
+        before = h .before;
+        fits = record { labels-fit = all-more LabelFits (t .state .labels) x (h .fits .labels-fit) fits; strings-stand = h .fits .strings-stand; floats-fit = h .fits .floats-fit };
       })
 
   pub string-holds : (x : StringEntry) (l′ : List ℕ) → StringStands text x → k .strings < k .records
@@ -130,21 +142,17 @@ module _ (text : List ℕ) (t : Tables) (k : Counters) (l : List ℕ) (room : Ro
       let vs : List ℕ = encodeString x in
       let w : length (encodeString x) ≡ 8 = h .strings-hold .width x in
       let fit : at + length vs ≤ length l = omega (arith, w, room .arena) in
+      let rest = front at vs l′ e fit (omega arith) in
       let end : at + length vs ≤ 204 * k .records = omega (arith, w) in
       no-code (withString x (t .state)) (moreStrings k) l′ (record {
-        instructions-hold = table-before (h .instructions-hold) at vs l′ e fit (omega (arith, room .instructions-in));
-        variables-hold = table-before (h .variables-hold) at vs l′ e fit (omega (arith, room .variables-in));
-        labels-hold = table-before (h .labels-hold) at vs l′ e fit (omega (arith, room .labels-in));
-        functions-hold = has-before l at vs l′ e fit (164 * k .records) (encodeFunctions 0 0 0 (t .done)) (omega (arith, functions-end, room .functions-in)) (h .functions-hold);
+        instructions-hold = rest .0;
+        variables-hold = rest .1;
+        labels-hold = rest .2;
+        functions-hold = rest .3;
         strings-hold = table-grown (h .strings-hold) x at l′ e fit (omega arith);
         floats-hold = table-behind (h .floats-hold) at vs l′ e fit end;
-        functions-count = h .functions-count;
-        instructions-before = h .instructions-before;
-        variables-before = h .variables-before;
-        labels-before = h .labels-before;
-        labels-fit = h .labels-fit;
-        strings-stand = all-more (StringStands text) (t .state .strings) x (h .strings-stand) fits;
-        floats-fit = h .floats-fit;
+        before = h .before;
+        fits = record { labels-fit = h .fits .labels-fit; strings-stand = all-more (StringStands text) (t .state .strings) x (h .fits .strings-stand) fits; floats-fit = h .fits .floats-fit };
       })
 
   pub float-holds : (x : FloatEntry) (l′ : List ℕ) → FloatFits x → k .floats < 2 * k .records
@@ -154,18 +162,14 @@ module _ (text : List ℕ) (t : Tables) (k : Counters) (l : List ℕ) (room : Ro
       let vs : List ℕ = encodeFloat x in
       let w : length (encodeFloat x) ≡ 16 = h .floats-hold .width x in
       let fit : at + length vs ≤ length l = omega (arith, w, room .arena) in
+      let rest = front at vs l′ e fit (omega arith) in
       no-code (withFloat x (t .state)) (moreFloats k) l′ (record {
-        instructions-hold = table-before (h .instructions-hold) at vs l′ e fit (omega (arith, room .instructions-in));
-        variables-hold = table-before (h .variables-hold) at vs l′ e fit (omega (arith, room .variables-in));
-        labels-hold = table-before (h .labels-hold) at vs l′ e fit (omega (arith, room .labels-in));
-        functions-hold = has-before l at vs l′ e fit (164 * k .records) (encodeFunctions 0 0 0 (t .done)) (omega (arith, functions-end, room .functions-in)) (h .functions-hold);
+        instructions-hold = rest .0;
+        variables-hold = rest .1;
+        labels-hold = rest .2;
+        functions-hold = rest .3;
         strings-hold = table-before (h .strings-hold) at vs l′ e fit (omega (arith, room .strings-in));
         floats-hold = table-grown (h .floats-hold) x at l′ e fit (omega arith);
-        functions-count = h .functions-count;
-        instructions-before = h .instructions-before;
-        variables-before = h .variables-before;
-        labels-before = h .labels-before;
-        labels-fit = h .labels-fit;
-        strings-stand = h .strings-stand;
-        floats-fit = all-more FloatFits (t .state .floats) x (h .floats-fit) fits;
+        before = h .before;
+        fits = record { labels-fit = h .fits .labels-fit; strings-stand = h .fits .strings-stand; floats-fit = all-more FloatFits (t .state .floats) x (h .fits .floats-fit) fits };
       })

@@ -1,10 +1,15 @@
 pub mod Answers
+pub mod ArenaFits
+pub mod CutLaws
 pub mod Entries
 pub mod FloatLaws
+pub mod FloatRead
 pub mod FunctionDone
 pub mod Kept
 pub mod Operators
 pub mod ReadBack
 pub mod SearchLaws
+pub mod StepLaws
+pub mod StepUses
 pub mod TextLaws
 pub mod WordLaws

@@ -15,7 +15,7 @@ use Rattle.records.specs.Words.{byteAt, wordAt, textAt}
 use Rattle.conversion.specs.Ir.{LabelName, StringEntry, FloatEntry, position, sameLabel, sameText, sameFloat}
 use Rattle.conversion.specs.Written.{bytesOf, word, wide, boolNumber, encodeLabel, encodeString, encodeFloat, allLabels}
 use Rattle.ir.specs.declared.structs.Counters.{Counters}
-use Rattle.ir.specs.Arena.{Table, All, Tables, LabelFits, StringStands, FloatFits, Holds}
+use Rattle.ir.specs.Arena.{Table, All, Tables, LabelFits, StringStands, FloatFits, FloatAt, Holds}
 use Rattle.ir.specs.Steps.{named}
 use Rattle.ir.specs.Search.{first, pairAt, textOf, fourAt}
 use Rattle.ir.proofs.Entries.{table-word}
@@ -104,18 +104,18 @@ no-label = named 0 0
 no-string : StringEntry
 no-string = record { offset = 0; len = 0; text = [] }
 
-no-float : FloatEntry
+abbrev pub no-float : FloatEntry
 no-float = record { bits = 0; short = false }
 
 module _ (text : List ℕ) (t : Tables) (k : Counters) (l : List ℕ) (h : Holds text t k l) where
   -- entry j of the labels of the function at hand
   label-entry : (j : ℕ) → getD (allLabels (t .done) ++ t .state .labels) (k .labels0 + j) no-label ≡ getD (t .state .labels) j no-label
   label-entry j =
-      ap (λ (m : ℕ). getD (allLabels (t .done) ++ t .state .labels) (m + j) no-label) (h .labels-before)
+      ap (λ (m : ℕ). getD (allLabels (t .done) ++ t .state .labels) (m + j) no-label) (h .before .labels-before)
       ∙ getD-append-add (allLabels (t .done)) (t .state .labels) j no-label
 
   labels-count : k .labels ≡ k .labels0 + length (t .state .labels)
-  labels-count = h .labels-hold .count ∙ length-append (allLabels (t .done)) (t .state .labels) ∙ omega (arith, h .labels-before)
+  labels-count = h .labels-hold .count ∙ length-append (allLabels (t .done)) (t .state .labels) ∙ omega (arith, h .before .labels-before)
 
   label-word : (j b p : ℕ) → j < length (t .state .labels) → b + 4 ≤ 8 → p ≡ 140 * k .records + (8 * (k .labels0 + j) + b)
       → wordAt l p ≡ wordAt (encodeLabel (getD (t .state .labels) j no-label)) b
@@ -127,7 +127,7 @@ module _ (text : List ℕ) (t : Tables) (k : Counters) (l : List ℕ) (h : Holds
       → pairAt l (140 * k .records + 8 * k .labels0) kind opener j ≡ sameLabel (named kind opener) (getD (t .state .labels) j no-label)
   unfolding pairAt sameLabel
   label-same kind opener j hj =
-      let f : LabelFits (getD (t .state .labels) j no-label) = all-at LabelFits (t .state .labels) no-label j (h .labels-fit) hj in
+      let f : LabelFits (getD (t .state .labels) j no-label) = all-at LabelFits (t .state .labels) no-label j (h .fits .labels-fit) hj in
       ap₂ (λ (x y : ℕ). eqb kind x && eqb opener y)
       (label-word j 0 (140 * k .records + 8 * k .labels0 + 8 * j) hj (omega arith) (omega arith) ∙ label-kind (getD (t .state .labels) j no-label) f)
       (label-word j 4 (140 * k .records + 8 * k .labels0 + 8 * j + 4) hj (omega arith) (omega arith) ∙ label-opener (getD (t .state .labels) j no-label) f)
@@ -143,7 +143,7 @@ module _ (text : List ℕ) (t : Tables) (k : Counters) (l : List ℕ) (h : Holds
   unfolding textOf
   string-same u j hj =
       let x : StringEntry = getD (t .state .strings) j no-string in
-      let f : StringStands text (getD (t .state .strings) j no-string) = all-at (StringStands text) (t .state .strings) no-string j (h .strings-stand) hj in
+      let f : StringStands text (getD (t .state .strings) j no-string) = all-at (StringStands text) (t .state .strings) no-string j (h .fits .strings-stand) hj in
       ap (sameText u)
       (ap₂ (textAt text)
       (table-word (h .strings-hold) no-string j 0 (196 * k .records + 8 * j) (omega (arith, h .strings-hold .count)) (omega arith) (omega arith) ∙ string-offset text x f)
@@ -156,20 +156,26 @@ module _ (text : List ℕ) (t : Tables) (k : Counters) (l : List ℕ) (h : Holds
       first-position (λ x. sameText u (x .text)) no-string (textOf text l (196 * k .records) u) (t .state .strings)
       (k .strings) (h .strings-hold .count) (string-same u)
 
+  -- entry j of the floats
+  pub floats-at : (j : ℕ) → j < length (t .state .floats) → FloatAt l (204 * k .records + 16 * j) (getD (t .state .floats) j no-float)
+  floats-at j hj =
+      let x : FloatEntry = getD (t .state .floats) j no-float in
+      let f : FloatFits x = all-at FloatFits (t .state .floats) no-float j (h .fits .floats-fit) hj in
+      let c : j < k .floats = omega (arith, h .floats-hold .count) in record {
+        low = table-word (h .floats-hold) no-float j 0 (204 * k .records + 16 * j) c (omega arith) (omega arith) ∙ float-low x;
+        high = table-word (h .floats-hold) no-float j 4 (204 * k .records + 16 * j + 4) c (omega arith) (omega arith) ∙ float-high x f;
+        mark = table-word (h .floats-hold) no-float j 8 (204 * k .records + 16 * j + 8) c (omega arith) (omega arith) ∙ float-mark x;
+      }
+
   float-same : (e : FloatEntry) (j : ℕ) → j < length (t .state .floats)
       → fourAt l (204 * k .records) (e .bits % 4294967296) (e .bits / 4294967296) (boolNumber (e .short)) j ≡ sameFloat e (getD (t .state .floats) j no-float)
   unfolding fourAt sameFloat
   float-same e j hj =
       let x : FloatEntry = getD (t .state .floats) j no-float in
-      let f : FloatFits (getD (t .state .floats) j no-float) = all-at FloatFits (t .state .floats) no-float j (h .floats-fit) hj in
-      let c : j < k .floats = omega (arith, h .floats-hold .count) in
+      let a : FloatAt l (204 * k .records + 16 * j) x = floats-at j hj in
       ap₂ (λ (p q : Bool). p && q)
-      (ap₂ (λ (p q : ℕ). eqb (e .bits % 4294967296) p && eqb (e .bits / 4294967296) q)
-      (table-word (h .floats-hold) no-float j 0 (204 * k .records + 16 * j) c (omega arith) (omega arith) ∙ float-low x)
-      (table-word (h .floats-hold) no-float j 4 (204 * k .records + 16 * j + 4) c (omega arith) (omega arith) ∙ float-high x f)
-      ∙ halves (e .bits) (x .bits))
-      (ap (eqb (boolNumber (e .short))) (table-word (h .floats-hold) no-float j 8 (204 * k .records + 16 * j + 8) c (omega arith) (omega arith) ∙ float-mark x)
-      ∙ marks (e .short) (x .short))
+      (ap₂ (λ (p q : ℕ). eqb (e .bits % 4294967296) p && eqb (e .bits / 4294967296) q) (a .low) (a .high) ∙ halves (e .bits) (x .bits))
+      (ap (eqb (boolNumber (e .short))) (a .mark) ∙ marks (e .short) (x .short))
 
   pub floats-read : (e : FloatEntry)
       → first (k .floats) (fourAt l (204 * k .records) (e .bits % 4294967296) (e .bits / 4294967296) (boolNumber (e .short))) 0 ≡ position (sameFloat e) (t .state .floats)

@@ -1,6 +1,6 @@
 -- Laws of `first`: what a loop over an index shows of it, and that it is the position in the list that the table holds.
 -- By recursion over the numbers that are left. Assumes nothing.
-use mathlib.Core.Path.{_≡_, refl, sym, ap, _∙_}
+use mathlib.Core.Path.{_≡_, refl, sym, ap, _∙_, subst}
 use mathlib.Core.Bool.{Bool, true, false}
 use mathlib.Core.List.{List, [], _∷_}
 use mathlib.Core.Option.{Option, none, some}
@@ -76,6 +76,31 @@ pub first-position : {X : Type 0} (p : X → Bool) (d : X) (f : ℕ → Bool) (x
     → ((j : ℕ) → j < length xs → f j ≡ p (getD xs j d)) → first n f 0 ≡ position p xs
 first-position p d f xs n e h =
     rw e (first-shift p d f xs 0 (λ j hj. let z : 0 + j ≡ j = omega arith in ap f z ∙ h j hj) ∙ shift-zero (position p xs))
+
+-- what is found is in the list, and the test holds of it
+pub record Hit {X : Type 0} (p : X → Bool) (d : X) (xs : List X) (i : ℕ) : Type 0 where
+  pub below : i < length xs
+  pub holds : p (getD xs i d) ≡ true
+
+later : {X : Type 0} (p : X → Bool) (d x : X) (xs : List X) (i : ℕ) (o : Option ℕ) → ((j : ℕ) → o ≡ some j → Hit p d xs j)
+    → elim o [ none ↦ none | some j ↦ some (suc j) ] ≡ some i → Hit p d (x ∷ xs) i
+later p d x xs i none rest e = absurd (let z : _≡_ {A = ℕ} 0 1 = cc in omega arith)
+later p d x xs i (some j) rest e =
+    let z : suc j ≡ i = cc in
+    subst (Hit p d (x ∷ xs)) z (record { below = omega (arith, rest j refl .below); holds = rest j refl .holds })
+
+hit-by : {X : Type 0} (p : X → Bool) (d x : X) (xs : List X) (i : ℕ) → ((j : ℕ) → position p xs ≡ some j → Hit p d xs j) → (b : Bool) → p x ≡ b
+    → position p (x ∷ xs) ≡ some i → Hit p d (x ∷ xs) i
+hit-by p d x xs i rest true q e =
+    let w : some 0 ≡ some i = sym (position-by p x xs true q) ∙ e in
+    let z : 0 ≡ i = cc in
+    subst (Hit p d (x ∷ xs)) z (record { below = omega arith; holds = q })
+hit-by p d x xs i rest false q e = later p d x xs i (position p xs) rest (sym (position-by p x xs false q) ∙ e)
+
+pub position-hit : {X : Type 0} (p : X → Bool) (d : X) (xs : List X) (i : ℕ) → position p xs ≡ some i → Hit p d xs i
+unfolding position
+position-hit p d [] i e = absurd (let z : _≡_ {A = ℕ} 0 1 = cc in omega arith)
+position-hit p d (x ∷ xs) i e = hit-by p d x xs i (position-hit p d xs) (p x) refl e
 
 -- what is found is below the end
 first-in : (n : ℕ) (f : ℕ → Bool) (i r : ℕ) → (first n f (suc i) ≡ some r → r < suc i + n) → (b : Bool) → f i ≡ b

@@ -1,14 +1,16 @@
 -- The arena: one lent buffer that holds all six tables while a tree of n records is converted, each in a region of its own. It is the
 -- instruction buffer (320n bytes), whose first 128n bytes are the instructions' own place. Assumes nothing: these are definitions.
 use mathlib.Core.Path.{_≡_}
-use Prim.Native.Nat.{ℕ, _+_, _*_, _^_, _≤_, _<_}
+use Prim.Native.Nat.{ℕ, _+_, _*_, _/_, _%_, _^_, _≤_, _<_}
+use mathlib.Core.Bool.{Bool, _&&_}
 use mathlib.Core.List.{List, [], _∷_, _++_}
+use lib.Dec.{leb}
 use lib.ListN.{length, take, drop}
 use Rattle.records.specs.Layout.{Region}
-use Rattle.records.specs.Words.{textAt}
+use Rattle.records.specs.Words.{wordAt, textAt}
 use Rattle.conversion.specs.Ir as Ir
 use Rattle.conversion.specs.Ir.{LabelName, StringEntry, FloatEntry, State, IrFunction}
-use Rattle.conversion.specs.Written.{encodeAll, encodeInstr, encodeVar, encodeLabel, encodeFunctions, encodeString, encodeFloat, allCode, allVars, allLabels}
+use Rattle.conversion.specs.Written.{encodeAll, encodeInstr, encodeVar, encodeLabel, encodeFunctions, encodeString, encodeFloat, boolNumber, allCode, allVars, allLabels}
 use Rattle.ir.specs.declared.structs.Counters.{Counters}
 
 -- ---- regions, each at a multiple of n bytes
@@ -40,6 +42,14 @@ floats = record { from = 204; each = 32 }
 -- 'instructions 320n bytes'
 abbrev pub arenaEach : ℕ
 arenaEach = 320
+
+abbrev pub arena : List Region
+arena = instructions ∷ variables ∷ labels ∷ functions ∷ strings ∷ floats ∷ []
+
+-- each region starts behind the one before, and the last ends within so many bytes a record
+unfoldable pub fitsWithin : ℕ → ℕ → List Region → Bool
+fitsWithin each at [] = leb at each
+fitsWithin each at (x ∷ l) = leb at (x .from) && fitsWithin each (x .from + x .each) l
 
 -- ---- what stands there
 
@@ -77,6 +87,25 @@ pub record StringStands (text : List ℕ) (s : StringEntry) : Type 0 where
 pub record FloatFits (f : FloatEntry) : Type 0 where
   pub bits : f .bits < 2 ^ 64
 
+-- the entry at byte p is the float x: its bits, the lower word first, and its mark
+pub record FloatAt (l : List ℕ) (p : ℕ) (x : FloatEntry) : Type 0 where
+  pub low : wordAt l p ≡ x .bits % 4294967296
+  pub high : wordAt l (p + 4) ≡ x .bits / 4294967296
+  pub mark : wordAt l (p + 8) ≡ boolNumber (x .short)
+
+-- how many functions are done, and how many instructions, variables and labels they have
+pub record Before (done : List IrFunction) (functions instructions variables labels : ℕ) : Type 0 where
+  pub functions-count : functions ≡ length done
+  pub instructions-before : instructions ≡ length (allCode done)
+  pub variables-before : variables ≡ length (allVars done)
+  pub labels-before : labels ≡ length (allLabels done)
+
+-- the entries fit their words
+pub record Fits (text : List ℕ) (labels : List LabelName) (strings : List StringEntry) (floats : List FloatEntry) : Type 0 where
+  pub labels-fit : All LabelFits labels
+  pub strings-stand : All (StringStands text) strings
+  pub floats-fit : All FloatFits floats
+
 -- the arena holds these tables, and the counters count them
 pub record Holds (text : List ℕ) (t : Tables) (k : Counters) (l : List ℕ) : Type 0 where
   pub instructions-hold : Table encodeInstr 32 (allCode (t .done) ++ t .code) (instructions .from * k .records) (k .instructions) l
@@ -85,13 +114,8 @@ pub record Holds (text : List ℕ) (t : Tables) (k : Counters) (l : List ℕ) : 
   pub functions-hold : Has l (functions .from * k .records) (encodeFunctions 0 0 0 (t .done))
   pub strings-hold : Table encodeString 8 (t .state .strings) (strings .from * k .records) (k .strings) l
   pub floats-hold : Table encodeFloat 16 (t .state .floats) (floats .from * k .records) (k .floats) l
-  pub functions-count : k .functions ≡ length (t .done)
-  pub instructions-before : k .instructions0 ≡ length (allCode (t .done))
-  pub variables-before : k .variables0 ≡ length (allVars (t .done))
-  pub labels-before : k .labels0 ≡ length (allLabels (t .done))
-  pub labels-fit : All LabelFits (t .state .labels)
-  pub strings-stand : All (StringStands text) (t .state .strings)
-  pub floats-fit : All FloatFits (t .state .floats)
+  pub before : Before (t .done) (k .functions) (k .instructions0) (k .variables0) (k .labels0)
+  pub fits : Fits text (t .state .labels) (t .state .strings) (t .state .floats)
 
 -- the counters stay within the regions, and the arena is as long as document 01 lends it; its offsets fit a word
 pub record Room (k : Counters) (l : List ℕ) : Type 0 where

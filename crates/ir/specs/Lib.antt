@@ -1,4 +1,5 @@
 pub mod Arena
+pub mod Cut
 pub mod Floats
 pub mod Instructions
 pub mod Search

@@ -10,6 +10,7 @@ use lib.ListN.{length}
 use Rattle.laws.specs.Fix.{pick}
 use Rattle.laws.specs.Splice.{splice}
 use Rattle.records.specs.Words.{textAt}
+use Rattle.conversion.specs.ConvertError.{ConvertErrorKind}
 use Rattle.conversion.specs.Ir as Ir
 use Rattle.conversion.specs.Ir.{State, Out, made, failed, M, IrFunction, LabelName, StringEntry, FloatEntry}
 use Rattle.conversion.specs.Written.{encodeInstr, encodeVar, encodeLabel, encodeString, encodeFloat, word}
@@ -102,6 +103,10 @@ pub record NextIn {A : Type 0} (text : List ℕ) (m : M A) (k : Counters) (l : L
   pub room : Room k′ l′
   pub records : k′ .records ≡ k .records
   pub stands : (t : Tables) → Holds text t k l → Stands (m (t .state)) a text t k′ l′
+
+-- the definition's step ends in this error, at this record, from any tables that the arena held
+pub record StopsIn {A : Type 0} (text : List ℕ) (m : M A) (k : Counters) (l : List ℕ) (e : ConvertErrorKind) (r : ℕ) : Type 0 where
+  pub stops : (t : Tables) → Holds text t k l → m (t .state) ≡ failed e r
 
 unfoldable pub AddStringMeets : ℕ → ℕ → Counters → List ℕ → PoolNumber → List ℕ → Type 0
 AddStringMeets offset len k l (PoolNumber.Is x k′) l′ =

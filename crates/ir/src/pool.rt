@@ -3,10 +3,11 @@ ghost use mathlib.Core.Path.{_≡_};
 ghost use Prim.Native.Nat.{_+_, _*_, _≤_};
 ghost use lib.ListN.{length, getD};
 ghost use Rattle.records.specs.Words.{textAt};
+ghost use Rattle.conversion.specs.Ir.{floatBits};
 ghost use Rattle.ir.specs.Arena.{Room};
 ghost use Rattle.ir.specs.Floats.{entry, entryOf};
 ghost use Rattle.ir.specs.Search.{first, foundOf, textOf};
-ghost use Rattle.ir.specs.Steps.{stringAt, AddStringMeets, StringMeets, AddFloatMeets, FloatMeets};
+ghost use Rattle.ir.specs.Steps.{stringAt, AddStringMeets, StringMeets, AddFloatMeets, FloatMeets, Next};
 use crate::floats::FloatBits;
 use crate::floats::entry_bits;
 use crate::structs::Counters;
@@ -103,4 +104,19 @@ pub fn float_id(arena: &mut [u8], k: Counters, f: FloatBits) -> PoolNumber
         Found::At(i) => PoolNumber::Is(i as u32, k),
         Found::Nothing => add_float(arena, k, w),
     }
+}
+
+// The bits of a float that was numbered; 0 for a number that none has.
+pub fn float_bits(arena: &[u8], k: Counters, i: u32) -> u64
+    requires { ⌜ Room k (now arena) ⌝ }
+    ensures { λ r. ⌜ Next (floatBits i) k (now (arena .entry)) r k (now (arena .entry)) ⌝ }
+{
+    let n = k.records;
+    let j = i as usize;
+    if j >= k.floats {
+        return 0;
+    }
+    let x = load(arena, 204 * n + 16 * j);
+    let y = load(arena, 204 * n + 16 * j + 4);
+    x as u64 + y as u64 * 4294967296
 }

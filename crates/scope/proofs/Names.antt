@@ -1,4 +1,4 @@
--- Open names: the search is the definition's, a name more stands above the others, and what is written above a scope's names changes none of them.
+-- Open names: the search is the definition's, and a name more stands above the others.
 -- By recursion over the variables, innermost first, and by the words of an entry. Assumes nothing.
 use mathlib.Core.Path.{_≡_, refl, sym, ap, ap₂, _∙_, subst}
 use mathlib.Core.Logic.{inl, inr}
@@ -9,8 +9,7 @@ use mathlib.Core.Option.{Option, none, some}
 use native.Mathlib.Numerals.{add-one}
 use native.Mathlib.Omega.{arith}
 use lib.Dec.{eqb}
-use lib.ListN.{length, take, drop, getD, length-append, List·getD-append}
-use lib.Seq.{getD-take, length-take-le}
+use lib.ListN.{length, getD}
 use borrow.Author.Tests.{eq-eqb, ne-eqb}
 use Rattle.laws.specs.Fix.{pick}
 use Rattle.laws.specs.Splice.{splice}
@@ -33,6 +32,7 @@ use Rattle.scope.specs.declared.Known.{Known}
 use Rattle.scope.specs.declared.Known.the-variants as Known
 use Rattle.scope.specs.declared.Declared.the-variants as Declared
 use Rattle.scope.specs.Open.{Entry, Open, Stands, Room, last, nameIs, VariableAt, IsFound, FindMeets, more, variable, Added, Taken, DeclareMeets}
+use Rattle.scope.proofs.ScopeLaws.{kept-above, open-kept}
 
 -- ---- the loop
 
@@ -138,7 +138,7 @@ last-below (suc n) f r e = below-by n f r (last-below n f r) (f n) refl e
 
 -- ---- a name more
 
--- words of a list after a run was written: inside it, and before it
+-- words of a run that was written
 byte-in : (l : List ℕ) (i : ℕ) (vs : List ℕ) (j p : ℕ) → i + length vs ≤ length l → j < length vs → p ≡ i + j → getD (splice l i vs) p 0 ≡ getD vs j 0
 byte-in l i vs j p fit h e =
     ap (λ (q : ℕ). getD (splice l i vs) q 0) e
@@ -151,41 +151,6 @@ word-in l i vs b p fit h e =
     (byte-in l i vs (b + 1) (p + 1) fit (omega arith) (omega (arith, e)))
     (byte-in l i vs (b + 2) (p + 2) fit (omega arith) (omega (arith, e)))
     (byte-in l i vs (b + 3) (p + 3) fit (omega arith) (omega (arith, e)))
-
-byte-before : (l : List ℕ) (i : ℕ) (vs : List ℕ) (j : ℕ) → i ≤ length l → j < i → getD (splice l i vs) j 0 ≡ getD l j 0
-unfolding splice
-byte-before l i vs j h k =
-    let n : length (take i l) ≡ i = length-take-le i l h in
-    List·getD-append (take i l ++ vs) (drop (i + length vs) l) 0 j (rw length-append (omega arith))
-    ∙ List·getD-append (take i l) vs 0 j (omega arith)
-    ∙ getD-take i l j 0 k
-
-word-before : (l : List ℕ) (i : ℕ) (vs : List ℕ) (p : ℕ) → i ≤ length l → p + 4 ≤ i → wordAt (splice l i vs) p ≡ wordAt l p
-word-before l i vs p h k =
-    word-same (splice l i vs) p l p
-    (byte-before l i vs p h (omega arith))
-    (byte-before l i vs (p + 1) h (omega arith))
-    (byte-before l i vs (p + 2) h (omega arith))
-    (byte-before l i vs (p + 3) h (omega arith))
-
--- what is written above the names of a scope changes none of them
-pub open-kept : (text s : List ℕ) (n i : ℕ) (vs : List ℕ) (l : List Variable) → i ≤ length s → 8 * n + 16 * length l ≤ i → Open text s n l
-    → Open text (splice s i vs) n l
-unfolding Open
-open-kept text s n i vs [] h k o = tt
-open-kept text s n i vs (v ∷ l) h k o =
-    let p : ℕ = 8 * n + 16 * length l in
-    let w : (q : ℕ) → q + 4 ≤ 16 → wordAt (splice s i vs) (p + q) ≡ wordAt s (p + q) = λ q hq. word-before s i vs (p + q) h (omega arith) in
-    let w₀ : wordAt (splice s i vs) p ≡ wordAt s p = word-before s i vs p h (omega arith) in
-    let e = o .0 in (
-      record {
-        named = e .named ∙ sym (ap₂ (textAt text) w₀ (w 4 (omega arith)));
-        number = e .number ∙ sym (w 8 (omega arith));
-        typed = e .typed ∙ sym (ap (λ (y : ℕ). y / 2) (w 12 (omega arith)));
-        fixed = e .fixed ∙ sym (ap (λ (y : ℕ). eqb (y % 2) 1) (w 12 (omega arith)));
-      },
-      open-kept text s n i vs l h (omega arith) (o .1),
-    )
 
 fixed-mark : (y : ℕ) (c : Bool) → c ≡ eqb ((2 * y + boolNumber c) % 2) 1
 unfolding boolNumber
@@ -248,8 +213,8 @@ module _ (text : List ℕ) (offset len : ℕ) (v : VarId) (constant : Bool) (sc 
     stands-more l st = record {
       names = (
         subst (λ (m : ℕ). Entry text s′ (8 * sc .records + 16 * m) (variable text offset len v constant)) (st .count) entry,
-        subst (λ (x : List ℕ). Open text x (sc .records) l) (sym e)
-            (open-kept text s (sc .records) place bytes l (omega (arith, fit)) (omega (arith, st .count)) (st .names)),
+        open-kept text s s′ (sc .records) (sc .names) (kept-above (sc .records) (sc .names) s place bytes s′ e fit (omega arith)) l
+            (omega (arith, st .count)) (st .names),
       );
       count = omega (arith, st .count);
     }

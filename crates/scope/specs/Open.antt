@@ -7,13 +7,14 @@ use mathlib.Core.Bool.{Bool, true, false}
 use mathlib.Core.List.{List, [], _∷_, _++_}
 use mathlib.Core.Option.{Option, none, some}
 use lib.Dec.{eqb}
-use lib.ListN.{length}
+use lib.ListN.{length, getD}
 use Rattle.laws.specs.Fix.{pick}
 use Rattle.laws.specs.Splice.{splice}
 use Rattle.records.specs.Words as Words
 use Rattle.records.specs.Words.{wordAt, textAt}
 use Rattle.conversion.specs.Ir.{sameText}
-use Rattle.conversion.specs.Scope.{Variable, findIn}
+use Rattle.conversion.specs.Scope as Defined
+use Rattle.conversion.specs.Scope.{Variable, findIn, find-variable}
 use Rattle.conversion.specs.Written.{word, boolNumber}
 use Rattle.ir.specs.declared.structs.VarId.{VarId}
 use Rattle.ir.specs.Instructions.{varOf}
@@ -108,3 +109,30 @@ DeclareMeets text offset len v constant sc s Declared.Full s′ = (s′ ≡ s) �
 -- the innermost loop's record
 abbrev pub loopOf : Scope → InLoop
 loopOf sc = pick (eqb (sc .inner) Words.none) InLoop.Outside (InLoop.Of (sc .inner))
+
+-- ---- what others leave
+
+-- the bytes of the first m open names are what they were, and the scratch is as long
+pub record Kept (n m : ℕ) (s s′ : List ℕ) : Type 0 where
+  pub bytes : (j : ℕ) → 8 * n ≤ j → j < 8 * n + 16 * m → getD s′ j 0 ≡ getD s j 0
+  pub long : length s′ ≡ length s
+
+-- ---- the definition's scope
+
+-- the innermost loop's record, as the definition has it
+unfoldable pub loopNumber : ℕ → Option ℕ
+unfolding pick
+loopNumber w = pick (eqb w Words.none) none (some w)
+
+-- the cursor with what stands in scratch is the definition's scope
+pub record Is (text s : List ℕ) (sc : Scope) (d : Defined.Scope) : Type 0 where
+  pub variables : Stands text s sc (d .variables)
+  pub loop : d .inLoop ≡ loopNumber (sc .inner)
+  pub function : d .function .recOf ≡ sc .function
+
+-- the definition finds this variable
+pub record Finds (u : List ℕ) (d : Defined.Scope) (v : VarId) (constant : Bool) : Type 0 where
+  pub holder : Variable
+  pub found : find-variable u d ≡ some holder
+  pub var : holder .var-id ≡ varOf v
+  pub fixed : holder .constant ≡ constant

@@ -1,0 +1,40 @@
+-- The tables cut out of the arena at the end: each at the start of a buffer of its own, with zeros behind it. The instructions stay in their
+-- place. Assumes nothing: these are definitions.
+use mathlib.Core.Path.{_≡_}
+use mathlib.Core.List.{List, _++_}
+use Prim.Native.Nat.{ℕ, _-_, _*_, _≤_}
+use lib.ListN.{length, take, drop, replicate}
+use Rattle.ir.specs.declared.structs.Counters.{Counters}
+
+-- 'unused output bytes zero': bs, and zeros up to m bytes
+unfoldable pub alone : List ℕ → ℕ → List ℕ
+alone bs m = bs ++ replicate (m - length bs) 0
+
+-- n bytes of l from byte `at` on
+abbrev pub part : List ℕ → ℕ → ℕ → List ℕ
+part l at n = take n (drop at l)
+
+-- the five buffers are as long as document 01 lends them
+pub record Lent (n : ℕ) (variables labels functions strings floats : List ℕ) : Type 0 where
+  pub variables-long : 12 * n ≤ length variables
+  pub labels-long : 24 * n ≤ length labels
+  pub functions-long : 32 * n ≤ length functions
+  pub strings-long : 8 * n ≤ length strings
+  pub floats-long : 32 * n ≤ length floats
+
+-- from the arena l: what the buffers of the functions' tables hold, each as long as it was
+pub record FunctionsCut (k : Counters) (l variables labels functions : List ℕ) : Type 0 where
+  pub variables-cut : variables ≡ alone (part l (128 * k .records) (4 * k .variables)) (length variables)
+  pub labels-cut : labels ≡ alone (part l (140 * k .records) (8 * k .labels)) (length labels)
+  pub functions-cut : functions ≡ alone (part l (164 * k .records) (32 * k .functions)) (length functions)
+
+-- and those of the program's
+pub record PoolCut (k : Counters) (l strings floats : List ℕ) : Type 0 where
+  pub strings-cut : strings ≡ alone (part l (196 * k .records) (8 * k .strings)) (length strings)
+  pub floats-cut : floats ≡ alone (part l (204 * k .records) (16 * k .floats)) (length floats)
+
+-- and the arena itself
+pub record Cut (k : Counters) (l l′ variables labels functions strings floats : List ℕ) : Type 0 where
+  pub instructions-cut : l′ ≡ alone (part l 0 (32 * k .instructions)) (length l)
+  pub of-functions : FunctionsCut k l variables labels functions
+  pub of-pool : PoolCut k l strings floats

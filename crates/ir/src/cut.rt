@@ -1,0 +1,88 @@
+// The end of a conversion: each table goes from the arena into its own lent buffer, and what is behind it is zero.
+ghost use mathlib.Core.Path.{_≡_};
+ghost use mathlib.Core.List.{_++_};
+ghost use Prim.Native.Nat.{_+_, _*_, _≤_};
+ghost use lib.ListN.{length, take, drop};
+ghost use Rattle.ir.specs.Arena.{Room};
+ghost use Rattle.ir.specs.Cut.{alone, part, Lent, FunctionsCut, PoolCut, Cut};
+use crate::structs::Counters;
+
+// `len` bytes from byte `from` on, to the start of `out`.
+fn copy(src: &[u8], from: usize, len: usize, out: &mut [u8])
+    requires { ⌜ (from + len ≤ length (now src)) × (len ≤ length (now out)) ⌝ }
+    ensures { λ _. ⌜ now (out .exit) ≡ part (now (src .entry)) from len ++ drop len (now (out .entry)) ⌝ }
+{
+    let mut i = 0;
+    while i < len {
+        out[i] = src[from + i];
+        i += 1;
+    }
+}
+
+// Zero from byte `at` on.
+fn clear_from(out: &mut [u8], at: usize)
+    requires { ⌜ at ≤ length (now out) ⌝ }
+    ensures { λ _. ⌜ now (out .exit) ≡ alone (part (now (out .entry)) 0 at) (length (now (out .entry))) ⌝ }
+{
+    let rest = out.len() - at;
+    let mut i = 0;
+    while i < rest {
+        out[at + i] = 0;
+        i += 1;
+    }
+}
+
+// These bytes alone.
+fn cut(src: &[u8], from: usize, len: usize, out: &mut [u8])
+    requires { ⌜ (from + len ≤ length (now src)) × (len ≤ length (now out)) ⌝ }
+    ensures { λ _. ⌜ now (out .exit) ≡ alone (part (now (src .entry)) from len) (length (now (out .exit))) ⌝ }
+{
+    copy(src, from, len, out);
+    clear_from(out, len);
+}
+
+// The functions' tables.
+fn cut_functions(
+    arena: &[u8],
+    k: Counters,
+    variables: &mut [u8],
+    labels: &mut [u8],
+    functions: &mut [u8],
+)
+    requires { ⌜ Room k (now arena) × (12 * k .records ≤ length (now variables)) × (24 * k .records ≤ length (now labels)) × (32 * k .records ≤ length (now functions)) ⌝ }
+    ensures { λ _. ⌜ FunctionsCut k (now (arena .entry)) (now (variables .exit)) (now (labels .exit)) (now (functions .exit)) ⌝ }
+{
+    let n = k.records;
+    cut(arena, 128 * n, 4 * k.variables, variables);
+    cut(arena, 140 * n, 8 * k.labels, labels);
+    cut(arena, 164 * n, 32 * k.functions, functions);
+}
+
+// The program's tables.
+fn cut_pool(arena: &[u8], k: Counters, strings: &mut [u8], floats: &mut [u8])
+    requires { ⌜ Room k (now arena) × (8 * k .records ≤ length (now strings)) × (32 * k .records ≤ length (now floats)) ⌝ }
+    ensures { λ _. ⌜ PoolCut k (now (arena .entry)) (now (strings .exit)) (now (floats .exit)) ⌝ }
+{
+    let n = k.records;
+    cut(arena, 196 * n, 8 * k.strings, strings);
+    cut(arena, 204 * n, 16 * k.floats, floats);
+}
+
+// The five tables cut out; the instructions stay, alone.
+pub fn cut_tables(
+    arena: &mut [u8],
+    k: Counters,
+    variables: &mut [u8],
+    labels: &mut [u8],
+    functions: &mut [u8],
+    strings: &mut [u8],
+    floats: &mut [u8],
+)
+    requires { ⌜ Room k (now arena) × Lent (k .records) (now variables) (now labels) (now functions) (now strings) (now floats) ⌝ }
+    ensures { λ _. ⌜ Cut k (now (arena .entry)) (now (arena .exit)) (now (variables .exit)) (now (labels .exit)) (now (functions .exit)) (now (strings .exit)) (now (floats .exit)) ⌝ }
+{
+    let end = 32 * k.instructions;
+    cut_functions(arena, k, variables, labels, functions);
+    cut_pool(arena, k, strings, floats);
+    clear_from(arena, end);
+}
