@@ -19,6 +19,8 @@ pub enum Reply {
     Function(u32),
     /// A cast, with the record of its target type.
     Cast(u32),
+    /// Nothing is wrong.
+    Fine,
     /// An error's number and record.
     Error { number: u32, place: u32 },
     /// Krc panicked: number 27.
@@ -83,6 +85,12 @@ impl<'t> Questions<'t> {
         })
     }
 
+    /// Whether the program has the `main` that it needs.
+    pub fn check_main(&self, needs_main: bool) -> Reply {
+        set_key_texts(self.build.key_texts());
+        reply(quietly(|| probe::check_main(&self.program, needs_main).map(|()| Reply::Fine)))
+    }
+
     fn type_record(&self, ty: &Type) -> u32 {
         self.build.type_record(ty).expect("the tree has a record for each type")
     }
@@ -97,13 +105,17 @@ impl<'t> Questions<'t> {
         let index = self.functions.iter().position(|record| *record == scope);
         let func = &self.program.functions[index.expect("the scope is a function record")];
         let expr = self.build.expr(expr);
-        match quietly(|| question(func, &expr)) {
-            Ok(Ok(reply)) => reply,
-            Ok(Err(error)) => {
-                let (number, place) = error_place(&error);
-                Reply::Error { number, place }
-            }
-            Err(_) => Reply::Stop,
+        reply(quietly(|| question(func, &expr)))
+    }
+}
+
+fn reply<P>(said: Result<Result<Reply, ConvertError>, P>) -> Reply {
+    match said {
+        Ok(Ok(reply)) => reply,
+        Ok(Err(error)) => {
+            let (number, place) = error_place(&error);
+            Reply::Error { number, place }
         }
+        Err(_) => Reply::Stop,
     }
 }

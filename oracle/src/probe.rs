@@ -53,3 +53,10 @@ pub fn resolve_call<'a>(
         Callee::Cast(ty) => Called::Cast(ty),
     }))
 }
+
+/// Whether the program has the `main` that it needs, once its functions are known.
+pub fn check_main(program: &Program, needs_main: bool) -> Result<(), ConvertError> {
+    let mut converter = Converter::new(program, needs_main);
+    converter.get_all_functions()?;
+    converter.check_main()
+}

@@ -20,7 +20,7 @@ fn reach(text: &[u8], offset: usize, len: usize) -> usize
 }
 
 // Whether n bytes from a on and from b on are the same.
-fn same_part(text: &[u8], a: usize, b: usize, n: usize) -> bool
+pub fn same_part(text: &[u8], a: usize, b: usize, n: usize) -> bool
     requires { ⌜ (a + n ≤ length (now text)) × (b + n ≤ length (now text)) ⌝ }
     ensures { λ r. ⌜ r ≡ sameText (textAt (now (text .entry)) a n) (textAt (now (text .entry)) b n) ⌝ }
 {

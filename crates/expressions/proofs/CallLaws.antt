@@ -1,0 +1,288 @@
+-- What a call runs, as the code meets it: the functions that literals fit, the cast, and which of them is taken.
+-- By the cases of the definitions, and by the listed functions one after the other. Assumes nothing.
+use mathlib.Core.Path.{_≡_, refl, sym, ap, ap₂, _∙_}
+use mathlib.Core.Bool.{Bool, true, false, not, _&&_}
+use mathlib.Core.List.{List, [], _∷_}
+use mathlib.Core.Logic.{inl, inr}
+use mathlib.Core.Option.{none as nothing}
+use Prim.Native.Nat.{ℕ, _+_, _*_, _^_, _<_, _≤_}
+use native.Mathlib.Numerals.{add-one}
+use native.Mathlib.Omega.{arith}
+use lib.ListN.{length, drop, getD, drop-of-length-le}
+use lib.Seq.{drop-cons}
+use types.Run.{OneOf}
+use denote.Enum.Declared.{tagOf}
+use Rattle.laws.specs.Fix.{pick}
+use Rattle.records.specs.declared.convert_error.ConvertError.{ConvertError}
+use Rattle.records.specs.Words.{byteAt, wordAt, wordOf, textAt, A}
+use Rattle.records.specs.Good.{Good}
+use Rattle.records.proofs.GoodLaws.{inside, call-a, call-c}
+use Rattle.syntax.specs.Syntax.{Text, Function, Program}
+use Rattle.syntax.specs.Decode.{program, textOf, typeAt}
+use Rattle.conversion.specs.ConvertError.{err, _>>=_, UnknownFunction, AmbiguousCall, InvalidCast}
+use Rattle.conversion.specs.Ir.{sameText}
+use Rattle.conversion.specs.Types.{can-cast}
+use Rattle.conversion.specs.Expressions.{TypedArg, Functions, castVerb, is-mangled, takes-args, targetType, sourceType, castChecked, castTo, cast-type, byLiterals, find-functions-by-literals, find-exact-function, chosen, exactOr, resolveFunction, resolveTyped}
+use Rattle.ir.specs.declared.words.Found.{Found}
+use Rattle.ir.specs.declared.words.Found.the-variants as Found
+use Rattle.expressions.specs.declared.answers.Candidates.{Candidates}
+use Rattle.expressions.specs.declared.answers.Candidates.the-variants as Candidates
+use Rattle.expressions.specs.declared.answers.Cast.{Cast}
+use Rattle.expressions.specs.declared.answers.Cast.the-variants as Cast
+use Rattle.expressions.specs.declared.answers.Resolved.{Resolved}
+use Rattle.expressions.specs.declared.answers.Resolved.the-variants as Resolved
+use Rattle.expressions.specs.declared.arguments.Call.{Call}
+use Rattle.expressions.specs.Places.{IsKind, TypeAt, FunctionAt, ArgsAt, functionOf, argsAt}
+use Rattle.expressions.specs.Keys.{functionRecords, functionsOf, allKeys, Keyed}
+use Rattle.expressions.specs.Slots.{Typed}
+use Rattle.expressions.specs.Calls.{typedAt, verbOf, Called}
+use Rattle.expressions.specs.Answers.{refusal, castOf, numberOf, calleeOf, functionFound, TypeFound, a-type, no-type, FunctionFound, a-function, no-function, IsCast, IsCallee, AreAll, OneFunction, nobody, one, several}
+use Rattle.expressions.proofs.answers.Candidates.{the-type}
+use Rattle.expressions.proofs.FunctionLaws.{all-functions}
+use Rattle.expressions.proofs.TakeLaws.{not-true, not-false}
+
+-- ---- three tests, one after the other
+
+module _ (a b c r : Bool) (h : r ≡ a) where
+  pub first-fails : not r ≡ true → false ≡ (a && b && c)
+  first-fails q = rw (sym h, not-true r q)
+
+  module _ (q : not r ≡ false) (m : Bool) (g : m ≡ b) where
+    pub second-fails : not m ≡ true → false ≡ (a && b && c)
+    second-fails p = rw (sym h, not-false r q, sym g, not-true m p)
+
+    pub third-tells : not m ≡ false → (t : Bool) → t ≡ c → t ≡ (a && b && c)
+    third-tells p t e = rw (sym h, not-false r q, sym g, not-false m p) e
+
+pub same-name : (r : Bool) (t n v : Text) → r ≡ sameText t v → t ≡ n → r ≡ sameText n v
+same-name r t n v e q = rw (sym q) e
+
+-- ---- the functions that literals fit
+
+module _ (P : Program) (K : Functions) (verb : Text) (l : List TypedArg) (f : Function) (fs : List Function) where
+  by-hit : (sameText (f .name) verb && is-mangled f && takes-args P K f l) ≡ true → byLiterals P K verb l (f ∷ fs) ≡ f ∷ byLiterals P K verb l fs
+  unfolding byLiterals pick
+  by-hit e = rw e
+
+  by-miss : (sameText (f .name) verb && is-mangled f && takes-args P K f l) ≡ false → byLiterals P K verb l (f ∷ fs) ≡ byLiterals P K verb l fs
+  unfolding byLiterals pick
+  by-miss e = rw e
+
+-- of all, what was found so far and what is left
+pub data SoFar (tree text : List ℕ) (all rest : List Function) : Candidates → Type 0 where
+  nobody-yet : all ≡ rest → SoFar tree text all rest Candidates.Nobody
+  one-yet : {f : ℕ} → FunctionAt tree f → all ≡ functionOf tree text f ∷ rest → SoFar tree text all rest (Candidates.One f)
+
+module _ (tree text : List ℕ) (verb : Text) (l : List TypedArg) where
+  -- those from the j-th function on
+  unfoldable pub literalsFrom : ℕ → List Function
+  literalsFrom j = byLiterals (program tree text) (allKeys tree text) verb l (functionsOf tree text (drop j (functionRecords tree)))
+
+  -- whether the function of record f is one of them
+  abbrev pub isOne : ℕ → Bool
+  isOne f = sameText (functionOf tree text f .name) verb && is-mangled (functionOf tree text f) && takes-args (program tree text) (allKeys tree text) (functionOf tree text f) l
+
+  abbrev pub everyOne : List Function
+  everyOne = find-functions-by-literals (program tree text) (allKeys tree text) verb l
+
+  pub nobody-first : SoFar tree text everyOne (literalsFrom 0) Candidates.Nobody
+  unfolding find-functions-by-literals literalsFrom
+  nobody-first = nobody-yet (ap (byLiterals (program tree text) (allKeys tree text) verb l) (all-functions tree text))
+
+  module _ (j f : ℕ) (h : j < length (functionRecords tree)) (e : f ≡ getD (functionRecords tree) j 0) where
+    listed-from : drop j (functionRecords tree) ≡ f ∷ drop (j + 1) (functionRecords tree)
+    listed-from = drop-cons (functionRecords tree) j 0 h ∙ rw (e, add-one j)
+
+    from-is : literalsFrom j ≡ byLiterals (program tree text) (allKeys tree text) verb l (functionOf tree text f ∷ functionsOf tree text (drop (j + 1) (functionRecords tree)))
+    unfolding literalsFrom functionsOf
+    from-is = ap (λ (x : List ℕ). byLiterals (program tree text) (allKeys tree text) verb l (functionsOf tree text x)) listed-from
+
+    from-hit : (b : Bool) → b ≡ isOne f → b ≡ true → literalsFrom j ≡ functionOf tree text f ∷ literalsFrom (j + 1)
+    unfolding literalsFrom
+    from-hit b q t = from-is ∙ by-hit (program tree text) (allKeys tree text) verb l (functionOf tree text f) _ (sym q ∙ t)
+
+    from-miss : (b : Bool) → b ≡ isOne f → b ≡ false → literalsFrom j ≡ literalsFrom (j + 1)
+    unfolding literalsFrom
+    from-miss b q t = from-is ∙ by-miss (program tree text) (allKeys tree text) verb l (functionOf tree text f) _ (sym q ∙ t)
+
+  from-end : (j : ℕ) → length (functionRecords tree) ≤ j → literalsFrom j ≡ []
+  unfolding literalsFrom functionsOf byLiterals
+  from-end j h = ap (λ (x : List ℕ). byLiterals (program tree text) (allKeys tree text) verb l (functionsOf tree text x)) (drop-of-length-le (functionRecords tree) h)
+
+  -- as the code meets them: f is the j-th listed record
+  module _ (s : List ℕ) (count : ℕ) (k : Keyed tree text s count) (j f : ℕ) (h : j < count) (e : f ≡ wordAt s (4 * j)) (b : Bool) (q : b ≡ isOne f) where
+    is-listed : f ≡ getD (functionRecords tree) j 0
+    is-listed = e ∙ k .listed .listed j h
+
+    inside-list : j < length (functionRecords tree)
+    inside-list = omega (arith, k .listed .counted)
+
+    pub second-one : (found : Candidates) (g : ℕ) → SoFar tree text everyOne (literalsFrom j) found → found ≡ Candidates.One g → b ≡ true
+        → AreAll tree text Candidates.Several everyOne × OneFunction tree Candidates.Several
+    unfolding AreAll
+    second-one found g (nobody-yet w) o t = absurd (let z : _≡_ {A = ℕ} 0 1 = cc in omega arith)
+    second-one found g (one-yet at w) o t = (rw (w, from-hit j f inside-list is-listed b q t) tt, several)
+
+    pub first-one : FunctionAt tree f → (found new : Candidates) → SoFar tree text everyOne (literalsFrom j) found → OneOf (0 ∷ 2 ∷ []) (tagOf the-type found) → b ≡ true
+        → new ≡ Candidates.One f → SoFar tree text everyOne (literalsFrom (j + 1)) new
+    first-one at found new (nobody-yet w) o t n = rw n (one-yet at (w ∙ from-hit j f inside-list is-listed b q t))
+    first-one at found new (one-yet a w) (inl o) t n = absurd (let z : _≡_ {A = ℕ} 1 0 = o in omega arith)
+    first-one at found new (one-yet a w) (inr o) t n = absurd (let z : _≡_ {A = ℕ} 1 2 = o in omega arith)
+
+    pub passed-one : (found new : Candidates) → SoFar tree text everyOne (literalsFrom j) found → b ≡ false → new ≡ found → SoFar tree text everyOne (literalsFrom (j + 1)) new
+    passed-one found new (nobody-yet w) t n = rw n (nobody-yet (w ∙ from-miss j f inside-list is-listed b q t))
+    passed-one found new (one-yet {f = g} a w) t n =
+        rw n (one-yet a (w ∙ ap (λ (x : List Function). functionOf tree text g ∷ x) (from-miss j f inside-list is-listed b q t)))
+
+  pub no-more : (s : List ℕ) (count : ℕ) → Keyed tree text s count → (j : ℕ) (found : Candidates) → count ≤ j → SoFar tree text everyOne (literalsFrom j) found
+      → AreAll tree text found everyOne × OneFunction tree found
+  unfolding AreAll
+  no-more s count k j found h (nobody-yet w) = (w ∙ from-end j (omega (arith, k .listed .counted)), nobody)
+  no-more s count k j found h (one-yet {f = g} a w) = (w ∙ ap (λ (x : List Function). functionOf tree text g ∷ x) (from-end j (omega (arith, k .listed .counted))), one a)
+
+-- ---- the cast
+
+pub found-type : (tree : List ℕ) (t : Found) (y : ℕ) → TypeFound tree t → t ≡ Found.At y → TypeAt tree y
+found-type tree t y (a-type {y = v} at) e = let z : y ≡ v = cc in rw z at
+found-type tree t y no-type e = absurd (let z : _≡_ {A = ℕ} 0 1 = cc in omega arith)
+
+pub type-inside : (tree text : List ℕ) → Good tree text → (y : ℕ) → TypeAt tree y → y * 32 + 32 ≤ length tree
+type-inside tree text good y t = inside tree text good y (t .below)
+
+module _ (tree text : List ℕ) (verb : Text) (l : List TypedArg) (r : ℕ) (b : Bool) (h : b ≡ sameText verb castVerb) where
+  pub cast-not : not b ≡ true → cast-type (program tree text) (allKeys tree text) verb l r ≡ castOf Cast.Not
+  unfolding cast-type pick castOf
+  cast-not q = rw (sym h, not-true b q)
+
+  module _ (q : not b ≡ false) (t : Found) (ht : numberOf t ≡ targetType l) where
+    cast-to : cast-type (program tree text) (allKeys tree text) verb l r ≡ castTo (program tree text) (allKeys tree text) r l (numberOf t)
+    unfolding cast-type pick
+    cast-to = rw (sym h, not-false b q, sym ht)
+
+    pub cast-nowhere : t ≡ Found.Nothing → cast-type (program tree text) (allKeys tree text) verb l r ≡ castOf Cast.Not
+    unfolding castTo castOf numberOf
+    cast-nowhere e = cast-to ∙ rw e
+
+    module _ (to : ℕ) (e : t ≡ Found.At to) (u : Found) (hu : numberOf u ≡ sourceType l) where
+      cast-checked : cast-type (program tree text) (allKeys tree text) verb l r ≡ castChecked (program tree text) (allKeys tree text) r to (numberOf u)
+      unfolding castTo numberOf
+      cast-checked = cast-to ∙ rw (e, sym hu)
+
+      pub cast-free : u ≡ Found.Nothing → cast-type (program tree text) (allKeys tree text) verb l r ≡ castOf (Cast.To to)
+      unfolding castChecked castOf numberOf
+      cast-free p = cast-checked ∙ rw p
+
+      module _ (from : ℕ) (p : u ≡ Found.At from) (c : Bool) (hc : c ≡ can-cast (typeAt tree text) from to) where
+        pub cast-fine : c ≡ true → cast-type (program tree text) (allKeys tree text) verb l r ≡ castOf (Cast.To to)
+        unfolding castChecked castOf numberOf pick program
+        cast-fine w = cast-checked ∙ rw (p, sym hc, w)
+
+        pub cast-wrong : c ≡ false → cast-type (program tree text) (allKeys tree text) verb l r ≡ castOf (Cast.Refused (record { kind = InvalidCast; place = r }))
+        unfolding castChecked castOf numberOf pick program refusal
+        cast-wrong w = cast-checked ∙ rw (p, sym hc, w)
+
+-- ---- which function
+
+pub found-function : (tree : List ℕ) (t : Found) (f : ℕ) → FunctionFound tree t → t ≡ Found.At f → FunctionAt tree f
+found-function tree t f (a-function {f = v} at) e = let z : f ≡ v = cc in rw z at
+found-function tree t f no-function e = absurd (let z : _≡_ {A = ℕ} 0 1 = cc in omega arith)
+
+pub one-function : (tree : List ℕ) (c : Candidates) (f : ℕ) → OneFunction tree c → c ≡ Candidates.One f → FunctionAt tree f
+one-function tree c f nobody e = absurd (let z : _≡_ {A = ℕ} 0 1 = cc in omega arith)
+one-function tree c f (one {f = v} at) e = let z : f ≡ v = cc in rw z at
+one-function tree c f several e = absurd (let z : _≡_ {A = ℕ} 0 1 = cc in omega arith)
+
+-- none, one or several
+module _ (tree text : List ℕ) (l : List Function) (r : ℕ) where
+  chosen-one : (f : ℕ) → AreAll tree text (Candidates.One f) l → chosen l r ≡ calleeOf tree text (Resolved.Function f)
+  unfolding AreAll chosen calleeOf
+  chosen-one f e = rw e
+
+  chosen-nobody : AreAll tree text Candidates.Nobody l → chosen l r ≡ err UnknownFunction r
+  unfolding AreAll chosen
+  chosen-nobody e = rw e
+
+chosen-several : (tree text : List ℕ) (l : List Function) (r : ℕ) → AreAll tree text Candidates.Several l → chosen l r ≡ err AmbiguousCall r
+unfolding AreAll chosen
+chosen-several tree text [] r e = absurd e
+chosen-several tree text (f ∷ []) r e = absurd e
+chosen-several tree text (f ∷ g ∷ l) r e = refl
+
+module _ (tree text : List ℕ) (verb : Text) (l : List TypedArg) (r : ℕ) (t : Found)
+    (h : functionFound tree text t ≡ find-exact-function (program tree text) (allKeys tree text) verb l) where
+  pub exact-one : (f : ℕ) → t ≡ Found.At f → resolveFunction (program tree text) (allKeys tree text) verb l r nothing ≡ calleeOf tree text (Resolved.Function f)
+  unfolding resolveFunction exactOr functionFound calleeOf
+  exact-one f e = rw (sym h, e)
+
+  module _ (e : t ≡ Found.Nothing) where
+    by-choice : resolveFunction (program tree text) (allKeys tree text) verb l r nothing ≡ chosen (find-functions-by-literals (program tree text) (allKeys tree text) verb l) r
+    unfolding resolveFunction exactOr functionFound
+    by-choice = rw (sym h, e)
+
+    module _ (c : Candidates) (all : AreAll tree text c (find-functions-by-literals (program tree text) (allKeys tree text) verb l)) where
+      pub choice-one : (f : ℕ) → c ≡ Candidates.One f
+          → resolveFunction (program tree text) (allKeys tree text) verb l r nothing ≡ calleeOf tree text (Resolved.Function f)
+      choice-one f q = by-choice ∙ chosen-one tree text _ r f (rw q at all)
+
+      pub choice-nobody : c ≡ Candidates.Nobody → (a : Resolved) → a ≡ Resolved.Refused (record { kind = UnknownFunction; place = r })
+          → (resolveFunction (program tree text) (allKeys tree text) verb l r nothing ≡ calleeOf tree text a) × IsCallee tree a
+      unfolding calleeOf refusal
+      choice-nobody q a w = rw w (by-choice ∙ chosen-nobody tree text _ r (rw q at all), IsCallee.no)
+
+      pub choice-several : c ≡ Candidates.Several → (a : Resolved) → a ≡ Resolved.Refused (record { kind = AmbiguousCall; place = r })
+          → (resolveFunction (program tree text) (allKeys tree text) verb l r nothing ≡ calleeOf tree text a) × IsCallee tree a
+      unfolding calleeOf refusal
+      choice-several q a w = rw w (by-choice ∙ chosen-several tree text _ r (rw q at all), IsCallee.no)
+
+-- ---- the call
+
+-- a word of a tree of bytes
+pub word-short : (tree : List ℕ) (r k : ℕ) → ((i : ℕ) → getD tree i 0 < 256) → wordOf tree r k < 2 ^ 32
+unfolding wordOf wordAt byteAt
+word-short tree r k h =
+    omega (arith, h (r * 32 + 4 + k * 4), h (r * 32 + 4 + k * 4 + 1), h (r * 32 + 4 + k * 4 + 2), h (r * 32 + 4 + k * 4 + 3))
+
+pub arguments-at : (tree text : List ℕ) → Good tree text → (r : ℕ) → IsKind tree 11 r → (first : ℕ) → first ≡ wordOf tree r 2 → ArgsAt tree first
+arguments-at tree text good r k first e = rw e (record { from = r; inside = omega (arith, k .below); list = call-c tree text good r (k .below) (k .kind) })
+
+pub counted-at : (tree text s : List ℕ) (n first w : ℕ) → first ≡ w → n ≡ length (typedAt tree text s first) → n ≡ length (typedAt tree text s w)
+counted-at tree text s n first w e h = h ∙ ap (λ (x : ℕ). length (typedAt tree text s x)) e
+
+module _ (tree text s : List ℕ) (r : ℕ) (c : Call) (e0 : c .offset ≡ wordOf tree r 0) (e1 : c .len ≡ wordOf tree r 1) (e2 : c .first ≡ wordOf tree r 2) where
+  pub is-called : (count : ℕ) → Keyed tree text s count → IsKind tree 11 r → Typed tree s (argsAt tree text (wordOf tree r 2)) → ((i : ℕ) → getD tree i 0 < 256)
+      → ((z : List ℕ) → c .count ≡ length (typedAt tree text z (wordOf tree r 2))) → Called tree text s c
+  is-called count k a t b n = record {
+    argued = record { good = k .good; room = k .listed .room; cells = arguments-at tree text (k .good) r a (c .first) e2; typed = rw e2 t };
+    inside = omega (arith, e0, e1, call-a tree text (k .good) r (a .below) (a .kind));
+    short = rw e1 (word-short tree r 1 b);
+    counted = rw e2 (n s);
+  }
+
+  -- the call's verb and arguments are the record's
+  same-call : resolveTyped (program tree text) (allKeys tree text) (textOf tree text r 0) r (typedAt tree text s (wordOf tree r 2))
+      ≡ resolveTyped (program tree text) (allKeys tree text) (verbOf tree text s c) r (typedAt tree text s (c .first))
+  unfolding textOf
+  same-call = ap₂ (λ (v : Text) (l : List TypedArg). resolveTyped (program tree text) (allKeys tree text) v r l)
+      (sym (ap₂ (textAt text) e0 e1)) (sym (ap (typedAt tree text s) e2))
+
+  module _ (a : Cast) (h : cast-type (program tree text) (allKeys tree text) (verbOf tree text s c) (typedAt tree text s (c .first)) r ≡ castOf a) where
+    pub typed-refused : (e : ConvertError) → a ≡ Cast.Refused e
+        → resolveTyped (program tree text) (allKeys tree text) (textOf tree text r 0) r (typedAt tree text s (wordOf tree r 2)) ≡ calleeOf tree text (Resolved.Refused e)
+    unfolding resolveTyped _>>=_ castOf refusal calleeOf
+    typed-refused e q = same-call ∙ rw (h, q)
+
+    pub typed-cast : (y : ℕ) → a ≡ Cast.To y
+        → resolveTyped (program tree text) (allKeys tree text) (textOf tree text r 0) r (typedAt tree text s (wordOf tree r 2)) ≡ calleeOf tree text (Resolved.Cast y)
+    unfolding resolveTyped resolveFunction _>>=_ castOf calleeOf
+    typed-cast y q = same-call ∙ rw (h, q)
+
+    pub typed-function : a ≡ Cast.Not → (b : Resolved)
+        → resolveFunction (program tree text) (allKeys tree text) (verbOf tree text s c) (typedAt tree text s (c .first)) r nothing ≡ calleeOf tree text b
+        → resolveTyped (program tree text) (allKeys tree text) (textOf tree text r 0) r (typedAt tree text s (wordOf tree r 2)) ≡ calleeOf tree text b
+    unfolding resolveTyped _>>=_ castOf
+    typed-function q b w = same-call ∙ rw (h, q) w
+
+pub cast-type-is : (tree : List ℕ) (a : Cast) (y : ℕ) → IsCast tree a → a ≡ Cast.To y → TypeAt tree y
+cast-type-is tree a y (IsCast.to {y = v} t) e = let z : y ≡ v = cc in rw z t
+cast-type-is tree a y IsCast.not-cast e = absurd (let z : _≡_ {A = ℕ} 0 1 = cc in omega arith)
+cast-type-is tree a y IsCast.no e = absurd (let z : _≡_ {A = ℕ} 0 1 = cc in omega arith)

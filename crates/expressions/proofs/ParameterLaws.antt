@@ -1,0 +1,311 @@
+-- The parameters of a function in its scope: one declared is one more of the definition's, room never runs out, and the loop's turns.
+-- By what `declare` owes, and by the bytes outside the entry that it writes. Assumes nothing.
+use mathlib.Core.Path.{_≡_, refl, sym, ap, _∙_, subst}
+use mathlib.Core.Logic.{_⊎_, inl, inr}
+use mathlib.Core.Bool.{Bool, true, false}
+use mathlib.Core.List.{List, [], _∷_, _++_}
+use mathlib.Core.Option.{Option, none, some}
+use Prim.Native.Nat.{ℕ, zero, suc, _+_, _*_, _/_, _%_, _^_, _≤_, _<_}
+use native.Mathlib.Decide.{decLt}
+use native.Mathlib.Omega.{arith}
+use lib.Dec.{eqb}
+use lib.ListN.{length, take, drop, getD}
+use lib.Seq.{getD-take, getD-drop}
+use Rattle.laws.specs.Fix.{pick}
+use Rattle.laws.specs.Splice.{splice}
+use Rattle.laws.proofs.Splices.{length-splice, part-before, part-behind}
+use Rattle.records.specs.Words as Words
+use Rattle.records.specs.Words.{byteAt, wordAt, wordOf, textAt, records, A, B, C}
+use Rattle.records.specs.declared.shape.Role.the-variants.{Parameters}
+use Rattle.records.specs.declared.convert_error.ConvertError.{ConvertError}
+use Rattle.syntax.specs.Syntax.{Param}
+use Rattle.syntax.specs.Decode.{textOf}
+use Rattle.conversion.specs.ConvertError.{Result, ok, err, AlreadyDeclared}
+use Rattle.conversion.specs.Types.{isSome, someAnd}
+use Rattle.conversion.specs.Scope as Def
+use Rattle.conversion.specs.Scope.{Variable, findIn, find-variable, withVariable}
+use Rattle.conversion.specs.Written.{bytesOf, word, boolNumber}
+use Rattle.ir.specs.declared.structs.VarId.{VarId}
+use Rattle.ir.specs.Instructions.{varOf}
+use Rattle.ir.proofs.Entries.{word-same}
+use Rattle.scope.specs.declared.Scope.{Scope}
+use Rattle.scope.specs.declared.Declared.{Declared}
+use Rattle.scope.specs.declared.Declared.the-variants as Declared
+use Rattle.scope.specs.Open.{Entry, Open, Stands, Room, more, variable, Added, Taken, DeclareMeets}
+use Rattle.expressions.specs.declared.parameters.Parameters.{Parameters as Answered}
+use Rattle.expressions.specs.declared.parameters.Parameters.the-variants as Answer
+use Rattle.expressions.specs.Places.{TypeAt, FunctionAt, ParamsAt, ListAt, functionOf, paramsAt}
+use Rattle.expressions.specs.Keys.{functionRecords, recordsBelow, Listed, Keyed}
+use Rattle.expressions.specs.Slots.{Scoped, Ready}
+use Rattle.expressions.specs.Answers.{refusal}
+use Rattle.expressions.specs.Parameters.{parameterOf, withParams, emptyIn, NamesOnly, OneMore, ParametersMeet}
+use Rattle.expressions.proofs.Lists.{left, left-some, cell-is, cell-below, next-list, next-falls, left-most, params-end, parameter-item, parameter-type}
+use Rattle.expressions.proofs.KeySearch.{records-most}
+
+-- ---- bytes and words outside what was written
+
+module _ (l : List ℕ) (i : ℕ) (vs : List ℕ) (fit : i + length vs ≤ length l) where
+  part-apart : (b m : ℕ) → (b + m ≤ i) ⊎ (i + length vs ≤ b) → take m (drop b (splice l i vs)) ≡ take m (drop b l)
+  part-apart b m (inl h) = part-before l i vs b m fit h
+  part-apart b m (inr h) = part-behind l i vs b m fit h
+
+  byte-in : (b m j p : ℕ) → p ≡ b + j → j < m → (b + m ≤ i) ⊎ (i + length vs ≤ b) → getD (splice l i vs) p 0 ≡ getD l p 0
+  byte-in b m j p q h a =
+      rw q (sym (getD-drop b (splice l i vs) j 0) ∙ sym (getD-take m (drop b (splice l i vs)) j 0 h)
+      ∙ ap (λ (x : List ℕ). getD x j 0) (part-apart b m a) ∙ getD-take m (drop b l) j 0 h ∙ getD-drop b l j 0)
+
+  byte-apart : (p : ℕ) → (p + 1 ≤ i) ⊎ (i + length vs ≤ p) → byteAt (splice l i vs) p ≡ byteAt l p
+  unfolding byteAt
+  byte-apart p a = byte-in p 1 0 p (omega arith) (omega arith) a
+
+  word-apart : (p : ℕ) → (p + 4 ≤ i) ⊎ (i + length vs ≤ p) → wordAt (splice l i vs) p ≡ wordAt l p
+  word-apart p a = word-same (splice l i vs) p l p
+      (byte-in p 4 0 p (omega arith) (omega arith) a)
+      (byte-in p 4 1 (p + 1) refl (omega arith) a)
+      (byte-in p 4 2 (p + 2) refl (omega arith) a)
+      (byte-in p 4 3 (p + 3) refl (omega arith) a)
+
+-- ---- only the names' region
+
+pub only-refl : (tree s : List ℕ) → NamesOnly tree s s
+only-refl tree s = record { same-length = refl; outside = λ i h. refl }
+
+pub only-trans : (tree s s₁ s₂ : List ℕ) → NamesOnly tree s s₁ → NamesOnly tree s₁ s₂ → NamesOnly tree s s₂
+only-trans tree s s₁ s₂ f g = record { same-length = g .same-length ∙ f .same-length; outside = λ i h. g .outside i h ∙ f .outside i h }
+
+-- ---- one parameter
+
+entry-long : (a b c d : ℕ) → length (word a ++ word b ++ word c ++ word d) ≡ 16
+unfolding word bytesOf
+entry-long a b c d = refl
+
+module _ (tree text s : List ℕ) (functions : ℕ) (sc : Scope) (ready : Ready tree text s functions sc) (cell : ℕ) (ps : ParamsAt tree cell)
+    (more-cells : cell ≡ Words.none → ⊥) (few : sc .names + cell < records tree) where
+  abbrev item : ℕ
+  item = wordOf tree cell A
+
+  abbrev parameter : Param
+  parameter = record { recOf = item; name = textOf tree text item A; ty = wordOf tree item C }
+
+  the-type : TypeAt tree (wordOf tree item C)
+  the-type = parameter-type tree text (ready .keyed .good) cell (cell-is tree text (ready .keyed .good) Parameters cell ps more-cells)
+
+  pub item-inside : item * 32 + 32 ≤ length tree
+  item-inside = omega (arith, cell-is tree text (ready .keyed .good) Parameters cell ps more-cells .item, few, ready .keyed .good .whole)
+
+  pub item-word : item < 4294967296
+  item-word = omega (arith, cell-is tree text (ready .keyed .good) Parameters cell ps more-cells .item, few, ready .keyed .good .few)
+
+  pub names-word : sc .names < 4294967296
+  names-word = omega (arith, few, ready .keyed .good .few)
+
+  module _ (o n : ℕ) (v : VarId) (eo : o ≡ wordOf tree item A) (en : n ≡ wordOf tree item B) (e₀ : v .0 ≡ sc .names) (e₁ : v .1 ≡ wordOf tree item C)
+      (s′ : List ℕ) where
+    pub never-full : DeclareMeets text o n v false sc s Declared.Full s′ → ⊥
+    unfolding DeclareMeets
+    never-full (e, inl h) = omega (arith, h, few, ready .scoped .records-are)
+    never-full (e, inr h) = omega (arith, h, e₁, the-type .below, ready .keyed .good .few)
+
+    name-is : textAt text o n ≡ parameter .name
+    unfolding textOf
+    name-is = rw (eo, en)
+
+    is-param : variable text o n v false ≡ parameterOf parameter (sc .names)
+    unfolding textOf
+    is-param = rw (eo, en, e₀, e₁)
+
+    pub name-taken : (e : ConvertError) → e ≡ record { kind = AlreadyDeclared; place = item } → DeclareMeets text o n v false sc s Declared.Taken s′
+        → OneMore tree text functions sc parameter s s′ (Answer.Refused e)
+    unfolding DeclareMeets isSome someAnd find-variable
+    name-taken e q (k, t) = OneMore.refused q (λ S st. rw (← name-is) (rw (t (S .variables) st .found))) k
+
+    module _ (sc′ : Scope) (m : DeclareMeets text o n v false sc s (Declared.Done sc′) s′) where
+      abbrev entry : List ℕ
+      entry = word o ++ word n ++ word (v .0) ++ word (2 * v .1 + boolNumber false)
+
+      abbrev place-of : ℕ
+      place-of = 8 * sc .records + 16 * sc .names
+
+      is-more : sc′ ≡ more sc
+      unfolding DeclareMeets
+      is-more = m .0
+
+      fits-in : place-of + length entry ≤ length s
+      fits-in = rw (entry-long o n (v .0) (2 * v .1 + boolNumber false)) (omega (arith, ready .scoped .room .scratch, few, ready .scoped .records-are))
+
+      written : s′ ≡ splice s place-of entry
+      unfolding DeclareMeets
+      written = m .2
+
+      long : length entry ≡ 16
+      long = entry-long o n (v .0) (2 * v .1 + boolNumber false)
+
+      pub only-names : NamesOnly tree s s′
+      only-names = record {
+        same-length = rw written (length-splice s place-of entry fits-in);
+        outside = λ i h. rw written (byte-apart s place-of entry fits-in i (apart i h));
+      }
+        where
+          apart : (i : ℕ) → (i < 8 * records tree) ⊎ (24 * records tree ≤ i) → (i + 1 ≤ place-of) ⊎ (place-of + length entry ≤ i)
+          apart i (inl h) = inl (omega (arith, h, ready .scoped .records-are))
+          apart i (inr h) = inr (rw long (omega (arith, h, few, ready .scoped .records-are)))
+
+      low-word : (p : ℕ) → p + 4 ≤ place-of → wordAt s′ p ≡ wordAt s p
+      low-word p h = rw written (word-apart s place-of entry fits-in p (inl h))
+
+      keyed-more : Keyed tree text s′ functions
+      keyed-more = record {
+        good = ready .keyed .good;
+        distinct = ready .keyed .distinct;
+        listed = record {
+          room = omega (arith, ready .keyed .listed .room, only-names .same-length);
+          counted = ready .keyed .listed .counted;
+          listed = λ j h. low-word (4 * j) (omega (arith, h, ready .keyed .listed .counted, records-most tree (records tree), ready .scoped .records-are)) ∙ ready .keyed .listed .listed j h;
+        };
+      }
+
+      more-stands : (l : List Variable) → Stands text s sc l → Stands text s′ sc′ (parameterOf parameter (sc .names) ∷ l)
+      unfolding DeclareMeets
+      more-stands l st = rw (is-more, ← is-param) (m .3 l st .stands)
+
+      -- the type of the innermost is the parameter's; those of the others stand as they stood
+      types-more : (j : ℕ) → j < sc .names + 1 → Dec (j < sc .names) → TypeAt tree (wordAt s′ (8 * records tree + 16 * j + 12) / 2)
+      unfolding Open
+      types-more j h (yes l) =
+          subst (λ (w : ℕ). TypeAt tree (w / 2)) (sym (low-word (8 * records tree + 16 * j + 12) (omega (arith, l, ready .scoped .records-are)))) (ready .scoped .types j l)
+      types-more j h (no l) =
+          let head = more-stands (ready .scoped .variables) (ready .scoped .stands) .names .0 in
+          subst (TypeAt tree) (head .typed ∙ ap (λ (p : ℕ). wordAt s′ p / 2) (omega (arith, h, l, ready .scoped .records-are, ready .scoped .stands .count, ap (λ (x : Scope). x .records) is-more))) the-type
+
+      pub ready-more : Ready tree text s′ functions sc′
+      unfolding DeclareMeets
+      ready-more = record {
+        keyed = keyed-more;
+        scoped = record {
+          records-are = rw is-more (ready .scoped .records-are);
+          room = rw is-more (m .1);
+          variables = parameterOf parameter (sc .names) ∷ ready .scoped .variables;
+          stands = more-stands (ready .scoped .variables) (ready .scoped .stands);
+          types = λ j h. types-more j (rw is-more at h) (decLt j (sc .names));
+        };
+      }
+
+      pub one-more : OneMore tree text functions sc parameter s s′ (Answer.Done sc′)
+      unfolding DeclareMeets isSome someAnd find-variable
+      one-more = OneMore.done ready-more (rw is-more refl) (rw is-more refl) (rw is-more refl)
+          (λ S st. (rw (← name-is) (rw (m .3 (S .variables) st .free)), more-stands (S .variables) st))
+          only-names
+
+  -- as the code has them: p is the parameter's record, and y, o and n are three of its words
+  module _ (p : ℕ) (ep : p ≡ item) where
+    pub place-inside : p * 32 + 32 ≤ length tree
+    place-inside = rw ep item-inside
+
+    pub place-word : p < 4294967296
+    place-word = rw ep item-word
+
+    module _ (y o n : ℕ) (ey : y ≡ wordOf tree p C) (eo : o ≡ wordOf tree p A) (en : n ≡ wordOf tree p B)
+        (v : VarId) (e₀ : v .0 ≡ sc .names) (e₁ : v .1 ≡ y) (s′ : List ℕ) (r : Declared) (m : DeclareMeets text o n v false sc s r s′) where
+      of-item : (x k : ℕ) → x ≡ wordOf tree p k → x ≡ wordOf tree item k
+      of-item x k e = e ∙ ap (λ (i : ℕ). wordOf tree i k) ep
+
+      met : (d : Declared) → r ≡ d → DeclareMeets text o n v false sc s d s′
+      met d q = subst (λ (x : Declared). DeclareMeets text o n v false sc s x s′) q m
+
+      pub met-done : (sc′ : Scope) → r ≡ Declared.Done sc′ → OneMore tree text functions sc parameter s s′ (Answer.Done sc′)
+      met-done sc′ q = one-more o n v (of-item o A eo) (of-item n B en) e₀ (e₁ ∙ of-item y C ey) s′ sc′ (met (Declared.Done sc′) q)
+
+      pub met-taken : r ≡ Declared.Taken → (a : Answered) → a ≡ Answer.Refused (record { kind = AlreadyDeclared; place = p })
+          → OneMore tree text functions sc parameter s s′ a
+      met-taken q a ea =
+          subst (OneMore tree text functions sc parameter s s′) (sym ea)
+          (name-taken o n v (of-item o A eo) (of-item n B en) e₀ (e₁ ∙ of-item y C ey) s′ (record { kind = AlreadyDeclared; place = p }) (rw ep refl) (met Declared.Taken q))
+
+      pub met-full : r ≡ Declared.Full → ⊥
+      met-full q = never-full o n v (of-item o A eo) (of-item n B en) e₀ (e₁ ∙ of-item y C ey) s′ (met Declared.Full q)
+
+-- ---- the loop
+
+pub refused-long : (tree text : List ℕ) (functions f : ℕ) (s s′ : List ℕ) (e : ConvertError) → ParametersMeet tree text functions f s s′ (Answer.Refused e)
+    → length s′ ≡ length s
+refused-long tree text functions f s s′ e (ParametersMeet.refused q only) = only .same-length
+
+pub record Turn (tree text : List ℕ) (functions f : ℕ) (s₀ s : List ℕ) (cell : ℕ) (sc : Scope) : Type 0 where
+  pub ready : Ready tree text s functions sc
+  pub cells : ParamsAt tree cell
+  pub few : sc .names + left cell ≤ records tree
+  pub no-loop : sc .inner ≡ Words.none
+  pub of-function : sc .function ≡ f
+  pub only : NamesOnly tree s₀ s
+  pub known : Def.Scope
+  pub stands : Stands text s sc (known .variables)
+  pub asked : withParams (functionOf tree text f .params) 0 (emptyIn tree text f) ≡ withParams (paramsAt tree text cell) (sc .names) known
+
+module _ (tree text : List ℕ) (functions f : ℕ) (s₀ : List ℕ) where
+  pub start : (w : ℕ) (sc : Scope) → Keyed tree text s₀ functions → functionOf tree text f .params ≡ paramsAt tree text w → ParamsAt tree w
+      → sc ≡ record { records = records tree; names = 0; inner = Words.none; function = f } → Turn tree text functions f s₀ s₀ w sc
+  unfolding Open
+  start w sc k e l q = record {
+    ready = record {
+      keyed = k;
+      scoped = record {
+        records-are = rw q refl;
+        room = record { scratch = rw q (k .listed .room); names-in = rw q (omega arith) };
+        variables = [];
+        stands = nobody;
+        types = λ j h. absurd (none-open j (rw q at h));
+      };
+    };
+    cells = l;
+    few = rw q (omega (arith, left-most tree text (k .good) Parameters w l));
+    no-loop = rw q refl;
+    of-function = rw q refl;
+    only = only-refl tree s₀;
+    known = emptyIn tree text f;
+    stands = nobody;
+    asked = rw (e, q) refl;
+  }
+    where
+      none-open : (j : ℕ) → j < 0 → ⊥
+      none-open j h = omega (arith, h)
+
+      nobody : Stands text s₀ sc []
+      nobody = record { names = tt; count = rw q refl }
+
+  module _ (s : List ℕ) (cell : ℕ) (sc : Scope) (t : Turn tree text functions f s₀ s cell sc) where
+    pub turn-end : cell ≡ Words.none → ParametersMeet tree text functions f s₀ s (Answer.Done sc)
+    unfolding withParams
+    turn-end e = ParametersMeet.done (t .known) (t .asked ∙ rw (e, params-end tree text (t .ready .keyed .good)) refl) (t .stands) (t .ready) (t .no-loop) (t .of-function) (t .only)
+
+    module _ (n : cell ≡ Words.none → ⊥) where
+      pub still-few : sc .names + cell < records tree
+      still-few = omega (arith, t .few, left-some cell n)
+
+      abbrev here : Param
+      here = record { recOf = wordOf tree cell A; name = textOf tree text (wordOf tree cell A) A; ty = wordOf tree (wordOf tree cell A) C }
+
+      split : paramsAt tree text cell ≡ here ∷ paramsAt tree text (wordOf tree cell B)
+      split = parameter-item tree text (t .ready .keyed .good) cell (cell-is tree text (t .ready .keyed .good) Parameters cell (t .cells) n)
+
+      pub turn-refused : (s′ : List ℕ) (e : ConvertError) → OneMore tree text functions sc here s s′ (Answer.Refused e) → ParametersMeet tree text functions f s₀ s′ (Answer.Refused e)
+      unfolding withParams pick refusal
+      turn-refused s′ e (OneMore.refused q taken k) =
+          ParametersMeet.refused {e = e} (t .asked ∙ rw (split, taken (t .known) (t .stands), q) refl) (rw k (t .only))
+
+      pub turn-next : (s′ : List ℕ) (sc′ : Scope) (w : ℕ) → w ≡ wordOf tree cell B → OneMore tree text functions sc here s s′ (Answer.Done sc′)
+          → Turn tree text functions f s₀ s′ w sc′
+      unfolding withParams pick withVariable
+      turn-next s′ sc′ w e (OneMore.done r grown inner function adds only) = record {
+        ready = r;
+        cells = next-list tree text (t .ready .keyed .good) Parameters cell w (t .cells) n e;
+        few = omega (arith, grown, t .few, next-falls tree text (t .ready .keyed .good) Parameters cell w (t .cells) n e);
+        no-loop = inner ∙ t .no-loop;
+        of-function = function ∙ t .of-function;
+        only = only-trans tree s₀ s s′ (t .only) only;
+        known = withVariable (parameterOf here (sc .names)) (t .known);
+        stands = adds (t .known) (t .stands) .1;
+        asked = t .asked ∙ rw (split, adds (t .known) (t .stands) .0, e, next-number) refl;
+      }
+        where
+          next-number : sc′ .names ≡ suc (sc .names)
+          next-number = omega (arith, grown)

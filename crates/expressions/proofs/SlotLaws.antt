@@ -1,0 +1,234 @@
+-- What typing leaves of the scratch: the frame outside the slots keeps the functions' list and the open names, and a slot keeps a type that it has.
+-- By the bytes of a splice, and slot by slot. Assumes nothing.
+use mathlib.Core.Path.{_≡_, refl, sym, ap, ap₂, _∙_, subst}
+use mathlib.Core.Logic.{_⊎_, inl, inr}
+use mathlib.Core.Bool.{Bool, true, false}
+use mathlib.Core.List.{List, [], _∷_}
+use Prim.Native.Nat.{ℕ, zero, suc, _+_, _*_, _/_, _%_, _^_, _≤_, _<_}
+use native.Mathlib.Omega.{arith}
+use lib.Dec.{eqb, ltb}
+use lib.ListN.{length, take, drop, getD, length-append}
+use lib.Seq.{getD-take, getD-drop}
+use borrow.Author.Tests.{ltb-true, ltb-false}
+use Rattle.laws.specs.Fix.{pick}
+use Rattle.laws.specs.Splice.{splice}
+use Rattle.laws.proofs.Splices.{length-splice, part-before, part-behind, part-grown, part-element}
+use Rattle.laws.proofs.Tests.{tested}
+use Rattle.records.specs.Words.{byteAt, kindOf, wordAt, textAt, records}
+use Rattle.conversion.specs.ConvertError.{ok}
+use Rattle.conversion.specs.Scope as Def
+use Rattle.conversion.specs.Scope.{Variable}
+use Rattle.conversion.specs.Written.{bytesOf, word}
+use Rattle.ir.proofs.Entries.{word-same}
+use Rattle.ir.proofs.ReadBack.{word-back}
+use Rattle.scope.specs.declared.Scope.{Scope}
+use Rattle.scope.specs.Open.{Open, Stands}
+use Rattle.expressions.specs.Places.{TypeAt}
+use Rattle.expressions.specs.Keys.{recordsBelow, Listed, Keyed}
+use Rattle.expressions.specs.Slots.{slotAt, Scoped, Frame, typeIn, Slots, Ready}
+
+-- ---- bytes and words of a splice
+
+same-byte : (l l′ : List ℕ) (b m j p : ℕ) → p ≡ b + j → take m (drop b l′) ≡ take m (drop b l) → j < m → getD l′ p 0 ≡ getD l p 0
+same-byte l l′ b m j p q e h =
+    rw q (sym (getD-drop b l′ j 0) ∙ sym (getD-take m (drop b l′) j 0 h) ∙ ap (λ (x : List ℕ). getD x j 0) e ∙ getD-take m (drop b l) j 0 h ∙ getD-drop b l j 0)
+
+word-read : (y : ℕ) → y < 2 ^ 32 → wordAt (word y) 0 ≡ y
+unfolding word bytesOf wordAt byteAt
+word-read y h = word-back y h
+
+module _ (l : List ℕ) (i y : ℕ) (fit : i + 4 ≤ length l) where
+  word-long : length (word y) ≡ 4
+  unfolding word bytesOf
+  word-long = refl
+
+  fits : i + length (word y) ≤ length l
+  fits = rw word-long fit
+
+  part-apart : (b m : ℕ) → (b + m ≤ i) ⊎ (i + 4 ≤ b) → take m (drop b (splice l i (word y))) ≡ take m (drop b l)
+  part-apart b m (inl h) = part-before l i (word y) b m fits h
+  part-apart b m (inr h) = part-behind l i (word y) b m fits (rw word-long h)
+
+  byte-apart : (p : ℕ) → (p + 1 ≤ i) ⊎ (i + 4 ≤ p) → byteAt (splice l i (word y)) p ≡ byteAt l p
+  unfolding byteAt
+  byte-apart p h = same-byte l (splice l i (word y)) p 1 0 p (omega arith) (part-apart p 1 h) (omega arith)
+
+  word-apart : (p : ℕ) → (p + 4 ≤ i) ⊎ (i + 4 ≤ p) → wordAt (splice l i (word y)) p ≡ wordAt l p
+  word-apart p h =
+      let at : (j q : ℕ) → q ≡ p + j → j < 4 → getD (splice l i (word y)) q 0 ≡ getD l q 0 =
+      λ j q e k. same-byte l (splice l i (word y)) p 4 j q e (part-apart p 4 h) k in
+      word-same (splice l i (word y)) p l p
+      (at 0 p (omega arith) (omega arith))
+      (at 1 (p + 1) refl (omega arith))
+      (at 2 (p + 2) refl (omega arith))
+      (at 3 (p + 3) refl (omega arith))
+
+  there : (j q : ℕ) → q ≡ i + j → j < 4 → getD (splice l i (word y)) q 0 ≡ getD (word y) j 0
+  there j q e h = rw e (part-element (splice l i (word y)) i (word y) j (part-grown l i (word y) i [] fits (omega arith) refl) (rw word-long h))
+
+  -- the word that was written
+  word-there : y < 2 ^ 32 → wordAt (splice l i (word y)) i ≡ y
+  word-there h = whole ∙ word-read y h
+    where
+      whole : wordAt (splice l i (word y)) i ≡ wordAt (word y) 0
+      whole = word-same (splice l i (word y)) i (word y) 0
+          (there 0 i (omega arith) (omega arith))
+          (there 1 (i + 1) refl (omega arith))
+          (there 2 (i + 2) refl (omega arith))
+          (there 3 (i + 3) refl (omega arith))
+
+-- ---- the frame
+
+few-listed : (b : Bool) (r : ℕ) → length (pick b (r ∷ []) []) ≤ 1
+unfolding pick
+few-listed true r = omega arith
+few-listed false r = omega arith
+
+listed-most : (tree : List ℕ) (n : ℕ) → length (recordsBelow tree n) ≤ n
+unfolding recordsBelow
+listed-most tree zero = omega arith
+listed-most tree (suc r) =
+    omega (arith, length-append (recordsBelow tree r) (pick (eqb (kindOf tree r) 25) (r ∷ []) []), listed-most tree r, few-listed (eqb (kindOf tree r) 25) r)
+
+pub frame-refl : (tree s : List ℕ) → Frame tree s s
+frame-refl tree s = record { same-length = refl; outside = λ i h. refl }
+
+pub frame-trans : {tree s s₁ s₂ : List ℕ} → Frame tree s s₁ → Frame tree s₁ s₂ → Frame tree s s₂
+frame-trans f g = record { same-length = g .same-length ∙ f .same-length; outside = λ i h. g .outside i h ∙ f .outside i h }
+
+module _ (tree s s′ : List ℕ) (f : Frame tree s s′) where
+  outside-all : (p : ℕ) → (p + 4 ≤ 4 * records tree) ⊎ (8 * records tree ≤ p) → (j q : ℕ) → q ≡ p + j → j < 4
+      → (q < 4 * records tree) ⊎ (8 * records tree ≤ q)
+  outside-all p (inl h) j q e k = inl (omega arith)
+  outside-all p (inr h) j q e k = inr (omega arith)
+
+  pub frame-word : (p : ℕ) → (p + 4 ≤ 4 * records tree) ⊎ (8 * records tree ≤ p) → wordAt s′ p ≡ wordAt s p
+  unfolding byteAt
+  frame-word p h =
+      let at : (j q : ℕ) → q ≡ p + j → j < 4 → getD s′ q 0 ≡ getD s q 0 = λ j q e k. f .outside q (outside-all p h j q e k) in
+      word-same s′ p s p
+      (at 0 p (omega arith) (omega arith))
+      (at 1 (p + 1) refl (omega arith))
+      (at 2 (p + 2) refl (omega arith))
+      (at 3 (p + 3) refl (omega arith))
+
+  open-frame : (text : List ℕ) (n : ℕ) → n ≡ records tree → (l : List Variable) → Open text s n l → Open text s′ n l
+  unfolding Open
+  open-frame text n e [] o = tt
+  open-frame text n e (v ∷ l) o =
+      let p : ℕ = 8 * n + 16 * length l in
+      let w : (q : ℕ) → wordAt s′ (p + q) ≡ wordAt s (p + q) = λ q. frame-word (p + q) (inr (omega arith)) in
+      let w₀ : wordAt s′ p ≡ wordAt s p = frame-word p (inr (omega arith)) in
+      let x = o .0 in (
+        record {
+          named = x .named ∙ sym (ap₂ (textAt text) w₀ (w 4));
+          number = x .number ∙ sym (w 8);
+          typed = x .typed ∙ sym (ap (λ (y : ℕ). y / 2) (w 12));
+          fixed = x .fixed ∙ sym (ap (λ (y : ℕ). eqb (y % 2) 1) (w 12));
+        },
+        open-frame text n e l (o .1),
+      )
+
+  pub stands-frame : (text : List ℕ) (sc : Scope) (l : List Variable) → sc .records ≡ records tree → Stands text s sc l → Stands text s′ sc l
+  stands-frame text sc l e st = record { names = open-frame text (sc .records) e l (st .names); count = st .count }
+
+  pub scoped-frame : (text : List ℕ) (sc : Scope) → Scoped tree text s sc → Scoped tree text s′ sc
+  scoped-frame text sc k = record {
+    records-are = k .records-are;
+    room = record { scratch = omega (arith, k .room .scratch, f .same-length); names-in = k .room .names-in };
+    variables = k .variables;
+    stands = stands-frame text sc (k .variables) (k .records-are) (k .stands);
+    types = λ j h. subst (λ (w : ℕ). TypeAt tree (w / 2)) (sym (frame-word (8 * records tree + 16 * j + 12) (inr (omega arith)))) (k .types j h);
+  }
+
+  listed-frame : (count : ℕ) → Listed tree s count → Listed tree s′ count
+  listed-frame count k = record {
+    room = omega (arith, k .room, f .same-length);
+    counted = k .counted;
+    listed = λ j h. frame-word (4 * j) (inl (omega (arith, k .counted, listed-most tree (records tree)))) ∙ k .listed j h;
+  }
+
+  pub keyed-frame : (text : List ℕ) (count : ℕ) → Keyed tree text s count → Keyed tree text s′ count
+  keyed-frame text count k = record { good = k .good; distinct = k .distinct; listed = listed-frame count (k .listed) }
+
+  pub ready-frame : (text : List ℕ) (count : ℕ) (sc : Scope) → Ready tree text s count sc → Ready tree text s′ count sc
+  ready-frame text count sc k = record { keyed = keyed-frame text count (k .keyed); scoped = scoped-frame text sc (k .scoped) }
+
+-- ---- a type written to a slot
+
+module _ (tree s s′ : List ℕ) (e y : ℕ) (low : e < records tree) (room : 64 * records tree ≤ length s)
+    (w : s′ ≡ splice s (4 * records tree + 4 * e) (word y)) where
+  written-fits : 4 * records tree + 4 * e + 4 ≤ length s
+  written-fits = omega arith
+
+  pub put-frame : Frame tree s s′
+  put-frame = record {
+    same-length = rw w (length-splice s (4 * records tree + 4 * e) (word y) (fits s (4 * records tree + 4 * e) y written-fits));
+    outside = λ i h. rw w (byte-apart s (4 * records tree + 4 * e) y written-fits i (away i h));
+  }
+    where
+      away : (i : ℕ) → (i < 4 * records tree) ⊎ (8 * records tree ≤ i) → (i + 1 ≤ 4 * records tree + 4 * e) ⊎ (4 * records tree + 4 * e + 4 ≤ i)
+      away i (inl h) = inl (omega arith)
+      away i (inr h) = inr (omega arith)
+
+  pub put-here : y < 2 ^ 32 → slotAt tree s′ e ≡ y
+  unfolding slotAt
+  put-here h = rw w (word-there s (4 * records tree + 4 * e) y written-fits h)
+
+  put-other : (d : ℕ) → (d < e) ⊎ (e < d) → slotAt tree s′ d ≡ slotAt tree s d
+  unfolding slotAt
+  put-other d h = rw w (word-apart s (4 * records tree + 4 * e) y written-fits (4 * records tree + 4 * d) (away h))
+    where
+      away : (d < e) ⊎ (e < d) → (4 * records tree + 4 * d + 4 ≤ 4 * records tree + 4 * e) ⊎ (4 * records tree + 4 * e + 4 ≤ 4 * records tree + 4 * d)
+      away (inl k) = inl (omega arith)
+      away (inr k) = inr (omega arith)
+
+-- ---- the slots
+
+module _ (tree text : List ℕ) (S : Def.Scope) where
+  pub slots-refl : (s : List ℕ) → Slots tree text S s s
+  unfolding Slots
+  slots-refl s e h = inl refl
+
+  pub slots-trans : (s s₁ s₂ : List ℕ) → Slots tree text S s s₁ → Slots tree text S s₁ s₂ → Slots tree text S s s₂
+  unfolding Slots
+  slots-trans s s₁ s₂ f g e h = go (g e h)
+    where
+      more : slotAt tree s₂ e ≡ slotAt tree s₁ e
+          → (slotAt tree s₁ e ≡ slotAt tree s e) ⊎ ((typeIn tree text S e ≡ ok (slotAt tree s₁ e)) × TypeAt tree (slotAt tree s₁ e))
+          → (slotAt tree s₂ e ≡ slotAt tree s e) ⊎ ((typeIn tree text S e ≡ ok (slotAt tree s₂ e)) × TypeAt tree (slotAt tree s₂ e))
+      more q (inl p) = inl (q ∙ p)
+      more q (inr t) = inr (t .0 ∙ ap (λ (z : ℕ). ok z) (sym q), subst (λ (z : ℕ). TypeAt tree z) (sym q) (t .1))
+
+      go : (slotAt tree s₂ e ≡ slotAt tree s₁ e) ⊎ ((typeIn tree text S e ≡ ok (slotAt tree s₂ e)) × TypeAt tree (slotAt tree s₂ e))
+          → (slotAt tree s₂ e ≡ slotAt tree s e) ⊎ ((typeIn tree text S e ≡ ok (slotAt tree s₂ e)) × TypeAt tree (slotAt tree s₂ e))
+      go (inl q) = more q (f e h)
+      go (inr t) = inr t
+
+  -- a slot that has its expression's type keeps it
+  pub slot-kept : (s s′ : List ℕ) (e y : ℕ) → Slots tree text S s s′ → e < records tree → typeIn tree text S e ≡ ok y → slotAt tree s e ≡ y
+      → slotAt tree s′ e ≡ y
+  unfolding Slots
+  slot-kept s s′ e y f h t q = go (f e h)
+    where
+      same : typeIn tree text S e ≡ ok (slotAt tree s′ e) → typeIn tree text S e ≡ ok y → slotAt tree s′ e ≡ y
+      same a b = cc
+
+      go : (slotAt tree s′ e ≡ slotAt tree s e) ⊎ ((typeIn tree text S e ≡ ok (slotAt tree s′ e)) × TypeAt tree (slotAt tree s′ e)) → slotAt tree s′ e ≡ y
+      go (inl p) = p ∙ q
+      go (inr p) = same (p .0) t
+
+  -- writing a type to its slot
+  pub put-slots : (s s′ : List ℕ) (e y : ℕ) → e < records tree → 64 * records tree ≤ length s → s′ ≡ splice s (4 * records tree + 4 * e) (word y)
+      → y < 2 ^ 32 → typeIn tree text S e ≡ ok y → TypeAt tree y → Slots tree text S s s′
+  unfolding Slots
+  put-slots s s′ e y low room w small t a d h = tested (ltb d e) (λ q. inl (put-other tree s s′ e y low room w d (inl (ltb-true d e q)))) first
+    where
+      here : d ≡ e → (slotAt tree s′ d ≡ slotAt tree s d) ⊎ ((typeIn tree text S d ≡ ok (slotAt tree s′ d)) × TypeAt tree (slotAt tree s′ d))
+      here q =
+          let z : slotAt tree s′ d ≡ y = ap (slotAt tree s′) q ∙ put-here tree s s′ e y low room w small in
+          inr (ap (typeIn tree text S) q ∙ t ∙ ap (λ (x : ℕ). ok x) (sym z), subst (λ (x : ℕ). TypeAt tree x) (sym z) a)
+
+      first : ltb d e ≡ false → (slotAt tree s′ d ≡ slotAt tree s d) ⊎ ((typeIn tree text S d ≡ ok (slotAt tree s′ d)) × TypeAt tree (slotAt tree s′ d))
+      first n = tested (ltb e d) (λ q. inl (put-other tree s s′ e y low room w d (inr (ltb-true e d q))))
+          (λ q. here (omega (arith, ltb-false d e n, ltb-false e d q)))

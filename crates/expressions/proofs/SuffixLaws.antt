@@ -1,0 +1,297 @@
+-- What the first cell of typed arguments adds to their suffixes, and what the three loops over cells keep: what was asked equals what is left.
+-- By what a cell is, and by the pieces of the text. Assumes nothing.
+use mathlib.Core.Path.{_≡_, refl, sym, ap, ap₂, _∙_}
+use mathlib.Core.Bool.{Bool, true, false, _&&_}
+use mathlib.Core.List.{List, [], _∷_, _++_}
+use Prim.Native.Nat.{ℕ, zero, suc, _+_, _-_, _*_, _^_, _≤_, _<_}
+use native.Mathlib.Numerals.{add-one}
+use native.Mathlib.Omega.{arith}
+use lib.Dec.{eqb, leb}
+use lib.ListN.{length, take, drop, getD, length-drop}
+use borrow.Author.Tests.{eqb-true, eqb-false, eq-eqb, ne-eqb, leb-true, leb-false}
+use Rattle.laws.proofs.Tests.{tested}
+use Rattle.records.specs.declared.shape.Role.the-variants.{Arguments}
+use Rattle.records.specs.Words.{byteAt, wordAt, wordOf, kindOf, textAt, records, none, A, B}
+use Rattle.records.specs.Good.{Good}
+use Rattle.syntax.specs.Syntax.{Text, Expr, Args, Value, ToType, place}
+use Rattle.syntax.specs.Decode.{program, textOf, keyAt}
+use Rattle.conversion.specs.Ir.{sameText}
+use Rattle.conversion.specs.Expressions.{dollar, suffixes, joined}
+use Rattle.ir.specs.declared.words.Found.{Found}
+use Rattle.ir.specs.declared.words.Found.the-variants as Found
+use Rattle.ir.proofs.TextLaws.{text-length}
+use Rattle.expressions.specs.declared.parts.Part.{Part}
+use Rattle.expressions.specs.Places.{PartIs, exprAt, argsAt}
+use Rattle.expressions.specs.Keys.{allKeys}
+use Rattle.expressions.specs.Slots.{slotAt, slotted, Typed, FirstType}
+use Rattle.expressions.specs.Calls.{typedAt, suffixesAt, bytesIn, Argued, PrefixIs, so-many, no-number}
+use Rattle.expressions.proofs.Lists.{args-end, left, left-most, next-falls, Cell, cell-is, value-item, type-item}
+use Rattle.expressions.proofs.NameLaws.{same-append, part-length, part-split, part-one, joined-verb, bytes-more}
+
+-- ---- words and key texts are short
+
+module _ (l : List ℕ) (bytes : (i : ℕ) → getD l i 0 < 256) where
+  pub word-short : (i : ℕ) → wordAt l i < 4294967296
+  unfolding wordAt byteAt
+  word-short i = omega (arith, bytes i, bytes (i + 1), bytes (i + 2), bytes (i + 3))
+
+module _ (tree text : List ℕ) (y : ℕ) (p : Part) (is : PartIs text p (keyAt tree text y)) where
+  pub key-size : length (keyAt tree text y) ≡ p .1
+  key-size = sym (ap length (is .is)) ∙ part-length text (p .0) (p .1) (is .inside)
+
+  pub key-short : ((i : ℕ) → getD tree i 0 < 256) → p .1 < 4294967296
+  unfolding keyAt textOf wordOf
+  key-short b =
+      omega (arith, key-size, text-length text (wordOf tree y 3) (wordOf tree y 4), word-short tree b (y * 32 + 4 + 4 * 4))
+
+-- ---- the first cell
+
+-- for an argument of type y at cell w
+pub record First (tree text s : List ℕ) (w y : ℕ) : Type 0 where
+  pub inside : w < records tree
+  pub rest : Argued tree text s (wordOf tree w B)
+  pub is : suffixesAt tree text s w ≡ (dollar ∷ keyAt tree text y) ∷ suffixesAt tree text s (wordOf tree w B)
+  pub falls : left (wordOf tree w B) < left w
+
+module _ (tree text s : List ℕ) where
+  pub no-suffixes : (w : ℕ) → Good tree text → w ≡ none → suffixesAt tree text s w ≡ []
+  unfolding suffixesAt suffixes typedAt slotted
+  no-suffixes w g e =
+      ap (λ (l : Args). suffixes (program tree text) (allKeys tree text) (slotted tree s l)) (ap (argsAt tree text) e ∙ args-end tree text g)
+
+  module _ (w y : ℕ) (a : Argued tree text s w) (n : w ≡ none → ⊥) (first : FirstType (typedAt tree text s w) y) where
+    here : Cell tree text (a .good) Arguments w
+    here = cell-is tree text (a .good) Arguments w (a .cells) n
+
+    rest-falls : left (wordOf tree w B) < left w
+    rest-falls = next-falls tree text (a .good) Arguments w (wordOf tree w B) (a .cells) n refl
+
+    rest-argued : Typed tree s (argsAt tree text (wordOf tree w B)) → Argued tree text s (wordOf tree w B)
+    rest-argued t = record { good = a .good; room = a .room; cells = here .rest; typed = t }
+
+    -- by the arguments as they stand
+    first-value : (r : ℕ) (e : Expr) → argsAt tree text w ≡ Value r e (argsAt tree text (wordOf tree w B)) → First tree text s w y
+    unfolding suffixesAt suffixes typedAt slotted FirstType Typed program
+    first-value r e q =
+        let ty : slotAt tree s (place e) ≡ y = rw q at first in
+        record {
+          inside = here .inside;
+          rest = rest-argued ((rw q at (a .typed)) .1);
+          is = rw q (ap (λ (z : ℕ). (dollar ∷ keyAt tree text z) ∷ suffixesAt tree text s (wordOf tree w B)) ty);
+          falls = rest-falls;
+        }
+
+    first-type : (r t : ℕ) → argsAt tree text w ≡ ToType r t (argsAt tree text (wordOf tree w B)) → First tree text s w y
+    unfolding suffixesAt suffixes typedAt slotted FirstType Typed program
+    first-type r t q =
+        let ty : t ≡ y = rw q at first in
+        record {
+          inside = here .inside;
+          rest = rest-argued (rw q at (a .typed));
+          is = rw q (ap (λ (z : ℕ). (dollar ∷ keyAt tree text z) ∷ suffixesAt tree text s (wordOf tree w B)) ty);
+          falls = rest-falls;
+        }
+
+    pub first-cell : First tree text s w y
+    first-cell = tested (eqb (kindOf tree (wordOf tree w A)) 13)
+        (λ t. first-value (wordOf tree w A) (exprAt tree text (wordOf tree (wordOf tree w A) A))
+        (value-item tree text (a .good) w here (eqb-true (kindOf tree (wordOf tree w A)) 13 t)))
+        (λ f. first-type (wordOf tree w A) (wordOf tree (wordOf tree w A) A)
+        (type-item tree text (a .good) w here (eqb-false (kindOf tree (wordOf tree w A)) 13 f)))
+
+-- ---- the sum of all suffixes' bytes
+
+pub record Summed (tree text s : List ℕ) (first n w : ℕ) : Type 0 where
+  pub argued : Argued tree text s w
+  pub sum : bytesIn tree text s (suffixesAt tree text s first) ≡ n + bytesIn tree text s (suffixesAt tree text s w)
+  pub small : n + 4294967296 * left w ≤ 8796093022208
+
+module _ (tree text s : List ℕ) where
+  pub sum-start : (first : ℕ) → Argued tree text s first → Summed tree text s first 0 first
+  sum-start first a = record { argued = a; sum = omega arith; small = omega (arith, left-most tree text (a .good) Arguments first (a .cells), a .good .few) }
+
+  -- the first of some suffixes, and the rest
+  first-bytes : (w y : ℕ) (p : Part) → First tree text s w y → PartIs text p (keyAt tree text y)
+      → bytesIn tree text s (suffixesAt tree text s w) ≡ 1 + p .1 + bytesIn tree text s (suffixesAt tree text s (wordOf tree w B))
+  unfolding bytesIn
+  first-bytes w y p f i = ap (bytesIn tree text s) (f .is) ∙ omega (arith, key-size tree text y p i)
+
+  pub sum-more : (first n w y : ℕ) (p : Part) → Summed tree text s first n w → First tree text s w y → PartIs text p (keyAt tree text y) → p .1 < 4294967296
+      → Summed tree text s first (n + 1 + p .1) (wordOf tree w B)
+  sum-more first n w y p h f i short =
+      record {
+        argued = f .rest;
+        sum = omega (arith, h .sum, first-bytes w y p f i);
+        small = omega (arith, h .small, f .falls);
+      }
+
+  pub sum-end : (first n w : ℕ) → Summed tree text s first n w → w ≡ none
+      → (n ≡ bytesIn tree text s (suffixesAt tree text s first)) × (n < 2 ^ 48)
+  unfolding bytesIn
+  sum-end first n w h e =
+      let z : bytesIn tree text s (suffixesAt tree text s w) ≡ 0 = ap (bytesIn tree text s) (no-suffixes tree text s w (h .argued .good) e) in
+      (omega (arith, h .sum), omega (arith, h .small))
+
+-- ---- as many suffixes as have so many bytes
+
+-- the element at k and what stands behind it
+record Next (tree text s : List ℕ) (l : List Text) (k : ℕ) (x : Text) (r : List Text) : Type 0 where
+  pub after : drop (suc k) l ≡ r
+  pub inside : k < length l
+  pub more : bytesIn tree text s (take (suc k) l) ≡ bytesIn tree text s (take k l) + length x
+
+module _ (tree text s : List ℕ) where
+  next-is : (l : List Text) (k : ℕ) (x : Text) (r : List Text) → drop k l ≡ x ∷ r → Next tree text s l k x r
+  unfolding bytesIn
+  next-is [] zero x r e = absurd (let z : _≡_ {A = ℕ} 0 1 = cc in omega arith)
+  next-is [] (suc k) x r e = absurd (let z : _≡_ {A = ℕ} 0 1 = cc in omega arith)
+  next-is (a ∷ l) zero x r e =
+      let q : a ≡ x = cc in
+      record { after = cc; inside = omega arith; more = omega (arith, ap length q) }
+  next-is (a ∷ l) (suc k) x r e =
+      let h = next-is l k x r e in
+      record { after = h .after; inside = omega (arith, h .inside); more = omega (arith, h .more) }
+
+-- k suffixes were passed, up to cell w, and `rem` bytes are rem
+pub record Passed (tree text s : List ℕ) (first bytes rem w k : ℕ) : Type 0 where
+  pub argued : Argued tree text s w
+  pub here : drop k (suffixesAt tree text s first) ≡ suffixesAt tree text s w
+  pub inside : k ≤ length (suffixesAt tree text s first)
+  pub sum : bytes ≡ bytesIn tree text s (take k (suffixesAt tree text s first)) + rem
+  pub few : k + rem ≤ bytes
+
+module _ (tree text s : List ℕ) (first bytes : ℕ) where
+  pub pass-start : Argued tree text s first → Passed tree text s first bytes bytes first 0
+  unfolding bytesIn
+  pass-start a = record { argued = a; here = refl; inside = omega arith; sum = omega arith; few = omega arith }
+
+  module _ (rem w k : ℕ) (h : Passed tree text s first bytes rem w k) where
+    -- the present suffix
+    at-cell : (y : ℕ) → First tree text s w y
+        → Next tree text s (suffixesAt tree text s first) k (dollar ∷ keyAt tree text y) (suffixesAt tree text s (wordOf tree w B))
+    at-cell y f = next-is tree text s (suffixesAt tree text s first) k (dollar ∷ keyAt tree text y) (suffixesAt tree text s (wordOf tree w B)) (h .here ∙ f .is)
+
+    pub pass-more : (y : ℕ) (p : Part) → First tree text s w y → PartIs text p (keyAt tree text y) → p .1 < rem
+        → Passed tree text s first bytes (rem - p .1 - 1) (wordOf tree w B) (k + 1)
+    pass-more y p f i m =
+        let x = at-cell y f in
+        let z : k + 1 ≡ suc k = add-one k in
+        record {
+          argued = f .rest;
+          here = rw z (x .after);
+          inside = omega (arith, x .inside);
+          sum = rw z (omega (arith, x .more, h .sum, key-size tree text y p i));
+          few = omega (arith, h .few);
+        }
+
+    pub pass-hit : rem ≤ 0 → PrefixIs tree text s first bytes (Found.At k)
+    pass-hit z = so-many (h .inside) (omega (arith, h .sum))
+
+    -- all suffixes have fewer bytes
+    pub pass-end : 0 < rem → w ≡ none → PrefixIs tree text s first bytes Found.Nothing
+    pass-end m e = no-number (λ j hj q. omega (arith, q, h .sum, bytes-more tree text s (suffixesAt tree text s first) j k (below j hj)))
+      where
+        below : (j : ℕ) → j ≤ length (suffixesAt tree text s first) → j ≤ k
+        below j hj = omega (arith, simple)
+          where
+            simple : length (suffixesAt tree text s first) - k ≡ 0
+            simple = sym (length-drop k (suffixesAt tree text s first)) ∙ ap length (h .here ∙ no-suffixes tree text s w (h .argued .good) e)
+
+    -- so many have fewer, and one more has more
+    pub pass-over : (y : ℕ) (p : Part) → First tree text s w y → PartIs text p (keyAt tree text y) → 0 < rem → rem ≤ p .1
+        → PrefixIs tree text s first bytes Found.Nothing
+    pass-over y p f i m o = no-number (λ j hj q. tested (leb j k)
+        (λ t. omega (arith, q, h .sum, bytes-more tree text s (suffixesAt tree text s first) j k (leb-true j k t)))
+        (λ g. omega (arith, q, h .sum, at-cell y f .more, key-size tree text y p i, bytes-more tree text s (suffixesAt tree text s first) (suc k) j (leb-false j k g))))
+
+-- ---- the suffixes in the text, piece by piece
+
+-- i of k suffixes stand before `here`, and cell w is the next
+pub record Matched (tree text s : List ℕ) (first k at n here w i : ℕ) : Type 0 where
+  pub argued : Argued tree text s w
+  pub most : i ≤ k
+  pub inside : k - i ≤ length (suffixesAt tree text s w)
+  pub room : here + bytesIn tree text s (take (k - i) (suffixesAt tree text s w)) ≤ length text
+  pub asked : sameText (textAt text at n) (joined (program tree text) (allKeys tree text) [] (take k (suffixesAt tree text s first)))
+      ≡ sameText (textAt text here (bytesIn tree text s (take (k - i) (suffixesAt tree text s w))))
+      (joined (program tree text) (allKeys tree text) [] (take (k - i) (suffixesAt tree text s w)))
+
+module _ (tree text s : List ℕ) (first k at n : ℕ) where
+  abbrev Asked : Bool
+  Asked = sameText (textAt text at n) (joined (program tree text) (allKeys tree text) [] (take k (suffixesAt tree text s first)))
+
+  pub match-start : Argued tree text s first → k ≤ length (suffixesAt tree text s first) → at + n ≤ length text
+      → n ≡ bytesIn tree text s (take k (suffixesAt tree text s first)) → Matched tree text s first k at n at first 0
+  match-start a m room e =
+      let z : k - 0 ≡ k = omega arith in
+      record { argued = a; most = omega arith; inside = omega arith; room = rw (z, ← e) room; asked = rw (z, ← e) refl }
+
+  module _ (here w i : ℕ) (h : Matched tree text s first k at n here w i) where
+    pub match-cell : i < k → w ≡ none → ⊥
+    match-cell m e = omega (arith, h .inside, ap length (no-suffixes tree text s w (h .argued .good) e))
+
+    pub match-end : k ≤ i → true ≡ Asked
+    unfolding bytesIn joined textAt sameText
+    match-end m = let z : k - i ≡ 0 = omega arith in sym (h .asked ∙ rw z refl)
+
+    module _ (y : ℕ) (p : Part) (m : i < k) (f : First tree text s w y) (is : PartIs text p (keyAt tree text y)) where
+      -- the suffixes behind the present one, and how many bytes they have
+      abbrev Behind : List Text
+      Behind = take (k - (i + 1)) (suffixesAt tree text s (wordOf tree w B))
+
+      abbrev size : ℕ
+      size = bytesIn tree text s Behind
+
+      present : take (k - i) (suffixesAt tree text s w) ≡ (dollar ∷ keyAt tree text y) ∷ Behind
+      present = let z : k - i ≡ suc (k - (i + 1)) = omega arith in rw (z, f .is) refl
+
+      present-bytes : bytesIn tree text s (take (k - i) (suffixesAt tree text s w)) ≡ 1 + (p .1 + size)
+      unfolding bytesIn
+      present-bytes = ap (bytesIn tree text s) present ∙ omega (arith, key-size tree text y p is)
+
+      pub match-room : here + 1 + p .1 + size ≤ length text
+      match-room = omega (arith, h .room, present-bytes)
+
+      joined-present : joined (program tree text) (allKeys tree text) [] (take (k - i) (suffixesAt tree text s w))
+          ≡ (dollar ∷ []) ++ (keyAt tree text y ++ joined (program tree text) (allKeys tree text) [] Behind)
+      unfolding joined
+      joined-present =
+          ap (joined (program tree text) (allKeys tree text) []) present
+          ∙ joined-verb (program tree text) (allKeys tree text) (dollar ∷ keyAt tree text y) Behind
+
+      text-present : textAt text here (bytesIn tree text s (take (k - i) (suffixesAt tree text s w)))
+          ≡ (getD text here 0 ∷ []) ++ (textAt text (here + 1) (p .1) ++ textAt text (here + 1 + p .1) size)
+      text-present =
+          ap (textAt text here) present-bytes
+          ∙ part-split text here 1 (p .1 + size)
+          ∙ ap₂ (λ (a b : List ℕ). a ++ b) (part-one text here (omega (arith, match-room))) (part-split text (here + 1) (p .1) size)
+
+      -- whether the present suffix stands here, and the rest behind it
+      match-by : Asked ≡ (eqb (getD text here 0) dollar
+          && (sameText (textAt text (here + 1) (p .1)) (textAt text (p .0) (p .1))
+          && sameText (textAt text (here + 1 + p .1) size) (joined (program tree text) (allKeys tree text) [] Behind)))
+      unfolding sameText
+      match-by =
+          h .asked
+          ∙ ap₂ sameText text-present joined-present
+          ∙ ap (λ (b : Bool). eqb (getD text here 0) dollar && b)
+          (same-append (textAt text (here + 1) (p .1)) (keyAt tree text y) (textAt text (here + 1 + p .1) size) (joined (program tree text) (allKeys tree text) [] Behind)
+          (part-length text (here + 1) (p .1) (omega (arith, match-room)) ∙ sym (key-size tree text y p is))
+          ∙ ap (λ (t : Text). sameText (textAt text (here + 1) (p .1)) t && sameText (textAt text (here + 1 + p .1) size) (joined (program tree text) (allKeys tree text) [] Behind)) (sym (is .is)))
+
+      pub match-mark : (getD text here 0 ≡ dollar → ⊥) → false ≡ Asked
+      match-mark d = sym (match-by ∙ rw (ne-eqb (getD text here 0) dollar d) refl)
+
+      module _ (d : getD text here 0 ≡ dollar) (r : Bool) (e : r ≡ sameText (textAt text (here + 1) (p .1)) (textAt text (p .0) (p .1))) where
+        pub match-other : r ≡ false → false ≡ Asked
+        match-other q = sym (match-by ∙ rw (eq-eqb (getD text here 0) dollar d, sym e ∙ q) refl)
+
+        pub match-more : r ≡ true → Matched tree text s first k at n (here + 1 + p .1) (wordOf tree w B) (i + 1)
+        match-more q =
+            record {
+              argued = f .rest;
+              most = omega arith;
+              inside = omega (arith, h .inside, ap length (f .is));
+              room = match-room;
+              asked = match-by ∙ rw (eq-eqb (getD text here 0) dollar d, sym e ∙ q) refl;
+            }

@@ -1,0 +1,338 @@
+-- The type of an expression by its kind, and what typing owes after each call: a refusal is passed on, a type goes into the rule of the operator.
+-- By the cases of nodes and the laws of the scratch, in every scope that the open names stand for. Assumes nothing.
+use mathlib.Core.Path.{_≡_, refl, sym, ap, _∙_, subst}
+use mathlib.Core.Logic.{_⊎_, inl, inr}
+use mathlib.Core.Bool.{true, false≢true}
+use mathlib.Core.List.{List}
+use Prim.Native.Nat.{ℕ, _≤_, _<_}
+use native.Mathlib.Omega.{arith}
+use lib.Dec.{leb, ltb}
+use lib.ListN.{getD}
+use borrow.Author.Tests.{ltb-true, ltb-false, leb-true}
+use Rattle.laws.proofs.Tests.{tested, and-left, and-right}
+use Rattle.records.specs.declared.shape.Role.the-variants.{Arguments}
+use Rattle.records.specs.declared.convert_error.ConvertError.{ConvertError}
+use Rattle.records.specs.Words.{kindOf, detailOf, wordOf, records, none, A, B, C}
+use Rattle.records.specs.Rules.{isExpr, listOk}
+use Rattle.records.specs.Good.{Good}
+use Rattle.records.proofs.GoodLaws.{unary-a, binary-a, binary-b, call-c}
+use Rattle.records.proofs.ListLaws.{list-end}
+use Rattle.syntax.specs.Syntax.{Neg, Or, place, unaryOps, binaryOps}
+use Rattle.syntax.specs.Decode.{exprOf, argsOf, child, node, program, textOf}
+use Rattle.syntax.proofs.Cases.{child-in, child-out, int-case, float-case, str-case, bool-case, name-case, null-case, sizeOf-case, unary-case, binary-case, call-case}
+use Rattle.conversion.specs.ConvertError.{Result, ok, err, _>>=_}
+use Rattle.conversion.specs.Scope as Def
+use Rattle.conversion.specs.Expressions.{Callee, get-type, get-argument-types, resolve-call, resolveTyped, unaryType, binaryType, valueType, return-type}
+use Rattle.scope.specs.declared.Scope.{Scope}
+use Rattle.scope.specs.Open.{Stands}
+use Rattle.types.specs.Fits.{IsExpr}
+use Rattle.types.proofs.FromGood.{is-expr}
+use Rattle.expressions.specs.declared.answers.Outcome.{Outcome}
+use Rattle.expressions.specs.declared.answers.Outcome.the-variants as Outcome
+use Rattle.expressions.specs.declared.answers.ExprType.{ExprType}
+use Rattle.expressions.specs.declared.answers.ExprType.the-variants as ExprType
+use Rattle.expressions.specs.declared.answers.Resolved.{Resolved}
+use Rattle.expressions.specs.declared.answers.Resolved.the-variants as Resolved
+use Rattle.expressions.specs.Places.{IsKind, TypeAt, ArgsAt, exprAt, argsAt}
+use Rattle.expressions.specs.Keys.{allKeys}
+use Rattle.expressions.specs.Slots.{typeIn, slotted, Slots, Ready}
+use Rattle.expressions.specs.Calls.{typedAt}
+use Rattle.expressions.specs.Answers.{refusal, typeOf, doneWith, calleeOf, valueOf, IsTyped, IsCallee, TypeMeets, ArgsMeet, CallMeets}
+use Rattle.expressions.proofs.Lists.{args-end}
+use Rattle.expressions.proofs.SlotLaws.{frame-refl, frame-trans, stands-frame, slots-refl, slots-trans}
+
+-- ---- results one after the other
+
+bind-assoc : {X Y Z : Type 0} (m : Result X) (f : X → Result Y) (g : Y → Result Z) → (m >>= (λ x. f x >>= g)) ≡ ((m >>= f) >>= g)
+unfolding _>>=_
+bind-assoc (ok x) f g = refl
+bind-assoc (err k p) f g = refl
+
+pub bind-ok : {X Y : Type 0} (m : Result X) (x : X) (f : X → Result Y) → m ≡ ok x → (m >>= f) ≡ f x
+unfolding _>>=_
+bind-ok m x f e = rw e
+
+pub bind-refused : {X Y : Type 0} (m : Result X) (x : ConvertError) (f : X → Result Y) → m ≡ refusal x → (m >>= f) ≡ refusal x
+unfolding _>>=_ refusal
+bind-refused m x f e = rw e
+
+-- what an answer says
+pub type-ok : (m : Result ℕ) (a : ExprType) (y : ℕ) → m ≡ typeOf a → a ≡ ExprType.Is y → m ≡ ok y
+unfolding typeOf
+type-ok m a y e q = e ∙ rw q
+
+pub type-refused : (m : Result ℕ) (a : ExprType) (x : ConvertError) → m ≡ typeOf a → a ≡ ExprType.Refused x → m ≡ refusal x
+unfolding typeOf
+type-refused m a x e q = e ∙ rw q
+
+pub is-typed : (tree : List ℕ) (a : ExprType) (y : ℕ) → IsTyped tree a → a ≡ ExprType.Is y → TypeAt tree y
+is-typed tree a y t q = go (subst (λ (z : ExprType). IsTyped tree z) q t)
+  where
+    go : IsTyped tree (ExprType.Is y) → TypeAt tree y
+    go (IsTyped.is h) = h
+
+-- ---- the kinds
+
+module _ (tree text : List ℕ) (good : Good tree text) where
+  pub expr-low : (e : ℕ) → IsExpr tree e → e < records tree
+  expr-low e x = omega (arith, x .inside)
+
+  -- an expression's record is its place
+  pub place-is : (e : ℕ) → IsExpr tree e → place (exprAt tree text e) ≡ e
+  unfolding exprAt exprOf place
+  place-is e x =
+      let k = kindOf tree e in
+      let from : 2 ≤ k = leb-true 2 k (and-left (leb 2 k) (leb k 11) (x .expression)) in
+      let to : k ≤ 11 = leb-true k 11 (and-right (leb 2 k) (leb k 11) (x .expression)) in
+      let low = expr-low e x in
+      tested (ltb k 3) (λ q. rw (int-case tree text e (omega (arith, ltb-true k 3 q))))
+      λ n₃. tested (ltb k 4) (λ q. rw (float-case tree text e (omega (arith, ltb-true k 4 q, ltb-false k 3 n₃))))
+      λ n₄. tested (ltb k 5) (λ q. rw (str-case tree text e (omega (arith, ltb-true k 5 q, ltb-false k 4 n₄))))
+      λ n₅. tested (ltb k 6) (λ q. rw (bool-case tree text e (omega (arith, ltb-true k 6 q, ltb-false k 5 n₅))))
+      λ n₆. tested (ltb k 7) (λ q. rw (name-case tree text e (omega (arith, ltb-true k 7 q, ltb-false k 6 n₆))))
+      λ n₇. tested (ltb k 8) (λ q. rw (null-case tree text e (omega (arith, ltb-true k 8 q, ltb-false k 7 n₇))))
+      λ n₈. tested (ltb k 9) (λ q. rw (sizeOf-case tree text e (omega (arith, ltb-true k 9 q, ltb-false k 8 n₈))))
+      λ n₉. tested (ltb k 10)
+      (λ q. let h : kindOf tree e ≡ 9 = omega (arith, ltb-true k 10 q, ltb-false k 9 n₉) in rw (unary-case tree text e h (unary-a tree text good e low h .0)))
+      λ n₁₀. tested (ltb k 11)
+      (λ q. let h : kindOf tree e ≡ 10 = omega (arith, ltb-true k 11 q, ltb-false k 10 n₁₀) in
+      rw (binary-case tree text e h (binary-a tree text good e low h .0) (binary-b tree text good e low h .0)))
+      λ n₁₁. rw (call-case tree text e (omega (arith, ltb-false k 11 n₁₁)))
+
+  -- ---- a call's arguments
+
+  listed-low : (r w : ℕ) → listOk tree Arguments r w ≡ true → w < r
+  listed-low r w e = tested (ltb w r) (λ q. ltb-true w r q) (λ q. absurd (false≢true (sym (list-end tree Arguments r w (ltb-false w r q)) ∙ e)))
+
+  module _ (r : ℕ) (k : IsKind tree 11 r) where
+    pub call-list : ArgsAt tree (wordOf tree r C)
+    call-list = record { from = r; inside = omega (arith, k .below); list = call-c tree text good r (k .below) (k .kind) }
+
+    pub call-low : (wordOf tree r C ≡ none) ⊎ (wordOf tree r C < r)
+    call-low = go (call-c tree text good r (k .below) (k .kind))
+      where
+        go : (wordOf tree r C ≡ none) ⊎ (listOk tree Arguments r (wordOf tree r C) ≡ true) → (wordOf tree r C ≡ none) ⊎ (wordOf tree r C < r)
+        go (inl e) = inl e
+        go (inr e) = inr (listed-low r (wordOf tree r C) e)
+
+    call-args : argsOf (child tree text (node tree text) r C) ≡ argsAt tree text (wordOf tree r C)
+    unfolding argsAt argsOf
+    call-args = go call-low
+      where
+        go : (wordOf tree r C ≡ none) ⊎ (wordOf tree r C < r) → argsOf (child tree text (node tree text) r C) ≡ argsOf (node tree text (wordOf tree r C))
+        go (inl e) = ap argsOf (child-out tree text r C (omega (arith, k .below, good .few))) ∙ sym (ap (λ (w : ℕ). argsOf (node tree text w)) e ∙ args-end tree text good)
+        go (inr h) = ap argsOf (child-in tree text r C h)
+
+  -- ---- types by kind
+
+  module _ (S : Def.Scope) (e : ℕ) (low : e < records tree) where
+    pub type-unary : kindOf tree e ≡ 9
+        → typeIn tree text S e
+        ≡ (typeIn tree text S (wordOf tree e A) >>= unaryType (program tree text) (allKeys tree text) e (getD unaryOps (detailOf tree e) Neg))
+    unfolding typeIn exprAt exprOf get-type
+    type-unary k = rw (unary-case tree text e k (unary-a tree text good e low k .0))
+
+    pub type-binary : kindOf tree e ≡ 10
+        → typeIn tree text S e
+        ≡ (typeIn tree text S (wordOf tree e A) >>= λ l. typeIn tree text S (wordOf tree e B)
+        >>= λ y. binaryType (program tree text) (allKeys tree text) e (getD binaryOps (detailOf tree e) Or)
+        (exprAt tree text (wordOf tree e A)) l (exprAt tree text (wordOf tree e B)) y)
+    unfolding typeIn exprAt exprOf get-type
+    type-binary k = rw (binary-case tree text e k (binary-a tree text good e low k .0) (binary-b tree text good e low k .0))
+
+    pub type-call : kindOf tree e ≡ 11
+        → typeIn tree text S e
+        ≡ (resolve-call (program tree text) (allKeys tree text) (textOf tree text e A) (argsAt tree text (wordOf tree e C)) S e
+        >>= λ c. valueType e (return-type c))
+    unfolding typeIn exprAt exprOf get-type resolve-call
+    type-call k =
+        rw (call-case tree text e k, call-args e (record { below = low; kind = k }))
+        (bind-assoc (get-argument-types (program tree text) (allKeys tree text) (argsAt tree text (wordOf tree e C)) S)
+        (resolveTyped (program tree text) (allKeys tree text) (textOf tree text e A) e) (λ c. valueType e (return-type c)))
+
+  -- ---- the code's steps: record e, whose kind is k
+
+  module _ (e k : ℕ) (x : IsExpr tree e) (ek : k ≡ kindOf tree e) where
+    kind-at : (n : ℕ) → k ≡ n → kindOf tree e ≡ n
+    kind-at n q = sym ek ∙ q
+
+    pub is-kind : (n : ℕ) → k ≡ n → IsKind tree n e
+    is-kind n q = record { below = expr-low e x; kind = kind-at n q }
+
+    lower-expr : (a w : ℕ) → a ≡ w → w < e → isExpr (kindOf tree w) ≡ true → IsExpr tree a
+    lower-expr a w q h t = subst (λ (z : ℕ). IsExpr tree z) (sym q) (is-expr tree text good w (omega (arith, expr-low e x)) t)
+
+    pub operand-expr : k ≡ 9 → (a : ℕ) → a ≡ wordOf tree e A → (a < e) × IsExpr tree a
+    operand-expr q a ea =
+        let h = unary-a tree text good e (expr-low e x) (kind-at 9 q) in
+        (omega (arith, h .0), lower-expr a (wordOf tree e A) ea (h .0) (h .1))
+
+    pub left-expr : k ≡ 10 → (a : ℕ) → a ≡ wordOf tree e A → (a < e) × IsExpr tree a
+    left-expr q a ea =
+        let h = binary-a tree text good e (expr-low e x) (kind-at 10 q) in
+        (omega (arith, h .0), lower-expr a (wordOf tree e A) ea (h .0) (h .1))
+
+    pub right-expr : k ≡ 10 → (b : ℕ) → b ≡ wordOf tree e B → (b < e) × IsExpr tree b
+    right-expr q b eb =
+        let h = binary-b tree text good e (expr-low e x) (kind-at 10 q) in
+        (omega (arith, h .0), lower-expr b (wordOf tree e B) eb (h .0) (h .1))
+
+    pub leaf-kind : (k ≡ 9 → ⊥) → (k ≡ 10 → ⊥) → (k ≡ 11 → ⊥) → kindOf tree e ≤ 8
+    leaf-kind n₉ n₁₀ n₁₁ = omega (arith, ek, leb-true (kindOf tree e) 11 (and-right (leb 2 (kindOf tree e)) (leb (kindOf tree e) 11) (x .expression)))
+
+    module _ (s : List ℕ) (sc : Scope) where
+      -- an operator with one operand
+      module _ (q : k ≡ 9) (a : ℕ) (ea : a ≡ wordOf tree e A) (t : ExprType) (s₁ : List ℕ) (m : TypeMeets tree text s sc a t s₁) where
+        operand-type : (S : Def.Scope) → Stands text s sc (S .variables) → typeIn tree text S (wordOf tree e A) ≡ typeOf t
+        operand-type S st = ap (typeIn tree text S) (sym ea) ∙ m .meets S st .1
+
+        pub unary-stop : (r : ConvertError) → t ≡ ExprType.Refused r → TypeMeets tree text s sc e (ExprType.Refused r) s₁
+        unfolding typeOf
+        unary-stop r w = record {
+          frame = m .frame;
+          typed = IsTyped.no;
+          meets = λ S st. (
+            m .meets S st .0,
+            type-unary S e (expr-low e x) (kind-at 9 q)
+                ∙ bind-refused (typeIn tree text S (wordOf tree e A)) r
+                (unaryType (program tree text) (allKeys tree text) e (getD unaryOps (detailOf tree e) Neg))
+                (type-refused (typeIn tree text S (wordOf tree e A)) t r (operand-type S st) w),
+          );
+        }
+
+        pub unary-next : (y : ℕ) → t ≡ ExprType.Is y → (b : ExprType)
+            → (unaryType (program tree text) (allKeys tree text) e (getD unaryOps (detailOf tree e) Neg) y ≡ typeOf b) × IsTyped tree b
+            → TypeMeets tree text s sc e b s₁
+        unary-next y w b u = record {
+          frame = m .frame;
+          typed = u .1;
+          meets = λ S st. (
+            m .meets S st .0,
+            type-unary S e (expr-low e x) (kind-at 9 q)
+                ∙ bind-ok (typeIn tree text S (wordOf tree e A)) y
+                (unaryType (program tree text) (allKeys tree text) e (getD unaryOps (detailOf tree e) Neg))
+                (type-ok (typeIn tree text S (wordOf tree e A)) t y (operand-type S st) w)
+                ∙ u .0,
+          );
+        }
+
+      -- an operator with two
+      module _ (q : k ≡ 10) (a : ℕ) (ea : a ≡ wordOf tree e A) (t : ExprType) (s₁ : List ℕ) (m : TypeMeets tree text s sc a t s₁) where
+        left-type : (S : Def.Scope) → Stands text s sc (S .variables) → typeIn tree text S (wordOf tree e A) ≡ typeOf t
+        left-type S st = ap (typeIn tree text S) (sym ea) ∙ m .meets S st .1
+
+        abbrev rule : Def.Scope → ℕ → Result ℕ
+        rule S l = typeIn tree text S (wordOf tree e B)
+            >>= λ y. binaryType (program tree text) (allKeys tree text) e (getD binaryOps (detailOf tree e) Or)
+            (exprAt tree text (wordOf tree e A)) l (exprAt tree text (wordOf tree e B)) y
+
+        pub left-stop : (r : ConvertError) → t ≡ ExprType.Refused r → TypeMeets tree text s sc e (ExprType.Refused r) s₁
+        unfolding typeOf
+        left-stop r w = record {
+          frame = m .frame;
+          typed = IsTyped.no;
+          meets = λ S st. (
+            m .meets S st .0,
+            type-binary S e (expr-low e x) (kind-at 10 q)
+                ∙ bind-refused (typeIn tree text S (wordOf tree e A)) r (rule S)
+                (type-refused (typeIn tree text S (wordOf tree e A)) t r (left-type S st) w),
+          );
+        }
+
+        module _ (count : ℕ) (ready : Ready tree text s count sc) (l : ℕ) (w : t ≡ ExprType.Is l)
+            (b : ℕ) (eb : b ≡ wordOf tree e B) (u : ExprType) (s₂ : List ℕ) (m₂ : TypeMeets tree text s₁ sc b u s₂) where
+          later : (S : Def.Scope) → Stands text s sc (S .variables) → Stands text s₁ sc (S .variables)
+          later S st = stands-frame tree s s₁ (m .frame) text sc (S .variables) (ready .scoped .records-are) st
+
+          right-type : (S : Def.Scope) → Stands text s sc (S .variables) → typeIn tree text S (wordOf tree e B) ≡ typeOf u
+          right-type S st = ap (typeIn tree text S) (sym eb) ∙ m₂ .meets S (later S st) .1
+
+          both-slots : (S : Def.Scope) → Stands text s sc (S .variables) → Slots tree text S s s₂
+          both-slots S st = slots-trans tree text S s s₁ s₂ (m .meets S st .0) (m₂ .meets S (later S st) .0)
+
+          with-left : (S : Def.Scope) → Stands text s sc (S .variables) → typeIn tree text S e ≡ rule S l
+          with-left S st =
+              type-binary S e (expr-low e x) (kind-at 10 q)
+              ∙ bind-ok (typeIn tree text S (wordOf tree e A)) l (rule S) (type-ok (typeIn tree text S (wordOf tree e A)) t l (left-type S st) w)
+
+          pub right-stop : (r : ConvertError) → u ≡ ExprType.Refused r → TypeMeets tree text s sc e (ExprType.Refused r) s₂
+          unfolding typeOf
+          right-stop r v = record {
+            frame = frame-trans (m .frame) (m₂ .frame);
+            typed = IsTyped.no;
+            meets = λ S st. (
+              both-slots S st,
+              with-left S st
+                  ∙ bind-refused (typeIn tree text S (wordOf tree e B)) r
+                  (binaryType (program tree text) (allKeys tree text) e (getD binaryOps (detailOf tree e) Or)
+                  (exprAt tree text (wordOf tree e A)) l (exprAt tree text (wordOf tree e B)))
+                  (type-refused (typeIn tree text S (wordOf tree e B)) u r (right-type S st) v),
+            );
+          }
+
+          pub right-next : (y : ℕ) → u ≡ ExprType.Is y → (d : ExprType)
+              → (binaryType (program tree text) (allKeys tree text) e (getD binaryOps (detailOf tree e) Or) (exprAt tree text a) l (exprAt tree text b) y ≡ typeOf d)
+              × IsTyped tree d
+              → TypeMeets tree text s sc e d s₂
+          right-next y v d z = record {
+            frame = frame-trans (m .frame) (m₂ .frame);
+            typed = z .1;
+            meets = λ S st. (
+              both-slots S st,
+              with-left S st
+                  ∙ bind-ok (typeIn tree text S (wordOf tree e B)) y
+                  (binaryType (program tree text) (allKeys tree text) e (getD binaryOps (detailOf tree e) Or)
+                  (exprAt tree text (wordOf tree e A)) l (exprAt tree text (wordOf tree e B)))
+                  (type-ok (typeIn tree text S (wordOf tree e B)) u y (right-type S st) v)
+                  ∙ rw (← ea, ← eb) (z .0),
+            );
+          }
+
+      -- a call
+      pub call-value : k ≡ 11 → (c : Resolved) (s₁ : List ℕ) → CallMeets tree text s sc e c s₁ → (b : ExprType)
+          → (valueOf tree text e c ≡ typeOf b) × IsTyped tree b → TypeMeets tree text s sc e b s₁
+      unfolding valueOf
+      call-value q c s₁ m b u = record {
+        frame = m .frame;
+        typed = u .1;
+        meets = λ S st. (
+          m .meets S st .0,
+          type-call S e (expr-low e x) (kind-at 11 q) ∙ ap (λ (z : Result Callee). z >>= λ c. valueType e (return-type c)) (m .meets S st .1) ∙ u .0,
+        );
+      }
+
+  pub leaf-meets : (s : List ℕ) (sc : Scope) (e : ℕ) (a : ExprType)
+      → ((S : Def.Scope) → Stands text s sc (S .variables) → typeIn tree text S e ≡ typeOf a) × IsTyped tree a → TypeMeets tree text s sc e a s
+  leaf-meets s sc e a h = record { frame = frame-refl tree s; typed = h .1; meets = λ S st. (slots-refl tree text S s, h .0 S st) }
+
+  -- ---- what a call runs
+
+  module _ (s : List ℕ) (sc : Scope) (r : ℕ) (a : Outcome) (s₁ : List ℕ) (m : ArgsMeet tree text s sc (wordOf tree r C) a s₁) where
+    pub call-stop : (x : ConvertError) → a ≡ Outcome.Refused x → CallMeets tree text s sc r (Resolved.Refused x) s₁
+    unfolding calleeOf doneWith resolve-call
+    call-stop x q = record {
+      frame = m .frame;
+      callee = IsCallee.no;
+      meets = λ S st. (
+        m .meets S st .0,
+        bind-refused (get-argument-types (program tree text) (allKeys tree text) (argsAt tree text (wordOf tree r C)) S) x
+            (resolveTyped (program tree text) (allKeys tree text) (textOf tree text r A) r)
+            (m .meets S st .1 ∙ ap (doneWith (slotted tree s₁ (argsAt tree text (wordOf tree r C)))) q),
+      );
+    }
+
+    pub call-next : a ≡ Outcome.Done → (c : Resolved)
+        → (resolveTyped (program tree text) (allKeys tree text) (textOf tree text r A) r (typedAt tree text s₁ (wordOf tree r C)) ≡ calleeOf tree text c) × IsCallee tree c
+        → CallMeets tree text s sc r c s₁
+    unfolding doneWith resolve-call typedAt
+    call-next q c u = record {
+      frame = m .frame;
+      callee = u .1;
+      meets = λ S st. (
+        m .meets S st .0,
+        bind-ok (get-argument-types (program tree text) (allKeys tree text) (argsAt tree text (wordOf tree r C)) S) (slotted tree s₁ (argsAt tree text (wordOf tree r C)))
+            (resolveTyped (program tree text) (allKeys tree text) (textOf tree text r A) r)
+            (m .meets S st .1 ∙ ap (doneWith (slotted tree s₁ (argsAt tree text (wordOf tree r C)))) q)
+            ∙ u .0,
+      );
+    }

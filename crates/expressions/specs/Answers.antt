@@ -1,0 +1,193 @@
+-- What each answer says, as the definitions say it: a result, or a refusal's kind and place. Assumes nothing: these are definitions.
+use mathlib.Core.Path.{_≡_}
+use Prim.Native.Nat.{ℕ, _+_, _*_, _≤_, _<_}
+use mathlib.Core.Bool.{Bool, true, false}
+use mathlib.Core.List.{List, [], _∷_}
+use mathlib.Core.Option.{Option, none, some}
+use lib.ListN.{length}
+use Rattle.records.specs.Words.{wordOf, A, B, C}
+use Rattle.records.specs.Good.{Good}
+use Rattle.records.specs.declared.convert_error.ConvertError.{ConvertError}
+use Rattle.syntax.specs.Syntax.{Text, Expr, Args, Value, ToType, Function, Program}
+use Rattle.syntax.specs.Decode.{program, textOf}
+use Rattle.conversion.specs.ConvertError.{Result, ok, err, _>>=_}
+use Rattle.conversion.specs.Scope as Def
+use Rattle.conversion.specs.Expressions.{Callee, CallFunction, CallCast, TypedArg, return-type, valueType, get-argument-types, resolve-call, common-type}
+use Rattle.conversion.specs.Functions.{get-all-functions}
+use Rattle.ir.specs.declared.words.Found.{Found}
+use Rattle.ir.specs.declared.words.Found.the-variants as Found
+use Rattle.scope.specs.declared.Scope.{Scope}
+use Rattle.scope.specs.Open.{Stands}
+use Rattle.types.specs.Fits.{IsExpr}
+use Rattle.expressions.specs.declared.answers.Outcome.{Outcome}
+use Rattle.expressions.specs.declared.answers.Outcome.the-variants as Outcome
+use Rattle.expressions.specs.declared.answers.AllFunctions.{AllFunctions}
+use Rattle.expressions.specs.declared.answers.AllFunctions.the-variants as AllFunctions
+use Rattle.expressions.specs.declared.answers.ExprType.{ExprType}
+use Rattle.expressions.specs.declared.answers.ExprType.the-variants as ExprType
+use Rattle.expressions.specs.declared.answers.Resolved.{Resolved}
+use Rattle.expressions.specs.declared.answers.Resolved.the-variants as Resolved
+use Rattle.expressions.specs.declared.answers.Cast.{Cast}
+use Rattle.expressions.specs.declared.answers.Cast.the-variants as Cast
+use Rattle.expressions.specs.declared.answers.Common.{Common}
+use Rattle.expressions.specs.declared.answers.Common.the-variants as Common
+use Rattle.expressions.specs.declared.answers.Candidates.{Candidates}
+use Rattle.expressions.specs.declared.answers.Candidates.the-variants as Candidates
+use Rattle.expressions.specs.declared.operands.Sides.{Sides}
+use Rattle.expressions.specs.declared.arguments.Argument.{Argument}
+use Rattle.expressions.specs.declared.arguments.Argument.the-variants as Argument
+use Rattle.expressions.specs.Places.{TypeAt, FunctionAt, ArgsAt, functionOf, exprAt, argsAt}
+use Rattle.expressions.specs.Keys.{allKeys, listedIn, Keyed}
+use Rattle.expressions.specs.Slots.{slotted, Typed, Frame, Slots, typeIn}
+
+-- a refusal
+unfoldable pub refusal : {A : Type 0} → ConvertError → Result A
+refusal e = err (e .kind) (e .place)
+
+-- nothing, or a refusal
+unfoldable pub outcomeOf : Outcome → Result (Unit {0})
+unfolding refusal
+outcomeOf Outcome.Done = ok tt
+outcomeOf (Outcome.Refused e) = refusal e
+
+-- the same, where success stands for a
+unfoldable pub doneWith : {A : Type 0} → A → Outcome → Result A
+unfolding refusal
+doneWith a Outcome.Done = ok a
+doneWith a (Outcome.Refused e) = refusal e
+
+unfoldable pub typeOf : ExprType → Result ℕ
+unfolding refusal
+typeOf (ExprType.Is y) = ok y
+typeOf (ExprType.Refused e) = refusal e
+
+unfoldable pub castOf : Cast → Result (Option ℕ)
+unfolding refusal
+castOf Cast.Not = ok none
+castOf (Cast.To y) = ok (some y)
+castOf (Cast.Refused e) = refusal e
+
+unfoldable pub commonOf : Common → Result (Option ℕ)
+unfolding refusal
+commonOf (Common.Is y) = ok (some y)
+commonOf Common.Neither = ok none
+commonOf (Common.Refused e) = refusal e
+
+unfoldable pub numberOf : Found → Option ℕ
+numberOf (Found.At y) = some y
+numberOf Found.Nothing = none
+
+-- a type that was found is one
+pub data TypeFound (tree : List ℕ) : Found → Type 0 where
+  a-type : {y : ℕ} → TypeAt tree y → TypeFound tree (Found.At y)
+  no-type : TypeFound tree Found.Nothing
+
+-- the type in an answer is one
+pub data IsTyped (tree : List ℕ) : ExprType → Type 0 where
+  is : {y : ℕ} → TypeAt tree y → IsTyped tree (ExprType.Is y)
+  no : {e : ConvertError} → IsTyped tree (ExprType.Refused e)
+
+pub data IsCast (tree : List ℕ) : Cast → Type 0 where
+  to : {y : ℕ} → TypeAt tree y → IsCast tree (Cast.To y)
+  not-cast : IsCast tree Cast.Not
+  no : {e : ConvertError} → IsCast tree (Cast.Refused e)
+
+pub data IsCommon (tree : List ℕ) : Common → Type 0 where
+  is : {y : ℕ} → TypeAt tree y → IsCommon tree (Common.Is y)
+  neither : IsCommon tree Common.Neither
+  no : {e : ConvertError} → IsCommon tree (Common.Refused e)
+
+module _ (tree text : List ℕ) where
+  unfoldable pub functionFound : Found → Option Function
+  unfolding functionOf
+  functionFound (Found.At f) = some (functionOf tree text f)
+  functionFound Found.Nothing = none
+
+  unfoldable pub calleeOf : Resolved → Result Callee
+  unfolding functionOf refusal
+  calleeOf (Resolved.Function f) = ok (CallFunction (functionOf tree text f))
+  calleeOf (Resolved.Cast y) = ok (CallCast y)
+  calleeOf (Resolved.Refused e) = refusal e
+
+  -- the type of the call of record r that runs this: 'NoValue' for a function without a return type
+  unfoldable pub valueOf : ℕ → Resolved → Result ℕ
+  unfolding _>>=_ calleeOf valueType return-type
+  valueOf r a = do
+    c ← calleeOf a
+    valueType r (return-type c)
+
+  -- the candidates are all of these
+  unfoldable pub AreAll : Candidates → List Function → Type 0
+  unfolding functionOf
+  AreAll Candidates.Nobody l = l ≡ []
+  AreAll (Candidates.One f) l = l ≡ functionOf tree text f ∷ []
+  AreAll Candidates.Several [] = ⊥
+  AreAll Candidates.Several (f ∷ []) = ⊥
+  AreAll Candidates.Several (f ∷ g ∷ l) = Unit {0}
+
+-- a function that was found is one
+pub data FunctionFound (tree : List ℕ) : Found → Type 0 where
+  a-function : {f : ℕ} → FunctionAt tree f → FunctionFound tree (Found.At f)
+  no-function : FunctionFound tree Found.Nothing
+
+pub data OneFunction (tree : List ℕ) : Candidates → Type 0 where
+  nobody : OneFunction tree Candidates.Nobody
+  one : {f : ℕ} → FunctionAt tree f → OneFunction tree (Candidates.One f)
+  several : OneFunction tree Candidates.Several
+
+pub data IsCallee (tree : List ℕ) : Resolved → Type 0 where
+  a-function : {f : ℕ} → FunctionAt tree f → IsCallee tree (Resolved.Function f)
+  a-cast : {y : ℕ} → TypeAt tree y → IsCallee tree (Resolved.Cast y)
+  no : {e : ConvertError} → IsCallee tree (Resolved.Refused e)
+
+-- the argument at cell w, and what follows it
+pub data ArgumentIs (tree text : List ℕ) (w : ℕ) : Argument → Type 0 where
+  an-expr : {e : ℕ} (r : ℕ) → argsAt tree text w ≡ Value r (exprAt tree text e) (argsAt tree text (wordOf tree w B))
+      → IsExpr tree e → e < w → ArgumentIs tree text w (Argument.Expr e)
+  a-type : {y : ℕ} (r : ℕ) → argsAt tree text w ≡ ToType r y (argsAt tree text (wordOf tree w B))
+      → TypeAt tree y → ArgumentIs tree text w (Argument.ToType y)
+
+-- two expressions with their types
+pub record Operands (tree : List ℕ) (s : Sides) : Type 0 where
+  pub left : IsExpr tree (s .0)
+  pub left-type : TypeAt tree (s .1)
+  pub right : IsExpr tree (s .2)
+  pub right-type : TypeAt tree (s .3)
+
+-- ---- what the functions open to callers owe, of the answer and of the scratch before and after
+
+-- `get_all_functions`: the functions' records are listed, and their keys are distinct or the first function that is not fine is refused
+pub data AllMeet (tree text s s′ : List ℕ) : AllFunctions → Type 0 where
+  done : {count : ℕ} → s′ ≡ listedIn tree s → Keyed tree text s′ count → AllMeet tree text s s′ (AllFunctions.Done count)
+  refused : {e : ConvertError} → s′ ≡ listedIn tree s → get-all-functions (program tree text .functions) [] ≡ refusal e
+      → AllMeet tree text s s′ (AllFunctions.Refused e)
+
+-- `get_type`, in every scope that the open names stand for
+pub record TypeMeets (tree text s : List ℕ) (sc : Scope) (e : ℕ) (a : ExprType) (s′ : List ℕ) : Type 0 where
+  pub frame : Frame tree s s′
+  pub typed : IsTyped tree a
+  pub meets : (S : Def.Scope) → Stands text s sc (S .variables) → Slots tree text S s s′ × (typeIn tree text S e ≡ typeOf a)
+
+-- `get_argument_types` of the arguments that word w opens: their types stand in the slots
+pub record ArgsMeet (tree text s : List ℕ) (sc : Scope) (w : ℕ) (a : Outcome) (s′ : List ℕ) : Type 0 where
+  pub frame : Frame tree s s′
+  pub typed : a ≡ Outcome.Done → Typed tree s′ (argsAt tree text w)
+  pub meets : (S : Def.Scope) → Stands text s sc (S .variables)
+      → Slots tree text S s s′
+      × (get-argument-types (program tree text) (allKeys tree text) (argsAt tree text w) S ≡ doneWith (slotted tree s′ (argsAt tree text w)) a)
+
+-- `resolve_call` of the call at record r
+pub record CallMeets (tree text s : List ℕ) (sc : Scope) (r : ℕ) (a : Resolved) (s′ : List ℕ) : Type 0 where
+  pub frame : Frame tree s s′
+  pub callee : IsCallee tree a
+  pub meets : (S : Def.Scope) → Stands text s sc (S .variables)
+      → Slots tree text S s s′
+      × (resolve-call (program tree text) (allKeys tree text) (textOf tree text r A) (argsAt tree text (wordOf tree r C)) S r ≡ calleeOf tree text a)
+
+-- `common_type` of the expressions at records l and r
+pub record CommonMeets (tree text s : List ℕ) (sc : Scope) (l r : ℕ) (a : Common) (s′ : List ℕ) : Type 0 where
+  pub frame : Frame tree s s′
+  pub common : IsCommon tree a
+  pub meets : (S : Def.Scope) → Stands text s sc (S .variables)
+      → Slots tree text S s s′
+      × (common-type (program tree text) (allKeys tree text) (exprAt tree text l) (exprAt tree text r) S ≡ commonOf a)

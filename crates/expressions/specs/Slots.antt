@@ -1,0 +1,73 @@
+-- The types of arguments in scratch, each at its expression's slot; the scope; and what typing leaves of the scratch.
+-- Assumes nothing: these are definitions.
+use mathlib.Core.Path.{_≡_}
+use mathlib.Core.Logic.{_⊎_}
+use Prim.Native.Nat.{ℕ, _+_, _*_, _/_, _≤_, _<_}
+use mathlib.Core.List.{List, [], _∷_}
+use mathlib.Core.Option.{none, some}
+use lib.ListN.{length}
+use Rattle.records.specs.Words.{byteAt, wordAt, records}
+use Rattle.syntax.specs.Syntax.{Expr, Args, noArgs, Value, ToType, place}
+use Rattle.syntax.specs.Decode.{program}
+use Rattle.conversion.specs.ConvertError.{Result, ok}
+use Rattle.conversion.specs.Scope as Def
+use Rattle.conversion.specs.Scope.{Variable}
+use Rattle.conversion.specs.Expressions.{TypedArg, get-type}
+use Rattle.scope.specs.declared.Scope.{Scope}
+use Rattle.scope.specs.Open.{Stands, Room}
+use Rattle.expressions.specs.Places.{TypeAt, exprAt}
+use Rattle.expressions.specs.Keys.{allKeys, Keyed}
+
+-- y is the type of the first of the arguments
+unfoldable pub FirstType : List TypedArg → ℕ → Type 0
+FirstType [] y = ⊥
+FirstType (a ∷ l) y = a .ty ≡ y
+
+module _ (tree : List ℕ) where
+  -- 'the types of expressions that stand as arguments: a word at the slot of the expression's record', from byte 4n on
+  unfoldable pub slotAt : List ℕ → ℕ → ℕ
+  unfolding wordAt
+  slotAt s e = wordAt s (4 * records tree + 4 * e)
+
+  -- the arguments with the types that the slots have
+  unfoldable pub slotted : List ℕ → Args → List TypedArg
+  unfolding slotAt place
+  slotted s noArgs = []
+  slotted s (Value r e l) = record { ty = slotAt s (place e); value = some e } ∷ slotted s l
+  slotted s (ToType r y l) = record { ty = y; value = none } ∷ slotted s l
+
+  -- each argument's slot has a type
+  unfoldable pub Typed : List ℕ → Args → Type 0
+  unfolding slotAt place
+  Typed s noArgs = Unit {0}
+  Typed s (Value r e l) = TypeAt tree (slotAt s (place e)) × Typed s l
+  Typed s (ToType r y l) = Typed s l
+
+  -- the scope is one of this tree, and stands for variables whose types are types of this tree
+  pub record Scoped (text s : List ℕ) (sc : Scope) : Type 0 where
+    pub records-are : sc .records ≡ records tree
+    pub room : Room sc s
+    pub variables : List Variable
+    pub stands : Stands text s sc variables
+    pub types : (j : ℕ) → j < sc .names → TypeAt tree (wordAt s (8 * records tree + 16 * j + 12) / 2)
+
+  -- only the region of the slots, from byte 4n to byte 8n, may differ
+  pub record Frame (s s′ : List ℕ) : Type 0 where
+    pub same-length : length s′ ≡ length s
+    pub outside : (i : ℕ) → (i < 4 * records tree) ⊎ (8 * records tree ≤ i) → byteAt s′ i ≡ byteAt s i
+
+  module _ (text : List ℕ) where
+    -- the type of the expression at record e
+    unfoldable pub typeIn : Def.Scope → ℕ → Result ℕ
+    unfolding get-type exprAt program allKeys
+    typeIn S e = get-type (program tree text) (allKeys tree text) (exprAt tree text e) S
+
+    -- a slot is as it was, or has the type of its expression
+    unfoldable pub Slots : Def.Scope → List ℕ → List ℕ → Type 0
+    unfolding slotAt typeIn
+    Slots S s s′ = (e : ℕ) → e < records tree → (slotAt s′ e ≡ slotAt s e) ⊎ ((typeIn S e ≡ ok (slotAt s′ e)) × TypeAt tree (slotAt s′ e))
+
+-- what typing needs: the functions by key, and the scope
+pub record Ready (tree text s : List ℕ) (count : ℕ) (sc : Scope) : Type 0 where
+  pub keyed : Keyed tree text s count
+  pub scoped : Scoped tree text s sc

@@ -1,0 +1,246 @@
+// expressions.rs: the function whose key is the verb, or the verb with the key texts of the arguments' types. No key text is built: keys are
+// compared piece by piece, and only where lengths agree.
+ghost use mathlib.Core.Path.{_≡_};
+ghost use Prim.Native.Nat.{ℕ, _+_, _*_, _≤_, _<_, _^_};
+ghost use lib.ListN.{length, take};
+ghost use mathlib.Core.List.{List, []};
+ghost use mathlib.Core.Option.{some};
+ghost use Rattle.records.specs.Words.{textAt};
+ghost use Rattle.records.specs.Good.{Good};
+ghost use Rattle.syntax.specs.Decode.{program};
+ghost use Rattle.conversion.specs.Ir.{sameText};
+ghost use Rattle.conversion.specs.Expressions.{is-mangled, takes-args, joined, mangledFunction, variadicFunction, filterOption, getFunction, find-exact-function};
+ghost use Rattle.expressions.specs.Places.{FunctionAt, functionOf};
+ghost use Rattle.expressions.specs.Keys.{allKeys, keyOf, Keyed};
+ghost use Rattle.expressions.specs.Calls.{typedAt, suffixesAt, verbOf, nameOf, bytesIn, Argued, Called, PrefixIs, VariadicKey};
+ghost use Rattle.expressions.specs.Answers.{functionFound, FunctionFound};
+use crate::arguments::Call;
+use crate::arguments::END;
+use crate::arguments::argument_type;
+use crate::arguments::next_cell;
+use crate::arguments::type_key;
+use crate::keys::find_key;
+use crate::keys::function_at;
+use crate::keys::is_mangled;
+use crate::keys::key_of;
+use crate::parts::Part;
+use crate::parts::is_variadic_mark;
+use crate::takes::takes_args;
+use ir::text::same_part;
+use ir::words::Found;
+
+const DOLLAR: u8 = 36;
+
+// How many bytes `$` and the key text of each argument's type have.
+fn suffix_bytes(tree: &[u8], text: &[u8], scratch: &[u8], first: usize) -> usize
+    requires { ⌜ Argued (now tree) (now text) (now scratch) first ⌝ }
+    ensures { λ n. ⌜ (n ≡ bytesIn (now (tree .entry)) (now (text .entry)) (now (scratch .entry)) (suffixesAt (now (tree .entry)) (now (text .entry)) (now (scratch .entry)) first)) × (n < 2 ^ 48) ⌝ }
+{
+    let mut n = 0;
+    let mut cell = first;
+    while cell != END {
+        let key = type_key(tree, text, argument_type(tree, text, scratch, cell));
+        n = n + 1 + key.1;
+        cell = next_cell(tree, text, cell);
+    }
+    n
+}
+
+// How long the verb is with these.
+fn full_length(tree: &[u8], text: &[u8], scratch: &[u8], call: Call) -> usize
+    requires { ⌜ Called (now tree) (now text) (now scratch) call ⌝ }
+    ensures { λ n. ⌜ n ≡ length (nameOf (now (tree .entry)) (now (text .entry)) (now (scratch .entry)) call (call .count)) ⌝ }
+{
+    let first = call.first;
+    let len = call.len;
+    len + suffix_bytes(tree, text, scratch, first)
+}
+
+// Whether the n bytes from `at` on are the first k suffixes, piece by piece.
+fn are_suffixes(
+    tree: &[u8],
+    text: &[u8],
+    scratch: &[u8],
+    first: usize,
+    k: usize,
+    at: usize,
+    n: usize,
+) -> bool
+    requires { ⌜ Argued (now tree) (now text) (now scratch) first ⌝ }
+    requires { ⌜ (k ≤ length (suffixesAt (now tree) (now text) (now scratch) first)) × (at + n ≤ length (now text)) ⌝ }
+    requires { ⌜ n ≡ bytesIn (now tree) (now text) (now scratch) (take k (suffixesAt (now tree) (now text) (now scratch) first)) ⌝ }
+    ensures { λ r. ⌜ r ≡ sameText (textAt (now (text .entry)) at n) (joined (program (now (tree .entry)) (now (text .entry))) (allKeys (now (tree .entry)) (now (text .entry))) [] (take k (suffixesAt (now (tree .entry)) (now (text .entry)) (now (scratch .entry)) first))) ⌝ }
+{
+    let mut here = at;
+    let mut cell = first;
+    let mut i = 0;
+    while i < k {
+        let piece = type_key(tree, text, argument_type(tree, text, scratch, cell));
+        let start = piece.0;
+        let size = piece.1;
+        if text[here] != DOLLAR {
+            return false;
+        }
+        if !same_part(text, here + 1, start, size) {
+            return false;
+        }
+        here = here + 1 + size;
+        cell = next_cell(tree, text, cell);
+        i += 1;
+    }
+    true
+}
+
+// Whether a part of the right length is the verb with the first k suffixes.
+fn is_name(tree: &[u8], text: &[u8], scratch: &[u8], call: Call, k: usize, key: Part) -> bool
+    requires { ⌜ Called (now tree) (now text) (now scratch) call ⌝ }
+    requires { ⌜ (k ≤ call .count) × (key .0 + key .1 ≤ length (now text)) ⌝ }
+    requires { ⌜ key .1 ≡ length (nameOf (now tree) (now text) (now scratch) call k) ⌝ }
+    ensures { λ r. ⌜ r ≡ sameText (textAt (now (text .entry)) (key .0) (key .1)) (nameOf (now (tree .entry)) (now (text .entry)) (now (scratch .entry)) call k) ⌝ }
+{
+    let at = key.0;
+    let len = call.len;
+    let first = call.first;
+    let left = key.1 - len;
+    if !same_part(text, at, call.offset, len) {
+        return false;
+    }
+    are_suffixes(tree, text, scratch, first, k, at + len, left)
+}
+
+// The verb as a key.
+fn by_name(tree: &[u8], text: &[u8], scratch: &[u8], functions: usize, call: Call) -> Found
+    requires { ⌜ Keyed (now tree) (now text) (now scratch) functions ⌝ }
+    requires { ⌜ Called (now tree) (now text) (now scratch) call ⌝ }
+    ensures { λ r. ⌜ (functionFound (now (tree .entry)) (now (text .entry)) r ≡ filterOption (λ f. takes-args (program (now (tree .entry)) (now (text .entry))) (allKeys (now (tree .entry)) (now (text .entry))) f (typedAt (now (tree .entry)) (now (text .entry)) (now (scratch .entry)) (call .first))) (getFunction (verbOf (now (tree .entry)) (now (text .entry)) (now (scratch .entry)) call) (allKeys (now (tree .entry)) (now (text .entry))))) × FunctionFound (now (tree .entry)) r ⌝ }
+{
+    let verb = Part(call.offset, call.len);
+    if let Found::At(f) = find_key(tree, text, scratch, functions, functions, verb) {
+        if takes_args(tree, text, scratch, f, call) {
+            return Found::At(f);
+        }
+    }
+    Found::Nothing
+}
+
+// A function, where it is mangled: without arguments, a verb must not find the external function of its name.
+fn mangled_only(tree: &[u8], text: &[u8], f: usize) -> Found
+    requires { ⌜ Good (now tree) (now text) ⌝ }
+    requires { ⌜ FunctionAt (now tree) f ⌝ }
+    ensures { λ r. ⌜ (functionFound (now (tree .entry)) (now (text .entry)) r ≡ filterOption is-mangled (some (functionOf (now (tree .entry)) (now (text .entry)) f))) × FunctionFound (now (tree .entry)) r ⌝ }
+{
+    if is_mangled(tree, text, f) {
+        return Found::At(f);
+    }
+    Found::Nothing
+}
+
+// The verb with `$` and the key text of each type.
+fn by_full_name(tree: &[u8], text: &[u8], scratch: &[u8], functions: usize, call: Call) -> Found
+    requires { ⌜ Keyed (now tree) (now text) (now scratch) functions ⌝ }
+    requires { ⌜ Called (now tree) (now text) (now scratch) call ⌝ }
+    ensures { λ r. ⌜ (functionFound (now (tree .entry)) (now (text .entry)) r ≡ mangledFunction (program (now (tree .entry)) (now (text .entry))) (allKeys (now (tree .entry)) (now (text .entry))) (nameOf (now (tree .entry)) (now (text .entry)) (now (scratch .entry)) call (call .count))) × FunctionFound (now (tree .entry)) r ⌝ }
+{
+    let length = full_length(tree, text, scratch, call);
+    let count = call.count;
+    let mut j = 0;
+    while j < functions {
+        let f = function_at(tree, scratch, functions, j);
+        let key = key_of(tree, text, f);
+        if key.1 == length {
+            if is_name(tree, text, scratch, call, count, key) {
+                return mangled_only(tree, text, f);
+            }
+        }
+        j += 1;
+    }
+    Found::Nothing
+}
+
+// How many of the arguments' suffixes have `bytes` bytes in all.
+fn suffixes_of(tree: &[u8], text: &[u8], scratch: &[u8], first: usize, bytes: usize) -> Found
+    requires { ⌜ Argued (now tree) (now text) (now scratch) first ⌝ }
+    ensures { λ r. ⌜ PrefixIs (now (tree .entry)) (now (text .entry)) (now (scratch .entry)) first bytes r ⌝ }
+{
+    let mut left = bytes;
+    let mut cell = first;
+    let mut k = 0;
+    while 0 < left {
+        if cell == END {
+            return Found::Nothing;
+        }
+        let key = type_key(tree, text, argument_type(tree, text, scratch, cell));
+        if left <= key.1 {
+            return Found::Nothing;
+        }
+        left = left - key.1 - 1;
+        cell = next_cell(tree, text, cell);
+        k += 1;
+    }
+    Found::At(k)
+}
+
+// Of how many arguments a function's key has the types before its `$...`, if it is such a key of the verb.
+fn variadic_key(tree: &[u8], text: &[u8], scratch: &[u8], call: Call, f: usize) -> Found
+    requires { ⌜ Called (now tree) (now text) (now scratch) call ⌝ }
+    requires { ⌜ FunctionAt (now tree) f ⌝ }
+    ensures { λ r. ⌜ VariadicKey (now (tree .entry)) (now (text .entry)) (now (scratch .entry)) call (keyOf (functionOf (now (tree .entry)) (now (text .entry)) f)) r ⌝ }
+{
+    let key = key_of(tree, text, f);
+    if key.1 < call.len + 4 {
+        return Found::Nothing;
+    }
+    let before = key.1 - 4;
+    if !is_variadic_mark(text, Part(key.0 + before, 4)) {
+        return Found::Nothing;
+    }
+    let left = before - call.len;
+    if let Found::At(k) = suffixes_of(tree, text, scratch, call.first, left) {
+        if is_name(tree, text, scratch, call, k, Part(key.0, before)) {
+            return Found::At(k);
+        }
+    }
+    Found::Nothing
+}
+
+// The longest prefix with `$...`: each function is looked at once, and the one with the most types is kept.
+fn by_prefix(tree: &[u8], text: &[u8], scratch: &[u8], functions: usize, call: Call) -> Found
+    requires { ⌜ Keyed (now tree) (now text) (now scratch) functions ⌝ }
+    requires { ⌜ Called (now tree) (now text) (now scratch) call ⌝ }
+    ensures { λ r. ⌜ (functionFound (now (tree .entry)) (now (text .entry)) r ≡ variadicFunction (program (now (tree .entry)) (now (text .entry))) (allKeys (now (tree .entry)) (now (text .entry))) (verbOf (now (tree .entry)) (now (text .entry)) (now (scratch .entry)) call) (suffixesAt (now (tree .entry)) (now (text .entry)) (now (scratch .entry)) (call .first))) × FunctionFound (now (tree .entry)) r ⌝ }
+{
+    let mut best = Found::Nothing;
+    let mut most = 0;
+    let mut j = 0;
+    while j < functions {
+        let f = function_at(tree, scratch, functions, j);
+        if let Found::At(k) = variadic_key(tree, text, scratch, call, f) {
+            if (most <= k) & is_mangled(tree, text, f) {
+                best = Found::At(f);
+                most = k + 1;
+            }
+        }
+        j += 1;
+    }
+    best
+}
+
+pub(crate) fn find_exact_function(
+    tree: &[u8],
+    text: &[u8],
+    scratch: &[u8],
+    functions: usize,
+    call: Call,
+) -> Found
+    requires { ⌜ Keyed (now tree) (now text) (now scratch) functions ⌝ }
+    requires { ⌜ Called (now tree) (now text) (now scratch) call ⌝ }
+    ensures { λ r. ⌜ (functionFound (now (tree .entry)) (now (text .entry)) r ≡ find-exact-function (program (now (tree .entry)) (now (text .entry))) (allKeys (now (tree .entry)) (now (text .entry))) (verbOf (now (tree .entry)) (now (text .entry)) (now (scratch .entry)) call) (typedAt (now (tree .entry)) (now (text .entry)) (now (scratch .entry)) (call .first))) × FunctionFound (now (tree .entry)) r ⌝ }
+{
+    if let Found::At(f) = by_name(tree, text, scratch, functions, call) {
+        return Found::At(f);
+    }
+    if let Found::At(f) = by_full_name(tree, text, scratch, functions, call) {
+        return Found::At(f);
+    }
+    by_prefix(tree, text, scratch, functions, call)
+}

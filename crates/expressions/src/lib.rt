@@ -1,0 +1,13 @@
+// Typing and call resolution: Krc's converter/expressions.rs, with the functions by key and `main` from its functions.rs. A tree is judged
+// before; a type, an expression and a function are numbers of their records.
+pub mod answers;
+mod arguments;
+mod calls;
+mod exact;
+pub mod expressions;
+pub mod functions;
+mod keys;
+mod operands;
+pub mod parameters;
+mod parts;
+mod takes;

@@ -1,0 +1,85 @@
+// expressions.rs: whether a function takes the arguments of a call.
+ghost use mathlib.Core.Path.{_≡_};
+ghost use Prim.Native.Nat.{ℕ, _+_, _*_, _≤_, _<_};
+ghost use lib.ListN.{length};
+ghost use Rattle.records.specs.Good.{Good};
+ghost use Rattle.syntax.specs.Decode.{program};
+ghost use Rattle.conversion.specs.Expressions.{takes-count, takes-args, takesAll};
+ghost use Rattle.expressions.specs.Places.{FunctionAt, ParamsAt, functionOf, paramsAt};
+ghost use Rattle.expressions.specs.Keys.{allKeys};
+ghost use Rattle.expressions.specs.Calls.{typedAt, Argued, Called, TakesFirst};
+use crate::arguments::Argument;
+use crate::arguments::Call;
+use crate::arguments::END;
+use crate::arguments::argument_at;
+use crate::arguments::count_parameters;
+use crate::arguments::next_cell;
+use crate::arguments::slot;
+use crate::keys::is_variadic;
+use crate::keys::parameters_of;
+use types::fits::fits;
+use types::form::reference;
+
+// As many as its parameters, or more when variadic.
+fn takes_count(tree: &[u8], text: &[u8], f: usize, count: usize) -> bool
+    requires { ⌜ Good (now tree) (now text) ⌝ }
+    requires { ⌜ FunctionAt (now tree) f ⌝ }
+    ensures { λ r. ⌜ r ≡ takes-count (functionOf (now (tree .entry)) (now (text .entry)) f) count ⌝ }
+{
+    let own = count_parameters(tree, text, parameters_of(tree, text, f));
+    if own == count {
+        return true;
+    }
+    if is_variadic(tree, text, f) {
+        return own < count;
+    }
+    false
+}
+
+// Whether the argument in one cell goes into the parameter in another.
+fn takes_arg(tree: &[u8], text: &[u8], scratch: &[u8], parameter: usize, cell: usize) -> bool
+    requires { ⌜ Argued (now tree) (now text) (now scratch) cell ⌝ }
+    requires { ⌜ ParamsAt (now tree) parameter ⌝ }
+    requires { ⌜ (cell ≡ 4294967295 → ⊥) × (parameter ≡ 4294967295 → ⊥) ⌝ }
+    ensures { λ r. ⌜ TakesFirst (now (tree .entry)) (now (text .entry)) (now (scratch .entry)) (paramsAt (now (tree .entry)) (now (text .entry)) parameter) (typedAt (now (tree .entry)) (now (text .entry)) (now (scratch .entry)) cell) r ⌝ }
+{
+    let ty = reference(tree, reference(tree, parameter, 0), 2);
+    match argument_at(tree, text, cell) {
+        Argument::Expr(e) => fits(tree, e, slot(tree, scratch, e), ty),
+        Argument::ToType(y) => y == ty,
+    }
+}
+
+// Arguments behind the parameters of a variadic are not looked at.
+fn takes_all(tree: &[u8], text: &[u8], scratch: &[u8], parameters: usize, first: usize) -> bool
+    requires { ⌜ Argued (now tree) (now text) (now scratch) first ⌝ }
+    requires { ⌜ ParamsAt (now tree) parameters ⌝ }
+    ensures { λ r. ⌜ r ≡ takesAll (program (now (tree .entry)) (now (text .entry))) (allKeys (now (tree .entry)) (now (text .entry))) (paramsAt (now (tree .entry)) (now (text .entry)) parameters) (typedAt (now (tree .entry)) (now (text .entry)) (now (scratch .entry)) first) ⌝ }
+{
+    let mut parameter = parameters;
+    let mut cell = first;
+    while parameter != END {
+        if cell == END {
+            return true;
+        }
+        if !takes_arg(tree, text, scratch, parameter, cell) {
+            return false;
+        }
+        parameter = next_cell(tree, text, parameter);
+        cell = next_cell(tree, text, cell);
+    }
+    true
+}
+
+pub(crate) fn takes_args(tree: &[u8], text: &[u8], scratch: &[u8], f: usize, call: Call) -> bool
+    requires { ⌜ Called (now tree) (now text) (now scratch) call ⌝ }
+    requires { ⌜ FunctionAt (now tree) f ⌝ }
+    ensures { λ r. ⌜ r ≡ takes-args (program (now (tree .entry)) (now (text .entry))) (allKeys (now (tree .entry)) (now (text .entry))) (functionOf (now (tree .entry)) (now (text .entry)) f) (typedAt (now (tree .entry)) (now (text .entry)) (now (scratch .entry)) (call .first)) ⌝ }
+{
+    let count = call.count;
+    let first = call.first;
+    if !takes_count(tree, text, f, count) {
+        return false;
+    }
+    takes_all(tree, text, scratch, parameters_of(tree, text, f), first)
+}
