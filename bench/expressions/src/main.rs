@@ -1,6 +1,7 @@
 //! Types and calls with the oracle's answers, for the program expressions_test.
 //!
 //!     KRC_SRC=PATH cargo run --release -- sample TREES FILE     writes a list of small trees in which each kind of answer comes up
+//!     KRC_SRC=PATH cargo run --release -- deep FILE     writes a list of one question: the type of calls in calls, nested as deep as may be
 //!     KRC_SRC=PATH cargo run --release -- compare PROGRAM TREES SEED
 //!         runs PROGRAM (target/bin/expressions_test) over as many lists as TREES trees need; status 1 where an answer differs
 //!
@@ -14,7 +15,7 @@ use oracle::generate::Case;
 use std::collections::BTreeMap;
 use std::process::{Command, exit};
 
-const USAGE: &str = "usage: expressions-compare sample TREES FILE | compare PROGRAM TREES SEED";
+const USAGE: &str = "usage: expressions-compare sample TREES FILE | deep FILE | compare PROGRAM TREES SEED";
 
 /// What the program has room for.
 const LIST_ROOM: usize = 400_000;
@@ -114,6 +115,20 @@ fn sample(trees: u64) -> Vec<u8> {
     out
 }
 
+/// Of some trees about 64 deep that the judge takes, the one with the most calls, each an argument of the next.
+fn deep() -> Vec<u8> {
+    let calls = |case: &Case| case.tree.chunks(32).filter(|record| record[0] == 11).count();
+    let good = |case: &Case| judged(&case.tree, &case.text).is_ok();
+    let cases = (0..500).map(|seed| oracle::generate(seed, "deep")).filter(good);
+    let case = cases.max_by_key(calls).expect("some tree");
+    let tree = judged(&case.tree, &case.text).ok().expect("a good tree");
+    let of_kind = |kind: u8| case.tree.chunks(32).rposition(|record| record[0] == kind).expect("one") as u32;
+    let (function, e) = (of_kind(25), of_kind(11));
+    let said = Questions::new(&tree).get_type(function, e);
+    println!("{} calls in calls, {said:?}", calls(&case));
+    written(&case, &[question(TYPE, function, e, said)])
+}
+
 /// Runs the program over a list, and hands on how many questions it met and how many differ.
 fn run(program: &str, list: &[u8]) -> (u64, u64) {
     let folder = std::env::temp_dir().join(format!("expressions-compare-{}", std::process::id()));
@@ -154,6 +169,10 @@ fn main() {
         Some("sample") => {
             let file = words.get(2).unwrap_or_else(|| stop());
             std::fs::write(file, sample(number(words.get(1)))).expect("the list is written");
+        }
+        Some("deep") => {
+            let file = words.get(1).unwrap_or_else(|| stop());
+            std::fs::write(file, deep()).expect("the list is written");
         }
         Some("compare") => {
             let program = words.get(1).unwrap_or_else(|| stop());
