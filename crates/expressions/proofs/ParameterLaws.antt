@@ -2,13 +2,11 @@
 -- By what `declare` owes, and by the bytes outside the entry that it writes. Assumes nothing.
 use mathlib.Core.Path.{_≡_, refl, sym, ap, _∙_, subst}
 use mathlib.Core.Logic.{_⊎_, inl, inr}
-use mathlib.Core.Bool.{Bool, true, false}
+use mathlib.Core.Bool.{false}
 use mathlib.Core.List.{List, [], _∷_, _++_}
-use mathlib.Core.Option.{Option, none, some}
-use Prim.Native.Nat.{ℕ, zero, suc, _+_, _*_, _/_, _%_, _^_, _≤_, _<_}
+use Prim.Native.Nat.{ℕ, suc, _+_, _*_, _/_, _≤_, _<_}
 use native.Mathlib.Decide.{decLt}
 use native.Mathlib.Omega.{arith}
-use lib.Dec.{eqb}
 use lib.ListN.{length, take, drop, getD}
 use lib.Seq.{getD-take, getD-drop}
 use Rattle.laws.specs.Fix.{pick}
@@ -20,26 +18,25 @@ use Rattle.records.specs.declared.shape.Role.the-variants.{Parameters}
 use Rattle.records.specs.declared.convert_error.ConvertError.{ConvertError}
 use Rattle.syntax.specs.Syntax.{Param}
 use Rattle.syntax.specs.Decode.{textOf}
-use Rattle.conversion.specs.ConvertError.{Result, ok, err, AlreadyDeclared}
+use Rattle.conversion.specs.ConvertError.{AlreadyDeclared}
 use Rattle.conversion.specs.Types.{isSome, someAnd}
 use Rattle.conversion.specs.Scope as Def
-use Rattle.conversion.specs.Scope.{Variable, findIn, find-variable, withVariable}
+use Rattle.conversion.specs.Scope.{Variable, find-variable, withVariable}
 use Rattle.conversion.specs.Written.{bytesOf, word, boolNumber}
 use Rattle.ir.specs.declared.structs.VarId.{VarId}
-use Rattle.ir.specs.Instructions.{varOf}
 use Rattle.ir.proofs.Entries.{word-same}
 use Rattle.scope.specs.declared.Scope.{Scope}
 use Rattle.scope.specs.declared.Declared.{Declared}
 use Rattle.scope.specs.declared.Declared.the-variants as Declared
-use Rattle.scope.specs.Open.{Entry, Open, Stands, Room, more, variable, Added, Taken, DeclareMeets}
+use Rattle.scope.specs.Open.{Open, Stands, more, variable, DeclareMeets}
 use Rattle.expressions.specs.declared.parameters.Parameters.{Parameters as Answered}
 use Rattle.expressions.specs.declared.parameters.Parameters.the-variants as Answer
-use Rattle.expressions.specs.Places.{TypeAt, FunctionAt, ParamsAt, ListAt, functionOf, paramsAt}
-use Rattle.expressions.specs.Keys.{functionRecords, recordsBelow, Listed, Keyed}
-use Rattle.expressions.specs.Slots.{Scoped, Ready}
+use Rattle.expressions.specs.Places.{TypeAt, ParamsAt, functionOf, paramsAt}
+use Rattle.expressions.specs.Keys.{Keyed}
+use Rattle.expressions.specs.Slots.{Ready}
 use Rattle.expressions.specs.Answers.{refusal}
 use Rattle.expressions.specs.Parameters.{parameterOf, withParams, emptyIn, NamesOnly, OneMore, ParametersMeet}
-use Rattle.expressions.proofs.Lists.{left, left-some, cell-is, cell-below, next-list, next-falls, left-most, params-end, parameter-item, parameter-type}
+use Rattle.expressions.proofs.Lists.{left, left-some, cell-is, next-list, next-falls, left-most, params-end, parameter-item, parameter-type}
 use Rattle.expressions.proofs.KeySearch.{records-most}
 
 -- ---- bytes and words outside what was written
