@@ -78,21 +78,23 @@ fn word_ok(tree: &[u8], bytes: usize, r: usize, role: Role, w: u32, next: u32) -
     requires { ⌜ r * 32 ≤ length (now tree) ⌝ }
     ensures { λ v. ⌜ v ≡ wordOk (now (tree .entry)) bytes r role w next ⌝ }
 {
+    let lower = size(w) < r;
+    let k = kind_below(tree, r, w);
     match role {
         Role::Unused => w == 0,
         Role::Number => true,
         Role::Text => size(w) + size(next) <= bytes,
         Role::Length => true,
-        Role::Expr => is_expr(kind_below(tree, r, w)),
-        Role::TypeRef => kind_below(tree, r, w) == 1,
-        Role::TypeOrNone => (w == NONE) | (kind_below(tree, r, w) == 1),
-        Role::Name => kind_below(tree, r, w) == 6,
-        Role::Variable => kind_below(tree, r, w) == 24,
+        Role::Expr => is_expr(k),
+        Role::TypeRef => k == 1,
+        Role::TypeOrNone => (w == NONE) | (k == 1),
+        Role::Name => k == 6,
+        Role::Variable => k == 24,
         Role::Arguments => (w == NONE) | list_ok(tree, Role::Arguments, r, w),
         Role::Parameters => (w == NONE) | list_ok(tree, Role::Parameters, r, w),
         Role::Body => (w == NONE) | list_ok(tree, Role::Body, r, w),
-        Role::Item => size(w) < r,
-        Role::Rest => (w == NONE) | (kind_below(tree, r, w) == 12),
+        Role::Item => lower,
+        Role::Rest => (w == NONE) | (k == 12),
     }
 }
 

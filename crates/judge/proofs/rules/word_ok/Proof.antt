@@ -1,5 +1,8 @@
 -- A word is judged by its role.
--- Each arm of the match is the definition's, over what the calls ensure. Assumes nothing.
+-- Each arm of the match is the definition's, over what the calls before the match ensure. Assumes nothing.
+use mathlib.Core.Path.{ap}
+use Prim.Native.Nat.{ℕ}
+use lib.Dec.{ltb}
 use Rattle.records.specs.Rules.{wordOk}
 use borrow.Author.Needs.{needs}
 use Rattle.judge.proofs.rules.word_ok.Statement.{statement}
@@ -11,6 +14,12 @@ use Rattle.judge.proofs.rules.is_expr.Reads as is-expr-reads
 use Rattle.judge.proofs.rules.kind_below.Reads as kind-below-reads
 use Rattle.judge.proofs.rules.list_ok.Reads as list-ok-reads
 
+size-requires : tie.Need-size-requires
+size-requires c κs = search needs
+
+kind-below-requires : tie.Need-kind-below-requires
+kind-below-requires c κs = search needs
+
 enum-told : tie.Need-enum-told
 enum-told c = search needs
 
@@ -20,11 +29,11 @@ enum-told-2 c = search needs
 enum-told-3 : tie.Need-enum-told-3
 enum-told-3 c = search needs
 
-size-requires : tie.Need-size-requires
-size-requires c κs = search needs
-
 size-requires-2 : tie.Need-size-requires-2
 size-requires-2 c κs = search needs
+
+size-requires-3 : tie.Need-size-requires-3
+size-requires-3 c κs = search needs
 
 add-result : tie.Need-add-result
 add-result c = search needs
@@ -35,35 +44,20 @@ enum-told-4 c = search needs
 enum-told-5 : tie.Need-enum-told-5
 enum-told-5 c = search needs
 
-kind-below-requires : tie.Need-kind-below-requires
-kind-below-requires c κs = search needs
-
 is-expr-requires : tie.Need-is-expr-requires
 is-expr-requires c κs = search needs
 
 enum-told-6 : tie.Need-enum-told-6
 enum-told-6 c = search needs
 
-kind-below-requires-2 : tie.Need-kind-below-requires-2
-kind-below-requires-2 c κs = search needs
-
 enum-told-7 : tie.Need-enum-told-7
 enum-told-7 c = search needs
-
-kind-below-requires-3 : tie.Need-kind-below-requires-3
-kind-below-requires-3 c κs = search needs
 
 enum-told-8 : tie.Need-enum-told-8
 enum-told-8 c = search needs
 
-kind-below-requires-4 : tie.Need-kind-below-requires-4
-kind-below-requires-4 c κs = search needs
-
 enum-told-9 : tie.Need-enum-told-9
 enum-told-9 c = search needs
-
-kind-below-requires-5 : tie.Need-kind-below-requires-5
-kind-below-requires-5 c κs = search needs
 
 enum-told-10 : tie.Need-enum-told-10
 enum-told-10 c = search needs
@@ -86,14 +80,8 @@ list-ok-requires-3 c κs = search needs
 enum-told-13 : tie.Need-enum-told-13
 enum-told-13 c = search needs
 
-size-requires-3 : tie.Need-size-requires-3
-size-requires-3 c κs = search needs
-
 enum-told-14 : tie.Need-enum-told-14
 enum-told-14 c = search needs
-
-kind-below-requires-6 : tie.Need-kind-below-requires-6
-kind-below-requires-6 c κs = search needs
 
 returns : tie.Need-returns
 unfolding wordOk
@@ -105,7 +93,7 @@ returns-2 c = rw (c .enum-told2 .given .1)
 
 returns-3 : tie.Need-returns-3
 unfolding wordOk
-returns-3 c = rw (c .before .before .enum-told3 .given .1, c .before .size .ensures, c .size2 .ensures)
+returns-3 c = rw (c .before .before .enum-told3 .given .1, c .before .size2 .ensures, c .size3 .ensures)
 
 returns-4 : tie.Need-returns-4
 unfolding wordOk
@@ -113,23 +101,23 @@ returns-4 c = rw (c .enum-told4 .given .1)
 
 returns-5 : tie.Need-returns-5
 unfolding wordOk
-returns-5 c = rw (c .before .before .enum-told5 .given .1, c .is-expr .ensures, c .before .kind-below .ensures)
+returns-5 c = rw (c .before .enum-told5 .given .1, c .is-expr .ensures, c .before .before .before .kind-below .ensures)
 
 returns-6 : tie.Need-returns-6
 unfolding wordOk
-returns-6 c = rw (c .before .enum-told6 .given .1, c .kind-below2 .ensures)
+returns-6 c = rw (c .enum-told6 .given .1, c .before .before .kind-below .ensures)
 
 returns-7 : tie.Need-returns-7
 unfolding wordOk
-returns-7 c = rw (c .before .enum-told7 .given .1, c .kind-below3 .ensures)
+returns-7 c = rw (c .enum-told7 .given .1, c .before .before .kind-below .ensures)
 
 returns-8 : tie.Need-returns-8
 unfolding wordOk
-returns-8 c = rw (c .before .enum-told8 .given .1, c .kind-below4 .ensures)
+returns-8 c = rw (c .enum-told8 .given .1, c .before .before .kind-below .ensures)
 
 returns-9 : tie.Need-returns-9
 unfolding wordOk
-returns-9 c = rw (c .before .enum-told9 .given .1, c .kind-below5 .ensures)
+returns-9 c = rw (c .enum-told9 .given .1, c .before .before .kind-below .ensures)
 
 returns-10 : tie.Need-returns-10
 unfolding wordOk
@@ -145,34 +133,31 @@ returns-12 c = rw (c .before .enum-told12 .given .1, c .list-ok3 .ensures)
 
 returns-13 : tie.Need-returns-13
 unfolding wordOk
-returns-13 c = rw (c .before .enum-told13 .given .1, c .size3 .ensures)
+returns-13 c = rw (c .enum-told13 .given .1) (ap (λ (x : ℕ). ltb x (c .before .before .before .before .before .args .r)) (c .before .before .before .size .ensures))
 
 returns-14 : tie.Need-returns-14
 unfolding wordOk
-returns-14 c = rw (c .before .enum-told14 .given .1, c .kind-below6 .ensures)
+returns-14 c = rw (c .enum-told14 .given .1, c .before .before .kind-below .ensures)
 
 pub word-ok-spec : {M : Type 1} → statement M
 word-ok-spec =
     tie.close
     (tie.spec
+    size-requires
+    kind-below-requires
     enum-told
     enum-told-2
     enum-told-3
-    size-requires
     size-requires-2
+    size-requires-3
     add-result
     enum-told-4
     enum-told-5
-    kind-below-requires
     is-expr-requires
     enum-told-6
-    kind-below-requires-2
     enum-told-7
-    kind-below-requires-3
     enum-told-8
-    kind-below-requires-4
     enum-told-9
-    kind-below-requires-5
     enum-told-10
     list-ok-requires
     enum-told-11
@@ -180,9 +165,7 @@ word-ok-spec =
     enum-told-12
     list-ok-requires-3
     enum-told-13
-    size-requires-3
     enum-told-14
-    kind-below-requires-6
     returns
     returns-2
     returns-3
