@@ -1,8 +1,10 @@
 // The rules for one record, and the lowest record that breaks one.
 ghost use mathlib.Core.Path.{_≡_};
-ghost use mathlib.Core.Bool.{not, _&&_};
-ghost use Prim.Native.Nat.{_+_, _*_, _≤_, _<_};
+ghost use mathlib.Core.Bool.{true, not, _&&_};
+ghost use Prim.Native.Nat.{ℕ, _+_, _*_, _≤_, _<_};
 ghost use lib.ListN.{length};
+ghost use Rattle.records.specs.declared.shape.Role.the-variants.{Unused};
+ghost use Rattle.records.specs.Shapes.{refers};
 ghost use Rattle.records.specs.Rules.{kindBelow, isExpr, itemOk, listOk, wordOk, wordsOk, formOk, otherwiseMarked, bodyMarked, recordOk};
 ghost use Rattle.judge.specs.Inner.{Lowest, Counts, TypesLead};
 use crate::references::size;
@@ -73,18 +75,18 @@ fn list_ok(tree: &[u8], role: Role, r: usize, w: u32) -> bool
     false
 }
 
-// Word w of record r, with the word after it, is right for its role.
-fn word_ok(tree: &[u8], bytes: usize, r: usize, role: Role, w: u32, next: u32) -> bool
+// Word w of record r refers to a record that is right for its role; not asked of a role that refers to none.
+fn reference_ok(tree: &[u8], r: usize, role: Role, w: u32) -> bool
     requires { ⌜ r * 32 ≤ length (now tree) ⌝ }
-    ensures { λ v. ⌜ v ≡ wordOk (now (tree .entry)) bytes r role w next ⌝ }
+    ensures { λ v. ⌜ (refers role ≡ true → (bytes next : ℕ) → v ≡ wordOk (now (tree .entry)) bytes r role w next) ⌝ }
 {
     let lower = size(w) < r;
     let k = kind_below(tree, r, w);
     match role {
-        Role::Unused => w == 0,
-        Role::Number => true,
-        Role::Text => size(w) + size(next) <= bytes,
-        Role::Length => true,
+        Role::Unused => false,
+        Role::Number => false,
+        Role::Text => false,
+        Role::Length => false,
         Role::Expr => is_expr(k),
         Role::TypeRef => k == 1,
         Role::TypeOrNone => (w == NONE) | (k == 1),
@@ -98,13 +100,36 @@ fn word_ok(tree: &[u8], bytes: usize, r: usize, role: Role, w: u32, next: u32) -
     }
 }
 
+// Word w of record r, with the word after it, is right for its role. Most words refer to nothing, and are judged where they stand.
+fn word_ok(tree: &[u8], bytes: usize, r: usize, role: Role, w: u32, next: u32) -> bool
+    requires { ⌜ r * 32 ≤ length (now tree) ⌝ }
+    ensures { λ v. ⌜ v ≡ wordOk (now (tree .entry)) bytes r role w next ⌝ }
+{
+    match role {
+        Role::Unused => w == 0,
+        Role::Number => true,
+        Role::Text => size(w) + size(next) <= bytes,
+        Role::Length => true,
+        _ => reference_ok(tree, r, role, w),
+    }
+}
+
 fn is_expr(k: u8) -> bool
     ensures { λ v. ⌜ v ≡ isExpr k ⌝ }
 {
     (2 <= k) & (k <= 11)
 }
 
-// The five words of record r.
+fn is_unused(role: Role) -> bool
+    ensures { λ v. ⌜ (v ≡ true → role ≡ Unused) ⌝ }
+{
+    match role {
+        Role::Unused => true,
+        _ => false,
+    }
+}
+
+// The five words of record r. Most kinds use A and B alone, and the other three are zero then.
 fn words_ok(tree: &[u8], bytes: usize, r: usize, row: Row) -> bool
     requires { ⌜ r * 32 + 32 ≤ length (now tree) ⌝ }
     ensures { λ v. ⌜ v ≡ wordsOk (now (tree .entry)) bytes r row ⌝ }
@@ -119,6 +144,13 @@ fn words_ok(tree: &[u8], bytes: usize, r: usize, row: Row) -> bool
     let c = word(tree, r, 2);
     let d = word(tree, r, 3);
     let e = word(tree, r, 4);
+    if is_unused(rc) & is_unused(rd) & is_unused(re) {
+        return word_ok(tree, bytes, r, ra, a, b)
+            & word_ok(tree, bytes, r, rb, b, c)
+            & (c == 0)
+            & (d == 0)
+            & (e == 0);
+    }
     word_ok(tree, bytes, r, ra, a, b)
         & word_ok(tree, bytes, r, rb, b, c)
         & word_ok(tree, bytes, r, rc, c, d)
