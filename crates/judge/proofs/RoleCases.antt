@@ -1,17 +1,19 @@
--- The roles that open no list have no items. The keys of a match's last arm leave out the roles of the arms before it: by the cases of the role.
--- Assumes nothing.
+-- The roles that open no list have no items; those from Expr on refer. The keys of a match's last arm leave out the roles of the arms before it: by the
+-- cases of the role. Assumes nothing.
 use mathlib.Core.Path.{_≡_, refl}
 use Prim.Native.Nat.{ℕ}
-use mathlib.Core.Bool.{Bool, true, false, _||_, or-true, false≢true}
+use mathlib.Core.Bool.{Bool, true, false, _||_, _&&_, or-true, false≢true}
 use mathlib.Core.Logic.{inl, inr}
 use mathlib.Core.List.{List, [], _∷_}
 use lib.Dec.{eqb}
 use borrow.Author.Tests.{eq-eqb}
+use Rattle.laws.proofs.Tests.{and-left, and-right}
 use types.Run.{OneOf}
 use denote.Enum.Declared.{tagOf}
 use Rattle.records.specs.declared.shape.Role.{Role}
 use Rattle.records.specs.declared.shape.Role.the-variants.{Unused, Number, Text, Length, Expr, TypeRef, TypeOrNone, Name, Variable, Arguments, Parameters, Body, Item, Rest}
 use Rattle.records.proofs.shape.Role.{the-type}
+use Rattle.records.specs.Shapes.{refers}
 use Rattle.records.specs.Rules.{itemOk}
 
 isKey : ℕ → List ℕ → ℕ → Bool
@@ -43,3 +45,29 @@ item-other tree Name a h = refl
 item-other tree Variable a h = refl
 item-other tree Item a h = refl
 item-other tree Rest a h = refl
+
+abbrev referring : List ℕ
+referring = 5 ∷ 6 ∷ 7 ∷ 8 ∷ 9 ∷ 10 ∷ 11 ∷ 12 ∷ 13 ∷ []
+
+pub refers-other : (role : Role) → OneOf (4 ∷ referring) (tagOf the-type role) → refers role ≡ true
+unfolding isKey
+refers-other Unused h = absurd (false≢true (key 4 referring 0 h))
+refers-other Number h = absurd (false≢true (key 4 referring 1 h))
+refers-other Text h = absurd (false≢true (key 4 referring 2 h))
+refers-other Length h = absurd (false≢true (key 4 referring 3 h))
+refers-other Expr h = refl
+refers-other TypeRef h = refl
+refers-other TypeOrNone h = refl
+refers-other Name h = refl
+refers-other Variable h = refl
+refers-other Arguments h = refl
+refers-other Parameters h = refl
+refers-other Body h = refl
+refers-other Item h = refl
+refers-other Rest h = refl
+
+-- three tests of a role, all passed
+pub all-unused : (c d e : Role) (s t u : Bool) → (s ≡ true → c ≡ Unused) → (t ≡ true → d ≡ Unused) → (u ≡ true → e ≡ Unused) → (s && t && u) ≡ true → (c ≡ Unused) × (d ≡ Unused) × (e ≡ Unused)
+all-unused c d e s t u x y z h =
+    let both = and-left (s && t) u h in
+    (x (and-left s t both), y (and-right s t both), z (and-right (s && t) u h))

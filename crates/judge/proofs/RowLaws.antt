@@ -6,11 +6,11 @@ use mathlib.Core.Bool.{Bool, true, false, not, _&&_, false≢true}
 use mathlib.Core.List.{List, _++_, append-nil}
 use mathlib.Core.Option.{Option, none as nothing, some}
 use native.Mathlib.Omega.{arith}
-use Rattle.laws.proofs.Tests.{and-left, and-right}
+use Rattle.laws.proofs.Tests.{tested, and-left, and-right}
 use lib.Dec.{eqb, leb, ltb}
 use lib.ListN.{length, drop, replicate, length-replicate}
 use lib.Seq.{drop-length}
-use borrow.Author.Tests.{ne-eqb, eqb-true, leb-true, not-true, not-false}
+use borrow.Author.Tests.{ne-eqb, eqb-true, leb-true, leb-false, le-leb, lt-leb, not-true, not-false}
 use Rattle.laws.specs.Fix.{pick}
 use Rattle.laws.specs.Below.{lowest}
 use Rattle.records.specs.Words.{records, none}
@@ -75,6 +75,24 @@ lengths-fit bytes e =
     in
     let most : bytes ≤ 65536 = leb-true bytes 65536 (and-right (eqb (bytes % 32) 0 && few) (leb bytes 65536) e) in
     (omega arith, omega arith)
+
+-- a product compared by a quotient: either test says what the other says
+divided : (a b c d : ℕ) → (a ≤ b → c ≤ d) → (b < a → d < c) → leb a b ≡ leb c d
+divided a b c d y n =
+    tested (leb a b) (λ e. e ∙ sym (le-leb c d (y (leb-true a b e)))) (λ e. e ∙ sym (lt-leb c d (n (leb-false a b e))))
+
+-- the seven tests as the code makes them
+pub buffers-divided : (n : ℕ) (l : Lengths) (scratch : ℕ) → (leb n (l .instructions / 320) && leb n (l .variables / 12) && leb n (l .labels / 24) && leb n (l .functions / 32) && leb n (l .strings / 8) && leb n (l .floats / 32) && leb n (scratch / 64)) ≡ buffersOk n l scratch
+unfolding buffersOk
+buffers-divided n l scratch =
+    let at320 = divided n (l .instructions / 320) (320 * n) (l .instructions) (λ h. omega arith) (λ h. omega arith) in
+    let at12 = divided n (l .variables / 12) (12 * n) (l .variables) (λ h. omega arith) (λ h. omega arith) in
+    let at24 = divided n (l .labels / 24) (24 * n) (l .labels) (λ h. omega arith) (λ h. omega arith) in
+    let at32 = divided n (l .functions / 32) (32 * n) (l .functions) (λ h. omega arith) (λ h. omega arith) in
+    let at8 = divided n (l .strings / 8) (8 * n) (l .strings) (λ h. omega arith) (λ h. omega arith) in
+    let at32f = divided n (l .floats / 32) (32 * n) (l .floats) (λ h. omega arith) (λ h. omega arith) in
+    let at64 = divided n (scratch / 64) (64 * n) scratch (λ h. omega arith) (λ h. omega arith) in
+    rw (at320, at12, at24, at32, at8, at32f, at64) refl
 
 -- a scratch that is long enough
 pub scratch-fits : (n : ℕ) (l : Lengths) (scratch : ℕ) → buffersOk n l scratch ≡ true → n ≤ scratch

@@ -52,18 +52,17 @@ fn lengths_ok(bytes: usize) -> bool
     (bytes % 32 == 0) & (384 <= bytes) & (bytes <= 65536)
 }
 
-// Row 'buffers'.
+// Row 'buffers'. The lengths are divided: a product could wrap where row 'lengths' was not asked first.
 fn buffers_ok(n: usize, l: Lengths, scratch: usize) -> bool
-    requires { ⌜ n ≤ 2048 ⌝ }
     ensures { λ r. ⌜ r ≡ buffersOk n l scratch ⌝ }
 {
-    (320 * n <= l.instructions)
-        & (12 * n <= l.variables)
-        & (24 * n <= l.labels)
-        & (32 * n <= l.functions)
-        & (8 * n <= l.strings)
-        & (32 * n <= l.floats)
-        & (64 * n <= scratch)
+    (n <= l.instructions / 320)
+        & (n <= l.variables / 12)
+        & (n <= l.labels / 24)
+        & (n <= l.functions / 32)
+        & (n <= l.strings / 8)
+        & (n <= l.floats / 32)
+        & (n <= scratch / 64)
 }
 
 // Rows 'records' and 'nesting', over a cleared scratch; its first n bytes hold counts of references, and then depths.
@@ -89,11 +88,13 @@ fn judge_records(tree: &[u8], text: &[u8], n: usize, scratch: &mut [u8]) -> Judg
 pub fn judge_tree(tree: &[u8], text: &[u8], l: Lengths, scratch: &mut [u8]) -> Judged
     ensures { λ r. ⌜ (r ≡ judged (now (tree .entry)) (now (text .entry)) l (length (now (scratch .entry)))) × (now (scratch .exit) ≡ scratchAfter r (now (scratch .entry))) ⌝ }
 {
-    if !lengths_ok(tree.len()) {
+    let n = tree.len() / 32;
+    let lengths = lengths_ok(tree.len());
+    let buffers = buffers_ok(n, l, scratch.len());
+    if !lengths {
         return refuse(ConvertErrorKind::BadTree, NONE);
     }
-    let n = tree.len() / 32;
-    if !buffers_ok(n, l, scratch.len()) {
+    if !buffers {
         return refuse(ConvertErrorKind::ShortBuffer, NONE);
     }
     clear(scratch);

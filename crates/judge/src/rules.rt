@@ -1,8 +1,10 @@
 // The rules for one record, and the lowest record that breaks one.
 ghost use mathlib.Core.Path.{_≡_};
-ghost use mathlib.Core.Bool.{not, _&&_};
-ghost use Prim.Native.Nat.{_+_, _*_, _≤_, _<_};
+ghost use mathlib.Core.Bool.{true, not, _&&_};
+ghost use Prim.Native.Nat.{ℕ, _+_, _*_, _≤_, _<_};
 ghost use lib.ListN.{length};
+ghost use Rattle.records.specs.declared.shape.Role.the-variants.{Unused};
+ghost use Rattle.records.specs.Shapes.{refers};
 ghost use Rattle.records.specs.Rules.{kindBelow, isExpr, itemOk, listOk, wordOk, wordsOk, formOk, otherwiseMarked, bodyMarked, recordOk};
 ghost use Rattle.judge.specs.Inner.{Lowest, Counts, TypesLead};
 use crate::references::size;
@@ -73,7 +75,32 @@ fn list_ok(tree: &[u8], role: Role, r: usize, w: u32) -> bool
     false
 }
 
-// Word w of record r, with the word after it, is right for its role.
+// Word w of record r refers to a record that is right for its role; not asked of a role that refers to none.
+fn reference_ok(tree: &[u8], r: usize, role: Role, w: u32) -> bool
+    requires { ⌜ r * 32 ≤ length (now tree) ⌝ }
+    ensures { λ v. ⌜ (refers role ≡ true → (bytes next : ℕ) → v ≡ wordOk (now (tree .entry)) bytes r role w next) ⌝ }
+{
+    let lower = size(w) < r;
+    let k = kind_below(tree, r, w);
+    match role {
+        Role::Unused => false,
+        Role::Number => false,
+        Role::Text => false,
+        Role::Length => false,
+        Role::Expr => is_expr(k),
+        Role::TypeRef => k == 1,
+        Role::TypeOrNone => (w == NONE) | (k == 1),
+        Role::Name => k == 6,
+        Role::Variable => k == 24,
+        Role::Arguments => (w == NONE) | list_ok(tree, Role::Arguments, r, w),
+        Role::Parameters => (w == NONE) | list_ok(tree, Role::Parameters, r, w),
+        Role::Body => (w == NONE) | list_ok(tree, Role::Body, r, w),
+        Role::Item => lower,
+        Role::Rest => (w == NONE) | (k == 12),
+    }
+}
+
+// Word w of record r, with the word after it, is right for its role. Most words refer to nothing, and are judged where they stand.
 fn word_ok(tree: &[u8], bytes: usize, r: usize, role: Role, w: u32, next: u32) -> bool
     requires { ⌜ r * 32 ≤ length (now tree) ⌝ }
     ensures { λ v. ⌜ v ≡ wordOk (now (tree .entry)) bytes r role w next ⌝ }
@@ -83,16 +110,7 @@ fn word_ok(tree: &[u8], bytes: usize, r: usize, role: Role, w: u32, next: u32) -
         Role::Number => true,
         Role::Text => size(w) + size(next) <= bytes,
         Role::Length => true,
-        Role::Expr => is_expr(kind_below(tree, r, w)),
-        Role::TypeRef => kind_below(tree, r, w) == 1,
-        Role::TypeOrNone => (w == NONE) | (kind_below(tree, r, w) == 1),
-        Role::Name => kind_below(tree, r, w) == 6,
-        Role::Variable => kind_below(tree, r, w) == 24,
-        Role::Arguments => (w == NONE) | list_ok(tree, Role::Arguments, r, w),
-        Role::Parameters => (w == NONE) | list_ok(tree, Role::Parameters, r, w),
-        Role::Body => (w == NONE) | list_ok(tree, Role::Body, r, w),
-        Role::Item => size(w) < r,
-        Role::Rest => (w == NONE) | (kind_below(tree, r, w) == 12),
+        _ => reference_ok(tree, r, role, w),
     }
 }
 
@@ -102,7 +120,16 @@ fn is_expr(k: u8) -> bool
     (2 <= k) & (k <= 11)
 }
 
-// The five words of record r.
+fn is_unused(role: Role) -> bool
+    ensures { λ v. ⌜ (v ≡ true → role ≡ Unused) ⌝ }
+{
+    match role {
+        Role::Unused => true,
+        _ => false,
+    }
+}
+
+// The five words of record r. Most kinds use A and B alone, and the other three are zero then.
 fn words_ok(tree: &[u8], bytes: usize, r: usize, row: Row) -> bool
     requires { ⌜ r * 32 + 32 ≤ length (now tree) ⌝ }
     ensures { λ v. ⌜ v ≡ wordsOk (now (tree .entry)) bytes r row ⌝ }
@@ -117,6 +144,13 @@ fn words_ok(tree: &[u8], bytes: usize, r: usize, row: Row) -> bool
     let c = word(tree, r, 2);
     let d = word(tree, r, 3);
     let e = word(tree, r, 4);
+    if is_unused(rc) & is_unused(rd) & is_unused(re) {
+        return word_ok(tree, bytes, r, ra, a, b)
+            & word_ok(tree, bytes, r, rb, b, c)
+            & (c == 0)
+            & (d == 0)
+            & (e == 0);
+    }
     word_ok(tree, bytes, r, ra, a, b)
         & word_ok(tree, bytes, r, rb, b, c)
         & word_ok(tree, bytes, r, rc, c, d)

@@ -1,47 +1,34 @@
--- The rows as the code has them, a table of numbers, are the rows of the definition: both are computed at each of the 29 numbers.
--- `each` asks for a proof at every number below a bound. Assumes nothing.
-use mathlib.Core.Path.{_≡_, refl, sym, subst}
-use mathlib.Core.Logic.{_⊎_, inl, inr}
-use mathlib.Core.List.{List, [], _∷_}
-use Prim.Native.Nat.{ℕ, zero, suc, _+_, _*_, _<_}
-use native.Mathlib.Nat.{eq-or-lt-of-le, le-of-suc-le-suc}
+-- Rows as the code looks them up: what is known in the last arm of a match on 0, 1, 2, .., and a row put together from a packed one.
+-- By induction on the numbers that the arms before it took. Assumes nothing.
+use mathlib.Core.Path.{_≡_}
+use Prim.Native.Nat.{ℕ, zero, suc, _/_, _%_, _<_, _≤_}
 use native.Mathlib.Omega.{arith}
-use lib.ListN.{getD}
 use Rattle.records.specs.declared.shape.Role.{Role}
-use Rattle.records.specs.declared.shape.Row.{Row}
 use Rattle.records.specs.Shapes.{row, roleOf, rowOf}
+use Rattle.records.specs.Packed.{unpacked}
 
-abbrev each : ℕ → (ℕ → Type 0) → Type 0
-each zero P = Unit {0}
-each (suc n) P = P n × each n P
+-- x is none of the numbers below k
+abbrev Past : ℕ → ℕ → Type 0
+Past x zero = Unit {0}
+Past x (suc k) = Past x k × (x ≡ k → ⊥)
 
-at-each : (n : ℕ) (P : ℕ → Type 0) → each n P → (k : ℕ) → k < n → P k
-at-each zero P t k h = absurd (omega arith)
-at-each (suc n) P t k h = go (eq-or-lt-of-le (le-of-suc-le-suc h)) (at-each n P (t .1) k)
+past : (x k : ℕ) → Past x k → k ≤ x
+past x zero t = omega arith
+past x (suc k) t = go (past x k (t .0)) (t .1)
   where
-    go : (k ≡ n) ⊎ (k < n) → (k < n → P k) → P k
-    go (inl e) r = subst P (sym e) (t .0)
-    go (inr l) r = r l
+    go : k ≤ x → (x ≡ k → ⊥) → suc k ≤ x
+    go h n = omega arith
 
--- the numbers of the code's table
-unfoldable pub table : List ℕ
-table = 0 ∷ 0 ∷ 0 ∷ 0 ∷ 0 ∷ 0 ∷ 64 ∷ 0 ∷ 0 ∷ 0 ∷ 2 ∷ 3 ∷ 4 ∷ 1 ∷ 1 ∷ 0 ∷ 0 ∷ 0 ∷ 2 ∷ 1 ∷ 1 ∷ 0 ∷ 0 ∷ 0 ∷ 1 ∷ 2 ∷ 3 ∷ 0 ∷ 0 ∷ 0 ∷ 2 ∷ 0 ∷ 0 ∷ 0 ∷ 0 ∷ 0 ∷ 1 ∷ 2 ∷ 3 ∷ 0 ∷ 0 ∷ 0 ∷ 1 ∷ 0 ∷ 0 ∷ 0 ∷ 0 ∷ 0 ∷ 1 ∷ 5 ∷ 0 ∷ 0 ∷ 0 ∷ 0 ∷ 3 ∷ 4 ∷ 0 ∷ 0 ∷ 0 ∷ 0 ∷ 18 ∷ 4 ∷ 4 ∷ 0 ∷ 0 ∷ 0 ∷ 1 ∷ 2 ∷ 3 ∷ 9 ∷ 0 ∷ 0 ∷ 1 ∷ 12 ∷ 13 ∷ 0 ∷ 0 ∷ 0 ∷ 1 ∷ 4 ∷ 0 ∷ 0 ∷ 0 ∷ 0 ∷ 1 ∷ 5 ∷ 0 ∷ 0 ∷ 0 ∷ 0 ∷ 1 ∷ 2 ∷ 3 ∷ 5 ∷ 0 ∷ 0 ∷ 2 ∷ 2 ∷ 3 ∷ 4 ∷ 0 ∷ 0 ∷ 1 ∷ 4 ∷ 0 ∷ 0 ∷ 0 ∷ 0 ∷ 1 ∷ 4 ∷ 0 ∷ 0 ∷ 0 ∷ 0 ∷ 2 ∷ 4 ∷ 11 ∷ 11 ∷ 0 ∷ 0 ∷ 1 ∷ 4 ∷ 11 ∷ 0 ∷ 0 ∷ 0 ∷ 1 ∷ 8 ∷ 4 ∷ 4 ∷ 11 ∷ 0 ∷ 1 ∷ 0 ∷ 0 ∷ 0 ∷ 0 ∷ 0 ∷ 1 ∷ 0 ∷ 0 ∷ 0 ∷ 0 ∷ 0 ∷ 1 ∷ 2 ∷ 3 ∷ 6 ∷ 0 ∷ 0 ∷ 8 ∷ 7 ∷ 7 ∷ 10 ∷ 6 ∷ 11 ∷ 64 ∷ 5 ∷ 0 ∷ 0 ∷ 2 ∷ 3 ∷ 64 ∷ 5 ∷ 1 ∷ 1 ∷ 2 ∷ 3 ∷ 64 ∷ 2 ∷ 3 ∷ 0 ∷ 2 ∷ 3 ∷ []
+-- .. so that only one number is left for the last arm
+pub last : (k x : ℕ) → x < suc k → Past x k → x ≡ k
+last k x h t = go (past x k t)
+  where
+    go : k ≤ x → x ≡ k
+    go l = omega arith
 
-built : ℕ → Row
-unfolding table
-built s =
-    row (getD table (s * 6) 0) (roleOf (getD table (s * 6 + 1) 0)) (roleOf (getD table (s * 6 + 2) 0)) (roleOf (getD table (s * 6 + 3) 0))
-    (roleOf (getD table (s * 6 + 4) 0)) (roleOf (getD table (s * 6 + 5) 0))
-
-right : (s : ℕ) → s < 29 → built s ≡ rowOf s
-unfolding built table roleOf rowOf
-right s h = at-each 29 (λ k. built k ≡ rowOf k)
-    (refl, (refl, (refl, (refl, (refl, (refl, (refl, (refl, (refl, (refl, (refl, (refl, (refl, (refl, (refl, (refl, (refl, (refl, (refl, (refl, (refl, (refl, (refl, (refl, (refl, (refl, (refl, (refl, (refl, tt))))))))))))))))))))))))))))) s h
-
--- a row put together from what the code reads and what `role_of` ensures
-module _ (s : ℕ) (h : s < 29) (ia ib ic id ie : ℕ) (a b c d e : Role) where
-  pub assembled : (ia ≡ getD table (s * 6 + 1) 0) → (a ≡ roleOf ia) → (ib ≡ getD table (s * 6 + 2) 0) → (b ≡ roleOf ib)
-      → (ic ≡ getD table (s * 6 + 3) 0) → (c ≡ roleOf ic) → (id ≡ getD table (s * 6 + 4) 0) → (d ≡ roleOf id)
-      → (ie ≡ getD table (s * 6 + 5) 0) → (e ≡ roleOf ie) → row (getD table (s * 6) 0) a b c d e ≡ rowOf s
-  unfolding built
-  assembled pa qa pb qb pc qc pd qd pe qe = rw (qa, pa, qb, pb, qc, pc, qd, pd, qe, pe) (right s h)
+-- a row put together from what `packed` and `role_of` ensure
+module _ (s p : ℕ) (a b c d e : Role) where
+  pub assembled : unpacked p ≡ rowOf s → a ≡ roleOf (p / 256 % 16) → b ≡ roleOf (p / 4096 % 16) → c ≡ roleOf (p / 65536 % 16)
+      → d ≡ roleOf (p / 1048576 % 16) → e ≡ roleOf (p / 16777216 % 16) → row (p % 256) a b c d e ≡ rowOf s
+  unfolding unpacked
+  assembled t qa qb qc qd qe = rw (qa, qb, qc, qd, qe) t

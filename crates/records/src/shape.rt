@@ -2,6 +2,7 @@
 ghost use mathlib.Core.Path.{_≡_};
 ghost use Prim.Native.Nat.{_<_};
 ghost use Rattle.records.specs.Shapes.{shapeOf, rowOf, refers, roleOf, plainType, typeShape};
+ghost use Rattle.records.specs.Packed.{unpacked};
 
 // What a word of a record is for. Text is an offset and Length the length beside it; from Expr on a word refers to a record.
 pub enum Role {
@@ -31,227 +32,82 @@ pub struct Row {
     pub e: Role,
 }
 
-// The roles by number, as the rows have them.
-const ROLES: [Role; 14] = [
-    Role::Unused,
-    Role::Number,
-    Role::Text,
-    Role::Length,
-    Role::Expr,
-    Role::TypeRef,
-    Role::TypeOrNone,
-    Role::Name,
-    Role::Variable,
-    Role::Arguments,
-    Role::Parameters,
-    Role::Body,
-    Role::Item,
-    Role::Rest,
-];
-
-fn index(x: u8) -> usize
-    ensures { λ r. ⌜ r ≡ x ⌝ }
-{
-    x as usize
-}
-
-fn role_of(n: usize) -> Role
+// The roles by number, as the packed rows have them.
+fn role_of(n: u32) -> Role
     ensures { λ r. ⌜ r ≡ roleOf n ⌝ }
 {
-    if n < 14 { ROLES[n] } else { Role::Unused }
+    if n >= 14 {
+        return Role::Unused;
+    }
+    match n {
+        0 => Role::Unused,
+        1 => Role::Number,
+        2 => Role::Text,
+        3 => Role::Length,
+        4 => Role::Expr,
+        5 => Role::TypeRef,
+        6 => Role::TypeOrNone,
+        7 => Role::Name,
+        8 => Role::Variable,
+        9 => Role::Arguments,
+        10 => Role::Parameters,
+        11 => Role::Body,
+        12 => Role::Item,
+        _ => Role::Rest,
+    }
 }
 
-// A row for each kind, in order: the limit and the numbers of five roles. The types that have words of their own (Address, Array,
-// Custom) stand behind.
-const ROWS: [u8; 174] = [
-    0,
-    0,
-    0,
-    0,
-    0,
-    0,
-    64,
-    0,
-    0,
-    0,
-    2,
-    3,
-    4,
-    1,
-    1,
-    0,
-    0,
-    0,
-    2,
-    1,
-    1,
-    0,
-    0,
-    0,
-    1,
-    2,
-    3,
-    0,
-    0,
-    0,
-    2,
-    0,
-    0,
-    0,
-    0,
-    0,
-    1,
-    2,
-    3,
-    0,
-    0,
-    0,
-    1,
-    0,
-    0,
-    0,
-    0,
-    0,
-    1,
-    5,
-    0,
-    0,
-    0,
-    0,
-    3,
-    4,
-    0,
-    0,
-    0,
-    0,
-    18,
-    4,
-    4,
-    0,
-    0,
-    0,
-    1,
-    2,
-    3,
-    9,
-    0,
-    0,
-    1,
-    12,
-    13,
-    0,
-    0,
-    0,
-    1,
-    4,
-    0,
-    0,
-    0,
-    0,
-    1,
-    5,
-    0,
-    0,
-    0,
-    0,
-    1,
-    2,
-    3,
-    5,
-    0,
-    0,
-    2,
-    2,
-    3,
-    4,
-    0,
-    0,
-    1,
-    4,
-    0,
-    0,
-    0,
-    0,
-    1,
-    4,
-    0,
-    0,
-    0,
-    0,
-    2,
-    4,
-    11,
-    11,
-    0,
-    0,
-    1,
-    4,
-    11,
-    0,
-    0,
-    0,
-    1,
-    8,
-    4,
-    4,
-    11,
-    0,
-    1,
-    0,
-    0,
-    0,
-    0,
-    0,
-    1,
-    0,
-    0,
-    0,
-    0,
-    0,
-    1,
-    2,
-    3,
-    6,
-    0,
-    0,
-    8,
-    7,
-    7,
-    10,
-    6,
-    11,
-    64,
-    5,
-    0,
-    0,
-    2,
-    3,
-    64,
-    5,
-    1,
-    1,
-    2,
-    3,
-    64,
-    2,
-    3,
-    0,
-    2,
-    3,
-];
+// The row of a shape in one number: two hexadecimal digits for the limit, above them one for the role of each word, A's lowest. The types
+// that have words of their own (Address, Array, Custom) stand behind the kinds. A match is a look-up that builds nothing.
+fn packed(shape: usize) -> u32
+    requires { ⌜ shape < 29 ⌝ }
+    ensures { λ r. ⌜ unpacked r ≡ rowOf shape ⌝ }
+{
+    match shape {
+        0 => 0x0000000,
+        1 => 0x3200040,
+        2 => 0x0001104,
+        3 => 0x0001102,
+        4 => 0x0003201,
+        5 => 0x0000002,
+        6 => 0x0003201,
+        7 => 0x0000001,
+        8 => 0x0000501,
+        9 => 0x0000403,
+        10 => 0x0004412,
+        11 => 0x0093201,
+        12 => 0x000dc01,
+        13 => 0x0000401,
+        14 => 0x0000501,
+        15 => 0x0053201,
+        16 => 0x0043202,
+        17 => 0x0000401,
+        18 => 0x0000401,
+        19 => 0x00bb402,
+        20 => 0x000b401,
+        21 => 0x0b44801,
+        22 => 0x0000001,
+        23 => 0x0000001,
+        24 => 0x0063201,
+        25 => 0xb6a7708,
+        26 => 0x3200540,
+        27 => 0x3211540,
+        _ => 0x3203240,
+    }
+}
 
 pub fn row_of(shape: usize) -> Row
     requires { ⌜ shape < 29 ⌝ }
     ensures { λ r. ⌜ r ≡ rowOf shape ⌝ }
 {
-    let at = shape * 6;
-    let a = role_of(index(ROWS[at + 1]));
-    let b = role_of(index(ROWS[at + 2]));
-    let c = role_of(index(ROWS[at + 3]));
-    let d = role_of(index(ROWS[at + 4]));
-    let e = role_of(index(ROWS[at + 5]));
+    let p = packed(shape);
+    let a = role_of(p / 256 % 16);
+    let b = role_of(p / 4096 % 16);
+    let c = role_of(p / 65536 % 16);
+    let d = role_of(p / 1048576 % 16);
+    let e = role_of(p / 16777216 % 16);
     Row {
-        limit: ROWS[at],
+        limit: (p % 256) as u8,
         a,
         b,
         c,

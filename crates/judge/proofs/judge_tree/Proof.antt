@@ -10,23 +10,28 @@ use Rattle.judge.proofs.judge_tree.Tie as tie
 lengths-ok-requires : tie.Need-lengths-ok-requires
 lengths-ok-requires c κs = search needs
 
+buffers-ok-requires : tie.Need-buffers-ok-requires
+buffers-ok-requires c κs = search needs
+
 refuse-requires : tie.Need-refuse-requires
 refuse-requires c κs = search needs
 
 returns : tie.Need-returns
 returns c =
-    judged-length _ _ _ _ _ _ (c .before .before .lengths-ok .ensures) (not-true _ (c .before .if1 .taken)) (c .refuse .ensures)
-
-buffers-ok-requires : tie.Need-buffers-ok-requires
-buffers-ok-requires c κs =
-    lengths-fit _ (sym (c .before .lengths-ok .ensures) ∙ not-false _ (c .if1 .left)) .1
+    let at-if1 = c .before in
+    let at-lengths-ok = at-if1 .before .before in
+    judged-length _ _ _ _ _ _ (at-lengths-ok .lengths-ok .ensures) (not-true _ (at-if1 .if1 .taken)) (c .refuse .ensures)
 
 refuse-requires-2 : tie.Need-refuse-requires-2
 refuse-requires-2 c κs = search needs
 
 returns-2 : tie.Need-returns-2
 returns-2 c =
-    judged-buffer _ _ _ _ _ _ (c .before .before .before .before .lengths-ok .ensures) (not-false _ (c .before .before .before .if1 .left)) _ (c .before .before .buffers-ok .ensures) (not-true _ (c .before .if2 .taken)) (c .refuse2 .ensures)
+    let at-if2 = c .before in
+    let at-if1 = at-if2 .before in
+    let at-buffers-ok = at-if1 .before in
+    let at-lengths-ok = at-buffers-ok .before in
+    judged-buffer _ _ _ _ _ _ (at-lengths-ok .lengths-ok .ensures) (not-false _ (at-if1 .if1 .left)) _ (at-buffers-ok .buffers-ok .ensures) (not-true _ (at-if2 .if2 .taken)) (c .refuse2 .ensures)
 
 clear-requires : tie.Need-clear-requires
 clear-requires c κs = search needs
@@ -35,9 +40,9 @@ judge-records-requires : tie.Need-judge-records-requires
 judge-records-requires c κs =
     let at-clear = c .before .before .before in
     let at-if2 = at-clear .before .before in
-    let at-buffers-ok = at-if2 .before in
-    let at-if1 = at-buffers-ok .before in
-    let at-lengths-ok = at-if1 .before in
+    let at-if1 = at-if2 .before in
+    let at-buffers-ok = at-if1 .before in
+    let at-lengths-ok = at-buffers-ok .before in
     let at-start = at-lengths-ok .before .before .before .before in
     let fit = lengths-fit _ (sym (at-lengths-ok .lengths-ok .ensures) ∙ not-false _ (at-if1 .if1 .left)) in (
       (fit .0, fit .1, rw (cleared-length (at-start .args .scratch .now) _ (at-clear .clear .ensures)) (scratch-fits _ _ _ (sym (at-buffers-ok .buffers-ok .ensures) ∙ not-false _ (at-if2 .if2 .left)))),
@@ -56,9 +61,9 @@ returns-3 c =
     let at-judge-records = at-clear2 .before .before .before .before in
     let at-clear = at-judge-records .before .before .before .before in
     let at-if2 = at-clear .before .before in
-    let at-buffers-ok = at-if2 .before in
-    let at-if1 = at-buffers-ok .before in
-    let at-lengths-ok = at-if1 .before in
+    let at-if1 = at-if2 .before in
+    let at-buffers-ok = at-if1 .before in
+    let at-lengths-ok = at-buffers-ok .before in
     let at-start = at-lengths-ok .before .before .before .before in (
       judged-records _ _ _ (at-start .args .scratch .now) _ _ (at-lengths-ok .lengths-ok .ensures) (not-false _ (at-if1 .if1 .left)) _ (at-buffers-ok .buffers-ok .ensures) (not-false _ (at-if2 .if2 .left)) (at-judge-records .judge-records .ensures .0),
       cleared-again _ (at-start .args .scratch .now) (at-judge-records .judge-records .last .1 .1 .1 .0) _ (at-judge-records .judge-records .ensures .1) (at-judge-records .judge-records .ensures .2 ∙ cleared-length (at-start .args .scratch .now) _ (at-clear .clear .ensures)) (at-clear2 .clear2 .ensures),
@@ -69,9 +74,9 @@ judge-tree-spec =
     tie.close
     (tie.spec
     lengths-ok-requires
+    buffers-ok-requires
     refuse-requires
     returns
-    buffers-ok-requires
     refuse-requires-2
     returns-2
     clear-requires

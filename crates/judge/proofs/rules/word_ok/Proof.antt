@@ -1,15 +1,14 @@
 -- A word is judged by its role.
--- Each arm of the match is the definition's, over what the calls ensure. Assumes nothing.
+-- The roles that refer to nothing have the definition's arms; for the others the callee's promise is asked. Assumes nothing.
 use Rattle.records.specs.Rules.{wordOk}
+use Rattle.judge.proofs.RoleCases.{refers-other}
 use borrow.Author.Needs.{needs}
 use Rattle.judge.proofs.rules.word_ok.Statement.{statement}
 use Rattle.judge.proofs.rules.word_ok.Tie as tie
 use Rattle.judge.proofs.rules.word_ok.Reads as reads
 use Rattle.judge.proofs.rules.word_ok.Lts as lts
 use Rattle.judge.proofs.references.size.Reads as size-reads
-use Rattle.judge.proofs.rules.is_expr.Reads as is-expr-reads
-use Rattle.judge.proofs.rules.kind_below.Reads as kind-below-reads
-use Rattle.judge.proofs.rules.list_ok.Reads as list-ok-reads
+use Rattle.judge.proofs.rules.reference_ok.Reads as reference-ok-reads
 
 enum-told : tie.Need-enum-told
 enum-told c = search needs
@@ -32,68 +31,8 @@ add-result c = search needs
 enum-told-4 : tie.Need-enum-told-4
 enum-told-4 c = search needs
 
-enum-told-5 : tie.Need-enum-told-5
-enum-told-5 c = search needs
-
-kind-below-requires : tie.Need-kind-below-requires
-kind-below-requires c κs = search needs
-
-is-expr-requires : tie.Need-is-expr-requires
-is-expr-requires c κs = search needs
-
-enum-told-6 : tie.Need-enum-told-6
-enum-told-6 c = search needs
-
-kind-below-requires-2 : tie.Need-kind-below-requires-2
-kind-below-requires-2 c κs = search needs
-
-enum-told-7 : tie.Need-enum-told-7
-enum-told-7 c = search needs
-
-kind-below-requires-3 : tie.Need-kind-below-requires-3
-kind-below-requires-3 c κs = search needs
-
-enum-told-8 : tie.Need-enum-told-8
-enum-told-8 c = search needs
-
-kind-below-requires-4 : tie.Need-kind-below-requires-4
-kind-below-requires-4 c κs = search needs
-
-enum-told-9 : tie.Need-enum-told-9
-enum-told-9 c = search needs
-
-kind-below-requires-5 : tie.Need-kind-below-requires-5
-kind-below-requires-5 c κs = search needs
-
-enum-told-10 : tie.Need-enum-told-10
-enum-told-10 c = search needs
-
-list-ok-requires : tie.Need-list-ok-requires
-list-ok-requires c κs = search needs
-
-enum-told-11 : tie.Need-enum-told-11
-enum-told-11 c = search needs
-
-list-ok-requires-2 : tie.Need-list-ok-requires-2
-list-ok-requires-2 c κs = search needs
-
-enum-told-12 : tie.Need-enum-told-12
-enum-told-12 c = search needs
-
-list-ok-requires-3 : tie.Need-list-ok-requires-3
-list-ok-requires-3 c κs = search needs
-
-enum-told-13 : tie.Need-enum-told-13
-enum-told-13 c = search needs
-
-size-requires-3 : tie.Need-size-requires-3
-size-requires-3 c κs = search needs
-
-enum-told-14 : tie.Need-enum-told-14
-enum-told-14 c = search needs
-
-kind-below-requires-6 : tie.Need-kind-below-requires-6
-kind-below-requires-6 c κs = search needs
+reference-ok-requires : tie.Need-reference-ok-requires
+reference-ok-requires c κs = search needs
 
 returns : tie.Need-returns
 unfolding wordOk
@@ -112,44 +51,7 @@ unfolding wordOk
 returns-4 c = rw (c .enum-told4 .given .1)
 
 returns-5 : tie.Need-returns-5
-unfolding wordOk
-returns-5 c = rw (c .before .before .enum-told5 .given .1, c .is-expr .ensures, c .before .kind-below .ensures)
-
-returns-6 : tie.Need-returns-6
-unfolding wordOk
-returns-6 c = rw (c .before .enum-told6 .given .1, c .kind-below2 .ensures)
-
-returns-7 : tie.Need-returns-7
-unfolding wordOk
-returns-7 c = rw (c .before .enum-told7 .given .1, c .kind-below3 .ensures)
-
-returns-8 : tie.Need-returns-8
-unfolding wordOk
-returns-8 c = rw (c .before .enum-told8 .given .1, c .kind-below4 .ensures)
-
-returns-9 : tie.Need-returns-9
-unfolding wordOk
-returns-9 c = rw (c .before .enum-told9 .given .1, c .kind-below5 .ensures)
-
-returns-10 : tie.Need-returns-10
-unfolding wordOk
-returns-10 c = rw (c .before .enum-told10 .given .1, c .list-ok .ensures)
-
-returns-11 : tie.Need-returns-11
-unfolding wordOk
-returns-11 c = rw (c .before .enum-told11 .given .1, c .list-ok2 .ensures)
-
-returns-12 : tie.Need-returns-12
-unfolding wordOk
-returns-12 c = rw (c .before .enum-told12 .given .1, c .list-ok3 .ensures)
-
-returns-13 : tie.Need-returns-13
-unfolding wordOk
-returns-13 c = rw (c .before .enum-told13 .given .1, c .size3 .ensures)
-
-returns-14 : tie.Need-returns-14
-unfolding wordOk
-returns-14 c = rw (c .before .enum-told14 .given .1, c .kind-below6 .ensures)
+returns-5 c = c .reference-ok .ensures (refers-other (c .before .before .before .args .role) (c .before .match .keys5)) _ _
 
 pub word-ok-spec : {M : Type 1} → statement M
 word-ok-spec =
@@ -162,38 +64,9 @@ word-ok-spec =
     size-requires-2
     add-result
     enum-told-4
-    enum-told-5
-    kind-below-requires
-    is-expr-requires
-    enum-told-6
-    kind-below-requires-2
-    enum-told-7
-    kind-below-requires-3
-    enum-told-8
-    kind-below-requires-4
-    enum-told-9
-    kind-below-requires-5
-    enum-told-10
-    list-ok-requires
-    enum-told-11
-    list-ok-requires-2
-    enum-told-12
-    list-ok-requires-3
-    enum-told-13
-    size-requires-3
-    enum-told-14
-    kind-below-requires-6
+    reference-ok-requires
     returns
     returns-2
     returns-3
     returns-4
-    returns-5
-    returns-6
-    returns-7
-    returns-8
-    returns-9
-    returns-10
-    returns-11
-    returns-12
-    returns-13
-    returns-14)
+    returns-5)
