@@ -4,7 +4,7 @@ use mathlib.Core.Path.{_≡_, refl, sym, ap, ap₂, _∙_}
 use mathlib.Core.Bool.{Bool, true, false, not, _&&_}
 use mathlib.Core.List.{List, [], _∷_}
 use mathlib.Core.Logic.{inl, inr}
-use mathlib.Core.Option.{none as nothing}
+use mathlib.Core.Option.{Option, some, none as nothing}
 use Prim.Native.Nat.{ℕ, _+_, _*_, _^_, _<_, _≤_}
 use native.Mathlib.Numerals.{add-one}
 use native.Mathlib.Omega.{arith}
@@ -36,7 +36,7 @@ use Rattle.expressions.specs.Places.{IsKind, TypeAt, FunctionAt, ArgsAt,
 use Rattle.expressions.specs.Keys.{functionRecords, functionsOf, allKeys, Keyed}
 use Rattle.expressions.specs.Slots.{Typed}
 use Rattle.expressions.specs.Calls.{typedAt, verbOf, Called}
-use Rattle.expressions.specs.Answers.{refusal, castOf, numberOf, calleeOf, functionFound, TypeFound, a-type, no-type, FunctionFound, a-function, no-function, IsCast, IsCallee, AreAll, OneFunction, nobody, one, several}
+use Rattle.expressions.specs.Answers.{refusal, castOf, numberOf, calleeOf, functionFound, TypeFound, a-type, no-type, FunctionFound, a-function, no-function, IsCast, IsCallee, AreAll, oneOrNone, fitting, OneFunction, nobody, one, several}
 use Rattle.expressions.proofs.answers.Candidates.{the-type}
 use Rattle.expressions.proofs.FunctionLaws.{all-functions}
 use Rattle.expressions.proofs.TakeLaws.{not-true, not-false}
@@ -208,31 +208,69 @@ chosen-several tree text [] r e = absurd e
 chosen-several tree text (f ∷ []) r e = absurd e
 chosen-several tree text (f ∷ g ∷ l) r e = refl
 
-module _ (tree text : List ℕ) (verb : Text) (l : List TypedArg) (r : ℕ) (t : Found)
-    (h : functionFound tree text t ≡ find-exact-function (program tree text) (allKeys tree text) verb l) where
-  pub exact-one : (f : ℕ) → t ≡ Found.At f → resolveFunction (program tree text) (allKeys tree text) verb l r nothing ≡ calleeOf tree text (Resolved.Function f)
-  unfolding resolveFunction exactOr functionFound calleeOf
-  exact-one f e = rw (sym h, e)
+-- the exact one, or those that literals fit
+module _ (tree text : List ℕ) (verb : Text) (l : List TypedArg) (b : Bool) where
+  module _ (q : b ≡ true) (t : Found) (h : functionFound tree text t ≡ find-exact-function (program tree text) (allKeys tree text) verb l) where
+    exact-fits : fitting tree text b verb l ≡ oneOrNone (functionFound tree text t)
+    unfolding fitting
+    exact-fits = rw q (ap oneOrNone (sym h))
 
-  module _ (e : t ≡ Found.Nothing) where
+    pub fits-one : FunctionFound tree t → (f : ℕ) → t ≡ Found.At f → AreAll tree text (Candidates.One f) (fitting tree text b verb l) × OneFunction tree (Candidates.One f)
+    unfolding AreAll oneOrNone functionFound
+    fits-one at f e = (exact-fits ∙ rw e, one (found-function tree t f at e))
+
+    pub fits-nobody : t ≡ Found.Nothing → AreAll tree text Candidates.Nobody (fitting tree text b verb l) × OneFunction tree Candidates.Nobody
+    unfolding AreAll oneOrNone functionFound
+    fits-nobody e = (exact-fits ∙ rw e, nobody)
+
+  pub fits-all : b ≡ false → (c : Candidates) → AreAll tree text c (find-functions-by-literals (program tree text) (allKeys tree text) verb l)
+      → AreAll tree text c (fitting tree text b verb l)
+  unfolding fitting
+  fits-all q c all = rw q all
+
+module _ (tree text : List ℕ) where
+  is-exact : (o : Option Function) (f : ℕ) → AreAll tree text (Candidates.One f) (oneOrNone o) → o ≡ some (functionOf tree text f)
+  unfolding AreAll oneOrNone
+  is-exact (some g) f e = let z : (g ∷ []) ≡ (functionOf tree text f ∷ []) = e in cc
+  is-exact nothing f e = absurd (let z : _≡_ {A = ℕ} 0 1 = cc in omega arith)
+
+  none-exact : (o : Option Function) (t : Candidates) → AreAll tree text t (oneOrNone o) → OneOf (0 ∷ 2 ∷ []) (tagOf the-type t) → o ≡ nothing
+  unfolding AreAll oneOrNone
+  none-exact nothing t e w = refl
+  none-exact (some g) Candidates.Nobody e w = absurd (let z : _≡_ {A = ℕ} 0 1 = cc in omega arith)
+  none-exact (some g) (Candidates.One f) e (inl o) = absurd (let z : _≡_ {A = ℕ} 1 0 = o in omega arith)
+  none-exact (some g) (Candidates.One f) e (inr o) = absurd (let z : _≡_ {A = ℕ} 1 2 = o in omega arith)
+  none-exact (some g) Candidates.Several e w = absurd e
+
+-- the exact one comes first
+module _ (tree text : List ℕ) (verb : Text) (l : List TypedArg) (r : ℕ) (t : Candidates) (h : AreAll tree text t (fitting tree text true verb l)) where
+  pub exact-one : (f : ℕ) → t ≡ Candidates.One f → resolveFunction (program tree text) (allKeys tree text) verb l r nothing ≡ calleeOf tree text (Resolved.Function f)
+  unfolding resolveFunction exactOr calleeOf fitting
+  exact-one f e = rw (is-exact tree text (find-exact-function (program tree text) (allKeys tree text) verb l) f (rw e at h))
+
+  module _ (e : OneOf (0 ∷ 2 ∷ []) (tagOf the-type t)) where
     by-choice : resolveFunction (program tree text) (allKeys tree text) verb l r nothing ≡ chosen (find-functions-by-literals (program tree text) (allKeys tree text) verb l) r
-    unfolding resolveFunction exactOr functionFound
-    by-choice = rw (sym h, e)
+    unfolding resolveFunction exactOr fitting
+    by-choice = rw (none-exact tree text (find-exact-function (program tree text) (allKeys tree text) verb l) t h e)
 
-    module _ (c : Candidates) (all : AreAll tree text c (find-functions-by-literals (program tree text) (allKeys tree text) verb l)) where
+    module _ (c : Candidates) (all : AreAll tree text c (fitting tree text false verb l)) where
+      literals-are : AreAll tree text c (find-functions-by-literals (program tree text) (allKeys tree text) verb l)
+      unfolding fitting
+      literals-are = all
+
       pub choice-one : (f : ℕ) → c ≡ Candidates.One f
           → resolveFunction (program tree text) (allKeys tree text) verb l r nothing ≡ calleeOf tree text (Resolved.Function f)
-      choice-one f q = by-choice ∙ chosen-one tree text _ r f (rw q at all)
+      choice-one f q = by-choice ∙ chosen-one tree text _ r f (rw q at literals-are)
 
       pub choice-nobody : c ≡ Candidates.Nobody → (a : Resolved) → a ≡ Resolved.Refused (record { kind = UnknownFunction; place = r })
           → (resolveFunction (program tree text) (allKeys tree text) verb l r nothing ≡ calleeOf tree text a) × IsCallee tree a
       unfolding calleeOf refusal
-      choice-nobody q a w = rw w (by-choice ∙ chosen-nobody tree text _ r (rw q at all), IsCallee.no)
+      choice-nobody q a w = rw w (by-choice ∙ chosen-nobody tree text _ r (rw q at literals-are), IsCallee.no)
 
       pub choice-several : c ≡ Candidates.Several → (a : Resolved) → a ≡ Resolved.Refused (record { kind = AmbiguousCall; place = r })
           → (resolveFunction (program tree text) (allKeys tree text) verb l r nothing ≡ calleeOf tree text a) × IsCallee tree a
       unfolding calleeOf refusal
-      choice-several q a w = rw w (by-choice ∙ chosen-several tree text _ r (rw q at all), IsCallee.no)
+      choice-several q a w = rw w (by-choice ∙ chosen-several tree text _ r (rw q at literals-are), IsCallee.no)
 
 -- ---- the call
 

@@ -12,7 +12,7 @@ use Rattle.syntax.specs.Syntax.{Text, Expr, Args, Value, ToType, Function, Prog
 use Rattle.syntax.specs.Decode.{program, textOf}
 use Rattle.conversion.specs.ConvertError.{Result, ok, err, _>>=_}
 use Rattle.conversion.specs.Scope as Def
-use Rattle.conversion.specs.Expressions.{Callee, CallFunction, CallCast, TypedArg, return-type, valueType, get-argument-types, resolve-call, common-type}
+use Rattle.conversion.specs.Expressions.{Callee, CallFunction, CallCast, TypedArg, return-type, valueType, get-argument-types, resolve-call, common-type, find-exact-function, find-functions-by-literals}
 use Rattle.conversion.specs.Functions.{get-all-functions}
 use Rattle.ir.specs.declared.words.Found.{Found}
 use Rattle.ir.specs.declared.words.Found.the-variants as Found
@@ -97,6 +97,11 @@ pub data IsCommon (tree : List ℕ) : Common → Type 0 where
   neither : IsCommon tree Common.Neither
   no : {e : ConvertError} → IsCommon tree (Common.Refused e)
 
+-- a function that there may be, as a list
+unfoldable pub oneOrNone : Option Function → List Function
+oneOrNone (some f) = f ∷ []
+oneOrNone none = []
+
 module _ (tree text : List ℕ) where
   unfoldable pub functionFound : Found → Option Function
   unfolding functionOf
@@ -124,6 +129,12 @@ module _ (tree text : List ℕ) where
   AreAll Candidates.Several [] = ⊥
   AreAll Candidates.Several (f ∷ []) = ⊥
   AreAll Candidates.Several (f ∷ g ∷ l) = Unit {0}
+
+  -- the functions that fit a call: the exact one if there is one, or all that literals fit
+  unfoldable pub fitting : Bool → Text → List TypedArg → List Function
+  unfolding oneOrNone find-exact-function find-functions-by-literals program allKeys
+  fitting true verb l = oneOrNone (find-exact-function (program tree text) (allKeys tree text) verb l)
+  fitting false verb l = find-functions-by-literals (program tree text) (allKeys tree text) verb l
 
 -- a function that was found is one
 pub data FunctionFound (tree : List ℕ) : Found → Type 0 where

@@ -40,7 +40,7 @@ pub enum Cast {
     Refused(ConvertError),
 }
 
-// The functions that literals fit.
+// The functions that fit a call.
 pub enum Candidates {
     Nobody,
     One(usize),

@@ -14,7 +14,7 @@ ghost use Rattle.expressions.specs.Places.{FunctionAt, IsKind, functionO
 ghost use Rattle.expressions.specs.Keys.{allKeys, Keyed};
 ghost use Rattle.expressions.specs.Slots.{Typed};
 ghost use Rattle.expressions.specs.Calls.{typedAt, verbOf, Called};
-ghost use Rattle.expressions.specs.Answers.{AreAll, OneFunction, castOf, IsCast, calleeOf, IsCallee};
+ghost use Rattle.expressions.specs.Answers.{AreAll, fitting, OneFunction, castOf, IsCast, calleeOf, IsCallee};
 use crate::answers::Candidates;
 use crate::answers::Cast;
 use crate::answers::Resolved;
@@ -109,6 +109,29 @@ fn refuse(kind: ConvertErrorKind, place: u32) -> Resolved
     Resolved::Refused(ConvertError { kind, place })
 }
 
+// The functions that fit the call: the exact one, or all that literals fit.
+// Which of them is a bool, so that the order in which they are tried is a value that the proof reads.
+fn find_functions(
+    tree: &[u8],
+    text: &[u8],
+    scratch: &[u8],
+    functions: usize,
+    call: Call,
+    exactly: bool,
+) -> Candidates
+    requires { ⌜ Keyed (now tree) (now text) (now scratch) functions ⌝ }
+    requires { ⌜ Called (now tree) (now text) (now scratch) call ⌝ }
+    ensures { λ r. ⌜ AreAll (now (tree .entry)) (now (text .entry)) r (fitting (now (tree .entry)) (now (text .entry)) exactly (verbOf (now (tree .entry)) (now (text .entry)) (now (scratch .entry)) call) (typedAt (now (tree .entry)) (now (text .entry)) (now (scratch .entry)) (call .first))) × OneFunction (now (tree .entry)) r ⌝ }
+{
+    if exactly {
+        return match find_exact_function(tree, text, scratch, functions, call) {
+            Found::At(f) => Candidates::One(f),
+            Found::Nothing => Candidates::Nobody,
+        };
+    }
+    find_functions_by_literals(tree, text, scratch, functions, call)
+}
+
 // Where the call is no cast.
 fn resolve_function(
     tree: &[u8],
@@ -122,10 +145,10 @@ fn resolve_function(
     requires { ⌜ Called (now tree) (now text) (now scratch) call ⌝ }
     ensures { λ a. ⌜ (resolveFunction (program (now (tree .entry)) (now (text .entry))) (allKeys (now (tree .entry)) (now (text .entry))) (verbOf (now (tree .entry)) (now (text .entry)) (now (scratch .entry)) call) (typedAt (now (tree .entry)) (now (text .entry)) (now (scratch .entry)) (call .first)) r none ≡ calleeOf (now (tree .entry)) (now (text .entry)) a) × IsCallee (now (tree .entry)) a ⌝ }
 {
-    if let Found::At(f) = find_exact_function(tree, text, scratch, functions, call) {
+    if let Candidates::One(f) = find_functions(tree, text, scratch, functions, call, true) {
         return Resolved::Function(f);
     }
-    match find_functions_by_literals(tree, text, scratch, functions, call) {
+    match find_functions(tree, text, scratch, functions, call, false) {
         Candidates::One(f) => Resolved::Function(f),
         Candidates::Nobody => refuse(ConvertErrorKind::UnknownFunction, r),
         Candidates::Several => refuse(ConvertErrorKind::AmbiguousCall, r),

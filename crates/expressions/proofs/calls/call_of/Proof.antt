@@ -10,19 +10,19 @@ use Rattle.expressions.proofs.arguments.count_arguments.Reads as count-
 use Rattle.expressions.proofs.parts.text_part.Reads as text-part-reads
 use Rattle.types.proofs.form.reference.Reads as reference-reads
 
--- src/calls.rt:141:9
+-- src/calls.rt:164:9
 text-part-requires : tie.Need-text-part-requires
 text-part-requires c κs = search needs
 
--- src/calls.rt:142:9
+-- src/calls.rt:165:9
 reference-requires : tie.Need-reference-requires
 reference-requires c κs = search needs
 
--- src/calls.rt:143:9
+-- src/calls.rt:166:9
 count-arguments-requires : tie.Need-count-arguments-requires
 count-arguments-requires c κs = (c .before .before .before .before .pre .0, arguments-at _ _ (c .before .before .before .before .pre .0) _ (c .before .before .before .before .pre .1) _ (c .reference .ensures))
 
--- src/calls.rt:136:1
+-- src/calls.rt:159:1
 returns : tie.Need-returns
 returns c = (c .before .before .text-part .ensures .0, c .before .before .text-part .ensures .1, c .before .reference .ensures, λ s. counted-at _ _ s _ _ _ (c .before .reference .ensures) (c .count-arguments .ensures s))
 
