@@ -36,10 +36,10 @@ use Rattle.expressions.specs.Places.{IsKind, TypeAt, FunctionAt, ArgsAt,
 use Rattle.expressions.specs.Keys.{functionRecords, functionsOf, allKeys, Keyed}
 use Rattle.expressions.specs.Slots.{Typed}
 use Rattle.expressions.specs.Calls.{typedAt, verbOf, Called}
-use Rattle.expressions.specs.Answers.{refusal, castOf, numberOf, calleeOf, functionFound, TypeFound, a-type, no-type, FunctionFound, a-function, no-function, IsCast, IsCallee, AreAll, oneOrNone, fitting, OneFunction, nobody, one, several}
+use Rattle.expressions.specs.Answers.{refusal, castOf, numberOf, calleeOf, functionFound, TypeFound, a-type, no-type, FunctionFound, IsCast, IsCallee, AreAll, oneOrNone, fitting, OneFunction, nobody, one, several}
 use Rattle.expressions.proofs.answers.Candidates.{the-type}
-use Rattle.expressions.proofs.FunctionLaws.{all-functions}
-use Rattle.expressions.proofs.TakeLaws.{not-true, not-false}
+use Rattle.expressions.proofs.FunctionLaws.{found-function, all-functions}
+use borrow.Author.Tests.{not-true, not-false}
 
 -- ---- three tests, one after the other
 
@@ -182,10 +182,6 @@ module _ (tree text : List ℕ) (verb : Text) (l : List TypedArg) (r : ℕ) (b :
         cast-wrong w = cast-checked ∙ rw (p, sym hc, w)
 
 -- ---- which function
-
-pub found-function : (tree : List ℕ) (t : Found) (f : ℕ) → FunctionFound tree t → t ≡ Found.At f → FunctionAt tree f
-found-function tree t f (a-function {f = v} at) e = let z : f ≡ v = cc in rw z at
-found-function tree t f no-function e = absurd (let z : _≡_ {A = ℕ} 0 1 = cc in omega arith)
 
 pub one-function : (tree : List ℕ) (c : Candidates) (f : ℕ) → OneFunction tree c → c ≡ Candidates.One f → FunctionAt tree f
 one-function tree c f nobody e = absurd (let z : _≡_ {A = ℕ} 0 1 = cc in omega arith)

@@ -26,15 +26,11 @@ use Rattle.expressions.specs.Places.{FunctionAt, PartIs, functionOf}
 use Rattle.expressions.specs.Keys.{keyOf, keyed, functionRecords, functionsOf, keysBelow, allKeys, Keyed}
 use Rattle.expressions.specs.Calls.{typedAt, suffixesAt, verbOf, nameOf, bytesIn, Called, PrefixIs, VariadicKey, so-many, no-number}
 use Rattle.expressions.specs.Answers.{functionFound, FunctionFound, a-function, no-function}
-use Rattle.expressions.proofs.FunctionLaws.{function-name, function-mangled}
+use Rattle.expressions.proofs.FunctionLaws.{found-function, function-name, function-mangled}
 use Rattle.expressions.proofs.KeyLaws.{find-hit, find-miss, recordAt, from, from-start, from-one, from-end, keys-all, distinct-finds}
 use Rattle.expressions.proofs.NameLaws.{same-is, is-same, same-turned, part-length, part-split, cut-same, name-length, name-pieces, all-taken, number-inside, inside-number, number-least, name-number, key-number}
 
 -- ---- an answer, and what it stands for
-
-pub found-function : (tree : List ℕ) (r : Found) (f : ℕ) → FunctionFound tree r → r ≡ Found.At f → FunctionAt tree f
-found-function tree r f (a-function {f = g} a) e = let z : f ≡ g = cc in rw z a
-found-function tree r f no-function e = absurd (let z : _≡_ {A = ℕ} 0 1 = cc in omega arith)
 
 module _ (tree text : List ℕ) where
   -- found and kept, found and left, and not found

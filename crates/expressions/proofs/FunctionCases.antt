@@ -1,11 +1,11 @@
 -- The functions by key and `main`, case by case as the code meets them: what a turn, a search and a check answer, and what the definitions say there.
 -- Each is the definition, its tests replaced by what the callees ensure. Assumes nothing.
-use mathlib.Core.Path.{_≡_, refl, sym, ap, _∙_, subst}
+use mathlib.Core.Path.{_≡_, sym, ap, _∙_}
 use mathlib.Core.Logic.{_⊎_, inl, inr}
 use mathlib.Core.Bool.{Bool, true, false}
 use mathlib.Core.List.{List, [], _∷_, _++_}
 use mathlib.Core.Option.{Option, none as nothing, some}
-use Prim.Native.Nat.{ℕ, zero, suc, _+_, _*_, _%_, _≤_, _<_}
+use Prim.Native.Nat.{ℕ, _+_, _*_, _%_, _≤_, _<_}
 use native.Mathlib.Omega.{arith}
 use lib.Dec.{eqb}
 use lib.ListN.{length, getD}
@@ -13,13 +13,12 @@ use borrow.Author.Tests.{eq-eqb, ne-eqb}
 use Rattle.laws.specs.Fix.{pick}
 use Rattle.records.specs.declared.convert_error.ConvertError.{ConvertError}
 use Rattle.records.specs.declared.convert_error.ConvertErrorKind.{ConvertErrorKind}
-use Rattle.records.specs.Words.{wordAt, wordOf, textAt, detailOf, records, none, A, B, D}
+use Rattle.records.specs.Words.{wordAt, wordOf, textAt, detailOf, records, none, D}
 use Rattle.records.specs.Good.{Good}
 use Rattle.records.proofs.GoodLaws.{inside}
-use Rattle.syntax.specs.Syntax.{Text, TInt, TFloat, TBool, TChar, TByte, TAddress, TArray, TCustom, TNull, Function}
-use Rattle.syntax.specs.Decode.{program, typeAt, reference, bit, wideOf, textOf}
+use Rattle.syntax.specs.Syntax.{Text, Function}
+use Rattle.syntax.specs.Decode.{program, typeAt, reference}
 use Rattle.conversion.specs.ConvertError.{ok, err, SameSignature, SameSymbol, LatinCharInNonLibCFunction, ExternNotLatin, NoMain, MainNotInteger}
-use Rattle.conversion.specs.Types.{onInt, isInt}
 use Rattle.conversion.specs.Ir.{sameText}
 use Rattle.conversion.specs.Expressions.{is-mangled, getFunction, mainName}
 use Rattle.conversion.specs.Functions.{is-ascii, addFunction, findMain, returnsInt, checkMain, check-main}
@@ -31,9 +30,10 @@ use Rattle.expressions.specs.declared.answers.Outcome.the-variants as Ou
 use Rattle.expressions.specs.declared.answers.AllFunctions.the-variants as AllFunctions
 use Rattle.expressions.specs.Places.{TypeAt, FunctionAt, PartIs, functionOf}
 use Rattle.expressions.specs.Keys.{keyOf, keysBelow, functionRecords, listedIn, Listed}
-use Rattle.expressions.specs.Answers.{refusal, outcomeOf, doneWith, functionFound, FunctionFound, a-function, no-function, AllMeet, done, refused}
+use Rattle.expressions.specs.Answers.{refusal, outcomeOf, doneWith, functionFound, AllMeet, done, refused}
 use Rattle.expressions.proofs.FunctionLaws.{function-rec, function-return, return-is}
 use Rattle.expressions.proofs.Listing.{are-listed}
+use Rattle.expressions.proofs.OperandLaws.{int-form}
 use Rattle.expressions.proofs.KeyLaws.{Left, left-more, left-stop, left-end, MainLeft, main-more, main-hit, main-end, keys-more, turn-latin, turn-signature, turn-mangled, turn-foreign, turn-symbol, turn-plain}
 
 -- ---- what a search answered
@@ -46,10 +46,6 @@ module _ (tree text : List ℕ) (o : Found) (m : Option Function) (e : functionF
   pub found-nothing : o ≡ Found.Nothing → m ≡ nothing
   unfolding functionFound
   found-nothing q = sym e ∙ ap (functionFound tree text) q
-
-pub found-function : (tree : List ℕ) {o : Found} (g : ℕ) → FunctionFound tree o → o ≡ Found.At g → FunctionAt tree g
-found-function tree g (a-function {f} h) q = let e : f ≡ g = cc in subst (λ (x : ℕ). FunctionAt tree x) e h
-found-function tree g no-function q = absurd (let z : _≡_ {A = ℕ} 0 1 = cc in omega arith)
 
 -- ---- a turn of `get_all_functions`
 
@@ -127,28 +123,6 @@ module _ (tree text s : List ℕ) (count j f : ℕ) (good : Good tree text) (l :
 
 -- ---- `main`
 
--- of the types by form the second alone is an Int
-int-form : (a b c : Bool) (d e m : ℕ) (t : Text) (k : ℕ)
-    → eqb k 1 ≡ isInt (getD (TNull ∷ TInt a b ∷ TFloat c ∷ TBool ∷ TChar ∷ TByte ∷ TAddress d ∷ TArray e m ∷ TCustom t ∷ TNull ∷ []) k TNull)
-unfolding isInt onInt
-int-form a b c d e m t zero = refl
-int-form a b c d e m t (suc zero) = refl
-int-form a b c d e m t (suc (suc zero)) = refl
-int-form a b c d e m t (suc (suc (suc zero))) = refl
-int-form a b c d e m t (suc (suc (suc (suc zero)))) = refl
-int-form a b c d e m t (suc (suc (suc (suc (suc zero))))) = refl
-int-form a b c d e m t (suc (suc (suc (suc (suc (suc zero)))))) = refl
-int-form a b c d e m t (suc (suc (suc (suc (suc (suc (suc zero))))))) = refl
-int-form a b c d e m t (suc (suc (suc (suc (suc (suc (suc (suc zero)))))))) = refl
-int-form a b c d e m t (suc (suc (suc (suc (suc (suc (suc (suc (suc zero))))))))) = refl
-int-form a b c d e m t (suc (suc (suc (suc (suc (suc (suc (suc (suc (suc k)))))))))) = ne-eqb (suc (suc (suc (suc (suc (suc (suc (suc (suc (suc k)))))))))) 1 (λ q. omega arith)
-
-pub type-int : (tree text : List ℕ) (y k : ℕ) → k ≡ detailOf tree y % 16 → eqb k 1 ≡ isInt (typeAt tree text y)
-unfolding typeAt
-type-int tree text y k e =
-    let d = detailOf tree y in
-    rw (← e) (int-form (bit 16 d) (bit 32 d) (bit 16 d) (wordOf tree y A) (wordOf tree y A) (wideOf tree text y B) (textOf tree text y A) k)
-
 module _ (tree text : List ℕ) (good : Good tree text) (f : ℕ) (at : FunctionAt tree f) (y : ℕ) (ey : y ≡ wordOf tree f D) where
   pub returns-none : y ≡ none → false ≡ returnsInt (typeAt tree text) (functionOf tree text f .returnType)
   unfolding returnsInt reference pick
@@ -164,7 +138,7 @@ module _ (tree text : List ℕ) (good : Good tree text) (f : ℕ) (at : Function
   pub returns-type : (y ≡ none → ⊥) → (k : ℕ) → k ≡ detailOf tree y % 16 → eqb k 1 ≡ returnsInt (typeAt tree text) (functionOf tree text f .returnType)
   unfolding returnsInt reference pick
   returns-type n k e =
-      rw (function-return tree text good f at, ne-eqb (wordOf tree f D) none (λ q. n (ey ∙ q)), ← ey) (type-int tree text y k e)
+      rw (function-return tree text good f at, ne-eqb (wordOf tree f D) none (λ q. n (ey ∙ q)), ← ey) (int-form tree text y k e)
 
 module _ (tree text : List ℕ) (o : Found) (needs : Bool) (e : functionFound tree text o ≡ findMain (program tree text .functions)) where
   found : (m : Option Function) → findMain (program tree text .functions) ≡ m → check-main (program tree text) needs ≡ checkMain (typeAt tree text) needs m

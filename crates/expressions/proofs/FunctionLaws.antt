@@ -20,9 +20,12 @@ use Rattle.syntax.specs.Syntax.{Text, Function}
 use Rattle.syntax.specs.Decode.{func, child, node, kinds, functionAt, functionsIn, functionsBelow, program, nameIn, exprIn, exprOf, paramsOf, textOf, reference, bit}
 use Rattle.syntax.proofs.Unfold.{node-is}
 use Rattle.syntax.proofs.Cases.{child-in, child-out, name-case}
+use Rattle.ir.specs.declared.words.Found.{Found}
+use Rattle.ir.specs.declared.words.Found.the-variants as Found
 use Rattle.expressions.specs.declared.parts.Part.{Part}
 use Rattle.expressions.specs.Places.{TypeAt, FunctionAt, ParamsAt, PartIs, funcOf, functionOf, paramsAt}
 use Rattle.expressions.specs.Keys.{recordsBelow, functionRecords, functionsOf}
+use Rattle.expressions.specs.Answers.{FunctionFound, a-function, no-function}
 use Rattle.expressions.proofs.Lists.{params-end}
 
 module _ (tree text : List ℕ) where
@@ -39,7 +42,7 @@ module _ (tree text : List ℕ) where
   function-is f e = rw (node-function f e)
 
   -- the functions of the first n records
-  functions-append : (l k : List ℕ) → functionsOf tree text (l ++ k) ≡ functionsOf tree text l ++ functionsOf tree text k
+  pub functions-append : (l k : List ℕ) → functionsOf tree text (l ++ k) ≡ functionsOf tree text l ++ functionsOf tree text k
   unfolding functionsOf
   functions-append [] k = refl
   functions-append (r ∷ l) k = rw (functions-append l k)
@@ -182,3 +185,8 @@ module _ (tree text : List ℕ) (good : Good tree text) (f : ℕ) (at : Function
   pub function-params : functionOf tree text f .params ≡ paramsAt tree text (wordOf tree f C)
   unfolding functionAt funcOf
   function-params = ap (λ (x : Function). x .params) whole ∙ params-child (function-c tree text good f (at .below) (at .kind))
+
+-- what was found is a function's record
+pub found-function : (tree : List ℕ) (r : Found) (f : ℕ) → FunctionFound tree r → r ≡ Found.At f → FunctionAt tree f
+found-function tree r f (a-function {f = g} a) e = let z : f ≡ g = cc in rw z a
+found-function tree r f no-function e = absurd (let z : _≡_ {A = ℕ} 0 1 = cc in omega arith)

@@ -21,7 +21,7 @@ use Rattle.conversion.specs.Expressions.{Functions, is-mangled, getFunction, ma
 use Rattle.conversion.specs.Functions.{is-ascii, contains-key, addFunction, get-all-functions, findMain}
 use Rattle.expressions.specs.Places.{functionOf}
 use Rattle.expressions.specs.Keys.{keyOf, keyed, functionRecords, functionsOf, keysBelow, allKeys, Keyed}
-use Rattle.expressions.proofs.FunctionLaws.{all-functions}
+use Rattle.expressions.proofs.FunctionLaws.{all-functions, functions-append}
 
 -- ---- a key looked for
 
@@ -199,11 +199,6 @@ key-finds l f r G e =
 -- ---- the functions of a tree
 
 module _ (tree text : List ℕ) where
-  of-append : (l k : List ℕ) → functionsOf tree text (l ++ k) ≡ functionsOf tree text l ++ functionsOf tree text k
-  unfolding functionsOf
-  of-append [] k = refl
-  of-append (r ∷ l) k = rw (of-append l k)
-
   -- the record and the function at place j
   abbrev pub recordAt : ℕ → ℕ
   recordAt j = getD (functionRecords tree) j 0
@@ -235,7 +230,7 @@ module _ (tree text : List ℕ) where
   keys-more j h =
       let t : take (j + 1) (functionRecords tree) ≡ take j (functionRecords tree) ++ (recordAt j ∷ []) = rw (add-one j) (take-suc (functionRecords tree) j 0 h) in
       ap (λ (l : List ℕ). keyed (functionsOf tree text l)) t
-      ∙ ap keyed (of-append (take j (functionRecords tree)) (recordAt j ∷ []))
+      ∙ ap keyed (functions-append tree text (take j (functionRecords tree)) (recordAt j ∷ []))
       ∙ keyed-append (functionsOf tree text (take j (functionRecords tree))) (at j ∷ [])
 
   pub keys-all : (n : ℕ) → length (functionRecords tree) ≤ n → keysBelow tree text n ≡ allKeys tree text
@@ -294,7 +289,7 @@ module _ (tree text : List ℕ) where
       let split : functionsOf tree text (functionRecords tree)
       ≡ functionsOf tree text (take j (functionRecords tree)) ++ at j ∷ functionsOf tree text (drop (suc j) (functionRecords tree)) =
       ap (functionsOf tree text) (split-at (functionRecords tree) j 0 h)
-      ∙ of-append (take j (functionRecords tree)) (recordAt j ∷ drop (suc j) (functionRecords tree)) in
+      ∙ functions-append tree text (take j (functionRecords tree)) (recordAt j ∷ drop (suc j) (functionRecords tree)) in
       let all = all-functions tree text ∙ split in
       ap (λ (l : List Function). getFunction (keyOf (at j)) (keyed l)) all
       ∙ key-finds (functionsOf tree text (take j (functionRecords tree))) (at j) (functionsOf tree text (drop (suc j) (functionRecords tree))) G

@@ -1,12 +1,10 @@
 -- The functions' records listed in scratch, as `list_functions` makes the list; and that each then stands at its place.
 -- By the laws of `splice`, one record at a time, and by the four bytes of a word. Assumes nothing.
 use mathlib.Core.Path.{_≡_, refl, sym, ap, _∙_}
-use mathlib.Core.Bool.{Bool, true, false}
 use mathlib.Core.List.{List, [], _∷_, _++_, append-assoc, append-nil}
 use Prim.Native.Nat.{ℕ, zero, suc, _+_, _*_, _^_, _≤_, _<_}
 use native.Mathlib.Numerals.{add-one}
 use native.Mathlib.Omega.{arith}
-use lib.Dec.{eqb}
 use lib.ListN.{length, drop, getD, length-append, List·getD-append}
 use lib.Seq.{getD-append-add}
 use borrow.Author.Tests.{eq-eqb, ne-eqb}
@@ -20,6 +18,7 @@ use Rattle.ir.proofs.Entries.{word-same}
 use Rattle.ir.proofs.ReadBack.{word-back}
 use Rattle.expressions.specs.Keys.{recordsBelow, functionRecords, words, listedIn, Listed}
 use Rattle.expressions.proofs.FunctionLaws.{listed-kind}
+use Rattle.expressions.proofs.KeySearch.{records-most}
 
 -- ---- the records of the first n, one more at a time
 
@@ -132,20 +131,9 @@ module _ (tree s₀ : List ℕ) where
 
 -- ---- what stands in scratch afterwards
 
-at-most-one : (r : ℕ) (b : Bool) → length (pick b (r ∷ []) []) ≤ 1
-unfolding pick
-at-most-one r true = omega arith
-at-most-one r false = omega arith
-
-below-most : (tree : List ℕ) (n : ℕ) → length (recordsBelow tree n) ≤ n
-unfolding recordsBelow
-below-most tree zero = omega arith
-below-most tree (suc r) =
-    omega (arith, length-append (recordsBelow tree r) (pick (eqb (kindOf tree r) 25) (r ∷ []) []), at-most-one r (eqb (kindOf tree r) 25), below-most tree r)
-
 module _ (tree text s : List ℕ) (good : Good tree text) (room : 64 * records tree ≤ length s) where
   inside-scratch : 0 + length (words (functionRecords tree)) ≤ length s
-  inside-scratch = omega (arith, words-length (functionRecords tree), below-most tree (records tree))
+  inside-scratch = omega (arith, words-length (functionRecords tree), records-most tree (records tree))
 
   pub listed-length : length (listedIn tree s) ≡ length s
   unfolding listedIn

@@ -8,7 +8,7 @@ use Prim.Native.Nat.{ℕ, zero, suc, _*_, _<_, _≤_}
 use native.Mathlib.Omega.{arith}
 use lib.Dec.{eqb, ltb}
 use lib.ListN.{length, getD}
-use borrow.Author.Tests.{ltb-true, ltb-false, eqb-true, ne-eqb, eq-eqb}
+use borrow.Author.Tests.{not-true, ltb-true, ltb-false, eqb-true, ne-eqb, eq-eqb}
 use Rattle.laws.specs.Fix.{pick, below}
 use Rattle.laws.proofs.Tests.{and-left, and-right}
 use Rattle.records.specs.declared.shape.Role.{Role}
@@ -201,10 +201,6 @@ module _ (tree text : List ℕ) (good : Good tree text) where
 
       pub type-is : TypeAt tree (wordOf tree (wordOf tree w A) A)
       type-is = record { below = omega (arith, named .0, item-inside Arguments w c); kind = named .1 }
-
-  not-true : (b : Bool) → not b ≡ true → b ≡ false
-  not-true true e = absurd (false≢true e)
-  not-true false e = refl
 
   module _ (w : ℕ) (c : Cell Parameters w) where
     item-kind : kindOf tree (wordOf tree w A) ≡ 24

@@ -2,19 +2,18 @@
 -- By the bytes of a splice, and slot by slot. Assumes nothing.
 use mathlib.Core.Path.{_≡_, refl, sym, ap, ap₂, _∙_, subst}
 use mathlib.Core.Logic.{_⊎_, inl, inr}
-use mathlib.Core.Bool.{Bool, true, false}
+use mathlib.Core.Bool.{false}
 use mathlib.Core.List.{List, [], _∷_}
-use Prim.Native.Nat.{ℕ, zero, suc, _+_, _*_, _/_, _%_, _^_, _≤_, _<_}
+use Prim.Native.Nat.{ℕ, _+_, _*_, _/_, _%_, _^_, _≤_, _<_}
 use native.Mathlib.Omega.{arith}
 use lib.Dec.{eqb, ltb}
-use lib.ListN.{length, take, drop, getD, length-append}
+use lib.ListN.{length, take, drop, getD}
 use lib.Seq.{getD-take, getD-drop}
 use borrow.Author.Tests.{ltb-true, ltb-false}
-use Rattle.laws.specs.Fix.{pick}
 use Rattle.laws.specs.Splice.{splice}
 use Rattle.laws.proofs.Splices.{length-splice, part-before, part-behind, part-grown, part-element}
 use Rattle.laws.proofs.Tests.{tested}
-use Rattle.records.specs.Words.{byteAt, kindOf, wordAt, textAt, records}
+use Rattle.records.specs.Words.{byteAt, wordAt, textAt, records}
 use Rattle.conversion.specs.ConvertError.{ok}
 use Rattle.conversion.specs.Scope as Def
 use Rattle.conversion.specs.Scope.{Variable}
@@ -24,8 +23,9 @@ use Rattle.ir.proofs.ReadBack.{word-back}
 use Rattle.scope.specs.declared.Scope.{Scope}
 use Rattle.scope.specs.Open.{Open, Stands}
 use Rattle.expressions.specs.Places.{TypeAt}
-use Rattle.expressions.specs.Keys.{recordsBelow, Listed, Keyed}
+use Rattle.expressions.specs.Keys.{Listed, Keyed}
 use Rattle.expressions.specs.Slots.{slotAt, Scoped, Frame, typeIn, Slots, Ready}
+use Rattle.expressions.proofs.KeySearch.{records-most}
 
 -- ---- bytes and words of a splice
 
@@ -78,17 +78,6 @@ module _ (l : List ℕ) (i y : ℕ) (fit : i + 4 ≤ length l) where
           (there 3 (i + 3) refl (omega arith))
 
 -- ---- the frame
-
-few-listed : (b : Bool) (r : ℕ) → length (pick b (r ∷ []) []) ≤ 1
-unfolding pick
-few-listed true r = omega arith
-few-listed false r = omega arith
-
-listed-most : (tree : List ℕ) (n : ℕ) → length (recordsBelow tree n) ≤ n
-unfolding recordsBelow
-listed-most tree zero = omega arith
-listed-most tree (suc r) =
-    omega (arith, length-append (recordsBelow tree r) (pick (eqb (kindOf tree r) 25) (r ∷ []) []), listed-most tree r, few-listed (eqb (kindOf tree r) 25) r)
 
 pub frame-refl : (tree s : List ℕ) → Frame tree s s
 frame-refl tree s = record { same-length = refl; outside = λ i h. refl }
@@ -145,7 +134,7 @@ module _ (tree s s′ : List ℕ) (f : Frame tree s s′) where
   listed-frame count k = record {
     room = omega (arith, k .room, f .same-length);
     counted = k .counted;
-    listed = λ j h. frame-word (4 * j) (inl (omega (arith, k .counted, listed-most tree (records tree)))) ∙ k .listed j h;
+    listed = λ j h. frame-word (4 * j) (inl (omega (arith, k .counted, records-most tree (records tree)))) ∙ k .listed j h;
   }
 
   pub keyed-frame : (text : List ℕ) (count : ℕ) → Keyed tree text s count → Keyed tree text s′ count

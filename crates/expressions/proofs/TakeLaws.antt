@@ -1,13 +1,13 @@
 -- Whether a function takes the arguments of a call, as the code meets it: how many they are, the first of them, the rest.
 -- By the cases of the tests, and by the cells of the parameters and of the arguments. Assumes nothing.
 use mathlib.Core.Path.{_≡_, refl, sym, _∙_}
-use mathlib.Core.Bool.{Bool, true, false, not, false≢true}
+use mathlib.Core.Bool.{Bool, true, false, not}
 use mathlib.Core.List.{List, [], _∷_}
 use Prim.Native.Nat.{ℕ, _+_, _*_, _≤_}
 use native.Mathlib.Omega.{arith}
 use lib.Dec.{eqb, ltb}
 use lib.ListN.{length}
-use borrow.Author.Tests.{eq-eqb, ne-eqb}
+use borrow.Author.Tests.{eq-eqb, ne-eqb, not-true, not-false}
 use Rattle.records.specs.declared.shape.Role.the-variants.{Parameters}
 use Rattle.records.specs.Words.{wordOf, none, A, B, C}
 use Rattle.records.specs.Good.{Good}
@@ -26,14 +26,6 @@ use Rattle.expressions.specs.Calls.{typedAt, TakesFirst}
 use Rattle.expressions.specs.Answers.{ArgumentIs}
 use Rattle.expressions.proofs.Lists.{cell-is, parameter-item, parameter-type}
 use Rattle.expressions.proofs.ArgumentLaws.{typedArg, head-is, next-typed, some-argument, typed-end, parameters-end}
-
-pub not-true : (b : Bool) → not b ≡ true → b ≡ false
-not-true true e = absurd (false≢true e)
-not-true false e = refl
-
-pub not-false : (b : Bool) → not b ≡ false → b ≡ true
-not-false true e = refl
-not-false false e = absurd (false≢true (sym e))
 
 -- ---- how many they are
 

@@ -1,14 +1,12 @@
 -- What each answer says, as the definitions say it: a result, or a refusal's kind and place. Assumes nothing: these are definitions.
 use mathlib.Core.Path.{_≡_}
-use Prim.Native.Nat.{ℕ, _+_, _*_, _≤_, _<_}
+use Prim.Native.Nat.{ℕ, _<_}
 use mathlib.Core.Bool.{Bool, true, false}
 use mathlib.Core.List.{List, [], _∷_}
 use mathlib.Core.Option.{Option, none, some}
-use lib.ListN.{length}
 use Rattle.records.specs.Words.{wordOf, A, B, C}
-use Rattle.records.specs.Good.{Good}
 use Rattle.records.specs.declared.convert_error.ConvertError.{ConvertError}
-use Rattle.syntax.specs.Syntax.{Text, Expr, Args, Value, ToType, Function, Program}
+use Rattle.syntax.specs.Syntax.{Text, Expr, Value, ToType, Function}
 use Rattle.syntax.specs.Decode.{program, textOf}
 use Rattle.conversion.specs.ConvertError.{Result, ok, err, _>>=_}
 use Rattle.conversion.specs.Scope as Def
@@ -36,7 +34,7 @@ use Rattle.expressions.specs.declared.answers.Candidates.the-variants as
 use Rattle.expressions.specs.declared.operands.Sides.{Sides}
 use Rattle.expressions.specs.declared.arguments.Argument.{Argument}
 use Rattle.expressions.specs.declared.arguments.Argument.the-variants as Argument
-use Rattle.expressions.specs.Places.{TypeAt, FunctionAt, ArgsAt, functionOf, exprAt, argsAt}
+use Rattle.expressions.specs.Places.{TypeAt, FunctionAt, functionOf, exprAt, argsAt}
 use Rattle.expressions.specs.Keys.{allKeys, listedIn, Keyed}
 use Rattle.expressions.specs.Slots.{slotted, Typed, Frame, Slots, typeIn}
 

@@ -6,7 +6,7 @@ use mathlib.Core.List.{List, [], _∷_, _++_}
 use lib.ListN.{length, take}
 use Rattle.records.specs.Words.{textAt, records}
 use Rattle.records.specs.Good.{Good}
-use Rattle.syntax.specs.Syntax.{Text, Param, Function, Program}
+use Rattle.syntax.specs.Syntax.{Text, Param}
 use Rattle.syntax.specs.Decode.{program}
 use Rattle.conversion.specs.Expressions.{TypedArg, suffixes, joined, takesArg, variadicMark}
 use Rattle.ir.specs.declared.words.Found.{Found}

@@ -2,7 +2,6 @@
 -- among them. Assumes nothing: these are definitions.
 use mathlib.Core.Path.{_≡_}
 use Prim.Native.Nat.{ℕ, zero, suc, _+_, _*_, _≤_, _<_}
-use mathlib.Core.Bool.{Bool, true, false}
 use mathlib.Core.List.{List, [], _∷_, _++_}
 use lib.Dec.{eqb}
 use lib.ListN.{length, take, getD}
@@ -10,7 +9,7 @@ use Rattle.laws.specs.Fix.{pick}
 use Rattle.laws.specs.Splice.{splice}
 use Rattle.records.specs.Words.{kindOf, wordAt, records}
 use Rattle.records.specs.Good.{Good}
-use Rattle.syntax.specs.Syntax.{Text, Function, Program}
+use Rattle.syntax.specs.Syntax.{Text, Function}
 use Rattle.syntax.specs.Decode.{program}
 use Rattle.conversion.specs.ConvertError.{ok}
 use Rattle.conversion.specs.Expressions.{Functions, is-mangled}

@@ -2,15 +2,14 @@
 use mathlib.Core.Path.{_≡_}
 use mathlib.Core.Logic.{_⊎_}
 use Prim.Native.Nat.{ℕ, _+_, _≤_, _<_}
-use mathlib.Core.Bool.{Bool, true, false}
+use mathlib.Core.Bool.{true, false}
 use mathlib.Core.List.{List, []}
-use mathlib.Core.Option.{Option, none as nothing}
+use mathlib.Core.Option.{none as nothing}
 use lib.ListN.{length}
 use Rattle.records.specs.declared.shape.Role.{Role}
 use Rattle.records.specs.declared.shape.Role.the-variants.{Arguments, Parameters}
 use Rattle.records.specs.Words.{kindOf, textAt, records, none}
 use Rattle.records.specs.Rules.{listOk}
-use Rattle.records.specs.Good.{Good}
 use Rattle.syntax.specs.Syntax.{Text, Expr, Args, Param, Function}
 use Rattle.syntax.specs.Decode.{Node, absent, expr, value, toType, stmt, variable, func, cell, exprOf, argsOf, paramsOf, node}
 use Rattle.expressions.specs.declared.parts.Part.{Part}

@@ -7,7 +7,7 @@ use mathlib.Core.List.{List, [], _∷_}
 use mathlib.Core.Option.{none, some}
 use lib.ListN.{length}
 use Rattle.records.specs.Words.{byteAt, wordAt, records}
-use Rattle.syntax.specs.Syntax.{Expr, Args, noArgs, Value, ToType, place}
+use Rattle.syntax.specs.Syntax.{Args, noArgs, Value, ToType, place}
 use Rattle.syntax.specs.Decode.{program}
 use Rattle.conversion.specs.ConvertError.{Result, ok}
 use Rattle.conversion.specs.Scope as Def

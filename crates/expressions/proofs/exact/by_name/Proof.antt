@@ -4,7 +4,8 @@ use mathlib.Core.Path.{ap, _∙_}
 use native.Mathlib.Omega.{arith}
 use borrow.Author.Needs.{needs}
 use Rattle.conversion.specs.Expressions.{getFunction}
-use Rattle.expressions.proofs.ExactLaws.{found-function, filter-hit, filter-left, filter-none, all-below}
+use Rattle.expressions.proofs.FunctionLaws.{found-function}
+use Rattle.expressions.proofs.ExactLaws.{filter-hit, filter-left, filter-none, all-below}
 use Rattle.expressions.proofs.exact.by_name.Statement.{statement}
 use Rattle.expressions.proofs.exact.by_name.Tie as tie
 use Rattle.expressions.proofs.exact.by_name.Reads as reads

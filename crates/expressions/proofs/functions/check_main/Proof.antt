@@ -1,7 +1,8 @@
 -- The program has a `main` that returns an integer, or needs none: the definition's cases.
 -- What the search for `main` answered, and what its return type is. Assumes nothing.
 use native.Mathlib.Omega.{arith}
-use Rattle.expressions.proofs.FunctionCases.{found-function, main-fine, main-other, main-missing, main-spared}
+use Rattle.expressions.proofs.FunctionLaws.{found-function}
+use Rattle.expressions.proofs.FunctionCases.{main-fine, main-other, main-missing, main-spared}
 use borrow.Author.Needs.{needs}
 use Rattle.expressions.proofs.functions.check_main.Statement.{statement}
 use Rattle.expressions.proofs.functions.check_main.Tie as tie
@@ -24,7 +25,7 @@ returns-int-requires : tie.Need-returns-int-requires
 returns-int-requires c κs =
     let known = c .before in
     let search = known .before .before in
-    (search .before .before .before .before .pre .0, found-function _ _ (search .find-main .ensures .1) (known .f .given .1))
+    (search .before .before .before .before .pre .0, found-function _ _ _ (search .find-main .ensures .1) (known .f .given .1))
 
 -- src/functions.rt:146:17
 returns : tie.Need-returns
@@ -38,7 +39,7 @@ cast-refuse : tie.Need-cast-refuse
 cast-refuse c =
     let known = c .before .before .before in
     let search = known .before .before in
-    let at = found-function _ _ (search .find-main .ensures .1) (known .f .given .1) in
+    let at = found-function _ _ _ (search .find-main .ensures .1) (known .f .given .1) in
     omega (arith, at .below, search .before .before .before .before .pre .0 .few)
 
 -- src/functions.rt:148:13
@@ -64,7 +65,7 @@ returns-3 : tie.Need-returns-3
 returns-3 c =
     let known = c .before .before .before .before in
     let search = known .before .before in
-    let at = found-function _ _ (search .find-main .ensures .1) (known .f .given .1) in
+    let at = found-function _ _ _ (search .find-main .ensures .1) (known .f .given .1) in
     main-other _ _ _ _ (search .find-main .ensures .0) _ (known .f .given .1) _ (c .before .before .returns-int .ensures) (c .before .if1 .left)
     (search .before .before .before .before .pre .0) at _ (c .refuse .ensures)
 
