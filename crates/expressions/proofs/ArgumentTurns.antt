@@ -114,7 +114,7 @@ module _ (tree text : List ℕ) (good : Good tree text) (S : Def.Scope) (s₀ : 
       small = omega (arith, a .below, good .few)
 
       step : Slots tree text S s s₂
-      step = slots-trans tree text S s s₁ s₂ f₁ (put-slots tree text S s₁ s₂ e y (expr-low tree text good e x) room put small t a)
+      step = slots-trans tree text S s s₁ s₂ f₁ (put-slots tree text S s₁ s₂ e y (expr-low tree text good e x) room put small x t a)
 
       kept : (s′ : List ℕ) → Slots tree text S s₂ s′ → slotAt tree s′ (place (exprAt tree text e)) ≡ y
       kept s′ f =

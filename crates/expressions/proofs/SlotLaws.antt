@@ -22,6 +22,7 @@ use Rattle.ir.proofs.Entries.{word-same}
 use Rattle.ir.proofs.ReadBack.{word-back}
 use Rattle.scope.specs.declared.Scope.{Scope}
 use Rattle.scope.specs.Open.{Open, Stands}
+use Rattle.types.specs.Fits.{IsExpr}
 use Rattle.expressions.specs.Places.{TypeAt}
 use Rattle.expressions.specs.Keys.{Listed, Keyed}
 use Rattle.expressions.specs.Slots.{slotAt, Scoped, Frame, typeIn, Slots, Ready}
@@ -184,13 +185,13 @@ module _ (tree text : List ℕ) (S : Def.Scope) where
   slots-trans s s₁ s₂ f g e h = go (g e h)
     where
       more : slotAt tree s₂ e ≡ slotAt tree s₁ e
-          → (slotAt tree s₁ e ≡ slotAt tree s e) ⊎ ((typeIn tree text S e ≡ ok (slotAt tree s₁ e)) × TypeAt tree (slotAt tree s₁ e))
-          → (slotAt tree s₂ e ≡ slotAt tree s e) ⊎ ((typeIn tree text S e ≡ ok (slotAt tree s₂ e)) × TypeAt tree (slotAt tree s₂ e))
+          → (slotAt tree s₁ e ≡ slotAt tree s e) ⊎ (IsExpr tree e × (typeIn tree text S e ≡ ok (slotAt tree s₁ e)) × TypeAt tree (slotAt tree s₁ e))
+          → (slotAt tree s₂ e ≡ slotAt tree s e) ⊎ (IsExpr tree e × (typeIn tree text S e ≡ ok (slotAt tree s₂ e)) × TypeAt tree (slotAt tree s₂ e))
       more q (inl p) = inl (q ∙ p)
-      more q (inr t) = inr (t .0 ∙ ap (λ (z : ℕ). ok z) (sym q), subst (λ (z : ℕ). TypeAt tree z) (sym q) (t .1))
+      more q (inr t) = inr (t .0, t .1 ∙ ap (λ (z : ℕ). ok z) (sym q), subst (λ (z : ℕ). TypeAt tree z) (sym q) (t .2))
 
-      go : (slotAt tree s₂ e ≡ slotAt tree s₁ e) ⊎ ((typeIn tree text S e ≡ ok (slotAt tree s₂ e)) × TypeAt tree (slotAt tree s₂ e))
-          → (slotAt tree s₂ e ≡ slotAt tree s e) ⊎ ((typeIn tree text S e ≡ ok (slotAt tree s₂ e)) × TypeAt tree (slotAt tree s₂ e))
+      go : (slotAt tree s₂ e ≡ slotAt tree s₁ e) ⊎ (IsExpr tree e × (typeIn tree text S e ≡ ok (slotAt tree s₂ e)) × TypeAt tree (slotAt tree s₂ e))
+          → (slotAt tree s₂ e ≡ slotAt tree s e) ⊎ (IsExpr tree e × (typeIn tree text S e ≡ ok (slotAt tree s₂ e)) × TypeAt tree (slotAt tree s₂ e))
       go (inl q) = more q (f e h)
       go (inr t) = inr t
 
@@ -203,21 +204,25 @@ module _ (tree text : List ℕ) (S : Def.Scope) where
       same : typeIn tree text S e ≡ ok (slotAt tree s′ e) → typeIn tree text S e ≡ ok y → slotAt tree s′ e ≡ y
       same a b = cc
 
-      go : (slotAt tree s′ e ≡ slotAt tree s e) ⊎ ((typeIn tree text S e ≡ ok (slotAt tree s′ e)) × TypeAt tree (slotAt tree s′ e)) → slotAt tree s′ e ≡ y
+      go : (slotAt tree s′ e ≡ slotAt tree s e) ⊎ (IsExpr tree e × (typeIn tree text S e ≡ ok (slotAt tree s′ e)) × TypeAt tree (slotAt tree s′ e)) → slotAt tree s′ e ≡ y
       go (inl p) = p ∙ q
-      go (inr p) = same (p .0) t
+      go (inr p) = same (p .1) t
 
-  -- writing a type to its slot
+  -- writing an expression's type to its slot
   pub put-slots : (s s′ : List ℕ) (e y : ℕ) → e < records tree → 64 * records tree ≤ length s → s′ ≡ splice s (4 * records tree + 4 * e) (word y)
-      → y < 2 ^ 32 → typeIn tree text S e ≡ ok y → TypeAt tree y → Slots tree text S s s′
+      → y < 2 ^ 32 → IsExpr tree e → typeIn tree text S e ≡ ok y → TypeAt tree y → Slots tree text S s s′
   unfolding Slots
-  put-slots s s′ e y low room w small t a d h = tested (ltb d e) (λ q. inl (put-other tree s s′ e y low room w d (inl (ltb-true d e q)))) first
+  put-slots s s′ e y low room w small x t a d h = tested (ltb d e) (λ q. inl (put-other tree s s′ e y low room w d (inl (ltb-true d e q)))) first
     where
-      here : d ≡ e → (slotAt tree s′ d ≡ slotAt tree s d) ⊎ ((typeIn tree text S d ≡ ok (slotAt tree s′ d)) × TypeAt tree (slotAt tree s′ d))
+      here : d ≡ e → (slotAt tree s′ d ≡ slotAt tree s d) ⊎ (IsExpr tree d × (typeIn tree text S d ≡ ok (slotAt tree s′ d)) × TypeAt tree (slotAt tree s′ d))
       here q =
           let z : slotAt tree s′ d ≡ y = ap (slotAt tree s′) q ∙ put-here tree s s′ e y low room w small in
-          inr (ap (typeIn tree text S) q ∙ t ∙ ap (λ (x : ℕ). ok x) (sym z), subst (λ (x : ℕ). TypeAt tree x) (sym z) a)
+          inr (
+            subst (IsExpr tree) (sym q) x,
+            ap (typeIn tree text S) q ∙ t ∙ ap (λ (v : ℕ). ok v) (sym z),
+            subst (λ (v : ℕ). TypeAt tree v) (sym z) a,
+          )
 
-      first : ltb d e ≡ false → (slotAt tree s′ d ≡ slotAt tree s d) ⊎ ((typeIn tree text S d ≡ ok (slotAt tree s′ d)) × TypeAt tree (slotAt tree s′ d))
+      first : ltb d e ≡ false → (slotAt tree s′ d ≡ slotAt tree s d) ⊎ (IsExpr tree d × (typeIn tree text S d ≡ ok (slotAt tree s′ d)) × TypeAt tree (slotAt tree s′ d))
       first n = tested (ltb e d) (λ q. inl (put-other tree s s′ e y low room w d (inr (ltb-true e d q))))
           (λ q. here (omega (arith, ltb-false d e n, ltb-false e d q)))

@@ -128,7 +128,7 @@ module _ (tree text : List ℕ) where
   AreAll Candidates.Several (f ∷ []) = ⊥
   AreAll Candidates.Several (f ∷ g ∷ l) = Unit {0}
 
-  -- the functions that fit a call: the exact one if there is one, or all that literals fit
+  -- the functions that fit a call: exactly, that is the exact function, none or one; else all that literals fit
   unfoldable pub fitting : Bool → Text → List TypedArg → List Function
   unfolding oneOrNone find-exact-function find-functions-by-literals program allKeys
   fitting true verb l = oneOrNone (find-exact-function (program tree text) (allKeys tree text) verb l)
@@ -163,7 +163,7 @@ pub record Operands (tree : List ℕ) (s : Sides) : Type 0 where
   pub right : IsExpr tree (s .2)
   pub right-type : TypeAt tree (s .3)
 
--- ---- what the functions open to callers owe, of the answer and of the scratch before and after
+-- ---- what `get_all_functions` and typing owe, of the answer and of the scratch before and after
 
 -- `get_all_functions`: the functions' records are listed, and their keys are distinct or the first function that is not fine is refused
 pub data AllMeet (tree text s s′ : List ℕ) : AllFunctions → Type 0 where

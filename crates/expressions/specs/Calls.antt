@@ -56,11 +56,12 @@ module _ (tree text s : List ℕ) where
   TakesFirst (p ∷ ps) [] b = ⊥
   TakesFirst (p ∷ ps) (a ∷ l) b = b ≡ takesArg (program tree text) (allKeys tree text) p a
 
-  -- the number of suffixes that have `left` bytes in all, if any
+  -- how many bytes some texts have in all
   unfoldable pub bytesIn : List Text → ℕ
   bytesIn [] = 0
   bytesIn (t ∷ l) = length t + bytesIn l
 
+  -- the number of suffixes that have `left` bytes in all, if any
   pub data PrefixIs (w left : ℕ) : Found → Type 0 where
     so-many : {k : ℕ} → k ≤ length (suffixesAt w) → bytesIn (take k (suffixesAt w)) ≡ left → PrefixIs w left (Found.At k)
     no-number : ((k : ℕ) → k ≤ length (suffixesAt w) → bytesIn (take k (suffixesAt w)) ≡ left → ⊥) → PrefixIs w left Found.Nothing

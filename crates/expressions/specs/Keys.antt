@@ -17,7 +17,7 @@ use Rattle.conversion.specs.Functions.{get-all-functions}
 use Rattle.conversion.specs.Written.{word}
 use Rattle.expressions.specs.Places.{functionOf}
 
--- 'a function's key is its name if it is external or `main`, else its mangled name'
+-- a function's key is its name if it is external or `main`, else its mangled name
 unfoldable pub keyOf : Function → Text
 unfolding pick is-mangled
 keyOf f = pick (is-mangled f) (f .mangledName) (f .name)

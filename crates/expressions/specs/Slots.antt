@@ -15,6 +15,7 @@ use Rattle.conversion.specs.Scope.{Variable}
 use Rattle.conversion.specs.Expressions.{TypedArg, get-type}
 use Rattle.scope.specs.declared.Scope.{Scope}
 use Rattle.scope.specs.Open.{Stands, Room}
+use Rattle.types.specs.Fits.{IsExpr}
 use Rattle.expressions.specs.Places.{TypeAt, exprAt}
 use Rattle.expressions.specs.Keys.{allKeys, Keyed}
 
@@ -62,10 +63,11 @@ module _ (tree : List ℕ) where
     unfolding get-type exprAt program allKeys
     typeIn S e = get-type (program tree text) (allKeys tree text) (exprAt tree text e) S
 
-    -- a slot is as it was, or has the type of its expression
+    -- a slot is as it was, or its record is an expression and it has that expression's type
     unfoldable pub Slots : Def.Scope → List ℕ → List ℕ → Type 0
     unfolding slotAt typeIn
-    Slots S s s′ = (e : ℕ) → e < records tree → (slotAt s′ e ≡ slotAt s e) ⊎ ((typeIn S e ≡ ok (slotAt s′ e)) × TypeAt tree (slotAt s′ e))
+    Slots S s s′ = (e : ℕ) → e < records tree
+        → (slotAt s′ e ≡ slotAt s e) ⊎ (IsExpr tree e × (typeIn S e ≡ ok (slotAt s′ e)) × TypeAt tree (slotAt s′ e))
 
 -- what typing needs: the functions by key, and the scope
 pub record Ready (tree text s : List ℕ) (count : ℕ) (sc : Scope) : Type 0 where

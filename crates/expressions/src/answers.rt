@@ -1,4 +1,4 @@
-// What is answered: enums, each with a definition in specs/ that gives the error and its place.
+// What is answered: enums; specs/Answers.antt and specs/Parameters.antt say what each case stands for.
 use records::convert_error::ConvertError;
 
 // Fine, or a refusal.

@@ -21,7 +21,7 @@ use types::form::reference;
 // No further cell.
 pub(crate) const END: usize = 4294967295;
 
-// An expression or, for a cast, a type.
+// An expression, or a type.
 pub(crate) enum Argument {
     Expr(usize),
     ToType(usize),

@@ -109,8 +109,7 @@ fn refuse(kind: ConvertErrorKind, place: u32) -> Resolved
     Resolved::Refused(ConvertError { kind, place })
 }
 
-// The functions that fit the call: the exact one, or all that literals fit.
-// Which of them is a bool, so that the order in which they are tried is a value that the proof reads.
+// The functions that fit the call: exactly, that is the exact function, none or one; else all that literals fit.
 fn find_functions(
     tree: &[u8],
     text: &[u8],

@@ -46,7 +46,7 @@ fn suffix_bytes(tree: &[u8], text: &[u8], scratch: &[u8], first: usize) -> usize
     n
 }
 
-// How long the verb is with these.
+// How long the verb is with all suffixes.
 fn full_length(tree: &[u8], text: &[u8], scratch: &[u8], call: Call) -> usize
     requires { ⌜ Called (now tree) (now text) (now scratch) call ⌝ }
     ensures { λ n. ⌜ n ≡ length (nameOf (now (tree .entry)) (now (text .entry)) (now (scratch .entry)) call (call .count)) ⌝ }
@@ -203,7 +203,7 @@ fn variadic_key(tree: &[u8], text: &[u8], scratch: &[u8], call: Call, f: usize) 
     Found::Nothing
 }
 
-// The longest prefix with `$...`: each function is looked at once, and the one with the most types is kept.
+// The Rust's `variadic`, the longest prefix with `$...`: each function is looked at once, and the one with the most types is kept.
 fn by_prefix(tree: &[u8], text: &[u8], scratch: &[u8], functions: usize, call: Call) -> Found
     requires { ⌜ Keyed (now tree) (now text) (now scratch) functions ⌝ }
     requires { ⌜ Called (now tree) (now text) (now scratch) call ⌝ }

@@ -82,6 +82,8 @@ fn add_function(tree: &[u8], text: &[u8], scratch: &[u8], count: usize, j: usize
     Outcome::Done
 }
 
+// Lists the functions' records in scratch and says how many there are, or refuses the first function whose key is taken or whose name has the
+// wrong letters.
 pub fn get_all_functions(tree: &[u8], text: &[u8], scratch: &mut [u8]) -> AllFunctions
     requires { ⌜ Good (now tree) (now text) ⌝ }
     requires { ⌜ 64 * records (now tree) ≤ length (now scratch) ⌝ }

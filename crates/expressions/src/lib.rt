@@ -1,5 +1,5 @@
-// Typing and call resolution: Krc's converter/expressions.rs, with the functions by key and `main` from its functions.rs. A tree is judged
-// before; a type, an expression and a function are numbers of their records.
+// Typing and call resolution: Krc's converter/expressions.rs, with the functions by key, `main` and the parameters of convert_func from its
+// functions.rs. A tree is judged before; a type, an expression and a function are numbers of their records.
 pub mod answers;
 mod arguments;
 mod calls;

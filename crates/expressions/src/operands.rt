@@ -124,7 +124,8 @@ pub(crate) fn common_of(tree: &[u8], text: &[u8], s: Sides) -> Found
     Found::Nothing
 }
 
-// Where they take no common type that the Binary e accepts: a constant out of the other side's range, the right one first.
+// Where they take no common type that the Binary e accepts: a constant out of the other side's range, the right one
+// first, else WrongOperands.
 fn operands_error(tree: &[u8], text: &[u8], e: usize, s: Sides) -> ExprType
     requires { ⌜ Good (now tree) (now text) ⌝ }
     requires { ⌜ Operands (now tree) s ⌝ }

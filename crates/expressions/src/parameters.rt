@@ -21,6 +21,7 @@ use scope::Declared;
 use scope::Scope;
 use types::form::reference;
 
+// The scope with the parameters, or AlreadyDeclared at the one whose name is taken.
 pub enum Parameters {
     Done(Scope),
     Refused(ConvertError),

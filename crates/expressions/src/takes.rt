@@ -50,7 +50,7 @@ fn takes_arg(tree: &[u8], text: &[u8], scratch: &[u8], parameter: usize, cell: u
     }
 }
 
-// Arguments behind the parameters of a variadic are not looked at.
+// The Rust's takes_args: arguments behind the parameters of a variadic are not looked at.
 fn takes_all(tree: &[u8], text: &[u8], scratch: &[u8], parameters: usize, first: usize) -> bool
     requires { ⌜ Argued (now tree) (now text) (now scratch) first ⌝ }
     requires { ⌜ ParamsAt (now tree) parameters ⌝ }
@@ -71,6 +71,7 @@ fn takes_all(tree: &[u8], text: &[u8], scratch: &[u8], parameters: usize, first:
     true
 }
 
+// The Rust's takes_count and takes_args, which are always tested together.
 pub(crate) fn takes_args(tree: &[u8], text: &[u8], scratch: &[u8], f: usize, call: Call) -> bool
     requires { ⌜ Called (now tree) (now text) (now scratch) call ⌝ }
     requires { ⌜ FunctionAt (now tree) f ⌝ }
