@@ -14,7 +14,7 @@ use Rattle.laws.specs.Fix.{pick}
 use Rattle.laws.specs.Splice.{splice}
 use Rattle.laws.proofs.Splices.{length-splice, splice-splice, part-before, part-behind}
 use Rattle.records.specs.Words as Words
-use Rattle.records.specs.Words.{wordAt, wordOf, textAt, records, A, B, C}
+use Rattle.records.specs.Words.{byteAt, wordAt, wordOf, textAt, records, A, B, C}
 use Rattle.records.specs.declared.shape.Role.the-variants.{Parameters}
 use Rattle.records.specs.declared.convert_error.ConvertError.{ConvertError}
 use Rattle.syntax.specs.Syntax.{Param}
@@ -52,6 +52,10 @@ module _ (l : List ℕ) (i : ℕ) (vs : List ℕ) (fit : i + length vs ≤ lengt
       rw q (sym (getD-drop b (splice l i vs) j 0) ∙ sym (getD-take m (drop b (splice l i vs)) j 0 h)
       ∙ ap (λ (x : List ℕ). getD x j 0) (part-apart b m a) ∙ getD-take m (drop b l) j 0 h ∙ getD-drop b l j 0)
 
+  pub byte-apart : (p : ℕ) → (p + 1 ≤ i) ⊎ (i + length vs ≤ p) → byteAt (splice l i vs) p ≡ byteAt l p
+  unfolding byteAt
+  byte-apart p a = byte-in p 1 0 p (omega arith) (omega arith) a
+
   word-apart : (p : ℕ) → (p + 4 ≤ i) ⊎ (i + length vs ≤ p) → wordAt (splice l i vs) p ≡ wordAt l p
   word-apart p a = word-same (splice l i vs) p l p
       (byte-in p 4 0 p (omega arith) (omega arith) a)
@@ -69,7 +73,7 @@ module _ (tree : List ℕ) where
   param-long : (p : Param) (k : ℕ) → length (entryOf tree p k) ≡ 16
   param-long p k = entry-long (wordOf tree (p .recOf) A) (wordOf tree (p .recOf) B) k (2 * p .ty)
 
-  entries-long : (l : List Param) (k : ℕ) → length (entries tree l k) ≡ 16 * length l
+  pub entries-long : (l : List Param) (k : ℕ) → length (entries tree l k) ≡ 16 * length l
   unfolding entries
   entries-long [] k = refl
   entries-long (p ∷ l) k = length-append (entryOf tree p k) (entries tree l (suc k)) ∙ omega (arith, param-long p k, entries-long l (suc k))

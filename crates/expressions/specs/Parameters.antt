@@ -66,6 +66,7 @@ pub data OneMore (tree text : List ℕ) (functions : ℕ) (sc : Scope) (p : Para
       → s′ ≡ s → OneMore tree text functions sc p s s′ (Parameters.Refused e)
 
 -- the scope of function f's body; only the entries are written, from byte 8n on: of all parameters or, where a name is taken, of those before
+-- (they end by byte 24n: `names-only` in proofs/ParameterRegion.antt)
 pub data ParametersMeet (tree text : List ℕ) (functions f : ℕ) (s s′ : List ℕ) : Parameters → Type 0 where
   done : {sc : Scope} (S : Def.Scope) → withParams (functionOf tree text f .params) 0 (emptyIn tree text f) ≡ ok S
       → Stands text s′ sc (S .variables) → Ready tree text s′ functions sc → sc .inner ≡ Words.none → sc .function ≡ f
