@@ -13,6 +13,8 @@ pub mod Lists
 pub mod NameLaws
 pub mod OperandLaws
 pub mod ParameterLaws
+pub mod ParameterRegion
+pub mod ParameterRun
 pub mod PartLaws
 pub mod SlotLaws
 pub mod SuffixLaws

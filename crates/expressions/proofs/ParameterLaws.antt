@@ -3,15 +3,16 @@
 use mathlib.Core.Path.{_≡_, refl, sym, ap, _∙_, subst}
 use mathlib.Core.Logic.{_⊎_, inl, inr}
 use mathlib.Core.Bool.{false}
-use mathlib.Core.List.{List, [], _∷_, _++_}
+use mathlib.Core.List.{List, [], _∷_, _++_, append-nil, append-assoc}
 use Prim.Native.Nat.{ℕ, suc, _+_, _*_, _/_, _≤_, _<_}
 use native.Mathlib.Decide.{decLt}
+use native.Mathlib.Nat.{add-zero}
 use native.Mathlib.Omega.{arith}
-use lib.ListN.{length, take, drop, getD}
+use lib.ListN.{length, take, drop, getD, length-append, take-append-drop}
 use lib.Seq.{getD-take, getD-drop}
 use Rattle.laws.specs.Fix.{pick}
 use Rattle.laws.specs.Splice.{splice}
-use Rattle.laws.proofs.Splices.{length-splice, part-before, part-behind}
+use Rattle.laws.proofs.Splices.{length-splice, splice-splice, part-before, part-behind}
 use Rattle.records.specs.Words as Words
 use Rattle.records.specs.Words.{byteAt, wordAt, wordOf, textAt, records, A, B, C}
 use Rattle.records.specs.declared.shape.Role.the-variants.{Parameters}
@@ -35,7 +36,7 @@ use Rattle.expressions.specs.Places.{TypeAt, ParamsAt, functionOf, param
 use Rattle.expressions.specs.Keys.{Keyed}
 use Rattle.expressions.specs.Slots.{Ready}
 use Rattle.expressions.specs.Answers.{refusal}
-use Rattle.expressions.specs.Parameters.{parameterOf, withParams, emptyIn, NamesOnly, OneMore, ParametersMeet}
+use Rattle.expressions.specs.Parameters.{parameterOf, withParams, emptyIn, untilTaken, entryOf, entries, OneMore, ParametersMeet}
 use Rattle.expressions.proofs.Lists.{left, left-some, cell-is, next-list, next-falls, left-most, params-end, parameter-item, parameter-type}
 use Rattle.expressions.proofs.KeySearch.{records-most}
 
@@ -51,7 +52,7 @@ module _ (l : List ℕ) (i : ℕ) (vs : List ℕ) (fit : i + length vs ≤ lengt
       rw q (sym (getD-drop b (splice l i vs) j 0) ∙ sym (getD-take m (drop b (splice l i vs)) j 0 h)
       ∙ ap (λ (x : List ℕ). getD x j 0) (part-apart b m a) ∙ getD-take m (drop b l) j 0 h ∙ getD-drop b l j 0)
 
-  byte-apart : (p : ℕ) → (p + 1 ≤ i) ⊎ (i + length vs ≤ p) → byteAt (splice l i vs) p ≡ byteAt l p
+  pub byte-apart : (p : ℕ) → (p + 1 ≤ i) ⊎ (i + length vs ≤ p) → byteAt (splice l i vs) p ≡ byteAt l p
   unfolding byteAt
   byte-apart p a = byte-in p 1 0 p (omega arith) (omega arith) a
 
@@ -62,19 +63,33 @@ module _ (l : List ℕ) (i : ℕ) (vs : List ℕ) (fit : i + length vs ≤ lengt
       (byte-in p 4 2 (p + 2) refl (omega arith) a)
       (byte-in p 4 3 (p + 3) refl (omega arith) a)
 
--- ---- only the names' region
-
-pub only-refl : (tree s : List ℕ) → NamesOnly tree s s
-only-refl tree s = record { same-length = refl; outside = λ i h. refl }
-
-pub only-trans : (tree s s₁ s₂ : List ℕ) → NamesOnly tree s s₁ → NamesOnly tree s₁ s₂ → NamesOnly tree s s₂
-only-trans tree s s₁ s₂ f g = record { same-length = g .same-length ∙ f .same-length; outside = λ i h. g .outside i h ∙ f .outside i h }
-
--- ---- one parameter
+-- ---- entries
 
 entry-long : (a b c d : ℕ) → length (word a ++ word b ++ word c ++ word d) ≡ 16
 unfolding word bytesOf
 entry-long a b c d = refl
+
+module _ (tree : List ℕ) where
+  param-long : (p : Param) (k : ℕ) → length (entryOf tree p k) ≡ 16
+  param-long p k = entry-long (wordOf tree (p .recOf) A) (wordOf tree (p .recOf) B) k (2 * p .ty)
+
+  pub entries-long : (l : List Param) (k : ℕ) → length (entries tree l k) ≡ 16 * length l
+  unfolding entries
+  entries-long [] k = refl
+  entries-long (p ∷ l) k = length-append (entryOf tree p k) (entries tree l (suc k)) ∙ omega (arith, param-long p k, entries-long l (suc k))
+
+  entries-more : (l : List Param) (p : Param) (k m : ℕ) → m ≡ k + length l → entries tree (l ++ (p ∷ [])) k ≡ entries tree l k ++ entryOf tree p m
+  unfolding entries
+  entries-more [] p k m e = append-nil (entryOf tree p k) ∙ ap (entryOf tree p) (omega (arith, e))
+  entries-more (q ∷ l) p k m e =
+      ap (λ (x : List ℕ). entryOf tree q k ++ x) (entries-more l p (suc k) m (omega (arith, e)))
+      ∙ sym (append-assoc (entryOf tree q k) (entries tree l (suc k)) (entryOf tree p m))
+
+splice-none : (l : List ℕ) (i : ℕ) → splice l i [] ≡ l
+unfolding splice
+splice-none l i = ap (λ (x : List ℕ). x ++ drop (i + 0) l) (append-nil (take i l)) ∙ rw (add-zero i) (take-append-drop i l)
+
+-- ---- one parameter
 
 module _ (tree text s : List ℕ) (functions : ℕ) (sc : Scope) (ready : Ready tree text s functions sc) (cell : ℕ) (ps : ParamsAt tree cell)
     (more-cells : cell ≡ Words.none → ⊥) (few : sc .names + cell < records tree) where
@@ -134,18 +149,12 @@ module _ (tree text s : List ℕ) (functions : ℕ) (sc : Scope) (ready : Ready 
       unfolding DeclareMeets
       written = m .2
 
-      long : length entry ≡ 16
-      long = entry-long o n (v .0) (2 * v .1 + boolNumber false)
+      same-long : length s′ ≡ length s
+      same-long = rw written (length-splice s place-of entry fits-in)
 
-      pub only-names : NamesOnly tree s s′
-      only-names = record {
-        same-length = rw written (length-splice s place-of entry fits-in);
-        outside = λ i h. rw written (byte-apart s place-of entry fits-in i (apart i h));
-      }
-        where
-          apart : (i : ℕ) → (i < 8 * records tree) ⊎ (24 * records tree ≤ i) → (i + 1 ≤ place-of) ⊎ (place-of + length entry ≤ i)
-          apart i (inl h) = inl (omega (arith, h, ready .scoped .records-are))
-          apart i (inr h) = inr (rw long (omega (arith, h, few, ready .scoped .records-are)))
+      written-entry : s′ ≡ splice s (8 * records tree + 16 * sc .names) (entryOf tree parameter (sc .names))
+      unfolding boolNumber
+      written-entry = written ∙ rw (ready .scoped .records-are, eo, en, e₀, e₁, add-zero (2 * wordOf tree item C)) refl
 
       low-word : (p : ℕ) → p + 4 ≤ place-of → wordAt s′ p ≡ wordAt s p
       low-word p h = rw written (word-apart s place-of entry fits-in p (inl h))
@@ -155,7 +164,7 @@ module _ (tree text s : List ℕ) (functions : ℕ) (sc : Scope) (ready : Ready 
         good = ready .keyed .good;
         distinct = ready .keyed .distinct;
         listed = record {
-          room = omega (arith, ready .keyed .listed .room, only-names .same-length);
+          room = omega (arith, ready .keyed .listed .room, same-long);
           counted = ready .keyed .listed .counted;
           listed = λ j h. low-word (4 * j) (omega (arith, h, ready .keyed .listed .counted, records-most tree (records tree), ready .scoped .records-are)) ∙ ready .keyed .listed .listed j h;
         };
@@ -191,7 +200,7 @@ module _ (tree text s : List ℕ) (functions : ℕ) (sc : Scope) (ready : Ready 
       unfolding DeclareMeets isSome someAnd find-variable
       one-more = OneMore.done ready-more (rw is-more refl) (rw is-more refl) (rw is-more refl)
           (λ S st. (rw (← name-is) (rw (m .3 (S .variables) st .free)), more-stands (S .variables) st))
-          only-names
+          written-entry
 
   -- as the code has them: p is the parameter's record, and y, o and n are three of its words
   module _ (p : ℕ) (ep : p ≡ item) where
@@ -223,25 +232,26 @@ module _ (tree text s : List ℕ) (functions : ℕ) (sc : Scope) (ready : Ready 
 
 -- ---- the loop
 
-pub refused-long : (tree text : List ℕ) (functions f : ℕ) (s s′ : List ℕ) (e : ConvertError) → ParametersMeet tree text functions f s s′ (Answer.Refused e)
-    → length s′ ≡ length s
-refused-long tree text functions f s s′ e (ParametersMeet.refused q only) = only .same-length
-
 pub record Turn (tree text : List ℕ) (functions f : ℕ) (s₀ s : List ℕ) (cell : ℕ) (sc : Scope) : Type 0 where
   pub ready : Ready tree text s functions sc
   pub cells : ParamsAt tree cell
   pub few : sc .names + left cell ≤ records tree
   pub no-loop : sc .inner ≡ Words.none
   pub of-function : sc .function ≡ f
-  pub only : NamesOnly tree s₀ s
+  pub same-length : length s ≡ length s₀
   pub known : Def.Scope
   pub stands : Stands text s sc (known .variables)
   pub asked : withParams (functionOf tree text f .params) 0 (emptyIn tree text f) ≡ withParams (paramsAt tree text cell) (sc .names) known
+  pub before : List Param
+  pub so-many : length before ≡ sc .names
+  pub all : functionOf tree text f .params ≡ before ++ paramsAt tree text cell
+  pub declared : untilTaken (functionOf tree text f .params) 0 (emptyIn tree text f) ≡ before ++ untilTaken (paramsAt tree text cell) (sc .names) known
+  pub bytes : s ≡ splice s₀ (8 * records tree) (entries tree before 0)
 
 module _ (tree text : List ℕ) (functions f : ℕ) (s₀ : List ℕ) where
   pub start : (w : ℕ) (sc : Scope) → Keyed tree text s₀ functions → functionOf tree text f .params ≡ paramsAt tree text w → ParamsAt tree w
       → sc ≡ record { records = records tree; names = 0; inner = Words.none; function = f } → Turn tree text functions f s₀ s₀ w sc
-  unfolding Open
+  unfolding Open entries
   start w sc k e l q = record {
     ready = record {
       keyed = k;
@@ -257,10 +267,15 @@ module _ (tree text : List ℕ) (functions f : ℕ) (s₀ : List ℕ) where
     few = rw q (omega (arith, left-most tree text (k .good) Parameters w l));
     no-loop = rw q refl;
     of-function = rw q refl;
-    only = only-refl tree s₀;
+    same-length = refl;
     known = emptyIn tree text f;
     stands = nobody;
     asked = rw (e, q) refl;
+    before = [];
+    so-many = rw q refl;
+    all = e;
+    declared = rw (e, q) refl;
+    bytes = sym (splice-none s₀ (8 * records tree));
   }
     where
       none-open : (j : ℕ) → j < 0 → ⊥
@@ -272,7 +287,12 @@ module _ (tree text : List ℕ) (functions f : ℕ) (s₀ : List ℕ) where
   module _ (s : List ℕ) (cell : ℕ) (sc : Scope) (t : Turn tree text functions f s₀ s cell sc) where
     pub turn-end : cell ≡ Words.none → ParametersMeet tree text functions f s₀ s (Answer.Done sc)
     unfolding withParams
-    turn-end e = ParametersMeet.done (t .known) (t .asked ∙ rw (e, params-end tree text (t .ready .keyed .good)) refl) (t .stands) (t .ready) (t .no-loop) (t .of-function) (t .only)
+    turn-end e =
+        ParametersMeet.done (t .known) (t .asked ∙ rw (e, params-end tree text (t .ready .keyed .good)) refl) (t .stands) (t .ready) (t .no-loop) (t .of-function)
+        (t .bytes ∙ ap (λ (l : List Param). splice s₀ (8 * records tree) (entries tree l 0)) (sym whole))
+      where
+        whole : functionOf tree text f .params ≡ t .before
+        whole = t .all ∙ rw (e, params-end tree text (t .ready .keyed .good)) (append-nil (t .before))
 
     module _ (n : cell ≡ Words.none → ⊥) where
       pub still-few : sc .names + cell < records tree
@@ -284,25 +304,50 @@ module _ (tree text : List ℕ) (functions f : ℕ) (s₀ : List ℕ) where
       split : paramsAt tree text cell ≡ here ∷ paramsAt tree text (wordOf tree cell B)
       split = parameter-item tree text (t .ready .keyed .good) cell (cell-is tree text (t .ready .keyed .good) Parameters cell (t .cells) n)
 
-      pub turn-refused : (s′ : List ℕ) (e : ConvertError) → OneMore tree text functions sc here s s′ (Answer.Refused e) → ParametersMeet tree text functions f s₀ s′ (Answer.Refused e)
-      unfolding withParams pick refusal
-      turn-refused s′ e (OneMore.refused q taken k) =
-          ParametersMeet.refused {e = e} (t .asked ∙ rw (split, taken (t .known) (t .stands), q) refl) (rw k (t .only))
+      pub turn-refused : (s′ : List ℕ) (e : ConvertError) → OneMore tree text functions sc here s s′ (Answer.Refused e)
+          → ParametersMeet tree text functions f s₀ s′ (Answer.Refused e) × (length s′ ≡ length s₀)
+      unfolding withParams untilTaken pick refusal
+      turn-refused s′ e (OneMore.refused q taken k) = (
+        ParametersMeet.refused {e = e} (t .asked ∙ rw (split, taken (t .known) (t .stands), q) refl)
+            (k ∙ t .bytes ∙ ap (λ (l : List Param). splice s₀ (8 * records tree) (entries tree l 0)) (sym those)),
+        rw k (t .same-length),
+      )
+        where
+          those : untilTaken (functionOf tree text f .params) 0 (emptyIn tree text f) ≡ t .before
+          those = t .declared ∙ rw (split, taken (t .known) (t .stands)) (append-nil (t .before))
+
+      abbrev place : ℕ
+      place = 8 * records tree + 16 * sc .names
+
+      fits : place + length (entryOf tree here (sc .names)) ≤ length s
+      fits = omega (arith, param-long tree here (sc .names), still-few, t .ready .scoped .room .scratch, t .ready .scoped .records-are)
 
       pub turn-next : (s′ : List ℕ) (sc′ : Scope) (w : ℕ) → w ≡ wordOf tree cell B → OneMore tree text functions sc here s s′ (Answer.Done sc′)
           → Turn tree text functions f s₀ s′ w sc′
-      unfolding withParams pick withVariable
-      turn-next s′ sc′ w e (OneMore.done r grown inner function adds only) = record {
+      unfolding withParams untilTaken pick withVariable
+      turn-next s′ sc′ w e (OneMore.done r grown inner function adds wrote) = record {
         ready = r;
         cells = next-list tree text (t .ready .keyed .good) Parameters cell w (t .cells) n e;
         few = omega (arith, grown, t .few, next-falls tree text (t .ready .keyed .good) Parameters cell w (t .cells) n e);
         no-loop = inner ∙ t .no-loop;
         of-function = function ∙ t .of-function;
-        only = only-trans tree s₀ s s′ (t .only) only;
+        same-length = rw wrote (length-splice s place (entryOf tree here (sc .names)) fits) ∙ t .same-length;
         known = withVariable (parameterOf here (sc .names)) (t .known);
         stands = adds (t .known) (t .stands) .1;
         asked = t .asked ∙ rw (split, adds (t .known) (t .stands) .0, e, next-number) refl;
+        before = t .before ++ (here ∷ []);
+        so-many = length-append (t .before) (here ∷ []) ∙ omega (arith, t .so-many, grown);
+        all = t .all ∙ rw (split, e) (sym (append-assoc (t .before) (here ∷ []) (paramsAt tree text (wordOf tree cell B))));
+        declared = t .declared ∙ rw (split, adds (t .known) (t .stands) .0, e, next-number) (sym (append-assoc (t .before) (here ∷ []) _));
+        bytes = wrote ∙ ap (λ (x : List ℕ). splice x place (entryOf tree here (sc .names))) (t .bytes) ∙ joined
+            ∙ ap (splice s₀ (8 * records tree)) (sym (entries-more tree (t .before) here 0 (sc .names) (omega (arith, t .so-many))));
       }
         where
+          joined : splice (splice s₀ (8 * records tree) (entries tree (t .before) 0)) place (entryOf tree here (sc .names))
+              ≡ splice s₀ (8 * records tree) (entries tree (t .before) 0 ++ entryOf tree here (sc .names))
+          joined = splice-splice s₀ (8 * records tree) place (entries tree (t .before) 0) (entryOf tree here (sc .names))
+              (omega (arith, entries-long tree (t .before) 0, t .so-many))
+              (omega (arith, fits, t .same-length, entries-long tree (t .before) 0, t .so-many))
+
           next-number : sc′ .names ≡ suc (sc .names)
           next-number = omega (arith, grown)

@@ -1,20 +1,20 @@
 -- The parameters of a function in the scope of its body: the first lines of `convert_func`. Assumes nothing: these are definitions.
 use mathlib.Core.Path.{_≡_}
-use mathlib.Core.Logic.{_⊎_}
-use Prim.Native.Nat.{ℕ, suc, _+_, _*_, _≤_, _<_}
+use Prim.Native.Nat.{ℕ, suc, _+_, _*_}
 use mathlib.Core.Bool.{true, false}
-use mathlib.Core.List.{List, [], _∷_}
+use mathlib.Core.List.{List, [], _∷_, _++_}
 use mathlib.Core.Option.{none}
-use lib.ListN.{length}
 use Rattle.laws.specs.Fix.{pick}
+use Rattle.laws.specs.Splice.{splice}
 use Rattle.records.specs.Words as Words
-use Rattle.records.specs.Words.{byteAt, records}
+use Rattle.records.specs.Words.{wordOf, records, A, B}
 use Rattle.records.specs.declared.convert_error.ConvertError.{ConvertError}
 use Rattle.syntax.specs.Syntax.{Param}
 use Rattle.conversion.specs.ConvertError.{Result, ok, err, AlreadyDeclared}
 use Rattle.conversion.specs.Types.{isSome}
 use Rattle.conversion.specs.Scope as Def
 use Rattle.conversion.specs.Scope.{Variable, find-variable, withVariable}
+use Rattle.conversion.specs.Written.{word}
 use Rattle.scope.specs.declared.Scope.{Scope}
 use Rattle.scope.specs.Open.{Stands}
 use Rattle.expressions.specs.declared.parameters.Parameters.{Parameters}
@@ -27,7 +27,8 @@ use Rattle.expressions.specs.Answers.{refusal}
 abbrev pub parameterOf : Param → ℕ → Variable
 parameterOf p k = record { name = p .name; constant = false; var-id = record { id = k; ty = p .ty } }
 
--- the scope with the parameters, numbered from k on; one whose name is taken is AlreadyDeclared: `declareParams` without the variables' table
+-- the scope with the parameters, numbered from k on; one whose name is taken is AlreadyDeclared: `declareParams` without the variables' table,
+-- as `same-run` in proofs/ParameterRun.antt shows
 unfoldable pub withParams : List Param → ℕ → Def.Scope → Result Def.Scope
 unfolding pick isSome find-variable withVariable
 withParams [] k S = ok S
@@ -38,25 +39,38 @@ withParams (p ∷ l) k S =
 abbrev pub emptyIn : List ℕ → List ℕ → ℕ → Def.Scope
 emptyIn tree text f = record { variables = []; inLoop = none; function = functionOf tree text f }
 
--- only the region of the open names, from byte 8n to byte 24n, may differ
-pub record NamesOnly (tree s s′ : List ℕ) : Type 0 where
-  pub same-length : length s′ ≡ length s
-  pub outside : (i : ℕ) → (i < 8 * records tree) ⊎ (24 * records tree ≤ i) → byteAt s′ i ≡ byteAt s i
+-- the parameters that are declared: all, or those before the first whose name is taken
+unfoldable pub untilTaken : List Param → ℕ → Def.Scope → List Param
+unfolding pick isSome find-variable withVariable
+untilTaken [] k S = []
+untilTaken (p ∷ l) k S = pick (isSome (find-variable (p .name) S)) [] (p ∷ untilTaken l (suc k) (withVariable (parameterOf p k) S))
+
+-- the entry of a parameter in scratch, as the variable of number k: offset and length of its name, its number, twice its type
+abbrev pub entryOf : List ℕ → Param → ℕ → List ℕ
+entryOf tree p k = word (wordOf tree (p .recOf) A) ++ word (wordOf tree (p .recOf) B) ++ word k ++ word (2 * p .ty)
+
+-- the entries of parameters, numbered from k on, one behind the other
+unfoldable pub entries : List ℕ → List Param → ℕ → List ℕ
+unfolding word wordOf
+entries tree [] k = []
+entries tree (p ∷ l) k = entryOf tree p k ++ entries tree l (suc k)
 
 -- one parameter more, or its name is taken
 pub data OneMore (tree text : List ℕ) (functions : ℕ) (sc : Scope) (p : Param) (s s′ : List ℕ) : Parameters → Type 0 where
   done : {sc′ : Scope} → Ready tree text s′ functions sc′ → sc′ .names ≡ sc .names + 1 → sc′ .inner ≡ sc .inner → sc′ .function ≡ sc .function
       → ((S : Def.Scope) → Stands text s sc (S .variables)
       → (isSome (find-variable (p .name) S) ≡ false) × Stands text s′ sc′ (parameterOf p (sc .names) ∷ S .variables))
-      → NamesOnly tree s s′ → OneMore tree text functions sc p s s′ (Parameters.Done sc′)
+      → s′ ≡ splice s (8 * records tree + 16 * sc .names) (entryOf tree p (sc .names)) → OneMore tree text functions sc p s s′ (Parameters.Done sc′)
   refused : {e : ConvertError} → e ≡ record { kind = AlreadyDeclared; place = p .recOf }
       → ((S : Def.Scope) → Stands text s sc (S .variables) → isSome (find-variable (p .name) S) ≡ true)
       → s′ ≡ s → OneMore tree text functions sc p s s′ (Parameters.Refused e)
 
--- the scope of function f's body
+-- the scope of function f's body; only the entries are written, from byte 8n on: of all parameters or, where a name is taken, of those before
+-- (they end by byte 24n: `names-only` in proofs/ParameterRegion.antt)
 pub data ParametersMeet (tree text : List ℕ) (functions f : ℕ) (s s′ : List ℕ) : Parameters → Type 0 where
   done : {sc : Scope} (S : Def.Scope) → withParams (functionOf tree text f .params) 0 (emptyIn tree text f) ≡ ok S
       → Stands text s′ sc (S .variables) → Ready tree text s′ functions sc → sc .inner ≡ Words.none → sc .function ≡ f
-      → NamesOnly tree s s′ → ParametersMeet tree text functions f s s′ (Parameters.Done sc)
+      → s′ ≡ splice s (8 * records tree) (entries tree (functionOf tree text f .params) 0) → ParametersMeet tree text functions f s s′ (Parameters.Done sc)
   refused : {e : ConvertError} → withParams (functionOf tree text f .params) 0 (emptyIn tree text f) ≡ refusal e
-      → NamesOnly tree s s′ → ParametersMeet tree text functions f s s′ (Parameters.Refused e)
+      → s′ ≡ splice s (8 * records tree) (entries tree (untilTaken (functionOf tree text f .params) 0 (emptyIn tree text f)) 0)
+      → ParametersMeet tree text functions f s s′ (Parameters.Refused e)

@@ -4,7 +4,7 @@ use native.Mathlib.Omega.{arith}
 use mathlib.Core.Path.{refl}
 use borrow.Author.Needs.{needs}
 use Rattle.expressions.proofs.Lists.{left, next-falls}
-use Rattle.expressions.proofs.ParameterLaws.{Turn, start, turn-end, still-few, turn-refused, refused-long, turn-next}
+use Rattle.expressions.proofs.ParameterLaws.{Turn, start, turn-end, still-few, turn-refused, turn-next}
 use Rattle.expressions.proofs.parameters.declare_parameters.Statement.{statement}
 use Rattle.expressions.proofs.parameters.declare_parameters.Tie as tie
 use Rattle.expressions.proofs.parameters.declare_parameters.Reads as reads
@@ -45,13 +45,13 @@ enum-known-e c = search needs
 same-length : tie.Need-same-length Inv-loop μ-loop
 same-length c =
     let loop = c .before .before .before .before .before .before .before .before in
-    refused-long _ _ _ _ _ _ _ (turn-refused _ _ _ _ _ _ _ _ (loop .loop .inv) (c .before .before .before .before .before .before .before .loop-test .taken) _ _ (rw (c .before .e .given .1) at (c .before .before .before .before .before .declare-parameter .ensures)))
+    turn-refused _ _ _ _ _ _ _ _ (loop .loop .inv) (c .before .before .before .before .before .before .before .loop-test .taken) _ _ (rw (c .before .e .given .1) at (c .before .before .before .before .before .declare-parameter .ensures)) .1
 
 -- src/parameters.rt:85:39
 returns : tie.Need-returns Inv-loop μ-loop
 returns c =
     let loop = c .before .before .before .before .before .before .before .before in
-    turn-refused _ _ _ _ _ _ _ _ (loop .loop .inv) (c .before .before .before .before .before .before .before .loop-test .taken) _ _ (rw (c .before .e .given .1) at (c .before .before .before .before .before .declare-parameter .ensures))
+    turn-refused _ _ _ _ _ _ _ _ (loop .loop .inv) (c .before .before .before .before .before .before .before .loop-test .taken) _ _ (rw (c .before .e .given .1) at (c .before .before .before .before .before .declare-parameter .ensures)) .0
 
 -- src/parameters.rt:86:30
 enum-known-next : tie.Need-enum-known-next Inv-loop μ-loop
@@ -77,7 +77,7 @@ loop-again c =
 
 -- src/parameters.rt:65:1
 same-length-2 : tie.Need-same-length-2 Inv-loop μ-loop
-same-length-2 c = c .before .loop .inv .only .same-length
+same-length-2 c = c .before .loop .inv .same-length
 
 -- src/parameters.rt:65:1
 returns-2 : tie.Need-returns-2 Inv-loop μ-loop
