@@ -1,6 +1,6 @@
 -- The parameters' entries lie in the region of the open names, from byte 8n to byte 24n; every other byte is as it was.
 -- By the number of cells, which fall, and by the bytes outside a splice. Assumes nothing.
-use mathlib.Core.Path.{_≡_, refl, sym, _∙_}
+use mathlib.Core.Path.{_≡_, refl}
 use mathlib.Core.Logic.{_⊎_, inl, inr}
 use mathlib.Core.Bool.{Bool, true, false}
 use mathlib.Core.List.{List, [], _∷_}

@@ -1,6 +1,6 @@
 -- The scope with the parameters is what the conversion's `declareParams` makes, which emits nothing and adds the parameters' types to the variables.
 -- By induction over the parameters: a variable's number is the length of the variables' table. Assumes nothing.
-use mathlib.Core.Path.{_≡_, refl, sym, ap, _∙_}
+use mathlib.Core.Path.{_≡_, refl, _∙_}
 use mathlib.Core.Bool.{Bool, true, false}
 use mathlib.Core.List.{List, [], _∷_, _++_, map, append-nil, append-assoc}
 use Prim.Native.Nat.{ℕ, suc, _+_}
