@@ -15,7 +15,7 @@ use Rattle.conversion.specs.Shared.{opensS, opensB}
 use Rattle.runs.proofs.Machine.{Code, at, count, count-append, placed-drop}
 use Rattle.runs.proofs.Invert.{grow-refl, grow-trans, inv, inv-pure}
 use Rattle.runs.proofs.Names.{known, sub-refl, sub-trans}
-use Rattle.runs.proofs.Steps.{blockSteps-is}
+use Rattle.conversion.proofs.Steps.{blockSteps-is}
 use Rattle.runs.proofs.Sim.{Ctx, within-back, stay}
 use Rattle.runs.proofs.SimS.{runs, s-bindS, GoodS, SoundS, goodS-as}
 use Rattle.runs.proofs.Stmts.{good-declare, good-init, good-return, good-call-statement}

@@ -22,7 +22,7 @@ use Rattle.runs.proofs.Machine.{Code, at, count, count-append, placed-d
 use Rattle.runs.proofs.Invert.{grow-trans, inv, inv-then, inv-pure, inv-emit, inv-label, joinE, joinS, AskedLabel}
 use Rattle.runs.proofs.Texts.{kinds-once}
 use Rattle.runs.proofs.Names.{known, scoped-mono, Sub, sub-refl, Agree, agree-frame, agree-sub}
-use Rattle.runs.proofs.Steps.{ifSteps-is, ifElseSteps-is, breakSteps-is, continueSteps-is}
+use Rattle.conversion.proofs.Steps.{ifSteps-is, ifElseSteps-is, breakSteps-is, continueSteps-is}
 use Rattle.runs.proofs.Sim.{Ctx, Low, within-back, Num, num-same, num-of, nameOf, num-count, go1, goes, go-label, holding, Good}
 use Rattle.runs.proofs.Exprs.{goodE}
 use Rattle.runs.proofs.SimS.{SimS, runs, breaks, continues, s-before, s-after, s-bindO, s-test, InLoop, inside, GoodS, SoundS, goodS-as}

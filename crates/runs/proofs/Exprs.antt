@@ -28,7 +28,7 @@ use Rattle.runs.proofs.Machine.{Code, at, count, count-append, placed-d
 use Rattle.runs.proofs.Invert.{Grow, grow-refl, grow-trans, inv, inv-then, inv-pure, inv-emit, inv-lift, inv-last, inv-new, inv-label, joinE, joinS, AskedLabel, noFloat, inv-bits, prefix-getD, prefix-refl, prefix-trans, position-holds, found-in, nextVar, withVar, withVar-length, withVar-grow, ask-string, ask-float}
 use Rattle.runs.proofs.Texts.{kinds-once, float-refl}
 use Rattle.runs.proofs.Names.{known, typing, resolving, commoning, scoped-mono, agree-frame}
-use Rattle.runs.proofs.Steps.{castSteps-is, refloatSteps-is, fitSteps-is, argSteps-is, unarySteps-is, andSteps-is, orSteps-is, castFirstSteps-is, otherSteps-is, binarySteps-is, unaryExprSteps-is, floatSteps, stringSteps, callSteps-is, valueSteps-is, functionSteps-is, fits-is, callValue-is, castValue-is}
+use Rattle.conversion.proofs.Steps.{castSteps-is, refloatSteps-is, fitSteps-is, argSteps-is, unarySteps-is, andSteps-is, orSteps-is, castFirstSteps-is, otherSteps-is, binarySteps-is, unaryExprSteps-is, floatSteps, stringSteps, callSteps-is, valueSteps-is, functionSteps-is, fits-is, callValue-is, castValue-is}
 use Rattle.runs.proofs.Sim.{Ctx, body, Low, Lows, low-mono, lows-mono, Within, within-back, num-same, num-of, nameOf, num-count, float-at, string-at, stay, go1, goes, go-label, holding, holdings, hold-frame, holds-frame, SimE, gets, sim-before, sim-after, sim-bind, sim-put, sim-reply, sim-test, Good, Sound, Sounds, good-as}
 
 none-emitted : (s : State) (u : Unit {0}) (c : Code) (t : State) → emitArgs [] s ≡ made u c t → (c ≡ []) × (t ≡ s)

@@ -3,7 +3,6 @@ pub mod Place
 pub mod Invert
 pub mod Texts
 pub mod Names
-pub mod Steps
 pub mod Sim
 pub mod Exprs
 pub mod SimS

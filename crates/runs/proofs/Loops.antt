@@ -26,7 +26,7 @@ use Rattle.runs.proofs.Machine.{Code, at, write-same, write-other, coun
 use Rattle.runs.proofs.Invert.{Grow, grow-refl, grow-trans, inv, inv-then, inv-pure, inv-emit, inv-lift, inv-new, inv-label, quiet, joinE, joinS, AskedLabel, nextVar, withVar, withVar-length, withVar-grow}
 use Rattle.runs.proofs.Texts.{kinds-once}
 use Rattle.runs.proofs.Names.{known, foundType, type-known, Scoped, scoped-mono, scoped-new, Sub, sub-refl, sub-new, find-same, Agree, agree-frame, agree-sub, agree-set, agree-new, declared}
-use Rattle.runs.proofs.Steps.{whileSteps-is, forSteps-is, forRest, forNewSteps-is}
+use Rattle.conversion.proofs.Steps.{whileSteps-is, forSteps-is, forRest, forNewSteps-is}
 use Rattle.runs.proofs.Sim.{Ctx, Low, within-back, num-same, num-of, nameOf, num-count, stay, go1, go-label, holding, SimE, Good}
 use Rattle.runs.proofs.Exprs.{Fitted, good-fit, goodE}
 use Rattle.runs.proofs.SimS.{SimS, runs, long, s-later, s-before, s-bindO, s-bare, s-bindT, s-test, inside, GoodS, SoundS, goodS-as}

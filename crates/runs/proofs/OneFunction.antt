@@ -25,7 +25,7 @@ use Rattle.runs.proofs.Machine.{Code, at, Placed, placed}
 use Rattle.runs.proofs.Invert.{Prefix, prefix-refl, Grow, grow-refl, grow-trans, inv, inv-pure, inv-new, nextVar, withVar, withVar-length, withVar-grow}
 use Rattle.runs.proofs.Texts.{SameName, one, two, same-name, set-same, set-other}
 use Rattle.runs.proofs.Names.{known, Scoped, scoped-new, find-same, find-other, sub-refl, Agree}
-use Rattle.runs.proofs.Steps.{bodySteps-is, param-is}
+use Rattle.conversion.proofs.Steps.{bodySteps-is, param-is}
 use Rattle.runs.proofs.Sim.{Ctx, body, Within, nameOf}
 use Rattle.runs.proofs.SimS.{InLoop, outside, GoodS}
 use Rattle.runs.proofs.Blocks.{knownEnd, goodB}

@@ -26,7 +26,7 @@ use Rattle.conversion.specs.Shared.{bit, opensE, opensA}
 use Rattle.runs.proofs.Machine.{Code, at, count, count-append, put, exec, step, dat, argsOf, push}
 use Rattle.runs.proofs.Invert.{Grow, grow-refl, grow-trans, inv, inv-then, inv-pure, inv-emit, inv-lift, inv-last, inv-new, quiet, Quiet, joinE, joinS, noFloat, nextVar, withVar, withVar-length, withVar-grow, ask-float}
 use Rattle.runs.proofs.Names.{known, foundType, type-known, typing, resolving, scoped-mono, scoped-new, sub-refl, sub-new, agree-frame, agree-set, agree-new, declared}
-use Rattle.runs.proofs.Steps.{condSteps-is, declareSteps-is, assignSteps-is, initSteps-is, returnSteps-is, returnTyped-is, callOnlySteps-is, callStatementSteps-is, boundSteps-is, zeroFloat-is}
+use Rattle.conversion.proofs.Steps.{condSteps-is, declareSteps-is, assignSteps-is, initSteps-is, returnSteps-is, returnTyped-is, callOnlySteps-is, callStatementSteps-is, boundSteps-is, zeroFloat-is}
 use Rattle.runs.proofs.Sim.{Ctx, body, Low, Lows, Within, within-back, float-at, stay, holding, holdings, Good}
 use Rattle.runs.proofs.Exprs.{args-clear, called, Fitted, good-fit, good-fits, goodE, goodA}
 use Rattle.runs.proofs.SimS.{runs, s-before, s-bindO, s-bare, s-pass, s-finish, GoodS, SoundS, goodS-as}
