@@ -99,6 +99,6 @@ module _ (tree text : List ℕ) (l : Lengths) (scratch : ℕ) (accepted : judged
   }
 
   -- DEMAND 3 of every tree that the judge accepts
-  pub accepted-demand3 : (needsMain : Bool) → All Byte tree → (c : Counts) (w t : Tables) → conversion tree text needsMain ≡ Converted c w → Begin w t
-      → (i : ℕ) (f : Function) (b : Block) → getElem? (program tree text .functions) i ≡ some f → f .body ≡ some b → RunsAlike tree text c t i f b
-  accepted-demand3 needsMain bytes = good-demand3 tree text needsMain bytes accepted-good
+  pub accepted-demand3 : (W : Type 0) (needsMain : Bool) → All Byte tree → (c : Counts) (w t : Tables) → conversion tree text needsMain ≡ Converted c w → Begin w t
+      → (i : ℕ) (f : Function) (b : Block) → getElem? (program tree text .functions) i ≡ some f → f .body ≡ some b → RunsAlike W tree text c t i f b
+  accepted-demand3 W needsMain bytes = good-demand3 W tree text needsMain bytes accepted-good

@@ -21,9 +21,11 @@ use Rattle.conversion.specs.Written.{Counts, Tables, Refused, Converted, refuse
 use Rattle.tables.specs.Read as Read
 use Rattle.tables.specs.Read.{Begin, bodyAt}
 use Rattle.tables.proofs.ReadBack.{converted-reads-back}
-use Rattle.conversion.specs.Shared.{Agrees, bodyOf}
+use Rattle.runs.proofs.Agrees.{Agrees, bodyOf}
+use Rattle.runs.specs.Rule.{asked}
+use Rattle.runs.proofs.Whole.{alike}
 use Rattle.runs.proofs.Demand3.{demand3}
-use Rattle.accepted.specs.Demand3.{runnable, RunsAlike, Demand3}
+use Rattle.accepted.specs.Demand3.{runnable, RunsAlike, Demand3, Demand3ByRule}
 use Rattle.accepted.proofs.GoodLaws.{good-counts, good-well-formed}
 
 -- ---- the program behind an answer
@@ -64,7 +66,7 @@ found P needsMain ir e = go (get-all-functions (P .functions) []) refl e
 -- ---- the body that the buffers say is the one that runs
 
 -- the body of a function that agrees, as it is read
-unfoldable bodyRead : {P : Program} {F : Functions} {ir : IrProgram} {i : ℕ} {f : Function} {b : Block} → Agrees P F ir i f b → Read.Body
+unfoldable bodyRead : {W : Type 0} {P : Program} {F : Functions} {ir : IrProgram} {i : ℕ} {f : Function} {b : Block} → Agrees W P F ir i f b → Read.Body
 bodyRead {ir = ir} a = record {
   func = a .function .func;
   instrs = a .code;
@@ -74,30 +76,29 @@ bodyRead {ir = ir} a = record {
   floats = ir .floats;
 }
 
-body-said : {P : Program} {F : Functions} {ir : IrProgram} {i : ℕ} {f : Function} {b : Block} (a : Agrees P F ir i f b) → Read.bodyOf ir i ≡ some (bodyRead a)
+body-said : {W : Type 0} {P : Program} {F : Functions} {ir : IrProgram} {i : ℕ} {f : Function} {b : Block} (a : Agrees W P F ir i f b) → Read.bodyOf ir i ≡ some (bodyRead a)
 unfolding Read.bodyOf Read._>>=_ bodyRead
 body-said {ir = ir} a = rw (a .listed, a .body) refl
 
-runs-alike : (tree text : List ℕ) (needsMain : Bool) (c : Counts) (t : Tables) (ir : IrProgram) (F : Functions) (i : ℕ) (f : Function) (b : Block)
-    → get-all-functions (program tree text .functions) [] ≡ ok F → bodyAt c t text i ≡ Read.bodyOf ir i → Agrees (program tree text) F ir i f b → RunsAlike tree text c t i f b
+runs-alike : (W : Type 0) (tree text : List ℕ) (c : Counts) (t : Tables) (ir : IrProgram) (F : Functions) (i : ℕ) (f : Function) (b : Block)
+    → get-all-functions (program tree text .functions) [] ≡ ok F → bodyAt c t text i ≡ Read.bodyOf ir i → Agrees W (program tree text) F ir i f b → RunsAlike W tree text c t i f b
 unfolding runnable bodyOf bodyRead
-runs-alike tree text needsMain c t ir F i f b k r a = record {
-  functions = F;
-  found = k;
-  body = bodyRead a;
-  reads = r ∙ body-said a;
-  same = a .same;
-  shared = a .shared;
-}
+runs-alike W tree text c t ir F i f b k r a = record { said = record { functions = F; found = k; body = bodyRead a; reads = r ∙ body-said a; same = a .same }; shared = a .shared }
 
 -- DEMAND 3 ON BYTES
 pub good-demand3 : Demand3
-good-demand3 tree text needsMain bytes good c w t e held i f b ef eb =
+good-demand3 W tree text needsMain bytes good c w t e held i f b ef eb =
     let h = behind tree text needsMain c w e in
     let ir = h .of in
     let k = found (program tree text) needsMain ir (h .converts) in
-    runs-alike tree text needsMain c t ir (k .functions) i f b (k .found)
+    runs-alike W tree text c t ir (k .functions) i f b (k .found)
     (subst (λ n. bodyAt n t text i ≡ Read.bodyOf ir i) (sym (h .counted))
     (converted-reads-back tree text needsMain bytes (omega (arith, good .few)) ir (h .converts) (good-counts tree text good needsMain ir (h .converts)) t
     (subst (λ v. Begin v t) (h .written) held) i))
-    (demand3 (program tree text) needsMain ir (k .functions) (good-well-formed tree text good) (h .converts) (k .found) i f b ef eb)
+    (demand3 W (program tree text) needsMain ir (k .functions) (good-well-formed tree text good) (h .converts) (k .found) i f b ef eb)
+
+-- as document 01 has it: calls answered by the rule
+pub demand3-asked : Demand3ByRule
+demand3-asked W tree text needsMain bytes good c w t e held i f b ef eb =
+    let a = good-demand3 W tree text needsMain bytes good c w t e held i f b ef eb in
+    record { said = a .said; alike = λ R vs ρ len place. alike (a .shared R (asked R) vs ρ len place) }

@@ -18,7 +18,7 @@ use Rattle.conversion.proofs.Sizes.{IfOk, Suffice, tree-suffices}
 use Rattle.conversion.proofs.Bytes.{Fit, judged-fits}
 use Rattle.tables.specs.Exists.{CountsFit}
 use Rattle.tables.proofs.Judged.{judged-counts}
-use Rattle.conversion.specs.Shared.{WellFormed}
+use Rattle.runs.proofs.Opens.{WellFormed}
 use Rattle.accepted.proofs.Opened.{once-well-formed}
 
 module _ (tree text : List ℕ) (good : Good tree text) where

@@ -20,7 +20,7 @@ use Rattle.syntax.specs.Decode.{Node, absent, expr, value, toType, stmt, variab
 use Rattle.syntax.proofs.Sums.{sum-le, sum-add, sum-swap, sum-times, hit, sum-hit}
 use Rattle.syntax.proofs.Unfold.{node-is}
 use Rattle.syntax.proofs.Held.{Leads, nowhere, leads, leadsByKind, mentionsBy, mentions, Once}
-use Rattle.conversion.specs.Shared.{bit, logicOpens, opensE, opensA, opensS, opensB, WellFormed}
+use Rattle.runs.proofs.Opens.{bit, logicOpens, opensE, opensA, opensS, opensB, WellFormed}
 
 -- ---- how often x, as a record that opens labels, is met below a node; a function is referred to by nobody
 

@@ -1,4 +1,3 @@
-pub mod Alike
 pub mod Trees
 pub mod Casts
 pub mod Marked

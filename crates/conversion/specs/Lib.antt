@@ -8,7 +8,3 @@ pub mod Statements
 pub mod Functions
 pub mod Converter
 pub mod Written
-pub mod Rule
-pub mod TreeRun
-pub mod BodyRun
-pub mod Shared

@@ -9,9 +9,9 @@ use Rattle.syntax.specs.Syntax.{Statement, SDeclare, SInit, SReturn, SCall, SIf
 use Rattle.conversion.specs.Ir.{State, made, M, pure}
 use Rattle.conversion.specs.Scope.{Scope, withLoop}
 use Rattle.conversion.specs.Statements.{convert-statement, convert-block}
-use Rattle.conversion.specs.Rule.{Calls}
-use Rattle.conversion.specs.TreeRun.{Known, Values, Out, normal, bindS, runStatement, runBlock, knownAfter}
-use Rattle.conversion.specs.Shared.{opensS, opensB}
+use Rattle.runs.specs.Rule.{Calls}
+use Rattle.runs.specs.TreeRun.{Known, Values, Out, normal, bindS, runStatement, runBlock, knownAfter}
+use Rattle.runs.proofs.Opens.{opensS, opensB}
 use Rattle.runs.proofs.Machine.{Code, at, count, count-append, placed-drop}
 use Rattle.runs.proofs.Invert.{grow-refl, grow-trans, inv, inv-pure}
 use Rattle.runs.proofs.Names.{known, sub-refl, sub-trans}

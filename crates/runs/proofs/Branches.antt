@@ -14,11 +14,11 @@ use Rattle.conversion.specs.Ir.{Operand, Label, Jump, JumpIfNot, Comment, loopS
 use Rattle.conversion.specs.Scope.{Variable, Scope}
 use Rattle.conversion.specs.Expressions.{Functions}
 use Rattle.conversion.specs.Statements.{convert-if, convertIfElse, convert-break, convert-continue}
-use Rattle.conversion.specs.Rule.{Calls, Datum, read}
-use Rattle.conversion.specs.TreeRun.{Known, Values, Got, Out, normal, broke, continued, bindO, testO, evalExpr}
-use Rattle.conversion.specs.BodyRun.{Vars, isLabel, operand}
-use Rattle.conversion.specs.Shared.{bit, opensE}
-use Rattle.runs.proofs.Machine.{Code, at, count, count-append, placed-drop, exec, step, dat}
+use Rattle.runs.specs.Rule.{Calls, Datum, read}
+use Rattle.runs.specs.TreeRun.{Known, Values, Got, Out, normal, broke, continued, bindO, testO, evalExpr}
+use Rattle.runs.specs.BodyRun.{Vars, isLabel, operand}
+use Rattle.runs.proofs.Opens.{bit, opensE}
+use Rattle.runs.proofs.Machine.{Code, at, count, count-append, goto, placed-drop, exec, step, dat}
 use Rattle.runs.proofs.Invert.{grow-trans, inv, inv-then, inv-pure, inv-emit, inv-label, joinE, joinS, AskedLabel}
 use Rattle.runs.proofs.Texts.{kinds-once}
 use Rattle.runs.proofs.Names.{known, scoped-mono, Sub, sub-refl, Agree, agree-frame, agree-sub}
@@ -67,7 +67,7 @@ module _ {W : Type 0} (X : Ctx W) where
             let pa = placed-drop (X .code) co _ pl .1 in
             let pe = placed-drop (X .code) ca _ pa in
             s-bindO X _ (G .sim (within-back X (l2 .grow) w2) g _ ρ σ h ag pl) λ ρ1 h1 f1.
-            s-test X _ refl
+            s-test X _ (goto (X .code) m) refl
             (s-after X (λ ρ2 h2. go1 X refl) (H .sub) (H .sim w3 (scoped-mono (g2 .vars) g) lvs il sb i _ ρ1 σ h1 (agree-frame g f1 ag) pa))
             (runs ρ1 (rw en (go-label X (pe .0))) (agree-frame g f1 ag));
       }
@@ -131,7 +131,7 @@ module _ {W : Type 0} (X : Ctx W) where
             let po = placed-drop (X .code) ca _ pa .1 in
             let pe = placed-drop (X .code) cb _ (po .1) in
             s-bindO X _ (G .sim (within-back X (l2 .grow) w2) g _ ρ σ h ag pl) λ ρ1 h1 f1.
-            s-test X _ refl
+            s-test X _ (goto (X .code) m) refl
             (s-after X (λ ρ2 h2. goes X (go1 X refl) (rw en (go-label X (pe .0)))) (H .sub) (H .sim w3 (scoped-mono (g2 .vars) g) lvs il sb i _ ρ1 σ h1 (agree-frame g f1 ag) pa))
             (s-before X (rw em (go-label X (po .0)))
             (s-after X (λ ρ2 h2. go1 X refl) (K .sub) (K .sim w6 (scoped-mono n5 g) lvs il sb i _ ρ1 σ h1 (agree-frame g f1 ag) (po .1))));

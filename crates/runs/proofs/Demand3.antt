@@ -14,7 +14,8 @@ use Rattle.conversion.specs.Ir.{Instr, State, Out, made, failed, IrFunction, Ir
 use Rattle.conversion.specs.Expressions.{Functions}
 use Rattle.conversion.specs.Functions.{Pool, get-all-functions, check-main, convertBody, finished, convertFunction, convert-func}
 use Rattle.conversion.specs.Converter.{convertAll, convert}
-use Rattle.conversion.specs.Shared.{Agrees, bodyOf, opensB, WellFormed}
+use Rattle.runs.proofs.Opens.{opensB, WellFormed}
+use Rattle.runs.proofs.Agrees.{Agrees, bodyOf}
 use Rattle.runs.proofs.Invert.{Prefix, prefix-refl, prefix-trans}
 use Rattle.runs.proofs.OneFunction.{one-function, body-grows}
 
@@ -137,11 +138,11 @@ all P F (f ∷ fs) l p ir e =
 
 -- ---- the theorem
 
-agreed : (P : Program) (F : Functions) (ir : IrProgram) (i : ℕ) (f : Function) (b : Block) → f .body ≡ some b → ((x : ℕ) → opensB b x ≤ 1) → Listed P F ir i f → Agrees P F ir i f b
+agreed : (W : Type 0) (P : Program) (F : Functions) (ir : IrProgram) (i : ℕ) (f : Function) (b : Block) → f .body ≡ some b → ((x : ℕ) → opensB b x ≤ 1) → Listed P F ir i f → Agrees W P F ir i f b
 unfolding bodyOf
-agreed P F ir i f b eb once L = go (L .made-so)
+agreed W P F ir i f b eb once L = go (L .made-so)
   where
-    go : Converted P F f (L .before) (L .function) (L .after) → Agrees P F ir i f b
+    go : Converted P F f (L .before) (L .function) (L .after) → Agrees W P F ir i f b
     go (without e z) = let n : _≡_ {A = ℕ} 0 1 = cc in absurd (omega arith)
     go (with-body b1 u c t e z eg eq) = record {
       function = L .function;
@@ -170,8 +171,8 @@ parts P needsMain ir F e k = go (get-all-functions (P .functions) []) k (check-m
     go (err h r) z u w = let n : _≡_ {A = ℕ} 0 1 = cc in absurd (omega arith)
 
 -- DEMAND 3: of every program that converts, each function with a body runs alike on the tree and on its instructions
-pub demand3 : (P : Program) (needsMain : Bool) (ir : IrProgram) (F : Functions) → WellFormed P → convert P needsMain ≡ ok ir → get-all-functions (P .functions) [] ≡ ok F
-    → (i : ℕ) (f : Function) (b : Block) → getElem? (P .functions) i ≡ some f → f .body ≡ some b → Agrees P F ir i f b
-demand3 P needsMain ir F wf e k i f b ef eb =
-    agreed P F ir i f b eb (wf .once i f b ef eb)
+pub demand3 : (W : Type 0) (P : Program) (needsMain : Bool) (ir : IrProgram) (F : Functions) → WellFormed P → convert P needsMain ≡ ok ir → get-all-functions (P .functions) [] ≡ ok F
+    → (i : ℕ) (f : Function) (b : Block) → getElem? (P .functions) i ≡ some f → f .body ≡ some b → Agrees W P F ir i f b
+demand3 W P needsMain ir F wf e k i f b ef eb =
+    agreed W P F ir i f b eb (wf .once i f b ef eb)
     (subst (λ n. Listed P F ir n f) (omega arith) (all P F (P .functions) [] (record { strings = []; floats = [] }) ir (parts P needsMain ir F e k .everything) .each i f ef))

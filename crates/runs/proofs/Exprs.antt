@@ -19,12 +19,12 @@ use Rattle.conversion.specs.Ir.{pure, VarId, Operand, OVar, OInt, OFloat, OBool
 use Rattle.conversion.specs.Scope.{Variable, Scope, findIn}
 use Rattle.conversion.specs.Expressions.{Callee, CallFunction, CallCast, Functions, givesBool, accepted, operandsError, binaryType, filterOption, acceptsClass, operandClass, commonOf, nameType, unwrapOr, get-type, resolve-call, common-type}
 use Rattle.conversion.specs.Statements.{castOperand, refloat, fit-operand, parameterType, fitFrom, emitArgs, convert-unary, convertAnd, convertOr, castFirst, convertOther, convertBinaryBy, callFunction, callValue, convert-expr, convert-args, nameOperand, sizeOperand}
-use Rattle.conversion.specs.Rule.{Calls, Literal, IntLiteral, FloatLiteral, BoolLiteral, StringLiteral, NullLiteral, Datum, constant, computed, read}
-use Rattle.conversion.specs.TreeRun.{Values, Got, value, bindG, answered, typed, fitLiteral, fitComputed, fit, fitArguments, toBool, evalAnd, evalOr, evalOther, evalBinary, callWith, evalExpr, evalArgs, scopeOf, sizeDatum}
-use Rattle.conversion.specs.TreeRun as Tree
-use Rattle.conversion.specs.BodyRun.{Vars, datum, isLabel, operand}
-use Rattle.conversion.specs.Shared.{bit, opensE, opensA, logicOpens}
-use Rattle.runs.proofs.Machine.{Code, at, count, count-append, placed-drop, exec, step, dat, dats, argsOf, push}
+use Rattle.runs.specs.Rule.{Calls, Literal, IntLiteral, FloatLiteral, BoolLiteral, StringLiteral, NullLiteral, Datum, constant, computed, read}
+use Rattle.runs.specs.TreeRun.{Values, Got, value, bindG, answered, typed, fitLiteral, fitComputed, fit, fitArguments, toBool, evalAnd, evalOr, evalOther, evalBinary, callWith, evalExpr, evalArgs, scopeOf, sizeDatum}
+use Rattle.runs.specs.TreeRun as Tree
+use Rattle.runs.specs.BodyRun.{Vars, datum, isLabel, operand}
+use Rattle.runs.proofs.Opens.{bit, opensE, opensA, logicOpens}
+use Rattle.runs.proofs.Machine.{Code, at, count, count-append, goto, placed-drop, exec, step, dat, dats, argsOf, push}
 use Rattle.runs.proofs.Invert.{Grow, grow-refl, grow-trans, inv, inv-then, inv-pure, inv-emit, inv-lift, inv-last, inv-new, inv-label, joinE, joinS, AskedLabel, noFloat, inv-bits, prefix-getD, prefix-refl, prefix-trans, position-holds, found-in, nextVar, withVar, withVar-length, withVar-grow, ask-string, ask-float}
 use Rattle.runs.proofs.Texts.{kinds-once, float-refl}
 use Rattle.runs.proofs.Names.{known, typing, resolving, commoning, scoped-mono, agree-frame}
@@ -151,7 +151,7 @@ module _ {W : Type 0} (X : Ctx W) where
             let pr = placed-drop (X .code) ca _ pl .1 .1 in
             sim-bind X _ n3 (L .sim (within-back X (l6 .grow) w6) (scoped-mono n3 g) _ ρ σ h ag pl) λ ρ1 h1 f1.
             sim-bind X _ (le-refl _) (sim-put X d _ h1 (le-refl _) refl) λ ρ2 h2 f2.
-            sim-test X _ refl
+            sim-test X _ (goto (X .code) m) refl
             (sim-bind X _ n6 (M .sim w8 (scoped-mono n6 g) _ ρ2 σ h2 (agree-frame g (λ x b. f2 x b ∙ f1 x (omega (arith, n3))) ag) pr) λ ρ3 h3 f3.
             sim-after X (λ ρ4 h4. go1 X refl) (sim-put X d _ h3 (le-refl _) refl))
             (gets ρ2 (rw en (go-label X (placed-drop (X .code) cb _ pr .1 .0))) (λ x b. refl) refl);
@@ -215,7 +215,7 @@ module _ {W : Type 0} (X : Ctx W) where
             let pr = placed-drop (X .code) ca _ pl .1 .1 .1 in
             sim-bind X _ n3 (L .sim (within-back X (l6 .grow) w6) (scoped-mono n3 g) _ ρ σ h ag pl) λ ρ1 h1 f1.
             sim-bind X _ (le-refl _) (sim-put X d _ h1 (le-refl _) refl) λ ρ2 h2 f2.
-            sim-test X _ refl
+            sim-test X _ (goto (X .code) m) refl
             (gets ρ2 (goes X (go1 X refl) (rw en (go-label X (placed-drop (X .code) cb _ (pr .1) .1 .0)))) (λ x b. refl) refl)
             (sim-before X (rw em (go-label X (pr .0)))
             (sim-bind X _ n9 (M .sim w11 (scoped-mono n9 g) _ ρ2 σ h2 (agree-frame g (λ x b. f2 x b ∙ f1 x (omega (arith, n3))) ag) (pr .1)) λ ρ3 h3 f3.

@@ -15,10 +15,12 @@ use Rattle.conversion.specs.Ir.{Instr, IrFunction, IrProgram}
 use Rattle.conversion.specs.Expressions.{Functions}
 use Rattle.conversion.specs.Functions.{get-all-functions}
 use Rattle.conversion.specs.Converter.{convert}
-use Rattle.conversion.specs.Rule.{asked}
-use Rattle.conversion.specs.BodyRun.{Vars, bodyRun}
-use Rattle.conversion.specs.Shared.{Shared, InPlace, bodyOf, bit, logicOpens, opensE, opensB, WellFormed}
-use Rattle.conversion.proofs.Alike.{typeOf, rate, ask, bound, guardBody, guard, eitherBody, either, loopBody, loop, program, rule, functions, converted, codeOf, treeOf, madeOf, begin}
+use Rattle.runs.specs.Rule.{asked}
+use Rattle.runs.specs.BodyRun.{Vars, bodyRun}
+use Rattle.runs.specs.Shared.{Shared, InPlace}
+use Rattle.runs.proofs.Opens.{bit, logicOpens, opensE, opensB, WellFormed}
+use Rattle.runs.proofs.Agrees.{bodyOf}
+use Rattle.runs.proofs.Alike.{typeOf, rate, ask, bound, guardBody, guard, eitherBody, either, loopBody, loop, program, rule, functions, converted, codeOf, treeOf, madeOf, begin}
 use Rattle.runs.proofs.Machine.{Same, is, isnt, same}
 use Rattle.runs.proofs.Demand3.{demand3}
 
@@ -92,7 +94,7 @@ shared : (i : ℕ) (f : Function) (b : Block) (vs : List ℕ) (ρ : Vars ℕ) �
     → length vs ≡ length (f .params) → InPlace vs ρ → Shared (treeOf f b vs) (madeOf i f ρ) (f .returnType)
 unfolding treeOf madeOf
 shared i f b vs ρ e k len place =
-    let a = demand3 program false ir funs well-formed converts found i f b e k in
+    let a = demand3 ℕ program false ir funs well-formed converts found i f b e k in
     subst (λ c. Shared (treeOf f b vs) (bodyRun rule (asked rule) (bodyOf f c ir) ρ) (f .returnType))
     (code-is (ir .funcs) i (a .function) (a .code) (a .listed) (a .body)) (a .shared rule (asked rule) vs ρ len place)
 

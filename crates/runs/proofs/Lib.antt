@@ -1,3 +1,5 @@
+pub mod Opens
+pub mod Agrees
 pub mod Machine
 pub mod Place
 pub mod Invert
@@ -14,4 +16,5 @@ pub mod Whole
 pub mod Returns
 pub mod OneFunction
 pub mod Demand3
+pub mod Alike
 pub mod Instance

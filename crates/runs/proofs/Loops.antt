@@ -17,12 +17,12 @@ use Rattle.conversion.specs.Types.{onInt}
 use Rattle.conversion.specs.Ir.{Operand, OVar, OInt, Copy, Binary, Label, Jump, JumpIfNot, loopStart, loopEnd, loopCheck, State, made, M, fail}
 use Rattle.conversion.specs.Scope.{Variable, Scope, findIn, withVariable, withLoop}
 use Rattle.conversion.specs.Statements.{convert-while-loop, forLoop, forInt, forKnown, convert-for-loop}
-use Rattle.conversion.specs.Rule.{Calls, IntLiteral, Datum, constant, read}
-use Rattle.conversion.specs.TreeRun as Tree
-use Rattle.conversion.specs.TreeRun.{Known, Values, set, typeIn, Got, Out, stopped, bare, bindO, fit, evalExpr, turns, rounds, forOver}
-use Rattle.conversion.specs.BodyRun.{Vars, write, datum, isLabel, operand}
-use Rattle.conversion.specs.Shared.{bit, opensE}
-use Rattle.runs.proofs.Machine.{Code, at, write-same, write-other, count, count-append, goto, Placed, placed-drop, branch, exec, step, dat, one}
+use Rattle.runs.specs.Rule.{Calls, IntLiteral, Datum, constant, read}
+use Rattle.runs.specs.TreeRun as Tree
+use Rattle.runs.specs.TreeRun.{Known, Values, set, typeIn, Got, Out, stopped, bare, bindO, fit, evalExpr, turns, rounds, forOver}
+use Rattle.runs.specs.BodyRun.{Vars, write, datum, isLabel, operand}
+use Rattle.runs.proofs.Opens.{bit, opensE}
+use Rattle.runs.proofs.Machine.{Code, at, write-same, write-other, count, count-append, goto, Placed, placed-drop, aim, aim-at, branch, exec, step, dat, one}
 use Rattle.runs.proofs.Invert.{Grow, grow-refl, grow-trans, inv, inv-then, inv-pure, inv-emit, inv-lift, inv-new, inv-label, quiet, joinE, joinS, AskedLabel, nextVar, withVar, withVar-length, withVar-grow}
 use Rattle.runs.proofs.Texts.{kinds-once}
 use Rattle.runs.proofs.Names.{known, foundType, type-known, Scoped, scoped-mono, scoped-new, Sub, sub-refl, sub-new, find-same, Agree, agree-frame, agree-sub, agree-set, agree-new, declared}
@@ -50,15 +50,15 @@ module _ {W : Type 0} (X : Ctx W) where
       (Hb : (k : Code) (ρ : Vars W) (σ : Values W) (h : Calls W) → Agree vs σ ρ → Placed (X .code) (cb ++ k) → SimS X n true vs ls le (at (cb ++ k) [] ρ h) k us (evb σ h))
       (k : Code) (pl : Placed (X .code) (Label ls ∷ (co ++ (JumpIfNot o le ∷ (cb ++ (Jump ls ∷ Label le ∷ k)))))) where
     while-turns : {lp : Bool} {lvs : List Variable} {ls0 le0 : ℕ} (m : ℕ) → m ≤ n → (ρ : Vars W) (σ : Values W) (h : Calls W) → Agree vs σ ρ
-        → SimS X m lp lvs ls0 le0 (at (goto (X .code) ls) [] ρ h) k vs (turns (X .prog) (X .funs) (X .fun) (X .rule) (X .answers) m ev evb σ h)
-    unfolding turns step exec go1 one operand dat
-    while-turns zero i ρ σ h ag = long (goto (X .code) ls) [] ρ (stay X) (omega arith)
+        → SimS X m lp lvs ls0 le0 (aim (goto (X .code) ls) [] ρ h) k vs (turns (X .prog) (X .funs) (X .fun) (X .rule) (X .answers) m ev evb σ h)
+    unfolding turns step exec aim go1 one operand dat
+    while-turns zero i ρ σ h ag = rw (pl .0) (long _ [] ρ (stay X) (omega arith))
     while-turns (suc m) i ρ σ h ag = rw (pl .0)
         (let pb = placed-drop (X .code) co _ (pl .1) .1 in
         let pe = placed-drop (X .code) cb _ pb .1 .0 in
         s-later X {n = m} (go1 X refl) (omega arith)
         (s-bindO X _ (Hc _ ρ σ h ag (pl .1)) λ ρ1 h1 f1.
-        s-test X _ refl
+        s-test X _ (goto (X .code) le) refl
         (s-bindT X _ (omega arith) sub sub-refl (Hb _ ρ1 σ h1 (agree-frame g f1 ag) pb)
         (λ ρ2 h2. go1 X refl) (λ ρ2 h2. go-label X pe)
         (λ σ2 ρ2 h2 a2. while-turns m (omega arith) ρ2 σ2 h2 a2))
@@ -104,7 +104,7 @@ module _ {W : Type 0} (X : Ctx W) where
             let e1 : m1 ≡ ls = num-same X (num-of X l5 w5) ns in
             let e2 : m2 ≡ le = num-same X (num-of X l6 w) ne in
             rw (append-assoc co _ k, append-assoc cb _ k, e1, e2) λ pl.
-            rw (← pl .0) (while-turns i o co cb (scoped-mono n1 g) (H .sub) (λ k1 ρ1 σ1 h1 a1 p1. G .sim w2 (scoped-mono n1 g) k1 ρ1 σ1 h1 a1 p1)
+            rw (← aim-at (goto (X .code) ls) _ [] ρ h (pl .0)) (while-turns i o co cb (scoped-mono n1 g) (H .sub) (λ k1 ρ1 σ1 h1 a1 p1. G .sim w2 (scoped-mono n1 g) k1 ρ1 σ1 h1 a1 p1)
             (λ k1 ρ1 σ1 h1 a1 p1. H .sim w4 (scoped-mono n3 g) (sc .variables) (inside ns ne) sub-refl i k1 ρ1 σ1 h1 a1 p1) k pl i (le-refl i) ρ σ h ag);
       }
 
@@ -140,9 +140,9 @@ module _ {W : Type 0} (X : Ctx W) where
       (k : Code) (pl : Placed (X .code) (Label ls ∷ Binary (v .var-id) Add (OVar (v .var-id)) (OInt (pos 1) short unsigned) ∷ Label mk ∷ (cu ++ (fu ++ (Binary (record { id = t3; ty = boolType }) Lt (OVar (v .var-id)) u1
       ∷ JumpIfNot (OVar (record { id = t3; ty = boolType })) le ∷ (cb ++ (Jump ls ∷ Label le ∷ k))))))) where
     for-rounds : {lp : Bool} {lvs : List Variable} {ls0 le0 : ℕ} (m : ℕ) → m ≤ n → (ρ : Vars W) (σ : Values W) (h : Calls W) → Agree ds σ ρ
-        → SimS X m lp lvs ls0 le0 (at (goto (X .code) mk) [] ρ h) k vs (rounds (X .prog) (X .funs) (X .fun) (X .rule) (X .answers) m nm (v .var-id .ty) (IntLiteral (pos 1) short unsigned) ev evb σ h)
-    unfolding rounds step exec go1 one operand dat datum read
-    for-rounds zero i ρ σ h ag = long (goto (X .code) mk) [] ρ (stay X) (omega arith)
+        → SimS X m lp lvs ls0 le0 (aim (goto (X .code) mk) [] ρ h) k vs (rounds (X .prog) (X .funs) (X .fun) (X .rule) (X .answers) m nm (v .var-id .ty) (IntLiteral (pos 1) short unsigned) ev evb σ h)
+    unfolding rounds step exec aim go1 one operand dat datum read
+    for-rounds zero i ρ σ h ag = rw (pl .1 .1 .0) (long _ [] ρ (stay X) (omega arith))
     for-rounds (suc m) i ρ σ h ag = rw (pl .1 .1 .0)
         (let pf = placed-drop (X .code) cu _ (pl .1 .1 .1) in
         let pb = placed-drop (X .code) fu _ pf .1 .1 in
@@ -154,13 +154,13 @@ module _ {W : Type 0} (X : Ctx W) where
         rw (sym (a2 .same nm v sx))
         (s-bare X _ ρ2 t3 _ h2 refl λ w.
         let a3 : Agree ds σ (write ρ2 t3 w) = agree-frame gd (λ z c. write-other ρ2 t3 z w (omega (arith, n3))) a2 in
-        s-test X _ (ap (λ z. branch (X .rule .truth (boolType, z)) (cb ++ (Jump ls ∷ Label le ∷ k)) (goto (X .code) le) [] (write ρ2 t3 w) h2) (write-same ρ2 t3 w))
+        s-test X _ (goto (X .code) le) (ap (λ z. branch (X .rule .truth (boolType, z)) (cb ++ (Jump ls ∷ Label le ∷ k)) (goto (X .code) le) [] (write ρ2 t3 w) h2) (write-same ρ2 t3 w))
         (s-bindT X _ (omega arith) inner sub (Hb _ (write ρ2 t3 w) σ h2 a3 pb)
         (λ ρ4 h4. go1 X refl) (λ ρ4 h4. go-label X pe)
         (λ σ4 ρ4 h4 a4. rw (pl .0) (s-before X (go1 X refl)
         (rw (sym (a4 .same nm v sx))
         (s-bare X _ ρ4 (v .var-id .id) _ h4 refl λ w1.
-        rw (← pl .1 .1 .0) (for-rounds m (omega arith) (write ρ4 (v .var-id .id) w1) (set σ4 nm w1) h4 (agree-set σ4 ρ4 nm v w1 gd sx a4)))))))
+        rw (← aim-at (goto (X .code) mk) _ [] (write ρ4 (v .var-id .id) w1) h4 (pl .1 .1 .0)) (for-rounds m (omega arith) (write ρ4 (v .var-id .id) w1) (set σ4 nm w1) h4 (agree-set σ4 ρ4 nm v w1 gd sx a4)))))))
         (runs (write ρ2 t3 w) (go-label X pe) (agree-sub sub a3)))))
 
   -- the whole For, in the scope sc from s on; sd is the scope of its body, s0 the state in which its variable is there

@@ -3,7 +3,7 @@
 use mathlib.Core.Path.{_≡_, refl, sym, _∙_, ap, subst, subst⁻¹}
 use mathlib.Core.Logic.{_≢_}
 use mathlib.Core.List.{List, [], _∷_, _++_, append-assoc, append-nil}
-use mathlib.Core.Option.{none, some}
+use mathlib.Core.Option.{Option, none, some}
 use mathlib.Core.Bool.{Bool, true, false}
 use Prim.Native.Nat.{ℕ, zero, suc, _+_, _≤_}
 use native.Mathlib.Nat.{zero-add, suc-add}
@@ -11,9 +11,9 @@ use native.Mathlib.Omega.{arith}
 use lib.Dec.{eqb, T, eqb→eq, eqb-refl}
 use Rattle.laws.specs.Fix.{pick}
 use Rattle.conversion.specs.Ir.{Operand, Instr, Copy, Unary, Binary, Cast, Zero, Arg, Call, Label, Jump, JumpIfNot, Return, Comment}
-use Rattle.conversion.specs.Rule.{Answer, gives, halt, Truth, holds, fails, halts, Typed, Calls, Rule, Reply, comes, pending, Answers, Datum, read, readAll, Ending, passed, returns, stopped}
-use Rattle.conversion.specs.BodyRun.{Body, Vars, write, datum, isLabel, operand}
-use Rattle.conversion.specs.Shared.{bit}
+use Rattle.runs.specs.Rule.{Answer, gives, halt, Truth, holds, fails, halts, Typed, Calls, Rule, Reply, comes, pending, Answers, Datum, read, readAll, Ending, passed, returns, stopped}
+use Rattle.runs.specs.BodyRun.{Body, Vars, write, datum, isLabel, operand}
+use Rattle.runs.proofs.Opens.{bit}
 
 abbrev pub Code : Type 0
 Code = List Instr
@@ -25,6 +25,7 @@ pub data Cfg (W : Type 0) : Type 0 where
   at : Code → Queue W → Vars W → Calls W → Cfg W
   ended : Ending W → Calls W → Cfg W
   waiting : Calls W → Cfg W
+  astray : Calls W → Cfg W
 
 -- ---- tests on numbers
 
@@ -73,10 +74,10 @@ unfolding count
 count-append l [] b = omega arith
 count-append l (i ∷ r) b = let h = count-append l r b in omega arith
 
--- the code from a label on
-unfoldable pub goto : Code → ℕ → Code
-goto [] l = []
-goto (i ∷ r) l = elim (isLabel l i) [ true ↦ i ∷ r | false ↦ goto r l ]
+-- the code from a label on, if it is placed
+unfoldable pub goto : Code → ℕ → Option Code
+goto [] l = none
+goto (i ∷ r) l = elim (isLabel l i) [ true ↦ some (i ∷ r) | false ↦ goto r l ]
 
 pub goto-skip : (l : ℕ) (a b : Code) → count l a ≡ 0 → goto (a ++ b) l ≡ goto b l
 unfolding count goto
@@ -87,7 +88,7 @@ goto-skip l (i ∷ r) b h = go (isLabel l i) refl (λ h1. goto-skip l r b h1)
     go true e k = absurd (omega (arith, ap bit e))
     go false e k = rw (e, goto) (k (omega arith))
 
-pub goto-here : (l : ℕ) (b : Code) → goto (Label l ∷ b) l ≡ Label l ∷ b
+pub goto-here : (l : ℕ) (b : Code) → goto (Label l ∷ b) l ≡ some (Label l ∷ b)
 unfolding goto isLabel
 goto-here l b = rw (eqb-same l, goto) refl
 
@@ -100,7 +101,7 @@ AtLabel C (Cast d o) r = Unit {0}
 AtLabel C (Zero d) r = Unit {0}
 AtLabel C (Arg o) r = Unit {0}
 AtLabel C (Call d f) r = Unit {0}
-AtLabel C (Label m) r = goto C m ≡ Label m ∷ r
+AtLabel C (Label m) r = goto C m ≡ some (Label m ∷ r)
 AtLabel C (Jump m) r = Unit {0}
 AtLabel C (JumpIfNot o m) r = Unit {0}
 AtLabel C (Return o) r = Unit {0}
@@ -119,7 +120,7 @@ unfolding count isLabel
 placed-from C a [] e h = tt
 placed-from C a (i ∷ r) e h = (go i e, placed-from C (a ++ (i ∷ [])) r (rw append-assoc e) h)
   where
-    there : (l : ℕ) → a ++ (Label l ∷ r) ≡ C → goto C l ≡ Label l ∷ r
+    there : (l : ℕ) → a ++ (Label l ∷ r) ≡ C → goto C l ≡ some (Label l ∷ r)
     there l e1 = rw (← e1) (goto-skip l a (Label l ∷ r) (omega (arith, h l, ap (count l) e1, count-append l a (Label l ∷ r), ap bit (eqb-same l))) ∙ goto-here l r)
 
     go : (j : Instr) → a ++ (j ∷ r) ≡ C → AtLabel C j r
@@ -157,9 +158,18 @@ unfoldable pub passR : {W : Type 0} → Reply W → Code → Queue W → Vars W 
 passR (comes u) r q ρ h = pass u r q ρ h
 passR pending r q ρ h = waiting h
 
-unfoldable pub branch : {W : Type 0} → Truth → Code → Code → Queue W → Vars W → Calls W → Cfg W
+-- a jump to the code from a label on
+unfoldable pub aim : {W : Type 0} → Option Code → Queue W → Vars W → Calls W → Cfg W
+aim (some r) q ρ h = at r q ρ h
+aim none q ρ h = astray h
+
+pub aim-at : {W : Type 0} (o : Option Code) (r : Code) (q : Queue W) (ρ : Vars W) (h : Calls W) → o ≡ some r → aim o q ρ h ≡ at r q ρ h
+unfolding aim
+aim-at o r q ρ h e = rw e refl
+
+unfoldable pub branch : {W : Type 0} → Truth → Code → Option Code → Queue W → Vars W → Calls W → Cfg W
 branch holds r s q ρ h = at r q ρ h
-branch fails r s q ρ h = at s q ρ h
+branch fails r s q ρ h = aim s q ρ h
 branch halts r s q ρ h = ended stopped h
 
 unfoldable pub finish : {W : Type 0} → Answer W → Calls W → Cfg W
@@ -178,10 +188,10 @@ module _ {W : Type 0} (R : Rule W) (A : Answers W) (B : Body) where
   exec (Cast d a) r q ρ h = put (R .cast (d .ty) (operand R A B ρ a)) (d .id) r q ρ h
   exec (Zero d) r q ρ h = put (R .zero (d .ty)) (d .id) r q ρ h
   exec (Arg a) r q ρ h = at r (q ++ (operand R A B ρ a ∷ [])) ρ h
-  exec (Call (some d) f) r q ρ h = putR (A h f q .0) (d .id) r [] ρ (h ++ A h f q .1)
-  exec (Call none f) r q ρ h = passR (A h f q .0) r [] ρ (h ++ A h f q .1)
+  exec (Call (some d) f) r q ρ h = putR (A h f (some (d .ty)) q .0) (d .id) r [] ρ (h ++ A h f (some (d .ty)) q .1)
+  exec (Call none f) r q ρ h = passR (A h f none q .0) r [] ρ (h ++ A h f none q .1)
   exec (Label l) r q ρ h = at r q ρ h
-  exec (Jump l) r q ρ h = at (goto (B .instrs) l) q ρ h
+  exec (Jump l) r q ρ h = aim (goto (B .instrs) l) q ρ h
   exec (JumpIfNot a l) r q ρ h = branch (R .truth (operand R A B ρ a)) r (goto (B .instrs) l) q ρ h
   exec (Return a) r q ρ h = finish (R .return (B .result) (operand R A B ρ a)) h
   exec (Comment s) r q ρ h = at r q ρ h
@@ -191,6 +201,7 @@ module _ {W : Type 0} (R : Rule W) (A : Answers W) (B : Body) where
   step (at (i ∷ r) q ρ h) = exec i r q ρ h
   step (ended e h) = ended e h
   step (waiting h) = waiting h
+  step (astray h) = astray h
 
   unfoldable pub steps : ℕ → Cfg W → Cfg W
   steps zero c = c
@@ -220,8 +231,8 @@ module _ {W : Type 0} (R : Rule W) (A : Answers W) (B : Body) where
   unfolding steps
   one p = record { many = 1; comes = p }
 
-  pub to-label : {l : ℕ} {k : Code} {q : Queue W} {ρ : Vars W} {h : Calls W} → goto (B .instrs) l ≡ Label l ∷ k → To (at (goto (B .instrs) l) q ρ h) (at k q ρ h)
-  unfolding step exec
+  pub to-label : {l : ℕ} {k : Code} {q : Queue W} {ρ : Vars W} {h : Calls W} → goto (B .instrs) l ≡ some (Label l ∷ k) → To (aim (goto (B .instrs) l) q ρ h) (at k q ρ h)
+  unfolding step exec aim
   to-label e = rw e (one refl)
 
   -- what operands hold

@@ -12,9 +12,9 @@ use Rattle.conversion.specs.ConvertError.{ok, _>>=_}
 use Rattle.conversion.specs.Ir.{sameText}
 use Rattle.conversion.specs.Scope.{Variable, Scope, findIn, withVariable, declareNew, declare}
 use Rattle.conversion.specs.Expressions.{Functions, nameType, unaryType, binaryType, commonOf, resolveTyped, valueType, return-type, get-type, get-argument-types, resolve-call, common-type}
-use Rattle.conversion.specs.TreeRun as Tree
-use Rattle.conversion.specs.TreeRun.{Known, Values, set, typeIn, scopeOf}
-use Rattle.conversion.specs.BodyRun.{Vars, write}
+use Rattle.runs.specs.TreeRun as Tree
+use Rattle.runs.specs.TreeRun.{Known, Values, set, typeIn, scopeOf}
+use Rattle.runs.specs.BodyRun.{Vars, write}
 use Rattle.runs.proofs.Machine.{write-same, write-other}
 use Rattle.runs.proofs.Texts.{text-refl, SameName, one, two, same-name, set-same, set-other}
 

@@ -17,10 +17,11 @@ use Rattle.conversion.specs.Scope.{Variable, Scope, findIn, find-variable, with
 use Rattle.conversion.specs.Expressions.{Functions}
 use Rattle.conversion.specs.Statements.{convert-block}
 use Rattle.conversion.specs.Functions.{declareParams, convertBody, always-returns}
-use Rattle.conversion.specs.Rule.{halt, halts, Rule, comes, Answers, NullContent}
-use Rattle.conversion.specs.TreeRun.{Known, Values, set, runBlock, parametersKnown, parameterValues, treeRun}
-use Rattle.conversion.specs.BodyRun.{Vars, bodyRun}
-use Rattle.conversion.specs.Shared.{Shared, InPlace, opensB}
+use Rattle.runs.specs.Rule.{halt, halts, Rule, comes, Answers, NullContent}
+use Rattle.runs.specs.TreeRun.{Known, Values, set, runBlock, parametersKnown, parameterValues, treeRun}
+use Rattle.runs.specs.BodyRun.{Vars, bodyRun}
+use Rattle.runs.specs.Shared.{Shared, InPlace}
+use Rattle.runs.proofs.Opens.{opensB}
 use Rattle.runs.proofs.Machine.{Code, at, Placed, placed}
 use Rattle.runs.proofs.Invert.{Prefix, prefix-refl, Grow, grow-refl, grow-trans, inv, inv-pure, inv-new, nextVar, withVar, withVar-length, withVar-grow}
 use Rattle.runs.proofs.Texts.{SameName, one, two, same-name, set-same, set-other}
@@ -197,7 +198,7 @@ anyRule P F f = record {
   funs = F;
   fun = f;
   rule = record { literal = λ c y. tt; copy = λ y v. halt; zero = λ y. halt; unary = λ o y v. halt; binary = λ o y v w. halt; cast = λ y v. halt; truth = λ v. halts; return = λ y v. halt; call = λ h g v. halt };
-  answers = λ h g v. (comes halt, []);
+  answers = λ h g y v. (comes halt, []);
   code = [];
   labels = [];
   strings = [];

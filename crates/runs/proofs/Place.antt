@@ -2,30 +2,42 @@
 -- By cases on the instruction at a place; a label's place is where the code from that label on begins.
 use mathlib.Core.Path.{_≡_, refl, _∙_, ap}
 use mathlib.Core.List.{[], _∷_}
-use mathlib.Core.Option.{none, some}
+use mathlib.Core.Option.{Option, none, some}
 use Prim.Native.Nat.{ℕ, zero, suc}
 use mathlib.Core.Bool.{Bool, true, false}
 use lib.ListN.{getElem?, drop}
 use Rattle.conversion.specs.Ir.{Instr, Copy, Unary, Binary, Cast, Zero, Arg, Call, Label, Jump, JumpIfNot, Return, Comment}
-use Rattle.conversion.specs.Rule.{Answer, gives, halt, Truth, holds, fails, halts, Calls, Rule, Reply, comes, pending, Answers}
-use Rattle.conversion.specs.BodyRun as P
-use Rattle.conversion.specs.BodyRun.{Body, Vars, isLabel, labelPlace, Spot, spot, over, waits, putTo, dropTo, putReply, dropReply, branchTo, finishWith, execute, fetch}
-use Rattle.runs.proofs.Machine.{Code, Queue, Cfg, at, ended, waiting, goto, put, pass, putR, passR, branch, finish, exec, step, steps}
+use Rattle.runs.specs.Rule.{Answer, gives, halt, Truth, holds, fails, halts, Calls, Rule, Reply, comes, pending, Answers}
+use Rattle.runs.specs.BodyRun as P
+use Rattle.runs.specs.BodyRun.{Body, Vars, isLabel, oneOn, labelPlace, Spot, spot, over, waits, lost, putTo, dropTo, putReply, dropReply, jumpTo, branchTo, finishWith, execute, fetch}
+use Rattle.runs.proofs.Machine.{Code, Queue, Cfg, at, ended, waiting, astray, goto, put, pass, putR, passR, aim, branch, finish, exec, step, steps}
 
 -- a place as the rest from there on
 unfoldable pub seen : {W : Type 0} → Code → Spot W → Cfg W
 seen C (spot p q ρ h) = at (drop p C) q ρ h
 seen C (over e h) = ended e h
 seen C (waits h) = waiting h
+seen C (lost h) = astray h
 
-drop-place : (C : Code) (l : ℕ) → drop (labelPlace C l) C ≡ goto C l
-unfolding labelPlace goto
-drop-place [] l = refl
-drop-place (i ∷ r) l = go (isLabel l i) (drop-place r l)
+-- the rest from a place on, if there is one
+unfoldable restFrom : Code → Option ℕ → Option Code
+restFrom C none = none
+restFrom C (some p) = some (drop p C)
+
+rest-on : (i : Instr) (r : Code) (o : Option ℕ) → restFrom (i ∷ r) (oneOn o) ≡ restFrom r o
+unfolding restFrom oneOn
+rest-on i r none = refl
+rest-on i r (some p) = refl
+
+label-rest : (C : Code) (l : ℕ) → restFrom C (labelPlace C l) ≡ goto C l
+unfolding labelPlace goto restFrom
+label-rest [] l = refl
+label-rest (i ∷ r) l = go (isLabel l i) (label-rest r l)
   where
-    go : (b : Bool) → drop (labelPlace r l) r ≡ goto r l → drop (elim b as (λ x. ℕ) [ true ↦ 0 | false ↦ suc (labelPlace r l) ]) (i ∷ r) ≡ elim b as (λ x. Code) [ true ↦ i ∷ r | false ↦ goto r l ]
+    go : (b : Bool) → restFrom r (labelPlace r l) ≡ goto r l
+        → restFrom (i ∷ r) (elim b as (λ x. Option ℕ) [ true ↦ some 0 | false ↦ oneOn (labelPlace r l) ]) ≡ elim b as (λ x. Option Code) [ true ↦ some (i ∷ r) | false ↦ goto r l ]
     go true e = refl
-    go false e = e
+    go false e = rest-on i r (labelPlace r l) ∙ e
 
 -- what stands at a place
 data View (C : Code) (p : ℕ) : Type 0 where
@@ -63,11 +75,19 @@ module _ {W : Type 0} (R : Rule W) (A : Answers W) (B : Body) where
   drop-seen (comes u) p q ρ h = pass-seen u p q ρ h
   drop-seen pending p q ρ h = refl
 
+  jump-seen : (o : Option ℕ) (q : Queue W) (ρ : Vars W) (h : Calls W) → seen (B .instrs) (jumpTo o q ρ h) ≡ aim (restFrom (B .instrs) o) q ρ h
+  unfolding seen jumpTo aim restFrom
+  jump-seen (some p) q ρ h = refl
+  jump-seen none q ρ h = refl
+
+  label-seen : (l : ℕ) (q : Queue W) (ρ : Vars W) (h : Calls W) → seen (B .instrs) (jumpTo (labelPlace (B .instrs) l) q ρ h) ≡ aim (goto (B .instrs) l) q ρ h
+  label-seen l q ρ h = jump-seen (labelPlace (B .instrs) l) q ρ h ∙ ap (λ o. aim o q ρ h) (label-rest (B .instrs) l)
+
   branch-seen : (u : Truth) (p l : ℕ) (q : Queue W) (ρ : Vars W) (h : Calls W)
       → seen (B .instrs) (branchTo u p (labelPlace (B .instrs) l) q ρ h) ≡ branch u (drop p (B .instrs)) (goto (B .instrs) l) q ρ h
   unfolding seen branchTo branch
   branch-seen holds p l q ρ h = refl
-  branch-seen fails p l q ρ h = rw (drop-place (B .instrs) l) refl
+  branch-seen fails p l q ρ h = label-seen l q ρ h
   branch-seen halts p l q ρ h = refl
 
   finish-seen : (u : Answer W) (h : Calls W) → seen (B .instrs) (finishWith u h) ≡ finish u h
@@ -86,7 +106,7 @@ module _ {W : Type 0} (R : Rule W) (A : Answers W) (B : Body) where
   exec-seen (Call (some d) f) p q ρ h = reply-seen _ _ p [] ρ _
   exec-seen (Call none f) p q ρ h = drop-seen _ p [] ρ _
   exec-seen (Label l) p q ρ h = refl
-  exec-seen (Jump l) p q ρ h = rw (drop-place (B .instrs) l) refl
+  exec-seen (Jump l) p q ρ h = label-seen l q ρ h
   exec-seen (JumpIfNot a l) p q ρ h = branch-seen _ p l q ρ h
   exec-seen (Return a) p q ρ h = finish-seen _ h
   exec-seen (Comment s) p q ρ h = refl
@@ -95,6 +115,7 @@ module _ {W : Type 0} (R : Rule W) (A : Answers W) (B : Body) where
   unfolding seen P.step step fetch
   step-seen (over e h) = refl
   step-seen (waits h) = refl
+  step-seen (lost h) = refl
   step-seen (spot p q ρ h) = go (view (B .instrs) p)
     where
       go : View (B .instrs) p → seen (B .instrs) (fetch R A B (getElem? (B .instrs) p) p q ρ h) ≡ step R A B (at (drop p (B .instrs)) q ρ h)

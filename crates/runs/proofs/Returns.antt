@@ -9,9 +9,9 @@ use native.Mathlib.Omega.{arith}
 use Rattle.syntax.specs.Syntax.{Expr, Statement, SDeclare, SInit, SReturn, SCall, SIf, SIfElse, SWhile, SFor, SBreak, SContinue, Block, done, next, Function, Program}
 use Rattle.conversion.specs.Expressions.{Functions}
 use Rattle.conversion.specs.Functions.{statementReturns, always-returns}
-use Rattle.conversion.specs.Rule.{Truth, holds, fails, halts, Calls, Rule, Answers, passed}
-use Rattle.conversion.specs.TreeRun.{Known, Values, Got, value, stop, wait, Out, normal, broke, continued, returned, stopped, unfinished, bindO, bindS, testO, giveBack, runStatement, runBlock, knownAfter}
-use Rattle.conversion.specs.Shared.{endT}
+use Rattle.runs.specs.Rule.{Truth, holds, fails, halts, Calls, Rule, Answers, passed}
+use Rattle.runs.specs.TreeRun.{Known, Values, Got, value, stop, wait, Out, normal, broke, continued, returned, stopped, held, unfinished, bindO, bindS, testO, giveBack, runStatement, runBlock, knownAfter}
+use Rattle.runs.specs.Shared.{endT}
 
 abbrev pub NotNormal : {W : Type 0} → Out W → Type 0
 NotNormal (normal σ h) = ⊥
@@ -19,6 +19,7 @@ NotNormal (broke σ h) = Unit {0}
 NotNormal (continued σ h) = Unit {0}
 NotNormal (returned v h) = Unit {0}
 NotNormal (stopped h) = Unit {0}
+NotNormal (held h) = Unit {0}
 NotNormal (unfinished h) = Unit {0}
 
 pub not-passed : {W : Type 0} (o : Out W) → NotNormal o → endT o ≡ some passed → ⊥
@@ -28,6 +29,7 @@ not-passed (broke σ h) n e = let z : _≡_ {A = ℕ} 0 1 = cc in omega arith
 not-passed (continued σ h) n e = let z : _≡_ {A = ℕ} 0 1 = cc in omega arith
 not-passed (returned v h) n e = let z : _≡_ {A = ℕ} 0 1 = cc in omega arith
 not-passed (stopped h) n e = let z : _≡_ {A = ℕ} 0 1 = cc in omega arith
+not-passed (held h) n e = let z : _≡_ {A = ℕ} 0 1 = cc in omega arith
 not-passed (unfinished h) n e = let z : _≡_ {A = ℕ} 0 1 = cc in omega arith
 
 n-bindO : {W Y : Type 0} (r : Got W Y) (f : Y → Calls W → Out W) → ((a : Y) (h : Calls W) → NotNormal (f a h)) → NotNormal (bindO r f)
@@ -49,6 +51,7 @@ n-first (broke σ h) f n = tt
 n-first (continued σ h) f n = tt
 n-first (returned v h) f n = tt
 n-first (stopped h) f n = tt
+n-first (held h) f n = tt
 n-first (unfinished h) f n = tt
 
 n-second : {W : Type 0} (r : Out W) (f : Values W → Calls W → Out W) → ((σ : Values W) (h : Calls W) → NotNormal (f σ h)) → NotNormal (bindS r f)
@@ -58,6 +61,7 @@ n-second (broke σ h) f n = tt
 n-second (continued σ h) f n = tt
 n-second (returned v h) f n = tt
 n-second (stopped h) f n = tt
+n-second (held h) f n = tt
 n-second (unfinished h) f n = tt
 
 both : (a b : Bool) → a && b ≡ true → (a ≡ true) × (b ≡ true)

@@ -2,7 +2,7 @@
 -- By cases on what the tree's run came to.
 use mathlib.Core.Path.{_≡_, refl, sym, _∙_, ap}
 use mathlib.Core.List.{List, [], _∷_, _++_}
-use mathlib.Core.Option.{some}
+use mathlib.Core.Option.{Option, some}
 use mathlib.Core.Bool.{true}
 use Prim.Native.Nat.{ℕ, zero, suc, _≤_, _<_}
 use native.Mathlib.Nat.{le-refl}
@@ -13,11 +13,11 @@ use Rattle.syntax.specs.Syntax.{Function, Program}
 use Rattle.conversion.specs.Ir.{VarId, Operand, OVar, OInt, OFloat, OBool, ODataAddress, ONull, Instr, Label, LabelName, loopStart, StringEntry, texts, FloatEntry, State, made, M, position, sameLabel, sameText, sameFloat}
 use Rattle.conversion.specs.Scope.{Variable}
 use Rattle.conversion.specs.Expressions.{Functions}
-use Rattle.conversion.specs.Rule.{Answer, gives, halt, Truth, holds, fails, halts, Calls, Rule, Reply, comes, pending, Answers, Datum, computed, stopped}
-use Rattle.conversion.specs.TreeRun.{Values, Got, value, stop, wait, bindG, answered, replied, test}
-use Rattle.conversion.specs.BodyRun.{Body, Vars, write, datum}
-use Rattle.conversion.specs.Shared.{bit}
-use Rattle.runs.proofs.Machine.{Code, Queue, Cfg, at, ended, waiting, Same, is, isnt, same, write-same, write-other, count, goto, Placed, put, putR, branch, step, To, here, one, to-trans, to-label, dat, dats}
+use Rattle.runs.specs.Rule.{Answer, gives, halt, Truth, holds, fails, halts, Calls, Rule, Reply, comes, pending, Answers, Datum, computed, stopped}
+use Rattle.runs.specs.TreeRun.{Values, Got, value, stop, wait, bindG, answered, replied, test}
+use Rattle.runs.specs.BodyRun.{Body, Vars, write, datum}
+use Rattle.runs.proofs.Opens.{bit}
+use Rattle.runs.proofs.Machine.{Code, Queue, Cfg, at, ended, waiting, Same, is, isnt, same, write-same, write-other, count, goto, Placed, put, putR, aim, branch, step, To, here, one, to-trans, to-label, dat, dats}
 use Rattle.runs.proofs.Invert.{Prefix, prefix-trans, prefix-length, Grow, Asked, position-holds, found-in, noFloat}
 use Rattle.runs.proofs.Texts.{label-eq, label-refl, text-eq, text-refl, float-eq, float-refl}
 use Rattle.runs.proofs.Names.{Scoped, Frame, Agree}
@@ -124,7 +124,7 @@ module _ {W : Type 0} (X : Ctx W) where
   unfoldable pub goes : {c d e : Cfg W} → Goes c d → Goes d e → Goes c e
   goes p q = to-trans (X .rule) (X .answers) (body X) p q
 
-  pub go-label : {l : ℕ} {k : Code} {q : Queue W} {ρ : Vars W} {h : Calls W} → goto (X .code) l ≡ Label l ∷ k → Goes (at (goto (X .code) l) q ρ h) (at k q ρ h)
+  pub go-label : {l : ℕ} {k : Code} {q : Queue W} {ρ : Vars W} {h : Calls W} → goto (X .code) l ≡ some (Label l ∷ k) → Goes (aim (goto (X .code) l) q ρ h) (at k q ρ h)
   go-label e = to-label (X .rule) (X .answers) (body X) e
 
   abbrev pub holding : Vars W → Operand → Datum W
@@ -193,12 +193,12 @@ module _ {W : Type 0} (X : Ctx W) where
   sim-reply d (comes a) h g e = sim-put d a h g e
   sim-reply d pending h g e = hangs (go1 e)
 
-  pub sim-test : {Y : Type 0} {c : Cfg W} {k p q : Code} {t : ℕ} {ρ : Vars W} {h : Calls W} {get : Vars W → Y} {a b : Got W Y} (u : Truth)
-      → step (X .rule) (X .answers) (body X) c ≡ branch u p q [] ρ h → SimE (at p [] ρ h) k t ρ get a → SimE (at q [] ρ h) k t ρ get b → SimE c k t ρ get (test u h a b)
+  pub sim-test : {Y : Type 0} {c : Cfg W} {k p : Code} {t : ℕ} {ρ : Vars W} {h : Calls W} {get : Vars W → Y} {a b : Got W Y} (u : Truth) (q : Option Code)
+      → step (X .rule) (X .answers) (body X) c ≡ branch u p q [] ρ h → SimE (at p [] ρ h) k t ρ get a → SimE (aim q [] ρ h) k t ρ get b → SimE c k t ρ get (test u h a b)
   unfolding test branch
-  sim-test holds e x y = sim-before (go1 e) x
-  sim-test fails e x y = sim-before (go1 e) y
-  sim-test halts e x y = stops (go1 e)
+  sim-test holds q e x y = sim-before (go1 e) x
+  sim-test fails q e x y = sim-before (go1 e) y
+  sim-test halts q e x y = stops (go1 e)
 
   -- converting from s came to x, the code c and t, and this does what ev says; z bounds how often c places a label that a record opens
   pub record Good {Y Z : Type 0} (lows : State → Y → Type 0) (get : Vars W → Y → Z) (vs : List Variable) (z : ℕ → ℕ) (ev : Values W → Calls W → Got W Z)

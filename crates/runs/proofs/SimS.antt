@@ -10,11 +10,11 @@ use lib.Dec.{T}
 use lib.ListN.{length}
 use Rattle.conversion.specs.Ir.{loopStart, loopEnd, State, made, M}
 use Rattle.conversion.specs.Scope.{Variable, Scope}
-use Rattle.conversion.specs.Rule.{Answer, gives, halt, Truth, holds, fails, halts, Calls, Rule, Reply, comes, pending, returns}
-use Rattle.conversion.specs.Rule as Rule
-use Rattle.conversion.specs.TreeRun.{Known, Values, Got, bare, handed, Out, normal, broke, continued, returned, stopped, unfinished, bindO, bindS, bindT, testO}
-use Rattle.conversion.specs.BodyRun.{Vars, write}
-use Rattle.runs.proofs.Machine.{Code, Queue, Cfg, at, ended, waiting, count, goto, Placed, put, pass, passR, branch, finish, step, to-trans}
+use Rattle.runs.specs.Rule.{Answer, gives, halt, Truth, holds, fails, halts, Calls, Rule, Reply, comes, pending, returns}
+use Rattle.runs.specs.Rule as Rule
+use Rattle.runs.specs.TreeRun.{Known, Values, Got, bare, handed, Out, normal, broke, continued, returned, stopped, held, unfinished, bindO, bindS, bindT, testO}
+use Rattle.runs.specs.BodyRun.{Vars, write}
+use Rattle.runs.proofs.Machine.{Code, Queue, Cfg, at, ended, waiting, count, goto, Placed, put, pass, passR, aim, branch, finish, step, to-trans}
 use Rattle.runs.proofs.Invert.{Grow}
 use Rattle.runs.proofs.Names.{known, Scoped, Sub, Frame, Agree, agree-sub}
 use Rattle.runs.proofs.Sim.{Ctx, body, Within, Num, nameOf, Goes, go1, goes, SimE, gets, stops, hangs}
@@ -24,12 +24,12 @@ module _ {W : Type 0} (X : Ctx W) where
   -- (lp: in a loop; lvs: its names; ls, le: its labels; vs: the names behind)
   pub data SimS (n : ℕ) (lp : Bool) (lvs : List Variable) (ls le : ℕ) (c : Cfg W) (k : Code) (vs : List Variable) : Out W → Type 0 where
     runs : {σ : Values W} {h : Calls W} (ρ : Vars W) → Goes X c (at k [] ρ h) → Agree vs σ ρ → SimS n lp lvs ls le c k vs (normal σ h)
-    breaks : {σ : Values W} {h : Calls W} (ρ : Vars W) → T lp → Goes X c (at (goto (X .code) le) [] ρ h) → Agree lvs σ ρ → SimS n lp lvs ls le c k vs (broke σ h)
-    continues : {σ : Values W} {h : Calls W} (ρ : Vars W) → T lp → Goes X c (at (goto (X .code) ls) [] ρ h) → Agree lvs σ ρ → SimS n lp lvs ls le c k vs (continued σ h)
+    breaks : {σ : Values W} {h : Calls W} (ρ : Vars W) → T lp → Goes X c (aim (goto (X .code) le) [] ρ h) → Agree lvs σ ρ → SimS n lp lvs ls le c k vs (broke σ h)
+    continues : {σ : Values W} {h : Calls W} (ρ : Vars W) → T lp → Goes X c (aim (goto (X .code) ls) [] ρ h) → Agree lvs σ ρ → SimS n lp lvs ls le c k vs (continued σ h)
     gives-back : {v : W} {h : Calls W} → Goes X c (ended (returns v) h) → SimS n lp lvs ls le c k vs (returned v h)
     halting : {h : Calls W} → Goes X c (ended Rule.stopped h) → SimS n lp lvs ls le c k vs (stopped h)
+    hanging : {h : Calls W} → Goes X c (waiting h) → SimS n lp lvs ls le c k vs (held h)
     long : {h : Calls W} (j : Code) (q : Queue W) (ρ : Vars W) (p : Goes X c (at j q ρ h)) → n ≤ p .many → SimS n lp lvs ls le c k vs (unfinished h)
-    held : {h : Calls W} → Goes X c (waiting h) → SimS n lp lvs ls le c k vs (unfinished h)
 
   module _ {lp : Bool} {lvs : List Variable} {ls le : ℕ} where
     pub s-later : {n m : ℕ} {c d : Cfg W} {k : Code} {vs : List Variable} {r : Out W} (p : Goes X c d) → m ≤ n + p .many → SimS n lp lvs ls le d k vs r → SimS m lp lvs ls le c k vs r
@@ -40,7 +40,7 @@ module _ {W : Type 0} (X : Ctx W) where
     s-later p g (gives-back q) = gives-back (goes X p q)
     s-later p g (halting q) = halting (goes X p q)
     s-later p g (long j z ρ q u) = long j z ρ (goes X p q) (omega arith)
-    s-later p g (held q) = held (goes X p q)
+    s-later p g (hanging q) = hanging (goes X p q)
 
     pub s-before : {n : ℕ} {c d : Cfg W} {k : Code} {vs : List Variable} {r : Out W} → Goes X c d → SimS n lp lvs ls le d k vs r → SimS n lp lvs ls le c k vs r
     s-before p s = s-later p (omega arith) s
@@ -53,7 +53,7 @@ module _ {W : Type 0} (X : Ctx W) where
     s-after p s (gives-back q) = gives-back q
     s-after p s (halting q) = halting q
     s-after p s (long j z ρ q u) = long j z ρ q u
-    s-after p s (held q) = held q
+    s-after p s (hanging q) = hanging q
 
     pub s-bindO : {n : ℕ} {Y : Type 0} {c : Cfg W} {j k : Code} {vs : List Variable} {t : ℕ} {ρ : Vars W} {get : Vars W → Y} {r : Got W Y} (f : Y → Calls W → Out W)
         → SimE X c j t ρ get r
@@ -62,7 +62,7 @@ module _ {W : Type 0} (X : Ctx W) where
     unfolding bindO
     s-bindO f (gets {h = h} ρ′ q fr e) H = s-before q (rw e at (H ρ′ h fr))
     s-bindO f (stops q) H = halting q
-    s-bindO f (hangs q) H = held q
+    s-bindO f (hangs q) H = hanging q
 
     pub s-bare : {n : ℕ} {c : Cfg W} {j k : Code} {vs : List Variable} (f : W → Calls W → Out W) (ρ : Vars W) (d : ℕ) (u : Answer W) (h : Calls W)
         → step (X .rule) (X .answers) (body X) c ≡ put u d j [] ρ h
@@ -77,7 +77,7 @@ module _ {W : Type 0} (X : Ctx W) where
     unfolding bare handed pass passR bindO
     s-pass {ρ = ρ} {σ = σ} h (comes (gives v)) a e = runs ρ (go1 X e) a
     s-pass h (comes halt) a e = halting (go1 X e)
-    s-pass h pending a e = held (go1 X e)
+    s-pass h pending a e = hanging (go1 X e)
 
     pub s-finish : {n : ℕ} {c : Cfg W} {k : Code} {vs : List Variable} (h : Calls W) (u : Answer W) → step (X .rule) (X .answers) (body X) c ≡ finish u h
         → SimS n lp lvs ls le c k vs (bindO (bare u h) λ q h2. returned q h2)
@@ -96,22 +96,22 @@ module _ {W : Type 0} (X : Ctx W) where
     s-bindS f (gives-back q) H = gives-back q
     s-bindS f (halting q) H = halting q
     s-bindS f (long j z ρ q u) H = long j z ρ q u
-    s-bindS f (held q) H = held q
+    s-bindS f (hanging q) H = hanging q
 
-    pub s-test : {n : ℕ} {c : Cfg W} {k p q : Code} {vs : List Variable} {ρ : Vars W} {h : Calls W} {a b : Out W} (u : Truth)
-        → step (X .rule) (X .answers) (body X) c ≡ branch u p q [] ρ h → SimS n lp lvs ls le (at p [] ρ h) k vs a → SimS n lp lvs ls le (at q [] ρ h) k vs b
+    pub s-test : {n : ℕ} {c : Cfg W} {k p : Code} {vs : List Variable} {ρ : Vars W} {h : Calls W} {a b : Out W} (u : Truth) (q : Option Code)
+        → step (X .rule) (X .answers) (body X) c ≡ branch u p q [] ρ h → SimS n lp lvs ls le (at p [] ρ h) k vs a → SimS n lp lvs ls le (aim q [] ρ h) k vs b
         → SimS n lp lvs ls le c k vs (testO u h a b)
     unfolding testO branch
-    s-test holds e x y = s-before (go1 X e) x
-    s-test fails e x y = s-before (go1 X e) y
-    s-test halts e x y = halting (go1 X e)
+    s-test holds q e x y = s-before (go1 X e) x
+    s-test fails q e x y = s-before (go1 X e) y
+    s-test halts q e x y = halting (go1 X e)
 
     -- after the body of a loop with the names ws and the labels s and e, which leaves at j with the names us
     pub s-bindT : {n m s e : ℕ} {c : Cfg W} {j k : Code} {vs ws us : List Variable} {r : Out W} (f : Values W → Calls W → Out W)
         → m ≤ n → Sub ws us → Sub vs ws → SimS n true ws s e c j us r
-        → ((ρ₁ : Vars W) (h₁ : Calls W) → Goes X (at j [] ρ₁ h₁) (at (goto (X .code) s) [] ρ₁ h₁))
-        → ((ρ₁ : Vars W) (h₁ : Calls W) → Goes X (at (goto (X .code) e) [] ρ₁ h₁) (at k [] ρ₁ h₁))
-        → ((σ₁ : Values W) (ρ₁ : Vars W) (h₁ : Calls W) → Agree ws σ₁ ρ₁ → SimS m lp lvs ls le (at (goto (X .code) s) [] ρ₁ h₁) k vs (f σ₁ h₁))
+        → ((ρ₁ : Vars W) (h₁ : Calls W) → Goes X (at j [] ρ₁ h₁) (aim (goto (X .code) s) [] ρ₁ h₁))
+        → ((ρ₁ : Vars W) (h₁ : Calls W) → Goes X (aim (goto (X .code) e) [] ρ₁ h₁) (at k [] ρ₁ h₁))
+        → ((σ₁ : Values W) (ρ₁ : Vars W) (h₁ : Calls W) → Agree ws σ₁ ρ₁ → SimS m lp lvs ls le (aim (goto (X .code) s) [] ρ₁ h₁) k vs (f σ₁ h₁))
         → SimS m lp lvs ls le c k vs (bindT r f)
     unfolding bindT
     s-bindT f g s1 s2 (runs {σ = σ} {h = h} ρ q a) S E H = s-before (goes X q (S ρ h)) (H σ ρ h (agree-sub s1 a))
@@ -120,7 +120,7 @@ module _ {W : Type 0} (X : Ctx W) where
     s-bindT f g s1 s2 (gives-back q) S E H = gives-back q
     s-bindT f g s1 s2 (halting q) S E H = halting q
     s-bindT f g s1 s2 (long j z ρ q u) S E H = long j z ρ q (omega arith)
-    s-bindT f g s1 s2 (held q) S E H = held q
+    s-bindT f g s1 s2 (hanging q) S E H = hanging q
 
   -- the labels of the loop around, if there is one
   pub data InLoop : Option ℕ → Bool → ℕ → ℕ → Type 0 where

@@ -18,11 +18,11 @@ use Rattle.conversion.specs.Types.{fits, range-error}
 use Rattle.conversion.specs.Scope.{Variable, Scope, findIn, withVariable}
 use Rattle.conversion.specs.Expressions.{Callee, CallFunction, CallCast, Functions, get-type, resolve-call}
 use Rattle.conversion.specs.Statements.{convert-expr, convert-cond, checkFits, zeroValue, convert-declare, assignTo, convert-assign, initNew, initBy, convert-init, returnAs, convert-return, callStatement, convert-call, checkBound}
-use Rattle.conversion.specs.Rule.{Calls, Literal, IntLiteral, FloatLiteral, BoolLiteral, NullLiteral, Datum, constant, read, readAll}
-use Rattle.conversion.specs.TreeRun as Tree
-use Rattle.conversion.specs.TreeRun.{Known, Values, typeIn, scopeOf, Got, bare, handed, Out, normal, returned, bindO, typedO, fit, fitArguments, zeroOf, evalExpr, store, newType, introduce, initialise, giveBack, callOnly, withNew, knownInit}
-use Rattle.conversion.specs.BodyRun.{Vars, write, datum, isLabel, operand}
-use Rattle.conversion.specs.Shared.{bit, opensE, opensA}
+use Rattle.runs.specs.Rule.{Calls, Literal, IntLiteral, FloatLiteral, BoolLiteral, NullLiteral, Datum, constant, read, readAll}
+use Rattle.runs.specs.TreeRun as Tree
+use Rattle.runs.specs.TreeRun.{Known, Values, typeIn, scopeOf, Got, bare, handed, Out, normal, returned, bindO, typedO, fit, fitArguments, zeroOf, evalExpr, store, newType, introduce, initialise, giveBack, callOnly, withNew, knownInit}
+use Rattle.runs.specs.BodyRun.{Vars, write, datum, isLabel, operand}
+use Rattle.runs.proofs.Opens.{bit, opensE, opensA}
 use Rattle.runs.proofs.Machine.{Code, at, count, count-append, put, exec, step, dat, argsOf, push}
 use Rattle.runs.proofs.Invert.{Grow, grow-refl, grow-trans, inv, inv-then, inv-pure, inv-emit, inv-lift, inv-last, inv-new, quiet, Quiet, joinE, joinS, noFloat, nextVar, withVar, withVar-length, withVar-grow, ask-float}
 use Rattle.runs.proofs.Names.{known, foundType, type-known, typing, resolving, scoped-mono, scoped-new, sub-refl, sub-new, agree-frame, agree-set, agree-new, declared}
@@ -325,7 +325,7 @@ module _ {W : Type 0} (X : Ctx W) where
       → Fitted X (Lows s1 os) Lows (holdings X) (λ ρ h. fitArguments (X .prog) (X .rule) 0 (holdings X ρ os) g h) s1 us fs t
       → GoodS X sc z (known (sc .variables))
       (λ m σ h. bindO (ev σ h) λ vs h1. bindO (fitArguments (X .prog) (X .rule) 0 vs g h1) λ ws h2.
-      bindO (handed (X .answers h2 (g .recOf) (readAll (X .rule) ws) .0) (h2 ++ X .answers h2 (g .recOf) (readAll (X .rule) ws) .1)) λ v h3. normal σ h3)
+      bindO (handed (X .answers h2 (g .recOf) none (readAll (X .rule) ws) .0) (h2 ++ X .answers h2 (g .recOf) none (readAll (X .rule) ws) .1)) λ v h3. normal σ h3)
       s sc (ca ++ (fs ++ (argsOf us ++ (Call none (g .recOf) ∷ [])))) t
   unfolding count isLabel step exec
   invoke-made {ev = ev} {s} {s1} {t} {os} {us} {ca} {fs} sc g G H = record {

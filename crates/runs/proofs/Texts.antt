@@ -10,8 +10,8 @@ use lib.Dec.{eqb, eqb→eq}
 use Rattle.laws.specs.Fix.{pick}
 use Rattle.syntax.specs.Syntax.{Text}
 use Rattle.conversion.specs.Ir.{sameText, LabelName, sameLabel, FloatEntry, sameFloat}
-use Rattle.conversion.specs.TreeRun.{Values, set}
-use Rattle.conversion.specs.Shared.{bit}
+use Rattle.runs.specs.TreeRun.{Values, set}
+use Rattle.runs.proofs.Opens.{bit}
 use Rattle.runs.proofs.Machine.{Same, is, isnt, same, eqb-same, true-T}
 
 and-left : (a b : Bool) → a && b ≡ true → a ≡ true

@@ -10,37 +10,44 @@ use mathlib.Core.Bool.{false}
 use lib.ListN.{getElem?}
 use Rattle.conversion.specs.Ir.{Instr, Copy, Unary, Binary, Cast, Zero, Arg, Call, Label, Jump, JumpIfNot, Return, Comment}
 use Rattle.conversion.specs.Scope.{Variable}
-use Rattle.conversion.specs.Rule.{Answer, gives, halt, Truth, holds, fails, halts, Typed, Calls, Reply, comes, pending, Ending, passed, returns, stopped}
-use Rattle.conversion.specs.TreeRun.{Out}
-use Rattle.conversion.specs.BodyRun.{Vars, Spot, spot, over, waits, bodyRun}
-use Rattle.conversion.specs.Shared.{callsT, endT, callsB, endB, Shared}
-use Rattle.runs.proofs.Machine.{Code, Queue, Cfg, at, ended, waiting, put, pass, putR, passR, branch, finish, exec, step, steps, steps-add}
+use Rattle.runs.specs.Rule.{Answer, gives, halt, Truth, holds, fails, halts, Typed, Calls, Reply, comes, pending, Ending, passed, returns, stopped}
+use Rattle.runs.specs.TreeRun.{Out, normal, broke, continued, returned, stopped, held, unfinished}
+use Rattle.runs.specs.BodyRun.{Vars, Spot, spot, over, waits, lost, bodyRun}
+use Rattle.runs.specs.Shared.{callsT, endT, callsB, endB, Shared, Alike}
+use Rattle.runs.proofs.Machine.{Code, Queue, Cfg, at, ended, waiting, astray, put, pass, putR, passR, aim, branch, finish, exec, step, steps, steps-add}
 use Rattle.runs.proofs.Place.{seen, steps-seen}
 use Rattle.runs.proofs.Sim.{Ctx, body, Goes, go1, goes}
-use Rattle.runs.proofs.SimS.{SimS, runs, breaks, continues, gives-back, halting, long, held}
+use Rattle.runs.proofs.SimS.{SimS, runs, breaks, continues, gives-back, halting, hanging, long}
 
 -- what is seen of the machine whose place is the rest of the code
 unfoldable callsM : {W : Type 0} → Cfg W → Calls W
 callsM (at r q ρ h) = h
 callsM (ended e h) = h
 callsM (waiting h) = h
+callsM (astray h) = h
 
 unfoldable endM : {W : Type 0} → Cfg W → Option (Ending W)
 endM (at r q ρ h) = none
 endM (ended e h) = some e
 endM (waiting h) = none
+endM (astray h) = none
 
 calls-seen : {W : Type 0} (C : Code) (c : Spot W) → callsM (seen C c) ≡ callsB c
 unfolding callsM callsB seen
 calls-seen C (spot p q ρ h) = refl
 calls-seen C (over e h) = refl
 calls-seen C (waits h) = refl
+calls-seen C (lost h) = refl
 
 end-seen : {W : Type 0} (C : Code) (c : Spot W) → endM (seen C c) ≡ endB c
 unfolding endM endB seen
 end-seen C (spot p q ρ h) = refl
 end-seen C (over e h) = refl
 end-seen C (waits h) = refl
+end-seen C (lost h) = refl
+
+none-some : {A : Type 0} {a : A} → none ≡ some a → ⊥
+none-some e = let z : _≡_ {A = ℕ} 0 1 = cc in omega arith
 
 -- a call once made stays
 get-append : {A : Type 0} (a b : List A) (i : ℕ) (q : A) → getElem? a i ≡ some q → getElem? (a ++ b) i ≡ some q
@@ -68,10 +75,15 @@ unfolding passR callsM
 passR-calls (comes u) r q ρ h = pass-calls u r q ρ h
 passR-calls pending r q ρ h = refl
 
-branch-calls : {W : Type 0} (u : Truth) (r s : Code) (q : Queue W) (ρ : Vars W) (h : Calls W) → callsM (branch u r s q ρ h) ≡ h
+aim-calls : {W : Type 0} (s : Option Code) (q : Queue W) (ρ : Vars W) (h : Calls W) → callsM (aim s q ρ h) ≡ h
+unfolding aim callsM
+aim-calls (some r) q ρ h = refl
+aim-calls none q ρ h = refl
+
+branch-calls : {W : Type 0} (u : Truth) (r : Code) (s : Option Code) (q : Queue W) (ρ : Vars W) (h : Calls W) → callsM (branch u r s q ρ h) ≡ h
 unfolding branch callsM
 branch-calls holds r s q ρ h = refl
-branch-calls fails r s q ρ h = refl
+branch-calls fails r s q ρ h = aim-calls s q ρ h
 branch-calls halts r s q ρ h = refl
 
 finish-calls : {W : Type 0} (u : Answer W) (h : Calls W) → callsM (finish u h) ≡ h
@@ -92,7 +104,7 @@ module _ {W : Type 0} (X : Ctx W) where
   exec-keeps (Call (some d) f) r z ρ h i q e = rw putR-calls (get-append h _ i q e)
   exec-keeps (Call none f) r z ρ h i q e = rw passR-calls (get-append h _ i q e)
   exec-keeps (Label l) r z ρ h i q e = e
-  exec-keeps (Jump l) r z ρ h i q e = e
+  exec-keeps (Jump l) r z ρ h i q e = rw aim-calls e
   exec-keeps (JumpIfNot o l) r z ρ h i q e = rw branch-calls e
   exec-keeps (Return o) r z ρ h i q e = rw finish-calls e
   exec-keeps (Comment s) r z ρ h i q e = e
@@ -103,6 +115,7 @@ module _ {W : Type 0} (X : Ctx W) where
   step-keeps (at (j ∷ r) z ρ h) i q e = exec-keeps j r z ρ h i q e
   step-keeps (ended x h) i q e = e
   step-keeps (waiting h) i q e = e
+  step-keeps (astray h) i q e = e
 
   abbrev after : ℕ → Cfg W → Cfg W
   after n c = steps (X .rule) (X .answers) (body X) n c
@@ -138,13 +151,14 @@ module _ {W : Type 0} (X : Ctx W) where
   unfolding endM callsM
   is-ended (at r z1 ρ h) e q = let z : _≡_ {A = ℕ} 0 1 = cc in absurd (omega arith)
   is-ended (ended x h) e q = cc
+  is-ended (astray h) e q = let z : _≡_ {A = ℕ} 0 1 = cc in absurd (omega arith)
   is-ended (waiting h) e q = let z : _≡_ {A = ℕ} 0 1 = cc in absurd (omega arith)
 
   -- what the body's run from c has to do with what the tree's run o with n turns came to
   pub data Sum (n : ℕ) (c : Cfg W) (o : Out W) : Type 0 where
     settled : (e : Ending W) → endT o ≡ some e → Goes X c (ended e (callsT o)) → Sum n c o
-    going : (j : Code) (z : Queue W) (ρ : Vars W) → endT o ≡ none → (p : Goes X c (at j z ρ (callsT o))) → n ≤ p .many → Sum n c o
-    hung : endT o ≡ none → Goes X c (waiting (callsT o)) → Sum n c o
+    going : (j : Code) (z : Queue W) (ρ : Vars W) → o ≡ unfinished (callsT o) → (p : Goes X c (at j z ρ (callsT o))) → n ≤ p .many → Sum n c o
+    hung : o ≡ held (callsT o) → Goes X c (waiting (callsT o)) → Sum n c o
 
   pub sum : {n ls le : ℕ} {lvs vs : List Variable} {c : Cfg W} {o : Out W} → SimS X n false lvs ls le c [] vs o → Sum n c o
   unfolding endT callsT step
@@ -154,7 +168,7 @@ module _ {W : Type 0} (X : Ctx W) where
   sum (gives-back {v = v} p) = settled (returns v) refl p
   sum (halting p) = settled stopped refl p
   sum (long j z ρ p u) = going j z ρ refl p u
-  sum (held p) = hung refl p
+  sum (hanging p) = hung refl p
 
   module _ (o : Out W) (c : Cfg W) (n : ℕ) where
     calls-there : Sum n c o → (k : ℕ) (q : ℕ × List (Typed W)) → getElem? (callsT o) k ≡ some q → (m : ℕ) × (getElem? (callsM (after m c)) k ≡ some q)
@@ -179,10 +193,10 @@ module _ {W : Type 0} (X : Ctx W) where
         go (no g) = rw (past-waiting p n (omega arith)) at e
 
     ends-there : Sum n c o → (e : Ending W) → endT o ≡ some e → (m : ℕ) × (endM (after m c) ≡ some e) × (callsM (after m c) ≡ callsT o)
-    unfolding endM callsM
+    unfolding endM callsM endT
     ends-there (settled x e1 p) e q = (p .many, rw (p .comes) (sym e1 ∙ q), rw (p .comes) refl)
-    ends-there (going j z1 ρ e1 p u) e q = let z : _≡_ {A = ℕ} 0 1 = cc in absurd (omega arith)
-    ends-there (hung e1 p) e q = let z : _≡_ {A = ℕ} 0 1 = cc in absurd (omega arith)
+    ends-there (going j z1 ρ e1 p u) e q = absurd (none-some (sym (ap endT e1) ∙ q))
+    ends-there (hung e1 p) e q = absurd (none-some (sym (ap endT e1) ∙ q))
 
     ends-back : Sum n c o → (e : Ending W) → endM (after n c) ≡ some e → (endT o ≡ some e) × (callsT o ≡ callsM (after n c))
     unfolding endM callsM
@@ -206,6 +220,26 @@ module _ {W : Type 0} (X : Ctx W) where
             let x : _≡_ {A = ℕ} 0 1 = cc in absurd (omega arith)
         go (no g) = let z : some e ≡ none = sym q ∙ ap endM (past-waiting p n (omega arith)) in let x : _≡_ {A = ℕ} 0 1 = cc in absurd (omega arith)
 
+    holds-there : Sum n c o → (h : Calls W) → o ≡ held h → (m : ℕ) × (after m c ≡ waiting h)
+    unfolding endT callsT
+    holds-there (settled x e1 p) h q = absurd (none-some (sym (ap endT q) ∙ e1))
+    holds-there (going j z1 ρ e1 p u) h q = let z : _≡_ {A = ℕ} 0 1 = cc in absurd (omega arith)
+    holds-there (hung e1 p) h q = (p .many, p .comes ∙ ap (λ x. waiting (callsT x)) q)
+
+    holds-back : Sum n c o → (h : Calls W) → after n c ≡ waiting h → o ≡ held h
+    holds-back (settled x e1 p) h q = absurd (not-both (decLe n (p .many)))
+      where
+        not-both : Dec (n ≤ p .many) → ⊥
+        not-both (yes g) = let z = past-waiting (record { many = n; comes = q }) (p .many) g in let y = p .comes in let x : _≡_ {A = ℕ} 0 1 = cc in omega arith
+        not-both (no g) = let z = past p n (omega arith) in let x : _≡_ {A = ℕ} 0 1 = cc in omega arith
+    holds-back (going j z1 ρ e1 p g) h q =
+        let z = past-waiting (record { many = n; comes = q }) (p .many) g in let y = p .comes in let x : _≡_ {A = ℕ} 0 1 = cc in absurd (omega arith)
+    holds-back (hung e1 p) h q = e1 ∙ ap held (one-list (decLe n (p .many)))
+      where
+        one-list : Dec (n ≤ p .many) → callsT o ≡ h
+        one-list (yes g) = let z = past-waiting (record { many = n; comes = q }) (p .many) g in let y = p .comes in cc
+        one-list (no g) = let z = past-waiting p n (omega arith) in cc
+
   -- the numbered machine shows what the other shows
   from-start : (ρ : Vars W) (n : ℕ) → seen (X .code) (bodyRun (X .rule) (X .answers) (body X) ρ n) ≡ after n (at (X .code) [] ρ [])
   unfolding bodyRun seen
@@ -216,6 +250,18 @@ module _ {W : Type 0} (X : Ctx W) where
 
   end-from : (ρ : Vars W) (n : ℕ) → endB (bodyRun (X .rule) (X .answers) (body X) ρ n) ≡ endM (after n (at (X .code) [] ρ []))
   end-from ρ n = sym (end-seen (X .code) _) ∙ ap endM (from-start ρ n)
+
+  -- a place that is seen as held up is held up
+  waits-seen : (s : Spot W) (h : Calls W) → seen (X .code) s ≡ waiting h → s ≡ waits h
+  unfolding seen
+  waits-seen (spot p q ρ h1) h e = let z : _≡_ {A = ℕ} 0 1 = cc in absurd (omega arith)
+  waits-seen (over x h1) h e = let z : _≡_ {A = ℕ} 0 1 = cc in absurd (omega arith)
+  waits-seen (waits h1) h e = cc
+  waits-seen (lost h1) h e = let z : _≡_ {A = ℕ} 0 1 = cc in absurd (omega arith)
+
+  held-from : (ρ : Vars W) (n : ℕ) (h : Calls W) → bodyRun (X .rule) (X .answers) (body X) ρ n ≡ waits h → after n (at (X .code) [] ρ []) ≡ waiting h
+  unfolding seen
+  held-from ρ n h e = sym (from-start ρ n) ∙ ap (seen (X .code)) e
 
   -- the claim, from the simulation and from a tree's run that with a return type does not pass
   pub share : (tree : ℕ → Out W) (ρ : Vars W) (result : Option ℕ) → ((n : ℕ) → Sum n (at (X .code) [] ρ []) (tree n))
@@ -230,9 +276,25 @@ module _ {W : Type 0} (X : Ctx W) where
       (λ (n, p, q). let r = ends-there (tree n) c n (sums n) e p in (r .0, end-from ρ (r .0) ∙ r .1, calls-from ρ (r .0) ∙ (r .2 ∙ q))),
       (λ (n, p, q). let r = ends-back (tree n) c n (sums n) e (sym (end-from ρ n) ∙ p) in (n, r .0, r .1 ∙ (sym (calls-from ρ n) ∙ q))),
     );
+    holds = λ h. (
+      (λ (n, e). let r = holds-there (tree n) c n (sums n) h e in (r .0, waits-seen _ h (from-start ρ (r .0) ∙ r .1))),
+      (λ (n, e). (n, holds-back (tree n) c n (sums n) h (held-from ρ n h e))),
+    );
     treeReturns = never;
     bodyReturns = λ y n e p. let r = ends-back (tree n) c n (sums n) passed (sym (end-from ρ n) ∙ p) in never y n e (r .0);
   }
     where
       c : Cfg W
       c = at (X .code) [] ρ []
+
+-- what is shared contains document 01's claim
+pub alike : {W : Type 0} {tree : ℕ → Out W} {body : ℕ → Spot W} {result : Option ℕ} → Shared tree body result → Alike tree body result
+alike s = record {
+  calls = λ k g us. s .calls k (g, us);
+  ends = λ e. (
+    (λ (n, p). let r = s .ends e _ .0 (n, p, refl) in (r .0, r .1)),
+    (λ (n, p). let r = s .ends e _ .1 (n, p, refl) in (r .0, r .1)),
+  );
+  treeReturns = s .treeReturns;
+  bodyReturns = s .bodyReturns;
+}

@@ -8,8 +8,8 @@ use lib.Dec.{eqb}
 use lib.ListN.{getElem?, getD}
 use Rattle.laws.specs.Fix.{pick}
 use Rattle.syntax.specs.Syntax.{Text}
 use Rattle.conversion.specs.Ir.{Operand, OVar, OInt, OFloat, OBool, ODataAddress, ONull, Instr, Copy, Unary, Binary, Cast, Zero, Arg, Call, Label, Jump, JumpIfNot, Return, Comment, FloatEntry}
-use Rattle.conversion.specs.Rule.{Answer, gives, halt, Truth, holds, fails, halts, Typed, Calls, Rule, Reply, comes, pending, Answers, IntLiteral, FloatLiteral, BoolLiteral, StringLiteral, NullLiteral, Datum, constant, computed, read, Ending, passed, returns, stopped}
+use Rattle.runs.specs.Rule.{Answer, gives, halt, Truth, holds, fails, halts, Typed, Calls, Rule, Reply, comes, pending, Answers, IntLiteral, FloatLiteral, BoolLiteral, StringLiteral, NullLiteral, Datum, constant, computed, read, Ending, passed, returns, stopped}
 
 -- the instructions of a function, each variable with its type from the function's table; its return type; the program's strings and floats
 pub record Body : Type 0 where
@@ -49,16 +49,23 @@ isLabel l (JumpIfNot a m) = false
 isLabel l (Return a) = false
 isLabel l (Comment r) = false
 
--- the place of a label: the number of instructions before it
-unfoldable pub labelPlace : List Instr → ℕ → ℕ
-labelPlace [] l = 0
-labelPlace (i ∷ r) l = elim (isLabel l i) [ true ↦ 0 | false ↦ suc (labelPlace r l) ]
+unfoldable pub oneOn : Option ℕ → Option ℕ
+oneOn none = none
+oneOn (some p) = some (suc p)
 
--- where the run stands: at an instruction, with the arguments that wait, the variables and the calls so far; or at its end; or held up
+-- the place of a label: the number of instructions before it; none for a label that is placed nowhere
+unfoldable pub labelPlace : List Instr → ℕ → Option ℕ
+unfolding oneOn
+labelPlace [] l = none
+labelPlace (i ∷ r) l = elim (isLabel l i) [ true ↦ some 0 | false ↦ oneOn (labelPlace r l) ]
+
+-- where the run stands: at an instruction, with the arguments that wait, the variables and the calls so far; or at its end; or held up by a
+-- reply that is pending; or nowhere, after a jump to a label that is placed nowhere: such a run never ends, and makes no further call
 pub data Spot (W : Type 0) : Type 0 where
   spot : ℕ → List (Typed W) → Vars W → Calls W → Spot W
   over : Ending W → Calls W → Spot W
   waits : Calls W → Spot W
+  lost : Calls W → Spot W
 
 -- the answer u into the variable d, then on at p; 'A stop ends either run'
 unfoldable pub putTo : {W : Type 0} → Answer W → ℕ → ℕ → List (Typed W) → Vars W → Calls W → Spot W
@@ -78,9 +85,14 @@ unfoldable pub dropReply : {W : Type 0} → Reply W → ℕ → List (Typed W) �
 dropReply (comes u) p q ρ h = dropTo u p q ρ h
 dropReply pending p q ρ h = waits h
 
-unfoldable pub branchTo : {W : Type 0} → Truth → ℕ → ℕ → List (Typed W) → Vars W → Calls W → Spot W
+-- a jump to a label, by its place
+unfoldable pub jumpTo : {W : Type 0} → Option ℕ → List (Typed W) → Vars W → Calls W → Spot W
+jumpTo (some p) q ρ h = spot p q ρ h
+jumpTo none q ρ h = lost h
+
+unfoldable pub branchTo : {W : Type 0} → Truth → ℕ → Option ℕ → List (Typed W) → Vars W → Calls W → Spot W
 branchTo holds p s q ρ h = spot p q ρ h
-branchTo fails p s q ρ h = spot s q ρ h
+branchTo fails p s q ρ h = jumpTo s q ρ h
 branchTo halts p s q ρ h = over stopped h
 
 unfoldable pub finishWith : {W : Type 0} → Answer W → Calls W → Spot W
@@ -101,10 +113,10 @@ module _ {W : Type 0} (R : Rule W) (A : Answers W) (B : Body) where
   execute (Cast d a) p q ρ h = putTo (R .cast (d .ty) (operand ρ a)) (d .id) p q ρ h
   execute (Zero d) p q ρ h = putTo (R .zero (d .ty)) (d .id) p q ρ h
   execute (Arg a) p q ρ h = spot p (q ++ (operand ρ a ∷ [])) ρ h
-  execute (Call (some d) f) p q ρ h = putReply (A h f q .0) (d .id) p [] ρ (h ++ A h f q .1)
-  execute (Call none f) p q ρ h = dropReply (A h f q .0) p [] ρ (h ++ A h f q .1)
+  execute (Call (some d) f) p q ρ h = putReply (A h f (some (d .ty)) q .0) (d .id) p [] ρ (h ++ A h f (some (d .ty)) q .1)
+  execute (Call none f) p q ρ h = dropReply (A h f none q .0) p [] ρ (h ++ A h f none q .1)
   execute (Label l) p q ρ h = spot p q ρ h
-  execute (Jump l) p q ρ h = spot (labelPlace (B .instrs) l) q ρ h
+  execute (Jump l) p q ρ h = jumpTo (labelPlace (B .instrs) l) q ρ h
   execute (JumpIfNot a l) p q ρ h = branchTo (R .truth (operand ρ a)) p (labelPlace (B .instrs) l) q ρ h
   execute (Return a) p q ρ h = finishWith (R .return (B .result) (operand ρ a)) h
   execute (Comment r) p q ρ h = spot p q ρ h
@@ -117,6 +129,7 @@ module _ {W : Type 0} (R : Rule W) (A : Answers W) (B : Body) where
   step (spot p q ρ h) = fetch (getElem? (B .instrs) p) p q ρ h
   step (over e h) = over e h
   step (waits h) = waits h
+  step (lost h) = lost h
 
   unfoldable pub steps : ℕ → Spot W → Spot W
   steps zero c = c

@@ -47,18 +47,19 @@ pub record Rule (W : Type 0) : Type 0 where
   -- the calls before, the function's record, its arguments
   pub call : Calls W → ℕ → List (Typed W) → Answer W
 
--- Who answers calls is a parameter of both runs: a reply, and the calls that were made for it. A reply that is still pending holds the run up: it
+-- Who answers calls is a parameter of both runs: told the calls before, the function's record, the type of the result's destination (`none` for
+-- a call statement) and the arguments, it gives a reply, and the calls that were made for it. A reply that is still pending holds the run up: it
 -- has not ended and goes no further. (So that a call may be answered by a run that may be endless.)
 pub data Reply (W : Type 0) : Type 0 where
   comes : Answer W → Reply W
   pending : Reply W
 
 abbrev pub Answers : Type 0 → Type 0
-Answers W = Calls W → ℕ → List (Typed W) → Reply W × Calls W
+Answers W = Calls W → ℕ → Option ℕ → List (Typed W) → Reply W × Calls W
 
 -- answered by the rule, always, with one call: the answers of demand 3
 unfoldable pub asked : {W : Type 0} → Rule W → Answers W
-asked R h f vs = (comes (R .call h f vs), (f, vs) ∷ [])
+asked R h f y vs = (comes (R .call h f vs), (f, vs) ∷ [])
 
 -- a literal with its tag or mark: value, short, unsigned; bits, short
 pub data Literal : Type 0 where

@@ -9,18 +9,20 @@ use lib.Dec.{eqb, ltb}
 use lib.IntN.{pos, negsuc}
 use Rattle.laws.specs.Fix.{pick}
 use Rattle.syntax.specs.Syntax.{Text, Ty, TInt, TBool, TNull, BinaryOp, Or, And, BitOr, BitXor, BitAnd, Eq, NotEq, Lt, Le, Gt, Ge, Shl, Shr, Add, Sub, Mul, Div, Rem, EInt, EName, EBinary, ECall, noArgs, Value, SReturn, SCall, SIf, SFor, SContinue, Block, done, next, Function, Program, boolType}
 use Rattle.conversion.specs.ConvertError.{Result, ok, err}
 use Rattle.conversion.specs.Ir.{OVar, OInt, Instr, Copy, Binary, Arg, Call, Label, JumpIfNot, Return, Comment, texts, IrFunction, IrProgram}
 use Rattle.conversion.specs.Types.{onInt}
 use Rattle.conversion.specs.Statements.{parameterType, asCall}
 use Rattle.conversion.specs.Expressions.{Functions, get-type, common-type, unwrapOr, resolve-call}
 use Rattle.conversion.specs.Functions.{get-all-functions}
 use Rattle.conversion.specs.Converter.{convert}
-use Rattle.conversion.specs.TreeRun as Tree
-use Rattle.conversion.specs.Rule.{content, literalType, read, readAll, gives, holds, fails, Typed, Calls, Content, IntContent, FloatContent, BoolContent, StringContent, NullContent, Rule, asked, Ending, passed, returns}
-use Rattle.conversion.specs.TreeRun.{Out, treeRun, parametersKnown, parameterValues, set, runStatement, bindS, bindO, bindT, testO, giveBack, evalExpr, typed, typedO, scopeOf, evalBinary, evalAnd, evalOr, toBool, answered, bindG, test, evalOther, replied, handed, fit, fitLiteral, fitComputed, bare, callWith, fitArguments, forOver, forInt, forLoop, rounds, typeIn, knownAfter, callStatement, callOnly}
-use Rattle.conversion.specs.BodyRun.{Vars, Spot, bodyRun, steps, step, fetch, execute, putTo, dropTo, putReply, dropReply, branchTo, finishWith, operand, datum, write, labelPlace, isLabel}
-use Rattle.conversion.specs.Shared.{bit, callsT, endT, callsB, endB, bodyOf}
+use Rattle.runs.specs.TreeRun as Tree
+use Rattle.runs.specs.Rule.{content, literalType, read, readAll, gives, holds, fails, Typed, Calls, Content, IntContent, FloatContent, BoolContent, StringContent, NullContent, Rule, asked, Ending, passed, returns}
+use Rattle.runs.specs.TreeRun.{Out, treeRun, parametersKnown, parameterValues, set, runStatement, bindS, bindO, bindT, testO, giveBack, evalExpr, typed, typedO, scopeOf, evalBinary, evalAnd, evalOr, toBool, answered, bindG, test, evalOther, replied, handed, fit, fitLiteral, fitComputed, bare, callWith, fitArguments, forOver, forInt, forLoop, rounds, typeIn, knownAfter, callStatement, callOnly}
+use Rattle.runs.specs.BodyRun.{Vars, Spot, bodyRun, steps, step, fetch, execute, putTo, dropTo, putReply, dropReply, jumpTo, branchTo, finishWith, operand, datum, write, labelPlace, isLabel}
+use Rattle.runs.specs.Shared.{callsT, endT, callsB, endB}
+use Rattle.runs.proofs.Opens.{bit}
+use Rattle.runs.proofs.Agrees.{bodyOf}
 
 -- ---- the program: types 0 (Int) and 6 (Bool); two external functions, `a` (ask, record 50) and `b` (bound, record 51)
 
@@ -138,7 +140,7 @@ treeOf f b vs = treeRun program (functions (get-all-functions (program .function
 
 -- f, the i-th function that is made, begun with the variables' contents ρ
 unfoldable pub madeOf : ℕ → Function → Vars ℕ → ℕ → Spot ℕ
-unfolding program ask bound guard either loop guardBody eitherBody rate typeOf loopBody rule number compute answer odd pick asked converted codeOf convert bodyRun steps step fetch execute putTo dropTo putReply dropReply branchTo finishWith operand datum read literalType content write labelPlace isLabel bodyOf texts
+unfolding program ask bound guard either loop guardBody eitherBody rate typeOf loopBody rule number compute answer odd pick asked converted codeOf convert bodyRun steps step fetch execute putTo dropTo putReply dropReply jumpTo branchTo finishWith operand datum read literalType content write labelPlace isLabel bodyOf texts
 madeOf i f ρ = bodyRun rule (asked rule) (bodyOf f (codeOf (converted (convert program false) .funcs) i) (converted (convert program false))) ρ
 
 -- the two sides of `ends` in the claim `Shared`, at the end e and the calls h: both hold

@@ -9,13 +9,13 @@ use lib.Dec.{eqb}
 use lib.IntN.{pos}
 use Rattle.laws.specs.Fix.{pick}
 use Rattle.syntax.specs.Syntax.{Text, Ty, TInt, TFloat, TBool, TChar, TByte, TAddress, TArray, TCustom, TNull, BinaryOp, Or, And, BitOr, BitXor, BitAnd, Eq, NotEq, Lt, Le, Gt, Ge, Shl, Shr, Add, Sub, Mul, Div, Rem, Expr, EInt, EFloat, EStr, EBool, EName, ENull, ESizeOf, EUnary, EBinary, ECall, Args, noArgs, Value, ToType, Statement, SDeclare, SInit, SReturn, SCall, SIf, SIfElse, SWhile, SFor, SBreak, SContinue, Block, done, next, Param, Function, Program, boolType, nullType, addressOfNull}
 use Rattle.conversion.specs.ConvertError.{Result, ok, err}
 use Rattle.conversion.specs.Ir.{sameText}
 use Rattle.conversion.specs.Types.{onInt, onFloat, isFloat, size}
 use Rattle.conversion.specs.Scope.{Variable, Scope}
 use Rattle.conversion.specs.Expressions.{Callee, CallFunction, CallCast, Functions, unwrapOr, get-type, resolve-call, common-type}
 use Rattle.conversion.specs.Statements.{parameterType, asCall}
-use Rattle.conversion.specs.Rule.{Answer, gives, halt, Truth, holds, fails, halts, Calls, Rule, Reply, comes, pending, Answers, Literal, IntLiteral, FloatLiteral, BoolLiteral, StringLiteral, NullLiteral, NullContent, Datum, constant, computed, read, readAll}
+use Rattle.runs.specs.Rule.{Answer, gives, halt, Truth, holds, fails, halts, Calls, Rule, Reply, comes, pending, Answers, Literal, IntLiteral, FloatLiteral, BoolLiteral, StringLiteral, NullLiteral, NullContent, Datum, constant, computed, read, readAll}
 
 -- a name that is known, with its type
 pub record Known : Type 0 where
@@ -56,6 +56,9 @@ pub data Out (W : Type 0) : Type 0 where
   continued : Values W → Calls W → Out W
   returned : W → Calls W → Out W
   stopped : Calls W → Out W
+  -- held up by a reply that is pending
+  held : Calls W → Out W
+  -- out of turns
   unfinished : Calls W → Out W
 
 unfoldable pub bindG : {W A B : Type 0} → Got W A → (A → Calls W → Got W B) → Got W B
@@ -66,7 +69,7 @@ bindG (wait h) f = wait h
 unfoldable pub bindO : {W A : Type 0} → Got W A → (A → Calls W → Out W) → Out W
 bindO (value a h) f = f a h
 bindO (stop h) f = stopped h
-bindO (wait h) f = unfinished h
+bindO (wait h) f = held h
 
 -- one statement, then the next
 unfoldable pub bindS : {W : Type 0} → Out W → (Values W → Calls W → Out W) → Out W
@@ -75,6 +78,7 @@ bindS (broke σ h) f = broke σ h
 bindS (continued σ h) f = continued σ h
 bindS (returned v h) f = returned v h
 bindS (stopped h) f = stopped h
+bindS (held h) f = held h
 bindS (unfinished h) f = unfinished h
 
 -- the body of a loop, then the next turn; a break leaves the loop
@@ -84,6 +88,7 @@ bindT (broke σ h) f = normal σ h
 bindT (continued σ h) f = f σ h
 bindT (returned v h) f = returned v h
 bindT (stopped h) f = stopped h
+bindT (held h) f = held h
 bindT (unfinished h) f = unfinished h
 
 -- what the rule answers, of the type y; and the same as a bare value
@@ -212,10 +217,10 @@ module _ {W : Type 0} (P : Program) (F : Functions) (f : Function) (R : Rule W) 
   castFirst y [] h = stop h
   castFirst y (u ∷ us) h = answered y (R .cast y (read R u)) h
 
-  -- 'A call computes all its arguments, fits them in order, then calls'
+  -- 'A call computes all its arguments, fits them in order, then calls'; y is the type of the variable that the Rust gives the result
   unfoldable pub callWith : ℕ → Callee → List (Datum W) → Calls W → Got W (Datum W)
   callWith y (CallFunction g) vs h = bindG (fitArguments P R 0 vs g h) λ us h1.
-      replied y (A h1 (g .recOf) (readAll R us) .0) (h1 ++ A h1 (g .recOf) (readAll R us) .1)
+      replied y (A h1 (g .recOf) (some y) (readAll R us) .0) (h1 ++ A h1 (g .recOf) (some y) (readAll R us) .1)
   callWith y (CallCast t) vs h = castFirst y vs h
 
   unfoldable mutual
@@ -274,7 +279,7 @@ module _ {W : Type 0} (P : Program) (F : Functions) (f : Function) (R : Rule W) 
   unfoldable pub callOnly : Callee → Args → List Known → Values W → Calls W → Out W
   callOnly (CallCast t) l N σ h = stopped h
   callOnly (CallFunction g) l N σ h = bindO (evalArgs l N σ h) λ vs h1. bindO (fitArguments P R 0 vs g h1) λ us h2.
-      bindO (handed (A h2 (g .recOf) (readAll R us) .0) (h2 ++ A h2 (g .recOf) (readAll R us) .1)) λ v h3. normal σ h3
+      bindO (handed (A h2 (g .recOf) none (readAll R us) .0) (h2 ++ A h2 (g .recOf) none (readAll R us) .1)) λ v h3. normal σ h3
 
   -- 'A call statement whose expression is no call is typed and never run'
   unfoldable pub callStatement : Expr → List Known → Values W → Calls W → Out W

@@ -1,0 +1,4 @@
+pub mod Rule
+pub mod TreeRun
+pub mod BodyRun
+pub mod Shared
