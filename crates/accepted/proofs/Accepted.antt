@@ -21,7 +21,7 @@ use Rattle.records.specs.declared.convert_error.ConvertErrorKind.the-variants.{
 use Rattle.syntax.specs.Syntax.{Block, Function}
 use Rattle.syntax.specs.Decode.{program}
 use Rattle.conversion.specs.Written.{Counts, Tables, Converted, conversion}
-use Rattle.tables.specs.Exists.{All, Byte}
+use Rattle.tables.specs.Bytes.{All, Byte}
 use Rattle.tables.specs.Read.{Begin}
 use Rattle.judge.specs.declared.Lengths.{Lengths}
 use Rattle.judge.specs.declared.Judged.the-variants.{Accepted}

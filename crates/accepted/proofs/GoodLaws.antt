@@ -16,7 +16,7 @@ use Rattle.conversion.specs.Converter.{convert}
 use Rattle.conversion.specs.Written.{tablesOf, countsOf}
 use Rattle.conversion.proofs.Sizes.{IfOk, Suffice, tree-suffices}
 use Rattle.conversion.proofs.Bytes.{Fit, judged-fits}
-use Rattle.tables.specs.Exists.{CountsFit}
+use Rattle.tables.proofs.Exists.{CountsFit}
 use Rattle.tables.proofs.Judged.{judged-counts}
 use Rattle.runs.proofs.Opens.{WellFormed}
 use Rattle.accepted.proofs.Opened.{once-well-formed}

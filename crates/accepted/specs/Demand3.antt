@@ -15,7 +15,7 @@ use Rattle.conversion.specs.ConvertError.{ok}
 use Rattle.conversion.specs.Expressions.{Functions}
 use Rattle.conversion.specs.Functions.{get-all-functions}
 use Rattle.conversion.specs.Written.{Counts, Tables, Converted, conversion}
-use Rattle.tables.specs.Exists.{All, Byte}
+use Rattle.tables.specs.Bytes.{All, Byte}
 use Rattle.tables.specs.Read as Read
 use Rattle.tables.specs.Read.{Begin, bodyAt}
 use Rattle.runs.specs.Rule.{Rule, Answers, asked}

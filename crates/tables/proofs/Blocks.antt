@@ -15,7 +15,7 @@ use Rattle.conversion.specs.Types.{fits, range-error}
 use Rattle.conversion.specs.Scope.{Variable, Scope, find-variable, withVariable, withLoop, declareNew, declare}
 use Rattle.conversion.specs.Expressions.{Callee, CallFunction, CallCast, Functions, get-type}
 use Rattle.conversion.specs.Statements.{asCall, convert-expr, convert-cond, checkFits, zeroValue, convert-declare, assignTo, convert-assign, initNew, initBy, convert-init, returnAs, convert-return, callStatement, convert-call, convert-if, convertIfElse, convert-while-loop, checkBound, forLoop, forInt, forKnown, convert-for-loop, convert-break, convert-continue, convert-statement, convert-block}
-use Rattle.tables.specs.Exists.{Word, VarIn, LabelFits}
+use Rattle.tables.proofs.Exists.{Word, VarIn, LabelFits}
 use Rattle.tables.proofs.SyntaxFits.{OkIs, okIs, errIs, OptIs, someIs, held, ExprFits, ArgsFit, StatementFits, BlockFits, CalleeFits, KeyedFit, TreeFits}
 use Rattle.tables.proofs.Typing.{TypeFits, pick-is, find-is}
 use Rattle.tables.proofs.Keeps.{known-label, Up, Typed, Named, Keeps, then, and-then, from, gives, fails, emits, picks, new-variable, label-number, float-number, knowing, lift-then, lift-any}

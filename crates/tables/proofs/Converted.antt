@@ -15,7 +15,8 @@ use Rattle.conversion.specs.Expressions.{Functions, mainName}
 use Rattle.conversion.specs.Functions.{is-ascii, contains-key, addFunction, get-all-functions, check-main, always-returns, declareParams, convertBody, Pool, finished, convertFunction, convert-func}
 use Rattle.conversion.specs.Converter.{convertAll, convert}
 use Rattle.conversion.specs.Written.{codeOf, countsOf}
-use Rattle.tables.specs.Exists.{All, Word, InstrIn, StringFits, FloatFits, stateOf, FunctionFits, CountsFit, ProgramFits}
+use Rattle.tables.specs.Bytes.{All}
+use Rattle.tables.proofs.Exists.{Word, InstrIn, StringFits, FloatFits, stateOf, FunctionFits, CountsFit, ProgramFits}
 use Rattle.tables.proofs.SyntaxFits.{OkIs, okIs, errIs, OptIs, noneIs, held, BlockFits, SignatureFits, FunctionFitsIn, KeyedFit, TreeFits}
 use Rattle.tables.proofs.Typing.{ok-bind, pick-is}
 use Rattle.tables.proofs.Keeps.{Prefix, prefix-refl, all-append, all-map, instr-up, Always, Post, Keeps, then, from, gives, fails, picks, new-variable}

@@ -10,7 +10,7 @@ use lib.ListN.{length, drop, getElem?, length-append}
 use lib.Seq.{drop-at, drop-drop}
 use Rattle.conversion.specs.Written.{encodeAll}
 use Rattle.tables.specs.Read.{_>>=_, entries, part}
-use Rattle.tables.specs.Exists.{All}
+use Rattle.tables.specs.Bytes.{All}
 
 -- ---- lists
 

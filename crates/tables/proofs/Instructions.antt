@@ -20,7 +20,7 @@ use Rattle.syntax.specs.Syntax.{UnaryOp, Neg, BitNot, Not, BinaryOp, Or, And, B
 use Rattle.conversion.specs.Ir.{VarId, Operand, OVar, OInt, OFloat, OBool, ODataAddress, ONull, Instr, Copy, Unary, Binary, Cast, Zero, Arg, Call, Label, Jump, JumpIfNot, Return, Comment, State}
 use Rattle.conversion.specs.Written.{bytesOf, word, wide, boolNumber, tag, operandValue, Fields, tagOf, valueOf, destination, fieldsOf, encodeFields, encodeInstr}
 use Rattle.tables.specs.Read.{_>>=_, unused, wideAt, markOf, variable, noOperand, varOperand, intOperand, floatOperand, boolOperand, stringOperand, nullOperand, operandOf, fieldsAt, copyOf, unaryOf, binaryOf, castOf, zeroOf, argOf, destinationOf, callOf, labelOf, jumpOf, jumpIfNotOf, returnOf, commentOf, instrOf, instrAt}
-use Rattle.tables.specs.Exists.{Word, VarIn, OperandIn, DestinationIn, InstrIn}
+use Rattle.tables.proofs.Exists.{Word, VarIn, OperandIn, DestinationIn, InstrIn}
 use Rattle.tables.proofs.Numbers.{word-back, wide-back}
 
 -- the numbers of variables, labels, strings and floats are words

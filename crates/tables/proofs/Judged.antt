@@ -12,7 +12,7 @@ use Rattle.conversion.specs.Ir.{IrProgram}
 use Rattle.conversion.specs.Converter.{convert}
 use Rattle.conversion.specs.Written.{countsOf}
 use Rattle.conversion.proofs.Sizes.{Suffice, tree-suffices}
-use Rattle.tables.specs.Exists.{CountsFit}
+use Rattle.tables.proofs.Exists.{CountsFit}
 use Rattle.tables.proofs.ReadBack.{counts-fit}
 
 module _ (tree text : List ℕ) (needsMain : Bool) (few : records tree < 1073741824) (complete : (r : ℕ) → r < records tree → Complete tree text r)

@@ -15,7 +15,8 @@ use Rattle.syntax.specs.Syntax.{Text}
 use Rattle.conversion.specs.ConvertError.{ConvertErrorKind, Result, ok, err}
 use Rattle.conversion.specs.Ir.{VarId, Operand, OVar, OInt, OFloat, OBool, ODataAddress, ONull, Instr, Copy, Unary, Binary, Cast, Zero, Arg, Call, Label, Jump, JumpIfNot, Return, Comment, LabelName, StringEntry, FloatEntry, State, Out, made, failed, M, after, bind, _>>=_, _>>_, pure, fail, lift, emit, position, new-var, numbered, label-id, string-id, float-id, floatBits, sameLabel, sameText, sameFloat}
 use Rattle.tables.proofs.SyntaxFits.{OkIs, okIs, errIs}
-use Rattle.tables.specs.Exists.{All, Word, VarIn, OperandIn, DestinationIn, LabelIn, InstrIn, LabelFits, StringFits, FloatFits}
+use Rattle.tables.specs.Bytes.{All}
+use Rattle.tables.proofs.Exists.{Word, VarIn, OperandIn, DestinationIn, LabelIn, InstrIn, LabelFits, StringFits, FloatFits}
 
 -- ---- lists
 

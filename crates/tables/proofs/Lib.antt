@@ -1,3 +1,4 @@
+pub mod Exists
 pub mod Numbers
 pub mod Entries
 pub mod Instructions
@@ -12,3 +13,4 @@ pub mod Decoded
 pub mod ReadBack
 pub mod Strict
 pub mod Judged
+pub mod Listed

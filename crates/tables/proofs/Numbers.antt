@@ -11,7 +11,8 @@ use lib.Seq.{getD-drop, drop-cons}
 use Rattle.records.specs.Words.{byteAt, wordAt}
 use Rattle.conversion.specs.Written.{bytesOf, word, wide}
 use Rattle.tables.specs.Read.{wideAt}
-use Rattle.tables.specs.Exists.{All, Byte, Word}
+use Rattle.tables.specs.Bytes.{All, Byte}
+use Rattle.tables.proofs.Exists.{Word}
 
 step : (w : ℕ) → w / 256 * 256 + w % 256 ≡ w
 step w = div-add-mod' w 256

@@ -16,7 +16,8 @@ use Rattle.conversion.specs.Types.{onInt, onFloat, isFloat, within, sizeStep, s
 use Rattle.conversion.specs.Scope.{Variable, Scope, find-variable}
 use Rattle.conversion.specs.Expressions.{Callee, CallFunction, CallCast, Functions, unwrapOr, get-type, resolve-call}
 use Rattle.conversion.specs.Statements.{nameOperand, sizeOperand, castOperand, refloat, fit-operand, parameterType, fitFrom, fit-args, emitArgs, convert-unary, convertAnd, convertOr, castFirst, convertOther, convertBinaryBy, convert-binary, callFunction, callValue, convert-call-value, convert-expr, convert-args}
-use Rattle.tables.specs.Exists.{All, Word, VarIn, OperandIn, DestinationIn, LabelFits}
+use Rattle.tables.specs.Bytes.{All}
+use Rattle.tables.proofs.Exists.{Word, VarIn, OperandIn, DestinationIn, LabelFits}
 use Rattle.tables.proofs.SyntaxFits.{OptIs, noneIs, someIs, held, ExprFits, ArgsFit, SignatureFits, CalleeFits, KeyedFit, TreeFits}
 use Rattle.tables.proofs.Typing.{TypeFits, unwrap-is, float-type-word, find-is, type-word, resolve-fits, common-type-word}
 use Rattle.tables.proofs.Keeps.{known-label, all-map, var-up, operand-up, Up, Always, Named, Keeps, then, and-then, from, gives, fails, emits, new-variable, label-number, string-number, float-number, float-bits, knowing, lift-then}

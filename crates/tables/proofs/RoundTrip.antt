@@ -13,10 +13,11 @@ use borrow.Author.Tests.{lt-ltb, le-ltb}
 use Rattle.laws.specs.Fix.{pick}
 use Rattle.records.specs.Words.{byteAt, wordAt}
 use Rattle.syntax.specs.Syntax.{Text}
-use Rattle.conversion.specs.Ir.{Instr, LabelName, StringEntry, FloatEntry, IrFunction, IrProgram}
+use Rattle.conversion.specs.Ir.{Operand, OVar, OInt, OFloat, OBool, ODataAddress, ONull, Instr, Copy, Unary, Binary, Cast, Zero, Arg, Call, Label, Jump, JumpIfNot, Return, Comment, LabelName, StringEntry, FloatEntry, State, IrFunction, IrProgram}
 use Rattle.conversion.specs.Written.{bytesOf, word, wide, boolNumber, encodeInstr, encodeVar, encodeLabel, encodeString, encodeFloat, encodeAll, codeOf, bodyMark, encodeFunctions, allCode, allVars, allLabels, Tables, tablesOf, countsOf}
-use Rattle.tables.specs.Read.{_>>=_, check, unused, wideAt, instrAt, variableAt, labelAt, stringAt, floatAt, FunctionEntry, functionAt, part, bodyAt, Begin, bodyOf}
-use Rattle.tables.specs.Exists.{Word, InstrIn, LabelFits, StringFits, FloatFits, stateOf, FunctionFits, ProgramFits}
+use Rattle.tables.specs.Read.{_>>=_, check, unused, wideAt, instrAt, variableAt, labelAt, stringAt, floatAt, FunctionEntry, functionAt, part, operandListed, listed, allListed, bodyAt, Begin, bodyOf}
+use Rattle.tables.specs.Bytes.{All}
+use Rattle.tables.proofs.Exists.{Word, OperandIn, InstrIn, LabelFits, StringFits, FloatFits, stateOf, FunctionFits, ProgramFits}
 use Rattle.tables.proofs.Numbers.{word-back, wide-back}
 use Rattle.tables.proofs.Entries.{all-at, Cut, cut, not-found, drop-entries, part-back, entries-back}
 use Rattle.tables.proofs.Instructions.{Small, found-below, mark-back, instr-back, instr-length}
@@ -64,6 +65,37 @@ string-length e = refl
 float-length : (e : FloatEntry) → length (encodeFloat e) ≡ 16
 unfolding encodeFloat word wide bytesOf
 float-length e = refl
+
+-- ---- the numbers that an instruction names
+
+operand-listed : (s : State) (o : Operand) → OperandIn s o → operandListed (length (s .strings)) (length (s .floats)) o ≡ true
+unfolding operandListed
+operand-listed s (OVar x) h = refl
+operand-listed s (OInt v short unsigned) h = refl
+operand-listed s (OFloat i) h = lt-ltb i (length (s .floats)) h
+operand-listed s (OBool b) h = refl
+operand-listed s (ODataAddress i) h = lt-ltb i (length (s .strings)) h
+operand-listed s ONull h = refl
+
+instr-listed : (s : State) (i : Instr) → InstrIn s i → listed (length (s .labels)) (length (s .strings)) (length (s .floats)) i ≡ true
+unfolding listed
+instr-listed s (Copy x o) h = operand-listed s o (h .1)
+instr-listed s (Unary x u o) h = operand-listed s o (h .1)
+instr-listed s (Binary x b o p) h = rw (operand-listed s o (h .1), operand-listed s p (h .2)) refl
+instr-listed s (Cast x o) h = operand-listed s o (h .1)
+instr-listed s (Zero x) h = refl
+instr-listed s (Arg o) h = operand-listed s o h
+instr-listed s (Call x f) h = refl
+instr-listed s (Label l) h = lt-ltb l (length (s .labels)) h
+instr-listed s (Jump l) h = lt-ltb l (length (s .labels)) h
+instr-listed s (JumpIfNot o l) h = rw (operand-listed s o (h .0), lt-ltb l (length (s .labels)) (h .1)) refl
+instr-listed s (Return o) h = operand-listed s o h
+instr-listed s (Comment r) h = refl
+
+all-listed : (s : State) (c : List Instr) → All (InstrIn s) c → allListed (length (s .labels)) (length (s .strings)) (length (s .floats)) c ≡ true
+unfolding allListed
+all-listed s [] h = refl
+all-listed s (i ∷ c) h = rw (instr-listed s i (h .0), all-listed s c (h .1)) refl
 
 -- ---- functions' entries
 
@@ -267,13 +299,16 @@ module _ (text : Text) (p : IrProgram) (t : Tables) (fits : ProgramFits text p) 
         (part-back encodeLabel 8 label-length LabelFits labelAt label-back (allLabels (c .before)) (f .labels) (allLabels (c .after))
         (held .labels .rest) (function-fits .labels))
 
+    code-listed : allListed (length (f .labels)) (length (p .strings)) (length (p .floats)) (Code f) ≡ true
+    code-listed = all-listed (stateOf p f) (Code f) (function-fits .body)
+
     in-table : ltb n (length (p .funcs)) ≡ true
     in-table = lt-ltb n (length (p .funcs)) (found-below (p .funcs) n f found)
 
     by-body : (b : Option (List Instr)) → f .body ≡ b → bodyAt (countsOf p) t text n ≡ bodyOf p n
     unfolding bodyAt bodyOf _>>=_ check countsOf entryOf hasBody codeOf
     by-body nothing e = rw (found, in-table, entry-read, e)
-    by-body (some code) e = rw (found, in-table, entry-read, ap hasBody e, vars-read, labels-read, code-read, strings-back, floats-back, e)
+    by-body (some code) e = rw (found, in-table, entry-read, ap hasBody e, vars-read, labels-read, code-read, code-listed, strings-back, floats-back, e)
 
   by-function : (n : ℕ) (o : Option IrFunction) → getElem? (p .funcs) n ≡ o → bodyAt (countsOf p) t text n ≡ bodyOf p n
   unfolding bodyAt bodyOf _>>=_ check countsOf

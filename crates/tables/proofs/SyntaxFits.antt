@@ -9,7 +9,8 @@ use Rattle.records.specs.Words.{textAt}
 use Rattle.syntax.specs.Syntax.{Text, Expr, EInt, EFloat, EStr, EBool, EName, ENull, ESizeOf, EUnary, EBinary, ECall, Args, noArgs, Value, ToType, Statement, SDeclare, SInit, SReturn, SCall, SIf, SIfElse, SWhile, SFor, SBreak, SContinue, Block, done, next, Function, Program}
 use Rattle.conversion.specs.ConvertError.{ConvertErrorKind, Result, ok, err}
 use Rattle.conversion.specs.Expressions.{Functions, Callee, CallFunction, CallCast}
-use Rattle.tables.specs.Exists.{All, Word}
+use Rattle.tables.specs.Bytes.{All}
+use Rattle.tables.proofs.Exists.{Word}
 
 -- Q holds of what a result holds, of what an option holds
 pub data OkIs {A : Type 0} (Q : A → Type 0) : Result A → Type 0 where

@@ -13,7 +13,8 @@ use Rattle.conversion.specs.Ir.{sameText}
 use Rattle.conversion.specs.Types.{fits, range-error, can-cast}
 use Rattle.conversion.specs.Scope.{Variable, Scope, findIn, find-variable}
 use Rattle.conversion.specs.Expressions.{Callee, CallFunction, CallCast, return-type, TypedArg, castVerb, variadicMark, Functions, getFunction, is-mangled, filterOption, orElse, unwrapOr, operandClass, givesBool, targetType, sourceType, nameType, chosen, valueType, commonOf, acceptsClass, acceptsUnary, unaryType, operandsError, accepted, binaryType, takes-args, castChecked, castTo, cast-type, suffixes, mangledFunction, joined, variadicFunction, find-exact-function, byLiterals, find-functions-by-literals, exactOr, resolveFunction, resolveTyped, get-type, get-argument-types, resolve-call, common-type}
-use Rattle.tables.specs.Exists.{All, Word}
+use Rattle.tables.specs.Bytes.{All}
+use Rattle.tables.proofs.Exists.{Word}
 use Rattle.tables.proofs.SyntaxFits.{OkIs, okIs, errIs, OptIs, noneIs, someIs, ExprFits, ArgsFit, SignatureFits, CalleeFits, FunctionFitsIn, KeyedFit, TreeFits}
 
 -- ---- results and options

@@ -1,2 +1,2 @@
+pub mod Bytes
 pub mod Read
-pub mod Exists

@@ -283,6 +283,37 @@ unfoldable pub part : {X : Type 0} → (List ℕ → Option X) → ℕ → List 
 unfolding entries
 part read size table first n = entries read size n (drop (first * size) table)
 
+-- ---- numbers that lie in their tables: ls is how many labels the function has, ss and fs how many strings and floats the program
+-- (a variable is read with its type, so it is one of the function's)
+
+unfoldable pub operandListed : ℕ → ℕ → Operand → Bool
+operandListed ss fs (OVar x) = true
+operandListed ss fs (OInt v short unsigned) = true
+operandListed ss fs (OFloat i) = ltb i fs
+operandListed ss fs (OBool b) = true
+operandListed ss fs (ODataAddress i) = ltb i ss
+operandListed ss fs ONull = true
+
+unfoldable pub listed : ℕ → ℕ → ℕ → Instr → Bool
+unfolding operandListed
+listed ls ss fs (Copy x o) = operandListed ss fs o
+listed ls ss fs (Unary x u o) = operandListed ss fs o
+listed ls ss fs (Binary x b o p) = operandListed ss fs o && operandListed ss fs p
+listed ls ss fs (Cast x o) = operandListed ss fs o
+listed ls ss fs (Zero x) = true
+listed ls ss fs (Arg o) = operandListed ss fs o
+listed ls ss fs (Call x f) = true
+listed ls ss fs (Label l) = ltb l ls
+listed ls ss fs (Jump l) = ltb l ls
+listed ls ss fs (JumpIfNot o l) = operandListed ss fs o && ltb l ls
+listed ls ss fs (Return o) = operandListed ss fs o
+listed ls ss fs (Comment r) = true
+
+unfoldable pub allListed : ℕ → ℕ → ℕ → List Instr → Bool
+unfolding listed
+allListed ls ss fs [] = true
+allListed ls ss fs (i ∷ l) = listed ls ss fs i && allListed ls ss fs l
+
 -- ---- bodies
 
 -- a function's body: its record, its instructions, the types of its variables, its labels, and the program's strings and floats
@@ -294,9 +325,10 @@ pub record Body : Type 0 where
   pub strings : List Text
   pub floats : List FloatEntry
 
--- the body of function i, counted in the functions' table; `nothing` where there is no such function or it has no body
+-- the body of function i, counted in the functions' table; `nothing` where there is no such function, it has no body, or an instruction names what
+-- is not there
 unfoldable pub bodyAt : Counts → Tables → Text → ℕ → Option Body
-unfolding _>>=_ check functionAt part variableAt labelAt instrAt stringAt floatAt texts
+unfolding _>>=_ check functionAt part variableAt labelAt instrAt stringAt floatAt allListed texts
 bodyAt c t text i = do
   _ ← check (ltb i (c .functions))
   f ← functionAt (drop (i * 32) (t .functions))
@@ -304,6 +336,7 @@ bodyAt c t text i = do
   vars ← part variableAt 4 (t .variables) (f .firstVar) (f .vars)
   labels ← part labelAt 8 (t .labels) (f .firstLabel) (f .labels)
   instrs ← part (instrAt vars) 32 (t .instructions) (f .firstInstr) (f .instrs)
+  _ ← check (allListed (f .labels) (c .strings) (c .floats) instrs)
   strings ← part (stringAt text) 8 (t .strings) 0 (c .strings)
   floats ← part floatAt 16 (t .floats) 0 (c .floats)
   some (record { func = f .func; instrs = instrs; vars = vars; labels = labels; strings = texts strings; floats = floats })

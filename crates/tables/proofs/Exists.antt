@@ -1,8 +1,8 @@
 -- What a program must be for its tables to say all of it: what an instruction names exists, and each number fits its field.
--- Assumes nothing: these are definitions.
+-- Definitions for proofs. Assumes nothing.
 use mathlib.Core.Path.{_≡_}
 use Prim.Native.Nat.{ℕ, _<_, _^_}
-use mathlib.Core.List.{List, [], _∷_}
+use mathlib.Core.List.{List}
 use mathlib.Core.Option.{Option, none as nothing, some}
 use lib.ListN.{length, getElem?}
 use mir.Syntax.{w64}
@@ -11,16 +11,9 @@ use Rattle.records.specs.Words.{textAt}
 use Rattle.syntax.specs.Syntax.{Text}
 use Rattle.conversion.specs.Ir.{VarId, Operand, OVar, OInt, OFloat, OBool, ODataAddress, ONull, Instr, Copy, Unary, Binary, Cast, Zero, Arg, Call, Label, Jump, JumpIfNot, Return, Comment, LabelName, StringEntry, FloatEntry, State, IrFunction, IrProgram}
 use Rattle.conversion.specs.Written.{Counts, codeOf, countsOf}
+use Rattle.tables.specs.Bytes.{All}
 
--- every element of a list
-abbrev pub All : {X : Type 0} → (X → Type 0) → List X → Type 0
-All P [] = Unit {0}
-All P (x ∷ l) = P x × All P l
-
--- a byte, and a word of 32 bits, holds it
-abbrev pub Byte : ℕ → Type 0
-Byte n = n < 256
-
+-- a word of 32 bits holds it
 abbrev pub Word : ℕ → Type 0
 Word n = n < 4294967296
 
