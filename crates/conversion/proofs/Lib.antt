@@ -6,3 +6,4 @@ pub mod Within
 pub mod Sizes
 pub mod Bytes
 pub mod Steps
+pub mod Bodies

@@ -17,4 +17,5 @@ pub mod Returns
 pub mod OneFunction
 pub mod Demand3
 pub mod Alike
+pub mod Pinned
 pub mod Instance
