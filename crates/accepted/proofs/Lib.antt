@@ -2,3 +2,4 @@ pub mod Opened
 pub mod GoodLaws
 pub mod Demand3
 pub mod Accepted
+pub mod OnBytes
