@@ -7,3 +7,4 @@ pub mod Sizes
 pub mod Bytes
 pub mod Steps
 pub mod Bodies
+pub mod Called

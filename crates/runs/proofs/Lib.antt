@@ -16,6 +16,8 @@ pub mod Whole
 pub mod Returns
 pub mod OneFunction
 pub mod Demand3
+pub mod Less
+pub mod BodyLess
 pub mod Alike
 pub mod Pinned
 pub mod Instance
