@@ -20,10 +20,11 @@ use Rattle.conversion.specs.Converter.{convertAll, convert}
 use Rattle.conversion.specs.Written.{Counts, Tables, Refused, Converted, refusedAt, answerOf, conversion, countsOf, tablesOf}
 use Rattle.tables.specs.Read as Read
 use Rattle.tables.specs.Read.{Begin, bodyAt}
+use Rattle.tables.proofs.Exists as Exists
 use Rattle.tables.proofs.ReadBack.{converted-reads-back}
 use Rattle.runs.proofs.Agrees.{Agrees, bodyOf}
 use Rattle.runs.specs.Rule.{asked}
-use Rattle.runs.proofs.Whole.{alike}
+use Rattle.runs.proofs.Whole.{same-runs}
 use Rattle.runs.proofs.Demand3.{demand3}
 use Rattle.accepted.specs.Demand3.{runnable, RunsAlike, Demand3, Demand3ByRule}
 use Rattle.accepted.proofs.GoodLaws.{good-counts, good-well-formed}
@@ -76,12 +77,12 @@ bodyRead {ir = ir} a = record {
   floats = ir .floats;
 }
 
-body-said : {W : Type 0} {P : Program} {F : Functions} {ir : IrProgram} {i : ℕ} {f : Function} {b : Block} (a : Agrees W P F ir i f b) → Read.bodyOf ir i ≡ some (bodyRead a)
-unfolding Read.bodyOf Read._>>=_ bodyRead
+body-said : {W : Type 0} {P : Program} {F : Functions} {ir : IrProgram} {i : ℕ} {f : Function} {b : Block} (a : Agrees W P F ir i f b) → Exists.bodyOf ir i ≡ some (bodyRead a)
+unfolding Exists.bodyOf Read._>>=_ bodyRead
 body-said {ir = ir} a = rw (a .listed, a .body) refl
 
 runs-alike : (W : Type 0) (tree text : List ℕ) (c : Counts) (t : Tables) (ir : IrProgram) (F : Functions) (i : ℕ) (f : Function) (b : Block)
-    → get-all-functions (program tree text .functions) [] ≡ ok F → bodyAt c t text i ≡ Read.bodyOf ir i → Agrees W (program tree text) F ir i f b → RunsAlike W tree text c t i f b
+    → get-all-functions (program tree text .functions) [] ≡ ok F → bodyAt c t text i ≡ Exists.bodyOf ir i → Agrees W (program tree text) F ir i f b → RunsAlike W tree text c t i f b
 unfolding runnable bodyOf bodyRead
 runs-alike W tree text c t ir F i f b k r a = record { said = record { functions = F; found = k; body = bodyRead a; reads = r ∙ body-said a; same = a .same }; shared = a .shared }
 
@@ -92,7 +93,7 @@ good-demand3 W tree text needsMain bytes good c w t e held i f b ef eb =
     let ir = h .of in
     let k = found (program tree text) needsMain ir (h .converts) in
     runs-alike W tree text c t ir (k .functions) i f b (k .found)
-    (subst (λ n. bodyAt n t text i ≡ Read.bodyOf ir i) (sym (h .counted))
+    (subst (λ n. bodyAt n t text i ≡ Exists.bodyOf ir i) (sym (h .counted))
     (converted-reads-back tree text needsMain bytes (omega (arith, good .few)) ir (h .converts) (good-counts tree text good needsMain ir (h .converts)) t
     (subst (λ v. Begin v t) (h .written) held) i))
     (demand3 W (program tree text) needsMain ir (k .functions) (good-well-formed tree text good) (h .converts) (k .found) i f b ef eb)
@@ -101,4 +102,4 @@ good-demand3 W tree text needsMain bytes good c w t e held i f b ef eb =
 pub demand3-asked : Demand3ByRule
 demand3-asked W tree text needsMain bytes good c w t e held i f b ef eb =
     let a = good-demand3 W tree text needsMain bytes good c w t e held i f b ef eb in
-    record { said = a .said; alike = λ R vs ρ len place. alike (a .shared R (asked R) vs ρ len place) }
+    record { said = a .said; shared = λ R vs ρ len place. same-runs (a .shared R (asked R) vs ρ len place) }

@@ -21,14 +21,14 @@ use Rattle.tables.specs.Read.{Begin, bodyAt}
 use Rattle.runs.specs.Rule.{Rule, Answers, asked}
 use Rattle.runs.specs.TreeRun.{treeRun}
 use Rattle.runs.specs.BodyRun.{Body, Vars, bodyRun}
-use Rattle.runs.specs.Shared.{Shared, Alike, InPlace}
+use Rattle.runs.specs.Shared.{Shared, SameRuns, InPlace}
 
 -- what a run takes of a body that was read from bytes; the return type is that of the function in the tree
 unfoldable pub runnable : Function → Read.Body → Body
 runnable f b = record { instrs = b .instrs; result = f .returnType; strings = b .strings; floats = b .floats }
 
 -- what is found and read for f, the i-th function of the tree: the buffers t say a body for it
-pub record Said (tree text : List ℕ) (c : Counts) (t : Tables) (i : ℕ) (f : Function) : Type 0 where
+pub record BodySaid (tree text : List ℕ) (c : Counts) (t : Tables) (i : ℕ) (f : Function) : Type 0 where
   -- the functions that a call is looked for among, as `get_all_functions` keeps them
   pub functions : Functions
   pub found : get-all-functions (program tree text .functions) [] ≡ ok functions
@@ -40,15 +40,15 @@ pub record Said (tree text : List ℕ) (c : Counts) (t : Tables) (i : ℕ) (f : 
 -- with the body b in the tree and the one that the buffers say, 'running the tree and running the body show the same calls in the same order with
 -- the same arguments, and end alike', for every rule over W, whoever answers calls, all parameters' values vs and 'anything in other variables'
 pub record RunsAlike (W : Type 0) (tree text : List ℕ) (c : Counts) (t : Tables) (i : ℕ) (f : Function) (b : Block) : Type 0 where
-  pub said : Said tree text c t i f
+  pub said : BodySaid tree text c t i f
   pub shared : (R : Rule W) (A : Answers W) (vs : List W) (ρ : Vars W) → length vs ≡ length (f .params) → InPlace vs ρ
       → Shared (treeRun (program tree text) (said .functions) f R A b vs) (bodyRun R A (runnable f (said .body)) ρ) (f .returnType)
 
 -- the same where the rule itself answers calls: the claim as document 01 has it
 pub record AnsweredByRule (W : Type 0) (tree text : List ℕ) (c : Counts) (t : Tables) (i : ℕ) (f : Function) (b : Block) : Type 0 where
-  pub said : Said tree text c t i f
-  pub alike : (R : Rule W) (vs : List W) (ρ : Vars W) → length vs ≡ length (f .params) → InPlace vs ρ
-      → Alike (treeRun (program tree text) (said .functions) f R (asked R) b vs) (bodyRun R (asked R) (runnable f (said .body)) ρ) (f .returnType)
+  pub said : BodySaid tree text c t i f
+  pub shared : (R : Rule W) (vs : List W) (ρ : Vars W) → length vs ≡ length (f .params) → InPlace vs ρ
+      → SameRuns (treeRun (program tree text) (said .functions) f R (asked R) b vs) (bodyRun R (asked R) (runnable f (said .body)) ρ) (f .returnType)
 
 -- the tree is good and conversion answers the counts c and the tables w: then of all buffers t that begin with those tables, and of every
 -- function with a body

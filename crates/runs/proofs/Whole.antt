@@ -13,7 +13,7 @@ use Rattle.conversion.specs.Scope.{Variable}
 use Rattle.runs.specs.Rule.{Answer, gives, halt, Truth, holds, fails, halts, Typed, Calls, Reply, comes, pending, Ending, passed, returns, stopped}
 use Rattle.runs.specs.TreeRun.{Out, normal, broke, continued, returned, stopped, held, unfinished}
 use Rattle.runs.specs.BodyRun.{Vars, Spot, spot, over, waits, lost, bodyRun}
-use Rattle.runs.specs.Shared.{callsT, endT, callsB, endB, Shared, Alike}
+use Rattle.runs.specs.Shared.{callsT, endT, callsB, endB, Shared, SameRuns}
 use Rattle.runs.proofs.Machine.{Code, Queue, Cfg, at, ended, waiting, astray, put, pass, putR, passR, aim, branch, finish, exec, step, steps, steps-add}
 use Rattle.runs.proofs.Place.{seen, steps-seen}
 use Rattle.runs.proofs.Sim.{Ctx, body, Goes, go1, goes}
@@ -276,7 +276,7 @@ module _ {W : Type 0} (X : Ctx W) where
       (λ (n, p, q). let r = ends-there (tree n) c n (sums n) e p in (r .0, end-from ρ (r .0) ∙ r .1, calls-from ρ (r .0) ∙ (r .2 ∙ q))),
       (λ (n, p, q). let r = ends-back (tree n) c n (sums n) e (sym (end-from ρ n) ∙ p) in (n, r .0, r .1 ∙ (sym (calls-from ρ n) ∙ q))),
     );
-    holds = λ h. (
+    heldUp = λ h. (
       (λ (n, e). let r = holds-there (tree n) c n (sums n) h e in (r .0, waits-seen _ h (from-start ρ (r .0) ∙ r .1))),
       (λ (n, e). (n, holds-back (tree n) c n (sums n) h (held-from ρ n h e))),
     );
@@ -288,8 +288,8 @@ module _ {W : Type 0} (X : Ctx W) where
       c = at (X .code) [] ρ []
 
 -- what is shared contains document 01's claim
-pub alike : {W : Type 0} {tree : ℕ → Out W} {body : ℕ → Spot W} {result : Option ℕ} → Shared tree body result → Alike tree body result
-alike s = record {
+pub same-runs : {W : Type 0} {tree : ℕ → Out W} {body : ℕ → Spot W} {result : Option ℕ} → Shared tree body result → SameRuns tree body result
+same-runs s = record {
   calls = λ k g us. s .calls k (g, us);
   ends = λ e. (
     (λ (n, p). let r = s .ends e _ .0 (n, p, refl) in (r .0, r .1)),

@@ -53,14 +53,14 @@ pub record Shared {W : Type 0} (tree : ℕ → Out W) (body : ℕ → Spot W) (r
   pub ends : (e : Ending W) (h : Calls W) →
       ((n : ℕ) × (endT (tree n) ≡ some e) × (callsT (tree n) ≡ h)) ↔ ((n : ℕ) × (endB (body n) ≡ some e) × (callsB (body n) ≡ h))
   -- the one run is held up by a pending reply, with these calls behind it, exactly when the other is
-  pub holds : (h : Calls W) → ((n : ℕ) × (tree n ≡ held h)) ↔ ((n : ℕ) × (body n ≡ waits h))
+  pub heldUp : (h : Calls W) → ((n : ℕ) × (tree n ≡ held h)) ↔ ((n : ℕ) × (body n ≡ waits h))
   -- with a return type neither passes the last line
   pub treeReturns : (y n : ℕ) → result ≡ some y → endT (tree n) ≡ some passed → ⊥
   pub bodyReturns : (y n : ℕ) → result ≡ some y → endB (body n) ≡ some passed → ⊥
 
 -- the claim in document 01's words, for calls that the rule answers: 'running the tree and running the body show the same calls in the same order
 -- with the same arguments, and end alike'
-pub record Alike {W : Type 0} (tree : ℕ → Out W) (body : ℕ → Spot W) (result : Option ℕ) : Type 0 where
+pub record SameRuns {W : Type 0} (tree : ℕ → Out W) (body : ℕ → Spot W) (result : Option ℕ) : Type 0 where
   -- for every k the one makes a k-th call exactly when the other does, of the same function g with the same arguments us
   pub calls : (k g : ℕ) (us : List (Typed W)) →
       ((n : ℕ) × (getElem? (callsT (tree n)) k ≡ some (g, us))) ↔ ((n : ℕ) × (getElem? (callsB (body n)) k ≡ some (g, us)))

@@ -9,9 +9,10 @@ use mir.Syntax.{w64}
 use mir.Val.{SFits}
 use Rattle.records.specs.Words.{textAt}
 use Rattle.syntax.specs.Syntax.{Text}
-use Rattle.conversion.specs.Ir.{VarId, Operand, OVar, OInt, OFloat, OBool, ODataAddress, ONull, Instr, Copy, Unary, Binary, Cast, Zero, Arg, Call, Label, Jump, JumpIfNot, Return, Comment, LabelName, StringEntry, FloatEntry, State, IrFunction, IrProgram}
+use Rattle.conversion.specs.Ir.{VarId, Operand, OVar, OInt, OFloat, OBool, ODataAddress, ONull, Instr, Copy, Unary, Binary, Cast, Zero, Arg, Call, Label, Jump, JumpIfNot, Return, Comment, LabelName, StringEntry, texts, FloatEntry, State, IrFunction, IrProgram}
 use Rattle.conversion.specs.Written.{Counts, codeOf, countsOf}
 use Rattle.tables.specs.Bytes.{All}
+use Rattle.tables.specs.Read.{_>>=_, Body}
 
 -- a word of 32 bits holds it
 abbrev pub Word : ℕ → Type 0
@@ -97,3 +98,13 @@ pub record ProgramFits (text : Text) (p : IrProgram) : Type 0 where
   pub strings : All (StringFits text) (p .strings)
   pub floats : All FloatFits (p .floats)
   pub counts : CountsFit (countsOf p)
+
+-- ---- what is to be read
+
+-- the body of function i of a program
+unfoldable pub bodyOf : IrProgram → ℕ → Option Body
+unfolding _>>=_ texts
+bodyOf p i = do
+  f ← getElem? (p .funcs) i
+  c ← f .body
+  some (record { func = f .func; instrs = c; vars = f .vars; labels = f .labels; strings = texts (p .strings); floats = p .floats })

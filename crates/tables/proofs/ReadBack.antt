@@ -14,9 +14,9 @@ use Rattle.conversion.specs.ConvertError.{Result, ok, err, number}
 use Rattle.conversion.specs.Ir.{IrProgram}
 use Rattle.conversion.specs.Converter.{convert}
 use Rattle.conversion.specs.Written.{Tables, Counts, Refused, Converted, refusedAt, answerOf, conversion, allCode, allVars, allLabels, tablesOf, countsOf}
-use Rattle.tables.specs.Read.{bodyAt, bodyOf, Begin}
+use Rattle.tables.specs.Read.{bodyAt, Begin}
 use Rattle.tables.specs.Bytes.{All, Byte}
-use Rattle.tables.proofs.Exists.{Word, CountsFit, ProgramFits}
+use Rattle.tables.proofs.Exists.{Word, CountsFit, ProgramFits, bodyOf}
 use Rattle.tables.proofs.SyntaxFits.{OkIs, okIs}
 use Rattle.tables.proofs.RoundTrip.{read-back}
 use Rattle.tables.proofs.Converted.{convert-fits}

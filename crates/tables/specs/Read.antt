@@ -13,7 +13,7 @@ use mir.Val.{toZ}
 use Rattle.laws.specs.Fix.{pick}
 use Rattle.records.specs.Words.{byteAt, wordAt, textAt, none}
 use Rattle.syntax.specs.Syntax.{Text, unaryOps, binaryOps}
-use Rattle.conversion.specs.Ir.{VarId, Operand, OVar, OInt, OFloat, OBool, ODataAddress, ONull, Instr, Copy, Unary, Binary, Cast, Zero, Arg, Call, Label, Jump, JumpIfNot, Return, Comment, LabelName, StringEntry, texts, FloatEntry, IrProgram}
+use Rattle.conversion.specs.Ir.{VarId, Operand, OVar, OInt, OFloat, OBool, ODataAddress, ONull, Instr, Copy, Unary, Binary, Cast, Zero, Arg, Call, Label, Jump, JumpIfNot, Return, Comment, LabelName, StringEntry, texts, FloatEntry}
 use Rattle.conversion.specs.Written.{Fields, tagOf, Tables, Counts}
 
 -- ---- reading
@@ -356,11 +356,3 @@ pub record Begin (w t : Tables) : Type 0 where
   pub functions : Begins (w .functions) (t .functions)
   pub strings : Begins (w .strings) (t .strings)
   pub floats : Begins (w .floats) (t .floats)
-
--- the body of function i of a program
-unfoldable pub bodyOf : IrProgram → ℕ → Option Body
-unfolding _>>=_ texts
-bodyOf p i = do
-  f ← getElem? (p .funcs) i
-  c ← f .body
-  some (record { func = f .func; instrs = c; vars = f .vars; labels = f .labels; strings = texts (p .strings); floats = p .floats })
