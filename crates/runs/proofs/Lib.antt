@@ -20,4 +20,5 @@ pub mod Less
 pub mod BodyLess
 pub mod Alike
 pub mod Pinned
+pub mod Follows
 pub mod Instance

@@ -50,7 +50,7 @@ none-some : {A : Type 0} {a : A} → none ≡ some a → ⊥
 none-some e = let z : _≡_ {A = ℕ} 0 1 = cc in omega arith
 
 -- a call once made stays
-get-append : {A : Type 0} (a b : List A) (i : ℕ) (q : A) → getElem? a i ≡ some q → getElem? (a ++ b) i ≡ some q
+pub get-append : {A : Type 0} (a b : List A) (i : ℕ) (q : A) → getElem? a i ≡ some q → getElem? (a ++ b) i ≡ some q
 get-append [] b i q e = let z : _≡_ {A = ℕ} 0 1 = cc in absurd (omega arith)
 get-append (x ∷ a) b zero q e = e
 get-append (x ∷ a) b (suc i) q e = get-append a b i q e
