@@ -18,7 +18,7 @@ use Rattle.judge.specs.declared.Lengths.{Lengths}
 use Rattle.judge.specs.declared.Judged.{Judged}
 use Rattle.judge.specs.declared.Judged.the-variants.{Accepted}
 use Rattle.judge.specs.Judge.{lengthsOk, buffersOk, lowestFault, lowestDeep, refused, nestingRow, recordsRow, judged, scratchAfter}
-use Rattle.accepted.proofs.Accepted.{accepted-good}
+use Rattle.demands.proofs.Accepted.{accepted-good}
 use Rattle.types.specs.Fits.{IsExpr}
 use Rattle.scope.specs.declared.Scope.{Scope}
 use Rattle.expressions.specs.declared.answers.AllFunctions.{AllFunctions}

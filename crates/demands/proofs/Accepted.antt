@@ -26,8 +26,8 @@ use Rattle.tables.specs.Read.{Begin}
 use Rattle.judge.specs.declared.Lengths.{Lengths}
 use Rattle.judge.specs.declared.Judged.the-variants.{Accepted}
 use Rattle.judge.specs.Judge.{lengthsOk, buffersOk, lowestFault, lowestDeep, refused, nestingRow, recordsRow, judged}
-use Rattle.accepted.specs.Demand3.{RunsAlike}
-use Rattle.accepted.proofs.Demand3.{good-demand3}
+use Rattle.demands.specs.Demand3.{RunsAlike}
+use Rattle.demands.proofs.Demand3.{good-demand3}
 
 -- ---- no number below n is the lowest of which f holds: f holds of none
 

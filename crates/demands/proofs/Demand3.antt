@@ -23,8 +23,8 @@ use Rattle.tables.specs.Read.{Begin, bodyAt}
 use Rattle.tables.proofs.ReadBack.{converted-reads-back}
 use Rattle.conversion.specs.Shared.{Agrees, bodyOf}
 use Rattle.runs.proofs.Demand3.{demand3}
-use Rattle.accepted.specs.Demand3.{runnable, RunsAlike, Demand3}
-use Rattle.accepted.proofs.GoodLaws.{good-counts, good-well-formed}
+use Rattle.demands.specs.Demand3.{runnable, RunsAlike, Demand3}
+use Rattle.demands.proofs.GoodLaws.{good-counts, good-well-formed}
 
 -- ---- the program behind an answer
 
