@@ -54,9 +54,9 @@ module _ (tree text : List ℕ) (l : Lengths) (n : ℕ) (r : Judged) (e : r ≡ 
   passed = judged-passed (verdict tree text l n) (sym e ∙ a)
 
   -- the scratch is cleared, and as long as it was
-  pub scratch-lent : (s s′ : List ℕ) → length s ≡ n → s′ ≡ scratchAfter (verdict tree text l (length s)) s → 64 * records tree ≤ length s′
+  pub scratch-lent : (s s′ : List ℕ) → length s ≡ n → s′ ≡ scratchAfter (verdict tree text l n) s → 64 * records tree ≤ length s′
   unfolding scratchAfter
-  scratch-lent s s′ h q = rw (q, h, passed) (rw (length-replicate {A = ℕ} (length s) 0, h) lent)
+  scratch-lent s s′ h q = rw (q, passed) (rw (length-replicate {A = ℕ} (length s) 0, h) lent)
 
 -- ---- what was made
 
