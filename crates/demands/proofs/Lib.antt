@@ -2,3 +2,5 @@ pub mod Opened
 pub mod GoodLaws
 pub mod Demand3
 pub mod Accepted
+pub mod Rows
+pub mod Demands

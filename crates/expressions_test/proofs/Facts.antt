@@ -1,20 +1,18 @@
 -- What the answers and the tests passed say: an accepted tree is good and has room, a done list is keyed, a done scope is ready, a kind is one of an expression.
 -- By the rows of the judge's answer, and by the cases of the others. Assumes nothing.
 use mathlib.Core.Path.{_≡_, refl, sym, _∙_, subst}
-use mathlib.Core.Bool.{_&&_}
 use mathlib.Core.List.{List}
 use Prim.Native.Nat.{ℕ, _*_, _≤_, _<_}
 use native.Mathlib.Omega.{arith}
-use lib.Dec.{leb}
 use lib.ListN.{length, length-replicate}
-use borrow.Author.Tests.{leb-true, le-leb}
-use Rattle.laws.proofs.Tests.{and-right}
+use borrow.Author.Tests.{le-leb}
 use Rattle.records.specs.Words.{records, kindOf}
 use Rattle.records.specs.Good.{Good}
 use Rattle.judge.specs.declared.Lengths.{Lengths}
 use Rattle.judge.specs.declared.Judged.{Judged}
 use Rattle.judge.specs.declared.Judged.the-variants.{Accepted}
-use Rattle.judge.specs.Judge.{buffersOk, Passed, verdict, judged, scratchAfter}
+use Rattle.judge.specs.Judge.{Passed, verdict, judged, scratchAfter}
+use Rattle.judge.proofs.RowLaws.{enough}
 use Rattle.demands.proofs.Accepted.{judged-passed, accepted-good, accepted-lent}
 use Rattle.types.specs.Fits.{IsExpr}
 use Rattle.scope.specs.declared.Scope.{Scope}
@@ -35,19 +33,7 @@ module _ (tree text : List ℕ) (l : Lengths) (n : ℕ) (r : Judged) (e : r ≡ 
   tree-good = accepted-good tree text l n (sym e ∙ a)
 
   lent : 64 * records tree ≤ n
-  unfolding buffersOk
-  lent =
-      let m = records tree in
-      leb-true (64 * m) n
-      (and-right
-      (leb (320 * m) (l .instructions)
-      && leb (12 * m) (l .variables)
-      && leb (24 * m) (l .labels)
-      && leb (32 * m) (l .functions)
-      && leb (8 * m) (l .strings)
-      && leb (32 * m) (l .floats))
-      (leb (64 * m) n)
-      (accepted-lent tree text l n (sym e ∙ a)))
+  lent = enough (records tree) l n (accepted-lent tree text l n (sym e ∙ a)) .scratch
 
   passed : verdict tree text l n ≡ Passed
   unfolding judged

@@ -95,19 +95,43 @@ buffers-divided n l scratch =
     let at64 = divided n (scratch / 64) (64 * n) scratch (λ h. omega arith) (λ h. omega arith) in
     rw (at320, at12, at24, at32, at8, at32f, at64) refl
 
+-- buffers that are long enough, one by one
+pub record Enough (n : ℕ) (l : Lengths) (bytes : ℕ) : Type 0 where
+  pub instructions : 320 * n ≤ l .instructions
+  pub variables : 12 * n ≤ l .variables
+  pub labels : 24 * n ≤ l .labels
+  pub functions : 32 * n ≤ l .functions
+  pub strings : 8 * n ≤ l .strings
+  pub floats : 32 * n ≤ l .floats
+  pub scratch : 64 * n ≤ bytes
+
+pub enough : (n : ℕ) (l : Lengths) (scratch : ℕ) → buffersOk n l scratch ≡ true → Enough n l scratch
+unfolding buffersOk
+enough n l scratch e =
+    let one = leb (320 * n) (l .instructions) in
+    let two = one && leb (12 * n) (l .variables) in
+    let three = two && leb (24 * n) (l .labels) in
+    let four = three && leb (32 * n) (l .functions) in
+    let five = four && leb (8 * n) (l .strings) in
+    let six = five && leb (32 * n) (l .floats) in
+    let e6 = and-left six (leb (64 * n) scratch) e in
+    let e5 = and-left five (leb (32 * n) (l .floats)) e6 in
+    let e4 = and-left four (leb (8 * n) (l .strings)) e5 in
+    let e3 = and-left three (leb (32 * n) (l .functions)) e4 in
+    let e2 = and-left two (leb (24 * n) (l .labels)) e3 in
+    record {
+      instructions = leb-true _ _ (and-left one (leb (12 * n) (l .variables)) e2);
+      variables = leb-true _ _ (and-right one (leb (12 * n) (l .variables)) e2);
+      labels = leb-true _ _ (and-right two (leb (24 * n) (l .labels)) e3);
+      functions = leb-true _ _ (and-right three (leb (32 * n) (l .functions)) e4);
+      strings = leb-true _ _ (and-right four (leb (8 * n) (l .strings)) e5);
+      floats = leb-true _ _ (and-right five (leb (32 * n) (l .floats)) e6);
+      scratch = leb-true _ _ (and-right six (leb (64 * n) scratch) e);
+    }
+
 -- a scratch that is long enough
 pub scratch-fits : (n : ℕ) (l : Lengths) (scratch : ℕ) → buffersOk n l scratch ≡ true → n ≤ scratch
-unfolding buffersOk
-scratch-fits n l scratch e =
-    let outputs =
-    leb (320 * n) (l .instructions)
-    && leb (12 * n) (l .variables)
-    && leb (24 * n) (l .labels)
-    && leb (32 * n) (l .functions)
-    && leb (8 * n) (l .strings)
-    && leb (32 * n) (l .floats)
-    in
-    omega (arith, leb-true (64 * n) scratch (and-right outputs (leb (64 * n) scratch) e))
+scratch-fits n l scratch e = omega (arith, enough n l scratch e .scratch)
 
 -- rows 'records' and 'nesting', and a tree that passes both, leave scratch zero
 records-clear : (tree text l : List ℕ) → scratchAfter (recordsVerdict tree text) l ≡ cleared l
