@@ -4,3 +4,4 @@ pub mod Demand3
 pub mod Accepted
 pub mod Rows
 pub mod Demands
+pub mod Instances

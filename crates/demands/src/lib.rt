@@ -1,1 +1,1 @@
-// What the judge's acceptance gives: sizes that suffice, and demand 3 on bytes. Definitions in specs/, theorems in proofs/; there is no code here.
+// The whole call and the three demands on it, as definitions in specs/, with what follows for every run of the call in proofs/; there is no code here.
