@@ -1,5 +1,13 @@
 -- THE CALL, whole: document 01's table row by row, and what each of the seven buffers holds afterwards. Any bytes of tree and text, `main`
 -- needed or not, and buffers of any length. Assumes nothing: these are definitions.
+--   checked at    number       given when                 place                      the seven buffers
+--   lengths       24           not `lengthsOk`            none                       as found
+--   buffers       26           not `buffersOk`            none                       as found
+--   records       24           `lowestFault`              that record                zero
+--   nesting       25           `lowestDeep`               that record                zero
+--   conversion    1 to 23, 27  `convert` gives an error   its record; NoMain none    zero
+--   no row        six counts   `convert` gives bodies                                each table, then zeros; scratch zero
+-- Each line is a theorem of proofs/Rows.antt and proofs/Demands.antt.
 use mathlib.Core.Path.{_≡_}
 use Prim.Native.Nat.{ℕ, _-_}
 use mathlib.Core.Bool.{Bool}
