@@ -13,7 +13,7 @@ use Rattle.conversion.specs.Types.{int-value}
 use Rattle.conversion.proofs.Trees.{row, types, Said, body, floats, answers, folds, bodyOf, floatsOf, answerOf, convertTree}
 
 -- a function that returns p `o` q, o an operator on Bools
-logic : ℕ → List ℕ
+unfoldable pub logic : ℕ → List ℕ
 unfolding types row
 logic o = types
     ++ row 24 0 0 1 6 0 0

@@ -3,15 +3,15 @@ use Prim.Native.Nat.{ℕ, zero, suc, _+_, _/_, _%_}
 use mathlib.Core.Bool.{Bool, true, false}
 use mathlib.Core.List.{List, [], _∷_, _++_}
 use mathlib.Core.Option.{Option, none as nothing, some}
-use lib.Dec.{eqb}
 use lib.ListN.{length}
 use mir.Syntax.{w64}
 use mir.Val.{ofZ}
-use Rattle.laws.specs.Fix.{pick}
-use Rattle.records.specs.Words.{wordOf, none, spanStart, spanEnd}
+use Rattle.records.specs.Words.{none}
+use Rattle.records.specs.Answer.{wordsOf}
+use Rattle.records.specs.declared.convert_error.AnswerWords.{AnswerWords}
 use Rattle.syntax.specs.Syntax.{unaryNumber, binaryNumber}
 use Rattle.syntax.specs.Decode.{program}
-use Rattle.conversion.specs.ConvertError.{Result, ok, err, number}
+use Rattle.conversion.specs.ConvertError.{Result, ok, err}
 use Rattle.conversion.specs.Ir.{VarId, Operand, OVar, OInt, OFloat, OBool, ODataAddress, ONull, Instr, Copy, Unary, Binary, Cast, Zero, Arg, Call, Label, Jump, JumpIfNot, Return, Comment, LabelName, StringEntry, FloatEntry, IrFunction, IrProgram}
 use Rattle.conversion.specs.Converter.{convert}
 
@@ -188,9 +188,9 @@ pub record Counts : Type 0 where
   pub floats : ℕ
 
 -- 'An answer is the number, place and the record's span, or six counts'; with the counts, what the tables hold
-pub data Answer : Type 0 where
-  Refused : ℕ → ℕ → ℕ → ℕ → Answer
-  Converted : Counts → Tables → Answer
+pub data Conversion : Type 0 where
+  Refused : AnswerWords → Conversion
+  Converted : Counts → Tables → Conversion
 
 unfoldable pub tablesOf : IrProgram → Tables
 unfolding encodeAll encodeInstr encodeVar encodeLabel encodeFunctions encodeString encodeFloat allCode allVars allLabels
@@ -214,17 +214,12 @@ countsOf p = record {
   floats = length (p .floats);
 }
 
--- 'place and the record's span (0, 0 for .. NoMain)'
-unfoldable pub refusedAt : List ℕ → ℕ → ℕ → Answer
-unfolding pick wordOf
-refusedAt tree n r = pick (eqb r none) (Refused n none 0 0) (Refused n r (wordOf tree r spanStart) (wordOf tree r spanEnd))
-
-unfoldable pub answerOf : List ℕ → Result IrProgram → Answer
-unfolding refusedAt countsOf tablesOf
+unfoldable pub answerOf : List ℕ → Result IrProgram → Conversion
+unfolding wordsOf countsOf tablesOf
 answerOf tree (ok p) = Converted (countsOf p) (tablesOf p)
-answerOf tree (err k r) = refusedAt tree (number k) r
+answerOf tree (err k r) = Refused (wordsOf tree (record { kind = k; place = r }))
 
 -- what the conversion of a good tree answers
-unfoldable pub conversion : List ℕ → List ℕ → Bool → Answer
+unfoldable pub conversion : List ℕ → List ℕ → Bool → Conversion
 unfolding answerOf convert program
 conversion tree text needsMain = answerOf tree (convert (program tree text) needsMain)

@@ -1,7 +1,7 @@
 -- The rows of document 01's table as the code meets them: which row answers, and what scratch and outputs hold afterwards.
 -- Each picks its arm by the tests that were passed or left. Assumes nothing.
 use mathlib.Core.Path.{_≡_, refl, sym, ap, _∙_}
-use Prim.Native.Nat.{ℕ, _*_, _/_, _%_, _≤_, _<_}
+use Prim.Native.Nat.{ℕ, zero, suc, _*_, _/_, _%_, _≤_, _<_}
 use mathlib.Core.Bool.{Bool, true, false, not, _&&_, false≢true}
 use mathlib.Core.List.{List, _++_, append-nil}
 use mathlib.Core.Option.{Option, none as nothing, some}
@@ -12,17 +12,18 @@ use lib.ListN.{length, drop, replicate, length-replicate}
 use lib.Seq.{drop-length}
 use borrow.Author.Tests.{ne-eqb, eqb-true, leb-true, leb-false, le-leb, lt-leb, not-true, not-false}
 use Rattle.laws.specs.Fix.{pick}
-use Rattle.laws.specs.Below.{lowest}
+use Rattle.laws.specs.Below.{orElse, lowest}
 use Rattle.records.specs.Words.{records, none}
 use Rattle.records.specs.Rules.{recordOk}
 use Rattle.records.specs.Depth.{depth}
 use Rattle.records.specs.declared.convert_error.ConvertErrorKind.{ConvertErrorKind}
+use Rattle.records.specs.declared.convert_error.ConvertError.{ConvertError}
 use Rattle.records.specs.declared.convert_error.ConvertErrorKind.the-variants.{BadTree, TooDeep, ShortBuffer}
 use Rattle.judge.specs.declared.Lengths.{Lengths}
 use Rattle.judge.specs.declared.Judged.{Judged}
 use Rattle.judge.specs.declared.Judged.the-variants.{Accepted, Refused}
-use Rattle.judge.specs.Inner.{Lowest, Clears, placed}
-use Rattle.judge.specs.Judge.{lengthsOk, buffersOk, lowestFault, lowestDeep, refused, nestingRow, recordsRow, judged, outputAfter, scratchAfter, cleared}
+use Rattle.judge.specs.Inner.{Lowest, placed}
+use Rattle.judge.specs.Judge.{lengthsOk, buffersOk, Buffers, buffers, lengthsOf, lowestFault, lowestDeep, Row, atLengths, atBuffers, atRecords, atNesting, atConversion, Verdict, RefusedBy, Passed, refusedBy, atLowest, recordsVerdict, verdict, judgedBy, judged, judgedIn, verdictIn, refusalLeaves, outputAfter, scratchAfter, verdictLeaves, judgeLeaves, cleared}
 use Rattle.laws.proofs.BelowLaws.{lowest-none, lowest-some}
 
 pub records-told : (tree : List ℕ) (n : ℕ) → n * 32 ≡ length tree → records tree ≡ n
@@ -44,21 +45,21 @@ module _ (tree text : List ℕ) (n : ℕ) (whole : n * 32 ≡ length tree) where
   deeps = ap (λ (m : ℕ). lowest m (λ r. ltb 64 (depth tree r))) (records-told tree n whole)
 
   module _ (fault : ℕ) (lf : Lowest n (λ k. not (recordOk tree text k)) fault) where
-    pub row-fault : fault < n → refused BadTree fault ≡ recordsRow (lowestFault tree text) (nestingRow (lowestDeep tree))
-    unfolding recordsRow
+    pub row-fault : fault < n → recordsVerdict tree text ≡ refusedBy atRecords BadTree fault
+    unfolding recordsVerdict atLowest
     row-fault h = rw (faults ∙ lowest-found n (λ k. not (recordOk tree text k)) fault lf h) refl
 
     module _ (left : n ≤ fault) (deep : ℕ) (ld : Lowest n (λ k. ltb 64 (depth tree k)) deep) where
-      pub row-deep : deep < n → refused TooDeep deep ≡ recordsRow (lowestFault tree text) (nestingRow (lowestDeep tree))
-      unfolding recordsRow nestingRow
+      pub row-deep : deep < n → recordsVerdict tree text ≡ refusedBy atNesting TooDeep deep
+      unfolding recordsVerdict atLowest
       row-deep h =
           rw (
             faults ∙ lowest-absent n (λ k. not (recordOk tree text k)) fault lf left,
             deeps ∙ lowest-found n (λ k. ltb 64 (depth tree k)) deep ld h,
           ) refl
 
-      pub row-none : n ≤ deep → Accepted ≡ recordsRow (lowestFault tree text) (nestingRow (lowestDeep tree))
-      unfolding recordsRow nestingRow
+      pub row-none : n ≤ deep → recordsVerdict tree text ≡ Passed
+      unfolding recordsVerdict atLowest
       row-none h =
           rw (
             faults ∙ lowest-absent n (λ k. not (recordOk tree text k)) fault lf left,
@@ -94,33 +95,53 @@ buffers-divided n l scratch =
     let at64 = divided n (scratch / 64) (64 * n) scratch (λ h. omega arith) (λ h. omega arith) in
     rw (at320, at12, at24, at32, at8, at32f, at64) refl
 
+-- buffers that are long enough, one by one
+pub record Enough (n : ℕ) (l : Lengths) (bytes : ℕ) : Type 0 where
+  pub instructions : 320 * n ≤ l .instructions
+  pub variables : 12 * n ≤ l .variables
+  pub labels : 24 * n ≤ l .labels
+  pub functions : 32 * n ≤ l .functions
+  pub strings : 8 * n ≤ l .strings
+  pub floats : 32 * n ≤ l .floats
+  pub scratch : 64 * n ≤ bytes
+
+pub enough : (n : ℕ) (l : Lengths) (scratch : ℕ) → buffersOk n l scratch ≡ true → Enough n l scratch
+unfolding buffersOk
+enough n l scratch e =
+    let one = leb (320 * n) (l .instructions) in
+    let two = one && leb (12 * n) (l .variables) in
+    let three = two && leb (24 * n) (l .labels) in
+    let four = three && leb (32 * n) (l .functions) in
+    let five = four && leb (8 * n) (l .strings) in
+    let six = five && leb (32 * n) (l .floats) in
+    let e6 = and-left six (leb (64 * n) scratch) e in
+    let e5 = and-left five (leb (32 * n) (l .floats)) e6 in
+    let e4 = and-left four (leb (8 * n) (l .strings)) e5 in
+    let e3 = and-left three (leb (32 * n) (l .functions)) e4 in
+    let e2 = and-left two (leb (24 * n) (l .labels)) e3 in
+    record {
+      instructions = leb-true _ _ (and-left one (leb (12 * n) (l .variables)) e2);
+      variables = leb-true _ _ (and-right one (leb (12 * n) (l .variables)) e2);
+      labels = leb-true _ _ (and-right two (leb (24 * n) (l .labels)) e3);
+      functions = leb-true _ _ (and-right three (leb (32 * n) (l .functions)) e4);
+      strings = leb-true _ _ (and-right four (leb (8 * n) (l .strings)) e5);
+      floats = leb-true _ _ (and-right five (leb (32 * n) (l .floats)) e6);
+      scratch = leb-true _ _ (and-right six (leb (64 * n) scratch) e);
+    }
+
 -- a scratch that is long enough
 pub scratch-fits : (n : ℕ) (l : Lengths) (scratch : ℕ) → buffersOk n l scratch ≡ true → n ≤ scratch
-unfolding buffersOk
-scratch-fits n l scratch e =
-    let outputs =
-    leb (320 * n) (l .instructions)
-    && leb (12 * n) (l .variables)
-    && leb (24 * n) (l .labels)
-    && leb (32 * n) (l .functions)
-    && leb (8 * n) (l .strings)
-    && leb (32 * n) (l .floats)
-    in
-    omega (arith, leb-true (64 * n) scratch (and-right outputs (leb (64 * n) scratch) e))
+scratch-fits n l scratch e = omega (arith, enough n l scratch e .scratch)
 
--- an answer with a place that is a record's number leaves scratch zero
-pub placed-clears : (kind : ConvertErrorKind) (place : ℕ) → place < 2048 → Clears (refused kind place)
-unfolding refused scratchAfter pick
-placed-clears kind place h = record { zero = λ l. rw (ne-eqb place none (λ e. omega arith)) refl }
-
-pub accepted-clears : Clears Accepted
-unfolding scratchAfter
-accepted-clears = record { zero = λ l. refl }
-
--- rows one and two leave scratch as found
-pub unplaced-keeps : (kind : ConvertErrorKind) (l : List ℕ) → l ≡ scratchAfter (refused kind none) l
-unfolding refused scratchAfter pick
-unplaced-keeps kind l = refl
+-- rows 'records' and 'nesting', and a tree that passes both, leave scratch zero
+records-clear : (tree text l : List ℕ) → scratchAfter (recordsVerdict tree text) l ≡ cleared l
+unfolding recordsVerdict atLowest refusedBy scratchAfter refusalLeaves
+records-clear tree text l = go (lowestFault tree text) (lowestDeep tree)
+  where
+    go : (f d : Option ℕ) → scratchAfter (atLowest atRecords BadTree f (atLowest atNesting TooDeep d Passed)) l ≡ cleared l
+    go (some r) d = refl
+    go nothing (some r) = refl
+    go nothing nothing = refl
 
 -- a list filled to its end is cleared
 pub filled : (n : ℕ) (d : List ℕ) → n ≡ length d → replicate n 0 ++ drop n d ≡ cleared d
@@ -129,35 +150,123 @@ filled n d e = rw (e, drop-length d, append-nil) refl
 pub cleared-length : (d e : List ℕ) → e ≡ cleared d → length e ≡ length d
 cleared-length d e q = ap length q ∙ length-replicate (length d) 0
 
--- clearing again, after the rows have used scratch
-pub cleared-again : (answer : Judged) (d e f : List ℕ) → Clears answer → length e ≡ length d → f ≡ cleared e → f ≡ scratchAfter answer d
-cleared-again answer d e f c s q = q ∙ ap (λ (k : ℕ). replicate k 0) s ∙ sym (c .zero d)
-
 pub cleared-twice : (d e : List ℕ) → e ≡ cleared d → e ≡ cleared e
 cleared-twice d e q = q ∙ ap (λ (k : ℕ). replicate k 0) (sym (cleared-length d e q))
 
 -- the whole answer, as the code meets it: ok and room are the code's tests
-module _ (tree text : List ℕ) (l : Lengths) (scratch : List ℕ) (answer : Judged) (ok : Bool) (okIs : ok ≡ lengthsOk (length tree)) where
-  pub judged-length : ok ≡ false → answer ≡ refused BadTree none → (answer ≡ judged tree text l (length scratch)) × (scratch ≡ scratchAfter answer scratch)
-  unfolding judged pick
-  judged-length e a = (rw (sym okIs ∙ e) a, rw a (unplaced-keeps BadTree scratch))
+module _ (tree text : List ℕ) (l : Lengths) (scratch : List ℕ) (ok : Bool) (okIs : ok ≡ lengthsOk (length tree)) where
+  judges : (answer : Judged) (after : List ℕ) (v : Verdict) → verdict tree text l (length scratch) ≡ v → answer ≡ judgedBy v → after ≡ scratchAfter v scratch
+      → (answer ≡ judged tree text l (length scratch)) × (after ≡ scratchAfter (verdict tree text l (length scratch)) scratch)
+  unfolding judged
+  judges answer after v e a s = (rw e a, rw e s)
+
+  pub judged-length : (answer : Judged) → ok ≡ false → answer ≡ Refused (record { kind = BadTree; place = none })
+      → (answer ≡ judged tree text l (length scratch)) × (scratch ≡ scratchAfter (verdict tree text l (length scratch)) scratch)
+  unfolding verdict pick refusedBy judgedBy scratchAfter refusalLeaves
+  judged-length answer e a = judges answer scratch (refusedBy atLengths BadTree none) (rw (sym okIs ∙ e) refl) a refl
 
   module _ (yes : ok ≡ true) (room : Bool) (roomIs : room ≡ buffersOk (records tree) l (length scratch)) where
-    pub judged-buffer : room ≡ false → answer ≡ refused ShortBuffer none → (answer ≡ judged tree text l (length scratch)) × (scratch ≡ scratchAfter answer scratch)
-    unfolding judged pick
-    judged-buffer e a = (rw (sym okIs ∙ yes, sym roomIs ∙ e) a, rw a (unplaced-keeps ShortBuffer scratch))
+    pub judged-buffer : (answer : Judged) → room ≡ false → answer ≡ Refused (record { kind = ShortBuffer; place = none })
+        → (answer ≡ judged tree text l (length scratch)) × (scratch ≡ scratchAfter (verdict tree text l (length scratch)) scratch)
+    unfolding verdict pick refusedBy judgedBy scratchAfter refusalLeaves
+    judged-buffer answer e a = judges answer scratch (refusedBy atBuffers ShortBuffer none) (rw (sym okIs ∙ yes, sym roomIs ∙ e) refl) a refl
 
-    pub judged-records : room ≡ true → answer ≡ recordsRow (lowestFault tree text) (nestingRow (lowestDeep tree)) → answer ≡ judged tree text l (length scratch)
-    unfolding judged pick
-    judged-records e a = rw (sym okIs ∙ yes, sym roomIs ∙ e) a
+    -- scratch was used by the rows, and is cleared again
+    pub judged-records : (answer : Judged) (used after : List ℕ) → room ≡ true → answer ≡ judgedBy (recordsVerdict tree text) → length used ≡ length scratch → after ≡ cleared used
+        → (answer ≡ judged tree text l (length scratch)) × (after ≡ scratchAfter (verdict tree text l (length scratch)) scratch)
+    unfolding verdict pick
+    judged-records answer used after e a s q = judges answer after (recordsVerdict tree text) (rw (sym okIs ∙ yes, sym roomIs ∙ e) refl) a
+        (q ∙ ap (λ (k : ℕ). replicate k 0) s ∙ sym (records-clear tree text scratch))
 
--- an output after a refusal with a place, and after any other answer: b is the code's test
-pub output-cleared : (answer : Judged) (b : Bool) → b ≡ placed answer → b ≡ true → (l m : List ℕ) → m ≡ cleared l → m ≡ outputAfter answer l
-unfolding placed outputAfter pick
-output-cleared Accepted b told e l m q = absurd (false≢true (sym told ∙ e))
-output-cleared (Refused e) b told t l m q = rw (not-true (eqb (e .place) none) (sym told ∙ t)) q
+-- ---- of the rows judged here one and two have no place, and the others have one
 
-pub output-kept : (answer : Judged) (b : Bool) → b ≡ placed answer → b ≡ false → (l : List ℕ) → l ≡ outputAfter answer l
-unfolding placed outputAfter pick
-output-kept Accepted b told e l = refl
-output-kept (Refused e) b told t l = rw (not-false (eqb (e .place) none) (sym told ∙ t)) refl
+-- whether a verdict leaves the outputs zero
+unfoldable clears : Verdict → Bool
+clears (RefusedBy atLengths e) = false
+clears (RefusedBy atBuffers e) = false
+clears (RefusedBy atRecords e) = true
+clears (RefusedBy atNesting e) = true
+clears (RefusedBy atConversion e) = true
+clears Passed = false
+
+lowest-below : (n : ℕ) (f : ℕ → Bool) (r : ℕ) → lowest n f ≡ some r → r < n
+unfolding lowest orElse pick
+lowest-below zero f r e = let z : _≡_ {A = ℕ} 0 1 = cc in absurd (omega arith)
+lowest-below (suc n) f r e = go (lowest n f) (f n) (λ h. lowest-below n f r h) e
+  where
+    go : (o : Option ℕ) (b : Bool) → (o ≡ some r → r < n) → orElse o (pick b (some n) nothing) ≡ some r → r < suc n
+    go (some q) b h k = omega (arith, h k)
+    go nothing true h k = let z : n ≡ r = cc in omega arith
+    go nothing false h k = let z : _≡_ {A = ℕ} 0 1 = cc in absurd (omega arith)
+
+placed-record : (kind : ConvertErrorKind) (r : ℕ) → r < 2048 → placed (Refused (record { kind = kind; place = r })) ≡ true
+unfolding placed
+placed-record kind r h = rw (ne-eqb r none (λ e. omega arith)) refl
+
+records-placed : (tree text : List ℕ) → records tree ≤ 2048 → placed (judgedBy (recordsVerdict tree text)) ≡ clears (recordsVerdict tree text)
+unfolding recordsVerdict lowestFault lowestDeep atLowest refusedBy judgedBy clears placed
+records-placed tree text few = go (lowestFault tree text) (lowestDeep tree) refl refl
+  where
+    go : (f d : Option ℕ) → lowestFault tree text ≡ f → lowestDeep tree ≡ d
+        → placed (judgedBy (atLowest atRecords BadTree f (atLowest atNesting TooDeep d Passed))) ≡ clears (atLowest atRecords BadTree f (atLowest atNesting TooDeep d Passed))
+    go (some r) d h k = placed-record BadTree r (omega (arith, lowest-below (records tree) (λ k. not (recordOk tree text k)) r h))
+    go nothing (some r) h k = placed-record TooDeep r (omega (arith, lowest-below (records tree) (λ k. ltb 64 (depth tree k)) r k))
+    go nothing nothing h k = refl
+
+placed-clears : (tree text : List ℕ) (l : Lengths) (scratch : ℕ) → placed (judged tree text l scratch) ≡ clears (verdict tree text l scratch)
+unfolding judged verdict pick refusedBy judgedBy clears placed
+placed-clears tree text l scratch = go (lengthsOk (length tree)) (buffersOk (records tree) l scratch) refl
+  where
+    go : (a b : Bool) → lengthsOk (length tree) ≡ a
+        → placed (judgedBy (pick (not a) (refusedBy atLengths BadTree none) (pick (not b) (refusedBy atBuffers ShortBuffer none) (recordsVerdict tree text))))
+        ≡ clears (pick (not a) (refusedBy atLengths BadTree none) (pick (not b) (refusedBy atBuffers ShortBuffer none) (recordsVerdict tree text)))
+    go false b e = refl
+    go true false e = refl
+    go true true e = records-placed tree text (lengths-fit (length tree) e .1)
+
+output-cleared : (v : Verdict) (l : List ℕ) → clears v ≡ true → outputAfter v l ≡ cleared l
+unfolding clears outputAfter refusalLeaves
+output-cleared (RefusedBy atLengths e) l h = absurd (false≢true h)
+output-cleared (RefusedBy atBuffers e) l h = absurd (false≢true h)
+output-cleared (RefusedBy atRecords e) l h = refl
+output-cleared (RefusedBy atNesting e) l h = refl
+output-cleared (RefusedBy atConversion e) l h = refl
+output-cleared Passed l h = absurd (false≢true h)
+
+output-kept : (v : Verdict) (l : List ℕ) → clears v ≡ false → outputAfter v l ≡ l
+unfolding clears outputAfter refusalLeaves
+output-kept (RefusedBy atLengths e) l h = refl
+output-kept (RefusedBy atBuffers e) l h = refl
+output-kept (RefusedBy atRecords e) l h = absurd (false≢true (sym h))
+output-kept (RefusedBy atNesting e) l h = absurd (false≢true (sym h))
+output-kept (RefusedBy atConversion e) l h = absurd (false≢true (sym h))
+output-kept Passed l h = refl
+
+-- the entry: the core's answer r and scratch, and b, the code's test whether r has a place
+module _ (tree text : List ℕ) (b : Buffers) (r : Judged) (rIs : r ≡ judged tree text (lengthsOf b) (length (b .scratch))) (p : Bool) (pIs : p ≡ placed r) where
+  pub answer-in : r ≡ judgedIn tree text b
+  unfolding judgedIn verdictIn judged
+  answer-in = rIs
+
+  told : p ≡ clears (verdict tree text (lengthsOf b) (length (b .scratch)))
+  told = pIs ∙ ap placed rIs ∙ placed-clears tree text (lengthsOf b) (length (b .scratch))
+
+  module _ (scratch′ : List ℕ) (scratchIs : scratch′ ≡ scratchAfter (verdict tree text (lengthsOf b) (length (b .scratch))) (b .scratch)) where
+    pub outputs-cleared : p ≡ true → (i v l f s x : List ℕ)
+        → (i ≡ cleared (b .instructions)) × (v ≡ cleared (b .variables)) × (l ≡ cleared (b .labels)) × (f ≡ cleared (b .functions)) × (s ≡ cleared (b .strings)) × (x ≡ cleared (b .floats))
+        → buffers i v l f s x scratch′ ≡ judgeLeaves tree text b
+    unfolding judgeLeaves verdictLeaves verdictIn
+    outputs-cleared t i v l f s x q =
+        let w = verdict tree text (lengthsOf b) (length (b .scratch)) in
+        let h : clears w ≡ true = sym told ∙ t in
+        rw (output-cleared w (b .instructions) h, output-cleared w (b .variables) h, output-cleared w (b .labels) h, output-cleared w (b .functions) h, output-cleared w (b .strings) h, output-cleared w (b .floats) h)
+        (cc)
+
+    pub outputs-kept : p ≡ false
+        → buffers (b .instructions) (b .variables) (b .labels) (b .functions) (b .strings) (b .floats) scratch′ ≡ judgeLeaves tree text b
+    unfolding judgeLeaves verdictLeaves verdictIn
+    outputs-kept t =
+        let w = verdict tree text (lengthsOf b) (length (b .scratch)) in
+        let h : clears w ≡ false = sym told ∙ t in
+        rw (output-kept w (b .instructions) h, output-kept w (b .variables) h, output-kept w (b .labels) h, output-kept w (b .functions) h, output-kept w (b .strings) h, output-kept w (b .floats) h)
+        (cc)

@@ -12,7 +12,6 @@ use Rattle.records.specs.Rules.{references}
 use Rattle.records.specs.Depth.{depth}
 use Rattle.judge.specs.declared.Judged.{Judged}
 use Rattle.judge.specs.declared.Judged.the-variants.{Accepted, Refused}
-use Rattle.judge.specs.Judge.{scratchAfter, cleared}
 
 -- r is the lowest number below n of which f holds, or n where there is none
 pub record Lowest (n : ℕ) (f : ℕ → Bool) (r : ℕ) : Type 0 where
@@ -44,10 +43,6 @@ pub record Counts (tree : List ℕ) (n : ℕ) (l : List ℕ) : Type 0 where
 pub record Depths (tree : List ℕ) (r : ℕ) (l : List ℕ) : Type 0 where
   pub depths : (k : ℕ) → k < r → getD l k 0 ≡ depth tree k
   pub low : (k : ℕ) → k < r → getD l k 0 ≤ 64
-
--- the answer has a place or accepts: scratch is left zero
-pub record Clears (answer : Judged) : Type 0 where
-  pub zero : (l : List ℕ) → scratchAfter answer l ≡ cleared l
 
 -- the answer is a refusal with a place
 unfoldable pub placed : Judged → Bool

@@ -39,16 +39,38 @@ buffersOk n l scratch =
     && leb (32 * n) (l .floats)
     && leb (64 * n) scratch
 
--- how long the six outputs are
-abbrev pub lengthsOf : List ℕ → List ℕ → List ℕ → List ℕ → List ℕ → List ℕ → Lengths
-lengthsOf instructions variables labels functions strings floats =
+-- the seven buffers that a caller lends: six outputs and scratch
+pub record Buffers : Type 0 where
+  pub instructions : List ℕ
+  pub variables : List ℕ
+  pub labels : List ℕ
+  pub functions : List ℕ
+  pub strings : List ℕ
+  pub floats : List ℕ
+  pub scratch : List ℕ
+
+abbrev pub buffers : List ℕ → List ℕ → List ℕ → List ℕ → List ℕ → List ℕ → List ℕ → Buffers
+buffers instructions variables labels functions strings floats scratch =
     record {
-      instructions = length instructions;
-      variables = length variables;
-      labels = length labels;
-      functions = length functions;
-      strings = length strings;
-      floats = length floats;
+      instructions = instructions;
+      variables = variables;
+      labels = labels;
+      functions = functions;
+      strings = strings;
+      floats = floats;
+      scratch = scratch;
+    }
+
+-- how long the six outputs are
+abbrev pub lengthsOf : Buffers → Lengths
+lengthsOf b =
+    record {
+      instructions = length (b .instructions);
+      variables = length (b .variables);
+      labels = length (b .labels);
+      functions = length (b .functions);
+      strings = length (b .strings);
+      floats = length (b .floats);
     }
 
 -- 'a record breaks a rule above or its text leaves the buffer': the 'lowest such record'
@@ -64,41 +86,101 @@ unfoldable pub lowestDeep : List ℕ → Option ℕ
 unfolding lowest depth
 lowestDeep tree = lowest (records tree) (λ r. ltb deepestAllowed (depth tree r))
 
-unfoldable pub refused : ConvertErrorKind → ℕ → Judged
-refused kind place = Refused (record { kind = kind; place = place })
+-- ---- the rows
 
-unfoldable pub nestingRow : Option ℕ → Judged
-unfolding refused
-nestingRow (some r) = refused TooDeep r
-nestingRow nothing = Accepted
+-- the table's rows, by where they are checked
+pub data Row : Type 0 where
+  atLengths : Row
+  atBuffers : Row
+  atRecords : Row
+  atNesting : Row
+  atConversion : Row
 
-unfoldable pub recordsRow : Option ℕ → Judged → Judged
-unfolding refused
-recordsRow (some r) next = refused BadTree r
-recordsRow nothing next = next
+-- the row that refuses, with kind and place; or the first four rows are passed
+pub data Verdict : Type 0 where
+  RefusedBy : Row → ConvertError → Verdict
+  Passed : Verdict
+
+unfoldable pub refusedBy : Row → ConvertErrorKind → ℕ → Verdict
+refusedBy row kind place = RefusedBy row (record { kind = kind; place = place })
+
+-- a row whose place is the 'lowest such record'; where there is none, the rows after it
+unfoldable pub atLowest : Row → ConvertErrorKind → Option ℕ → Verdict → Verdict
+unfolding refusedBy
+atLowest row kind (some r) next = refusedBy row kind r
+atLowest row kind nothing next = next
+
+unfoldable pub recordsVerdict : List ℕ → List ℕ → Verdict
+unfolding atLowest lowestFault lowestDeep
+recordsVerdict tree text =
+    atLowest atRecords BadTree (lowestFault tree text)
+    (atLowest atNesting TooDeep (lowestDeep tree)
+    Passed)
 
 -- 'The first row that applies wins'; `l` and `scratch` are how long the lent buffers are
+unfoldable pub verdict : List ℕ → List ℕ → Lengths → ℕ → Verdict
+unfolding pick lengthsOk buffersOk recordsVerdict refusedBy
+verdict tree text l scratch =
+    pick (not (lengthsOk (length tree))) (refusedBy atLengths BadTree none)
+    (pick (not (buffersOk (records tree) l scratch)) (refusedBy atBuffers ShortBuffer none)
+    (recordsVerdict tree text))
+
+-- what the judge answers
+unfoldable pub judgedBy : Verdict → Judged
+judgedBy (RefusedBy row e) = Refused e
+judgedBy Passed = Accepted
+
 unfoldable pub judged : List ℕ → List ℕ → Lengths → ℕ → Judged
-unfolding pick lengthsOk buffersOk recordsRow nestingRow lowestFault lowestDeep refused
-judged tree text l scratch =
-    pick (lengthsOk (length tree))
-    (pick (buffersOk (records tree) l scratch)
-    (recordsRow (lowestFault tree text) (nestingRow (lowestDeep tree)))
-    (refused ShortBuffer none))
-    (refused BadTree none)
+unfolding judgedBy verdict
+judged tree text l scratch = judgedBy (verdict tree text l scratch)
+
+-- ---- what each buffer holds afterwards
 
 -- as many zeros as the buffer has bytes
 abbrev pub cleared : List ℕ → List ℕ
 cleared buffer = replicate (length buffer) 0
 
--- 'Rows one and two write nothing. Every other refusal leaves all outputs and scratch zero': rows one and two have no place.
--- An accepted tree leaves the outputs as found, for the conversion to write, and scratch zero.
-unfoldable pub outputAfter : Judged → List ℕ → List ℕ
-unfolding pick
-outputAfter Accepted buffer = buffer
-outputAfter (Refused e) buffer = pick (eqb (e .place) none) buffer (cleared buffer)
+-- 'Rows one and two write nothing. Every other refusal leaves all outputs and scratch zero'
+unfoldable pub refusalLeaves : Row → List ℕ → List ℕ
+refusalLeaves atLengths buffer = buffer
+refusalLeaves atBuffers buffer = buffer
+refusalLeaves atRecords buffer = cleared buffer
+refusalLeaves atNesting buffer = cleared buffer
+refusalLeaves atConversion buffer = cleared buffer
 
-unfoldable pub scratchAfter : Judged → List ℕ → List ℕ
-unfolding pick
-scratchAfter Accepted buffer = cleared buffer
-scratchAfter (Refused e) buffer = pick (eqb (e .place) none) buffer (cleared buffer)
+-- a tree that passes leaves the outputs as found, for the conversion to write, and scratch zero
+unfoldable pub outputAfter : Verdict → List ℕ → List ℕ
+unfolding refusalLeaves
+outputAfter (RefusedBy row e) buffer = refusalLeaves row buffer
+outputAfter Passed buffer = buffer
+
+unfoldable pub scratchAfter : Verdict → List ℕ → List ℕ
+unfolding refusalLeaves
+scratchAfter (RefusedBy row e) buffer = refusalLeaves row buffer
+scratchAfter Passed buffer = cleared buffer
+
+-- ---- over the seven lent buffers
+
+unfoldable pub verdictIn : List ℕ → List ℕ → Buffers → Verdict
+unfolding verdict
+verdictIn tree text b = verdict tree text (lengthsOf b) (length (b .scratch))
+
+unfoldable pub judgedIn : List ℕ → List ℕ → Buffers → Judged
+unfolding judgedBy verdictIn
+judgedIn tree text b = judgedBy (verdictIn tree text b)
+
+unfoldable pub verdictLeaves : Verdict → Buffers → Buffers
+unfolding outputAfter scratchAfter
+verdictLeaves v b =
+    buffers
+    (outputAfter v (b .instructions))
+    (outputAfter v (b .variables))
+    (outputAfter v (b .labels))
+    (outputAfter v (b .functions))
+    (outputAfter v (b .strings))
+    (outputAfter v (b .floats))
+    (scratchAfter v (b .scratch))
+
+unfoldable pub judgeLeaves : List ℕ → List ℕ → Buffers → Buffers
+unfolding verdictLeaves verdictIn
+judgeLeaves tree text b = verdictLeaves (verdictIn tree text b) b

@@ -2,8 +2,8 @@
 ghost use mathlib.Core.Path.{_≡_};
 ghost use Prim.Native.Nat.{_*_, _≤_};
 ghost use lib.ListN.{length};
-ghost use Rattle.judge.specs.Inner.{Clears, placed};
-ghost use Rattle.judge.specs.Judge.{lengthsOk, buffersOk, lengthsOf, lowestFault, lowestDeep, recordsRow, nestingRow, judged, refused, outputAfter, scratchAfter, cleared};
+ghost use Rattle.judge.specs.Inner.{placed};
+ghost use Rattle.judge.specs.Judge.{lengthsOk, buffersOk, buffers, recordsVerdict, verdict, judgedBy, judged, judgedIn, scratchAfter, judgeLeaves, cleared};
 use records::convert_error::ConvertError;
 use records::convert_error::ConvertErrorKind;
 use records::words::NONE;
@@ -29,7 +29,7 @@ pub enum Judged {
 }
 
 pub(crate) fn refuse(kind: ConvertErrorKind, place: u32) -> Judged
-    ensures { λ r. ⌜ r ≡ refused kind place ⌝ }
+    ensures { λ r. ⌜ r ≡ Judged.Refused (record { kind = kind; place = place }) ⌝ }
 {
     Judged::Refused(ConvertError { kind, place })
 }
@@ -69,7 +69,7 @@ fn buffers_ok(n: usize, l: Lengths, scratch: usize) -> bool
 fn judge_records(tree: &[u8], text: &[u8], n: usize, scratch: &mut [u8]) -> Judged
     requires { ⌜ (n * 32 ≡ length (now tree)) × (n ≤ 2048) × (n ≤ length (now scratch)) ⌝ }
     requires { ⌜ now scratch ≡ cleared (now scratch) ⌝ }
-    ensures { λ r. ⌜ (r ≡ recordsRow (lowestFault (now (tree .entry)) (now (text .entry))) (nestingRow (lowestDeep (now (tree .entry))))) × Clears r × (length (now (scratch .exit)) ≡ length (now (scratch .entry))) ⌝ }
+    ensures { λ r. ⌜ (r ≡ judgedBy (recordsVerdict (now (tree .entry)) (now (text .entry)))) × (length (now (scratch .exit)) ≡ length (now (scratch .entry))) ⌝ }
 {
     references::count_references(tree, n, scratch);
     let types = types::leading_types(tree, n);
@@ -86,7 +86,7 @@ fn judge_records(tree: &[u8], text: &[u8], n: usize, scratch: &mut [u8]) -> Judg
 
 // The core: judges a tree, given how long the outputs are. Rows one and two leave scratch as found, the others leave it zero.
 pub fn judge_tree(tree: &[u8], text: &[u8], l: Lengths, scratch: &mut [u8]) -> Judged
-    ensures { λ r. ⌜ (r ≡ judged (now (tree .entry)) (now (text .entry)) l (length (now (scratch .entry)))) × (now (scratch .exit) ≡ scratchAfter r (now (scratch .entry))) ⌝ }
+    ensures { λ r. ⌜ (r ≡ judged (now (tree .entry)) (now (text .entry)) l (length (now (scratch .entry)))) × (now (scratch .exit) ≡ scratchAfter (verdict (now (tree .entry)) (now (text .entry)) l (length (now (scratch .entry)))) (now (scratch .entry))) ⌝ }
 {
     let n = tree.len() / 32;
     let lengths = lengths_ok(tree.len());
@@ -103,7 +103,7 @@ pub fn judge_tree(tree: &[u8], text: &[u8], l: Lengths, scratch: &mut [u8]) -> J
     answer
 }
 
-// The answer is a refusal with a place, which leaves all outputs zero.
+// The answer is a refusal with a place. Of the rows judged here one and two have none, the others have one.
 fn has_place(answer: Judged) -> bool
     ensures { λ r. ⌜ r ≡ placed answer ⌝ }
 {
@@ -148,8 +148,8 @@ pub fn judge(
     floats: &mut [u8],
     scratch: &mut [u8],
 ) -> Judged
-    ensures { λ r. ⌜ r ≡ judged (now (tree .entry)) (now (text .entry)) (lengthsOf (now (instructions .entry)) (now (variables .entry)) (now (labels .entry)) (now (functions .entry)) (now (strings .entry)) (now (floats .entry))) (length (now (scratch .entry))) ⌝ }
-    ensures { λ r. ⌜ (now (instructions .exit) ≡ outputAfter r (now (instructions .entry))) × (now (variables .exit) ≡ outputAfter r (now (variables .entry))) × (now (labels .exit) ≡ outputAfter r (now (labels .entry))) × (now (functions .exit) ≡ outputAfter r (now (functions .entry))) × (now (strings .exit) ≡ outputAfter r (now (strings .entry))) × (now (floats .exit) ≡ outputAfter r (now (floats .entry))) × (now (scratch .exit) ≡ scratchAfter r (now (scratch .entry))) ⌝ }
+    ensures { λ r. ⌜ r ≡ judgedIn (now (tree .entry)) (now (text .entry)) (buffers (now (instructions .entry)) (now (variables .entry)) (now (labels .entry)) (now (functions .entry)) (now (strings .entry)) (now (floats .entry)) (now (scratch .entry))) ⌝ }
+    ensures { λ _. ⌜ buffers (now (instructions .exit)) (now (variables .exit)) (now (labels .exit)) (now (functions .exit)) (now (strings .exit)) (now (floats .exit)) (now (scratch .exit)) ≡ judgeLeaves (now (tree .entry)) (now (text .entry)) (buffers (now (instructions .entry)) (now (variables .entry)) (now (labels .entry)) (now (functions .entry)) (now (strings .entry)) (now (floats .entry)) (now (scratch .entry))) ⌝ }
 {
     let l = Lengths {
         instructions: instructions.len(),

@@ -8,9 +8,9 @@ use borrow.Author.Tests.{le-leb, lt-leb}
 use Rattle.laws.specs.Fix.{pick}
 use Rattle.laws.specs.Splice.{splice}
 use Rattle.records.specs.declared.convert_error.AnswerWords.{AnswerWords}
-use Rattle.judge.specs.Judge.{outputAfter, scratchAfter}
+use Rattle.judge.specs.Judge.{Buffers, judgedIn, judgeLeaves}
 use Rattle.judge.specs.declared.Judged.{Judged}
-use Rattle.rudderplum.specs.Boundary.{answerBytes, answered, roomy, returned, Lent, lent, judgedOf, answeredIn, judgeCall}
+use Rattle.rudderplum.specs.Boundary.{answerBytes, answered, roomy, returned, Lent, answeredIn, judgeCall}
 
 pub short-returns : (answer : List ℕ) → length answer < 16 → 0 ≡ returned answer
 unfolding returned roomy pick
@@ -24,19 +24,12 @@ pub short-call : (tree text : List ℕ) (b : Lent) → length (b .answer) < 16 �
 unfolding judgeCall roomy pick
 short-call tree text b h = rw (lt-leb _ _ h) refl
 
-pub long-call : (tree text i v l f s x c a i′ v′ l′ f′ s′ x′ c′ a′ : List ℕ) (j : Judged) (w : AnswerWords)
+pub long-call : (tree text : List ℕ) (b b′ : Buffers) (a a′ : List ℕ) (j : Judged) (w : AnswerWords)
     → 16 ≤ length a
-    → j ≡ judgedOf tree text (lent i v l f s x c a)
-    → i′ ≡ outputAfter j i
-    → v′ ≡ outputAfter j v
-    → l′ ≡ outputAfter j l
-    → f′ ≡ outputAfter j f
-    → s′ ≡ outputAfter j s
-    → x′ ≡ outputAfter j x
-    → c′ ≡ scratchAfter j c
+    → j ≡ judgedIn tree text b
+    → b′ ≡ judgeLeaves tree text b
     → w ≡ answered tree j
     → a′ ≡ splice a 0 (answerBytes w)
-    → lent i′ v′ l′ f′ s′ x′ c′ a′ ≡ judgeCall tree text (lent i v l f s x c a)
+    → _≡_ {A = Lent} (record { seven = b′; answer = a′ }) (judgeCall tree text (record { seven = b; answer = a }))
 unfolding judgeCall answeredIn roomy pick
-long-call tree text i v l f s x c a i′ v′ l′ f′ s′ x′ c′ a′ j w h hj hi hv hl hf hs hx hc hw ha =
-    rw (le-leb _ _ h) (cc)
+long-call tree text b b′ a a′ j w h hj hb hw ha = rw (le-leb _ _ h) (cc)

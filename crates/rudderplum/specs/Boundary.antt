@@ -10,7 +10,7 @@ use Rattle.laws.specs.Splice.{splice}
 use Rattle.records.specs.Words.{none}
 use Rattle.records.specs.Answer.{wordsOf}
 use Rattle.records.specs.declared.convert_error.AnswerWords.{AnswerWords}
-use Rattle.judge.specs.Judge.{lengthsOf, judged, outputAfter, scratchAfter}
+use Rattle.judge.specs.Judge.{Buffers, buffers, judgedIn, judgeLeaves}
 use Rattle.judge.specs.declared.Judged.{Judged}
 use Rattle.judge.specs.declared.Judged.the-variants.{Accepted, Refused}
 
@@ -38,53 +38,25 @@ unfoldable pub returned : List ℕ → ℕ
 unfolding roomy pick
 returned answer = pick (roomy answer) 1 0
 
--- the buffers that a caller lends
+-- the buffers that a caller lends: the seven, and one for the answer
 pub record Lent : Type 0 where
-  pub instructions : List ℕ
-  pub variables : List ℕ
-  pub labels : List ℕ
-  pub functions : List ℕ
-  pub strings : List ℕ
-  pub floats : List ℕ
-  pub scratch : List ℕ
+  pub seven : Buffers
   pub answer : List ℕ
 
 abbrev pub lent : List ℕ → List ℕ → List ℕ → List ℕ → List ℕ → List ℕ → List ℕ → List ℕ → Lent
 lent instructions variables labels functions strings floats scratch answer =
+    record { seven = buffers instructions variables labels functions strings floats scratch; answer = answer }
+
+-- the buffers once a tree was judged: the seven as the judge leaves them, and the answer's first sixteen bytes
+unfoldable pub answeredIn : List ℕ → List ℕ → Lent → Lent
+unfolding judgeLeaves splice answerBytes answered judgedIn
+answeredIn tree text b =
     record {
-      instructions = instructions;
-      variables = variables;
-      labels = labels;
-      functions = functions;
-      strings = strings;
-      floats = floats;
-      scratch = scratch;
-      answer = answer;
+      seven = judgeLeaves tree text (b .seven);
+      answer = splice (b .answer) 0 (answerBytes (answered tree (judgedIn tree text (b .seven))));
     }
-
--- what the judge says of the tree, given how long the lent buffers are
-unfoldable pub judgedOf : List ℕ → List ℕ → Lent → Judged
-unfolding judged
-judgedOf tree text b =
-    judged tree text
-    (lengthsOf (b .instructions) (b .variables) (b .labels) (b .functions) (b .strings) (b .floats))
-    (length (b .scratch))
-
--- the buffers once a tree was judged: outputs and scratch as the judge leaves them, and the answer's first sixteen bytes
-unfoldable pub answeredIn : List ℕ → Judged → Lent → Lent
-unfolding outputAfter scratchAfter splice answerBytes answered
-answeredIn tree j b =
-    lent
-    (outputAfter j (b .instructions))
-    (outputAfter j (b .variables))
-    (outputAfter j (b .labels))
-    (outputAfter j (b .functions))
-    (outputAfter j (b .strings))
-    (outputAfter j (b .floats))
-    (scratchAfter j (b .scratch))
-    (splice (b .answer) 0 (answerBytes (answered tree j)))
 
 -- the buffers after the call; all are as found where the answer does not fit
 unfoldable pub judgeCall : List ℕ → List ℕ → Lent → Lent
-unfolding pick roomy judgedOf answeredIn
-judgeCall tree text b = pick (roomy (b .answer)) (answeredIn tree (judgedOf tree text b) b) b
+unfolding pick roomy answeredIn
+judgeCall tree text b = pick (roomy (b .answer)) (answeredIn tree text b) b

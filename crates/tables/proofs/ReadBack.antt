@@ -2,18 +2,16 @@
 -- names exists. By the round trip, from a tree whose syntax fits. That the counts fit a word follows where the sizes suffice. Assumes nothing.
 use mathlib.Core.Path.{_≡_, refl}
 use Prim.Native.Nat.{ℕ, _*_, _<_, _≤_}
-use mathlib.Core.Bool.{Bool, true, false}
+use mathlib.Core.Bool.{Bool}
 use mathlib.Core.List.{List}
 use native.Mathlib.Omega.{arith}
-use lib.Dec.{eqb}
 use lib.ListN.{length}
-use Rattle.laws.specs.Fix.{pick}
-use Rattle.records.specs.Words.{wordOf, records, none, spanStart, spanEnd}
+use Rattle.records.specs.Words.{records}
 use Rattle.syntax.specs.Decode.{program}
-use Rattle.conversion.specs.ConvertError.{Result, ok, err, number}
+use Rattle.conversion.specs.ConvertError.{Result, ok, err}
 use Rattle.conversion.specs.Ir.{IrProgram}
 use Rattle.conversion.specs.Converter.{convert}
-use Rattle.conversion.specs.Written.{Tables, Counts, Refused, Converted, refusedAt, answerOf, conversion, allCode, allVars, allLabels, tablesOf, countsOf}
+use Rattle.conversion.specs.Written.{Tables, Counts, Converted, answerOf, conversion, allCode, allVars, allLabels, tablesOf, countsOf}
 use Rattle.tables.specs.Read.{bodyAt, Begin}
 use Rattle.tables.specs.Bytes.{All, Byte}
 use Rattle.tables.proofs.Exists.{Word, CountsFit, ProgramFits, bodyOf}
@@ -72,16 +70,11 @@ module _ (tree text : List ℕ) (needsMain : Bool) (bytes : All Byte tree) (few 
         bodies = λ n. rw k (converted-reads-back p e fit t held n);
       }
 
-  refused : (b : Bool) (n r i j : ℕ) (c : Counts) (w : Tables) → pick b (Refused n none 0 0) (Refused n r i j) ≡ Converted c w → ⊥
-  unfolding pick
-  refused true n r i j c w e = let z : _≡_ {A = ℕ} 0 1 = cc in omega arith
-  refused false n r i j c w e = let z : _≡_ {A = ℕ} 0 1 = cc in omega arith
-
   -- buffers that begin with the tables of an answer
   pub answer-reads-back : (c : Counts) (w t : Tables) → conversion tree text needsMain ≡ Converted c w → CountsFit c → Begin w t → Answered c t
-  unfolding conversion answerOf refusedAt
+  unfolding conversion answerOf
   answer-reads-back c w t e h b = by (convert (program tree text) needsMain) refl e
     where
       by : (x : Result IrProgram) → convert (program tree text) needsMain ≡ x → answerOf tree x ≡ Converted c w → Answered c t
       by (ok p) f g = answered p f c w t (cc) (cc) h b
-      by (err k r) f g = absurd (refused (eqb r none) (number k) r (wordOf tree r spanStart) (wordOf tree r spanEnd) c w g)
+      by (err k r) f g = let z : _≡_ {A = ℕ} 0 1 = cc in absurd (omega arith)

@@ -1,6 +1,6 @@
 -- The entry: the core's answer, and what each lent buffer holds afterwards.
 -- The six outputs are cleared where the answer is a refusal with a place, and else are as found. Assumes nothing.
-use Rattle.judge.proofs.RowLaws.{output-cleared, output-kept}
+use Rattle.judge.proofs.RowLaws.{answer-in, outputs-cleared, outputs-kept}
 use borrow.Author.Needs.{needs}
 use Rattle.judge.proofs.judge.Statement.{statement}
 use Rattle.judge.proofs.judge.Tie as tie
@@ -41,16 +41,8 @@ returns c =
     let at-if1 = at-clear-outputs .before .before .before .before .before .before .before in
     let at-has-place = at-if1 .before in
     let at-judge-tree = at-has-place .before .before .before in (
-      at-judge-tree .judge-tree .ensures .0,
-      (
-        output-cleared _ _ (at-has-place .has-place .ensures) (at-if1 .if1 .taken) _ _ (at-clear-outputs .clear-outputs .ensures .0),
-        output-cleared _ _ (at-has-place .has-place .ensures) (at-if1 .if1 .taken) _ _ (at-clear-outputs .clear-outputs .ensures .1),
-        output-cleared _ _ (at-has-place .has-place .ensures) (at-if1 .if1 .taken) _ _ (at-clear-outputs .clear-outputs .ensures .2),
-        output-cleared _ _ (at-has-place .has-place .ensures) (at-if1 .if1 .taken) _ _ (at-clear-outputs .clear-outputs .ensures .3),
-        output-cleared _ _ (at-has-place .has-place .ensures) (at-if1 .if1 .taken) _ _ (at-clear-outputs .clear-outputs .ensures .4),
-        output-cleared _ _ (at-has-place .has-place .ensures) (at-if1 .if1 .taken) _ _ (at-clear-outputs .clear-outputs .ensures .5),
-        at-judge-tree .judge-tree .ensures .1,
-      ),
+      answer-in _ _ _ _ (at-judge-tree .judge-tree .ensures .0) _ (at-has-place .has-place .ensures),
+      outputs-cleared _ _ _ _ (at-judge-tree .judge-tree .ensures .0) _ (at-has-place .has-place .ensures) _ (at-judge-tree .judge-tree .ensures .1) (at-if1 .if1 .taken) _ _ _ _ _ _ (at-clear-outputs .clear-outputs .ensures),
     )
 
 same-length-8 : tie.Need-same-length-8
@@ -58,7 +50,11 @@ same-length-8 c = search needs
 
 returns-2 : tie.Need-returns-2
 returns-2 c =
-    (c .before .before .before .before .judge-tree .ensures .0, (output-kept _ _ (c .before .has-place .ensures) (c .if1 .left) _, output-kept _ _ (c .before .has-place .ensures) (c .if1 .left) _, output-kept _ _ (c .before .has-place .ensures) (c .if1 .left) _, output-kept _ _ (c .before .has-place .ensures) (c .if1 .left) _, output-kept _ _ (c .before .has-place .ensures) (c .if1 .left) _, output-kept _ _ (c .before .has-place .ensures) (c .if1 .left) _, c .before .before .before .before .judge-tree .ensures .1))
+    let at-has-place = c .before in
+    let at-judge-tree = at-has-place .before .before .before in (
+      answer-in _ _ _ _ (at-judge-tree .judge-tree .ensures .0) _ (at-has-place .has-place .ensures),
+      outputs-kept _ _ _ _ (at-judge-tree .judge-tree .ensures .0) _ (at-has-place .has-place .ensures) _ (at-judge-tree .judge-tree .ensures .1) (c .if1 .left),
+    )
 
 pub judge-spec : {M : Type 1} → statement M
 judge-spec =

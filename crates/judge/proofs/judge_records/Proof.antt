@@ -1,9 +1,8 @@
 -- Rows 'records' and 'nesting'.
 -- Each return is a case of the rows, by the lowest numbers that the callees found. Assumes nothing.
-use mathlib.Core.Path.{_≡_, refl, _∙_}
-use Prim.Native.Nat.{_<_}
-use native.Mathlib.Omega.{arith}
-use Rattle.judge.proofs.RowLaws.{row-fault, row-deep, row-none, placed-clears, accepted-clears}
+use mathlib.Core.Path.{sym, ap, _∙_}
+use Rattle.judge.specs.Judge.{refusedBy, judgedBy}
+use Rattle.judge.proofs.RowLaws.{row-fault, row-deep, row-none}
 use borrow.Author.Needs.{needs}
 use Rattle.judge.proofs.judge_records.Statement.{statement}
 use Rattle.judge.proofs.judge_records.Tie as tie
@@ -27,12 +26,11 @@ same-length : tie.Need-same-length
 same-length c = search needs
 
 returns : tie.Need-returns
-returns c =
-    let here : c .before .before .lowest-fault .result < 2048 = omega (arith, c .before .before .before .before .before .before .before .before .before .before .before .before .pre .0 .1) in (
-      rw (c .refuse .ensures) (row-fault _ _ _ (c .before .before .before .before .before .before .before .before .before .before .before .before .pre .0 .0) _ (c .before .before .lowest-fault .ensures) (c .before .if1 .taken)),
-      rw (c .refuse .ensures) (placed-clears _ _ here),
-      c .before .before .before .before .before .before .before .count-references .ensures .0,
-    )
+unfolding judgedBy refusedBy
+returns c = (
+  c .refuse .ensures ∙ sym (ap judgedBy (row-fault _ _ _ (c .before .before .before .before .before .before .before .before .before .before .before .before .pre .0 .0) _ (c .before .before .lowest-fault .ensures) (c .before .if1 .taken))),
+  c .before .before .before .before .before .before .before .count-references .ensures .0,
+)
 
 lowest-deep-requires : tie.Need-lowest-deep-requires
 lowest-deep-requires c κs = search needs
@@ -47,25 +45,24 @@ same-length-2 : tie.Need-same-length-2
 same-length-2 c = search needs
 
 returns-2 : tie.Need-returns-2
-returns-2 c =
-    let here : c .before .before .before .before .lowest-deep .result < 2048 = omega (arith, c .before .before .before .before .before .before .before .before .before .before .before .before .before .before .before .before .before .pre .0 .1) in (
-      rw (c .refuse2 .ensures) (row-deep _ _ _ (c .before .before .before .before .before .before .before .before .before .before .before .before .before .before .before .before .before .pre .0 .0) _ (c .before .before .before .before .before .before .before .lowest-fault .ensures) (c .before .before .before .before .before .before .if1 .left) _ (c .before .before .before .before .lowest-deep .ensures .0) (c .before .if2 .taken)),
-      rw (c .refuse2 .ensures) (placed-clears _ _ here),
-      c .before .before .before .before .lowest-deep .ensures .1 ∙ c .before .before .before .before .before .before .before .before .before .before .before .before .count-references .ensures .0,
-    )
+unfolding judgedBy refusedBy
+returns-2 c = (
+  c .refuse2 .ensures ∙ sym (ap judgedBy (row-deep _ _ _ (c .before .before .before .before .before .before .before .before .before .before .before .before .before .before .before .before .before .pre .0 .0) _ (c .before .before .before .before .before .before .before .lowest-fault .ensures) (c .before .before .before .before .before .before .if1 .left) _ (c .before .before .before .before .lowest-deep .ensures .0) (c .before .if2 .taken))),
+  c .before .before .before .before .lowest-deep .ensures .1 ∙ c .before .before .before .before .before .before .before .before .before .before .before .before .count-references .ensures .0,
+)
 
 same-length-3 : tie.Need-same-length-3
 same-length-3 c = search needs
 
 returns-3 : tie.Need-returns-3
+unfolding judgedBy refusedBy
 returns-3 c =
     let at-lowest-deep = c .before .before .before in
     let at-if1 = at-lowest-deep .before .before in
     let at-lowest-fault = at-if1 .before in
     let at-count-references = at-lowest-fault .before .before .before .before .before in
     let at-start = at-count-references .before .before .before .before .before in (
-      row-none _ _ _ (at-start .pre .0 .0) _ (at-lowest-fault .lowest-fault .ensures) (at-if1 .if1 .left) _ (at-lowest-deep .lowest-deep .ensures .0) (c .if2 .left),
-      accepted-clears,
+      sym (ap judgedBy (row-none _ _ _ (at-start .pre .0 .0) _ (at-lowest-fault .lowest-fault .ensures) (at-if1 .if1 .left) _ (at-lowest-deep .lowest-deep .ensures .0) (c .if2 .left))),
       at-lowest-deep .lowest-deep .ensures .1 ∙ at-count-references .count-references .ensures .0,
     )
 

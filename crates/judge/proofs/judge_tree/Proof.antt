@@ -2,7 +2,7 @@
 -- Rows one and two return before anything is written; after the others scratch is cleared again. Assumes nothing.
 use mathlib.Core.Path.{sym, _∙_}
 use borrow.Author.Tests.{not-true, not-false}
-use Rattle.judge.proofs.RowLaws.{lengths-fit, scratch-fits, judged-length, judged-buffer, judged-records, cleared-length, cleared-twice, cleared-again}
+use Rattle.judge.proofs.RowLaws.{lengths-fit, scratch-fits, judged-length, judged-buffer, judged-records, cleared-length, cleared-twice}
 use borrow.Author.Needs.{needs}
 use Rattle.judge.proofs.judge_tree.Statement.{statement}
 use Rattle.judge.proofs.judge_tree.Tie as tie
@@ -20,7 +20,7 @@ returns : tie.Need-returns
 returns c =
     let at-if1 = c .before in
     let at-lengths-ok = at-if1 .before .before in
-    judged-length _ _ _ _ _ _ (at-lengths-ok .lengths-ok .ensures) (not-true _ (at-if1 .if1 .taken)) (c .refuse .ensures)
+    judged-length _ _ _ _ _ (at-lengths-ok .lengths-ok .ensures) _ (not-true _ (at-if1 .if1 .taken)) (c .refuse .ensures)
 
 refuse-requires-2 : tie.Need-refuse-requires-2
 refuse-requires-2 c κs = search needs
@@ -31,7 +31,7 @@ returns-2 c =
     let at-if1 = at-if2 .before in
     let at-buffers-ok = at-if1 .before in
     let at-lengths-ok = at-buffers-ok .before in
-    judged-buffer _ _ _ _ _ _ (at-lengths-ok .lengths-ok .ensures) (not-false _ (at-if1 .if1 .left)) _ (at-buffers-ok .buffers-ok .ensures) (not-true _ (at-if2 .if2 .taken)) (c .refuse2 .ensures)
+    judged-buffer _ _ _ _ _ (at-lengths-ok .lengths-ok .ensures) (not-false _ (at-if1 .if1 .left)) _ (at-buffers-ok .buffers-ok .ensures) _ (not-true _ (at-if2 .if2 .taken)) (c .refuse2 .ensures)
 
 clear-requires : tie.Need-clear-requires
 clear-requires c κs = search needs
@@ -64,10 +64,8 @@ returns-3 c =
     let at-if1 = at-if2 .before in
     let at-buffers-ok = at-if1 .before in
     let at-lengths-ok = at-buffers-ok .before in
-    let at-start = at-lengths-ok .before .before .before .before in (
-      judged-records _ _ _ (at-start .args .scratch .now) _ _ (at-lengths-ok .lengths-ok .ensures) (not-false _ (at-if1 .if1 .left)) _ (at-buffers-ok .buffers-ok .ensures) (not-false _ (at-if2 .if2 .left)) (at-judge-records .judge-records .ensures .0),
-      cleared-again _ (at-start .args .scratch .now) (at-judge-records .judge-records .last .1 .1 .1 .0) _ (at-judge-records .judge-records .ensures .1) (at-judge-records .judge-records .ensures .2 ∙ cleared-length (at-start .args .scratch .now) _ (at-clear .clear .ensures)) (at-clear2 .clear2 .ensures),
-    )
+    let at-start = at-lengths-ok .before .before .before .before in
+    judged-records _ _ _ (at-start .args .scratch .now) _ (at-lengths-ok .lengths-ok .ensures) (not-false _ (at-if1 .if1 .left)) _ (at-buffers-ok .buffers-ok .ensures) _ (at-judge-records .judge-records .last .1 .1 .1 .0) _ (not-false _ (at-if2 .if2 .left)) (at-judge-records .judge-records .ensures .0) (at-judge-records .judge-records .ensures .1 ∙ cleared-length (at-start .args .scratch .now) _ (at-clear .clear .ensures)) (at-clear2 .clear2 .ensures)
 
 pub judge-tree-spec : {M : Type 1} → statement M
 judge-tree-spec =

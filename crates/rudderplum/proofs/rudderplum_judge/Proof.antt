@@ -1,6 +1,5 @@
 -- Each way out of the call is a case of its definition: the test of the answer's buffer, or what `judge`, `answer_words` and
 -- `put_answer` ensure, put together by `long-call`. Assumes nothing.
-use Rattle.rudderplum.specs.Boundary.{judgedOf}
 use Rattle.rudderplum.proofs.Calls.{short-returns, long-returns, short-call, long-call}
 use borrow.Author.Needs.{needs}
 use Rattle.rudderplum.proofs.rudderplum_judge.Statement.{statement}
@@ -50,7 +49,6 @@ same-length-8 : tie.Need-same-length-8
 same-length-8 c = search needs
 
 returns-2 : tie.Need-returns-2
-unfolding judgedOf
 returns-2 c =
     let put = c .before .before in
     let words = put .before in
@@ -59,19 +57,10 @@ returns-2 c =
     let start = short .before .before .before .before .before .before .before .before .before .before .before in
     let said = judged .judge .ensures in (
       long-returns (start .args .answer .now) (short .if1 .left),
-      long-call (start .args .tree .now) (start .args .text .now)
-          _ _ _ _ _ _ _ _
-          _ _ _ _ _ _ _ _
-          (judged .judge .result) (words .answer-words .result)
+      long-call (start .args .tree .now) (start .args .text .now) _ _ _ _ (judged .judge .result) (words .answer-words .result)
           (short .if1 .left)
           (said .0)
-          (said .1 .0)
-          (said .1 .1)
-          (said .1 .2)
-          (said .1 .3)
-          (said .1 .4)
-          (said .1 .5)
-          (said .1 .6)
+          (said .1)
           (words .answer-words .ensures)
           (put .put-answer .ensures),
     )

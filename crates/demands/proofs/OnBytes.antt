@@ -32,8 +32,8 @@ use Rattle.runs.specs.TreeRun.{Out, treeRun, parametersKnown, parameterValues, 
 use Rattle.runs.specs.BodyRun.{Spot, bodyRun, steps, step, fetch, execute, putTo, jumpTo, branchTo, finishWith, operand, datum, write, oneOn, labelPlace, isLabel}
 use Rattle.runs.specs.Shared.{endT, endB}
 use Rattle.runs.proofs.Alike.{rule, number, compute, answer}
-use Rattle.accepted.specs.Demand3.{runnable, RunsAlike}
-use Rattle.accepted.proofs.Demand3.{good-demand3}
+use Rattle.demands.specs.Demand3.{runnable, RunsAlike}
+use Rattle.demands.proofs.Demand3.{good-demand3}
 
 -- p and q, Bool parameters, returned as `p and q`: the records behind the twelve first types
 unfoldable pub tree : List ℕ

@@ -2,22 +2,19 @@
 -- By the theorem over the definitions, the round trip of the tables, and what a good tree has. Assumes nothing.
 use mathlib.Core.Path.{_≡_, refl, sym, _∙_, subst}
 use Prim.Native.Nat.{ℕ}
-use mathlib.Core.Bool.{Bool, true, false}
+use mathlib.Core.Bool.{Bool}
 use mathlib.Core.List.{List, []}
 use mathlib.Core.Option.{some}
 use native.Mathlib.Omega.{arith}
-use lib.Dec.{eqb}
-use Rattle.laws.specs.Fix.{pick}
-use Rattle.records.specs.Words.{wordOf, none, spanStart, spanEnd}
 use Rattle.syntax.specs.Syntax.{Block, Function, Program}
 use Rattle.syntax.specs.Decode.{program}
 use Rattle.conversion.specs.ConvertError as C
-use Rattle.conversion.specs.ConvertError.{Result, ok, err, number}
+use Rattle.conversion.specs.ConvertError.{Result, ok, err}
 use Rattle.conversion.specs.Ir.{texts, IrProgram}
 use Rattle.conversion.specs.Expressions.{Functions}
 use Rattle.conversion.specs.Functions.{get-all-functions, check-main}
 use Rattle.conversion.specs.Converter.{convertAll, convert}
-use Rattle.conversion.specs.Written.{Counts, Tables, Refused, Converted, refusedAt, answerOf, conversion, countsOf, tablesOf}
+use Rattle.conversion.specs.Written.{Counts, Tables, Converted, answerOf, conversion, countsOf, tablesOf}
 use Rattle.tables.specs.Read as Read
 use Rattle.tables.specs.Read.{Begin, bodyAt}
 use Rattle.tables.proofs.Exists as Exists
@@ -26,8 +23,8 @@ use Rattle.runs.proofs.Agrees.{Agrees, bodyOf}
 use Rattle.runs.specs.Rule.{asked}
 use Rattle.runs.proofs.Whole.{same-runs}
 use Rattle.runs.proofs.Demand3.{demand3}
-use Rattle.accepted.specs.Demand3.{runnable, RunsAlike, Demand3, Demand3ByRule}
-use Rattle.accepted.proofs.GoodLaws.{good-counts, good-well-formed}
+use Rattle.demands.specs.Demand3.{runnable, RunsAlike, Demand3, Demand3ByRule}
+use Rattle.demands.proofs.GoodLaws.{good-counts, good-well-formed}
 
 -- ---- the program behind an answer
 
@@ -37,18 +34,13 @@ record Behind (tree text : List ℕ) (needsMain : Bool) (c : Counts) (w : Tables
   pub counted : c ≡ countsOf of
   pub written : w ≡ tablesOf of
 
-refused : (b : Bool) (n r i j : ℕ) (c : Counts) (w : Tables) → pick b (Refused n none 0 0) (Refused n r i j) ≡ Converted c w → ⊥
-unfolding pick
-refused true n r i j c w e = let z : _≡_ {A = ℕ} 0 1 = cc in omega arith
-refused false n r i j c w e = let z : _≡_ {A = ℕ} 0 1 = cc in omega arith
-
 behind : (tree text : List ℕ) (needsMain : Bool) (c : Counts) (w : Tables) → conversion tree text needsMain ≡ Converted c w → Behind tree text needsMain c w
-unfolding conversion answerOf refusedAt
+unfolding conversion answerOf
 behind tree text needsMain c w e = go (convert (program tree text) needsMain) refl e
   where
     go : (x : Result IrProgram) → convert (program tree text) needsMain ≡ x → answerOf tree x ≡ Converted c w → Behind tree text needsMain c w
     go (ok p) f g = record { of = p; converts = f; counted = cc; written = cc }
-    go (err k r) f g = absurd (refused (eqb r none) (number k) r (wordOf tree r spanStart) (wordOf tree r spanEnd) c w g)
+    go (err k r) f g = let z : _≡_ {A = ℕ} 0 1 = cc in absurd (omega arith)
 
 -- a program that converts has its functions found
 record Found (P : Program) : Type 0 where

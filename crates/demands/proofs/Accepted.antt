@@ -17,7 +17,7 @@ use Rattle.laws.proofs.Tests.{and-left, and-right}
 use Rattle.records.specs.Words.{records, none}
 use Rattle.records.specs.Rules.{recordOk}
 use Rattle.records.specs.Good.{Good}
-use Rattle.records.specs.declared.convert_error.ConvertErrorKind.the-variants.{BadTree, ShortBuffer}
+use Rattle.records.specs.declared.convert_error.ConvertErrorKind.the-variants.{BadTree, TooDeep, ShortBuffer}
 use Rattle.syntax.specs.Syntax.{Block, Function}
 use Rattle.syntax.specs.Decode.{program}
 use Rattle.conversion.specs.Written.{Counts, Tables, Converted, conversion}
@@ -25,9 +25,9 @@ use Rattle.tables.specs.Bytes.{All, Byte}
 use Rattle.tables.specs.Read.{Begin}
 use Rattle.judge.specs.declared.Lengths.{Lengths}
 use Rattle.judge.specs.declared.Judged.the-variants.{Accepted}
-use Rattle.judge.specs.Judge.{lengthsOk, buffersOk, lowestFault, lowestDeep, refused, nestingRow, recordsRow, judged}
-use Rattle.accepted.specs.Demand3.{RunsAlike}
-use Rattle.accepted.proofs.Demand3.{good-demand3}
+use Rattle.judge.specs.Judge.{lengthsOk, buffersOk, lowestFault, lowestDeep, atLengths, atBuffers, atRecords, atNesting, Verdict, RefusedBy, Passed, refusedBy, atLowest, recordsVerdict, verdict, judgedBy, judged}
+use Rattle.demands.specs.Demand3.{RunsAlike}
+use Rattle.demands.proofs.Demand3.{good-demand3}
 
 -- ---- no number below n is the lowest of which f holds: f holds of none
 
@@ -58,22 +58,29 @@ not-false false e = absurd (false≢true (sym e))
 
 -- ---- the rows
 
-record Rows (lengths : Bool) (fault : Option ℕ) : Type 0 where
+pub judged-passed : (v : Verdict) → judgedBy v ≡ Accepted → v ≡ Passed
+unfolding judgedBy
+judged-passed (RefusedBy row e) h = let z : _≡_ {A = ℕ} 0 1 = cc in absurd (omega arith)
+judged-passed Passed h = refl
+
+record Rows (lengths room : Bool) (fault : Option ℕ) : Type 0 where
   pub whole : lengths ≡ true
+  pub lent : room ≡ true
   pub rules : fault ≡ nothing
 
 rows : (a b : Bool) (o d : Option ℕ)
-    → pick a (pick b (recordsRow o (nestingRow d)) (refused ShortBuffer none)) (refused BadTree none) ≡ Accepted → Rows a o
-unfolding pick recordsRow nestingRow refused
+    → pick (not a) (refusedBy atLengths BadTree none) (pick (not b) (refusedBy atBuffers ShortBuffer none) (atLowest atRecords BadTree o (atLowest atNesting TooDeep d Passed))) ≡ Passed
+    → Rows a b o
+unfolding pick atLowest refusedBy
 rows false b o d e = let z : _≡_ {A = ℕ} 0 1 = cc in absurd (omega arith)
 rows true false o d e = let z : _≡_ {A = ℕ} 0 1 = cc in absurd (omega arith)
 rows true true (some r) d e = let z : _≡_ {A = ℕ} 0 1 = cc in absurd (omega arith)
-rows true true nothing d e = record { whole = refl; rules = refl }
+rows true true nothing d e = record { whole = refl; lent = refl; rules = refl }
 
-module _ (tree text : List ℕ) (l : Lengths) (scratch : ℕ) (accepted : judged tree text l scratch ≡ Accepted) where
-  parts : Rows (lengthsOk (length tree)) (lowestFault tree text)
-  unfolding judged
-  parts = rows (lengthsOk (length tree)) (buffersOk (records tree) l scratch) (lowestFault tree text) (lowestDeep tree) accepted
+module _ (tree text : List ℕ) (l : Lengths) (scratch : ℕ) (passed : verdict tree text l scratch ≡ Passed) where
+  parts : Rows (lengthsOk (length tree)) (buffersOk (records tree) l scratch) (lowestFault tree text)
+  unfolding verdict recordsVerdict
+  parts = rows (lengthsOk (length tree)) (buffersOk (records tree) l scratch) (lowestFault tree text) (lowestDeep tree) passed
 
   multiple : (eqb (length tree % 32) 0 && leb (12 * 32) (length tree)) ≡ true
   unfolding lengthsOk
@@ -89,14 +96,28 @@ module _ (tree text : List ℕ) (l : Lengths) (scratch : ℕ) (accepted : judged
   whole-records : length tree ≡ records tree * 32
   whole-records = omega (arith, no-rest, div-add-mod' (length tree) 32)
 
-  -- THE LINK: what the judge accepts is good
-  pub accepted-good : Good tree text
+  -- THE LINK: what passes the rows is good, and the buffers are as long as document 01 says
+  pub passed-good : Good tree text
   unfolding lowestFault
-  accepted-good = record {
+  passed-good = record {
     whole = whole-records;
     few = omega (arith, at-most, whole-records);
     ok = λ r h. not-false (recordOk tree text r) (lowest-none (records tree) (λ r. not (recordOk tree text r)) (parts .rules) r h);
   }
+
+  pub passed-lent : buffersOk (records tree) l scratch ≡ true
+  passed-lent = parts .lent
+
+module _ (tree text : List ℕ) (l : Lengths) (scratch : ℕ) (accepted : judged tree text l scratch ≡ Accepted) where
+  accepted-passed : verdict tree text l scratch ≡ Passed
+  unfolding judged
+  accepted-passed = judged-passed (verdict tree text l scratch) accepted
+
+  pub accepted-good : Good tree text
+  accepted-good = passed-good tree text l scratch accepted-passed
+
+  pub accepted-lent : buffersOk (records tree) l scratch ≡ true
+  accepted-lent = passed-lent tree text l scratch accepted-passed
 
   -- DEMAND 3 of every tree that the judge accepts
   pub accepted-demand3 : (W : Type 0) (needsMain : Bool) → All Byte tree → (c : Counts) (w t : Tables) → conversion tree text needsMain ≡ Converted c w → Begin w t

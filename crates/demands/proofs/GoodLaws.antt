@@ -19,7 +19,7 @@ use Rattle.conversion.proofs.Bytes.{Fit, judged-fits}
 use Rattle.tables.proofs.Exists.{CountsFit}
 use Rattle.tables.proofs.Judged.{judged-counts}
 use Rattle.runs.proofs.Opens.{WellFormed}
-use Rattle.accepted.proofs.Opened.{once-well-formed}
+use Rattle.demands.proofs.Opened.{once-well-formed}
 
 module _ (tree text : List ℕ) (good : Good tree text) where
   pub good-complete : (r : ℕ) → r < records tree → Complete tree text r

@@ -1,0 +1,226 @@
+-- The three demands, of every run of the call; and the call's relation is a function: it has one answer and one way to leave the buffers.
+-- By the rows of the call: a refusal's buffers by its row, a success's by the sizes that suffice, its runs by demand 3 on tables. Assumes nothing.
+use mathlib.Core.Path.{_≡_, refl, sym, ap, _∙_, subst}
+use Prim.Native.Nat.{ℕ, _-_, _≤_}
+use mathlib.Core.Bool.{Bool}
+use mathlib.Core.Option.{some}
+use mathlib.Core.List.{List, _++_}
+use native.Mathlib.Omega.{arith}
+use lib.ListN.{length, replicate, getElem?, length-append, length-replicate}
+use Rattle.records.specs.Words.{records}
+use Rattle.records.specs.Answer.{numberOf, wordsOf}
+use Rattle.records.specs.declared.convert_error.ConvertErrorKind.{ConvertErrorKind}
+use Rattle.records.specs.declared.convert_error.ConvertErrorKind.the-variants.{SameSignature, SameSymbol, AlreadyDeclared, UnknownVariable, UnknownFunction, AssignToConstant, ReturnWithoutType, NoValue, MissingReturn, NoMain, MainNotInteger, WrongReturnType, WrongAssignType, WrongOperands, AmbiguousCall, LiteralOutOfRange, InvalidCast, NotBool, NotInteger, BreakOutOfLoop, ContinueOutOfLoop, LatinCharInNonLibCFunction, ExternNotLatin, BadTree, TooDeep, ShortBuffer, WouldPanic}
+use Rattle.records.specs.declared.convert_error.ConvertError.{ConvertError}
+use Rattle.records.specs.declared.convert_error.AnswerWords.{AnswerWords}
+use Rattle.judge.specs.Judge.{Buffers, lengthsOf, Row, atLengths, atBuffers, atRecords, atNesting, atConversion, Verdict, RefusedBy, Passed, verdictIn, refusalLeaves, cleared}
+use Rattle.judge.proofs.RowLaws.{Enough, enough}
+use Rattle.syntax.specs.Decode.{program}
+use Rattle.conversion.specs.ConvertError.{Result, ok, err}
+use Rattle.conversion.specs.Ir.{IrProgram}
+use Rattle.conversion.specs.Converter.{convert}
+use Rattle.conversion.specs.Written as Written
+use Rattle.conversion.specs.Written.{Counts, Tables, Conversion, Refused, Converted, conversion, tablesOf, countsOf}
+use Rattle.conversion.proofs.Sizes.{IfOk}
+use Rattle.conversion.proofs.Bytes.{Fit}
+use Rattle.tables.specs.Bytes.{All, Byte}
+use Rattle.tables.specs.Read.{Begin}
+use Rattle.demands.specs.Demand3.{RunsAlike}
+use Rattle.demands.specs.Call.{Outcome, RefusedAt, Success, conversionRow, judgedRows, callOf, Answer, Refusal, Counted, answerOf, filled, buffersAfter, Calls}
+use Rattle.demands.specs.Demands.{allZero, Left, untouched, zeroed, SameLengths, Sound, AsTheRust, outputsOf, AllRunAlike, Demands, OfEveryCall}
+use Rattle.demands.proofs.GoodLaws.{good-fits}
+use Rattle.demands.proofs.Demand3.{good-demand3}
+use Rattle.demands.proofs.Accepted.{passed-good, passed-lent}
+use Rattle.demands.proofs.Rows.{row-conversion, row-success, success-from}
+
+-- ---- the relation is a function
+
+pub call-exists : (tree text : List ℕ) (needsMain : Bool) (before : Buffers)
+    → Calls tree text needsMain before (answerOf (callOf tree text needsMain before)) (buffersAfter (callOf tree text needsMain before) before)
+call-exists tree text needsMain before = record { answers = refl; leaves = refl }
+
+pub call-unique : (tree text : List ℕ) (needsMain : Bool) (before : Buffers) (a a′ : Answer) (b b′ : Buffers)
+    → Calls tree text needsMain before a b → Calls tree text needsMain before a′ b′ → (a ≡ a′) × (b ≡ b′)
+call-unique tree text needsMain before a a′ b b′ c d = (c .answers ∙ sym (d .answers), c .leaves ∙ sym (d .leaves))
+
+-- ---- what a refusal leaves
+
+pub rows-one-two : (words : AnswerWords) (b : Buffers) → (buffersAfter (RefusedAt atLengths words) b ≡ b) × (buffersAfter (RefusedAt atBuffers words) b ≡ b)
+unfolding buffersAfter refusalLeaves
+rows-one-two words b = (refl, refl)
+
+pub other-rows : (words : AnswerWords) (b : Buffers)
+    → (buffersAfter (RefusedAt atRecords words) b ≡ allZero b) × (buffersAfter (RefusedAt atNesting words) b ≡ allZero b) × (buffersAfter (RefusedAt atConversion words) b ≡ allZero b)
+unfolding buffersAfter refusalLeaves
+other-rows words b = (refl, refl, refl)
+
+refusal-left : (row : Row) (words : AnswerWords) (b : Buffers) → Left b (buffersAfter (RefusedAt row words) b)
+refusal-left atLengths words b = untouched (rows-one-two words b .0)
+refusal-left atBuffers words b = untouched (rows-one-two words b .1)
+refusal-left atRecords words b = zeroed (other-rows words b .0)
+refusal-left atNesting words b = zeroed (other-rows words b .1)
+refusal-left atConversion words b = zeroed (other-rows words b .2)
+
+zero-lengths : (b : Buffers) → SameLengths b (allZero b)
+zero-lengths b = record {
+  instructions = length-replicate (length (b .instructions)) 0;
+  variables = length-replicate (length (b .variables)) 0;
+  labels = length-replicate (length (b .labels)) 0;
+  functions = length-replicate (length (b .functions)) 0;
+  strings = length-replicate (length (b .strings)) 0;
+  floats = length-replicate (length (b .floats)) 0;
+  scratch = length-replicate (length (b .scratch)) 0;
+}
+
+same-lengths : (b : Buffers) → SameLengths b b
+same-lengths b = record { instructions = refl; variables = refl; labels = refl; functions = refl; strings = refl; floats = refl; scratch = refl }
+
+left-lengths : (b c : Buffers) → Left b c → SameLengths b c
+left-lengths b c (untouched e) = subst (SameLengths b) (sym e) (same-lengths b)
+left-lengths b c (zeroed e) = subst (SameLengths b) (sym e) (zero-lengths b)
+
+-- ---- what a success leaves: 'These sizes always suffice'
+
+filled-length : (table buffer : List ℕ) → length table ≤ length buffer → length (filled table buffer) ≡ length buffer
+unfolding filled
+filled-length table buffer h =
+    length-append table (replicate (length buffer - length table) 0) ∙ rw (length-replicate {A = ℕ} (length buffer - length table) 0) (omega arith)
+
+pub tables-fit-buffers : (n : ℕ) (c : Counts) (t : Tables) (b : Buffers) → Fit n t → Enough n (lengthsOf b) (length (b .scratch)) → SameLengths b (buffersAfter (Success c t) b)
+unfolding buffersAfter
+tables-fit-buffers n c t b f e = record {
+  instructions = filled-length (t .instructions) (b .instructions) (omega (arith, f .instructions, e .instructions));
+  variables = filled-length (t .variables) (b .variables) (omega (arith, f .variables, e .variables));
+  labels = filled-length (t .labels) (b .labels) (omega (arith, f .labels, e .labels));
+  functions = filled-length (t .functions) (b .functions) (omega (arith, f .functions, e .functions));
+  strings = filled-length (t .strings) (b .strings) (omega (arith, f .strings, e .strings));
+  floats = filled-length (t .floats) (b .floats) (omega (arith, f .floats, e .floats));
+  scratch = length-replicate (length (b .scratch)) 0;
+}
+
+success-begins : (c : Counts) (t : Tables) (b : Buffers) → Begin t (outputsOf (buffersAfter (Success c t) b))
+unfolding buffersAfter filled
+success-begins c t b = record {
+  instructions = record { rest = replicate (length (b .instructions) - length (t .instructions)) 0; same = refl };
+  variables = record { rest = replicate (length (b .variables) - length (t .variables)) 0; same = refl };
+  labels = record { rest = replicate (length (b .labels) - length (t .labels)) 0; same = refl };
+  functions = record { rest = replicate (length (b .functions) - length (t .functions)) 0; same = refl };
+  strings = record { rest = replicate (length (b .strings) - length (t .strings)) 0; same = refl };
+  floats = record { rest = replicate (length (b .floats) - length (t .floats)) 0; same = refl };
+}
+
+-- ---- a refusal's number
+
+number-range : (k : ConvertErrorKind) → (1 ≤ numberOf k) × (numberOf k ≤ 27)
+number-range SameSignature = omega arith
+number-range SameSymbol = omega arith
+number-range AlreadyDeclared = omega arith
+number-range UnknownVariable = omega arith
+number-range UnknownFunction = omega arith
+number-range AssignToConstant = omega arith
+number-range ReturnWithoutType = omega arith
+number-range NoValue = omega arith
+number-range MissingReturn = omega arith
+number-range NoMain = omega arith
+number-range MainNotInteger = omega arith
+number-range WrongReturnType = omega arith
+number-range WrongAssignType = omega arith
+number-range WrongOperands = omega arith
+number-range AmbiguousCall = omega arith
+number-range LiteralOutOfRange = omega arith
+number-range InvalidCast = omega arith
+number-range NotBool = omega arith
+number-range NotInteger = omega arith
+number-range BreakOutOfLoop = omega arith
+number-range ContinueOutOfLoop = omega arith
+number-range LatinCharInNonLibCFunction = omega arith
+number-range ExternNotLatin = omega arith
+number-range BadTree = omega arith
+number-range TooDeep = omega arith
+number-range ShortBuffer = omega arith
+number-range WouldPanic = omega arith
+
+abbrev Ranged : AnswerWords → Type 0
+Ranged w = (1 ≤ w .number) × (w .number ≤ 27)
+
+words-ranged : (tree : List ℕ) (e : ConvertError) (w : AnswerWords) → wordsOf tree e ≡ w → Ranged w
+unfolding wordsOf
+words-ranged tree e w h = subst (λ x. Ranged x) h (number-range (e .kind))
+
+module _ (tree text : List ℕ) (needsMain : Bool) (before : Buffers) where
+  refusal-ranged : (row : Row) (w : AnswerWords) → callOf tree text needsMain before ≡ RefusedAt row w → Ranged w
+  unfolding callOf judgedRows conversionRow conversion Written.answerOf
+  refusal-ranged row w e = go (verdictIn tree text before) (convert (program tree text) needsMain) e
+    where
+      go : (v : Verdict) (x : Result IrProgram) → judgedRows tree v (conversionRow (Written.answerOf tree x)) ≡ RefusedAt row w → Ranged w
+      go (RefusedBy r f) x h = words-ranged tree f w (cc)
+      go Passed (err k r) h = words-ranged tree (record { kind = k; place = r }) w (cc)
+      go Passed (ok p) h = let z : _≡_ {A = ℕ} 0 1 = cc in absurd (omega arith)
+
+  -- the tables of a success have room
+  success-fits : (c : Counts) (t : Tables) → callOf tree text needsMain before ≡ Success c t → SameLengths before (buffersAfter (Success c t) before)
+  unfolding verdictIn conversion Written.answerOf
+  success-fits c t e =
+      let h = success-from tree text needsMain before c t e in
+      let good = passed-good tree text (lengthsOf before) (length (before .scratch)) (h .0) in
+      let lent = enough (records tree) (lengthsOf before) (length (before .scratch)) (passed-lent tree text (lengthsOf before) (length (before .scratch)) (h .0)) in
+      tables-fit-buffers (records tree) c t before (go (convert (program tree text) needsMain) (good-fits tree text good needsMain) (h .1)) lent
+    where
+      go : (x : Result IrProgram) → IfOk (λ p. Fit (records tree) (tablesOf p)) x → Written.answerOf tree x ≡ Converted c t → Fit (records tree) t
+      go (ok p) f h = let z : tablesOf p ≡ t = cc in subst (Fit (records tree)) z f
+      go (err k r) f h = let z : _≡_ {A = ℕ} 0 1 = cc in absurd (omega arith)
+
+  -- ---- the demands
+
+  module _ (answer : Answer) (after : Buffers) (calls : Calls tree text needsMain before answer after) where
+    pub call-sound : Sound before answer after
+    unfolding answerOf buffersAfter
+    call-sound = go (callOf tree text needsMain before) refl (calls .answers) (calls .leaves)
+      where
+        go : (o : Outcome) → callOf tree text needsMain before ≡ o → answer ≡ answerOf o → after ≡ buffersAfter o before → Sound before answer after
+        go (RefusedAt row w) e a l =
+            let left : Left before after = subst (Left before) (sym l) (refusal-left row w before) in
+            record {
+              lengths = left-lengths before after left;
+              numbered = λ x h. let z : w ≡ x = cc in subst (λ y. Ranged y) z (refusal-ranged row w e);
+              refused = λ x h. left;
+              converted = λ c h. let z : _≡_ {A = ℕ} 0 1 = cc in absurd (omega arith);
+            }
+        go (Success c t) e a l = record {
+          lengths = subst (SameLengths before) (sym l) (success-fits c t e);
+          numbered = λ x h. let z : _≡_ {A = ℕ} 0 1 = cc in absurd (omega arith);
+          refused = λ x h. let z : _≡_ {A = ℕ} 0 1 = cc in absurd (omega arith);
+          converted = λ d h. ap (λ b. b .scratch) l;
+        }
+
+    pub call-as-rust : verdictIn tree text before ≡ Passed → AsTheRust tree text needsMain before answer after
+    unfolding answerOf buffersAfter
+    call-as-rust passed = record {
+      bodies = λ p e. let r = row-success tree text needsMain before passed p e in
+          (calls .answers ∙ ap answerOf r, calls .leaves ∙ ap (λ o. buffersAfter o before) r);
+      error = λ k r e. let o = row-conversion tree text needsMain before passed k r e in
+          (calls .answers ∙ ap answerOf o, calls .leaves ∙ ap (λ o. buffersAfter o before) o ∙ other-rows (wordsOf tree (record { kind = k; place = r })) before .2);
+    }
+
+    -- DEMAND 3 of the buffers as the call leaves them: its premise is the contract's own relation
+    pub call-runs-alike : (W : Type 0) → All Byte tree → (c : Counts) → answer ≡ Counted c → AllRunAlike W tree text c after
+    unfolding answerOf verdictIn
+    call-runs-alike W bytes c h i f b = go (callOf tree text needsMain before) refl (calls .answers) (calls .leaves)
+      where
+        go : (o : Outcome) → callOf tree text needsMain before ≡ o → answer ≡ answerOf o → after ≡ buffersAfter o before
+            → getElem? (program tree text .functions) i ≡ some f → f .body ≡ some b → RunsAlike W tree text c (outputsOf after) i f b
+        go (RefusedAt row w) e a l = let z : _≡_ {A = ℕ} 0 1 = cc in absurd (omega arith)
+        go (Success d t) e a l =
+            let from = success-from tree text needsMain before d t e in
+            let z : d ≡ c = cc in
+            good-demand3 W tree text needsMain bytes (passed-good tree text (lengthsOf before) (length (before .scratch)) (from .0)) c t (outputsOf after)
+            (rw z at (from .1))
+            (subst (λ x. Begin t (outputsOf x)) (sym l) (success-begins d t before)) i f b
+
+-- THE DEMANDS
+pub every-call : OfEveryCall
+every-call W tree text needsMain before answer after calls = record {
+  demand1 = call-sound tree text needsMain before answer after calls;
+  demand2 = call-as-rust tree text needsMain before answer after calls;
+  demand3 = call-runs-alike tree text needsMain before answer after calls W;
+}

@@ -1,0 +1,86 @@
+-- THE CALL, whole: document 01's table row by row, and what each of the seven buffers holds afterwards. Any bytes of tree and text, `main`
+-- needed or not, and buffers of any length. Assumes nothing: these are definitions.
+--   checked at    number       given when                 place                      the seven buffers
+--   lengths       24           not `lengthsOk`            none                       as found
+--   buffers       26           not `buffersOk`            none                       as found
+--   records       24           `lowestFault`              that record                zero
+--   nesting       25           `lowestDeep`               that record                zero
+--   conversion    1 to 23, 27  `convert` gives an error   its record; NoMain none    zero
+--   no row        six counts   `convert` gives bodies                                each table, then zeros; scratch zero
+-- Each line is a theorem of proofs/Rows.antt and proofs/Demands.antt.
+use mathlib.Core.Path.{_≡_}
+use Prim.Native.Nat.{ℕ, _-_}
+use mathlib.Core.Bool.{Bool}
+use mathlib.Core.List.{List, _++_}
+use lib.ListN.{length, replicate}
+use Rattle.records.specs.Answer.{wordsOf}
+use Rattle.records.specs.declared.convert_error.AnswerWords.{AnswerWords}
+use Rattle.conversion.specs.Written.{Counts, Tables, Conversion, Refused, Converted, conversion}
+use Rattle.judge.specs.Judge.{Buffers, buffers, Row, atConversion, Verdict, RefusedBy, Passed, verdictIn, refusalLeaves, cleared}
+
+-- ---- the answer
+
+-- what a call comes to: the row that refuses, with number, place and span; or six counts, with what the tables hold
+pub data Outcome : Type 0 where
+  RefusedAt : Row → AnswerWords → Outcome
+  Success : Counts → Tables → Outcome
+
+-- 'conversion | 1 to 23', 'conversion | 27': 'in conversion, the first met in the Rust's order'; and no row applies
+unfoldable pub conversionRow : Conversion → Outcome
+conversionRow (Refused words) = RefusedAt atConversion words
+conversionRow (Converted counts tables) = Success counts tables
+
+-- rows 'lengths', 'buffers', 'records' and 'nesting'; a tree that passes them comes to the next rows
+unfoldable pub judgedRows : List ℕ → Verdict → Outcome → Outcome
+unfolding wordsOf
+judgedRows tree (RefusedBy row e) next = RefusedAt row (wordsOf tree e)
+judgedRows tree Passed next = next
+
+-- 'The first row that applies wins'
+unfoldable pub callOf : List ℕ → List ℕ → Bool → Buffers → Outcome
+unfolding judgedRows verdictIn conversionRow conversion
+callOf tree text needsMain before = judgedRows tree (verdictIn tree text before) (conversionRow (conversion tree text needsMain))
+
+-- 'An answer is the number, place and the record's span .., or six counts'
+pub data Answer : Type 0 where
+  Refusal : AnswerWords → Answer
+  Counted : Counts → Answer
+
+unfoldable pub answerOf : Outcome → Answer
+answerOf (RefusedAt row words) = Refusal words
+answerOf (Success counts tables) = Counted counts
+
+-- ---- the buffers
+
+-- 'Success leaves .. unused output bytes zero': a table, and zeros to the buffer's end
+unfoldable pub filled : List ℕ → List ℕ → List ℕ
+filled table buffer = table ++ replicate (length buffer - length table) 0
+
+-- 'Rows one and two write nothing. Every other refusal leaves all outputs and scratch zero' (`refusalLeaves`).
+-- 'Success leaves scratch and unused output bytes zero.'
+unfoldable pub buffersAfter : Outcome → Buffers → Buffers
+unfolding refusalLeaves filled
+buffersAfter (RefusedAt row words) b =
+    buffers
+    (refusalLeaves row (b .instructions))
+    (refusalLeaves row (b .variables))
+    (refusalLeaves row (b .labels))
+    (refusalLeaves row (b .functions))
+    (refusalLeaves row (b .strings))
+    (refusalLeaves row (b .floats))
+    (refusalLeaves row (b .scratch))
+buffersAfter (Success counts tables) b =
+    buffers
+    (filled (tables .instructions) (b .instructions))
+    (filled (tables .variables) (b .variables))
+    (filled (tables .labels) (b .labels))
+    (filled (tables .functions) (b .functions))
+    (filled (tables .strings) (b .strings))
+    (filled (tables .floats) (b .floats))
+    (cleared (b .scratch))
+
+-- ---- the relation that a call is held to: its answer, and each byte of the seven buffers afterwards
+
+pub record Calls (tree text : List ℕ) (needsMain : Bool) (before : Buffers) (answer : Answer) (after : Buffers) : Type 0 where
+  pub answers : answer ≡ answerOf (callOf tree text needsMain before)
+  pub leaves : after ≡ buffersAfter (callOf tree text needsMain before) before

@@ -1,0 +1,109 @@
+-- THE DEMANDS, together. A run of the call takes a tree, a text, whether `main` is needed and seven buffers, and gives an answer and the
+-- buffers afterwards. What its contract says of them is `Calls` (Call.antt); the three demands are what follows for every such run
+-- (proofs/Demands.antt). Assumes nothing: these are definitions.
+-- What must be believed below this page, in reading order:
+--   laws: Fix, Below; records: Words, Shapes, Rules, Depth, Answer, Good: the form of a tree, and a refusal's number, place and span;
+--   judge: Judge: the rows 'lengths', 'buffers', 'records' and 'nesting', and what a row that refuses leaves of a buffer;
+--   syntax: Syntax, Decode: what a tree stands for; int128: Ops, Value;
+--   conversion: ConvertError, Ir, Types, Scope, Expressions, Statements, Functions, Converter: what the Rust makes of it; Written: as bytes;
+--   Call: the whole call; for demand 3 also tables: Bytes, Read; runs: Rule, TreeRun, BodyRun, Shared: the two runs; and Demand3.
+use mathlib.Core.Path.{_≡_}
+use Prim.Native.Nat.{ℕ, _≤_}
+use mathlib.Core.Bool.{Bool}
+use mathlib.Core.List.{List}
+use mathlib.Core.Option.{some}
+use lib.ListN.{length, getElem?}
+use Rattle.records.specs.Answer.{wordsOf}
+use Rattle.records.specs.declared.convert_error.ConvertErrorKind.{ConvertErrorKind}
+use Rattle.records.specs.declared.convert_error.AnswerWords.{AnswerWords}
+use Rattle.judge.specs.Judge.{Buffers, buffers, Passed, verdictIn, cleared}
+use Rattle.syntax.specs.Syntax.{Block, Function}
+use Rattle.syntax.specs.Decode.{program}
+use Rattle.conversion.specs.ConvertError.{ok, err}
+use Rattle.conversion.specs.Ir.{IrProgram}
+use Rattle.conversion.specs.Converter.{convert}
+use Rattle.conversion.specs.Written.{Counts, Tables, tablesOf, countsOf}
+use Rattle.tables.specs.Bytes.{All, Byte}
+use Rattle.demands.specs.Call.{Answer, Refusal, Counted, filled, Calls}
+use Rattle.demands.specs.Demand3.{RunsAlike}
+
+-- ---- DEMAND 1: 'Every input gets a sound answer. Bad trees, short buffers and forms that make the Rust panic are refused by number and
+-- place, and each refusal leaves the outputs untouched or all zero.'
+
+abbrev pub allZero : Buffers → Buffers
+allZero b =
+    buffers
+    (cleared (b .instructions))
+    (cleared (b .variables))
+    (cleared (b .labels))
+    (cleared (b .functions))
+    (cleared (b .strings))
+    (cleared (b .floats))
+    (cleared (b .scratch))
+
+pub data Left (before after : Buffers) : Type 0 where
+  untouched : after ≡ before → Left before after
+  zeroed : after ≡ allZero before → Left before after
+
+-- no buffer grows or shrinks: 'These sizes always suffice, which is proved'
+pub record SameLengths (before after : Buffers) : Type 0 where
+  pub instructions : length (after .instructions) ≡ length (before .instructions)
+  pub variables : length (after .variables) ≡ length (before .variables)
+  pub labels : length (after .labels) ≡ length (before .labels)
+  pub functions : length (after .functions) ≡ length (before .functions)
+  pub strings : length (after .strings) ≡ length (before .strings)
+  pub floats : length (after .floats) ≡ length (before .floats)
+  pub scratch : length (after .scratch) ≡ length (before .scratch)
+
+pub record Sound (before : Buffers) (answer : Answer) (after : Buffers) : Type 0 where
+  pub lengths : SameLengths before after
+  -- a refusal has a number of document 01's
+  pub numbered : (words : AnswerWords) → answer ≡ Refusal words → (1 ≤ words .number) × (words .number ≤ 27)
+  pub refused : (words : AnswerWords) → answer ≡ Refusal words → Left before after
+  pub converted : (counts : Counts) → answer ≡ Counted counts → after .scratch ≡ cleared (before .scratch)
+
+-- ---- DEMAND 2: 'Within the stated limits Krc's Rust decides which trees convert, to which bodies, else which error at which place.'
+
+-- `convert` is the Rust's `Converter::convert`, of the program that the tree stands for
+pub record AsTheRust (tree text : List ℕ) (needsMain : Bool) (before : Buffers) (answer : Answer) (after : Buffers) : Type 0 where
+  pub bodies : (p : IrProgram) → convert (program tree text) needsMain ≡ ok p → (answer ≡ Counted (countsOf p))
+      × (after ≡ buffers
+      (filled (tablesOf p .instructions) (before .instructions))
+      (filled (tablesOf p .variables) (before .variables))
+      (filled (tablesOf p .labels) (before .labels))
+      (filled (tablesOf p .functions) (before .functions))
+      (filled (tablesOf p .strings) (before .strings))
+      (filled (tablesOf p .floats) (before .floats))
+      (cleared (before .scratch)))
+  pub error : (kind : ConvertErrorKind) (place : ℕ) → convert (program tree text) needsMain ≡ err kind place
+      → (answer ≡ Refusal (wordsOf tree (record { kind = kind; place = place }))) × (after ≡ allZero before)
+
+-- ---- DEMAND 3: 'For every function with a body, running the tree and running the body show the same calls in the same order with the same
+-- arguments, and end alike.'
+
+-- the six outputs
+abbrev pub outputsOf : Buffers → Tables
+outputsOf b = record {
+  instructions = b .instructions;
+  variables = b .variables;
+  labels = b .labels;
+  functions = b .functions;
+  strings = b .strings;
+  floats = b .floats;
+}
+
+-- what the buffers say afterwards is what is run, over values of type W
+abbrev pub AllRunAlike : Type 0 → List ℕ → List ℕ → Counts → Buffers → Type 0
+AllRunAlike W tree text counts after = (i : ℕ) (f : Function) (b : Block) → getElem? (program tree text .functions) i ≡ some f → f .body ≡ some b
+    → RunsAlike W tree text counts (outputsOf after) i f b
+
+-- ---- the three, of every run of the call; a contract cites them at one type of values, and they hold over every one
+
+pub record Demands (W : Type 0) (tree text : List ℕ) (needsMain : Bool) (before : Buffers) (answer : Answer) (after : Buffers) : Type 0 where
+  pub demand1 : Sound before answer after
+  pub demand2 : verdictIn tree text before ≡ Passed → AsTheRust tree text needsMain before answer after
+  pub demand3 : All Byte tree → (counts : Counts) → answer ≡ Counted counts → AllRunAlike W tree text counts after
+
+abbrev pub OfEveryCall : Type 1
+OfEveryCall = (W : Type 0) (tree text : List ℕ) (needsMain : Bool) (before : Buffers) (answer : Answer) (after : Buffers)
+    → Calls tree text needsMain before answer after → Demands W tree text needsMain before answer after
