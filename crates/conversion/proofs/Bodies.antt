@@ -9,7 +9,7 @@ use lib.IntN.{pos}
 use lib.ListN.{getD}
 use Rattle.syntax.specs.Syntax.{Text, Ty, TInt, TFloat, TBool, TChar, TByte, TAddress, TNull, Or, And, Gt, Lt, Add, Div, Expr, EInt, EFloat, EName, EBinary, ECall, noArgs, Value, ToType, SDeclare, SInit, SReturn, SCall, SIf, SIfElse, SWhile, SFor, SContinue, Block, done, next, Param, Function, Program}
 use Rattle.conversion.specs.ConvertError.{Result, ok, err}
-use Rattle.conversion.specs.Ir.{VarId, Operand, OVar, OInt, OFloat, Instr, Copy, Binary, Cast, Arg, Call, Label, Jump, JumpIfNot, Return, Comment, FloatEntry, IrFunction, IrProgram}
+use Rattle.conversion.specs.Ir.{VarId, Operand, OVar, OInt, OFloat, Instr, Copy, Binary, Cast, Arg, Call, Label, Jump, JumpIfNot, Return, Comment, IrFunction, IrProgram}
 use Rattle.conversion.specs.Expressions.{castVerb}
 use Rattle.conversion.specs.Converter.{convert}
 

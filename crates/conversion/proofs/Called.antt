@@ -1,7 +1,7 @@
 -- What a call is resolved to is a function of the program: what holds of each of them holds of it.
 -- Each way of looking for one takes it from the program's list, or from the map that was made of that list. Assumes nothing.
-use mathlib.Core.Path.{_≡_, refl, sym, subst}
-use Prim.Native.Nat.{ℕ, zero, suc}
+use mathlib.Core.Path.{_≡_, refl, subst}
+use Prim.Native.Nat.{ℕ, suc}
 use mathlib.Core.Bool.{Bool, true, false, not, _&&_, _||_}
 use mathlib.Core.List.{List, [], _∷_, _++_}
 use mathlib.Core.Option.{Option, none, some}
@@ -15,8 +15,8 @@ use Rattle.conversion.specs.Scope.{Scope}
 use Rattle.conversion.specs.Expressions.{Callee, CallFunction, CallCast, TypedArg, mainName, variadicMark, Functions, getFunction, is-mangled, filterOption, orElse, chosen, takes-args, cast-type, suffixes, mangledFunction, joined, variadicFunction, find-exact-function, byLiterals, find-functions-by-literals, exactOr, resolveFunction, resolveTyped, get-argument-types, resolve-call}
 use Rattle.conversion.specs.Functions.{is-ascii, contains-key, addFunction, get-all-functions}
 
-module _ (Q : Function → Type 0) where
-  -- of a function that was found, of each in a list, of each in the map, of a callee
+module _ (Q : Function → Type 0) (T : ℕ → Type 0) where
+  -- Q of a function that was found, of each in a list, of each in the map; of a callee, which a cast to a type with T may be too
   abbrev pub OfOption : Option Function → Type 0
   OfOption none = Unit {0}
   OfOption (some g) = Q g
@@ -31,8 +31,12 @@ module _ (Q : Function → Type 0) where
 
   abbrev pub OfCallee : Result Callee → Type 0
   OfCallee (ok (CallFunction g)) = Q g
-  OfCallee (ok (CallCast y)) = Unit {0}
+  OfCallee (ok (CallCast y)) = T y
   OfCallee (err k r) = Unit {0}
+
+  abbrev pub OfTarget : Option ℕ → Type 0
+  OfTarget none = Unit {0}
+  OfTarget (some y) = T y
 
   -- ---- the map is made of the list
 
@@ -125,41 +129,49 @@ module _ (Q : Function → Type 0) where
     exact-or-of (some f) c h k = h
     exact-or-of none c h k = k
 
-    pub resolved-function : (verb : Text) (l : List TypedArg) (r : ℕ) (o : Option ℕ) → OfCallee (resolveFunction P F verb l r o)
+    pub resolved-function : (verb : Text) (l : List TypedArg) (r : ℕ) (o : Option ℕ) → OfTarget o → OfCallee (resolveFunction P F verb l r o)
     unfolding resolveFunction find-functions-by-literals
-    resolved-function verb l r (some y) = tt
-    resolved-function verb l r none = exact-or-of (find-exact-function P F verb l) (chosen (byLiterals P F verb l (P .functions)) r) (exact-of verb l)
+    resolved-function verb l r (some y) h = h
+    resolved-function verb l r none h = exact-or-of (find-exact-function P F verb l) (chosen (byLiterals P F verb l (P .functions)) r) (exact-of verb l)
         (chosen-of (byLiterals P F verb l (P .functions)) r (literals-of verb l (P .functions) listed))
 
-    resolved-typed : (verb : Text) (r : ℕ) (l : List TypedArg) → OfCallee (resolveTyped P F verb r l)
-    unfolding resolveTyped _>>=_
-    resolved-typed verb r l = go (cast-type P F verb l r)
-      where
-        go : (o : Result (Option ℕ)) → OfCallee (o >>= λ c. resolveFunction P F verb l r c)
-        go (ok c) = resolved-function verb l r c
-        go (err k n) = tt
-
-    pub resolved : (verb : Text) (l : Args) (sc : Scope) (r : ℕ) → OfCallee (resolve-call P F verb l sc r)
-    unfolding resolve-call _>>=_
-    resolved verb l sc r = go (get-argument-types P F l sc)
-      where
-        go : (o : Result (List TypedArg)) → OfCallee (o >>= λ ts. resolveTyped P F verb r ts)
-        go (ok ts) = resolved-typed verb r ts
-        go (err k n) = tt
-
 -- ---- a called function is one of the program's
+
+abbrev AnyType : ℕ → Type 0
+AnyType y = Unit {0}
+
+any-target : (Q : Function → Type 0) (o : Option ℕ) → OfTarget Q AnyType o
+any-target Q none = tt
+any-target Q (some y) = tt
+
+module _ (Q : Function → Type 0) (P : Program) (F : Functions) (listed : OfEach Q AnyType (P .functions)) (mapped : OfMap Q AnyType F) where
+  resolved-typed : (verb : Text) (r : ℕ) (l : List TypedArg) → OfCallee Q AnyType (resolveTyped P F verb r l)
+  unfolding resolveTyped _>>=_
+  resolved-typed verb r l = go (cast-type P F verb l r)
+    where
+      go : (o : Result (Option ℕ)) → OfCallee Q AnyType (o >>= λ c. resolveFunction P F verb l r c)
+      go (ok c) = resolved-function Q AnyType P F listed mapped verb l r c (any-target Q c)
+      go (err k n) = tt
+
+  resolved : (verb : Text) (l : Args) (sc : Scope) (r : ℕ) → OfCallee Q AnyType (resolve-call P F verb l sc r)
+  unfolding resolve-call _>>=_
+  resolved verb l sc r = go (get-argument-types P F l sc)
+    where
+      go : (o : Result (List TypedArg)) → OfCallee Q AnyType (o >>= λ ts. resolveTyped P F verb r ts)
+      go (ok ts) = resolved-typed verb r ts
+      go (err k n) = tt
 
 pub record Among (l : List Function) (g : Function) : Type 0 where
   pub place : ℕ
   pub found : getElem? l place ≡ some g
 
-each-among : (l : List Function) (Q : Function → Type 0) → ((i : ℕ) (g : Function) → getElem? l i ≡ some g → Q g) → OfEach Q l
+each-among : (l : List Function) (Q : Function → Type 0) → ((i : ℕ) (g : Function) → getElem? l i ≡ some g → Q g) → OfEach Q AnyType l
 each-among [] Q h = tt
 each-among (g ∷ l) Q h = (h 0 g refl, each-among l Q (λ i f e. h (suc i) f e))
 
 pub called-among : (P : Program) (F : Functions) (verb : Text) (l : Args) (sc : Scope) (r : ℕ) (g : Function)
     → get-all-functions (P .functions) [] ≡ ok F → resolve-call P F verb l sc r ≡ ok (CallFunction g) → Among (P .functions) g
 called-among P F verb l sc r g found e =
-    let listed : OfEach (Among (P .functions)) (P .functions) = each-among (P .functions) (Among (P .functions)) (λ i f z. record { place = i; found = z }) in
-    let h = resolved (Among (P .functions)) P F listed (map-of (Among (P .functions)) (P .functions) [] F listed tt found) verb l sc r in
-    subst (OfCallee (Among (P .functions))) e h
+    let Q = Among (P .functions) in
+    let listed : OfEach Q AnyType (P .functions) = each-among (P .functions) Q (λ i f z. record { place = i; found = z }) in
+    subst (OfCallee Q AnyType) e (resolved Q P F listed (map-of Q AnyType (P .functions) [] F listed tt found) verb l sc r)

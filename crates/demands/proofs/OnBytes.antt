@@ -1,7 +1,7 @@
 -- Demand 3 on bytes, at document 01's marked case 1: a tree of bytes, its tables at the beginning of longer buffers, and both runs from there.
 -- By computing: the tree is good and converts, the buffers say its body, and the runs end as they must. Assumes nothing.
 use mathlib.Core.Path.{_≡_, refl}
-use Prim.Native.Nat.{ℕ, _<_}
+use Prim.Native.Nat.{ℕ}
 use mathlib.Core.Bool.{Bool, true, false, _&&_}
 use mathlib.Core.List.{List, [], _∷_, _++_}
 use mathlib.Core.Option.{Option, none as nothing, some}

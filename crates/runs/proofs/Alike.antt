@@ -4,23 +4,23 @@ use mathlib.Core.Path.{_≡_, refl}
 use Prim.Native.Nat.{ℕ, zero, suc, _+_}
 use mathlib.Core.Bool.{Bool, true, false}
 use mathlib.Core.List.{List, [], _∷_}
-use mathlib.Core.Option.{Option, none, some}
+use mathlib.Core.Option.{none, some}
 use lib.Dec.{eqb, ltb}
 use lib.IntN.{pos, negsuc}
 use Rattle.laws.specs.Fix.{pick}
-use Rattle.syntax.specs.Syntax.{BinaryOp, Or, And, BitOr, BitXor, BitAnd, Eq, NotEq, Lt, Le, Gt, Ge, Shl, Shr, Add, Sub, Mul, Div, Rem, Block, Function, boolType, binaryNumber}
+use Rattle.syntax.specs.Syntax.{BinaryOp, Or, And, BitOr, BitXor, BitAnd, Eq, NotEq, Lt, Le, Gt, Ge, Shl, Shr, Add, Sub, Mul, Div, Rem, Block, Function, boolType}
 use Rattle.conversion.specs.ConvertError.{Result, ok, err}
-use Rattle.conversion.specs.Ir.{Instr, Copy, Binary, Arg, Call, Label, Jump, JumpIfNot, Comment, texts, IrProgram}
+use Rattle.conversion.specs.Ir.{Copy, Binary, Arg, Call, Label, Jump, JumpIfNot, Comment, texts}
 use Rattle.conversion.specs.Types.{onInt, onFloat, isFloat}
 use Rattle.conversion.specs.Statements.{parameterType, asCall}
 use Rattle.conversion.specs.Expressions.{Functions, get-type, common-type, unwrapOr, resolve-call}
 use Rattle.conversion.specs.Functions.{get-all-functions}
 use Rattle.conversion.specs.Converter.{convert}
-use Rattle.conversion.proofs.Bodies.{typeOf, rate, x, y, parameter, outside, inside, ask, bound, take, askRate, int, guardBody, eitherBody, loopBody, spinBody, takeX, ratioBody, pauseBody, splitBody, guard, either, loop, spin, ratio, pause, split, program, converted, codeOf, code, var, v, n}
+use Rattle.conversion.proofs.Bodies.{typeOf, rate, x, y, parameter, outside, inside, ask, bound, take, askRate, int, guardBody, eitherBody, loopBody, spinBody, takeX, ratioBody, pauseBody, splitBody, guard, either, loop, spin, ratio, pause, split, program, converted, codeOf, var, v, n}
 use Rattle.runs.specs.TreeRun as Tree
 use Rattle.runs.specs.Rule.{content, literalType, read, readAll, Answer, gives, halt, holds, fails, Typed, Calls, Content, IntContent, FloatContent, BoolContent, StringContent, NullContent, Rule, comes, pending, Answers, asked, Ending, passed, returns, stopped}
 use Rattle.runs.specs.TreeRun.{Out, held, treeRun, parametersKnown, parameterValues, set, runStatement, bindS, bindO, bindT, testO, giveBack, evalExpr, typed, typedO, scopeOf, evalBinary, evalAnd, evalOr, toBool, answered, bindG, test, evalOther, replied, handed, fit, fitLiteral, fitComputed, bare, castFirst, callWith, fitArguments, zeroOf, store, assign, introduce, initialise, newType, turns, forOver, forInt, forLoop, rounds, typeIn, knownAfter, knownInit, withNew, callStatement, callOnly}
-use Rattle.runs.specs.BodyRun.{Body, Vars, Spot, waits, lost, bodyRun, steps, step, fetch, execute, putTo, dropTo, putReply, dropReply, jumpTo, branchTo, finishWith, operand, datum, write, oneOn, labelPlace, isLabel}
+use Rattle.runs.specs.BodyRun.{Vars, Spot, waits, lost, bodyRun, steps, step, fetch, execute, putTo, dropTo, putReply, dropReply, jumpTo, branchTo, finishWith, operand, datum, write, oneOn, labelPlace, isLabel}
 use Rattle.runs.specs.Shared.{callsT, endT, callsB, endB}
 use Rattle.runs.proofs.Opens.{bit}
 use Rattle.runs.proofs.Agrees.{bodyOf}

@@ -1,7 +1,7 @@
 -- The body's run only adds calls, with more steps and with one who answers more; what it came to stays.
 -- By induction on the steps; the two runs stand at one place until the one is held up.
-use mathlib.Core.Path.{_≡_, refl, sym, _∙_, ap, subst}
-use mathlib.Core.List.{List, [], _∷_, _++_}
+use mathlib.Core.Path.{_≡_, refl, sym, _∙_, ap}
+use mathlib.Core.List.{List, [], _++_}
 use mathlib.Core.Option.{Option, none, some}
 use Prim.Native.Nat.{ℕ, zero, suc, _+_, _-_, _≤_}
 use native.Mathlib.Nat.{zero-add, suc-add}
@@ -9,7 +9,7 @@ use native.Mathlib.Omega.{arith}
 use lib.ListN.{getElem?}
 use Rattle.conversion.specs.Ir.{VarId, Instr, Copy, Unary, Binary, Cast, Zero, Arg, Call, Label, Jump, JumpIfNot, Return, Comment}
 use Rattle.runs.specs.Rule.{Answer, gives, halt, Truth, holds, fails, halts, Typed, Calls, Rule, Reply, comes, pending, Answers, Ending}
-use Rattle.runs.specs.BodyRun.{Body, Vars, Spot, spot, over, waits, lost, putTo, dropTo, putReply, dropReply, jumpTo, branchTo, finishWith, labelPlace, operand, execute, fetch, step, steps, bodyRun}
+use Rattle.runs.specs.BodyRun.{Body, Vars, Spot, spot, over, waits, lost, putTo, dropTo, putReply, dropReply, jumpTo, branchTo, finishWith, operand, execute, fetch, step, steps, bodyRun}
 use Rattle.runs.specs.Shared.{callsB, endB}
 use Rattle.runs.proofs.Invert.{Prefix, prefix-refl, prefix-trans}
 use Rattle.runs.proofs.Less.{AsReply, Extends, prefix-append, prefix-under}

@@ -1,6 +1,6 @@
 -- What a body shows with one who answers, it shows with one who answers more; who answers is asked about functions of the program alone.
 -- From the tree's run, whose calls only grow and whose end stays, by the claim in both directions.
-use mathlib.Core.Path.{_≡_, refl, _∙_, ap, subst}
+use mathlib.Core.Path.{_≡_, subst}
 use mathlib.Core.List.{List, []}
 use mathlib.Core.Option.{some}
 use Prim.Native.Nat.{ℕ}
@@ -12,9 +12,8 @@ use Rattle.conversion.specs.Ir.{IrProgram}
 use Rattle.conversion.specs.Expressions.{Functions}
 use Rattle.conversion.specs.Functions.{get-all-functions}
 use Rattle.runs.specs.Rule.{Typed, Calls, Rule, Answers, Ending}
-use Rattle.runs.specs.TreeRun.{treeRun}
 use Rattle.runs.specs.BodyRun.{Vars, bodyRun}
-use Rattle.runs.specs.Shared.{callsT, callsB, endB, InPlace}
+use Rattle.runs.specs.Shared.{callsB, endB, InPlace}
 use Rattle.runs.proofs.Invert.{Prefix}
 use Rattle.runs.proofs.Whole.{get-append}
 use Rattle.runs.proofs.Agrees.{bodyOf, Agrees}

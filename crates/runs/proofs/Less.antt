@@ -1,11 +1,10 @@
 -- The tree's run only adds calls, with more turns and with one who answers more: what it came to stays, and what it was still at goes on from its calls.
 -- By induction on the tree; each part of a run is compared with the same part of the other.
-use mathlib.Core.Path.{_≡_, refl, sym, _∙_, ap, subst}
+use mathlib.Core.Path.{_≡_, refl, _∙_, ap}
 use mathlib.Core.List.{List, [], _∷_, _++_, append-assoc}
 use mathlib.Core.Option.{Option, none, some}
 use mathlib.Core.Bool.{Bool, true, false, not, _&&_}
 use Prim.Native.Nat.{ℕ, zero, suc, _≤_}
-use native.Mathlib.Nat.{le-refl}
 use native.Mathlib.Omega.{arith}
 use lib.Dec.{eqb}
 use lib.IntN.{pos}
@@ -17,8 +16,7 @@ use Rattle.conversion.specs.Functions.{get-all-functions}
 use Rattle.conversion.specs.Statements.{parameterType, asCall}
 use Rattle.conversion.proofs.Called.{Among, called-among}
 use Rattle.runs.specs.Rule.{Answer, gives, halt, Truth, holds, fails, halts, Typed, Calls, Rule, Reply, comes, pending, Answers, Literal, IntLiteral, Datum, constant, computed, read, readAll, Ending}
-use Rattle.runs.specs.TreeRun as Tree
-use Rattle.runs.specs.TreeRun.{Known, Values, set, typeIn, scopeOf, Got, value, stop, wait, Out, normal, broke, continued, returned, stopped, held, unfinished, bindG, bindO, bindS, bindT, answered, bare, replied, handed, test, testO, typed, typedO, sizeDatum, fitComputed, fit, fitArguments, zeroOf, toBool, evalAnd, evalOr, evalOther, evalBinary, castFirst, callWith, evalExpr, evalArgs, store, assign, newType, introduce, initialise, giveBack, callOnly, callStatement, turns, rounds, forLoop, forInt, forOver, withNew, knownInit, knownAfter, runStatement, runBlock, treeRun}
+use Rattle.runs.specs.TreeRun.{Known, Values, set, typeIn, scopeOf, Got, value, stop, wait, Out, normal, broke, continued, returned, stopped, held, unfinished, bindG, bindO, bindS, bindT, answered, bare, replied, handed, test, testO, typed, typedO, sizeDatum, fitComputed, fit, fitArguments, toBool, evalAnd, evalOr, evalOther, evalBinary, castFirst, callWith, evalExpr, evalArgs, store, assign, newType, introduce, initialise, giveBack, callOnly, callStatement, turns, rounds, forLoop, forInt, forOver, withNew, knownInit, knownAfter, runStatement, runBlock, treeRun}
 use Rattle.runs.specs.Shared.{callsT, endT}
 use Rattle.runs.proofs.Invert.{Prefix, prefix-refl, prefix-trans}
 

@@ -1,7 +1,6 @@
 -- How often a record opens labels within a body, and what is asked of a tree: that each does so at most once.
 -- Definitions for proofs, by recursion on the tree. Assumes nothing.
 use mathlib.Core.Path.{_≡_}
-use mathlib.Core.List.{List}
 use mathlib.Core.Option.{some}
 use Prim.Native.Nat.{ℕ, _+_, _≤_}
 use mathlib.Core.Bool.{Bool, true, false}

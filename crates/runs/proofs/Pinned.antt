@@ -6,14 +6,14 @@ use mathlib.Core.Bool.{true, false}
 use mathlib.Core.List.{List, [], _∷_}
 use mathlib.Core.Option.{some}
 use lib.IntN.{pos}
-use Rattle.syntax.specs.Syntax.{Ty, TInt, TFloat, TBool, TChar, TByte, TAddress, TArray, TNull, EInt, ECall, noArgs, Param, intType, floatType, boolType, nullType, addressOfChar, addressOfNull}
+use Rattle.syntax.specs.Syntax.{Ty, TInt, TFloat, TBool, TChar, TByte, TAddress, TArray, TNull, EInt, ECall, noArgs, intType, floatType, boolType, nullType, addressOfChar, addressOfNull}
 use Rattle.syntax.specs.Decode as Decode
 use Rattle.conversion.specs.Statements.{parameterType, asCall}
 use Rattle.conversion.specs.Types.{onInt, onFloat, isFloat}
 use Rattle.conversion.proofs.Trees.{row, type, types, text}
 use Rattle.conversion.proofs.Bodies as Bodies
 use Rattle.conversion.proofs.Bodies.{program}
-use Rattle.runs.specs.Rule.{Answer, gives, Content, IntContent, FloatContent, BoolContent, StringContent, NullContent, comes, asked, Literal, IntLiteral, FloatLiteral, BoolLiteral, StringLiteral, NullLiteral, content, literalType, Datum, constant, computed, read, readAll}
+use Rattle.runs.specs.Rule.{gives, IntContent, FloatContent, BoolContent, StringContent, NullContent, comes, asked, Literal, IntLiteral, FloatLiteral, BoolLiteral, StringLiteral, NullLiteral, content, literalType, constant, computed, read, readAll}
 use Rattle.runs.specs.TreeRun.{value, fitLiteral, fitComputed, fit, answered, zeroOf}
 use Rattle.runs.proofs.Alike.{traced, shown}
 

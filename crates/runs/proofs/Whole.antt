@@ -11,7 +11,7 @@ use lib.ListN.{getElem?}
 use Rattle.conversion.specs.Ir.{Instr, Copy, Unary, Binary, Cast, Zero, Arg, Call, Label, Jump, JumpIfNot, Return, Comment}
 use Rattle.conversion.specs.Scope.{Variable}
 use Rattle.runs.specs.Rule.{Answer, gives, halt, Truth, holds, fails, halts, Typed, Calls, Reply, comes, pending, Ending, passed, returns, stopped}
-use Rattle.runs.specs.TreeRun.{Out, normal, broke, continued, returned, stopped, held, unfinished}
+use Rattle.runs.specs.TreeRun.{Out, held, unfinished}
 use Rattle.runs.specs.BodyRun.{Vars, Spot, spot, over, waits, lost, bodyRun}
 use Rattle.runs.specs.Shared.{callsT, endT, callsB, endB, Shared, SameRuns}
 use Rattle.runs.proofs.Machine.{Code, Queue, Cfg, at, ended, waiting, astray, put, pass, putR, passR, aim, branch, finish, exec, step, steps, steps-add}

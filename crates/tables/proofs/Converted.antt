@@ -1,24 +1,25 @@
 -- A program that converts from a tree whose numbers fit: every variable, label, string and float that an instruction names exists, and every
 -- number fits its field. By the laws of blocks for each function, and by induction over the functions for the strings and floats that
 -- they share. Assumes nothing.
-use mathlib.Core.Path.{refl}
+use mathlib.Core.Path.{_≡_, refl}
 use mathlib.Core.Bool.{Bool, false, not, _&&_, _||_}
 use mathlib.Core.List.{List, [], _∷_, _++_}
 use mathlib.Core.Option.{Option, none as nothing, some}
 use Rattle.syntax.specs.Syntax.{Text, Block, Param, Function, Program}
 use Rattle.conversion.specs.ConvertError as C
-use Rattle.conversion.specs.ConvertError.{Result, ok, err, AlreadyDeclared, MissingReturn, ExternNotLatin, SameSymbol, LatinCharInNonLibCFunction, SameSignature}
-use Rattle.conversion.specs.Ir.{Out, made, failed, sameText, IrFunction, IrProgram}
+use Rattle.conversion.specs.ConvertError.{Result, ok, err, AlreadyDeclared, MissingReturn}
+use Rattle.conversion.specs.Ir.{Out, made, failed, IrFunction, IrProgram}
 use Rattle.conversion.specs.Types.{isSome}
 use Rattle.conversion.specs.Scope.{Scope, find-variable, withVariable}
-use Rattle.conversion.specs.Expressions.{Functions, mainName}
-use Rattle.conversion.specs.Functions.{is-ascii, contains-key, addFunction, get-all-functions, check-main, always-returns, declareParams, convertBody, Pool, finished, convertFunction, convert-func}
+use Rattle.conversion.specs.Expressions.{Functions}
+use Rattle.conversion.specs.Functions.{get-all-functions, check-main, always-returns, declareParams, convertBody, Pool, finished, convertFunction, convert-func}
 use Rattle.conversion.specs.Converter.{convertAll, convert}
 use Rattle.conversion.specs.Written.{codeOf, countsOf}
+use Rattle.conversion.proofs.Called.{map-of}
 use Rattle.tables.specs.Bytes.{All}
 use Rattle.tables.proofs.Exists.{Word, InstrIn, StringFits, FloatFits, stateOf, FunctionFits, CountsFit, ProgramFits}
 use Rattle.tables.proofs.SyntaxFits.{OkIs, okIs, errIs, OptIs, noneIs, held, BlockFits, SignatureFits, FunctionFitsIn, KeyedFit, TreeFits}
-use Rattle.tables.proofs.Typing.{ok-bind, pick-is}
+use Rattle.tables.proofs.Typing.{ok-bind, signatures}
 use Rattle.tables.proofs.Keeps.{Prefix, prefix-refl, all-append, all-map, instr-up, Always, Post, Keeps, then, from, gives, fails, picks, new-variable}
 use Rattle.tables.proofs.Operands.{Done, Scoped}
 use Rattle.tables.proofs.Blocks.{with-more, block-keeps}
@@ -26,24 +27,12 @@ use Rattle.tables.proofs.Blocks.{with-more, block-keeps}
 module _ (text : Text) where
   -- ---- the functions by key
 
-  add-fits : (f : Function) (F : Functions) → SignatureFits text f → KeyedFit text F
-      → OkIs (KeyedFit text) (addFunction f F)
-  unfolding addFunction
-  add-fits f F h k =
-      let Q = OkIs (KeyedFit text) in
-      pick-is Q (f .external || sameText (f .name) mainName) _ _
-      (pick-is Q (not (is-ascii (f .name))) (err ExternNotLatin (f .recOf)) _ errIs
-      (pick-is Q (contains-key (f .name) F) (err SameSymbol (f .recOf)) (ok (F ++ ((f .name, f) ∷ []))) errIs
-      (okIs (all-append (λ e. SignatureFits text (e .1)) F ((f .name, f) ∷ []) k (h, tt)))))
-      (pick-is Q (is-ascii (f .name)) (err LatinCharInNonLibCFunction (f .recOf)) _ errIs
-      (pick-is Q (contains-key (f .mangledName) F) (err SameSignature (f .recOf)) (ok (F ++ ((f .mangledName, f) ∷ []))) errIs
-      (okIs (all-append (λ e. SignatureFits text (e .1)) F ((f .mangledName, f) ∷ []) k (h, tt)))))
-
-  all-functions-fit : (l : List Function) (F : Functions) → All (FunctionFitsIn text) l → KeyedFit text F
-      → OkIs (KeyedFit text) (get-all-functions l F)
-  unfolding get-all-functions
-  all-functions-fit [] F h k = okIs k
-  all-functions-fit (f ∷ l) F h k = ok-bind (add-fits f F (h .0 .signature) k) (λ G j. all-functions-fit l G (h .1) j)
+  all-functions-fit : (l : List Function) → All (FunctionFitsIn text) l → OkIs (KeyedFit text) (get-all-functions l [])
+  all-functions-fit l h = go (get-all-functions l []) refl
+    where
+      go : (o : Result Functions) → get-all-functions l [] ≡ o → OkIs (KeyedFit text) o
+      go (ok G) e = okIs (map-of (SignatureFits text) Word l [] G (signatures text l h) tt e)
+      go (err k r) e = errIs
 
   -- ---- bodies
 
@@ -147,7 +136,7 @@ module _ (text : Text) where
   pub convert-fits : (P : Program) (needsMain : Bool) → TreeFits text P
       → OkIs (λ r. CountsFit (countsOf r) → ProgramFits text r) (convert P needsMain)
   unfolding convert
-  convert-fits P needsMain h = ok-bind (all-functions-fit (P .functions) [] h tt)
+  convert-fits P needsMain h = ok-bind (all-functions-fit (P .functions) h)
       λ F k. ok-bind (any (check-main P needsMain))
       λ u j. all-fit P F h k (P .functions) [] (record { strings = []; floats = [] }) h (record { funcs = tt; strings = tt; floats = tt })
     where

@@ -2,7 +2,6 @@
 -- Definitions for proofs. Assumes nothing.
 use mathlib.Core.Path.{_≡_}
 use Prim.Native.Nat.{ℕ, _<_, _^_}
-use mathlib.Core.List.{List}
 use mathlib.Core.Option.{Option, none as nothing, some}
 use lib.ListN.{length, getElem?}
 use mir.Syntax.{w64}

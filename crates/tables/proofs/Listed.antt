@@ -1,7 +1,6 @@
 -- A body that names a float, a string or a label past its table is not read; one that names the last of the table is.
 -- By computing: each program is written as its tables and read back. Assumes nothing.
 use mathlib.Core.Path.{_≡_, refl}
-use Prim.Native.Nat.{ℕ}
 use mathlib.Core.Bool.{Bool, true, false}
 use mathlib.Core.List.{List, [], _∷_}
 use mathlib.Core.Option.{Option, none as nothing, some}

@@ -9,6 +9,7 @@ use Rattle.records.specs.Words.{textAt}
 use Rattle.syntax.specs.Syntax.{Text, Expr, EInt, EFloat, EStr, EBool, EName, ENull, ESizeOf, EUnary, EBinary, ECall, Args, noArgs, Value, ToType, Statement, SDeclare, SInit, SReturn, SCall, SIf, SIfElse, SWhile, SFor, SBreak, SContinue, Block, done, next, Function, Program}
 use Rattle.conversion.specs.ConvertError.{ConvertErrorKind, Result, ok, err}
 use Rattle.conversion.specs.Expressions.{Functions, Callee, CallFunction, CallCast}
+use Rattle.conversion.proofs.Called.{OfMap}
 use Rattle.tables.specs.Bytes.{All}
 use Rattle.tables.proofs.Exists.{Word}
 
@@ -72,7 +73,7 @@ module _ (text : Text) where
 
   -- the functions by key
   abbrev pub KeyedFit : Functions → Type 0
-  KeyedFit F = All (λ e. SignatureFits (e .1)) F
+  KeyedFit F = OfMap SignatureFits Word F
 
   pub record FunctionFitsIn (f : Function) : Type 0 where
     pub signature : SignatureFits f

@@ -2,8 +2,8 @@
 -- By induction over the expression: each type is one of the twelve, a variable's, a parameter's, a function's or a type argument's.
 -- Assumes nothing.
 use Prim.Native.Nat.{ℕ}
-use mathlib.Core.Bool.{Bool, true, false, _&&_}
-use mathlib.Core.List.{List, [], _∷_, _++_}
+use mathlib.Core.Bool.{Bool, true, false}
+use mathlib.Core.List.{List, [], _∷_}
 use mathlib.Core.Option.{Option, none as nothing, some}
 use native.Mathlib.Omega.{arith}
 use Rattle.laws.specs.Fix.{pick}
@@ -12,9 +12,10 @@ use Rattle.conversion.specs.ConvertError.{Result, ok, err, _>>=_, LiteralOutOfR
 use Rattle.conversion.specs.Ir.{sameText}
 use Rattle.conversion.specs.Types.{fits, range-error, can-cast}
 use Rattle.conversion.specs.Scope.{Variable, Scope, findIn, find-variable}
-use Rattle.conversion.specs.Expressions.{Callee, CallFunction, CallCast, return-type, TypedArg, castVerb, variadicMark, Functions, getFunction, is-mangled, filterOption, orElse, unwrapOr, operandClass, givesBool, targetType, sourceType, nameType, chosen, valueType, commonOf, acceptsClass, acceptsUnary, unaryType, operandsError, accepted, binaryType, takes-args, castChecked, castTo, cast-type, suffixes, mangledFunction, joined, variadicFunction, find-exact-function, byLiterals, find-functions-by-literals, exactOr, resolveFunction, resolveTyped, get-type, get-argument-types, resolve-call, common-type}
+use Rattle.conversion.specs.Expressions.{Callee, CallFunction, CallCast, return-type, TypedArg, castVerb, Functions, filterOption, unwrapOr, operandClass, givesBool, targetType, sourceType, nameType, valueType, commonOf, acceptsClass, acceptsUnary, unaryType, operandsError, accepted, binaryType, castChecked, castTo, cast-type, resolveFunction, resolveTyped, get-type, get-argument-types, resolve-call, common-type}
 use Rattle.tables.specs.Bytes.{All}
 use Rattle.tables.proofs.Exists.{Word}
+use Rattle.conversion.proofs.Called.{OfEach, OfCallee, OfTarget, resolved-function}
 use Rattle.tables.proofs.SyntaxFits.{OkIs, okIs, errIs, OptIs, noneIs, someIs, ExprFits, ArgsFit, SignatureFits, CalleeFits, FunctionFitsIn, KeyedFit, TreeFits}
 
 -- ---- results and options
@@ -34,11 +35,6 @@ filter-is : {X : Type 0} {Q : X → Type 0} {o : Option X} (p : X → Bool) → 
 unfolding filterOption
 filter-is p noneIs = noneIs
 filter-is {Q} p (someIs {a} h) = pick-is (OptIs Q) (p a) (some a) nothing (someIs h) noneIs
-
-or-else-is : {X : Type 0} {Q : X → Type 0} {o p : Option X} → OptIs Q o → OptIs Q p → OptIs Q (orElse o p)
-unfolding orElse
-or-else-is noneIs k = k
-or-else-is (someIs h) k = someIs h
 
 pub unwrap-is : {X : Type 0} {Q : X → Type 0} {o : Option X} (d : X) → Q d → OptIs Q o → Q (unwrapOr d o)
 unfolding unwrapOr
@@ -73,6 +69,10 @@ find-is Q n (v ∷ l) h = by (sameText n (v .name)) (h .0) (find-is Q n l (h .1)
     by true p q = someIs p
     by false p q = q
 
+pub signatures : (text : Text) (l : List Function) → All (FunctionFitsIn text) l → OfEach (SignatureFits text) Word l
+signatures text [] h = tt
+signatures text (f ∷ l) h = (h .0 .signature, signatures text l (h .1))
+
 module _ (text : Text) (P : Program) (F : Functions) (treeFits : TreeFits text P)
     (functionsFit : KeyedFit text F) where
   abbrev ArgFits : TypedArg → Type 0
@@ -106,56 +106,18 @@ module _ (text : Text) (P : Program) (F : Functions) (treeFits : TreeFits text P
 
   -- ---- calls
 
-  get-fits : (k : Text) (G : Functions) → KeyedFit text G → OptIs (SignatureFits text) (getFunction k G)
-  unfolding getFunction
-  get-fits k [] h = noneIs
-  get-fits k (e ∷ l) h = by (sameText k (e .0)) (h .0) (get-fits k l (h .1))
-    where
-      by : (b : Bool) → SignatureFits text (e .1) → OptIs (SignatureFits text) (getFunction k l)
-          → OptIs (SignatureFits text) (elim b [ true ↦ some (e .1) | false ↦ getFunction k l ])
-      by true p q = someIs p
-      by false p q = q
+  target-of : {o : Option ℕ} → OptIs Word o → OfTarget (SignatureFits text) Word o
+  target-of noneIs = tt
+  target-of (someIs h) = h
 
-  mangled-fits : (key : Text) → OptIs (SignatureFits text) (mangledFunction P F key)
-  unfolding mangledFunction
-  mangled-fits key = filter-is is-mangled (get-fits key F functionsFit)
-
-  variadic-fits : (verb : Text) (l : List Text) → OptIs (SignatureFits text) (variadicFunction P F verb l)
-  unfolding variadicFunction
-  variadic-fits verb [] = mangled-fits (verb ++ variadicMark)
-  variadic-fits verb (s ∷ l) = or-else-is (variadic-fits (verb ++ s) l) (mangled-fits (verb ++ variadicMark))
-
-  exact-fits : (verb : Text) (l : List TypedArg) → OptIs (SignatureFits text) (find-exact-function P F verb l)
-  unfolding find-exact-function
-  exact-fits verb l = or-else-is
-      (filter-is (λ f. takes-args P F f l) (get-fits verb F functionsFit))
-      (or-else-is (mangled-fits (joined P F verb (suffixes P F l))) (variadic-fits verb (suffixes P F l)))
-
-  literals-fit : (verb : Text) (l : List TypedArg) (fs : List Function) → All (FunctionFitsIn text) fs
-      → All (SignatureFits text) (byLiterals P F verb l fs)
-  unfolding byLiterals
-  literals-fit verb l [] h = tt
-  literals-fit verb l (f ∷ fs) h =
-      let rest = literals-fit verb l fs (h .1) in
-      pick-is (All (SignatureFits text)) (sameText (f .name) verb && is-mangled f && takes-args P F f l) (f ∷ byLiterals P F verb l fs)
-      (byLiterals P F verb l fs) (h .0 .signature, rest) rest
-
-  chosen-fits : (l : List Function) (r : ℕ) → All (SignatureFits text) l → OkIs (CalleeFits text) (chosen l r)
-  unfolding chosen
-  chosen-fits [] r h = errIs
-  chosen-fits (f ∷ []) r h = okIs (h .0)
-  chosen-fits (f ∷ g ∷ l) r h = errIs
-
-  exact-or-fits : {o : Option Function} {c : Result Callee} → OptIs (SignatureFits text) o → OkIs (CalleeFits text) c → OkIs (CalleeFits text) (exactOr P F o c)
-  unfolding exactOr
-  exact-or-fits (someIs h) k = okIs h
-  exact-or-fits noneIs k = k
+  callee-is : (c : Result Callee) → OfCallee (SignatureFits text) Word c → OkIs (CalleeFits text) c
+  callee-is (ok (CallFunction f)) h = okIs h
+  callee-is (ok (CallCast y)) h = okIs h
+  callee-is (err k r) h = errIs
 
   resolve-function-fits : (verb : Text) (l : List TypedArg) (r : ℕ) {o : Option ℕ} → OptIs Word o → OkIs (CalleeFits text) (resolveFunction P F verb l r o)
-  unfolding resolveFunction find-functions-by-literals
-  resolve-function-fits verb l r (someIs h) = okIs h
-  resolve-function-fits verb l r noneIs = exact-or-fits (exact-fits verb l)
-      (chosen-fits (byLiterals P F verb l (P .functions)) r (literals-fit verb l (P .functions) treeFits))
+  resolve-function-fits verb l r {o} h = callee-is (resolveFunction P F verb l r o)
+      (resolved-function (SignatureFits text) Word P F (signatures text (P .functions) treeFits) functionsFit verb l r o (target-of h))
 
   target-word : (l : List TypedArg) → All ArgFits l → OptIs Word (targetType l)
   unfolding targetType
