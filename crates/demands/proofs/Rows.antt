@@ -14,7 +14,6 @@ use Rattle.records.specs.Answer.{numberOf, hasSpan, spanWord, wordsOf}
 use Rattle.records.specs.declared.convert_error.ConvertErrorKind.{ConvertErrorKind}
 use Rattle.records.specs.declared.convert_error.ConvertErrorKind.the-variants.{BadTree, TooDeep, ShortBuffer}
 use Rattle.records.specs.declared.convert_error.ConvertError.{ConvertError}
-use Rattle.records.specs.declared.convert_error.AnswerWords.{AnswerWords}
 use Rattle.judge.specs.Judge.{lengthsOk, buffersOk, Buffers, lengthsOf, lowestFault, lowestDeep, Row, atLengths, atBuffers, atRecords, atNesting, atConversion, Verdict, RefusedBy, Passed, refusedBy, atLowest, recordsVerdict, verdict, verdictIn}
 use Rattle.syntax.specs.Decode.{program}
 use Rattle.conversion.specs.ConvertError.{ok, err}
@@ -22,11 +21,8 @@ use Rattle.conversion.specs.Ir.{IrProgram}
 use Rattle.conversion.specs.Converter.{convert}
 use Rattle.conversion.specs.Written as Written
 use Rattle.conversion.specs.Written.{Counts, Tables, Conversion, Refused, Converted, conversion, tablesOf, countsOf}
+use Rattle.demands.specs.Demands.{spanless}
 use Rattle.demands.specs.Call.{Outcome, RefusedAt, Success, conversionRow, judgedRows, callOf}
-
--- 'the record's span (0, 0 for 24 to 26 and NoMain)'
-abbrev spanless : ℕ → ℕ → AnswerWords
-spanless number place = record { number = number; place = place; start = 0; end = 0 }
 
 pick-same : (b : Bool) (n : ℕ) → pick b n n ≡ n
 unfolding pick
