@@ -4,7 +4,7 @@ use mathlib.Core.Path.{_≡_, refl, sym, ap, _∙_, subst}
 use Prim.Native.Nat.{ℕ, _-_, _≤_}
 use mathlib.Core.Bool.{Bool, true, false}
 use mathlib.Core.Option.{Option, none as nothing, some}
-use mathlib.Core.List.{List, _++_}
+use mathlib.Core.List.{List}
 use native.Mathlib.Omega.{arith}
 use lib.ListN.{length, replicate, getElem?, length-append, length-replicate}
 use Rattle.records.specs.Words.{records, none}
@@ -13,7 +13,7 @@ use Rattle.records.specs.declared.convert_error.ConvertErrorKind.{ConvertErrorK
 use Rattle.records.specs.declared.convert_error.ConvertErrorKind.the-variants.{SameSignature, SameSymbol, AlreadyDeclared, UnknownVariable, UnknownFunction, AssignToConstant, ReturnWithoutType, NoValue, MissingReturn, NoMain, MainNotInteger, WrongReturnType, WrongAssignType, WrongOperands, AmbiguousCall, LiteralOutOfRange, InvalidCast, NotBool, NotInteger, BreakOutOfLoop, ContinueOutOfLoop, LatinCharInNonLibCFunction, ExternNotLatin, BadTree, TooDeep, ShortBuffer, WouldPanic}
 use Rattle.records.specs.declared.convert_error.ConvertError.{ConvertError}
 use Rattle.records.specs.declared.convert_error.AnswerWords.{AnswerWords}
-use Rattle.judge.specs.Judge.{lengthsOk, buffersOk, Buffers, lengthsOf, lowestFault, lowestDeep, Row, atLengths, atBuffers, atRecords, atNesting, atConversion, Verdict, RefusedBy, Passed, verdictIn, refusalLeaves, cleared}
+use Rattle.judge.specs.Judge.{lengthsOk, buffersOk, Buffers, lengthsOf, lowestFault, lowestDeep, Row, atLengths, atBuffers, atRecords, atNesting, atConversion, Verdict, RefusedBy, Passed, verdictIn, refusalLeaves}
 use Rattle.judge.proofs.RowLaws.{Enough, enough}
 use Rattle.syntax.specs.Decode.{program}
 use Rattle.conversion.specs.ConvertError.{Result, ok, err}
@@ -26,8 +26,8 @@ use Rattle.conversion.proofs.Bytes.{Fit}
 use Rattle.tables.specs.Exists.{All, Byte}
 use Rattle.tables.specs.Read.{Begin}
 use Rattle.demands.specs.Demand3.{RunsAlike}
-use Rattle.demands.specs.Call.{Outcome, RefusedAt, Success, conversionRow, judgedRows, callOf, Answer, Refusal, Counted, answerOf, filled, buffersAfter, Calls}
-use Rattle.demands.specs.Demands.{allZero, spanless, PastBuffers, Left, untouched, zeroed, SameLengths, Sound, InLimits, ByRows, AsTheRust, outputsOf, AllRunAlike, Demands, OfEveryCall}
+use Rattle.demands.specs.Call.{Outcome, RefusedAt, Success, conversionRow, judgedRows, callOf, Answer, Counted, answerOf, filled, buffersAfter, Calls}
+use Rattle.demands.specs.Demands.{allZero, spanless, PastBuffers, Left, untouched, zeroed, SameLengths, Sound, InLimits, ByRows, AsTheRust, outputsOf, AllRunAlike, OfEveryCall}
 use Rattle.demands.proofs.GoodLaws.{good-fits}
 use Rattle.demands.proofs.Demand3.{good-demand3}
 use Rattle.demands.proofs.Accepted.{passed-good, passed-lent}
@@ -241,7 +241,7 @@ every-call tree text needsMain before answer after calls = record {
 -- ---- nothing is lost on the page: what keeps demands 1 and 2 is a run of the call
 
 module _ (tree text : List ℕ) (needsMain : Bool) (before : Buffers) (answer : Answer) (after : Buffers) where
-  run-of : (o : Outcome) → callOf tree text needsMain before ≡ o → answer ≡ answerOf o → after ≡ buffersAfter o before → Calls tree text needsMain before answer after
+  pub run-of : (o : Outcome) → callOf tree text needsMain before ≡ o → answer ≡ answerOf o → after ≡ buffersAfter o before → Calls tree text needsMain before answer after
   run-of o e a l = record { answers = a ∙ ap answerOf (sym e); leaves = l ∙ ap (λ x. buffersAfter x before) (sym e) }
 
   module _ (rows : ByRows tree text before answer after) (rust : InLimits tree text before → AsTheRust tree text needsMain before answer after) where

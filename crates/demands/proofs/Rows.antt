@@ -1,10 +1,10 @@
 -- The call row by row, as document 01's table has it: what each row answers, given that the rows before it are passed.
 -- Each is the definition with its tests replaced by what they say. Assumes nothing.
-use mathlib.Core.Path.{_≡_, refl, sym, ap, _∙_}
+use mathlib.Core.Path.{_≡_, refl, ap, _∙_}
 use Prim.Native.Nat.{ℕ}
-use mathlib.Core.Bool.{Bool, true, false, not}
+use mathlib.Core.Bool.{Bool, true, false}
 use mathlib.Core.List.{List}
-use mathlib.Core.Option.{Option, none as nothing, some}
+use mathlib.Core.Option.{none as nothing, some}
 use native.Mathlib.Omega.{arith}
 use lib.Dec.{ltb}
 use lib.ListN.{length}
@@ -22,7 +22,7 @@ use Rattle.conversion.specs.Converter.{convert}
 use Rattle.conversion.specs.Written as Written
 use Rattle.conversion.specs.Written.{Counts, Tables, Conversion, Refused, Converted, conversion, tablesOf, countsOf}
 use Rattle.demands.specs.Demands.{spanless}
-use Rattle.demands.specs.Call.{Outcome, RefusedAt, Success, conversionRow, judgedRows, callOf}
+use Rattle.demands.specs.Call.{RefusedAt, Success, conversionRow, judgedRows, callOf}
 
 pick-same : (b : Bool) (n : ℕ) → pick b n n ≡ n
 unfolding pick
