@@ -2,36 +2,36 @@
 -- By the rows of the call: a refusal's buffers by its row, a success's by the sizes that suffice, its runs by demand 3 on tables. Assumes nothing.
 use mathlib.Core.Path.{_≡_, refl, sym, ap, _∙_, subst}
 use Prim.Native.Nat.{ℕ, _-_, _≤_}
-use mathlib.Core.Bool.{Bool}
-use mathlib.Core.Option.{some}
-use mathlib.Core.List.{List, _++_}
+use mathlib.Core.Bool.{Bool, true, false}
+use mathlib.Core.Option.{Option, none as nothing, some}
+use mathlib.Core.List.{List}
 use native.Mathlib.Omega.{arith}
 use lib.ListN.{length, replicate, getElem?, length-append, length-replicate}
-use Rattle.records.specs.Words.{records}
+use Rattle.records.specs.Words.{records, none}
 use Rattle.records.specs.Answer.{numberOf, wordsOf}
 use Rattle.records.specs.declared.convert_error.ConvertErrorKind.{ConvertErrorKind}
 use Rattle.records.specs.declared.convert_error.ConvertErrorKind.the-variants.{SameSignature, SameSymbol, AlreadyDeclared, UnknownVariable, UnknownFunction, AssignToConstant, ReturnWithoutType, NoValue, MissingReturn, NoMain, MainNotInteger, WrongReturnType, WrongAssignType, WrongOperands, AmbiguousCall, LiteralOutOfRange, InvalidCast, NotBool, NotInteger, BreakOutOfLoop, ContinueOutOfLoop, LatinCharInNonLibCFunction, ExternNotLatin, BadTree, TooDeep, ShortBuffer, WouldPanic}
 use Rattle.records.specs.declared.convert_error.ConvertError.{ConvertError}
 use Rattle.records.specs.declared.convert_error.AnswerWords.{AnswerWords}
-use Rattle.judge.specs.Judge.{Buffers, lengthsOf, Row, atLengths, atBuffers, atRecords, atNesting, atConversion, Verdict, RefusedBy, Passed, verdictIn, refusalLeaves, cleared}
+use Rattle.judge.specs.Judge.{lengthsOk, buffersOk, Buffers, lengthsOf, lowestFault, lowestDeep, Row, atLengths, atBuffers, atRecords, atNesting, atConversion, Verdict, RefusedBy, Passed, verdictIn, refusalLeaves}
 use Rattle.judge.proofs.RowLaws.{Enough, enough}
 use Rattle.syntax.specs.Decode.{program}
 use Rattle.conversion.specs.ConvertError.{Result, ok, err}
 use Rattle.conversion.specs.Ir.{IrProgram}
 use Rattle.conversion.specs.Converter.{convert}
 use Rattle.conversion.specs.Written as Written
-use Rattle.conversion.specs.Written.{Counts, Tables, Conversion, Refused, Converted, conversion, tablesOf, countsOf}
+use Rattle.conversion.specs.Written.{Counts, Tables, Converted, conversion, tablesOf, countsOf}
 use Rattle.conversion.proofs.Sizes.{IfOk}
 use Rattle.conversion.proofs.Bytes.{Fit}
 use Rattle.tables.specs.Bytes.{All, Byte}
 use Rattle.tables.specs.Read.{Begin}
 use Rattle.demands.specs.Demand3.{RunsAlike}
-use Rattle.demands.specs.Call.{Outcome, RefusedAt, Success, conversionRow, judgedRows, callOf, Answer, Refusal, Counted, answerOf, filled, buffersAfter, Calls}
-use Rattle.demands.specs.Demands.{allZero, Left, untouched, zeroed, SameLengths, Sound, AsTheRust, outputsOf, AllRunAlike, Demands, OfEveryCall}
+use Rattle.demands.specs.Call.{Outcome, RefusedAt, Success, conversionRow, judgedRows, callOf, Answer, Counted, answerOf, filled, buffersAfter, Calls}
+use Rattle.demands.specs.Demands.{allZero, spanless, PastBuffers, Left, untouched, zeroed, SameLengths, Sound, InLimits, ByRows, AsTheRust, outputsOf, AllRunAlike, OfEveryCall}
 use Rattle.demands.proofs.GoodLaws.{good-fits}
 use Rattle.demands.proofs.Demand3.{good-demand3}
 use Rattle.demands.proofs.Accepted.{passed-good, passed-lent}
-use Rattle.demands.proofs.Rows.{row-conversion, row-success, success-from}
+use Rattle.demands.proofs.Rows.{row-lengths, row-buffers, row-records, row-nesting, all-passed, row-conversion, row-success, success-from}
 
 -- ---- the relation is a function
 
@@ -179,28 +179,41 @@ module _ (tree text : List ℕ) (needsMain : Bool) (before : Buffers) where
       where
         go : (o : Outcome) → callOf tree text needsMain before ≡ o → answer ≡ answerOf o → after ≡ buffersAfter o before → Sound before answer after
         go (RefusedAt row w) e a l =
-            let left : Left before after = subst (Left before) (sym l) (refusal-left row w before) in
+            let so : Left before after = subst (Left before) (sym l) (refusal-left row w before) in
             record {
-              lengths = left-lengths before after left;
+              lengths = left-lengths before after so;
               numbered = λ x h. let z : w ≡ x = cc in subst (λ y. Ranged y) z (refusal-ranged row w e);
-              refused = λ x h. left;
+              left = λ x h. so;
               converted = λ c h. let z : _≡_ {A = ℕ} 0 1 = cc in absurd (omega arith);
             }
         go (Success c t) e a l = record {
           lengths = subst (SameLengths before) (sym l) (success-fits c t e);
           numbered = λ x h. let z : _≡_ {A = ℕ} 0 1 = cc in absurd (omega arith);
-          refused = λ x h. let z : _≡_ {A = ℕ} 0 1 = cc in absurd (omega arith);
+          left = λ x h. let z : _≡_ {A = ℕ} 0 1 = cc in absurd (omega arith);
           converted = λ d h. ap (λ b. b .scratch) l;
         }
 
-    pub call-as-rust : verdictIn tree text before ≡ Passed → AsTheRust tree text needsMain before answer after
-    unfolding answerOf buffersAfter
-    call-as-rust passed = record {
-      bodies = λ p e. let r = row-success tree text needsMain before passed p e in
-          (calls .answers ∙ ap answerOf r, calls .leaves ∙ ap (λ o. buffersAfter o before) r);
-      error = λ k r e. let o = row-conversion tree text needsMain before passed k r e in
-          (calls .answers ∙ ap answerOf o, calls .leaves ∙ ap (λ o. buffersAfter o before) o ∙ other-rows (wordsOf tree (record { kind = k; place = r })) before .2);
+    -- the outcome is known, and so are answer and buffers
+    comes-to : (o : Outcome) → callOf tree text needsMain before ≡ o → (answer ≡ answerOf o) × (after ≡ buffersAfter o before)
+    comes-to o e = (calls .answers ∙ ap answerOf e, calls .leaves ∙ ap (λ x. buffersAfter x before) e)
+
+    pub call-by-rows : ByRows tree text before answer after
+    unfolding answerOf
+    call-by-rows = record {
+      byLengths = λ e. let o = comes-to _ (row-lengths tree text needsMain before e) in (o .0, o .1 ∙ rows-one-two _ before .0);
+      byBuffers = λ w e. let o = comes-to _ (row-buffers tree text needsMain before w e) in (o .0, o .1 ∙ rows-one-two _ before .1);
+      byRecords = λ l r e. let o = comes-to _ (row-records tree text needsMain before (l .whole) (l .room) r e) in (o .0, o .1 ∙ other-rows _ before .0);
+      byNesting = λ l k r e. let o = comes-to _ (row-nesting tree text needsMain before (l .whole) (l .room) k r e) in (o .0, o .1 ∙ other-rows _ before .1);
     }
+
+    pub call-as-rust : InLimits tree text before → AsTheRust tree text needsMain before answer after
+    unfolding answerOf buffersAfter
+    call-as-rust w =
+        let passed = all-passed tree text needsMain before (w .lent .whole) (w .lent .room) (w .rules) (w .shallow) in
+        record {
+          bodies = λ p e. comes-to _ (row-success tree text needsMain before passed p e);
+          error = λ k r e. let o = comes-to _ (row-conversion tree text needsMain before passed k r e) in (o .0, o .1 ∙ other-rows (wordsOf tree (record { kind = k; place = r })) before .2);
+        }
 
     -- DEMAND 3 of the buffers as the call leaves them: its premise is the contract's own relation
     pub call-runs-alike : (W : Type 0) → All Byte tree → (c : Counts) → answer ≡ Counted c → AllRunAlike W tree text c after
@@ -220,7 +233,49 @@ module _ (tree text : List ℕ) (needsMain : Bool) (before : Buffers) where
 -- THE DEMANDS
 pub every-call : OfEveryCall
 every-call W tree text needsMain before answer after calls = record {
-  demand1 = call-sound tree text needsMain before answer after calls;
+  demand1 = (call-sound tree text needsMain before answer after calls, call-by-rows tree text needsMain before answer after calls);
   demand2 = call-as-rust tree text needsMain before answer after calls;
   demand3 = call-runs-alike tree text needsMain before answer after calls W;
 }
+
+-- ---- nothing is lost on the page: what keeps demands 1 and 2 is a run of the call
+
+module _ (tree text : List ℕ) (needsMain : Bool) (before : Buffers) (answer : Answer) (after : Buffers) where
+  pub run-of : (o : Outcome) → callOf tree text needsMain before ≡ o → answer ≡ answerOf o → after ≡ buffersAfter o before → Calls tree text needsMain before answer after
+  run-of o e a l = record { answers = a ∙ ap answerOf (sym e); leaves = l ∙ ap (λ x. buffersAfter x before) (sym e) }
+
+  module _ (rows : ByRows tree text before answer after) (rust : InLimits tree text before → AsTheRust tree text needsMain before answer after) where
+    converts : (limits : InLimits tree text before) (x : Result IrProgram) → convert (program tree text) needsMain ≡ x → Calls tree text needsMain before answer after
+    unfolding answerOf buffersAfter
+    converts w (ok p) e =
+        let passed = all-passed tree text needsMain before (w .lent .whole) (w .lent .room) (w .rules) (w .shallow) in
+        let o = rust w .bodies p e in
+        run-of (Success (countsOf p) (tablesOf p)) (row-success tree text needsMain before passed p e) (o .0) (o .1)
+    converts w (err k r) e =
+        let passed = all-passed tree text needsMain before (w .lent .whole) (w .lent .room) (w .rules) (w .shallow) in
+        let o = rust w .error k r e in
+        let words = wordsOf tree (record { kind = k; place = r }) in
+        run-of (RefusedAt atConversion words) (row-conversion tree text needsMain before passed k r e) (o .0) (o .1 ∙ sym (other-rows words before .2))
+
+    lent-run : PastBuffers tree before → (f d : Option ℕ) → lowestFault tree text ≡ f → lowestDeep tree ≡ d → Calls tree text needsMain before answer after
+    unfolding answerOf
+    lent-run l (some r) d e h =
+        let o = rows .byRecords l r e in
+        run-of (RefusedAt atRecords (spanless 24 r)) (row-records tree text needsMain before (l .whole) (l .room) r e) (o .0) (o .1 ∙ sym (other-rows (spanless 24 r) before .0))
+    lent-run l nothing (some r) e h =
+        let o = rows .byNesting l e r h in
+        run-of (RefusedAt atNesting (spanless 25 r)) (row-nesting tree text needsMain before (l .whole) (l .room) e r h) (o .0) (o .1 ∙ sym (other-rows (spanless 25 r) before .1))
+    lent-run l nothing nothing e h = converts (record { lent = l; rules = e; shallow = h }) (convert (program tree text) needsMain) refl
+
+    pub page-calls : Calls tree text needsMain before answer after
+    unfolding answerOf
+    page-calls = go (lengthsOk (length tree)) (buffersOk (records tree) (lengthsOf before) (length (before .scratch))) refl refl
+      where
+        go : (a b : Bool) → lengthsOk (length tree) ≡ a → buffersOk (records tree) (lengthsOf before) (length (before .scratch)) ≡ b → Calls tree text needsMain before answer after
+        go false b e h =
+            let o = rows .byLengths e in
+            run-of (RefusedAt atLengths (spanless 24 none)) (row-lengths tree text needsMain before e) (o .0) (o .1 ∙ sym (rows-one-two (spanless 24 none) before .0))
+        go true false e h =
+            let o = rows .byBuffers e h in
+            run-of (RefusedAt atBuffers (spanless 26 none)) (row-buffers tree text needsMain before e h) (o .0) (o .1 ∙ sym (rows-one-two (spanless 26 none) before .1))
+        go true true e h = lent-run (record { whole = e; room = h }) (lowestFault tree text) (lowestDeep tree) refl refl

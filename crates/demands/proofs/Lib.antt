@@ -5,4 +5,5 @@ pub mod Accepted
 pub mod OnBytes
 pub mod Rows
 pub mod Demands
+pub mod WaysOut
 pub mod Instances

@@ -21,7 +21,7 @@ use Rattle.conversion.specs.ConvertError.{Result, ok, err}
 use Rattle.conversion.specs.Ir.{VarId, OVar, Copy, Label, JumpIfNot, Return, Comment, logicRhs, logicEnd}
 use Rattle.conversion.specs.Expressions.{Functions, get-type, common-type, unwrapOr}
 use Rattle.conversion.specs.Functions.{get-all-functions}
-use Rattle.conversion.specs.Written.{Counts, Tables, Answer, Refused, Converted, conversion}
+use Rattle.conversion.specs.Written.{Counts, Tables, Conversion, Refused, Converted, conversion}
 use Rattle.conversion.proofs.Trees.{row, types, text}
 use Rattle.tables.specs.Bytes.{All, Byte}
 use Rattle.tables.specs.Read as Read
@@ -88,11 +88,11 @@ good = record {
 
 -- ---- it converts
 
-unfoldable pub counted : Answer → Counts
+unfoldable pub counted : Conversion → Counts
 counted (Refused n r i j) = record { functions = 0; instructions = 0; variables = 0; labels = 0; strings = 0; floats = 0 }
 counted (Converted c w) = c
 
-unfoldable pub written : Answer → Tables
+unfoldable pub written : Conversion → Tables
 written (Refused n r i j) = record { instructions = []; variables = []; labels = []; functions = []; strings = []; floats = [] }
 written (Converted c w) = w
 

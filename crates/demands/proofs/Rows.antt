@@ -1,10 +1,10 @@
 -- The call row by row, as document 01's table has it: what each row answers, given that the rows before it are passed.
 -- Each is the definition with its tests replaced by what they say. Assumes nothing.
-use mathlib.Core.Path.{_≡_, refl, sym, ap, _∙_}
+use mathlib.Core.Path.{_≡_, refl, ap, _∙_}
 use Prim.Native.Nat.{ℕ}
-use mathlib.Core.Bool.{Bool, true, false, not}
+use mathlib.Core.Bool.{Bool, true, false}
 use mathlib.Core.List.{List}
-use mathlib.Core.Option.{Option, none as nothing, some}
+use mathlib.Core.Option.{none as nothing, some}
 use native.Mathlib.Omega.{arith}
 use lib.Dec.{ltb}
 use lib.ListN.{length}
@@ -14,7 +14,6 @@ use Rattle.records.specs.Answer.{numberOf, hasSpan, spanWord, wordsOf}
 use Rattle.records.specs.declared.convert_error.ConvertErrorKind.{ConvertErrorKind}
 use Rattle.records.specs.declared.convert_error.ConvertErrorKind.the-variants.{BadTree, TooDeep, ShortBuffer}
 use Rattle.records.specs.declared.convert_error.ConvertError.{ConvertError}
-use Rattle.records.specs.declared.convert_error.AnswerWords.{AnswerWords}
 use Rattle.judge.specs.Judge.{lengthsOk, buffersOk, Buffers, lengthsOf, lowestFault, lowestDeep, Row, atLengths, atBuffers, atRecords, atNesting, atConversion, Verdict, RefusedBy, Passed, refusedBy, atLowest, recordsVerdict, verdict, verdictIn}
 use Rattle.syntax.specs.Decode.{program}
 use Rattle.conversion.specs.ConvertError.{ok, err}
@@ -22,11 +21,8 @@ use Rattle.conversion.specs.Ir.{IrProgram}
 use Rattle.conversion.specs.Converter.{convert}
 use Rattle.conversion.specs.Written as Written
 use Rattle.conversion.specs.Written.{Counts, Tables, Conversion, Refused, Converted, conversion, tablesOf, countsOf}
-use Rattle.demands.specs.Call.{Outcome, RefusedAt, Success, conversionRow, judgedRows, callOf}
-
--- 'the record's span (0, 0 for 24 to 26 and NoMain)'
-abbrev spanless : ℕ → ℕ → AnswerWords
-spanless number place = record { number = number; place = place; start = 0; end = 0 }
+use Rattle.demands.specs.Demands.{spanless}
+use Rattle.demands.specs.Call.{RefusedAt, Success, conversionRow, judgedRows, callOf}
 
 pick-same : (b : Bool) (n : ℕ) → pick b n n ≡ n
 unfolding pick

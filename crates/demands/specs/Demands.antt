@@ -1,6 +1,6 @@
 -- THE DEMANDS, together. A run of the call takes a tree, a text, whether `main` is needed and seven buffers, and gives an answer and the
 -- buffers afterwards. What its contract says of them is `Calls` (Call.antt); the three demands are what follows for every such run
--- (proofs/Demands.antt). Assumes nothing: these are definitions.
+-- (`every-call` of proofs/Demands.antt), and what keeps the first two is such a run (`page-calls`). Assumes nothing: these are definitions.
 -- What must be believed below this page, in reading order:
 --   laws: Fix, Below; records: Words, Shapes, Rules, Depth, Answer, Good: the form of a tree, and a refusal's number, place and span;
 --   judge: Judge: the rows 'lengths', 'buffers', 'records' and 'nesting', and what a row that refuses leaves of a buffer;
@@ -9,14 +9,15 @@
 --   Call: the whole call; for demand 3 also tables: Bytes, Read; runs: Rule, TreeRun, BodyRun, Shared: the two runs; and Demand3.
 use mathlib.Core.Path.{_≡_}
 use Prim.Native.Nat.{ℕ, _≤_}
-use mathlib.Core.Bool.{Bool}
+use mathlib.Core.Bool.{Bool, true, false}
 use mathlib.Core.List.{List}
-use mathlib.Core.Option.{some}
+use mathlib.Core.Option.{none as nothing, some}
 use lib.ListN.{length, getElem?}
+use Rattle.records.specs.Words.{records, none}
 use Rattle.records.specs.Answer.{wordsOf}
 use Rattle.records.specs.declared.convert_error.ConvertErrorKind.{ConvertErrorKind}
 use Rattle.records.specs.declared.convert_error.AnswerWords.{AnswerWords}
-use Rattle.judge.specs.Judge.{Buffers, buffers, Passed, verdictIn, cleared}
+use Rattle.judge.specs.Judge.{lengthsOk, buffersOk, Buffers, buffers, lengthsOf, lowestFault, lowestDeep, cleared}
 use Rattle.syntax.specs.Syntax.{Block, Function}
 use Rattle.syntax.specs.Decode.{program}
 use Rattle.conversion.specs.ConvertError.{ok, err}
@@ -41,6 +42,30 @@ allZero b =
     (cleared (b .floats))
     (cleared (b .scratch))
 
+-- 'the record's span (0, 0 for 24 to 26 and NoMain)'
+abbrev pub spanless : ℕ → ℕ → AnswerWords
+spanless number place = record { number = number; place = place; start = 0; end = 0 }
+
+-- rows one and two are passed
+pub record PastBuffers (tree : List ℕ) (before : Buffers) : Type 0 where
+  pub whole : lengthsOk (length tree) ≡ true
+  pub room : buffersOk (records tree) (lengthsOf before) (length (before .scratch)) ≡ true
+
+-- 'Within the stated limits': the first four rows are passed
+pub record InLimits (tree text : List ℕ) (before : Buffers) : Type 0 where
+  pub lent : PastBuffers tree before
+  pub rules : lowestFault tree text ≡ nothing
+  pub shallow : lowestDeep tree ≡ nothing
+
+-- 'The first row that applies wins'
+pub record ByRows (tree text : List ℕ) (before : Buffers) (answer : Answer) (after : Buffers) : Type 0 where
+  pub byLengths : lengthsOk (length tree) ≡ false → (answer ≡ Refusal (spanless 24 none)) × (after ≡ before)
+  pub byBuffers : lengthsOk (length tree) ≡ true → buffersOk (records tree) (lengthsOf before) (length (before .scratch)) ≡ false
+      → (answer ≡ Refusal (spanless 26 none)) × (after ≡ before)
+  pub byRecords : PastBuffers tree before → (r : ℕ) → lowestFault tree text ≡ some r → (answer ≡ Refusal (spanless 24 r)) × (after ≡ allZero before)
+  pub byNesting : PastBuffers tree before → lowestFault tree text ≡ nothing → (r : ℕ) → lowestDeep tree ≡ some r
+      → (answer ≡ Refusal (spanless 25 r)) × (after ≡ allZero before)
+
 pub data Left (before after : Buffers) : Type 0 where
   untouched : after ≡ before → Left before after
   zeroed : after ≡ allZero before → Left before after
@@ -55,11 +80,12 @@ pub record SameLengths (before after : Buffers) : Type 0 where
   pub floats : length (after .floats) ≡ length (before .floats)
   pub scratch : length (after .scratch) ≡ length (before .scratch)
 
+-- whatever the answer
 pub record Sound (before : Buffers) (answer : Answer) (after : Buffers) : Type 0 where
   pub lengths : SameLengths before after
   -- a refusal has a number of document 01's
   pub numbered : (words : AnswerWords) → answer ≡ Refusal words → (1 ≤ words .number) × (words .number ≤ 27)
-  pub refused : (words : AnswerWords) → answer ≡ Refusal words → Left before after
+  pub left : (words : AnswerWords) → answer ≡ Refusal words → Left before after
   pub converted : (counts : Counts) → answer ≡ Counted counts → after .scratch ≡ cleared (before .scratch)
 
 -- ---- DEMAND 2: 'Within the stated limits Krc's Rust decides which trees convert, to which bodies, else which error at which place.'
@@ -100,8 +126,8 @@ AllRunAlike W tree text counts after = (i : ℕ) (f : Function) (b : Block) → 
 -- ---- the three, of every run of the call; a contract cites them at one type of values, and they hold over every one
 
 pub record Demands (W : Type 0) (tree text : List ℕ) (needsMain : Bool) (before : Buffers) (answer : Answer) (after : Buffers) : Type 0 where
-  pub demand1 : Sound before answer after
-  pub demand2 : verdictIn tree text before ≡ Passed → AsTheRust tree text needsMain before answer after
+  pub demand1 : Sound before answer after × ByRows tree text before answer after
+  pub demand2 : InLimits tree text before → AsTheRust tree text needsMain before answer after
   pub demand3 : All Byte tree → (counts : Counts) → answer ≡ Counted counts → AllRunAlike W tree text counts after
 
 abbrev pub OfEveryCall : Type 1

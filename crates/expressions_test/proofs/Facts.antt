@@ -1,6 +1,6 @@
 -- What the answers and the tests passed say: an accepted tree is good and has room, a done list is keyed, a done scope is ready, a kind is one of an expression.
 -- By the rows of the judge's answer, and by the cases of the others. Assumes nothing.
-use mathlib.Core.Path.{_≡_, refl, sym, _∙_, subst}
+use mathlib.Core.Path.{_≡_, sym, _∙_, subst}
 use mathlib.Core.List.{List}
 use Prim.Native.Nat.{ℕ, _*_, _≤_, _<_}
 use native.Mathlib.Omega.{arith}

@@ -10,20 +10,19 @@ use Rattle.laws.proofs.Tests.{tested, and-left, and-right}
 use lib.Dec.{eqb, leb, ltb}
 use lib.ListN.{length, drop, replicate, length-replicate}
 use lib.Seq.{drop-length}
-use borrow.Author.Tests.{ne-eqb, eqb-true, leb-true, leb-false, le-leb, lt-leb, not-true, not-false}
+use borrow.Author.Tests.{ne-eqb, eqb-true, leb-true, leb-false, le-leb, lt-leb}
 use Rattle.laws.specs.Fix.{pick}
 use Rattle.laws.specs.Below.{orElse, lowest}
 use Rattle.records.specs.Words.{records, none}
 use Rattle.records.specs.Rules.{recordOk}
 use Rattle.records.specs.Depth.{depth}
 use Rattle.records.specs.declared.convert_error.ConvertErrorKind.{ConvertErrorKind}
-use Rattle.records.specs.declared.convert_error.ConvertError.{ConvertError}
 use Rattle.records.specs.declared.convert_error.ConvertErrorKind.the-variants.{BadTree, TooDeep, ShortBuffer}
 use Rattle.judge.specs.declared.Lengths.{Lengths}
 use Rattle.judge.specs.declared.Judged.{Judged}
-use Rattle.judge.specs.declared.Judged.the-variants.{Accepted, Refused}
+use Rattle.judge.specs.declared.Judged.the-variants.{Refused}
 use Rattle.judge.specs.Inner.{Lowest, placed}
-use Rattle.judge.specs.Judge.{lengthsOk, buffersOk, Buffers, buffers, lengthsOf, lowestFault, lowestDeep, Row, atLengths, atBuffers, atRecords, atNesting, atConversion, Verdict, RefusedBy, Passed, refusedBy, atLowest, recordsVerdict, verdict, judgedBy, judged, judgedIn, verdictIn, refusalLeaves, outputAfter, scratchAfter, verdictLeaves, judgeLeaves, cleared}
+use Rattle.judge.specs.Judge.{lengthsOk, buffersOk, Buffers, buffers, lengthsOf, lowestFault, lowestDeep, atLengths, atBuffers, atRecords, atNesting, atConversion, Verdict, RefusedBy, Passed, refusedBy, atLowest, recordsVerdict, verdict, judgedBy, judged, judgedIn, verdictIn, refusalLeaves, outputAfter, scratchAfter, verdictLeaves, judgeLeaves, cleared}
 use Rattle.laws.proofs.BelowLaws.{lowest-none, lowest-some}
 
 pub records-told : (tree : List ℕ) (n : ℕ) → n * 32 ≡ length tree → records tree ≡ n

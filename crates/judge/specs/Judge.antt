@@ -1,7 +1,7 @@
 -- Document 01's table, rows 'lengths', 'buffers', 'records' and 'nesting': which answer a tree gets before it is converted, and
 -- what each lent buffer holds afterwards. Assumes nothing: these are definitions.
 use Prim.Native.Nat.{ℕ, _*_, _%_}
-use mathlib.Core.Bool.{Bool, true, false, not, _&&_}
+use mathlib.Core.Bool.{Bool, not, _&&_}
 use mathlib.Core.List.{List}
 use mathlib.Core.Option.{Option, none as nothing, some}
 use lib.Dec.{eqb, leb, ltb}

@@ -1,6 +1,6 @@
 -- The two ways through a call: the answer's buffer is too short, or each buffer is as the judge and the answer leave it.
 -- By the test of that buffer's length, and then field by field. Assumes nothing.
-use mathlib.Core.Path.{_≡_, refl, sym, ap, _∙_}
+use mathlib.Core.Path.{_≡_, refl}
 use mathlib.Core.List.{List}
 use Prim.Native.Nat.{ℕ, _≤_, _<_}
 use lib.ListN.{length}
