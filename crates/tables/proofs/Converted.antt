@@ -2,7 +2,7 @@
 -- number fits its field. By the laws of blocks for each function, and by induction over the functions for the strings and floats that
 -- they share. Assumes nothing.
 use mathlib.Core.Path.{_≡_, refl}
-use mathlib.Core.Bool.{Bool, false, not, _&&_, _||_}
+use mathlib.Core.Bool.{Bool, false, not, _&&_}
 use mathlib.Core.List.{List, [], _∷_, _++_}
 use mathlib.Core.Option.{Option, none as nothing, some}
 use Rattle.syntax.specs.Syntax.{Text, Block, Param, Function, Program}
