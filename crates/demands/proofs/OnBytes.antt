@@ -89,11 +89,11 @@ good = record {
 -- ---- it converts
 
 unfoldable pub counted : Conversion → Counts
-counted (Refused n r i j) = record { functions = 0; instructions = 0; variables = 0; labels = 0; strings = 0; floats = 0 }
+counted (Refused words) = record { functions = 0; instructions = 0; variables = 0; labels = 0; strings = 0; floats = 0 }
 counted (Converted c w) = c
 
 unfoldable pub written : Conversion → Tables
-written (Refused n r i j) = record { instructions = []; variables = []; labels = []; functions = []; strings = []; floats = [] }
+written (Refused words) = record { instructions = []; variables = []; labels = []; functions = []; strings = []; floats = [] }
 written (Converted c w) = w
 
 abbrev pub counts : Counts
