@@ -22,15 +22,15 @@ use Rattle.ir.specs.declared.pool.PoolNumber.{PoolNumber}
 use Rattle.ir.specs.Instructions.{varOf, instrOf, fieldBytes}
 use Rattle.ir.specs.Amounts.{Amount, Spent}
 use Rattle.ir.specs.Arena.{Tables, LabelFits, StringStands, FloatFits, Holds, Room}
-use Rattle.ir.specs.declared.words.Found.{Found}
-use Rattle.ir.specs.declared.words.Found.the-variants.{At, Nothing}
+use Rattle.records.specs.declared.words.Found.{Found}
+use Rattle.records.specs.declared.words.Found.the-variants.{At, Nothing}
 use Rattle.ir.specs.Search.{first, foundOf, pairAt, textOf, fourAt}
 use Rattle.ir.specs.Steps.{grown, Stands, Next, NextIn, moreInstructions, moreVariables, moreLabels, moreStrings, moreFloats, Wrote, Emits, AddsVar, named, NumbersLabel, stringAt, NumbersString, NumbersFloat}
 use Rattle.ir.proofs.Entries.{written-length}
 use Rattle.ir.proofs.Kept.{withVar, withLabel, withString, withFloat, no-code, emit-holds, var-holds, label-holds, string-holds, float-holds}
 use Rattle.ir.proofs.ReadBack.{labels-read, strings-read, floats-read}
 use Rattle.ir.proofs.SearchLaws.{found-some, found-none}
-use Rattle.ir.proofs.WordLaws.{wide-words}
+use Rattle.records.proofs.WordLaws.{wide-words}
 
 instr-length : (i : Ir.Instr) → length (encodeInstr i) ≡ 32
 unfolding encodeInstr encodeFields word wide bytesOf

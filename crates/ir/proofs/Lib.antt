@@ -3,6 +3,7 @@ pub mod Answers
 pub mod ArenaFits
 pub mod CutLaws
 pub mod Entries
+pub mod FieldLaws
 pub mod FloatLaws
 pub mod FloatRead
 pub mod FunctionDone
@@ -13,5 +14,3 @@ pub mod SearchLaws
 pub mod StepCases
 pub mod StepLaws
 pub mod StepUses
-pub mod TextLaws
-pub mod WordLaws

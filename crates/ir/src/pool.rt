@@ -12,17 +12,17 @@ ghost use Rattle.ir.specs.Search.{first, foundOf, textOf};
 ghost use Rattle.ir.specs.Steps.{stringAt, moreStrings, moreFloats, Wrote, NumbersString, NumbersFloat, Next};
 use crate::floats::FloatBits;
 use crate::floats::entry_bits;
+use crate::search::find_four;
 use crate::structs::Counters;
-use crate::text::same_text;
-use crate::words::Found;
-use crate::words::Four;
-use crate::words::find_four;
-use crate::words::high;
-use crate::words::low;
-use crate::words::mark;
-use crate::words::put_four;
-use crate::words::put_pair;
+use records::texts::same_text;
+use records::words::Found;
+use records::words::Four;
+use records::words::high;
 use records::words::load;
+use records::words::low;
+use records::words::mark;
+use records::words::put_four;
+use records::words::put_pair;
 
 // An entry's number, and the counters that count it.
 pub struct PoolNumber {

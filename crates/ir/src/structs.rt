@@ -9,17 +9,17 @@ ghost use Rattle.conversion.specs.Written.{tag, operandValue, encodeInstr, enco
 ghost use Rattle.ir.specs.Instructions.{operandOf, instrOf, fieldBytes, oneBytes, noneBytes, twoBytes};
 ghost use Rattle.ir.specs.Arena.{Room};
 ghost use Rattle.ir.specs.Steps.{named, moreLabels, Wrote, Emits, AddsVar, NumbersLabel, Closes};
-use crate::words::Found;
-use crate::words::Four;
-use crate::words::find_pair;
-use crate::words::high;
-use crate::words::low;
-use crate::words::mark;
-use crate::words::put_four;
-use crate::words::put_pair;
-use crate::words::put_word;
-use crate::words::wide;
+use crate::search::find_pair;
+use records::words::Found;
+use records::words::Four;
 use records::words::NONE;
+use records::words::high;
+use records::words::low;
+use records::words::mark;
+use records::words::put_four;
+use records::words::put_pair;
+use records::words::put_word;
+use records::words::wide;
 
 // A label's number in its function.
 pub struct Label(pub u32);

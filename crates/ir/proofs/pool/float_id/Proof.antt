@@ -10,10 +10,10 @@ use Rattle.ir.proofs.pool.float_id.Reads as reads
 use Rattle.ir.proofs.pool.float_id.Lts as lts
 use Rattle.ir.proofs.floats.entry_bits.Reads as entry-bits-reads
 use Rattle.ir.proofs.pool.add_float.Reads as add-float-reads
-use Rattle.ir.proofs.words.find_four.Reads as find-four-reads
-use Rattle.ir.proofs.words.high.Reads as high-reads
-use Rattle.ir.proofs.words.low.Reads as low-reads
-use Rattle.ir.proofs.words.mark.Reads as mark-reads
+use Rattle.ir.proofs.search.find_four.Reads as find-four-reads
+use Rattle.records.proofs.words.high.Reads as high-reads
+use Rattle.records.proofs.words.low.Reads as low-reads
+use Rattle.records.proofs.words.mark.Reads as mark-reads
 
 -- src/pool.rt:104:9
 entry-bits-requires : tie.Need-entry-bits-requires

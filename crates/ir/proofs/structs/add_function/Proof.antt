@@ -3,13 +3,13 @@
 use borrow.Author.Needs.{needs}
 use native.Mathlib.Omega.{arith}
 use Rattle.ir.proofs.FunctionDone.{function-done}
-use Rattle.ir.proofs.WordLaws.{put-eight}
+use Rattle.records.proofs.WordLaws.{put-eight}
 use Rattle.ir.proofs.structs.add_function.Statement.{statement}
 use Rattle.ir.proofs.structs.add_function.Tie as tie
 use Rattle.ir.proofs.structs.add_function.Reads as reads
 use Rattle.ir.proofs.structs.add_function.Lts as lts
-use Rattle.ir.proofs.words.mark.Reads as mark-reads
-use Rattle.ir.proofs.words.put_four.Reads as put-four-reads
+use Rattle.records.proofs.words.mark.Reads as mark-reads
+use Rattle.records.proofs.words.put_four.Reads as put-four-reads
 
 -- src/structs.rt:309:14
 mul-at : tie.Need-mul-at

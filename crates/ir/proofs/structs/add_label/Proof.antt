@@ -6,7 +6,7 @@ use Rattle.ir.proofs.structs.add_label.Statement.{statement}
 use Rattle.ir.proofs.structs.add_label.Tie as tie
 use Rattle.ir.proofs.structs.add_label.Reads as reads
 use Rattle.ir.proofs.structs.add_label.Lts as lts
-use Rattle.ir.proofs.words.put_pair.Reads as put-pair-reads
+use Rattle.records.proofs.words.put_pair.Reads as put-pair-reads
 
 -- src/structs.rt:278:24
 sub-t8 : tie.Need-sub-t8

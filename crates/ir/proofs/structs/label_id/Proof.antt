@@ -9,7 +9,7 @@ use Rattle.ir.proofs.structs.label_id.Tie as tie
 use Rattle.ir.proofs.structs.label_id.Reads as reads
 use Rattle.ir.proofs.structs.label_id.Lts as lts
 use Rattle.ir.proofs.structs.add_label.Reads as add-label-reads
-use Rattle.ir.proofs.words.find_pair.Reads as find-pair-reads
+use Rattle.ir.proofs.search.find_pair.Reads as find-pair-reads
 
 -- src/structs.rt:293:14
 mul-at : tie.Need-mul-at

@@ -6,7 +6,7 @@ use Rattle.ir.proofs.structs.new_var.Statement.{statement}
 use Rattle.ir.proofs.structs.new_var.Tie as tie
 use Rattle.ir.proofs.structs.new_var.Reads as reads
 use Rattle.ir.proofs.structs.new_var.Lts as lts
-use Rattle.ir.proofs.words.put_word.Reads as put-word-reads
+use Rattle.records.proofs.words.put_word.Reads as put-word-reads
 
 -- src/structs.rt:262:22
 sub-t7 : tie.Need-sub-t7

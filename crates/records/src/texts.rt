@@ -2,8 +2,7 @@
 ghost use mathlib.Core.Path.{_≡_};
 ghost use Prim.Native.Nat.{_+_, _≤_};
 ghost use lib.ListN.{length, take, drop};
-ghost use Rattle.records.specs.Words.{textAt};
-ghost use Rattle.conversion.specs.Ir.{sameText};
+ghost use Rattle.records.specs.Words.{textAt, sameText};
 
 // How many bytes a text has: none of them lie past the buffer's end.
 fn reach(text: &[u8], offset: usize, len: usize) -> usize

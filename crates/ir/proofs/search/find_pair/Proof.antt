@@ -6,11 +6,11 @@ use native.Mathlib.Omega.{arith}
 use borrow.Author.Needs.{needs}
 use Rattle.ir.specs.Search.{first, pairAt}
 use Rattle.ir.proofs.SearchLaws.{Left, left-start, left-more, left-hit, left-end}
-use Rattle.ir.proofs.words.find_pair.Statement.{statement}
-use Rattle.ir.proofs.words.find_pair.Tie as tie
-use Rattle.ir.proofs.words.find_pair.Reads as reads
-use Rattle.ir.proofs.words.find_pair.Lts as lts
-use Rattle.ir.proofs.words.is_pair.Reads as is-pair-reads
+use Rattle.ir.proofs.search.find_pair.Statement.{statement}
+use Rattle.ir.proofs.search.find_pair.Tie as tie
+use Rattle.ir.proofs.search.find_pair.Reads as reads
+use Rattle.ir.proofs.search.find_pair.Lts as lts
+use Rattle.ir.proofs.search.is_pair.Reads as is-pair-reads
 
 abbrev Inv-loop : tie.InvT-loop
 Inv-loop s at count a b j₀ j = (j ≤ count) × Left count (pairAt s at a b) j

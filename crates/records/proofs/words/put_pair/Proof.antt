@@ -1,12 +1,12 @@
 -- Two words, one behind the other, are one run.
 -- By the law of two runs. Assumes nothing.
-use Rattle.ir.proofs.WordLaws.{put-pair}
+use Rattle.records.proofs.WordLaws.{put-pair}
 use borrow.Author.Needs.{needs}
-use Rattle.ir.proofs.words.put_pair.Statement.{statement}
-use Rattle.ir.proofs.words.put_pair.Tie as tie
-use Rattle.ir.proofs.words.put_pair.Reads as reads
-use Rattle.ir.proofs.words.put_pair.Lts as lts
-use Rattle.ir.proofs.words.put_word.Reads as put-word-reads
+use Rattle.records.proofs.words.put_pair.Statement.{statement}
+use Rattle.records.proofs.words.put_pair.Tie as tie
+use Rattle.records.proofs.words.put_pair.Reads as reads
+use Rattle.records.proofs.words.put_pair.Lts as lts
+use Rattle.records.proofs.words.put_word.Reads as put-word-reads
 
 -- src/words.rt:58:18
 add-second : tie.Need-add-second

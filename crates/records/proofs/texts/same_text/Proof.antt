@@ -1,13 +1,13 @@
 -- Whether two texts are the same: by their lengths, and else byte by byte.
 -- From what `reach` and `same_part` ensure. Assumes nothing.
-use Rattle.ir.proofs.TextLaws.{other-lengths, no-lengths, text-inside, text-inside-too, same-taken}
+use Rattle.records.proofs.TextLaws.{other-lengths, no-lengths, text-inside, text-inside-too, same-taken}
 use borrow.Author.Needs.{needs}
-use Rattle.ir.proofs.text.same_text.Statement.{statement}
-use Rattle.ir.proofs.text.same_text.Tie as tie
-use Rattle.ir.proofs.text.same_text.Reads as reads
-use Rattle.ir.proofs.text.same_text.Lts as lts
-use Rattle.ir.proofs.text.reach.Reads as reach-reads
-use Rattle.ir.proofs.text.same_part.Reads as same-part-reads
+use Rattle.records.proofs.texts.same_text.Statement.{statement}
+use Rattle.records.proofs.texts.same_text.Tie as tie
+use Rattle.records.proofs.texts.same_text.Reads as reads
+use Rattle.records.proofs.texts.same_text.Lts as lts
+use Rattle.records.proofs.texts.reach.Reads as reach-reads
+use Rattle.records.proofs.texts.same_part.Reads as same-part-reads
 
 -- src/text.rt:43:9
 reach-requires : tie.Need-reach-requires

@@ -1,10 +1,10 @@
 -- A mark is 1 or 0.
 -- By the two cases. Assumes nothing.
-use Rattle.conversion.specs.Written.{boolNumber}
-use Rattle.ir.proofs.words.mark.Statement.{statement}
-use Rattle.ir.proofs.words.mark.Tie as tie
-use Rattle.ir.proofs.words.mark.Reads as reads
-use Rattle.ir.proofs.words.mark.Lts as lts
+use Rattle.records.specs.Words.{boolNumber}
+use Rattle.records.proofs.words.mark.Statement.{statement}
+use Rattle.records.proofs.words.mark.Tie as tie
+use Rattle.records.proofs.words.mark.Reads as reads
+use Rattle.records.proofs.words.mark.Lts as lts
 
 -- src/words.rt:36:1
 returns : tie.Need-returns

@@ -11,8 +11,7 @@ use lib.ListN.{length, take, drop, getD, length-take, length-drop}
 use lib.Seq.{drop-cons, take-all}
 use borrow.Author.Tests.{eq-eqb, ne-eqb}
 use Rattle.laws.proofs.Tests.{and-right}
-use Rattle.records.specs.Words.{textAt}
-use Rattle.conversion.specs.Ir.{sameText}
+use Rattle.records.specs.Words.{textAt, sameText}
 
 pub text-length : (t : List ℕ) (o n : ℕ) → length (textAt t o n) ≡ min n (length t - o)
 unfolding textAt
@@ -49,6 +48,16 @@ take-taken (suc n) (x ∷ l) = ap (λ (r : List ℕ). x ∷ r) (take-taken n l)
 pub text-taken : (t : List ℕ) (o n x : ℕ) → x ≡ length (textAt t o n) → textAt t o x ≡ textAt t o n
 unfolding textAt
 text-taken t o n x e = rw e (take-taken n (drop o t))
+
+-- ---- a text is the same as itself
+
+pub same-self : (t : List ℕ) → sameText t t ≡ true
+unfolding sameText
+same-self [] = refl
+same-self (x ∷ t) = rw (eq-eqb x x refl) (same-self t)
+
+pub same-texts : (a b : List ℕ) → a ≡ b → sameText a b ≡ true
+same-texts a b e = rw e (same-self b)
 
 -- ---- two texts of other lengths, of none, of one length
 

@@ -1,11 +1,11 @@
 -- A text's length: none of its bytes lie past the buffer's end.
 -- The length of `take` and `drop`, by the two tests. Assumes nothing.
-use Rattle.ir.proofs.TextLaws.{reach-none, reach-whole, reach-end}
+use Rattle.records.proofs.TextLaws.{reach-none, reach-whole, reach-end}
 use borrow.Author.Needs.{needs}
-use Rattle.ir.proofs.text.reach.Statement.{statement}
-use Rattle.ir.proofs.text.reach.Tie as tie
-use Rattle.ir.proofs.text.reach.Reads as reads
-use Rattle.ir.proofs.text.reach.Lts as lts
+use Rattle.records.proofs.texts.reach.Statement.{statement}
+use Rattle.records.proofs.texts.reach.Tie as tie
+use Rattle.records.proofs.texts.reach.Reads as reads
+use Rattle.records.proofs.texts.reach.Lts as lts
 
 -- src/text.rt:15:9
 returns : tie.Need-returns

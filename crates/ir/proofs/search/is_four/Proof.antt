@@ -4,10 +4,10 @@ use mathlib.Core.Path.{_≡_, ap, ap₂, _∙_}
 use lib.Dec.{eqb}
 use Rattle.ir.specs.Search.{fourAt}
 use borrow.Author.Needs.{needs}
-use Rattle.ir.proofs.words.is_four.Statement.{statement}
-use Rattle.ir.proofs.words.is_four.Tie as tie
-use Rattle.ir.proofs.words.is_four.Reads as reads
-use Rattle.ir.proofs.words.is_four.Lts as lts
+use Rattle.ir.proofs.search.is_four.Statement.{statement}
+use Rattle.ir.proofs.search.is_four.Tie as tie
+use Rattle.ir.proofs.search.is_four.Reads as reads
+use Rattle.ir.proofs.search.is_four.Lts as lts
 use Rattle.records.proofs.words.load.Reads as load-reads
 
 -- src/words.rt:109:26

@@ -1,12 +1,12 @@
 -- Two pairs of words are one run.
 -- By the law of two runs. Assumes nothing.
-use Rattle.ir.proofs.WordLaws.{put-four}
+use Rattle.records.proofs.WordLaws.{put-four}
 use borrow.Author.Needs.{needs}
-use Rattle.ir.proofs.words.put_four.Statement.{statement}
-use Rattle.ir.proofs.words.put_four.Tie as tie
-use Rattle.ir.proofs.words.put_four.Reads as reads
-use Rattle.ir.proofs.words.put_four.Lts as lts
-use Rattle.ir.proofs.words.put_pair.Reads as put-pair-reads
+use Rattle.records.proofs.words.put_four.Statement.{statement}
+use Rattle.records.proofs.words.put_four.Tie as tie
+use Rattle.records.proofs.words.put_four.Reads as reads
+use Rattle.records.proofs.words.put_four.Lts as lts
+use Rattle.records.proofs.words.put_pair.Reads as put-pair-reads
 
 -- src/words.rt:70:18
 add-second : tie.Need-add-second

@@ -4,10 +4,10 @@ use mathlib.Core.Path.{_≡_, ap, ap₂, _∙_}
 use lib.Dec.{eqb}
 use Rattle.ir.specs.Search.{pairAt}
 use borrow.Author.Needs.{needs}
-use Rattle.ir.proofs.words.is_pair.Statement.{statement}
-use Rattle.ir.proofs.words.is_pair.Tie as tie
-use Rattle.ir.proofs.words.is_pair.Reads as reads
-use Rattle.ir.proofs.words.is_pair.Lts as lts
+use Rattle.ir.proofs.search.is_pair.Statement.{statement}
+use Rattle.ir.proofs.search.is_pair.Tie as tie
+use Rattle.ir.proofs.search.is_pair.Reads as reads
+use Rattle.ir.proofs.search.is_pair.Lts as lts
 use Rattle.records.proofs.words.load.Reads as load-reads
 
 -- src/words.rt:85:26

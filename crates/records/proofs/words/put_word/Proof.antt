@@ -8,12 +8,12 @@ use native.Mathlib.Numerals.{add-one}
 use lib.ListN.{length-set}
 use Rattle.laws.specs.Splice.{splice}
 use Rattle.laws.proofs.Splices.{splice-sets, add-two, add-three}
-use Rattle.ir.proofs.WordLaws.{word-bytes}
+use Rattle.records.proofs.WordLaws.{word-bytes}
 use borrow.Author.Needs.{needs}
-use Rattle.ir.proofs.words.put_word.Statement.{statement}
-use Rattle.ir.proofs.words.put_word.Tie as tie
-use Rattle.ir.proofs.words.put_word.Reads as reads
-use Rattle.ir.proofs.words.put_word.Lts as lts
+use Rattle.records.proofs.words.put_word.Statement.{statement}
+use Rattle.records.proofs.words.put_word.Tie as tie
+use Rattle.records.proofs.words.put_word.Reads as reads
+use Rattle.records.proofs.words.put_word.Lts as lts
 
 -- src/words.rt:47:15
 cast-buf : tie.Need-cast-buf

@@ -6,11 +6,11 @@ use native.Mathlib.Omega.{arith}
 use borrow.Author.Needs.{needs}
 use Rattle.ir.specs.Search.{first, fourAt}
 use Rattle.ir.proofs.SearchLaws.{Left, left-start, left-more, left-hit, left-end}
-use Rattle.ir.proofs.words.find_four.Statement.{statement}
-use Rattle.ir.proofs.words.find_four.Tie as tie
-use Rattle.ir.proofs.words.find_four.Reads as reads
-use Rattle.ir.proofs.words.find_four.Lts as lts
-use Rattle.ir.proofs.words.is_four.Reads as is-four-reads
+use Rattle.ir.proofs.search.find_four.Statement.{statement}
+use Rattle.ir.proofs.search.find_four.Tie as tie
+use Rattle.ir.proofs.search.find_four.Reads as reads
+use Rattle.ir.proofs.search.find_four.Lts as lts
+use Rattle.ir.proofs.search.is_four.Reads as is-four-reads
 
 abbrev Inv-loop : tie.InvT-loop
 Inv-loop s at count w j₀ j = (j ≤ count) × Left count (fourAt s at (w .0) (w .1) (w .2)) j

@@ -1,4 +1,4 @@
--- Words as bytes: four stores are a word, words one behind the other are one run, eight bytes are two words, and an instruction is eight words.
+-- Words as bytes: four stores are a word, words one behind the other are one run, and eight bytes are two words.
 -- Each byte by arithmetic, the runs by the laws of `splice`. Assumes nothing.
 use mathlib.Core.Path.{_≡_, refl, sym, ap, ap₂, _∙_}
 use mathlib.Core.List.{List, [], _∷_, _++_}
@@ -7,9 +7,7 @@ use native.Mathlib.Omega.{arith}
 use lib.ListN.{length}
 use Rattle.laws.specs.Splice.{splice}
 use Rattle.laws.proofs.Splices.{splice-splice}
-use Rattle.conversion.specs.Written.{bytesOf, word, wide}
-use Rattle.ir.specs.declared.structs.Fields.{Fields}
-use Rattle.ir.specs.Instructions.{fieldBytes}
+use Rattle.records.specs.Words.{bytesOf, word, wide}
 
 pub four : {a b c d a′ b′ c′ d′ : ℕ} → a ≡ a′ → b ≡ b′ → c ≡ c′ → d ≡ d′
     → _≡_ {A = List ℕ} (a ∷ b ∷ c ∷ d ∷ []) (a′ ∷ b′ ∷ c′ ∷ d′ ∷ [])
@@ -54,33 +52,3 @@ pub put-eight : (l l₁ l₂ : List ℕ) (at a b c d e f g h : ℕ) → at + 32 
 unfolding word bytesOf
 put-eight l l₁ l₂ at a b c d e f g h room e₁ e₂ =
     put-two l l₁ l₂ at (at + 16) (word a ++ word b ++ word c ++ word d) (word e ++ word f ++ word g ++ word h) (omega arith) refl e₁ e₂
-
--- an instruction's eight words
-pub field-words : (f : Fields) → f .kind < 256 → f .operator < 256 → f .first .tag < 256 → f .second .tag < 256
-    → word (f .kind + f .operator * 256 + f .first .tag * 65536 + f .second .tag * 16777216) ++ word (f .target)
-    ++ word (f .first .value % 4294967296) ++ word (f .first .value / 4294967296)
-    ++ word (f .second .value % 4294967296) ++ word (f .second .value / 4294967296) ++ word (f .owner) ++ word 0
-    ≡ fieldBytes f
-unfolding fieldBytes word bytesOf
-field-words f hk ho ha hb =
-    let x = f .first .value in
-    let y = f .second .value in
-    ap (λ (z : List ℕ). z ++ word (f .target) ++ word (x % 4294967296) ++ word (x / 4294967296) ++ word (y % 4294967296) ++ word (y / 4294967296)
-    ++ word (f .owner) ++ word 0)
-    (word-head (f .kind) (f .operator) (f .first .tag) (f .second .tag) hk ho ha hb)
-    ∙ sym
-    (ap₂ (λ (u v : List ℕ). (f .kind ∷ f .operator ∷ f .first .tag ∷ f .second .tag ∷ []) ++ word (f .target) ++ u ++ v ++ word (f .owner) ++ word 0)
-    (wide-words x) (wide-words y))
-
-pub put-fields : (f : Fields) (l l₁ l₂ : List ℕ) (at w₁ w₂ w₃ w₄ a b c d : ℕ) → at + 32 ≤ length l
-    → (w₁ ≡ f .kind) × (w₁ < 256) → (w₂ ≡ f .operator) × (w₂ < 256) → (w₃ ≡ f .first .tag) × (w₃ < 256) → (w₄ ≡ f .second .tag) × (w₄ < 256)
-    → a ≡ f .first .value % 4294967296 → b ≡ f .first .value / 4294967296
-    → c ≡ f .second .value % 4294967296 → d ≡ f .second .value / 4294967296
-    → l₁ ≡ splice l at (word (w₁ + w₂ * 256 + w₃ * 65536 + w₄ * 16777216) ++ word (f .target) ++ word a ++ word b)
-    → l₂ ≡ splice l₁ (at + 16) (word c ++ word d ++ word (f .owner) ++ word 0)
-    → l₂ ≡ splice l at (fieldBytes f)
-put-fields f l l₁ l₂ at w₁ w₂ w₃ w₄ a b c d room e₁ e₂ e₃ e₄ ea eb ec ed p q =
-    put-eight l l₁ l₂ at _ _ _ _ _ _ _ _ room p q
-    ∙ ap (splice l at)
-    (rw (e₁ .0, e₂ .0, e₃ .0, e₄ .0, ea, eb, ec, ed)
-    (field-words f (omega arith) (omega arith) (omega arith) (omega arith)))

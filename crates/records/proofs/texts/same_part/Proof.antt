@@ -4,13 +4,13 @@ use mathlib.Core.Path.{_≡_, sym, _∙_}
 use Prim.Native.Nat.{_≤_, _+_, _-_}
 use native.Mathlib.Omega.{arith}
 use borrow.Author.Needs.{needs}
 use Rattle.records.specs.Words.{textAt}
-use Rattle.conversion.specs.Ir.{sameText}
-use Rattle.ir.proofs.TextLaws.{same-start, same-more, same-other, same-end}
-use Rattle.ir.proofs.text.same_part.Statement.{statement}
-use Rattle.ir.proofs.text.same_part.Tie as tie
-use Rattle.ir.proofs.text.same_part.Reads as reads
-use Rattle.ir.proofs.text.same_part.Lts as lts
+use Rattle.records.specs.Words.{sameText}
+use Rattle.records.proofs.TextLaws.{same-start, same-more, same-other, same-end}
+use Rattle.records.proofs.texts.same_part.Statement.{statement}
+use Rattle.records.proofs.texts.same_part.Tie as tie
+use Rattle.records.proofs.texts.same_part.Reads as reads
+use Rattle.records.proofs.texts.same_part.Lts as lts
 
 abbrev Inv-loop : tie.InvT-loop
 Inv-loop text a b n i₀ i = (i ≤ n) × (sameText (textAt text a n) (textAt text b n) ≡ sameText (textAt text (a + i) (n - i)) (textAt text (b + i) (n - i)))
