@@ -8,6 +8,7 @@ use mathlib.Core.Option.{Option, none, some}
 use lib.Dec.{eqb}
 use lib.IntN.{ℤ}
 use lib.ListN.{length, getD}
+unfoldable pub use Rattle.records.specs.Words.{sameText}
 use Rattle.syntax.specs.Syntax.{Text, UnaryOp, BinaryOp}
 use Rattle.conversion.specs.ConvertError.{ConvertErrorKind, Result, ok, err}
 
@@ -167,12 +168,6 @@ unfoldable pub label-id : LabelName → M ℕ
 unfolding position numbered sameLabel
 label-id l s = numbered (position (sameLabel l) (s .labels)) s
     (record { vars = s .vars; labels = s .labels ++ (l ∷ []); strings = s .strings; floats = s .floats }) (length (s .labels))
-
-unfoldable pub sameText : Text → Text → Bool
-sameText [] [] = true
-sameText [] (b ∷ u) = false
-sameText (a ∷ t) [] = false
-sameText (a ∷ t) (b ∷ u) = eqb a b && sameText t u
 
 -- `string_id`
 unfoldable pub string-id : StringEntry → M ℕ

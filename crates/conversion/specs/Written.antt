@@ -1,6 +1,6 @@
 -- Document 01, 'What is written': the six tables as bytes, and the answer. Assumes nothing: these are definitions.
-use Prim.Native.Nat.{ℕ, zero, suc, _+_, _/_, _%_}
-use mathlib.Core.Bool.{Bool, true, false}
+use Prim.Native.Nat.{ℕ, _+_}
+use mathlib.Core.Bool.{Bool}
 use mathlib.Core.List.{List, [], _∷_, _++_}
 use mathlib.Core.Option.{Option, none as nothing, some}
 use lib.ListN.{length}
@@ -9,31 +9,12 @@ use mir.Val.{ofZ}
 use Rattle.records.specs.Words.{none}
 use Rattle.records.specs.Answer.{wordsOf}
 use Rattle.records.specs.declared.convert_error.AnswerWords.{AnswerWords}
+unfoldable pub use Rattle.records.specs.Words.{bytesOf, word, wide, boolNumber}
 use Rattle.syntax.specs.Syntax.{unaryNumber, binaryNumber}
 use Rattle.syntax.specs.Decode.{program}
 use Rattle.conversion.specs.ConvertError.{Result, ok, err}
 use Rattle.conversion.specs.Ir.{VarId, Operand, OVar, OInt, OFloat, OBool, ODataAddress, ONull, Instr, Copy, Unary, Binary, Cast, Zero, Arg, Call, Label, Jump, JumpIfNot, Return, Comment, LabelName, StringEntry, FloatEntry, IrFunction, IrProgram}
 use Rattle.conversion.specs.Converter.{convert}
-
--- ---- bytes
-
--- 'Numbers are little-endian': a number's lowest n bytes
-unfoldable pub bytesOf : ℕ → ℕ → List ℕ
-bytesOf zero w = []
-bytesOf (suc n) w = w % 256 ∷ bytesOf n (w / 256)
-
--- a word of 32 bits, and 8 bytes
-unfoldable pub word : ℕ → List ℕ
-unfolding bytesOf
-word w = bytesOf 4 w
-
-unfoldable pub wide : ℕ → List ℕ
-unfolding bytesOf
-wide w = bytesOf 8 w
-
-unfoldable pub boolNumber : Bool → ℕ
-boolNumber true = 1
-boolNumber false = 0
 
 -- ---- instructions
 

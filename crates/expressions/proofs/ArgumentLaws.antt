@@ -23,8 +23,8 @@ use Rattle.syntax.specs.Decode.{node, exprOf, kinds, nothingAt, intAt, floatAt,
 use Rattle.syntax.proofs.Unfold.{node-is}
 use Rattle.conversion.specs.Expressions.{TypedArg, targetType, sourceType}
 use Rattle.types.specs.Fits.{IsExpr}
-use Rattle.ir.specs.declared.words.Found.{Found}
-use Rattle.ir.specs.declared.words.Found.the-variants as Found
+use Rattle.records.specs.declared.words.Found.{Found}
+use Rattle.records.specs.declared.words.Found.the-variants as Found
 use Rattle.expressions.specs.declared.parts.Part.{Part}
 use Rattle.expressions.specs.declared.arguments.Argument.{Argument}
 use Rattle.expressions.specs.declared.arguments.Argument.the-variants as Argument

@@ -23,8 +23,8 @@ use Rattle.conversion.specs.ConvertError.{err, _>>=_, UnknownFunction, Ambiguou
 use Rattle.conversion.specs.Ir.{sameText}
 use Rattle.conversion.specs.Types.{can-cast}
 use Rattle.conversion.specs.Expressions.{TypedArg, Functions, castVerb, is-mangled, takes-args, targetType, sourceType, castChecked, castTo, cast-type, byLiterals, find-functions-by-literals, find-exact-function, chosen, exactOr, resolveFunction, resolveTyped}
-use Rattle.ir.specs.declared.words.Found.{Found}
-use Rattle.ir.specs.declared.words.Found.the-variants as Found
+use Rattle.records.specs.declared.words.Found.{Found}
+use Rattle.records.specs.declared.words.Found.the-variants as Found
 use Rattle.expressions.specs.declared.answers.Candidates.{Candidates}
 use Rattle.expressions.specs.declared.answers.Candidates.the-variants as Candidates
 use Rattle.expressions.specs.declared.answers.Cast.{Cast}

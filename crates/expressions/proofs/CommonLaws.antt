@@ -9,8 +9,8 @@ use Rattle.syntax.specs.Decode.{program}
 use Rattle.conversion.specs.ConvertError.{ok, _>>=_}
 use Rattle.conversion.specs.Scope as Def
 use Rattle.conversion.specs.Expressions.{commonOf, common-type}
-use Rattle.ir.specs.declared.words.Found.{Found}
-use Rattle.ir.specs.declared.words.Found.the-variants as Found
+use Rattle.records.specs.declared.words.Found.{Found}
+use Rattle.records.specs.declared.words.Found.the-variants as Found
 use Rattle.scope.specs.declared.Scope.{Scope}
 use Rattle.scope.specs.Open.{Stands}
 use Rattle.expressions.specs.declared.answers.ExprType.{ExprType}

@@ -17,9 +17,9 @@ use Rattle.syntax.specs.Syntax.{Text, Function, Program}
 use Rattle.syntax.specs.Decode.{program, textOf}
 use Rattle.conversion.specs.Ir.{sameText}
 use Rattle.conversion.specs.Expressions.{Functions, is-mangled, takes-args, getFunction, filterOption, orElse, variadicMark, suffixes, joined, mangledFunction, variadicFunction, find-exact-function}
-use Rattle.ir.specs.declared.words.Found.{Found}
-use Rattle.ir.specs.declared.words.Found.the-variants as Found
-use Rattle.ir.proofs.TextLaws.{text-length, other-lengths}
+use Rattle.records.specs.declared.words.Found.{Found}
+use Rattle.records.specs.declared.words.Found.the-variants as Found
+use Rattle.records.proofs.TextLaws.{text-length, other-lengths}
 use Rattle.expressions.specs.declared.parts.Part.{Part}
 use Rattle.expressions.specs.declared.arguments.Call.{Call}
 use Rattle.expressions.specs.Places.{FunctionAt, PartIs, functionOf}

@@ -22,8 +22,8 @@ use Rattle.conversion.specs.ConvertError.{ok, err, SameSignature, SameSymbol, L
 use Rattle.conversion.specs.Ir.{sameText}
 use Rattle.conversion.specs.Expressions.{is-mangled, getFunction, mainName}
 use Rattle.conversion.specs.Functions.{is-ascii, addFunction, findMain, returnsInt, checkMain, check-main}
-use Rattle.ir.specs.declared.words.Found.{Found}
-use Rattle.ir.specs.declared.words.Found.the-variants as Found
+use Rattle.records.specs.declared.words.Found.{Found}
+use Rattle.records.specs.declared.words.Found.the-variants as Found
 use Rattle.expressions.specs.declared.parts.Part.{Part}
 use Rattle.expressions.specs.declared.answers.Outcome.{Outcome}
 use Rattle.expressions.specs.declared.answers.Outcome.the-variants as Outcome

@@ -20,8 +20,8 @@ use Rattle.syntax.specs.Syntax.{Text, Function}
 use Rattle.syntax.specs.Decode.{func, child, node, kinds, functionAt, functionsIn, functionsBelow, program, nameIn, exprIn, exprOf, paramsOf, textOf, reference, bit}
 use Rattle.syntax.proofs.Unfold.{node-is}
 use Rattle.syntax.proofs.Cases.{child-in, child-out, name-case}
-use Rattle.ir.specs.declared.words.Found.{Found}
-use Rattle.ir.specs.declared.words.Found.the-variants as Found
+use Rattle.records.specs.declared.words.Found.{Found}
+use Rattle.records.specs.declared.words.Found.the-variants as Found
 use Rattle.expressions.specs.declared.parts.Part.{Part}
 use Rattle.expressions.specs.Places.{TypeAt, FunctionAt, ParamsAt, PartIs, funcOf, functionOf, paramsAt}
 use Rattle.expressions.specs.Keys.{recordsBelow, functionRecords, functionsOf}

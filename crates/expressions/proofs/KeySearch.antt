@@ -16,7 +16,7 @@ use Rattle.syntax.specs.Syntax.{Text, Function}
 use Rattle.syntax.specs.Decode.{bit}
 use Rattle.conversion.specs.Ir.{sameText}
 use Rattle.conversion.specs.Expressions.{Functions, is-mangled, mainName, getFunction}
-use Rattle.ir.specs.declared.words.Found.the-variants.{At, Nothing}
+use Rattle.records.specs.declared.words.Found.the-variants.{At, Nothing}
 use Rattle.expressions.specs.declared.parts.Part.{Part}
 use Rattle.expressions.specs.Places.{FunctionAt, ParamsAt, PartIs, functionOf, paramsAt}
 use Rattle.expressions.specs.Keys.{keyOf, keyed, recordsBelow, functionRecords, functionsOf, keysBelow, Listed}

@@ -21,8 +21,8 @@ use Rattle.syntax.specs.Decode.{bit, textOf, wideOf, program, typeAt}
 use Rattle.conversion.specs.ConvertError.{ConvertErrorKind, Result, err, WrongOperands, LiteralOutOfRange}
 use Rattle.conversion.specs.Types.{isInt, onInt, is-number, fits, range-error}
 use Rattle.conversion.specs.Expressions.{OperandClass, Bools, Any, Numbers, Integers, operandClass, givesBool, filterOption, commonOf, acceptsUnary, acceptsClass, unaryType, operandsError, accepted, binaryType}
-use Rattle.ir.specs.declared.words.Found.{Found}
-use Rattle.ir.specs.declared.words.Found.the-variants as Found
+use Rattle.records.specs.declared.words.Found.{Found}
+use Rattle.records.specs.declared.words.Found.the-variants as Found
 use Rattle.types.specs.Fits.{IsExpr, IsType, fitsAt, rangeErrorAt}
 use Rattle.types.specs.Operators.{classNumber, resultNumber}
 use Rattle.types.proofs.FromGood.{is-type}

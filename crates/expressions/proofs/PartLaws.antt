@@ -12,7 +12,7 @@ use borrow.Author.Tests.{eq-eqb, ne-eqb, lt-ltb, le-ltb}
 use Rattle.records.specs.Words.{textAt}
 use Rattle.conversion.specs.Ir.{sameText}
 use Rattle.conversion.specs.Functions.{is-ascii}
-use Rattle.ir.proofs.TextLaws.{reach-whole, other-lengths}
+use Rattle.records.proofs.TextLaws.{reach-whole, other-lengths}
 
 drop-past : (l : List ℕ) (i : ℕ) → length l ≤ i → drop i l ≡ []
 drop-past [] zero h = refl

@@ -17,9 +17,9 @@ use Rattle.syntax.specs.Syntax.{Text, Expr, Args, Value, ToType, place}
 use Rattle.syntax.specs.Decode.{program, textOf, keyAt}
 use Rattle.conversion.specs.Ir.{sameText}
 use Rattle.conversion.specs.Expressions.{dollar, suffixes, joined}
-use Rattle.ir.specs.declared.words.Found.{Found}
-use Rattle.ir.specs.declared.words.Found.the-variants as Found
-use Rattle.ir.proofs.TextLaws.{text-length}
+use Rattle.records.specs.declared.words.Found.{Found}
+use Rattle.records.specs.declared.words.Found.the-variants as Found
+use Rattle.records.proofs.TextLaws.{text-length}
 use Rattle.expressions.specs.declared.parts.Part.{Part}
 use Rattle.expressions.specs.Places.{PartIs, exprAt, argsAt}
 use Rattle.expressions.specs.Keys.{allKeys}

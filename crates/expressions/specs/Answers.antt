@@ -12,8 +12,8 @@ use Rattle.conversion.specs.ConvertError.{Result, ok, err, _>>=_}
 use Rattle.conversion.specs.Scope as Def
 use Rattle.conversion.specs.Expressions.{Callee, CallFunction, CallCast, TypedArg, return-type, valueType, get-argument-types, resolve-call, common-type, find-exact-function, find-functions-by-literals}
 use Rattle.conversion.specs.Functions.{get-all-functions}
-use Rattle.ir.specs.declared.words.Found.{Found}
-use Rattle.ir.specs.declared.words.Found.the-variants as Found
+use Rattle.records.specs.declared.words.Found.{Found}
+use Rattle.records.specs.declared.words.Found.the-variants as Found
 use Rattle.scope.specs.declared.Scope.{Scope}
 use Rattle.scope.specs.Open.{Stands}
 use Rattle.types.specs.Fits.{IsExpr}

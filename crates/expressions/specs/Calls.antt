@@ -9,8 +9,8 @@ use Rattle.records.specs.Good.{Good}
 use Rattle.syntax.specs.Syntax.{Text, Param}
 use Rattle.syntax.specs.Decode.{program}
 use Rattle.conversion.specs.Expressions.{TypedArg, suffixes, joined, takesArg, variadicMark}
-use Rattle.ir.specs.declared.words.Found.{Found}
-use Rattle.ir.specs.declared.words.Found.the-variants as Found
+use Rattle.records.specs.declared.words.Found.{Found}
+use Rattle.records.specs.declared.words.Found.the-variants as Found
 use Rattle.expressions.specs.declared.arguments.Call.{Call}
 use Rattle.expressions.specs.Places.{ArgsAt, argsAt}
 use Rattle.expressions.specs.Keys.{allKeys}

@@ -13,10 +13,10 @@ ghost use Rattle.expressions.specs.Slots.{slotAt, FirstType};
 ghost use Rattle.expressions.specs.Answers.{ArgumentIs, numberOf, TypeFound};
 use crate::parts::Part;
 use crate::parts::text_part;
-use ir::words::Found;
+use records::words::Found;
 use records::words::kind;
 use records::words::load;
-use types::form::reference;
+use records::words::reference;
 
 // No further cell.
 pub(crate) const END: usize = 4294967295;

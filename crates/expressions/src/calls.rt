@@ -31,11 +31,11 @@ use crate::parts::is_cast_verb;
 use crate::parts::same_parts;
 use crate::parts::text_part;
 use crate::takes::takes_args;
-use ir::words::Found;
 use records::convert_error::ConvertError;
 use records::convert_error::ConvertErrorKind;
+use records::words::Found;
+use records::words::reference;
 use types::casts::can_cast;
-use types::form::reference;
 
 // A mangled function of the verb's name whose parameters take the arguments.
 fn is_candidate(tree: &[u8], text: &[u8], scratch: &[u8], call: Call, f: usize) -> bool

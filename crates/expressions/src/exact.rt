@@ -26,8 +26,8 @@ use crate::keys::key_of;
 use crate::parts::Part;
 use crate::parts::is_variadic_mark;
 use crate::takes::takes_args;
-use ir::text::same_part;
-use ir::words::Found;
+use records::texts::same_part;
+use records::words::Found;
 
 const DOLLAR: u8 = 36;
 

@@ -25,11 +25,11 @@ use crate::operands::common_of;
 use crate::operands::leaf_type;
 use crate::operands::unary_type;
 use crate::operands::value_type;
-use ir::words::Found;
-use ir::words::put_word;
+use records::words::Found;
 use records::words::kind;
+use records::words::put_word;
+use records::words::reference;
 use scope::Scope;
-use types::form::reference;
 
 // Writes an expression's type to its slot.
 fn put_slot(tree: &[u8], scratch: &mut [u8], e: usize, y: usize)

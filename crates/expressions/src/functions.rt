@@ -19,15 +19,15 @@ use crate::keys::mangled_name_of;
 use crate::keys::name_of;
 use crate::parts::is_ascii;
 use crate::parts::is_main;
-use ir::words::Found;
-use ir::words::put_word;
 use records::convert_error::ConvertError;
 use records::convert_error::ConvertErrorKind;
+use records::words::Found;
 use records::words::NONE;
 use records::words::kind;
+use records::words::put_word;
+use records::words::reference;
 use types::form::INT;
 use types::form::form;
-use types::form::reference;
 
 fn refuse(kind: ConvertErrorKind, place: u32) -> Outcome
     ensures { λ r. ⌜ r ≡ Outcome.Refused (record { kind = kind; place = place }) ⌝ }

@@ -14,10 +14,10 @@ use crate::parts::Part;
 use crate::parts::is_main;
 use crate::parts::same_parts;
 use crate::parts::text_part;
-use ir::words::Found;
+use records::words::Found;
 use records::words::detail;
 use records::words::load;
-use types::form::reference;
+use records::words::reference;
 
 pub(crate) fn name_of(tree: &[u8], text: &[u8], f: usize) -> Part
     requires { ⌜ Good (now tree) (now text) ⌝ }

@@ -16,10 +16,10 @@ use ir::structs::VarId;
 use records::convert_error::ConvertError;
 use records::convert_error::ConvertErrorKind;
 use records::words::NONE;
+use records::words::reference;
 use records::words::word;
 use scope::Declared;
 use scope::Scope;
-use types::form::reference;
 
 // The scope with the parameters, or AlreadyDeclared at the one whose name is taken.
 pub enum Parameters {

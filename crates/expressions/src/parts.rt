@@ -6,8 +6,8 @@ ghost use Rattle.records.specs.Words.{textAt, wordOf};
 ghost use Rattle.conversion.specs.Ir.{sameText};
 ghost use Rattle.conversion.specs.Expressions.{castVerb, mainName, variadicMark};
 ghost use Rattle.conversion.specs.Functions.{is-ascii};
-use ir::text::same_part;
-use types::form::reference;
+use records::texts::same_part;
+use records::words::reference;
 
 // An offset and a length.
 pub struct Part(pub usize, pub usize);

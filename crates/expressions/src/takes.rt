@@ -17,8 +17,8 @@ use crate::arguments::next_cell;
 use crate::arguments::slot;
 use crate::keys::is_variadic;
 use crate::keys::parameters_of;
+use records::words::reference;
 use types::fits::fits;
-use types::form::reference;
 
 // As many as its parameters, or more when variadic.
 fn takes_count(tree: &[u8], text: &[u8], f: usize, count: usize) -> bool

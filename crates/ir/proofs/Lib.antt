@@ -1,7 +1,9 @@
+pub mod AmountLaws
 pub mod Answers
 pub mod ArenaFits
 pub mod CutLaws
 pub mod Entries
+pub mod FieldLaws
 pub mod FloatLaws
 pub mod FloatRead
 pub mod FunctionDone
@@ -9,7 +11,6 @@ pub mod Kept
 pub mod Operators
 pub mod ReadBack
 pub mod SearchLaws
+pub mod StepCases
 pub mod StepLaws
 pub mod StepUses
-pub mod TextLaws
-pub mod WordLaws

@@ -8,8 +8,8 @@ use lib.Dec.{eqb}
 use Rattle.laws.specs.Fix.{pick}
 use Rattle.records.specs.Words.{wordAt, textAt}
 use Rattle.conversion.specs.Ir.{sameText}
-use Rattle.ir.specs.declared.words.Found.{Found}
-use Rattle.ir.specs.declared.words.Found.the-variants.{At, Nothing}
+use Rattle.records.specs.declared.words.Found.{Found}
+use Rattle.records.specs.declared.words.Found.the-variants.{At, Nothing}
 
 -- the first of the n numbers from i on of which f holds
 unfoldable pub first : ℕ → (ℕ → Bool) → ℕ → Option ℕ

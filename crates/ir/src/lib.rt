@@ -2,6 +2,5 @@
 pub mod cut;
 pub mod floats;
 pub mod pool;
+pub mod search;
 pub mod structs;
-pub mod text;
-pub mod words;

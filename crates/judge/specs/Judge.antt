@@ -8,7 +8,7 @@ use lib.Dec.{eqb, leb, ltb}
 use lib.ListN.{length, replicate}
 use Rattle.laws.specs.Fix.{pick}
 use Rattle.laws.specs.Below.{lowest}
-use Rattle.records.specs.Words.{records, none}
+use Rattle.records.specs.Words.{records, mostRecords, none}
 use Rattle.records.specs.Rules.{recordOk}
 use Rattle.records.specs.Depth.{depth}
 use Rattle.records.specs.declared.convert_error.ConvertErrorKind.{ConvertErrorKind}
@@ -21,9 +21,6 @@ use Rattle.judge.specs.declared.Judged.the-variants.{Accepted, Refused}
 -- 'tree not a multiple of 32, under 12 or over 2,048 records'
 abbrev pub fewestRecords : ℕ
 fewestRecords = 12
-
-abbrev pub mostRecords : ℕ
-mostRecords = 2048
 
 unfoldable pub lengthsOk : ℕ → Bool
 lengthsOk bytes = eqb (bytes % 32) 0 && leb (fewestRecords * 32) bytes && leb bytes (mostRecords * 32)

@@ -2,10 +2,12 @@
 ghost use mathlib.Core.Path.{_≡_};
 ghost use Prim.Native.Nat.{_*_, _≤_};
 ghost use lib.ListN.{length};
+ghost use Rattle.records.specs.Words.{mostRecords};
 ghost use Rattle.judge.specs.Inner.{placed};
 ghost use Rattle.judge.specs.Judge.{lengthsOk, buffersOk, buffers, recordsVerdict, verdict, judgedBy, judged, judgedIn, scratchAfter, judgeLeaves, cleared};
 use records::convert_error::ConvertError;
 use records::convert_error::ConvertErrorKind;
+use records::words::MOST_RECORDS;
 use records::words::NONE;
 
 mod nesting;
@@ -49,7 +51,7 @@ pub fn clear(buffer: &mut [u8])
 fn lengths_ok(bytes: usize) -> bool
     ensures { λ r. ⌜ r ≡ lengthsOk bytes ⌝ }
 {
-    (bytes % 32 == 0) & (384 <= bytes) & (bytes <= 65536)
+    (bytes % 32 == 0) & (384 <= bytes) & (bytes <= 32 * MOST_RECORDS)
 }
 
 // Row 'buffers'. The lengths are divided: a product could wrap where row 'lengths' was not asked first.
@@ -67,7 +69,7 @@ fn buffers_ok(n: usize, l: Lengths, scratch: usize) -> bool
 
 // Rows 'records' and 'nesting', over a cleared scratch; its first n bytes hold counts of references, and then depths.
 fn judge_records(tree: &[u8], text: &[u8], n: usize, scratch: &mut [u8]) -> Judged
-    requires { ⌜ (n * 32 ≡ length (now tree)) × (n ≤ 2048) × (n ≤ length (now scratch)) ⌝ }
+    requires { ⌜ (n * 32 ≡ length (now tree)) × (n ≤ mostRecords) × (n ≤ length (now scratch)) ⌝ }
     requires { ⌜ now scratch ≡ cleared (now scratch) ⌝ }
     ensures { λ r. ⌜ (r ≡ judgedBy (recordsVerdict (now (tree .entry)) (now (text .entry)))) × (length (now (scratch .exit)) ≡ length (now (scratch .entry))) ⌝ }
 {

@@ -3,9 +3,9 @@ ghost use mathlib.Core.Path.{_≡_};
 ghost use mathlib.Core.Bool.{not, _||_, _&&_};
 ghost use Prim.Native.Nat.{_+_, _*_, _≤_, _<_};
 ghost use lib.ListN.{length};
-ghost use Rattle.records.specs.Rules.{isFirstType, sameText, sameType, typeIsNew};
+ghost use Rattle.records.specs.Rules.{isFirstType, sameType, typeIsNew};
 ghost use Rattle.judge.specs.Inner.{TypesLead};
-use crate::references::size;
+use records::texts::same_text;
 use records::words::detail;
 use records::words::kind;
 use records::words::word;
@@ -42,30 +42,6 @@ pub(crate) fn leading_types(tree: &[u8], n: usize) -> usize
     n
 }
 
-// Two texts of m bytes, at p and q, are inside the buffer and the same: the one place where texts are compared.
-pub(crate) fn same_text(text: &[u8], p: usize, m: usize, q: usize, n: usize) -> bool
-    requires { ⌜ (p < 4294967296) × (m < 4294967296) × (q < 4294967296) × (n < 4294967296) ⌝ }
-    ensures { λ v. ⌜ v ≡ sameText (now (text .entry)) p m q n ⌝ }
-{
-    if p + m > text.len() {
-        return false;
-    }
-    if q + n > text.len() {
-        return false;
-    }
-    if m != n {
-        return false;
-    }
-    let mut i = 0;
-    while i < m {
-        if text[p + i] != text[q + i] {
-            return false;
-        }
-        i += 1;
-    }
-    true
-}
-
 // Types j and r are equal, key text aside.
 fn same_type(tree: &[u8], text: &[u8], j: usize, r: usize) -> bool
     requires { ⌜ (j * 32 + 32 ≤ length (now tree)) × (r * 32 + 32 ≤ length (now tree)) ⌝ }
@@ -80,7 +56,7 @@ fn same_type(tree: &[u8], text: &[u8], j: usize, r: usize) -> bool
     let ra = word(tree, r, 0);
     let rb = word(tree, r, 1);
     if d == 8 {
-        return same_text(text, size(ja), size(jb), size(ra), size(rb));
+        return same_text(text, ja, jb, ra, rb);
     }
     (ja == ra) & (jb == rb) & (word(tree, j, 2) == word(tree, r, 2))
 }

@@ -5,5 +5,7 @@ pub mod ListLaws
 pub mod RuleLaws
 pub mod ShapeCases
 pub mod ShapeTable
+pub mod TextLaws
 pub mod TypeLaws
 pub mod TypesDistinct
+pub mod WordLaws

@@ -1,53 +1,17 @@
--- Texts and types compared step by step: what each test says of `sameText`, `sameType`, `typeIsNew` and `isFirstType`.
+-- Types compared step by step: what each test says of `sameType`, `typeIsNew` and `isFirstType`.
 -- Each picks its arm of the definition by the test that was passed or left. Assumes nothing.
 use mathlib.Core.Path.{_≡_, refl, sym, ap, _∙_}
-use Prim.Native.Nat.{ℕ, _+_, _≤_, _<_}
+use Prim.Native.Nat.{ℕ, _≤_, _<_}
 use mathlib.Core.Bool.{Bool, true, false, not, _&&_}
 use mathlib.Core.List.{List}
 use lib.Dec.{eqb}
-use lib.ListN.{length, getD}
+use lib.ListN.{getD}
 use borrow.Author.Tests.{eq-eqb, ne-eqb, le-leb, lt-leb}
 use Rattle.laws.specs.Fix.{pick}
-use Rattle.laws.specs.Below.{allBelow, anyBelow}
-use Rattle.laws.proofs.AllBelow.{all-more, all-stop, all-done, any-stop, any-done}
-use Rattle.records.specs.Words.{byteAt, kindOf, detailOf, wordOf, A, B, C}
-use Rattle.records.specs.Rules.{isFirstType, sameText, sameType, typeIsNew, twelveDetails, twelveInner}
-
--- the texts at p and q have the same byte at i
-unfoldable pub sameByte : List ℕ → ℕ → ℕ → ℕ → Bool
-unfolding byteAt
-sameByte text p q i = eqb (byteAt text (p + i)) (byteAt text (q + i))
-
-module _ (text : List ℕ) (p m q n : ℕ) where
-  pub text-past : length text < p + m → false ≡ sameText text p m q n
-  unfolding sameText
-  text-past h = rw (lt-leb (p + m) (length text) h) refl
-
-  module _ (hp : p + m ≤ length text) where
-    pub text-past-2 : length text < q + n → false ≡ sameText text p m q n
-    unfolding sameText
-    text-past-2 h = rw (le-leb (p + m) (length text) hp, lt-leb (q + n) (length text) h) refl
-
-    module _ (hq : q + n ≤ length text) where
-      pub text-lengths : (m ≡ n → ⊥) → false ≡ sameText text p m q n
-      unfolding sameText
-      text-lengths h = rw (le-leb (p + m) (length text) hp, le-leb (q + n) (length text) hq, ne-eqb m n h) refl
-
-      module _ (e : m ≡ n) where
-        text-bytes : sameText text p m q n ≡ allBelow m (sameByte text p q)
-        unfolding sameText sameByte
-        text-bytes = rw (le-leb (p + m) (length text) hp, le-leb (q + n) (length text) hq, eq-eqb m n e) refl
-
-        pub text-differ : (i : ℕ) → i < m → (getD text (p + i) 0 ≡ getD text (q + i) 0 → ⊥) → false ≡ sameText text p m q n
-        unfolding sameByte byteAt
-        text-differ i h d = sym (text-bytes ∙ all-stop (sameByte text p q) m i h (ne-eqb (getD text (p + i) 0) (getD text (q + i) 0) d))
-
-        pub text-same : (i : ℕ) → allBelow i (sameByte text p q) ≡ true → i ≤ m → m ≤ i → true ≡ sameText text p m q n
-        text-same i a h k = sym (text-bytes ∙ all-done (sameByte text p q) i m a h k)
-
-pub text-next : (text : List ℕ) (p q i : ℕ) → allBelow i (sameByte text p q) ≡ true → getD text (p + i) 0 ≡ getD text (q + i) 0 → allBelow (i + 1) (sameByte text p q) ≡ true
-unfolding sameByte byteAt
-text-next text p q i a e = all-more (sameByte text p q) i a (eq-eqb (getD text (p + i) 0) (getD text (q + i) 0) e)
+use Rattle.laws.specs.Below.{anyBelow}
+use Rattle.laws.proofs.AllBelow.{any-stop, any-done}
+use Rattle.records.specs.Words.{kindOf, detailOf, wordOf, textAt, sameText, A, B, C}
+use Rattle.records.specs.Rules.{isFirstType, sameType, typeIsNew, twelveDetails, twelveInner}
 
 module _ (tree text : List ℕ) (j r : ℕ) where
   pub type-detail : (detailOf tree j ≡ detailOf tree r → ⊥) → false ≡ sameType tree text j r
@@ -55,7 +19,7 @@ module _ (tree text : List ℕ) (j r : ℕ) where
   type-detail n = rw (ne-eqb (detailOf tree j) (detailOf tree r) n) refl
 
   module _ (d : detailOf tree j ≡ detailOf tree r) where
-    pub type-custom : detailOf tree r ≡ 8 → sameText text (wordOf tree j A) (wordOf tree j B) (wordOf tree r A) (wordOf tree r B) ≡ sameType tree text j r
+    pub type-custom : detailOf tree r ≡ 8 → sameText (textAt text (wordOf tree j A) (wordOf tree j B)) (textAt text (wordOf tree r A) (wordOf tree r B)) ≡ sameType tree text j r
     unfolding sameType pick
     type-custom e = rw (eq-eqb (detailOf tree j) (detailOf tree r) d, eq-eqb (detailOf tree r) 8 e) refl
 

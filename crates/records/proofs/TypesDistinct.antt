@@ -6,42 +6,20 @@ use mathlib.Core.Bool.{Bool, true, false, not, _&&_, _||_, false≢true}
 use mathlib.Core.List.{List}
 use native.Mathlib.Omega.{arith}
 use lib.Dec.{eqb, ltb}
-use lib.ListN.{length, getD, length-take, length-drop}
-use lib.Seq.{getD-take, getD-drop}
+use lib.ListN.{length, getD}
 use borrow.Author.Tests.{eq-eqb, ne-eqb, eqb-true, eqb-false, ltb-true, leb-true}
 use Rattle.laws.specs.Fix.{pick, below}
 use Rattle.laws.specs.Below.{allBelow}
 use Rattle.laws.proofs.FixLaws.{Local, fix-step, below-in, below-cong}
-use Rattle.laws.proofs.AllBelow.{all-at, all-of}
+use Rattle.laws.proofs.AllBelow.{all-at}
 use Rattle.records.specs.declared.shape.Row.{Row}
 use Rattle.records.specs.Words.{byteAt, wordAt, kindOf, detailOf, wordOf, textAt, records, A, B, C}
 use Rattle.records.specs.Shapes.{rowOf, rowAt, plainType, typeShape, shapeOf}
-use Rattle.records.specs.Rules.{kindBelow, wordOk, sameText, sameType, recordOk}
+use Rattle.records.specs.Rules.{kindBelow, wordOk, sameType, recordOk}
 use Rattle.records.specs.Types.{KrcType, KInt, KFloat, KBool, KChar, KByte, KAddress, KArray, KCustom, KNull, plainOf, typeStep, typeAt}
 use Rattle.records.proofs.Good.{Formed, WordsGood, good-of, formed-of, words-of}
-use Rattle.records.proofs.TypeLaws.{sameByte, text-same, type-custom, type-words, equal-test, new-found}
-
--- ---- texts
-
-module _ (text : List ℕ) (p m : ℕ) (h : p + m ≤ length text) where
-  text-length : length (textAt text p m) ≡ m
-  unfolding textAt
-  text-length = simp (length-take, length-drop) (omega arith)
-
-  text-byte : (i : ℕ) → i < m → getD (textAt text p m) i 0 ≡ getD text (p + i) 0
-  unfolding textAt
-  text-byte i l = rw (getD-take, getD-drop)
-
-same-name : (text : List ℕ) (p m q n : ℕ) → p + m ≤ length text → q + n ≤ length text → textAt text p m ≡ textAt text q n → sameText text p m q n ≡ true
-unfolding sameByte byteAt
-same-name text p m q n hp hq e =
-    let l : m ≡ n = sym (text-length text p m hp) ∙ ap length e ∙ text-length text q n hq in
-    sym
-    (text-same text p m q n hp hq l m
-    (all-of (sameByte text p q) m
-    (λ i k. eq-eqb (getD text (p + i) 0) (getD text (q + i) 0) (sym (text-byte text p m hp i k) ∙ ap (λ (x : List ℕ). getD x i 0) e ∙ text-byte text q n hq i (omega arith))))
-    (omega arith)
-    (omega arith))
+use Rattle.records.proofs.TextLaws.{same-texts}
+use Rattle.records.proofs.TypeLaws.{type-custom, type-words, equal-test, new-found}
 
 -- ---- details
 
@@ -142,10 +120,6 @@ module _ (tree text : List ℕ) where
       at-array = type-step r ∙ rw (d, below-in (typeAt tree text) r (wordOf tree r A) KNull (array-inner .0)) refl
 
     module _ (d : detailOf tree r ≡ 8) where
-      custom-inside : wordOf tree r A + wordOf tree r B ≤ length text
-      unfolding rowOf typeShape plainType pick wordOk
-      custom-inside = leb-true (wordOf tree r A + wordOf tree r B) (length text) (words (rowOf 28) (rw d refl) .a)
-
       at-custom : typeAt tree text r ≡ KCustom (textAt text (wordOf tree r A) (wordOf tree r B))
       unfolding typeStep pick
       at-custom = type-step r ∙ rw d refl
@@ -230,7 +204,7 @@ module _ (tree text : List ℕ) (n : ℕ) (bytes : Bytes tree) (good : (r : ℕ)
         let e : detailOf tree j ≡ 8 = same-detail ∙ d in
         let s : KCustom (textAt text (wordOf tree j A) (wordOf tree j B)) ≡ KCustom (textAt text (wordOf tree r A) (wordOf tree r B)) = sym (at-custom tree text j kj good-j e) ∙ q ∙ at-custom tree text r kr (good r h) d in
         sym (type-custom tree text j r same-detail d)
-        ∙ same-name text (wordOf tree j A) (wordOf tree j B) (wordOf tree r A) (wordOf tree r B) (custom-inside tree text j kj good-j e) (custom-inside tree text r kr (good r h) d) (cc)
+        ∙ same-texts (textAt text (wordOf tree j A) (wordOf tree j B)) (textAt text (wordOf tree r A) (wordOf tree r B)) (cc)
     same-by ih (isPlain m p n₆ n₇ n₈) =
         let o : plainType (detailOf tree j) ≡ true = ap plainType same-detail ∙ p in
         same-words n₈

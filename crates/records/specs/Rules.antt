@@ -10,7 +10,7 @@ use Rattle.laws.specs.Below.{allBelow, anyBelow, sumBelow}
 use Rattle.records.specs.declared.shape.Role.{Role}
 use Rattle.records.specs.declared.shape.Role.the-variants.{Unused, Number, Text, Length, Expr, TypeRef, TypeOrNone, Name, Variable, Arguments, Parameters, Body, Item, Rest}
 use Rattle.records.specs.declared.shape.Row.{Row}
-use Rattle.records.specs.Words.{byteAt, kindOf, detailOf, padOf, wordOf, textAt, records, none, A, B, C, D, E}
+use Rattle.records.specs.Words.{kindOf, detailOf, padOf, wordOf, textAt, sameText, records, none, A, B, C, D, E}
 use Rattle.records.specs.Shapes.{shapeOf, rowOf, rowAt, refers}
 
 -- 'A record refers only to lower numbers': the kind of the record that word w of record r refers to, 0 where that is none or not lower
@@ -117,23 +117,14 @@ unfoldable pub typesFirst : List ℕ → ℕ → Bool
 unfolding kindOf allBelow
 typesFirst tree r = not (eqb (kindOf tree r) 1) || allBelow r (λ j. eqb (kindOf tree j) 1)
 
--- two texts inside the buffer have the same bytes
-unfoldable pub sameText : List ℕ → ℕ → ℕ → ℕ → ℕ → Bool
-unfolding allBelow byteAt
-sameText text p m q n =
-    leb (p + m) (length text)
-    && leb (q + n) (length text)
-    && eqb m n
-    && allBelow m (λ i. eqb (byteAt text (p + i)) (byteAt text (q + i)))
-
 -- 'no two equal (key text aside)': Custom by its name, the others by detail, inner type and count. Inner types are the same when they are
--- the same record: were they equal otherwise, the later of them would be at fault before.
+-- the same record: were they equal otherwise, the later of them would be at fault before. So would a record whose name leaves the buffer.
 unfoldable pub sameType : List ℕ → List ℕ → ℕ → ℕ → Bool
-unfolding pick sameText detailOf wordOf
+unfolding pick sameText textAt detailOf wordOf
 sameType tree text j r =
     eqb (detailOf tree j) (detailOf tree r)
     && pick (eqb (detailOf tree r) 8)
-    (sameText text (wordOf tree j A) (wordOf tree j B) (wordOf tree r A) (wordOf tree r B))
+    (sameText (textAt text (wordOf tree j A) (wordOf tree j B)) (textAt text (wordOf tree r A) (wordOf tree r B)))
     (eqb (wordOf tree j A) (wordOf tree r A) && eqb (wordOf tree j B) (wordOf tree r B) && eqb (wordOf tree j C) (wordOf tree r C))
 
 -- 'of two equal types .. the later' is at fault

@@ -1,7 +1,9 @@
 -- Document 01, 'The call': numbers, records, words, texts. The tree and the text are lists of bytes.
 -- Assumes nothing: these are definitions.
-use Prim.Native.Nat.{ℕ, _+_, _*_, _/_}
-use mathlib.Core.List.{List}
+use Prim.Native.Nat.{ℕ, zero, suc, _+_, _*_, _/_, _%_}
+use mathlib.Core.Bool.{Bool, true, false, _&&_}
+use mathlib.Core.List.{List, [], _∷_}
+use lib.Dec.{eqb}
 use lib.ListN.{length, take, drop, getD}
 
 -- the byte at i, 0 past the end
@@ -13,13 +15,13 @@ unfoldable pub wordAt : List ℕ → ℕ → ℕ
 unfolding byteAt
 wordAt l i = byteAt l i + byteAt l (i + 1) * 256 + byteAt l (i + 2) * 65536 + byteAt l (i + 3) * 16777216
 
--- 'A tree record has 32 bytes'
-abbrev pub recordBytes : ℕ
-recordBytes = 32
-
--- how many whole records a tree has
+-- 'A tree record has 32 bytes': how many whole records a tree has
 abbrev pub records : List ℕ → ℕ
 records tree = length tree / 32
+
+-- 'over 2,048 records': too many
+abbrev pub mostRecords : ℕ
+mostRecords = 2048
 
 -- 'byte 0 kind, byte 1 detail'
 unfoldable pub kindOf : List ℕ → ℕ → ℕ
@@ -68,3 +70,30 @@ none = 4294967295
 -- 'A text is an offset and a length into the text buffer'
 unfoldable pub textAt : List ℕ → ℕ → ℕ → List ℕ
 textAt text offset len = take len (drop offset text)
+
+-- two texts are the same, byte for byte
+unfoldable pub sameText : List ℕ → List ℕ → Bool
+sameText [] [] = true
+sameText [] (b ∷ u) = false
+sameText (a ∷ t) [] = false
+sameText (a ∷ t) (b ∷ u) = eqb a b && sameText t u
+
+-- ---- what is written
+
+-- 'Numbers are little-endian': a number's lowest n bytes
+unfoldable pub bytesOf : ℕ → ℕ → List ℕ
+bytesOf zero w = []
+bytesOf (suc n) w = w % 256 ∷ bytesOf n (w / 256)
+
+-- a word of 32 bits, and 8 bytes
+unfoldable pub word : ℕ → List ℕ
+unfolding bytesOf
+word w = bytesOf 4 w
+
+unfoldable pub wide : ℕ → List ℕ
+unfolding bytesOf
+wide w = bytesOf 8 w
+
+unfoldable pub boolNumber : Bool → ℕ
+boolNumber true = 1
+boolNumber false = 0

@@ -1,13 +1,18 @@
-// Reading a tree: bytes, little-endian words, records of 32 bytes.
+// Bytes, little-endian words, records of 32 bytes: read, and written into a lent buffer.
 ghost use mathlib.Core.Path.{_≡_};
-ghost use Prim.Native.Nat.{_+_, _*_, _≤_, _<_};
+ghost use mathlib.Core.List.{_++_};
+ghost use Prim.Native.Nat.{_+_, _*_, _/_, _%_, _≤_, _<_};
 ghost use lib.ListN.{length};
-ghost use Rattle.records.specs.Words.{wordAt, wordOf, kindOf, detailOf, padOf};
+ghost use Rattle.laws.specs.Splice.{splice};
+ghost use Rattle.records.specs.Words.{wordAt, wordOf, kindOf, detailOf, padOf, word as wordBytes, boolNumber};
 
 // FFFFFFFF in a word that refers to a record means none.
 pub const NONE: u32 = 4294967295;
 
-fn wide(x: u8) -> u32
+// How many records a tree has at most.
+pub const MOST_RECORDS: usize = 2048;
+
+pub fn wide(x: u8) -> u32
     ensures { λ r. ⌜ (r ≡ x) × (r < 256) ⌝ }
 {
     x as u32
@@ -51,4 +56,76 @@ pub fn pad(tree: &[u8], r: usize) -> u32
     ensures { λ v. ⌜ v ≡ padOf (now (tree .entry)) r ⌝ }
 {
     wide(tree[r * 32 + 2]) + wide(tree[r * 32 + 3]) * 256
+}
+
+fn index(x: u32) -> usize
+    ensures { λ r. ⌜ r ≡ x ⌝ }
+{
+    x as usize
+}
+
+// Word k of record r as a record's number.
+pub fn reference(tree: &[u8], r: usize, k: usize) -> usize
+    requires { ⌜ r * 32 + 32 ≤ length (now tree) ⌝ }
+    requires { ⌜ k ≤ 4 ⌝ }
+    ensures { λ v. ⌜ v ≡ wordOf (now (tree .entry)) r k ⌝ }
+{
+    index(word(tree, r, k))
+}
+
+pub fn low(x: u64) -> u32
+    ensures { λ r. ⌜ r ≡ x % 4294967296 ⌝ }
+{
+    (x % 4294967296) as u32
+}
+
+pub fn high(x: u64) -> u32
+    ensures { λ r. ⌜ (r ≡ x / 4294967296) × (r < 4294967296) ⌝ }
+{
+    (x / 4294967296) as u32
+}
+
+pub fn mark(b: bool) -> u32
+    ensures { λ r. ⌜ r ≡ boolNumber b ⌝ }
+{
+    if b { 1 } else { 0 }
+}
+
+// v's four bytes at `at`, the lowest first.
+pub fn put_word(buf: &mut [u8], at: usize, v: u32)
+    requires { ⌜ at + 4 ≤ length (now buf) ⌝ }
+    ensures { λ _. ⌜ now (buf .exit) ≡ splice (now (buf .entry)) at (wordBytes v) ⌝ }
+{
+    buf[at] = (v % 256) as u8;
+    buf[at + 1] = (v / 256 % 256) as u8;
+    buf[at + 2] = (v / 65536 % 256) as u8;
+    buf[at + 3] = (v / 16777216) as u8;
+}
+
+// Two words, one behind the other.
+pub fn put_pair(buf: &mut [u8], at: usize, a: u32, b: u32)
+    requires { ⌜ at + 8 ≤ length (now buf) ⌝ }
+    ensures { λ _. ⌜ now (buf .exit) ≡ splice (now (buf .entry)) at (wordBytes a ++ wordBytes b) ⌝ }
+{
+    let second = at + 4;
+    put_word(buf, at, a);
+    put_word(buf, second, b);
+}
+
+// Four words.
+pub struct Four(pub u32, pub u32, pub u32, pub u32);
+
+pub fn put_four(buf: &mut [u8], at: usize, w: Four)
+    requires { ⌜ at + 16 ≤ length (now buf) ⌝ }
+    ensures { λ _. ⌜ now (buf .exit) ≡ splice (now (buf .entry)) at (wordBytes (w .0) ++ wordBytes (w .1) ++ wordBytes (w .2) ++ wordBytes (w .3)) ⌝ }
+{
+    let second = at + 8;
+    put_pair(buf, at, w.0, w.1);
+    put_pair(buf, second, w.2, w.3);
+}
+
+// What a search answers: the number of the entry, or that there is none.
+pub enum Found {
+    At(usize),
+    Nothing,
 }

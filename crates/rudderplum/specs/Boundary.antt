@@ -1,27 +1,23 @@
 -- The boundary that C and Rust call over: an answer as bytes in a lent buffer, and what each lent buffer holds afterwards.
 -- Assumes nothing: these are definitions.
-use Prim.Native.Nat.{ℕ, _/_, _%_}
+use Prim.Native.Nat.{ℕ}
 use mathlib.Core.Bool.{Bool, true, false}
-use mathlib.Core.List.{List, [], _∷_, _++_}
+use mathlib.Core.List.{List, _++_}
 use lib.Dec.{leb}
 use lib.ListN.{length}
 use Rattle.laws.specs.Fix.{pick}
 use Rattle.laws.specs.Splice.{splice}
-use Rattle.records.specs.Words.{none}
+use Rattle.records.specs.Words.{none, word}
 use Rattle.records.specs.Answer.{wordsOf}
 use Rattle.records.specs.declared.convert_error.AnswerWords.{AnswerWords}
 use Rattle.judge.specs.Judge.{Buffers, buffers, judgedIn, judgeLeaves}
 use Rattle.judge.specs.declared.Judged.{Judged}
 use Rattle.judge.specs.declared.Judged.the-variants.{Accepted, Refused}
 
--- 'Numbers are little-endian': the four bytes of a word of 32 bits
-unfoldable pub wordBytes : ℕ → List ℕ
-wordBytes w = w % 256 ∷ w / 256 % 256 ∷ w / 65536 % 256 ∷ w / 16777216 % 256 ∷ []
-
 -- 'An answer is the number, place and the record's span', four words, in this order
 unfoldable pub answerBytes : AnswerWords → List ℕ
-unfolding wordBytes
-answerBytes a = wordBytes (a .number) ++ wordBytes (a .place) ++ wordBytes (a .start) ++ wordBytes (a .end)
+unfolding word
+answerBytes a = word (a .number) ++ word (a .place) ++ word (a .start) ++ word (a .end)
 
 -- a judged tree in document 01's words; an accepted one has number 0, no place and no span
 unfoldable pub answered : List ℕ → Judged → AnswerWords

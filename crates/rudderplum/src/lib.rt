@@ -1,33 +1,21 @@
 // The library that C and Rust link: each call lends its buffers, and the answer comes back as words in a buffer too.
 ghost use mathlib.Core.Path.{_≡_};
-ghost use Prim.Native.Nat.{_+_, _≤_};
+ghost use Prim.Native.Nat.{_≤_};
 ghost use lib.ListN.{length};
 ghost use Rattle.laws.specs.Splice.{splice};
-ghost use Rattle.rudderplum.specs.Boundary.{wordBytes, answerBytes, answered, returned, lent, judgeCall};
+ghost use Rattle.rudderplum.specs.Boundary.{answerBytes, answered, returned, lent, judgeCall};
 use judge::Judged;
 use records::convert_error::AnswerWords;
+use records::words::Four;
 use records::words::NONE;
-
-// Writes a word at `at`, the lowest byte first.
-fn put_word(buffer: &mut [u8], at: usize, w: u32)
-    requires { ⌜ at + 4 ≤ length (now buffer) ⌝ }
-    ensures { λ _. ⌜ now (buffer .exit) ≡ splice (now (buffer .entry)) at (wordBytes w) ⌝ }
-{
-    buffer[at] = (w % 256) as u8;
-    buffer[at + 1] = (w / 256 % 256) as u8;
-    buffer[at + 2] = (w / 65536 % 256) as u8;
-    buffer[at + 3] = (w / 16777216 % 256) as u8;
-}
+use records::words::put_four;
 
 // Writes the four words of an answer to the start of the buffer.
 fn put_answer(buffer: &mut [u8], a: AnswerWords)
     requires { ⌜ 16 ≤ length (now buffer) ⌝ }
     ensures { λ _. ⌜ now (buffer .exit) ≡ splice (now (buffer .entry)) 0 (answerBytes a) ⌝ }
 {
-    put_word(buffer, 0, a.number);
-    put_word(buffer, 4, a.place);
-    put_word(buffer, 8, a.start);
-    put_word(buffer, 12, a.end);
+    put_four(buffer, 0, Four(a.number, a.place, a.start, a.end));
 }
 
 // A judged tree in document 01's words; an accepted one has number 0 and no place.

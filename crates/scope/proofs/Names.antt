@@ -19,8 +19,8 @@ use Rattle.conversion.specs.Ir as Ir
 use Rattle.conversion.specs.Ir.{sameText}
 use Rattle.conversion.specs.Scope.{Variable, findIn}
 use Rattle.conversion.specs.Written.{bytesOf, word, boolNumber}
-use Rattle.ir.specs.declared.words.Found.{Found}
-use Rattle.ir.specs.declared.words.Found.the-variants.{At, Nothing}
+use Rattle.records.specs.declared.words.Found.{Found}
+use Rattle.records.specs.declared.words.Found.the-variants.{At, Nothing}
 use Rattle.ir.specs.declared.structs.VarId.{VarId}
 use Rattle.ir.specs.Search.{foundOf}
 use Rattle.ir.specs.Instructions.{varOf}

@@ -7,13 +7,13 @@ ghost use Rattle.records.specs.Words.{textAt};
 ghost use Rattle.ir.specs.Search.{foundOf};
 ghost use Rattle.scope.specs.Open.{last, nameIs, Room, VariableAt, FindMeets, DeclareMeets, loopOf};
 use ir::structs::VarId;
-use ir::text::same_text;
-use ir::words::Found;
-use ir::words::Four;
-use ir::words::mark;
-use ir::words::put_four;
+use records::texts::same_text;
+use records::words::Found;
+use records::words::Four;
 use records::words::NONE;
 use records::words::load;
+use records::words::mark;
+use records::words::put_four;
 
 // For a tree of so many records: how many names are open, the record of the innermost loop (or NONE), and the function's record.
 pub struct Scope {

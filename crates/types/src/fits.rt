@@ -20,11 +20,11 @@ use crate::form::NULL;
 use crate::form::form;
 use crate::form::is_short;
 use crate::form::is_unsigned;
-use crate::form::reference;
 use crate::int_value::int_value;
 use int128::Checked;
 use int128::int_fits;
 use records::words::kind;
+use records::words::reference;
 
 // The record of the type Null.
 const NULL_TYPE: usize = 9;

@@ -9,10 +9,10 @@ ghost use Rattle.syntax.specs.Syntax.{unaryOps, binaryOps, Neg, Or};
 ghost use Rattle.syntax.specs.Decode.{exprOf, node};
 ghost use Rattle.conversion.specs.Types.{negFloat, floatTwo, floatBinary, float-value, float-fits};
 ghost use Rattle.types.specs.Floats.{floatOf, finite, small};
-use crate::form::reference;
 use crate::form::two_words;
 use records::words::detail;
 use records::words::kind;
+use records::words::reference;
 
 // A number or an infinity, a NaN, or nothing where the expression is no float constant. A NaN stands apart because its bits are not
 // an f64 that code may make.

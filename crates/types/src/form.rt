@@ -63,21 +63,6 @@ fn wide(x: u32) -> u64
     x as u64
 }
 
-fn index(x: u32) -> usize
-    ensures { λ r. ⌜ r ≡ x ⌝ }
-{
-    x as usize
-}
-
-// Word k of record r as a record's number.
-pub fn reference(tree: &[u8], r: usize, k: usize) -> usize
-    requires { ⌜ r * 32 + 32 ≤ length (now tree) ⌝ }
-    requires { ⌜ k ≤ 4 ⌝ }
-    ensures { λ v. ⌜ v ≡ wordOf (now (tree .entry)) r k ⌝ }
-{
-    index(word(tree, r, k))
-}
-
 // The 64 bits of words k and k + 1, low and high.
 pub fn two_words(tree: &[u8], r: usize, k: usize) -> u64
     requires { ⌜ r * 32 + 32 ≤ length (now tree) ⌝ }

@@ -8,12 +8,12 @@ ghost use Rattle.int128.specs.Value.{valueOf, answerOf};
 ghost use Rattle.syntax.specs.Syntax.{unaryOps, binaryOps, Neg, Or};
 ghost use Rattle.syntax.specs.Decode.{exprOf, node};
 ghost use Rattle.conversion.specs.Types.{foldUnary, foldTwo, foldBinary, int-value};
-use crate::form::reference;
 use crate::form::two_words;
 use int128::Checked;
 use int128::Int128;
 use records::words::detail;
 use records::words::kind;
+use records::words::reference;
 
 // Neg 0, BitNot 1, Not 2.
 fn fold_unary(op: u8, value: Checked) -> Checked

@@ -13,8 +13,8 @@ use crate::form::FLOAT;
 use crate::form::INT;
 use crate::form::form;
 use crate::form::is_short;
-use crate::form::reference;
 use crate::form::two_words;
+use records::words::reference;
 
 // A number below 2^63, or that it is 2^63 or more, or nothing: Custom, Null and arrays of these have no size.
 pub enum Bytes {

@@ -1,39 +1,25 @@
--- The four words of an answer, written one after the other, are its sixteen bytes. By `store-answer`. Assumes nothing.
-use Rattle.rudderplum.proofs.Stores.{store-answer}
+-- The four words of an answer are its sixteen bytes.
+-- By what `put_four` ensures. Assumes nothing.
 use borrow.Author.Needs.{needs}
+use Rattle.rudderplum.specs.Boundary.{answerBytes}
 use Rattle.rudderplum.proofs.put_answer.Statement.{statement}
 use Rattle.rudderplum.proofs.put_answer.Tie as tie
 use Rattle.rudderplum.proofs.put_answer.Reads as reads
 use Rattle.rudderplum.proofs.put_answer.Lts as lts
-use Rattle.rudderplum.proofs.put_word.Reads as put-word-reads
+use Rattle.records.proofs.words.put_four.Reads as put-four-reads
 
-put-word-requires : tie.Need-put-word-requires
-put-word-requires c κs = search needs
+-- src/lib.rt:18:5
+put-four-requires : tie.Need-put-four-requires
+put-four-requires c κs = search needs
 
-put-word-requires-2 : tie.Need-put-word-requires-2
-put-word-requires-2 c κs = search needs
-
-put-word-requires-3 : tie.Need-put-word-requires-3
-put-word-requires-3 c κs = search needs
-
-put-word-requires-4 : tie.Need-put-word-requires-4
-put-word-requires-4 c κs = search needs
-
+-- src/lib.rt:14:1
 same-length : tie.Need-same-length
 same-length c = search needs
 
+-- src/lib.rt:14:1
 returns : tie.Need-returns
-returns c =
-    let start = c .before .before .before .before .before .before .before .before .before .before .before .before .before .before .before .before .before in
-    cc (store-answer (start .args .buffer .now) (start .args .a) (start .pre))
+unfolding answerBytes
+returns c = search needs
 
 pub put-answer-spec : {M : Type 1} → statement M
-put-answer-spec =
-    tie.close
-    (tie.spec
-    put-word-requires
-    put-word-requires-2
-    put-word-requires-3
-    put-word-requires-4
-    same-length
-    returns)
+put-answer-spec = tie.close (tie.spec put-four-requires same-length returns)

@@ -6,7 +6,7 @@ use Rattle.scope.proofs.is_name.Statement.{statement}
 use Rattle.scope.proofs.is_name.Tie as tie
 use Rattle.scope.proofs.is_name.Reads as reads
 use Rattle.scope.proofs.is_name.Lts as lts
-use Rattle.ir.proofs.text.same_text.Reads as same-text-reads
+use Rattle.records.proofs.texts.same_text.Reads as same-text-reads
 use Rattle.records.proofs.words.load.Reads as load-reads
 
 -- src/lib.rt:50:27

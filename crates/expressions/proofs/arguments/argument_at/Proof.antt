@@ -7,7 +7,7 @@ use Rattle.expressions.proofs.arguments.argument_at.Tie as tie
 use Rattle.expressions.proofs.arguments.argument_at.Reads as reads
 use Rattle.expressions.proofs.arguments.argument_at.Lts as lts
 use Rattle.records.proofs.words.kind.Reads as kind-reads
-use Rattle.types.proofs.form.reference.Reads as reference-reads
+use Rattle.records.proofs.words.reference.Reads as reference-reads
 
 -- src/arguments.rt:45:9
 reference-requires : tie.Need-reference-requires

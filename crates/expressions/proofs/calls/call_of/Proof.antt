@@ -8,7 +8,7 @@ use Rattle.expressions.proofs.calls.call_of.Reads as reads
 use Rattle.expressions.proofs.calls.call_of.Lts as lts
 use Rattle.expressions.proofs.arguments.count_arguments.Reads as count-arguments-reads
 use Rattle.expressions.proofs.parts.text_part.Reads as text-part-reads
-use Rattle.types.proofs.form.reference.Reads as reference-reads
+use Rattle.records.proofs.words.reference.Reads as reference-reads
 
 -- src/calls.rt:164:9
 text-part-requires : tie.Need-text-part-requires

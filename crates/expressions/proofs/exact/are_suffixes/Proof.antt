@@ -11,7 +11,7 @@ use Rattle.expressions.proofs.exact.are_suffixes.Lts as lts
 use Rattle.expressions.proofs.arguments.argument_type.Reads as argument-type-reads
 use Rattle.expressions.proofs.arguments.next_cell.Reads as next-cell-reads
 use Rattle.expressions.proofs.arguments.type_key.Reads as type-key-reads
-use Rattle.ir.proofs.text.same_part.Reads as same-part-reads
+use Rattle.records.proofs.texts.same_part.Reads as same-part-reads
 
 abbrev Inv-loop : tie.InvT-loop
 Inv-loop tree text scratch first k at n here₀ cell₀ i₀ here cell i = Matched tree text scratch first k at n here cell i

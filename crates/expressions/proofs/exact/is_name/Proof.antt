@@ -9,7 +9,7 @@ use Rattle.expressions.proofs.exact.is_name.Tie as tie
 use Rattle.expressions.proofs.exact.is_name.Reads as reads
 use Rattle.expressions.proofs.exact.is_name.Lts as lts
 use Rattle.expressions.proofs.exact.are_suffixes.Reads as are-suffixes-reads
-use Rattle.ir.proofs.text.same_part.Reads as same-part-reads
+use Rattle.records.proofs.texts.same_part.Reads as same-part-reads
 
 sub-left : tie.Need-sub-left
 sub-left c = omega (arith, verb-inside _ _ _ _ (c .before .before .before .before .pre .0) _ (c .before .before .before .before .args .key) (c .before .before .before .before .pre .1 .1))

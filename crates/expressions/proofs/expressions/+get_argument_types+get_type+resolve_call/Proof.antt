@@ -29,7 +29,7 @@ use Rattle.expressions.proofs.operands.leaf_type.Reads as leaf-type-rea
 use Rattle.expressions.proofs.operands.unary_type.Reads as unary-type-reads
 use Rattle.expressions.proofs.operands.value_type.Reads as value-type-reads
 use Rattle.records.proofs.words.kind.Reads as kind-reads
-use Rattle.types.proofs.form.reference.Reads as reference-reads
+use Rattle.records.proofs.words.reference.Reads as reference-reads
 use Rattle.expressions.proofs.expressions.+get_argument_types+get_type+resolve_call.{
   statement,
 }

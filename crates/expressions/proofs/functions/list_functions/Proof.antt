@@ -9,7 +9,7 @@ use Rattle.expressions.proofs.functions.list_functions.Statement.{state
 use Rattle.expressions.proofs.functions.list_functions.Tie as tie
 use Rattle.expressions.proofs.functions.list_functions.Reads as reads
 use Rattle.expressions.proofs.functions.list_functions.Lts as lts
-use Rattle.ir.proofs.words.put_word.Reads as put-word-reads
+use Rattle.records.proofs.words.put_word.Reads as put-word-reads
 use Rattle.records.proofs.words.kind.Reads as kind-reads
 
 abbrev Inv-loop : tie.InvT-loop

@@ -7,7 +7,7 @@ use Rattle.expressions.proofs.functions.returns_int.Tie as tie
 use Rattle.expressions.proofs.functions.returns_int.Reads as reads
 use Rattle.expressions.proofs.functions.returns_int.Lts as lts
 use Rattle.types.proofs.form.form.Reads as form-reads
-use Rattle.types.proofs.form.reference.Reads as reference-reads
+use Rattle.records.proofs.words.reference.Reads as reference-reads
 
 -- src/functions.rt:124:9
 reference-requires : tie.Need-reference-requires

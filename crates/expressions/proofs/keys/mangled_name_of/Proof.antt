@@ -9,7 +9,7 @@ use Rattle.expressions.proofs.keys.mangled_name_of.Tie as tie
 use Rattle.expressions.proofs.keys.mangled_name_of.Reads as reads
 use Rattle.expressions.proofs.keys.mangled_name_of.Lts as lts
 use Rattle.expressions.proofs.parts.text_part.Reads as text-part-reads
-use Rattle.types.proofs.form.reference.Reads as reference-reads
+use Rattle.records.proofs.words.reference.Reads as reference-reads
 
 -- src/keys.rt:35:21
 reference-requires : tie.Need-reference-requires

@@ -6,7 +6,7 @@ use Rattle.expressions.proofs.keys.parameters_of.Statement.{statement}
 use Rattle.expressions.proofs.keys.parameters_of.Tie as tie
 use Rattle.expressions.proofs.keys.parameters_of.Reads as reads
 use Rattle.expressions.proofs.keys.parameters_of.Lts as lts
-use Rattle.types.proofs.form.reference.Reads as reference-reads
+use Rattle.records.proofs.words.reference.Reads as reference-reads
 
 -- src/keys.rt:60:5
 reference-requires : tie.Need-reference-requires

@@ -11,7 +11,7 @@ use Rattle.expressions.proofs.parameters.declare_parameter.Lts as lts
 use Rattle.expressions.proofs.parameters.taken.Reads as taken-reads
 use Rattle.records.proofs.words.word.Reads as word-reads
 use Rattle.scope.proofs.Scope.declare.Reads as declare-reads
-use Rattle.types.proofs.form.reference.Reads as reference-reads
+use Rattle.records.proofs.words.reference.Reads as reference-reads
 
 -- src/parameters.rt:53:9
 reference-requires : tie.Need-reference-requires

@@ -6,7 +6,7 @@ use Rattle.expressions.proofs.parts.same_parts.Statement.{statement}
 use Rattle.expressions.proofs.parts.same_parts.Tie as tie
 use Rattle.expressions.proofs.parts.same_parts.Reads as reads
 use Rattle.expressions.proofs.parts.same_parts.Lts as lts
-use Rattle.ir.proofs.text.same_part.Reads as same-part-reads
+use Rattle.records.proofs.texts.same_part.Reads as same-part-reads
 
 -- src/parts.rt:93:9
 returns : tie.Need-returns

@@ -12,7 +12,7 @@ use Rattle.expressions.proofs.takes.takes_arg.Lts as lts
 use Rattle.expressions.proofs.arguments.argument_at.Reads as argument-at-reads
 use Rattle.expressions.proofs.arguments.slot.Reads as slot-reads
 use Rattle.types.proofs.fits.fits.Reads as fits-reads
-use Rattle.types.proofs.form.reference.Reads as reference-reads
+use Rattle.records.proofs.words.reference.Reads as reference-reads
 
 -- src/takes.rt:46:30
 reference-requires : tie.Need-reference-requires

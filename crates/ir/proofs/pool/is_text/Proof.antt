@@ -6,7 +6,7 @@ use Rattle.ir.proofs.pool.is_text.Statement.{statement}
 use Rattle.ir.proofs.pool.is_text.Tie as tie
 use Rattle.ir.proofs.pool.is_text.Reads as reads
 use Rattle.ir.proofs.pool.is_text.Lts as lts
-use Rattle.ir.proofs.text.same_text.Reads as same-text-reads
+use Rattle.records.proofs.texts.same_text.Reads as same-text-reads
 use Rattle.records.proofs.words.load.Reads as load-reads
 
 -- src/pool.rt:34:26

@@ -1,15 +1,15 @@
 -- The eight words of an instruction are its 32 bytes.
 -- By the law of two runs, and the words of the fields. Assumes nothing.
-use Rattle.ir.proofs.WordLaws.{put-fields}
+use Rattle.ir.proofs.FieldLaws.{put-fields}
 use borrow.Author.Needs.{needs}
 use Rattle.ir.proofs.structs.put_fields.Statement.{statement}
 use Rattle.ir.proofs.structs.put_fields.Tie as tie
 use Rattle.ir.proofs.structs.put_fields.Reads as reads
 use Rattle.ir.proofs.structs.put_fields.Lts as lts
-use Rattle.ir.proofs.words.high.Reads as high-reads
-use Rattle.ir.proofs.words.low.Reads as low-reads
-use Rattle.ir.proofs.words.put_four.Reads as put-four-reads
-use Rattle.ir.proofs.words.wide.Reads as wide-reads
+use Rattle.records.proofs.words.high.Reads as high-reads
+use Rattle.records.proofs.words.low.Reads as low-reads
+use Rattle.records.proofs.words.put_four.Reads as put-four-reads
+use Rattle.records.proofs.words.wide.Reads as wide-reads
 
 -- src/structs.rt:238:16
 wide-requires : tie.Need-wide-requires

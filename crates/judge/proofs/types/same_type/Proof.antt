@@ -7,8 +7,7 @@ use Rattle.judge.proofs.types.same_type.Statement.{statement}
 use Rattle.judge.proofs.types.same_type.Tie as tie
 use Rattle.judge.proofs.types.same_type.Reads as reads
 use Rattle.judge.proofs.types.same_type.Lts as lts
-use Rattle.judge.proofs.references.size.Reads as size-reads
-use Rattle.judge.proofs.types.same_text.Reads as same-text-reads
+use Rattle.records.proofs.texts.same_text.Reads as same-text-reads
 use Rattle.records.proofs.words.detail.Reads as detail-reads
 use Rattle.records.proofs.words.word.Reads as word-reads
 
@@ -33,26 +32,15 @@ word-requires-3 c κs = search needs
 word-requires-4 : tie.Need-word-requires-4
 word-requires-4 c κs = search needs
 
-size-requires : tie.Need-size-requires
-size-requires c κs = search needs
-
-size-requires-2 : tie.Need-size-requires-2
-size-requires-2 c κs = search needs
-
-size-requires-3 : tie.Need-size-requires-3
-size-requires-3 c κs = search needs
-
-size-requires-4 : tie.Need-size-requires-4
-size-requires-4 c κs = search needs
-
 same-text-requires : tie.Need-same-text-requires
 same-text-requires c κs = search needs
 
 returns-2 : tie.Need-returns-2
 returns-2 c =
-    rw (c .same-text .ensures, c .before .size4 .ensures, c .before .before .size3 .ensures, c .before .before .before .size2 .ensures, c .before .before .before .before .size .ensures, c .before .before .before .before .before .before .word4 .ensures, c .before .before .before .before .before .before .before .word3 .ensures, c .before .before .before .before .before .before .before .before .word2 .ensures, c .before .before .before .before .before .before .before .before .before .word .ensures)
-    (type-custom _ _ _ _ (sym (c .before .before .before .before .before .before .before .before .before .before .before .detail2 .ensures) ∙ c .before .before .before .before .before .before .before .before .before .before .if1 .left ∙ c .before .before .before .before .before .before .before .before .before .before .before .before .detail .ensures)
-    (sym (c .before .before .before .before .before .before .before .before .before .before .before .before .detail .ensures) ∙ c .before .before .before .before .before .if2 .taken))
+    let second = c .before .before .before .before .before .before .before in
+    rw (c .same-text .ensures, c .before .before .word4 .ensures, c .before .before .before .word3 .ensures, c .before .before .before .before .word2 .ensures, c .before .before .before .before .before .word .ensures)
+    (type-custom _ _ _ _ (sym (second .detail2 .ensures) ∙ c .before .before .before .before .before .before .if1 .left ∙ second .before .detail .ensures)
+    (sym (second .before .detail .ensures) ∙ c .before .if2 .taken))
 
 word-requires-5 : tie.Need-word-requires-5
 word-requires-5 c κs = search needs
@@ -77,10 +65,6 @@ same-type-spec =
     word-requires-2
     word-requires-3
     word-requires-4
-    size-requires
-    size-requires-2
-    size-requires-3
-    size-requires-4
     same-text-requires
     returns-2
     word-requires-5

@@ -7,8 +7,8 @@ use Rattle.scope.proofs.Scope.declare.Statement.{statement}
 use Rattle.scope.proofs.Scope.declare.Tie as tie
 use Rattle.scope.proofs.Scope.declare.Reads as reads
 use Rattle.scope.proofs.Scope.declare.Lts as lts
-use Rattle.ir.proofs.words.mark.Reads as mark-reads
-use Rattle.ir.proofs.words.put_four.Reads as put-four-reads
+use Rattle.records.proofs.words.mark.Reads as mark-reads
+use Rattle.records.proofs.words.put_four.Reads as put-four-reads
 use Rattle.scope.proofs.find_name.Reads as find-name-reads
 
 -- src/lib.rt:117:31

@@ -7,7 +7,7 @@ use Rattle.types.proofs.fits.to_nothing.Statement.{statement}
 use Rattle.types.proofs.fits.to_nothing.Tie as tie
 use Rattle.types.proofs.fits.to_nothing.Reads as reads
 use Rattle.types.proofs.fits.to_nothing.Lts as lts
-use Rattle.types.proofs.form.reference.Reads as reference-reads
+use Rattle.records.proofs.words.reference.Reads as reference-reads
 
 -- src/fits.rt:60:8
 reference-requires : tie.Need-reference-requires

@@ -13,7 +13,7 @@ use Rattle.records.proofs.words.kind.Reads as kind-reads
 use Rattle.types.proofs.float_value.fold_binary.Reads as fold-binary-reads
 use Rattle.types.proofs.float_value.fold_neg.Reads as fold-neg-reads
 use Rattle.types.proofs.float_value.from_bits.Reads as from-bits-reads
-use Rattle.types.proofs.form.reference.Reads as reference-reads
+use Rattle.records.proofs.words.reference.Reads as reference-reads
 use Rattle.types.proofs.form.two_words.Reads as two-words-reads
 use Rattle.types.proofs.float_value.+float_value.{statement}
 use Rattle.types.proofs.float_value.+float_value.Tie.{close}

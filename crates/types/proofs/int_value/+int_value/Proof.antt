@@ -11,7 +11,7 @@ use Rattle.types.proofs.int_value.+int_value.Lts-int_value as int-value
 use Rattle.int128.proofs.Int128.from_i64_bits.Reads as from-i64-bits-reads
 use Rattle.records.proofs.words.detail.Reads as detail-reads
 use Rattle.records.proofs.words.kind.Reads as kind-reads
-use Rattle.types.proofs.form.reference.Reads as reference-reads
+use Rattle.records.proofs.words.reference.Reads as reference-reads
 use Rattle.types.proofs.form.two_words.Reads as two-words-reads
 use Rattle.types.proofs.int_value.fold_binary.Reads as fold-binary-reads
 use Rattle.types.proofs.int_value.fold_unary.Reads as fold-unary-reads

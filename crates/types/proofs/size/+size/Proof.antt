@@ -9,7 +9,7 @@ use Rattle.types.proofs.size.size.Reads as size
 use Rattle.types.proofs.size.size.Kinds as size-kinds
 use Rattle.types.proofs.size.+size.Lts-size as size-lts
 use Rattle.types.proofs.form.form.Reads as form-reads
-use Rattle.types.proofs.form.reference.Reads as reference-reads
+use Rattle.records.proofs.words.reference.Reads as reference-reads
 use Rattle.types.proofs.form.two_words.Reads as two-words-reads
 use Rattle.types.proofs.size.plain_size.Reads as plain-size-reads
 use Rattle.types.proofs.size.times.Reads as times-reads
