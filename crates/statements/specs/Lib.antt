@@ -1,0 +1,4 @@
+pub mod Stack
+pub mod Converting
+pub mod Parts
+pub mod Answers
