@@ -16,20 +16,16 @@ use Rattle.conversion.specs.Written.{bytesOf, word, wide, boolNumber, encodeIns
 use Rattle.ir.specs.declared.structs.Counters.{Counters}
 use Rattle.ir.specs.declared.structs.Instr.{Instr}
 use Rattle.ir.specs.declared.structs.Fields.{Fields}
-use Rattle.ir.specs.declared.structs.Label.{Label}
-use Rattle.ir.specs.declared.structs.VarId.{VarId}
-use Rattle.ir.specs.declared.structs.Emitted.the-variants as Emitted
-use Rattle.ir.specs.declared.structs.NewVariable.the-variants as NewVariable
+use Rattle.ir.specs.declared.structs.NewVariable.{NewVariable}
 use Rattle.ir.specs.declared.structs.LabelNumber.{LabelNumber}
-use Rattle.ir.specs.declared.structs.LabelNumber.the-variants as LabelNumber
 use Rattle.ir.specs.declared.pool.PoolNumber.{PoolNumber}
-use Rattle.ir.specs.declared.pool.PoolNumber.the-variants as PoolNumber
 use Rattle.ir.specs.Instructions.{varOf, instrOf, fieldBytes}
+use Rattle.ir.specs.Amounts.{Amount, Spent}
 use Rattle.ir.specs.Arena.{Tables, LabelFits, StringStands, FloatFits, Holds, Room}
 use Rattle.ir.specs.declared.words.Found.{Found}
 use Rattle.ir.specs.declared.words.Found.the-variants.{At, Nothing}
 use Rattle.ir.specs.Search.{first, foundOf, pairAt, textOf, fourAt}
-use Rattle.ir.specs.Steps.{grown, Stands, Next, NextIn, Wrote, NoRoom, Added, moreInstructions, moreVariables, moreLabels, moreStrings, moreFloats, EmitMeets, NewVarMeets, named, AddLabelMeets, LabelMeets, stringAt, AddStringMeets, StringMeets, AddFloatMeets, FloatMeets}
+use Rattle.ir.specs.Steps.{grown, Stands, Next, NextIn, moreInstructions, moreVariables, moreLabels, moreStrings, moreFloats, Wrote, Emits, AddsVar, named, NumbersLabel, stringAt, NumbersString, NumbersFloat}
 use Rattle.ir.proofs.Entries.{written-length}
 use Rattle.ir.proofs.Kept.{withVar, withLabel, withString, withFloat, no-code, emit-holds, var-holds, label-holds, string-holds, float-holds}
 use Rattle.ir.proofs.ReadBack.{labels-read, strings-read, floats-read}
@@ -40,80 +36,45 @@ instr-length : (i : Ir.Instr) → length (encodeInstr i) ≡ 32
 unfolding encodeInstr encodeFields word wide bytesOf
 instr-length i = refl
 
+-- what the counters asked for would spend, these spend
+same-spent : {k k′ want : Counters} {a : Amount} → Spent k want a → k′ ≡ want → Spent k k′ a
+same-spent {k = k} {a = a} h e = subst (λ (x : Counters). Spent k x a) (sym e) h
+
 pub emit-done : (i : Instr) (f : Fields) (k : Counters) (l l′ : List ℕ) → Room k l → k .instructions < 4 * k .records
-    → fieldBytes f ≡ encodeInstr (instrOf i) → l′ ≡ splice l (32 * k .instructions) (fieldBytes f)
-    → EmitMeets i k l (Emitted.Done (moreInstructions k)) l′
-unfolding EmitMeets Stands emit
+    → fieldBytes f ≡ encodeInstr (instrOf i) → l′ ≡ splice l (32 * k .instructions) (fieldBytes f) → Emits i k l (moreInstructions k) l′
+unfolding Stands emit
 emit-done i f k l l′ room small ef e =
     let w : l′ ≡ splice l (32 * k .instructions) (encodeInstr (instrOf i)) = e ∙ ap (splice l (32 * k .instructions)) ef in
-    let len : length l′ ≡ length l = written-length l (32 * k .instructions) (encodeInstr (instrOf i)) l′ w (omega (arith, instr-length (instrOf i), room .arena)) in (
-      record {
+    let len : length l′ ≡ length l = written-length l (32 * k .instructions) (encodeInstr (instrOf i)) l′ w (omega (arith, instr-length (instrOf i), room .arena)) in record {
+      next = record {
         room = omega (arith, room, len);
         records = refl;
         stands = λ text t h. (refl, emit-holds text t k l room h (instrOf i) l′ small w);
-      },
-      w,
-    )
+      };
+      spent = omega arith;
+      entry = record { counts = refl; wrote = w };
+    }
 
 -- a variable by its number and its type
 abbrev variable : ℕ → ℕ → Ir.VarId
 variable i y = record { id = i; ty = y }
 
-pub var-done : (y : ℕ) (v : VarId) (k : Counters) (l l′ : List ℕ) → Room k l → k .variables < 3 * k .records
-    → v .0 ≡ k .variables - k .variables0 → v .1 ≡ y → l′ ≡ splice l (128 * k .records + 4 * k .variables) (word y)
-    → NewVarMeets y k l (NewVariable.Is v (moreVariables k)) l′
-unfolding NewVarMeets Stands new-var encodeVar word bytesOf
-var-done y v k l l′ room small e₀ e₁ e =
-    let len : length l′ ≡ length l = written-length l (128 * k .records + 4 * k .variables) (encodeVar y) l′ e (omega (arith, room .arena)) in (
-      record {
+pub var-done : (y : ℕ) (r : NewVariable) (k : Counters) (l l′ : List ℕ) → Room k l → k .variables < 3 * k .records
+    → r .var .0 ≡ k .variables - k .«variables_before» → r .var .1 ≡ y → r .counters ≡ moreVariables k → l′ ≡ splice l (128 * k .records + 4 * k .variables) (word y)
+    → AddsVar y k l r l′
+unfolding Stands new-var encodeVar word bytesOf
+var-done y r k l l′ room small e₀ e₁ ek e =
+    let len : length l′ ≡ length l = written-length l (128 * k .records + 4 * k .variables) (encodeVar y) l′ e (omega (arith, room .arena)) in record {
+      next = subst (λ (k′ : Counters). Next (new-var y) k l (varOf (r .var)) k′ l′) (sym ek) (record {
         room = omega (arith, room, len);
         records = refl;
         stands = λ text t h.
-            let count : v .0 ≡ length (t .state .vars) = omega (arith, e₀, h .variables-hold .count, h .before .variables-before, length-append (allVars (t .done)) (t .state .vars)) in
+            let count : r .var .0 ≡ length (t .state .vars) = omega (arith, e₀, h .variables-hold .count, h .before .variables-before, length-append (allVars (t .done)) (t .state .vars)) in
             (ap₂ variable count e₁, var-holds text t k l room h y l′ small e);
-      },
-      e,
-    )
-
--- ---- no room
-
-pub emit-full : (i : Instr) (k : Counters) (l : List ℕ) → 4 * k .records ≤ k .instructions → EmitMeets i k l Emitted.Full l
-unfolding EmitMeets
-emit-full i k l h = record { full = h; same = refl }
-
-pub var-full : (y : ℕ) (k : Counters) (l : List ℕ) → 3 * k .records ≤ k .variables → NewVarMeets y k l NewVariable.Full l
-unfolding NewVarMeets
-var-full y k l h = record { full = h; same = refl }
-
-pub label-full : (kind opener : ℕ) (k : Counters) (l : List ℕ) → 3 * k .records ≤ k .labels → AddLabelMeets kind opener k l LabelNumber.Full l
-unfolding AddLabelMeets
-label-full kind opener k l h = record { full = h; same = refl }
-
-pub string-full : (offset len : ℕ) (k : Counters) (l : List ℕ) → k .records ≤ k .strings → AddStringMeets offset len k l PoolNumber.Full l
-unfolding AddStringMeets
-string-full offset len k l h = record { full = h; same = refl }
-
-pub float-full : (a b c d : ℕ) (k : Counters) (l : List ℕ) → 2 * k .records ≤ k .floats → AddFloatMeets a b c d k l PoolNumber.Full l
-unfolding AddFloatMeets
-float-full a b c d k l h = record { full = h; same = refl }
-
--- ---- an entry at the end
-
-pub label-add : (kind opener : ℕ) (k : Counters) (l l′ : List ℕ) (x : Label) → k .labels < 3 * k .records → x .0 ≡ k .labels - k .labels0
-    → l′ ≡ splice l (140 * k .records + 8 * k .labels) (word kind ++ word opener) → AddLabelMeets kind opener k l (LabelNumber.Is x (moreLabels k)) l′
-unfolding AddLabelMeets encodeLabel
-label-add kind opener k l l′ x h q e = (q, record { room = h; next = refl; wrote = e })
-
-pub string-add : (offset len : ℕ) (k : Counters) (l l′ : List ℕ) → k .strings < k .records
-    → l′ ≡ splice l (196 * k .records + 8 * k .strings) (word offset ++ word len) → AddStringMeets offset len k l (PoolNumber.Is (k .strings) (moreStrings k)) l′
-unfolding AddStringMeets
-string-add offset len k l l′ h e = (refl, record { room = h; next = refl; wrote = e })
-
-pub float-add : (a b c d : ℕ) (k : Counters) (l l′ : List ℕ) → k .floats < 2 * k .records
-    → l′ ≡ splice l (204 * k .records + 16 * k .floats) (word a ++ word b ++ word c ++ word d)
-    → AddFloatMeets a b c d k l (PoolNumber.Is (k .floats) (moreFloats k)) l′
-unfolding AddFloatMeets
-float-add a b c d k l l′ h e = (refl, record { room = h; next = refl; wrote = e })
+      });
+      spent = same-spent (omega arith) ek;
+      entry = record { counts = ek; wrote = e };
+    }
 
 -- ---- an entry that is found: nothing changes
 
@@ -131,93 +92,95 @@ added text t k′ l′ o s n x e q h = subst (λ (p : Option ℕ). Stands (numbe
 
 -- ---- labels
 
-pub label-found : (kind opener : ℕ) (k : Counters) (l : List ℕ) (x : Label) (i : ℕ) → Room k l
-    → first (k .labels - k .labels0) (pairAt l (140 * k .records + 8 * k .labels0) kind opener) 0 ≡ some i → x .0 ≡ i
-    → LabelMeets kind opener k l (LabelNumber.Is x k) l
-unfolding LabelMeets label-id
-label-found kind opener k l x i room q e = (
-  record {
+pub label-found : (kind opener : ℕ) (k : Counters) (l : List ℕ) (r : LabelNumber) (i : ℕ) → Room k l
+    → first (k .labels - k .«labels_before») (pairAt l (140 * k .records + 8 * k .«labels_before») kind opener) 0 ≡ some i → r .label .0 ≡ i → r .counters ≡ k
+    → NumbersLabel kind opener k l r l
+unfolding label-id
+label-found kind opener k l r i room q e ek = record {
+  next = subst (λ (k′ : Counters). Next (label-id (named kind opener)) k l (r .label .0) k′ l) (sym ek) (record {
     room = room;
     records = refl;
     stands = λ text t h. found text t k l room h (position (sameLabel (named kind opener)) (t .state .labels)) (withLabel (named kind opener) (t .state))
-        (length (t .state .labels)) i (x .0) (sym (labels-read text t k l h kind opener) ∙ q) e;
-  },
-  inr refl,
-)
+        (length (t .state .labels)) i (r .label .0) (sym (labels-read text t k l h kind opener) ∙ q) e;
+  });
+  spent = same-spent (omega arith) ek;
+  entry = inr (record { counts = ek; same = refl });
+}
 
-pub label-new : (kind opener : ℕ) (k : Counters) (l l′ : List ℕ) (a : LabelNumber) → Room k l → kind < 2 ^ 32 → opener < 2 ^ 32
-    → first (k .labels - k .labels0) (pairAt l (140 * k .records + 8 * k .labels0) kind opener) 0 ≡ none
-    → AddLabelMeets kind opener k l a l′ → LabelMeets kind opener k l a l′
-unfolding LabelMeets AddLabelMeets label-id encodeLabel word bytesOf
-label-new kind opener k l l′ LabelNumber.Full room hk ho q m = m
-label-new kind opener k l l′ (LabelNumber.Is x k′) room hk ho q m =
-    let e : l′ ≡ splice l (140 * k .records + 8 * k .labels) (encodeLabel (named kind opener)) = m .1 .wrote in
-    let small : k .labels < 3 * k .records = m .1 .room in
-    let len : length l′ ≡ length l = written-length l (140 * k .records + 8 * k .labels) (encodeLabel (named kind opener)) l′ e (omega (arith, room .arena)) in (
-      subst (λ (k″ : Counters). Next (label-id (named kind opener)) k l (x .0) k″ l′) (sym (m .1 .next)) (record {
+pub label-new : (kind opener : ℕ) (k : Counters) (l l′ : List ℕ) (r : LabelNumber) → Room k l → k .labels < 3 * k .records → kind < 2 ^ 32 → opener < 2 ^ 32
+    → first (k .labels - k .«labels_before») (pairAt l (140 * k .records + 8 * k .«labels_before») kind opener) 0 ≡ none
+    → r .label .0 ≡ k .labels - k .«labels_before»
+    → Wrote l (140 * k .records + 8 * k .labels) (encodeLabel (named kind opener)) (moreLabels k) (r .counters) l′ → NumbersLabel kind opener k l r l′
+unfolding label-id encodeLabel word bytesOf
+label-new kind opener k l l′ r room small hk ho q en m =
+    let e : l′ ≡ splice l (140 * k .records + 8 * k .labels) (encodeLabel (named kind opener)) = m .wrote in
+    let len : length l′ ≡ length l = written-length l (140 * k .records + 8 * k .labels) (encodeLabel (named kind opener)) l′ e (omega (arith, room .arena)) in record {
+      next = subst (λ (k′ : Counters). Next (label-id (named kind opener)) k l (r .label .0) k′ l′) (sym (m .counts)) (record {
         room = omega (arith, room, len);
         records = refl;
         stands = λ text t h.
             added text t (moreLabels k) l′ (position (sameLabel (named kind opener)) (t .state .labels)) (withLabel (named kind opener) (t .state))
-            (length (t .state .labels)) (x .0) (sym (labels-read text t k l h kind opener) ∙ q)
-            (omega (arith, m .0, h .labels-hold .count, h .before .labels-before, length-append (allLabels (t .done)) (t .state .labels)))
+            (length (t .state .labels)) (r .label .0) (sym (labels-read text t k l h kind opener) ∙ q)
+            (omega (arith, en, h .labels-hold .count, h .before .labels-before, length-append (allLabels (t .done)) (t .state .labels)))
             (label-holds text t k l room h (named kind opener) l′ (record { kind = hk; opener = ho }) small e);
-      }),
-      inl e,
-    )
+      });
+      spent = same-spent (omega arith) (m .counts);
+      entry = inl m;
+    }
 
 -- ---- strings
 
-pub string-found : (text : List ℕ) (offset len : ℕ) (k : Counters) (l : List ℕ) (i x : ℕ) → Room k l
-    → first (k .strings) (textOf text l (196 * k .records) (textAt text offset len)) 0 ≡ some i → x ≡ i
-    → StringMeets text (stringAt text offset len) k l (PoolNumber.Is x k) l
-unfolding StringMeets string-id
-string-found text offset len k l i x room q e = (
-  record {
+pub string-found : (text : List ℕ) (offset len : ℕ) (k : Counters) (l : List ℕ) (i : ℕ) (r : PoolNumber) → Room k l
+    → first (k .strings) (textOf text l (196 * k .records) (textAt text offset len)) 0 ≡ some i → r .number ≡ i → r .counters ≡ k
+    → NumbersString text (stringAt text offset len) k l r l
+unfolding string-id
+string-found text offset len k l i r room q e ek = record {
+  next = subst (λ (k′ : Counters). NextIn text (string-id (stringAt text offset len)) k l (r .number) k′ l) (sym ek) (record {
     room = room;
     records = refl;
     stands = λ t h. found text t k l room h (position (λ y. sameText (textAt text offset len) (y .text)) (t .state .strings))
-        (withString (stringAt text offset len) (t .state)) (length (t .state .strings)) i x (sym (strings-read text t k l h (textAt text offset len)) ∙ q) e;
-  },
-  inr refl,
-)
+        (withString (stringAt text offset len) (t .state)) (length (t .state .strings)) i (r .number) (sym (strings-read text t k l h (textAt text offset len)) ∙ q) e;
+  });
+  spent = same-spent (omega arith) ek;
+  entry = inr (record { counts = ek; same = refl });
+}
 
-pub string-new : (text : List ℕ) (offset len : ℕ) (k : Counters) (l l′ : List ℕ) (a : PoolNumber) → Room k l → offset < 2 ^ 32 → len < 2 ^ 32
-    → first (k .strings) (textOf text l (196 * k .records) (textAt text offset len)) 0 ≡ none
-    → AddStringMeets offset len k l a l′ → StringMeets text (stringAt text offset len) k l a l′
-unfolding StringMeets AddStringMeets string-id encodeString word bytesOf
-string-new text offset len k l l′ PoolNumber.Full room ho hn q m = m
-string-new text offset len k l l′ (PoolNumber.Is x k′) room ho hn q m =
-    let e : l′ ≡ splice l (196 * k .records + 8 * k .strings) (encodeString (stringAt text offset len)) = m .1 .wrote in
-    let small : k .strings < k .records = m .1 .room in
-    let same : length l′ ≡ length l = written-length l (196 * k .records + 8 * k .strings) (encodeString (stringAt text offset len)) l′ e (omega (arith, room .arena)) in (
-      subst (λ (k″ : Counters). NextIn text (string-id (stringAt text offset len)) k l x k″ l′) (sym (m .1 .next)) (record {
+pub string-new : (text : List ℕ) (offset len : ℕ) (k : Counters) (l l′ : List ℕ) (r : PoolNumber) → Room k l → k .strings < k .records → offset < 2 ^ 32 → len < 2 ^ 32
+    → first (k .strings) (textOf text l (196 * k .records) (textAt text offset len)) 0 ≡ none → r .number ≡ k .strings
+    → Wrote l (196 * k .records + 8 * k .strings) (word offset ++ word len) (moreStrings k) (r .counters) l′ → NumbersString text (stringAt text offset len) k l r l′
+unfolding string-id encodeString word bytesOf
+string-new text offset len k l l′ r room small ho hn q en m =
+    let e : l′ ≡ splice l (196 * k .records + 8 * k .strings) (encodeString (stringAt text offset len)) = m .wrote in
+    let same : length l′ ≡ length l = written-length l (196 * k .records + 8 * k .strings) (encodeString (stringAt text offset len)) l′ e (omega (arith, room .arena)) in record {
+      next = subst (λ (k′ : Counters). NextIn text (string-id (stringAt text offset len)) k l (r .number) k′ l′) (sym (m .counts)) (record {
         room = omega (arith, room, same);
         records = refl;
         stands = λ t h.
             added text t (moreStrings k) l′ (position (λ y. sameText (textAt text offset len) (y .text)) (t .state .strings))
-            (withString (stringAt text offset len) (t .state)) (length (t .state .strings)) x (sym (strings-read text t k l h (textAt text offset len)) ∙ q)
-            (m .0 ∙ h .strings-hold .count)
+            (withString (stringAt text offset len) (t .state)) (length (t .state .strings)) (r .number) (sym (strings-read text t k l h (textAt text offset len)) ∙ q)
+            (en ∙ h .strings-hold .count)
             (string-holds text t k l room h (stringAt text offset len) l′ (record { offset = ho; len = hn; stands = refl }) small e);
-      }),
-      inl e,
-    )
+      });
+      spent = same-spent (omega arith) (m .counts);
+      entry = inl m;
+    }
 
 -- ---- floats
 
-pub float-found : (e : FloatEntry) (a b c i x : ℕ) (k : Counters) (l : List ℕ) → Room k l
+pub float-found : (e : FloatEntry) (a b c i : ℕ) (r : PoolNumber) (k : Counters) (l : List ℕ) → Room k l
     → a ≡ e .bits % 4294967296 → b ≡ e .bits / 4294967296 → c ≡ boolNumber (e .short)
-    → first (k .floats) (fourAt l (204 * k .records) a b c) 0 ≡ some i → x ≡ i → FloatMeets e k l (PoolNumber.Is x k) l
-unfolding FloatMeets float-id
-float-found e a b c i x k l room ea eb ec q ex = (
-  record {
+    → first (k .floats) (fourAt l (204 * k .records) a b c) 0 ≡ some i → r .number ≡ i → r .counters ≡ k → NumbersFloat e k l r l
+unfolding float-id
+float-found e a b c i r k l room ea eb ec q ex ek = record {
+  next = subst (λ (k′ : Counters). Next (float-id e) k l (r .number) k′ l) (sym ek) (record {
     room = room;
     records = refl;
-    stands = λ text t h. found text t k l room h (position (sameFloat e) (t .state .floats)) (withFloat e (t .state)) (length (t .state .floats)) i x
+    stands = λ text t h. found text t k l room h (position (sameFloat e) (t .state .floats)) (withFloat e (t .state)) (length (t .state .floats)) i (r .number)
         (sym (floats-read text t k l h e) ∙ rw (← ea, ← eb, ← ec) q) ex;
-  },
-  inr refl,
-)
+  });
+  spent = same-spent (omega arith) ek;
+  entry = inr (record { counts = ek; same = refl });
+}
 
 float-bytes : (e : FloatEntry) (a b c : ℕ) → a ≡ e .bits % 4294967296 → b ≡ e .bits / 4294967296 → c ≡ boolNumber (e .short)
     → word a ++ word b ++ word c ++ word 0 ≡ encodeFloat e
@@ -229,59 +192,64 @@ float-length : (e : FloatEntry) → length (encodeFloat e) ≡ 16
 unfolding encodeFloat word wide bytesOf
 float-length e = refl
 
-pub float-new : (e : FloatEntry) (a b c : ℕ) (k : Counters) (l l′ : List ℕ) (r : PoolNumber) → Room k l
+pub float-new : (e : FloatEntry) (a b c : ℕ) (k : Counters) (l l′ : List ℕ) (r : PoolNumber) → Room k l → k .floats < 2 * k .records
     → a ≡ e .bits % 4294967296 → (b ≡ e .bits / 4294967296) × (b < 4294967296) → c ≡ boolNumber (e .short)
-    → first (k .floats) (fourAt l (204 * k .records) a b c) 0 ≡ none
-    → AddFloatMeets a b c 0 k l r l′ → FloatMeets e k l r l′
-unfolding FloatMeets AddFloatMeets float-id
-float-new e a b c k l l′ PoolNumber.Full room ea eb ec q m = m
-float-new e a b c k l l′ (PoolNumber.Is x k′) room ea eb ec q m =
+    → first (k .floats) (fourAt l (204 * k .records) a b c) 0 ≡ none → r .number ≡ k .floats
+    → Wrote l (204 * k .records + 16 * k .floats) (word a ++ word b ++ word c ++ word 0) (moreFloats k) (r .counters) l′ → NumbersFloat e k l r l′
+unfolding float-id
+float-new e a b c k l l′ r room small ea eb ec q en m =
     let w : l′ ≡ splice l (204 * k .records + 16 * k .floats) (encodeFloat e) =
-    m .1 .wrote ∙ ap (splice l (204 * k .records + 16 * k .floats)) (float-bytes e a b c ea (eb .0) ec) in
-    let small : k .floats < 2 * k .records = m .1 .room in
+    m .wrote ∙ ap (splice l (204 * k .records + 16 * k .floats)) (float-bytes e a b c ea (eb .0) ec) in
     let len : length l′ ≡ length l =
-    written-length l (204 * k .records + 16 * k .floats) (encodeFloat e) l′ w (omega (arith, float-length e, room .arena)) in (
-      subst (λ (k″ : Counters). Next (float-id e) k l x k″ l′) (sym (m .1 .next)) (record {
+    written-length l (204 * k .records + 16 * k .floats) (encodeFloat e) l′ w (omega (arith, float-length e, room .arena)) in record {
+      next = subst (λ (k′ : Counters). Next (float-id e) k l (r .number) k′ l′) (sym (m .counts)) (record {
         room = omega (arith, room, len);
         records = refl;
         stands = λ text t h.
-            added text t (moreFloats k) l′ (position (sameFloat e) (t .state .floats)) (withFloat e (t .state)) (length (t .state .floats)) x
-            (sym (floats-read text t k l h e) ∙ rw (← ea, ← eb .0, ← ec) q) (m .0 ∙ h .floats-hold .count)
+            added text t (moreFloats k) l′ (position (sameFloat e) (t .state .floats)) (withFloat e (t .state)) (length (t .state .floats)) (r .number)
+            (sym (floats-read text t k l h e) ∙ rw (← ea, ← eb .0, ← ec) q) (en ∙ h .floats-hold .count)
             (float-holds text t k l room h e l′ (record { bits = omega (arith, eb .0, eb .1) }) small w);
-      }),
-      inl w,
-    )
+      });
+      spent = same-spent (omega arith) (m .counts);
+      entry = inl (record { counts = m .counts; wrote = w });
+    }
 
 -- ---- as the code meets them: what a search answered
 
 module _ (kind opener : ℕ) (k : Counters) (l : List ℕ) (a : Found) (room : Room k l)
-    (e : a ≡ foundOf (first (k .labels - k .labels0) (pairAt l (140 * k .records + 8 * k .labels0) kind opener) 0)) where
-  pub label-at : (x : Label) (i : ℕ) → a ≡ At i → x .0 ≡ i → LabelMeets kind opener k l (LabelNumber.Is x k) l
-  label-at x i q ex = label-found kind opener k l x i room (found-some (first (k .labels - k .labels0) (pairAt l (140 * k .records + 8 * k .labels0) kind opener) 0) i a e q) ex
+    (e : a ≡ foundOf (first (k .labels - k .«labels_before») (pairAt l (140 * k .records + 8 * k .«labels_before») kind opener) 0)) where
+  pub label-at : (r : LabelNumber) (i : ℕ) → a ≡ At i → r .label .0 ≡ i → r .counters ≡ k → NumbersLabel kind opener k l r l
+  label-at r i q ex ek =
+      label-found kind opener k l r i room (found-some (first (k .labels - k .«labels_before») (pairAt l (140 * k .records + 8 * k .«labels_before») kind opener) 0) i a e q) ex ek
 
-  pub label-nowhere : (l′ : List ℕ) (r : LabelNumber) → kind < 2 ^ 32 → opener < 2 ^ 32 → a ≡ Nothing → AddLabelMeets kind opener k l r l′ → LabelMeets kind opener k l r l′
-  label-nowhere l′ r hk ho q m =
-      label-new kind opener k l l′ r room hk ho (found-none (first (k .labels - k .labels0) (pairAt l (140 * k .records + 8 * k .labels0) kind opener) 0) a e q) m
+  pub label-nowhere : (l′ : List ℕ) (r : LabelNumber) → k .labels < 3 * k .records → kind < 2 ^ 32 → opener < 2 ^ 32 → a ≡ Nothing
+      → (r .label .0 ≡ k .labels - k .«labels_before») × Wrote l (140 * k .records + 8 * k .labels) (encodeLabel (named kind opener)) (moreLabels k) (r .counters) l′
+      → NumbersLabel kind opener k l r l′
+  label-nowhere l′ r small hk ho q m =
+      label-new kind opener k l l′ r room small hk ho (found-none (first (k .labels - k .«labels_before») (pairAt l (140 * k .records + 8 * k .«labels_before») kind opener) 0) a e q) (m .0) (m .1)
 
 module _ (text : List ℕ) (offset len : ℕ) (k : Counters) (l : List ℕ) (a : Found) (room : Room k l)
     (e : a ≡ foundOf (first (k .strings) (textOf text l (196 * k .records) (textAt text offset len)) 0)) where
-  pub string-at : (x i : ℕ) → a ≡ At i → x ≡ i → StringMeets text (stringAt text offset len) k l (PoolNumber.Is x k) l
-  string-at x i q ex = string-found text offset len k l i x room (found-some (first (k .strings) (textOf text l (196 * k .records) (textAt text offset len)) 0) i a e q) ex
+  pub string-at : (r : PoolNumber) (i : ℕ) → a ≡ At i → r .number ≡ i → r .counters ≡ k → NumbersString text (stringAt text offset len) k l r l
+  string-at r i q ex ek = string-found text offset len k l i r room (found-some (first (k .strings) (textOf text l (196 * k .records) (textAt text offset len)) 0) i a e q) ex ek
 
-  pub string-nowhere : (l′ : List ℕ) (r : PoolNumber) → offset < 2 ^ 32 → len < 2 ^ 32 → a ≡ Nothing → AddStringMeets offset len k l r l′
-      → StringMeets text (stringAt text offset len) k l r l′
-  string-nowhere l′ r ho hn q m =
-      string-new text offset len k l l′ r room ho hn (found-none (first (k .strings) (textOf text l (196 * k .records) (textAt text offset len)) 0) a e q) m
+  pub string-nowhere : (l′ : List ℕ) (r : PoolNumber) → k .strings < k .records → offset < 2 ^ 32 → len < 2 ^ 32 → a ≡ Nothing
+      → (r .number ≡ k .strings) × Wrote l (196 * k .records + 8 * k .strings) (word offset ++ word len) (moreStrings k) (r .counters) l′
+      → NumbersString text (stringAt text offset len) k l r l′
+  string-nowhere l′ r small ho hn q m =
+      string-new text offset len k l l′ r room small ho hn (found-none (first (k .strings) (textOf text l (196 * k .records) (textAt text offset len)) 0) a e q) (m .0) (m .1)
 
 module _ (f e : FloatEntry) (same : e ≡ f) (b c d : ℕ) (k : Counters) (l : List ℕ) (a : Found) (room : Room k l)
     (eb : b ≡ e .bits % 4294967296) (ec : (c ≡ e .bits / 4294967296) × (c < 4294967296)) (ed : d ≡ boolNumber (e .short))
     (es : a ≡ foundOf (first (k .floats) (fourAt l (204 * k .records) b c d) 0)) where
-  pub float-at : (x i : ℕ) → a ≡ At i → x ≡ i → FloatMeets f k l (PoolNumber.Is x k) l
-  float-at x i q ex =
-      subst (λ (g : FloatEntry). FloatMeets g k l (PoolNumber.Is x k) l) same
-      (float-found e b c d i x k l room eb (ec .0) ed (found-some (first (k .floats) (fourAt l (204 * k .records) b c d) 0) i a es q) ex)
+  pub float-at : (r : PoolNumber) (i : ℕ) → a ≡ At i → r .number ≡ i → r .counters ≡ k → NumbersFloat f k l r l
+  float-at r i q ex ek =
+      subst (λ (g : FloatEntry). NumbersFloat g k l r l) same
+      (float-found e b c d i r k l room eb (ec .0) ed (found-some (first (k .floats) (fourAt l (204 * k .records) b c d) 0) i a es q) ex ek)
 
-  pub float-nowhere : (l′ : List ℕ) (r : PoolNumber) → a ≡ Nothing → AddFloatMeets b c d 0 k l r l′ → FloatMeets f k l r l′
-  float-nowhere l′ r q m =
-      subst (λ (g : FloatEntry). FloatMeets g k l r l′) same
-      (float-new e b c d k l l′ r room eb ec ed (found-none (first (k .floats) (fourAt l (204 * k .records) b c d) 0) a es q) m)
+  pub float-nowhere : (l′ : List ℕ) (r : PoolNumber) → k .floats < 2 * k .records → a ≡ Nothing
+      → (r .number ≡ k .floats) × Wrote l (204 * k .records + 16 * k .floats) (word b ++ word c ++ word d ++ word 0) (moreFloats k) (r .counters) l′
+      → NumbersFloat f k l r l′
+  float-nowhere l′ r small q m =
+      subst (λ (g : FloatEntry). NumbersFloat g k l r l′) same
+      (float-new e b c d k l l′ r room small eb ec ed (found-none (first (k .floats) (fourAt l (204 * k .records) b c d) 0) a es q) (m .0) (m .1))

@@ -15,12 +15,12 @@ use Rattle.records.specs.Words.{wordAt}
 use Rattle.conversion.specs.Ir.{FloatEntry, position, numbered, sameFloat, float-id, floatBits}
 use Rattle.conversion.specs.Written.{boolNumber}
 use Rattle.ir.specs.declared.structs.Counters.{Counters}
-use Rattle.ir.specs.declared.pool.PoolNumber.the-variants as PoolNumber
+use Rattle.ir.specs.declared.pool.PoolNumber.{PoolNumber}
 use Rattle.ir.specs.Arena.{Tables, FloatAt, Holds, Room}
 use Rattle.ir.specs.Floats.{bitsOf, entry, entryOf}
 use Rattle.ir.specs.declared.floats.FloatEntry as Code
 use Rattle.ir.specs.declared.floats.FloatBits.the-variants.{Number, Nan}
-use Rattle.ir.specs.Steps.{grown, Stands, Next, FloatMeets}
+use Rattle.ir.specs.Steps.{grown, Stands, Next, NumbersFloat}
 use Rattle.ir.proofs.Kept.{withFloat, no-code}
 use Rattle.ir.proofs.ReadBack.{no-float, floats-at}
 use Rattle.ir.proofs.SearchLaws.{position-hit}
@@ -103,20 +103,20 @@ module _ (e : FloatEntry) (text : List ℕ) (t : Tables) (x : ℕ) (k′ : Count
       (floats-at text (grown t [] (withFloat e (t .state))) k′ l′ (h .1) (length fs) (rw length-append (omega arith))))
 
 -- the entry of the number that it gives is the float that was asked for
-pub float-made : (e : FloatEntry) (text : List ℕ) (t : Tables) (k : Counters) (l : List ℕ) (x : ℕ) (k′ : Counters) (l′ : List ℕ) → Holds text t k l
-    → FloatMeets e k l (PoolNumber.Is x k′) l′ → FloatAt l′ (204 * k .records + 16 * x) e
-unfolding FloatMeets float-id
-float-made e text t k l x k′ l′ h m =
-    subst (λ (n : ℕ). FloatAt l′ (204 * n + 16 * x) e) (m .0 .records)
-    (numbered-at e text t x k′ l′ (position (sameFloat e) (t .state .floats)) refl (m .0 .stands text t h))
+pub float-made : (e : FloatEntry) (text : List ℕ) (t : Tables) (k : Counters) (l : List ℕ) (r : PoolNumber) (l′ : List ℕ) → Holds text t k l
+    → NumbersFloat e k l r l′ → FloatAt l′ (204 * k .records + 16 * r .number) e
+unfolding float-id
+float-made e text t k l r l′ h m =
+    subst (λ (n : ℕ). FloatAt l′ (204 * n + 16 * r .number) e) (m .next .records)
+    (numbered-at e text t (r .number) (r .counters) l′ (position (sameFloat e) (t .state .floats)) refl (m .next .stands text t h))
 
 -- a number: the bits of its f64; a NaN: the bits that it came with
-module _ (text : List ℕ) (t : Tables) (k : Counters) (l : List ℕ) (x : ℕ) (k′ : Counters) (l′ : List ℕ) (h : Holds text t k l) where
-  pub number-made : (f : Code.FloatEntry) → FloatMeets (entryOf (Number f)) k l (PoolNumber.Is x k′) l′
-      → FloatAt l′ (204 * k .records + 16 * x) (entry (bitsOf (f .value)) (f .short))
+module _ (text : List ℕ) (t : Tables) (k : Counters) (l : List ℕ) (r : PoolNumber) (l′ : List ℕ) (h : Holds text t k l) where
+  pub number-made : (f : Code.FloatEntry) → NumbersFloat (entryOf (Number f)) k l r l′
+      → FloatAt l′ (204 * k .records + 16 * r .number) (entry (bitsOf (f .value)) (f .short))
   unfolding entryOf
-  number-made f m = float-made (entryOf (Number f)) text t k l x k′ l′ h m
+  number-made f m = float-made (entryOf (Number f)) text t k l r l′ h m
 
-  pub nan-made : (b : ℕ) (short : Bool) → FloatMeets (entryOf (Nan b short)) k l (PoolNumber.Is x k′) l′ → FloatAt l′ (204 * k .records + 16 * x) (entry b short)
+  pub nan-made : (b : ℕ) (short : Bool) → NumbersFloat (entryOf (Nan b short)) k l r l′ → FloatAt l′ (204 * k .records + 16 * r .number) (entry b short)
   unfolding entryOf
-  nan-made b short m = float-made (entryOf (Nan b short)) text t k l x k′ l′ h m
+  nan-made b short m = float-made (entryOf (Nan b short)) text t k l r l′ h m

@@ -14,9 +14,8 @@ use Rattle.conversion.specs.Ir.{IrFunction, LabelName}
 use Rattle.conversion.specs.Written.{bytesOf, word, boolNumber, encodeInstr, encodeVar, encodeLabel, encodeFunctions, codeOf, bodyMark, allCode, allVars, allLabels}
 use Rattle.conversion.proofs.Bytes.{functions-length}
 use Rattle.ir.specs.declared.structs.Counters.{Counters}
-use Rattle.ir.specs.declared.structs.Emitted.the-variants as Emitted
 use Rattle.ir.specs.Arena.{Has, Table, All, Tables, LabelFits, Holds, Room}
-use Rattle.ir.specs.Steps.{closed, Closes, FunctionMeets}
+use Rattle.ir.specs.Steps.{closed, nextFunction, Closes}
 use Rattle.ir.proofs.Entries.{written-length, has-grown, table-before, table-behind}
 
 -- an entry's eight words
@@ -73,15 +72,11 @@ unfolding bodyMark pick boolNumber
 body-mark true c = refl
 body-mark false c = refl
 
--- the counters when the next function begins
-abbrev pub nextFunction : Counters → Counters
-nextFunction k = record { records = k .records; instructions = k .instructions; variables = k .variables; labels = k .labels; functions = k .functions + 1; strings = k .strings; floats = k .floats; instructions0 = k .instructions; variables0 = k .variables; labels0 = k .labels }
-
 module _ (r : ℕ) (body : Bool) (b : ℕ) (eb : b ≡ boolNumber body) (k : Counters) (l l′ : List ℕ) (room : Room k l) (small : k .functions < k .records) where
   abbrev words : List ℕ
   words =
-      word r ++ word b ++ word (k .instructions0) ++ word (k .instructions - k .instructions0) ++ word (k .variables0)
-      ++ word (k .variables - k .variables0) ++ word (k .labels0) ++ word (k .labels - k .labels0)
+      word r ++ word b ++ word (k .«instructions_before») ++ word (k .instructions - k .«instructions_before») ++ word (k .«variables_before»)
+      ++ word (k .variables - k .«variables_before») ++ word (k .«labels_before») ++ word (k .labels - k .«labels_before»)
 
   abbrev place : ℕ
   place = 164 * k .records + 32 * k .functions
@@ -98,20 +93,20 @@ module _ (r : ℕ) (body : Bool) (b : ℕ) (eb : b ≡ boolNumber body) (k : Cou
       abbrev f : IrFunction
       f = record { func = r; body = pick body (some (t .code)) none; vars = t .state .vars; labels = t .state .labels }
 
-      code-count : k .instructions - k .instructions0 ≡ length (codeOf (f .body))
+      code-count : k .instructions - k .«instructions_before» ≡ length (codeOf (f .body))
       code-count = omega (arith, h .instructions-hold .count, h .before .instructions-before, length-append (allCode (t .done)) (t .code), ap length (body-code body (t .code) bare))
 
-      vars-count : k .variables - k .variables0 ≡ length (t .state .vars)
+      vars-count : k .variables - k .«variables_before» ≡ length (t .state .vars)
       vars-count = omega (arith, h .variables-hold .count, h .before .variables-before, length-append (allVars (t .done)) (t .state .vars))
 
-      labels-count : k .labels - k .labels0 ≡ length (t .state .labels)
+      labels-count : k .labels - k .«labels_before» ≡ length (t .state .labels)
       labels-count = omega (arith, h .labels-hold .count, h .before .labels-before, length-append (allLabels (t .done)) (t .state .labels))
 
       words-entry : words ≡ entry (0 + length (allCode (t .done))) (0 + length (allVars (t .done))) (0 + length (allLabels (t .done))) f
       words-entry =
-          let a : k .instructions0 ≡ 0 + length (allCode (t .done)) = omega (arith, h .before .instructions-before) in
-          let c : k .variables0 ≡ 0 + length (allVars (t .done)) = omega (arith, h .before .variables-before) in
-          let d : k .labels0 ≡ 0 + length (allLabels (t .done)) = omega (arith, h .before .labels-before) in
+          let a : k .«instructions_before» ≡ 0 + length (allCode (t .done)) = omega (arith, h .before .instructions-before) in
+          let c : k .«variables_before» ≡ 0 + length (allVars (t .done)) = omega (arith, h .before .variables-before) in
+          let d : k .«labels_before» ≡ 0 + length (allLabels (t .done)) = omega (arith, h .before .labels-before) in
           rw (eb ∙ sym (body-mark body (t .code)), code-count, vars-count, labels-count, a, c, d)
 
       code-list : allCode (t .done ++ (f ∷ [])) ++ [] ≡ allCode (t .done) ++ t .code
@@ -147,14 +142,9 @@ module _ (r : ℕ) (body : Bool) (b : ℕ) (eb : b ≡ boolNumber body) (k : Cou
         fits = record { labels-fit = tt; strings-stand = h .fits .strings-stand; floats-fit = h .fits .floats-fit };
       }
 
-    pub function-done : FunctionMeets r body k l (Emitted.Done (nextFunction k)) l′
-    unfolding FunctionMeets
+    pub function-done : Closes r body k l (nextFunction k) l′
     function-done = record {
       room = omega (arith, room, written-length l place words l′ e fit);
-      records = refl;
+      counts = refl;
       stands = function-holds;
     }
-
-pub function-full : (r : ℕ) (body : Bool) (k : Counters) (l : List ℕ) → k .records ≤ k .functions → FunctionMeets r body k l Emitted.Full l
-unfolding FunctionMeets
-function-full r body k l h = record { full = h; same = refl }

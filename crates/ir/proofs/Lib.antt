@@ -1,3 +1,4 @@
+pub mod AmountLaws
 pub mod Answers
 pub mod ArenaFits
 pub mod CutLaws
@@ -9,6 +10,7 @@ pub mod Kept
 pub mod Operators
 pub mod ReadBack
 pub mod SearchLaws
+pub mod StepCases
 pub mod StepLaws
 pub mod StepUses
 pub mod TextLaws

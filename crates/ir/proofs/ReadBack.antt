@@ -109,34 +109,34 @@ no-float = record { bits = 0; short = false }
 
 module _ (text : List ℕ) (t : Tables) (k : Counters) (l : List ℕ) (h : Holds text t k l) where
   -- entry j of the labels of the function at hand
-  label-entry : (j : ℕ) → getD (allLabels (t .done) ++ t .state .labels) (k .labels0 + j) no-label ≡ getD (t .state .labels) j no-label
+  label-entry : (j : ℕ) → getD (allLabels (t .done) ++ t .state .labels) (k .«labels_before» + j) no-label ≡ getD (t .state .labels) j no-label
   label-entry j =
       ap (λ (m : ℕ). getD (allLabels (t .done) ++ t .state .labels) (m + j) no-label) (h .before .labels-before)
       ∙ getD-append-add (allLabels (t .done)) (t .state .labels) j no-label
 
-  labels-count : k .labels ≡ k .labels0 + length (t .state .labels)
+  labels-count : k .labels ≡ k .«labels_before» + length (t .state .labels)
   labels-count = h .labels-hold .count ∙ length-append (allLabels (t .done)) (t .state .labels) ∙ omega (arith, h .before .labels-before)
 
-  label-word : (j b p : ℕ) → j < length (t .state .labels) → b + 4 ≤ 8 → p ≡ 140 * k .records + (8 * (k .labels0 + j) + b)
+  label-word : (j b p : ℕ) → j < length (t .state .labels) → b + 4 ≤ 8 → p ≡ 140 * k .records + (8 * (k .«labels_before» + j) + b)
       → wordAt l p ≡ wordAt (encodeLabel (getD (t .state .labels) j no-label)) b
   label-word j b p hj hb e =
-      table-word (h .labels-hold) no-label (k .labels0 + j) b p (omega (arith, labels-count)) hb e
+      table-word (h .labels-hold) no-label (k .«labels_before» + j) b p (omega (arith, labels-count)) hb e
       ∙ ap (λ (x : LabelName). wordAt (encodeLabel x) b) (label-entry j)
 
   label-same : (kind opener j : ℕ) → j < length (t .state .labels)
-      → pairAt l (140 * k .records + 8 * k .labels0) kind opener j ≡ sameLabel (named kind opener) (getD (t .state .labels) j no-label)
+      → pairAt l (140 * k .records + 8 * k .«labels_before») kind opener j ≡ sameLabel (named kind opener) (getD (t .state .labels) j no-label)
   unfolding pairAt sameLabel
   label-same kind opener j hj =
       let f : LabelFits (getD (t .state .labels) j no-label) = all-at LabelFits (t .state .labels) no-label j (h .fits .labels-fit) hj in
       ap₂ (λ (x y : ℕ). eqb kind x && eqb opener y)
-      (label-word j 0 (140 * k .records + 8 * k .labels0 + 8 * j) hj (omega arith) (omega arith) ∙ label-kind (getD (t .state .labels) j no-label) f)
-      (label-word j 4 (140 * k .records + 8 * k .labels0 + 8 * j + 4) hj (omega arith) (omega arith) ∙ label-opener (getD (t .state .labels) j no-label) f)
+      (label-word j 0 (140 * k .records + 8 * k .«labels_before» + 8 * j) hj (omega arith) (omega arith) ∙ label-kind (getD (t .state .labels) j no-label) f)
+      (label-word j 4 (140 * k .records + 8 * k .«labels_before» + 8 * j + 4) hj (omega arith) (omega arith) ∙ label-opener (getD (t .state .labels) j no-label) f)
 
   pub labels-read : (kind opener : ℕ)
-      → first (k .labels - k .labels0) (pairAt l (140 * k .records + 8 * k .labels0) kind opener) 0 ≡ position (sameLabel (named kind opener)) (t .state .labels)
+      → first (k .labels - k .«labels_before») (pairAt l (140 * k .records + 8 * k .«labels_before») kind opener) 0 ≡ position (sameLabel (named kind opener)) (t .state .labels)
   labels-read kind opener =
-      first-position (sameLabel (named kind opener)) no-label (pairAt l (140 * k .records + 8 * k .labels0) kind opener) (t .state .labels)
-      (k .labels - k .labels0) (omega (arith, labels-count)) (label-same kind opener)
+      first-position (sameLabel (named kind opener)) no-label (pairAt l (140 * k .records + 8 * k .«labels_before») kind opener) (t .state .labels)
+      (k .labels - k .«labels_before») (omega (arith, labels-count)) (label-same kind opener)
 
   string-same : (u : List ℕ) (j : ℕ) → j < length (t .state .strings)
       → textOf text l (196 * k .records) u j ≡ sameText u (getD (t .state .strings) j no-string .text)

@@ -114,8 +114,13 @@ pub record Holds (text : List ℕ) (t : Tables) (k : Counters) (l : List ℕ) : 
   pub functions-hold : Has l (functions .from * k .records) (encodeFunctions 0 0 0 (t .done))
   pub strings-hold : Table encodeString 8 (t .state .strings) (strings .from * k .records) (k .strings) l
   pub floats-hold : Table encodeFloat 16 (t .state .floats) (floats .from * k .records) (k .floats) l
-  pub before : Before (t .done) (k .functions) (k .instructions0) (k .variables0) (k .labels0)
+  pub before : Before (t .done) (k .functions) (k .«instructions_before») (k .«variables_before») (k .«labels_before»)
   pub fits : Fits text (t .state .labels) (t .state .strings) (t .state .floats)
+
+-- some tables stand there
+pub record Held (text : List ℕ) (k : Counters) (l : List ℕ) : Type 0 where
+  pub tables : Tables
+  pub holds : Holds text tables k l
 
 -- the counters stay within the regions, and the arena is as long as document 01 lends it; its offsets fit a word
 pub record Room (k : Counters) (l : List ℕ) : Type 0 where
@@ -127,6 +132,6 @@ pub record Room (k : Counters) (l : List ℕ) : Type 0 where
   pub functions-in : k .functions ≤ k .records
   pub strings-in : k .strings ≤ k .records
   pub floats-in : k .floats ≤ 2 * k .records
-  pub instructions-from : k .instructions0 ≤ k .instructions
-  pub variables-from : k .variables0 ≤ k .variables
-  pub labels-from : k .labels0 ≤ k .labels
+  pub instructions-from : k .«instructions_before» ≤ k .instructions
+  pub variables-from : k .«variables_before» ≤ k .variables
+  pub labels-from : k .«labels_before» ≤ k .labels

@@ -1,3 +1,4 @@
+pub mod Amounts
 pub mod Arena
 pub mod Cut
 pub mod Floats

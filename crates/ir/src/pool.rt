@@ -1,13 +1,15 @@
 // The program's strings and floats: `string_id` and `float_id`. An entry's number is its index.
 ghost use mathlib.Core.Path.{_≡_};
-ghost use Prim.Native.Nat.{_+_, _*_, _≤_};
+ghost use mathlib.Core.List.{_++_};
+ghost use Prim.Native.Nat.{_+_, _*_, _≤_, _<_};
 ghost use lib.ListN.{length, getD};
 ghost use Rattle.records.specs.Words.{textAt};
 ghost use Rattle.conversion.specs.Ir.{floatBits};
+ghost use Rattle.conversion.specs.Written.{word};
 ghost use Rattle.ir.specs.Arena.{Room};
 ghost use Rattle.ir.specs.Floats.{entry, entryOf};
 ghost use Rattle.ir.specs.Search.{first, foundOf, textOf};
-ghost use Rattle.ir.specs.Steps.{stringAt, AddStringMeets, StringMeets, AddFloatMeets, FloatMeets, Next};
+ghost use Rattle.ir.specs.Steps.{stringAt, moreStrings, moreFloats, Wrote, NumbersString, NumbersFloat, Next};
 use crate::floats::FloatBits;
 use crate::floats::entry_bits;
 use crate::structs::Counters;
@@ -22,10 +24,10 @@ use crate::words::put_four;
 use crate::words::put_pair;
 use records::words::load;
 
-// An entry's number, or Full where its table has no room.
-pub enum PoolNumber {
-    Is(u32, Counters),
-    Full,
+// An entry's number, and the counters that count it.
+pub struct PoolNumber {
+    pub number: u32,
+    pub counters: Counters,
 }
 
 fn is_text(text: &[u8], s: &[u8], at: usize, j: usize, offset: u32, len: u32) -> bool
@@ -53,55 +55,59 @@ fn find_text(text: &[u8], s: &[u8], at: usize, count: usize, offset: u32, len: u
 }
 
 fn add_string(arena: &mut [u8], k: Counters, offset: u32, len: u32) -> PoolNumber
-    requires { ⌜ Room k (now arena) ⌝ }
-    ensures { λ r. ⌜ AddStringMeets offset len k (now (arena .entry)) r (now (arena .exit)) ⌝ }
+    requires { ⌜ Room k (now arena) × (k .strings < k .records) ⌝ }
+    ensures { λ r. ⌜ (r .number ≡ k .strings) × Wrote (now (arena .entry)) (196 * k .records + 8 * k .strings) (word offset ++ word len) (moreStrings k) (r .counters) (now (arena .exit)) ⌝ }
 {
-    let n = k.records;
     let v = k.strings;
-    if v >= n {
-        return PoolNumber::Full;
-    }
     let mut next = k;
     next.strings = v + 1;
-    put_pair(arena, 196 * n + 8 * v, offset, len);
-    PoolNumber::Is(v as u32, next)
+    put_pair(arena, 196 * k.records + 8 * v, offset, len);
+    PoolNumber {
+        number: v as u32,
+        counters: next,
+    }
 }
 
 // The string with this text, its entry the place of its first use.
 pub fn string_id(text: &[u8], arena: &mut [u8], k: Counters, offset: u32, len: u32) -> PoolNumber
-    requires { ⌜ Room k (now arena) ⌝ }
-    ensures { λ r. ⌜ StringMeets (now (text .entry)) (stringAt (now (text .entry)) offset len) k (now (arena .entry)) r (now (arena .exit)) ⌝ }
+    requires { ⌜ Room k (now arena) × (k .strings < k .records) ⌝ }
+    ensures { λ r. ⌜ NumbersString (now (text .entry)) (stringAt (now (text .entry)) offset len) k (now (arena .entry)) r (now (arena .exit)) ⌝ }
 {
     match find_text(text, arena, 196 * k.records, k.strings, offset, len) {
-        Found::At(i) => PoolNumber::Is(i as u32, k),
+        Found::At(i) => PoolNumber {
+            number: i as u32,
+            counters: k,
+        },
         Found::Nothing => add_string(arena, k, offset, len),
     }
 }
 
 fn add_float(arena: &mut [u8], k: Counters, w: Four) -> PoolNumber
-    requires { ⌜ Room k (now arena) ⌝ }
-    ensures { λ r. ⌜ AddFloatMeets (w .0) (w .1) (w .2) (w .3) k (now (arena .entry)) r (now (arena .exit)) ⌝ }
+    requires { ⌜ Room k (now arena) × (k .floats < 2 * k .records) ⌝ }
+    ensures { λ r. ⌜ (r .number ≡ k .floats) × Wrote (now (arena .entry)) (204 * k .records + 16 * k .floats) (word (w .0) ++ word (w .1) ++ word (w .2) ++ word (w .3)) (moreFloats k) (r .counters) (now (arena .exit)) ⌝ }
 {
-    let n = k.records;
     let v = k.floats;
-    if v >= 2 * n {
-        return PoolNumber::Full;
-    }
     let mut next = k;
     next.floats = v + 1;
-    put_four(arena, 204 * n + 16 * v, w);
-    PoolNumber::Is(v as u32, next)
+    put_four(arena, 204 * k.records + 16 * v, w);
+    PoolNumber {
+        number: v as u32,
+        counters: next,
+    }
 }
 
 // The float with these bits and this mark.
 pub fn float_id(arena: &mut [u8], k: Counters, f: FloatBits) -> PoolNumber
-    requires { ⌜ Room k (now arena) ⌝ }
-    ensures { λ r. ⌜ FloatMeets (entryOf f) k (now (arena .entry)) r (now (arena .exit)) ⌝ }
+    requires { ⌜ Room k (now arena) × (k .floats < 2 * k .records) ⌝ }
+    ensures { λ r. ⌜ NumbersFloat (entryOf f) k (now (arena .entry)) r (now (arena .exit)) ⌝ }
 {
     let e = entry_bits(f);
     let w = Four(low(e.bits), high(e.bits), mark(e.short), 0);
     match find_four(arena, 204 * k.records, k.floats, w) {
-        Found::At(i) => PoolNumber::Is(i as u32, k),
+        Found::At(i) => PoolNumber {
+            number: i as u32,
+            counters: k,
+        },
         Found::Nothing => add_float(arena, k, w),
     }
 }

@@ -1,14 +1,14 @@
 // ir/structs.rs: operands, instructions, and the numbering of a function's variables and labels. The tables stand as regions of one
 // lent buffer, the arena; how many entries each has goes in and comes back by value.
 ghost use mathlib.Core.Path.{_≡_};
-ghost use Prim.Native.Nat.{_+_, _*_, _≤_};
+ghost use Prim.Native.Nat.{_+_, _-_, _*_, _≤_, _<_};
 ghost use lib.ListN.{length, getD};
 ghost use Rattle.laws.specs.Splice.{splice};
 ghost use Rattle.syntax.specs.Syntax.{unaryOps, binaryOps, unaryNumber, binaryNumber, Neg, Or};
-ghost use Rattle.conversion.specs.Written.{tag, operandValue, encodeInstr};
+ghost use Rattle.conversion.specs.Written.{tag, operandValue, encodeInstr, encodeLabel};
 ghost use Rattle.ir.specs.Instructions.{operandOf, instrOf, fieldBytes, oneBytes, noneBytes, twoBytes};
 ghost use Rattle.ir.specs.Arena.{Room};
-ghost use Rattle.ir.specs.Steps.{EmitMeets, NewVarMeets, AddLabelMeets, LabelMeets, FunctionMeets};
+ghost use Rattle.ir.specs.Steps.{named, moreLabels, Wrote, Emits, AddsVar, NumbersLabel, Closes};
 use crate::words::Found;
 use crate::words::Four;
 use crate::words::find_pair;
@@ -72,8 +72,8 @@ pub struct Fields {
     pub owner: u32,
 }
 
-// How many entries each table has, for a tree of so many records, and (with a 0) how many instructions, variables and labels there
-// were when the function at hand began.
+// How many entries each table has, for a tree of so many records, and how many instructions, variables and labels there were before
+// the function at hand began.
 pub struct Counters {
     pub records: usize,
     pub instructions: usize,
@@ -82,25 +82,21 @@ pub struct Counters {
     pub functions: usize,
     pub strings: usize,
     pub floats: usize,
-    pub instructions0: usize,
-    pub variables0: usize,
-    pub labels0: usize,
+    pub instructions_before: usize,
+    pub variables_before: usize,
+    pub labels_before: usize,
 }
 
-// Full: the table has no room. It has no number of document 01; that sizes suffice shows that it never comes.
-pub enum Emitted {
-    Done(Counters),
-    Full,
+// A new variable, and the counters that count it.
+pub struct NewVariable {
+    pub var: VarId,
+    pub counters: Counters,
 }
 
-pub enum NewVariable {
-    Is(VarId, Counters),
-    Full,
-}
-
-pub enum LabelNumber {
-    Is(Label, Counters),
-    Full,
+// A label's number, and the counters that count it.
+pub struct LabelNumber {
+    pub label: Label,
+    pub counters: Counters,
 }
 
 fn tag_of(o: Operand) -> u8
@@ -245,96 +241,91 @@ fn put_fields(arena: &mut [u8], at: usize, f: Fields)
 }
 
 // `instrs.push`.
-pub fn emit(arena: &mut [u8], k: Counters, i: Instr) -> Emitted
-    requires { ⌜ Room k (now arena) ⌝ }
-    ensures { λ r. ⌜ EmitMeets i k (now (arena .entry)) r (now (arena .exit)) ⌝ }
+pub fn emit(arena: &mut [u8], k: Counters, i: Instr) -> Counters
+    requires { ⌜ Room k (now arena) × (k .instructions < 4 * k .records) ⌝ }
+    ensures { λ r. ⌜ Emits i k (now (arena .entry)) r (now (arena .exit)) ⌝ }
 {
     let n = k.instructions;
-    if n >= 4 * k.records {
-        return Emitted::Full;
-    }
     let f = fields_of(i);
     let mut next = k;
     next.instructions = n + 1;
     put_fields(arena, 32 * n, f);
-    Emitted::Done(next)
+    next
 }
 
 // A new variable of this type: its number is its index among its function's variables.
 pub fn new_var(arena: &mut [u8], k: Counters, ty: u32) -> NewVariable
-    requires { ⌜ Room k (now arena) ⌝ }
-    ensures { λ r. ⌜ NewVarMeets ty k (now (arena .entry)) r (now (arena .exit)) ⌝ }
+    requires { ⌜ Room k (now arena) × (k .variables < 3 * k .records) ⌝ }
+    ensures { λ r. ⌜ AddsVar ty k (now (arena .entry)) r (now (arena .exit)) ⌝ }
 {
-    let n = k.records;
     let v = k.variables;
-    if v >= 3 * n {
-        return NewVariable::Full;
-    }
-    let id = VarId((v - k.variables0) as u32, ty);
+    let var = VarId((v - k.variables_before) as u32, ty);
     let mut next = k;
     next.variables = v + 1;
-    put_word(arena, 128 * n + 4 * v, ty);
-    NewVariable::Is(id, next)
+    put_word(arena, 128 * k.records + 4 * v, ty);
+    NewVariable {
+        var,
+        counters: next,
+    }
 }
 
 // A label more at the end.
 fn add_label(arena: &mut [u8], k: Counters, kind: u32, opener: u32) -> LabelNumber
-    requires { ⌜ Room k (now arena) ⌝ }
-    ensures { λ r. ⌜ AddLabelMeets kind opener k (now (arena .entry)) r (now (arena .exit)) ⌝ }
+    requires { ⌜ Room k (now arena) × (k .labels < 3 * k .records) ⌝ }
+    ensures { λ r. ⌜ (r .label .0 ≡ k .labels - k .«labels_before») × Wrote (now (arena .entry)) (140 * k .records + 8 * k .labels) (encodeLabel (named kind opener)) (moreLabels k) (r .counters) (now (arena .exit)) ⌝ }
 {
-    let n = k.records;
     let v = k.labels;
-    if v >= 3 * n {
-        return LabelNumber::Full;
-    }
-    let id = Label((v - k.labels0) as u32);
+    let label = Label((v - k.labels_before) as u32);
     let mut next = k;
     next.labels = v + 1;
-    put_pair(arena, 140 * n + 8 * v, kind, opener);
-    LabelNumber::Is(id, next)
+    put_pair(arena, 140 * k.records + 8 * v, kind, opener);
+    LabelNumber {
+        label,
+        counters: next,
+    }
 }
 
 // The label of this kind that this record opens: its number is its index among its function's labels, added the first time it is asked.
 pub fn label_id(arena: &mut [u8], k: Counters, kind: u32, opener: u32) -> LabelNumber
-    requires { ⌜ Room k (now arena) ⌝ }
-    ensures { λ r. ⌜ LabelMeets kind opener k (now (arena .entry)) r (now (arena .exit)) ⌝ }
+    requires { ⌜ Room k (now arena) × (k .labels < 3 * k .records) ⌝ }
+    ensures { λ r. ⌜ NumbersLabel kind opener k (now (arena .entry)) r (now (arena .exit)) ⌝ }
 {
-    let at = 140 * k.records + 8 * k.labels0;
-    match find_pair(arena, at, k.labels - k.labels0, kind, opener) {
-        Found::At(i) => LabelNumber::Is(Label(i as u32), k),
+    let at = 140 * k.records + 8 * k.labels_before;
+    match find_pair(arena, at, k.labels - k.labels_before, kind, opener) {
+        Found::At(i) => LabelNumber {
+            label: Label(i as u32),
+            counters: k,
+        },
         Found::Nothing => add_label(arena, k, kind, opener),
     }
 }
 
 // The function at hand is done: its entry, and the next one begins.
-pub fn add_function(arena: &mut [u8], k: Counters, owner: u32, body: bool) -> Emitted
-    requires { ⌜ Room k (now arena) ⌝ }
-    ensures { λ r. ⌜ FunctionMeets owner body k (now (arena .entry)) r (now (arena .exit)) ⌝ }
+pub fn add_function(arena: &mut [u8], k: Counters, owner: u32, body: bool) -> Counters
+    requires { ⌜ Room k (now arena) × (k .functions < k .records) ⌝ }
+    ensures { λ r. ⌜ Closes owner body k (now (arena .entry)) r (now (arena .exit)) ⌝ }
 {
     let n = k.functions;
-    if n >= k.records {
-        return Emitted::Full;
-    }
     let at = 164 * k.records + 32 * n;
     let back = at + 16;
     let a = Four(
         owner,
         mark(body),
-        k.instructions0 as u32,
-        (k.instructions - k.instructions0) as u32,
+        k.instructions_before as u32,
+        (k.instructions - k.instructions_before) as u32,
     );
     let b = Four(
-        k.variables0 as u32,
-        (k.variables - k.variables0) as u32,
-        k.labels0 as u32,
-        (k.labels - k.labels0) as u32,
+        k.variables_before as u32,
+        (k.variables - k.variables_before) as u32,
+        k.labels_before as u32,
+        (k.labels - k.labels_before) as u32,
     );
     let mut next = k;
     next.functions = n + 1;
-    next.instructions0 = k.instructions;
-    next.variables0 = k.variables;
-    next.labels0 = k.labels;
+    next.instructions_before = k.instructions;
+    next.variables_before = k.variables;
+    next.labels_before = k.labels;
     put_four(arena, at, a);
     put_four(arena, back, b);
-    Emitted::Done(next)
+    next
 }

@@ -1,9 +1,9 @@
 -- The string of this text.
 -- What the search found, or a string more. Assumes nothing.
-use native.Mathlib.Omega.{arith}
-use Rattle.ir.proofs.Answers.{string-at, string-nowhere}
-use Rattle.ir.proofs.SearchLaws.{found-small}
 use borrow.Author.Needs.{needs}
+use native.Mathlib.Omega.{arith}
+use Rattle.ir.proofs.SearchLaws.{found-small}
+use Rattle.ir.proofs.Answers.{string-at, string-nowhere}
 use Rattle.ir.proofs.pool.string_id.Statement.{statement}
 use Rattle.ir.proofs.pool.string_id.Tie as tie
 use Rattle.ir.proofs.pool.string_id.Reads as reads
@@ -11,43 +11,43 @@ use Rattle.ir.proofs.pool.string_id.Lts as lts
 use Rattle.ir.proofs.pool.add_string.Reads as add-string-reads
 use Rattle.ir.proofs.pool.find_text.Reads as find-text-reads
 
--- src/pool.rt:74:34
+-- src/pool.rt:76:34
 mul-find-text : tie.Need-mul-find-text
 mul-find-text c = search needs
 
--- src/pool.rt:74:11
+-- src/pool.rt:76:11
 find-text-requires : tie.Need-find-text-requires
 find-text-requires c κs = search needs
 
--- src/pool.rt:75:19
+-- src/pool.rt:77:19
 enum-known-i : tie.Need-enum-known-i
 enum-known-i c = search needs
 
--- src/pool.rt:75:40
+-- src/pool.rt:78:21
 cast-t12 : tie.Need-cast-t12
 cast-t12 c = omega (arith, found-small _ _ _ _ (c .before .before .before .find-text .ensures) (c .before .i .given .1))
 
--- src/pool.rt:76:38
+-- src/pool.rt:81:38
 enum-told : tie.Need-enum-told
 enum-told c = search needs
 
--- src/pool.rt:76:27
+-- src/pool.rt:81:27
 add-string-requires : tie.Need-add-string-requires
 add-string-requires c κs = search needs
 
--- src/pool.rt:70:1
+-- src/pool.rt:72:1
 same-length : tie.Need-same-length
 same-length c = search needs
 
--- src/pool.rt:70:1
+-- src/pool.rt:72:1
 returns : tie.Need-returns
 returns c = search string-at
 
--- src/pool.rt:70:1
+-- src/pool.rt:72:1
 same-length-2 : tie.Need-same-length-2
 same-length-2 c = search needs
 
--- src/pool.rt:70:1
+-- src/pool.rt:72:1
 returns-2 : tie.Need-returns-2
 returns-2 c = search string-nowhere
 

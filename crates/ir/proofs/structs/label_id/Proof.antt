@@ -1,9 +1,9 @@
 -- The label of a kind and a record.
 -- What the search found, or a label more. Assumes nothing.
-use native.Mathlib.Omega.{arith}
-use Rattle.ir.proofs.Answers.{label-at, label-nowhere}
-use Rattle.ir.proofs.SearchLaws.{found-small}
 use borrow.Author.Needs.{needs}
+use native.Mathlib.Omega.{arith}
+use Rattle.ir.proofs.SearchLaws.{found-small}
+use Rattle.ir.proofs.Answers.{label-at, label-nowhere}
 use Rattle.ir.proofs.structs.label_id.Statement.{statement}
 use Rattle.ir.proofs.structs.label_id.Tie as tie
 use Rattle.ir.proofs.structs.label_id.Reads as reads
@@ -11,55 +11,55 @@ use Rattle.ir.proofs.structs.label_id.Lts as lts
 use Rattle.ir.proofs.structs.add_label.Reads as add-label-reads
 use Rattle.ir.proofs.words.find_pair.Reads as find-pair-reads
 
--- src/structs.rt:301:14
+-- src/structs.rt:293:14
 mul-at : tie.Need-mul-at
 mul-at c = search needs
 
--- src/structs.rt:301:32
+-- src/structs.rt:293:32
 mul-at-2 : tie.Need-mul-at-2
 mul-at-2 c = search needs
 
--- src/structs.rt:301:14
+-- src/structs.rt:293:14
 add-at : tie.Need-add-at
 add-at c = search needs
 
--- src/structs.rt:302:32
+-- src/structs.rt:294:32
 sub-find-pair : tie.Need-sub-find-pair
 sub-find-pair c = search needs
 
--- src/structs.rt:302:11
+-- src/structs.rt:294:11
 find-pair-requires : tie.Need-find-pair-requires
 find-pair-requires c κs = search needs
 
--- src/structs.rt:303:19
+-- src/structs.rt:295:19
 enum-known-i : tie.Need-enum-known-i
 enum-known-i c = search needs
 
--- src/structs.rt:303:47
+-- src/structs.rt:296:26
 cast-t13 : tie.Need-cast-t13
 cast-t13 c = omega (arith, found-small _ _ _ _ (c .before .before .before .find-pair .ensures) (c .before .i .given .1))
 
--- src/structs.rt:304:37
+-- src/structs.rt:299:37
 enum-told : tie.Need-enum-told
 enum-told c = search needs
 
--- src/structs.rt:304:27
+-- src/structs.rt:299:27
 add-label-requires : tie.Need-add-label-requires
 add-label-requires c κs = search needs
 
--- src/structs.rt:297:1
+-- src/structs.rt:289:1
 same-length : tie.Need-same-length
 same-length c = search needs
 
--- src/structs.rt:297:1
+-- src/structs.rt:289:1
 returns : tie.Need-returns
 returns c = search label-at
 
--- src/structs.rt:297:1
+-- src/structs.rt:289:1
 same-length-2 : tie.Need-same-length-2
 same-length-2 c = search needs
 
--- src/structs.rt:297:1
+-- src/structs.rt:289:1
 returns-2 : tie.Need-returns-2
 returns-2 c = search label-nowhere
 

@@ -1,0 +1,116 @@
+-- A step put another way: equal at every state, grouped otherwise, or the branch that is taken of a choice. What the one owes the other owes.
+-- By the equation at the tables' state; a choice by cases of its test or of the type. Assumes nothing.
+use mathlib.Core.Path.{_≡_, refl, sym, ap, _∙_, subst}
+use mathlib.Core.Bool.{Bool, true, false}
+use mathlib.Core.List.{List, _++_, append-assoc}
+use Prim.Native.Nat.{ℕ}
+use native.Mathlib.Omega.{arith}
+use Rattle.laws.specs.Fix.{pick}
+use Rattle.syntax.specs.Syntax.{Ty, TInt, TFloat, TBool, TChar, TByte, TAddress, TArray, TCustom, TNull}
+use Rattle.conversion.specs.ConvertError.{ConvertErrorKind}
+use Rattle.conversion.specs.Ir.{Instr, State, Out, made, failed, M, after, bind, _>>=_, _>>_}
+use Rattle.conversion.specs.Types.{onInt, onFloat, isInt, isFloat}
+use Rattle.ir.specs.declared.structs.Counters.{Counters}
+use Rattle.ir.specs.Steps.{Stands, NextIn, StopsIn}
+
+-- ---- equal at every state
+
+module _ {A : Type 0} {text : List ℕ} {m m′ : M A} {k : Counters} {l : List ℕ} where
+  pub next-by : {a : A} {k′ : Counters} {l′ : List ℕ} → ((s : State) → m s ≡ m′ s) → NextIn text m k l a k′ l′ → NextIn text m′ k l a k′ l′
+  next-by {a = a} {k′ = k′} {l′ = l′} e n = record {
+    room = n .room;
+    records = n .records;
+    stands = λ t h. subst (λ (o : Out A). Stands o a text t k′ l′) (e (t .state)) (n .stands t h);
+  }
+
+  pub stop-by : {e : ConvertErrorKind} {r : ℕ} → ((s : State) → m s ≡ m′ s) → StopsIn text m k l e r → StopsIn text m′ k l e r
+  stop-by q n = record { stops = λ t h. sym (q (t .state)) ∙ n .stops t h }
+
+-- ---- grouped otherwise
+
+after-after : {A : Type 0} (c d : List Instr) (o : Out A) → after (c ++ d) o ≡ after c (after d o)
+unfolding after
+after-after c d (made a e s) = ap (λ (x : List Instr). made a x s) (append-assoc c d e)
+after-after c d (failed e r) = refl
+
+after-bind : {A B : Type 0} (c : List Instr) (o : Out A) (g : A → M B) → bind (after c o) g ≡ after c (bind o g)
+unfolding bind after
+after-bind c (made a d s) g = after-after c d (g a s)
+after-bind c (failed e r) g = refl
+
+bind-bind : {A B C : Type 0} (o : Out A) (f : A → M B) (g : B → M C) → bind (bind o f) g ≡ bind o (λ a. f a >>= g)
+unfolding bind _>>=_
+bind-bind (made a c s) f g = after-bind c (f a s) g
+bind-bind (failed e r) f g = refl
+
+module _ {A B C : Type 0} (m : M A) (f : A → M B) (g : B → M C) where
+  pub regroup : (s : State) → ((m >>= f) >>= g) s ≡ (m >>= (λ a. f a >>= g)) s
+  unfolding _>>=_
+  regroup s = bind-bind (m s) f g
+
+  pub ungroup : (s : State) → (m >>= (λ a. f a >>= g)) s ≡ ((m >>= f) >>= g) s
+  ungroup s = sym (regroup s)
+
+module _ {A B C : Type 0} (m : M A) (f : M B) (g : M C) where
+  pub regroup-seq : (s : State) → ((m >> f) >> g) s ≡ (m >> (f >> g)) s
+  unfolding _>>=_ _>>_
+  regroup-seq s = bind-bind (m s) (λ a. f) (λ b. g)
+
+  pub ungroup-seq : (s : State) → (m >> (f >> g)) s ≡ ((m >> f) >> g) s
+  ungroup-seq s = sym (regroup-seq s)
+
+-- ---- choices: which branch is taken
+
+pub picked : {X : Type 0} (b : Bool) (x y : X) → b ≡ true → pick b x y ≡ x
+unfolding pick
+picked b x y e = ap (λ (c : Bool). pick c x y) e
+
+pub skipped : {X : Type 0} (b : Bool) (x y : X) → b ≡ false → pick b x y ≡ y
+unfolding pick
+skipped b x y e = ap (λ (c : Bool). pick c x y) e
+
+pub on-int : {X : Type 0} (t : Ty) (d : X) (f : Bool → Bool → X) (short unsigned : Bool) → t ≡ TInt short unsigned → onInt t d f ≡ f short unsigned
+unfolding onInt
+on-int t d f short unsigned e = ap (λ (u : Ty). onInt u d f) e
+
+pub on-float : {X : Type 0} (t : Ty) (d : X) (f : Bool → X) (short : Bool) → t ≡ TFloat short → onFloat t d f ≡ f short
+unfolding onFloat
+on-float t d f short e = ap (λ (u : Ty). onFloat u d f) e
+
+-- true is not false
+clash : true ≡ false → ⊥
+unfolding pick
+clash e = let z : _≡_ {A = ℕ} 0 1 = ap (λ (b : Bool). pick b 0 1) e in omega arith
+
+pub no-int : {X : Type 0} (t : Ty) (d : X) (f : Bool → Bool → X) → isInt t ≡ false → onInt t d f ≡ d
+unfolding onInt isInt
+no-int (TInt s u) d f e = absurd (clash e)
+no-int (TFloat s) d f e = refl
+no-int TBool d f e = refl
+no-int TChar d f e = refl
+no-int TByte d f e = refl
+no-int (TAddress y) d f e = refl
+no-int (TArray y n) d f e = refl
+no-int (TCustom t) d f e = refl
+no-int TNull d f e = refl
+
+pub no-float : {X : Type 0} (t : Ty) (d : X) (f : Bool → X) → isFloat t ≡ false → onFloat t d f ≡ d
+unfolding onFloat isFloat
+no-float (TFloat s) d f e = absurd (clash e)
+no-float (TInt s u) d f e = refl
+no-float TBool d f e = refl
+no-float TChar d f e = refl
+no-float TByte d f e = refl
+no-float (TAddress y) d f e = refl
+no-float (TArray y n) d f e = refl
+no-float (TCustom t) d f e = refl
+no-float TNull d f e = refl
+
+-- ---- a step that is equal to one that is known: what it owes
+
+module _ {A : Type 0} {text : List ℕ} {m m′ : M A} {k : Counters} {l : List ℕ} where
+  pub next-of : {a : A} {k′ : Counters} {l′ : List ℕ} → m′ ≡ m → NextIn text m k l a k′ l′ → NextIn text m′ k l a k′ l′
+  next-of e n = next-by (λ s. ap (λ (x : M A). x s) (sym e)) n
+
+  pub stop-of : {d : ConvertErrorKind} {r : ℕ} → m′ ≡ m → StopsIn text m k l d r → StopsIn text m′ k l d r
+  stop-of e n = stop-by (λ s. ap (λ (x : M A). x s) (sym e)) n
