@@ -34,21 +34,21 @@ module _ (P : Program) (F : Functions) where
   pub if-parts : (r : ℕ) (e : Expr) (sc : Scope) (then : M Scope)
       → convert-if P F r e sc then ≡ ifHead P F false r e sc >> (then >> (placeLabel (conditionEnd r) >> pure sc))
   unfolding convert-if ifHead jumpIfNot placeLabel
-  if-parts r e sc then = simp (seq-is, regroup, pure-first)
+  if-parts r e sc then = simp (seq-is, regroup)
 
   pub if-else-parts : (r : ℕ) (e : Expr) (sc : Scope) (then otherwise : M Scope)
       → convertIfElse P F r e sc then otherwise
       ≡ ifHead P F true r e sc >> (then >> (ifMiddle r >> (otherwise >> (placeLabel (conditionEnd r) >> pure sc))))
   unfolding convertIfElse ifHead ifMiddle jumpIfNot jumpTo placeLabel
-  if-else-parts r e sc then otherwise = simp (seq-is, regroup, pure-first)
+  if-else-parts r e sc then otherwise = simp (seq-is, regroup)
 
   pub while-parts : (r : ℕ) (e : Expr) (sc : Scope) (body : M Scope)
       → convert-while-loop P F r e sc body ≡ whileHead P F r e sc >> (body >> (loopBack r >> pure sc))
   unfolding convert-while-loop whileHead loopBack jumpIfNot jumpTo placeLabel
-  while-parts r e sc body = simp (seq-is, regroup, pure-first)
+  while-parts r e sc body = simp (seq-is, regroup)
 
   pub for-parts : (r : ℕ) (x : VarId) (short unsigned : Bool) (from until : Expr) (sc : Scope) (body : M Scope)
       → forLoop P F r x short unsigned from until sc body
       ≡ forBounds P F (x .ty) from until sc >> (forBegin P F r x short unsigned from sc >> (forTest P F r x until sc >> (body >> (loopBack r >> pure sc))))
   unfolding forLoop forBounds forBegin forTest loopBack jumpIfNot jumpTo placeLabel
-  for-parts r x short unsigned from until sc body = simp (seq-is, regroup, pure-first)
+  for-parts r x short unsigned from until sc body = simp (seq-is, regroup)

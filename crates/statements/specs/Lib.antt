@@ -1,4 +1,3 @@
 pub mod Stack
-pub mod Converting
+pub mod Meets
 pub mod Parts
-pub mod Answers

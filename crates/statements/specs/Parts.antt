@@ -7,12 +7,19 @@ use mathlib.Core.List.{List}
 use lib.IntN.{pos}
 use Rattle.laws.specs.Fix.{pick}
 use Rattle.syntax.specs.Syntax.{UnaryOp, BinaryOp, Lt, Add, Expr, Function, Program, boolType}
+use Rattle.conversion.specs.ConvertError as C
+use Rattle.conversion.specs.ConvertError.{Result, ok}
 use Rattle.conversion.specs.Ir.{VarId, Operand, OVar, OInt, Copy, Unary, Binary, Label, Jump, JumpIfNot, Call, LabelName, loopStart, loopEnd, loopCheck, otherwiseLabel, conditionEnd, logicRhs, logicEnd, M, _>>=_, _>>_, pure, emit, new-var, label-id}
 use Rattle.conversion.specs.Scope.{Scope}
-use Rattle.conversion.specs.Expressions.{Functions, Callee}
-use Rattle.conversion.specs.Statements.{fit-operand, convert-expr, convert-cond, checkBound, callValue}
+use Rattle.conversion.specs.Expressions.{Functions, Callee, unwrapOr}
+use Rattle.conversion.specs.Statements.{fit-operand, fit-args, emitArgs, convert-expr, convert-cond, checkBound, callValue}
 
 -- ---- expressions
+
+-- the type that the sides of a Binary of type y are fitted to: the one they have in common, or y
+unfoldable pub operandType : Result (Option ℕ) → ℕ → Result ℕ
+unfolding C._>>=_ unwrapOr
+operandType common y = C._>>=_ common (λ c. ok (unwrapOr y c))
 
 -- a Label where the label stands, a Jump to it, a JumpIfNot
 unfoldable pub placeLabel : LabelName → M (Unit {0})
@@ -83,6 +90,13 @@ module _ (P : Program) where
     dest ← new-var y
     emit (Binary dest o a1 b1)
     pure (OVar dest)
+
+  -- the values of a call, fitted to the parameters of f, 'directly before it as Arg'
+  unfoldable pub passArgs : Function → List Operand → M (Unit {0})
+  unfolding _>>=_ fit-args emitArgs
+  passArgs f operands = do
+    l ← fit-args P operands f
+    emitArgs l
 
 module _ (P : Program) (F : Functions) where
   -- a call whose arguments are computed, its result in a new variable of type y
