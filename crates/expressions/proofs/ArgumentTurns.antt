@@ -22,7 +22,6 @@ use Rattle.conversion.specs.Scope as Def
 use Rattle.conversion.specs.Expressions.{TypedArg, Functions, get-type, get-argument-types}
 use Rattle.conversion.specs.Written.{word}
 use Rattle.scope.specs.declared.Scope.{Scope}
-use Rattle.scope.specs.Open.{Stands}
 use Rattle.types.specs.Fits.{IsExpr}
 use Rattle.expressions.specs.declared.answers.Outcome.{Outcome}
 use Rattle.expressions.specs.declared.answers.Outcome.the-variants as Outcome
@@ -30,11 +29,11 @@ use Rattle.expressions.specs.declared.answers.ExprType.{ExprType}
 use Rattle.expressions.specs.declared.answers.ExprType.the-variants as ExprType
 use Rattle.expressions.specs.declared.arguments.Argument.{Argument}
 use Rattle.expressions.specs.declared.arguments.Argument.the-variants as Argument
-use Rattle.expressions.specs.Places.{IsKind, TypeAt, ArgsAt, noFunction, exprAt, argsAt}
+use Rattle.syntax.specs.Places.{IsKind, TypeAt, ArgsAt, noFunction, exprAt, argsAt}
 use Rattle.expressions.specs.Keys.{allKeys}
-use Rattle.expressions.specs.Slots.{slotAt, slotted, Typed, Frame, Slots, typeIn, Ready}
+use Rattle.expressions.specs.Slots.{Stands, slotAt, slotted, Typed, Frame, Slots, typeIn, Ready}
 use Rattle.expressions.specs.Answers.{refusal, doneWith, ArgumentIs, TypeMeets, ArgsMeet}
-use Rattle.expressions.proofs.Lists.{Cell, cell-is, args-end}
+use Rattle.syntax.proofs.Lists.{Cell, cell-is, args-end}
 use Rattle.expressions.proofs.SlotLaws.{frame-refl, frame-trans, stands-frame, ready-frame, put-frame, put-here, slots-refl, slots-trans, slot-kept, put-slots}
 use Rattle.expressions.proofs.TypingLaws.{type-ok, type-refused, is-typed, expr-low, place-is, call-list, call-low}
 

@@ -12,14 +12,13 @@ use Rattle.conversion.specs.Expressions.{commonOf, common-type}
 use Rattle.ir.specs.declared.words.Found.{Found}
 use Rattle.ir.specs.declared.words.Found.the-variants as Found
 use Rattle.scope.specs.declared.Scope.{Scope}
-use Rattle.scope.specs.Open.{Stands}
 use Rattle.expressions.specs.declared.answers.ExprType.{ExprType}
 use Rattle.expressions.specs.declared.answers.ExprType.the-variants as ExprType
 use Rattle.expressions.specs.declared.answers.Common.{Common}
 use Rattle.expressions.specs.declared.answers.Common.the-variants as Common
-use Rattle.expressions.specs.Places.{exprAt}
+use Rattle.syntax.specs.Places.{exprAt}
 use Rattle.expressions.specs.Keys.{allKeys}
-use Rattle.expressions.specs.Slots.{typeIn, Slots, Ready}
+use Rattle.expressions.specs.Slots.{Stands, typeIn, Slots, Ready}
 use Rattle.expressions.specs.Answers as Answers
 use Rattle.expressions.specs.Answers.{numberOf, TypeFound, IsCommon, TypeMeets, CommonMeets}
 use Rattle.expressions.proofs.SlotLaws.{frame-trans, stands-frame, slots-trans}

@@ -29,15 +29,16 @@ use Rattle.ir.proofs.Entries.{word-same}
 use Rattle.scope.specs.declared.Scope.{Scope}
 use Rattle.scope.specs.declared.Declared.{Declared}
 use Rattle.scope.specs.declared.Declared.the-variants as Declared
-use Rattle.scope.specs.Open.{Open, Stands, more, variable, DeclareMeets}
+use Rattle.scope.specs.Open.{variableAt, variablesAt, variablesOf, variable, entryOf as declaredEntry, Afforded, Added, Taken, DeclareMeets}
+use Rattle.scope.proofs.ScopeLaws.{added-entry, added-fits, added-long, added-room}
 use Rattle.expressions.specs.declared.parameters.Parameters.{Parameters as Answered}
 use Rattle.expressions.specs.declared.parameters.Parameters.the-variants as Answer
-use Rattle.expressions.specs.Places.{TypeAt, ParamsAt, functionOf, paramsAt}
+use Rattle.syntax.specs.Places.{TypeAt, ParamsAt, functionOf, paramsAt}
 use Rattle.expressions.specs.Keys.{Keyed}
-use Rattle.expressions.specs.Slots.{Ready}
+use Rattle.expressions.specs.Slots.{Stands, Ready}
 use Rattle.expressions.specs.Answers.{refusal}
 use Rattle.expressions.specs.Parameters.{parameterOf, withParams, emptyIn, untilTaken, entryOf, entries, OneMore, ParametersMeet}
-use Rattle.expressions.proofs.Lists.{left, left-some, cell-is, next-list, next-falls, left-most, params-end, parameter-item, parameter-type}
+use Rattle.syntax.proofs.Lists.{left, left-some, cell-is, next-list, next-falls, left-most, params-end, parameter-item, parameter-type}
 use Rattle.expressions.proofs.KeySearch.{records-most}
 
 -- ---- bytes and words outside what was written
@@ -113,10 +114,12 @@ module _ (tree text s : List ℕ) (functions : ℕ) (sc : Scope) (ready : Ready 
 
   module _ (o n : ℕ) (v : VarId) (eo : o ≡ wordOf tree item A) (en : n ≡ wordOf tree item B) (e₀ : v .0 ≡ sc .names) (e₁ : v .1 ≡ wordOf tree item C)
       (s′ : List ℕ) where
-    pub never-full : DeclareMeets text o n v false sc s Declared.Full s′ → ⊥
-    unfolding DeclareMeets
-    never-full (e, inl h) = omega (arith, h, few, ready .scoped .records-are)
-    never-full (e, inr h) = omega (arith, h, e₁, the-type .below, ready .keyed .good .few)
+    -- each parameter has a record
+    pub is-afforded : Afforded sc v
+    is-afforded = record {
+      names = omega (arith, few, ready .scoped .records-are);
+      type = omega (arith, e₁, the-type .below, ready .keyed .good .few);
+    }
 
     name-is : textAt text o n ≡ parameter .name
     unfolding textOf
@@ -126,38 +129,27 @@ module _ (tree text s : List ℕ) (functions : ℕ) (sc : Scope) (ready : Ready 
     unfolding textOf
     is-param = rw (eo, en, e₀, e₁)
 
-    pub name-taken : (e : ConvertError) → e ≡ record { kind = AlreadyDeclared; place = item } → DeclareMeets text o n v false sc s Declared.Taken s′
+    pub name-taken : (e : ConvertError) → e ≡ record { kind = AlreadyDeclared; place = item } → Taken text o n v false sc s s′
         → OneMore tree text functions sc parameter s s′ (Answer.Refused e)
-    unfolding DeclareMeets isSome someAnd find-variable
-    name-taken e q (k, t) = OneMore.refused q (λ S st. rw (← name-is) (rw (t (S .variables) st .found))) k
+    unfolding isSome someAnd find-variable
+    name-taken e q t = OneMore.refused q (λ S st. rw (← name-is, st, t .found) refl) (t .same)
 
-    module _ (sc′ : Scope) (m : DeclareMeets text o n v false sc s (Declared.Done sc′) s′) where
-      abbrev entry : List ℕ
-      entry = word o ++ word n ++ word (v .0) ++ word (2 * v .1 + boolNumber false)
-
+    module _ (sc′ : Scope) (m : Added text o n v false sc s s′ sc′) where
       abbrev place-of : ℕ
       place-of = 8 * sc .records + 16 * sc .names
 
-      is-more : sc′ ≡ more sc
-      unfolding DeclareMeets
-      is-more = m .0
-
-      fits-in : place-of + length entry ≤ length s
-      fits-in = rw (entry-long o n (v .0) (2 * v .1 + boolNumber false)) (omega (arith, ready .scoped .room .scratch, few, ready .scoped .records-are))
-
-      written : s′ ≡ splice s place-of entry
-      unfolding DeclareMeets
-      written = m .2
+      fits-in : place-of + length (declaredEntry o n v false) ≤ length s
+      fits-in = added-fits tree text o n v false sc s s′ sc′ m (ready .scoped .room) is-afforded
 
       same-long : length s′ ≡ length s
-      same-long = rw written (length-splice s place-of entry fits-in)
+      same-long = added-long tree text o n v false sc s s′ sc′ m (ready .scoped .room) is-afforded
 
       written-entry : s′ ≡ splice s (8 * records tree + 16 * sc .names) (entryOf tree parameter (sc .names))
       unfolding boolNumber
-      written-entry = written ∙ rw (ready .scoped .records-are, eo, en, e₀, e₁, add-zero (2 * wordOf tree item C)) refl
+      written-entry = m .written ∙ rw (ready .scoped .records-are, eo, en, e₀, e₁, add-zero (2 * wordOf tree item C)) refl
 
       low-word : (p : ℕ) → p + 4 ≤ place-of → wordAt s′ p ≡ wordAt s p
-      low-word p h = rw written (word-apart s place-of entry fits-in p (inl h))
+      low-word p h = rw (m .written) (word-apart s place-of (declaredEntry o n v false) fits-in p (inl h))
 
       keyed-more : Keyed tree text s′ functions
       keyed-more = record {
@@ -171,35 +163,33 @@ module _ (tree text s : List ℕ) (functions : ℕ) (sc : Scope) (ready : Ready 
       }
 
       more-stands : (l : List Variable) → Stands text s sc l → Stands text s′ sc′ (parameterOf parameter (sc .names) ∷ l)
-      unfolding DeclareMeets
-      more-stands l st = rw (is-more, ← is-param) (m .3 l st .stands)
+      more-stands l st = rw (st, ← is-param) (sym (m .added))
 
       -- the type of the innermost is the parameter's; those of the others stand as they stood
+      last-type : wordAt s′ (8 * records tree + 16 * sc .names + 12) / 2 ≡ wordOf tree item C
+      last-type = rw (← ready .scoped .records-are) (ap (λ (x : Variable). x .var-id .ty) (added-entry tree text o n v false sc s s′ sc′ m)) ∙ e₁
+
       types-more : (j : ℕ) → j < sc .names + 1 → Dec (j < sc .names) → TypeAt tree (wordAt s′ (8 * records tree + 16 * j + 12) / 2)
-      unfolding Open
       types-more j h (yes l) =
           subst (λ (w : ℕ). TypeAt tree (w / 2)) (sym (low-word (8 * records tree + 16 * j + 12) (omega (arith, l, ready .scoped .records-are)))) (ready .scoped .types j l)
-      types-more j h (no l) =
-          let head = more-stands (ready .scoped .variables) (ready .scoped .stands) .names .0 in
-          subst (TypeAt tree) (head .typed ∙ ap (λ (p : ℕ). wordAt s′ p / 2) (omega (arith, h, l, ready .scoped .records-are, ready .scoped .stands .count, ap (λ (x : Scope). x .records) is-more))) the-type
+      types-more j h (no l) = let z : j ≡ sc .names = omega (arith, h, l) in rw (z, last-type) the-type
 
       pub ready-more : Ready tree text s′ functions sc′
-      unfolding DeclareMeets
       ready-more = record {
         keyed = keyed-more;
         scoped = record {
-          records-are = rw is-more (ready .scoped .records-are);
-          room = rw is-more (m .1);
-          variables = parameterOf parameter (sc .names) ∷ ready .scoped .variables;
-          stands = more-stands (ready .scoped .variables) (ready .scoped .stands);
-          types = λ j h. types-more j (rw is-more at h) (decLt j (sc .names));
+          records-are = rw (m .scope) (ready .scoped .records-are);
+          room = added-room tree text o n v false sc s s′ sc′ m (ready .scoped .room) is-afforded;
+          variables = variablesOf text s′ sc′;
+          stands = refl;
+          types = λ j h. types-more j (rw (m .scope) at h) (decLt j (sc .names));
         };
       }
 
       pub one-more : OneMore tree text functions sc parameter s s′ (Answer.Done sc′)
-      unfolding DeclareMeets isSome someAnd find-variable
-      one-more = OneMore.done ready-more (rw is-more refl) (rw is-more refl) (rw is-more refl)
-          (λ S st. (rw (← name-is) (rw (m .3 (S .variables) st .free)), more-stands (S .variables) st))
+      unfolding isSome someAnd find-variable
+      one-more = OneMore.done ready-more (rw (m .scope) refl) (rw (m .scope) refl) (rw (m .scope) refl)
+          (λ S st. (rw (← name-is, st, m .free) refl, more-stands (S .variables) st))
           written-entry
 
   -- as the code has them: p is the parameter's record, and y, o and n are three of its words
@@ -211,24 +201,27 @@ module _ (tree text s : List ℕ) (functions : ℕ) (sc : Scope) (ready : Ready 
     place-word = rw ep item-word
 
     module _ (y o n : ℕ) (ey : y ≡ wordOf tree p C) (eo : o ≡ wordOf tree p A) (en : n ≡ wordOf tree p B)
-        (v : VarId) (e₀ : v .0 ≡ sc .names) (e₁ : v .1 ≡ y) (s′ : List ℕ) (r : Declared) (m : DeclareMeets text o n v false sc s r s′) where
+        (v : VarId) (e₀ : v .0 ≡ sc .names) (e₁ : v .1 ≡ y) where
       of-item : (x k : ℕ) → x ≡ wordOf tree p k → x ≡ wordOf tree item k
       of-item x k e = e ∙ ap (λ (i : ℕ). wordOf tree i k) ep
 
-      met : (d : Declared) → r ≡ d → DeclareMeets text o n v false sc s d s′
-      met d q = subst (λ (x : Declared). DeclareMeets text o n v false sc s x s′) q m
+      pub met-room : Afforded sc v
+      met-room = is-afforded o n v (of-item o A eo) (of-item n B en) e₀ (e₁ ∙ of-item y C ey) s
 
-      pub met-done : (sc′ : Scope) → r ≡ Declared.Done sc′ → OneMore tree text functions sc parameter s s′ (Answer.Done sc′)
-      met-done sc′ q = one-more o n v (of-item o A eo) (of-item n B en) e₀ (e₁ ∙ of-item y C ey) s′ sc′ (met (Declared.Done sc′) q)
+      module _ (s′ : List ℕ) (r : Declared) (m : DeclareMeets text o n v false sc s s′ r) where
+        pub met-done : (sc′ : Scope) → r ≡ Declared.Done sc′ → OneMore tree text functions sc parameter s s′ (Answer.Done sc′)
+        unfolding DeclareMeets
+        met-done sc′ q =
+            one-more o n v (of-item o A eo) (of-item n B en) e₀ (e₁ ∙ of-item y C ey) s′ sc′
+            (subst (λ (x : Declared). DeclareMeets text o n v false sc s s′ x) q m)
 
-      pub met-taken : r ≡ Declared.Taken → (a : Answered) → a ≡ Answer.Refused (record { kind = AlreadyDeclared; place = p })
-          → OneMore tree text functions sc parameter s s′ a
-      met-taken q a ea =
-          subst (OneMore tree text functions sc parameter s s′) (sym ea)
-          (name-taken o n v (of-item o A eo) (of-item n B en) e₀ (e₁ ∙ of-item y C ey) s′ (record { kind = AlreadyDeclared; place = p }) (rw ep refl) (met Declared.Taken q))
-
-      pub met-full : r ≡ Declared.Full → ⊥
-      met-full q = never-full o n v (of-item o A eo) (of-item n B en) e₀ (e₁ ∙ of-item y C ey) s′ (met Declared.Full q)
+        pub met-taken : r ≡ Declared.Taken → (a : Answered) → a ≡ Answer.Refused (record { kind = AlreadyDeclared; place = p })
+            → OneMore tree text functions sc parameter s s′ a
+        unfolding DeclareMeets
+        met-taken q a ea =
+            subst (OneMore tree text functions sc parameter s s′) (sym ea)
+            (name-taken o n v (of-item o A eo) (of-item n B en) e₀ (e₁ ∙ of-item y C ey) s′ (record { kind = AlreadyDeclared; place = p }) (rw ep refl)
+            (subst (λ (x : Declared). DeclareMeets text o n v false sc s s′ x) q m))
 
 -- ---- the loop
 
@@ -251,15 +244,15 @@ pub record Turn (tree text : List ℕ) (functions f : ℕ) (s₀ s : List ℕ) (
 module _ (tree text : List ℕ) (functions f : ℕ) (s₀ : List ℕ) where
   pub start : (w : ℕ) (sc : Scope) → Keyed tree text s₀ functions → functionOf tree text f .params ≡ paramsAt tree text w → ParamsAt tree w
       → sc ≡ record { records = records tree; names = 0; inner = Words.none; function = f } → Turn tree text functions f s₀ s₀ w sc
-  unfolding Open entries
+  unfolding variablesAt entries
   start w sc k e l q = record {
     ready = record {
       keyed = k;
       scoped = record {
         records-are = rw q refl;
         room = record { scratch = rw q (k .listed .room); names-in = rw q (omega arith) };
-        variables = [];
-        stands = nobody;
+        variables = variablesOf text s₀ sc;
+        stands = refl;
         types = λ j h. absurd (none-open j (rw q at h));
       };
     };
@@ -282,7 +275,7 @@ module _ (tree text : List ℕ) (functions f : ℕ) (s₀ : List ℕ) where
       none-open j h = omega (arith, h)
 
       nobody : Stands text s₀ sc []
-      nobody = record { names = tt; count = rw q refl }
+      nobody = rw q refl
 
   module _ (s : List ℕ) (cell : ℕ) (sc : Scope) (t : Turn tree text functions f s₀ s cell sc) where
     pub turn-end : cell ≡ Words.none → ParametersMeet tree text functions f s₀ s (Answer.Done sc)

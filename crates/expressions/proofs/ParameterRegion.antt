@@ -20,11 +20,11 @@ use Rattle.conversion.specs.Types.{isSome}
 use Rattle.conversion.specs.Scope as Def
 use Rattle.conversion.specs.Scope.{find-variable, withVariable}
 use Rattle.expressions.specs.declared.parameters.Parameters.{Parameters as Answered}
-use Rattle.expressions.specs.Places.{FunctionAt, ParamsAt, functionOf, paramsAt}
+use Rattle.syntax.specs.Places.{FunctionAt, ParamsAt, functionOf, paramsAt}
 use Rattle.expressions.specs.Keys.{Keyed}
 use Rattle.expressions.specs.Parameters.{parameterOf, emptyIn, untilTaken, entries, ParametersMeet}
-use Rattle.expressions.proofs.Lists.{left, cell-is, next-list, next-falls, left-most, params-end, parameter-item}
-use Rattle.expressions.proofs.FunctionLaws.{function-params, params-are}
+use Rattle.syntax.proofs.Lists.{left, cell-is, next-list, next-falls, left-most, params-end, parameter-item}
+use Rattle.syntax.proofs.Records.{function-params, params-are}
 use Rattle.expressions.proofs.ParameterLaws.{byte-apart, entries-long}
 
 -- only the region of the open names may differ

@@ -1,19 +1,19 @@
 -- What typing leaves of the scratch: the frame outside the slots keeps the functions' list and the open names, and a slot keeps a type that it has.
 -- By the bytes of a splice, and slot by slot. Assumes nothing.
-use mathlib.Core.Path.{_≡_, refl, sym, ap, ap₂, _∙_, subst}
+use mathlib.Core.Path.{_≡_, refl, sym, ap, _∙_, subst}
 use mathlib.Core.Logic.{_⊎_, inl, inr}
 use mathlib.Core.Bool.{false}
 use mathlib.Core.List.{List, [], _∷_}
-use Prim.Native.Nat.{ℕ, _+_, _*_, _/_, _%_, _^_, _≤_, _<_}
+use Prim.Native.Nat.{ℕ, _+_, _*_, _/_, _^_, _≤_, _<_}
 use native.Mathlib.Omega.{arith}
-use lib.Dec.{eqb, ltb}
+use lib.Dec.{ltb}
 use lib.ListN.{length, take, drop, getD}
 use lib.Seq.{getD-take, getD-drop}
 use borrow.Author.Tests.{ltb-true, ltb-false}
 use Rattle.laws.specs.Splice.{splice}
 use Rattle.laws.proofs.Splices.{length-splice, part-before, part-behind, part-grown, part-element}
 use Rattle.laws.proofs.Tests.{tested}
-use Rattle.records.specs.Words.{byteAt, wordAt, textAt, records}
+use Rattle.records.specs.Words.{byteAt, wordAt, records}
 use Rattle.conversion.specs.ConvertError.{ok}
 use Rattle.conversion.specs.Scope as Def
 use Rattle.conversion.specs.Scope.{Variable}
@@ -21,11 +21,12 @@ use Rattle.conversion.specs.Written.{bytesOf, word}
 use Rattle.ir.proofs.Entries.{word-same}
 use Rattle.ir.proofs.ReadBack.{word-back}
 use Rattle.scope.specs.declared.Scope.{Scope}
-use Rattle.scope.specs.Open.{Open, Stands}
+use Rattle.scope.specs.Open.{Kept}
+use Rattle.scope.proofs.ScopeLaws.{variables-kept}
 use Rattle.types.specs.Fits.{IsExpr}
-use Rattle.expressions.specs.Places.{TypeAt}
+use Rattle.syntax.specs.Places.{TypeAt}
 use Rattle.expressions.specs.Keys.{Listed, Keyed}
-use Rattle.expressions.specs.Slots.{slotAt, Scoped, Frame, typeIn, Slots, Ready}
+use Rattle.expressions.specs.Slots.{Stands, slotAt, Scoped, Frame, typeIn, Slots, Ready}
 use Rattle.expressions.proofs.KeySearch.{records-most}
 
 -- ---- bytes and words of a splice
@@ -102,25 +103,13 @@ module _ (tree s s′ : List ℕ) (f : Frame tree s s′) where
       (at 2 (p + 2) refl (omega arith))
       (at 3 (p + 3) refl (omega arith))
 
-  open-frame : (text : List ℕ) (n : ℕ) → n ≡ records tree → (l : List Variable) → Open text s n l → Open text s′ n l
-  unfolding Open
-  open-frame text n e [] o = tt
-  open-frame text n e (v ∷ l) o =
-      let p : ℕ = 8 * n + 16 * length l in
-      let w : (q : ℕ) → wordAt s′ (p + q) ≡ wordAt s (p + q) = λ q. frame-word (p + q) (inr (omega arith)) in
-      let w₀ : wordAt s′ p ≡ wordAt s p = frame-word p (inr (omega arith)) in
-      let x = o .0 in (
-        record {
-          named = x .named ∙ sym (ap₂ (textAt text) w₀ (w 4));
-          number = x .number ∙ sym (w 8);
-          typed = x .typed ∙ sym (ap (λ (y : ℕ). y / 2) (w 12));
-          fixed = x .fixed ∙ sym (ap (λ (y : ℕ). eqb (y % 2) 1) (w 12));
-        },
-        open-frame text n e l (o .1),
-      )
+  -- the open names lie above the slots
+  pub names-frame : (sc : Scope) → sc .records ≡ records tree → Kept (sc .records) (sc .names) s s′
+  unfolding byteAt
+  names-frame sc e = record { bytes = λ j a b. f .outside j (inr (omega (arith, a, e))); long = f .same-length }
 
   pub stands-frame : (text : List ℕ) (sc : Scope) (l : List Variable) → sc .records ≡ records tree → Stands text s sc l → Stands text s′ sc l
-  stands-frame text sc l e st = record { names = open-frame text (sc .records) e l (st .names); count = st .count }
+  stands-frame text sc l e st = st ∙ sym (variables-kept text s s′ (sc .records) (sc .names) (names-frame sc e) (sc .names) (omega arith))
 
   pub scoped-frame : (text : List ℕ) (sc : Scope) → Scoped tree text s sc → Scoped tree text s′ sc
   scoped-frame text sc k = record {

@@ -24,7 +24,6 @@ use Rattle.conversion.specs.ConvertError.{Result, ok, err, _>>=_}
 use Rattle.conversion.specs.Scope as Def
 use Rattle.conversion.specs.Expressions.{Callee, get-type, get-argument-types, resolve-call, resolveTyped, unaryType, binaryType, valueType, return-type}
 use Rattle.scope.specs.declared.Scope.{Scope}
-use Rattle.scope.specs.Open.{Stands}
 use Rattle.types.specs.Fits.{IsExpr}
 use Rattle.types.proofs.FromGood.{is-expr}
 use Rattle.expressions.specs.declared.answers.Outcome.{Outcome}
@@ -33,12 +32,12 @@ use Rattle.expressions.specs.declared.answers.ExprType.{ExprType}
 use Rattle.expressions.specs.declared.answers.ExprType.the-variants as ExprType
 use Rattle.expressions.specs.declared.answers.Resolved.{Resolved}
 use Rattle.expressions.specs.declared.answers.Resolved.the-variants as Resolved
-use Rattle.expressions.specs.Places.{IsKind, TypeAt, ArgsAt, exprAt, argsAt}
+use Rattle.syntax.specs.Places.{IsKind, TypeAt, ArgsAt, exprAt, argsAt}
 use Rattle.expressions.specs.Keys.{allKeys}
-use Rattle.expressions.specs.Slots.{typeIn, slotted, Slots, Ready}
+use Rattle.expressions.specs.Slots.{Stands, typeIn, slotted, Slots, Ready}
 use Rattle.expressions.specs.Calls.{typedAt}
 use Rattle.expressions.specs.Answers.{refusal, typeOf, doneWith, calleeOf, valueOf, IsTyped, IsCallee, TypeMeets, ArgsMeet, CallMeets}
-use Rattle.expressions.proofs.Lists.{args-end}
+use Rattle.syntax.proofs.Lists.{args-end}
 use Rattle.expressions.proofs.SlotLaws.{frame-refl, frame-trans, stands-frame, slots-refl, slots-trans}
 
 -- ---- results one after the other

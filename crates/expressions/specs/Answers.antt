@@ -15,7 +15,6 @@ use Rattle.conversion.specs.Functions.{get-all-functions}
 use Rattle.ir.specs.declared.words.Found.{Found}
 use Rattle.ir.specs.declared.words.Found.the-variants as Found
 use Rattle.scope.specs.declared.Scope.{Scope}
-use Rattle.scope.specs.Open.{Stands}
 use Rattle.types.specs.Fits.{IsExpr}
 use Rattle.expressions.specs.declared.answers.Outcome.{Outcome}
 use Rattle.expressions.specs.declared.answers.Outcome.the-variants as Outcome
@@ -34,9 +33,9 @@ use Rattle.expressions.specs.declared.answers.Candidates.the-variants as
 use Rattle.expressions.specs.declared.operands.Sides.{Sides}
 use Rattle.expressions.specs.declared.arguments.Argument.{Argument}
 use Rattle.expressions.specs.declared.arguments.Argument.the-variants as Argument
-use Rattle.expressions.specs.Places.{TypeAt, FunctionAt, functionOf, exprAt, argsAt}
+use Rattle.syntax.specs.Places.{TypeAt, FunctionAt, functionOf, exprAt, argsAt}
 use Rattle.expressions.specs.Keys.{allKeys, listedIn, Keyed}
-use Rattle.expressions.specs.Slots.{slotted, Typed, Frame, Slots, typeIn}
+use Rattle.expressions.specs.Slots.{Stands, slotted, Typed, Frame, Slots, typeIn}
 
 -- a refusal
 unfoldable pub refusal : {A : Type 0} → ConvertError → Result A

@@ -16,11 +16,10 @@ use Rattle.conversion.specs.Scope as Def
 use Rattle.conversion.specs.Scope.{Variable, find-variable, withVariable}
 use Rattle.conversion.specs.Written.{word}
 use Rattle.scope.specs.declared.Scope.{Scope}
-use Rattle.scope.specs.Open.{Stands}
 use Rattle.expressions.specs.declared.parameters.Parameters.{Parameters}
 use Rattle.expressions.specs.declared.parameters.Parameters.the-variants as Parameters
-use Rattle.expressions.specs.Places.{functionOf}
-use Rattle.expressions.specs.Slots.{Ready}
+use Rattle.syntax.specs.Places.{functionOf}
+use Rattle.expressions.specs.Slots.{Stands, Ready}
 use Rattle.expressions.specs.Answers.{refusal}
 
 -- a parameter as the variable of number k: `Variable { ty, constant: false, var_id: new_var(ty) }`

@@ -14,10 +14,14 @@ use Rattle.conversion.specs.Scope as Def
 use Rattle.conversion.specs.Scope.{Variable}
 use Rattle.conversion.specs.Expressions.{TypedArg, get-type}
 use Rattle.scope.specs.declared.Scope.{Scope}
-use Rattle.scope.specs.Open.{Stands, Room}
+use Rattle.scope.specs.Open.{variablesOf, Room}
 use Rattle.types.specs.Fits.{IsExpr}
-use Rattle.expressions.specs.Places.{TypeAt, exprAt}
+use Rattle.syntax.specs.Places.{TypeAt, exprAt}
 use Rattle.expressions.specs.Keys.{allKeys, Keyed}
+
+-- the scope stands for these variables
+abbrev pub Stands : List ℕ → List ℕ → Scope → List Variable → Type 0
+Stands text s sc l = l ≡ variablesOf text s sc
 
 -- y is the type of the first of the arguments
 unfoldable pub FirstType : List TypedArg → ℕ → Type 0

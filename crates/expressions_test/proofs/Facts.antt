@@ -25,7 +25,7 @@ use Rattle.expressions.specs.declared.answers.AllFunctions.{AllFunctions}
 use Rattle.expressions.specs.declared.answers.AllFunctions.the-variants as AllFunctions
 use Rattle.expressions.specs.declared.parameters.Parameters.{Parameters}
 use Rattle.expressions.specs.declared.parameters.Parameters.the-variants as Parameters
-use Rattle.expressions.specs.Places.{IsKind}
+use Rattle.syntax.specs.Places.{IsKind}
 use Rattle.expressions.specs.Keys.{Keyed}
 use Rattle.expressions.specs.Slots.{Ready}
 use Rattle.expressions.specs.Answers.{AllMeet}
