@@ -20,10 +20,10 @@ use records::words::load;
 use types::form::reference;
 
 // No further cell.
-pub(crate) const END: usize = 4294967295;
+pub const END: usize = 4294967295;
 
 // An expression, or a type.
-pub(crate) enum Argument {
+pub enum Argument {
     Expr(usize),
     ToType(usize),
 }
@@ -37,7 +37,7 @@ pub struct Call {
 }
 
 // The argument in a cell.
-pub(crate) fn argument_at(tree: &[u8], text: &[u8], cell: usize) -> Argument
+pub fn argument_at(tree: &[u8], text: &[u8], cell: usize) -> Argument
     requires { ⌜ Good (now tree) (now text) ⌝ }
     requires { ⌜ ArgsAt (now tree) cell ⌝ }
     requires { ⌜ (cell ≡ 4294967295 → ⊥) ⌝ }
@@ -52,7 +52,7 @@ pub(crate) fn argument_at(tree: &[u8], text: &[u8], cell: usize) -> Argument
 }
 
 // The cell behind a cell, or END.
-pub(crate) fn next_cell(tree: &[u8], text: &[u8], cell: usize) -> usize
+pub fn next_cell(tree: &[u8], text: &[u8], cell: usize) -> usize
     requires { ⌜ Good (now tree) (now text) ⌝ }
     requires { ⌜ cell < records (now tree) ⌝ }
     ensures { λ w. ⌜ w ≡ wordOf (now (tree .entry)) cell 1 ⌝ }

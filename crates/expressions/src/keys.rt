@@ -53,7 +53,7 @@ pub(crate) fn is_variadic(tree: &[u8], text: &[u8], f: usize) -> bool
 }
 
 // The first cell of its parameters.
-pub(crate) fn parameters_of(tree: &[u8], text: &[u8], f: usize) -> usize
+pub fn parameters_of(tree: &[u8], text: &[u8], f: usize) -> usize
     requires { ⌜ Good (now tree) (now text) ⌝ }
     requires { ⌜ FunctionAt (now tree) f ⌝ }
     ensures { λ w. ⌜ (functionOf (now (tree .entry)) (now (text .entry)) f .params ≡ paramsAt (now (tree .entry)) (now (text .entry)) w) × ParamsAt (now (tree .entry)) w ⌝ }
