@@ -21,7 +21,6 @@ use Rattle.syntax.specs.Syntax.{Param}
 use Rattle.syntax.specs.Decode.{textOf}
 use Rattle.conversion.specs.ConvertError.{AlreadyDeclared}
 use Rattle.conversion.specs.Types.{isSome, someAnd}
-use Rattle.conversion.specs.Scope as Def
 use Rattle.conversion.specs.Scope.{Variable, find-variable, withVariable}
 use Rattle.conversion.specs.Written.{bytesOf, word, boolNumber}
 use Rattle.ir.specs.declared.structs.VarId.{VarId}
@@ -29,13 +28,13 @@ use Rattle.ir.proofs.Entries.{word-same}
 use Rattle.scope.specs.declared.Scope.{Scope}
 use Rattle.scope.specs.declared.Declared.{Declared}
 use Rattle.scope.specs.declared.Declared.the-variants as Declared
-use Rattle.scope.specs.Open.{variableAt, variablesAt, variablesOf, variable, entryOf as declaredEntry, Afforded, Added, Taken, DeclareMeets}
-use Rattle.scope.proofs.ScopeLaws.{added-entry, added-fits, added-long, added-room}
+use Rattle.scope.specs.Open.{variablesAt, loopNumber, scopeAt, variable, entryOf as declaredEntry, Afforded, Added, Taken, DeclareMeets}
+use Rattle.scope.proofs.ScopeLaws.{added-entry, added-fits, added-long, added-room, scope-more}
 use Rattle.expressions.specs.declared.parameters.Parameters.{Parameters as Answered}
 use Rattle.expressions.specs.declared.parameters.Parameters.the-variants as Answer
 use Rattle.syntax.specs.Places.{TypeAt, ParamsAt, functionOf, paramsAt}
 use Rattle.expressions.specs.Keys.{Keyed}
-use Rattle.expressions.specs.Slots.{Stands, Ready}
+use Rattle.expressions.specs.Slots.{Ready}
 use Rattle.expressions.specs.Answers.{refusal}
 use Rattle.expressions.specs.Parameters.{parameterOf, withParams, emptyIn, untilTaken, entryOf, entries, OneMore, ParametersMeet}
 use Rattle.syntax.proofs.Lists.{left, left-some, cell-is, next-list, next-falls, left-most, params-end, parameter-item, parameter-type}
@@ -131,8 +130,8 @@ module _ (tree text s : List ℕ) (functions : ℕ) (sc : Scope) (ready : Ready 
 
     pub name-taken : (e : ConvertError) → e ≡ record { kind = AlreadyDeclared; place = item } → Taken text o n v false sc s s′
         → OneMore tree text functions sc parameter s s′ (Answer.Refused e)
-    unfolding isSome someAnd find-variable
-    name-taken e q t = OneMore.refused q (λ S st. rw (← name-is, st, t .found) refl) (t .same)
+    unfolding isSome someAnd find-variable scopeAt
+    name-taken e q t = OneMore.refused q (rw (← name-is, t .found) refl) (t .same)
 
     module _ (sc′ : Scope) (m : Added text o n v false sc s s′ sc′) where
       abbrev place-of : ℕ
@@ -162,9 +161,6 @@ module _ (tree text s : List ℕ) (functions : ℕ) (sc : Scope) (ready : Ready 
         };
       }
 
-      more-stands : (l : List Variable) → Stands text s sc l → Stands text s′ sc′ (parameterOf parameter (sc .names) ∷ l)
-      more-stands l st = rw (st, ← is-param) (sym (m .added))
-
       -- the type of the innermost is the parameter's; those of the others stand as they stood
       last-type : wordAt s′ (8 * records tree + 16 * sc .names + 12) / 2 ≡ wordOf tree item C
       last-type = rw (← ready .scoped .records-are) (ap (λ (x : Variable). x .var-id .ty) (added-entry tree text o n v false sc s s′ sc′ m)) ∙ e₁
@@ -180,16 +176,14 @@ module _ (tree text s : List ℕ) (functions : ℕ) (sc : Scope) (ready : Ready 
         scoped = record {
           records-are = rw (m .scope) (ready .scoped .records-are);
           room = added-room tree text o n v false sc s s′ sc′ m (ready .scoped .room) is-afforded;
-          variables = variablesOf text s′ sc′;
-          stands = refl;
           types = λ j h. types-more j (rw (m .scope) at h) (decLt j (sc .names));
         };
       }
 
       pub one-more : OneMore tree text functions sc parameter s s′ (Answer.Done sc′)
-      unfolding isSome someAnd find-variable
-      one-more = OneMore.done ready-more (rw (m .scope) refl) (rw (m .scope) refl) (rw (m .scope) refl)
-          (λ S st. (rw (← name-is, st, m .free) refl, more-stands (S .variables) st))
+      unfolding isSome someAnd find-variable scopeAt
+      one-more = OneMore.done ready-more (m .scope) (rw (← name-is, m .free) refl)
+          (scope-more tree text o n v false sc s s′ sc′ m ∙ ap (λ (x : Variable). withVariable x (scopeAt tree text s sc)) is-param)
           written-entry
 
   -- as the code has them: p is the parameter's record, and y, o and n are three of its words
@@ -232,27 +226,23 @@ pub record Turn (tree text : List ℕ) (functions f : ℕ) (s₀ s : List ℕ) (
   pub no-loop : sc .inner ≡ Words.none
   pub of-function : sc .function ≡ f
   pub same-length : length s ≡ length s₀
-  pub known : Def.Scope
-  pub stands : Stands text s sc (known .variables)
-  pub asked : withParams (functionOf tree text f .params) 0 (emptyIn tree text f) ≡ withParams (paramsAt tree text cell) (sc .names) known
+  pub asked : withParams (functionOf tree text f .params) 0 (emptyIn tree text f) ≡ withParams (paramsAt tree text cell) (sc .names) (scopeAt tree text s sc)
   pub before : List Param
   pub so-many : length before ≡ sc .names
   pub all : functionOf tree text f .params ≡ before ++ paramsAt tree text cell
-  pub declared : untilTaken (functionOf tree text f .params) 0 (emptyIn tree text f) ≡ before ++ untilTaken (paramsAt tree text cell) (sc .names) known
+  pub declared : untilTaken (functionOf tree text f .params) 0 (emptyIn tree text f) ≡ before ++ untilTaken (paramsAt tree text cell) (sc .names) (scopeAt tree text s sc)
   pub bytes : s ≡ splice s₀ (8 * records tree) (entries tree before 0)
 
 module _ (tree text : List ℕ) (functions f : ℕ) (s₀ : List ℕ) where
   pub start : (w : ℕ) (sc : Scope) → Keyed tree text s₀ functions → functionOf tree text f .params ≡ paramsAt tree text w → ParamsAt tree w
       → sc ≡ record { records = records tree; names = 0; inner = Words.none; function = f } → Turn tree text functions f s₀ s₀ w sc
-  unfolding variablesAt entries
+  unfolding variablesAt entries scopeAt loopNumber pick
   start w sc k e l q = record {
     ready = record {
       keyed = k;
       scoped = record {
         records-are = rw q refl;
         room = record { scratch = rw q (k .listed .room); names-in = rw q (omega arith) };
-        variables = variablesOf text s₀ sc;
-        stands = refl;
         types = λ j h. absurd (none-open j (rw q at h));
       };
     };
@@ -261,27 +251,25 @@ module _ (tree text : List ℕ) (functions f : ℕ) (s₀ : List ℕ) where
     no-loop = rw q refl;
     of-function = rw q refl;
     same-length = refl;
-    known = emptyIn tree text f;
-    stands = nobody;
-    asked = rw (e, q) refl;
+    asked = rw (e, q, empty) refl;
     before = [];
     so-many = rw q refl;
     all = e;
-    declared = rw (e, q) refl;
+    declared = rw (e, q, empty) refl;
     bytes = sym (splice-none s₀ (8 * records tree));
   }
     where
       none-open : (j : ℕ) → j < 0 → ⊥
       none-open j h = omega (arith, h)
 
-      nobody : Stands text s₀ sc []
-      nobody = rw q refl
+      empty : scopeAt tree text s₀ (record { records = records tree; names = 0; inner = Words.none; function = f }) ≡ emptyIn tree text f
+      empty = refl
 
   module _ (s : List ℕ) (cell : ℕ) (sc : Scope) (t : Turn tree text functions f s₀ s cell sc) where
     pub turn-end : cell ≡ Words.none → ParametersMeet tree text functions f s₀ s (Answer.Done sc)
     unfolding withParams
     turn-end e =
-        ParametersMeet.done (t .known) (t .asked ∙ rw (e, params-end tree text (t .ready .keyed .good)) refl) (t .stands) (t .ready) (t .no-loop) (t .of-function)
+        ParametersMeet.done {sc = sc} (t .asked ∙ rw (e, params-end tree text (t .ready .keyed .good)) refl) (t .ready) (t .no-loop) (t .of-function)
         (t .bytes ∙ ap (λ (l : List Param). splice s₀ (8 * records tree) (entries tree l 0)) (sym whole))
       where
         whole : functionOf tree text f .params ≡ t .before
@@ -301,13 +289,13 @@ module _ (tree text : List ℕ) (functions f : ℕ) (s₀ : List ℕ) where
           → ParametersMeet tree text functions f s₀ s′ (Answer.Refused e) × (length s′ ≡ length s₀)
       unfolding withParams untilTaken pick refusal
       turn-refused s′ e (OneMore.refused q taken k) = (
-        ParametersMeet.refused {e = e} (t .asked ∙ rw (split, taken (t .known) (t .stands), q) refl)
+        ParametersMeet.refused {e = e} (t .asked ∙ rw (split, taken, q) refl)
             (k ∙ t .bytes ∙ ap (λ (l : List Param). splice s₀ (8 * records tree) (entries tree l 0)) (sym those)),
         rw k (t .same-length),
       )
         where
           those : untilTaken (functionOf tree text f .params) 0 (emptyIn tree text f) ≡ t .before
-          those = t .declared ∙ rw (split, taken (t .known) (t .stands)) (append-nil (t .before))
+          those = t .declared ∙ rw (split, taken) (append-nil (t .before))
 
       abbrev place : ℕ
       place = 8 * records tree + 16 * sc .names
@@ -318,20 +306,18 @@ module _ (tree text : List ℕ) (functions f : ℕ) (s₀ : List ℕ) where
       pub turn-next : (s′ : List ℕ) (sc′ : Scope) (w : ℕ) → w ≡ wordOf tree cell B → OneMore tree text functions sc here s s′ (Answer.Done sc′)
           → Turn tree text functions f s₀ s′ w sc′
       unfolding withParams untilTaken pick withVariable
-      turn-next s′ sc′ w e (OneMore.done r grown inner function adds wrote) = record {
+      turn-next s′ sc′ w e (OneMore.done r is free adds wrote) = record {
         ready = r;
         cells = next-list tree text (t .ready .keyed .good) Parameters cell w (t .cells) n e;
-        few = omega (arith, grown, t .few, next-falls tree text (t .ready .keyed .good) Parameters cell w (t .cells) n e);
-        no-loop = inner ∙ t .no-loop;
-        of-function = function ∙ t .of-function;
+        few = omega (arith, next-number, t .few, next-falls tree text (t .ready .keyed .good) Parameters cell w (t .cells) n e);
+        no-loop = ap (λ (x : Scope). x .inner) is ∙ t .no-loop;
+        of-function = ap (λ (x : Scope). x .function) is ∙ t .of-function;
         same-length = rw wrote (length-splice s place (entryOf tree here (sc .names)) fits) ∙ t .same-length;
-        known = withVariable (parameterOf here (sc .names)) (t .known);
-        stands = adds (t .known) (t .stands) .1;
-        asked = t .asked ∙ rw (split, adds (t .known) (t .stands) .0, e, next-number) refl;
+        asked = t .asked ∙ rw (split, free, e, adds, next-number) refl;
         before = t .before ++ (here ∷ []);
-        so-many = length-append (t .before) (here ∷ []) ∙ omega (arith, t .so-many, grown);
+        so-many = length-append (t .before) (here ∷ []) ∙ omega (arith, t .so-many, next-number);
         all = t .all ∙ rw (split, e) (sym (append-assoc (t .before) (here ∷ []) (paramsAt tree text (wordOf tree cell B))));
-        declared = t .declared ∙ rw (split, adds (t .known) (t .stands) .0, e, next-number) (sym (append-assoc (t .before) (here ∷ []) _));
+        declared = t .declared ∙ rw (split, free, e, adds, next-number) (sym (append-assoc (t .before) (here ∷ []) _));
         bytes = wrote ∙ ap (λ (x : List ℕ). splice x place (entryOf tree here (sc .names))) (t .bytes) ∙ joined
             ∙ ap (splice s₀ (8 * records tree)) (sym (entries-more tree (t .before) here 0 (sc .names) (omega (arith, t .so-many))));
       }
@@ -343,4 +329,4 @@ module _ (tree text : List ℕ) (functions f : ℕ) (s₀ : List ℕ) where
               (omega (arith, fits, t .same-length, entries-long tree (t .before) 0, t .so-many))
 
           next-number : sc′ .names ≡ suc (sc .names)
-          next-number = omega (arith, grown)
+          next-number = ap (λ (x : Scope). x .names) is ∙ omega arith

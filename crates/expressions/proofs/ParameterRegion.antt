@@ -81,7 +81,7 @@ module _ (tree s : List ℕ) (room : 64 * records tree ≤ length s) (l : List P
 
 module _ (tree text : List ℕ) (functions f : ℕ) (s s′ : List ℕ) (keyed : Keyed tree text s functions) (at : FunctionAt tree f) where
   pub names-only : (r : Answered) → ParametersMeet tree text functions f s s′ r → NamesOnly tree s s′
-  names-only _ (ParametersMeet.done S asked stands ready inner function bytes) =
+  names-only _ (ParametersMeet.done asked ready inner function bytes) =
       entries-in tree s (keyed .listed .room) (functionOf tree text f .params) (params-most tree text (keyed .good) f at) s′ bytes
   names-only _ (ParametersMeet.refused asked bytes) =
       entries-in tree s (keyed .listed .room) (untilTaken (functionOf tree text f .params) 0 (emptyIn tree text f))

@@ -16,17 +16,18 @@ use Rattle.laws.proofs.Tests.{tested}
 use Rattle.records.specs.Words.{byteAt, wordAt, records}
 use Rattle.conversion.specs.ConvertError.{ok}
 use Rattle.conversion.specs.Scope as Def
-use Rattle.conversion.specs.Scope.{Variable}
 use Rattle.conversion.specs.Written.{bytesOf, word}
 use Rattle.ir.proofs.Entries.{word-same}
 use Rattle.ir.proofs.ReadBack.{word-back}
 use Rattle.scope.specs.declared.Scope.{Scope}
-use Rattle.scope.specs.Open.{Kept}
-use Rattle.scope.proofs.ScopeLaws.{variables-kept}
+use Rattle.scope.specs.Open.{scopeAt, Kept}
+use Rattle.scope.proofs.ScopeLaws.{scope-kept}
 use Rattle.types.specs.Fits.{IsExpr}
 use Rattle.syntax.specs.Places.{TypeAt}
 use Rattle.expressions.specs.Keys.{Listed, Keyed}
-use Rattle.expressions.specs.Slots.{Stands, slotAt, Scoped, Frame, typeIn, Slots, Ready}
+use Rattle.expressions.specs.Slots.{slotAt, Scoped, Frame, typeIn, Slots, Ready}
+use Rattle.expressions.specs.declared.answers.ExprType.{ExprType}
+use Rattle.expressions.specs.Answers.{typeOf, TypeMeets}
 use Rattle.expressions.proofs.KeySearch.{records-most}
 
 -- ---- bytes and words of a splice
@@ -108,15 +109,13 @@ module _ (tree s s′ : List ℕ) (f : Frame tree s s′) where
   unfolding byteAt
   names-frame sc e = record { bytes = λ j a b. f .outside j (inr (omega (arith, a, e))); long = f .same-length }
 
-  pub stands-frame : (text : List ℕ) (sc : Scope) (l : List Variable) → sc .records ≡ records tree → Stands text s sc l → Stands text s′ sc l
-  stands-frame text sc l e st = st ∙ sym (variables-kept text s s′ (sc .records) (sc .names) (names-frame sc e) (sc .names) (omega arith))
+  pub scope-frame : (text : List ℕ) (sc : Scope) → sc .records ≡ records tree → scopeAt tree text s′ sc ≡ scopeAt tree text s sc
+  scope-frame text sc e = scope-kept tree text s s′ sc (names-frame sc e)
 
-  pub scoped-frame : (text : List ℕ) (sc : Scope) → Scoped tree text s sc → Scoped tree text s′ sc
-  scoped-frame text sc k = record {
+  pub scoped-frame : (sc : Scope) → Scoped tree s sc → Scoped tree s′ sc
+  scoped-frame sc k = record {
     records-are = k .records-are;
     room = record { scratch = omega (arith, k .room .scratch, f .same-length); names-in = k .room .names-in };
-    variables = k .variables;
-    stands = stands-frame text sc (k .variables) (k .records-are) (k .stands);
     types = λ j h. subst (λ (w : ℕ). TypeAt tree (w / 2)) (sym (frame-word (8 * records tree + 16 * j + 12) (inr (omega arith)))) (k .types j h);
   }
 
@@ -131,7 +130,7 @@ module _ (tree s s′ : List ℕ) (f : Frame tree s s′) where
   keyed-frame text count k = record { good = k .good; distinct = k .distinct; listed = listed-frame count (k .listed) }
 
   pub ready-frame : (text : List ℕ) (count : ℕ) (sc : Scope) → Ready tree text s count sc → Ready tree text s′ count sc
-  ready-frame text count sc k = record { keyed = keyed-frame text count (k .keyed); scoped = scoped-frame text sc (k .scoped) }
+  ready-frame text count sc k = record { keyed = keyed-frame text count (k .keyed); scoped = scoped-frame sc (k .scoped) }
 
 -- ---- a type written to a slot
 
@@ -215,3 +214,11 @@ module _ (tree text : List ℕ) (S : Def.Scope) where
       first : ltb d e ≡ false → (slotAt tree s′ d ≡ slotAt tree s d) ⊎ (IsExpr tree d × (typeIn tree text S d ≡ ok (slotAt tree s′ d)) × TypeAt tree (slotAt tree s′ d))
       first n = tested (ltb e d) (λ q. inl (put-other tree s s′ e y low room w d (inr (ltb-true e d q))))
           (λ q. here (omega (arith, ltb-false d e n, ltb-false e d q)))
+
+-- ---- a type that was asked for later
+
+-- typing leaves the scope as it was: what it says after an earlier typing it says of the scope before that
+module _ (tree text s s₁ : List ℕ) (sc : Scope) (f : Frame tree s s₁) (is : sc .records ≡ records tree) where
+  pub type-later : (e : ℕ) (a : ExprType) (s₂ : List ℕ) → TypeMeets tree text s₁ sc e a s₂
+      → Slots tree text (scopeAt tree text s sc) s₁ s₂ × (typeIn tree text (scopeAt tree text s sc) e ≡ typeOf a)
+  type-later e a s₂ m = rw (← scope-frame tree s s₁ f text sc is) (m .slots, m .meets)

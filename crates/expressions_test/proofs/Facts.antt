@@ -81,7 +81,7 @@ pub scope-ready : (tree text : List ℕ) (functions f : ℕ) (s s′ : List ℕ)
 scope-ready tree text functions f s s′ r m sc q = go (subst (ParametersMeet tree text functions f s s′) q m)
   where
     go : ParametersMeet tree text functions f s s′ (Parameters.Done sc) → Ready tree text s′ functions sc
-    go (ParametersMeet.done S asked stands ready inner function bytes) = ready
+    go (ParametersMeet.done asked ready inner function bytes) = ready
 
 -- ---- what was tested
 
