@@ -39,7 +39,7 @@ pub kept-then : (n m m′ : ℕ) (s s₁ s₂ : List ℕ) → m ≤ m′ → Kep
 kept-then n m m′ s s₁ s₂ h p q = record { bytes = λ j a b. q .bytes j a (omega arith) ∙ p .bytes j a b; long = q .long ∙ p .long }
 
 -- a byte of a list after a run was written: before it, and behind it
-byte-before : (l : List ℕ) (i : ℕ) (vs : List ℕ) (j : ℕ) → i ≤ length l → j < i → getD (splice l i vs) j 0 ≡ getD l j 0
+pub byte-before : (l : List ℕ) (i : ℕ) (vs : List ℕ) (j : ℕ) → i ≤ length l → j < i → getD (splice l i vs) j 0 ≡ getD l j 0
 unfolding splice
 byte-before l i vs j h k =
     let n : length (take i l) ≡ i = length-take-le i l h in
@@ -47,7 +47,7 @@ byte-before l i vs j h k =
     ∙ List·getD-append (take i l) vs 0 j (omega arith)
     ∙ getD-take i l j 0 k
 
-byte-behind : (l : List ℕ) (i : ℕ) (vs : List ℕ) (j : ℕ) → i + length vs ≤ length l → i + length vs ≤ j → getD (splice l i vs) j 0 ≡ getD l j 0
+pub byte-behind : (l : List ℕ) (i : ℕ) (vs : List ℕ) (j : ℕ) → i + length vs ≤ length l → i + length vs ≤ j → getD (splice l i vs) j 0 ≡ getD l j 0
 byte-behind l i vs j h k =
     let b : ℕ = i + length vs in
     let z : j ≡ b + (j - b) = omega arith in

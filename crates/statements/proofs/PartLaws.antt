@@ -9,7 +9,7 @@ use Rattle.conversion.specs.Scope.{Scope}
 use Rattle.conversion.specs.Expressions.{Functions}
 use Rattle.conversion.specs.Statements.{convert-unary, convertAnd, convertOr, convertOther, convert-if, convertIfElse, convert-while-loop, forLoop}
 use Rattle.conversion.proofs.MonadLaws.{regroup, seq-is, pure-first}
-use Rattle.statements.specs.Parts.{placeLabel, jumpTo, jumpIfNot, finishUnary, beginLogic, joinAnd, joinOr, endLogic, finishBinary, ifHead, whileHead, forBounds, forBegin, forTest, ifMiddle, loopBack}
+use Rattle.statements.specs.Parts.{placeLabel, jumpTo, jumpIfNot, finishUnary, beginLogic, joinAnd, joinOr, endLogic, finishBinary, ifHead, whileHead, copyFitted, countOn, testBound, forBounds, forBegin, forTest, ifMiddle, loopBack}
 
 pub unary-parts : (o : UnaryOp) (y : ℕ) (m : M Operand) → convert-unary o y m ≡ m >>= (λ src. finishUnary o y src)
 unfolding convert-unary finishUnary
@@ -50,5 +50,5 @@ module _ (P : Program) (F : Functions) where
   pub for-parts : (r : ℕ) (x : VarId) (short unsigned : Bool) (from until : Expr) (sc : Scope) (body : M Scope)
       → forLoop P F r x short unsigned from until sc body
       ≡ forBounds P F (x .ty) from until sc >> (forBegin P F r x short unsigned from sc >> (forTest P F r x until sc >> (body >> (loopBack r >> pure sc))))
-  unfolding forLoop forBounds forBegin forTest loopBack jumpIfNot jumpTo placeLabel
+  unfolding forLoop forBounds forBegin copyFitted countOn forTest testBound loopBack jumpIfNot jumpTo placeLabel
   for-parts r x short unsigned from until sc body = simp (seq-is, regroup)

@@ -2,7 +2,8 @@
 -- and which definition each function of statements.rs equals. Assumes nothing: these are definitions.
 use mathlib.Core.Path.{_≡_}
 use Prim.Native.Nat.{ℕ, _+_, _≤_}
-use mathlib.Core.Bool.{Bool}
+use mathlib.Core.Bool.{Bool, false}
+use mathlib.Core.Option.{none, some}
 use mathlib.Core.List.{List}
 use lib.Dec.{eqb}
 use lib.ListN.{length, getD}
@@ -11,30 +12,34 @@ use Rattle.records.specs.Words.{kindOf, detailOf, wordOf, records, A, B, C, D}
 use Rattle.records.specs.declared.convert_error.ConvertError.{ConvertError}
 use Rattle.syntax.specs.Syntax.{unaryOps, binaryOps, UnaryOp, BinaryOp, Neg, Or}
 use Rattle.syntax.specs.Decode.{program, textOf, bit, reference}
-use Rattle.syntax.specs.Places.{exprAt, argsAt, statementAt, blockAt, TypeAt}
+use Rattle.syntax.specs.Places.{exprAt, argsAt, statementAt, blockAt, functionOf, TypeAt}
 use Rattle.conversion.specs.ConvertError.{Result, ok, err}
 use Rattle.conversion.specs.Ir as Ir
-use Rattle.conversion.specs.Ir.{M, _>>_, pure}
+use Rattle.conversion.specs.Ir.{M, _>>=_, _>>_, pure, lift}
 use Rattle.conversion.specs.Scope as Def
 use Rattle.conversion.specs.Scope.{withLoop}
 use Rattle.conversion.specs.Expressions.{common-type}
-use Rattle.conversion.specs.Statements.{convert-unary, convertAnd, convertOr, convertOther, convert-binary, convert-call-value, convert-expr, convert-args, convert-cond, convert-if, convertIfElse, convert-while-loop, convert-for-loop, convert-statement, convert-block}
+use Rattle.conversion.specs.Statements.{convert-unary, convertAnd, convertOr, convertOther, convert-binary, convert-call-value, convert-expr, convert-args, convert-cond, callFunction, convert-declare, convert-init, initNew, convert-assign, assignTo, convert-return, returnAs, convert-call, convert-break, convert-continue, convert-if, convertIfElse, convert-while-loop, convert-for-loop, convert-statement, convert-block}
 use Rattle.ir.specs.declared.structs.Counters.{Counters}
+use Rattle.ir.specs.declared.structs.VarId.{VarId}
 use Rattle.ir.specs.declared.structs.Operand.{Operand}
-use Rattle.ir.specs.Instructions.{operandOf}
+use Rattle.ir.specs.Instructions.{operandOf, varOf}
 use Rattle.ir.specs.Amounts.{Amount, amount}
 use Rattle.scope.specs.declared.Scope.{Scope}
 use Rattle.scope.specs.Open.{scopeAt}
 use Rattle.expressions.specs.Keys.{allKeys}
 use Rattle.expressions.specs.declared.answers.ExprType.{ExprType}
 use Rattle.expressions.specs.Slots.{Frame, Ready}
-use Rattle.expressions.specs.Answers.{IsTyped, typeOf}
+use Rattle.expressions.specs.declared.answers.Outcome.{Outcome}
+use Rattle.expressions.specs.Answers.{IsTyped, typeOf, outcomeOf}
 use Rattle.statements.specs.declared.answers.Converter.{Converter}
 use Rattle.statements.specs.declared.answers.Converted.{Converted}
 use Rattle.statements.specs.declared.answers.Converted.the-variants as Converted
 use Rattle.statements.specs.declared.answers.Fitted.{Fitted}
 use Rattle.statements.specs.declared.answers.ConvertedArgs.{ConvertedArgs}
 use Rattle.statements.specs.declared.answers.ConvertedArgs.the-variants as ConvertedArgs
+use Rattle.statements.specs.declared.answers.ForVariable.{ForVariable}
+use Rattle.statements.specs.declared.answers.ForVariable.the-variants as ForVariable
 use Rattle.statements.specs.declared.answers.Stated.{Stated}
 use Rattle.statements.specs.declared.answers.Stated.the-variants as Stated
 use Rattle.statements.specs.declared.answers.Finished.{Finished}
@@ -63,6 +68,10 @@ statedOf tree text s (Stated.Refused e) = refused e
 abbrev pub finishedOf : {A : Type 0} → A → Finished → Answer A
 finishedOf a (Finished.Done k) = gave a k
 finishedOf a (Finished.Refused e) = refused e
+
+abbrev pub variableOf : List ℕ → List ℕ → List ℕ → ForVariable → Answer (Ir.VarId × Def.Scope)
+variableOf tree text s (ForVariable.Is v sc k) = gave (varOf v, scopeAt tree text s sc) k
+variableOf tree text s (ForVariable.Refused e) = refused e
 
 -- ---- what each kind of function owes, of the answer, of the arena before and after and of the scratch before and after
 
@@ -119,6 +128,17 @@ pub record OperandTyped (tree text s : List ℕ) (c : Converter) (e y : ℕ) (a 
       (common-type (program tree text) (allKeys tree text) (exprAt tree text (wordOf tree e A)) (exprAt tree text (wordOf tree e B)) (scopeAt tree text s (c .scope))) y
       ≡ typeOf a
 
+-- the variable of a For, with the scope of its body
+pub record FindsVariable (tree text : List ℕ) (m : M (Ir.VarId × Def.Scope)) (c : Converter) (l s : List ℕ) (a : ForVariable) (l′ s′ : List ℕ) : Type 0 where
+  pub meets : Meets text m (amount 0 1 0 0 0) (c .counters) l l′ (variableOf tree text s′ a)
+  pub variable : (v : VarId) (sc : Scope) (k : Counters) → a ≡ ForVariable.Is v sc k → TypeAt tree (v .1) × Leaves tree text 1 c s′ sc
+  pub stays : StaysFor tree c s s′
+
+-- what writes no table: it is fine, or refused
+pub record Checks (tree : List ℕ) (m : M (Unit {0})) (s : List ℕ) (a : Outcome) (s′ : List ℕ) : Type 0 where
+  pub meets : m ≡ lift (outcomeOf a)
+  pub frame : Frame tree s s′
+
 -- ---- which definition each function equals, by records
 
 module _ (tree text s : List ℕ) (c : Converter) where
@@ -165,7 +185,48 @@ module _ (tree text s : List ℕ) (c : Converter) where
   abbrev pub blockSteps : ℕ → M (Unit {0})
   blockSteps w = convert-block (program tree text) (allKeys tree text) (blockAt tree text w) scopeIn >> pure tt
 
-  -- the statement r without its comment: what `convert_block` does with it
+  -- ---- the statement r without its comment: what `convert_block` does with it
+
+  abbrev pub declareSteps : ℕ → M Def.Scope
+  declareSteps r = convert-declare (program tree text) (allKeys tree text) r (textOf tree text r A) (wordOf tree r C) scopeIn
+
+  abbrev pub initSteps : ℕ → M Def.Scope
+  initSteps r = convert-init (program tree text) (allKeys tree text) r (bit 1 (detailOf tree r)) (textOf tree text r A) (exprAt tree text (wordOf tree r C)) scopeIn
+
+  -- of a new name
+  abbrev pub initNewSteps : ℕ → M Def.Scope
+  initNewSteps r = initNew (program tree text) (allKeys tree text) r (bit 1 (detailOf tree r)) (textOf tree text r A) (exprAt tree text (wordOf tree r C)) scopeIn
+
+  -- of the name of the variable v
+  abbrev pub assignSteps : ℕ → VarId → Bool → M Def.Scope
+  assignSteps r v constant = convert-assign (program tree text) (allKeys tree text) r (exprAt tree text (wordOf tree r C))
+      (record { name = textOf tree text r A; constant = constant; var-id = varOf v }) scopeIn
+
+  abbrev pub assignToSteps : ℕ → VarId → M Def.Scope
+  assignToSteps r v = assignTo (program tree text) (allKeys tree text) r (exprAt tree text (wordOf tree r C))
+      (record { name = textOf tree text r A; constant = false; var-id = varOf v }) scopeIn
+
+  abbrev pub returnSteps : ℕ → M Def.Scope
+  returnSteps r = convert-return (program tree text) (allKeys tree text) r (exprAt tree text (wordOf tree r A)) scopeIn
+
+  -- of a value of type y where `expected` is the function's
+  abbrev pub returnAsSteps : ℕ → ℕ → ℕ → M Def.Scope
+  returnAsSteps r y expected = returnAs (program tree text) (allKeys tree text) r (exprAt tree text (wordOf tree r A)) y scopeIn (some expected)
+
+  abbrev pub callStatementSteps : ℕ → M Def.Scope
+  callStatementSteps r = convert-call (program tree text) (allKeys tree text) r (exprAt tree text (wordOf tree r A)) scopeIn
+
+  -- of the function f by the call e, whose result is not used
+  abbrev pub callOnlySteps : ℕ → ℕ → M Def.Scope
+  callOnlySteps e f = argsSteps (wordOf tree e C)
+      >>= (λ os. callFunction (program tree text) (allKeys tree text) none (functionOf tree text f) os >> pure scopeIn)
+
+  abbrev pub breakSteps : ℕ → M Def.Scope
+  breakSteps r = convert-break (program tree text) (allKeys tree text) r (scopeIn .inLoop) scopeIn
+
+  abbrev pub continueSteps : ℕ → M Def.Scope
+  continueSteps r = convert-continue (program tree text) (allKeys tree text) r (scopeIn .inLoop) scopeIn
+
   abbrev pub ifSteps : ℕ → M Def.Scope
   ifSteps r = pick (bit 1 (detailOf tree r))
       (convertIfElse (program tree text) (allKeys tree text) r (exprAt tree text (wordOf tree r A)) scopeIn
@@ -183,6 +244,9 @@ module _ (tree text s : List ℕ) (c : Converter) where
       (exprAt tree text (wordOf tree r B)) (exprAt tree text (wordOf tree r C)) scopeIn
       (λ sc1 st. convert-block (program tree text) (allKeys tree text) (blockAt tree text (wordOf tree r D)) (withLoop r sc1) st)
 
-  -- an If, a While or a For
-  abbrev pub nestedSteps : ℕ → M Def.Scope
-  nestedSteps r = pick (eqb (kindOf tree r) 19) (ifSteps r) (pick (eqb (kindOf tree r) 20) (whileSteps r) (forSteps r))
+  -- a Declare, Init, Return or call statement; a Break or Continue
+  abbrev pub plainSteps : ℕ → M Def.Scope
+  plainSteps r = pick (eqb (kindOf tree r) 15) (declareSteps r) (pick (eqb (kindOf tree r) 16) (initSteps r) (pick (eqb (kindOf tree r) 17) (returnSteps r) (callStatementSteps r)))
+
+  abbrev pub jumpSteps : ℕ → M Def.Scope
+  jumpSteps r = pick (eqb (kindOf tree r) 22) (breakSteps r) (continueSteps r)

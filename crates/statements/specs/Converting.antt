@@ -74,6 +74,16 @@ argsAmount u v = amount (4 * u + v) (3 * u + v) (3 * u) (u + v) (2 * u + v)
 abbrev pub behindAmount : ℕ → Amount
 behindAmount n = amount (4 * n + 3) (3 * n + 3) (3 * n + 3) (n + 1) (2 * n + 2)
 
+-- by the head of an If or a While whose condition has u records below its own; by a bound of a For of u; by both
+abbrev pub headAmount : ℕ → Amount
+headAmount u = amount (4 * u + 3) (3 * u + 1) (3 * u + 2) (u + 1) (2 * u + 1)
+
+abbrev pub turnsAmount : ℕ → Amount
+turnsAmount u = amount (4 * u + 7) (3 * u + 3) (3 * u + 3) (u + 1) (2 * u + 2)
+
+abbrev pub forHeadAmount : ℕ → Amount
+forHeadAmount u = amount (4 * u + 12) (3 * u + 6) (3 * u + 4) (u + 2) (2 * u + 4)
+
 -- by a block of n records
 abbrev pub blockAmount : ℕ → Amount
 blockAmount n = amount (4 * n) (3 * n) (3 * n) n (2 * n)

@@ -1,7 +1,6 @@
 // What everything that converts takes, and what is answered: only what changed.
 ghost use mathlib.Core.Path.{_≡_};
 ghost use Prim.Native.Nat.{_<_};
-ghost use Rattle.statements.specs.Converting.{withCounters};
 use ir::structs::Counters;
 use ir::structs::Operand;
 use ir::structs::VarId;
@@ -53,7 +52,7 @@ pub(crate) struct Fitted {
     pub counters: Counters,
 }
 
-pub(crate) fn converted(f: Fitted) -> Converted
+pub(crate) fn as_converted(f: Fitted) -> Converted
     ensures { λ r. ⌜ r ≡ Converted.Is (f .operand) (f .counters) ⌝ }
 {
     let k = f.counters;
@@ -69,13 +68,4 @@ pub(crate) fn refusal(kind: ConvertErrorKind, place: usize) -> ConvertError
         kind,
         place: place as u32,
     }
-}
-
-// The same, further on in the tables.
-pub(crate) fn further(c: Converter, k: Counters) -> Converter
-    ensures { λ r. ⌜ r ≡ withCounters c k ⌝ }
-{
-    let mut next = c;
-    next.counters = k;
-    next
 }

@@ -209,13 +209,7 @@ fn fit_args(
 }
 
 // An Arg for each of `count` operands of the stack.
-fn emit_args(
-    tree: &[u8],
-    arena: &mut [u8],
-    scratch: &[u8],
-    c: Converter,
-    count: usize,
-) -> Counters
+fn emit_args(tree: &[u8], arena: &mut [u8], scratch: &[u8], c: Converter, count: usize) -> Counters
     requires { ⌜ RoomFor (c .counters) (now arena) (amount count 0 0 0 0) ⌝ }
     requires { ⌜ (c .operands + count ≤ records (now tree)) × (64 * records (now tree) ≤ length (now scratch)) ⌝ }
     ensures { λ r. ⌜ Adds (emitArgs (stackAt (now (scratch .entry)) (records (now (tree .entry))) (c .operands) count)) (amount count 0 0 0 0) (c .counters) (now (arena .entry)) tt r (now (arena .exit)) ⌝ }

@@ -39,7 +39,7 @@ pub(crate) fn jump_if_not(
 }
 
 // The label stands here.
-pub(crate) fn place(arena: &mut [u8], k: Counters, kind: u32, opener: usize) -> Counters
+pub(crate) fn place_label(arena: &mut [u8], k: Counters, kind: u32, opener: usize) -> Counters
     requires { ⌜ RoomFor k (now arena) (amount 1 0 1 0 0) × (opener < 4294967296) ⌝ }
     ensures { λ r. ⌜ Adds (placeLabel (named kind opener)) (amount 1 0 1 0 0) k (now (arena .entry)) tt r (now (arena .exit)) ⌝ }
 {

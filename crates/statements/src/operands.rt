@@ -22,7 +22,7 @@ ghost use Rattle.statements.specs.Answers.{Converts, LeafAdds, exprSteps
 use crate::answers::Converted;
 use crate::answers::Converter;
 use crate::answers::Fitted;
-use crate::answers::converted;
+use crate::answers::as_converted;
 use crate::answers::refusal;
 use crate::numbers::KIND_BOOL;
 use crate::numbers::KIND_FLOAT;
@@ -163,7 +163,14 @@ fn string_operand(tree: &[u8], text: &[u8], arena: &mut [u8], k: Counters, e: us
     }
 }
 
-fn name_operand(tree: &[u8], text: &[u8], arena: &[u8], scratch: &[u8], c: Converter, e: usize) -> Converted
+fn name_operand(
+    tree: &[u8],
+    text: &[u8],
+    arena: &[u8],
+    scratch: &[u8],
+    c: Converter,
+    e: usize,
+) -> Converted
     requires { ⌜ Converting (now tree) (now text) (now arena) (now scratch) c ⌝ }
     requires { ⌜ IsKind (now tree) 6 e ⌝ }
     ensures { λ a. ⌜ Converts (now (tree .entry)) (now (text .entry)) (exprSteps (now (tree .entry)) (now (text .entry)) (now (scratch .entry)) c e) (amount 0 0 0 0 0) c (now (arena .entry)) (now (scratch .entry)) a (now (arena .entry)) (now (scratch .entry)) ⌝ }
@@ -179,7 +186,14 @@ fn name_operand(tree: &[u8], text: &[u8], arena: &[u8], scratch: &[u8], c: Conve
 }
 
 // The operand is tagged signed, though a SizeOf's type is unsigned.
-fn size_operand(tree: &[u8], text: &[u8], arena: &[u8], scratch: &[u8], c: Converter, e: usize) -> Converted
+fn size_operand(
+    tree: &[u8],
+    text: &[u8],
+    arena: &[u8],
+    scratch: &[u8],
+    c: Converter,
+    e: usize,
+) -> Converted
     requires { ⌜ Converting (now tree) (now text) (now arena) (now scratch) c ⌝ }
     requires { ⌜ IsKind (now tree) 8 e ⌝ }
     ensures { λ a. ⌜ Converts (now (tree .entry)) (now (text .entry)) (exprSteps (now (tree .entry)) (now (text .entry)) (now (scratch .entry)) c e) (amount 0 0 0 0 0) c (now (arena .entry)) (now (scratch .entry)) a (now (arena .entry)) (now (scratch .entry)) ⌝ }
@@ -213,11 +227,11 @@ pub(crate) fn operand(
     }
     if leaf == KIND_FLOAT {
         let f = float_operand(tree, text, arena, k, e);
-        return converted(f);
+        return as_converted(f);
     }
     if leaf == KIND_STR {
         let f = string_operand(tree, text, arena, k, e);
-        return converted(f);
+        return as_converted(f);
     }
     if leaf == KIND_BOOL {
         return Converted::Is(Operand::Bool(detail(tree, e) == 1), k);
