@@ -2,6 +2,7 @@ pub mod Trees
 pub mod Casts
 pub mod Marked
 pub mod Mistakes
+pub mod MonadLaws
 pub mod Within
 pub mod Sizes
 pub mod Bytes

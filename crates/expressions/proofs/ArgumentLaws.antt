@@ -28,11 +28,13 @@ use Rattle.records.specs.declared.words.Found.the-variants as Found
 use Rattle.expressions.specs.declared.parts.Part.{Part}
 use Rattle.expressions.specs.declared.arguments.Argument.{Argument}
 use Rattle.expressions.specs.declared.arguments.Argument.the-variants as Argument
-use Rattle.expressions.specs.Places.{TypeAt, ArgsAt, ParamsAt, PartIs, exprAt, argsAt, paramsAt}
+use Rattle.syntax.specs.Places.{TypeAt, ArgsAt, ParamsAt, exprAt, argsAt, paramsAt}
+use Rattle.expressions.specs.Places.{PartIs}
 use Rattle.expressions.specs.Slots.{FirstType, slotAt, slotted, Typed}
 use Rattle.expressions.specs.Calls.{typedAt}
 use Rattle.expressions.specs.Answers.{ArgumentIs, an-expr, a-type, numberOf}
-use Rattle.expressions.proofs.Lists.{cell-is, value-item, value-lower, value-expr, type-item, type-is, parameter-item, args-end, params-end}
+use Rattle.types.proofs.FromGood.{is-expr}
+use Rattle.syntax.proofs.Lists.{cell-is, value-item, value-lower, value-inside, value-kind, type-item, type-is, parameter-item, args-end, params-end}
 
 -- ---- a type's key text lies inside the text
 
@@ -137,7 +139,7 @@ module _ (tree text : List ℕ) where
       value-argument e =
           let c = cell-is tree text good Arguments w l n in
           let z : kindOf tree (wordOf tree w A) ≡ 13 = cc in
-          rw (en, ei) (an-expr (wordOf tree w A) (value-item tree text good w c z) (value-expr tree text good w c z) (value-lower tree text good w c z))
+          rw (en, ei) (an-expr (wordOf tree w A) (value-item tree text good w c z) (is-expr tree text good (wordOf tree (wordOf tree w A) A) (value-inside tree text good w c z) (value-kind tree text good w c z)) (value-lower tree text good w c z))
 
       pub type-argument : (k ≡ 13 → ⊥) → ArgumentIs tree text w (Argument.ToType inner)
       type-argument e =

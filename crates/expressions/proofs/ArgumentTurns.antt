@@ -1,4 +1,4 @@
--- The loop over a call's arguments: what is left suffices for what was asked, in every scope that the open names stand for.
+-- The loop over a call's arguments: what is left suffices for what was asked, in the scope that the open names stand for.
 -- By one turn at a value, at a type, at a refusal, and at the end. Assumes nothing.
 use mathlib.Core.Path.{_≡_, refl, sym, ap, _∙_, subst}
 use mathlib.Core.Logic.{_⊎_, inl, inr}
@@ -22,7 +22,7 @@ use Rattle.conversion.specs.Scope as Def
 use Rattle.conversion.specs.Expressions.{TypedArg, Functions, get-type, get-argument-types}
 use Rattle.conversion.specs.Written.{word}
 use Rattle.scope.specs.declared.Scope.{Scope}
-use Rattle.scope.specs.Open.{Stands}
+use Rattle.scope.specs.Open.{scopeAt}
 use Rattle.types.specs.Fits.{IsExpr}
 use Rattle.expressions.specs.declared.answers.Outcome.{Outcome}
 use Rattle.expressions.specs.declared.answers.Outcome.the-variants as Outcome
@@ -30,12 +30,12 @@ use Rattle.expressions.specs.declared.answers.ExprType.{ExprType}
 use Rattle.expressions.specs.declared.answers.ExprType.the-variants as ExprType
 use Rattle.expressions.specs.declared.arguments.Argument.{Argument}
 use Rattle.expressions.specs.declared.arguments.Argument.the-variants as Argument
-use Rattle.expressions.specs.Places.{IsKind, TypeAt, ArgsAt, noFunction, exprAt, argsAt}
+use Rattle.syntax.specs.Places.{IsKind, TypeAt, ArgsAt, exprAt, argsAt}
 use Rattle.expressions.specs.Keys.{allKeys}
 use Rattle.expressions.specs.Slots.{slotAt, slotted, Typed, Frame, Slots, typeIn, Ready}
-use Rattle.expressions.specs.Answers.{refusal, doneWith, ArgumentIs, TypeMeets, ArgsMeet}
-use Rattle.expressions.proofs.Lists.{Cell, cell-is, args-end}
-use Rattle.expressions.proofs.SlotLaws.{frame-refl, frame-trans, stands-frame, ready-frame, put-frame, put-here, slots-refl, slots-trans, slot-kept, put-slots}
+use Rattle.expressions.specs.Answers.{refusal, typeOf, doneWith, ArgumentIs, TypeMeets, ArgsMeet}
+use Rattle.syntax.proofs.Lists.{Cell, cell-is, args-end}
+use Rattle.expressions.proofs.SlotLaws.{frame-refl, frame-trans, type-later, ready-frame, put-frame, put-here, slots-refl, slots-trans, slot-kept, put-slots}
 use Rattle.expressions.proofs.TypingLaws.{type-ok, type-refused, is-typed, expr-low, place-is, call-list, call-low}
 
 -- in one scope: the slots, and what the arguments from cell w on give those from cell o on
@@ -53,7 +53,7 @@ pub record Left (tree text s₀ : List ℕ) (sc : Scope) (r : ℕ) (s : List ℕ
   pub frame : Frame tree s₀ s
   pub cells : ArgsAt tree w
   pub low : (w ≡ none) ⊎ (w < r)
-  pub meets : (S : Def.Scope) → Stands text s₀ sc (S .variables) → LeftIn tree text S s₀ (wordOf tree r C) s w
+  pub meets : LeftIn tree text (scopeAt tree text s₀ sc) s₀ (wordOf tree r C) s w
 
 -- ---- one argument, and the rest
 
@@ -162,12 +162,15 @@ type-cell tree text w a y h q = go (subst (λ (z : Argument). ArgumentIs tree te
     go (ArgumentIs.a-type r p k) = record { at = r; named = y; opens = p }
 
 module _ (tree text : List ℕ) (good : Good tree text) (s₀ : List ℕ) (sc : Scope) (r : ℕ) where
+  abbrev S : Def.Scope
+  S = scopeAt tree text s₀ sc
+
   pub loop-start : IsKind tree 11 r → (w : ℕ) → w ≡ wordOf tree r C → Left tree text s₀ sc r s₀ w
   loop-start k w e = subst (λ (z : ℕ). Left tree text s₀ sc r s₀ z) (sym e) (record {
     frame = frame-refl tree s₀;
     cells = call-list tree text good r k;
     low = call-low tree text good r k;
-    meets = λ S st. record { slots = slots-refl tree text S s₀; done = λ s′ f h. h; typed = λ s′ f h. h; refused = λ k n h. h };
+    meets = record { slots = slots-refl tree text S s₀; done = λ s′ f h. h; typed = λ s′ f h. h; refused = λ k n h. h };
   })
 
   -- the same scratch and the same cell
@@ -176,9 +179,6 @@ module _ (tree text : List ℕ) (good : Good tree text) (s₀ : List ℕ) (sc : 
       subst (λ (z : List ℕ). Left tree text s₀ sc r z n) (sym e) (subst (λ (z : ℕ). Left tree text s₀ sc r s₁ z) (sym q) l)
 
   module _ (count : ℕ) (ready : Ready tree text s₀ count sc) (s : List ℕ) (w : ℕ) (l : Left tree text s₀ sc r s w) where
-    later : (S : Def.Scope) → Stands text s₀ sc (S .variables) → Stands text s sc (S .variables)
-    later S st = stands-frame tree s₀ s (l .frame) text sc (S .variables) (ready .scoped .records-are) st
-
     pub now-ready : Ready tree text s count sc
     now-ready = ready-frame tree s₀ s (l .frame) text count sc ready
 
@@ -186,15 +186,13 @@ module _ (tree text : List ℕ) (good : Good tree text) (s₀ : List ℕ) (sc : 
     unfolding doneWith slotted Typed get-argument-types
     loop-end e =
         let over : argsAt tree text w ≡ noArgs = ap (argsAt tree text) e ∙ args-end tree text good in
-        let scope : Def.Scope = record { variables = ready .scoped .variables; inLoop = nothing; function = noFunction } in
         record {
           frame = l .frame;
-          typed = λ q. l .meets scope (ready .scoped .stands) .typed s (slots-refl tree text scope s) (subst (λ (z : Args). Typed tree s z) (sym over) tt);
-          meets = λ S st. (
-            l .meets S st .slots,
-            l .meets S st .done s (slots-refl tree text S s)
-                (subst (λ (z : Args). get-argument-types (program tree text) (allKeys tree text) z S ≡ ok (slotted tree s z)) (sym over) refl),
-          );
+          typed = λ q. l .meets .typed s (slots-refl tree text S s) (subst (λ (z : Args). Typed tree s z) (sym over) tt);
+          slots = l .meets .slots;
+          meets =
+              l .meets .done s (slots-refl tree text S s)
+              (subst (λ (z : Args). get-argument-types (program tree text) (allKeys tree text) z S ≡ ok (slotted tree s z)) (sym over) refl);
         }
 
     module _ (more : w ≡ none → ⊥) where
@@ -234,7 +232,7 @@ module _ (tree text : List ℕ) (good : Good tree text) (s₀ : List ℕ) (sc : 
               frame = l .frame;
               cells = here .rest;
               low = next-low;
-              meets = λ S st. type-in tree text good S s₀ (wordOf tree r C) s w (l .meets S st) (t .at) (t .named) (t .opens);
+              meets = type-in tree text good S s₀ (wordOf tree r C) s w (l .meets) (t .at) (t .named) (t .opens);
             })
 
         module _ (e : ℕ) (q : a ≡ Argument.Expr e) where
@@ -245,16 +243,19 @@ module _ (tree text : List ℕ) (good : Good tree text) (s₀ : List ℕ) (sc : 
           value-low = (omega (arith, found .lower, below-call), found .expression)
 
           module _ (t : ExprType) (s₁ : List ℕ) (m : TypeMeets tree text s sc e t s₁) where
+            -- the scope is still the one from the start
+            typed-now : Slots tree text S s s₁ × (typeIn tree text S e ≡ typeOf t)
+            typed-now = type-later tree text s₀ s sc (l .frame) (ready .scoped .records-are) e t s₁ m
+
             pub turn-stop : (x : ConvertError) → t ≡ ExprType.Refused x → ArgsMeet tree text s₀ sc (wordOf tree r C) (Outcome.Refused x) s₁
             unfolding doneWith refusal
             turn-stop x v = record {
               frame = frame-trans (l .frame) (m .frame);
               typed = λ z. absurd (differ z);
-              meets = λ S st. (
-                slots-trans tree text S s₀ s s₁ (l .meets S st .slots) (m .meets S (later S st) .0),
-                stop-in tree text good S s₀ (wordOf tree r C) s w (l .meets S st) (found .at) e (found .opens) (found .expression) x
-                    (type-refused (typeIn tree text S e) t x (m .meets S (later S st) .1) v),
-              );
+              slots = slots-trans tree text S s₀ s s₁ (l .meets .slots) (typed-now .0);
+              meets =
+                  stop-in tree text good S s₀ (wordOf tree r C) s w (l .meets) (found .at) e (found .opens) (found .expression) x
+                  (type-refused (typeIn tree text S e) t x (typed-now .1) v);
             }
               where
                 differ : Outcome.Refused x ≡ Outcome.Done → ⊥
@@ -276,7 +277,7 @@ module _ (tree text : List ℕ) (good : Good tree text) (s₀ : List ℕ) (sc : 
                 frame = frame-trans (l .frame) (frame-trans (m .frame) (put-frame tree s₁ s₂ e y (expr-low tree text good e (found .expression)) room put));
                 cells = here .rest;
                 low = next-low;
-                meets = λ S st. value-in tree text good S s₀ (wordOf tree r C) s w (l .meets S st) (found .at) e (found .opens) (found .expression)
-                    s₁ s₂ y (m .meets S (later S st) .0)
-                    (type-ok (typeIn tree text S e) t y (m .meets S (later S st) .1) v) typed-at room put;
+                meets = value-in tree text good S s₀ (wordOf tree r C) s w (l .meets) (found .at) e (found .opens) (found .expression)
+                    s₁ s₂ y (typed-now .0)
+                    (type-ok (typeIn tree text S e) t y (typed-now .1) v) typed-at room put;
               })

@@ -32,7 +32,7 @@ use Rattle.expressions.specs.declared.answers.Cast.the-variants as Cast
 use Rattle.expressions.specs.declared.answers.Resolved.{Resolved}
 use Rattle.expressions.specs.declared.answers.Resolved.the-variants as Resolved
 use Rattle.expressions.specs.declared.arguments.Call.{Call}
-use Rattle.expressions.specs.Places.{IsKind, TypeAt, FunctionAt, ArgsAt, functionOf, argsAt}
+use Rattle.syntax.specs.Places.{IsKind, TypeAt, FunctionAt, ArgsAt, functionOf, argsAt}
 use Rattle.expressions.specs.Keys.{functionRecords, functionsOf, allKeys, Keyed}
 use Rattle.expressions.specs.Slots.{Typed}
 use Rattle.expressions.specs.Calls.{typedAt, verbOf, Called}

@@ -1,5 +1,5 @@
 -- The common type of two expressions, as the code meets it: a refusal of either is passed on, and the rule takes their two types.
--- By the two steps of typing, in every scope that the open names stand for. Assumes nothing.
+-- By the two steps of typing, in the scope that the open names stand for. Assumes nothing.
 use mathlib.Core.Path.{_≡_, refl, sym, ap, _∙_}
 use mathlib.Core.List.{List}
 use mathlib.Core.Option.{Option}
@@ -12,70 +12,69 @@ use Rattle.conversion.specs.Expressions.{commonOf, common-type}
 use Rattle.records.specs.declared.words.Found.{Found}
 use Rattle.records.specs.declared.words.Found.the-variants as Found
 use Rattle.scope.specs.declared.Scope.{Scope}
-use Rattle.scope.specs.Open.{Stands}
+use Rattle.scope.specs.Open.{scopeAt}
 use Rattle.expressions.specs.declared.answers.ExprType.{ExprType}
 use Rattle.expressions.specs.declared.answers.ExprType.the-variants as ExprType
 use Rattle.expressions.specs.declared.answers.Common.{Common}
 use Rattle.expressions.specs.declared.answers.Common.the-variants as Common
-use Rattle.expressions.specs.Places.{exprAt}
+use Rattle.syntax.specs.Places.{exprAt}
 use Rattle.expressions.specs.Keys.{allKeys}
 use Rattle.expressions.specs.Slots.{typeIn, Slots, Ready}
 use Rattle.expressions.specs.Answers as Answers
-use Rattle.expressions.specs.Answers.{numberOf, TypeFound, IsCommon, TypeMeets, CommonMeets}
-use Rattle.expressions.proofs.SlotLaws.{frame-trans, stands-frame, slots-trans}
+use Rattle.expressions.specs.Answers.{typeOf, numberOf, TypeFound, IsCommon, TypeMeets, CommonMeets}
+use Rattle.expressions.proofs.SlotLaws.{frame-trans, type-later, slots-trans}
 use Rattle.expressions.proofs.TypingLaws.{bind-ok, bind-refused, type-ok, type-refused}
 use Rattle.expressions.proofs.OperandLaws.{found-type}
 
 module _ (tree text s : List ℕ) (sc : Scope) (a b : ℕ) (t : ExprType) (s₁ : List ℕ) (m : TypeMeets tree text s sc a t s₁) where
+  abbrev S : Def.Scope
+  S = scopeAt tree text s sc
+
   abbrev rule : ℕ → ℕ → Option ℕ
   rule l r = commonOf (program tree text) (allKeys tree text) (exprAt tree text a) l (exprAt tree text b) r
 
-  common-is : (S : Def.Scope) → common-type (program tree text) (allKeys tree text) (exprAt tree text a) (exprAt tree text b) S
+  common-is : common-type (program tree text) (allKeys tree text) (exprAt tree text a) (exprAt tree text b) S
       ≡ (typeIn tree text S a >>= λ l. typeIn tree text S b >>= λ r. ok (rule l r))
   unfolding common-type typeIn
-  common-is S = refl
+  common-is = refl
 
   pub left-refused : (x : ConvertError) → t ≡ ExprType.Refused x → CommonMeets tree text s sc a b (Common.Refused x) s₁
   unfolding Answers.commonOf
   left-refused x q = record {
     frame = m .frame;
     common = IsCommon.no;
-    meets = λ S st. (
-      m .meets S st .0,
-      common-is S ∙ bind-refused (typeIn tree text S a) x (λ l. typeIn tree text S b >>= λ r. ok (rule l r))
-          (type-refused (typeIn tree text S a) t x (m .meets S st .1) q),
-    );
+    slots = m .slots;
+    meets =
+        common-is ∙ bind-refused (typeIn tree text S a) x (λ l. typeIn tree text S b >>= λ r. ok (rule l r))
+        (type-refused (typeIn tree text S a) t x (m .meets) q);
   }
 
   module _ (count : ℕ) (ready : Ready tree text s count sc) (l : ℕ) (q : t ≡ ExprType.Is l) (u : ExprType) (s₂ : List ℕ) (m₂ : TypeMeets tree text s₁ sc b u s₂) where
-    later : (S : Def.Scope) → Stands text s sc (S .variables) → Stands text s₁ sc (S .variables)
-    later S st = stands-frame tree s s₁ (m .frame) text sc (S .variables) (ready .scoped .records-are) st
+    right : Slots tree text S s₁ s₂ × (typeIn tree text S b ≡ typeOf u)
+    right = type-later tree text s s₁ sc (m .frame) (ready .scoped .records-are) b u s₂ m₂
 
-    both-slots : (S : Def.Scope) → Stands text s sc (S .variables) → Slots tree text S s s₂
-    both-slots S st = slots-trans tree text S s s₁ s₂ (m .meets S st .0) (m₂ .meets S (later S st) .0)
+    both-slots : Slots tree text S s s₂
+    both-slots = slots-trans tree text S s s₁ s₂ (m .slots) (right .0)
 
-    with-left : (S : Def.Scope) → Stands text s sc (S .variables)
-        → common-type (program tree text) (allKeys tree text) (exprAt tree text a) (exprAt tree text b) S ≡ (typeIn tree text S b >>= λ r. ok (rule l r))
-    with-left S st = common-is S ∙ bind-ok (typeIn tree text S a) l (λ l. typeIn tree text S b >>= λ r. ok (rule l r))
-        (type-ok (typeIn tree text S a) t l (m .meets S st .1) q)
+    with-left : common-type (program tree text) (allKeys tree text) (exprAt tree text a) (exprAt tree text b) S ≡ (typeIn tree text S b >>= λ r. ok (rule l r))
+    with-left = common-is ∙ bind-ok (typeIn tree text S a) l (λ l. typeIn tree text S b >>= λ r. ok (rule l r))
+        (type-ok (typeIn tree text S a) t l (m .meets) q)
 
     pub right-refused : (x : ConvertError) → u ≡ ExprType.Refused x → CommonMeets tree text s sc a b (Common.Refused x) s₂
     unfolding Answers.commonOf
     right-refused x w = record {
       frame = frame-trans (m .frame) (m₂ .frame);
       common = IsCommon.no;
-      meets = λ S st. (
-        both-slots S st,
-        with-left S st ∙ bind-refused (typeIn tree text S b) x (λ r. ok (rule l r))
-            (type-refused (typeIn tree text S b) u x (m₂ .meets S (later S st) .1) w),
-      );
+      slots = both-slots;
+      meets =
+          with-left ∙ bind-refused (typeIn tree text S b) x (λ r. ok (rule l r))
+          (type-refused (typeIn tree text S b) u x (right .1) w);
     }
 
     module _ (r : ℕ) (w : u ≡ ExprType.Is r) (f : Found) (ef : (numberOf f ≡ rule l r) × TypeFound tree f) where
-      with-both : (S : Def.Scope) → Stands text s sc (S .variables)
-          → common-type (program tree text) (allKeys tree text) (exprAt tree text a) (exprAt tree text b) S ≡ ok (numberOf f)
-      with-both S st = with-left S st ∙ bind-ok (typeIn tree text S b) r (λ r. ok (rule l r))
-          (type-ok (typeIn tree text S b) u r (m₂ .meets S (later S st) .1) w)
+      with-both : common-type (program tree text) (allKeys tree text) (exprAt tree text a) (exprAt tree text b) S ≡ ok (numberOf f)
+      with-both = with-left ∙ bind-ok (typeIn tree text S b) r (λ r. ok (rule l r))
+          (type-ok (typeIn tree text S b) u r (right .1) w)
           ∙ ap (λ (z : Option ℕ). ok z) (sym (ef .0))
 
       pub takes-one : (y : ℕ) → f ≡ Found.At y → CommonMeets tree text s sc a b (Common.Is y) s₂
@@ -83,7 +82,8 @@ module _ (tree text s : List ℕ) (sc : Scope) (a b : ℕ) (t : ExprType) (s₁ 
       takes-one y z = record {
         frame = frame-trans (m .frame) (m₂ .frame);
         common = IsCommon.is (found-type tree f y (ef .1) z);
-        meets = λ S st. (both-slots S st, with-both S st ∙ ap (λ (v : Found). ok (numberOf v)) z);
+        slots = both-slots;
+        meets = with-both ∙ ap (λ (v : Found). ok (numberOf v)) z;
       }
 
       pub takes-none : f ≡ Found.Nothing → CommonMeets tree text s sc a b Common.Neither s₂
@@ -91,5 +91,6 @@ module _ (tree text s : List ℕ) (sc : Scope) (a b : ℕ) (t : ExprType) (s₁ 
       takes-none z = record {
         frame = frame-trans (m .frame) (m₂ .frame);
         common = IsCommon.neither;
-        meets = λ S st. (both-slots S st, with-both S st ∙ ap (λ (v : Found). ok (numberOf v)) z);
+        slots = both-slots;
+        meets = with-both ∙ ap (λ (v : Found). ok (numberOf v)) z;
       }

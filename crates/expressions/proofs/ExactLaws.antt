@@ -22,11 +22,13 @@ use Rattle.records.specs.declared.words.Found.the-variants as Found
 use Rattle.records.proofs.TextLaws.{text-length, other-lengths}
 use Rattle.expressions.specs.declared.parts.Part.{Part}
 use Rattle.expressions.specs.declared.arguments.Call.{Call}
-use Rattle.expressions.specs.Places.{FunctionAt, PartIs, functionOf}
+use Rattle.syntax.specs.Places.{FunctionAt, functionOf}
+use Rattle.expressions.specs.Places.{PartIs}
 use Rattle.expressions.specs.Keys.{keyOf, keyed, functionRecords, functionsOf, keysBelow, allKeys, Keyed}
 use Rattle.expressions.specs.Calls.{typedAt, suffixesAt, verbOf, nameOf, bytesIn, Called, PrefixIs, VariadicKey, so-many, no-number}
 use Rattle.expressions.specs.Answers.{functionFound, FunctionFound, a-function, no-function}
-use Rattle.expressions.proofs.FunctionLaws.{found-function, function-name, function-mangled}
+use Rattle.syntax.proofs.Records.{function-name, function-mangled}
+use Rattle.expressions.proofs.FunctionLaws.{found-function}
 use Rattle.expressions.proofs.KeyLaws.{find-hit, find-miss, recordAt, from, from-start, from-one, from-end, keys-all, distinct-finds}
 use Rattle.expressions.proofs.NameLaws.{same-is, is-same, same-turned, part-length, part-split, cut-same, name-length, name-pieces, all-taken, number-inside, inside-number, number-least, name-number, key-number}
 

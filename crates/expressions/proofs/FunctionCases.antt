@@ -28,10 +28,11 @@ use Rattle.expressions.specs.declared.parts.Part.{Part}
 use Rattle.expressions.specs.declared.answers.Outcome.{Outcome}
 use Rattle.expressions.specs.declared.answers.Outcome.the-variants as Outcome
 use Rattle.expressions.specs.declared.answers.AllFunctions.the-variants as AllFunctions
-use Rattle.expressions.specs.Places.{TypeAt, FunctionAt, PartIs, functionOf}
+use Rattle.syntax.specs.Places.{TypeAt, FunctionAt, functionOf}
+use Rattle.expressions.specs.Places.{PartIs}
 use Rattle.expressions.specs.Keys.{keyOf, keysBelow, functionRecords, listedIn, Listed}
 use Rattle.expressions.specs.Answers.{refusal, outcomeOf, doneWith, functionFound, AllMeet, done, refused}
-use Rattle.expressions.proofs.FunctionLaws.{function-rec, function-return, return-is}
+use Rattle.syntax.proofs.Records.{function-rec, function-return, return-is}
 use Rattle.expressions.proofs.Listing.{are-listed}
 use Rattle.expressions.proofs.OperandLaws.{int-form}
 use Rattle.expressions.proofs.KeyLaws.{Left, left-more, left-stop, left-end, MainLeft, main-more, main-hit, main-end, keys-more, turn-latin, turn-signature, turn-mangled, turn-foreign, turn-symbol, turn-plain}

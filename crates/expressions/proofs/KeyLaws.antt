@@ -19,7 +19,7 @@ use Rattle.conversion.specs.Ir.{sameText}
 use Rattle.conversion.specs.Types.{isSome}
 use Rattle.conversion.specs.Expressions.{Functions, is-mangled, getFunction, mainName}
 use Rattle.conversion.specs.Functions.{is-ascii, contains-key, addFunction, get-all-functions, findMain}
-use Rattle.expressions.specs.Places.{functionOf}
+use Rattle.syntax.specs.Places.{functionOf}
 use Rattle.expressions.specs.Keys.{keyOf, keyed, functionRecords, functionsOf, keysBelow, allKeys, Keyed}
 use Rattle.expressions.proofs.FunctionLaws.{all-functions, functions-append}
 

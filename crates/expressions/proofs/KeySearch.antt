@@ -18,10 +18,12 @@ use Rattle.conversion.specs.Ir.{sameText}
 use Rattle.conversion.specs.Expressions.{Functions, is-mangled, mainName, getFunction}
 use Rattle.records.specs.declared.words.Found.the-variants.{At, Nothing}
 use Rattle.expressions.specs.declared.parts.Part.{Part}
-use Rattle.expressions.specs.Places.{FunctionAt, ParamsAt, PartIs, functionOf, paramsAt}
+use Rattle.syntax.specs.Places.{FunctionAt, ParamsAt, functionOf, paramsAt}
+use Rattle.expressions.specs.Places.{PartIs}
 use Rattle.expressions.specs.Keys.{keyOf, keyed, recordsBelow, functionRecords, functionsOf, keysBelow, Listed}
 use Rattle.expressions.specs.Answers.{functionFound}
-use Rattle.expressions.proofs.FunctionLaws.{listed-function, function-external, function-variadic, function-params, params-are, name-part, mangled-part}
+use Rattle.syntax.proofs.Records.{function-external, function-variadic, function-params, params-are}
+use Rattle.expressions.proofs.FunctionLaws.{listed-function, name-part, mangled-part}
 
 -- ---- one function
 

@@ -29,13 +29,13 @@ use Rattle.ir.specs.declared.structs.VarId.{VarId}
 use Rattle.scope.specs.declared.Scope.{Scope}
 use Rattle.scope.specs.declared.Known.{Known}
 use Rattle.scope.specs.declared.Known.the-variants as Known
-use Rattle.scope.specs.Open.{Open, Stands, IsFound, FindMeets}
+use Rattle.scope.specs.Open.{variableAt, variablesAt, variablesOf, scopeAt, IsFound, FindMeets}
 use Rattle.types.specs.Fits.{IsExpr}
 use Rattle.expressions.specs.declared.answers.ExprType.{ExprType}
 use Rattle.expressions.specs.declared.answers.ExprType.the-variants as ExprType
 use Rattle.expressions.specs.declared.answers.Resolved.{Resolved}
 use Rattle.expressions.specs.declared.answers.Resolved.the-variants as Resolved
-use Rattle.expressions.specs.Places.{IsKind, TypeAt, FunctionAt, exprAt, functionOf, funcOf}
+use Rattle.syntax.specs.Places.{IsKind, TypeAt, FunctionAt, exprAt, functionOf, funcOf}
 use Rattle.expressions.specs.Slots.{typeIn, Scoped}
 use Rattle.expressions.specs.Answers.{refusal, typeOf, calleeOf, valueOf, IsTyped, IsCallee}
 use Rattle.expressions.proofs.TypingLaws.{expr-low}
@@ -102,9 +102,9 @@ module _ (tree text : List ℕ) (good : Good tree text) (e : ℕ) (x : IsExpr tr
       (first 2 (omega arith), λ S. rw (sizeOf-case tree text e eight))
 
 pub literal-leaf : (tree text s : List ℕ) (sc : Scope) (e y : ℕ) → TypeAt tree y × ((S : Def.Scope) → typeIn tree text S e ≡ ok y)
-    → ((S : Def.Scope) → Stands text s sc (S .variables) → typeIn tree text S e ≡ typeOf (ExprType.Is y)) × IsTyped tree (ExprType.Is y)
+    → (typeIn tree text (scopeAt tree text s sc) e ≡ typeOf (ExprType.Is y)) × IsTyped tree (ExprType.Is y)
 unfolding typeOf
-literal-leaf tree text s sc e y h = (λ S st. h .1 S, IsTyped.is (h .0))
+literal-leaf tree text s sc e y h = (h .1 (scopeAt tree text s sc), IsTyped.is (h .0))
 
 -- ---- names
 
@@ -114,15 +114,16 @@ module _ (v : VarId) (b : Bool) where
   found-name e (some x) h = ap (λ (z : ℕ). ok z) (sym (ap (λ z. z .ty) (h .0)))
   found-name e nothing h = absurd h
 
-  found-typed : (tree text s : List ℕ) (n : ℕ) (u : List ℕ) (l : List Variable) → Open text s n l
-      → ((j : ℕ) → j < length l → TypeAt tree (wordAt s (8 * n + 16 * j + 12) / 2)) → IsFound (Known.Is v b) (findIn u l) → TypeAt tree (v .1)
-  unfolding IsFound findIn Open
-  found-typed tree text s n u [] o t h = absurd h
-  found-typed tree text s n u (x ∷ l) o t h = go (found-typed tree text s n u l (o .1) (λ j k. t j (omega arith))) (sameText u (x .name)) h
+  found-typed : (tree text s : List ℕ) (n : ℕ) (u : List ℕ) (m : ℕ) → ((j : ℕ) → j < m → TypeAt tree (wordAt s (8 * n + 16 * j + 12) / 2))
+      → IsFound (Known.Is v b) (findIn u (variablesAt text s n m)) → TypeAt tree (v .1)
+  unfolding IsFound findIn variablesAt
+  found-typed tree text s n u zero t h = absurd h
+  found-typed tree text s n u (suc m) t h =
+      go (found-typed tree text s n u m (λ j k. t j (omega arith))) (sameText u (variableAt text s (8 * n + 16 * m) .name)) h
     where
-      go : (IsFound (Known.Is v b) (findIn u l) → TypeAt tree (v .1))
-          → (c : Bool) → IsFound (Known.Is v b) (elim c [ true ↦ some x | false ↦ findIn u l ]) → TypeAt tree (v .1)
-      go rest true f = subst (λ (z : ℕ). TypeAt tree z) (sym (ap (λ z. z .ty) (f .0) ∙ o .0 .typed)) (t (length l) (omega arith))
+      go : (IsFound (Known.Is v b) (findIn u (variablesAt text s n m)) → TypeAt tree (v .1))
+          → (c : Bool) → IsFound (Known.Is v b) (elim c [ true ↦ some (variableAt text s (8 * n + 16 * m)) | false ↦ findIn u (variablesAt text s n m) ]) → TypeAt tree (v .1)
+      go rest true f = subst (λ (z : ℕ). TypeAt tree z) (sym (ap (λ z. z .ty) (f .0))) (t m (omega arith))
       go rest false f = rest f
 
 missing-name : (e : ℕ) (o : Option Variable) → IsFound Known.Unknown o → nameType e o ≡ err UnknownVariable e
@@ -130,37 +131,33 @@ unfolding IsFound nameType
 missing-name e (some x) h = absurd h
 missing-name e nothing h = refl
 
-module _ (tree text s : List ℕ) (sc : Scope) (e : ℕ) (scoped : Scoped tree text s sc) (k : IsKind tree 6 e)
+module _ (tree text s : List ℕ) (sc : Scope) (e : ℕ) (scoped : Scoped tree s sc) (k : IsKind tree 6 e)
     (a n : ℕ) (ea : a ≡ wordOf tree e A) (en : n ≡ wordOf tree e B) (r : Known) (m : FindMeets text s sc (textAt text a n) r) where
   name-text : textAt text a n ≡ textOf tree text e A
   unfolding textOf
   name-text = rw (ea, en)
 
-  type-name : (S : Def.Scope) → typeIn tree text S e ≡ nameType e (findIn (textAt text a n) (S .variables))
-  unfolding typeIn exprAt exprOf get-type find-variable
-  type-name S = rw (name-case tree text e (k .kind), name-text)
+  type-name : typeIn tree text (scopeAt tree text s sc) e ≡ nameType e (findIn (textAt text a n) (variablesOf text s sc))
+  unfolding typeIn exprAt exprOf get-type find-variable scopeAt
+  type-name = rw (name-case tree text e (k .kind), name-text)
 
   pub name-known : (v : VarId) (b : Bool) → r ≡ Known.Is v b
-      → ((S : Def.Scope) → Stands text s sc (S .variables) → typeIn tree text S e ≡ typeOf (ExprType.Is (v .1))) × IsTyped tree (ExprType.Is (v .1))
-  unfolding typeOf FindMeets
+      → (typeIn tree text (scopeAt tree text s sc) e ≡ typeOf (ExprType.Is (v .1))) × IsTyped tree (ExprType.Is (v .1))
+  unfolding typeOf
   name-known v b q =
-      let hit : (l : List Variable) → Stands text s sc l → IsFound (Known.Is v b) (findIn (textAt text a n) l) =
-      λ l st. subst (λ (z : Known). IsFound z (findIn (textAt text a n) l)) q (m l st) in (
-        λ S st. type-name S ∙ found-name v b e (findIn (textAt text a n) (S .variables)) (hit (S .variables) st),
-        IsTyped.is (found-typed v b tree text s (sc .records) (textAt text a n) (scoped .variables) (scoped .stands .names)
-            (λ j h. subst (λ (z : ℕ). TypeAt tree (wordAt s (8 * z + 16 * j + 12) / 2)) (sym (scoped .records-are)) (scoped .types j (omega (arith, scoped .stands .count))))
-            (hit (scoped .variables) (scoped .stands))),
+      let hit : IsFound (Known.Is v b) (findIn (textAt text a n) (variablesOf text s sc)) =
+      subst (λ (z : Known). IsFound z (findIn (textAt text a n) (variablesOf text s sc))) q m in (
+        type-name ∙ found-name v b e (findIn (textAt text a n) (variablesOf text s sc)) hit,
+        IsTyped.is (found-typed v b tree text s (sc .records) (textAt text a n) (sc .names)
+            (λ j h. subst (λ (z : ℕ). TypeAt tree (wordAt s (8 * z + 16 * j + 12) / 2)) (sym (scoped .records-are)) (scoped .types j h)) hit),
       )
 
   pub name-unknown : r ≡ Known.Unknown → (z : ExprType) → z ≡ ExprType.Refused (record { kind = UnknownVariable; place = e })
-      → ((S : Def.Scope) → Stands text s sc (S .variables) → typeIn tree text S e ≡ typeOf z) × IsTyped tree z
-  unfolding FindMeets
-  name-unknown q z w = (
-    λ S st. refused-at tree (typeIn tree text S e) UnknownVariable e z
-        (type-name S ∙ missing-name e (findIn (textAt text a n) (S .variables))
-        (subst (λ (y : Known). IsFound y (findIn (textAt text a n) (S .variables))) q (m (S .variables) st))) w .0,
-    subst (λ (y : ExprType). IsTyped tree y) (sym w) IsTyped.no,
-  )
+      → (typeIn tree text (scopeAt tree text s sc) e ≡ typeOf z) × IsTyped tree z
+  name-unknown q z w =
+      refused-at tree (typeIn tree text (scopeAt tree text s sc) e) UnknownVariable e z
+      (type-name ∙ missing-name e (findIn (textAt text a n) (variablesOf text s sc))
+      (subst (λ (y : Known). IsFound y (findIn (textAt text a n) (variablesOf text s sc))) q m)) w
 
 -- ---- what a call gives back
 

@@ -9,7 +9,6 @@ pub mod KeyLaws
 pub mod KeySearch
 pub mod LeafLaws
 pub mod Listing
-pub mod Lists
 pub mod NameLaws
 pub mod OperandLaws
 pub mod ParameterLaws

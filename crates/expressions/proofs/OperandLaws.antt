@@ -29,7 +29,7 @@ use Rattle.types.proofs.FromGood.{is-type}
 use Rattle.expressions.specs.declared.answers.ExprType.{ExprType}
 use Rattle.expressions.specs.declared.answers.ExprType.the-variants as ExprType
 use Rattle.expressions.specs.declared.operands.Sides.{Sides}
-use Rattle.expressions.specs.Places.{IsKind, TypeAt, exprAt}
+use Rattle.syntax.specs.Places.{IsKind, TypeAt, exprAt}
 use Rattle.expressions.specs.Keys.{allKeys}
 use Rattle.expressions.specs.Answers.{refusal, typeOf, numberOf, TypeFound, IsTyped, Operands}
 use Rattle.expressions.proofs.TypingLaws.{place-is}

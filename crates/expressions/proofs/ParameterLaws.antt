@@ -21,7 +21,6 @@ use Rattle.syntax.specs.Syntax.{Param}
 use Rattle.syntax.specs.Decode.{textOf}
 use Rattle.conversion.specs.ConvertError.{AlreadyDeclared}
 use Rattle.conversion.specs.Types.{isSome, someAnd}
-use Rattle.conversion.specs.Scope as Def
 use Rattle.conversion.specs.Scope.{Variable, find-variable, withVariable}
 use Rattle.conversion.specs.Written.{bytesOf, word, boolNumber}
 use Rattle.ir.specs.declared.structs.VarId.{VarId}
@@ -29,15 +28,16 @@ use Rattle.ir.proofs.Entries.{word-same}
 use Rattle.scope.specs.declared.Scope.{Scope}
 use Rattle.scope.specs.declared.Declared.{Declared}
 use Rattle.scope.specs.declared.Declared.the-variants as Declared
-use Rattle.scope.specs.Open.{Open, Stands, more, variable, DeclareMeets}
+use Rattle.scope.specs.Open.{variablesAt, loopNumber, scopeAt, variable, entryOf as declaredEntry, Afforded, Added, Taken, DeclareMeets}
+use Rattle.scope.proofs.ScopeLaws.{added-entry, added-fits, added-long, added-room, scope-more}
 use Rattle.expressions.specs.declared.parameters.Parameters.{Parameters as Answered}
 use Rattle.expressions.specs.declared.parameters.Parameters.the-variants as Answer
-use Rattle.expressions.specs.Places.{TypeAt, ParamsAt, functionOf, paramsAt}
+use Rattle.syntax.specs.Places.{TypeAt, ParamsAt, functionOf, paramsAt}
 use Rattle.expressions.specs.Keys.{Keyed}
 use Rattle.expressions.specs.Slots.{Ready}
 use Rattle.expressions.specs.Answers.{refusal}
 use Rattle.expressions.specs.Parameters.{parameterOf, withParams, emptyIn, untilTaken, entryOf, entries, OneMore, ParametersMeet}
-use Rattle.expressions.proofs.Lists.{left, left-some, cell-is, next-list, next-falls, left-most, params-end, parameter-item, parameter-type}
+use Rattle.syntax.proofs.Lists.{left, left-some, cell-is, next-list, next-falls, left-most, params-end, parameter-item, parameter-type}
 use Rattle.expressions.proofs.KeySearch.{records-most}
 
 -- ---- bytes and words outside what was written
@@ -113,10 +113,12 @@ module _ (tree text s : List ℕ) (functions : ℕ) (sc : Scope) (ready : Ready 
 
   module _ (o n : ℕ) (v : VarId) (eo : o ≡ wordOf tree item A) (en : n ≡ wordOf tree item B) (e₀ : v .0 ≡ sc .names) (e₁ : v .1 ≡ wordOf tree item C)
       (s′ : List ℕ) where
-    pub never-full : DeclareMeets text o n v false sc s Declared.Full s′ → ⊥
-    unfolding DeclareMeets
-    never-full (e, inl h) = omega (arith, h, few, ready .scoped .records-are)
-    never-full (e, inr h) = omega (arith, h, e₁, the-type .below, ready .keyed .good .few)
+    -- each parameter has a record
+    pub is-afforded : Afforded sc v
+    is-afforded = record {
+      names = omega (arith, few, ready .scoped .records-are);
+      type = omega (arith, e₁, the-type .below, ready .keyed .good .few);
+    }
 
     name-is : textAt text o n ≡ parameter .name
     unfolding textOf
@@ -126,38 +128,27 @@ module _ (tree text s : List ℕ) (functions : ℕ) (sc : Scope) (ready : Ready 
     unfolding textOf
     is-param = rw (eo, en, e₀, e₁)
 
-    pub name-taken : (e : ConvertError) → e ≡ record { kind = AlreadyDeclared; place = item } → DeclareMeets text o n v false sc s Declared.Taken s′
+    pub name-taken : (e : ConvertError) → e ≡ record { kind = AlreadyDeclared; place = item } → Taken text o n v false sc s s′
         → OneMore tree text functions sc parameter s s′ (Answer.Refused e)
-    unfolding DeclareMeets isSome someAnd find-variable
-    name-taken e q (k, t) = OneMore.refused q (λ S st. rw (← name-is) (rw (t (S .variables) st .found))) k
+    unfolding isSome someAnd find-variable scopeAt
+    name-taken e q t = OneMore.refused q (rw (← name-is, t .found) refl) (t .same)
 
-    module _ (sc′ : Scope) (m : DeclareMeets text o n v false sc s (Declared.Done sc′) s′) where
-      abbrev entry : List ℕ
-      entry = word o ++ word n ++ word (v .0) ++ word (2 * v .1 + boolNumber false)
-
+    module _ (sc′ : Scope) (m : Added text o n v false sc s s′ sc′) where
       abbrev place-of : ℕ
       place-of = 8 * sc .records + 16 * sc .names
 
-      is-more : sc′ ≡ more sc
-      unfolding DeclareMeets
-      is-more = m .0
-
-      fits-in : place-of + length entry ≤ length s
-      fits-in = rw (entry-long o n (v .0) (2 * v .1 + boolNumber false)) (omega (arith, ready .scoped .room .scratch, few, ready .scoped .records-are))
-
-      written : s′ ≡ splice s place-of entry
-      unfolding DeclareMeets
-      written = m .2
+      fits-in : place-of + length (declaredEntry o n v false) ≤ length s
+      fits-in = added-fits tree text o n v false sc s s′ sc′ m (ready .scoped .room) is-afforded
 
       same-long : length s′ ≡ length s
-      same-long = rw written (length-splice s place-of entry fits-in)
+      same-long = added-long tree text o n v false sc s s′ sc′ m (ready .scoped .room) is-afforded
 
       written-entry : s′ ≡ splice s (8 * records tree + 16 * sc .names) (entryOf tree parameter (sc .names))
       unfolding boolNumber
-      written-entry = written ∙ rw (ready .scoped .records-are, eo, en, e₀, e₁, add-zero (2 * wordOf tree item C)) refl
+      written-entry = m .written ∙ rw (ready .scoped .records-are, eo, en, e₀, e₁, add-zero (2 * wordOf tree item C)) refl
 
       low-word : (p : ℕ) → p + 4 ≤ place-of → wordAt s′ p ≡ wordAt s p
-      low-word p h = rw written (word-apart s place-of entry fits-in p (inl h))
+      low-word p h = rw (m .written) (word-apart s place-of (declaredEntry o n v false) fits-in p (inl h))
 
       keyed-more : Keyed tree text s′ functions
       keyed-more = record {
@@ -170,36 +161,29 @@ module _ (tree text s : List ℕ) (functions : ℕ) (sc : Scope) (ready : Ready 
         };
       }
 
-      more-stands : (l : List Variable) → Stands text s sc l → Stands text s′ sc′ (parameterOf parameter (sc .names) ∷ l)
-      unfolding DeclareMeets
-      more-stands l st = rw (is-more, ← is-param) (m .3 l st .stands)
-
       -- the type of the innermost is the parameter's; those of the others stand as they stood
+      last-type : wordAt s′ (8 * records tree + 16 * sc .names + 12) / 2 ≡ wordOf tree item C
+      last-type = rw (← ready .scoped .records-are) (ap (λ (x : Variable). x .var-id .ty) (added-entry tree text o n v false sc s s′ sc′ m)) ∙ e₁
+
       types-more : (j : ℕ) → j < sc .names + 1 → Dec (j < sc .names) → TypeAt tree (wordAt s′ (8 * records tree + 16 * j + 12) / 2)
-      unfolding Open
       types-more j h (yes l) =
           subst (λ (w : ℕ). TypeAt tree (w / 2)) (sym (low-word (8 * records tree + 16 * j + 12) (omega (arith, l, ready .scoped .records-are)))) (ready .scoped .types j l)
-      types-more j h (no l) =
-          let head = more-stands (ready .scoped .variables) (ready .scoped .stands) .names .0 in
-          subst (TypeAt tree) (head .typed ∙ ap (λ (p : ℕ). wordAt s′ p / 2) (omega (arith, h, l, ready .scoped .records-are, ready .scoped .stands .count, ap (λ (x : Scope). x .records) is-more))) the-type
+      types-more j h (no l) = let z : j ≡ sc .names = omega (arith, h, l) in rw (z, last-type) the-type
 
       pub ready-more : Ready tree text s′ functions sc′
-      unfolding DeclareMeets
       ready-more = record {
         keyed = keyed-more;
         scoped = record {
-          records-are = rw is-more (ready .scoped .records-are);
-          room = rw is-more (m .1);
-          variables = parameterOf parameter (sc .names) ∷ ready .scoped .variables;
-          stands = more-stands (ready .scoped .variables) (ready .scoped .stands);
-          types = λ j h. types-more j (rw is-more at h) (decLt j (sc .names));
+          records-are = rw (m .scope) (ready .scoped .records-are);
+          room = added-room tree text o n v false sc s s′ sc′ m (ready .scoped .room) is-afforded;
+          types = λ j h. types-more j (rw (m .scope) at h) (decLt j (sc .names));
         };
       }
 
       pub one-more : OneMore tree text functions sc parameter s s′ (Answer.Done sc′)
-      unfolding DeclareMeets isSome someAnd find-variable
-      one-more = OneMore.done ready-more (rw is-more refl) (rw is-more refl) (rw is-more refl)
-          (λ S st. (rw (← name-is) (rw (m .3 (S .variables) st .free)), more-stands (S .variables) st))
+      unfolding isSome someAnd find-variable scopeAt
+      one-more = OneMore.done ready-more (m .scope) (rw (← name-is, m .free) refl)
+          (scope-more tree text o n v false sc s s′ sc′ m ∙ ap (λ (x : Variable). withVariable x (scopeAt tree text s sc)) is-param)
           written-entry
 
   -- as the code has them: p is the parameter's record, and y, o and n are three of its words
@@ -211,24 +195,27 @@ module _ (tree text s : List ℕ) (functions : ℕ) (sc : Scope) (ready : Ready 
     place-word = rw ep item-word
 
     module _ (y o n : ℕ) (ey : y ≡ wordOf tree p C) (eo : o ≡ wordOf tree p A) (en : n ≡ wordOf tree p B)
-        (v : VarId) (e₀ : v .0 ≡ sc .names) (e₁ : v .1 ≡ y) (s′ : List ℕ) (r : Declared) (m : DeclareMeets text o n v false sc s r s′) where
+        (v : VarId) (e₀ : v .0 ≡ sc .names) (e₁ : v .1 ≡ y) where
       of-item : (x k : ℕ) → x ≡ wordOf tree p k → x ≡ wordOf tree item k
       of-item x k e = e ∙ ap (λ (i : ℕ). wordOf tree i k) ep
 
-      met : (d : Declared) → r ≡ d → DeclareMeets text o n v false sc s d s′
-      met d q = subst (λ (x : Declared). DeclareMeets text o n v false sc s x s′) q m
+      pub met-room : Afforded sc v
+      met-room = is-afforded o n v (of-item o A eo) (of-item n B en) e₀ (e₁ ∙ of-item y C ey) s
 
-      pub met-done : (sc′ : Scope) → r ≡ Declared.Done sc′ → OneMore tree text functions sc parameter s s′ (Answer.Done sc′)
-      met-done sc′ q = one-more o n v (of-item o A eo) (of-item n B en) e₀ (e₁ ∙ of-item y C ey) s′ sc′ (met (Declared.Done sc′) q)
+      module _ (s′ : List ℕ) (r : Declared) (m : DeclareMeets text o n v false sc s s′ r) where
+        pub met-done : (sc′ : Scope) → r ≡ Declared.Done sc′ → OneMore tree text functions sc parameter s s′ (Answer.Done sc′)
+        unfolding DeclareMeets
+        met-done sc′ q =
+            one-more o n v (of-item o A eo) (of-item n B en) e₀ (e₁ ∙ of-item y C ey) s′ sc′
+            (subst (λ (x : Declared). DeclareMeets text o n v false sc s s′ x) q m)
 
-      pub met-taken : r ≡ Declared.Taken → (a : Answered) → a ≡ Answer.Refused (record { kind = AlreadyDeclared; place = p })
-          → OneMore tree text functions sc parameter s s′ a
-      met-taken q a ea =
-          subst (OneMore tree text functions sc parameter s s′) (sym ea)
-          (name-taken o n v (of-item o A eo) (of-item n B en) e₀ (e₁ ∙ of-item y C ey) s′ (record { kind = AlreadyDeclared; place = p }) (rw ep refl) (met Declared.Taken q))
-
-      pub met-full : r ≡ Declared.Full → ⊥
-      met-full q = never-full o n v (of-item o A eo) (of-item n B en) e₀ (e₁ ∙ of-item y C ey) s′ (met Declared.Full q)
+        pub met-taken : r ≡ Declared.Taken → (a : Answered) → a ≡ Answer.Refused (record { kind = AlreadyDeclared; place = p })
+            → OneMore tree text functions sc parameter s s′ a
+        unfolding DeclareMeets
+        met-taken q a ea =
+            subst (OneMore tree text functions sc parameter s s′) (sym ea)
+            (name-taken o n v (of-item o A eo) (of-item n B en) e₀ (e₁ ∙ of-item y C ey) s′ (record { kind = AlreadyDeclared; place = p }) (rw ep refl)
+            (subst (λ (x : Declared). DeclareMeets text o n v false sc s s′ x) q m))
 
 -- ---- the loop
 
@@ -239,27 +226,23 @@ pub record Turn (tree text : List ℕ) (functions f : ℕ) (s₀ s : List ℕ) (
   pub no-loop : sc .inner ≡ Words.none
   pub of-function : sc .function ≡ f
   pub same-length : length s ≡ length s₀
-  pub known : Def.Scope
-  pub stands : Stands text s sc (known .variables)
-  pub asked : withParams (functionOf tree text f .params) 0 (emptyIn tree text f) ≡ withParams (paramsAt tree text cell) (sc .names) known
+  pub asked : withParams (functionOf tree text f .params) 0 (emptyIn tree text f) ≡ withParams (paramsAt tree text cell) (sc .names) (scopeAt tree text s sc)
   pub before : List Param
   pub so-many : length before ≡ sc .names
   pub all : functionOf tree text f .params ≡ before ++ paramsAt tree text cell
-  pub declared : untilTaken (functionOf tree text f .params) 0 (emptyIn tree text f) ≡ before ++ untilTaken (paramsAt tree text cell) (sc .names) known
+  pub declared : untilTaken (functionOf tree text f .params) 0 (emptyIn tree text f) ≡ before ++ untilTaken (paramsAt tree text cell) (sc .names) (scopeAt tree text s sc)
   pub bytes : s ≡ splice s₀ (8 * records tree) (entries tree before 0)
 
 module _ (tree text : List ℕ) (functions f : ℕ) (s₀ : List ℕ) where
   pub start : (w : ℕ) (sc : Scope) → Keyed tree text s₀ functions → functionOf tree text f .params ≡ paramsAt tree text w → ParamsAt tree w
       → sc ≡ record { records = records tree; names = 0; inner = Words.none; function = f } → Turn tree text functions f s₀ s₀ w sc
-  unfolding Open entries
+  unfolding variablesAt entries scopeAt loopNumber pick
   start w sc k e l q = record {
     ready = record {
       keyed = k;
       scoped = record {
         records-are = rw q refl;
         room = record { scratch = rw q (k .listed .room); names-in = rw q (omega arith) };
-        variables = [];
-        stands = nobody;
         types = λ j h. absurd (none-open j (rw q at h));
       };
     };
@@ -268,27 +251,25 @@ module _ (tree text : List ℕ) (functions f : ℕ) (s₀ : List ℕ) where
     no-loop = rw q refl;
     of-function = rw q refl;
     same-length = refl;
-    known = emptyIn tree text f;
-    stands = nobody;
-    asked = rw (e, q) refl;
+    asked = rw (e, q, empty) refl;
     before = [];
     so-many = rw q refl;
     all = e;
-    declared = rw (e, q) refl;
+    declared = rw (e, q, empty) refl;
     bytes = sym (splice-none s₀ (8 * records tree));
   }
     where
       none-open : (j : ℕ) → j < 0 → ⊥
       none-open j h = omega (arith, h)
 
-      nobody : Stands text s₀ sc []
-      nobody = record { names = tt; count = rw q refl }
+      empty : scopeAt tree text s₀ (record { records = records tree; names = 0; inner = Words.none; function = f }) ≡ emptyIn tree text f
+      empty = refl
 
   module _ (s : List ℕ) (cell : ℕ) (sc : Scope) (t : Turn tree text functions f s₀ s cell sc) where
     pub turn-end : cell ≡ Words.none → ParametersMeet tree text functions f s₀ s (Answer.Done sc)
     unfolding withParams
     turn-end e =
-        ParametersMeet.done (t .known) (t .asked ∙ rw (e, params-end tree text (t .ready .keyed .good)) refl) (t .stands) (t .ready) (t .no-loop) (t .of-function)
+        ParametersMeet.done {sc = sc} (t .asked ∙ rw (e, params-end tree text (t .ready .keyed .good)) refl) (t .ready) (t .no-loop) (t .of-function)
         (t .bytes ∙ ap (λ (l : List Param). splice s₀ (8 * records tree) (entries tree l 0)) (sym whole))
       where
         whole : functionOf tree text f .params ≡ t .before
@@ -308,13 +289,13 @@ module _ (tree text : List ℕ) (functions f : ℕ) (s₀ : List ℕ) where
           → ParametersMeet tree text functions f s₀ s′ (Answer.Refused e) × (length s′ ≡ length s₀)
       unfolding withParams untilTaken pick refusal
       turn-refused s′ e (OneMore.refused q taken k) = (
-        ParametersMeet.refused {e = e} (t .asked ∙ rw (split, taken (t .known) (t .stands), q) refl)
+        ParametersMeet.refused {e = e} (t .asked ∙ rw (split, taken, q) refl)
             (k ∙ t .bytes ∙ ap (λ (l : List Param). splice s₀ (8 * records tree) (entries tree l 0)) (sym those)),
         rw k (t .same-length),
       )
         where
           those : untilTaken (functionOf tree text f .params) 0 (emptyIn tree text f) ≡ t .before
-          those = t .declared ∙ rw (split, taken (t .known) (t .stands)) (append-nil (t .before))
+          those = t .declared ∙ rw (split, taken) (append-nil (t .before))
 
       abbrev place : ℕ
       place = 8 * records tree + 16 * sc .names
@@ -325,20 +306,18 @@ module _ (tree text : List ℕ) (functions f : ℕ) (s₀ : List ℕ) where
       pub turn-next : (s′ : List ℕ) (sc′ : Scope) (w : ℕ) → w ≡ wordOf tree cell B → OneMore tree text functions sc here s s′ (Answer.Done sc′)
           → Turn tree text functions f s₀ s′ w sc′
       unfolding withParams untilTaken pick withVariable
-      turn-next s′ sc′ w e (OneMore.done r grown inner function adds wrote) = record {
+      turn-next s′ sc′ w e (OneMore.done r is free adds wrote) = record {
         ready = r;
         cells = next-list tree text (t .ready .keyed .good) Parameters cell w (t .cells) n e;
-        few = omega (arith, grown, t .few, next-falls tree text (t .ready .keyed .good) Parameters cell w (t .cells) n e);
-        no-loop = inner ∙ t .no-loop;
-        of-function = function ∙ t .of-function;
+        few = omega (arith, next-number, t .few, next-falls tree text (t .ready .keyed .good) Parameters cell w (t .cells) n e);
+        no-loop = ap (λ (x : Scope). x .inner) is ∙ t .no-loop;
+        of-function = ap (λ (x : Scope). x .function) is ∙ t .of-function;
         same-length = rw wrote (length-splice s place (entryOf tree here (sc .names)) fits) ∙ t .same-length;
-        known = withVariable (parameterOf here (sc .names)) (t .known);
-        stands = adds (t .known) (t .stands) .1;
-        asked = t .asked ∙ rw (split, adds (t .known) (t .stands) .0, e, next-number) refl;
+        asked = t .asked ∙ rw (split, free, e, adds, next-number) refl;
         before = t .before ++ (here ∷ []);
-        so-many = length-append (t .before) (here ∷ []) ∙ omega (arith, t .so-many, grown);
+        so-many = length-append (t .before) (here ∷ []) ∙ omega (arith, t .so-many, next-number);
         all = t .all ∙ rw (split, e) (sym (append-assoc (t .before) (here ∷ []) (paramsAt tree text (wordOf tree cell B))));
-        declared = t .declared ∙ rw (split, adds (t .known) (t .stands) .0, e, next-number) (sym (append-assoc (t .before) (here ∷ []) _));
+        declared = t .declared ∙ rw (split, free, e, adds, next-number) (sym (append-assoc (t .before) (here ∷ []) _));
         bytes = wrote ∙ ap (λ (x : List ℕ). splice x place (entryOf tree here (sc .names))) (t .bytes) ∙ joined
             ∙ ap (splice s₀ (8 * records tree)) (sym (entries-more tree (t .before) here 0 (sc .names) (omega (arith, t .so-many))));
       }
@@ -350,4 +329,4 @@ module _ (tree text : List ℕ) (functions f : ℕ) (s₀ : List ℕ) where
               (omega (arith, fits, t .same-length, entries-long tree (t .before) 0, t .so-many))
 
           next-number : sc′ .names ≡ suc (sc .names)
-          next-number = omega (arith, grown)
+          next-number = ap (λ (x : Scope). x .names) is ∙ omega arith

@@ -20,11 +20,11 @@ use Rattle.conversion.specs.Types.{isSome}
 use Rattle.conversion.specs.Scope as Def
 use Rattle.conversion.specs.Scope.{find-variable, withVariable}
 use Rattle.expressions.specs.declared.parameters.Parameters.{Parameters as Answered}
-use Rattle.expressions.specs.Places.{FunctionAt, ParamsAt, functionOf, paramsAt}
+use Rattle.syntax.specs.Places.{FunctionAt, ParamsAt, functionOf, paramsAt}
 use Rattle.expressions.specs.Keys.{Keyed}
 use Rattle.expressions.specs.Parameters.{parameterOf, emptyIn, untilTaken, entries, ParametersMeet}
-use Rattle.expressions.proofs.Lists.{left, cell-is, next-list, next-falls, left-most, params-end, parameter-item}
-use Rattle.expressions.proofs.FunctionLaws.{function-params, params-are}
+use Rattle.syntax.proofs.Lists.{left, cell-is, next-list, next-falls, left-most, params-end, parameter-item}
+use Rattle.syntax.proofs.Records.{function-params, params-are}
 use Rattle.expressions.proofs.ParameterLaws.{byte-apart, entries-long}
 
 -- only the region of the open names may differ
@@ -81,7 +81,7 @@ module _ (tree s : List ℕ) (room : 64 * records tree ≤ length s) (l : List P
 
 module _ (tree text : List ℕ) (functions f : ℕ) (s s′ : List ℕ) (keyed : Keyed tree text s functions) (at : FunctionAt tree f) where
   pub names-only : (r : Answered) → ParametersMeet tree text functions f s s′ r → NamesOnly tree s s′
-  names-only _ (ParametersMeet.done S asked stands ready inner function bytes) =
+  names-only _ (ParametersMeet.done asked ready inner function bytes) =
       entries-in tree s (keyed .listed .room) (functionOf tree text f .params) (params-most tree text (keyed .good) f at) s′ bytes
   names-only _ (ParametersMeet.refused asked bytes) =
       entries-in tree s (keyed .listed .room) (untilTaken (functionOf tree text f .params) 0 (emptyIn tree text f))

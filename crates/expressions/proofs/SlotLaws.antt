@@ -1,31 +1,33 @@
 -- What typing leaves of the scratch: the frame outside the slots keeps the functions' list and the open names, and a slot keeps a type that it has.
 -- By the bytes of a splice, and slot by slot. Assumes nothing.
-use mathlib.Core.Path.{_≡_, refl, sym, ap, ap₂, _∙_, subst}
+use mathlib.Core.Path.{_≡_, refl, sym, ap, _∙_, subst}
 use mathlib.Core.Logic.{_⊎_, inl, inr}
 use mathlib.Core.Bool.{false}
 use mathlib.Core.List.{List, [], _∷_}
-use Prim.Native.Nat.{ℕ, _+_, _*_, _/_, _%_, _^_, _≤_, _<_}
+use Prim.Native.Nat.{ℕ, _+_, _*_, _/_, _^_, _≤_, _<_}
 use native.Mathlib.Omega.{arith}
-use lib.Dec.{eqb, ltb}
+use lib.Dec.{ltb}
 use lib.ListN.{length, take, drop, getD}
 use lib.Seq.{getD-take, getD-drop}
 use borrow.Author.Tests.{ltb-true, ltb-false}
 use Rattle.laws.specs.Splice.{splice}
 use Rattle.laws.proofs.Splices.{length-splice, part-before, part-behind, part-grown, part-element}
 use Rattle.laws.proofs.Tests.{tested}
-use Rattle.records.specs.Words.{byteAt, wordAt, textAt, records}
+use Rattle.records.specs.Words.{byteAt, wordAt, records}
 use Rattle.conversion.specs.ConvertError.{ok}
 use Rattle.conversion.specs.Scope as Def
-use Rattle.conversion.specs.Scope.{Variable}
 use Rattle.conversion.specs.Written.{bytesOf, word}
 use Rattle.ir.proofs.Entries.{word-same}
 use Rattle.ir.proofs.ReadBack.{word-back}
 use Rattle.scope.specs.declared.Scope.{Scope}
-use Rattle.scope.specs.Open.{Open, Stands}
+use Rattle.scope.specs.Open.{scopeAt, Kept}
+use Rattle.scope.proofs.ScopeLaws.{scope-kept}
 use Rattle.types.specs.Fits.{IsExpr}
-use Rattle.expressions.specs.Places.{TypeAt}
+use Rattle.syntax.specs.Places.{TypeAt}
 use Rattle.expressions.specs.Keys.{Listed, Keyed}
 use Rattle.expressions.specs.Slots.{slotAt, Scoped, Frame, typeIn, Slots, Ready}
+use Rattle.expressions.specs.declared.answers.ExprType.{ExprType}
+use Rattle.expressions.specs.Answers.{typeOf, TypeMeets}
 use Rattle.expressions.proofs.KeySearch.{records-most}
 
 -- ---- bytes and words of a splice
@@ -102,32 +104,18 @@ module _ (tree s s′ : List ℕ) (f : Frame tree s s′) where
       (at 2 (p + 2) refl (omega arith))
       (at 3 (p + 3) refl (omega arith))
 
-  open-frame : (text : List ℕ) (n : ℕ) → n ≡ records tree → (l : List Variable) → Open text s n l → Open text s′ n l
-  unfolding Open
-  open-frame text n e [] o = tt
-  open-frame text n e (v ∷ l) o =
-      let p : ℕ = 8 * n + 16 * length l in
-      let w : (q : ℕ) → wordAt s′ (p + q) ≡ wordAt s (p + q) = λ q. frame-word (p + q) (inr (omega arith)) in
-      let w₀ : wordAt s′ p ≡ wordAt s p = frame-word p (inr (omega arith)) in
-      let x = o .0 in (
-        record {
-          named = x .named ∙ sym (ap₂ (textAt text) w₀ (w 4));
-          number = x .number ∙ sym (w 8);
-          typed = x .typed ∙ sym (ap (λ (y : ℕ). y / 2) (w 12));
-          fixed = x .fixed ∙ sym (ap (λ (y : ℕ). eqb (y % 2) 1) (w 12));
-        },
-        open-frame text n e l (o .1),
-      )
+  -- the open names lie above the slots
+  pub names-frame : (sc : Scope) → sc .records ≡ records tree → Kept (sc .records) (sc .names) s s′
+  unfolding byteAt
+  names-frame sc e = record { bytes = λ j a b. f .outside j (inr (omega (arith, a, e))); long = f .same-length }
 
-  pub stands-frame : (text : List ℕ) (sc : Scope) (l : List Variable) → sc .records ≡ records tree → Stands text s sc l → Stands text s′ sc l
-  stands-frame text sc l e st = record { names = open-frame text (sc .records) e l (st .names); count = st .count }
+  pub scope-frame : (text : List ℕ) (sc : Scope) → sc .records ≡ records tree → scopeAt tree text s′ sc ≡ scopeAt tree text s sc
+  scope-frame text sc e = scope-kept tree text s s′ sc (names-frame sc e)
 
-  pub scoped-frame : (text : List ℕ) (sc : Scope) → Scoped tree text s sc → Scoped tree text s′ sc
-  scoped-frame text sc k = record {
+  pub scoped-frame : (sc : Scope) → Scoped tree s sc → Scoped tree s′ sc
+  scoped-frame sc k = record {
     records-are = k .records-are;
     room = record { scratch = omega (arith, k .room .scratch, f .same-length); names-in = k .room .names-in };
-    variables = k .variables;
-    stands = stands-frame text sc (k .variables) (k .records-are) (k .stands);
     types = λ j h. subst (λ (w : ℕ). TypeAt tree (w / 2)) (sym (frame-word (8 * records tree + 16 * j + 12) (inr (omega arith)))) (k .types j h);
   }
 
@@ -142,7 +130,7 @@ module _ (tree s s′ : List ℕ) (f : Frame tree s s′) where
   keyed-frame text count k = record { good = k .good; distinct = k .distinct; listed = listed-frame count (k .listed) }
 
   pub ready-frame : (text : List ℕ) (count : ℕ) (sc : Scope) → Ready tree text s count sc → Ready tree text s′ count sc
-  ready-frame text count sc k = record { keyed = keyed-frame text count (k .keyed); scoped = scoped-frame text sc (k .scoped) }
+  ready-frame text count sc k = record { keyed = keyed-frame text count (k .keyed); scoped = scoped-frame sc (k .scoped) }
 
 -- ---- a type written to a slot
 
@@ -226,3 +214,11 @@ module _ (tree text : List ℕ) (S : Def.Scope) where
       first : ltb d e ≡ false → (slotAt tree s′ d ≡ slotAt tree s d) ⊎ (IsExpr tree d × (typeIn tree text S d ≡ ok (slotAt tree s′ d)) × TypeAt tree (slotAt tree s′ d))
       first n = tested (ltb e d) (λ q. inl (put-other tree s s′ e y low room w d (inr (ltb-true e d q))))
           (λ q. here (omega (arith, ltb-false d e n, ltb-false e d q)))
+
+-- ---- a type that was asked for later
+
+-- typing leaves the scope as it was: what it says after an earlier typing it says of the scope before that
+module _ (tree text s s₁ : List ℕ) (sc : Scope) (f : Frame tree s s₁) (is : sc .records ≡ records tree) where
+  pub type-later : (e : ℕ) (a : ExprType) (s₂ : List ℕ) → TypeMeets tree text s₁ sc e a s₂
+      → Slots tree text (scopeAt tree text s sc) s₁ s₂ × (typeIn tree text (scopeAt tree text s sc) e ≡ typeOf a)
+  type-later e a s₂ m = rw (← scope-frame tree s s₁ f text sc is) (m .slots, m .meets)

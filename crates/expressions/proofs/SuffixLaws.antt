@@ -21,11 +21,12 @@ use Rattle.records.specs.declared.words.Found.{Found}
 use Rattle.records.specs.declared.words.Found.the-variants as Found
 use Rattle.records.proofs.TextLaws.{text-length}
 use Rattle.expressions.specs.declared.parts.Part.{Part}
-use Rattle.expressions.specs.Places.{PartIs, exprAt, argsAt}
+use Rattle.syntax.specs.Places.{exprAt, argsAt}
+use Rattle.expressions.specs.Places.{PartIs}
 use Rattle.expressions.specs.Keys.{allKeys}
 use Rattle.expressions.specs.Slots.{slotAt, slotted, Typed, FirstType}
 use Rattle.expressions.specs.Calls.{typedAt, suffixesAt, bytesIn, Argued, PrefixIs, so-many, no-number}
-use Rattle.expressions.proofs.Lists.{args-end, left, left-most, next-falls, Cell, cell-is, value-item, type-item}
+use Rattle.syntax.proofs.Lists.{args-end, left, left-most, next-falls, Cell, cell-is, value-item, type-item}
 use Rattle.expressions.proofs.NameLaws.{same-append, part-length, part-split, part-one, joined-verb, bytes-more}
 
 -- ---- words and key texts are short

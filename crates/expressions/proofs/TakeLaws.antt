@@ -19,12 +19,12 @@ use Rattle.types.specs.Fits.{IsType, fitsAt}
 use Rattle.types.proofs.FromGood.{is-type}
 use Rattle.expressions.specs.declared.arguments.Argument.{Argument}
 use Rattle.expressions.specs.declared.arguments.Argument.the-variants as Argument
-use Rattle.expressions.specs.Places.{TypeAt, ArgsAt, ParamsAt, exprAt, argsAt, paramsAt}
+use Rattle.syntax.specs.Places.{TypeAt, ArgsAt, ParamsAt, exprAt, argsAt, paramsAt}
 use Rattle.expressions.specs.Keys.{allKeys}
 use Rattle.expressions.specs.Slots.{slotAt, Typed}
 use Rattle.expressions.specs.Calls.{typedAt, TakesFirst}
 use Rattle.expressions.specs.Answers.{ArgumentIs}
-use Rattle.expressions.proofs.Lists.{cell-is, parameter-item, parameter-type}
+use Rattle.syntax.proofs.Lists.{cell-is, parameter-item, parameter-type}
 use Rattle.expressions.proofs.ArgumentLaws.{typedArg, head-is, next-typed, some-argument, typed-end, parameters-end}
 
 -- ---- how many they are

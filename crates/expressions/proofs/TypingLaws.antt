@@ -1,5 +1,5 @@
 -- The type of an expression by its kind, and what typing owes after each call: a refusal is passed on, a type goes into the rule of the operator.
--- By the cases of nodes and the laws of the scratch, in every scope that the open names stand for. Assumes nothing.
+-- By the cases of nodes and the laws of the scratch, in the scope that the open names stand for. Assumes nothing.
 use mathlib.Core.Path.{_≡_, refl, sym, ap, _∙_, subst}
 use mathlib.Core.Logic.{_⊎_, inl, inr}
 use mathlib.Core.Bool.{true, false≢true}
@@ -24,7 +24,7 @@ use Rattle.conversion.specs.ConvertError.{Result, ok, err, _>>=_}
 use Rattle.conversion.specs.Scope as Def
 use Rattle.conversion.specs.Expressions.{Callee, get-type, get-argument-types, resolve-call, resolveTyped, unaryType, binaryType, valueType, return-type}
 use Rattle.scope.specs.declared.Scope.{Scope}
-use Rattle.scope.specs.Open.{Stands}
+use Rattle.scope.specs.Open.{scopeAt}
 use Rattle.types.specs.Fits.{IsExpr}
 use Rattle.types.proofs.FromGood.{is-expr}
 use Rattle.expressions.specs.declared.answers.Outcome.{Outcome}
@@ -33,13 +33,13 @@ use Rattle.expressions.specs.declared.answers.ExprType.{ExprType}
 use Rattle.expressions.specs.declared.answers.ExprType.the-variants as ExprType
 use Rattle.expressions.specs.declared.answers.Resolved.{Resolved}
 use Rattle.expressions.specs.declared.answers.Resolved.the-variants as Resolved
-use Rattle.expressions.specs.Places.{IsKind, TypeAt, ArgsAt, exprAt, argsAt}
+use Rattle.syntax.specs.Places.{IsKind, TypeAt, ArgsAt, exprAt, argsAt}
 use Rattle.expressions.specs.Keys.{allKeys}
 use Rattle.expressions.specs.Slots.{typeIn, slotted, Slots, Ready}
 use Rattle.expressions.specs.Calls.{typedAt}
 use Rattle.expressions.specs.Answers.{refusal, typeOf, doneWith, calleeOf, valueOf, IsTyped, IsCallee, TypeMeets, ArgsMeet, CallMeets}
-use Rattle.expressions.proofs.Lists.{args-end}
-use Rattle.expressions.proofs.SlotLaws.{frame-refl, frame-trans, stands-frame, slots-refl, slots-trans}
+use Rattle.syntax.proofs.Lists.{args-end}
+use Rattle.expressions.proofs.SlotLaws.{frame-refl, frame-trans, type-later, slots-refl, slots-trans}
 
 -- ---- results one after the other
 
@@ -181,23 +181,25 @@ module _ (tree text : List ℕ) (good : Good tree text) where
     leaf-kind n₉ n₁₀ n₁₁ = omega (arith, ek, leb-true (kindOf tree e) 11 (and-right (leb 2 (kindOf tree e)) (leb (kindOf tree e) 11) (x .expression)))
 
     module _ (s : List ℕ) (sc : Scope) where
+      abbrev S : Def.Scope
+      S = scopeAt tree text s sc
+
       -- an operator with one operand
       module _ (q : k ≡ 9) (a : ℕ) (ea : a ≡ wordOf tree e A) (t : ExprType) (s₁ : List ℕ) (m : TypeMeets tree text s sc a t s₁) where
-        operand-type : (S : Def.Scope) → Stands text s sc (S .variables) → typeIn tree text S (wordOf tree e A) ≡ typeOf t
-        operand-type S st = ap (typeIn tree text S) (sym ea) ∙ m .meets S st .1
+        operand-type : typeIn tree text S (wordOf tree e A) ≡ typeOf t
+        operand-type = ap (typeIn tree text S) (sym ea) ∙ m .meets
 
         pub unary-stop : (r : ConvertError) → t ≡ ExprType.Refused r → TypeMeets tree text s sc e (ExprType.Refused r) s₁
         unfolding typeOf
         unary-stop r w = record {
           frame = m .frame;
           typed = IsTyped.no;
-          meets = λ S st. (
-            m .meets S st .0,
-            type-unary S e (expr-low e x) (kind-at 9 q)
-                ∙ bind-refused (typeIn tree text S (wordOf tree e A)) r
-                (unaryType (program tree text) (allKeys tree text) e (getD unaryOps (detailOf tree e) Neg))
-                (type-refused (typeIn tree text S (wordOf tree e A)) t r (operand-type S st) w),
-          );
+          slots = m .slots;
+          meets =
+              type-unary S e (expr-low e x) (kind-at 9 q)
+              ∙ bind-refused (typeIn tree text S (wordOf tree e A)) r
+              (unaryType (program tree text) (allKeys tree text) e (getD unaryOps (detailOf tree e) Neg))
+              (type-refused (typeIn tree text S (wordOf tree e A)) t r operand-type w);
         }
 
         pub unary-next : (y : ℕ) → t ≡ ExprType.Is y → (b : ExprType)
@@ -206,20 +208,19 @@ module _ (tree text : List ℕ) (good : Good tree text) where
         unary-next y w b u = record {
           frame = m .frame;
           typed = u .1;
-          meets = λ S st. (
-            m .meets S st .0,
-            type-unary S e (expr-low e x) (kind-at 9 q)
-                ∙ bind-ok (typeIn tree text S (wordOf tree e A)) y
-                (unaryType (program tree text) (allKeys tree text) e (getD unaryOps (detailOf tree e) Neg))
-                (type-ok (typeIn tree text S (wordOf tree e A)) t y (operand-type S st) w)
-                ∙ u .0,
-          );
+          slots = m .slots;
+          meets =
+              type-unary S e (expr-low e x) (kind-at 9 q)
+              ∙ bind-ok (typeIn tree text S (wordOf tree e A)) y
+              (unaryType (program tree text) (allKeys tree text) e (getD unaryOps (detailOf tree e) Neg))
+              (type-ok (typeIn tree text S (wordOf tree e A)) t y operand-type w)
+              ∙ u .0;
         }
 
       -- an operator with two
       module _ (q : k ≡ 10) (a : ℕ) (ea : a ≡ wordOf tree e A) (t : ExprType) (s₁ : List ℕ) (m : TypeMeets tree text s sc a t s₁) where
-        left-type : (S : Def.Scope) → Stands text s sc (S .variables) → typeIn tree text S (wordOf tree e A) ≡ typeOf t
-        left-type S st = ap (typeIn tree text S) (sym ea) ∙ m .meets S st .1
+        left-type : typeIn tree text S (wordOf tree e A) ≡ typeOf t
+        left-type = ap (typeIn tree text S) (sym ea) ∙ m .meets
 
         abbrev rule : Def.Scope → ℕ → Result ℕ
         rule S l = typeIn tree text S (wordOf tree e B)
@@ -231,43 +232,42 @@ module _ (tree text : List ℕ) (good : Good tree text) where
         left-stop r w = record {
           frame = m .frame;
           typed = IsTyped.no;
-          meets = λ S st. (
-            m .meets S st .0,
-            type-binary S e (expr-low e x) (kind-at 10 q)
-                ∙ bind-refused (typeIn tree text S (wordOf tree e A)) r (rule S)
-                (type-refused (typeIn tree text S (wordOf tree e A)) t r (left-type S st) w),
-          );
+          slots = m .slots;
+          meets =
+              type-binary S e (expr-low e x) (kind-at 10 q)
+              ∙ bind-refused (typeIn tree text S (wordOf tree e A)) r (rule S)
+              (type-refused (typeIn tree text S (wordOf tree e A)) t r left-type w);
         }
 
         module _ (count : ℕ) (ready : Ready tree text s count sc) (l : ℕ) (w : t ≡ ExprType.Is l)
             (b : ℕ) (eb : b ≡ wordOf tree e B) (u : ExprType) (s₂ : List ℕ) (m₂ : TypeMeets tree text s₁ sc b u s₂) where
-          later : (S : Def.Scope) → Stands text s sc (S .variables) → Stands text s₁ sc (S .variables)
-          later S st = stands-frame tree s s₁ (m .frame) text sc (S .variables) (ready .scoped .records-are) st
+          -- the scope is still the one from before
+          later : TypeMeets tree text s₁ sc b u s₂ → Slots tree text S s₁ s₂ × (typeIn tree text S b ≡ typeOf u)
+          later n = type-later tree text s s₁ sc (m .frame) (ready .scoped .records-are) b u s₂ n
 
-          right-type : (S : Def.Scope) → Stands text s sc (S .variables) → typeIn tree text S (wordOf tree e B) ≡ typeOf u
-          right-type S st = ap (typeIn tree text S) (sym eb) ∙ m₂ .meets S (later S st) .1
+          right-type : typeIn tree text S (wordOf tree e B) ≡ typeOf u
+          right-type = ap (typeIn tree text S) (sym eb) ∙ later m₂ .1
 
-          both-slots : (S : Def.Scope) → Stands text s sc (S .variables) → Slots tree text S s s₂
-          both-slots S st = slots-trans tree text S s s₁ s₂ (m .meets S st .0) (m₂ .meets S (later S st) .0)
+          both-slots : Slots tree text S s s₂
+          both-slots = slots-trans tree text S s s₁ s₂ (m .slots) (later m₂ .0)
 
-          with-left : (S : Def.Scope) → Stands text s sc (S .variables) → typeIn tree text S e ≡ rule S l
-          with-left S st =
+          with-left : typeIn tree text S e ≡ rule S l
+          with-left =
               type-binary S e (expr-low e x) (kind-at 10 q)
-              ∙ bind-ok (typeIn tree text S (wordOf tree e A)) l (rule S) (type-ok (typeIn tree text S (wordOf tree e A)) t l (left-type S st) w)
+              ∙ bind-ok (typeIn tree text S (wordOf tree e A)) l (rule S) (type-ok (typeIn tree text S (wordOf tree e A)) t l left-type w)
 
           pub right-stop : (r : ConvertError) → u ≡ ExprType.Refused r → TypeMeets tree text s sc e (ExprType.Refused r) s₂
           unfolding typeOf
           right-stop r v = record {
             frame = frame-trans (m .frame) (m₂ .frame);
             typed = IsTyped.no;
-            meets = λ S st. (
-              both-slots S st,
-              with-left S st
-                  ∙ bind-refused (typeIn tree text S (wordOf tree e B)) r
-                  (binaryType (program tree text) (allKeys tree text) e (getD binaryOps (detailOf tree e) Or)
-                  (exprAt tree text (wordOf tree e A)) l (exprAt tree text (wordOf tree e B)))
-                  (type-refused (typeIn tree text S (wordOf tree e B)) u r (right-type S st) v),
-            );
+            slots = both-slots;
+            meets =
+                with-left
+                ∙ bind-refused (typeIn tree text S (wordOf tree e B)) r
+                (binaryType (program tree text) (allKeys tree text) e (getD binaryOps (detailOf tree e) Or)
+                (exprAt tree text (wordOf tree e A)) l (exprAt tree text (wordOf tree e B)))
+                (type-refused (typeIn tree text S (wordOf tree e B)) u r right-type v);
           }
 
           pub right-next : (y : ℕ) → u ≡ ExprType.Is y → (d : ExprType)
@@ -277,15 +277,14 @@ module _ (tree text : List ℕ) (good : Good tree text) where
           right-next y v d z = record {
             frame = frame-trans (m .frame) (m₂ .frame);
             typed = z .1;
-            meets = λ S st. (
-              both-slots S st,
-              with-left S st
-                  ∙ bind-ok (typeIn tree text S (wordOf tree e B)) y
-                  (binaryType (program tree text) (allKeys tree text) e (getD binaryOps (detailOf tree e) Or)
-                  (exprAt tree text (wordOf tree e A)) l (exprAt tree text (wordOf tree e B)))
-                  (type-ok (typeIn tree text S (wordOf tree e B)) u y (right-type S st) v)
-                  ∙ rw (← ea, ← eb) (z .0),
-            );
+            slots = both-slots;
+            meets =
+                with-left
+                ∙ bind-ok (typeIn tree text S (wordOf tree e B)) y
+                (binaryType (program tree text) (allKeys tree text) e (getD binaryOps (detailOf tree e) Or)
+                (exprAt tree text (wordOf tree e A)) l (exprAt tree text (wordOf tree e B)))
+                (type-ok (typeIn tree text S (wordOf tree e B)) u y right-type v)
+                ∙ rw (← ea, ← eb) (z .0);
           }
 
       -- a call
@@ -295,30 +294,31 @@ module _ (tree text : List ℕ) (good : Good tree text) where
       call-value q c s₁ m b u = record {
         frame = m .frame;
         typed = u .1;
-        meets = λ S st. (
-          m .meets S st .0,
-          type-call S e (expr-low e x) (kind-at 11 q) ∙ ap (λ (z : Result Callee). z >>= λ c. valueType e (return-type c)) (m .meets S st .1) ∙ u .0,
-        );
+        slots = m .slots;
+        meets =
+            type-call S e (expr-low e x) (kind-at 11 q) ∙ ap (λ (z : Result Callee). z >>= λ c. valueType e (return-type c)) (m .meets) ∙ u .0;
       }
 
   pub leaf-meets : (s : List ℕ) (sc : Scope) (e : ℕ) (a : ExprType)
-      → ((S : Def.Scope) → Stands text s sc (S .variables) → typeIn tree text S e ≡ typeOf a) × IsTyped tree a → TypeMeets tree text s sc e a s
-  leaf-meets s sc e a h = record { frame = frame-refl tree s; typed = h .1; meets = λ S st. (slots-refl tree text S s, h .0 S st) }
+      → (typeIn tree text (scopeAt tree text s sc) e ≡ typeOf a) × IsTyped tree a → TypeMeets tree text s sc e a s
+  leaf-meets s sc e a h = record { frame = frame-refl tree s; slots = slots-refl tree text (scopeAt tree text s sc) s; typed = h .1; meets = h .0 }
 
   -- ---- what a call runs
 
   module _ (s : List ℕ) (sc : Scope) (r : ℕ) (a : Outcome) (s₁ : List ℕ) (m : ArgsMeet tree text s sc (wordOf tree r C) a s₁) where
+    abbrev T : Def.Scope
+    T = scopeAt tree text s sc
+
     pub call-stop : (x : ConvertError) → a ≡ Outcome.Refused x → CallMeets tree text s sc r (Resolved.Refused x) s₁
     unfolding calleeOf doneWith resolve-call
     call-stop x q = record {
       frame = m .frame;
       callee = IsCallee.no;
-      meets = λ S st. (
-        m .meets S st .0,
-        bind-refused (get-argument-types (program tree text) (allKeys tree text) (argsAt tree text (wordOf tree r C)) S) x
-            (resolveTyped (program tree text) (allKeys tree text) (textOf tree text r A) r)
-            (m .meets S st .1 ∙ ap (doneWith (slotted tree s₁ (argsAt tree text (wordOf tree r C)))) q),
-      );
+      slots = m .slots;
+      meets =
+          bind-refused (get-argument-types (program tree text) (allKeys tree text) (argsAt tree text (wordOf tree r C)) T) x
+          (resolveTyped (program tree text) (allKeys tree text) (textOf tree text r A) r)
+          (m .meets ∙ ap (doneWith (slotted tree s₁ (argsAt tree text (wordOf tree r C)))) q);
     }
 
     pub call-next : a ≡ Outcome.Done → (c : Resolved)
@@ -328,11 +328,10 @@ module _ (tree text : List ℕ) (good : Good tree text) where
     call-next q c u = record {
       frame = m .frame;
       callee = u .1;
-      meets = λ S st. (
-        m .meets S st .0,
-        bind-ok (get-argument-types (program tree text) (allKeys tree text) (argsAt tree text (wordOf tree r C)) S) (slotted tree s₁ (argsAt tree text (wordOf tree r C)))
-            (resolveTyped (program tree text) (allKeys tree text) (textOf tree text r A) r)
-            (m .meets S st .1 ∙ ap (doneWith (slotted tree s₁ (argsAt tree text (wordOf tree r C)))) q)
-            ∙ u .0,
-      );
+      slots = m .slots;
+      meets =
+          bind-ok (get-argument-types (program tree text) (allKeys tree text) (argsAt tree text (wordOf tree r C)) T) (slotted tree s₁ (argsAt tree text (wordOf tree r C)))
+          (resolveTyped (program tree text) (allKeys tree text) (textOf tree text r A) r)
+          (m .meets ∙ ap (doneWith (slotted tree s₁ (argsAt tree text (wordOf tree r C)))) q)
+          ∙ u .0;
     }

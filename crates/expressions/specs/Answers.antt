@@ -9,13 +9,12 @@ use Rattle.records.specs.declared.convert_error.ConvertError.{ConvertError}
 use Rattle.syntax.specs.Syntax.{Text, Expr, Value, ToType, Function}
 use Rattle.syntax.specs.Decode.{program, textOf}
 use Rattle.conversion.specs.ConvertError.{Result, ok, err, _>>=_}
-use Rattle.conversion.specs.Scope as Def
 use Rattle.conversion.specs.Expressions.{Callee, CallFunction, CallCast, TypedArg, return-type, valueType, get-argument-types, resolve-call, common-type, find-exact-function, find-functions-by-literals}
 use Rattle.conversion.specs.Functions.{get-all-functions}
 use Rattle.records.specs.declared.words.Found.{Found}
 use Rattle.records.specs.declared.words.Found.the-variants as Found
 use Rattle.scope.specs.declared.Scope.{Scope}
-use Rattle.scope.specs.Open.{Stands}
+use Rattle.scope.specs.Open.{scopeAt}
 use Rattle.types.specs.Fits.{IsExpr}
 use Rattle.expressions.specs.declared.answers.Outcome.{Outcome}
 use Rattle.expressions.specs.declared.answers.Outcome.the-variants as Outcome
@@ -34,7 +33,7 @@ use Rattle.expressions.specs.declared.answers.Candidates.the-variants as
 use Rattle.expressions.specs.declared.operands.Sides.{Sides}
 use Rattle.expressions.specs.declared.arguments.Argument.{Argument}
 use Rattle.expressions.specs.declared.arguments.Argument.the-variants as Argument
-use Rattle.expressions.specs.Places.{TypeAt, FunctionAt, functionOf, exprAt, argsAt}
+use Rattle.syntax.specs.Places.{TypeAt, FunctionAt, functionOf, exprAt, argsAt}
 use Rattle.expressions.specs.Keys.{allKeys, listedIn, Keyed}
 use Rattle.expressions.specs.Slots.{slotted, Typed, Frame, Slots, typeIn}
 
@@ -171,32 +170,32 @@ pub data AllMeet (tree text s s′ : List ℕ) : AllFunctions → Type 0 where
   refused : {e : ConvertError} → s′ ≡ listedIn tree s → get-all-functions (program tree text .functions) [] ≡ refusal e
       → AllMeet tree text s s′ (AllFunctions.Refused e)
 
--- `get_type`, in every scope that the open names stand for
+-- `get_type` of the expression at record e, in the scope that the open names stand for
 pub record TypeMeets (tree text s : List ℕ) (sc : Scope) (e : ℕ) (a : ExprType) (s′ : List ℕ) : Type 0 where
   pub frame : Frame tree s s′
+  pub slots : Slots tree text (scopeAt tree text s sc) s s′
   pub typed : IsTyped tree a
-  pub meets : (S : Def.Scope) → Stands text s sc (S .variables) → Slots tree text S s s′ × (typeIn tree text S e ≡ typeOf a)
+  pub meets : typeIn tree text (scopeAt tree text s sc) e ≡ typeOf a
 
 -- `get_argument_types` of the arguments that word w opens: their types stand in the slots
 pub record ArgsMeet (tree text s : List ℕ) (sc : Scope) (w : ℕ) (a : Outcome) (s′ : List ℕ) : Type 0 where
   pub frame : Frame tree s s′
+  pub slots : Slots tree text (scopeAt tree text s sc) s s′
   pub typed : a ≡ Outcome.Done → Typed tree s′ (argsAt tree text w)
-  pub meets : (S : Def.Scope) → Stands text s sc (S .variables)
-      → Slots tree text S s s′
-      × (get-argument-types (program tree text) (allKeys tree text) (argsAt tree text w) S ≡ doneWith (slotted tree s′ (argsAt tree text w)) a)
+  pub meets : get-argument-types (program tree text) (allKeys tree text) (argsAt tree text w) (scopeAt tree text s sc)
+      ≡ doneWith (slotted tree s′ (argsAt tree text w)) a
 
 -- `resolve_call` of the call at record r
 pub record CallMeets (tree text s : List ℕ) (sc : Scope) (r : ℕ) (a : Resolved) (s′ : List ℕ) : Type 0 where
   pub frame : Frame tree s s′
+  pub slots : Slots tree text (scopeAt tree text s sc) s s′
   pub callee : IsCallee tree a
-  pub meets : (S : Def.Scope) → Stands text s sc (S .variables)
-      → Slots tree text S s s′
-      × (resolve-call (program tree text) (allKeys tree text) (textOf tree text r A) (argsAt tree text (wordOf tree r C)) S r ≡ calleeOf tree text a)
+  pub meets : resolve-call (program tree text) (allKeys tree text) (textOf tree text r A) (argsAt tree text (wordOf tree r C)) (scopeAt tree text s sc) r
+      ≡ calleeOf tree text a
 
 -- `common_type` of the expressions at records l and r
 pub record CommonMeets (tree text s : List ℕ) (sc : Scope) (l r : ℕ) (a : Common) (s′ : List ℕ) : Type 0 where
   pub frame : Frame tree s s′
+  pub slots : Slots tree text (scopeAt tree text s sc) s s′
   pub common : IsCommon tree a
-  pub meets : (S : Def.Scope) → Stands text s sc (S .variables)
-      → Slots tree text S s s′
-      × (common-type (program tree text) (allKeys tree text) (exprAt tree text l) (exprAt tree text r) S ≡ commonOf a)
+  pub meets : common-type (program tree text) (allKeys tree text) (exprAt tree text l) (exprAt tree text r) (scopeAt tree text s sc) ≡ commonOf a

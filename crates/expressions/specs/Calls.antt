@@ -12,7 +12,7 @@ use Rattle.conversion.specs.Expressions.{TypedArg, suffixes, joined, takesArg, 
 use Rattle.records.specs.declared.words.Found.{Found}
 use Rattle.records.specs.declared.words.Found.the-variants as Found
 use Rattle.expressions.specs.declared.arguments.Call.{Call}
-use Rattle.expressions.specs.Places.{ArgsAt, argsAt}
+use Rattle.syntax.specs.Places.{ArgsAt, argsAt}
 use Rattle.expressions.specs.Keys.{allKeys}
 use Rattle.expressions.specs.Slots.{slotted, Typed}
 

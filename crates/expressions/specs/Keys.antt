@@ -15,7 +15,7 @@ use Rattle.conversion.specs.ConvertError.{ok}
 use Rattle.conversion.specs.Expressions.{Functions, is-mangled}
 use Rattle.conversion.specs.Functions.{get-all-functions}
 use Rattle.conversion.specs.Written.{word}
-use Rattle.expressions.specs.Places.{functionOf}
+use Rattle.syntax.specs.Places.{functionOf}
 
 -- a function's key is its name if it is external or `main`, else its mangled name
 unfoldable pub keyOf : Function → Text

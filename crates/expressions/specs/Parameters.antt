@@ -16,10 +16,10 @@ use Rattle.conversion.specs.Scope as Def
 use Rattle.conversion.specs.Scope.{Variable, find-variable, withVariable}
 use Rattle.conversion.specs.Written.{word}
 use Rattle.scope.specs.declared.Scope.{Scope}
-use Rattle.scope.specs.Open.{Stands}
+use Rattle.scope.specs.Open.{more, scopeAt}
 use Rattle.expressions.specs.declared.parameters.Parameters.{Parameters}
 use Rattle.expressions.specs.declared.parameters.Parameters.the-variants as Parameters
-use Rattle.expressions.specs.Places.{functionOf}
+use Rattle.syntax.specs.Places.{functionOf}
 use Rattle.expressions.specs.Slots.{Ready}
 use Rattle.expressions.specs.Answers.{refusal}
 
@@ -57,19 +57,19 @@ entries tree (p ∷ l) k = entryOf tree p k ++ entries tree l (suc k)
 
 -- one parameter more, or its name is taken
 pub data OneMore (tree text : List ℕ) (functions : ℕ) (sc : Scope) (p : Param) (s s′ : List ℕ) : Parameters → Type 0 where
-  done : {sc′ : Scope} → Ready tree text s′ functions sc′ → sc′ .names ≡ sc .names + 1 → sc′ .inner ≡ sc .inner → sc′ .function ≡ sc .function
-      → ((S : Def.Scope) → Stands text s sc (S .variables)
-      → (isSome (find-variable (p .name) S) ≡ false) × Stands text s′ sc′ (parameterOf p (sc .names) ∷ S .variables))
+  done : {sc′ : Scope} → Ready tree text s′ functions sc′ → sc′ ≡ more sc
+      → isSome (find-variable (p .name) (scopeAt tree text s sc)) ≡ false
+      → scopeAt tree text s′ sc′ ≡ withVariable (parameterOf p (sc .names)) (scopeAt tree text s sc)
       → s′ ≡ splice s (8 * records tree + 16 * sc .names) (entryOf tree p (sc .names)) → OneMore tree text functions sc p s s′ (Parameters.Done sc′)
   refused : {e : ConvertError} → e ≡ record { kind = AlreadyDeclared; place = p .recOf }
-      → ((S : Def.Scope) → Stands text s sc (S .variables) → isSome (find-variable (p .name) S) ≡ true)
+      → isSome (find-variable (p .name) (scopeAt tree text s sc)) ≡ true
       → s′ ≡ s → OneMore tree text functions sc p s s′ (Parameters.Refused e)
 
 -- the scope of function f's body; only the entries are written, from byte 8n on: of all parameters or, where a name is taken, of those before
 -- (they end by byte 24n: `names-only` in proofs/ParameterRegion.antt)
 pub data ParametersMeet (tree text : List ℕ) (functions f : ℕ) (s s′ : List ℕ) : Parameters → Type 0 where
-  done : {sc : Scope} (S : Def.Scope) → withParams (functionOf tree text f .params) 0 (emptyIn tree text f) ≡ ok S
-      → Stands text s′ sc (S .variables) → Ready tree text s′ functions sc → sc .inner ≡ Words.none → sc .function ≡ f
+  done : {sc : Scope} → withParams (functionOf tree text f .params) 0 (emptyIn tree text f) ≡ ok (scopeAt tree text s′ sc)
+      → Ready tree text s′ functions sc → sc .inner ≡ Words.none → sc .function ≡ f
       → s′ ≡ splice s (8 * records tree) (entries tree (functionOf tree text f .params) 0) → ParametersMeet tree text functions f s s′ (Parameters.Done sc)
   refused : {e : ConvertError} → withParams (functionOf tree text f .params) 0 (emptyIn tree text f) ≡ refusal e
       → s′ ≡ splice s (8 * records tree) (entries tree (untilTaken (functionOf tree text f .params) 0 (emptyIn tree text f)) 0)

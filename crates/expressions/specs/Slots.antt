@@ -11,12 +11,11 @@ use Rattle.syntax.specs.Syntax.{Args, noArgs, Value, ToType, place}
 use Rattle.syntax.specs.Decode.{program}
 use Rattle.conversion.specs.ConvertError.{Result, ok}
 use Rattle.conversion.specs.Scope as Def
-use Rattle.conversion.specs.Scope.{Variable}
 use Rattle.conversion.specs.Expressions.{TypedArg, get-type}
 use Rattle.scope.specs.declared.Scope.{Scope}
-use Rattle.scope.specs.Open.{Stands, Room}
+use Rattle.scope.specs.Open.{Room}
 use Rattle.types.specs.Fits.{IsExpr}
-use Rattle.expressions.specs.Places.{TypeAt, exprAt}
+use Rattle.syntax.specs.Places.{TypeAt, exprAt}
 use Rattle.expressions.specs.Keys.{allKeys, Keyed}
 
 -- y is the type of the first of the arguments
@@ -44,12 +43,10 @@ module _ (tree : List ℕ) where
   Typed s (Value r e l) = TypeAt tree (slotAt s (place e)) × Typed s l
   Typed s (ToType r y l) = Typed s l
 
-  -- the scope is one of this tree, and stands for variables whose types are types of this tree
-  pub record Scoped (text s : List ℕ) (sc : Scope) : Type 0 where
+  -- the scope is one of this tree, and the open names' types are types of this tree
+  pub record Scoped (s : List ℕ) (sc : Scope) : Type 0 where
     pub records-are : sc .records ≡ records tree
     pub room : Room sc s
-    pub variables : List Variable
-    pub stands : Stands text s sc variables
     pub types : (j : ℕ) → j < sc .names → TypeAt tree (wordAt s (8 * records tree + 16 * j + 12) / 2)
 
   -- only the region of the slots, from byte 4n to byte 8n, may differ
@@ -72,4 +69,4 @@ module _ (tree : List ℕ) where
 -- what typing needs: the functions by key, and the scope
 pub record Ready (tree text s : List ℕ) (count : ℕ) (sc : Scope) : Type 0 where
   pub keyed : Keyed tree text s count
-  pub scoped : Scoped tree text s sc
+  pub scoped : Scoped tree s sc

@@ -10,7 +10,7 @@ ghost use Rattle.conversion.specs.Expressions.{find-functions-by-literals, cast
 ghost use mathlib.Core.Bool.{_&&_};
 ghost use mathlib.Core.List.{List};
 ghost use mathlib.Core.Option.{none};
-ghost use Rattle.expressions.specs.Places.{FunctionAt, IsKind, functionOf, argsAt};
+ghost use Rattle.syntax.specs.Places.{FunctionAt, IsKind, functionOf, argsAt};
 ghost use Rattle.expressions.specs.Keys.{allKeys, Keyed};
 ghost use Rattle.expressions.specs.Slots.{Typed};
 ghost use Rattle.expressions.specs.Calls.{typedAt, verbOf, Called};

@@ -10,7 +10,7 @@ ghost use Rattle.records.specs.Good.{Good};
 ghost use Rattle.syntax.specs.Decode.{program};
 ghost use Rattle.conversion.specs.Ir.{sameText};
 ghost use Rattle.conversion.specs.Expressions.{is-mangled, takes-args, joined, mangledFunction, variadicFunction, filterOption, getFunction, find-exact-function};
-ghost use Rattle.expressions.specs.Places.{FunctionAt, functionOf};
+ghost use Rattle.syntax.specs.Places.{FunctionAt, functionOf};
 ghost use Rattle.expressions.specs.Keys.{allKeys, keyOf, Keyed};
 ghost use Rattle.expressions.specs.Calls.{typedAt, suffixesAt, verbOf, nameOf, bytesIn, Argued, Called, PrefixIs, VariadicKey};
 ghost use Rattle.expressions.specs.Answers.{functionFound, FunctionFound};

@@ -7,7 +7,7 @@ ghost use Rattle.laws.specs.Splice.{splice};
 ghost use Rattle.records.specs.Words.{wordOf, records};
 ghost use Rattle.conversion.specs.Written.{word};
 ghost use Rattle.types.specs.Fits.{IsExpr};
-ghost use Rattle.expressions.specs.Places.{IsKind};
+ghost use Rattle.syntax.specs.Places.{IsKind};
 ghost use Rattle.expressions.specs.Slots.{Ready};
 ghost use Rattle.expressions.specs.Answers.{TypeMeets, ArgsMeet, CallMeets, CommonMeets};
 use crate::answers::Common;

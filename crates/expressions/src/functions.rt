@@ -7,7 +7,7 @@ ghost use Rattle.records.specs.Words.{wordAt, records};
 ghost use Rattle.records.specs.Good.{Good};
 ghost use Rattle.syntax.specs.Decode.{program, typeAt};
 ghost use Rattle.conversion.specs.Functions.{addFunction, findMain, returnsInt, check-main};
-ghost use Rattle.expressions.specs.Places.{FunctionAt, functionOf};
+ghost use Rattle.syntax.specs.Places.{FunctionAt, functionOf};
 ghost use Rattle.expressions.specs.Keys.{keysBelow, Listed, functionRecords, listedIn};
 ghost use Rattle.expressions.specs.Answers.{functionFound, FunctionFound, outcomeOf, doneWith, AllMeet};
 use crate::answers::AllFunctions;

@@ -7,7 +7,8 @@ ghost use Rattle.records.specs.Words.{textAt, wordAt, wordOf};
 ghost use Rattle.records.specs.Good.{Good};
 ghost use Rattle.conversion.specs.Ir.{sameText};
 ghost use Rattle.conversion.specs.Expressions.{is-mangled, getFunction};
-ghost use Rattle.expressions.specs.Places.{FunctionAt, PartIs, functionOf, ParamsAt, paramsAt};
+ghost use Rattle.syntax.specs.Places.{FunctionAt, functionOf, ParamsAt, paramsAt};
+ghost use Rattle.expressions.specs.Places.{PartIs};
 ghost use Rattle.expressions.specs.Keys.{keyOf, keysBelow, Listed};
 ghost use Rattle.expressions.specs.Answers.{functionFound, FunctionFound};
 use crate::parts::Part;
@@ -52,7 +53,7 @@ pub(crate) fn is_variadic(tree: &[u8], text: &[u8], f: usize) -> bool
 }
 
 // The first cell of its parameters.
-pub(crate) fn parameters_of(tree: &[u8], text: &[u8], f: usize) -> usize
+pub fn parameters_of(tree: &[u8], text: &[u8], f: usize) -> usize
     requires { ⌜ Good (now tree) (now text) ⌝ }
     requires { ⌜ FunctionAt (now tree) f ⌝ }
     ensures { λ w. ⌜ (functionOf (now (tree .entry)) (now (text .entry)) f .params ≡ paramsAt (now (tree .entry)) (now (text .entry)) w) × ParamsAt (now (tree .entry)) w ⌝ }

@@ -8,10 +8,10 @@ ghost use Rattle.syntax.specs.Syntax.{unaryOps, binaryOps, Neg, Or};
 ghost use Rattle.syntax.specs.Decode.{program};
 ghost use Rattle.conversion.specs.Scope as Def;
 ghost use Rattle.conversion.specs.Expressions.{OperandClass, commonOf, acceptsClass, acceptsUnary, unaryType, operandsError, binaryType};
-ghost use Rattle.scope.specs.Open.{Stands};
+ghost use Rattle.scope.specs.Open.{scopeAt};
 ghost use Rattle.types.specs.Fits.{IsExpr};
 ghost use Rattle.types.specs.Operators.{classNumber};
-ghost use Rattle.expressions.specs.Places.{TypeAt, FunctionAt, IsKind, exprAt, functionOf};
+ghost use Rattle.syntax.specs.Places.{TypeAt, FunctionAt, IsKind, exprAt, functionOf};
 ghost use Rattle.expressions.specs.Keys.{allKeys};
 ghost use Rattle.expressions.specs.Slots.{Scoped, typeIn};
 ghost use Rattle.conversion.specs.ConvertError.{ok};
@@ -210,9 +210,9 @@ fn literal_type(tree: &[u8], text: &[u8], e: usize) -> usize
 // The type of the Name e.
 fn name_type(tree: &[u8], text: &[u8], scratch: &[u8], scope: Scope, e: usize) -> ExprType
     requires { ⌜ Good (now tree) (now text) ⌝ }
-    requires { ⌜ Scoped (now tree) (now text) (now scratch) scope ⌝ }
+    requires { ⌜ Scoped (now tree) (now scratch) scope ⌝ }
     requires { ⌜ IsKind (now tree) 6 e ⌝ }
-    ensures { λ a. ⌜ ((S : Def.Scope) → Stands (now (text .entry)) (now (scratch .entry)) scope (S .variables) → typeIn (now (tree .entry)) (now (text .entry)) S e ≡ typeOf a) × IsTyped (now (tree .entry)) a ⌝ }
+    ensures { λ a. ⌜ (typeIn (now (tree .entry)) (now (text .entry)) (scopeAt (now (tree .entry)) (now (text .entry)) (now (scratch .entry)) scope) e ≡ typeOf a) × IsTyped (now (tree .entry)) a ⌝ }
 {
     match scope.find_variable(text, scratch, word(tree, e, 0), word(tree, e, 1)) {
         Known::Is(v, _) => ExprType::Is(v.1 as usize),
@@ -229,10 +229,10 @@ pub(crate) fn leaf_type(
     e: usize,
 ) -> ExprType
     requires { ⌜ Good (now tree) (now text) ⌝ }
-    requires { ⌜ Scoped (now tree) (now text) (now scratch) scope ⌝ }
+    requires { ⌜ Scoped (now tree) (now scratch) scope ⌝ }
     requires { ⌜ IsExpr (now tree) e ⌝ }
     requires { ⌜ kindOf (now tree) e ≤ 8 ⌝ }
-    ensures { λ a. ⌜ ((S : Def.Scope) → Stands (now (text .entry)) (now (scratch .entry)) scope (S .variables) → typeIn (now (tree .entry)) (now (text .entry)) S e ≡ typeOf a) × IsTyped (now (tree .entry)) a ⌝ }
+    ensures { λ a. ⌜ (typeIn (now (tree .entry)) (now (text .entry)) (scopeAt (now (tree .entry)) (now (text .entry)) (now (scratch .entry)) scope) e ≡ typeOf a) × IsTyped (now (tree .entry)) a ⌝ }
 {
     if kind(tree, e) == 6 {
         return name_type(tree, text, scratch, scope, e);

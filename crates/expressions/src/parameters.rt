@@ -4,7 +4,7 @@ ghost use Prim.Native.Nat.{ℕ, _+_, _*_, _≤_, _<_};
 ghost use lib.ListN.{length};
 ghost use Rattle.records.specs.Words.{records, wordOf};
 ghost use Rattle.syntax.specs.Decode.{textOf};
-ghost use Rattle.expressions.specs.Places.{FunctionAt, ParamsAt};
+ghost use Rattle.syntax.specs.Places.{FunctionAt, ParamsAt};
 ghost use Rattle.expressions.specs.Keys.{Keyed};
 ghost use Rattle.expressions.specs.Slots.{Ready};
 ghost use Rattle.conversion.specs.ConvertError.{AlreadyDeclared};
@@ -58,7 +58,6 @@ fn declare_parameter(
     match scope.declare(text, scratch, offset, len, v, false) {
         Declared::Done(next) => Parameters::Done(next),
         Declared::Taken => taken(p),
-        Declared::Full => taken(p),
     }
 }
 

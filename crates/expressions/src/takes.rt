@@ -5,7 +5,7 @@ ghost use lib.ListN.{length};
 ghost use Rattle.records.specs.Good.{Good};
 ghost use Rattle.syntax.specs.Decode.{program};
 ghost use Rattle.conversion.specs.Expressions.{takes-count, takes-args, takesAll};
-ghost use Rattle.expressions.specs.Places.{FunctionAt, ParamsAt, functionOf, paramsAt};
+ghost use Rattle.syntax.specs.Places.{FunctionAt, ParamsAt, functionOf, paramsAt};
 ghost use Rattle.expressions.specs.Keys.{allKeys};
 ghost use Rattle.expressions.specs.Calls.{typedAt, Argued, Called, TakesFirst};
 use crate::arguments::Argument;

@@ -20,7 +20,7 @@ use Rattle.expressions.specs.declared.answers.AllFunctions.{AllFunctions}
 use Rattle.expressions.specs.declared.answers.AllFunctions.the-variants as AllFunctions
 use Rattle.expressions.specs.declared.parameters.Parameters.{Parameters}
 use Rattle.expressions.specs.declared.parameters.Parameters.the-variants as Parameters
-use Rattle.expressions.specs.Places.{IsKind}
+use Rattle.syntax.specs.Places.{IsKind}
 use Rattle.expressions.specs.Keys.{Keyed}
 use Rattle.expressions.specs.Slots.{Ready}
 use Rattle.expressions.specs.Answers.{AllMeet}
@@ -57,7 +57,7 @@ pub scope-ready : (tree text : List ℕ) (functions f : ℕ) (s s′ : List ℕ)
 scope-ready tree text functions f s s′ r m sc q = go (subst (ParametersMeet tree text functions f s s′) q m)
   where
     go : ParametersMeet tree text functions f s s′ (Parameters.Done sc) → Ready tree text s′ functions sc
-    go (ParametersMeet.done S asked stands ready inner function bytes) = ready
+    go (ParametersMeet.done asked ready inner function bytes) = ready
 
 -- ---- what was tested
 

@@ -1,7 +1,6 @@
 -- Open names: the search is the definition's, and a name more stands above the others.
--- By recursion over the variables, innermost first, and by the words of an entry. Assumes nothing.
+-- By recursion over the entries, and by the words of one. Assumes nothing.
 use mathlib.Core.Path.{_≡_, refl, sym, ap, ap₂, _∙_, subst}
-use mathlib.Core.Logic.{inl, inr}
 use Prim.Native.Nat.{ℕ, zero, suc, _+_, _-_, _*_, _/_, _%_, _^_, _≤_, _<_}
 use mathlib.Core.Bool.{Bool, true, false}
 use mathlib.Core.List.{List, [], _∷_, _++_}
@@ -15,7 +14,6 @@ use Rattle.laws.specs.Fix.{pick}
 use Rattle.laws.specs.Splice.{splice}
 use Rattle.laws.proofs.Splices.{length-splice, part-grown, part-element}
 use Rattle.records.specs.Words.{byteAt, wordAt, textAt}
-use Rattle.conversion.specs.Ir as Ir
 use Rattle.conversion.specs.Ir.{sameText}
 use Rattle.conversion.specs.Scope.{Variable, findIn}
 use Rattle.conversion.specs.Written.{bytesOf, word, boolNumber}
@@ -23,7 +21,6 @@ use Rattle.records.specs.declared.words.Found.{Found}
 use Rattle.records.specs.declared.words.Found.the-variants.{At, Nothing}
 use Rattle.ir.specs.declared.structs.VarId.{VarId}
 use Rattle.ir.specs.Search.{foundOf}
-use Rattle.ir.specs.Instructions.{varOf}
 use Rattle.ir.proofs.Entries.{word-same}
 use Rattle.ir.proofs.ReadBack.{word-back}
 use Rattle.ir.proofs.SearchLaws.{found-some, found-none}
@@ -31,8 +28,8 @@ use Rattle.scope.specs.declared.Scope.{Scope}
 use Rattle.scope.specs.declared.Known.{Known}
 use Rattle.scope.specs.declared.Known.the-variants as Known
 use Rattle.scope.specs.declared.Declared.the-variants as Declared
-use Rattle.scope.specs.Open.{Entry, Open, Stands, Room, last, nameIs, VariableAt, IsFound, FindMeets, more, variable, Added, Taken, DeclareMeets}
-use Rattle.scope.proofs.ScopeLaws.{kept-above, open-kept}
+use Rattle.scope.specs.Open.{variableAt, variablesAt, variablesOf, Room, last, nameIs, VariableAt, IsFound, FindMeets, more, variable, entryOf, Afforded, DeclareMeets}
+use Rattle.scope.proofs.ScopeLaws.{kept-above, variables-kept, entry-long}
 
 -- ---- the loop
 
@@ -54,76 +51,42 @@ module _ (n : ℕ) (f : ℕ → Bool) where
 
 -- ---- the search is the definition's
 
--- what the search finds is the entry of what the definition finds
-pub data Search (text s : List ℕ) (n : ℕ) : Option ℕ → Option Variable → Type 0 where
-  nowhere : Search text s n none none
-  there : (j : ℕ) (x : Variable) → Entry text s (8 * n + 16 * j) x → Search text s n (some j) (some x)
+-- the entry of what the search found
+abbrev entryAt : List ℕ → List ℕ → ℕ → Option ℕ → Option Variable
+entryAt text s n (some j) = some (variableAt text s (8 * n + 16 * j))
+entryAt text s n none = none
 
-find-by : (u : List ℕ) (v : Variable) (l : List Variable) (b : Bool) → sameText u (v .name) ≡ b
-    → findIn u (v ∷ l) ≡ elim b [ true ↦ some v | false ↦ findIn u l ]
-unfolding findIn
-find-by u v l b q = ap (λ (z : Bool). elim z [ true ↦ some v | false ↦ findIn u l ]) q
+-- what the definition finds is the entry of what the search finds
+pub search-is : (text s : List ℕ) (n : ℕ) (u : List ℕ) (m : ℕ) → findIn u (variablesAt text s n m) ≡ entryAt text s n (last m (nameIs text s n u))
+unfolding last findIn variablesAt nameIs pick
+search-is text s n u zero = refl
+search-is text s n u (suc j) = go (search-is text s n u j) (nameIs text s n u j) refl
+  where
+    go : findIn u (variablesAt text s n j) ≡ entryAt text s n (last j (nameIs text s n u)) → (b : Bool) → nameIs text s n u j ≡ b
+        → elim (sameText u (variableAt text s (8 * n + 16 * j) .name)) [ true ↦ some (variableAt text s (8 * n + 16 * j)) | false ↦ findIn u (variablesAt text s n j) ]
+        ≡ entryAt text s n (pick (nameIs text s n u j) (some j) (last j (nameIs text s n u)))
+    go rest true e = rw e
+    go rest false e = rw e rest
 
-search-by : (text s : List ℕ) (n : ℕ) (u : List ℕ) (v : Variable) (l : List Variable) → Entry text s (8 * n + 16 * length l) v
-    → Search text s n (last (length l) (nameIs text s n u)) (findIn u l)
-    → (b : Bool) → nameIs text s n u (length l) ≡ b → sameText u (v .name) ≡ b
-    → Search text s n (last (suc (length l)) (nameIs text s n u)) (findIn u (v ∷ l))
-unfolding last pick
-search-by text s n u v l e rest true p q =
-    subst (λ (m : Option Variable). Search text s n (last (suc (length l)) (nameIs text s n u)) m) (sym (find-by u v l true q)) (rw p (there (length l) v e))
-search-by text s n u v l e rest false p q =
-    subst (λ (m : Option Variable). Search text s n (last (suc (length l)) (nameIs text s n u)) m) (sym (find-by u v l false q)) (rw p rest)
+-- the answer of the search
+module _ (text s : List ℕ) (sc : Scope) (u : List ℕ) (o : Option ℕ) (e : last (sc .names) (nameIs text s (sc .records) u) ≡ o) where
+  looked : findIn u (variablesOf text s sc) ≡ entryAt text s (sc .records) o
+  looked = search-is text s (sc .records) u (sc .names) ∙ ap (entryAt text s (sc .records)) e
 
-pub search-is : (text s : List ℕ) (n : ℕ) (u : List ℕ) (l : List Variable) → Open text s n l
-    → Search text s n (last (length l) (nameIs text s n u)) (findIn u l)
-unfolding last findIn Open nameIs
-search-is text s n u [] o = nowhere
-search-is text s n u (v ∷ l) o =
-    search-by text s n u v l (o .0) (search-is text s n u l (o .1)) (nameIs text s n u (length l)) refl (ap (sameText u) (o .0 .named))
-
--- a variable by its number and its type
-abbrev numbered : ℕ → ℕ → Ir.VarId
-numbered i y = record { id = i; ty = y }
-
-module _ (text s : List ℕ) (n : ℕ) where
-  is-found : {o : Option ℕ} {m : Option Variable} (j : ℕ) (r : Known) → Search text s n o m → o ≡ some j → VariableAt s (8 * n + 16 * j) r → IsFound r m
-  unfolding VariableAt IsFound
-  is-found j r nowhere e a = absurd (let z : _≡_ {A = ℕ} 0 1 = cc in omega arith)
-  is-found j Known.Unknown (there i x en) e a = absurd a
-  is-found j (Known.Is v c) (there i x en) e a =
-      let z : i ≡ j = cc in
-      let at : (q : ℕ) → wordAt s (8 * n + 16 * j + q) ≡ wordAt s (8 * n + 16 * i + q) = λ q. ap (λ (y : ℕ). wordAt s (8 * n + 16 * y + q)) (sym z) in (
-        ap₂ numbered
-            (a .0 ∙ at 8 ∙ sym (en .number))
-            (a .1 ∙ ap (λ (y : ℕ). y / 2) (at 12) ∙ sym (en .typed)),
-        a .2 ∙ ap (λ (y : ℕ). eqb (y % 2) 1) (at 12) ∙ sym (en .fixed),
-      )
-
-  not-found : {o : Option ℕ} {m : Option Variable} → Search text s n o m → o ≡ none → m ≡ none
-  not-found nowhere e = refl
-  not-found (there i x en) e = absurd (let z : _≡_ {A = ℕ} 0 1 = cc in omega arith)
-
-  is-taken : (u : List ℕ) (l : List Variable) (j : ℕ) {o : Option ℕ} {m : Option Variable} → Search text s n o m → findIn u l ≡ m → o ≡ some j → Taken u l
-  is-taken u l j nowhere q e = absurd (let z : _≡_ {A = ℕ} 0 1 = cc in omega arith)
-  is-taken u l j (there i x en) q e = record { holder = x; found = q }
-
--- the answer of the search, for what the scope stands for
-looked : (text s : List ℕ) (sc : Scope) (u : List ℕ) (o : Option ℕ) (l : List Variable) → Stands text s sc l
-    → last (sc .names) (nameIs text s (sc .records) u) ≡ o → Search text s (sc .records) o (findIn u l)
-looked text s sc u o l st e =
-    subst (λ (p : Option ℕ). Search text s (sc .records) p (findIn u l)) (ap (λ (m : ℕ). last m (nameIs text s (sc .records) u)) (sym (st .count)) ∙ e)
-    (search-is text s (sc .records) u l (st .names))
+is-entry : (text s : List ℕ) (p : ℕ) (r : Known) → VariableAt s p r → IsFound r (some (variableAt text s p))
+unfolding VariableAt IsFound
+is-entry text s p (Known.Is v c) a = a
+is-entry text s p Known.Unknown a = absurd a
 
 pub find-hit : (text s : List ℕ) (sc : Scope) (u : List ℕ) (r : Known) (j : ℕ) → last (sc .names) (nameIs text s (sc .records) u) ≡ some j
     → VariableAt s (8 * sc .records + 16 * j) r → FindMeets text s sc u r
-unfolding FindMeets
-find-hit text s sc u r j e a l st = is-found text s (sc .records) j r (looked text s sc u (some j) l st e) refl a
+find-hit text s sc u r j e a =
+    subst (λ (m : Option Variable). IsFound r m) (sym (looked text s sc u (some j) e)) (is-entry text s (8 * sc .records + 16 * j) r a)
 
 pub find-none : (text s : List ℕ) (sc : Scope) (u : List ℕ) → last (sc .names) (nameIs text s (sc .records) u) ≡ none
     → FindMeets text s sc u Known.Unknown
-unfolding FindMeets IsFound
-find-none text s sc u e l st =
-    subst (λ (m : Option Variable). IsFound Known.Unknown m) (sym (not-found text s (sc .records) (looked text s sc u none l st e) refl)) tt
+unfolding IsFound
+find-none text s sc u e = subst (λ (m : Option Variable). IsFound Known.Unknown m) (sym (looked text s sc u none e)) tt
 
 -- what is found is below the count
 below-by : (n : ℕ) (f : ℕ → Bool) (r : ℕ) → (last n f ≡ some r → r < n) → (b : Bool) → f n ≡ b → last (suc n) f ≡ some r → r < suc n
@@ -167,21 +130,16 @@ unfolding boolNumber
 mark-small y true h = omega arith
 mark-small y false h = omega arith
 
-module _ (text : List ℕ) (offset len : ℕ) (v : VarId) (constant : Bool) (sc : Scope) (s s′ : List ℕ) (room : Room sc s) where
+module _ (text : List ℕ) (offset len : ℕ) (v : VarId) (constant : Bool) (sc : Scope) (s s′ : List ℕ) (room : Room sc s) (afforded : Afforded sc v) where
   abbrev bytes : List ℕ
-  bytes = word offset ++ word len ++ word (v .0) ++ word (2 * v .1 + boolNumber constant)
+  bytes = entryOf offset len v constant
 
   abbrev place : ℕ
   place = 8 * sc .records + 16 * sc .names
 
-  bytes-length : length bytes ≡ 16
-  unfolding word bytesOf
-  bytes-length = refl
-
-  module _ (ho : offset < 2 ^ 32) (hn : len < 2 ^ 32) (hv : v .0 < 2 ^ 32) (hy : v .1 < 2 ^ 31) (small : sc .names < sc .records)
-      (e : s′ ≡ splice s place bytes) where
+  module _ (ho : offset < 2 ^ 32) (hn : len < 2 ^ 32) (hv : v .0 < 2 ^ 32) (e : s′ ≡ splice s place bytes) where
     fit : place + length bytes ≤ length s
-    fit = omega (arith, bytes-length, room .scratch)
+    fit = omega (arith, entry-long offset len v constant, room .scratch, afforded .names)
 
     word₀ : wordAt s′ place ≡ offset
     unfolding word bytesOf wordAt byteAt
@@ -198,49 +156,33 @@ module _ (text : List ℕ) (offset len : ℕ) (v : VarId) (constant : Bool) (sc 
     word₃ : wordAt s′ (place + 12) ≡ 2 * v .1 + boolNumber constant
     unfolding word bytesOf wordAt byteAt
     word₃ = ap (λ (x : List ℕ). wordAt x (place + 12)) e ∙ word-in s place bytes 12 (place + 12) fit (omega arith) refl
-        ∙ word-back (2 * v .1 + boolNumber constant) (mark-small (v .1) constant hy)
+        ∙ word-back (2 * v .1 + boolNumber constant) (mark-small (v .1) constant (afforded .type))
 
-    entry : Entry text s′ place (variable text offset len v constant)
-    entry = record {
-      named = sym (ap₂ (textAt text) word₀ word₁);
-      number = sym word₂;
-      typed = typed-mark (v .1) constant ∙ ap (λ (y : ℕ). y / 2) (sym word₃);
-      fixed = fixed-mark (v .1) constant ∙ ap (λ (y : ℕ). eqb (y % 2) 1) (sym word₃);
-    }
+    entry-is : variableAt text s′ place ≡ variable text offset len v constant
+    entry-is = rw (word₀, word₁, word₂, word₃, ← typed-mark (v .1) constant, ← fixed-mark (v .1) constant)
 
-    stands-more : (l : List Variable) → Stands text s sc l → Stands text s′ (more sc) (variable text offset len v constant ∷ l)
-    unfolding Open
-    stands-more l st = record {
-      names = (
-        subst (λ (m : ℕ). Entry text s′ (8 * sc .records + 16 * m) (variable text offset len v constant)) (st .count) entry,
-        open-kept text s s′ (sc .records) (sc .names) (kept-above (sc .records) (sc .names) s place bytes s′ e fit (omega arith)) l
-            (omega (arith, st .count)) (st .names),
-      );
-      count = omega (arith, st .count);
-    }
+    added-is : variablesOf text s′ (more sc) ≡ variable text offset len v constant ∷ variablesOf text s sc
+    unfolding variablesAt
+    added-is =
+        ap (variablesAt text s′ (sc .records)) (add-one (sc .names))
+        ∙ ap₂ (λ (x : Variable) (l : List Variable). x ∷ l) entry-is
+        (variables-kept text s s′ (sc .records) (sc .names)
+        (kept-above (sc .records) (sc .names) s place bytes s′ e fit (omega arith)) (sc .names) (omega arith))
 
     pub declare-done : last (sc .names) (nameIs text s (sc .records) (textAt text offset len)) ≡ none
-        → DeclareMeets text offset len v constant sc s (Declared.Done (more sc)) s′
+        → DeclareMeets text offset len v constant sc s s′ (Declared.Done (more sc))
     unfolding DeclareMeets
-    declare-done q = (
-      refl,
-      record { scratch = omega (arith, room .scratch, ap length e ∙ length-splice s place bytes fit); names-in = omega arith },
-      e,
-      λ l st. record {
-        free = not-found text s (sc .records) (looked text s sc (textAt text offset len) none l st q) refl;
-        stands = stands-more l st;
-      },
-    )
+    declare-done q = record { scope = refl; written = e; free = looked text s sc (textAt text offset len) none q; added = added-is }
 
 pub declare-taken : (text : List ℕ) (offset len : ℕ) (v : VarId) (constant : Bool) (sc : Scope) (s : List ℕ) (j : ℕ)
     → last (sc .names) (nameIs text s (sc .records) (textAt text offset len)) ≡ some j
-    → DeclareMeets text offset len v constant sc s Declared.Taken s
+    → DeclareMeets text offset len v constant sc s s Declared.Taken
 unfolding DeclareMeets
-declare-taken text offset len v constant sc s j q = (
-  refl,
-  λ l st. is-taken text s (sc .records) (textAt text offset len) l j
-      (looked text s sc (textAt text offset len) (some j) l st q) refl refl,
-)
+declare-taken text offset len v constant sc s j q = record {
+  same = refl;
+  holder = variableAt text s (8 * sc .records + 16 * j);
+  found = looked text s sc (textAt text offset len) (some j) q;
+}
 
 pub mark-one : (b : ℕ) (c : Bool) → b ≡ boolNumber c → b ≤ 1
 unfolding boolNumber
@@ -261,25 +203,15 @@ module _ (text s : List ℕ) (sc : Scope) (offset len : ℕ) (a : Found)
   found-below j q = last-below (sc .names) (nameIs text s (sc .records) (textAt text offset len)) j
       (found-some (last (sc .names) (nameIs text s (sc .records) (textAt text offset len))) j a e q)
 
-  pub declare-at : (v : VarId) (constant : Bool) (j : ℕ) → a ≡ At j → DeclareMeets text offset len v constant sc s Declared.Taken s
+  pub declare-at : (v : VarId) (constant : Bool) (j : ℕ) → a ≡ At j → DeclareMeets text offset len v constant sc s s Declared.Taken
   declare-at v constant j q =
       declare-taken text offset len v constant sc s j (found-some (last (sc .names) (nameIs text s (sc .records) (textAt text offset len))) j a e q)
 
-  pub declare-new : (v : VarId) (constant : Bool) (b : ℕ) (s′ : List ℕ) → Room sc s → offset < 2 ^ 32 → len < 2 ^ 32 → v .0 < 2 ^ 32 → v .1 < 2147483648
-      → sc .names < sc .records → b ≡ boolNumber constant → a ≡ Nothing
+  pub declare-new : (v : VarId) (constant : Bool) (b : ℕ) (s′ : List ℕ) → Room sc s → Afforded sc v → offset < 2 ^ 32 → len < 2 ^ 32 → v .0 < 2 ^ 32
+      → b ≡ boolNumber constant → a ≡ Nothing
       → s′ ≡ splice s (8 * sc .records + 16 * sc .names) (word offset ++ word len ++ word (v .0) ++ word (2 * v .1 + b))
-      → DeclareMeets text offset len v constant sc s (Declared.Done (more sc)) s′
-  declare-new v constant b s′ room ho hn hv hy small eb q w =
-      declare-done text offset len v constant sc s s′ room ho hn hv hy small
+      → DeclareMeets text offset len v constant sc s s′ (Declared.Done (more sc))
+  declare-new v constant b s′ room afforded ho hn hv eb q w =
+      declare-done text offset len v constant sc s s′ room afforded ho hn hv
       (w ∙ ap (λ (x : ℕ). splice s (8 * sc .records + 16 * sc .names) (word offset ++ word len ++ word (v .0) ++ word (2 * v .1 + x))) eb)
       (found-none (last (sc .names) (nameIs text s (sc .records) (textAt text offset len))) a e q)
-
-pub declare-full : (text : List ℕ) (offset len : ℕ) (v : VarId) (constant : Bool) (sc : Scope) (s : List ℕ) → sc .records ≤ sc .names
-    → DeclareMeets text offset len v constant sc s Declared.Full s
-unfolding DeclareMeets
-declare-full text offset len v constant sc s h = (refl, inl h)
-
-pub declare-wide : (text : List ℕ) (offset len : ℕ) (v : VarId) (constant : Bool) (sc : Scope) (s : List ℕ) → 2147483648 ≤ v .1
-    → DeclareMeets text offset len v constant sc s Declared.Full s
-unfolding DeclareMeets
-declare-wide text offset len v constant sc s h = (refl, inr h)

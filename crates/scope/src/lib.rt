@@ -5,7 +5,7 @@ ghost use Prim.Native.Nat.{_+_, _*_, _≤_};
 ghost use lib.ListN.{length};
 ghost use Rattle.records.specs.Words.{textAt};
 ghost use Rattle.ir.specs.Search.{foundOf};
-ghost use Rattle.scope.specs.Open.{last, nameIs, Room, VariableAt, FindMeets, DeclareMeets, loopOf};
+ghost use Rattle.scope.specs.Open.{last, nameIs, Room, VariableAt, FindMeets, Afforded, DeclareMeets, within, loopNumber, loopOf};
 use ir::structs::VarId;
 use records::texts::same_text;
 use records::words::Found;
@@ -34,8 +34,6 @@ pub enum Declared {
     Done(Scope),
     // AlreadyDeclared.
     Taken,
-    // No room; that sizes suffice shows that it never comes.
-    Full,
 }
 
 pub enum InLoop {
@@ -98,7 +96,8 @@ impl Scope {
         }
     }
 
-    // The scope with one name more, where no variable of this block or those around it has the name.
+    // The scope with one name more, where no variable of this block or those around it has the name. Room for it is afforded: each name has
+    // a record of its own.
     pub fn declare(
         self,
         text: &[u8],
@@ -109,19 +108,14 @@ impl Scope {
         constant: bool,
     ) -> Declared
         requires { ⌜ Room self (now scratch) ⌝ }
-        ensures { λ r. ⌜ DeclareMeets (now (text .entry)) offset len v constant self (now (scratch .entry)) r (now (scratch .exit)) ⌝ }
+        requires { ⌜ Afforded self v ⌝ }
+        ensures { λ r. ⌜ DeclareMeets (now (text .entry)) offset len v constant self (now (scratch .entry)) (now (scratch .exit)) r ⌝ }
     {
         let n = self.records;
         let count = self.names;
         let ty = v.1;
         if let Found::At(_) = find_name(text, scratch, n, count, offset, len) {
             return Declared::Taken;
-        }
-        if count >= n {
-            return Declared::Full;
-        }
-        if ty >= 2147483648 {
-            return Declared::Full;
         }
         let w = Four(offset, len, v.0, 2 * ty + mark(constant));
         let mut next = self;
@@ -132,7 +126,7 @@ impl Scope {
 
     // Inside the loop of this record.
     pub fn with_loop(self, r: u32) -> Scope
-        ensures { λ s. ⌜ (s .inner ≡ r) × (s .names ≡ self .names) × (s .records ≡ self .records) × (s .function ≡ self .function) ⌝ }
+        ensures { λ s. ⌜ s ≡ within r self ⌝ }
     {
         let mut next = self;
         next.inner = r;
@@ -141,7 +135,7 @@ impl Scope {
 
     // The innermost loop around this place.
     pub fn in_loop(self) -> InLoop
-        ensures { λ r. ⌜ r ≡ loopOf self ⌝ }
+        ensures { λ r. ⌜ loopOf r ≡ loopNumber (self .inner) ⌝ }
     {
         let r = self.inner;
         if r == NONE {

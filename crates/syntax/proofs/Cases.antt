@@ -25,8 +25,8 @@ module _ (tree text : List ℕ) where
   child-out r k h = below-out (node tree text) r (wordOf tree r k) absent h
 
   -- the expression that record r stands for
-  abbrev pub exprAt : ℕ → Expr
-  exprAt r = exprOf (node tree text r)
+  abbrev exprIs : ℕ → Expr
+  exprIs r = exprOf (node tree text r)
 
   pub int-case : (r : ℕ) → kindOf tree r ≡ 2
       → node tree text r ≡ expr (EInt r (toZ w64 (wideOf tree text r A)) (bit 1 (detailOf tree r)) (bit 2 (detailOf tree r)))
@@ -58,12 +58,12 @@ module _ (tree text : List ℕ) where
   sizeOf-case r e = node-is tree text r 8 (sym e)
 
   pub unary-case : (r : ℕ) → kindOf tree r ≡ 9 → wordOf tree r A < r
-      → node tree text r ≡ expr (EUnary r (getD unaryOps (detailOf tree r) Neg) (exprAt (wordOf tree r A)))
+      → node tree text r ≡ expr (EUnary r (getD unaryOps (detailOf tree r) Neg) (exprIs (wordOf tree r A)))
   unfolding kinds unaryAt exprIn
   unary-case r e a = rw (← child-in r A a) (node-is tree text r 9 (sym e))
 
   pub binary-case : (r : ℕ) → kindOf tree r ≡ 10 → wordOf tree r A < r → wordOf tree r B < r
-      → node tree text r ≡ expr (EBinary r (getD binaryOps (detailOf tree r) Or) (exprAt (wordOf tree r A)) (exprAt (wordOf tree r B)))
+      → node tree text r ≡ expr (EBinary r (getD binaryOps (detailOf tree r) Or) (exprIs (wordOf tree r A)) (exprIs (wordOf tree r B)))
   unfolding kinds binaryAt exprIn
   binary-case r e a b = node-is tree text r 10 (sym e) ∙ rw (child-in r A a, child-in r B b)
 
@@ -78,7 +78,7 @@ module _ (tree text : List ℕ) where
   unfolding kinds listAt
   list-case r e a = node-is tree text r 12 (sym e) ∙ rw (child-in r A a)
 
-  pub value-case : (r : ℕ) → kindOf tree r ≡ 13 → wordOf tree r A < r → node tree text r ≡ value r (exprAt (wordOf tree r A))
+  pub value-case : (r : ℕ) → kindOf tree r ≡ 13 → wordOf tree r A < r → node tree text r ≡ value r (exprIs (wordOf tree r A))
   unfolding kinds valueAt exprIn
   value-case r e a = node-is tree text r 13 (sym e) ∙ rw (child-in r A a)
 
@@ -91,36 +91,36 @@ module _ (tree text : List ℕ) where
   declare-case r e = node-is tree text r 15 (sym e)
 
   pub init-case : (r : ℕ) → kindOf tree r ≡ 16 → wordOf tree r C < r
-      → node tree text r ≡ stmt (SInit r (bit 1 (detailOf tree r)) (textOf tree text r A) (exprAt (wordOf tree r C)))
+      → node tree text r ≡ stmt (SInit r (bit 1 (detailOf tree r)) (textOf tree text r A) (exprIs (wordOf tree r C)))
   unfolding kinds initAt exprIn
   init-case r e c = node-is tree text r 16 (sym e) ∙ rw (child-in r C c)
 
-  pub return-case : (r : ℕ) → kindOf tree r ≡ 17 → wordOf tree r A < r → node tree text r ≡ stmt (SReturn r (exprAt (wordOf tree r A)))
+  pub return-case : (r : ℕ) → kindOf tree r ≡ 17 → wordOf tree r A < r → node tree text r ≡ stmt (SReturn r (exprIs (wordOf tree r A)))
   unfolding kinds returnAt exprIn
   return-case r e a = node-is tree text r 17 (sym e) ∙ rw (child-in r A a)
 
-  pub callStatement-case : (r : ℕ) → kindOf tree r ≡ 18 → wordOf tree r A < r → node tree text r ≡ stmt (SCall r (exprAt (wordOf tree r A)))
+  pub callStatement-case : (r : ℕ) → kindOf tree r ≡ 18 → wordOf tree r A < r → node tree text r ≡ stmt (SCall r (exprIs (wordOf tree r A)))
   unfolding kinds callStatementAt exprIn
   callStatement-case r e a = node-is tree text r 18 (sym e) ∙ rw (child-in r A a)
 
   pub if-case : (r : ℕ) → kindOf tree r ≡ 19 → wordOf tree r A < r → bit 1 (detailOf tree r) ≡ false
-      → node tree text r ≡ stmt (SIf r (exprAt (wordOf tree r A)) (blockOf (child tree text (node tree text) r B)))
+      → node tree text r ≡ stmt (SIf r (exprIs (wordOf tree r A)) (blockOf (child tree text (node tree text) r B)))
   unfolding kinds ifAt exprIn blockIn pick
   if-case r e a b = node-is tree text r 19 (sym e) ∙ rw (b, child-in r A a)
 
   pub ifElse-case : (r : ℕ) → kindOf tree r ≡ 19 → wordOf tree r A < r → bit 1 (detailOf tree r) ≡ true
-      → node tree text r ≡ stmt (SIfElse r (exprAt (wordOf tree r A)) (blockOf (child tree text (node tree text) r B)) (blockOf (child tree text (node tree text) r C)))
+      → node tree text r ≡ stmt (SIfElse r (exprIs (wordOf tree r A)) (blockOf (child tree text (node tree text) r B)) (blockOf (child tree text (node tree text) r C)))
   unfolding kinds ifAt exprIn blockIn pick
   ifElse-case r e a b = node-is tree text r 19 (sym e) ∙ rw (b, child-in r A a)
 
   pub while-case : (r : ℕ) → kindOf tree r ≡ 20 → wordOf tree r A < r
-      → node tree text r ≡ stmt (SWhile r (exprAt (wordOf tree r A)) (blockOf (child tree text (node tree text) r B)))
+      → node tree text r ≡ stmt (SWhile r (exprIs (wordOf tree r A)) (blockOf (child tree text (node tree text) r B)))
   unfolding kinds whileAt exprIn blockIn
   while-case r e a = node-is tree text r 20 (sym e) ∙ rw (child-in r A a)
 
   pub for-case : (r : ℕ) → kindOf tree r ≡ 21 → wordOf tree r A < r → wordOf tree r B < r → wordOf tree r C < r
       → node tree text r ≡ stmt (SFor r (variableName (node tree text (wordOf tree r A))) (variableType (node tree text (wordOf tree r A)))
-      (exprAt (wordOf tree r B)) (exprAt (wordOf tree r C)) (blockOf (child tree text (node tree text) r D)))
+      (exprIs (wordOf tree r B)) (exprIs (wordOf tree r C)) (blockOf (child tree text (node tree text) r D)))
   unfolding kinds forAt exprIn blockIn
   for-case r e a b c = node-is tree text r 21 (sym e) ∙ rw (child-in r A a, child-in r B b, child-in r C c)
 

@@ -1,3 +1,4 @@
 pub mod Syntax
 pub mod Decode
 pub mod Count
+pub mod Places

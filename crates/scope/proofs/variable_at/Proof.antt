@@ -1,8 +1,9 @@
 -- The variable of an open name.
 -- By what `load` ensures of its words. Assumes nothing.
-use mathlib.Core.Path.{ap}
+use mathlib.Core.Path.{ap, ap₂}
 use Prim.Native.Nat.{ℕ, _/_, _%_}
 use lib.Dec.{eqb}
+use Rattle.conversion.specs.Ir.{VarId}
 use Rattle.scope.specs.Open.{VariableAt}
 use borrow.Author.Needs.{needs}
 use Rattle.scope.proofs.variable_at.Statement.{statement}
@@ -10,6 +11,10 @@ use Rattle.scope.proofs.variable_at.Tie as tie
 use Rattle.scope.proofs.variable_at.Reads as reads
 use Rattle.scope.proofs.variable_at.Lts as lts
 use Rattle.records.proofs.words.load.Reads as load-reads
+
+-- a variable by its number and its type
+abbrev numbered : ℕ → ℕ → VarId
+numbered i y = record { id = i; ty = y }
 
 -- src/lib.rt:82:28
 mul-load : tie.Need-mul-load
@@ -54,7 +59,7 @@ load-requires-2 c κs = search needs
 -- src/lib.rt:78:1
 returns : tie.Need-returns
 unfolding VariableAt
-returns c = (c .before .load .ensures, ap (λ (y : ℕ). y / 2) (c .load2 .ensures), ap (λ (y : ℕ). eqb (y % 2) 1) (c .load2 .ensures))
+returns c = (ap₂ numbered (c .before .load .ensures) (ap (λ (y : ℕ). y / 2) (c .load2 .ensures)), ap (λ (y : ℕ). eqb (y % 2) 1) (c .load2 .ensures))
 
 pub variable-at-spec : {M : Type 1} → statement M
 variable-at-spec =

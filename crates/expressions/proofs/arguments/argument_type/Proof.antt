@@ -1,7 +1,7 @@
 -- An expression's type stands at its slot; a type argument is its type.
 -- The laws of the typed arguments. Assumes nothing.
 use native.Mathlib.Omega.{arith}
-use Rattle.expressions.proofs.Lists.{cell-below}
+use Rattle.syntax.proofs.Lists.{cell-below}
 use Rattle.expressions.proofs.ArgumentLaws.{of-expr, first-slot, first-type}
 use borrow.Author.Needs.{needs}
 use Rattle.expressions.proofs.arguments.argument_type.Statement.{statement}

@@ -6,9 +6,9 @@ use Prim.Native.Nat.{ℕ, _+_, _≤_}
 use native.Mathlib.Omega.{arith}
 use lib.ListN.{length}
 use Rattle.records.specs.Words.{records}
-use Rattle.expressions.specs.Places.{ArgsAt}
+use Rattle.syntax.specs.Places.{ArgsAt}
 use Rattle.expressions.specs.Calls.{typedAt}
-use Rattle.expressions.proofs.Lists.{left, left-most, cell-below, next-list, next-falls}
+use Rattle.syntax.proofs.Lists.{left, left-most, cell-below, next-list, next-falls}
 use Rattle.expressions.proofs.ArgumentLaws.{count-more, count-end}
 use Rattle.expressions.proofs.arguments.count_arguments.Statement.{statement}
 use Rattle.expressions.proofs.arguments.count_arguments.Tie as tie

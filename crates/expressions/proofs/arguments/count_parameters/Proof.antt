@@ -5,8 +5,8 @@ use Prim.Native.Nat.{_+_, _≤_}
 use native.Mathlib.Omega.{arith}
 use lib.ListN.{length}
 use Rattle.records.specs.Words.{records}
-use Rattle.expressions.specs.Places.{ParamsAt, paramsAt}
-use Rattle.expressions.proofs.Lists.{left, left-most, cell-below, next-list, next-falls}
+use Rattle.syntax.specs.Places.{ParamsAt, paramsAt}
+use Rattle.syntax.proofs.Lists.{left, left-most, cell-below, next-list, next-falls}
 use Rattle.expressions.proofs.ArgumentLaws.{parameters-more, parameters-done}
 use Rattle.expressions.proofs.arguments.count_parameters.Statement.{statement}
 use Rattle.expressions.proofs.arguments.count_parameters.Tie as tie

@@ -4,11 +4,11 @@ use mathlib.Core.Path.{_≡_, refl}
 use native.Mathlib.Omega.{arith}
 use borrow.Author.Needs.{needs}
 use Rattle.conversion.specs.Expressions.{sourceType}
-use Rattle.expressions.specs.Places.{ArgsAt, argsAt}
+use Rattle.syntax.specs.Places.{ArgsAt, argsAt}
 use Rattle.expressions.specs.Slots.{Typed}
 use Rattle.expressions.specs.Calls.{typedAt}
 use Rattle.expressions.specs.Answers.{a-type, no-type}
-use Rattle.expressions.proofs.Lists.{left, cell-below, next-list, next-falls}
+use Rattle.syntax.proofs.Lists.{left, cell-below, next-list, next-falls}
 use Rattle.expressions.proofs.ArgumentLaws.{of-expr, slot-type, next-typed, source-hit, source-more, source-end}
 use Rattle.expressions.proofs.arguments.source_type.Statement.{statement}
 use Rattle.expressions.proofs.arguments.source_type.Tie as tie

@@ -5,10 +5,10 @@ use mathlib.Core.List.{List}
 use Prim.Native.Nat.{ℕ}
 use borrow.Author.Needs.{needs}
 use Rattle.conversion.specs.Expressions.{targetType}
-use Rattle.expressions.specs.Places.{ArgsAt}
+use Rattle.syntax.specs.Places.{ArgsAt}
 use Rattle.expressions.specs.Calls.{typedAt}
 use Rattle.expressions.specs.Answers.{a-type, no-type}
-use Rattle.expressions.proofs.Lists.{left, cell-below, next-list, next-falls}
+use Rattle.syntax.proofs.Lists.{left, cell-below, next-list, next-falls}
 use Rattle.expressions.proofs.ArgumentLaws.{of-type, target-hit, target-more, target-end}
 use Rattle.expressions.proofs.arguments.target_type.Statement.{statement}
 use Rattle.expressions.proofs.arguments.target_type.Tie as tie

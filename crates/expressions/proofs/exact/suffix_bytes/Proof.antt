@@ -1,7 +1,7 @@
 -- The sum is the bytes of all suffixes, and small.
 -- The loop keeps that the sum so far and what the cells left have make up the whole. Assumes nothing.
 use native.Mathlib.Omega.{arith}
-use Rattle.expressions.proofs.Lists.{left}
+use Rattle.syntax.proofs.Lists.{left}
 use Rattle.expressions.proofs.SuffixLaws.{first-cell, key-short, Summed, sum-start, sum-more, sum-end}
 use Rattle.expressions.proofs.exact.suffix_bytes.Statement.{statement}
 use Rattle.expressions.proofs.exact.suffix_bytes.Tie as tie

@@ -19,7 +19,7 @@ literal-type-requires : tie.Need-literal-type-requires
 literal-type-requires c κs = (c .before .before .before .before .before .pre .0, (c .before .before .before .before .before .pre .1 .1 .0, (c .before .before .before .before .before .pre .1 .1 .1, λ q. c .if1 .left (c .before .kind .ensures ∙ q))))
 
 returns-2 : tie.Need-returns-2
-returns-2 c = literal-leaf _ _ _ _ _ _ (c .literal-type .ensures)
+returns-2 c = literal-leaf _ _ _ (c .before .before .before .before .before .before .args .scope) _ _ (c .literal-type .ensures)
 
 pub leaf-type-spec : {M : Type 1} → statement M
 leaf-type-spec =

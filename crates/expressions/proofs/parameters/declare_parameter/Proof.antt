@@ -3,7 +3,7 @@
 use native.Mathlib.Omega.{arith}
 use mathlib.Core.Path.{refl}
 use borrow.Author.Needs.{needs}
-use Rattle.expressions.proofs.ParameterLaws.{place-inside, place-word, met-done, met-taken, met-full}
+use Rattle.expressions.proofs.ParameterLaws.{place-inside, place-word, met-room, met-done, met-taken}
 use Rattle.expressions.proofs.parameters.declare_parameter.Statement.{statement}
 use Rattle.expressions.proofs.parameters.declare_parameter.Tie as tie
 use Rattle.expressions.proofs.parameters.declare_parameter.Reads as reads
@@ -41,7 +41,12 @@ word-requires-3 c κs =
 
 -- src/parameters.rt:57:11
 declare-requires : tie.Need-declare-requires
-declare-requires c κs = search needs
+declare-requires c κs =
+    let first = c .before .before .before .before .before .before .before .before .before in (
+      first .pre .0 .scoped .room,
+      met-room _ _ _ _ _ (first .pre .0) _ (first .pre .1 .0) (first .pre .1 .1 .0) (first .pre .1 .1 .1) _ (c .before .before .before .before .before .reference .ensures) _ _ _ (c .before .before .before .word .ensures)
+          (c .before .before .word2 .ensures) (c .before .word3 .ensures) _ refl refl,
+    )
 
 -- src/parameters.rt:58:24
 enum-known-next : tie.Need-enum-known-next
@@ -54,16 +59,6 @@ enum-told c = search needs
 -- src/parameters.rt:59:28
 taken-requires : tie.Need-taken-requires
 taken-requires c κs =
-    let first = c .before .before .before .before .before .before .before .before .before .before .before .before .before .before in
-    place-word _ _ _ _ _ (first .pre .0) _ (first .pre .1 .0) (first .pre .1 .1 .0) (first .pre .1 .1 .1) _ (c .before .before .before .before .before .before .before .before .before .before .reference .ensures)
-
--- src/parameters.rt:60:27
-enum-told-2 : tie.Need-enum-told-2
-enum-told-2 c = search needs
-
--- src/parameters.rt:60:27
-taken-requires-2 : tie.Need-taken-requires-2
-taken-requires-2 c κs =
     let first = c .before .before .before .before .before .before .before .before .before .before .before .before .before .before in
     place-word _ _ _ _ _ (first .pre .0) _ (first .pre .1 .0) (first .pre .1 .1 .0) (first .pre .1 .1 .1) _ (c .before .before .before .before .before .before .before .before .before .before .reference .ensures)
 
@@ -93,19 +88,6 @@ returns-2 c =
     met-taken _ _ _ _ _ (first .pre .0) _ (first .pre .1 .0) (first .pre .1 .1 .0) (first .pre .1 .1 .1) _ (words .before .before .before .before .reference .ensures) _ _ _ (words .before .before .word .ensures)
     (words .before .word2 .ensures) (words .word3 .ensures) _ refl refl _ _ (got .declare .ensures) (c .before .enum-told .given .1) _ (c .taken .ensures)
 
--- src/parameters.rt:40:1
-same-length-3 : tie.Need-same-length-3
-same-length-3 c = search needs
-
--- src/parameters.rt:40:1
-returns-3 : tie.Need-returns-3
-returns-3 c =
-    let first = c .before .before .before .before .before .before .before .before .before .before .before .before .before .before .before in
-    let got = c .before .before .before .before .before in
-    let words = c .before .before .before .before .before .before .before in
-    absurd (met-full _ _ _ _ _ (first .pre .0) _ (first .pre .1 .0) (first .pre .1 .1 .0) (first .pre .1 .1 .1) _ (words .before .before .before .before .reference .ensures) _ _ _ (words .before .before .word .ensures)
-    (words .before .word2 .ensures) (words .word3 .ensures) _ refl refl _ _ (got .declare .ensures) (c .before .enum-told2 .given .1))
-
 pub declare-parameter-spec : {M : Type 1} → statement M
 declare-parameter-spec =
     tie.close
@@ -119,11 +101,7 @@ declare-parameter-spec =
     enum-known-next
     enum-told
     taken-requires
-    enum-told-2
-    taken-requires-2
     same-length
     returns
     same-length-2
-    returns-2
-    same-length-3
-    returns-3)
+    returns-2)

@@ -3,7 +3,7 @@
 use native.Mathlib.Omega.{arith}
 use mathlib.Core.Path.{refl}
 use borrow.Author.Needs.{needs}
-use Rattle.expressions.proofs.Lists.{left, next-falls}
+use Rattle.syntax.proofs.Lists.{left, next-falls}
 use Rattle.expressions.proofs.ParameterLaws.{Turn, start, turn-end, still-few, turn-refused, turn-next}
 use Rattle.expressions.proofs.parameters.declare_parameters.Statement.{statement}
 use Rattle.expressions.proofs.parameters.declare_parameters.Tie as tie

@@ -3,11 +3,11 @@
 use mathlib.Core.Path.{_≡_, refl}
 use Rattle.syntax.specs.Decode.{program}
 use Rattle.conversion.specs.Expressions.{takesAll}
-use Rattle.expressions.specs.Places.{ArgsAt, ParamsAt, argsAt, paramsAt}
+use Rattle.syntax.specs.Places.{ArgsAt, ParamsAt, argsAt, paramsAt}
 use Rattle.expressions.specs.Keys.{allKeys}
 use Rattle.expressions.specs.Slots.{Typed}
 use Rattle.expressions.specs.Calls.{typedAt}
-use Rattle.expressions.proofs.Lists.{left, cell-below, next-list, next-falls}
+use Rattle.syntax.proofs.Lists.{left, cell-below, next-list, next-falls}
 use Rattle.expressions.proofs.TakeLaws.{all-no, all-more, arguments-end, params-end-all, next-args-typed}
 use Rattle.expressions.proofs.takes.takes_all.Statement.{statement}
 use Rattle.expressions.proofs.takes.takes_all.Tie as tie

@@ -1,7 +1,7 @@
 -- The argument's expression fits the parameter's type, or the type argument is that type.
 -- The laws of the first of both lists. Assumes nothing.
 use native.Mathlib.Omega.{arith}
-use Rattle.expressions.proofs.Lists.{cell-below}
+use Rattle.syntax.proofs.Lists.{cell-below}
 use Rattle.expressions.proofs.ArgumentLaws.{of-expr, slot-type}
 use Rattle.expressions.proofs.TakeLaws.{as-type, at-parameter, at-variable, variable-type, takes-value, takes-type}
 use borrow.Author.Needs.{needs}

@@ -1,7 +1,7 @@
 -- The scope with one name more, or the name is taken.
 -- What the search answered, and what `put_four` wrote above the open names. Assumes nothing.
 use native.Mathlib.Omega.{arith}
-use Rattle.scope.proofs.Names.{declare-at, declare-full, declare-wide, declare-new, mark-one}
+use Rattle.scope.proofs.Names.{declare-at, declare-new, mark-one}
 use borrow.Author.Needs.{needs}
 use Rattle.scope.proofs.Scope.declare.Statement.{statement}
 use Rattle.scope.proofs.Scope.declare.Tie as tie
@@ -30,61 +30,45 @@ returns c = search declare-at
 enum-told-2 : tie.Need-enum-told-2
 enum-told-2 c = search needs
 
--- src/lib.rt:121:13
-same-length-2 : tie.Need-same-length-2
-same-length-2 c = search needs
+-- src/lib.rt:120:40
+mul-t16 : tie.Need-mul-t16
+mul-t16 c = search needs
 
--- src/lib.rt:121:13
-returns-2 : tie.Need-returns-2
-returns-2 c = search declare-full
-
--- src/lib.rt:124:13
-same-length-3 : tie.Need-same-length-3
-same-length-3 c = search needs
-
--- src/lib.rt:124:13
-returns-3 : tie.Need-returns-3
-returns-3 c = search declare-wide
-
--- src/lib.rt:126:40
-mul-t17 : tie.Need-mul-t17
-mul-t17 c = search needs
-
--- src/lib.rt:126:49
+-- src/lib.rt:120:49
 mark-requires : tie.Need-mark-requires
 mark-requires c κs = search needs
 
--- src/lib.rt:126:40
-add-t19 : tie.Need-add-t19
-add-t19 c = omega (arith, mark-one _ _ (c .mark .ensures))
+-- src/lib.rt:120:40
+add-t18 : tie.Need-add-t18
+add-t18 c = omega (arith, mark-one _ _ (c .mark .ensures))
 
--- src/lib.rt:128:22
+-- src/lib.rt:122:22
 add-next : tie.Need-add-next
 add-next c = search needs
 
--- src/lib.rt:129:27
+-- src/lib.rt:123:27
 mul-put-four : tie.Need-mul-put-four
 mul-put-four c = search needs
 
--- src/lib.rt:129:35
+-- src/lib.rt:123:35
 mul-put-four-2 : tie.Need-mul-put-four-2
 mul-put-four-2 c = search needs
 
--- src/lib.rt:129:27
+-- src/lib.rt:123:27
 add-put-four : tie.Need-add-put-four
 add-put-four c = search needs
 
--- src/lib.rt:129:9
+-- src/lib.rt:123:9
 put-four-requires : tie.Need-put-four-requires
 put-four-requires c κs = search needs
 
--- src/lib.rt:102:5
-same-length-4 : tie.Need-same-length-4
-same-length-4 c = search needs
+-- src/lib.rt:101:5
+same-length-2 : tie.Need-same-length-2
+same-length-2 c = search needs
 
--- src/lib.rt:102:5
-returns-4 : tie.Need-returns-4
-returns-4 c = search declare-new
+-- src/lib.rt:101:5
+returns-2 : tie.Need-returns-2
+returns-2 c = search declare-new
 
 pub declare-spec : {M : Type 1} → statement M
 declare-spec =
@@ -95,17 +79,13 @@ declare-spec =
     same-length
     returns
     enum-told-2
-    same-length-2
-    returns-2
-    same-length-3
-    returns-3
-    mul-t17
+    mul-t16
     mark-requires
-    add-t19
+    add-t18
     add-next
     mul-put-four
     mul-put-four-2
     add-put-four
     put-four-requires
-    same-length-4
-    returns-4)
+    same-length-2
+    returns-2)

@@ -2,6 +2,7 @@
 -- By the test of its record. Assumes nothing.
 use borrow.Author.Tests.{eq-eqb, ne-eqb}
 use Rattle.laws.specs.Fix.{pick}
+use Rattle.scope.specs.Open.{loopNumber}
 use Rattle.scope.proofs.Scope.in_loop.Statement.{statement}
 use Rattle.scope.proofs.Scope.in_loop.Tie as tie
 use Rattle.scope.proofs.Scope.in_loop.Reads as reads
@@ -9,12 +10,12 @@ use Rattle.scope.proofs.Scope.in_loop.Lts as lts
 
 -- src/lib.rt:148:13
 returns : tie.Need-returns
-unfolding pick
+unfolding pick loopNumber
 returns c = rw (eq-eqb _ _ (c .if1 .taken))
 
 -- src/lib.rt:143:5
 returns-2 : tie.Need-returns-2
-unfolding pick
+unfolding pick loopNumber
 returns-2 c = rw (ne-eqb _ _ (c .if1 .left))
 
 pub in-loop-spec : {M : Type 1} → statement M

@@ -1,30 +1,54 @@
--- What a list of a good tree is, cell by cell: its item, its rest, and what the arguments and the parameters from a cell on stand for.
--- By the rules of lists and the cases of nodes. Assumes nothing.
+-- What a list of a good tree is, cell by cell: its item, its rest, and what the arguments, the parameters and the statements from a cell on
+-- stand for. By the rules of lists and the cases of nodes. Assumes nothing.
 use mathlib.Core.Path.{_≡_, refl, sym, _∙_}
 use mathlib.Core.Logic.{_⊎_, inl, inr}
 use mathlib.Core.Bool.{Bool, true, false, not, _&&_, _||_, false≢true}
 use mathlib.Core.List.{List, [], _∷_}
-use Prim.Native.Nat.{ℕ, zero, suc, _*_, _<_, _≤_}
+use Prim.Native.Nat.{ℕ, zero, suc, _+_, _-_, _*_, _<_, _≤_}
 use native.Mathlib.Omega.{arith}
-use lib.Dec.{eqb, ltb}
+use lib.Dec.{eqb, leb, ltb}
 use lib.ListN.{length, getD}
-use borrow.Author.Tests.{not-true, ltb-true, ltb-false, eqb-true, ne-eqb, eq-eqb}
+use borrow.Author.Tests.{not-true, leb-true, ltb-true, ltb-false, eqb-true, ne-eqb, eq-eqb}
 use Rattle.laws.specs.Fix.{pick, below}
 use Rattle.laws.proofs.Tests.{and-left, and-right}
 use Rattle.records.specs.declared.shape.Role.{Role}
-use Rattle.records.specs.declared.shape.Role.the-variants.{Arguments, Parameters}
-use Rattle.records.specs.Words.{byteAt, kindOf, wordOf, records, none, A, B, C}
+use Rattle.records.specs.declared.shape.Role.the-variants.{Arguments, Parameters, Body}
+use Rattle.records.specs.Words.{byteAt, kindOf, detailOf, wordOf, records, none, A, B, C}
 use Rattle.records.specs.Rules.{isExpr, itemOk, listOk}
 use Rattle.records.specs.Good.{Good}
-use Rattle.records.proofs.GoodLaws.{value-a, typeArgument-a, variable-c}
+use Rattle.records.proofs.GoodLaws.{ToList, value-a, typeArgument-a, variable-c}
 use Rattle.records.proofs.ListLaws.{list-end, list-cell}
-use Rattle.syntax.specs.Syntax.{noArgs, Value, ToType}
-use Rattle.syntax.specs.Decode.{absent, cell, child, node, kinds, nothingAt, reference, textOf, argsOf, paramsOf, withArg, withParam, orZero}
+use Rattle.syntax.specs.Syntax.{noArgs, Value, ToType, Statement, SIf, SIfElse, done, next}
+use Rattle.syntax.specs.Decode.{absent, stmt, cell, bit, child, exprIn, blockIn, node, kinds, nothingAt, declareAt, initAt, returnAt, callStatementAt, ifAt, whileAt, forAt, breakAt, continueAt, reference, textOf, argsOf, blockOf, paramsOf, withArg, withStatement, withParam, orZero}
+use Rattle.syntax.specs.Places.{TypeAt, IsStatement, ListAt, exprAt, argsAt, paramsAt, blockAt, statementOf, statementAt}
 use Rattle.syntax.proofs.Unfold.{node-is}
 use Rattle.syntax.proofs.Cases.{child-in, child-out, list-case, value-case, typeArgument-case, variable-case}
-use Rattle.types.specs.Fits.{IsExpr}
-use Rattle.types.proofs.FromGood.{is-expr}
-use Rattle.expressions.specs.Places.{TypeAt, ListAt, exprAt, argsAt, paramsAt}
+
+-- a record of kind 15 to 23 stands for a statement
+module _ (tree text : List ℕ) (r : ℕ) where
+  if-node : (b : Bool) (s t : Statement) → pick b (stmt s) (stmt t) ≡ stmt (statementOf (pick b (stmt s) (stmt t)))
+  unfolding pick statementOf
+  if-node true s t = refl
+  if-node false s t = refl
+
+  statement-by : (i : ℕ) → i ≤ 8 → kindOf tree r ≡ 15 + i → node tree text r ≡ stmt (statementAt tree text r)
+  unfolding statementAt statementOf kinds declareAt initAt returnAt callStatementAt ifAt whileAt forAt breakAt continueAt
+  statement-by zero h e = rw (node-is tree text r 15 (sym e))
+  statement-by (suc zero) h e = rw (node-is tree text r 16 (sym e))
+  statement-by (suc (suc zero)) h e = rw (node-is tree text r 17 (sym e))
+  statement-by (suc (suc (suc zero))) h e = rw (node-is tree text r 18 (sym e))
+  statement-by (suc (suc (suc (suc zero)))) h e =
+      let g = node tree text in
+      rw (node-is tree text r 19 (sym e)) (if-node (bit 1 (detailOf tree r))
+      (SIfElse r (exprIn tree text g r A) (blockIn tree text g r B) (blockIn tree text g r C)) (SIf r (exprIn tree text g r A) (blockIn tree text g r B)))
+  statement-by (suc (suc (suc (suc (suc zero))))) h e = rw (node-is tree text r 20 (sym e))
+  statement-by (suc (suc (suc (suc (suc (suc zero)))))) h e = rw (node-is tree text r 21 (sym e))
+  statement-by (suc (suc (suc (suc (suc (suc (suc zero))))))) h e = rw (node-is tree text r 22 (sym e))
+  statement-by (suc (suc (suc (suc (suc (suc (suc (suc zero)))))))) h e = rw (node-is tree text r 23 (sym e))
+  statement-by (suc (suc (suc (suc (suc (suc (suc (suc (suc i))))))))) h e = absurd (omega arith)
+
+  pub statement-node : IsStatement tree r → node tree text r ≡ stmt (statementAt tree text r)
+  statement-node k = statement-by (kindOf tree r - 15) (omega (arith, k .least, k .most)) (omega (arith, k .least))
 
 -- a number that falls from cell to cell: 0 behind the last
 unfoldable pub left : ℕ → ℕ
@@ -66,6 +90,10 @@ module _ (tree text : List ℕ) (good : Good tree text) where
   pub params-end : paramsAt tree text none ≡ []
   unfolding paramsAt paramsOf
   params-end = rw (node-out none (omega (arith, good .few)))
+
+  pub block-end : blockAt tree text none ≡ done
+  unfolding blockAt blockOf
+  block-end = rw (node-out none (omega (arith, good .few)))
 
   -- what a cell of a list is
   pub record Cell (role : Role) (w : ℕ) : Type 0 where
@@ -149,6 +177,17 @@ module _ (tree text : List ℕ) (good : Good tree text) where
         go (inl e) = left-below w (records tree) (inl e)
         go (inr e) = left-below w (records tree) (inr (omega (arith, lower (l .from) e, l .inside)))
 
+  -- ---- what the list that word k of a record opens stands for
+
+  pub list-child : (role : Role) (r k : ℕ) → r < records tree → ToList tree role r (wordOf tree r k)
+      → child tree text (node tree text) r k ≡ node tree text (wordOf tree r k)
+  list-child role r k h (inl e) =
+      child-out tree text r k (omega (arith, e, h, good .few)) ∙ sym (node-out (wordOf tree r k) (omega (arith, e, good .few)))
+  list-child role r k h (inr e) = child-in tree text r k (lower role (wordOf tree r k) r e)
+
+  pub list-at : (role : Role) (r w : ℕ) → r < records tree → ToList tree role r w → ListAt tree role w
+  list-at role r w h l = record { from = r; inside = omega arith; list = l }
+
   -- ---- what the list from a cell on stands for
 
   module _ (role : Role) (w : ℕ) (c : Cell role w) where
@@ -187,8 +226,11 @@ module _ (tree text : List ℕ) (good : Good tree text) where
       pub value-lower : wordOf tree (wordOf tree w A) A < w
       value-lower = omega (arith, inner .0, c .item)
 
-      pub value-expr : IsExpr tree (wordOf tree (wordOf tree w A) A)
-      value-expr = is-expr tree text good (wordOf tree (wordOf tree w A) A) (omega (arith, inner .0, item-inside Arguments w c)) (inner .1)
+      pub value-inside : wordOf tree (wordOf tree w A) A < records tree
+      value-inside = omega (arith, inner .0, item-inside Arguments w c)
+
+      pub value-kind : isExpr (kindOf tree (wordOf tree (wordOf tree w A) A)) ≡ true
+      value-kind = inner .1
 
     -- an item of another kind: a type, and the rest
     module _ (n : kindOf tree (wordOf tree w A) ≡ 13 → ⊥) where
@@ -201,6 +243,21 @@ module _ (tree text : List ℕ) (good : Good tree text) where
 
       pub type-is : TypeAt tree (wordOf tree (wordOf tree w A) A)
       type-is = record { below = omega (arith, named .0, item-inside Arguments w c); kind = named .1 }
+
+  module _ (w : ℕ) (c : Cell Body w) where
+    pub statement-is : IsStatement tree (wordOf tree w A)
+    unfolding itemOk
+    statement-is =
+        let K = kindOf tree (wordOf tree w A) in record {
+          below = item-inside Body w c;
+          least = leb-true 15 K (and-left (leb 15 K) (leb K 23) (c .item-ok));
+          most = leb-true K 23 (and-right (leb 15 K) (leb K 23) (c .item-ok));
+        }
+
+    -- a statement, and the rest
+    pub statement-item : blockAt tree text w ≡ next (statementAt tree text (wordOf tree w A)) (blockAt tree text (wordOf tree w B))
+    unfolding blockAt blockOf withStatement
+    statement-item = rw (node-cell Body w c, statement-node tree text (wordOf tree w A) statement-is)
 
   module _ (w : ℕ) (c : Cell Parameters w) where
     item-kind : kindOf tree (wordOf tree w A) ≡ 24

@@ -1,0 +1,155 @@
+-- What stays of the scratch keeps the scope, the functions by key and the operands that wait; typing, a name more and an operand more leave the rest.
+-- Byte by byte: each writer stays in its own region. Assumes nothing.
+use mathlib.Core.Path.{_≡_, refl, sym, ap, _∙_, subst}
+use mathlib.Core.Logic.{_⊎_, inl, inr}
+use mathlib.Core.List.{List, []}
+use Prim.Native.Nat.{ℕ, zero, suc, _+_, _*_, _/_, _≤_, _<_}
+use native.Mathlib.Omega.{arith}
+use native.Mathlib.Numerals.{add-one}
+use lib.ListN.{length, getD}
+use Rattle.laws.specs.Splice.{splice}
+use Rattle.laws.proofs.Splices.{length-splice}
+use Rattle.records.specs.Words.{byteAt, wordAt, records}
+use Rattle.syntax.specs.Places.{TypeAt}
+use Rattle.conversion.specs.Ir.{Operand, M}
+use Rattle.ir.specs.declared.structs.Counters.{Counters}
+use Rattle.ir.specs.Steps.{NextIn}
+use Rattle.ir.proofs.Entries.{word-same}
+use Rattle.scope.specs.declared.Scope.{Scope}
+use Rattle.scope.specs.Open.{Kept, scopeAt}
+use Rattle.scope.proofs.ScopeLaws.{byte-before, byte-behind, scope-kept}
+use Rattle.expressions.specs.Keys.{Listed, Keyed}
+use Rattle.expressions.specs.Slots.{Frame, Scoped, Ready}
+use Rattle.expressions.proofs.KeySearch.{records-most}
+use Rattle.statements.specs.declared.answers.Converter.{Converter}
+use Rattle.statements.specs.Stack.{entryAt, operandFrom, operandAt, stackAt}
+use Rattle.statements.specs.Converting.{Converting, withCounters, Stays, StaysFor}
+
+-- ---- one writer after another
+
+pub stays-refl : (n names operands : ℕ) (s : List ℕ) → Stays n names operands s s
+stays-refl n names operands s = record { long = refl; listed = λ i h. refl; open-names = λ i a b. refl; stack = λ i a b. refl; behind = λ i h. refl }
+
+-- what stays of more stays of less
+pub stays-then : {n names operands names′ operands′ : ℕ} {s s₁ s₂ : List ℕ} → names ≤ names′ → operands ≤ operands′
+    → Stays n names operands s s₁ → Stays n names′ operands′ s₁ s₂ → Stays n names operands s s₂
+stays-then hn ho p q = record {
+  long = q .long ∙ p .long;
+  listed = λ i h. q .listed i h ∙ p .listed i h;
+  open-names = λ i a b. q .open-names i a (omega arith) ∙ p .open-names i a b;
+  stack = λ i a b. q .stack i a (omega arith) ∙ p .stack i a b;
+  behind = λ i h. q .behind i h ∙ p .behind i h;
+}
+
+-- ---- writers: typing, a name, an operand
+
+pub frame-stays : {tree s s′ : List ℕ} (names operands : ℕ) → Frame tree s s′ → Stays (records tree) names operands s s′
+frame-stays names operands f = record {
+  long = f .same-length;
+  listed = λ i h. f .outside i (inl h);
+  open-names = λ i a b. f .outside i (inr a);
+  stack = λ i a b. f .outside i (inr (omega arith));
+  behind = λ i h. f .outside i (inr (omega arith));
+}
+
+module _ (n names operands : ℕ) (s s′ vs : List ℕ) (i : ℕ) (e : s′ ≡ splice s i vs) (long : length vs ≡ 16) (fits : 64 * n ≤ length s) where
+  before : i + 16 ≤ length s → (j : ℕ) → j < i → byteAt s′ j ≡ byteAt s j
+  unfolding byteAt
+  before h j k = ap (λ (x : List ℕ). getD x j 0) e ∙ byte-before s i vs j (omega arith) k
+
+  after : i + 16 ≤ length s → (j : ℕ) → i + 16 ≤ j → byteAt s′ j ≡ byteAt s j
+  unfolding byteAt
+  after h j k = ap (λ (x : List ℕ). getD x j 0) e ∙ byte-behind s i vs j (omega arith) (omega arith)
+
+  same-long : i + 16 ≤ length s → length s′ ≡ length s
+  same-long h = ap length e ∙ length-splice s i vs (omega arith)
+
+  -- the entry of a name behind the open ones
+  pub name-stays : i ≡ 8 * n + 16 * names → names < n → Stays n names operands s s′
+  name-stays q h = record {
+    long = same-long (omega arith);
+    listed = λ j k. before (omega arith) j (omega arith);
+    open-names = λ j a b. before (omega arith) j (omega arith);
+    stack = λ j a b. after (omega arith) j (omega arith);
+    behind = λ j k. after (omega arith) j (omega arith);
+  }
+
+  -- the entry of an operand behind those that wait
+  pub operand-stays : (j : ℕ) → i ≡ entryAt n j → operands ≤ j → j < n → names ≤ n → Stays n names operands s s′
+  operand-stays x q h low m = record {
+    long = same-long (omega arith);
+    listed = λ j k. before (omega arith) j (omega arith);
+    open-names = λ j a b. before (omega arith) j (omega arith);
+    stack = λ j a b. before (omega arith) j (omega arith);
+    behind = λ j k. after (omega arith) j (omega arith);
+  }
+
+-- ---- what is kept
+
+module _ (tree : List ℕ) {s s′ : List ℕ} {names operands : ℕ} (f : Stays (records tree) names operands s s′) where
+  byte-word : (p : ℕ) → ((j q : ℕ) → q ≡ p + j → j < 4 → byteAt s′ q ≡ byteAt s q) → wordAt s′ p ≡ wordAt s p
+  unfolding byteAt
+  byte-word p at = word-same s′ p s p
+      (at 0 p (omega arith) (omega arith))
+      (at 1 (p + 1) refl (omega arith))
+      (at 2 (p + 2) refl (omega arith))
+      (at 3 (p + 3) refl (omega arith))
+
+  pub listed-word : (p : ℕ) → p + 4 ≤ 4 * records tree → wordAt s′ p ≡ wordAt s p
+  listed-word p h = byte-word p (λ j q e k. f .listed q (omega arith))
+
+  pub name-word : (p : ℕ) → 8 * records tree ≤ p → p + 4 ≤ 8 * records tree + 16 * names → wordAt s′ p ≡ wordAt s p
+  name-word p a b = byte-word p (λ j q e k. f .open-names q (omega arith) (omega arith))
+
+  pub stack-word : (p : ℕ) → 24 * records tree ≤ p → p + 4 ≤ 24 * records tree + 16 * operands → wordAt s′ p ≡ wordAt s p
+  stack-word p a b = byte-word p (λ j q e k. f .stack q (omega arith) (omega arith))
+
+  pub names-kept : (sc : Scope) → sc .records ≡ records tree → sc .names ≤ names → Kept (sc .records) (sc .names) s s′
+  unfolding byteAt
+  names-kept sc e h = record { bytes = λ j a b. f .open-names j (omega arith) (omega arith); long = f .long }
+
+  -- the scope is the same, also that of a block which is left
+  pub scope-stays : (text : List ℕ) (sc : Scope) → sc .records ≡ records tree → sc .names ≤ names → scopeAt tree text s′ sc ≡ scopeAt tree text s sc
+  scope-stays text sc e h = scope-kept tree text s s′ sc (names-kept sc e h)
+
+  pub ready-stays : (text : List ℕ) (count : ℕ) (sc : Scope) → sc .names ≤ names → Ready tree text s count sc → Ready tree text s′ count sc
+  ready-stays text count sc h r =
+      let k = r .keyed .listed in
+      record {
+        keyed = record {
+          good = r .keyed .good;
+          distinct = r .keyed .distinct;
+          listed = record {
+            room = omega (arith, k .room, f .long);
+            counted = k .counted;
+            listed = λ j q. listed-word (4 * j) (omega (arith, k .counted, records-most tree (records tree))) ∙ k .listed j q;
+          };
+        };
+        scoped = record {
+          records-are = r .scoped .records-are;
+          room = record { scratch = omega (arith, r .scoped .room .scratch, f .long); names-in = r .scoped .room .names-in };
+          types = λ j q. subst (λ (w : ℕ). TypeAt tree (w / 2)) (sym (name-word (8 * records tree + 16 * j + 12) (omega arith) (omega arith))) (r .scoped .types j q);
+        };
+      }
+
+  pub operand-kept : (j : ℕ) → j < operands → operandAt s′ (records tree) j ≡ operandAt s (records tree) j
+  unfolding operandAt
+  operand-kept j h =
+      let p : ℕ = entryAt (records tree) j in
+      rw (stack-word p (omega arith) (omega arith), stack-word (p + 4) (omega arith) (omega arith), stack-word (p + 8) (omega arith) (omega arith), stack-word (p + 12) (omega arith) (omega arith))
+
+  pub stack-kept : (count j : ℕ) → j + count ≤ operands → stackAt s′ (records tree) j count ≡ stackAt s (records tree) j count
+  unfolding stackAt
+  stack-kept zero j h = refl
+  stack-kept (suc count) j h = rw (operand-kept j (omega arith), stack-kept count (suc j) (omega arith))
+
+-- ---- further on in the tables, with what stays
+
+pub converting-next : {A : Type 0} {tree text l s l′ s′ : List ℕ} {c : Converter} {k : Counters} {m : M A} {a : A}
+    → Converting tree text l s c → NextIn text m (c .counters) l a k l′ → StaysFor tree c s s′ → Converting tree text l′ s′ (withCounters c k)
+converting-next {tree = tree} {text = text} {c = c} p q f = record {
+  ready = ready-stays tree f text (c .functions) (c .scope) (omega arith) (p .ready);
+  function = p .function;
+  records-are = q .records ∙ p .records-are;
+  room = q .room;
+}

@@ -1,0 +1,252 @@
+-- What each answer says, as the definitions of conversion say it: a result with how far the tables are written, or a refusal's kind and place;
+-- and which definition each function of statements.rs equals. Assumes nothing: these are definitions.
+use mathlib.Core.Path.{_≡_}
+use Prim.Native.Nat.{ℕ, _+_, _≤_}
+use mathlib.Core.Bool.{Bool, false}
+use mathlib.Core.Option.{none, some}
+use mathlib.Core.List.{List}
+use lib.Dec.{eqb}
+use lib.ListN.{length, getD}
+use Rattle.laws.specs.Fix.{pick}
+use Rattle.records.specs.Words.{kindOf, detailOf, wordOf, records, A, B, C, D}
+use Rattle.records.specs.declared.convert_error.ConvertError.{ConvertError}
+use Rattle.syntax.specs.Syntax.{unaryOps, binaryOps, UnaryOp, BinaryOp, Neg, Or}
+use Rattle.syntax.specs.Decode.{program, textOf, bit, reference}
+use Rattle.syntax.specs.Places.{exprAt, argsAt, statementAt, blockAt, functionOf, TypeAt}
+use Rattle.conversion.specs.ConvertError.{Result, ok, err}
+use Rattle.conversion.specs.Ir as Ir
+use Rattle.conversion.specs.Ir.{M, _>>=_, _>>_, pure, lift}
+use Rattle.conversion.specs.Scope as Def
+use Rattle.conversion.specs.Scope.{withLoop}
+use Rattle.conversion.specs.Expressions.{common-type}
+use Rattle.conversion.specs.Statements.{convert-unary, convertAnd, convertOr, convertOther, convert-binary, convert-call-value, convert-expr, convert-args, convert-cond, callFunction, convert-declare, convert-init, initNew, convert-assign, assignTo, convert-return, returnAs, convert-call, convert-break, convert-continue, convert-if, convertIfElse, convert-while-loop, convert-for-loop, convert-statement, convert-block}
+use Rattle.ir.specs.declared.structs.Counters.{Counters}
+use Rattle.ir.specs.declared.structs.VarId.{VarId}
+use Rattle.ir.specs.declared.structs.Operand.{Operand}
+use Rattle.ir.specs.Instructions.{operandOf, varOf}
+use Rattle.ir.specs.Amounts.{Amount, amount}
+use Rattle.scope.specs.declared.Scope.{Scope}
+use Rattle.scope.specs.Open.{scopeAt}
+use Rattle.expressions.specs.Keys.{allKeys}
+use Rattle.expressions.specs.declared.answers.ExprType.{ExprType}
+use Rattle.expressions.specs.Slots.{Frame, Ready}
+use Rattle.expressions.specs.declared.answers.Outcome.{Outcome}
+use Rattle.expressions.specs.Answers.{IsTyped, typeOf, outcomeOf}
+use Rattle.statements.specs.declared.answers.Converter.{Converter}
+use Rattle.statements.specs.declared.answers.Converted.{Converted}
+use Rattle.statements.specs.declared.answers.Converted.the-variants as Converted
+use Rattle.statements.specs.declared.answers.Fitted.{Fitted}
+use Rattle.statements.specs.declared.answers.ConvertedArgs.{ConvertedArgs}
+use Rattle.statements.specs.declared.answers.ConvertedArgs.the-variants as ConvertedArgs
+use Rattle.statements.specs.declared.answers.ForVariable.{ForVariable}
+use Rattle.statements.specs.declared.answers.ForVariable.the-variants as ForVariable
+use Rattle.statements.specs.declared.answers.Stated.{Stated}
+use Rattle.statements.specs.declared.answers.Stated.the-variants as Stated
+use Rattle.statements.specs.declared.answers.Finished.{Finished}
+use Rattle.statements.specs.declared.answers.Finished.the-variants as Finished
+use Rattle.statements.specs.Meets.{Answer, gave, refused, Adds, AddsIn, Meets}
+use Rattle.statements.specs.Parts.{operandType}
+use Rattle.statements.specs.Stack.{stackAt}
+use Rattle.statements.specs.Converting.{OperandIn, StackIn, StaysFor}
+
+-- ---- answers
+
+abbrev pub convertedOf : Converted → Answer Ir.Operand
+convertedOf (Converted.Is o k) = gave (operandOf o) k
+convertedOf (Converted.Refused e) = refused e
+
+-- the values stand on the stack from entry j on, with n records
+abbrev pub argsOf : List ℕ → ℕ → ℕ → ConvertedArgs → Answer (List Ir.Operand)
+argsOf s n j (ConvertedArgs.Done count k) = gave (stackAt s n j count) k
+argsOf s n j (ConvertedArgs.Refused e) = refused e
+
+abbrev pub statedOf : List ℕ → List ℕ → List ℕ → Stated → Answer Def.Scope
+statedOf tree text s (Stated.Done sc k) = gave (scopeAt tree text s sc) k
+statedOf tree text s (Stated.Refused e) = refused e
+
+-- success stands for a
+abbrev pub finishedOf : {A : Type 0} → A → Finished → Answer A
+finishedOf a (Finished.Done k) = gave a k
+finishedOf a (Finished.Refused e) = refused e
+
+abbrev pub variableOf : List ℕ → List ℕ → List ℕ → ForVariable → Answer (Ir.VarId × Def.Scope)
+variableOf tree text s (ForVariable.Is v sc k) = gave (varOf v, scopeAt tree text s sc) k
+variableOf tree text s (ForVariable.Refused e) = refused e
+
+-- ---- what each kind of function owes, of the answer, of the arena before and after and of the scratch before and after
+
+-- an expression or a part of one
+pub record Converts (tree text : List ℕ) (m : M Ir.Operand) (n : Amount) (c : Converter) (l s : List ℕ) (a : Converted) (l′ s′ : List ℕ) : Type 0 where
+  pub meets : Meets text m n (c .counters) l l′ (convertedOf a)
+  pub operand : (o : Operand) (k : Counters) → a ≡ Converted.Is o k → OperandIn tree (operandOf o)
+  pub stays : StaysFor tree c s s′
+
+-- an operand that is always had: for a leaf e in any scope, and for an operand that is fitted
+pub record LeafAdds (tree text : List ℕ) (e : ℕ) (n : Amount) (k : Counters) (l : List ℕ) (r : Fitted) (l′ : List ℕ) : Type 0 where
+  pub adds : (S : Def.Scope) → AddsIn text (convert-expr (program tree text) (allKeys tree text) (exprAt tree text e) S) n k l (operandOf (r .operand)) (r .counters) l′
+  pub operand : OperandIn tree (operandOf (r .operand))
+  pub long : length l′ ≡ length l
+
+pub record FitAdds (tree : List ℕ) (m : M Ir.Operand) (n : Amount) (k : Counters) (l : List ℕ) (r : Fitted) (l′ : List ℕ) : Type 0 where
+  pub adds : Adds m n k l (operandOf (r .operand)) (r .counters) l′
+  pub operand : OperandIn tree (operandOf (r .operand))
+
+-- the last `count` operands of the stack are fitted, in place
+pub record FitsArgs (tree : List ℕ) (m : M (List Ir.Operand)) (count : ℕ) (c : Converter) (l s : List ℕ) (k : Counters) (l′ s′ : List ℕ) : Type 0 where
+  pub adds : Adds m (amount count count 0 0 count) (c .counters) l (stackAt s′ (records tree) (c .operands) count) k l′
+  pub stays : StaysFor tree c s s′
+
+-- the arguments of a call, above what waits on the stack: at most q of them
+pub record ConvertsArgs (tree text : List ℕ) (m : M (List Ir.Operand)) (n : Amount) (q : ℕ) (c : Converter) (l s : List ℕ) (a : ConvertedArgs) (l′ s′ : List ℕ) : Type 0 where
+  pub meets : Meets text m n (c .counters) l l′ (argsOf s′ (records tree) (c .operands) a)
+  pub operands : (count : ℕ) (k : Counters) → a ≡ ConvertedArgs.Done count k → (count ≤ q) × StackIn tree s′ (c .operands) count
+  pub stays : StaysFor tree c s s′
+
+-- the scope that a statement leaves: at most q names more, in the same function
+pub record Leaves (tree text : List ℕ) (q : ℕ) (c : Converter) (s′ : List ℕ) (sc : Scope) : Type 0 where
+  pub ready : Ready tree text s′ (c .functions) sc
+  pub function : sc .function ≡ c .scope .function
+  pub least : c .scope .names ≤ sc .names
+  pub most : sc .names ≤ c .scope .names + q
+
+-- a statement
+pub record States (tree text : List ℕ) (m : M Def.Scope) (n : Amount) (q : ℕ) (c : Converter) (l s : List ℕ) (a : Stated) (l′ s′ : List ℕ) : Type 0 where
+  pub meets : Meets text m n (c .counters) l l′ (statedOf tree text s′ a)
+  pub leaves : (sc : Scope) (k : Counters) → a ≡ Stated.Done sc k → Leaves tree text q c s′ sc
+  pub stays : StaysFor tree c s s′
+
+-- a block, or what leaves the scope as it was: the definition's step gives x
+pub record Finishes {A : Type 0} (tree text : List ℕ) (m : M A) (x : A) (n : Amount) (c : Converter) (l s : List ℕ) (a : Finished) (l′ s′ : List ℕ) : Type 0 where
+  pub meets : Meets text m n (c .counters) l l′ (finishedOf x a)
+  pub stays : StaysFor tree c s s′
+
+-- the type that the sides of the Binary e, of type y, are fitted to
+pub record OperandTyped (tree text s : List ℕ) (c : Converter) (e y : ℕ) (a : ExprType) (s′ : List ℕ) : Type 0 where
+  pub frame : Frame tree s s′
+  pub typed : IsTyped tree a
+  pub meets : operandType
+      (common-type (program tree text) (allKeys tree text) (exprAt tree text (wordOf tree e A)) (exprAt tree text (wordOf tree e B)) (scopeAt tree text s (c .scope))) y
+      ≡ typeOf a
+
+-- the variable of a For, with the scope of its body
+pub record FindsVariable (tree text : List ℕ) (m : M (Ir.VarId × Def.Scope)) (c : Converter) (l s : List ℕ) (a : ForVariable) (l′ s′ : List ℕ) : Type 0 where
+  pub meets : Meets text m (amount 0 1 0 0 0) (c .counters) l l′ (variableOf tree text s′ a)
+  pub variable : (v : VarId) (sc : Scope) (k : Counters) → a ≡ ForVariable.Is v sc k → TypeAt tree (v .1) × Leaves tree text 1 c s′ sc
+  pub stays : StaysFor tree c s s′
+
+-- what writes no table: it is fine, or refused
+pub record Checks (tree : List ℕ) (m : M (Unit {0})) (s : List ℕ) (a : Outcome) (s′ : List ℕ) : Type 0 where
+  pub meets : m ≡ lift (outcomeOf a)
+  pub frame : Frame tree s s′
+
+-- ---- which definition each function equals, by records
+
+module _ (tree text s : List ℕ) (c : Converter) where
+  -- the scope
+  abbrev pub scopeIn : Def.Scope
+  scopeIn = scopeAt tree text s (c .scope)
+
+  -- the expression e
+  abbrev pub exprSteps : ℕ → M Ir.Operand
+  exprSteps e = convert-expr (program tree text) (allKeys tree text) (exprAt tree text e) scopeIn
+
+  abbrev pub condSteps : ℕ → M Ir.Operand
+  condSteps e = convert-cond (program tree text) (allKeys tree text) (exprAt tree text e) scopeIn
+
+  abbrev pub argsSteps : ℕ → M (List Ir.Operand)
+  argsSteps w = convert-args (program tree text) (allKeys tree text) (argsAt tree text w) scopeIn
+
+  -- the Unary, And or Or, any other Binary, any Binary, and call e, of type y, its sides fitted to q
+  abbrev pub unarySteps : ℕ → ℕ → M Ir.Operand
+  unarySteps e y = convert-unary (getD unaryOps (detailOf tree e) Neg) y (λ st. exprSteps (wordOf tree e A) st)
+
+  abbrev pub logicSteps : ℕ → ℕ → M Ir.Operand
+  logicSteps e y = pick (eqb (detailOf tree e) 1)
+      (convertAnd e y (λ st. exprSteps (wordOf tree e A) st) (λ st. exprSteps (wordOf tree e B) st))
+      (convertOr e y (λ st. exprSteps (wordOf tree e A) st) (λ st. exprSteps (wordOf tree e B) st))
+
+  abbrev pub otherSteps : ℕ → ℕ → ℕ → M Ir.Operand
+  otherSteps e y q = convertOther (program tree text) (allKeys tree text) (getD binaryOps (detailOf tree e) Or) y q
+      (λ st. exprSteps (wordOf tree e A) st) (λ st. exprSteps (wordOf tree e B) st)
+
+  abbrev pub binarySteps : ℕ → ℕ → M Ir.Operand
+  binarySteps e y = convert-binary (program tree text) (allKeys tree text) e (getD binaryOps (detailOf tree e) Or)
+      (exprAt tree text (wordOf tree e A)) (exprAt tree text (wordOf tree e B)) y scopeIn
+      (λ st. exprSteps (wordOf tree e A) st) (λ st. exprSteps (wordOf tree e B) st)
+
+  abbrev pub callSteps : ℕ → ℕ → M Ir.Operand
+  callSteps e y = convert-call-value (program tree text) (allKeys tree text) e (textOf tree text e A) (argsAt tree text (wordOf tree e C)) y scopeIn
+      (λ st. argsSteps (wordOf tree e C) st)
+
+  -- the statement r, and the block that word w opens, whose own scope is dropped
+  abbrev pub statementSteps : ℕ → M Def.Scope
+  statementSteps r = convert-statement (program tree text) (allKeys tree text) (statementAt tree text r) scopeIn
+
+  abbrev pub blockSteps : ℕ → M (Unit {0})
+  blockSteps w = convert-block (program tree text) (allKeys tree text) (blockAt tree text w) scopeIn >> pure tt
+
+  -- ---- the statement r without its comment: what `convert_block` does with it
+
+  abbrev pub declareSteps : ℕ → M Def.Scope
+  declareSteps r = convert-declare (program tree text) (allKeys tree text) r (textOf tree text r A) (wordOf tree r C) scopeIn
+
+  abbrev pub initSteps : ℕ → M Def.Scope
+  initSteps r = convert-init (program tree text) (allKeys tree text) r (bit 1 (detailOf tree r)) (textOf tree text r A) (exprAt tree text (wordOf tree r C)) scopeIn
+
+  -- of a new name
+  abbrev pub initNewSteps : ℕ → M Def.Scope
+  initNewSteps r = initNew (program tree text) (allKeys tree text) r (bit 1 (detailOf tree r)) (textOf tree text r A) (exprAt tree text (wordOf tree r C)) scopeIn
+
+  -- of the name of the variable v
+  abbrev pub assignSteps : ℕ → VarId → Bool → M Def.Scope
+  assignSteps r v constant = convert-assign (program tree text) (allKeys tree text) r (exprAt tree text (wordOf tree r C))
+      (record { name = textOf tree text r A; constant = constant; var-id = varOf v }) scopeIn
+
+  abbrev pub assignToSteps : ℕ → VarId → M Def.Scope
+  assignToSteps r v = assignTo (program tree text) (allKeys tree text) r (exprAt tree text (wordOf tree r C))
+      (record { name = textOf tree text r A; constant = false; var-id = varOf v }) scopeIn
+
+  abbrev pub returnSteps : ℕ → M Def.Scope
+  returnSteps r = convert-return (program tree text) (allKeys tree text) r (exprAt tree text (wordOf tree r A)) scopeIn
+
+  -- of a value of type y where `expected` is the function's
+  abbrev pub returnAsSteps : ℕ → ℕ → ℕ → M Def.Scope
+  returnAsSteps r y expected = returnAs (program tree text) (allKeys tree text) r (exprAt tree text (wordOf tree r A)) y scopeIn (some expected)
+
+  abbrev pub callStatementSteps : ℕ → M Def.Scope
+  callStatementSteps r = convert-call (program tree text) (allKeys tree text) r (exprAt tree text (wordOf tree r A)) scopeIn
+
+  -- of the function f by the call e, whose result is not used
+  abbrev pub callOnlySteps : ℕ → ℕ → M Def.Scope
+  callOnlySteps e f = argsSteps (wordOf tree e C)
+      >>= (λ os. callFunction (program tree text) (allKeys tree text) none (functionOf tree text f) os >> pure scopeIn)
+
+  abbrev pub breakSteps : ℕ → M Def.Scope
+  breakSteps r = convert-break (program tree text) (allKeys tree text) r (scopeIn .inLoop) scopeIn
+
+  abbrev pub continueSteps : ℕ → M Def.Scope
+  continueSteps r = convert-continue (program tree text) (allKeys tree text) r (scopeIn .inLoop) scopeIn
+
+  abbrev pub ifSteps : ℕ → M Def.Scope
+  ifSteps r = pick (bit 1 (detailOf tree r))
+      (convertIfElse (program tree text) (allKeys tree text) r (exprAt tree text (wordOf tree r A)) scopeIn
+      (λ st. convert-block (program tree text) (allKeys tree text) (blockAt tree text (wordOf tree r B)) scopeIn st)
+      (λ st. convert-block (program tree text) (allKeys tree text) (blockAt tree text (wordOf tree r C)) scopeIn st))
+      (convert-if (program tree text) (allKeys tree text) r (exprAt tree text (wordOf tree r A)) scopeIn
+      (λ st. convert-block (program tree text) (allKeys tree text) (blockAt tree text (wordOf tree r B)) scopeIn st))
+
+  abbrev pub whileSteps : ℕ → M Def.Scope
+  whileSteps r = convert-while-loop (program tree text) (allKeys tree text) r (exprAt tree text (wordOf tree r A)) scopeIn
+      (λ st. convert-block (program tree text) (allKeys tree text) (blockAt tree text (wordOf tree r B)) (withLoop r scopeIn) st)
+
+  abbrev pub forSteps : ℕ → M Def.Scope
+  forSteps r = convert-for-loop (program tree text) (allKeys tree text) r (textOf tree text (wordOf tree r A) A) (reference (wordOf tree (wordOf tree r A) C))
+      (exprAt tree text (wordOf tree r B)) (exprAt tree text (wordOf tree r C)) scopeIn
+      (λ sc1 st. convert-block (program tree text) (allKeys tree text) (blockAt tree text (wordOf tree r D)) (withLoop r sc1) st)
+
+  -- a Declare, Init, Return or call statement; a Break or Continue
+  abbrev pub plainSteps : ℕ → M Def.Scope
+  plainSteps r = pick (eqb (kindOf tree r) 15) (declareSteps r) (pick (eqb (kindOf tree r) 16) (initSteps r) (pick (eqb (kindOf tree r) 17) (returnSteps r) (callStatementSteps r)))
+
+  abbrev pub jumpSteps : ℕ → M Def.Scope
+  jumpSteps r = pick (eqb (kindOf tree r) 22) (breakSteps r) (continueSteps r)

@@ -1,0 +1,5 @@
+pub mod Stack
+pub mod Converting
+pub mod Meets
+pub mod Parts
+pub mod Answers

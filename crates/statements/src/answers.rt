@@ -1,0 +1,71 @@
+// What everything that converts takes, and what is answered: only what changed.
+ghost use mathlib.Core.Path.{_≡_};
+ghost use Prim.Native.Nat.{_<_};
+use ir::structs::Counters;
+use ir::structs::Operand;
+use ir::structs::VarId;
+use records::convert_error::ConvertError;
+use records::convert_error::ConvertErrorKind;
+use scope::Scope;
+
+// How many functions are listed in scratch, the names known, how far the tables are written, and how many operands wait in scratch.
+pub struct Converter {
+    pub functions: usize,
+    pub scope: Scope,
+    pub counters: Counters,
+    pub operands: usize,
+}
+
+// An expression: its operand.
+pub enum Converted {
+    Is(Operand, Counters),
+    Refused(ConvertError),
+}
+
+// The arguments of a call: how many values were put on the stack.
+pub enum ConvertedArgs {
+    Done(usize, Counters),
+    Refused(ConvertError),
+}
+
+// A statement: the scope for what follows it.
+pub enum Stated {
+    Done(Scope, Counters),
+    Refused(ConvertError),
+}
+
+// A block, or what leaves the scope as it was.
+pub enum Finished {
+    Done(Counters),
+    Refused(ConvertError),
+}
+
+// The variable of a For, and the scope of its body.
+pub(crate) enum ForVariable {
+    Is(VarId, Scope, Counters),
+    Refused(ConvertError),
+}
+
+// An operand as it is used, and how far the tables are written.
+pub(crate) struct Fitted {
+    pub operand: Operand,
+    pub counters: Counters,
+}
+
+pub(crate) fn as_converted(f: Fitted) -> Converted
+    ensures { λ r. ⌜ r ≡ Converted.Is (f .operand) (f .counters) ⌝ }
+{
+    let k = f.counters;
+    let o = f.operand;
+    Converted::Is(o, k)
+}
+
+pub(crate) fn refusal(kind: ConvertErrorKind, place: usize) -> ConvertError
+    requires { ⌜ place < 4294967296 ⌝ }
+    ensures { λ r. ⌜ r ≡ record { kind = kind; place = place } ⌝ }
+{
+    ConvertError {
+        kind,
+        place: place as u32,
+    }
+}

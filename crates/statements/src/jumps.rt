@@ -1,0 +1,50 @@
+// Jumps to labels and labels placed: a label is asked for by its kind and the record that opens it, and then written.
+ghost use Prim.Native.Nat.{_<_};
+ghost use Rattle.ir.specs.Amounts.{amount};
+ghost use Rattle.ir.specs.Instructions.{operandOf};
+ghost use Rattle.ir.specs.Steps.{named};
+ghost use Rattle.statements.specs.Converting.{RoomFor};
+ghost use Rattle.statements.specs.Meets.{Adds};
+ghost use Rattle.statements.specs.Parts.{placeLabel, jumpTo, jumpIfNot};
+use ir::structs::Counters;
+use ir::structs::Instr;
+use ir::structs::Operand;
+use ir::structs::emit;
+use ir::structs::label_id;
+
+pub(crate) fn jump(arena: &mut [u8], k: Counters, kind: u32, opener: usize) -> Counters
+    requires { ⌜ RoomFor k (now arena) (amount 1 0 1 0 0) × (opener < 4294967296) ⌝ }
+    ensures { λ r. ⌜ Adds (jumpTo (named kind opener)) (amount 1 0 1 0 0) k (now (arena .entry)) tt r (now (arena .exit)) ⌝ }
+{
+    let found = label_id(arena, k, kind, opener as u32);
+    let target = found.label;
+    let next = found.counters;
+    emit(arena, next, Instr::Jump(target))
+}
+
+pub(crate) fn jump_if_not(
+    arena: &mut [u8],
+    k: Counters,
+    cond: Operand,
+    kind: u32,
+    opener: usize,
+) -> Counters
+    requires { ⌜ RoomFor k (now arena) (amount 1 0 1 0 0) × (opener < 4294967296) ⌝ }
+    ensures { λ r. ⌜ Adds (jumpIfNot (operandOf cond) (named kind opener)) (amount 1 0 1 0 0) k (now (arena .entry)) tt r (now (arena .exit)) ⌝ }
+{
+    let found = label_id(arena, k, kind, opener as u32);
+    let target = found.label;
+    let next = found.counters;
+    emit(arena, next, Instr::JumpIfNot(cond, target))
+}
+
+// The label stands here.
+pub(crate) fn place_label(arena: &mut [u8], k: Counters, kind: u32, opener: usize) -> Counters
+    requires { ⌜ RoomFor k (now arena) (amount 1 0 1 0 0) × (opener < 4294967296) ⌝ }
+    ensures { λ r. ⌜ Adds (placeLabel (named kind opener)) (amount 1 0 1 0 0) k (now (arena .entry)) tt r (now (arena .exit)) ⌝ }
+{
+    let found = label_id(arena, k, kind, opener as u32);
+    let here = found.label;
+    let next = found.counters;
+    emit(arena, next, Instr::Label(here))
+}

@@ -1,0 +1,246 @@
+// expressions.rs, `operand`: the operands of expressions without operands of their own; and the stack of operands in scratch.
+ghost use mathlib.Core.Path.{_≡_};
+ghost use mathlib.Core.List.{List, _++_};
+ghost use Prim.Native.Nat.{ℕ, _+_, _*_, _≤_};
+ghost use lib.ListN.{length};
+ghost use mir.Syntax.{w64};
+ghost use mir.Val.{toZ};
+ghost use Rattle.laws.specs.Splice.{splice};
+ghost use Rattle.records.specs.Words.{detailOf, kindOf};
+ghost use Rattle.records.specs.Good.{Good};
+ghost use Rattle.syntax.specs.Decode.{bit, wideOf};
+ghost use Rattle.syntax.specs.Places.{IsKind};
+ghost use Rattle.conversion.specs.Ir.{OInt};
+ghost use Rattle.conversion.specs.Written.{word};
+ghost use Rattle.types.specs.Fits.{IsExpr};
+ghost use Rattle.ir.specs.Amounts.{amount, Affords};
+ghost use Rattle.ir.specs.Instructions.{operandOf};
+ghost use Rattle.statements.specs.Stack.{operandBytes, operandFrom, entryAt, operandAt};
+ghost use Rattle.statements.specs.Converting.{Converting, RoomFor, exprAmount};
+ghost use Rattle.statements.specs.Meets.{Adds, AddsIn};
+ghost use Rattle.statements.specs.Answers.{Converts, LeafAdds, exprSteps};
+use crate::answers::Converted;
+use crate::answers::Converter;
+use crate::answers::Fitted;
+use crate::answers::as_converted;
+use crate::answers::refusal;
+use crate::numbers::KIND_BOOL;
+use crate::numbers::KIND_FLOAT;
+use crate::numbers::KIND_INT;
+use crate::numbers::KIND_NAME;
+use crate::numbers::KIND_NULL;
+use crate::numbers::KIND_STR;
+use crate::numbers::TAG_BOOL;
+use crate::numbers::TAG_FLOAT;
+use crate::numbers::TAG_INT;
+use crate::numbers::TAG_NULL;
+use crate::numbers::TAG_STRING;
+use crate::numbers::TAG_VARIABLE;
+use ir::floats::float_entry;
+use ir::pool::float_id;
+use ir::pool::string_id;
+use ir::structs::Counters;
+use ir::structs::Operand;
+use ir::structs::VarId;
+use ir::words::Four;
+use ir::words::high;
+use ir::words::low;
+use ir::words::mark;
+use ir::words::put_four;
+use records::convert_error::ConvertErrorKind;
+use records::words::detail;
+use records::words::kind;
+use records::words::load;
+use records::words::word;
+use scope::Known;
+use types::form::reference;
+use types::form::two_words;
+use types::size::Bytes;
+use types::size::size;
+
+// An operand in four words: tag, a variable's type, the value low and high.
+fn operand_words(o: Operand) -> Four
+    ensures bytes { λ r. ⌜ word (r .0) ++ word (r .1) ++ word (r .2) ++ word (r .3) ≡ operandBytes (operandOf o) ⌝ }
+    ensures back { λ r. ⌜ operandFrom (r .0) (r .1) (r .2) (r .3) ≡ operandOf o ⌝ }
+{
+    match o {
+        Operand::Var(v) => Four(TAG_VARIABLE, v.1, v.0, 0),
+        Operand::Int(bits, short, unsigned) => {
+            let tag = TAG_INT + mark(short) + 2 * mark(unsigned);
+            Four(tag, 0, low(bits), high(bits))
+        }
+        Operand::Float(i) => Four(TAG_FLOAT, 0, i, 0),
+        Operand::Bool(b) => Four(TAG_BOOL, 0, mark(b), 0),
+        Operand::DataAddress(i) => Four(TAG_STRING, 0, i, 0),
+        Operand::Null => Four(TAG_NULL, 0, 0, 0),
+    }
+}
+
+// The operand that four words stand for.
+fn operand_of(w: Four) -> Operand
+    ensures { λ r. ⌜ operandOf r ≡ operandFrom (w .0) (w .1) (w .2) (w .3) ⌝ }
+{
+    let tag = w.0;
+    if tag == TAG_VARIABLE {
+        return Operand::Var(VarId(w.2, w.1));
+    }
+    if tag < TAG_INT {
+        return Operand::Null;
+    }
+    if tag < TAG_FLOAT {
+        let bits = w.2 as u64 + w.3 as u64 * 4294967296;
+        return Operand::Int(bits, tag % 2 == 1, tag >= 4);
+    }
+    if tag == TAG_FLOAT {
+        return Operand::Float(w.2);
+    }
+    if tag == TAG_BOOL {
+        return Operand::Bool(w.2 == 1);
+    }
+    if tag == TAG_STRING {
+        return Operand::DataAddress(w.2);
+    }
+    Operand::Null
+}
+
+// Writes the operand at place j of the stack, for a tree of so many records.
+pub(crate) fn push_operand(scratch: &mut [u8], records: usize, j: usize, o: Operand)
+    requires { ⌜ 24 * records + 16 * j + 16 ≤ length (now scratch) ⌝ }
+    ensures written { λ _. ⌜ now (scratch .exit) ≡ splice (now (scratch .entry)) (entryAt records j) (operandBytes (operandOf o)) ⌝ }
+    ensures back { λ _. ⌜ operandAt (now (scratch .exit)) records j ≡ operandOf o ⌝ }
+{
+    let w = operand_words(o);
+    put_four(scratch, 24 * records + 16 * j, w);
+}
+
+// The operand at place j of the stack.
+pub(crate) fn operand_at(scratch: &[u8], records: usize, j: usize) -> Operand
+    requires { ⌜ 24 * records + 16 * j + 16 ≤ length (now scratch) ⌝ }
+    ensures { λ r. ⌜ operandOf r ≡ operandAt (now (scratch .entry)) records j ⌝ }
+{
+    let at = 24 * records + 16 * j;
+    let a = load(scratch, at);
+    let b = load(scratch, at + 4);
+    let c = load(scratch, at + 8);
+    let d = load(scratch, at + 12);
+    operand_of(Four(a, b, c, d))
+}
+
+// Detail 1 is short, 2 unsigned.
+fn int_operand(tree: &[u8], e: usize) -> Operand
+    requires { ⌜ e * 32 + 32 ≤ length (now tree) ⌝ }
+    ensures { λ r. ⌜ ((text : List ℕ) → operandOf r ≡ OInt (toZ w64 (wideOf (now (tree .entry)) text e 0)) (bit 1 (detailOf (now (tree .entry)) e)) (bit 2 (detailOf (now (tree .entry)) e))) ⌝ }
+{
+    let marks = detail(tree, e);
+    let bits = two_words(tree, e, 0);
+    Operand::Int(bits, marks % 2 == 1, marks / 2 % 2 == 1)
+}
+
+fn float_operand(tree: &[u8], text: &[u8], arena: &mut [u8], k: Counters, e: usize) -> Fitted
+    requires { ⌜ RoomFor k (now arena) (amount 0 0 0 0 1) × Good (now tree) (now text) × IsKind (now tree) 3 e ⌝ }
+    ensures { λ r. ⌜ LeafAdds (now (tree .entry)) (now (text .entry)) e (amount 0 0 0 0 1) k (now (arena .entry)) r (now (arena .exit)) ⌝ }
+{
+    let f = float_entry(two_words(tree, e, 0), detail(tree, e) == 1);
+    let p = float_id(arena, k, f);
+    let next = p.counters;
+    Fitted {
+        operand: Operand::Float(p.number),
+        counters: next,
+    }
+}
+
+fn string_operand(tree: &[u8], text: &[u8], arena: &mut [u8], k: Counters, e: usize) -> Fitted
+    requires { ⌜ RoomFor k (now arena) (amount 0 0 0 1 0) × Good (now tree) (now text) × IsKind (now tree) 4 e ⌝ }
+    ensures { λ r. ⌜ LeafAdds (now (tree .entry)) (now (text .entry)) e (amount 0 0 0 1 0) k (now (arena .entry)) r (now (arena .exit)) ⌝ }
+{
+    let offset = word(tree, e, 0);
+    let len = word(tree, e, 1);
+    let p = string_id(text, arena, k, offset, len);
+    let next = p.counters;
+    Fitted {
+        operand: Operand::DataAddress(p.number),
+        counters: next,
+    }
+}
+
+fn name_operand(
+    tree: &[u8],
+    text: &[u8],
+    arena: &[u8],
+    scratch: &[u8],
+    c: Converter,
+    e: usize,
+) -> Converted
+    requires { ⌜ Converting (now tree) (now text) (now arena) (now scratch) c ⌝ }
+    requires { ⌜ IsKind (now tree) 6 e ⌝ }
+    ensures { λ a. ⌜ Converts (now (tree .entry)) (now (text .entry)) (exprSteps (now (tree .entry)) (now (text .entry)) (now (scratch .entry)) c e) (amount 0 0 0 0 0) c (now (arena .entry)) (now (scratch .entry)) a (now (arena .entry)) (now (scratch .entry)) ⌝ }
+{
+    let scope = c.scope;
+    let k = c.counters;
+    let offset = word(tree, e, 0);
+    let len = word(tree, e, 1);
+    match scope.find_variable(text, scratch, offset, len) {
+        Known::Is(v, _) => Converted::Is(Operand::Var(v), k),
+        Known::Unknown => Converted::Refused(refusal(ConvertErrorKind::UnknownVariable, e)),
+    }
+}
+
+// The operand is tagged signed, though a SizeOf's type is unsigned.
+fn size_operand(
+    tree: &[u8],
+    text: &[u8],
+    arena: &[u8],
+    scratch: &[u8],
+    c: Converter,
+    e: usize,
+) -> Converted
+    requires { ⌜ Converting (now tree) (now text) (now arena) (now scratch) c ⌝ }
+    requires { ⌜ IsKind (now tree) 8 e ⌝ }
+    ensures { λ a. ⌜ Converts (now (tree .entry)) (now (text .entry)) (exprSteps (now (tree .entry)) (now (text .entry)) (now (scratch .entry)) c e) (amount 0 0 0 0 0) c (now (arena .entry)) (now (scratch .entry)) a (now (arena .entry)) (now (scratch .entry)) ⌝ }
+{
+    let k = c.counters;
+    match size(tree, reference(tree, e, 0)) {
+        Bytes::Exactly(n) => Converted::Is(Operand::Int(n, false, false), k),
+        Bytes::Over => Converted::Refused(refusal(ConvertErrorKind::WouldPanic, e)),
+        Bytes::Nothing => Converted::Refused(refusal(ConvertErrorKind::WouldPanic, e)),
+    }
+}
+
+// The operand of an expression without operands: kinds 2 to 8.
+pub(crate) fn operand(
+    tree: &[u8],
+    text: &[u8],
+    arena: &mut [u8],
+    scratch: &[u8],
+    c: Converter,
+    e: usize,
+) -> Converted
+    requires { ⌜ Converting (now tree) (now text) (now arena) (now scratch) c ⌝ }
+    requires { ⌜ Affords (c .counters) (exprAmount 0) ⌝ }
+    requires { ⌜ IsExpr (now tree) e × (kindOf (now tree) e ≤ 8) ⌝ }
+    ensures { λ a. ⌜ Converts (now (tree .entry)) (now (text .entry)) (exprSteps (now (tree .entry)) (now (text .entry)) (now (scratch .entry)) c e) (exprAmount 0) c (now (arena .entry)) (now (scratch .entry)) a (now (arena .exit)) (now (scratch .entry)) ⌝ }
+{
+    let k = c.counters;
+    let leaf = kind(tree, e);
+    if leaf == KIND_INT {
+        return Converted::Is(int_operand(tree, e), k);
+    }
+    if leaf == KIND_FLOAT {
+        let f = float_operand(tree, text, arena, k, e);
+        return as_converted(f);
+    }
+    if leaf == KIND_STR {
+        let f = string_operand(tree, text, arena, k, e);
+        return as_converted(f);
+    }
+    if leaf == KIND_BOOL {
+        return Converted::Is(Operand::Bool(detail(tree, e) == 1), k);
+    }
+    if leaf == KIND_NAME {
+        return name_operand(tree, text, arena, scratch, c, e);
+    }
+    if leaf == KIND_NULL {
+        return Converted::Is(Operand::Null, k);
+    }
+    size_operand(tree, text, arena, scratch, c, e)
+}
