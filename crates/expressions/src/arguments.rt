@@ -8,19 +8,19 @@ ghost use Rattle.records.specs.Good.{Good};
 ghost use Rattle.syntax.specs.Decode.{keyAt};
 ghost use Rattle.conversion.specs.Expressions.{targetType, sourceType};
 ghost use Rattle.syntax.specs.Places.{TypeAt, ArgsAt, ParamsAt, paramsAt};
-ghost use Rattle.expressions.specs.Places.{PartIs};
+ghost use Rattle.keys.specs.Parts.{PartIs};
 ghost use Rattle.expressions.specs.Calls.{typedAt, Argued};
 ghost use Rattle.expressions.specs.Slots.{slotAt, FirstType};
 ghost use Rattle.expressions.specs.Answers.{ArgumentIs, numberOf, TypeFound};
-use crate::parts::Part;
-use crate::parts::text_part;
 use ir::words::Found;
+use keys::parts::Part;
+use keys::parts::text_part;
 use records::words::kind;
 use records::words::load;
 use types::form::reference;
 
 // No further cell.
-pub(crate) const END: usize = 4294967295;
+pub const END: usize = 4294967295;
 
 // An expression, or a type.
 pub(crate) enum Argument {
@@ -52,7 +52,7 @@ pub(crate) fn argument_at(tree: &[u8], text: &[u8], cell: usize) -> Argument
 }
 
 // The cell behind a cell, or END.
-pub(crate) fn next_cell(tree: &[u8], text: &[u8], cell: usize) -> usize
+pub fn next_cell(tree: &[u8], text: &[u8], cell: usize) -> usize
     requires { ⌜ Good (now tree) (now text) ⌝ }
     requires { ⌜ cell < records (now tree) ⌝ }
     ensures { λ w. ⌜ w ≡ wordOf (now (tree .entry)) cell 1 ⌝ }
