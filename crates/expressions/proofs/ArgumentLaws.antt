@@ -25,11 +25,11 @@ use Rattle.conversion.specs.Expressions.{TypedArg, targetType, sourceType}
 use Rattle.types.specs.Fits.{IsExpr}
 use Rattle.records.specs.declared.words.Found.{Found}
 use Rattle.records.specs.declared.words.Found.the-variants as Found
-use Rattle.expressions.specs.declared.parts.Part.{Part}
+use Rattle.keys.specs.declared.parts.Part.{Part}
 use Rattle.expressions.specs.declared.arguments.Argument.{Argument}
 use Rattle.expressions.specs.declared.arguments.Argument.the-variants as Argument
 use Rattle.syntax.specs.Places.{TypeAt, ArgsAt, ParamsAt, exprAt, argsAt, paramsAt}
-use Rattle.expressions.specs.Places.{PartIs}
+use Rattle.keys.specs.Parts.{PartIs}
 use Rattle.expressions.specs.Slots.{FirstType, slotAt, slotted, Typed}
 use Rattle.expressions.specs.Calls.{typedAt}
 use Rattle.expressions.specs.Answers.{ArgumentIs, an-expr, a-type, numberOf}

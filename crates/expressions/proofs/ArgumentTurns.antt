@@ -31,7 +31,7 @@ use Rattle.expressions.specs.declared.answers.ExprType.the-variants as E
 use Rattle.expressions.specs.declared.arguments.Argument.{Argument}
 use Rattle.expressions.specs.declared.arguments.Argument.the-variants as Argument
 use Rattle.syntax.specs.Places.{IsKind, TypeAt, ArgsAt, exprAt, argsAt}
-use Rattle.expressions.specs.Keys.{allKeys}
+use Rattle.keys.specs.Keys.{allKeys}
 use Rattle.expressions.specs.Slots.{slotAt, slotted, Typed, Frame, Slots, typeIn, Ready}
 use Rattle.expressions.specs.Answers.{refusal, typeOf, doneWith, ArgumentIs, TypeMeets, ArgsMeet}
 use Rattle.syntax.proofs.Lists.{Cell, cell-is, args-end}

@@ -4,7 +4,7 @@ use mathlib.Core.Path.{_≡_, refl, sym, ap, ap₂, _∙_}
 use mathlib.Core.Bool.{Bool, true, false, not, _&&_}
 use mathlib.Core.List.{List, [], _∷_}
 use mathlib.Core.Logic.{inl, inr}
-use mathlib.Core.Option.{Option, some, none as nothing}
+use mathlib.Core.Option.{none as nothing}
 use Prim.Native.Nat.{ℕ, _+_, _*_, _^_, _<_, _≤_}
 use native.Mathlib.Numerals.{add-one}
 use native.Mathlib.Omega.{arith}
@@ -19,10 +19,10 @@ use Rattle.records.specs.Good.{Good}
 use Rattle.records.proofs.GoodLaws.{inside, call-a, call-c}
 use Rattle.syntax.specs.Syntax.{Text, Function, Program}
 use Rattle.syntax.specs.Decode.{program, textOf, typeAt}
-use Rattle.conversion.specs.ConvertError.{err, _>>=_, UnknownFunction, AmbiguousCall, InvalidCast}
+use Rattle.conversion.specs.ConvertError.{Result, err, _>>=_, UnknownFunction, AmbiguousCall, InvalidCast}
 use Rattle.conversion.specs.Ir.{sameText}
 use Rattle.conversion.specs.Types.{can-cast}
-use Rattle.conversion.specs.Expressions.{TypedArg, Functions, castVerb, is-mangled, takes-args, targetType, sourceType, castChecked, castTo, cast-type, byLiterals, find-functions-by-literals, find-exact-function, chosen, exactOr, resolveFunction, resolveTyped}
+use Rattle.conversion.specs.Expressions.{TypedArg, Callee, Functions, castVerb, is-mangled, takes-args, targetType, sourceType, castChecked, castTo, cast-type, byLiterals, find-functions-by-literals, find-exact-function, chosen, exactOr, resolveFunction, resolveTyped}
 use Rattle.records.specs.declared.words.Found.{Found}
 use Rattle.records.specs.declared.words.Found.the-variants as Found
 use Rattle.expressions.specs.declared.answers.Candidates.{Candidates}
@@ -33,12 +33,12 @@ use Rattle.expressions.specs.declared.answers.Resolved.{Resolved}
 use Rattle.expressions.specs.declared.answers.Resolved.the-variants as Resolved
 use Rattle.expressions.specs.declared.arguments.Call.{Call}
 use Rattle.syntax.specs.Places.{IsKind, TypeAt, FunctionAt, ArgsAt, functionOf, argsAt}
-use Rattle.expressions.specs.Keys.{functionRecords, functionsOf, allKeys, Keyed}
-use Rattle.expressions.specs.Slots.{Typed}
-use Rattle.expressions.specs.Calls.{typedAt, verbOf, Called}
-use Rattle.expressions.specs.Answers.{refusal, castOf, numberOf, calleeOf, functionFound, TypeFound, a-type, no-type, FunctionFound, IsCast, IsCallee, AreAll, oneOrNone, fitting, OneFunction, nobody, one, several}
+use Rattle.keys.specs.Keys.{functionRecords, functionsOf, allKeys, Keyed, functionFound, FunctionFound}
+use Rattle.expressions.specs.Slots.{slotted, Typed}
+use Rattle.expressions.specs.Calls.{typedAt, verbOf, CallAt, Called}
+use Rattle.expressions.specs.Answers.{refusal, castOf, numberOf, calleeOf, TypeFound, a-type, no-type, IsCast, CastIs, IsCallee, CalleeIs, CandidatesAre, AreAll, OneFunction, nobody, one, several}
 use Rattle.expressions.proofs.answers.Candidates.{the-type}
-use Rattle.expressions.proofs.FunctionLaws.{found-function, all-functions}
+use Rattle.keys.proofs.FunctionLaws.{found-function, all-functions}
 use borrow.Author.Tests.{not-true, not-false}
 
 -- ---- three tests, one after the other
@@ -118,10 +118,10 @@ module _ (tree text : List ℕ) (verb : Text) (l : List TypedArg) where
     inside-list = omega (arith, k .listed .counted)
 
     pub second-one : (found : Candidates) (g : ℕ) → SoFar tree text everyOne (literalsFrom j) found → found ≡ Candidates.One g → b ≡ true
-        → AreAll tree text Candidates.Several everyOne × OneFunction tree Candidates.Several
+        → CandidatesAre tree text Candidates.Several everyOne
     unfolding AreAll
     second-one found g (nobody-yet w) o t = absurd (let z : _≡_ {A = ℕ} 0 1 = cc in omega arith)
-    second-one found g (one-yet at w) o t = (rw (w, from-hit j f inside-list is-listed b q t) tt, several)
+    second-one found g (one-yet at w) o t = record { are = rw (w, from-hit j f inside-list is-listed b q t) tt; function = several }
 
     pub first-one : FunctionAt tree f → (found new : Candidates) → SoFar tree text everyOne (literalsFrom j) found → OneOf (0 ∷ 2 ∷ []) (tagOf the-type found) → b ≡ true
         → new ≡ Candidates.One f → SoFar tree text everyOne (literalsFrom (j + 1)) new
@@ -135,10 +135,13 @@ module _ (tree text : List ℕ) (verb : Text) (l : List TypedArg) where
         rw n (one-yet a (w ∙ ap (λ (x : List Function). functionOf tree text g ∷ x) (from-miss j f inside-list is-listed b q t)))
 
   pub no-more : (s : List ℕ) (count : ℕ) → Keyed tree text s count → (j : ℕ) (found : Candidates) → count ≤ j → SoFar tree text everyOne (literalsFrom j) found
-      → AreAll tree text found everyOne × OneFunction tree found
+      → CandidatesAre tree text found everyOne
   unfolding AreAll
-  no-more s count k j found h (nobody-yet w) = (w ∙ from-end j (omega (arith, k .listed .counted)), nobody)
-  no-more s count k j found h (one-yet {f = g} a w) = (w ∙ ap (λ (x : List Function). functionOf tree text g ∷ x) (from-end j (omega (arith, k .listed .counted))), one a)
+  no-more s count k j found h (nobody-yet w) = record { are = w ∙ from-end j (omega (arith, k .listed .counted)); function = nobody }
+  no-more s count k j found h (one-yet {f = g} a w) = record {
+    are = w ∙ ap (λ (x : List Function). functionOf tree text g ∷ x) (from-end j (omega (arith, k .listed .counted)));
+    function = one a;
+  }
 
 -- ---- the cast
 
@@ -183,7 +186,7 @@ module _ (tree text : List ℕ) (verb : Text) (l : List TypedArg) (r : ℕ) (b :
 
 -- ---- which function
 
-pub one-function : (tree : List ℕ) (c : Candidates) (f : ℕ) → OneFunction tree c → c ≡ Candidates.One f → FunctionAt tree f
+one-function : (tree : List ℕ) (c : Candidates) (f : ℕ) → OneFunction tree c → c ≡ Candidates.One f → FunctionAt tree f
 one-function tree c f nobody e = absurd (let z : _≡_ {A = ℕ} 0 1 = cc in omega arith)
 one-function tree c f (one {f = v} at) e = let z : f ≡ v = cc in rw z at
 one-function tree c f several e = absurd (let z : _≡_ {A = ℕ} 0 1 = cc in omega arith)
@@ -204,69 +207,41 @@ chosen-several tree text [] r e = absurd e
 chosen-several tree text (f ∷ []) r e = absurd e
 chosen-several tree text (f ∷ g ∷ l) r e = refl
 
--- the exact one, or those that literals fit
-module _ (tree text : List ℕ) (verb : Text) (l : List TypedArg) (b : Bool) where
-  module _ (q : b ≡ true) (t : Found) (h : functionFound tree text t ≡ find-exact-function (program tree text) (allKeys tree text) verb l) where
-    exact-fits : fitting tree text b verb l ≡ oneOrNone (functionFound tree text t)
-    unfolding fitting
-    exact-fits = rw q (ap oneOrNone (sym h))
-
-    pub fits-one : FunctionFound tree t → (f : ℕ) → t ≡ Found.At f → AreAll tree text (Candidates.One f) (fitting tree text b verb l) × OneFunction tree (Candidates.One f)
-    unfolding AreAll oneOrNone functionFound
-    fits-one at f e = (exact-fits ∙ rw e, one (found-function tree t f at e))
-
-    pub fits-nobody : t ≡ Found.Nothing → AreAll tree text Candidates.Nobody (fitting tree text b verb l) × OneFunction tree Candidates.Nobody
-    unfolding AreAll oneOrNone functionFound
-    fits-nobody e = (exact-fits ∙ rw e, nobody)
-
-  pub fits-all : b ≡ false → (c : Candidates) → AreAll tree text c (find-functions-by-literals (program tree text) (allKeys tree text) verb l)
-      → AreAll tree text c (fitting tree text b verb l)
-  unfolding fitting
-  fits-all q c all = rw q all
-
-module _ (tree text : List ℕ) where
-  is-exact : (o : Option Function) (f : ℕ) → AreAll tree text (Candidates.One f) (oneOrNone o) → o ≡ some (functionOf tree text f)
-  unfolding AreAll oneOrNone
-  is-exact (some g) f e = let z : (g ∷ []) ≡ (functionOf tree text f ∷ []) = e in cc
-  is-exact nothing f e = absurd (let z : _≡_ {A = ℕ} 0 1 = cc in omega arith)
-
-  none-exact : (o : Option Function) (t : Candidates) → AreAll tree text t (oneOrNone o) → OneOf (0 ∷ 2 ∷ []) (tagOf the-type t) → o ≡ nothing
-  unfolding AreAll oneOrNone
-  none-exact nothing t e w = refl
-  none-exact (some g) Candidates.Nobody e w = absurd (let z : _≡_ {A = ℕ} 0 1 = cc in omega arith)
-  none-exact (some g) (Candidates.One f) e (inl o) = absurd (let z : _≡_ {A = ℕ} 1 0 = o in omega arith)
-  none-exact (some g) (Candidates.One f) e (inr o) = absurd (let z : _≡_ {A = ℕ} 1 2 = o in omega arith)
-  none-exact (some g) Candidates.Several e w = absurd e
-
 -- the exact one comes first
-module _ (tree text : List ℕ) (verb : Text) (l : List TypedArg) (r : ℕ) (t : Candidates) (h : AreAll tree text t (fitting tree text true verb l)) where
-  pub exact-one : (f : ℕ) → t ≡ Candidates.One f → resolveFunction (program tree text) (allKeys tree text) verb l r nothing ≡ calleeOf tree text (Resolved.Function f)
-  unfolding resolveFunction exactOr calleeOf fitting
-  exact-one f e = rw (is-exact tree text (find-exact-function (program tree text) (allKeys tree text) verb l) f (rw e at h))
+module _ (tree text : List ℕ) (verb : Text) (l : List TypedArg) (r : ℕ) (t : Found)
+    (h : functionFound tree text t ≡ find-exact-function (program tree text) (allKeys tree text) verb l) where
+  abbrev resolved : Result Callee
+  resolved = resolveFunction (program tree text) (allKeys tree text) verb l r nothing
 
-  module _ (e : OneOf (0 ∷ 2 ∷ []) (tagOf the-type t)) where
-    by-choice : resolveFunction (program tree text) (allKeys tree text) verb l r nothing ≡ chosen (find-functions-by-literals (program tree text) (allKeys tree text) verb l) r
-    unfolding resolveFunction exactOr fitting
-    by-choice = rw (none-exact tree text (find-exact-function (program tree text) (allKeys tree text) verb l) t h e)
+  pub exact-one : FunctionFound tree t → (f : ℕ) → t ≡ Found.At f → CalleeIs tree text (Resolved.Function f) resolved
+  unfolding resolveFunction exactOr calleeOf functionFound
+  exact-one at f e = record { is = rw (sym h, e); callee = IsCallee.a-function (found-function tree t f at e) }
 
-    module _ (c : Candidates) (all : AreAll tree text c (fitting tree text false verb l)) where
-      literals-are : AreAll tree text c (find-functions-by-literals (program tree text) (allKeys tree text) verb l)
-      unfolding fitting
-      literals-are = all
+  module _ (e : t ≡ Found.Nothing) (c : Candidates) (all : AreAll tree text c (find-functions-by-literals (program tree text) (allKeys tree text) verb l)) where
+    by-choice : resolved ≡ chosen (find-functions-by-literals (program tree text) (allKeys tree text) verb l) r
+    unfolding resolveFunction exactOr functionFound
+    by-choice = rw (sym h, e)
 
-      pub choice-one : (f : ℕ) → c ≡ Candidates.One f
-          → resolveFunction (program tree text) (allKeys tree text) verb l r nothing ≡ calleeOf tree text (Resolved.Function f)
-      choice-one f q = by-choice ∙ chosen-one tree text _ r f (rw q at literals-are)
+    pub choice-one : OneFunction tree c → (f : ℕ) → c ≡ Candidates.One f → CalleeIs tree text (Resolved.Function f) resolved
+    choice-one at f q = record {
+      is = by-choice ∙ chosen-one tree text _ r f (rw q at all);
+      callee = IsCallee.a-function (one-function tree c f at q);
+    }
 
-      pub choice-nobody : c ≡ Candidates.Nobody → (a : Resolved) → a ≡ Resolved.Refused (record { kind = UnknownFunction; place = r })
-          → (resolveFunction (program tree text) (allKeys tree text) verb l r nothing ≡ calleeOf tree text a) × IsCallee tree a
-      unfolding calleeOf refusal
-      choice-nobody q a w = rw w (by-choice ∙ chosen-nobody tree text _ r (rw q at literals-are), IsCallee.no)
+    pub choice-nobody : c ≡ Candidates.Nobody → (a : Resolved) → a ≡ Resolved.Refused (record { kind = UnknownFunction; place = r })
+        → CalleeIs tree text a resolved
+    unfolding calleeOf refusal
+    choice-nobody q a w = rw w (record { is = by-choice ∙ chosen-nobody tree text _ r (rw q at all); callee = IsCallee.no })
 
-      pub choice-several : c ≡ Candidates.Several → (a : Resolved) → a ≡ Resolved.Refused (record { kind = AmbiguousCall; place = r })
-          → (resolveFunction (program tree text) (allKeys tree text) verb l r nothing ≡ calleeOf tree text a) × IsCallee tree a
-      unfolding calleeOf refusal
-      choice-several q a w = rw w (by-choice ∙ chosen-several tree text _ r (rw q at literals-are), IsCallee.no)
+    pub choice-several : c ≡ Candidates.Several → (a : Resolved) → a ≡ Resolved.Refused (record { kind = AmbiguousCall; place = r })
+        → CalleeIs tree text a resolved
+    unfolding calleeOf refusal
+    choice-several q a w = rw w (record { is = by-choice ∙ chosen-several tree text _ r (rw q at all); callee = IsCallee.no })
+
+cast-type-is : (tree : List ℕ) (a : Cast) (y : ℕ) → IsCast tree a → a ≡ Cast.To y → TypeAt tree y
+cast-type-is tree a y (IsCast.to {y = v} t) e = let z : y ≡ v = cc in rw z t
+cast-type-is tree a y IsCast.not-cast e = absurd (let z : _≡_ {A = ℕ} 0 1 = cc in omega arith)
+cast-type-is tree a y IsCast.no e = absurd (let z : _≡_ {A = ℕ} 0 1 = cc in omega arith)
 
 -- ---- the call
 
@@ -279,17 +254,20 @@ word-short tree r k h =
 pub arguments-at : (tree text : List ℕ) → Good tree text → (r : ℕ) → IsKind tree 11 r → (first : ℕ) → first ≡ wordOf tree r 2 → ArgsAt tree first
 arguments-at tree text good r k first e = rw e (record { from = r; inside = omega (arith, k .below); list = call-c tree text good r (k .below) (k .kind) })
 
-pub counted-at : (tree text s : List ℕ) (n first w : ℕ) → first ≡ w → n ≡ length (typedAt tree text s first) → n ≡ length (typedAt tree text s w)
-counted-at tree text s n first w e h = h ∙ ap (λ (x : ℕ). length (typedAt tree text s x)) e
+pub counted-at : (tree text : List ℕ) (n first w : ℕ) → first ≡ w → ((s : List ℕ) → n ≡ length (typedAt tree text s first))
+    → (s : List ℕ) → n ≡ length (slotted tree s (argsAt tree text w))
+unfolding typedAt
+counted-at tree text n first w e h s = h s ∙ ap (λ (x : ℕ). length (typedAt tree text s x)) e
 
-module _ (tree text s : List ℕ) (r : ℕ) (c : Call) (e0 : c .offset ≡ wordOf tree r 0) (e1 : c .len ≡ wordOf tree r 1) (e2 : c .first ≡ wordOf tree r 2) where
+module _ (tree text s : List ℕ) (r : ℕ) (c : Call) (o : CallAt tree text r c) where
   pub is-called : (count : ℕ) → Keyed tree text s count → IsKind tree 11 r → Typed tree s (argsAt tree text (wordOf tree r 2)) → ((i : ℕ) → getD tree i 0 < 256)
-      → ((z : List ℕ) → c .count ≡ length (typedAt tree text z (wordOf tree r 2))) → Called tree text s c
-  is-called count k a t b n = record {
-    argued = record { good = k .good; room = k .listed .room; cells = arguments-at tree text (k .good) r a (c .first) e2; typed = rw e2 t };
-    inside = omega (arith, e0, e1, call-a tree text (k .good) r (a .below) (a .kind));
-    short = rw e1 (word-short tree r 1 b);
-    counted = rw e2 (n s);
+      → Called tree text s c
+  unfolding typedAt
+  is-called count k a t b = record {
+    argued = record { good = k .good; room = k .listed .room; cells = arguments-at tree text (k .good) r a (c .first) (o .first); typed = rw (o .first) t };
+    inside = omega (arith, o .offset, o .len, call-a tree text (k .good) r (a .below) (a .kind));
+    short = rw (o .len) (word-short tree r 1 b);
+    counted = rw (o .first) (o .count s);
   }
 
   -- the call's verb and arguments are the record's
@@ -297,26 +275,22 @@ module _ (tree text s : List ℕ) (r : ℕ) (c : Call) (e0 : c .offset ≡ wordO
       ≡ resolveTyped (program tree text) (allKeys tree text) (verbOf tree text s c) r (typedAt tree text s (c .first))
   unfolding textOf
   same-call = ap₂ (λ (v : Text) (l : List TypedArg). resolveTyped (program tree text) (allKeys tree text) v r l)
-      (sym (ap₂ (textAt text) e0 e1)) (sym (ap (typedAt tree text s) e2))
+      (sym (ap₂ (textAt text) (o .offset) (o .len))) (sym (ap (typedAt tree text s) (o .first)))
 
-  module _ (a : Cast) (h : cast-type (program tree text) (allKeys tree text) (verbOf tree text s c) (typedAt tree text s (c .first)) r ≡ castOf a) where
-    pub typed-refused : (e : ConvertError) → a ≡ Cast.Refused e
-        → resolveTyped (program tree text) (allKeys tree text) (textOf tree text r 0) r (typedAt tree text s (wordOf tree r 2)) ≡ calleeOf tree text (Resolved.Refused e)
+  abbrev whole : Result Callee
+  whole = resolveTyped (program tree text) (allKeys tree text) (textOf tree text r 0) r (typedAt tree text s (wordOf tree r 2))
+
+  module _ (a : Cast) (h : CastIs tree a (cast-type (program tree text) (allKeys tree text) (verbOf tree text s c) (typedAt tree text s (c .first)) r)) where
+    pub typed-refused : (e : ConvertError) → a ≡ Cast.Refused e → CalleeIs tree text (Resolved.Refused e) whole
     unfolding resolveTyped _>>=_ castOf refusal calleeOf
-    typed-refused e q = same-call ∙ rw (h, q)
+    typed-refused e q = record { is = same-call ∙ rw (h .is, q); callee = IsCallee.no }
 
-    pub typed-cast : (y : ℕ) → a ≡ Cast.To y
-        → resolveTyped (program tree text) (allKeys tree text) (textOf tree text r 0) r (typedAt tree text s (wordOf tree r 2)) ≡ calleeOf tree text (Resolved.Cast y)
+    pub typed-cast : (y : ℕ) → a ≡ Cast.To y → CalleeIs tree text (Resolved.Cast y) whole
     unfolding resolveTyped resolveFunction _>>=_ castOf calleeOf
-    typed-cast y q = same-call ∙ rw (h, q)
+    typed-cast y q = record { is = same-call ∙ rw (h .is, q); callee = IsCallee.a-cast (cast-type-is tree a y (h .type) q) }
 
     pub typed-function : a ≡ Cast.Not → (b : Resolved)
-        → resolveFunction (program tree text) (allKeys tree text) (verbOf tree text s c) (typedAt tree text s (c .first)) r nothing ≡ calleeOf tree text b
-        → resolveTyped (program tree text) (allKeys tree text) (textOf tree text r 0) r (typedAt tree text s (wordOf tree r 2)) ≡ calleeOf tree text b
+        → CalleeIs tree text b (resolveFunction (program tree text) (allKeys tree text) (verbOf tree text s c) (typedAt tree text s (c .first)) r nothing)
+        → CalleeIs tree text b whole
     unfolding resolveTyped _>>=_ castOf
-    typed-function q b w = same-call ∙ rw (h, q) w
-
-pub cast-type-is : (tree : List ℕ) (a : Cast) (y : ℕ) → IsCast tree a → a ≡ Cast.To y → TypeAt tree y
-cast-type-is tree a y (IsCast.to {y = v} t) e = let z : y ≡ v = cc in rw z t
-cast-type-is tree a y IsCast.not-cast e = absurd (let z : _≡_ {A = ℕ} 0 1 = cc in omega arith)
-cast-type-is tree a y IsCast.no e = absurd (let z : _≡_ {A = ℕ} 0 1 = cc in omega arith)
+    typed-function q b w = record { is = same-call ∙ rw (h .is, q) (w .is); callee = w .callee }

@@ -18,10 +18,10 @@ use Rattle.expressions.specs.declared.answers.ExprType.the-variants as E
 use Rattle.expressions.specs.declared.answers.Common.{Common}
 use Rattle.expressions.specs.declared.answers.Common.the-variants as Common
 use Rattle.syntax.specs.Places.{exprAt}
-use Rattle.expressions.specs.Keys.{allKeys}
+use Rattle.keys.specs.Keys.{allKeys}
 use Rattle.expressions.specs.Slots.{typeIn, Slots, Ready}
 use Rattle.expressions.specs.Answers as Answers
-use Rattle.expressions.specs.Answers.{typeOf, numberOf, TypeFound, IsCommon, TypeMeets, CommonMeets}
+use Rattle.expressions.specs.Answers.{typeOf, numberOf, FoundIs, IsCommon, TypeMeets, CommonMeets}
 use Rattle.expressions.proofs.SlotLaws.{frame-trans, type-later, slots-trans}
 use Rattle.expressions.proofs.TypingLaws.{bind-ok, bind-refused, type-ok, type-refused}
 use Rattle.expressions.proofs.OperandLaws.{found-type}
@@ -71,17 +71,17 @@ module _ (tree text s : List ℕ) (sc : Scope) (a b : ℕ) (t : ExprType) (s₁ 
           (type-refused (typeIn tree text S b) u x (right .1) w);
     }
 
-    module _ (r : ℕ) (w : u ≡ ExprType.Is r) (f : Found) (ef : (numberOf f ≡ rule l r) × TypeFound tree f) where
+    module _ (r : ℕ) (w : u ≡ ExprType.Is r) (f : Found) (ef : FoundIs tree f (rule l r)) where
       with-both : common-type (program tree text) (allKeys tree text) (exprAt tree text a) (exprAt tree text b) S ≡ ok (numberOf f)
       with-both = with-left ∙ bind-ok (typeIn tree text S b) r (λ r. ok (rule l r))
           (type-ok (typeIn tree text S b) u r (right .1) w)
-          ∙ ap (λ (z : Option ℕ). ok z) (sym (ef .0))
+          ∙ ap (λ (z : Option ℕ). ok z) (sym (ef .is))
 
       pub takes-one : (y : ℕ) → f ≡ Found.At y → CommonMeets tree text s sc a b (Common.Is y) s₂
       unfolding Answers.commonOf numberOf
       takes-one y z = record {
         frame = frame-trans (m .frame) (m₂ .frame);
-        common = IsCommon.is (found-type tree f y (ef .1) z);
+        common = IsCommon.is (found-type tree f y (ef .type) z);
         slots = both-slots;
         meets = with-both ∙ ap (λ (v : Found). ok (numberOf v)) z;
       }

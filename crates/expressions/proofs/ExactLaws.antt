@@ -20,16 +20,15 @@ use Rattle.conversion.specs.Expressions.{Functions, is-mangled, takes-args, get
 use Rattle.records.specs.declared.words.Found.{Found}
 use Rattle.records.specs.declared.words.Found.the-variants as Found
 use Rattle.records.proofs.TextLaws.{text-length, other-lengths}
-use Rattle.expressions.specs.declared.parts.Part.{Part}
+use Rattle.keys.specs.declared.parts.Part.{Part}
 use Rattle.expressions.specs.declared.arguments.Call.{Call}
 use Rattle.syntax.specs.Places.{FunctionAt, functionOf}
-use Rattle.expressions.specs.Places.{PartIs}
-use Rattle.expressions.specs.Keys.{keyOf, keyed, functionRecords, functionsOf, keysBelow, allKeys, Keyed}
+use Rattle.keys.specs.Parts.{PartIs}
+use Rattle.keys.specs.Keys.{keyOf, keyed, functionRecords, functionsOf, keysBelow, allKeys, Keyed, functionFound, FunctionFound, FunctionIs, a-function, no-function}
 use Rattle.expressions.specs.Calls.{typedAt, suffixesAt, verbOf, nameOf, bytesIn, Called, PrefixIs, VariadicKey, so-many, no-number}
-use Rattle.expressions.specs.Answers.{functionFound, FunctionFound, a-function, no-function}
 use Rattle.syntax.proofs.Records.{function-name, function-mangled}
-use Rattle.expressions.proofs.FunctionLaws.{found-function}
-use Rattle.expressions.proofs.KeyLaws.{find-hit, find-miss, recordAt, from, from-start, from-one, from-end, keys-all, distinct-finds}
+use Rattle.keys.proofs.FunctionLaws.{found-function}
+use Rattle.keys.proofs.KeyLaws.{find-hit, find-miss, recordAt, from, from-start, from-one, from-end, keys-all, distinct-finds}
 use Rattle.expressions.proofs.NameLaws.{same-is, is-same, same-turned, part-length, part-split, cut-same, name-length, name-pieces, all-taken, number-inside, inside-number, number-least, name-number, key-number}
 
 -- ---- an answer, and what it stands for
@@ -38,30 +37,30 @@ module _ (tree text : List ℕ) where
   -- found and kept, found and left, and not found
   module _ (p : Function → Bool) (o : Option Function) (r : Found) (is : functionFound tree text r ≡ o) where
     pub filter-hit : (f : ℕ) (b : Bool) → FunctionFound tree r → r ≡ Found.At f → b ≡ p (functionOf tree text f) → b ≡ true
-        → (functionFound tree text (Found.At f) ≡ filterOption p o) × FunctionFound tree (Found.At f)
+        → FunctionIs tree text (Found.At f) (filterOption p o)
     unfolding functionFound filterOption pick
-    filter-hit f b w e q t = (
-      rw (sym is, e, sym q, t) refl,
-      a-function (found-function tree r f w e),
-    )
+    filter-hit f b w e q t = record {
+      is = rw (sym is, e, sym q, t) refl;
+      function = a-function (found-function tree r f w e);
+    }
 
     pub filter-left : (f : ℕ) (b : Bool) → r ≡ Found.At f → b ≡ p (functionOf tree text f) → b ≡ false
-        → (functionFound tree text Found.Nothing ≡ filterOption p o) × FunctionFound tree Found.Nothing
+        → FunctionIs tree text Found.Nothing (filterOption p o)
     unfolding functionFound filterOption pick
-    filter-left f b e q t = (rw (sym is, e, sym q, t) refl, no-function)
+    filter-left f b e q t = record { is = rw (sym is, e, sym q, t) refl; function = no-function }
 
-    pub filter-none : r ≡ Found.Nothing → (functionFound tree text Found.Nothing ≡ filterOption p o) × FunctionFound tree Found.Nothing
+    pub filter-none : r ≡ Found.Nothing → FunctionIs tree text Found.Nothing (filterOption p o)
     unfolding functionFound filterOption
-    filter-none e = (rw (sym is, e) refl, no-function)
+    filter-none e = record { is = rw (sym is, e) refl; function = no-function }
 
   -- a function alone
   pub mangled-hit : (f : ℕ) (b : Bool) → FunctionAt tree f → b ≡ is-mangled (functionOf tree text f) → b ≡ true
-      → (functionFound tree text (Found.At f) ≡ filterOption is-mangled (some (functionOf tree text f))) × FunctionFound tree (Found.At f)
+      → FunctionIs tree text (Found.At f) (filterOption is-mangled (some (functionOf tree text f)))
   unfolding functionFound
   mangled-hit f b a q t = filter-hit is-mangled (some (functionOf tree text f)) (Found.At f) refl f b (a-function a) refl q t
 
   pub mangled-left : (f : ℕ) (b : Bool) → b ≡ is-mangled (functionOf tree text f) → b ≡ false
-      → (functionFound tree text Found.Nothing ≡ filterOption is-mangled (some (functionOf tree text f))) × FunctionFound tree Found.Nothing
+      → FunctionIs tree text Found.Nothing (filterOption is-mangled (some (functionOf tree text f)))
   unfolding functionFound
   mangled-left f b q t = filter-left is-mangled (some (functionOf tree text f)) (Found.At f) refl f b refl q t
 
@@ -116,17 +115,17 @@ module _ (tree text : List ℕ) (key : Text) where
 -- ---- a call's names
 
 module _ (tree text s : List ℕ) (c : Call) where
-  pub full-is : (n : ℕ) → Called tree text s c → n ≡ bytesIn tree text s (suffixesAt tree text s (c .first))
+  pub full-is : (n : ℕ) → Called tree text s c → n ≡ bytesIn (suffixesAt tree text s (c .first))
       → c .len + n ≡ length (nameOf tree text s c (c .count))
   full-is n h e =
       ap (λ (m : ℕ). c .len + m) e
-      ∙ sym (name-length tree text s c (c .count) h ∙ ap (λ (l : List Text). c .len + bytesIn tree text s l) (all-taken tree text s c h))
+      ∙ sym (name-length tree text s c (c .count) h ∙ ap (λ (l : List Text). c .len + bytesIn l) (all-taken tree text s c h))
 
   module _ (h : Called tree text s c) (k : ℕ) (p : Part) (size : p .1 ≡ length (nameOf tree text s c k)) where
     pub verb-inside : c .len ≤ p .1
     verb-inside = omega (arith, name-length tree text s c k h)
 
-    pub left-bytes : p .1 - c .len ≡ bytesIn tree text s (take k (suffixesAt tree text s (c .first)))
+    pub left-bytes : p .1 - c .len ≡ bytesIn (take k (suffixesAt tree text s (c .first)))
     left-bytes = omega (arith, name-length tree text s c k h)
 
     module _ (room : p .0 + p .1 ≤ length text) (r : Bool) (e : r ≡ sameText (textAt text (p .0) (c .len)) (textAt text (c .offset) (c .len))) where
@@ -151,15 +150,15 @@ module _ (tree text : List ℕ) (t : Text) where
 
   -- the same, where the function has to be mangled
   pub name-found : (r : Found) (f : Function) → getFunction t (allKeys tree text) ≡ some f
-      → (functionFound tree text r ≡ filterOption is-mangled (some f)) × FunctionFound tree r
-      → (functionFound tree text r ≡ mangledFunction (program tree text) (allKeys tree text) t) × FunctionFound tree r
+      → FunctionIs tree text r (filterOption is-mangled (some f))
+      → FunctionIs tree text r (mangledFunction (program tree text) (allKeys tree text) t)
   unfolding mangledFunction
-  name-found r f e h = (h .0 ∙ ap (filterOption is-mangled) (sym e), h .1)
+  name-found r f e h = record { is = h .is ∙ ap (filterOption is-mangled) (sym e); function = h .function }
 
   pub name-nowhere : getFunction t (allKeys tree text) ≡ none
-      → (functionFound tree text Found.Nothing ≡ mangledFunction (program tree text) (allKeys tree text) t) × FunctionFound tree Found.Nothing
+      → FunctionIs tree text Found.Nothing (mangledFunction (program tree text) (allKeys tree text) t)
   unfolding mangledFunction filterOption functionFound
-  name-nowhere e = (ap (filterOption is-mangled) (sym e), no-function)
+  name-nowhere e = record { is = ap (filterOption is-mangled) (sym e); function = no-function }
 
 module _ (tree text s : List ℕ) (count : ℕ) (K : Keyed tree text s count) where
   pub all-below : keysBelow tree text count ≡ allKeys tree text
@@ -204,7 +203,7 @@ module _ (tree text s : List ℕ) (c : Call) (h : Called tree text s c) (key : T
   size = sym (ap length (is .is)) ∙ part-length text (p .0) (p .1) (is .inside)
 
   -- how long such a key is
-  marked-size : (k : ℕ) → key ≡ nameOf tree text s c k ++ variadicMark → p .1 ≡ c .len + bytesIn tree text s (take k (suffixesAt tree text s (c .first))) + 4
+  marked-size : (k : ℕ) → key ≡ nameOf tree text s c k ++ variadicMark → p .1 ≡ c .len + bytesIn (take k (suffixesAt tree text s (c .first))) + 4
   marked-size k e =
       sym size ∙ ap length e ∙ length-append (nameOf tree text s c k) variadicMark ∙ ap (λ (n : ℕ). n + 4) (name-length tree text s c k h)
 
@@ -237,11 +236,11 @@ module _ (tree text s : List ℕ) (c : Call) (h : Called tree text s c) (key : T
             go (no-number n) e′ = no-number (λ k hk w. n k (number-inside tree text s c k h hk) (omega (arith, marked-size k w)))
 
         module _ (k : ℕ) (e : r ≡ Found.At k) where
-          prefix : (k ≤ length (suffixesAt tree text s (c .first))) × (bytesIn tree text s (take k (suffixesAt tree text s (c .first))) ≡ p .1 - 4 - c .len)
+          prefix : (k ≤ length (suffixesAt tree text s (c .first))) × (bytesIn (take k (suffixesAt tree text s (c .first))) ≡ p .1 - 4 - c .len)
           prefix = go pre e
             where
               go : {r′ : Found} → PrefixIs tree text s (c .first) (p .1 - 4 - c .len) r′ → r′ ≡ Found.At k
-                  → (k ≤ length (suffixesAt tree text s (c .first))) × (bytesIn tree text s (take k (suffixesAt tree text s (c .first))) ≡ p .1 - 4 - c .len)
+                  → (k ≤ length (suffixesAt tree text s (c .first))) × (bytesIn (take k (suffixesAt tree text s (c .first))) ≡ p .1 - 4 - c .len)
               go (so-many {k = i} hk eq) e′ = let z : k ≡ i = cc in rw z (hk, eq)
               go (no-number n) e′ = absurd (let z : _≡_ {A = ℕ} 0 1 = cc in omega arith)
 
@@ -332,7 +331,7 @@ module _ (tree text s : List ℕ) (c : Call) where
       -- the key lies in the text, and has a byte for each type
       pub number-room : Good tree text → FunctionAt tree f → k + 4 ≤ length text
       number-room g a =
-          let size : length (keyOf (functionOf tree text f)) ≡ c .len + bytesIn tree text s (take k (suffixesAt tree text s (c .first))) + 4 =
+          let size : length (keyOf (functionOf tree text f)) ≡ c .len + bytesIn (take k (suffixesAt tree text s (c .first))) + 4 =
           ap length (key-has .1) ∙ length-append (nameOf tree text s c k) variadicMark ∙ ap (λ (n : ℕ). n + 4) (name-length tree text s c k h) in
           omega (arith, key-room tree text f g a, number-least tree text s (c .first) k (number-inside tree text s c k h (key-has .0)))
 
@@ -386,25 +385,23 @@ module _ (tree text s : List ℕ) (count : ℕ) (K : Keyed tree text s count) (c
       ∙ ap (filterOption is-mangled) finds ∙ rw g refl
 
   pub best-end : (best : Found) (most j : ℕ) → count ≤ j → j ≤ count → Best tree text s c best most j
-      → (functionFound tree text best ≡ variadicFunction (program tree text) (allKeys tree text) (verbOf tree text s c) (suffixesAt tree text s (c .first)))
-      × FunctionFound tree best
+      → FunctionIs tree text best (variadicFunction (program tree text) (allKeys tree text) (verbOf tree text s c) (suffixesAt tree text s (c .first)))
   unfolding functionFound nameOf
   best-end best most j m n w = go (w .chosen) (w .others)
     where
       go : {b : Found} {x : ℕ} → Chosen tree text s c j b x → ((i : ℕ) → i < j → Less tree text s c x i)
-          → (functionFound tree text b ≡ variadicFunction (program tree text) (allKeys tree text) (verbOf tree text s c) (suffixesAt tree text s (c .first)))
-          × FunctionFound tree b
-      go nobody o = (
-        sym (longest-none (program tree text) (allKeys tree text) (verbOf tree text s c) (suffixesAt tree text s (c .first))
-            (λ k hk. never j k m (λ i hi. o i hi k (inside-number tree text s c k h hk) (omega arith)))),
-        no-function,
-      )
-      go (somebody {f} {k} i hi e a hk key g) o = (
-        sym (longest-is (program tree text) (allKeys tree text) (verbOf tree text s c) (suffixesAt tree text s (c .first)) k (functionOf tree text f)
+          → FunctionIs tree text b (variadicFunction (program tree text) (allKeys tree text) (verbOf tree text s c) (suffixesAt tree text s (c .first)))
+      go nobody o = record {
+        is = sym (longest-none (program tree text) (allKeys tree text) (verbOf tree text s c) (suffixesAt tree text s (c .first))
+            (λ k hk. never j k m (λ i hi. o i hi k (inside-number tree text s c k h hk) (omega arith))));
+        function = no-function;
+      }
+      go (somebody {f} {k} i hi e a hk key g) o = record {
+        is = sym (longest-is (program tree text) (allKeys tree text) (verbOf tree text s c) (suffixesAt tree text s (c .first)) k (functionOf tree text f)
             (number-inside tree text s c k h hk) (is-tried f k i (omega arith) e key g)
-            (λ x u v. never j x m (λ y hy. o y hy x (inside-number tree text s c x h v) (omega arith)))),
-        a-function a,
-      )
+            (λ x u v. never j x m (λ y hy. o y hy x (inside-number tree text s c x h v) (omega arith))));
+        function = a-function a;
+      }
 
   -- ---- the three one after the other
 
@@ -413,9 +410,9 @@ module _ (tree text s : List ℕ) (count : ℕ) (K : Keyed tree text s count) (c
     abbrev Exact : Option Function
     Exact = find-exact-function (program tree text) (allKeys tree text) (verbOf tree text s c) (typedAt tree text s (c .first))
 
-    pub exact-verb : (f : ℕ) → FunctionFound tree r → r ≡ Found.At f → (functionFound tree text (Found.At f) ≡ Exact) × FunctionFound tree (Found.At f)
+    pub exact-verb : (f : ℕ) → FunctionFound tree r → r ≡ Found.At f → FunctionIs tree text (Found.At f) Exact
     unfolding find-exact-function functionFound orElse
-    exact-verb f a e = (rw (sym first, e) refl, a-function (found-function tree r f a e))
+    exact-verb f a e = record { is = rw (sym first, e) refl; function = a-function (found-function tree r f a e) }
 
     module _ (none-so : r ≡ Found.Nothing) (q : Found) (second : functionFound tree text q ≡ mangledFunction (program tree text) (allKeys tree text) (nameOf tree text s c (c .count))) where
       whole : mangledFunction (program tree text) (allKeys tree text) (nameOf tree text s c (c .count))
@@ -423,9 +420,9 @@ module _ (tree text s : List ℕ) (count : ℕ) (K : Keyed tree text s count) (c
       unfolding nameOf suffixesAt
       whole = ap (λ (l : List Text). mangledFunction (program tree text) (allKeys tree text) (joined (program tree text) (allKeys tree text) (verbOf tree text s c) l)) (all-taken tree text s c h)
 
-      pub exact-name : (f : ℕ) → FunctionFound tree q → q ≡ Found.At f → (functionFound tree text (Found.At f) ≡ Exact) × FunctionFound tree (Found.At f)
+      pub exact-name : (f : ℕ) → FunctionFound tree q → q ≡ Found.At f → FunctionIs tree text (Found.At f) Exact
       unfolding find-exact-function functionFound orElse
-      exact-name f a e = (rw (sym first, none-so, sym (second ∙ whole), e) refl, a-function (found-function tree q f a e))
+      exact-name f a e = record { is = rw (sym first, none-so, sym (second ∙ whole), e) refl; function = a-function (found-function tree q f a e) }
 
       pub exact-prefix : q ≡ Found.Nothing → (p : Found)
           → functionFound tree text p ≡ variadicFunction (program tree text) (allKeys tree text) (verbOf tree text s c) (suffixesAt tree text s (c .first))

@@ -3,7 +3,7 @@
 use mathlib.Core.Path.{_≡_, refl, sym, ap, _∙_, subst}
 use mathlib.Core.Logic.{_⊎_, inl, inr}
 use mathlib.Core.Bool.{Bool, true, false}
-use mathlib.Core.List.{List, [], _∷_}
+use mathlib.Core.List.{List}
 use mathlib.Core.Option.{Option, none as nothing, some}
 use Prim.Native.Nat.{ℕ, zero, suc, _+_, _*_, _/_, _≤_, _<_}
 use native.Mathlib.Omega.{arith}
@@ -15,11 +15,10 @@ use Rattle.laws.proofs.Tests.{and-left}
 use Rattle.records.specs.declared.convert_error.ConvertError.{ConvertError}
 use Rattle.records.specs.Words.{kindOf, detailOf, wordOf, wordAt, textAt, records, none, A, B, D}
 use Rattle.records.specs.Good.{Good}
-use Rattle.records.proofs.GoodLaws.{inside, int-detail, float-detail, function-d}
+use Rattle.records.proofs.GoodLaws.{inside, int-detail, float-detail}
 use Rattle.syntax.specs.Syntax.{Function, intType, floatType}
-use Rattle.syntax.specs.Decode.{bit, reference, exprOf, kinds, functionAt, textOf}
-use Rattle.syntax.proofs.Unfold.{node-is}
-use Rattle.syntax.proofs.Cases.{int-case, float-case, str-case, bool-case, name-case, null-case, sizeOf-case}
+use Rattle.syntax.specs.Decode.{bit, reference, textOf}
+use Rattle.syntax.proofs.Records.{expr-int, expr-float, expr-str, expr-bool, expr-name, expr-null, expr-sizeOf, function-return, return-is}
 use Rattle.conversion.specs.ConvertError.{ok, err, _>>=_, UnknownVariable, NoValue}
 use Rattle.conversion.specs.Ir.{sameText}
 use Rattle.conversion.specs.Scope as Def
@@ -35,9 +34,9 @@ use Rattle.expressions.specs.declared.answers.ExprType.{ExprType}
 use Rattle.expressions.specs.declared.answers.ExprType.the-variants as ExprType
 use Rattle.expressions.specs.declared.answers.Resolved.{Resolved}
 use Rattle.expressions.specs.declared.answers.Resolved.the-variants as Resolved
-use Rattle.syntax.specs.Places.{IsKind, TypeAt, FunctionAt, exprAt, functionOf, funcOf}
+use Rattle.syntax.specs.Places.{IsKind, TypeAt, FunctionAt, functionOf}
 use Rattle.expressions.specs.Slots.{typeIn, Scoped}
-use Rattle.expressions.specs.Answers.{refusal, typeOf, calleeOf, valueOf, IsTyped, IsCallee}
+use Rattle.expressions.specs.Answers.{refusal, typeOf, calleeOf, valueOf, IsTyped, IsCallee, TypeIs}
 use Rattle.expressions.proofs.TypingLaws.{expr-low}
 use Rattle.expressions.proofs.OperandLaws.{refused-at, first-type}
 
@@ -66,45 +65,45 @@ module _ (tree text : List ℕ) (good : Good tree text) (e : ℕ) (x : IsExpr tr
   first y h = first-type tree text good e (expr-low tree text good e x) no-type-here y h
 
   pub literal-int : k ≡ 2 → (d : ℕ) → d ≡ detailOf tree e → TypeAt tree d × ((S : Def.Scope) → typeIn tree text S e ≡ ok d)
-  unfolding typeIn exprAt exprOf get-type
+  unfolding typeIn get-type
   literal-int q d ed =
       let h = int-detail tree text good e (expr-low tree text good e x) (sym ek ∙ q) in (
         first d (omega (arith, h)),
-        λ S. rw (int-case tree text e (sym ek ∙ q)) (ap (λ (z : ℕ). ok z) (int-mark (detailOf tree e) h ∙ sym ed)),
+        λ S. rw (expr-int tree text e (sym ek ∙ q)) (ap (λ (z : ℕ). ok z) (int-mark (detailOf tree e) h ∙ sym ed)),
       )
 
   pub literal-float : k ≡ 3 → (d : ℕ) → d ≡ detailOf tree e → TypeAt tree (4 + d) × ((S : Def.Scope) → typeIn tree text S e ≡ ok (4 + d))
-  unfolding typeIn exprAt exprOf get-type
+  unfolding typeIn get-type
   literal-float q d ed =
       let h = float-detail tree text good e (expr-low tree text good e x) (sym ek ∙ q) in (
         first (4 + d) (omega (arith, h)),
-        λ S. rw (float-case tree text e (sym ek ∙ q)) (ap (λ (z : ℕ). ok z) (float-mark (detailOf tree e) h ∙ ap (λ (z : ℕ). 4 + z) (sym ed))),
+        λ S. rw (expr-float tree text e (sym ek ∙ q)) (ap (λ (z : ℕ). ok z) (float-mark (detailOf tree e) h ∙ ap (λ (z : ℕ). 4 + z) (sym ed))),
       )
 
   pub literal-str : k ≡ 4 → TypeAt tree 10 × ((S : Def.Scope) → typeIn tree text S e ≡ ok 10)
-  unfolding typeIn exprAt exprOf get-type
-  literal-str q = (first 10 (omega arith), λ S. rw (str-case tree text e (sym ek ∙ q)))
+  unfolding typeIn get-type
+  literal-str q = (first 10 (omega arith), λ S. rw (expr-str tree text e (sym ek ∙ q)))
 
   pub literal-bool : k ≡ 5 → TypeAt tree 6 × ((S : Def.Scope) → typeIn tree text S e ≡ ok 6)
-  unfolding typeIn exprAt exprOf get-type
-  literal-bool q = (first 6 (omega arith), λ S. rw (bool-case tree text e (sym ek ∙ q)))
+  unfolding typeIn get-type
+  literal-bool q = (first 6 (omega arith), λ S. rw (expr-bool tree text e (sym ek ∙ q)))
 
   pub literal-null : k ≡ 7 → TypeAt tree 9 × ((S : Def.Scope) → typeIn tree text S e ≡ ok 9)
-  unfolding typeIn exprAt exprOf get-type
-  literal-null q = (first 9 (omega arith), λ S. rw (null-case tree text e (sym ek ∙ q)))
+  unfolding typeIn get-type
+  literal-null q = (first 9 (omega arith), λ S. rw (expr-null tree text e (sym ek ∙ q)))
 
   pub literal-size : (kindOf tree e ≤ 8) × (kindOf tree e ≡ 6 → ⊥) → (k ≡ 2 → ⊥) → (k ≡ 3 → ⊥) → (k ≡ 4 → ⊥) → (k ≡ 5 → ⊥) → (k ≡ 7 → ⊥)
       → TypeAt tree 2 × ((S : Def.Scope) → typeIn tree text S e ≡ ok 2)
-  unfolding typeIn exprAt exprOf get-type intType
+  unfolding typeIn get-type intType
   literal-size l n₂ n₃ n₄ n₅ n₇ =
       let least = leb-true 2 (kindOf tree e) (and-left (leb 2 (kindOf tree e)) (leb (kindOf tree e) 11) (x .expression)) in
       let eight : kindOf tree e ≡ 8 = omega (arith, l .0, l .1) in
-      (first 2 (omega arith), λ S. rw (sizeOf-case tree text e eight))
+      (first 2 (omega arith), λ S. rw (expr-sizeOf tree text e eight))
 
 pub literal-leaf : (tree text s : List ℕ) (sc : Scope) (e y : ℕ) → TypeAt tree y × ((S : Def.Scope) → typeIn tree text S e ≡ ok y)
-    → (typeIn tree text (scopeAt tree text s sc) e ≡ typeOf (ExprType.Is y)) × IsTyped tree (ExprType.Is y)
+    → TypeIs tree (ExprType.Is y) (typeIn tree text (scopeAt tree text s sc) e)
 unfolding typeOf
-literal-leaf tree text s sc e y h = (h .1 (scopeAt tree text s sc), IsTyped.is (h .0))
+literal-leaf tree text s sc e y h = record { is = h .1 (scopeAt tree text s sc); type = IsTyped.is (h .0) }
 
 -- ---- names
 
@@ -138,22 +137,22 @@ module _ (tree text s : List ℕ) (sc : Scope) (e : ℕ) (scoped : Scoped tree s
   name-text = rw (ea, en)
 
   type-name : typeIn tree text (scopeAt tree text s sc) e ≡ nameType e (findIn (textAt text a n) (variablesOf text s sc))
-  unfolding typeIn exprAt exprOf get-type find-variable scopeAt
-  type-name = rw (name-case tree text e (k .kind), name-text)
+  unfolding typeIn get-type find-variable scopeAt
+  type-name = rw (expr-name tree text e (k .kind), name-text)
 
   pub name-known : (v : VarId) (b : Bool) → r ≡ Known.Is v b
-      → (typeIn tree text (scopeAt tree text s sc) e ≡ typeOf (ExprType.Is (v .1))) × IsTyped tree (ExprType.Is (v .1))
+      → TypeIs tree (ExprType.Is (v .1)) (typeIn tree text (scopeAt tree text s sc) e)
   unfolding typeOf
   name-known v b q =
       let hit : IsFound (Known.Is v b) (findIn (textAt text a n) (variablesOf text s sc)) =
-      subst (λ (z : Known). IsFound z (findIn (textAt text a n) (variablesOf text s sc))) q m in (
-        type-name ∙ found-name v b e (findIn (textAt text a n) (variablesOf text s sc)) hit,
-        IsTyped.is (found-typed v b tree text s (sc .records) (textAt text a n) (sc .names)
-            (λ j h. subst (λ (z : ℕ). TypeAt tree (wordAt s (8 * z + 16 * j + 12) / 2)) (sym (scoped .records-are)) (scoped .types j h)) hit),
-      )
+      subst (λ (z : Known). IsFound z (findIn (textAt text a n) (variablesOf text s sc))) q m in record {
+        is = type-name ∙ found-name v b e (findIn (textAt text a n) (variablesOf text s sc)) hit;
+        type = IsTyped.is (found-typed v b tree text s (sc .records) (textAt text a n) (sc .names)
+            (λ j h. subst (λ (z : ℕ). TypeAt tree (wordAt s (8 * z + 16 * j + 12) / 2)) (sym (scoped .records-are)) (scoped .types j h)) hit);
+      }
 
   pub name-unknown : r ≡ Known.Unknown → (z : ExprType) → z ≡ ExprType.Refused (record { kind = UnknownVariable; place = e })
-      → (typeIn tree text (scopeAt tree text s sc) e ≡ typeOf z) × IsTyped tree z
+      → TypeIs tree z (typeIn tree text (scopeAt tree text s sc) e)
   name-unknown q z w =
       refused-at tree (typeIn tree text (scopeAt tree text s sc) e) UnknownVariable e z
       (type-name ∙ missing-name e (findIn (textAt text a n) (variablesOf text s sc))
@@ -162,13 +161,13 @@ module _ (tree text s : List ℕ) (sc : Scope) (e : ℕ) (scoped : Scoped tree s
 -- ---- what a call gives back
 
 module _ (tree text : List ℕ) (good : Good tree text) (e : ℕ) (c : Resolved) (is : IsCallee tree c) where
-  pub value-refused : (x : ConvertError) → c ≡ Resolved.Refused x → (valueOf tree text e c ≡ typeOf (ExprType.Refused x)) × IsTyped tree (ExprType.Refused x)
+  pub value-refused : (x : ConvertError) → c ≡ Resolved.Refused x → TypeIs tree (ExprType.Refused x) (valueOf tree text e c)
   unfolding valueOf calleeOf typeOf refusal _>>=_
-  value-refused x q = (rw q, IsTyped.no)
+  value-refused x q = record { is = rw q; type = IsTyped.no }
 
-  pub value-cast : (y : ℕ) → c ≡ Resolved.Cast y → (valueOf tree text e c ≡ typeOf (ExprType.Is y)) × IsTyped tree (ExprType.Is y)
+  pub value-cast : (y : ℕ) → c ≡ Resolved.Cast y → TypeIs tree (ExprType.Is y) (valueOf tree text e c)
   unfolding valueOf calleeOf typeOf _>>=_ valueType return-type
-  value-cast y q = (rw q, IsTyped.is (go (subst (λ (z : Resolved). IsCallee tree z) q is)))
+  value-cast y q = record { is = rw q; type = IsTyped.is (go (subst (λ (z : Resolved). IsCallee tree z) q is)) }
     where
       go : IsCallee tree (Resolved.Cast y) → TypeAt tree y
       go (IsCallee.a-cast t) = t
@@ -184,22 +183,21 @@ module _ (tree text : List ℕ) (good : Good tree text) (e : ℕ) (c : Resolved)
     function-inside = inside tree text good f (callee-function .below)
 
     returns-type : functionOf tree text f .returnType ≡ reference (wordOf tree f D)
-    unfolding functionOf funcOf kinds functionAt
-    returns-type = rw (node-is tree text f 25 (sym (callee-function .kind)))
+    returns-type = function-return tree text good f callee-function
 
     module _ (y : ℕ) (ey : y ≡ wordOf tree f D) where
-      pub value-none : y ≡ none → (a : ExprType) → a ≡ ExprType.Refused (record { kind = NoValue; place = e }) → (valueOf tree text e c ≡ typeOf a) × IsTyped tree a
+      pub value-none : y ≡ none → (a : ExprType) → a ≡ ExprType.Refused (record { kind = NoValue; place = e }) → TypeIs tree a (valueOf tree text e c)
       unfolding valueOf calleeOf _>>=_ valueType return-type reference pick
       value-none n a w =
           refused-at tree (valueOf tree text e c) NoValue e a (rw (q, returns-type, eq-eqb (wordOf tree f D) none (sym ey ∙ n))) w
 
-      pub value-some : (y ≡ none → ⊥) → (valueOf tree text e c ≡ typeOf (ExprType.Is y)) × IsTyped tree (ExprType.Is y)
+      pub value-some : (y ≡ none → ⊥) → TypeIs tree (ExprType.Is y) (valueOf tree text e c)
       unfolding valueOf calleeOf _>>=_ valueType return-type reference pick typeOf
-      value-some n = (
-        rw (q, returns-type, ne-eqb (wordOf tree f D) none (λ z. n (ey ∙ z))) (ap (λ (z : ℕ). ok z) (sym ey)),
-        IsTyped.is (subst (λ (z : ℕ). TypeAt tree z) (sym ey) (go (function-d tree text good f (callee-function .below) (callee-function .kind)))),
-      )
+      value-some n = record {
+        is = rw (q, returns-type, ne-eqb (wordOf tree f D) none (λ z. n (ey ∙ z))) (ap (λ (z : ℕ). ok z) (sym ey));
+        type = IsTyped.is (subst (λ (z : ℕ). TypeAt tree z) (sym ey) (go (return-is tree text good f callee-function)));
+      }
         where
-          go : (wordOf tree f D ≡ none) ⊎ ((wordOf tree f D < f) × (kindOf tree (wordOf tree f D) ≡ 1)) → TypeAt tree (wordOf tree f D)
+          go : (wordOf tree f D ≡ none) ⊎ TypeAt tree (wordOf tree f D) → TypeAt tree (wordOf tree f D)
           go (inl z) = absurd (n (ey ∙ z))
-          go (inr h) = record { below = omega (arith, h .0, callee-function .below); kind = h .1 }
+          go (inr t) = t

@@ -16,9 +16,9 @@ use Rattle.syntax.specs.Decode.{program}
 use Rattle.conversion.specs.Ir.{sameText}
 use Rattle.conversion.specs.Expressions.{Functions, TypedArg, suffixes, joined, variadicMark}
 use Rattle.expressions.specs.declared.arguments.Call.{Call}
-use Rattle.expressions.specs.Keys.{allKeys}
+use Rattle.keys.specs.Keys.{allKeys}
 use Rattle.expressions.specs.Calls.{typedAt, suffixesAt, verbOf, nameOf, bytesIn, Called}
-use Rattle.expressions.proofs.KeyLaws.{same-self}
+use Rattle.keys.proofs.KeyLaws.{same-self}
 
 -- ---- texts
 
@@ -91,7 +91,7 @@ module _ (P : Program) (F : Functions) where
   suffixes-length (a ∷ l) = ap suc (suffixes-length l)
 
 module _ (tree text s : List ℕ) where
-  pub joined-length : (l : List Text) → length (joined (program tree text) (allKeys tree text) [] l) ≡ bytesIn tree text s l
+  pub joined-length : (l : List Text) → length (joined (program tree text) (allKeys tree text) [] l) ≡ bytesIn l
   unfolding joined bytesIn
   joined-length [] = refl
   joined-length (t ∷ l) =
@@ -100,7 +100,7 @@ module _ (tree text s : List ℕ) where
       ∙ ap (λ (n : ℕ). length t + n) (joined-length l)
 
   -- more suffixes have no fewer bytes
-  pub bytes-more : (l : List Text) (j k : ℕ) → j ≤ k → bytesIn tree text s (take j l) ≤ bytesIn tree text s (take k l)
+  pub bytes-more : (l : List Text) (j k : ℕ) → j ≤ k → bytesIn (take j l) ≤ bytesIn (take k l)
   unfolding bytesIn
   bytes-more l zero k h = omega arith
   bytes-more l (suc j) zero h = absurd (omega arith)
@@ -109,25 +109,25 @@ module _ (tree text s : List ℕ) where
 
   -- of an argument's type, more suffixes have more bytes: each has its `$`
   bytes-grow : (P : Program) (F : Functions) (l : List TypedArg) (j k : ℕ) → j < k → k ≤ length (suffixes P F l)
-      → bytesIn tree text s (take j (suffixes P F l)) < bytesIn tree text s (take k (suffixes P F l))
+      → bytesIn (take j (suffixes P F l)) < bytesIn (take k (suffixes P F l))
   unfolding bytesIn suffixes
   bytes-grow P F l j zero h m = absurd (omega arith)
   bytes-grow P F [] j (suc k) h m = absurd (omega arith)
   bytes-grow P F (a ∷ l) zero (suc k) h m = omega arith
   bytes-grow P F (a ∷ l) (suc j) (suc k) h m = omega (arith, bytes-grow P F l j k (omega arith) (omega arith))
 
-  bytes-least : (P : Program) (F : Functions) (l : List TypedArg) (k : ℕ) → k ≤ length (suffixes P F l) → k ≤ bytesIn tree text s (take k (suffixes P F l))
+  bytes-least : (P : Program) (F : Functions) (l : List TypedArg) (k : ℕ) → k ≤ length (suffixes P F l) → k ≤ bytesIn (take k (suffixes P F l))
   unfolding bytesIn suffixes
   bytes-least P F l zero m = omega arith
   bytes-least P F [] (suc k) m = absurd (omega arith)
   bytes-least P F (a ∷ l) (suc k) m = omega (arith, bytes-least P F l k (omega arith))
 
-  pub number-least : (w k : ℕ) → k ≤ length (suffixesAt tree text s w) → k ≤ bytesIn tree text s (take k (suffixesAt tree text s w))
+  pub number-least : (w k : ℕ) → k ≤ length (suffixesAt tree text s w) → k ≤ bytesIn (take k (suffixesAt tree text s w))
   unfolding suffixesAt
   number-least w k m = bytes-least (program tree text) (allKeys tree text) (typedAt tree text s w) k m
 
   pub same-number : (w j k : ℕ) → j ≤ length (suffixesAt tree text s w) → k ≤ length (suffixesAt tree text s w)
-      → bytesIn tree text s (take j (suffixesAt tree text s w)) ≡ bytesIn tree text s (take k (suffixesAt tree text s w)) → j ≡ k
+      → bytesIn (take j (suffixesAt tree text s w)) ≡ bytesIn (take k (suffixesAt tree text s w)) → j ≡ k
   unfolding suffixesAt
   same-number w j k hj hk e =
       let grow = bytes-grow (program tree text) (allKeys tree text) (typedAt tree text s w) in
@@ -149,7 +149,7 @@ module _ (tree text s : List ℕ) where
     unfolding nameOf
     name-is k = joined-verb (program tree text) (allKeys tree text) (verbOf tree text s c) (take k (suffixesAt tree text s (c .first)))
 
-    pub name-length : (k : ℕ) → Called tree text s c → length (nameOf tree text s c k) ≡ c .len + bytesIn tree text s (take k (suffixesAt tree text s (c .first)))
+    pub name-length : (k : ℕ) → Called tree text s c → length (nameOf tree text s c k) ≡ c .len + bytesIn (take k (suffixesAt tree text s (c .first)))
     name-length k h =
         let R = joined (program tree text) (allKeys tree text) [] (take k (suffixesAt tree text s (c .first))) in
         ap length (name-is k) ∙ length-append (verbOf tree text s c) R

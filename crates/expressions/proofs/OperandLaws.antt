@@ -30,15 +30,15 @@ use Rattle.expressions.specs.declared.answers.ExprType.{ExprType}
 use Rattle.expressions.specs.declared.answers.ExprType.the-variants as ExprType
 use Rattle.expressions.specs.declared.operands.Sides.{Sides}
 use Rattle.syntax.specs.Places.{IsKind, TypeAt, exprAt}
-use Rattle.expressions.specs.Keys.{allKeys}
-use Rattle.expressions.specs.Answers.{refusal, typeOf, numberOf, TypeFound, IsTyped, Operands}
+use Rattle.keys.specs.Keys.{allKeys}
+use Rattle.expressions.specs.Answers.{refusal, typeOf, numberOf, TypeFound, IsTyped, TypeIs, FoundIs, Operands, Accepts}
 use Rattle.expressions.proofs.TypingLaws.{place-is}
 
 -- a refusal as the answer
 pub refused-at : (tree : List ℕ) (m : Result ℕ) (k : ConvertErrorKind) (p : ℕ) (a : ExprType) → m ≡ err k p → a ≡ ExprType.Refused (record { kind = k; place = p })
-    → (m ≡ typeOf a) × IsTyped tree a
+    → TypeIs tree a m
 unfolding typeOf refusal
-refused-at tree m k p a e q = (e ∙ sym (ap typeOf q), subst (λ (z : ExprType). IsTyped tree z) (sym q) IsTyped.no)
+refused-at tree m k p a e q = record { is = e ∙ sym (ap typeOf q); type = subst (λ (z : ExprType). IsTyped tree z) (sym q) IsTyped.no }
 
 -- a type that was found
 pub found-type : (tree : List ℕ) (f : Found) (y : ℕ) → TypeFound tree f → f ≡ Found.At y → TypeAt tree y
@@ -145,12 +145,12 @@ module _ (tree text : List ℕ) (y : ℕ) where
     tested-by = sym (eb ∙ ap (λ (z : ℕ). acceptsUnary (program tree text) (allKeys tree text) (getD unaryOps z Neg) y) ed)
 
     pub unary-taken : b ≡ true → TypeAt tree y
-        → (unaryType (program tree text) (allKeys tree text) e (getD unaryOps (detailOf tree e) Neg) y ≡ typeOf (ExprType.Is y)) × IsTyped tree (ExprType.Is y)
+        → TypeIs tree (ExprType.Is y) (unaryType (program tree text) (allKeys tree text) e (getD unaryOps (detailOf tree e) Neg) y)
     unfolding unaryType pick typeOf
-    unary-taken q t = (rw (tested-by ∙ q), IsTyped.is t)
+    unary-taken q t = record { is = rw (tested-by ∙ q); type = IsTyped.is t }
 
     pub unary-refused : b ≡ false → (a : ExprType) → a ≡ ExprType.Refused (record { kind = WrongOperands; place = e })
-        → (unaryType (program tree text) (allKeys tree text) e (getD unaryOps (detailOf tree e) Neg) y ≡ typeOf a) × IsTyped tree a
+        → TypeIs tree a (unaryType (program tree text) (allKeys tree text) e (getD unaryOps (detailOf tree e) Neg) y)
     unfolding unaryType pick
     unary-refused q a w =
         refused-at tree (unaryType (program tree text) (allKeys tree text) e (getD unaryOps (detailOf tree e) Neg) y) WrongOperands e a (rw (tested-by ∙ q)) w
@@ -159,64 +159,64 @@ module _ (tree text : List ℕ) (y : ℕ) where
 
 module _ (tree text : List ℕ) (good : Good tree text) (s : Sides) (o : Operands tree s) where
   abbrev common : Option ℕ
-  common = commonOf (program tree text) (allKeys tree text) (exprAt tree text (s .0)) (s .1) (exprAt tree text (s .2)) (s .3)
+  common = commonOf (program tree text) (allKeys tree text) (exprAt tree text (s .left)) (s .«left_type») (exprAt tree text (s .right)) (s .«right_type»)
 
-  pub right-fits : IsExpr tree (s .2) × (IsType tree (s .3) × IsType tree (s .1))
-  right-fits = (o .right, (type-of tree text good (s .3) (o .right-type), type-of tree text good (s .1) (o .left-type)))
+  pub right-fits : IsExpr tree (s .right) × (IsType tree (s .«right_type») × IsType tree (s .«left_type»))
+  right-fits = (o .right, (type-of tree text good (s .«right_type») (o .right-type), type-of tree text good (s .«left_type») (o .left-type)))
 
-  pub left-fits : IsExpr tree (s .0) × (IsType tree (s .1) × IsType tree (s .3))
-  left-fits = (o .left, (type-of tree text good (s .1) (o .left-type), type-of tree text good (s .3) (o .right-type)))
+  pub left-fits : IsExpr tree (s .left) × (IsType tree (s .«left_type») × IsType tree (s .«right_type»))
+  left-fits = (o .left, (type-of tree text good (s .«left_type») (o .left-type), type-of tree text good (s .«right_type») (o .right-type)))
 
-  module _ (b : Bool) (eb : (text′ : List ℕ) → b ≡ fitsAt tree text′ (s .2) (s .3) (s .1)) where
-    right-test : fits (program tree text .typeOf) (exprAt tree text (s .2)) (s .3) (s .1) ≡ b
+  module _ (b : Bool) (eb : (text′ : List ℕ) → b ≡ fitsAt tree text′ (s .right) (s .«right_type») (s .«left_type»)) where
+    right-test : fits (program tree text .typeOf) (exprAt tree text (s .right)) (s .«right_type») (s .«left_type») ≡ b
     unfolding fitsAt exprAt program
     right-test = sym (eb text)
 
-    pub common-left : b ≡ true → (numberOf (Found.At (s .1)) ≡ common) × TypeFound tree (Found.At (s .1))
+    pub common-left : b ≡ true → FoundIs tree (Found.At (s .«left_type»)) common
     unfolding commonOf pick numberOf
-    common-left q = (rw (right-test ∙ q), TypeFound.a-type (o .left-type))
+    common-left q = record { is = rw (right-test ∙ q); type = TypeFound.a-type (o .left-type) }
 
-    module _ (q : b ≡ false) (c : Bool) (ec : (text′ : List ℕ) → c ≡ fitsAt tree text′ (s .0) (s .1) (s .3)) where
-      left-test : fits (program tree text .typeOf) (exprAt tree text (s .0)) (s .1) (s .3) ≡ c
+    module _ (q : b ≡ false) (c : Bool) (ec : (text′ : List ℕ) → c ≡ fitsAt tree text′ (s .left) (s .«left_type») (s .«right_type»)) where
+      left-test : fits (program tree text .typeOf) (exprAt tree text (s .left)) (s .«left_type») (s .«right_type») ≡ c
       unfolding fitsAt exprAt program
       left-test = sym (ec text)
 
-      pub common-right : c ≡ true → (numberOf (Found.At (s .3)) ≡ common) × TypeFound tree (Found.At (s .3))
+      pub common-right : c ≡ true → FoundIs tree (Found.At (s .«right_type»)) common
       unfolding commonOf pick numberOf
-      common-right p = (rw (right-test ∙ q, left-test ∙ p), TypeFound.a-type (o .right-type))
+      common-right p = record { is = rw (right-test ∙ q, left-test ∙ p); type = TypeFound.a-type (o .right-type) }
 
-      pub common-none : c ≡ false → (numberOf Found.Nothing ≡ common) × TypeFound tree Found.Nothing
+      pub common-none : c ≡ false → FoundIs tree Found.Nothing common
       unfolding commonOf pick numberOf
-      common-none p = (rw (right-test ∙ q, left-test ∙ p), TypeFound.no-type)
+      common-none p = record { is = rw (right-test ∙ q, left-test ∙ p); type = TypeFound.no-type }
 
   -- what is refused
   module _ (e : ℕ) where
     abbrev error : Result ℕ
-    error = operandsError (program tree text) (allKeys tree text) e (exprAt tree text (s .0)) (s .1) (exprAt tree text (s .2)) (s .3)
+    error = operandsError (program tree text) (allKeys tree text) e (exprAt tree text (s .left)) (s .«left_type») (exprAt tree text (s .right)) (s .«right_type»)
 
-    module _ (b : Bool) (eb : (text′ : List ℕ) → b ≡ rangeErrorAt tree text′ (s .2) (s .3) (s .1)) where
-      right-range : range-error (program tree text .typeOf) (exprAt tree text (s .2)) (s .3) (s .1) ≡ b
+    module _ (b : Bool) (eb : (text′ : List ℕ) → b ≡ rangeErrorAt tree text′ (s .right) (s .«right_type») (s .«left_type»)) where
+      right-range : range-error (program tree text .typeOf) (exprAt tree text (s .right)) (s .«right_type») (s .«left_type») ≡ b
       unfolding rangeErrorAt exprAt program
       right-range = sym (eb text)
 
-      pub error-right : b ≡ true → (a : ExprType) → a ≡ ExprType.Refused (record { kind = LiteralOutOfRange; place = s .2 }) → (error ≡ typeOf a) × IsTyped tree a
+      pub error-right : b ≡ true → (a : ExprType) → a ≡ ExprType.Refused (record { kind = LiteralOutOfRange; place = s .right }) → TypeIs tree a error
       unfolding operandsError pick
       error-right q a w =
-          refused-at tree error LiteralOutOfRange (s .2) a
-          (rw (right-range ∙ q) (ap (λ (z : ℕ). err LiteralOutOfRange z) (place-is tree text good (s .2) (o .right)))) w
+          refused-at tree error LiteralOutOfRange (s .right) a
+          (rw (right-range ∙ q) (ap (λ (z : ℕ). err LiteralOutOfRange z) (place-is tree text good (s .right) (o .right)))) w
 
-      module _ (q : b ≡ false) (c : Bool) (ec : (text′ : List ℕ) → c ≡ rangeErrorAt tree text′ (s .0) (s .1) (s .3)) where
-        left-range : range-error (program tree text .typeOf) (exprAt tree text (s .0)) (s .1) (s .3) ≡ c
+      module _ (q : b ≡ false) (c : Bool) (ec : (text′ : List ℕ) → c ≡ rangeErrorAt tree text′ (s .left) (s .«left_type») (s .«right_type»)) where
+        left-range : range-error (program tree text .typeOf) (exprAt tree text (s .left)) (s .«left_type») (s .«right_type») ≡ c
         unfolding rangeErrorAt exprAt program
         left-range = sym (ec text)
 
-        pub error-left : c ≡ true → (a : ExprType) → a ≡ ExprType.Refused (record { kind = LiteralOutOfRange; place = s .0 }) → (error ≡ typeOf a) × IsTyped tree a
+        pub error-left : c ≡ true → (a : ExprType) → a ≡ ExprType.Refused (record { kind = LiteralOutOfRange; place = s .left }) → TypeIs tree a error
         unfolding operandsError pick
         error-left p a w =
-            refused-at tree error LiteralOutOfRange (s .0) a
-            (rw (right-range ∙ q, left-range ∙ p) (ap (λ (z : ℕ). err LiteralOutOfRange z) (place-is tree text good (s .0) (o .left)))) w
+            refused-at tree error LiteralOutOfRange (s .left) a
+            (rw (right-range ∙ q, left-range ∙ p) (ap (λ (z : ℕ). err LiteralOutOfRange z) (place-is tree text good (s .left) (o .left)))) w
 
-        pub error-rest : c ≡ false → (a : ExprType) → a ≡ ExprType.Refused (record { kind = WrongOperands; place = e }) → (error ≡ typeOf a) × IsTyped tree a
+        pub error-rest : c ≡ false → (a : ExprType) → a ≡ ExprType.Refused (record { kind = WrongOperands; place = e }) → TypeIs tree a error
         unfolding operandsError pick
         error-rest p a w = refused-at tree error WrongOperands e a (rw (right-range ∙ q, left-range ∙ p)) w
 
@@ -229,10 +229,10 @@ module _ (tree text : List ℕ) (good : Good tree text) (s : Sides) (o : Operand
       op = getD binaryOps (detailOf tree e) Or
 
       abbrev whole : Result ℕ
-      whole = binaryType (program tree text) (allKeys tree text) e op (exprAt tree text (s .0)) (s .1) (exprAt tree text (s .2)) (s .3)
+      whole = binaryType (program tree text) (allKeys tree text) e op (exprAt tree text (s .left)) (s .«left_type») (exprAt tree text (s .right)) (s .«right_type»)
 
       module _ (cl rs : ℕ) (ops : (cl ≡ classNumber (operandClass (getD binaryOps d Or))) × (rs ≡ resultNumber (givesBool (getD binaryOps d Or))))
-          (f : Found) (ef : (numberOf f ≡ common) × TypeFound tree f) where
+          (f : Found) (ef : FoundIs tree f common) where
         class-is : cl ≡ classNumber (operandClass op)
         class-is = ops .0 ∙ ap (λ (z : ℕ). classNumber (operandClass (getD binaryOps z Or))) ed
 
@@ -240,22 +240,22 @@ module _ (tree text : List ℕ) (good : Good tree text) (s : Sides) (o : Operand
         result-is = ops .1 ∙ ap (λ (z : ℕ). resultNumber (givesBool (getD binaryOps z Or))) ed
 
         -- no common type
-        pub none-common : f ≡ Found.Nothing → (a : ExprType) → (error ≡ typeOf a) × IsTyped tree a → (whole ≡ typeOf a) × IsTyped tree a
+        pub none-common : f ≡ Found.Nothing → (a : ExprType) → TypeIs tree a error → TypeIs tree a whole
         unfolding binaryType accepted filterOption numberOf
-        none-common q a h = (rw (sym (ef .0) ∙ ap numberOf q) (h .0), h .1)
+        none-common q a h = record { is = rw (sym (ef .is) ∙ ap numberOf q) (h .is); type = h .type }
 
         module _ (y : ℕ) (q : f ≡ Found.At y) (b : Bool)
-            (eb : (c : OperandClass) → cl ≡ classNumber c → b ≡ acceptsClass (program tree text) (allKeys tree text) c y) where
+            (eb : Accepts tree text cl y b) where
           found : common ≡ some y
           unfolding numberOf
-          found = sym (ef .0) ∙ ap numberOf q
+          found = sym (ef .is) ∙ ap numberOf q
 
           taken : acceptsClass (program tree text) (allKeys tree text) (operandClass op) y ≡ b
           taken = sym (eb (operandClass op) class-is)
 
-          pub not-taken : b ≡ false → (a : ExprType) → (error ≡ typeOf a) × IsTyped tree a → (whole ≡ typeOf a) × IsTyped tree a
+          pub not-taken : b ≡ false → (a : ExprType) → TypeIs tree a error → TypeIs tree a whole
           unfolding binaryType accepted filterOption pick
-          not-taken n a h = (rw (found, taken ∙ n) (h .0), h .1)
+          not-taken n a h = record { is = rw (found, taken ∙ n) (h .is); type = h .type }
 
           module _ (t : b ≡ true) where
             bool-result : (g : Bool) → rs ≡ resultNumber g → rs ≡ 1 → g ≡ true
@@ -266,16 +266,16 @@ module _ (tree text : List ℕ) (good : Good tree text) (s : Sides) (o : Operand
             common-result true h z = absurd (z h)
             common-result false h z = refl
 
-            pub gives-bool : rs ≡ 1 → (whole ≡ typeOf (ExprType.Is 6)) × IsTyped tree (ExprType.Is 6)
+            pub gives-bool : rs ≡ 1 → TypeIs tree (ExprType.Is 6) whole
             unfolding binaryType accepted filterOption pick typeOf
-            gives-bool z = (
-              rw (found, taken ∙ t, bool-result (givesBool op) result-is z),
-              IsTyped.is (first-type tree text good e (k .below) (λ w. omega (arith, k .kind)) 6 (omega arith)),
-            )
+            gives-bool z = record {
+              is = rw (found, taken ∙ t, bool-result (givesBool op) result-is z);
+              type = IsTyped.is (first-type tree text good e (k .below) (λ w. omega (arith, k .kind)) 6 (omega arith));
+            }
 
-            pub gives-common : (rs ≡ 1 → ⊥) → (whole ≡ typeOf (ExprType.Is y)) × IsTyped tree (ExprType.Is y)
+            pub gives-common : (rs ≡ 1 → ⊥) → TypeIs tree (ExprType.Is y) whole
             unfolding binaryType accepted filterOption pick typeOf
-            gives-common z = (
-              rw (found, taken ∙ t, common-result (givesBool op) result-is z),
-              IsTyped.is (found-type tree f y (ef .1) q),
-            )
+            gives-common z = record {
+              is = rw (found, taken ∙ t, common-result (givesBool op) result-is z);
+              type = IsTyped.is (found-type tree f y (ef .type) q);
+            }

@@ -3,15 +3,14 @@
 use mathlib.Core.Path.{_≡_, refl, sym, ap, _∙_, subst}
 use mathlib.Core.Logic.{_⊎_, inl, inr}
 use mathlib.Core.Bool.{false}
-use mathlib.Core.List.{List, [], _∷_}
+use mathlib.Core.List.{List}
 use Prim.Native.Nat.{ℕ, _+_, _*_, _/_, _^_, _≤_, _<_}
 use native.Mathlib.Omega.{arith}
 use lib.Dec.{ltb}
-use lib.ListN.{length, take, drop, getD}
-use lib.Seq.{getD-take, getD-drop}
+use lib.ListN.{length, getD}
 use borrow.Author.Tests.{ltb-true, ltb-false}
 use Rattle.laws.specs.Splice.{splice}
-use Rattle.laws.proofs.Splices.{length-splice, part-before, part-behind, part-grown, part-element}
+use Rattle.laws.proofs.Splices.{length-splice}
 use Rattle.laws.proofs.Tests.{tested}
 use Rattle.records.specs.Words.{byteAt, wordAt, records}
 use Rattle.conversion.specs.ConvertError.{ok}
@@ -21,64 +20,25 @@ use Rattle.ir.proofs.Entries.{word-same}
 use Rattle.ir.proofs.ReadBack.{word-back}
 use Rattle.scope.specs.declared.Scope.{Scope}
 use Rattle.scope.specs.Open.{scopeAt, Kept}
+use Rattle.scope.proofs.Apart.{byte-apart, word-apart, word-there}
 use Rattle.scope.proofs.ScopeLaws.{scope-kept}
 use Rattle.types.specs.Fits.{IsExpr}
 use Rattle.syntax.specs.Places.{TypeAt}
-use Rattle.expressions.specs.Keys.{Listed, Keyed}
+use Rattle.keys.specs.Keys.{Listed, Keyed}
 use Rattle.expressions.specs.Slots.{slotAt, Scoped, Frame, typeIn, Slots, Ready}
 use Rattle.expressions.specs.declared.answers.ExprType.{ExprType}
 use Rattle.expressions.specs.Answers.{typeOf, TypeMeets}
-use Rattle.expressions.proofs.KeySearch.{records-most}
+use Rattle.keys.proofs.KeySearch.{records-most}
 
--- ---- bytes and words of a splice
+-- ---- a word that is written
 
-same-byte : (l l′ : List ℕ) (b m j p : ℕ) → p ≡ b + j → take m (drop b l′) ≡ take m (drop b l) → j < m → getD l′ p 0 ≡ getD l p 0
-same-byte l l′ b m j p q e h =
-    rw q (sym (getD-drop b l′ j 0) ∙ sym (getD-take m (drop b l′) j 0 h) ∙ ap (λ (x : List ℕ). getD x j 0) e ∙ getD-take m (drop b l) j 0 h ∙ getD-drop b l j 0)
+word-long : (y : ℕ) → length (word y) ≡ 4
+unfolding word bytesOf
+word-long y = refl
 
 word-read : (y : ℕ) → y < 2 ^ 32 → wordAt (word y) 0 ≡ y
 unfolding word bytesOf wordAt byteAt
 word-read y h = word-back y h
-
-module _ (l : List ℕ) (i y : ℕ) (fit : i + 4 ≤ length l) where
-  word-long : length (word y) ≡ 4
-  unfolding word bytesOf
-  word-long = refl
-
-  fits : i + length (word y) ≤ length l
-  fits = rw word-long fit
-
-  part-apart : (b m : ℕ) → (b + m ≤ i) ⊎ (i + 4 ≤ b) → take m (drop b (splice l i (word y))) ≡ take m (drop b l)
-  part-apart b m (inl h) = part-before l i (word y) b m fits h
-  part-apart b m (inr h) = part-behind l i (word y) b m fits (rw word-long h)
-
-  byte-apart : (p : ℕ) → (p + 1 ≤ i) ⊎ (i + 4 ≤ p) → byteAt (splice l i (word y)) p ≡ byteAt l p
-  unfolding byteAt
-  byte-apart p h = same-byte l (splice l i (word y)) p 1 0 p (omega arith) (part-apart p 1 h) (omega arith)
-
-  word-apart : (p : ℕ) → (p + 4 ≤ i) ⊎ (i + 4 ≤ p) → wordAt (splice l i (word y)) p ≡ wordAt l p
-  word-apart p h =
-      let at : (j q : ℕ) → q ≡ p + j → j < 4 → getD (splice l i (word y)) q 0 ≡ getD l q 0 =
-      λ j q e k. same-byte l (splice l i (word y)) p 4 j q e (part-apart p 4 h) k in
-      word-same (splice l i (word y)) p l p
-      (at 0 p (omega arith) (omega arith))
-      (at 1 (p + 1) refl (omega arith))
-      (at 2 (p + 2) refl (omega arith))
-      (at 3 (p + 3) refl (omega arith))
-
-  there : (j q : ℕ) → q ≡ i + j → j < 4 → getD (splice l i (word y)) q 0 ≡ getD (word y) j 0
-  there j q e h = rw e (part-element (splice l i (word y)) i (word y) j (part-grown l i (word y) i [] fits (omega arith) refl) (rw word-long h))
-
-  -- the word that was written
-  word-there : y < 2 ^ 32 → wordAt (splice l i (word y)) i ≡ y
-  word-there h = whole ∙ word-read y h
-    where
-      whole : wordAt (splice l i (word y)) i ≡ wordAt (word y) 0
-      whole = word-same (splice l i (word y)) i (word y) 0
-          (there 0 i (omega arith) (omega arith))
-          (there 1 (i + 1) refl (omega arith))
-          (there 2 (i + 2) refl (omega arith))
-          (there 3 (i + 3) refl (omega arith))
 
 -- ---- the frame
 
@@ -136,30 +96,34 @@ module _ (tree s s′ : List ℕ) (f : Frame tree s s′) where
 
 module _ (tree s s′ : List ℕ) (e y : ℕ) (low : e < records tree) (room : 64 * records tree ≤ length s)
     (w : s′ ≡ splice s (4 * records tree + 4 * e) (word y)) where
-  written-fits : 4 * records tree + 4 * e + 4 ≤ length s
-  written-fits = omega arith
+  abbrev at : ℕ
+  at = 4 * records tree + 4 * e
+
+  fits : at + length (word y) ≤ length s
+  fits = rw (word-long y) (omega arith)
 
   pub put-frame : Frame tree s s′
+  unfolding byteAt
   put-frame = record {
-    same-length = rw w (length-splice s (4 * records tree + 4 * e) (word y) (fits s (4 * records tree + 4 * e) y written-fits));
-    outside = λ i h. rw w (byte-apart s (4 * records tree + 4 * e) y written-fits i (away i h));
+    same-length = rw w (length-splice s at (word y) fits);
+    outside = λ i h. rw w (byte-apart s at (word y) fits i (away i h));
   }
     where
-      away : (i : ℕ) → (i < 4 * records tree) ⊎ (8 * records tree ≤ i) → (i + 1 ≤ 4 * records tree + 4 * e) ⊎ (4 * records tree + 4 * e + 4 ≤ i)
+      away : (i : ℕ) → (i < 4 * records tree) ⊎ (8 * records tree ≤ i) → (i < at) ⊎ (at + length (word y) ≤ i)
       away i (inl h) = inl (omega arith)
-      away i (inr h) = inr (omega arith)
+      away i (inr h) = inr (rw (word-long y) (omega arith))
 
   pub put-here : y < 2 ^ 32 → slotAt tree s′ e ≡ y
   unfolding slotAt
-  put-here h = rw w (word-there s (4 * records tree + 4 * e) y written-fits h)
+  put-here h = rw w (word-there s at (word y) fits 0 at (omega arith) (omega (arith, word-long y)) ∙ word-read y h)
 
   put-other : (d : ℕ) → (d < e) ⊎ (e < d) → slotAt tree s′ d ≡ slotAt tree s d
   unfolding slotAt
-  put-other d h = rw w (word-apart s (4 * records tree + 4 * e) y written-fits (4 * records tree + 4 * d) (away h))
+  put-other d h = rw w (word-apart s at (word y) fits (4 * records tree + 4 * d) (away h))
     where
-      away : (d < e) ⊎ (e < d) → (4 * records tree + 4 * d + 4 ≤ 4 * records tree + 4 * e) ⊎ (4 * records tree + 4 * e + 4 ≤ 4 * records tree + 4 * d)
+      away : (d < e) ⊎ (e < d) → (4 * records tree + 4 * d + 4 ≤ at) ⊎ (at + length (word y) ≤ 4 * records tree + 4 * d)
       away (inl k) = inl (omega arith)
-      away (inr k) = inr (omega arith)
+      away (inr k) = inr (rw (word-long y) (omega arith))
 
 -- ---- the slots
 

@@ -20,10 +20,10 @@ use Rattle.conversion.specs.Expressions.{dollar, suffixes, joined}
 use Rattle.records.specs.declared.words.Found.{Found}
 use Rattle.records.specs.declared.words.Found.the-variants as Found
 use Rattle.records.proofs.TextLaws.{text-length}
-use Rattle.expressions.specs.declared.parts.Part.{Part}
+use Rattle.keys.specs.declared.parts.Part.{Part}
 use Rattle.syntax.specs.Places.{exprAt, argsAt}
-use Rattle.expressions.specs.Places.{PartIs}
-use Rattle.expressions.specs.Keys.{allKeys}
+use Rattle.keys.specs.Parts.{PartIs}
+use Rattle.keys.specs.Keys.{allKeys}
 use Rattle.expressions.specs.Slots.{slotAt, slotted, Typed, FirstType}
 use Rattle.expressions.specs.Calls.{typedAt, suffixesAt, bytesIn, Argued, PrefixIs, so-many, no-number}
 use Rattle.syntax.proofs.Lists.{args-end, left, left-most, next-falls, Cell, cell-is, value-item, type-item}
@@ -104,7 +104,7 @@ module _ (tree text s : List ℕ) where
 
 pub record Summed (tree text s : List ℕ) (first n w : ℕ) : Type 0 where
   pub argued : Argued tree text s w
-  pub sum : bytesIn tree text s (suffixesAt tree text s first) ≡ n + bytesIn tree text s (suffixesAt tree text s w)
+  pub sum : bytesIn (suffixesAt tree text s first) ≡ n + bytesIn (suffixesAt tree text s w)
   pub small : n + 4294967296 * left w ≤ 8796093022208
 
 module _ (tree text s : List ℕ) where
@@ -113,9 +113,9 @@ module _ (tree text s : List ℕ) where
 
   -- the first of some suffixes, and the rest
   first-bytes : (w y : ℕ) (p : Part) → First tree text s w y → PartIs text p (keyAt tree text y)
-      → bytesIn tree text s (suffixesAt tree text s w) ≡ 1 + p .1 + bytesIn tree text s (suffixesAt tree text s (wordOf tree w B))
+      → bytesIn (suffixesAt tree text s w) ≡ 1 + p .1 + bytesIn (suffixesAt tree text s (wordOf tree w B))
   unfolding bytesIn
-  first-bytes w y p f i = ap (bytesIn tree text s) (f .is) ∙ omega (arith, key-size tree text y p i)
+  first-bytes w y p f i = ap bytesIn (f .is) ∙ omega (arith, key-size tree text y p i)
 
   pub sum-more : (first n w y : ℕ) (p : Part) → Summed tree text s first n w → First tree text s w y → PartIs text p (keyAt tree text y) → p .1 < 4294967296
       → Summed tree text s first (n + 1 + p .1) (wordOf tree w B)
@@ -127,10 +127,10 @@ module _ (tree text s : List ℕ) where
       }
 
   pub sum-end : (first n w : ℕ) → Summed tree text s first n w → w ≡ none
-      → (n ≡ bytesIn tree text s (suffixesAt tree text s first)) × (n < 2 ^ 48)
+      → (n ≡ bytesIn (suffixesAt tree text s first)) × (n < 2 ^ 48)
   unfolding bytesIn
   sum-end first n w h e =
-      let z : bytesIn tree text s (suffixesAt tree text s w) ≡ 0 = ap (bytesIn tree text s) (no-suffixes tree text s w (h .argued .good) e) in
+      let z : bytesIn (suffixesAt tree text s w) ≡ 0 = ap bytesIn (no-suffixes tree text s w (h .argued .good) e) in
       (omega (arith, h .sum), omega (arith, h .small))
 
 -- ---- as many suffixes as have so many bytes
@@ -139,7 +139,7 @@ module _ (tree text s : List ℕ) where
 record Next (tree text s : List ℕ) (l : List Text) (k : ℕ) (x : Text) (r : List Text) : Type 0 where
   pub after : drop (suc k) l ≡ r
   pub inside : k < length l
-  pub more : bytesIn tree text s (take (suc k) l) ≡ bytesIn tree text s (take k l) + length x
+  pub more : bytesIn (take (suc k) l) ≡ bytesIn (take k l) + length x
 
 module _ (tree text s : List ℕ) where
   next-is : (l : List Text) (k : ℕ) (x : Text) (r : List Text) → drop k l ≡ x ∷ r → Next tree text s l k x r
@@ -158,7 +158,7 @@ pub record Passed (tree text s : List ℕ) (first bytes rem w k : ℕ) : Type 0 
   pub argued : Argued tree text s w
   pub here : drop k (suffixesAt tree text s first) ≡ suffixesAt tree text s w
   pub inside : k ≤ length (suffixesAt tree text s first)
-  pub sum : bytes ≡ bytesIn tree text s (take k (suffixesAt tree text s first)) + rem
+  pub sum : bytes ≡ bytesIn (take k (suffixesAt tree text s first)) + rem
   pub few : k + rem ≤ bytes
 
 module _ (tree text s : List ℕ) (first bytes : ℕ) where
@@ -212,9 +212,9 @@ pub record Matched (tree text s : List ℕ) (first k at n here w i : ℕ) : Type
   pub argued : Argued tree text s w
   pub most : i ≤ k
   pub inside : k - i ≤ length (suffixesAt tree text s w)
-  pub room : here + bytesIn tree text s (take (k - i) (suffixesAt tree text s w)) ≤ length text
+  pub room : here + bytesIn (take (k - i) (suffixesAt tree text s w)) ≤ length text
   pub asked : sameText (textAt text at n) (joined (program tree text) (allKeys tree text) [] (take k (suffixesAt tree text s first)))
-      ≡ sameText (textAt text here (bytesIn tree text s (take (k - i) (suffixesAt tree text s w))))
+      ≡ sameText (textAt text here (bytesIn (take (k - i) (suffixesAt tree text s w))))
       (joined (program tree text) (allKeys tree text) [] (take (k - i) (suffixesAt tree text s w)))
 
 module _ (tree text s : List ℕ) (first k at n : ℕ) where
@@ -222,7 +222,7 @@ module _ (tree text s : List ℕ) (first k at n : ℕ) where
   Asked = sameText (textAt text at n) (joined (program tree text) (allKeys tree text) [] (take k (suffixesAt tree text s first)))
 
   pub match-start : Argued tree text s first → k ≤ length (suffixesAt tree text s first) → at + n ≤ length text
-      → n ≡ bytesIn tree text s (take k (suffixesAt tree text s first)) → Matched tree text s first k at n at first 0
+      → n ≡ bytesIn (take k (suffixesAt tree text s first)) → Matched tree text s first k at n at first 0
   match-start a m room e =
       let z : k - 0 ≡ k = omega arith in
       record { argued = a; most = omega arith; inside = omega arith; room = rw (z, ← e) room; asked = rw (z, ← e) refl }
@@ -241,14 +241,14 @@ module _ (tree text s : List ℕ) (first k at n : ℕ) where
       Behind = take (k - (i + 1)) (suffixesAt tree text s (wordOf tree w B))
 
       abbrev size : ℕ
-      size = bytesIn tree text s Behind
+      size = bytesIn Behind
 
       present : take (k - i) (suffixesAt tree text s w) ≡ (dollar ∷ keyAt tree text y) ∷ Behind
       present = let z : k - i ≡ suc (k - (i + 1)) = omega arith in rw (z, f .is) refl
 
-      present-bytes : bytesIn tree text s (take (k - i) (suffixesAt tree text s w)) ≡ 1 + (p .1 + size)
+      present-bytes : bytesIn (take (k - i) (suffixesAt tree text s w)) ≡ 1 + (p .1 + size)
       unfolding bytesIn
-      present-bytes = ap (bytesIn tree text s) present ∙ omega (arith, key-size tree text y p is)
+      present-bytes = ap (bytesIn) present ∙ omega (arith, key-size tree text y p is)
 
       pub match-room : here + 1 + p .1 + size ≤ length text
       match-room = omega (arith, h .room, present-bytes)
@@ -260,7 +260,7 @@ module _ (tree text s : List ℕ) (first k at n : ℕ) where
           ap (joined (program tree text) (allKeys tree text) []) present
           ∙ joined-verb (program tree text) (allKeys tree text) (dollar ∷ keyAt tree text y) Behind
 
-      text-present : textAt text here (bytesIn tree text s (take (k - i) (suffixesAt tree text s w)))
+      text-present : textAt text here (bytesIn (take (k - i) (suffixesAt tree text s w)))
           ≡ (getD text here 0 ∷ []) ++ (textAt text (here + 1) (p .1) ++ textAt text (here + 1 + p .1) size)
       text-present =
           ap (textAt text here) present-bytes

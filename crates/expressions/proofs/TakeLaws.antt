@@ -20,7 +20,7 @@ use Rattle.types.proofs.FromGood.{is-type}
 use Rattle.expressions.specs.declared.arguments.Argument.{Argument}
 use Rattle.expressions.specs.declared.arguments.Argument.the-variants as Argument
 use Rattle.syntax.specs.Places.{TypeAt, ArgsAt, ParamsAt, exprAt, argsAt, paramsAt}
-use Rattle.expressions.specs.Keys.{allKeys}
+use Rattle.keys.specs.Keys.{allKeys}
 use Rattle.expressions.specs.Slots.{slotAt, Typed}
 use Rattle.expressions.specs.Calls.{typedAt, TakesFirst}
 use Rattle.expressions.specs.Answers.{ArgumentIs}

@@ -1,25 +1,23 @@
 -- The type of an expression by its kind, and what typing owes after each call: a refusal is passed on, a type goes into the rule of the operator.
 -- By the cases of nodes and the laws of the scratch, in the scope that the open names stand for. Assumes nothing.
 use mathlib.Core.Path.{_≡_, refl, sym, ap, _∙_, subst}
-use mathlib.Core.Logic.{_⊎_, inl, inr}
-use mathlib.Core.Bool.{true, false≢true}
+use mathlib.Core.Logic.{_⊎_}
+use mathlib.Core.Bool.{true}
 use mathlib.Core.List.{List}
 use Prim.Native.Nat.{ℕ, _≤_, _<_}
 use native.Mathlib.Omega.{arith}
-use lib.Dec.{leb, ltb}
+use lib.Dec.{leb}
 use lib.ListN.{getD}
-use borrow.Author.Tests.{ltb-true, ltb-false, leb-true}
-use Rattle.laws.proofs.Tests.{tested, and-left, and-right}
+use borrow.Author.Tests.{leb-true}
+use Rattle.laws.proofs.Tests.{and-right}
 use Rattle.records.specs.declared.shape.Role.the-variants.{Arguments}
 use Rattle.records.specs.declared.convert_error.ConvertError.{ConvertError}
 use Rattle.records.specs.Words.{kindOf, detailOf, wordOf, records, none, A, B, C}
-use Rattle.records.specs.Rules.{isExpr, listOk}
+use Rattle.records.specs.Rules.{isExpr}
 use Rattle.records.specs.Good.{Good}
 use Rattle.records.proofs.GoodLaws.{unary-a, binary-a, binary-b, call-c}
-use Rattle.records.proofs.ListLaws.{list-end}
 use Rattle.syntax.specs.Syntax.{Neg, Or, place, unaryOps, binaryOps}
-use Rattle.syntax.specs.Decode.{exprOf, argsOf, child, node, program, textOf}
-use Rattle.syntax.proofs.Cases.{child-in, child-out, int-case, float-case, str-case, bool-case, name-case, null-case, sizeOf-case, unary-case, binary-case, call-case}
+use Rattle.syntax.specs.Decode.{program, textOf}
 use Rattle.conversion.specs.ConvertError.{Result, ok, err, _>>=_}
 use Rattle.conversion.specs.Scope as Def
 use Rattle.conversion.specs.Expressions.{Callee, get-type, get-argument-types, resolve-call, resolveTyped, unaryType, binaryType, valueType, return-type}
@@ -34,11 +32,12 @@ use Rattle.expressions.specs.declared.answers.ExprType.the-variants as E
 use Rattle.expressions.specs.declared.answers.Resolved.{Resolved}
 use Rattle.expressions.specs.declared.answers.Resolved.the-variants as Resolved
 use Rattle.syntax.specs.Places.{IsKind, TypeAt, ArgsAt, exprAt, argsAt}
-use Rattle.expressions.specs.Keys.{allKeys}
+use Rattle.keys.specs.Keys.{allKeys}
 use Rattle.expressions.specs.Slots.{typeIn, slotted, Slots, Ready}
 use Rattle.expressions.specs.Calls.{typedAt}
-use Rattle.expressions.specs.Answers.{refusal, typeOf, doneWith, calleeOf, valueOf, IsTyped, IsCallee, TypeMeets, ArgsMeet, CallMeets}
-use Rattle.syntax.proofs.Lists.{args-end}
+use Rattle.expressions.specs.Answers.{refusal, typeOf, doneWith, calleeOf, valueOf, IsTyped, IsCallee, TypeIs, CalleeIs, TypeMeets, ArgsMeet, CallMeets}
+use Rattle.syntax.proofs.Lists.{list-lower, list-at}
+use Rattle.syntax.proofs.Records.{expr-unary, expr-binary, expr-call, expr-place}
 use Rattle.expressions.proofs.SlotLaws.{frame-refl, frame-trans, type-later, slots-refl, slots-trans}
 
 -- ---- results one after the other
@@ -79,49 +78,16 @@ module _ (tree text : List ℕ) (good : Good tree text) where
 
   -- an expression's record is its place
   pub place-is : (e : ℕ) → IsExpr tree e → place (exprAt tree text e) ≡ e
-  unfolding exprAt exprOf place
-  place-is e x =
-      let k = kindOf tree e in
-      let from : 2 ≤ k = leb-true 2 k (and-left (leb 2 k) (leb k 11) (x .expression)) in
-      let to : k ≤ 11 = leb-true k 11 (and-right (leb 2 k) (leb k 11) (x .expression)) in
-      let low = expr-low e x in
-      tested (ltb k 3) (λ q. rw (int-case tree text e (omega (arith, ltb-true k 3 q))))
-      λ n₃. tested (ltb k 4) (λ q. rw (float-case tree text e (omega (arith, ltb-true k 4 q, ltb-false k 3 n₃))))
-      λ n₄. tested (ltb k 5) (λ q. rw (str-case tree text e (omega (arith, ltb-true k 5 q, ltb-false k 4 n₄))))
-      λ n₅. tested (ltb k 6) (λ q. rw (bool-case tree text e (omega (arith, ltb-true k 6 q, ltb-false k 5 n₅))))
-      λ n₆. tested (ltb k 7) (λ q. rw (name-case tree text e (omega (arith, ltb-true k 7 q, ltb-false k 6 n₆))))
-      λ n₇. tested (ltb k 8) (λ q. rw (null-case tree text e (omega (arith, ltb-true k 8 q, ltb-false k 7 n₇))))
-      λ n₈. tested (ltb k 9) (λ q. rw (sizeOf-case tree text e (omega (arith, ltb-true k 9 q, ltb-false k 8 n₈))))
-      λ n₉. tested (ltb k 10)
-      (λ q. let h : kindOf tree e ≡ 9 = omega (arith, ltb-true k 10 q, ltb-false k 9 n₉) in rw (unary-case tree text e h (unary-a tree text good e low h .0)))
-      λ n₁₀. tested (ltb k 11)
-      (λ q. let h : kindOf tree e ≡ 10 = omega (arith, ltb-true k 11 q, ltb-false k 10 n₁₀) in
-      rw (binary-case tree text e h (binary-a tree text good e low h .0) (binary-b tree text good e low h .0)))
-      λ n₁₁. rw (call-case tree text e (omega (arith, ltb-false k 11 n₁₁)))
+  place-is e x = expr-place tree text good e (expr-low e x) (x .expression)
 
   -- ---- a call's arguments
 
-  listed-low : (r w : ℕ) → listOk tree Arguments r w ≡ true → w < r
-  listed-low r w e = tested (ltb w r) (λ q. ltb-true w r q) (λ q. absurd (false≢true (sym (list-end tree Arguments r w (ltb-false w r q)) ∙ e)))
-
   module _ (r : ℕ) (k : IsKind tree 11 r) where
     pub call-list : ArgsAt tree (wordOf tree r C)
-    call-list = record { from = r; inside = omega (arith, k .below); list = call-c tree text good r (k .below) (k .kind) }
+    call-list = list-at tree text good Arguments r (wordOf tree r C) (k .below) (call-c tree text good r (k .below) (k .kind))
 
     pub call-low : (wordOf tree r C ≡ none) ⊎ (wordOf tree r C < r)
-    call-low = go (call-c tree text good r (k .below) (k .kind))
-      where
-        go : (wordOf tree r C ≡ none) ⊎ (listOk tree Arguments r (wordOf tree r C) ≡ true) → (wordOf tree r C ≡ none) ⊎ (wordOf tree r C < r)
-        go (inl e) = inl e
-        go (inr e) = inr (listed-low r (wordOf tree r C) e)
-
-    call-args : argsOf (child tree text (node tree text) r C) ≡ argsAt tree text (wordOf tree r C)
-    unfolding argsAt argsOf
-    call-args = go call-low
-      where
-        go : (wordOf tree r C ≡ none) ⊎ (wordOf tree r C < r) → argsOf (child tree text (node tree text) r C) ≡ argsOf (node tree text (wordOf tree r C))
-        go (inl e) = ap argsOf (child-out tree text r C (omega (arith, k .below, good .few))) ∙ sym (ap (λ (w : ℕ). argsOf (node tree text w)) e ∙ args-end tree text good)
-        go (inr h) = ap argsOf (child-in tree text r C h)
+    call-low = list-lower tree text good Arguments r (wordOf tree r C) (call-c tree text good r (k .below) (k .kind))
 
   -- ---- types by kind
 
@@ -129,24 +95,24 @@ module _ (tree text : List ℕ) (good : Good tree text) where
     pub type-unary : kindOf tree e ≡ 9
         → typeIn tree text S e
         ≡ (typeIn tree text S (wordOf tree e A) >>= unaryType (program tree text) (allKeys tree text) e (getD unaryOps (detailOf tree e) Neg))
-    unfolding typeIn exprAt exprOf get-type
-    type-unary k = rw (unary-case tree text e k (unary-a tree text good e low k .0))
+    unfolding typeIn get-type
+    type-unary k = rw (expr-unary tree text good e low k)
 
     pub type-binary : kindOf tree e ≡ 10
         → typeIn tree text S e
         ≡ (typeIn tree text S (wordOf tree e A) >>= λ l. typeIn tree text S (wordOf tree e B)
         >>= λ y. binaryType (program tree text) (allKeys tree text) e (getD binaryOps (detailOf tree e) Or)
         (exprAt tree text (wordOf tree e A)) l (exprAt tree text (wordOf tree e B)) y)
-    unfolding typeIn exprAt exprOf get-type
-    type-binary k = rw (binary-case tree text e k (binary-a tree text good e low k .0) (binary-b tree text good e low k .0))
+    unfolding typeIn get-type
+    type-binary k = rw (expr-binary tree text good e low k)
 
     pub type-call : kindOf tree e ≡ 11
         → typeIn tree text S e
         ≡ (resolve-call (program tree text) (allKeys tree text) (textOf tree text e A) (argsAt tree text (wordOf tree e C)) S e
         >>= λ c. valueType e (return-type c))
-    unfolding typeIn exprAt exprOf get-type resolve-call
+    unfolding typeIn get-type resolve-call
     type-call k =
-        rw (call-case tree text e k, call-args e (record { below = low; kind = k }))
+        rw (expr-call tree text good e low k)
         (bind-assoc (get-argument-types (program tree text) (allKeys tree text) (argsAt tree text (wordOf tree e C)) S)
         (resolveTyped (program tree text) (allKeys tree text) (textOf tree text e A) e) (λ c. valueType e (return-type c)))
 
@@ -203,18 +169,18 @@ module _ (tree text : List ℕ) (good : Good tree text) where
         }
 
         pub unary-next : (y : ℕ) → t ≡ ExprType.Is y → (b : ExprType)
-            → (unaryType (program tree text) (allKeys tree text) e (getD unaryOps (detailOf tree e) Neg) y ≡ typeOf b) × IsTyped tree b
+            → TypeIs tree b (unaryType (program tree text) (allKeys tree text) e (getD unaryOps (detailOf tree e) Neg) y)
             → TypeMeets tree text s sc e b s₁
         unary-next y w b u = record {
           frame = m .frame;
-          typed = u .1;
+          typed = u .type;
           slots = m .slots;
           meets =
               type-unary S e (expr-low e x) (kind-at 9 q)
               ∙ bind-ok (typeIn tree text S (wordOf tree e A)) y
               (unaryType (program tree text) (allKeys tree text) e (getD unaryOps (detailOf tree e) Neg))
               (type-ok (typeIn tree text S (wordOf tree e A)) t y operand-type w)
-              ∙ u .0;
+              ∙ u .is;
         }
 
       -- an operator with two
@@ -271,12 +237,11 @@ module _ (tree text : List ℕ) (good : Good tree text) where
           }
 
           pub right-next : (y : ℕ) → u ≡ ExprType.Is y → (d : ExprType)
-              → (binaryType (program tree text) (allKeys tree text) e (getD binaryOps (detailOf tree e) Or) (exprAt tree text a) l (exprAt tree text b) y ≡ typeOf d)
-              × IsTyped tree d
+              → TypeIs tree d (binaryType (program tree text) (allKeys tree text) e (getD binaryOps (detailOf tree e) Or) (exprAt tree text a) l (exprAt tree text b) y)
               → TypeMeets tree text s sc e d s₂
           right-next y v d z = record {
             frame = frame-trans (m .frame) (m₂ .frame);
-            typed = z .1;
+            typed = z .type;
             slots = both-slots;
             meets =
                 with-left
@@ -284,24 +249,24 @@ module _ (tree text : List ℕ) (good : Good tree text) where
                 (binaryType (program tree text) (allKeys tree text) e (getD binaryOps (detailOf tree e) Or)
                 (exprAt tree text (wordOf tree e A)) l (exprAt tree text (wordOf tree e B)))
                 (type-ok (typeIn tree text S (wordOf tree e B)) u y right-type v)
-                ∙ rw (← ea, ← eb) (z .0);
+                ∙ rw (← ea, ← eb) (z .is);
           }
 
       -- a call
       pub call-value : k ≡ 11 → (c : Resolved) (s₁ : List ℕ) → CallMeets tree text s sc e c s₁ → (b : ExprType)
-          → (valueOf tree text e c ≡ typeOf b) × IsTyped tree b → TypeMeets tree text s sc e b s₁
+          → TypeIs tree b (valueOf tree text e c) → TypeMeets tree text s sc e b s₁
       unfolding valueOf
       call-value q c s₁ m b u = record {
         frame = m .frame;
-        typed = u .1;
+        typed = u .type;
         slots = m .slots;
         meets =
-            type-call S e (expr-low e x) (kind-at 11 q) ∙ ap (λ (z : Result Callee). z >>= λ c. valueType e (return-type c)) (m .meets) ∙ u .0;
+            type-call S e (expr-low e x) (kind-at 11 q) ∙ ap (λ (z : Result Callee). z >>= λ c. valueType e (return-type c)) (m .meets) ∙ u .is;
       }
 
   pub leaf-meets : (s : List ℕ) (sc : Scope) (e : ℕ) (a : ExprType)
-      → (typeIn tree text (scopeAt tree text s sc) e ≡ typeOf a) × IsTyped tree a → TypeMeets tree text s sc e a s
-  leaf-meets s sc e a h = record { frame = frame-refl tree s; slots = slots-refl tree text (scopeAt tree text s sc) s; typed = h .1; meets = h .0 }
+      → TypeIs tree a (typeIn tree text (scopeAt tree text s sc) e) → TypeMeets tree text s sc e a s
+  leaf-meets s sc e a h = record { frame = frame-refl tree s; slots = slots-refl tree text (scopeAt tree text s sc) s; typed = h .type; meets = h .is }
 
   -- ---- what a call runs
 
@@ -322,16 +287,16 @@ module _ (tree text : List ℕ) (good : Good tree text) where
     }
 
     pub call-next : a ≡ Outcome.Done → (c : Resolved)
-        → (resolveTyped (program tree text) (allKeys tree text) (textOf tree text r A) r (typedAt tree text s₁ (wordOf tree r C)) ≡ calleeOf tree text c) × IsCallee tree c
+        → CalleeIs tree text c (resolveTyped (program tree text) (allKeys tree text) (textOf tree text r A) r (typedAt tree text s₁ (wordOf tree r C)))
         → CallMeets tree text s sc r c s₁
     unfolding doneWith resolve-call typedAt
     call-next q c u = record {
       frame = m .frame;
-      callee = u .1;
+      callee = u .callee;
       slots = m .slots;
       meets =
           bind-ok (get-argument-types (program tree text) (allKeys tree text) (argsAt tree text (wordOf tree r C)) T) (slotted tree s₁ (argsAt tree text (wordOf tree r C)))
           (resolveTyped (program tree text) (allKeys tree text) (textOf tree text r A) r)
           (m .meets ∙ ap (doneWith (slotted tree s₁ (argsAt tree text (wordOf tree r C)))) q)
-          ∙ u .0;
+          ∙ u .is;
     }

@@ -1,25 +1,25 @@
 -- What each answer says, as the definitions say it: a result, or a refusal's kind and place. Assumes nothing: these are definitions.
 use mathlib.Core.Path.{_≡_}
 use Prim.Native.Nat.{ℕ, _<_}
-use mathlib.Core.Bool.{Bool, true, false}
+use mathlib.Core.Bool.{Bool}
 use mathlib.Core.List.{List, [], _∷_}
 use mathlib.Core.Option.{Option, none, some}
-use Rattle.records.specs.Words.{wordOf, A, B, C}
+use lib.ListN.{getD}
+use Rattle.records.specs.Words.{detailOf, wordOf, A, B, C}
 use Rattle.records.specs.declared.convert_error.ConvertError.{ConvertError}
-use Rattle.syntax.specs.Syntax.{Text, Expr, Value, ToType, Function}
+use Rattle.syntax.specs.Syntax.{Value, ToType, Function, Neg, Or, unaryOps, binaryOps}
 use Rattle.syntax.specs.Decode.{program, textOf}
 use Rattle.conversion.specs.ConvertError.{Result, ok, err, _>>=_}
-use Rattle.conversion.specs.Expressions.{Callee, CallFunction, CallCast, TypedArg, return-type, valueType, get-argument-types, resolve-call, common-type, find-exact-function, find-functions-by-literals}
-use Rattle.conversion.specs.Functions.{get-all-functions}
+use Rattle.conversion.specs.Expressions as Defined
+use Rattle.conversion.specs.Expressions.{Callee, CallFunction, CallCast, return-type, valueType, get-argument-types, resolve-call, common-type, OperandClass, acceptsClass, unaryType, operandsError, binaryType}
 use Rattle.records.specs.declared.words.Found.{Found}
 use Rattle.records.specs.declared.words.Found.the-variants as Found
 use Rattle.scope.specs.declared.Scope.{Scope}
 use Rattle.scope.specs.Open.{scopeAt}
 use Rattle.types.specs.Fits.{IsExpr}
+use Rattle.types.specs.Operators.{classNumber}
 use Rattle.expressions.specs.declared.answers.Outcome.{Outcome}
 use Rattle.expressions.specs.declared.answers.Outcome.the-variants as Outcome
-use Rattle.expressions.specs.declared.answers.AllFunctions.{AllFunctions}
-use Rattle.expressions.specs.declared.answers.AllFunctions.the-variants as AllFunctions
 use Rattle.expressions.specs.declared.answers.ExprType.{ExprType}
 use Rattle.expressions.specs.declared.answers.ExprType.the-variants as ExprType
 use Rattle.expressions.specs.declared.answers.Resolved.{Resolved}
@@ -34,7 +34,7 @@ use Rattle.expressions.specs.declared.operands.Sides.{Sides}
 use Rattle.expressions.specs.declared.arguments.Argument.{Argument}
 use Rattle.expressions.specs.declared.arguments.Argument.the-variants as Argument
 use Rattle.syntax.specs.Places.{TypeAt, FunctionAt, functionOf, exprAt, argsAt}
-use Rattle.expressions.specs.Keys.{allKeys, listedIn, Keyed}
+use Rattle.keys.specs.Keys.{allKeys}
 use Rattle.expressions.specs.Slots.{slotted, Typed, Frame, Slots, typeIn}
 
 -- a refusal
@@ -94,17 +94,7 @@ pub data IsCommon (tree : List ℕ) : Common → Type 0 where
   neither : IsCommon tree Common.Neither
   no : {e : ConvertError} → IsCommon tree (Common.Refused e)
 
--- a function that there may be, as a list
-unfoldable pub oneOrNone : Option Function → List Function
-oneOrNone (some f) = f ∷ []
-oneOrNone none = []
-
 module _ (tree text : List ℕ) where
-  unfoldable pub functionFound : Found → Option Function
-  unfolding functionOf
-  functionFound (Found.At f) = some (functionOf tree text f)
-  functionFound Found.Nothing = none
-
   unfoldable pub calleeOf : Resolved → Result Callee
   unfolding functionOf refusal
   calleeOf (Resolved.Function f) = ok (CallFunction (functionOf tree text f))
@@ -127,17 +117,7 @@ module _ (tree text : List ℕ) where
   AreAll Candidates.Several (f ∷ []) = ⊥
   AreAll Candidates.Several (f ∷ g ∷ l) = Unit {0}
 
-  -- the functions that fit a call: exactly, that is the exact function, none or one; else all that literals fit
-  unfoldable pub fitting : Bool → Text → List TypedArg → List Function
-  unfolding oneOrNone find-exact-function find-functions-by-literals program allKeys
-  fitting true verb l = oneOrNone (find-exact-function (program tree text) (allKeys tree text) verb l)
-  fitting false verb l = find-functions-by-literals (program tree text) (allKeys tree text) verb l
-
--- a function that was found is one
-pub data FunctionFound (tree : List ℕ) : Found → Type 0 where
-  a-function : {f : ℕ} → FunctionAt tree f → FunctionFound tree (Found.At f)
-  no-function : FunctionFound tree Found.Nothing
-
+-- the only candidate is a function
 pub data OneFunction (tree : List ℕ) : Candidates → Type 0 where
   nobody : OneFunction tree Candidates.Nobody
   one : {f : ℕ} → FunctionAt tree f → OneFunction tree (Candidates.One f)
@@ -148,6 +128,32 @@ pub data IsCallee (tree : List ℕ) : Resolved → Type 0 where
   a-cast : {y : ℕ} → TypeAt tree y → IsCallee tree (Resolved.Cast y)
   no : {e : ConvertError} → IsCallee tree (Resolved.Refused e)
 
+-- ---- an answer with what it stands for
+
+-- the answer is this type; the same of one that is looked for
+pub record TypeIs (tree : List ℕ) (a : ExprType) (m : Result ℕ) : Type 0 where
+  pub is : m ≡ typeOf a
+  pub type : IsTyped tree a
+
+pub record FoundIs (tree : List ℕ) (r : Found) (o : Option ℕ) : Type 0 where
+  pub is : numberOf r ≡ o
+  pub type : TypeFound tree r
+
+-- the cast is this one
+pub record CastIs (tree : List ℕ) (a : Cast) (m : Result (Option ℕ)) : Type 0 where
+  pub is : m ≡ castOf a
+  pub type : IsCast tree a
+
+-- the callee is this one
+pub record CalleeIs (tree text : List ℕ) (a : Resolved) (m : Result Callee) : Type 0 where
+  pub is : m ≡ calleeOf tree text a
+  pub callee : IsCallee tree a
+
+-- the candidates are these
+pub record CandidatesAre (tree text : List ℕ) (a : Candidates) (l : List Function) : Type 0 where
+  pub are : AreAll tree text a l
+  pub function : OneFunction tree a
+
 -- the argument at cell w, and what follows it
 pub data ArgumentIs (tree text : List ℕ) (w : ℕ) : Argument → Type 0 where
   an-expr : {e : ℕ} (r : ℕ) → argsAt tree text w ≡ Value r (exprAt tree text e) (argsAt tree text (wordOf tree w B))
@@ -157,18 +163,34 @@ pub data ArgumentIs (tree text : List ℕ) (w : ℕ) : Argument → Type 0 where
 
 -- two expressions with their types
 pub record Operands (tree : List ℕ) (s : Sides) : Type 0 where
-  pub left : IsExpr tree (s .0)
-  pub left-type : TypeAt tree (s .1)
-  pub right : IsExpr tree (s .2)
-  pub right-type : TypeAt tree (s .3)
+  pub left : IsExpr tree (s .left)
+  pub left-type : TypeAt tree (s .«left_type»)
+  pub right : IsExpr tree (s .right)
+  pub right-type : TypeAt tree (s .«right_type»)
 
--- ---- what `get_all_functions` and typing owe, of the answer and of the scratch before and after
+-- ---- the definitions' functions at records and types of the tree
 
--- `get_all_functions`: the functions' records are listed, and their keys are distinct or the first function that is not fine is refused
-pub data AllMeet (tree text s s′ : List ℕ) : AllFunctions → Type 0 where
-  done : {count : ℕ} → s′ ≡ listedIn tree s → Keyed tree text s′ count → AllMeet tree text s s′ (AllFunctions.Done count)
-  refused : {e : ConvertError} → s′ ≡ listedIn tree s → get-all-functions (program tree text .functions) [] ≡ refusal e
-      → AllMeet tree text s s′ (AllFunctions.Refused e)
+module _ (tree text : List ℕ) where
+  abbrev pub unaryTypeAt : ℕ → ℕ → Result ℕ
+  unaryTypeAt e y = unaryType (program tree text) (allKeys tree text) e (getD unaryOps (detailOf tree e) Neg) y
+
+  abbrev pub commonAt : Sides → Option ℕ
+  commonAt s = Defined.commonOf (program tree text) (allKeys tree text) (exprAt tree text (s .left)) (s .«left_type») (exprAt tree text (s .right)) (s .«right_type»)
+
+  abbrev pub operandsErrorAt : ℕ → Sides → Result ℕ
+  operandsErrorAt e s =
+      operandsError (program tree text) (allKeys tree text) e (exprAt tree text (s .left)) (s .«left_type») (exprAt tree text (s .right)) (s .«right_type»)
+
+  abbrev pub binaryTypeAt : ℕ → Sides → Result ℕ
+  binaryTypeAt e s =
+      binaryType (program tree text) (allKeys tree text) e (getD binaryOps (detailOf tree e) Or)
+      (exprAt tree text (s .left)) (s .«left_type») (exprAt tree text (s .right)) (s .«right_type»)
+
+  -- the operator's class of operands, by its number, has this type or not
+  abbrev pub Accepts : ℕ → ℕ → Bool → Type 0
+  Accepts class y r = (c : OperandClass) → class ≡ classNumber c → r ≡ acceptsClass (program tree text) (allKeys tree text) c y
+
+-- ---- what typing owes, of the answer and of the scratch before and after
 
 -- `get_type` of the expression at record e, in the scope that the open names stand for
 pub record TypeMeets (tree text s : List ℕ) (sc : Scope) (e : ℕ) (a : ExprType) (s′ : List ℕ) : Type 0 where

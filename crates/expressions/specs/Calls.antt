@@ -1,20 +1,35 @@
 -- A call as the code holds it: its verb and its arguments, with their types in scratch. Assumes nothing: these are definitions.
 use mathlib.Core.Path.{_≡_}
 use Prim.Native.Nat.{ℕ, _+_, _*_, _≤_, _<_, _^_}
-use mathlib.Core.Bool.{Bool}
+use mathlib.Core.Bool.{Bool, _&&_}
+use mathlib.Core.Option.{Option, none}
 use mathlib.Core.List.{List, [], _∷_, _++_}
 use lib.ListN.{length, take}
-use Rattle.records.specs.Words.{textAt, records}
+use Rattle.records.specs.Words.{wordOf, textAt, records, A, B, C}
 use Rattle.records.specs.Good.{Good}
-use Rattle.syntax.specs.Syntax.{Text, Param}
-use Rattle.syntax.specs.Decode.{program}
-use Rattle.conversion.specs.Expressions.{TypedArg, suffixes, joined, takesArg, variadicMark}
+use Rattle.syntax.specs.Syntax.{Text, Param, Function}
+use Rattle.syntax.specs.Decode.{program, textOf}
+use Rattle.conversion.specs.ConvertError.{Result}
+use Rattle.conversion.specs.Ir.{sameText}
+use Rattle.conversion.specs.Expressions.{TypedArg, Callee, suffixes, joined, takesArg, takesAll, takes-args, variadicMark, is-mangled, filterOption, getFunction, mangledFunction, variadicFunction, find-exact-function, find-functions-by-literals, cast-type, resolveFunction, resolveTyped}
 use Rattle.records.specs.declared.words.Found.{Found}
 use Rattle.records.specs.declared.words.Found.the-variants as Found
 use Rattle.expressions.specs.declared.arguments.Call.{Call}
-use Rattle.syntax.specs.Places.{ArgsAt, argsAt}
-use Rattle.expressions.specs.Keys.{allKeys}
+use Rattle.syntax.specs.Places.{ArgsAt, argsAt, paramsAt}
+use Rattle.keys.specs.Keys.{allKeys}
 use Rattle.expressions.specs.Slots.{slotted, Typed}
+
+-- how many bytes some texts have in all
+unfoldable pub bytesIn : List Text → ℕ
+bytesIn [] = 0
+bytesIn (t ∷ l) = length t + bytesIn l
+
+-- the call of record r: its verb's place, its first cell, and how many arguments it has
+pub record CallAt (tree text : List ℕ) (r : ℕ) (c : Call) : Type 0 where
+  pub offset : c .offset ≡ wordOf tree r A
+  pub len : c .len ≡ wordOf tree r B
+  pub first : c .first ≡ wordOf tree r C
+  pub count : (s : List ℕ) → c .count ≡ length (slotted tree s (argsAt tree text (wordOf tree r C)))
 
 module _ (tree text s : List ℕ) where
   -- the arguments from cell w on, each with the type that its slot has
@@ -56,11 +71,6 @@ module _ (tree text s : List ℕ) where
   TakesFirst (p ∷ ps) [] b = ⊥
   TakesFirst (p ∷ ps) (a ∷ l) b = b ≡ takesArg (program tree text) (allKeys tree text) p a
 
-  -- how many bytes some texts have in all
-  unfoldable pub bytesIn : List Text → ℕ
-  bytesIn [] = 0
-  bytesIn (t ∷ l) = length t + bytesIn l
-
   -- the number of suffixes that have `left` bytes in all, if any
   pub data PrefixIs (w left : ℕ) : Found → Type 0 where
     so-many : {k : ℕ} → k ≤ length (suffixesAt w) → bytesIn (take k (suffixesAt w)) ≡ left → PrefixIs w left (Found.At k)
@@ -70,3 +80,49 @@ module _ (tree text s : List ℕ) where
   pub data VariadicKey (c : Call) (key : Text) : Found → Type 0 where
     so-many : {k : ℕ} → k ≤ c .count → key ≡ nameOf c k ++ variadicMark → VariadicKey c key (Found.At k)
     no-number : ((k : ℕ) → k ≤ c .count → key ≡ nameOf c k ++ variadicMark → ⊥) → VariadicKey c key Found.Nothing
+
+  -- ---- the definitions' functions at a call, its arguments' types in scratch
+
+  abbrev pub takesAllAt : ℕ → ℕ → Bool
+  takesAllAt parameters w = takesAll (program tree text) (allKeys tree text) (paramsAt tree text parameters) (typedAt w)
+
+  abbrev pub takesCall : Call → Function → Bool
+  takesCall c f = takes-args (program tree text) (allKeys tree text) f (typedAt (c .first))
+
+  -- the first argument goes into the first parameter
+  abbrev pub TakesAt : ℕ → ℕ → Bool → Type 0
+  TakesAt parameter w r = TakesFirst (paramsAt tree text parameter) (typedAt w) r
+
+  -- the first k suffixes, one after the other
+  abbrev pub suffixText : ℕ → ℕ → Text
+  suffixText w k = joined (program tree text) (allKeys tree text) [] (take k (suffixesAt w))
+
+  -- `find_exact_function` and its three steps
+  abbrev pub byName : Call → Option Function
+  byName c = filterOption (takesCall c) (getFunction (verbOf c) (allKeys tree text))
+
+  abbrev pub byFullName : Call → Option Function
+  byFullName c = mangledFunction (program tree text) (allKeys tree text) (nameOf c (c .count))
+
+  abbrev pub byPrefix : Call → Option Function
+  byPrefix c = variadicFunction (program tree text) (allKeys tree text) (verbOf c) (suffixesAt (c .first))
+
+  abbrev pub exactly : Call → Option Function
+  exactly c = find-exact-function (program tree text) (allKeys tree text) (verbOf c) (typedAt (c .first))
+
+  -- `find_functions_by_literals`, and its test of one function
+  abbrev pub isCandidate : Call → Function → Bool
+  isCandidate c f = sameText (f .name) (verbOf c) && is-mangled f && takesCall c f
+
+  abbrev pub literalFits : Call → List Function
+  literalFits c = find-functions-by-literals (program tree text) (allKeys tree text) (verbOf c) (typedAt (c .first))
+
+  -- `cast_type`, and `resolve_call` from there and from the typed arguments on
+  abbrev pub castTypeOf : Call → ℕ → Result (Option ℕ)
+  castTypeOf c r = cast-type (program tree text) (allKeys tree text) (verbOf c) (typedAt (c .first)) r
+
+  abbrev pub functionFor : Call → ℕ → Result Callee
+  functionFor c r = resolveFunction (program tree text) (allKeys tree text) (verbOf c) (typedAt (c .first)) r none
+
+  abbrev pub resolvedAt : ℕ → Result Callee
+  resolvedAt r = resolveTyped (program tree text) (allKeys tree text) (textOf tree text r A) r (typedAt (wordOf tree r C))

@@ -16,7 +16,7 @@ use Rattle.scope.specs.declared.Scope.{Scope}
 use Rattle.scope.specs.Open.{Room}
 use Rattle.types.specs.Fits.{IsExpr}
 use Rattle.syntax.specs.Places.{TypeAt, exprAt}
-use Rattle.expressions.specs.Keys.{allKeys, Keyed}
+use Rattle.keys.specs.Keys.{allKeys, Keyed}
 
 -- y is the type of the first of the arguments
 unfoldable pub FirstType : List TypedArg → ℕ → Type 0

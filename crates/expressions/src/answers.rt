@@ -1,15 +1,9 @@
-// What is answered: enums; specs/Answers.antt and specs/Parameters.antt say what each case stands for.
+// What is answered: enums; specs/Answers.antt says what each case stands for.
 use records::convert_error::ConvertError;
 
 // Fine, or a refusal.
 pub enum Outcome {
     Done,
-    Refused(ConvertError),
-}
-
-// How many functions there are.
-pub enum AllFunctions {
-    Done(usize),
     Refused(ConvertError),
 }
 

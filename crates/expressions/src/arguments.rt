@@ -8,12 +8,12 @@ ghost use Rattle.records.specs.Good.{Good};
 ghost use Rattle.syntax.specs.Decode.{keyAt};
 ghost use Rattle.conversion.specs.Expressions.{targetType, sourceType};
 ghost use Rattle.syntax.specs.Places.{TypeAt, ArgsAt, ParamsAt, paramsAt};
-ghost use Rattle.expressions.specs.Places.{PartIs};
+ghost use Rattle.keys.specs.Parts.{PartIs};
 ghost use Rattle.expressions.specs.Calls.{typedAt, Argued};
 ghost use Rattle.expressions.specs.Slots.{slotAt, FirstType};
 ghost use Rattle.expressions.specs.Answers.{ArgumentIs, numberOf, TypeFound};
-use crate::parts::Part;
-use crate::parts::text_part;
+use keys::parts::Part;
+use keys::parts::text_part;
 use records::words::Found;
 use records::words::kind;
 use records::words::load;
@@ -23,7 +23,7 @@ use records::words::reference;
 pub const END: usize = 4294967295;
 
 // An expression, or a type.
-pub enum Argument {
+pub(crate) enum Argument {
     Expr(usize),
     ToType(usize),
 }
@@ -37,7 +37,7 @@ pub struct Call {
 }
 
 // The argument in a cell.
-pub fn argument_at(tree: &[u8], text: &[u8], cell: usize) -> Argument
+pub(crate) fn argument_at(tree: &[u8], text: &[u8], cell: usize) -> Argument
     requires { ⌜ Good (now tree) (now text) ⌝ }
     requires { ⌜ ArgsAt (now tree) cell ⌝ }
     requires { ⌜ (cell ≡ 4294967295 → ⊥) ⌝ }

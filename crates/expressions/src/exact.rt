@@ -1,31 +1,28 @@
 // expressions.rs: the function whose key is the verb, or the verb with the key texts of the arguments' types. No key text is built: keys are
 // compared piece by piece, and only where lengths agree.
 ghost use mathlib.Core.Path.{_≡_};
-ghost use Prim.Native.Nat.{ℕ, _+_, _*_, _≤_, _<_, _^_};
+ghost use Prim.Native.Nat.{_+_, _≤_, _<_, _^_};
 ghost use lib.ListN.{length, take};
-ghost use mathlib.Core.List.{List, []};
 ghost use mathlib.Core.Option.{some};
 ghost use Rattle.records.specs.Words.{textAt};
 ghost use Rattle.records.specs.Good.{Good};
-ghost use Rattle.syntax.specs.Decode.{program};
 ghost use Rattle.conversion.specs.Ir.{sameText};
-ghost use Rattle.conversion.specs.Expressions.{is-mangled, takes-args, joined, mangledFunction, variadicFunction, filterOption, getFunction, find-exact-function};
+ghost use Rattle.conversion.specs.Expressions.{is-mangled, filterOption};
 ghost use Rattle.syntax.specs.Places.{FunctionAt, functionOf};
-ghost use Rattle.expressions.specs.Keys.{allKeys, keyOf, Keyed};
-ghost use Rattle.expressions.specs.Calls.{typedAt, suffixesAt, verbOf, nameOf, bytesIn, Argued, Called, PrefixIs, VariadicKey};
-ghost use Rattle.expressions.specs.Answers.{functionFound, FunctionFound};
+ghost use Rattle.keys.specs.Keys.{keyOf, Keyed, FunctionIs};
+ghost use Rattle.expressions.specs.Calls.{suffixesAt, nameOf, bytesIn, Argued, Called, PrefixIs, VariadicKey, suffixText, byName, byFullName, byPrefix, exactly};
 use crate::arguments::Call;
 use crate::arguments::END;
 use crate::arguments::argument_type;
 use crate::arguments::next_cell;
 use crate::arguments::type_key;
-use crate::keys::find_key;
-use crate::keys::function_at;
-use crate::keys::is_mangled;
-use crate::keys::key_of;
-use crate::parts::Part;
-use crate::parts::is_variadic_mark;
 use crate::takes::takes_args;
+use keys::keys::find_key;
+use keys::keys::function_at;
+use keys::keys::is_mangled;
+use keys::keys::key_of;
+use keys::parts::Part;
+use keys::parts::is_variadic_mark;
 use records::texts::same_part;
 use records::words::Found;
 
@@ -34,7 +31,7 @@ const DOLLAR: u8 = 36;
 // How many bytes `$` and the key text of each argument's type have.
 fn suffix_bytes(tree: &[u8], text: &[u8], scratch: &[u8], first: usize) -> usize
     requires { ⌜ Argued (now tree) (now text) (now scratch) first ⌝ }
-    ensures { λ n. ⌜ (n ≡ bytesIn (now (tree .entry)) (now (text .entry)) (now (scratch .entry)) (suffixesAt (now (tree .entry)) (now (text .entry)) (now (scratch .entry)) first)) × (n < 2 ^ 48) ⌝ }
+    ensures { λ n. ⌜ (n ≡ bytesIn (suffixesAt (now (tree .entry)) (now (text .entry)) (now (scratch .entry)) first)) × (n < 2 ^ 48) ⌝ }
 {
     let mut n = 0;
     let mut cell = first;
@@ -68,8 +65,8 @@ fn are_suffixes(
 ) -> bool
     requires { ⌜ Argued (now tree) (now text) (now scratch) first ⌝ }
     requires { ⌜ (k ≤ length (suffixesAt (now tree) (now text) (now scratch) first)) × (at + n ≤ length (now text)) ⌝ }
-    requires { ⌜ n ≡ bytesIn (now tree) (now text) (now scratch) (take k (suffixesAt (now tree) (now text) (now scratch) first)) ⌝ }
-    ensures { λ r. ⌜ r ≡ sameText (textAt (now (text .entry)) at n) (joined (program (now (tree .entry)) (now (text .entry))) (allKeys (now (tree .entry)) (now (text .entry))) [] (take k (suffixesAt (now (tree .entry)) (now (text .entry)) (now (scratch .entry)) first))) ⌝ }
+    requires { ⌜ n ≡ bytesIn (take k (suffixesAt (now tree) (now text) (now scratch) first)) ⌝ }
+    ensures { λ r. ⌜ r ≡ sameText (textAt (now (text .entry)) at n) (suffixText (now (tree .entry)) (now (text .entry)) (now (scratch .entry)) first k) ⌝ }
 {
     let mut here = at;
     let mut cell = first;
@@ -112,7 +109,7 @@ fn is_name(tree: &[u8], text: &[u8], scratch: &[u8], call: Call, k: usize, key: 
 fn by_name(tree: &[u8], text: &[u8], scratch: &[u8], functions: usize, call: Call) -> Found
     requires { ⌜ Keyed (now tree) (now text) (now scratch) functions ⌝ }
     requires { ⌜ Called (now tree) (now text) (now scratch) call ⌝ }
-    ensures { λ r. ⌜ (functionFound (now (tree .entry)) (now (text .entry)) r ≡ filterOption (λ f. takes-args (program (now (tree .entry)) (now (text .entry))) (allKeys (now (tree .entry)) (now (text .entry))) f (typedAt (now (tree .entry)) (now (text .entry)) (now (scratch .entry)) (call .first))) (getFunction (verbOf (now (tree .entry)) (now (text .entry)) (now (scratch .entry)) call) (allKeys (now (tree .entry)) (now (text .entry))))) × FunctionFound (now (tree .entry)) r ⌝ }
+    ensures { λ r. ⌜ FunctionIs (now (tree .entry)) (now (text .entry)) r (byName (now (tree .entry)) (now (text .entry)) (now (scratch .entry)) call) ⌝ }
 {
     let verb = Part(call.offset, call.len);
     if let Found::At(f) = find_key(tree, text, scratch, functions, functions, verb) {
@@ -127,7 +124,7 @@ fn by_name(tree: &[u8], text: &[u8], scratch: &[u8], functions: usize, call: Cal
 fn mangled_only(tree: &[u8], text: &[u8], f: usize) -> Found
     requires { ⌜ Good (now tree) (now text) ⌝ }
     requires { ⌜ FunctionAt (now tree) f ⌝ }
-    ensures { λ r. ⌜ (functionFound (now (tree .entry)) (now (text .entry)) r ≡ filterOption is-mangled (some (functionOf (now (tree .entry)) (now (text .entry)) f))) × FunctionFound (now (tree .entry)) r ⌝ }
+    ensures { λ r. ⌜ FunctionIs (now (tree .entry)) (now (text .entry)) r (filterOption is-mangled (some (functionOf (now (tree .entry)) (now (text .entry)) f))) ⌝ }
 {
     if is_mangled(tree, text, f) {
         return Found::At(f);
@@ -139,7 +136,7 @@ fn mangled_only(tree: &[u8], text: &[u8], f: usize) -> Found
 fn by_full_name(tree: &[u8], text: &[u8], scratch: &[u8], functions: usize, call: Call) -> Found
     requires { ⌜ Keyed (now tree) (now text) (now scratch) functions ⌝ }
     requires { ⌜ Called (now tree) (now text) (now scratch) call ⌝ }
-    ensures { λ r. ⌜ (functionFound (now (tree .entry)) (now (text .entry)) r ≡ mangledFunction (program (now (tree .entry)) (now (text .entry))) (allKeys (now (tree .entry)) (now (text .entry))) (nameOf (now (tree .entry)) (now (text .entry)) (now (scratch .entry)) call (call .count))) × FunctionFound (now (tree .entry)) r ⌝ }
+    ensures { λ r. ⌜ FunctionIs (now (tree .entry)) (now (text .entry)) r (byFullName (now (tree .entry)) (now (text .entry)) (now (scratch .entry)) call) ⌝ }
 {
     let length = full_length(tree, text, scratch, call);
     let count = call.count;
@@ -207,7 +204,7 @@ fn variadic_key(tree: &[u8], text: &[u8], scratch: &[u8], call: Call, f: usize) 
 fn by_prefix(tree: &[u8], text: &[u8], scratch: &[u8], functions: usize, call: Call) -> Found
     requires { ⌜ Keyed (now tree) (now text) (now scratch) functions ⌝ }
     requires { ⌜ Called (now tree) (now text) (now scratch) call ⌝ }
-    ensures { λ r. ⌜ (functionFound (now (tree .entry)) (now (text .entry)) r ≡ variadicFunction (program (now (tree .entry)) (now (text .entry))) (allKeys (now (tree .entry)) (now (text .entry))) (verbOf (now (tree .entry)) (now (text .entry)) (now (scratch .entry)) call) (suffixesAt (now (tree .entry)) (now (text .entry)) (now (scratch .entry)) (call .first))) × FunctionFound (now (tree .entry)) r ⌝ }
+    ensures { λ r. ⌜ FunctionIs (now (tree .entry)) (now (text .entry)) r (byPrefix (now (tree .entry)) (now (text .entry)) (now (scratch .entry)) call) ⌝ }
 {
     let mut best = Found::Nothing;
     let mut most = 0;
@@ -234,7 +231,7 @@ pub(crate) fn find_exact_function(
 ) -> Found
     requires { ⌜ Keyed (now tree) (now text) (now scratch) functions ⌝ }
     requires { ⌜ Called (now tree) (now text) (now scratch) call ⌝ }
-    ensures { λ r. ⌜ (functionFound (now (tree .entry)) (now (text .entry)) r ≡ find-exact-function (program (now (tree .entry)) (now (text .entry))) (allKeys (now (tree .entry)) (now (text .entry))) (verbOf (now (tree .entry)) (now (text .entry)) (now (scratch .entry)) call) (typedAt (now (tree .entry)) (now (text .entry)) (now (scratch .entry)) (call .first))) × FunctionFound (now (tree .entry)) r ⌝ }
+    ensures { λ r. ⌜ FunctionIs (now (tree .entry)) (now (text .entry)) r (exactly (now (tree .entry)) (now (text .entry)) (now (scratch .entry)) call) ⌝ }
 {
     if let Found::At(f) = by_name(tree, text, scratch, functions, call) {
         return Found::At(f);

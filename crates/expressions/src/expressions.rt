@@ -1,7 +1,7 @@
 // expressions.rs: the type of an expression and what a call runs. Typing an expression, resolving a call and typing its arguments call each
 // other; the record's number falls. Lists are walked by a loop, and recursion goes only into items.
 ghost use mathlib.Core.Path.{_≡_};
-ghost use Prim.Native.Nat.{ℕ, _+_, _*_, _≤_, _<_};
+ghost use Prim.Native.Nat.{_+_, _*_, _≤_, _<_};
 ghost use lib.ListN.{length};
 ghost use Rattle.laws.specs.Splice.{splice};
 ghost use Rattle.records.specs.Words.{wordOf, records};
@@ -68,7 +68,15 @@ pub fn get_type(
             ExprType::Refused(x) => ExprType::Refused(x),
             ExprType::Is(l) => match get_type(tree, text, scratch, functions, scope, right) {
                 ExprType::Refused(x) => ExprType::Refused(x),
-                ExprType::Is(r) => binary_type(tree, text, e, Sides(left, l, right, r)),
+                ExprType::Is(r) => {
+                    let s = Sides {
+                        left,
+                        left_type: l,
+                        right,
+                        right_type: r,
+                    };
+                    binary_type(tree, text, e, s)
+                }
             },
         };
     }
@@ -143,7 +151,16 @@ pub fn common_type(
         ExprType::Refused(x) => Common::Refused(x),
         ExprType::Is(l) => match get_type(tree, text, scratch, functions, scope, right) {
             ExprType::Refused(x) => Common::Refused(x),
-            ExprType::Is(r) => match common_of(tree, text, Sides(left, l, right, r)) {
+            ExprType::Is(r) => match common_of(
+                tree,
+                text,
+                Sides {
+                    left,
+                    left_type: l,
+                    right,
+                    right_type: r,
+                },
+            ) {
                 Found::At(y) => Common::Is(y),
                 Found::Nothing => Common::Neither,
             },

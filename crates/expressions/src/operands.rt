@@ -1,21 +1,20 @@
 // expressions.rs: the types of expressions from those of their operands, and of those that have none.
 ghost use mathlib.Core.Path.{_≡_};
-ghost use Prim.Native.Nat.{ℕ, _+_, _*_, _≤_, _<_};
-ghost use lib.ListN.{length, getD};
-ghost use Rattle.records.specs.Words.{kindOf, detailOf, records};
+ghost use Prim.Native.Nat.{_+_, _≤_, _<_};
+ghost use lib.ListN.{getD};
+ghost use Rattle.records.specs.Words.{kindOf, records};
 ghost use Rattle.records.specs.Good.{Good};
-ghost use Rattle.syntax.specs.Syntax.{unaryOps, binaryOps, Neg, Or};
+ghost use Rattle.syntax.specs.Syntax.{unaryOps, Neg};
 ghost use Rattle.syntax.specs.Decode.{program};
 ghost use Rattle.conversion.specs.Scope as Def;
-ghost use Rattle.conversion.specs.Expressions.{OperandClass, commonOf, acceptsClass, acceptsUnary, unaryType, operandsError, binaryType};
+ghost use Rattle.conversion.specs.Expressions.{acceptsUnary};
 ghost use Rattle.scope.specs.Open.{scopeAt};
 ghost use Rattle.types.specs.Fits.{IsExpr};
-ghost use Rattle.types.specs.Operators.{classNumber};
-ghost use Rattle.syntax.specs.Places.{TypeAt, FunctionAt, IsKind, exprAt, functionOf};
-ghost use Rattle.expressions.specs.Keys.{allKeys};
+ghost use Rattle.syntax.specs.Places.{TypeAt, IsKind};
+ghost use Rattle.keys.specs.Keys.{allKeys};
 ghost use Rattle.expressions.specs.Slots.{Scoped, typeIn};
 ghost use Rattle.conversion.specs.ConvertError.{ok};
-ghost use Rattle.expressions.specs.Answers.{typeOf, IsTyped, numberOf, TypeFound, valueOf, IsCallee, Operands};
+ghost use Rattle.expressions.specs.Answers.{valueOf, IsCallee, Operands, TypeIs, FoundIs, Accepts, unaryTypeAt, commonAt, operandsErrorAt, binaryTypeAt};
 use crate::answers::ExprType;
 use crate::answers::Resolved;
 use records::convert_error::ConvertError;
@@ -64,7 +63,7 @@ pub(crate) fn refuse(kind: ConvertErrorKind, place: usize) -> ExprType
 fn accepts(tree: &[u8], text: &[u8], class: u8, ty: usize) -> bool
     requires { ⌜ Good (now tree) (now text) ⌝ }
     requires { ⌜ TypeAt (now tree) ty ⌝ }
-    ensures { λ r. ⌜ ((c : OperandClass) → class ≡ classNumber c → r ≡ acceptsClass (program (now (tree .entry)) (now (text .entry))) (allKeys (now (tree .entry)) (now (text .entry))) c ty) ⌝ }
+    ensures { λ r. ⌜ Accepts (now (tree .entry)) (now (text .entry)) class ty r ⌝ }
 {
     if class == BOOLS {
         return ty == BOOL_TYPE;
@@ -98,7 +97,7 @@ pub(crate) fn unary_type(tree: &[u8], text: &[u8], e: usize, ty: usize) -> ExprT
     requires { ⌜ Good (now tree) (now text) ⌝ }
     requires { ⌜ IsKind (now tree) 9 e ⌝ }
     requires { ⌜ TypeAt (now tree) ty ⌝ }
-    ensures { λ a. ⌜ (unaryType (program (now (tree .entry)) (now (text .entry))) (allKeys (now (tree .entry)) (now (text .entry))) e (getD unaryOps (detailOf (now (tree .entry)) e) Neg) ty ≡ typeOf a) × IsTyped (now (tree .entry)) a ⌝ }
+    ensures { λ a. ⌜ TypeIs (now (tree .entry)) a (unaryTypeAt (now (tree .entry)) (now (text .entry)) e ty) ⌝ }
 {
     if accepts_unary(tree, text, detail(tree, e), ty) {
         return ExprType::Is(ty);
@@ -106,20 +105,25 @@ pub(crate) fn unary_type(tree: &[u8], text: &[u8], e: usize, ty: usize) -> ExprT
     refuse(ConvertErrorKind::WrongOperands, e)
 }
 
-// Two operands with their types: expression, its type, expression, its type.
-pub struct Sides(pub usize, pub usize, pub usize, pub usize);
+// Two operands, expressions with their types.
+pub struct Sides {
+    pub left: usize,
+    pub left_type: usize,
+    pub right: usize,
+    pub right_type: usize,
+}
 
 // The type that both take: a literal takes the type of the other side.
 pub(crate) fn common_of(tree: &[u8], text: &[u8], s: Sides) -> Found
     requires { ⌜ Good (now tree) (now text) ⌝ }
     requires { ⌜ Operands (now tree) s ⌝ }
-    ensures { λ r. ⌜ (numberOf r ≡ commonOf (program (now (tree .entry)) (now (text .entry))) (allKeys (now (tree .entry)) (now (text .entry))) (exprAt (now (tree .entry)) (now (text .entry)) (s .0)) (s .1) (exprAt (now (tree .entry)) (now (text .entry)) (s .2)) (s .3)) × TypeFound (now (tree .entry)) r ⌝ }
+    ensures { λ r. ⌜ FoundIs (now (tree .entry)) r (commonAt (now (tree .entry)) (now (text .entry)) s) ⌝ }
 {
-    if fits(tree, s.2, s.3, s.1) {
-        return Found::At(s.1);
+    if fits(tree, s.right, s.right_type, s.left_type) {
+        return Found::At(s.left_type);
     }
-    if fits(tree, s.0, s.1, s.3) {
-        return Found::At(s.3);
+    if fits(tree, s.left, s.left_type, s.right_type) {
+        return Found::At(s.right_type);
     }
     Found::Nothing
 }
@@ -130,13 +134,13 @@ fn operands_error(tree: &[u8], text: &[u8], e: usize, s: Sides) -> ExprType
     requires { ⌜ Good (now tree) (now text) ⌝ }
     requires { ⌜ Operands (now tree) s ⌝ }
     requires { ⌜ IsKind (now tree) 10 e ⌝ }
-    ensures { λ a. ⌜ (operandsError (program (now (tree .entry)) (now (text .entry))) (allKeys (now (tree .entry)) (now (text .entry))) e (exprAt (now (tree .entry)) (now (text .entry)) (s .0)) (s .1) (exprAt (now (tree .entry)) (now (text .entry)) (s .2)) (s .3) ≡ typeOf a) × IsTyped (now (tree .entry)) a ⌝ }
+    ensures { λ a. ⌜ TypeIs (now (tree .entry)) a (operandsErrorAt (now (tree .entry)) (now (text .entry)) e s) ⌝ }
 {
-    if range_error(tree, s.2, s.3, s.1) {
-        return refuse(ConvertErrorKind::LiteralOutOfRange, s.2);
+    if range_error(tree, s.right, s.right_type, s.left_type) {
+        return refuse(ConvertErrorKind::LiteralOutOfRange, s.right);
     }
-    if range_error(tree, s.0, s.1, s.3) {
-        return refuse(ConvertErrorKind::LiteralOutOfRange, s.0);
+    if range_error(tree, s.left, s.left_type, s.right_type) {
+        return refuse(ConvertErrorKind::LiteralOutOfRange, s.left);
     }
     refuse(ConvertErrorKind::WrongOperands, e)
 }
@@ -146,7 +150,7 @@ pub(crate) fn binary_type(tree: &[u8], text: &[u8], e: usize, s: Sides) -> ExprT
     requires { ⌜ Good (now tree) (now text) ⌝ }
     requires { ⌜ Operands (now tree) s ⌝ }
     requires { ⌜ IsKind (now tree) 10 e ⌝ }
-    ensures { λ a. ⌜ (binaryType (program (now (tree .entry)) (now (text .entry))) (allKeys (now (tree .entry)) (now (text .entry))) e (getD binaryOps (detailOf (now (tree .entry)) e) Or) (exprAt (now (tree .entry)) (now (text .entry)) (s .0)) (s .1) (exprAt (now (tree .entry)) (now (text .entry)) (s .2)) (s .3) ≡ typeOf a) × IsTyped (now (tree .entry)) a ⌝ }
+    ensures { λ a. ⌜ TypeIs (now (tree .entry)) a (binaryTypeAt (now (tree .entry)) (now (text .entry)) e s) ⌝ }
 {
     let op = operator_of(detail(tree, e) as usize);
     if let Found::At(ty) = common_of(tree, text, s) {
@@ -165,7 +169,7 @@ pub(crate) fn value_type(tree: &[u8], text: &[u8], e: usize, callee: Resolved) -
     requires { ⌜ Good (now tree) (now text) ⌝ }
     requires { ⌜ IsCallee (now tree) callee ⌝ }
     requires { ⌜ e < records (now tree) ⌝ }
-    ensures { λ a. ⌜ (valueOf (now (tree .entry)) (now (text .entry)) e callee ≡ typeOf a) × IsTyped (now (tree .entry)) a ⌝ }
+    ensures { λ a. ⌜ TypeIs (now (tree .entry)) a (valueOf (now (tree .entry)) (now (text .entry)) e callee) ⌝ }
 {
     match callee {
         Resolved::Refused(x) => ExprType::Refused(x),
@@ -212,7 +216,7 @@ fn name_type(tree: &[u8], text: &[u8], scratch: &[u8], scope: Scope, e: usize) -
     requires { ⌜ Good (now tree) (now text) ⌝ }
     requires { ⌜ Scoped (now tree) (now scratch) scope ⌝ }
     requires { ⌜ IsKind (now tree) 6 e ⌝ }
-    ensures { λ a. ⌜ (typeIn (now (tree .entry)) (now (text .entry)) (scopeAt (now (tree .entry)) (now (text .entry)) (now (scratch .entry)) scope) e ≡ typeOf a) × IsTyped (now (tree .entry)) a ⌝ }
+    ensures { λ a. ⌜ TypeIs (now (tree .entry)) a (typeIn (now (tree .entry)) (now (text .entry)) (scopeAt (now (tree .entry)) (now (text .entry)) (now (scratch .entry)) scope) e) ⌝ }
 {
     match scope.find_variable(text, scratch, word(tree, e, 0), word(tree, e, 1)) {
         Known::Is(v, _) => ExprType::Is(v.1 as usize),
@@ -232,7 +236,7 @@ pub(crate) fn leaf_type(
     requires { ⌜ Scoped (now tree) (now scratch) scope ⌝ }
     requires { ⌜ IsExpr (now tree) e ⌝ }
     requires { ⌜ kindOf (now tree) e ≤ 8 ⌝ }
-    ensures { λ a. ⌜ (typeIn (now (tree .entry)) (now (text .entry)) (scopeAt (now (tree .entry)) (now (text .entry)) (now (scratch .entry)) scope) e ≡ typeOf a) × IsTyped (now (tree .entry)) a ⌝ }
+    ensures { λ a. ⌜ TypeIs (now (tree .entry)) a (typeIn (now (tree .entry)) (now (text .entry)) (scopeAt (now (tree .entry)) (now (text .entry)) (now (scratch .entry)) scope) e) ⌝ }
 {
     if kind(tree, e) == 6 {
         return name_type(tree, text, scratch, scope, e);

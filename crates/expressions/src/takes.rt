@@ -1,13 +1,10 @@
 // expressions.rs: whether a function takes the arguments of a call.
 ghost use mathlib.Core.Path.{_≡_};
-ghost use Prim.Native.Nat.{ℕ, _+_, _*_, _≤_, _<_};
-ghost use lib.ListN.{length};
+ghost use Prim.Native.Nat.{_<_};
 ghost use Rattle.records.specs.Good.{Good};
-ghost use Rattle.syntax.specs.Decode.{program};
-ghost use Rattle.conversion.specs.Expressions.{takes-count, takes-args, takesAll};
-ghost use Rattle.syntax.specs.Places.{FunctionAt, ParamsAt, functionOf, paramsAt};
-ghost use Rattle.expressions.specs.Keys.{allKeys};
-ghost use Rattle.expressions.specs.Calls.{typedAt, Argued, Called, TakesFirst};
+ghost use Rattle.conversion.specs.Expressions.{takes-count};
+ghost use Rattle.syntax.specs.Places.{FunctionAt, ParamsAt, functionOf};
+ghost use Rattle.expressions.specs.Calls.{Argued, Called, TakesAt, takesAllAt, takesCall};
 use crate::arguments::Argument;
 use crate::arguments::Call;
 use crate::arguments::END;
@@ -15,8 +12,8 @@ use crate::arguments::argument_at;
 use crate::arguments::count_parameters;
 use crate::arguments::next_cell;
 use crate::arguments::slot;
-use crate::keys::is_variadic;
-use crate::keys::parameters_of;
+use keys::keys::is_variadic;
+use keys::keys::parameters_of;
 use records::words::reference;
 use types::fits::fits;
 
@@ -41,7 +38,7 @@ fn takes_arg(tree: &[u8], text: &[u8], scratch: &[u8], parameter: usize, cell: u
     requires { ⌜ Argued (now tree) (now text) (now scratch) cell ⌝ }
     requires { ⌜ ParamsAt (now tree) parameter ⌝ }
     requires { ⌜ (cell ≡ 4294967295 → ⊥) × (parameter ≡ 4294967295 → ⊥) ⌝ }
-    ensures { λ r. ⌜ TakesFirst (now (tree .entry)) (now (text .entry)) (now (scratch .entry)) (paramsAt (now (tree .entry)) (now (text .entry)) parameter) (typedAt (now (tree .entry)) (now (text .entry)) (now (scratch .entry)) cell) r ⌝ }
+    ensures { λ r. ⌜ TakesAt (now (tree .entry)) (now (text .entry)) (now (scratch .entry)) parameter cell r ⌝ }
 {
     let ty = reference(tree, reference(tree, parameter, 0), 2);
     match argument_at(tree, text, cell) {
@@ -54,7 +51,7 @@ fn takes_arg(tree: &[u8], text: &[u8], scratch: &[u8], parameter: usize, cell: u
 fn takes_all(tree: &[u8], text: &[u8], scratch: &[u8], parameters: usize, first: usize) -> bool
     requires { ⌜ Argued (now tree) (now text) (now scratch) first ⌝ }
     requires { ⌜ ParamsAt (now tree) parameters ⌝ }
-    ensures { λ r. ⌜ r ≡ takesAll (program (now (tree .entry)) (now (text .entry))) (allKeys (now (tree .entry)) (now (text .entry))) (paramsAt (now (tree .entry)) (now (text .entry)) parameters) (typedAt (now (tree .entry)) (now (text .entry)) (now (scratch .entry)) first) ⌝ }
+    ensures { λ r. ⌜ r ≡ takesAllAt (now (tree .entry)) (now (text .entry)) (now (scratch .entry)) parameters first ⌝ }
 {
     let mut parameter = parameters;
     let mut cell = first;
@@ -75,7 +72,7 @@ fn takes_all(tree: &[u8], text: &[u8], scratch: &[u8], parameters: usize, first:
 pub(crate) fn takes_args(tree: &[u8], text: &[u8], scratch: &[u8], f: usize, call: Call) -> bool
     requires { ⌜ Called (now tree) (now text) (now scratch) call ⌝ }
     requires { ⌜ FunctionAt (now tree) f ⌝ }
-    ensures { λ r. ⌜ r ≡ takes-args (program (now (tree .entry)) (now (text .entry))) (allKeys (now (tree .entry)) (now (text .entry))) (functionOf (now (tree .entry)) (now (text .entry)) f) (typedAt (now (tree .entry)) (now (text .entry)) (now (scratch .entry)) (call .first)) ⌝ }
+    ensures { λ r. ⌜ r ≡ takesCall (now (tree .entry)) (now (text .entry)) (now (scratch .entry)) call (functionOf (now (tree .entry)) (now (text .entry)) f) ⌝ }
 {
     let count = call.count;
     let first = call.first;

@@ -16,15 +16,15 @@ use Rattle.judge.proofs.RowLaws.{enough}
 use Rattle.demands.proofs.Accepted.{judged-passed, accepted-good, accepted-lent}
 use Rattle.types.specs.Fits.{IsExpr}
 use Rattle.scope.specs.declared.Scope.{Scope}
-use Rattle.expressions.specs.declared.answers.AllFunctions.{AllFunctions}
-use Rattle.expressions.specs.declared.answers.AllFunctions.the-variants as AllFunctions
-use Rattle.expressions.specs.declared.parameters.Parameters.{Parameters}
-use Rattle.expressions.specs.declared.parameters.Parameters.the-variants as Parameters
+use Rattle.functions.specs.declared.functions.AllFunctions.{AllFunctions}
+use Rattle.functions.specs.declared.functions.AllFunctions.the-variants as AllFunctions
+use Rattle.functions.specs.declared.parameters.Parameters.{Parameters}
+use Rattle.functions.specs.declared.parameters.Parameters.the-variants as Parameters
 use Rattle.syntax.specs.Places.{IsKind}
-use Rattle.expressions.specs.Keys.{Keyed}
+use Rattle.keys.specs.Keys.{Keyed}
 use Rattle.expressions.specs.Slots.{Ready}
-use Rattle.expressions.specs.Answers.{AllMeet}
-use Rattle.expressions.specs.Parameters.{ParametersMeet}
+use Rattle.functions.specs.Functions.{AllMeet}
+use Rattle.functions.specs.Parameters.{ParametersMeet}
 
 -- ---- the judge's answer
 

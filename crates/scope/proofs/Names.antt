@@ -3,16 +3,15 @@
 use mathlib.Core.Path.{_≡_, refl, sym, ap, ap₂, _∙_, subst}
 use Prim.Native.Nat.{ℕ, zero, suc, _+_, _-_, _*_, _/_, _%_, _^_, _≤_, _<_}
 use mathlib.Core.Bool.{Bool, true, false}
-use mathlib.Core.List.{List, [], _∷_, _++_}
+use mathlib.Core.List.{List, _∷_, _++_}
 use mathlib.Core.Option.{Option, none, some}
 use native.Mathlib.Numerals.{add-one}
 use native.Mathlib.Omega.{arith}
 use lib.Dec.{eqb}
-use lib.ListN.{length, getD}
+use lib.ListN.{length}
 use borrow.Author.Tests.{eq-eqb, ne-eqb}
 use Rattle.laws.specs.Fix.{pick}
 use Rattle.laws.specs.Splice.{splice}
-use Rattle.laws.proofs.Splices.{length-splice, part-grown, part-element}
 use Rattle.records.specs.Words.{byteAt, wordAt, textAt}
 use Rattle.conversion.specs.Ir.{sameText}
 use Rattle.conversion.specs.Scope.{Variable, findIn}
@@ -21,7 +20,6 @@ use Rattle.records.specs.declared.words.Found.{Found}
 use Rattle.records.specs.declared.words.Found.the-variants.{At, Nothing}
 use Rattle.ir.specs.declared.structs.VarId.{VarId}
 use Rattle.ir.specs.Search.{foundOf}
-use Rattle.ir.proofs.Entries.{word-same}
 use Rattle.ir.proofs.ReadBack.{word-back}
 use Rattle.ir.proofs.SearchLaws.{found-some, found-none}
 use Rattle.scope.specs.declared.Scope.{Scope}
@@ -29,6 +27,7 @@ use Rattle.scope.specs.declared.Known.{Known}
 use Rattle.scope.specs.declared.Known.the-variants as Known
 use Rattle.scope.specs.declared.Declared.the-variants as Declared
 use Rattle.scope.specs.Open.{variableAt, variablesAt, variablesOf, Room, last, nameIs, VariableAt, IsFound, FindMeets, more, variable, entryOf, Afforded, DeclareMeets}
+use Rattle.scope.proofs.Apart.{word-there}
 use Rattle.scope.proofs.ScopeLaws.{kept-above, variables-kept, entry-long}
 
 -- ---- the loop
@@ -101,20 +100,6 @@ last-below (suc n) f r e = below-by n f r (last-below n f r) (f n) refl e
 
 -- ---- a name more
 
--- words of a run that was written
-byte-in : (l : List ℕ) (i : ℕ) (vs : List ℕ) (j p : ℕ) → i + length vs ≤ length l → j < length vs → p ≡ i + j → getD (splice l i vs) p 0 ≡ getD vs j 0
-byte-in l i vs j p fit h e =
-    ap (λ (q : ℕ). getD (splice l i vs) q 0) e
-    ∙ part-element (splice l i vs) i vs j (part-grown l i vs i [] fit (omega arith) refl) h
-
-word-in : (l : List ℕ) (i : ℕ) (vs : List ℕ) (b p : ℕ) → i + length vs ≤ length l → b + 4 ≤ length vs → p ≡ i + b → wordAt (splice l i vs) p ≡ wordAt vs b
-word-in l i vs b p fit h e =
-    word-same (splice l i vs) p vs b
-    (byte-in l i vs b p fit (omega arith) e)
-    (byte-in l i vs (b + 1) (p + 1) fit (omega arith) (omega (arith, e)))
-    (byte-in l i vs (b + 2) (p + 2) fit (omega arith) (omega (arith, e)))
-    (byte-in l i vs (b + 3) (p + 3) fit (omega arith) (omega (arith, e)))
-
 fixed-mark : (y : ℕ) (c : Bool) → c ≡ eqb ((2 * y + boolNumber c) % 2) 1
 unfolding boolNumber
 fixed-mark y true = sym (eq-eqb ((2 * y + 1) % 2) 1 (omega arith))
@@ -143,19 +128,19 @@ module _ (text : List ℕ) (offset len : ℕ) (v : VarId) (constant : Bool) (sc 
 
     word₀ : wordAt s′ place ≡ offset
     unfolding word bytesOf wordAt byteAt
-    word₀ = ap (λ (x : List ℕ). wordAt x place) e ∙ word-in s place bytes 0 place fit (omega arith) (omega arith) ∙ word-back offset ho
+    word₀ = ap (λ (x : List ℕ). wordAt x place) e ∙ word-there s place bytes fit 0 place (omega arith) (omega arith) ∙ word-back offset ho
 
     word₁ : wordAt s′ (place + 4) ≡ len
     unfolding word bytesOf wordAt byteAt
-    word₁ = ap (λ (x : List ℕ). wordAt x (place + 4)) e ∙ word-in s place bytes 4 (place + 4) fit (omega arith) refl ∙ word-back len hn
+    word₁ = ap (λ (x : List ℕ). wordAt x (place + 4)) e ∙ word-there s place bytes fit 4 (place + 4) refl (omega arith) ∙ word-back len hn
 
     word₂ : wordAt s′ (place + 8) ≡ v .0
     unfolding word bytesOf wordAt byteAt
-    word₂ = ap (λ (x : List ℕ). wordAt x (place + 8)) e ∙ word-in s place bytes 8 (place + 8) fit (omega arith) refl ∙ word-back (v .0) hv
+    word₂ = ap (λ (x : List ℕ). wordAt x (place + 8)) e ∙ word-there s place bytes fit 8 (place + 8) refl (omega arith) ∙ word-back (v .0) hv
 
     word₃ : wordAt s′ (place + 12) ≡ 2 * v .1 + boolNumber constant
     unfolding word bytesOf wordAt byteAt
-    word₃ = ap (λ (x : List ℕ). wordAt x (place + 12)) e ∙ word-in s place bytes 12 (place + 12) fit (omega arith) refl
+    word₃ = ap (λ (x : List ℕ). wordAt x (place + 12)) e ∙ word-there s place bytes fit 12 (place + 12) refl (omega arith)
         ∙ word-back (2 * v .1 + boolNumber constant) (mark-small (v .1) constant (afforded .type))
 
     entry-is : variableAt text s′ place ≡ variable text offset len v constant

@@ -1,25 +1,24 @@
 -- What callers cite: the scope that the bytes stand for stays while the bytes of its names do, so also when a block is left; and `declare`,
 -- `find_variable` and the loop are the definition's. By recursion over the entries, byte for byte, and by unfolding. Assumes nothing.
 use mathlib.Core.Path.{_≡_, refl, sym, ap, ap₂, _∙_, subst}
-use Prim.Native.Nat.{ℕ, zero, suc, _+_, _-_, _*_, _/_, _%_, _≤_, _<_}
+use Prim.Native.Nat.{ℕ, zero, suc, _+_, _*_, _≤_, _<_}
 use mathlib.Core.Bool.{Bool}
-use mathlib.Core.List.{List, _∷_, _++_}
+use mathlib.Core.Logic.{inl, inr}
+use mathlib.Core.List.{List, _∷_}
 use mathlib.Core.Option.{Option, none, some}
 use native.Mathlib.Numerals.{add-one}
 use native.Mathlib.Omega.{arith}
-use lib.Dec.{eqb}
-use lib.ListN.{length, take, drop, getD, length-append, List·getD-append}
-use lib.Seq.{getD-take, getD-drop, length-take-le}
+use lib.ListN.{length, getD}
 use borrow.Author.Tests.{ne-eqb}
 use Rattle.laws.specs.Fix.{pick}
 use Rattle.laws.specs.Splice.{splice}
-use Rattle.laws.proofs.Splices.{length-splice, drop-splice}
+use Rattle.laws.proofs.Splices.{length-splice}
 use Rattle.records.specs.Words as Words
-use Rattle.records.specs.Words.{wordAt, textAt}
+use Rattle.records.specs.Words.{wordAt}
 use Rattle.conversion.specs.ConvertError.{ok, err, AlreadyDeclared}
 use Rattle.conversion.specs.Scope as Defined
 use Rattle.conversion.specs.Scope.{Variable, findIn, find-variable, declare, declareNew, withVariable, withLoop}
-use Rattle.conversion.specs.Written.{bytesOf, word, boolNumber}
+use Rattle.conversion.specs.Written.{bytesOf, word}
 use Rattle.ir.specs.declared.structs.VarId.{VarId}
 use Rattle.ir.specs.Instructions.{varOf}
 use Rattle.ir.proofs.Entries.{word-same}
@@ -27,7 +26,8 @@ use Rattle.scope.specs.declared.Scope.{Scope}
 use Rattle.scope.specs.declared.Known.the-variants as Known
 use Rattle.scope.specs.declared.InLoop.{InLoop}
 use Rattle.scope.specs.declared.InLoop.the-variants as InLoop
-use Rattle.scope.specs.Open.{variableAt, variablesAt, variablesOf, loopNumber, scopeAt, Room, IsFound, FindMeets, more, variable, entryOf, Afforded, Added, Taken, within, loopOf, Kept}
+use Rattle.scope.specs.Open.{variableAt, variablesAt, variablesOf, loopNumber, scopeAt, Room, IsFound, FindMeets, variable, entryOf, Afforded, Added, Taken, within, loopOf, Kept}
+use Rattle.scope.proofs.Apart.{byte-apart}
 
 -- ---- bytes that stay
 
@@ -38,36 +38,17 @@ kept-refl n m s = record { bytes = λ j a b. refl; long = refl }
 pub kept-then : (n m m′ : ℕ) (s s₁ s₂ : List ℕ) → m ≤ m′ → Kept n m s s₁ → Kept n m′ s₁ s₂ → Kept n m s s₂
 kept-then n m m′ s s₁ s₂ h p q = record { bytes = λ j a b. q .bytes j a (omega arith) ∙ p .bytes j a b; long = q .long ∙ p .long }
 
--- a byte of a list after a run was written: before it, and behind it
-pub byte-before : (l : List ℕ) (i : ℕ) (vs : List ℕ) (j : ℕ) → i ≤ length l → j < i → getD (splice l i vs) j 0 ≡ getD l j 0
-unfolding splice
-byte-before l i vs j h k =
-    let n : length (take i l) ≡ i = length-take-le i l h in
-    List·getD-append (take i l ++ vs) (drop (i + length vs) l) 0 j (rw length-append (omega arith))
-    ∙ List·getD-append (take i l) vs 0 j (omega arith)
-    ∙ getD-take i l j 0 k
-
-pub byte-behind : (l : List ℕ) (i : ℕ) (vs : List ℕ) (j : ℕ) → i + length vs ≤ length l → i + length vs ≤ j → getD (splice l i vs) j 0 ≡ getD l j 0
-byte-behind l i vs j h k =
-    let b : ℕ = i + length vs in
-    let z : j ≡ b + (j - b) = omega arith in
-    ap (λ (x : ℕ). getD (splice l i vs) x 0) z
-    ∙ sym (getD-drop b (splice l i vs) (j - b) 0)
-    ∙ ap (λ (x : List ℕ). getD x (j - b) 0) (drop-splice l i vs h)
-    ∙ getD-drop b l (j - b) 0
-    ∙ ap (λ (x : ℕ). getD l x 0) (sym z)
-
 -- a run written before all names, and one behind the first m
 module _ (n m : ℕ) (s : List ℕ) (i : ℕ) (vs s′ : List ℕ) (e : s′ ≡ splice s i vs) (fit : i + length vs ≤ length s) where
   pub kept-below : i + length vs ≤ 8 * n → Kept n m s s′
   kept-below h = record {
-    bytes = λ j a b. ap (λ (x : List ℕ). getD x j 0) e ∙ byte-behind s i vs j fit (omega arith);
+    bytes = λ j a b. ap (λ (x : List ℕ). getD x j 0) e ∙ byte-apart s i vs fit j (inr (omega arith));
     long = ap length e ∙ length-splice s i vs fit;
   }
 
   pub kept-above : 8 * n + 16 * m ≤ i → Kept n m s s′
   kept-above h = record {
-    bytes = λ j a b. ap (λ (x : List ℕ). getD x j 0) e ∙ byte-before s i vs j (omega arith) (omega arith);
+    bytes = λ j a b. ap (λ (x : List ℕ). getD x j 0) e ∙ byte-apart s i vs fit j (inl (omega arith));
     long = ap length e ∙ length-splice s i vs fit;
   }
 

@@ -41,6 +41,7 @@ use ir::structs::VarId;
 use ir::structs::emit;
 use ir::structs::new_var;
 use records::convert_error::ConvertErrorKind;
+use records::words::reference;
 use types::fits::fits;
 use types::fits::range_error;
 use types::form::FLOAT;
@@ -48,7 +49,6 @@ use types::form::INT;
 use types::form::form;
 use types::form::is_short;
 use types::form::is_unsigned;
-use types::form::reference;
 
 // The float of number i with this mark.
 fn refloat(arena: &mut [u8], k: Counters, i: u32, short: bool) -> Fitted

@@ -52,7 +52,7 @@ use ir::structs::label_id;
 use ir::structs::new_var;
 use records::convert_error::ConvertErrorKind;
 use records::words::detail;
-use types::form::reference;
+use records::words::reference;
 
 pub(crate) fn finish_unary(arena: &mut [u8], k: Counters, op: u8, src: Operand, y: usize) -> Fitted
     requires { ⌜ RoomFor k (now arena) (amount 1 1 0 0 0) × (y < 4294967296) ⌝ }

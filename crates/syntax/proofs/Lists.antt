@@ -185,6 +185,10 @@ module _ (tree text : List ℕ) (good : Good tree text) where
       child-out tree text r k (omega (arith, e, h, good .few)) ∙ sym (node-out (wordOf tree r k) (omega (arith, e, good .few)))
   list-child role r k h (inr e) = child-in tree text r k (lower role (wordOf tree r k) r e)
 
+  pub list-lower : (role : Role) (r w : ℕ) → ToList tree role r w → (w ≡ none) ⊎ (w < r)
+  list-lower role r w (inl e) = inl e
+  list-lower role r w (inr e) = inr (lower role w r e)
+
   pub list-at : (role : Role) (r w : ℕ) → r < records tree → ToList tree role r w → ListAt tree role w
   list-at role r w h l = record { from = r; inside = omega arith; list = l }
 

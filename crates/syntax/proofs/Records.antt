@@ -1,22 +1,26 @@
 -- What each record of a good tree stands for, by its kind: expressions 2 to 11, statements 15 to 23 and functions 25, in terms of its words.
 -- Each is the case of its kind, at the words that the rules of that kind make refer to lower records. Assumes nothing.
-use mathlib.Core.Path.{_≡_, ap, ap₂, _∙_, sym}
+use mathlib.Core.Path.{_≡_, ap, _∙_, sym}
 use mathlib.Core.Logic.{_⊎_, inl, inr}
 use mathlib.Core.Bool.{true, false}
 use mathlib.Core.List.{List}
 use mathlib.Core.Option.{none as nothing, some}
 use Prim.Native.Nat.{ℕ, _+_, _*_, _≤_, _<_}
 use native.Mathlib.Omega.{arith}
+use lib.Dec.{leb, ltb}
 use lib.ListN.{length, getD}
+use borrow.Author.Tests.{leb-true, ltb-true, ltb-false}
 use mir.Syntax.{w64}
 use mir.Val.{toZ}
 use Rattle.laws.specs.Fix.{pick}
+use Rattle.laws.proofs.Tests.{tested, and-left, and-right}
 use Rattle.records.specs.declared.shape.Role.the-variants.{Arguments, Parameters, Body}
 use Rattle.records.specs.Words.{kindOf, detailOf, wordOf, records, none, A, B, C, D, E}
+use Rattle.records.specs.Rules.{isExpr}
 use Rattle.records.specs.Good.{Good}
 use Rattle.records.proofs.GoodLaws.{ToList, inside, unary-a, binary-a, binary-b, call-c, init-c, return-a, callStatement-a, if-a, if-b, if-c, while-a, while-b, for-a, for-b, for-c, for-d, function-a, function-b, function-c, function-d, function-e}
-use Rattle.syntax.specs.Syntax.{Text, Neg, Or, EInt, EFloat, EStr, EBool, EName, ENull, ESizeOf, EUnary, EBinary, ECall, SDeclare, SInit, SReturn, SCall, SIf, SIfElse, SWhile, SFor, SBreak, SContinue, Function, unaryOps, binaryOps}
-use Rattle.syntax.specs.Decode.{func, exprOf, argsOf, blockOf, paramsOf, nameIn, variableName, variableType, bit, reference, textOf, wideOf, child, exprIn, blockIn, kinds, functionAt, node}
+use Rattle.syntax.specs.Syntax.{Neg, Or, EInt, EFloat, EStr, EBool, EName, ENull, ESizeOf, EUnary, EBinary, ECall, SDeclare, SInit, SReturn, SCall, SIf, SIfElse, SWhile, SFor, SBreak, SContinue, Function, place, unaryOps, binaryOps}
+use Rattle.syntax.specs.Decode.{func, exprOf, blockOf, paramsOf, nameIn, variableName, variableType, bit, reference, textOf, wideOf, child, exprIn, blockIn, kinds, functionAt, node}
 use Rattle.syntax.specs.Places.{IsKind, TypeAt, FunctionAt, ParamsAt, BodyAt, funcOf, functionOf, exprAt, argsAt, paramsAt, blockAt, statementOf, statementAt}
 use Rattle.syntax.proofs.Unfold.{node-is}
 use Rattle.syntax.proofs.Cases.{child-in, int-case, float-case, str-case, bool-case, name-case, null-case, sizeOf-case, unary-case, binary-case, call-case, declare-case, init-case, return-case, callStatement-case, if-case, ifElse-case, while-case, for-case, break-case, continue-case, variable-case}
@@ -83,6 +87,24 @@ module _ (tree text : List ℕ) (good : Good tree text) (r : ℕ) (h : r < recor
   pub expr-call : kindOf tree r ≡ 11 → exprAt tree text r ≡ ECall r (textOf tree text r A) (argsAt tree text (wordOf tree r C))
   unfolding exprAt exprOf argsAt
   expr-call e = rw (call-case tree text r e, list-child tree text good Arguments r C h (call-c tree text good r h e))
+
+  -- an expression's record is its place
+  pub expr-place : isExpr (kindOf tree r) ≡ true → place (exprAt tree text r) ≡ r
+  unfolding place
+  expr-place x =
+      let k = kindOf tree r in
+      let from : 2 ≤ k = leb-true 2 k (and-left (leb 2 k) (leb k 11) x) in
+      let to : k ≤ 11 = leb-true k 11 (and-right (leb 2 k) (leb k 11) x) in
+      tested (ltb k 3) (λ q. rw (expr-int tree text r (omega (arith, ltb-true k 3 q))))
+      λ n₃. tested (ltb k 4) (λ q. rw (expr-float tree text r (omega (arith, ltb-true k 4 q, ltb-false k 3 n₃))))
+      λ n₄. tested (ltb k 5) (λ q. rw (expr-str tree text r (omega (arith, ltb-true k 5 q, ltb-false k 4 n₄))))
+      λ n₅. tested (ltb k 6) (λ q. rw (expr-bool tree text r (omega (arith, ltb-true k 6 q, ltb-false k 5 n₅))))
+      λ n₆. tested (ltb k 7) (λ q. rw (expr-name tree text r (omega (arith, ltb-true k 7 q, ltb-false k 6 n₆))))
+      λ n₇. tested (ltb k 8) (λ q. rw (expr-null tree text r (omega (arith, ltb-true k 8 q, ltb-false k 7 n₇))))
+      λ n₈. tested (ltb k 9) (λ q. rw (expr-sizeOf tree text r (omega (arith, ltb-true k 9 q, ltb-false k 8 n₈))))
+      λ n₉. tested (ltb k 10) (λ q. rw (expr-unary (omega (arith, ltb-true k 10 q, ltb-false k 9 n₉))))
+      λ n₁₀. tested (ltb k 11) (λ q. rw (expr-binary (omega (arith, ltb-true k 11 q, ltb-false k 10 n₁₀))))
+      λ n₁₁. rw (expr-call (omega (arith, ltb-false k 11 n₁₁)))
 
   -- ---- statements
 

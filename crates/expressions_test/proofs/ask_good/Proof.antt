@@ -6,7 +6,7 @@ use Rattle.expressions_test.proofs.ask_good.Statement.{statement}
 use Rattle.expressions_test.proofs.ask_good.Tie as tie
 use Rattle.expressions_test.proofs.ask_good.Reads as reads
 use Rattle.expressions_test.proofs.ask_good.Lts as lts
-use Rattle.expressions.proofs.functions.get_all_functions.Reads as get-all-functions-reads
+use Rattle.functions.proofs.functions.get_all_functions.Reads as get-all-functions-reads
 use Rattle.expressions_test.proofs.ask_over.Reads as ask-over-reads
 use Rattle.expressions_test.proofs.error.Reads as error-reads
 

@@ -6,8 +6,8 @@ use Rattle.expressions_test.proofs.ask_over.Statement.{statement}
 use Rattle.expressions_test.proofs.ask_over.Tie as tie
 use Rattle.expressions_test.proofs.ask_over.Reads as reads
 use Rattle.expressions_test.proofs.ask_over.Lts as lts
-use Rattle.expressions.proofs.functions.check_main.Reads as check-main-reads
-use Rattle.expressions.proofs.parameters.declare_parameters.Reads as declare-parameters-reads
+use Rattle.functions.proofs.functions.check_main.Reads as check-main-reads
+use Rattle.functions.proofs.parameters.declare_parameters.Reads as declare-parameters-reads
 use Rattle.expressions_test.proofs.ask_in.Reads as ask-in-reads
 use Rattle.expressions_test.proofs.error.Reads as error-reads
 use Rattle.expressions_test.proofs.main_said.Reads as main-said-reads

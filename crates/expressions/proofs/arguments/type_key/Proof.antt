@@ -6,7 +6,7 @@ use Rattle.expressions.proofs.arguments.type_key.Statement.{statement}
 use Rattle.expressions.proofs.arguments.type_key.Tie as tie
 use Rattle.expressions.proofs.arguments.type_key.Reads as reads
 use Rattle.expressions.proofs.arguments.type_key.Lts as lts
-use Rattle.expressions.proofs.parts.text_part.Reads as text-part-reads
+use Rattle.keys.proofs.parts.text_part.Reads as text-part-reads
 
 -- src/arguments.rt:89:5
 text-part-requires : tie.Need-text-part-requires

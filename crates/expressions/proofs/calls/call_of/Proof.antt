@@ -7,7 +7,7 @@ use Rattle.expressions.proofs.calls.call_of.Tie as tie
 use Rattle.expressions.proofs.calls.call_of.Reads as reads
 use Rattle.expressions.proofs.calls.call_of.Lts as lts
 use Rattle.expressions.proofs.arguments.count_arguments.Reads as count-arguments-reads
-use Rattle.expressions.proofs.parts.text_part.Reads as text-part-reads
+use Rattle.keys.proofs.parts.text_part.Reads as text-part-reads
 use Rattle.records.proofs.words.reference.Reads as reference-reads
 
 -- src/calls.rt:164:9
@@ -24,7 +24,7 @@ count-arguments-requires c κs = (c .before .before .before .before .pre .0, arg
 
 -- src/calls.rt:159:1
 returns : tie.Need-returns
-returns c = (c .before .before .text-part .ensures .0, c .before .before .text-part .ensures .1, c .before .reference .ensures, λ s. counted-at _ _ s _ _ _ (c .before .reference .ensures) (c .count-arguments .ensures s))
+returns c = record { offset = c .before .before .text-part .ensures .0; len = c .before .before .text-part .ensures .1; first = c .before .reference .ensures; count = counted-at _ _ _ _ _ (c .before .reference .ensures) (c .count-arguments .ensures) }
 
 pub call-of-spec : {M : Type 1} → statement M
 call-of-spec =

@@ -9,7 +9,7 @@ use Rattle.expressions.proofs.calls.cast_type.Reads as reads
 use Rattle.expressions.proofs.calls.cast_type.Lts as lts
 use Rattle.expressions.proofs.arguments.source_type.Reads as source-type-reads
 use Rattle.expressions.proofs.arguments.target_type.Reads as target-type-reads
-use Rattle.expressions.proofs.parts.is_cast_verb.Reads as is-cast-verb-reads
+use Rattle.keys.proofs.parts.is_cast_verb.Reads as is-cast-verb-reads
 use Rattle.types.proofs.casts.can_cast.Reads as can-cast-reads
 
 -- src/calls.rt:88:9
@@ -18,7 +18,7 @@ is-cast-verb-requires c κs = search needs
 
 -- src/calls.rt:89:9
 returns : tie.Need-returns
-returns c = (cast-not _ _ _ _ _ _ (c .before .is-cast-verb .ensures) (c .if1 .taken), IsCast.not-cast)
+returns c = record { is = cast-not _ _ _ _ _ _ (c .before .is-cast-verb .ensures) (c .if1 .taken); type = IsCast.not-cast }
 
 -- src/calls.rt:91:25
 target-type-requires : tie.Need-target-type-requires
@@ -34,7 +34,7 @@ enum-told c = search needs
 
 -- src/calls.rt:92:9
 returns-2 : tie.Need-returns-2
-returns-2 c = (cast-nowhere _ _ _ _ _ _ (c .before .before .before .before .is-cast-verb .ensures) (c .before .before .before .if1 .left) _ (c .before .before .target-type .ensures .0 _) (c .enum-told .given .1), IsCast.not-cast)
+returns-2 c = record { is = cast-nowhere _ _ _ _ _ _ (c .before .before .before .before .is-cast-verb .ensures) (c .before .before .before .if1 .left) _ (c .before .before .target-type .ensures .0 _) (c .enum-told .given .1); type = IsCast.not-cast }
 
 -- src/calls.rt:94:27
 source-type-requires : tie.Need-source-type-requires
@@ -50,7 +50,7 @@ enum-told-2 c = search needs
 
 -- src/calls.rt:95:9
 returns-3 : tie.Need-returns-3
-returns-3 c = (cast-free _ _ _ _ _ _ (c .before .before .before .before .before .before .before .before .is-cast-verb .ensures) (c .before .before .before .before .before .before .before .if1 .left) _ (c .before .before .before .before .before .before .target-type .ensures .0 _) _ (c .before .before .before .before .to .given .1) _ (c .before .before .source-type .ensures .0) (c .enum-told2 .given .1), IsCast.to (found-type _ _ _ (c .before .before .before .before .before .before .target-type .ensures .1) (c .before .before .before .before .to .given .1)))
+returns-3 c = record { is = cast-free _ _ _ _ _ _ (c .before .before .before .before .before .before .before .before .is-cast-verb .ensures) (c .before .before .before .before .before .before .before .if1 .left) _ (c .before .before .before .before .before .before .target-type .ensures .0 _) _ (c .before .before .before .before .to .given .1) _ (c .before .before .source-type .ensures .0) (c .enum-told2 .given .1); type = IsCast.to (found-type _ _ _ (c .before .before .before .before .before .before .target-type .ensures .1) (c .before .before .before .before .to .given .1)) }
 
 -- src/calls.rt:97:8
 can-cast-requires : tie.Need-can-cast-requires
@@ -58,11 +58,11 @@ can-cast-requires c κs = (type-inside _ _ (c .before .before .before .before .b
 
 -- src/calls.rt:98:9
 returns-4 : tie.Need-returns-4
-returns-4 c = (cast-fine _ _ _ _ _ _ (c .before .before .before .before .before .before .before .before .before .before .before .is-cast-verb .ensures) (c .before .before .before .before .before .before .before .before .before .before .if1 .left) _ (c .before .before .before .before .before .before .before .before .before .target-type .ensures .0 _) _ (c .before .before .before .before .before .before .before .to .given .1) _ (c .before .before .before .before .before .source-type .ensures .0) _ (c .before .before .before .from .given .1) _ (c .before .can-cast .ensures _) (c .if2 .taken), IsCast.to (found-type _ _ _ (c .before .before .before .before .before .before .before .before .before .target-type .ensures .1) (c .before .before .before .before .before .before .before .to .given .1)))
+returns-4 c = record { is = cast-fine _ _ _ _ _ _ (c .before .before .before .before .before .before .before .before .before .before .before .is-cast-verb .ensures) (c .before .before .before .before .before .before .before .before .before .before .if1 .left) _ (c .before .before .before .before .before .before .before .before .before .target-type .ensures .0 _) _ (c .before .before .before .before .before .before .before .to .given .1) _ (c .before .before .before .before .before .source-type .ensures .0) _ (c .before .before .before .from .given .1) _ (c .before .can-cast .ensures _) (c .if2 .taken); type = IsCast.to (found-type _ _ _ (c .before .before .before .before .before .before .before .before .before .target-type .ensures .1) (c .before .before .before .before .before .before .before .to .given .1)) }
 
 -- src/calls.rt:83:1
 returns-5 : tie.Need-returns-5
-returns-5 c = (cast-wrong _ _ _ _ _ _ (c .before .before .before .before .before .before .before .before .before .before .before .is-cast-verb .ensures) (c .before .before .before .before .before .before .before .before .before .before .if1 .left) _ (c .before .before .before .before .before .before .before .before .before .target-type .ensures .0 _) _ (c .before .before .before .before .before .before .before .to .given .1) _ (c .before .before .before .before .before .source-type .ensures .0) _ (c .before .before .before .from .given .1) _ (c .before .can-cast .ensures _) (c .if2 .left), IsCast.no)
+returns-5 c = record { is = cast-wrong _ _ _ _ _ _ (c .before .before .before .before .before .before .before .before .before .before .before .is-cast-verb .ensures) (c .before .before .before .before .before .before .before .before .before .before .if1 .left) _ (c .before .before .before .before .before .before .before .before .before .target-type .ensures .0 _) _ (c .before .before .before .before .before .before .before .to .given .1) _ (c .before .before .before .before .before .source-type .ensures .0) _ (c .before .before .before .from .given .1) _ (c .before .can-cast .ensures _) (c .if2 .left); type = IsCast.no }
 
 pub cast-type-spec : {M : Type 1} → statement M
 cast-type-spec =

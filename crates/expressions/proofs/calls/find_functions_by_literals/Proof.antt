@@ -11,7 +11,7 @@ use Rattle.expressions.proofs.calls.find_functions_by_literals.Tie as t
 use Rattle.expressions.proofs.calls.find_functions_by_literals.Reads as reads
 use Rattle.expressions.proofs.calls.find_functions_by_literals.Lts as lts
 use Rattle.expressions.proofs.calls.is_candidate.Reads as is-candidate-reads
-use Rattle.expressions.proofs.keys.function_at.Reads as function-at-reads
+use Rattle.keys.proofs.keys.function_at.Reads as function-at-reads
 
 abbrev Inv-loop : tie.InvT-loop
 Inv-loop tree text scratch functions call found₀ j₀ found j = (j ≤ functions) × SoFar tree text (everyOne tree text (verbOf tree text scratch call) (typedAt tree text scratch (call .first))) (literalsFrom tree text (verbOf tree text scratch call) (typedAt tree text scratch (call .first)) j) found

@@ -6,9 +6,9 @@ use Rattle.expressions.proofs.calls.is_candidate.Statement.{statement}
 use Rattle.expressions.proofs.calls.is_candidate.Tie as tie
 use Rattle.expressions.proofs.calls.is_candidate.Reads as reads
 use Rattle.expressions.proofs.calls.is_candidate.Lts as lts
-use Rattle.expressions.proofs.keys.is_mangled.Reads as is-mangled-reads
-use Rattle.expressions.proofs.keys.name_of.Reads as name-of-reads
-use Rattle.expressions.proofs.parts.same_parts.Reads as same-parts-reads
+use Rattle.keys.proofs.keys.is_mangled.Reads as is-mangled-reads
+use Rattle.keys.proofs.keys.name_of.Reads as name-of-reads
+use Rattle.keys.proofs.parts.same_parts.Reads as same-parts-reads
 use Rattle.expressions.proofs.takes.takes_args.Reads as takes-args-reads
 
 -- src/calls.rt:47:26

@@ -1,8 +1,7 @@
 -- The call of the record: a cast, a refusal of one, or a function.
 -- Each answer is a case of the definition. Assumes nothing.
 use native.Mathlib.Omega.{arith}
-use Rattle.expressions.specs.Answers.{IsCallee}
-use Rattle.expressions.proofs.CallLaws.{is-called, typed-refused, typed-cast, typed-function, cast-type-is}
+use Rattle.expressions.proofs.CallLaws.{is-called, typed-refused, typed-cast, typed-function}
 use borrow.Author.Needs.{needs}
 use Rattle.expressions.proofs.calls.resolve_typed.Statement.{statement}
 use Rattle.expressions.proofs.calls.resolve_typed.Tie as tie
@@ -22,7 +21,7 @@ cast-place c = search needs
 
 -- src/calls.rt:190:11
 cast-type-requires : tie.Need-cast-type-requires
-cast-type-requires c κs = is-called _ _ _ _ _ (c .call-of .ensures .0) (c .call-of .ensures .1) (c .call-of .ensures .2) _ (c .before .before .before .before .pre .0) (c .before .before .before .before .pre .1 .0) (c .before .before .before .before .pre .1 .1) (λ i. omega (arith, c .before .before .before .shared-slice-known .given i)) (c .call-of .ensures .3)
+cast-type-requires c κs = is-called _ _ _ _ _ (c .call-of .ensures) _ (c .before .before .before .before .pre .0) (c .before .before .before .before .pre .1 .0) (c .before .before .before .before .pre .1 .1) (λ i. omega (arith, c .before .before .before .shared-slice-known .given i))
 
 -- src/calls.rt:191:23
 enum-known-e : tie.Need-enum-known-e
@@ -38,19 +37,19 @@ enum-told c = search needs
 
 -- src/calls.rt:193:22
 resolve-function-requires : tie.Need-resolve-function-requires
-resolve-function-requires c κs = (c .before .before .before .before .before .before .before .pre .0, is-called _ _ _ _ _ (c .before .before .before .call-of .ensures .0) (c .before .before .before .call-of .ensures .1) (c .before .before .before .call-of .ensures .2) _ (c .before .before .before .before .before .before .before .pre .0) (c .before .before .before .before .before .before .before .pre .1 .0) (c .before .before .before .before .before .before .before .pre .1 .1) (λ i. omega (arith, c .before .before .before .before .before .before .shared-slice-known .given i)) (c .before .before .before .call-of .ensures .3))
+resolve-function-requires c κs = (c .before .before .before .before .before .before .before .pre .0, is-called _ _ _ _ _ (c .before .before .before .call-of .ensures) _ (c .before .before .before .before .before .before .before .pre .0) (c .before .before .before .before .before .before .before .pre .1 .0) (c .before .before .before .before .before .before .before .pre .1 .1) (λ i. omega (arith, c .before .before .before .before .before .before .shared-slice-known .given i)))
 
 -- src/calls.rt:176:1
 returns : tie.Need-returns
-returns c = (typed-refused _ _ _ _ (c .before .before .before .before .call-of .result) (c .before .before .before .before .call-of .ensures .0) (c .before .before .before .before .call-of .ensures .1) (c .before .before .before .before .call-of .ensures .2) _ (c .before .before .before .cast-type .ensures .0) _ (c .before .e .given .1), IsCallee.no)
+returns c = typed-refused _ _ _ _ (c .before .before .before .before .call-of .result) (c .before .before .before .before .call-of .ensures) _ (c .before .before .before .cast-type .ensures) _ (c .before .e .given .1)
 
 -- src/calls.rt:176:1
 returns-2 : tie.Need-returns-2
-returns-2 c = (typed-cast _ _ _ _ (c .before .before .before .before .call-of .result) (c .before .before .before .before .call-of .ensures .0) (c .before .before .before .before .call-of .ensures .1) (c .before .before .before .before .call-of .ensures .2) _ (c .before .before .before .cast-type .ensures .0) _ (c .before .y .given .1), IsCallee.a-cast (cast-type-is _ _ _ (c .before .before .before .cast-type .ensures .1) (c .before .y .given .1)))
+returns-2 c = typed-cast _ _ _ _ (c .before .before .before .before .call-of .result) (c .before .before .before .before .call-of .ensures) _ (c .before .before .before .cast-type .ensures) _ (c .before .y .given .1)
 
 -- src/calls.rt:176:1
 returns-3 : tie.Need-returns-3
-returns-3 c = (typed-function _ _ _ _ (c .before .before .before .before .call-of .result) (c .before .before .before .before .call-of .ensures .0) (c .before .before .before .before .call-of .ensures .1) (c .before .before .before .before .call-of .ensures .2) _ (c .before .before .before .cast-type .ensures .0) (c .before .enum-told .given .1) _ (c .resolve-function .ensures .0), c .resolve-function .ensures .1)
+returns-3 c = typed-function _ _ _ _ (c .before .before .before .before .call-of .result) (c .before .before .before .before .call-of .ensures) _ (c .before .before .before .cast-type .ensures) (c .before .enum-told .given .1) _ (c .resolve-function .ensures)
 
 pub resolve-typed-spec : {M : Type 1} → statement M
 resolve-typed-spec =

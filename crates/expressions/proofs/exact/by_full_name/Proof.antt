@@ -13,8 +13,8 @@ use Rattle.expressions.proofs.exact.by_full_name.Lts as lts
 use Rattle.expressions.proofs.exact.full_length.Reads as full-length-reads
 use Rattle.expressions.proofs.exact.is_name.Reads as is-name-reads
 use Rattle.expressions.proofs.exact.mangled_only.Reads as mangled-only-reads
-use Rattle.expressions.proofs.keys.function_at.Reads as function-at-reads
-use Rattle.expressions.proofs.keys.key_of.Reads as key-of-reads
+use Rattle.keys.proofs.keys.function_at.Reads as function-at-reads
+use Rattle.keys.proofs.keys.key_of.Reads as key-of-reads
 
 abbrev Inv-loop : tie.InvT-loop
 Inv-loop tree text scratch functions call length count j₀ j = (j ≤ functions) × KeyLeft tree text (nameOf tree text scratch call (call .count)) j

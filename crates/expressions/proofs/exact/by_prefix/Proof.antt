@@ -10,8 +10,8 @@ use Rattle.expressions.proofs.exact.by_prefix.Tie as tie
 use Rattle.expressions.proofs.exact.by_prefix.Reads as reads
 use Rattle.expressions.proofs.exact.by_prefix.Lts as lts
 use Rattle.expressions.proofs.exact.variadic_key.Reads as variadic-key-reads
-use Rattle.expressions.proofs.keys.function_at.Reads as function-at-reads
-use Rattle.expressions.proofs.keys.is_mangled.Reads as is-mangled-reads
+use Rattle.keys.proofs.keys.function_at.Reads as function-at-reads
+use Rattle.keys.proofs.keys.is_mangled.Reads as is-mangled-reads
 
 abbrev Inv-loop : tie.InvT-loop
 Inv-loop tree text scratch functions call best₀ most₀ j₀ best most j = (j ≤ functions) × Best tree text scratch call best most j

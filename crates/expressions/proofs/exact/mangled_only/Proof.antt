@@ -5,7 +5,7 @@ use Rattle.expressions.proofs.exact.mangled_only.Statement.{statement}
 use Rattle.expressions.proofs.exact.mangled_only.Tie as tie
 use Rattle.expressions.proofs.exact.mangled_only.Reads as reads
 use Rattle.expressions.proofs.exact.mangled_only.Lts as lts
-use Rattle.expressions.proofs.keys.is_mangled.Reads as is-mangled-reads
+use Rattle.keys.proofs.keys.is_mangled.Reads as is-mangled-reads
 
 is-mangled-requires : tie.Need-is-mangled-requires
 is-mangled-requires c κs = (c .before .before .pre .0, c .before .before .pre .1)

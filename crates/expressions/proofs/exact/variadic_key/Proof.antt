@@ -10,8 +10,8 @@ use Rattle.expressions.proofs.exact.variadic_key.Reads as reads
 use Rattle.expressions.proofs.exact.variadic_key.Lts as lts
 use Rattle.expressions.proofs.exact.is_name.Reads as is-name-reads
 use Rattle.expressions.proofs.exact.suffixes_of.Reads as suffixes-of-reads
-use Rattle.expressions.proofs.keys.key_of.Reads as key-of-reads
-use Rattle.expressions.proofs.parts.is_variadic_mark.Reads as is-variadic-mark-reads
+use Rattle.keys.proofs.keys.key_of.Reads as key-of-reads
+use Rattle.keys.proofs.parts.is_variadic_mark.Reads as is-variadic-mark-reads
 
 key-of-requires : tie.Need-key-of-requires
 key-of-requires c κs = (c .before .before .before .pre .0 .argued .good, c .before .before .before .pre .1)

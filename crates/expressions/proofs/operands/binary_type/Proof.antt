@@ -23,7 +23,7 @@ enum-known-ty : tie.Need-enum-known-ty
 enum-known-ty c = search needs
 
 accepts-requires : tie.Need-accepts-requires
-accepts-requires c κs = (c .before .before .before .before .before .before .before .before .pre .0, found-type _ _ _ (c .before .before .before .common-of .ensures .1) (c .before .ty .given .1))
+accepts-requires c κs = (c .before .before .before .before .before .before .before .before .pre .0, found-type _ _ _ (c .before .before .before .common-of .ensures .type) (c .before .ty .given .1))
 
 returns : tie.Need-returns
 returns c = gives-bool _ _ (c .before .before .before .before .before .before .before .before .before .before .before .before .pre .0) _ (c .before .before .before .before .before .before .before .before .before .before .before .before .pre .1 .0) _ (c .before .before .before .before .before .before .before .before .before .before .before .before .pre .1 .1) _ (c .before .before .before .before .before .before .before .before .before .detail .ensures) _ _ (c .before .before .before .before .before .before .before .before .operator-of .ensures) _ (c .before .before .before .before .before .before .before .common-of .ensures) _ (c .before .before .before .before .before .ty .given .1) _ (c .before .before .before .accepts .ensures) (c .before .before .if1 .taken) (c .if2 .taken)

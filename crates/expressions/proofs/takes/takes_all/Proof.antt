@@ -4,7 +4,7 @@ use mathlib.Core.Path.{_≡_, refl}
 use Rattle.syntax.specs.Decode.{program}
 use Rattle.conversion.specs.Expressions.{takesAll}
 use Rattle.syntax.specs.Places.{ArgsAt, ParamsAt, argsAt, paramsAt}
-use Rattle.expressions.specs.Keys.{allKeys}
+use Rattle.keys.specs.Keys.{allKeys}
 use Rattle.expressions.specs.Slots.{Typed}
 use Rattle.expressions.specs.Calls.{typedAt}
 use Rattle.syntax.proofs.Lists.{left, cell-below, next-list, next-falls}

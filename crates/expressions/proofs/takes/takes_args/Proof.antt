@@ -6,7 +6,7 @@ use Rattle.expressions.proofs.takes.takes_args.Statement.{statement}
 use Rattle.expressions.proofs.takes.takes_args.Tie as tie
 use Rattle.expressions.proofs.takes.takes_args.Reads as reads
 use Rattle.expressions.proofs.takes.takes_args.Lts as lts
-use Rattle.expressions.proofs.keys.parameters_of.Reads as parameters-of-reads
+use Rattle.keys.proofs.keys.parameters_of.Reads as parameters-of-reads
 use Rattle.expressions.proofs.takes.takes_all.Reads as takes-all-reads
 use Rattle.expressions.proofs.takes.takes_count.Reads as takes-count-reads
 

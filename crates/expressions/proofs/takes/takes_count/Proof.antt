@@ -7,8 +7,8 @@ use Rattle.expressions.proofs.takes.takes_count.Tie as tie
 use Rattle.expressions.proofs.takes.takes_count.Reads as reads
 use Rattle.expressions.proofs.takes.takes_count.Lts as lts
 use Rattle.expressions.proofs.arguments.count_parameters.Reads as count-parameters-reads
-use Rattle.expressions.proofs.keys.is_variadic.Reads as is-variadic-reads
-use Rattle.expressions.proofs.keys.parameters_of.Reads as parameters-of-reads
+use Rattle.keys.proofs.keys.is_variadic.Reads as is-variadic-reads
+use Rattle.keys.proofs.keys.parameters_of.Reads as parameters-of-reads
 
 -- src/takes.rt:29:44
 parameters-of-requires : tie.Need-parameters-of-requires

@@ -1,0 +1,83 @@
+-- The parameters of a function in the scope of its body: the first lines of `convert_func`. Assumes nothing: these are definitions.
+use mathlib.Core.Path.{_≡_}
+use Prim.Native.Nat.{ℕ, suc, _+_, _*_}
+use mathlib.Core.Bool.{true, false}
+use mathlib.Core.List.{List, [], _∷_, _++_}
+use mathlib.Core.Option.{none}
+use Rattle.laws.specs.Fix.{pick}
+use Rattle.laws.specs.Splice.{splice}
+use Rattle.records.specs.Words as Words
+use Rattle.records.specs.Words.{wordOf, records, A, B, C}
+use Rattle.records.specs.declared.convert_error.ConvertError.{ConvertError}
+use Rattle.syntax.specs.Syntax.{Param}
+use Rattle.syntax.specs.Decode.{textOf}
+use Rattle.conversion.specs.ConvertError.{Result, ok, err, AlreadyDeclared}
+use Rattle.conversion.specs.Types.{isSome}
+use Rattle.conversion.specs.Scope as Def
+use Rattle.conversion.specs.Scope.{Variable, find-variable, withVariable}
+use Rattle.conversion.specs.Written.{word}
+use Rattle.scope.specs.declared.Scope.{Scope}
+use Rattle.scope.specs.Open.{more, scopeAt}
+use Rattle.functions.specs.declared.parameters.Parameters.{Parameters}
+use Rattle.functions.specs.declared.parameters.Parameters.the-variants as Parameters
+use Rattle.syntax.specs.Places.{functionOf}
+use Rattle.expressions.specs.Slots.{Ready}
+use Rattle.expressions.specs.Answers.{refusal}
+
+-- the parameter in a cell
+abbrev pub parameterIn : List ℕ → List ℕ → ℕ → Param
+parameterIn tree text cell =
+    let r = wordOf tree cell A in
+    record { recOf = r; name = textOf tree text r A; ty = wordOf tree r C }
+
+-- a parameter as the variable of number k: `Variable { ty, constant: false, var_id: new_var(ty) }`
+abbrev pub parameterOf : Param → ℕ → Variable
+parameterOf p k = record { name = p .name; constant = false; var-id = record { id = k; ty = p .ty } }
+
+-- the scope with the parameters, numbered from k on; one whose name is taken is AlreadyDeclared: `declareParams` without the variables' table,
+-- as `same-run` in proofs/ParameterRun.antt shows
+unfoldable pub withParams : List Param → ℕ → Def.Scope → Result Def.Scope
+unfolding pick isSome find-variable withVariable
+withParams [] k S = ok S
+withParams (p ∷ l) k S =
+    pick (isSome (find-variable (p .name) S)) (err AlreadyDeclared (p .recOf)) (withParams l (suc k) (withVariable (parameterOf p k) S))
+
+-- the scope before: no variable, no loop
+abbrev pub emptyIn : List ℕ → List ℕ → ℕ → Def.Scope
+emptyIn tree text f = record { variables = []; inLoop = none; function = functionOf tree text f }
+
+-- the parameters that are declared: all, or those before the first whose name is taken
+unfoldable pub untilTaken : List Param → ℕ → Def.Scope → List Param
+unfolding pick isSome find-variable withVariable
+untilTaken [] k S = []
+untilTaken (p ∷ l) k S = pick (isSome (find-variable (p .name) S)) [] (p ∷ untilTaken l (suc k) (withVariable (parameterOf p k) S))
+
+-- the entry of a parameter in scratch, as the variable of number k: offset and length of its name, its number, twice its type
+abbrev pub entryOf : List ℕ → Param → ℕ → List ℕ
+entryOf tree p k = word (wordOf tree (p .recOf) A) ++ word (wordOf tree (p .recOf) B) ++ word k ++ word (2 * p .ty)
+
+-- the entries of parameters, numbered from k on, one behind the other
+unfoldable pub entries : List ℕ → List Param → ℕ → List ℕ
+unfolding word wordOf
+entries tree [] k = []
+entries tree (p ∷ l) k = entryOf tree p k ++ entries tree l (suc k)
+
+-- one parameter more, or its name is taken
+pub data OneMore (tree text : List ℕ) (functions : ℕ) (sc : Scope) (p : Param) (s s′ : List ℕ) : Parameters → Type 0 where
+  done : {sc′ : Scope} → Ready tree text s′ functions sc′ → sc′ ≡ more sc
+      → isSome (find-variable (p .name) (scopeAt tree text s sc)) ≡ false
+      → scopeAt tree text s′ sc′ ≡ withVariable (parameterOf p (sc .names)) (scopeAt tree text s sc)
+      → s′ ≡ splice s (8 * records tree + 16 * sc .names) (entryOf tree p (sc .names)) → OneMore tree text functions sc p s s′ (Parameters.Done sc′)
+  refused : {e : ConvertError} → e ≡ record { kind = AlreadyDeclared; place = p .recOf }
+      → isSome (find-variable (p .name) (scopeAt tree text s sc)) ≡ true
+      → s′ ≡ s → OneMore tree text functions sc p s s′ (Parameters.Refused e)
+
+-- the scope of function f's body; only the entries are written, from byte 8n on: of all parameters or, where a name is taken, of those before
+-- (they end by byte 24n: `names-only` in proofs/ParameterRegion.antt)
+pub data ParametersMeet (tree text : List ℕ) (functions f : ℕ) (s s′ : List ℕ) : Parameters → Type 0 where
+  done : {sc : Scope} → withParams (functionOf tree text f .params) 0 (emptyIn tree text f) ≡ ok (scopeAt tree text s′ sc)
+      → Ready tree text s′ functions sc → sc .inner ≡ Words.none → sc .function ≡ f
+      → s′ ≡ splice s (8 * records tree) (entries tree (functionOf tree text f .params) 0) → ParametersMeet tree text functions f s s′ (Parameters.Done sc)
+  refused : {e : ConvertError} → withParams (functionOf tree text f .params) 0 (emptyIn tree text f) ≡ refusal e
+      → s′ ≡ splice s (8 * records tree) (entries tree (untilTaken (functionOf tree text f .params) 0 (emptyIn tree text f)) 0)
+      → ParametersMeet tree text functions f s s′ (Parameters.Refused e)

@@ -1,0 +1,164 @@
+// functions.rs: all functions by their keys, and `main`. The Rust's map is a search over the functions, whose records are listed in scratch.
+ghost use mathlib.Core.Path.{_≡_};
+ghost use Prim.Native.Nat.{_+_, _*_, _≤_, _<_};
+ghost use lib.ListN.{length};
+ghost use Rattle.records.specs.Words.{records};
+ghost use Rattle.records.specs.Good.{Good};
+ghost use Rattle.syntax.specs.Decode.{program, typeAt};
+ghost use Rattle.conversion.specs.Functions.{findMain, returnsInt, check-main};
+ghost use Rattle.syntax.specs.Places.{FunctionAt, functionOf};
+ghost use Rattle.keys.specs.Keys.{Listed, functionRecords, FunctionIs};
+ghost use Rattle.functions.specs.Functions.{listedIn, TurnMeets, AllMeet};
+ghost use Rattle.expressions.specs.Answers.{outcomeOf};
+use expressions::answers::Outcome;
+use keys::keys::find_key;
+use keys::keys::function_at;
+use keys::keys::is_mangled;
+use keys::keys::mangled_name_of;
+use keys::keys::name_of;
+use keys::parts::is_ascii;
+use keys::parts::is_main;
+use records::convert_error::ConvertError;
+use records::convert_error::ConvertErrorKind;
+use records::words::Found;
+use records::words::NONE;
+use records::words::kind;
+use records::words::put_word;
+use records::words::reference;
+use types::form::INT;
+use types::form::form;
+
+// How many functions there are.
+pub enum AllFunctions {
+    Done(usize),
+    Refused(ConvertError),
+}
+
+fn refuse(kind: ConvertErrorKind, place: u32) -> Outcome
+    ensures { λ r. ⌜ r ≡ Outcome.Refused (record { kind = kind; place = place }) ⌝ }
+{
+    Outcome::Refused(ConvertError { kind, place })
+}
+
+// Lists the functions' records in scratch, and says how many there are.
+fn list_functions(tree: &[u8], text: &[u8], scratch: &mut [u8]) -> usize
+    requires { ⌜ Good (now tree) (now text) ⌝ }
+    requires { ⌜ 64 * records (now tree) ≤ length (now scratch) ⌝ }
+    ensures { λ count. ⌜ (now (scratch .exit) ≡ listedIn (now (tree .entry)) (now (scratch .entry))) × (count ≡ length (functionRecords (now (tree .entry)))) ⌝ }
+{
+    let n = tree.len() / 32;
+    let mut r = 0;
+    let mut count = 0;
+    while r < n {
+        if kind(tree, r) == 25 {
+            put_word(scratch, 4 * count, r as u32);
+            count += 1;
+        }
+        r += 1;
+    }
+    count
+}
+
+// One turn of get_all_functions: the j-th function against those before it.
+fn add_function(tree: &[u8], text: &[u8], scratch: &[u8], count: usize, j: usize) -> Outcome
+    requires { ⌜ Good (now tree) (now text) ⌝ }
+    requires { ⌜ Listed (now tree) (now scratch) count ⌝ }
+    requires { ⌜ j < count ⌝ }
+    ensures { λ r. ⌜ TurnMeets (now (tree .entry)) (now (text .entry)) (now (scratch .entry)) j r ⌝ }
+{
+    let f = function_at(tree, scratch, count, j);
+    let name = name_of(tree, text, f);
+    if is_mangled(tree, text, f) {
+        if is_ascii(text, name) {
+            return refuse(ConvertErrorKind::LatinCharInNonLibCFunction, f as u32);
+        }
+        let mangled = mangled_name_of(tree, text, f);
+        if let Found::At(_) = find_key(tree, text, scratch, count, j, mangled) {
+            return refuse(ConvertErrorKind::SameSignature, f as u32);
+        }
+        return Outcome::Done;
+    }
+    if !is_ascii(text, name) {
+        return refuse(ConvertErrorKind::ExternNotLatin, f as u32);
+    }
+    if let Found::At(_) = find_key(tree, text, scratch, count, j, name) {
+        return refuse(ConvertErrorKind::SameSymbol, f as u32);
+    }
+    Outcome::Done
+}
+
+// Lists the functions' records in scratch and says how many there are, or refuses the first function whose key is taken or whose name has the
+// wrong letters.
+pub fn get_all_functions(tree: &[u8], text: &[u8], scratch: &mut [u8]) -> AllFunctions
+    requires { ⌜ Good (now tree) (now text) ⌝ }
+    requires { ⌜ 64 * records (now tree) ≤ length (now scratch) ⌝ }
+    ensures { λ r. ⌜ AllMeet (now (tree .entry)) (now (text .entry)) (now (scratch .entry)) (now (scratch .exit)) r ⌝ }
+{
+    let count = list_functions(tree, text, scratch);
+    let mut j = 0;
+    while j < count {
+        match add_function(tree, text, scratch, count, j) {
+            Outcome::Refused(e) => return AllFunctions::Refused(e),
+            Outcome::Done => {}
+        }
+        j += 1;
+    }
+    AllFunctions::Done(count)
+}
+
+// The first function named `main`.
+fn find_main(tree: &[u8], text: &[u8], scratch: &[u8], count: usize) -> Found
+    requires { ⌜ Good (now tree) (now text) ⌝ }
+    requires { ⌜ Listed (now tree) (now scratch) count ⌝ }
+    ensures { λ r. ⌜ FunctionIs (now (tree .entry)) (now (text .entry)) r (findMain (program (now (tree .entry)) (now (text .entry)) .functions)) ⌝ }
+{
+    let mut j = 0;
+    while j < count {
+        let f = function_at(tree, scratch, count, j);
+        if is_main(text, name_of(tree, text, f)) {
+            return Found::At(f);
+        }
+        j += 1;
+    }
+    Found::Nothing
+}
+
+fn returns_int(tree: &[u8], text: &[u8], f: usize) -> bool
+    requires { ⌜ Good (now tree) (now text) ⌝ }
+    requires { ⌜ FunctionAt (now tree) f ⌝ }
+    ensures { λ r. ⌜ r ≡ returnsInt (typeAt (now (tree .entry)) (now (text .entry))) (functionOf (now (tree .entry)) (now (text .entry)) f .returnType) ⌝ }
+{
+    let ty = reference(tree, f, 3);
+    if ty == NONE as usize {
+        return false;
+    }
+    form(tree, ty) == INT
+}
+
+// The program has a `main` that returns an integer, or needs none.
+pub fn check_main(
+    tree: &[u8],
+    text: &[u8],
+    scratch: &[u8],
+    count: usize,
+    needs_main: bool,
+) -> Outcome
+    requires { ⌜ Good (now tree) (now text) ⌝ }
+    requires { ⌜ Listed (now tree) (now scratch) count ⌝ }
+    ensures { λ r. ⌜ check-main (program (now (tree .entry)) (now (text .entry))) «needs_main» ≡ outcomeOf r ⌝ }
+{
+    match find_main(tree, text, scratch, count) {
+        Found::At(f) => {
+            if returns_int(tree, text, f) {
+                return Outcome::Done;
+            }
+            refuse(ConvertErrorKind::MainNotInteger, f as u32)
+        }
+        Found::Nothing => {
+            if needs_main {
+                return refuse(ConvertErrorKind::NoMain, NONE);
+            }
+            Outcome::Done
+        }
+    }
+}

@@ -1,0 +1,89 @@
+// functions.rs: the parameters of a function, which stand in the scope of its body: where convert_func begins.
+ghost use mathlib.Core.Path.{_≡_};
+ghost use Prim.Native.Nat.{_+_, _<_};
+ghost use Rattle.records.specs.Words.{records};
+ghost use Rattle.syntax.specs.Places.{FunctionAt, ParamsAt};
+ghost use Rattle.keys.specs.Keys.{Keyed};
+ghost use Rattle.expressions.specs.Slots.{Ready};
+ghost use Rattle.conversion.specs.ConvertError.{AlreadyDeclared};
+ghost use Rattle.functions.specs.Parameters.{parameterIn, OneMore, ParametersMeet};
+use expressions::arguments::END;
+use expressions::arguments::next_cell;
+use ir::structs::VarId;
+use keys::keys::parameters_of;
+use records::convert_error::ConvertError;
+use records::convert_error::ConvertErrorKind;
+use records::words::NONE;
+use records::words::reference;
+use records::words::word;
+use scope::Declared;
+use scope::Scope;
+
+// The scope with the parameters, or AlreadyDeclared at the one whose name is taken.
+pub enum Parameters {
+    Done(Scope),
+    Refused(ConvertError),
+}
+
+fn taken(place: usize) -> Parameters
+    requires { ⌜ place < 4294967296 ⌝ }
+    ensures { λ a. ⌜ a ≡ Parameters.Refused (record { kind = AlreadyDeclared; place = place }) ⌝ }
+{
+    Parameters::Refused(ConvertError {
+        kind: ConvertErrorKind::AlreadyDeclared,
+        place: place as u32,
+    })
+}
+
+// The scope with the parameter of one cell more; its variable's number is how many stood before. There is room: each parameter has a record.
+fn declare_parameter(
+    tree: &[u8],
+    text: &[u8],
+    scratch: &mut [u8],
+    functions: usize,
+    scope: Scope,
+    cell: usize,
+) -> Parameters
+    requires { ⌜ Ready (now tree) (now text) (now scratch) functions scope ⌝ }
+    requires { ⌜ ParamsAt (now tree) cell ⌝ }
+    requires { ⌜ (cell ≡ 4294967295 → ⊥) × (scope .names + cell < records (now tree)) ⌝ }
+    ensures { λ a. ⌜ OneMore (now (tree .entry)) (now (text .entry)) functions scope (parameterIn (now (tree .entry)) (now (text .entry)) cell) (now (scratch .entry)) (now (scratch .exit)) a ⌝ }
+{
+    let p = reference(tree, cell, 0);
+    let v = VarId(scope.names as u32, word(tree, p, 2));
+    let offset = word(tree, p, 0);
+    let len = word(tree, p, 1);
+    match scope.declare(text, scratch, offset, len, v, false) {
+        Declared::Done(next) => Parameters::Done(next),
+        Declared::Taken => taken(p),
+    }
+}
+
+// The scope with which the body of function f begins: its parameters, numbered from 0.
+pub fn declare_parameters(
+    tree: &[u8],
+    text: &[u8],
+    scratch: &mut [u8],
+    functions: usize,
+    f: usize,
+) -> Parameters
+    requires { ⌜ Keyed (now tree) (now text) (now scratch) functions ⌝ }
+    requires { ⌜ FunctionAt (now tree) f ⌝ }
+    ensures { λ a. ⌜ ParametersMeet (now (tree .entry)) (now (text .entry)) functions f (now (scratch .entry)) (now (scratch .exit)) a ⌝ }
+{
+    let mut cell = parameters_of(tree, text, f);
+    let mut scope = Scope {
+        records: tree.len() / 32,
+        names: 0,
+        inner: NONE,
+        function: f as u32,
+    };
+    while cell != END {
+        match declare_parameter(tree, text, scratch, functions, scope, cell) {
+            Parameters::Refused(e) => return Parameters::Refused(e),
+            Parameters::Done(next) => scope = next,
+        }
+        cell = next_cell(tree, text, cell);
+    }
+    Parameters::Done(scope)
+}

@@ -1,0 +1,259 @@
+-- Keys of functions: one turn of `get_all_functions`, its turns one after the other, and that a listed function's key finds just that function.
+-- By the cases of a turn, and by the functions one after the other. Assumes nothing.
+use mathlib.Core.Path.{_≡_, refl, sym, ap, _∙_}
+use mathlib.Core.Bool.{Bool, true, false, not, _&&_, _||_, false≢true}
+use mathlib.Core.List.{List, [], _∷_, _++_, append-assoc, append-nil}
+use mathlib.Core.Option.{Option, none as nothing, some}
+use Prim.Native.Nat.{ℕ, suc, _+_, _*_, _≤_, _<_}
+use native.Mathlib.Numerals.{add-one}
+use native.Mathlib.Omega.{arith}
+use lib.ListN.{length, take, drop, getD, drop-of-length-le}
+use lib.Seq.{take-suc, take-all, drop-cons, split-at}
+use borrow.Author.Tests.{eq-eqb}
+use Rattle.laws.specs.Fix.{pick}
+use Rattle.records.specs.Words.{wordAt}
+use Rattle.syntax.specs.Syntax.{Text, Function}
+use Rattle.syntax.specs.Decode.{program}
+use Rattle.conversion.specs.ConvertError.{ConvertErrorKind, Result, ok, err, _>>=_, SameSignature, SameSymbol, LatinCharInNonLibCFunction, ExternNotLatin}
+use Rattle.conversion.specs.Ir.{sameText}
+use Rattle.conversion.specs.Types.{isSome}
+use Rattle.conversion.specs.Expressions.{Functions, is-mangled, getFunction, mainName}
+use Rattle.conversion.specs.Functions.{is-ascii, contains-key, addFunction, get-all-functions}
+use Rattle.syntax.specs.Places.{functionOf}
+use Rattle.keys.specs.Keys.{keyOf, keyed, functionRecords, functionsOf, keysBelow, allKeys, Keyed}
+use Rattle.keys.proofs.FunctionLaws.{all-functions, functions-append}
+
+-- ---- a key looked for
+
+pub same-self : (t : Text) → sameText t t ≡ true
+unfolding sameText
+same-self [] = refl
+same-self (b ∷ t) = rw (eq-eqb b b refl) (same-self t)
+
+find-by : (k : Text) (e : Text × Function) (l : Functions) (b : Bool) → sameText k (e .0) ≡ b
+    → getFunction k (e ∷ l) ≡ elim b [ true ↦ some (e .1) | false ↦ getFunction k l ]
+unfolding getFunction
+find-by k e l b q = ap (λ (z : Bool). elim z [ true ↦ some (e .1) | false ↦ getFunction k l ]) q
+
+pub find-hit : (k : Text) (e : Text × Function) (l : Functions) → sameText k (e .0) ≡ true → getFunction k (e ∷ l) ≡ some (e .1)
+find-hit k e l q = find-by k e l true q
+
+pub find-miss : (k : Text) (e : Text × Function) (l : Functions) → sameText k (e .0) ≡ false → getFunction k (e ∷ l) ≡ getFunction k l
+find-miss k e l q = find-by k e l false q
+
+-- in two lists, one after the other
+pub find-later : (k : Text) (l m : Functions) → getFunction k l ≡ nothing → getFunction k (l ++ m) ≡ getFunction k m
+unfolding getFunction
+find-later k [] m n = refl
+find-later k (e ∷ l) m n = go (sameText k (e .0)) refl (find-later k l m)
+  where
+    go : (b : Bool) → sameText k (e .0) ≡ b → (getFunction k l ≡ nothing → getFunction k (l ++ m) ≡ getFunction k m) → getFunction k (e ∷ l ++ m) ≡ getFunction k m
+    go true q rest = absurd (let z : some (e .1) ≡ nothing = sym (find-hit k e l q) ∙ n in let y : _≡_ {A = ℕ} 0 1 = cc in omega arith)
+    go false q rest = find-miss k e (l ++ m) q ∙ rest (sym (find-miss k e l q) ∙ n)
+
+pub find-sooner : (k : Text) (l m : Functions) (f : Function) → getFunction k l ≡ some f → getFunction k (l ++ m) ≡ some f
+unfolding getFunction
+find-sooner k [] m f n = absurd (let y : _≡_ {A = ℕ} 0 1 = cc in omega arith)
+find-sooner k (e ∷ l) m f n = go (sameText k (e .0)) refl (find-sooner k l m f)
+  where
+    go : (b : Bool) → sameText k (e .0) ≡ b → (getFunction k l ≡ some f → getFunction k (l ++ m) ≡ some f) → getFunction k (e ∷ l ++ m) ≡ some f
+    go true q rest = find-hit k e (l ++ m) q ∙ sym (find-hit k e l q) ∙ n
+    go false q rest = find-miss k e (l ++ m) q ∙ rest (sym (find-miss k e l q) ∙ n)
+
+-- ---- one turn
+
+pub key-mangled : (f : Function) → is-mangled f ≡ true → keyOf f ≡ f .mangledName
+unfolding keyOf pick
+key-mangled f e = rw e
+
+pub key-plain : (f : Function) → is-mangled f ≡ false → keyOf f ≡ f .name
+unfolding keyOf pick
+key-plain f e = rw e
+
+module _ (f : Function) (F : Functions) where
+  -- a turn, by whether the name is mangled
+  mangled-turn : is-mangled f ≡ true
+      → addFunction f F ≡ pick (is-ascii (f .name)) (err LatinCharInNonLibCFunction (f .recOf))
+      (pick (contains-key (f .mangledName) F) (err SameSignature (f .recOf)) (ok (F ++ ((f .mangledName, f) ∷ []))))
+  unfolding is-mangled addFunction pick
+  mangled-turn = go (f .external) (sameText (f .name) mainName) refl refl
+    where
+      go : (x s : Bool) → f .external ≡ x → sameText (f .name) mainName ≡ s → (not x && not s) ≡ true
+          → pick (x || s)
+          (pick (not (is-ascii (f .name))) (err ExternNotLatin (f .recOf))
+          (pick (contains-key (f .name) F) (err SameSymbol (f .recOf)) (ok (F ++ ((f .name, f) ∷ [])))))
+          (pick (is-ascii (f .name)) (err LatinCharInNonLibCFunction (f .recOf))
+          (pick (contains-key (f .mangledName) F) (err SameSignature (f .recOf)) (ok (F ++ ((f .mangledName, f) ∷ [])))))
+          ≡ pick (is-ascii (f .name)) (err LatinCharInNonLibCFunction (f .recOf))
+          (pick (contains-key (f .mangledName) F) (err SameSignature (f .recOf)) (ok (F ++ ((f .mangledName, f) ∷ []))))
+      go true s ex es h = absurd (false≢true h)
+      go false true ex es h = absurd (false≢true h)
+      go false false ex es h = refl
+
+  plain-turn : is-mangled f ≡ false
+      → addFunction f F ≡ pick (not (is-ascii (f .name))) (err ExternNotLatin (f .recOf))
+      (pick (contains-key (f .name) F) (err SameSymbol (f .recOf)) (ok (F ++ ((f .name, f) ∷ []))))
+  unfolding is-mangled addFunction pick
+  plain-turn = go (f .external) (sameText (f .name) mainName)
+    where
+      go : (x s : Bool) → (not x && not s) ≡ false
+          → pick (x || s)
+          (pick (not (is-ascii (f .name))) (err ExternNotLatin (f .recOf))
+          (pick (contains-key (f .name) F) (err SameSymbol (f .recOf)) (ok (F ++ ((f .name, f) ∷ [])))))
+          (pick (is-ascii (f .name)) (err LatinCharInNonLibCFunction (f .recOf))
+          (pick (contains-key (f .mangledName) F) (err SameSignature (f .recOf)) (ok (F ++ ((f .mangledName, f) ∷ [])))))
+          ≡ pick (not (is-ascii (f .name))) (err ExternNotLatin (f .recOf))
+          (pick (contains-key (f .name) F) (err SameSymbol (f .recOf)) (ok (F ++ ((f .name, f) ∷ []))))
+      go true s h = refl
+      go false true h = refl
+      go false false h = absurd (false≢true (sym h))
+
+  -- as the code meets them
+  pub turn-latin : is-mangled f ≡ true → is-ascii (f .name) ≡ true → addFunction f F ≡ err LatinCharInNonLibCFunction (f .recOf)
+  unfolding pick
+  turn-latin m a = mangled-turn m ∙ rw a
+
+  pub turn-signature : is-mangled f ≡ true → is-ascii (f .name) ≡ false → (g : Function) → getFunction (f .mangledName) F ≡ some g
+      → addFunction f F ≡ err SameSignature (f .recOf)
+  unfolding pick contains-key isSome
+  turn-signature m a g e = mangled-turn m ∙ rw (a, e)
+
+  pub turn-mangled : is-mangled f ≡ true → is-ascii (f .name) ≡ false → getFunction (f .mangledName) F ≡ nothing
+      → addFunction f F ≡ ok (F ++ ((keyOf f, f) ∷ []))
+  unfolding pick contains-key isSome
+  turn-mangled m a e = mangled-turn m ∙ rw (a, e, key-mangled f m)
+
+  pub turn-foreign : is-mangled f ≡ false → is-ascii (f .name) ≡ false → addFunction f F ≡ err ExternNotLatin (f .recOf)
+  unfolding pick
+  turn-foreign m a = plain-turn m ∙ rw a
+
+  pub turn-symbol : is-mangled f ≡ false → is-ascii (f .name) ≡ true → (g : Function) → getFunction (f .name) F ≡ some g
+      → addFunction f F ≡ err SameSymbol (f .recOf)
+  unfolding pick contains-key isSome
+  turn-symbol m a g e = plain-turn m ∙ rw (a, e)
+
+  pub turn-plain : is-mangled f ≡ false → is-ascii (f .name) ≡ true → getFunction (f .name) F ≡ nothing
+      → addFunction f F ≡ ok (F ++ ((keyOf f, f) ∷ []))
+  unfolding pick contains-key isSome
+  turn-plain m a e = plain-turn m ∙ rw (a, e, key-plain f m)
+
+  -- a turn that goes well adds the function under a key that no function before it has
+  pub data Turn : Result Functions → Type 0 where
+    refused : {k : ConvertErrorKind} {r : ℕ} → Turn (err k r)
+    added : getFunction (keyOf f) F ≡ nothing → Turn (ok (F ++ ((keyOf f, f) ∷ [])))
+
+  turn-by : (m a : Bool) (o p : Option Function) → is-mangled f ≡ m → is-ascii (f .name) ≡ a → getFunction (f .mangledName) F ≡ o
+      → getFunction (f .name) F ≡ p → Turn (addFunction f F)
+  turn-by true true o p em ea eo ep = rw (turn-latin em ea) refused
+  turn-by true false (some g) p em ea eo ep = rw (turn-signature em ea g eo) refused
+  turn-by true false nothing p em ea eo ep = rw (turn-mangled em ea eo) (added (ap (λ (k : Text). getFunction k F) (key-mangled f em) ∙ eo))
+  turn-by false false o p em ea eo ep = rw (turn-foreign em ea) refused
+  turn-by false true o (some g) em ea eo ep = rw (turn-symbol em ea g ep) refused
+  turn-by false true o nothing em ea eo ep = rw (turn-plain em ea ep) (added (ap (λ (k : Text). getFunction k F) (key-plain f em) ∙ ep))
+
+  pub turn : Turn (addFunction f F)
+  turn = turn-by (is-mangled f) (is-ascii (f .name)) (getFunction (f .mangledName) F) (getFunction (f .name) F) refl refl refl refl
+
+-- ---- all turns
+
+pub keyed-append : (l r : List Function) → keyed (l ++ r) ≡ keyed l ++ keyed r
+unfolding keyed
+keyed-append [] r = refl
+keyed-append (f ∷ l) r = rw (keyed-append l r)
+
+-- the first turn went well, and so did the others
+first-turn : (f : Function) (l : List Function) (F G : Functions) → get-all-functions (f ∷ l) F ≡ ok G
+    → (getFunction (keyOf f) F ≡ nothing) × (get-all-functions l (F ++ ((keyOf f, f) ∷ [])) ≡ ok G)
+unfolding get-all-functions _>>=_
+first-turn f l F G = go (turn f F)
+  where
+    go : {R : Result Functions} → Turn f F R → (R >>= λ H. get-all-functions l H) ≡ ok G
+        → (getFunction (keyOf f) F ≡ nothing) × (get-all-functions l (F ++ ((keyOf f, f) ∷ [])) ≡ ok G)
+    go refused e = absurd (let y : _≡_ {A = ℕ} 0 1 = cc in omega arith)
+    go (added n) e = (n, e)
+
+-- what comes out is the functions with their keys
+pub all-keyed : (l : List Function) (F G : Functions) → get-all-functions l F ≡ ok G → G ≡ F ++ keyed l
+unfolding get-all-functions keyed
+all-keyed [] F G e = let q : G ≡ F = cc in q ∙ sym (append-nil F)
+all-keyed (f ∷ l) F G e =
+    all-keyed l (F ++ ((keyOf f, f) ∷ [])) G (first-turn f l F G e .1) ∙ append-assoc F ((keyOf f, f) ∷ []) (keyed l)
+
+-- no function before it has its key
+new-key : (l : List Function) (f : Function) (r : List Function) (F G : Functions) → get-all-functions (l ++ f ∷ r) F ≡ ok G
+    → getFunction (keyOf f) (F ++ keyed l) ≡ nothing
+unfolding keyed
+new-key [] f r F G e = rw (append-nil F) (first-turn f r F G e .0)
+new-key (h ∷ l) f r F G e =
+    rw (append-assoc F ((keyOf h, h) ∷ []) (keyed l)) at (new-key l f r (F ++ ((keyOf h, h) ∷ [])) G (first-turn h (l ++ f ∷ r) F G e .1))
+
+-- so its key finds just that function
+pub key-finds : (l : List Function) (f : Function) (r : List Function) (G : Functions) → get-all-functions (l ++ f ∷ r) [] ≡ ok G
+    → getFunction (keyOf f) (keyed (l ++ f ∷ r)) ≡ some f
+unfolding keyed
+key-finds l f r G e =
+    ap (getFunction (keyOf f)) (keyed-append l (f ∷ r))
+    ∙ find-later (keyOf f) (keyed l) (keyed (f ∷ r)) (new-key l f r [] G e)
+    ∙ find-hit (keyOf f) (keyOf f, f) (keyed r) (same-self (keyOf f))
+
+-- ---- the functions of a tree
+
+module _ (tree text : List ℕ) where
+  -- the record and the function at place j
+  abbrev pub recordAt : ℕ → ℕ
+  recordAt j = getD (functionRecords tree) j 0
+
+  abbrev pub at : ℕ → Function
+  at j = functionOf tree text (recordAt j)
+
+  -- the functions from place j on
+  abbrev pub from : ℕ → List Function
+  from j = functionsOf tree text (drop j (functionRecords tree))
+
+  pub from-start : program tree text .functions ≡ from 0
+  from-start = all-functions tree text
+
+  pub from-one : (j : ℕ) → j < length (functionRecords tree) → from j ≡ at j ∷ from (j + 1)
+  unfolding functionsOf
+  from-one j h = rw (drop-cons (functionRecords tree) j 0 h, add-one j)
+
+  pub from-end : (j : ℕ) → length (functionRecords tree) ≤ j → from j ≡ []
+  unfolding functionsOf
+  from-end j h = rw (drop-of-length-le (functionRecords tree) h)
+
+  pub keys-none : keysBelow tree text 0 ≡ []
+  unfolding keysBelow keyed functionsOf
+  keys-none = refl
+
+  pub keys-more : (j : ℕ) → j < length (functionRecords tree) → keysBelow tree text (j + 1) ≡ keysBelow tree text j ++ ((keyOf (at j), at j) ∷ [])
+  unfolding keysBelow keyed functionsOf
+  keys-more j h =
+      let t : take (j + 1) (functionRecords tree) ≡ take j (functionRecords tree) ++ (recordAt j ∷ []) = rw (add-one j) (take-suc (functionRecords tree) j 0 h) in
+      ap (λ (l : List ℕ). keyed (functionsOf tree text l)) t
+      ∙ ap keyed (functions-append tree text (take j (functionRecords tree)) (recordAt j ∷ []))
+      ∙ keyed-append (functionsOf tree text (take j (functionRecords tree))) (at j ∷ [])
+
+  pub keys-all : (n : ℕ) → length (functionRecords tree) ≤ n → keysBelow tree text n ≡ allKeys tree text
+  unfolding keysBelow allKeys
+  keys-all n h = rw (take-all n (functionRecords tree) h, all-functions tree text)
+
+  -- ---- keys are distinct
+
+  pub distinct-at : {G : Functions} → get-all-functions (program tree text .functions) [] ≡ ok G → (j : ℕ) → j < length (functionRecords tree)
+      → getFunction (keyOf (at j)) (allKeys tree text) ≡ some (at j)
+  unfolding allKeys functionsOf
+  distinct-at {G} e j h =
+      let split : functionsOf tree text (functionRecords tree)
+      ≡ functionsOf tree text (take j (functionRecords tree)) ++ at j ∷ functionsOf tree text (drop (suc j) (functionRecords tree)) =
+      ap (functionsOf tree text) (split-at (functionRecords tree) j 0 h)
+      ∙ functions-append tree text (take j (functionRecords tree)) (recordAt j ∷ drop (suc j) (functionRecords tree)) in
+      let all = all-functions tree text ∙ split in
+      ap (λ (l : List Function). getFunction (keyOf (at j)) (keyed l)) all
+      ∙ key-finds (functionsOf tree text (take j (functionRecords tree))) (at j) (functionsOf tree text (drop (suc j) (functionRecords tree))) G
+      (ap (λ (l : List Function). get-all-functions l []) (sym all) ∙ e)
+
+-- the key of a function that is listed in scratch finds just that function
+pub distinct-finds : (tree text s : List ℕ) (count : ℕ) → Keyed tree text s count → (j : ℕ) → j < count
+    → getFunction (keyOf (functionOf tree text (wordAt s (4 * j)))) (allKeys tree text) ≡ some (functionOf tree text (wordAt s (4 * j)))
+distinct-finds tree text s count k j h =
+    rw (k .listed .listed j h) (distinct-at tree text (k .distinct) j (omega (arith, k .listed .counted)))

@@ -1,0 +1,4 @@
+pub mod FunctionLaws
+pub mod KeyLaws
+pub mod KeySearch
+pub mod PartLaws

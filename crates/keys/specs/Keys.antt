@@ -1,0 +1,87 @@
+-- The functions by key, as `get_all_functions` has them in its map: their records stand in scratch, in their order, and a key is looked for
+-- among them. Assumes nothing: these are definitions.
+use mathlib.Core.Path.{_≡_}
+use Prim.Native.Nat.{ℕ, zero, suc, _+_, _*_, _≤_, _<_}
+use mathlib.Core.List.{List, [], _∷_, _++_}
+use mathlib.Core.Option.{Option, none, some}
+use lib.Dec.{eqb}
+use lib.ListN.{length, take, getD}
+use Rattle.laws.specs.Fix.{pick}
+use Rattle.records.specs.Words.{kindOf, wordAt, records}
+use Rattle.records.specs.Good.{Good}
+use Rattle.syntax.specs.Syntax.{Text, Function}
+use Rattle.syntax.specs.Decode.{program}
+use Rattle.conversion.specs.ConvertError.{ok}
+use Rattle.conversion.specs.Expressions.{Functions, is-mangled}
+use Rattle.conversion.specs.Functions.{get-all-functions}
+use Rattle.syntax.specs.Places.{FunctionAt, functionOf}
+use Rattle.records.specs.declared.words.Found.{Found}
+use Rattle.records.specs.declared.words.Found.the-variants as Found
+
+-- a function's key is its name if it is external or `main`, else its mangled name
+unfoldable pub keyOf : Function → Text
+unfolding pick is-mangled
+keyOf f = pick (is-mangled f) (f .mangledName) (f .name)
+
+-- functions with their keys
+unfoldable pub keyed : List Function → Functions
+unfolding keyOf
+keyed [] = []
+keyed (f ∷ l) = (keyOf f, f) ∷ keyed l
+
+-- the records of kind 25 among the first n
+unfoldable pub recordsBelow : List ℕ → ℕ → List ℕ
+unfolding pick kindOf
+recordsBelow tree zero = []
+recordsBelow tree (suc r) = recordsBelow tree r ++ pick (eqb (kindOf tree r) 25) (r ∷ []) []
+
+-- 'Functions count in record order'
+abbrev pub functionRecords : List ℕ → List ℕ
+functionRecords tree = recordsBelow tree (records tree)
+
+module _ (tree text : List ℕ) where
+  -- what some records stand for
+  unfoldable pub functionsOf : List ℕ → List Function
+  unfolding functionOf
+  functionsOf [] = []
+  functionsOf (r ∷ l) = functionOf tree text r ∷ functionsOf l
+
+  -- the first n functions with their keys
+  unfoldable pub keysBelow : ℕ → Functions
+  unfolding keyed functionsOf recordsBelow
+  keysBelow n = keyed (functionsOf (take n (functionRecords tree)))
+
+  -- all functions with their keys: the Rust's map, once it is made
+  unfoldable pub allKeys : Functions
+  unfolding keyed program
+  allKeys = keyed (program tree text .functions)
+
+-- the scratch has the functions' records, `count` of them
+pub record Listed (tree s : List ℕ) (count : ℕ) : Type 0 where
+  pub room : 64 * records tree ≤ length s
+  pub counted : count ≡ length (functionRecords tree)
+  pub listed : (j : ℕ) → j < count → wordAt s (4 * j) ≡ getD (functionRecords tree) j 0
+
+-- `get_all_functions` went well: a good tree whose keys are distinct, its functions listed in scratch
+pub record Keyed (tree text s : List ℕ) (count : ℕ) : Type 0 where
+  pub good : Good tree text
+  pub distinct : get-all-functions (program tree text .functions) [] ≡ ok (allKeys tree text)
+  pub listed : Listed tree s count
+
+-- ---- what a search answers
+
+module _ (tree text : List ℕ) where
+  unfoldable pub functionFound : Found → Option Function
+  unfolding functionOf
+  functionFound (Found.At f) = some (functionOf tree text f)
+  functionFound Found.Nothing = none
+
+-- a function that was found is one
+pub data FunctionFound (tree : List ℕ) : Found → Type 0 where
+  a-function : {f : ℕ} → FunctionAt tree f → FunctionFound tree (Found.At f)
+  no-function : FunctionFound tree Found.Nothing
+
+-- the answer is this function, if there is one
+pub record FunctionIs (tree text : List ℕ) (r : Found) (o : Option Function) : Type 0 where
+  pub is : functionFound tree text r ≡ o
+  pub function : FunctionFound tree r

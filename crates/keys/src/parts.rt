@@ -1,0 +1,96 @@
+// Parts of the text: the fixed texts, and whether a text is Latin.
+ghost use mathlib.Core.Path.{_≡_};
+ghost use Prim.Native.Nat.{_+_, _*_, _≤_};
+ghost use lib.ListN.{length};
+ghost use Rattle.records.specs.Words.{textAt, wordOf};
+ghost use Rattle.conversion.specs.Ir.{sameText};
+ghost use Rattle.conversion.specs.Expressions.{castVerb, mainName, variadicMark};
+ghost use Rattle.conversion.specs.Functions.{is-ascii};
+use records::texts::same_part;
+use records::words::reference;
+
+// An offset and a length.
+pub struct Part(pub usize, pub usize);
+
+// The text that words k and k + 1 of record r say.
+pub fn text_part(tree: &[u8], r: usize, k: usize) -> Part
+    requires { ⌜ r * 32 + 32 ≤ length (now tree) ⌝ }
+    requires { ⌜ k ≤ 3 ⌝ }
+    ensures { λ p. ⌜ (p .0 ≡ wordOf (now (tree .entry)) r k) × (p .1 ≡ wordOf (now (tree .entry)) r (k + 1)) ⌝ }
+{
+    Part(reference(tree, r, k), reference(tree, r, k + 1))
+}
+
+// Whether a part is these bytes.
+fn same_bytes(text: &[u8], p: Part, bytes: &[u8]) -> bool
+    requires { ⌜ p .0 + p .1 ≤ length (now text) ⌝ }
+    ensures { λ r. ⌜ r ≡ sameText (textAt (now (text .entry)) (p .0) (p .1)) (now (bytes .entry)) ⌝ }
+{
+    let at = p.0;
+    let n = p.1;
+    if n != bytes.len() {
+        return false;
+    }
+    let mut i = 0;
+    while i < n {
+        if text[at + i] != bytes[i] {
+            return false;
+        }
+        i += 1;
+    }
+    true
+}
+
+pub fn is_main(text: &[u8], p: Part) -> bool
+    requires { ⌜ p .0 + p .1 ≤ length (now text) ⌝ }
+    ensures { λ r. ⌜ r ≡ sameText (textAt (now (text .entry)) (p .0) (p .1)) mainName ⌝ }
+{
+    same_bytes(text, p, b"main")
+}
+
+// The verb of a cast: its nine bytes.
+pub fn is_cast_verb(text: &[u8], p: Part) -> bool
+    requires { ⌜ p .0 + p .1 ≤ length (now text) ⌝ }
+    ensures { λ r. ⌜ r ≡ sameText (textAt (now (text .entry)) (p .0) (p .1)) castVerb ⌝ }
+{
+    same_bytes(text, p, b"\xEB\xB0\x94\xEA\xBE\xB8\xEB\x8B\xA4")
+}
+
+// What ends the key of a variadic function.
+pub fn is_variadic_mark(text: &[u8], p: Part) -> bool
+    requires { ⌜ p .0 + p .1 ≤ length (now text) ⌝ }
+    ensures { λ r. ⌜ r ≡ sameText (textAt (now (text .entry)) (p .0) (p .1)) variadicMark ⌝ }
+{
+    same_bytes(text, p, b"$...")
+}
+
+pub fn is_ascii(text: &[u8], p: Part) -> bool
+    requires { ⌜ p .0 + p .1 ≤ length (now text) ⌝ }
+    ensures { λ r. ⌜ r ≡ is-ascii (textAt (now (text .entry)) (p .0) (p .1)) ⌝ }
+{
+    let at = p.0;
+    let n = p.1;
+    let mut i = 0;
+    while i < n {
+        if text[at + i] >= 128 {
+            return false;
+        }
+        i += 1;
+    }
+    true
+}
+
+// Whether two parts are the same text; the bytes are looked at only where the lengths agree.
+pub fn same_parts(text: &[u8], p: Part, q: Part) -> bool
+    requires { ⌜ p .0 + p .1 ≤ length (now text) ⌝ }
+    requires { ⌜ q .0 + q .1 ≤ length (now text) ⌝ }
+    ensures { λ r. ⌜ r ≡ sameText (textAt (now (text .entry)) (p .0) (p .1)) (textAt (now (text .entry)) (q .0) (q .1)) ⌝ }
+{
+    let a = p.0;
+    let b = q.0;
+    let n = p.1;
+    if n != q.1 {
+        return false;
+    }
+    same_part(text, a, b, n)
+}
