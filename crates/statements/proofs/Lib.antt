@@ -1,3 +1,4 @@
 pub mod PartLaws
 pub mod MeetLaws
 pub mod StayLaws
+pub mod JumpLaws
