@@ -2,3 +2,4 @@ pub mod PartLaws
 pub mod MeetLaws
 pub mod StayLaws
 pub mod JumpLaws
+pub mod StackLaws
