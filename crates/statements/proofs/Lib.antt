@@ -3,3 +3,4 @@ pub mod MeetLaws
 pub mod StayLaws
 pub mod JumpLaws
 pub mod StackLaws
+pub mod LeafLaws

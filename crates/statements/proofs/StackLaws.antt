@@ -2,7 +2,7 @@
 -- By the cases of operands and of tags; the words of an entry as those of a table of one entry. Assumes nothing.
 use mathlib.Core.Path.{_≡_, refl, sym, ap, _∙_}
 use mathlib.Core.Bool.{Bool, true, false}
-use mathlib.Core.List.{List, [], _∷_, _++_}
+use mathlib.Core.List.{List, [], _++_}
 use Prim.Native.Nat.{ℕ, zero, suc, _+_, _*_, _/_, _%_, _^_, _≤_, _<_}
 use native.Mathlib.Omega.{arith}
 use lib.Dec.{eqb, leb}
@@ -14,11 +14,10 @@ use Rattle.laws.specs.Splice.{splice}
 use Rattle.records.specs.Words.{byteAt, wordAt}
 use Rattle.conversion.specs.Ir as Ir
 use Rattle.conversion.specs.Ir.{OVar, OInt, OFloat, OBool, ODataAddress, ONull}
-use Rattle.conversion.specs.Written.{bytesOf, word, wide, tag, operandValue, boolNumber, encodeAll}
+use Rattle.conversion.specs.Written.{bytesOf, word, tag, operandValue, boolNumber, encodeAll}
 use Rattle.ir.specs.declared.structs.VarId.{VarId}
 use Rattle.ir.specs.declared.structs.Operand.{Operand}
 use Rattle.ir.specs.declared.structs.Operand.the-variants as Operand
-use Rattle.ir.specs.declared.words.Four.{Four}
 use Rattle.ir.specs.Instructions.{operandOf}
 use Rattle.ir.specs.Arena.{Table}
 use Rattle.ir.proofs.Entries.{table-grown, table-word}
