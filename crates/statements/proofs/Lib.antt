@@ -1,3 +1,6 @@
 pub mod PartLaws
 pub mod MeetLaws
 pub mod StayLaws
+pub mod JumpLaws
+pub mod StackLaws
+pub mod LeafLaws

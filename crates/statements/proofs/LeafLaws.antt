@@ -1,0 +1,255 @@
+-- The operands of expressions without operands of their own, as the code meets them: of literals, names and sizes.
+-- By what a record of each kind stands for; a leaf adds a string or a float, or nothing. Assumes nothing.
+use mathlib.Core.Path.{_≡_, refl, sym, ap, ap₂, _∙_, subst}
+use mathlib.Core.Bool.{Bool, true, false}
+use mathlib.Core.List.{List}
+use mathlib.Core.Option.{Option, none, some}
+use Prim.Native.Nat.{ℕ, zero, suc, _+_, _*_, _/_, _%_, _^_, _≤_, _<_}
+use native.Mathlib.Omega.{arith}
+use lib.Dec.{eqb, ltb, leb}
+use lib.ListN.{length}
+use mir.Syntax.{w64}
+use mir.Val.{toZ}
+use mir.Facts.{toZ-pos}
+use borrow.Author.Tests.{ltb-true, leb-true}
+use Rattle.laws.specs.Fix.{pick}
+use Rattle.laws.proofs.Tests.{and-left}
+use Rattle.records.specs.declared.convert_error.ConvertError.{ConvertError}
+use Rattle.records.specs.Words.{kindOf, detailOf, wordOf, textAt, A, B}
+use Rattle.records.specs.Good.{Good}
+use Rattle.records.proofs.GoodLaws.{inside, float-detail, bool-detail, sizeOf-a}
+use Rattle.syntax.specs.Decode.{bit, wideOf, textOf, program}
+use Rattle.syntax.specs.Places.{IsKind, TypeAt}
+use Rattle.syntax.proofs.Records.{expr-int, expr-float, expr-str, expr-bool, expr-name, expr-null, expr-sizeOf}
+use Rattle.conversion.specs.ConvertError.{ConvertErrorKind, UnknownVariable, WouldPanic}
+use Rattle.conversion.specs.Ir as Ir
+use Rattle.conversion.specs.Ir.{OVar, OInt, OFloat, OBool, ODataAddress, M, _>>=_, pure, fail}
+use Rattle.conversion.specs.Scope.{find-variable}
+use Rattle.conversion.specs.Statements.{nameOperand, sizeOperand, convert-expr}
+use Rattle.types.specs.Fits.{IsExpr}
+use Rattle.types.specs.declared.size.Bytes.{Bytes}
+use Rattle.types.specs.declared.size.Bytes.the-variants as Bytes
+use Rattle.types.specs.Sizes.{exactSize, bytesFor, bytesOf, sizeAt}
+use Rattle.ir.specs.declared.structs.Counters.{Counters}
+use Rattle.ir.specs.declared.structs.VarId.{VarId}
+use Rattle.ir.specs.declared.structs.Operand.{Operand}
+use Rattle.ir.specs.declared.structs.Operand.the-variants as Operand
+use Rattle.ir.specs.declared.floats.FloatBits.{FloatBits}
+use Rattle.ir.specs.declared.pool.PoolNumber.{PoolNumber}
+use Rattle.ir.specs.Arena.{Room}
+use Rattle.ir.specs.Amounts.{Amount, amount}
+use Rattle.ir.specs.Floats.{entry, entryOf}
+use Rattle.ir.specs.Instructions.{operandOf}
+use Rattle.ir.specs.Steps.{StopsIn, stringAt, NumbersString, NumbersFloat}
+use Rattle.ir.proofs.StepLaws.{fail-stops}
+use Rattle.ir.proofs.StepCases.{next-of, stop-of}
+use Rattle.scope.specs.declared.Known.{Known}
+use Rattle.scope.specs.declared.Known.the-variants as Known
+use Rattle.scope.specs.Open.{scopeAt, FindMeets}
+use Rattle.scope.proofs.ScopeLaws.{find-some, find-unknown}
+use Rattle.expressions.specs.Answers.{IsTyped}
+use Rattle.expressions.specs.declared.answers.ExprType.the-variants as ExprType
+use Rattle.expressions.proofs.LeafLaws as Typing
+use Rattle.expressions.proofs.TypingLaws.{expr-low}
+use Rattle.statements.specs.declared.answers.Converter.{Converter}
+use Rattle.statements.specs.declared.answers.Converted.{Converted}
+use Rattle.statements.specs.declared.answers.Converted.the-variants as Converted
+use Rattle.statements.specs.declared.answers.Fitted.{Fitted}
+use Rattle.statements.specs.Converting.{Converting, OperandIn, exprAmount}
+use Rattle.statements.specs.Meets.{AddsIn}
+use Rattle.statements.specs.Answers.{Converts, LeafAdds, exprSteps}
+use Rattle.statements.proofs.MeetLaws.{Most, adds-in, adds-in-then, adds-pure, meets-gave, meets-refused, meets-most}
+use Rattle.statements.proofs.StayLaws.{stays-refl}
+
+-- ---- marks
+
+-- a detail of 0 or 1 is its mark
+mark-bit : (d : ℕ) → d < 2 → eqb d 1 ≡ bit 1 d
+unfolding bit
+mark-bit zero h = refl
+mark-bit (suc zero) h = refl
+mark-bit (suc (suc d)) h = absurd (omega arith)
+
+pub int-is : (tree : List ℕ) (e m b : ℕ) → m ≡ detailOf tree e → b ≡ wordOf tree e 0 + wordOf tree e 1 * 4294967296 → (text : List ℕ)
+    → OInt (toZ w64 b) (eqb (m % 2) 1) (eqb (m / 2 % 2) 1)
+    ≡ OInt (toZ w64 (wideOf tree text e 0)) (bit 1 (detailOf tree e)) (bit 2 (detailOf tree e))
+unfolding bit wideOf
+int-is tree e m b em eb text = let z : detailOf tree e / 1 ≡ detailOf tree e = omega arith in rw (em, eb, z)
+
+-- ---- answers that add nothing
+
+-- a step that is equal to one that is known
+pub adds-of : {A : Type 0} {text : List ℕ} {m m′ : M A} {n : Amount} {k k′ : Counters} {l l′ : List ℕ} {a : A}
+    → m′ ≡ m → AddsIn text m n k l a k′ l′ → AddsIn text m′ n k l a k′ l′
+adds-of e p = record { next = next-of e (p .next); spent = p .spent }
+
+pub converts-most : {tree text l s l′ s′ : List ℕ} {m : M Ir.Operand} {n n′ : Amount} {c : Converter} {a : Converted}
+    → Converts tree text m n c l s a l′ s′ → Most n n′ → Converts tree text m n′ c l s a l′ s′
+converts-most {text = text} p q = record { meets = meets-most text (p .meets) q; operand = p .operand; stays = p .stays }
+
+module _ (tree text l s : List ℕ) (c : Converter) (m : M Ir.Operand) where
+  -- an operand that is had without a step
+  pub gives-operand : (o : Operand) → Room (c .counters) l → m ≡ pure (operandOf o) → OperandIn tree (operandOf o)
+      → Converts tree text m (amount 0 0 0 0 0) c l s (Converted.Is o (c .counters)) l s
+  gives-operand o room e h = record {
+    meets = meets-gave text refl (adds-of e (adds-in text (adds-pure (operandOf o) (c .counters) l room)));
+    operand = λ o′ k q. let z : o ≡ o′ = cc in subst (λ (x : Operand). OperandIn tree (operandOf x)) z h;
+    stays = stays-refl _ _ _ s;
+  }
+
+  -- a refusal
+  pub refuses-operand : (kind : ConvertErrorKind) (place : ℕ) (x : ConvertError) → x ≡ record { kind = kind; place = place } → m ≡ fail kind place
+      → Converts tree text m (amount 0 0 0 0 0) c l s (Converted.Refused x) l s
+  refuses-operand kind place x q e = record {
+    meets = meets-refused text refl
+        (subst (λ (y : ConvertError). StopsIn text m (c .counters) l (y .kind) (y .place)) (sym q) (stop-of e (fail-stops text (c .counters) l kind place)));
+    operand = λ o k z. let w : _≡_ {A = ℕ} 0 1 = cc in absurd (omega arith);
+    stays = stays-refl _ _ _ s;
+  }
+
+-- ---- a float and a string
+
+module _ (tree text : List ℕ) (e : ℕ) (k : Counters) (l l′ : List ℕ) (r : PoolNumber) (long : length l′ ≡ length l) where
+  pub float-leaf : Good tree text → IsKind tree 3 e → (b d : ℕ) (f : FloatBits) → b ≡ wordOf tree e 0 + wordOf tree e 1 * 4294967296 → d ≡ detailOf tree e
+      → entryOf f ≡ entry b (eqb d 1) → NumbersFloat (entryOf f) k l r l′
+      → LeafAdds tree text e (amount 0 0 0 0 1) k l (record { operand = Operand.Float (r .number); counters = r .counters }) l′
+  unfolding convert-expr wideOf OperandIn
+  float-leaf good is b d f eb ed ef p =
+      let mark : eqb d 1 ≡ bit 1 (detailOf tree e) = ap (λ (x : ℕ). eqb x 1) ed ∙ mark-bit (detailOf tree e) (float-detail tree text good e (is .below) (is .kind)) in
+      let is-entry : entry (wideOf tree text e A) (bit 1 (detailOf tree e)) ≡ entryOf f = sym (ef ∙ ap₂ (λ (x : ℕ) (y : Bool). entry x y) eb mark) in
+      record {
+        adds = λ S. adds-of
+            (rw (expr-float tree text e (is .kind)) (ap (λ (x : Ir.FloatEntry). Ir.float-id x >>= (λ i. pure (OFloat i))) is-entry))
+            (adds-in-then text (λ i. pure (OFloat i)) (adds-in text (record { next = p .next; spent = p .spent; long = long }))
+            (adds-in text (adds-pure (OFloat (r .number)) (r .counters) l′ (p .next .room))));
+        operand = tt;
+        long = long;
+      }
+
+  pub string-leaf : IsKind tree 4 e → (a n : ℕ) → a ≡ wordOf tree e A → n ≡ wordOf tree e B → NumbersString text (stringAt text a n) k l r l′
+      → LeafAdds tree text e (amount 0 0 0 1 0) k l (record { operand = Operand.DataAddress (r .number); counters = r .counters }) l′
+  unfolding convert-expr textOf OperandIn
+  string-leaf is a n ea en p = record {
+    adds = λ S. adds-of
+        (rw (expr-str tree text e (is .kind), ea, en))
+        (adds-in-then text (λ i. pure (ODataAddress i)) (record { next = p .next; spent = p .spent })
+        (adds-in text (adds-pure (ODataAddress (r .number)) (r .counters) l′ (p .next .room))));
+    operand = tt;
+    long = long;
+  }
+
+-- such a leaf as the answer
+pub leaf-answers : (tree text s : List ℕ) (c : Converter) (e : ℕ) (l l′ : List ℕ) (n n′ : Amount) (f : Fitted) (a : Converted)
+    → LeafAdds tree text e n (c .counters) l f l′ → a ≡ Converted.Is (f .operand) (f .counters) → Most n n′
+    → Converts tree text (exprSteps tree text s c e) n′ c l s a l′ s
+leaf-answers tree text s c e l l′ n n′ f a p q h =
+    subst (λ (x : Converted). Converts tree text (exprSteps tree text s c e) n′ c l s x l′ s) (sym q) (converts-most (record {
+      meets = meets-gave text (p .long) (p .adds (scopeAt tree text s (c .scope)));
+      operand = λ o k z. let w : f .operand ≡ o = cc in subst (λ (x : Operand). OperandIn tree (operandOf x)) w (p .operand);
+      stays = stays-refl _ _ _ s;
+    }) h)
+
+-- ---- names
+
+module _ (tree text l s : List ℕ) (c : Converter) (e : ℕ) (x : Converting tree text l s c) (is : IsKind tree 6 e)
+    (a n : ℕ) (ea : a ≡ wordOf tree e A) (en : n ≡ wordOf tree e B) (r : Known) (m : FindMeets text s (c .scope) (textAt text a n) r) where
+  name-steps : exprSteps tree text s c e ≡ nameOperand e (find-variable (textAt text a n) (scopeAt tree text s (c .scope)))
+  unfolding convert-expr textOf
+  name-steps = rw (expr-name tree text e (is .kind), ea, en)
+
+  met : (k : Known) → r ≡ k → FindMeets text s (c .scope) (textAt text a n) k
+  met k q = subst (λ (z : Known). FindMeets text s (c .scope) (textAt text a n) z) q m
+
+  typed : {y : ℕ} → IsTyped tree (ExprType.Is y) → TypeAt tree y
+  typed (IsTyped.is t) = t
+
+  pub name-gives : (v : VarId) (b : Bool) → r ≡ Known.Is v b
+      → Converts tree text (exprSteps tree text s c e) (amount 0 0 0 0 0) c l s (Converted.Is (Operand.Var v) (c .counters)) l s
+  unfolding nameOperand OperandIn
+  name-gives v b q =
+      let f = find-some tree text s (c .scope) (textAt text a n) v b (met (Known.Is v b) q) in
+      gives-operand tree text l s c (exprSteps tree text s c e) (Operand.Var v) (x .room)
+      (name-steps ∙ rw (f .found) (ap (λ (z : Ir.VarId). pure (OVar z)) (f .var)))
+      (typed (Typing.name-known tree text s (c .scope) e (x .ready .scoped) is a n ea en r m v b q .1))
+
+  pub name-refuses : r ≡ Known.Unknown → (z : ConvertError) → z ≡ record { kind = UnknownVariable; place = e }
+      → Converts tree text (exprSteps tree text s c e) (amount 0 0 0 0 0) c l s (Converted.Refused z) l s
+  unfolding nameOperand
+  name-refuses q z w =
+      refuses-operand tree text l s c (exprSteps tree text s c e) UnknownVariable e z w
+      (name-steps ∙ rw (find-unknown tree text s (c .scope) (textAt text a n) (met Known.Unknown q)))
+
+-- ---- sizes
+
+exact-small : (n : ℕ) (o : Option ℕ) → Bytes.Exactly n ≡ bytesFor o → n < 2 ^ 63
+unfolding bytesFor pick
+exact-small n none q = let w : _≡_ {A = ℕ} 0 1 = cc in absurd (omega arith)
+exact-small n (some k) q = go (ltb k (2 ^ 63)) refl q
+  where
+    go : (t : Bool) → ltb k (2 ^ 63) ≡ t → Bytes.Exactly n ≡ pick t (Bytes.Exactly k) Bytes.Over → n < 2 ^ 63
+    go true h z = let w : n ≡ k = cc in omega (arith, ltb-true k (2 ^ 63) h)
+    go false h z = let w : _≡_ {A = ℕ} 0 1 = cc in absurd (omega arith)
+
+pub over-none : (b : Bytes) → b ≡ Bytes.Over → bytesOf b ≡ none
+unfolding bytesOf
+over-none b q = rw q
+
+pub nothing-none : (b : Bytes) → b ≡ Bytes.Nothing → bytesOf b ≡ none
+unfolding bytesOf
+nothing-none b q = rw q
+
+module _ (tree text l s : List ℕ) (c : Converter) (e : ℕ) (x : Converting tree text l s c) (is : IsKind tree 8 e) (y : ℕ) (ey : y ≡ wordOf tree e A) where
+  pub size-inside : y * 32 + 32 ≤ length tree
+  size-inside =
+      let good = x .ready .keyed .good in
+      let h = sizeOf-a tree text good e (is .below) (is .kind) in
+      inside tree text good y (omega (arith, h .0, is .below))
+
+  module _ (b : Bytes) (exact : (u : List ℕ) → b ≡ bytesFor (exactSize tree u y)) (sized : (u : List ℕ) → bytesOf b ≡ sizeAt tree u y) where
+    size-steps : exprSteps tree text s c e ≡ sizeOperand e (bytesOf b)
+    unfolding convert-expr program sizeAt
+    size-steps = rw (expr-sizeOf tree text e (is .kind)) (ap (sizeOperand e) (sym (sized text ∙ ap (sizeAt tree text) ey)))
+
+    pub size-gives : (n : ℕ) → b ≡ Bytes.Exactly n
+        → Converts tree text (exprSteps tree text s c e) (amount 0 0 0 0 0) c l s (Converted.Is (Operand.Int n false false) (c .counters)) l s
+    unfolding sizeOperand bytesOf OperandIn
+    size-gives n q =
+        let small : n < 2 ^ 63 = exact-small n (exactSize tree text y) (sym q ∙ exact text) in
+        gives-operand tree text l s c (exprSteps tree text s c e) (Operand.Int n false false) (x .room)
+        (size-steps ∙ rw q (ap (λ z. pure (OInt z false false)) (sym (toZ-pos w64 small)))) tt
+
+    pub size-refuses : bytesOf b ≡ none → (z : ConvertError) → z ≡ record { kind = WouldPanic; place = e }
+        → Converts tree text (exprSteps tree text s c e) (amount 0 0 0 0 0) c l s (Converted.Refused z) l s
+    unfolding sizeOperand
+    size-refuses q z w = refuses-operand tree text l s c (exprSteps tree text s c e) WouldPanic e z w (size-steps ∙ rw q)
+
+-- ---- any leaf
+
+module _ (tree text l s : List ℕ) (c : Converter) (e : ℕ) (x : Converting tree text l s c) (is : IsExpr tree e) (k : ℕ) (ek : k ≡ kindOf tree e) where
+  pub leaf-int : k ≡ 2 → (o : Operand)
+      → ((u : List ℕ) → operandOf o ≡ OInt (toZ w64 (wideOf tree u e 0)) (bit 1 (detailOf tree e)) (bit 2 (detailOf tree e)))
+      → Converts tree text (exprSteps tree text s c e) (exprAmount 0) c l s (Converted.Is o (c .counters)) l s
+  unfolding convert-expr OperandIn
+  leaf-int q o h =
+      converts-most (gives-operand tree text l s c (exprSteps tree text s c e) o (x .room)
+      (rw (expr-int tree text e (sym ek ∙ q)) (ap (λ (z : Ir.Operand). pure z) (sym (h text)))) (rw (h text) tt)) (omega arith)
+
+  pub leaf-bool : k ≡ 5 → (d : ℕ) → d ≡ detailOf tree e
+      → Converts tree text (exprSteps tree text s c e) (exprAmount 0) c l s (Converted.Is (Operand.Bool (eqb d 1)) (c .counters)) l s
+  unfolding convert-expr OperandIn
+  leaf-bool q d ed =
+      let good = x .ready .keyed .good in
+      let mark : eqb d 1 ≡ bit 1 (detailOf tree e) = ap (λ (z : ℕ). eqb z 1) ed ∙ mark-bit (detailOf tree e) (bool-detail tree text good e (expr-low tree text good e is) (sym ek ∙ q)) in
+      converts-most (gives-operand tree text l s c (exprSteps tree text s c e) (Operand.Bool (eqb d 1)) (x .room)
+      (rw (expr-bool tree text e (sym ek ∙ q)) (ap (λ (z : Bool). pure (OBool z)) (sym mark))) tt) (omega arith)
+
+  pub leaf-null : k ≡ 7 → Converts tree text (exprSteps tree text s c e) (exprAmount 0) c l s (Converted.Is Operand.Null (c .counters)) l s
+  unfolding convert-expr OperandIn
+  leaf-null q =
+      converts-most (gives-operand tree text l s c (exprSteps tree text s c e) Operand.Null (x .room) (rw (expr-null tree text e (sym ek ∙ q))) tt) (omega arith)
+
+  -- what is left is a SizeOf
+  pub leaf-size : kindOf tree e ≤ 8 → (k ≡ 2 → ⊥) → (k ≡ 3 → ⊥) → (k ≡ 4 → ⊥) → (k ≡ 5 → ⊥) → (k ≡ 6 → ⊥) → (k ≡ 7 → ⊥) → IsKind tree 8 e
+  leaf-size h n₂ n₃ n₄ n₅ n₆ n₇ =
+      let least = leb-true 2 (kindOf tree e) (and-left (leb 2 (kindOf tree e)) (leb (kindOf tree e) 11) (is .expression)) in
+      record { below = expr-low tree text (x .ready .keyed .good) e is; kind = omega arith }

@@ -1,0 +1,33 @@
+-- A jump to the label of a kind and a record.
+-- The label's step and then the instruction's. Assumes nothing.
+use Rattle.statements.proofs.JumpLaws.{jump-adds}
+use borrow.Author.Needs.{needs}
+use Rattle.statements.proofs.jumps.jump.Statement.{statement}
+use Rattle.statements.proofs.jumps.jump.Tie as tie
+use Rattle.statements.proofs.jumps.jump.Reads as reads
+use Rattle.statements.proofs.jumps.jump.Lts as lts
+use Rattle.ir.proofs.structs.emit.Reads as emit-reads
+use Rattle.ir.proofs.structs.label_id.Reads as label-id-reads
+
+-- src/jumps.rt:19:42
+cast-label-id : tie.Need-cast-label-id
+cast-label-id c = search needs
+
+-- src/jumps.rt:19:9
+label-id-requires : tie.Need-label-id-requires
+label-id-requires c κs = search needs
+
+-- src/jumps.rt:22:5
+emit-requires : tie.Need-emit-requires
+emit-requires c κs = search needs
+
+-- src/jumps.rt:15:1
+same-length : tie.Need-same-length
+same-length c = search needs
+
+-- src/jumps.rt:15:1
+returns : tie.Need-returns
+returns c = search jump-adds
+
+pub jump-spec : {M : Type 1} → statement M
+jump-spec = tie.close (tie.spec cast-label-id label-id-requires emit-requires same-length returns)
