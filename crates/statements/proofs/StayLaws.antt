@@ -17,10 +17,11 @@ use Rattle.ir.specs.Steps.{NextIn}
 use Rattle.ir.proofs.Entries.{word-same}
 use Rattle.scope.specs.declared.Scope.{Scope}
 use Rattle.scope.specs.Open.{Kept, scopeAt}
-use Rattle.scope.proofs.ScopeLaws.{byte-before, byte-behind, scope-kept}
-use Rattle.expressions.specs.Keys.{Listed, Keyed}
+use Rattle.scope.proofs.Apart.{byte-apart}
+use Rattle.scope.proofs.ScopeLaws.{scope-kept}
+use Rattle.keys.specs.Keys.{Listed, Keyed}
 use Rattle.expressions.specs.Slots.{Frame, Scoped, Ready}
-use Rattle.expressions.proofs.KeySearch.{records-most}
+use Rattle.keys.proofs.KeySearch.{records-most}
 use Rattle.statements.specs.declared.answers.Converter.{Converter}
 use Rattle.statements.specs.Stack.{entryAt, operandFrom, operandAt, stackAt}
 use Rattle.statements.specs.Converting.{Converting, withCounters, Stays, StaysFor}
@@ -55,11 +56,11 @@ frame-stays names operands f = record {
 module _ (n names operands : ℕ) (s s′ vs : List ℕ) (i : ℕ) (e : s′ ≡ splice s i vs) (long : length vs ≡ 16) (fits : 64 * n ≤ length s) where
   before : i + 16 ≤ length s → (j : ℕ) → j < i → byteAt s′ j ≡ byteAt s j
   unfolding byteAt
-  before h j k = ap (λ (x : List ℕ). getD x j 0) e ∙ byte-before s i vs j (omega arith) k
+  before h j k = ap (λ (x : List ℕ). getD x j 0) e ∙ byte-apart s i vs (omega arith) j (inl k)
 
   after : i + 16 ≤ length s → (j : ℕ) → i + 16 ≤ j → byteAt s′ j ≡ byteAt s j
   unfolding byteAt
-  after h j k = ap (λ (x : List ℕ). getD x j 0) e ∙ byte-behind s i vs j (omega arith) (omega arith)
+  after h j k = ap (λ (x : List ℕ). getD x j 0) e ∙ byte-apart s i vs (omega arith) j (inr (omega arith))
 
   same-long : i + 16 ≤ length s → length s′ ≡ length s
   same-long h = ap length e ∙ length-splice s i vs (omega arith)

@@ -27,7 +27,7 @@ use Rattle.ir.specs.Instructions.{operandOf, varOf}
 use Rattle.ir.specs.Amounts.{Amount, amount}
 use Rattle.scope.specs.declared.Scope.{Scope}
 use Rattle.scope.specs.Open.{scopeAt}
-use Rattle.expressions.specs.Keys.{allKeys}
+use Rattle.keys.specs.Keys.{allKeys}
 use Rattle.expressions.specs.declared.answers.ExprType.{ExprType}
 use Rattle.expressions.specs.Slots.{Frame, Ready}
 use Rattle.expressions.specs.declared.answers.Outcome.{Outcome}

@@ -7,9 +7,9 @@ use Rattle.statements.proofs.operands.operand_words.Statement.{statemen
 use Rattle.statements.proofs.operands.operand_words.Tie as tie
 use Rattle.statements.proofs.operands.operand_words.Reads as reads
 use Rattle.statements.proofs.operands.operand_words.Lts as lts
-use Rattle.ir.proofs.words.high.Reads as high-reads
-use Rattle.ir.proofs.words.low.Reads as low-reads
-use Rattle.ir.proofs.words.mark.Reads as mark-reads
+use Rattle.records.proofs.words.high.Reads as high-reads
+use Rattle.records.proofs.words.low.Reads as low-reads
+use Rattle.records.proofs.words.mark.Reads as mark-reads
 
 -- src/operands.rt:67:22
 enum-known-o : tie.Need-enum-known-o

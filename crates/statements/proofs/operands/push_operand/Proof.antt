@@ -6,7 +6,7 @@ use Rattle.statements.proofs.operands.push_operand.Statement.{statement
 use Rattle.statements.proofs.operands.push_operand.Tie as tie
 use Rattle.statements.proofs.operands.push_operand.Reads as reads
 use Rattle.statements.proofs.operands.push_operand.Lts as lts
-use Rattle.ir.proofs.words.put_four.Reads as put-four-reads
+use Rattle.records.proofs.words.put_four.Reads as put-four-reads
 use Rattle.statements.proofs.operands.operand_words.Reads as operand-words-reads
 
 -- src/operands.rt:112:9

@@ -7,7 +7,7 @@ use Rattle.statements.proofs.operands.size_operand.Tie as tie
 use Rattle.statements.proofs.operands.size_operand.Reads as reads
 use Rattle.statements.proofs.operands.size_operand.Lts as lts
 use Rattle.statements.proofs.answers.refusal.Reads as refusal-reads
-use Rattle.types.proofs.form.reference.Reads as reference-reads
+use Rattle.records.proofs.words.reference.Reads as reference-reads
 use Rattle.types.proofs.size.size.Reads as size-reads
 
 -- src/operands.rt:202:22
