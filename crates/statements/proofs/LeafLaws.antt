@@ -170,7 +170,7 @@ module _ (tree text l s : List ℕ) (c : Converter) (e : ℕ) (x : Converting tr
       let f = find-some tree text s (c .scope) (textAt text a n) v b (met (Known.Is v b) q) in
       gives-operand tree text l s c (exprSteps tree text s c e) (Operand.Var v) (x .room)
       (name-steps ∙ rw (f .found) (ap (λ (z : Ir.VarId). pure (OVar z)) (f .var)))
-      (typed (Typing.name-known tree text s (c .scope) e (x .ready .scoped) is a n ea en r m v b q .1))
+      (typed (Typing.name-known tree text s (c .scope) e (x .ready .scoped) is a n ea en r m v b q .type))
 
   pub name-refuses : r ≡ Known.Unknown → (z : ConvertError) → z ≡ record { kind = UnknownVariable; place = e }
       → Converts tree text (exprSteps tree text s c e) (amount 0 0 0 0 0) c l s (Converted.Refused z) l s
