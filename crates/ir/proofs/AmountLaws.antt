@@ -2,10 +2,10 @@
 -- The counters count the tables, whose lengths the definition's bounds are about; the rest is arithmetic. Assumes nothing.
 use mathlib.Core.Path.{_≡_, sym, _∙_}
 use mathlib.Core.List.{List, _++_}
-use Prim.Native.Nat.{ℕ, _+_, _*_, _≤_, _<_}
+use Prim.Native.Nat.{ℕ, _+_, _≤_}
 use native.Mathlib.Omega.{arith}
-use lib.ListN.{length, length-append}
-use Rattle.conversion.specs.Ir.{State, Out, made, failed, M}
+use lib.ListN.{length-append}
+use Rattle.conversion.specs.Ir.{Out, made, failed, M}
 use Rattle.conversion.specs.Written.{allCode, allVars, allLabels}
 use Rattle.conversion.proofs.Within.{Grown, grew, fell, Within}
 use Rattle.ir.specs.declared.structs.Counters.{Counters}

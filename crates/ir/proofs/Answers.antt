@@ -2,16 +2,15 @@
 -- The tables are kept by the laws of the arena, the searches by those that read it back. Assumes nothing.
 use mathlib.Core.Path.{_≡_, refl, sym, ap, ap₂, _∙_, subst}
 use mathlib.Core.Logic.{inl, inr}
-use mathlib.Core.Bool.{Bool}
-use mathlib.Core.List.{List, [], _∷_, _++_}
+use mathlib.Core.List.{List, [], _++_}
 use mathlib.Core.Option.{Option, none, some}
-use Prim.Native.Nat.{ℕ, _+_, _-_, _*_, _/_, _%_, _^_, _≤_, _<_}
+use Prim.Native.Nat.{ℕ, _+_, _-_, _*_, _/_, _%_, _^_, _<_}
 use native.Mathlib.Omega.{arith}
 use lib.ListN.{length, length-append}
 use Rattle.laws.specs.Splice.{splice}
 use Rattle.records.specs.Words.{textAt}
 use Rattle.conversion.specs.Ir as Ir
-use Rattle.conversion.specs.Ir.{State, FloatEntry, LabelName, StringEntry, emit, new-var, label-id, string-id, float-id, numbered, position, sameLabel, sameText, sameFloat}
+use Rattle.conversion.specs.Ir.{State, FloatEntry, emit, new-var, label-id, string-id, float-id, numbered, position, sameLabel, sameText, sameFloat}
 use Rattle.conversion.specs.Written.{bytesOf, word, wide, boolNumber, encodeInstr, encodeFields, encodeVar, encodeLabel, encodeString, encodeFloat, allVars, allLabels}
 use Rattle.ir.specs.declared.structs.Counters.{Counters}
 use Rattle.ir.specs.declared.structs.Instr.{Instr}
@@ -21,13 +20,13 @@ use Rattle.ir.specs.declared.structs.LabelNumber.{LabelNumber}
 use Rattle.ir.specs.declared.pool.PoolNumber.{PoolNumber}
 use Rattle.ir.specs.Instructions.{varOf, instrOf, fieldBytes}
 use Rattle.ir.specs.Amounts.{Amount, Spent}
-use Rattle.ir.specs.Arena.{Tables, LabelFits, StringStands, FloatFits, Holds, Room}
+use Rattle.ir.specs.Arena.{Tables, Holds, Room}
 use Rattle.records.specs.declared.words.Found.{Found}
 use Rattle.records.specs.declared.words.Found.the-variants.{At, Nothing}
 use Rattle.ir.specs.Search.{first, foundOf, pairAt, textOf, fourAt}
 use Rattle.ir.specs.Steps.{grown, Stands, Next, NextIn, moreInstructions, moreVariables, moreLabels, moreStrings, moreFloats, Wrote, Emits, AddsVar, named, NumbersLabel, stringAt, NumbersString, NumbersFloat}
 use Rattle.ir.proofs.Entries.{written-length}
-use Rattle.ir.proofs.Kept.{withVar, withLabel, withString, withFloat, no-code, emit-holds, var-holds, label-holds, string-holds, float-holds}
+use Rattle.ir.proofs.Kept.{withLabel, withString, withFloat, no-code, emit-holds, var-holds, label-holds, string-holds, float-holds}
 use Rattle.ir.proofs.ReadBack.{labels-read, strings-read, floats-read}
 use Rattle.ir.proofs.SearchLaws.{found-some, found-none}
 use Rattle.records.proofs.WordLaws.{wide-words}

@@ -1,9 +1,9 @@
 -- A function that is done: its entry stands behind the others', and what stood at hand is its body and its tables.
 -- The entry's words are the running totals and the counts; the lists are joined anew. Assumes nothing.
-use mathlib.Core.Path.{_≡_, refl, sym, ap, ap₂, _∙_, subst}
+use mathlib.Core.Path.{_≡_, refl, sym, ap, _∙_, subst}
 use mathlib.Core.Bool.{Bool, true, false}
 use mathlib.Core.List.{List, [], _∷_, _++_, append-nil, append-assoc}
-use mathlib.Core.Option.{Option, none, some}
+use mathlib.Core.Option.{none, some}
 use Prim.Native.Nat.{ℕ, _+_, _-_, _*_, _≤_, _<_}
 use native.Mathlib.Omega.{arith}
 use lib.ListN.{length, length-append}
@@ -14,7 +14,7 @@ use Rattle.conversion.specs.Ir.{IrFunction, LabelName}
 use Rattle.conversion.specs.Written.{bytesOf, word, boolNumber, encodeInstr, encodeVar, encodeLabel, encodeFunctions, codeOf, bodyMark, allCode, allVars, allLabels}
 use Rattle.conversion.proofs.Bytes.{functions-length}
 use Rattle.ir.specs.declared.structs.Counters.{Counters}
-use Rattle.ir.specs.Arena.{Has, Table, All, Tables, LabelFits, Holds, Room}
+use Rattle.ir.specs.Arena.{Has, Table, All, Tables, Holds, Room}
 use Rattle.ir.specs.Steps.{closed, nextFunction, Closes}
 use Rattle.ir.proofs.Entries.{written-length, has-grown, table-before, table-behind}
 

@@ -1,21 +1,20 @@
 -- The searches through the arena are the definitions' searches through the tables that it holds.
 -- The words of each entry are read back, and compared as the definition compares. Assumes nothing.
-use mathlib.Core.Path.{_≡_, refl, sym, ap, ap₂, _∙_, subst}
+use mathlib.Core.Path.{_≡_, refl, sym, ap, ap₂, _∙_}
 use mathlib.Core.Bool.{Bool, true, false, _&&_, Bool·beq}
 use mathlib.Core.List.{List, [], _∷_, _++_}
-use mathlib.Core.Option.{Option, none, some}
 use Prim.Native.Nat.{ℕ, zero, suc, _+_, _-_, _*_, _/_, _%_, _^_, _≤_, _<_}
 use native.Mathlib.Omega.{arith}
 use lib.Dec.{eqb}
 use lib.ListN.{length, getD, length-append}
 use lib.Seq.{getD-append-add}
-use borrow.Author.Tests.{eqb-true, eq-eqb, ne-eqb}
+use borrow.Author.Tests.{eqb-true, eq-eqb}
 use Rattle.laws.proofs.Tests.{and-left, and-right}
 use Rattle.records.specs.Words.{byteAt, wordAt, textAt}
 use Rattle.conversion.specs.Ir.{LabelName, StringEntry, FloatEntry, position, sameLabel, sameText, sameFloat}
 use Rattle.conversion.specs.Written.{bytesOf, word, wide, boolNumber, encodeLabel, encodeString, encodeFloat, allLabels}
 use Rattle.ir.specs.declared.structs.Counters.{Counters}
-use Rattle.ir.specs.Arena.{Table, All, Tables, LabelFits, StringStands, FloatFits, FloatAt, Holds}
+use Rattle.ir.specs.Arena.{All, Tables, LabelFits, StringStands, FloatFits, FloatAt, Holds}
 use Rattle.ir.specs.Steps.{named}
 use Rattle.ir.specs.Search.{first, pairAt, textOf, fourAt}
 use Rattle.ir.proofs.Entries.{table-word}

@@ -1,10 +1,9 @@
 -- A step put another way: equal at every state, grouped otherwise, or the branch that is taken of a choice. What the one owes the other owes.
 -- By the equation at the tables' state; a choice by cases of its test or of the type. Assumes nothing.
 use mathlib.Core.Path.{_≡_, refl, sym, ap, _∙_, subst}
-use mathlib.Core.Bool.{Bool, true, false}
+use mathlib.Core.Bool.{Bool, true, false, false≢true}
 use mathlib.Core.List.{List, _++_, append-assoc}
 use Prim.Native.Nat.{ℕ}
-use native.Mathlib.Omega.{arith}
 use Rattle.laws.specs.Fix.{pick}
 use Rattle.syntax.specs.Syntax.{Ty, TInt, TFloat, TBool, TChar, TByte, TAddress, TArray, TCustom, TNull}
 use Rattle.conversion.specs.ConvertError.{ConvertErrorKind}
@@ -77,14 +76,9 @@ pub on-float : {X : Type 0} (t : Ty) (d : X) (f : Bool → X) (short : Bool) →
 unfolding onFloat
 on-float t d f short e = ap (λ (u : Ty). onFloat u d f) e
 
--- true is not false
-clash : true ≡ false → ⊥
-unfolding pick
-clash e = let z : _≡_ {A = ℕ} 0 1 = ap (λ (b : Bool). pick b 0 1) e in omega arith
-
 pub no-int : {X : Type 0} (t : Ty) (d : X) (f : Bool → Bool → X) → isInt t ≡ false → onInt t d f ≡ d
 unfolding onInt isInt
-no-int (TInt s u) d f e = absurd (clash e)
+no-int (TInt s u) d f e = absurd (false≢true (sym e))
 no-int (TFloat s) d f e = refl
 no-int TBool d f e = refl
 no-int TChar d f e = refl
@@ -96,7 +90,7 @@ no-int TNull d f e = refl
 
 pub no-float : {X : Type 0} (t : Ty) (d : X) (f : Bool → X) → isFloat t ≡ false → onFloat t d f ≡ d
 unfolding onFloat isFloat
-no-float (TFloat s) d f e = absurd (clash e)
+no-float (TFloat s) d f e = absurd (false≢true (sym e))
 no-float (TInt s u) d f e = refl
 no-float TBool d f e = refl
 no-float TChar d f e = refl

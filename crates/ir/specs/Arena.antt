@@ -124,8 +124,8 @@ pub record Held (text : List ℕ) (k : Counters) (l : List ℕ) : Type 0 where
 
 -- the counters stay within the regions, and the arena is as long as document 01 lends it; its offsets fit a word
 pub record Room (k : Counters) (l : List ℕ) : Type 0 where
-  pub arena : 320 * k .records ≤ length l
-  pub small : 320 * k .records < 2 ^ 32
+  pub arena : arenaEach * k .records ≤ length l
+  pub small : arenaEach * k .records < 2 ^ 32
   pub instructions-in : k .instructions ≤ 4 * k .records
   pub variables-in : k .variables ≤ 3 * k .records
   pub labels-in : k .labels ≤ 3 * k .records

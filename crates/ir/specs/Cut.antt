@@ -5,6 +5,7 @@ use mathlib.Core.List.{List, _++_}
 use Prim.Native.Nat.{ℕ, _-_, _*_, _≤_}
 use lib.ListN.{length, take, drop, replicate}
 use Rattle.ir.specs.declared.structs.Counters.{Counters}
+use Rattle.ir.specs.Arena as Arena
 
 -- 'unused output bytes zero': bs, and zeros up to m bytes
 unfoldable pub alone : List ℕ → ℕ → List ℕ
@@ -16,22 +17,22 @@ part l at n = take n (drop at l)
 
 -- the five buffers are as long as document 01 lends them
 pub record Lent (n : ℕ) (variables labels functions strings floats : List ℕ) : Type 0 where
-  pub variables-long : 12 * n ≤ length variables
-  pub labels-long : 24 * n ≤ length labels
-  pub functions-long : 32 * n ≤ length functions
-  pub strings-long : 8 * n ≤ length strings
-  pub floats-long : 32 * n ≤ length floats
+  pub variables-long : Arena.variables .each * n ≤ length variables
+  pub labels-long : Arena.labels .each * n ≤ length labels
+  pub functions-long : Arena.functions .each * n ≤ length functions
+  pub strings-long : Arena.strings .each * n ≤ length strings
+  pub floats-long : Arena.floats .each * n ≤ length floats
 
 -- from the arena l: what the buffers of the functions' tables hold, each as long as it was
 pub record FunctionsCut (k : Counters) (l variables labels functions : List ℕ) : Type 0 where
-  pub variables-cut : variables ≡ alone (part l (128 * k .records) (4 * k .variables)) (length variables)
-  pub labels-cut : labels ≡ alone (part l (140 * k .records) (8 * k .labels)) (length labels)
-  pub functions-cut : functions ≡ alone (part l (164 * k .records) (32 * k .functions)) (length functions)
+  pub variables-cut : variables ≡ alone (part l (Arena.variables .from * k .records) (4 * k .variables)) (length variables)
+  pub labels-cut : labels ≡ alone (part l (Arena.labels .from * k .records) (8 * k .labels)) (length labels)
+  pub functions-cut : functions ≡ alone (part l (Arena.functions .from * k .records) (32 * k .functions)) (length functions)
 
 -- and those of the program's
 pub record PoolCut (k : Counters) (l strings floats : List ℕ) : Type 0 where
-  pub strings-cut : strings ≡ alone (part l (196 * k .records) (8 * k .strings)) (length strings)
-  pub floats-cut : floats ≡ alone (part l (204 * k .records) (16 * k .floats)) (length floats)
+  pub strings-cut : strings ≡ alone (part l (Arena.strings .from * k .records) (8 * k .strings)) (length strings)
+  pub floats-cut : floats ≡ alone (part l (Arena.floats .from * k .records) (16 * k .floats)) (length floats)
 
 -- and the arena itself
 pub record Cut (k : Counters) (l l′ variables labels functions strings floats : List ℕ) : Type 0 where

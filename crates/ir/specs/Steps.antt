@@ -2,18 +2,17 @@
 -- arena held. Assumes nothing: these are definitions.
 use mathlib.Core.Path.{_≡_}
 use mathlib.Core.Logic.{_⊎_}
-use Prim.Native.Nat.{ℕ, _+_, _-_, _*_, _≤_, _<_}
-use mathlib.Core.Bool.{Bool, true, false}
+use Prim.Native.Nat.{ℕ, _+_, _-_, _*_}
+use mathlib.Core.Bool.{Bool, false}
 use mathlib.Core.List.{List, [], _∷_, _++_}
-use mathlib.Core.Option.{Option, none, some}
-use lib.ListN.{length}
+use mathlib.Core.Option.{none, some}
 use Rattle.laws.specs.Fix.{pick}
 use Rattle.laws.specs.Splice.{splice}
 use Rattle.records.specs.Words.{textAt}
 use Rattle.conversion.specs.ConvertError.{ConvertErrorKind}
 use Rattle.conversion.specs.Ir as Ir
-use Rattle.conversion.specs.Ir.{State, Out, made, failed, M, IrFunction, LabelName, StringEntry, FloatEntry}
-use Rattle.conversion.specs.Written.{encodeInstr, encodeVar, encodeLabel, encodeString, encodeFloat, word}
+use Rattle.conversion.specs.Ir.{State, Out, made, failed, M, LabelName, StringEntry, FloatEntry}
+use Rattle.conversion.specs.Written.{encodeInstr, encodeVar, encodeLabel, encodeString, encodeFloat}
 use Rattle.ir.specs.declared.structs.Counters.{Counters}
 use Rattle.ir.specs.declared.structs.Instr.{Instr}
 use Rattle.ir.specs.declared.structs.NewVariable.{NewVariable}
@@ -21,7 +20,7 @@ use Rattle.ir.specs.declared.structs.LabelNumber.{LabelNumber}
 use Rattle.ir.specs.declared.pool.PoolNumber.{PoolNumber}
 use Rattle.ir.specs.Instructions.{varOf, instrOf}
 use Rattle.ir.specs.Amounts.{amount, Spent}
-use Rattle.ir.specs.Arena.{Tables, Holds, Room}
+use Rattle.ir.specs.Arena.{variables, labels, strings, floats, Tables, Holds, Room}
 
 -- the tables after a step that emits c and leaves the state s
 abbrev pub grown : Tables → List Ir.Instr → State → Tables
@@ -88,7 +87,7 @@ pub record Emits (i : Instr) (k : Counters) (l : List ℕ) (k′ : Counters) (l�
 pub record AddsVar (y : ℕ) (k : Counters) (l : List ℕ) (r : NewVariable) (l′ : List ℕ) : Type 0 where
   pub next : Next (Ir.new-var y) k l (varOf (r .var)) (r .counters) l′
   pub spent : Spent k (r .counters) (amount 0 1 0 0 0)
-  pub entry : Wrote l (128 * k .records + 4 * k .variables) (encodeVar y) (moreVariables k) (r .counters) l′
+  pub entry : Wrote l (variables .from * k .records + 4 * k .variables) (encodeVar y) (moreVariables k) (r .counters) l′
 
 abbrev pub named : ℕ → ℕ → LabelName
 named kind opener = record { kind = kind; opener = opener }
@@ -97,17 +96,17 @@ named kind opener = record { kind = kind; opener = opener }
 pub record NumbersLabel (kind opener : ℕ) (k : Counters) (l : List ℕ) (r : LabelNumber) (l′ : List ℕ) : Type 0 where
   pub next : Next (Ir.label-id (named kind opener)) k l (r .label .0) (r .counters) l′
   pub spent : Spent k (r .counters) (amount 0 0 1 0 0)
-  pub entry : Wrote l (140 * k .records + 8 * k .labels) (encodeLabel (named kind opener)) (moreLabels k) (r .counters) l′ ⊎ Stays k l (r .counters) l′
+  pub entry : Wrote l (labels .from * k .records + 8 * k .labels) (encodeLabel (named kind opener)) (moreLabels k) (r .counters) l′ ⊎ Stays k l (r .counters) l′
 
 pub record NumbersString (text : List ℕ) (e : StringEntry) (k : Counters) (l : List ℕ) (r : PoolNumber) (l′ : List ℕ) : Type 0 where
   pub next : NextIn text (Ir.string-id e) k l (r .number) (r .counters) l′
   pub spent : Spent k (r .counters) (amount 0 0 0 1 0)
-  pub entry : Wrote l (196 * k .records + 8 * k .strings) (encodeString e) (moreStrings k) (r .counters) l′ ⊎ Stays k l (r .counters) l′
+  pub entry : Wrote l (strings .from * k .records + 8 * k .strings) (encodeString e) (moreStrings k) (r .counters) l′ ⊎ Stays k l (r .counters) l′
 
 pub record NumbersFloat (e : FloatEntry) (k : Counters) (l : List ℕ) (r : PoolNumber) (l′ : List ℕ) : Type 0 where
   pub next : Next (Ir.float-id e) k l (r .number) (r .counters) l′
   pub spent : Spent k (r .counters) (amount 0 0 0 0 1)
-  pub entry : Wrote l (204 * k .records + 16 * k .floats) (encodeFloat e) (moreFloats k) (r .counters) l′ ⊎ Stays k l (r .counters) l′
+  pub entry : Wrote l (floats .from * k .records + 16 * k .floats) (encodeFloat e) (moreFloats k) (r .counters) l′ ⊎ Stays k l (r .counters) l′
 
 -- ---- a function is done
 

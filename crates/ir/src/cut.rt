@@ -2,9 +2,15 @@
 ghost use mathlib.Core.Path.{_≡_};
 ghost use mathlib.Core.List.{_++_};
 ghost use Prim.Native.Nat.{_+_, _*_, _≤_};
-ghost use lib.ListN.{length, take, drop};
+ghost use lib.ListN.{length, drop};
+ghost use Rattle.ir.specs.Arena as Arena;
 ghost use Rattle.ir.specs.Arena.{Room};
 ghost use Rattle.ir.specs.Cut.{alone, part, Lent, FunctionsCut, PoolCut, Cut};
+use crate::arena::FLOATS;
+use crate::arena::FUNCTIONS;
+use crate::arena::LABELS;
+use crate::arena::STRINGS;
+use crate::arena::VARIABLES;
 use crate::structs::Counters;
 
 // `len` bytes from byte `from` on, to the start of `out`.
@@ -49,23 +55,23 @@ fn cut_functions(
     labels: &mut [u8],
     functions: &mut [u8],
 )
-    requires { ⌜ Room k (now arena) × (12 * k .records ≤ length (now variables)) × (24 * k .records ≤ length (now labels)) × (32 * k .records ≤ length (now functions)) ⌝ }
+    requires { ⌜ Room k (now arena) × (Arena.variables .each * k .records ≤ length (now variables)) × (Arena.labels .each * k .records ≤ length (now labels)) × (Arena.functions .each * k .records ≤ length (now functions)) ⌝ }
     ensures { λ _. ⌜ FunctionsCut k (now (arena .entry)) (now (variables .exit)) (now (labels .exit)) (now (functions .exit)) ⌝ }
 {
     let n = k.records;
-    cut(arena, 128 * n, 4 * k.variables, variables);
-    cut(arena, 140 * n, 8 * k.labels, labels);
-    cut(arena, 164 * n, 32 * k.functions, functions);
+    cut(arena, VARIABLES * n, 4 * k.variables, variables);
+    cut(arena, LABELS * n, 8 * k.labels, labels);
+    cut(arena, FUNCTIONS * n, 32 * k.functions, functions);
 }
 
 // The program's tables.
 fn cut_pool(arena: &[u8], k: Counters, strings: &mut [u8], floats: &mut [u8])
-    requires { ⌜ Room k (now arena) × (8 * k .records ≤ length (now strings)) × (32 * k .records ≤ length (now floats)) ⌝ }
+    requires { ⌜ Room k (now arena) × (Arena.strings .each * k .records ≤ length (now strings)) × (Arena.floats .each * k .records ≤ length (now floats)) ⌝ }
     ensures { λ _. ⌜ PoolCut k (now (arena .entry)) (now (strings .exit)) (now (floats .exit)) ⌝ }
 {
     let n = k.records;
-    cut(arena, 196 * n, 8 * k.strings, strings);
-    cut(arena, 204 * n, 16 * k.floats, floats);
+    cut(arena, STRINGS * n, 8 * k.strings, strings);
+    cut(arena, FLOATS * n, 16 * k.floats, floats);
 }
 
 // The five tables cut out; the instructions stay, alone.

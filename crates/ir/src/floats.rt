@@ -1,7 +1,7 @@
 // A float entry: an f64 with its short mark. A NaN's bits cannot pass through an f64 here, so that they stand beside it.
 ghost use mathlib.Core.Path.{_≡_};
-ghost use lib.Ieee.{binary64, nanBits};
 ghost use Rattle.ir.specs.Floats.{bitsOf, entryOf, entry};
+use records::words::nan_bits;
 
 pub struct FloatEntry {
     pub value: f64,
@@ -17,13 +17,6 @@ pub enum FloatBits {
 pub struct EntryBits {
     pub bits: u64,
     pub short: bool,
-}
-
-// Whether 64 bits are a NaN's: without the sign, above an infinity's.
-fn nan_bits(b: u64) -> bool
-    ensures { λ r. ⌜ r ≡ nanBits binary64 b ⌝ }
-{
-    (b & 0x7FFF_FFFF_FFFF_FFFF) > 0x7FF0_0000_0000_0000
 }
 
 // The entry with these bits and this mark.

@@ -1,4 +1,5 @@
 // The emitter: the six tables while converting, and what a function's conversion adds to them. The definitions stand in specs/.
+pub mod arena;
 pub mod cut;
 pub mod floats;
 pub mod pool;

@@ -2,14 +2,16 @@
 ghost use mathlib.Core.Path.{_≡_};
 ghost use mathlib.Core.List.{_++_};
 ghost use Prim.Native.Nat.{_+_, _*_, _≤_, _<_};
-ghost use lib.ListN.{length, getD};
+ghost use lib.ListN.{length};
 ghost use Rattle.records.specs.Words.{textAt};
 ghost use Rattle.conversion.specs.Ir.{floatBits};
 ghost use Rattle.conversion.specs.Written.{word};
-ghost use Rattle.ir.specs.Arena.{Room};
+ghost use Rattle.ir.specs.Arena.{strings, floats, Room};
 ghost use Rattle.ir.specs.Floats.{entry, entryOf};
 ghost use Rattle.ir.specs.Search.{first, foundOf, textOf};
 ghost use Rattle.ir.specs.Steps.{stringAt, moreStrings, moreFloats, Wrote, NumbersString, NumbersFloat, Next};
+use crate::arena::FLOATS;
+use crate::arena::STRINGS;
 use crate::floats::FloatBits;
 use crate::floats::entry_bits;
 use crate::search::find_four;
@@ -56,12 +58,12 @@ fn find_text(text: &[u8], s: &[u8], at: usize, count: usize, offset: u32, len: u
 
 fn add_string(arena: &mut [u8], k: Counters, offset: u32, len: u32) -> PoolNumber
     requires { ⌜ Room k (now arena) × (k .strings < k .records) ⌝ }
-    ensures { λ r. ⌜ (r .number ≡ k .strings) × Wrote (now (arena .entry)) (196 * k .records + 8 * k .strings) (word offset ++ word len) (moreStrings k) (r .counters) (now (arena .exit)) ⌝ }
+    ensures { λ r. ⌜ (r .number ≡ k .strings) × Wrote (now (arena .entry)) (strings .from * k .records + 8 * k .strings) (word offset ++ word len) (moreStrings k) (r .counters) (now (arena .exit)) ⌝ }
 {
     let v = k.strings;
     let mut next = k;
     next.strings = v + 1;
-    put_pair(arena, 196 * k.records + 8 * v, offset, len);
+    put_pair(arena, STRINGS * k.records + 8 * v, offset, len);
     PoolNumber {
         number: v as u32,
         counters: next,
@@ -73,7 +75,7 @@ pub fn string_id(text: &[u8], arena: &mut [u8], k: Counters, offset: u32, len: u
     requires { ⌜ Room k (now arena) × (k .strings < k .records) ⌝ }
     ensures { λ r. ⌜ NumbersString (now (text .entry)) (stringAt (now (text .entry)) offset len) k (now (arena .entry)) r (now (arena .exit)) ⌝ }
 {
-    match find_text(text, arena, 196 * k.records, k.strings, offset, len) {
+    match find_text(text, arena, STRINGS * k.records, k.strings, offset, len) {
         Found::At(i) => PoolNumber {
             number: i as u32,
             counters: k,
@@ -84,12 +86,12 @@ pub fn string_id(text: &[u8], arena: &mut [u8], k: Counters, offset: u32, len: u
 
 fn add_float(arena: &mut [u8], k: Counters, w: Four) -> PoolNumber
     requires { ⌜ Room k (now arena) × (k .floats < 2 * k .records) ⌝ }
-    ensures { λ r. ⌜ (r .number ≡ k .floats) × Wrote (now (arena .entry)) (204 * k .records + 16 * k .floats) (word (w .0) ++ word (w .1) ++ word (w .2) ++ word (w .3)) (moreFloats k) (r .counters) (now (arena .exit)) ⌝ }
+    ensures { λ r. ⌜ (r .number ≡ k .floats) × Wrote (now (arena .entry)) (floats .from * k .records + 16 * k .floats) (word (w .0) ++ word (w .1) ++ word (w .2) ++ word (w .3)) (moreFloats k) (r .counters) (now (arena .exit)) ⌝ }
 {
     let v = k.floats;
     let mut next = k;
     next.floats = v + 1;
-    put_four(arena, 204 * k.records + 16 * v, w);
+    put_four(arena, FLOATS * k.records + 16 * v, w);
     PoolNumber {
         number: v as u32,
         counters: next,
@@ -103,7 +105,7 @@ pub fn float_id(arena: &mut [u8], k: Counters, f: FloatBits) -> PoolNumber
 {
     let e = entry_bits(f);
     let w = Four(low(e.bits), high(e.bits), mark(e.short), 0);
-    match find_four(arena, 204 * k.records, k.floats, w) {
+    match find_four(arena, FLOATS * k.records, k.floats, w) {
         Found::At(i) => PoolNumber {
             number: i as u32,
             counters: k,
@@ -122,7 +124,7 @@ pub fn float_bits(arena: &[u8], k: Counters, i: u32) -> u64
     if j >= k.floats {
         return 0;
     }
-    let x = load(arena, 204 * n + 16 * j);
-    let y = load(arena, 204 * n + 16 * j + 4);
+    let x = load(arena, FLOATS * n + 16 * j);
+    let y = load(arena, FLOATS * n + 16 * j + 4);
     x as u64 + y as u64 * 4294967296
 }

@@ -7,9 +7,16 @@ ghost use Rattle.laws.specs.Splice.{splice};
 ghost use Rattle.syntax.specs.Syntax.{unaryOps, binaryOps, unaryNumber, binaryNumber, Neg, Or};
 ghost use Rattle.conversion.specs.Written.{tag, operandValue, encodeInstr, encodeLabel};
 ghost use Rattle.ir.specs.Instructions.{operandOf, instrOf, fieldBytes, oneBytes, noneBytes, twoBytes};
-ghost use Rattle.ir.specs.Arena.{Room};
+ghost use Rattle.ir.specs.Arena.{labels, Room};
 ghost use Rattle.ir.specs.Steps.{named, moreLabels, Wrote, Emits, AddsVar, NumbersLabel, Closes};
+use crate::arena::FUNCTIONS;
+use crate::arena::LABELS;
+use crate::arena::VARIABLES;
 use crate::search::find_pair;
+use records::numbers::BINARY_OPS;
+use records::numbers::NEG;
+use records::numbers::OR;
+use records::numbers::UNARY_OPS;
 use records::words::Found;
 use records::words::Four;
 use records::words::NONE;
@@ -20,6 +27,55 @@ use records::words::put_four;
 use records::words::put_pair;
 use records::words::put_word;
 use records::words::wide;
+
+// Kinds of instructions.
+const COPY: u8 = 1;
+
+const UNARY: u8 = 2;
+
+const BINARY: u8 = 3;
+
+const CAST: u8 = 4;
+
+const ZERO: u8 = 5;
+
+const ARG: u8 = 6;
+
+const CALL: u8 = 7;
+
+const LABEL: u8 = 8;
+
+const JUMP: u8 = 9;
+
+const JUMP_IF_NOT: u8 = 10;
+
+const RETURN: u8 = 11;
+
+const COMMENT: u8 = 12;
+
+// Where a kind has no operator.
+const NO_OPERATOR: u8 = 0;
+
+// Tags of operands.
+pub const TAG_NONE: u8 = 0;
+
+pub const TAG_VARIABLE: u8 = 1;
+
+pub const TAG_INT: u8 = 2;
+
+pub const TAG_INT_SHORT: u8 = 3;
+
+pub const TAG_UNSIGNED: u8 = 4;
+
+pub const TAG_UNSIGNED_SHORT: u8 = 5;
+
+pub const TAG_FLOAT: u8 = 6;
+
+pub const TAG_BOOL: u8 = 7;
+
+pub const TAG_STRING: u8 = 8;
+
+pub const TAG_NULL: u8 = 9;
 
 // A label's number in its function.
 pub struct Label(pub u32);
@@ -103,18 +159,22 @@ fn tag_of(o: Operand) -> u8
     ensures { λ r. ⌜ r ≡ tag (operandOf o) ⌝ }
 {
     match o {
-        Operand::Var(_) => 1,
+        Operand::Var(_) => TAG_VARIABLE,
         Operand::Int(_, short, unsigned) => {
             if short {
-                if unsigned { 5 } else { 3 }
+                if unsigned {
+                    TAG_UNSIGNED_SHORT
+                } else {
+                    TAG_INT_SHORT
+                }
             } else {
-                if unsigned { 4 } else { 2 }
+                if unsigned { TAG_UNSIGNED } else { TAG_INT }
             }
         }
-        Operand::Float(_) => 6,
-        Operand::Bool(_) => 7,
-        Operand::DataAddress(_) => 8,
-        Operand::Null => 9,
+        Operand::Float(_) => TAG_FLOAT,
+        Operand::Bool(_) => TAG_BOOL,
+        Operand::DataAddress(_) => TAG_STRING,
+        Operand::Null => TAG_NULL,
     }
 }
 
@@ -144,20 +204,23 @@ fn part_of(o: Operand) -> Part
 fn unary_number(op: u8) -> u8
     ensures { λ r. ⌜ r ≡ unaryNumber (getD unaryOps op Neg) ⌝ }
 {
-    if op < 3 { op } else { 0 }
+    if op < UNARY_OPS { op } else { NEG }
 }
 
 fn binary_number(op: u8) -> u8
     ensures { λ r. ⌜ r ≡ binaryNumber (getD binaryOps op Or) ⌝ }
 {
-    if op < 18 { op } else { 0 }
+    if op < BINARY_OPS { op } else { OR }
 }
 
 // Nothing in an operand's place.
 fn no_part() -> Part
     ensures { λ r. ⌜ (r .tag ≡ 0) × (r .value ≡ 0) ⌝ }
 {
-    Part { tag: 0, value: 0 }
+    Part {
+        tag: TAG_NONE,
+        value: 0,
+    }
 }
 
 // An instruction with one operand.
@@ -180,7 +243,7 @@ fn with_none(kind: u8, target: u32, owner: u32) -> Fields
 {
     Fields {
         kind,
-        operator: 0,
+        operator: NO_OPERATOR,
         first: no_part(),
         second: no_part(),
         target,
@@ -192,7 +255,7 @@ fn with_two(operator: u8, target: u32, o: Operand, p: Operand) -> Fields
     ensures { λ r. ⌜ fieldBytes r ≡ twoBytes operator target (operandOf o) (operandOf p) ⌝ }
 {
     Fields {
-        kind: 3,
+        kind: BINARY,
         operator,
         first: part_of(o),
         second: part_of(p),
@@ -206,19 +269,19 @@ fn fields_of(i: Instr) -> Fields
     ensures { λ r. ⌜ fieldBytes r ≡ encodeInstr (instrOf i) ⌝ }
 {
     match i {
-        Instr::Copy(v, o) => with_one(1, 0, v.0, o),
-        Instr::Unary(v, op, o) => with_one(2, unary_number(op), v.0, o),
+        Instr::Copy(v, o) => with_one(COPY, NO_OPERATOR, v.0, o),
+        Instr::Unary(v, op, o) => with_one(UNARY, unary_number(op), v.0, o),
         Instr::Binary(v, op, o, p) => with_two(binary_number(op), v.0, o, p),
-        Instr::Cast(v, o) => with_one(4, 0, v.0, o),
-        Instr::Zero(v) => with_none(5, v.0, 0),
-        Instr::Arg(o) => with_one(6, 0, 0, o),
-        Instr::Call(v, f) => with_none(7, v.0, f),
-        Instr::CallOnly(f) => with_none(7, NONE, f),
-        Instr::Label(l) => with_none(8, l.0, 0),
-        Instr::Jump(l) => with_none(9, l.0, 0),
-        Instr::JumpIfNot(o, l) => with_one(10, 0, l.0, o),
-        Instr::Return(o) => with_one(11, 0, 0, o),
-        Instr::Comment(r) => with_none(12, 0, r),
+        Instr::Cast(v, o) => with_one(CAST, NO_OPERATOR, v.0, o),
+        Instr::Zero(v) => with_none(ZERO, v.0, 0),
+        Instr::Arg(o) => with_one(ARG, NO_OPERATOR, 0, o),
+        Instr::Call(v, f) => with_none(CALL, v.0, f),
+        Instr::CallOnly(f) => with_none(CALL, NONE, f),
+        Instr::Label(l) => with_none(LABEL, l.0, 0),
+        Instr::Jump(l) => with_none(JUMP, l.0, 0),
+        Instr::JumpIfNot(o, l) => with_one(JUMP_IF_NOT, NO_OPERATOR, l.0, o),
+        Instr::Return(o) => with_one(RETURN, NO_OPERATOR, 0, o),
+        Instr::Comment(r) => with_none(COMMENT, 0, r),
     }
 }
 
@@ -262,7 +325,7 @@ pub fn new_var(arena: &mut [u8], k: Counters, ty: u32) -> NewVariable
     let var = VarId((v - k.variables_before) as u32, ty);
     let mut next = k;
     next.variables = v + 1;
-    put_word(arena, 128 * k.records + 4 * v, ty);
+    put_word(arena, VARIABLES * k.records + 4 * v, ty);
     NewVariable {
         var,
         counters: next,
@@ -272,13 +335,13 @@ pub fn new_var(arena: &mut [u8], k: Counters, ty: u32) -> NewVariable
 // A label more at the end.
 fn add_label(arena: &mut [u8], k: Counters, kind: u32, opener: u32) -> LabelNumber
     requires { ⌜ Room k (now arena) × (k .labels < 3 * k .records) ⌝ }
-    ensures { λ r. ⌜ (r .label .0 ≡ k .labels - k .«labels_before») × Wrote (now (arena .entry)) (140 * k .records + 8 * k .labels) (encodeLabel (named kind opener)) (moreLabels k) (r .counters) (now (arena .exit)) ⌝ }
+    ensures { λ r. ⌜ (r .label .0 ≡ k .labels - k .«labels_before») × Wrote (now (arena .entry)) (labels .from * k .records + 8 * k .labels) (encodeLabel (named kind opener)) (moreLabels k) (r .counters) (now (arena .exit)) ⌝ }
 {
     let v = k.labels;
     let label = Label((v - k.labels_before) as u32);
     let mut next = k;
     next.labels = v + 1;
-    put_pair(arena, 140 * k.records + 8 * v, kind, opener);
+    put_pair(arena, LABELS * k.records + 8 * v, kind, opener);
     LabelNumber {
         label,
         counters: next,
@@ -290,7 +353,7 @@ pub fn label_id(arena: &mut [u8], k: Counters, kind: u32, opener: u32) -> LabelN
     requires { ⌜ Room k (now arena) × (k .labels < 3 * k .records) ⌝ }
     ensures { λ r. ⌜ NumbersLabel kind opener k (now (arena .entry)) r (now (arena .exit)) ⌝ }
 {
-    let at = 140 * k.records + 8 * k.labels_before;
+    let at = LABELS * k.records + 8 * k.labels_before;
     match find_pair(arena, at, k.labels - k.labels_before, kind, opener) {
         Found::At(i) => LabelNumber {
             label: Label(i as u32),
@@ -306,7 +369,7 @@ pub fn add_function(arena: &mut [u8], k: Counters, owner: u32, body: bool) -> Co
     ensures { λ r. ⌜ Closes owner body k (now (arena .entry)) r (now (arena .exit)) ⌝ }
 {
     let n = k.functions;
-    let at = 164 * k.records + 32 * n;
+    let at = FUNCTIONS * k.records + 32 * n;
     let back = at + 16;
     let a = Four(
         owner,

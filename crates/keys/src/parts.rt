@@ -7,6 +7,7 @@ ghost use Rattle.conversion.specs.Ir.{sameText};
 ghost use Rattle.conversion.specs.Expressions.{castVerb, mainName, variadicMark};
 ghost use Rattle.conversion.specs.Functions.{is-ascii};
 use records::texts::same_part;
+use records::texts::same_run;
 use records::words::reference;
 
 // An offset and a length.
@@ -31,14 +32,7 @@ fn same_bytes(text: &[u8], p: Part, bytes: &[u8]) -> bool
     if n != bytes.len() {
         return false;
     }
-    let mut i = 0;
-    while i < n {
-        if text[at + i] != bytes[i] {
-            return false;
-        }
-        i += 1;
-    }
-    true
+    same_run(text, at, bytes, 0, n)
 }
 
 pub fn is_main(text: &[u8], p: Part) -> bool

@@ -4,7 +4,6 @@ use mathlib.Core.Path.{_≡_, refl, sym, ap, ap₂, _∙_}
 use mathlib.Core.Bool.{Bool, true, false, _&&_}
 use mathlib.Core.List.{List, [], _∷_}
 use Prim.Native.Nat.{ℕ, zero, suc, _+_, _-_, _≤_, _<_, min}
-use native.Mathlib.Numerals.{add-one}
 use native.Mathlib.Omega.{arith}
 use lib.Dec.{eqb}
 use lib.ListN.{length, take, drop, getD, length-take, length-drop}
@@ -86,37 +85,43 @@ pub same-taken : (t : List ℕ) (a n b m x y : ℕ) (r : Bool) → x ≡ length 
 same-taken t a n b m x y r ex ey e q =
     q ∙ ap₂ sameText (text-taken t a n x ex) (text-taken t b m x (e ∙ ey))
 
-module _ (t : List ℕ) (a b n : ℕ) (ha : a + n ≤ length t) (hb : b + n ≤ length t) where
+-- the first byte of what is left from i on, and the rest
+pub first-byte : (t : List ℕ) (o n i : ℕ) → i < n → o + n ≤ length t → textAt t (o + i) (n - i) ≡ getD t (o + i) 0 ∷ textAt t (o + (i + 1)) (n - (i + 1))
+unfolding textAt
+first-byte t o n i h k =
+    let e : n - i ≡ suc (n - (i + 1)) = omega arith in
+    let d : drop (o + i) t ≡ getD t (o + i) 0 ∷ drop (suc (o + i)) t = drop-cons t (o + i) 0 (omega arith) in
+    let s : suc (o + i) ≡ o + (i + 1) = omega arith in
+    rw (e, d, s) refl
+
+-- a text that is its whole buffer
+pub text-whole : (t : List ℕ) (n : ℕ) → n ≡ length t → textAt t 0 n ≡ t
+unfolding textAt
+text-whole t n e = take-all n t (omega (arith, e))
+
+module _ (t u : List ℕ) (a b n : ℕ) (ha : a + n ≤ length t) (hb : b + n ≤ length u) where
   -- what was asked equals what is left from i on
   abbrev pub Same : ℕ → Type 0
-  Same i = sameText (textAt t a n) (textAt t b n) ≡ sameText (textAt t (a + i) (n - i)) (textAt t (b + i) (n - i))
+  Same i = sameText (textAt t a n) (textAt u b n) ≡ sameText (textAt t (a + i) (n - i)) (textAt u (b + i) (n - i))
 
   pub same-start : Same 0
   same-start =
       let za : a ≡ a + 0 = omega arith in
       let zb : b ≡ b + 0 = omega arith in
       let zn : n ≡ n - 0 = omega arith in
-      ap₂ sameText (ap₂ (textAt t) za zn) (ap₂ (textAt t) zb zn)
+      ap₂ sameText (ap₂ (textAt t) za zn) (ap₂ (textAt u) zb zn)
 
-  one : (o i : ℕ) → i < n → o + n ≤ length t → textAt t (o + i) (n - i) ≡ getD t (o + i) 0 ∷ textAt t (o + (i + 1)) (n - (i + 1))
-  unfolding textAt
-  one o i h k =
-      let e : n - i ≡ suc (n - (i + 1)) = omega arith in
-      let d : drop (o + i) t ≡ getD t (o + i) 0 ∷ drop (suc (o + i)) t = drop-cons t (o + i) 0 (omega arith) in
-      let s : suc (o + i) ≡ o + (i + 1) = omega arith in
-      rw (e, d, s) refl
-
-  step : (i : ℕ) → i < n → sameText (textAt t (a + i) (n - i)) (textAt t (b + i) (n - i))
-      ≡ (eqb (getD t (a + i) 0) (getD t (b + i) 0) && sameText (textAt t (a + (i + 1)) (n - (i + 1))) (textAt t (b + (i + 1)) (n - (i + 1))))
+  step : (i : ℕ) → i < n → sameText (textAt t (a + i) (n - i)) (textAt u (b + i) (n - i))
+      ≡ (eqb (getD t (a + i) 0) (getD u (b + i) 0) && sameText (textAt t (a + (i + 1)) (n - (i + 1))) (textAt u (b + (i + 1)) (n - (i + 1))))
   unfolding sameText
-  step i h = rw (one a i h ha, one b i h hb) refl
+  step i h = rw (first-byte t a n i h ha, first-byte u b n i h hb) refl
 
-  pub same-more : (i : ℕ) → i < n → getD t (a + i) 0 ≡ getD t (b + i) 0 → Same i → Same (i + 1)
-  same-more i h e w = w ∙ step i h ∙ rw (eq-eqb (getD t (a + i) 0) (getD t (b + i) 0) e) refl
+  pub same-more : (i : ℕ) → i < n → getD t (a + i) 0 ≡ getD u (b + i) 0 → Same i → Same (i + 1)
+  same-more i h e w = w ∙ step i h ∙ rw (eq-eqb (getD t (a + i) 0) (getD u (b + i) 0) e) refl
 
-  pub same-other : (i : ℕ) → i < n → (getD t (a + i) 0 ≡ getD t (b + i) 0 → ⊥) → Same i → false ≡ sameText (textAt t a n) (textAt t b n)
-  same-other i h e w = sym (w ∙ step i h ∙ rw (ne-eqb (getD t (a + i) 0) (getD t (b + i) 0) e) refl)
+  pub same-other : (i : ℕ) → i < n → (getD t (a + i) 0 ≡ getD u (b + i) 0 → ⊥) → Same i → false ≡ sameText (textAt t a n) (textAt u b n)
+  same-other i h e w = sym (w ∙ step i h ∙ rw (ne-eqb (getD t (a + i) 0) (getD u (b + i) 0) e) refl)
 
-  pub same-end : (i : ℕ) → n ≤ i → Same i → true ≡ sameText (textAt t a n) (textAt t b n)
+  pub same-end : (i : ℕ) → n ≤ i → Same i → true ≡ sameText (textAt t a n) (textAt u b n)
   unfolding sameText textAt
   same-end i h w = let z : n - i ≡ 0 = omega arith in sym (w ∙ rw z refl)

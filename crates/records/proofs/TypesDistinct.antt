@@ -7,8 +7,8 @@ use mathlib.Core.List.{List}
 use native.Mathlib.Omega.{arith}
 use lib.Dec.{eqb, ltb}
 use lib.ListN.{length, getD}
-use borrow.Author.Tests.{eq-eqb, ne-eqb, eqb-true, eqb-false, ltb-true, leb-true}
-use Rattle.laws.specs.Fix.{pick, below}
+use borrow.Author.Tests.{eq-eqb, ne-eqb, eqb-true, eqb-false, ltb-true}
+use Rattle.laws.specs.Fix.{pick}
 use Rattle.laws.specs.Below.{allBelow}
 use Rattle.laws.proofs.FixLaws.{Local, fix-step, below-in, below-cong}
 use Rattle.laws.proofs.AllBelow.{all-at}

@@ -1,6 +1,6 @@
 -- Words as bytes: four stores are a word, words one behind the other are one run, and eight bytes are two words.
 -- Each byte by arithmetic, the runs by the laws of `splice`. Assumes nothing.
-use mathlib.Core.Path.{_≡_, refl, sym, ap, ap₂, _∙_}
+use mathlib.Core.Path.{_≡_, refl, ap₂, _∙_}
 use mathlib.Core.List.{List, [], _∷_, _++_}
 use Prim.Native.Nat.{ℕ, _+_, _*_, _/_, _%_, _^_, _≤_, _<_}
 use native.Mathlib.Omega.{arith}

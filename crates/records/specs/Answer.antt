@@ -1,6 +1,6 @@
 -- Document 01's number, place and span for each refusal. Assumes nothing: these are definitions.
 use Prim.Native.Nat.{ℕ}
-use mathlib.Core.Bool.{Bool, true, false, not, _||_, _&&_}
+use mathlib.Core.Bool.{Bool, not, _&&_}
 use mathlib.Core.List.{List}
 use lib.Dec.{eqb, leb, ltb}
 use Rattle.laws.specs.Fix.{pick}
@@ -42,7 +42,7 @@ numberOf WouldPanic = 27
 
 -- 'the record's span (0, 0 for 24 to 26 and NoMain)': which numbers come with a span
 unfoldable pub hasSpan : ℕ → Bool
-hasSpan number = not (eqb number 10) && not (leb 24 number && leb number 26)
+hasSpan number = not (eqb number (numberOf NoMain)) && not (leb (numberOf BadTree) number && leb number (numberOf ShortBuffer))
 
 -- word k of the place's span, where the place is a record and the number comes with a span
 unfoldable pub spanWord : List ℕ → ℕ → ℕ → ℕ → ℕ

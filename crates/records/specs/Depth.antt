@@ -1,12 +1,11 @@
 -- Document 01, row 'nesting': how deep a record is. Assumes nothing: these are definitions.
 use Prim.Native.Nat.{ℕ, _+_}
-use mathlib.Core.Bool.{Bool}
 use mathlib.Core.List.{List}
 use lib.Dec.{eqb, leb}
 use Rattle.laws.specs.Fix.{pick, below, fix}
 use Rattle.records.specs.declared.shape.Role.{Role}
-use Rattle.records.specs.declared.shape.Row.{Row}
 use Rattle.records.specs.Words.{kindOf, wordOf, A, B, C, D, E}
+use Rattle.records.specs.Kinds.{kindList}
 use Rattle.records.specs.Shapes.{rowAt, refers}
 
 -- the larger of two numbers
@@ -32,7 +31,7 @@ deepest tree g r =
 -- 'leaf 1; else 1 more than the deepest it refers to; a list is as deep as its deepest item'
 unfoldable pub depthStep : List ℕ → (ℕ → ℕ) → ℕ → ℕ
 unfolding pick deepest kindOf
-depthStep tree g r = pick (eqb (kindOf tree r) 12) (deepest tree g r) (deepest tree g r + 1)
+depthStep tree g r = pick (eqb (kindOf tree r) kindList) (deepest tree g r) (deepest tree g r + 1)
 
 unfoldable pub depth : List ℕ → ℕ → ℕ
 unfolding fix depthStep

@@ -1,6 +1,6 @@
 -- Document 01, 'The call': when a record breaks a rule. One definition a rule; `recordOk` has them all.
 -- Assumes nothing: these are definitions.
-use Prim.Native.Nat.{ℕ, _+_, _≤_}
+use Prim.Native.Nat.{ℕ, _+_}
 use mathlib.Core.Bool.{Bool, true, false, not, _&&_, _||_}
 use mathlib.Core.List.{List, [], _∷_}
 use lib.Dec.{eqb, leb, ltb}
@@ -11,23 +11,24 @@ use Rattle.records.specs.declared.shape.Role.{Role}
 use Rattle.records.specs.declared.shape.Role.the-variants.{Unused, Number, Text, Length, Expr, TypeRef, TypeOrNone, Name, Variable, Arguments, Parameters, Body, Item, Rest}
 use Rattle.records.specs.declared.shape.Row.{Row}
 use Rattle.records.specs.Words.{kindOf, detailOf, padOf, wordOf, textAt, sameText, records, none, A, B, C, D, E}
-use Rattle.records.specs.Shapes.{shapeOf, rowOf, rowAt, refers}
+use Rattle.records.specs.Kinds.{kindType, kindInt, kindName, kindCall, kindList, kindValue, kindTypeArgument, kindDeclare, kindIf, kindContinue, kindVariable, kindFunction}
+use Rattle.records.specs.Shapes.{rowAt, refers}
 
 -- 'A record refers only to lower numbers': the kind of the record that word w of record r refers to, 0 where that is none or not lower
 unfoldable pub kindBelow : List ℕ → ℕ → ℕ → ℕ
 unfolding pick kindOf
 kindBelow tree r w = pick (ltb w r) (kindOf tree w) 0
 
--- Int 2, Float, Str, Bool, Name, Null, SizeOf, Unary, Binary, Call 11
+-- Int, Float, Str, Bool, Name, Null, SizeOf, Unary, Binary, Call
 abbrev pub isExpr : ℕ → Bool
-isExpr kind = leb 2 kind && leb kind 11
+isExpr kind = leb kindInt kind && leb kind kindCall
 
 -- 'Arguments are lists of kinds 13 and 14 .., parameters lists of typed 24, bodies lists of 15 to 23': item a in a list of this role
 unfoldable pub itemOk : List ℕ → Role → ℕ → Bool
 unfolding kindOf wordOf
-itemOk tree Arguments a = eqb (kindOf tree a) 13 || eqb (kindOf tree a) 14
-itemOk tree Parameters a = eqb (kindOf tree a) 24 && not (eqb (wordOf tree a C) none)
-itemOk tree Body a = leb 15 (kindOf tree a) && leb (kindOf tree a) 23
+itemOk tree Arguments a = eqb (kindOf tree a) kindValue || eqb (kindOf tree a) kindTypeArgument
+itemOk tree Parameters a = eqb (kindOf tree a) kindVariable && not (eqb (wordOf tree a C) none)
+itemOk tree Body a = leb kindDeclare (kindOf tree a) && leb (kindOf tree a) kindContinue
 itemOk tree Unused a = false
 itemOk tree Number a = false
 itemOk tree Text a = false
@@ -44,7 +45,7 @@ itemOk tree Rest a = false
 unfoldable pub listStep : List ℕ → Role → (ℕ → Bool) → ℕ → Bool
 unfolding below itemOk kindOf wordOf
 listStep tree role g cell =
-    eqb (kindOf tree cell) 12
+    eqb (kindOf tree cell) kindList
     && below (itemOk tree role) cell (wordOf tree cell A) false
     && (eqb (wordOf tree cell B) none || below g cell (wordOf tree cell B) false)
 
@@ -61,15 +62,15 @@ wordOk tree bytes r Number w next = true
 wordOk tree bytes r Text w next = leb (w + next) bytes
 wordOk tree bytes r Length w next = true
 wordOk tree bytes r Expr w next = isExpr (kindBelow tree r w)
-wordOk tree bytes r TypeRef w next = eqb (kindBelow tree r w) 1
-wordOk tree bytes r TypeOrNone w next = eqb w none || eqb (kindBelow tree r w) 1
-wordOk tree bytes r Name w next = eqb (kindBelow tree r w) 6
-wordOk tree bytes r Variable w next = eqb (kindBelow tree r w) 24
+wordOk tree bytes r TypeRef w next = eqb (kindBelow tree r w) kindType
+wordOk tree bytes r TypeOrNone w next = eqb w none || eqb (kindBelow tree r w) kindType
+wordOk tree bytes r Name w next = eqb (kindBelow tree r w) kindName
+wordOk tree bytes r Variable w next = eqb (kindBelow tree r w) kindVariable
 wordOk tree bytes r Arguments w next = eqb w none || listOk tree Arguments r w
 wordOk tree bytes r Parameters w next = eqb w none || listOk tree Parameters r w
 wordOk tree bytes r Body w next = eqb w none || listOk tree Body r w
 wordOk tree bytes r Item w next = ltb w r
-wordOk tree bytes r Rest w next = eqb w none || eqb (kindBelow tree r w) 12
+wordOk tree bytes r Rest w next = eqb w none || eqb (kindBelow tree r w) kindList
 
 -- the five words of record r
 unfoldable pub wordsOk : List ℕ → ℕ → ℕ → Row → Bool
@@ -90,12 +91,12 @@ formOk tree bytes r =
 -- If: '1 has otherwise (else C none)'
 unfoldable pub otherwiseMarked : List ℕ → ℕ → Bool
 unfolding kindOf detailOf wordOf
-otherwiseMarked tree r = not (eqb (kindOf tree r) 19) || eqb (detailOf tree r) 1 || eqb (wordOf tree r C) none
+otherwiseMarked tree r = not (eqb (kindOf tree r) kindIf) || eqb (detailOf tree r) 1 || eqb (wordOf tree r C) none
 
 -- function: '4 has body (else E none)'
 unfoldable pub bodyMarked : List ℕ → ℕ → Bool
 unfolding kindOf detailOf wordOf
-bodyMarked tree r = not (eqb (kindOf tree r) 25) || leb 4 (detailOf tree r) || eqb (wordOf tree r E) none
+bodyMarked tree r = not (eqb (kindOf tree r) kindFunction) || leb 4 (detailOf tree r) || eqb (wordOf tree r E) none
 
 -- 'the twelve Int long, Int short, unsigned long, unsigned short, Float long, Float short, Bool, Char, Byte, Null, Address of Char,
 -- Address of Null': their details and their words A
@@ -110,12 +111,12 @@ unfoldable pub isFirstType : List ℕ → ℕ → Bool
 unfolding kindOf detailOf wordOf
 isFirstType tree r =
     leb 12 r
-    || (eqb (kindOf tree r) 1 && eqb (detailOf tree r) (getD twelveDetails r 0) && eqb (wordOf tree r A) (getD twelveInner r 0))
+    || (eqb (kindOf tree r) kindType && eqb (detailOf tree r) (getD twelveDetails r 0) && eqb (wordOf tree r A) (getD twelveInner r 0))
 
 -- '.. then others': a type after another kind is at fault
 unfoldable pub typesFirst : List ℕ → ℕ → Bool
 unfolding kindOf allBelow
-typesFirst tree r = not (eqb (kindOf tree r) 1) || allBelow r (λ j. eqb (kindOf tree j) 1)
+typesFirst tree r = not (eqb (kindOf tree r) kindType) || allBelow r (λ j. eqb (kindOf tree j) kindType)
 
 -- 'no two equal (key text aside)': Custom by its name, the others by detail, inner type and count. Inner types are the same when they are
 -- the same record: were they equal otherwise, the later of them would be at fault before. So would a record whose name leaves the buffer.
@@ -130,7 +131,7 @@ sameType tree text j r =
 -- 'of two equal types .. the later' is at fault
 unfoldable pub typeIsNew : List ℕ → List ℕ → ℕ → Bool
 unfolding kindOf anyBelow sameType
-typeIsNew tree text r = not (eqb (kindOf tree r) 1) || not (anyBelow r (λ j. eqb (kindOf tree j) 1 && sameType tree text j r))
+typeIsNew tree text r = not (eqb (kindOf tree r) kindType) || not (anyBelow r (λ j. eqb (kindOf tree j) kindType && sameType tree text j r))
 
 -- how often a word of this role refers to record r: once or not at all
 unfoldable pub refersTo : Role → ℕ → ℕ → ℕ
@@ -155,7 +156,7 @@ references tree r = sumBelow (records tree) (refersFrom tree r)
 -- 'Each record but types and functions is referred to exactly once': 'for the count of references the one referred to' is at fault
 unfoldable pub referredOnce : List ℕ → ℕ → Bool
 unfolding kindOf references
-referredOnce tree r = eqb (kindOf tree r) 1 || eqb (kindOf tree r) 25 || eqb (references tree r) 1
+referredOnce tree r = eqb (kindOf tree r) kindType || eqb (kindOf tree r) kindFunction || eqb (references tree r) 1
 
 -- record r breaks no rule
 unfoldable pub recordOk : List ℕ → List ℕ → ℕ → Bool

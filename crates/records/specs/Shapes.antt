@@ -9,6 +9,7 @@ use Rattle.laws.specs.Fix.{pick}
 use Rattle.records.specs.declared.shape.Role.{Role}
 use Rattle.records.specs.declared.shape.Role.the-variants.{Unused, Number, Text, Length, Expr, TypeRef, TypeOrNone, Name, Variable, Arguments, Parameters, Body, Item, Rest}
 use Rattle.records.specs.declared.shape.Row.{Row}
+use Rattle.records.specs.Kinds.{kindType, kindFunction}
 use Rattle.records.specs.Words.{kindOf, detailOf}
 
 -- details below `limit`, and what the words A to E are for
@@ -102,7 +103,7 @@ typeShape d = pick (plainType d) 1 (pick (eqb d 6) 26 (pick (eqb d 7) 27 (pick (
 -- the row for a kind and a detail; 0 for an unknown kind and for a type of unknown detail
 unfoldable pub shapeOf : ℕ → ℕ → ℕ
 unfolding pick typeShape
-shapeOf kind detail = pick (eqb kind 1) (typeShape detail) (pick (leb kind 25) kind 0)
+shapeOf kind detail = pick (eqb kind kindType) (typeShape detail) (pick (leb kind kindFunction) kind 0)
 
 -- the row of record r
 unfoldable pub rowAt : List ℕ → ℕ → Row

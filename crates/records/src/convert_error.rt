@@ -2,6 +2,8 @@
 ghost use mathlib.Core.Path.{_≡_};
 ghost use Prim.Native.Nat.{_<_};
 ghost use Rattle.records.specs.Answer.{numberOf, spanWord, wordsOf};
+use crate::words::SPAN_END;
+use crate::words::SPAN_START;
 use crate::words::word;
 
 pub enum ConvertErrorKind {
@@ -33,6 +35,13 @@ pub enum ConvertErrorKind {
     ShortBuffer,
     WouldPanic,
 }
+
+// The numbers that come without a span: NoMain, and from BadTree to ShortBuffer.
+const NO_MAIN: u32 = 10;
+
+const BAD_TREE: u32 = 24;
+
+const SHORT_BUFFER: u32 = 26;
 
 // A refusal and the record where it happened, NONE where it has no place.
 pub struct ConvertError {
@@ -92,7 +101,7 @@ fn span_word(tree: &[u8], number: u32, place: u32, k: usize) -> u32
     if r >= tree.len() / 32 {
         return 0;
     }
-    if (number != 10) & !((24 <= number) & (number <= 26)) {
+    if (number != NO_MAIN) & !((BAD_TREE <= number) & (number <= SHORT_BUFFER)) {
         return word(tree, r, k);
     }
     0
@@ -108,7 +117,7 @@ pub fn words_of(tree: &[u8], e: ConvertError) -> AnswerWords
     AnswerWords {
         number: n,
         place,
-        start: span_word(tree, n, place, 5),
-        end: span_word(tree, n, place, 6),
+        start: span_word(tree, n, place, SPAN_START),
+        end: span_word(tree, n, place, SPAN_END),
     }
 }

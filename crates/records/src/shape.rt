@@ -3,6 +3,8 @@ ghost use mathlib.Core.Path.{_≡_};
 ghost use Prim.Native.Nat.{_<_};
 ghost use Rattle.records.specs.Shapes.{shapeOf, rowOf, refers, roleOf, plainType, typeShape};
 ghost use Rattle.records.specs.Packed.{unpacked};
+use crate::numbers::KIND_FUNCTION;
+use crate::numbers::KIND_TYPE;
 
 // What a word of a record is for. Text is an offset and Length the length beside it; from Expr on a word refers to a record.
 pub enum Role {
@@ -154,10 +156,10 @@ fn type_shape(detail: u8) -> usize
 pub fn shape_of(kind: u8, detail: u8) -> usize
     ensures { λ r. ⌜ (r ≡ shapeOf kind detail) × (r < 29) ⌝ }
 {
-    if kind == 1 {
+    if kind == KIND_TYPE {
         return type_shape(detail);
     }
-    if kind <= 25 {
+    if kind <= KIND_FUNCTION {
         return kind as usize;
     }
     0

@@ -3,11 +3,27 @@ ghost use mathlib.Core.Path.{_≡_};
 ghost use mathlib.Core.List.{_++_};
 ghost use Prim.Native.Nat.{_+_, _*_, _/_, _%_, _≤_, _<_};
 ghost use lib.ListN.{length};
+ghost use lib.Ieee.{binary64, nanBits};
 ghost use Rattle.laws.specs.Splice.{splice};
 ghost use Rattle.records.specs.Words.{wordAt, wordOf, kindOf, detailOf, padOf, word as wordBytes, boolNumber};
 
 // FFFFFFFF in a word that refers to a record means none.
 pub const NONE: u32 = 4294967295;
+
+// The words of a record.
+pub const WORD_A: usize = 0;
+
+pub const WORD_B: usize = 1;
+
+pub const WORD_C: usize = 2;
+
+pub const WORD_D: usize = 3;
+
+pub const WORD_E: usize = 4;
+
+pub const SPAN_START: usize = 5;
+
+pub const SPAN_END: usize = 6;
 
 // How many records a tree has at most.
 pub const MOST_RECORDS: usize = 2048;
@@ -26,7 +42,7 @@ pub fn load(s: &[u8], at: usize) -> u32
     wide(s[at]) + wide(s[at + 1]) * 256 + wide(s[at + 2]) * 65536 + wide(s[at + 3]) * 16777216
 }
 
-// Word k of record r: 0 to 4 are A to E, 5 and 6 the span.
+// Word k of record r: one of A to E, or of the span.
 pub fn word(tree: &[u8], r: usize, k: usize) -> u32
     requires { ⌜ (r * 32 + 32 ≤ length (now tree)) × (k < 7) ⌝ }
     ensures { λ v. ⌜ v ≡ wordOf (now (tree .entry)) r k ⌝ }
@@ -128,4 +144,11 @@ pub fn put_four(buf: &mut [u8], at: usize, w: Four)
 pub enum Found {
     At(usize),
     Nothing,
+}
+
+// Whether 64 bits are a NaN's: without the sign, above an infinity's.
+pub fn nan_bits(b: u64) -> bool
+    ensures { λ r. ⌜ r ≡ nanBits binary64 b ⌝ }
+{
+    (b & 0x7FFF_FFFF_FFFF_FFFF) > 0x7FF0_0000_0000_0000
 }

@@ -1,4 +1,3 @@
-pub mod CastRule
 mod FitsCases
 mod FloatFacts
 mod FoldCases

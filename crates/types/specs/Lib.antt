@@ -1,4 +1,3 @@
-pub mod Casts
 pub mod Fits
 pub mod Floats
 pub mod Operators

@@ -12,7 +12,18 @@ use crate::form::INT;
 use crate::form::form;
 use crate::form::is_short;
 
-// A row for each source, an entry for each target: other scalar, long Int, address, Null, rest.
+// Classes of types.
+const OTHER_SCALAR: usize = 0;
+
+const LONG_INT: usize = 1;
+
+const ADDRESSES: usize = 2;
+
+const NULLS: usize = 3;
+
+const REST: usize = 4;
+
+// A row for each source, an entry for each target, in the order of the classes.
 const CASTS: [[bool; 5]; 5] = [
     [true, true, false, false, false],
     [true, true, true, false, false],
@@ -28,26 +39,26 @@ fn cast_class(tree: &[u8], ty: usize) -> usize
     let f = form(tree, ty);
     if f == INT {
         if is_short(tree, ty) {
-            return 0;
+            return OTHER_SCALAR;
         }
-        return 1;
+        return LONG_INT;
     }
     if f == ADDRESS {
-        return 2;
+        return ADDRESSES;
     }
     if f == ARRAY {
-        return 4;
+        return REST;
     }
     if f == CUSTOM {
-        return 4;
+        return REST;
     }
     if f < INT {
-        return 3;
+        return NULLS;
     }
     if f < ADDRESS {
-        return 0;
+        return OTHER_SCALAR;
     }
-    3
+    NULLS
 }
 
 pub fn can_cast(tree: &[u8], from: usize, to: usize) -> bool

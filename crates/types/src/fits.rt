@@ -23,11 +23,11 @@ use crate::form::is_unsigned;
 use crate::int_value::int_value;
 use int128::Checked;
 use int128::int_fits;
+use records::numbers::KIND_NULL;
+use records::numbers::NULL_TYPE;
+use records::words::WORD_A;
 use records::words::kind;
 use records::words::reference;
-
-// The record of the type Null.
-const NULL_TYPE: usize = 9;
 
 fn int_constant_fits(tree: &[u8], e: usize, expected: usize) -> bool
     requires { ⌜ e * 32 + 32 ≤ length (now tree) ⌝ }
@@ -58,10 +58,10 @@ fn to_nothing(tree: &[u8], from: usize, to: usize) -> bool
     requires { ⌜ to * 32 + 32 ≤ length (now tree) ⌝ }
     ensures { λ r. ⌜ r ≡ (eqb (wordOf (now (tree .entry)) from 0) 9 || eqb (wordOf (now (tree .entry)) to 0) 9) ⌝ }
 {
-    if reference(tree, from, 0) == NULL_TYPE {
+    if reference(tree, from, WORD_A) == NULL_TYPE {
         return true;
     }
-    reference(tree, to, 0) == NULL_TYPE
+    reference(tree, to, WORD_A) == NULL_TYPE
 }
 
 // Where the two types are not equal.
@@ -90,7 +90,7 @@ fn fits_into(tree: &[u8], e: usize, ty: usize, expected: usize) -> bool
             return to_nothing(tree, ty, expected);
         }
         if from == NULL {
-            return kind(tree, e) == 7;
+            return kind(tree, e) == KIND_NULL;
         }
     }
     false

@@ -4,14 +4,26 @@ ghost use mathlib.Core.List.{List};
 ghost use mathlib.Core.Option.{some};
 ghost use Prim.Native.Nat.{ℕ, _+_, _*_, _≤_};
 ghost use lib.ListN.{length, getD};
-ghost use lib.Ieee.{Float, binary64, nan, nanBits, ofBits};
+ghost use lib.Ieee.{Float, binary64, nan, ofBits};
 ghost use Rattle.syntax.specs.Syntax.{unaryOps, binaryOps, Neg, Or};
 ghost use Rattle.syntax.specs.Decode.{exprOf, node};
 ghost use Rattle.conversion.specs.Types.{negFloat, floatTwo, floatBinary, float-value, float-fits};
 ghost use Rattle.types.specs.Floats.{floatOf, finite, small};
 use crate::form::two_words;
+use records::numbers::ADD;
+use records::numbers::BIT_NOT;
+use records::numbers::DIV;
+use records::numbers::KIND_BINARY;
+use records::numbers::KIND_FLOAT;
+use records::numbers::KIND_UNARY;
+use records::numbers::MUL;
+use records::numbers::NOT;
+use records::numbers::SUB;
+use records::words::WORD_A;
+use records::words::WORD_B;
 use records::words::detail;
 use records::words::kind;
+use records::words::nan_bits;
 use records::words::reference;
 
 // A number or an infinity, a NaN, or nothing where the expression is no float constant. A NaN stands apart because its bits are not
@@ -25,13 +37,6 @@ pub enum FloatValue {
 // The largest f32: bits 47EFFFFFE0000000.
 const LIMIT: f64 = 340282346638528859811704183484516925440.0;
 
-// Whether 64 bits are a NaN's: without the sign, above an infinity's.
-fn nan_bits(b: u64) -> bool
-    ensures { λ r. ⌜ r ≡ nanBits binary64 b ⌝ }
-{
-    (b & 0x7FFF_FFFF_FFFF_FFFF) > 0x7FF0_0000_0000_0000
-}
-
 fn from_bits(b: u64) -> FloatValue
     ensures { λ r. ⌜ floatOf r ≡ some (ofBits binary64 b) ⌝ }
 {
@@ -42,7 +47,7 @@ fn from_bits(b: u64) -> FloatValue
 }
 
 // What an operation gave, with a NaN set apart.
-fn told(x: f64) -> FloatValue
+fn nan_apart(x: f64) -> FloatValue
     ensures { λ r. ⌜ floatOf r ≡ some x ⌝ }
 {
     if x == x {
@@ -51,14 +56,14 @@ fn told(x: f64) -> FloatValue
     FloatValue::Nan
 }
 
-// Neg is 0, and the only one of the three for floats.
+// Neg is the only one of the three for floats.
 fn fold_neg(op: u8, value: FloatValue) -> FloatValue
     ensures { λ r. ⌜ floatOf r ≡ negFloat (getD unaryOps op Neg) (floatOf value) ⌝ }
 {
-    if op == 1 {
+    if op == BIT_NOT {
         return FloatValue::Nothing;
     }
-    if op == 2 {
+    if op == NOT {
         return FloatValue::Nothing;
     }
     match value {
@@ -68,21 +73,21 @@ fn fold_neg(op: u8, value: FloatValue) -> FloatValue
     }
 }
 
-// Add 13, Sub 14, Mul 15, Div 16.
+// Add, Sub, Mul, Div.
 fn fold_two(op: u8, left: f64, right: f64) -> FloatValue
     ensures { λ r. ⌜ floatOf r ≡ floatTwo (getD binaryOps op Or) left right ⌝ }
 {
-    if op == 13 {
-        return told(left + right);
+    if op == ADD {
+        return nan_apart(left + right);
     }
-    if op == 14 {
-        return told(left - right);
+    if op == SUB {
+        return nan_apart(left - right);
     }
-    if op == 15 {
-        return told(left * right);
+    if op == MUL {
+        return nan_apart(left * right);
     }
-    if op == 16 {
-        return told(left / right);
+    if op == DIV {
+        return nan_apart(left / right);
     }
     FloatValue::Nothing
 }
@@ -92,8 +97,8 @@ fn fold_nan(op: u8) -> FloatValue
     ensures left { λ r. ⌜ ((y : Float) → floatOf r ≡ floatTwo (getD binaryOps op Or) nan y) ⌝ }
     ensures right { λ r. ⌜ ((x : Float) → floatOf r ≡ floatTwo (getD binaryOps op Or) x nan) ⌝ }
 {
-    if 13 <= op {
-        if op <= 16 {
+    if ADD <= op {
+        if op <= DIV {
             return FloatValue::Nan;
         }
     }
@@ -124,25 +129,25 @@ fn fold_binary(op: u8, left: FloatValue, right: FloatValue) -> FloatValue
     }
 }
 
-// The value of a Float (kind 3), or of a Unary (9) or Binary (10) of such.
+// The value of a Float, or of a Unary or Binary of such.
 pub fn float_value(tree: &[u8], r: usize) -> FloatValue
     requires { ⌜ r * 32 + 32 ≤ length (now tree) ⌝ }
     ensures { λ v. ⌜ ((text : List ℕ) → floatOf v ≡ float-value (exprOf (node (now (tree .entry)) text r))) ⌝ }
 {
     let k = kind(tree, r);
-    if k == 3 {
-        return from_bits(two_words(tree, r, 0));
+    if k == KIND_FLOAT {
+        return from_bits(two_words(tree, r, WORD_A));
     }
-    if k == 9 {
-        let a = reference(tree, r, 0);
+    if k == KIND_UNARY {
+        let a = reference(tree, r, WORD_A);
         if a < r {
             return fold_neg(detail(tree, r), float_value(tree, a));
         }
         return FloatValue::Nothing;
     }
-    if k == 10 {
-        let a = reference(tree, r, 0);
-        let b = reference(tree, r, 1);
+    if k == KIND_BINARY {
+        let a = reference(tree, r, WORD_A);
+        let b = reference(tree, r, WORD_B);
         if a < r {
             if b < r {
                 return fold_binary(detail(tree, r), float_value(tree, a), float_value(tree, b));

@@ -4,7 +4,7 @@ ghost use mathlib.Core.List.{List};
 ghost use Prim.Native.Nat.{ℕ, _+_, _*_, _%_, _≤_};
 ghost use lib.ListN.{length};
 ghost use Rattle.records.specs.Words.{detailOf, wordOf};
-ghost use Rattle.syntax.specs.Decode.{bit, wideOf, typeAt};
+ghost use Rattle.syntax.specs.Decode.{bit, typeAt};
 ghost use Rattle.conversion.specs.Types.{is-number};
 use records::words::detail;
 use records::words::word;

@@ -11,21 +11,37 @@ ghost use Rattle.conversion.specs.Types.{foldUnary, foldTwo, foldBinary, int-va
 use crate::form::two_words;
 use int128::Checked;
 use int128::Int128;
+use records::numbers::ADD;
+use records::numbers::BIT_AND;
+use records::numbers::BIT_NOT;
+use records::numbers::BIT_OR;
+use records::numbers::BIT_XOR;
+use records::numbers::DIV;
+use records::numbers::KIND_BINARY;
+use records::numbers::KIND_INT;
+use records::numbers::KIND_UNARY;
+use records::numbers::MUL;
+use records::numbers::NOT;
+use records::numbers::REM;
+use records::numbers::SHL;
+use records::numbers::SHR;
+use records::numbers::SUB;
+use records::words::WORD_A;
+use records::words::WORD_B;
 use records::words::detail;
 use records::words::kind;
 use records::words::reference;
 
-// Neg 0, BitNot 1, Not 2.
 fn fold_unary(op: u8, value: Checked) -> Checked
     ensures { λ r. ⌜ answerOf r ≡ foldUnary (getD unaryOps op Neg) (answerOf value) ⌝ }
 {
     match value {
         Checked::Nothing => Checked::Nothing,
         Checked::Value(v) => {
-            if op == 1 {
+            if op == BIT_NOT {
                 return Checked::Value(v.not());
             }
-            if op == 2 {
+            if op == NOT {
                 return Checked::Nothing;
             }
             v.checked_neg()
@@ -33,44 +49,44 @@ fn fold_unary(op: u8, value: Checked) -> Checked
     }
 }
 
-// BitOr 2, BitXor 3, BitAnd 4.
+// BitOr, BitXor, BitAnd.
 fn fold_bits(op: u8, left: Int128, right: Int128) -> Int128
     requires { ⌜ (2 ≤ op) × (op ≤ 4) ⌝ }
     ensures { λ r. ⌜ some (valueOf r) ≡ foldTwo (getD binaryOps op Or) (valueOf left) (valueOf right) ⌝ }
 {
-    if op == 2 {
+    if op == BIT_OR {
         return left.bitor(right);
     }
-    if op == 3 {
+    if op == BIT_XOR {
         return left.bitxor(right);
     }
     left.bitand(right)
 }
 
-// Shl 11, Shr 12, Add 13, Sub 14, Mul 15, Div 16, Rem 17.
+// From Shl on: Shl, Shr, Add, Sub, Mul, Div, Rem.
 fn fold_checked(op: u8, left: Int128, right: Int128) -> Checked
     requires { ⌜ 11 ≤ op ⌝ }
     ensures { λ r. ⌜ answerOf r ≡ foldTwo (getD binaryOps op Or) (valueOf left) (valueOf right) ⌝ }
 {
-    if op == 11 {
+    if op == SHL {
         return left.checked_shl_by(right);
     }
-    if op == 12 {
+    if op == SHR {
         return left.checked_shr_by(right);
     }
-    if op == 13 {
+    if op == ADD {
         return left.checked_add(right);
     }
-    if op == 14 {
+    if op == SUB {
         return left.checked_sub(right);
     }
-    if op == 15 {
+    if op == MUL {
         return left.checked_mul(right);
     }
-    if op == 16 {
+    if op == DIV {
         return left.checked_div(right);
     }
-    if op == 17 {
+    if op == REM {
         return left.checked_rem(right);
     }
     Checked::Nothing
@@ -79,13 +95,13 @@ fn fold_checked(op: u8, left: Int128, right: Int128) -> Checked
 fn fold_two(op: u8, left: Int128, right: Int128) -> Checked
     ensures { λ r. ⌜ answerOf r ≡ foldTwo (getD binaryOps op Or) (valueOf left) (valueOf right) ⌝ }
 {
-    if 11 <= op {
+    if SHL <= op {
         return fold_checked(op, left, right);
     }
-    if 4 < op {
+    if BIT_AND < op {
         return Checked::Nothing;
     }
-    if 2 <= op {
+    if BIT_OR <= op {
         return Checked::Value(fold_bits(op, left, right));
     }
     Checked::Nothing
@@ -103,25 +119,25 @@ fn fold_binary(op: u8, left: Checked, right: Checked) -> Checked
     }
 }
 
-// The value of an Int (kind 2), or of a Unary (9) or Binary (10) of such.
+// The value of an Int, or of a Unary or Binary of such.
 pub fn int_value(tree: &[u8], r: usize) -> Checked
     requires { ⌜ r * 32 + 32 ≤ length (now tree) ⌝ }
     ensures { λ v. ⌜ ((text : List ℕ) → answerOf v ≡ int-value (exprOf (node (now (tree .entry)) text r))) ⌝ }
 {
     let k = kind(tree, r);
-    if k == 2 {
-        return Checked::Value(Int128::from_i64_bits(two_words(tree, r, 0)));
+    if k == KIND_INT {
+        return Checked::Value(Int128::from_i64_bits(two_words(tree, r, WORD_A)));
     }
-    if k == 9 {
-        let a = reference(tree, r, 0);
+    if k == KIND_UNARY {
+        let a = reference(tree, r, WORD_A);
         if a < r {
             return fold_unary(detail(tree, r), int_value(tree, a));
         }
         return Checked::Nothing;
     }
-    if k == 10 {
-        let a = reference(tree, r, 0);
-        let b = reference(tree, r, 1);
+    if k == KIND_BINARY {
+        let a = reference(tree, r, WORD_A);
+        let b = reference(tree, r, WORD_B);
         if a < r {
             if b < r {
                 return fold_binary(detail(tree, r), int_value(tree, a), int_value(tree, b));

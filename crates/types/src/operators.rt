@@ -28,76 +28,76 @@ pub struct Operator {
 // Or, And, BitOr, BitXor, BitAnd, Eq, NotEq, Lt, Le, Gt, Ge, Shl, Shr, Add, Sub, Mul, Div, Rem.
 const OPERATORS: [Operator; 18] = [
     Operator {
-        operands: 0,
-        result: 1,
+        operands: BOOLS,
+        result: BOOL,
     },
     Operator {
-        operands: 0,
-        result: 1,
+        operands: BOOLS,
+        result: BOOL,
     },
     Operator {
-        operands: 3,
-        result: 0,
+        operands: INTEGERS,
+        result: COMMON,
     },
     Operator {
-        operands: 3,
-        result: 0,
+        operands: INTEGERS,
+        result: COMMON,
     },
     Operator {
-        operands: 3,
-        result: 0,
+        operands: INTEGERS,
+        result: COMMON,
     },
     Operator {
-        operands: 1,
-        result: 1,
+        operands: ANY,
+        result: BOOL,
     },
     Operator {
-        operands: 1,
-        result: 1,
+        operands: ANY,
+        result: BOOL,
     },
     Operator {
-        operands: 2,
-        result: 1,
+        operands: NUMBERS,
+        result: BOOL,
     },
     Operator {
-        operands: 2,
-        result: 1,
+        operands: NUMBERS,
+        result: BOOL,
     },
     Operator {
-        operands: 2,
-        result: 1,
+        operands: NUMBERS,
+        result: BOOL,
     },
     Operator {
-        operands: 2,
-        result: 1,
+        operands: NUMBERS,
+        result: BOOL,
     },
     Operator {
-        operands: 3,
-        result: 0,
+        operands: INTEGERS,
+        result: COMMON,
     },
     Operator {
-        operands: 3,
-        result: 0,
+        operands: INTEGERS,
+        result: COMMON,
     },
     Operator {
-        operands: 2,
-        result: 0,
+        operands: NUMBERS,
+        result: COMMON,
     },
     Operator {
-        operands: 2,
-        result: 0,
+        operands: NUMBERS,
+        result: COMMON,
     },
     Operator {
-        operands: 2,
-        result: 0,
+        operands: NUMBERS,
+        result: COMMON,
     },
     Operator {
-        operands: 2,
-        result: 0,
+        operands: NUMBERS,
+        result: COMMON,
     },
     Operator {
-        operands: 3,
-        result: 0,
+        operands: INTEGERS,
+        result: COMMON,
     },
 ];
 

@@ -14,6 +14,8 @@ use crate::form::INT;
 use crate::form::form;
 use crate::form::is_short;
 use crate::form::two_words;
+use records::words::WORD_A;
+use records::words::WORD_B;
 use records::words::reference;
 
 // A number below 2^63, or that it is 2^63 or more, or nothing: Custom, Null and arrays of these have no size.
@@ -81,9 +83,9 @@ pub fn size(tree: &[u8], ty: usize) -> Bytes
     ensures size { λ r. ⌜ ((text : List ℕ) → bytesOf r ≡ sizeAt (now (tree .entry)) text ty) ⌝ }
 {
     if form(tree, ty) == ARRAY {
-        let element = reference(tree, ty, 0);
+        let element = reference(tree, ty, WORD_A);
         if element < ty {
-            return times(size(tree, element), two_words(tree, ty, 1));
+            return times(size(tree, element), two_words(tree, ty, WORD_B));
         }
         return Bytes::Nothing;
     }

@@ -1,6 +1,6 @@
 -- The entry with these bits and this mark.
 -- A pattern that is no NaN's comes back from its f64. Assumes nothing.
-use mathlib.Core.Path.{_≡_, refl, sym, ap, _∙_}
+use mathlib.Core.Path.{refl, sym, ap, _∙_}
 use mathlib.Core.Bool.{not}
 use denote.Floats.{passes}
 use Rattle.ir.specs.Floats.{entryOf}
@@ -10,7 +10,7 @@ use Rattle.ir.proofs.floats.float_entry.Statement.{statement}
 use Rattle.ir.proofs.floats.float_entry.Tie as tie
 use Rattle.ir.proofs.floats.float_entry.Reads as reads
 use Rattle.ir.proofs.floats.float_entry.Lts as lts
-use Rattle.ir.proofs.floats.nan_bits.Reads as nan-bits-reads
+use Rattle.records.proofs.words.nan_bits.Reads as nan-bits-reads
 
 -- src/floats.rt:33:8
 nan-bits-requires : tie.Need-nan-bits-requires

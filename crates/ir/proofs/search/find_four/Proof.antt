@@ -1,10 +1,9 @@
 -- The loop says what `first` says: what was asked equals what is left from the number at hand on.
 -- The laws of `first` at each turn, at a hit and at the end. Assumes nothing.
-use mathlib.Core.Path.{_≡_, sym, _∙_}
+use mathlib.Core.Path.{sym, _∙_}
 use Prim.Native.Nat.{_≤_, _-_}
 use native.Mathlib.Omega.{arith}
-use borrow.Author.Needs.{needs}
-use Rattle.ir.specs.Search.{first, fourAt}
+use Rattle.ir.specs.Search.{fourAt}
 use Rattle.ir.proofs.SearchLaws.{Left, left-start, left-more, left-hit, left-end}
 use Rattle.ir.proofs.search.find_four.Statement.{statement}
 use Rattle.ir.proofs.search.find_four.Tie as tie

@@ -1,7 +1,5 @@
 -- The words of an entry, compared one by one.
 -- By what `load` ensures of each. Assumes nothing.
-use mathlib.Core.Path.{_≡_, ap, ap₂, _∙_}
-use lib.Dec.{eqb}
 use Rattle.ir.specs.Search.{fourAt}
 use borrow.Author.Needs.{needs}
 use Rattle.ir.proofs.search.is_four.Statement.{statement}

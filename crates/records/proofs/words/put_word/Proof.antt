@@ -1,12 +1,10 @@
 -- Four stores are one word, written over the bytes at `at`.
 -- The law of a run of stores, and a word's bytes. Assumes nothing.
-use mathlib.Core.Path.{_∙_, ap, sym}
 use mathlib.Core.List.{[], _∷_}
 use Prim.Native.Nat.{_/_, _%_}
 use native.Mathlib.Omega.{arith}
 use native.Mathlib.Numerals.{add-one}
 use lib.ListN.{length-set}
-use Rattle.laws.specs.Splice.{splice}
 use Rattle.laws.proofs.Splices.{splice-sets, add-two, add-three}
 use Rattle.records.proofs.WordLaws.{word-bytes}
 use borrow.Author.Needs.{needs}

@@ -9,7 +9,7 @@ use Rattle.types.proofs.float_value.from_bits.Statement.{statement}
 use Rattle.types.proofs.float_value.from_bits.Tie as tie
 use Rattle.types.proofs.float_value.from_bits.Reads as reads
 use Rattle.types.proofs.float_value.from_bits.Lts as lts
-use Rattle.types.proofs.float_value.nan_bits.Reads as nan-bits-reads
+use Rattle.records.proofs.words.nan_bits.Reads as nan-bits-reads
 
 -- src/float_value.rt:38:8
 nan-bits-requires : tie.Need-nan-bits-requires

@@ -5,12 +5,11 @@ use lib.Dec.{ltb}
 use lib.Bits.{and-mask}
 use lib.Ieee.{binary64}
 use lib.Ieee.Bits.{nanBits-above}
-use Rattle.ir.proofs.floats.nan_bits.Statement.{statement}
-use Rattle.ir.proofs.floats.nan_bits.Tie as tie
-use Rattle.ir.proofs.floats.nan_bits.Reads as reads
-use Rattle.ir.proofs.floats.nan_bits.Lts as lts
+use Rattle.records.proofs.words.nan_bits.Statement.{statement}
+use Rattle.records.proofs.words.nan_bits.Tie as tie
+use Rattle.records.proofs.words.nan_bits.Reads as reads
+use Rattle.records.proofs.words.nan_bits.Lts as lts
 
--- src/floats.rt:23:1
 returns : tie.Need-returns
 returns c = ap (ltb 9218868437227405312) (and-mask (c .args .b) 63) ∙ sym (nanBits-above binary64 (c .args .b))
 

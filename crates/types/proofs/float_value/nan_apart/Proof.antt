@@ -2,10 +2,10 @@
 use mathlib.Core.Path.{refl}
 use Rattle.types.specs.Floats.{floatOf}
 use Rattle.types.proofs.FloatFacts.{told-nan}
-use Rattle.types.proofs.float_value.told.Statement.{statement}
-use Rattle.types.proofs.float_value.told.Tie as tie
-use Rattle.types.proofs.float_value.told.Reads as reads
-use Rattle.types.proofs.float_value.told.Lts as lts
+use Rattle.types.proofs.float_value.nan_apart.Statement.{statement}
+use Rattle.types.proofs.float_value.nan_apart.Tie as tie
+use Rattle.types.proofs.float_value.nan_apart.Reads as reads
+use Rattle.types.proofs.float_value.nan_apart.Lts as lts
 
 -- src/float_value.rt:49:9
 returns : tie.Need-returns
@@ -16,5 +16,5 @@ returns c = refl
 returns-2 : tie.Need-returns-2
 returns-2 c = told-nan _ (c .if1 .left)
 
-pub told-spec : {M : Type 1} → statement M
-told-spec = tie.close (tie.spec returns returns-2)
+pub nan-apart-spec : {M : Type 1} → statement M
+nan-apart-spec = tie.close (tie.spec returns returns-2)

@@ -1,0 +1,10 @@
+// Where each table begins in the arena, in bytes a record; the instructions' own begins at 0.
+pub const VARIABLES: usize = 128;
+
+pub const LABELS: usize = 140;
+
+pub const FUNCTIONS: usize = 164;
+
+pub const STRINGS: usize = 196;
+
+pub const FLOATS: usize = 204;
