@@ -71,6 +71,7 @@ var-done y r k l l′ room small e₀ e₁ ek e =
             let count : r .var .0 ≡ length (t .state .vars) = omega (arith, e₀, h .variables-hold .count, h .before .variables-before, length-append (allVars (t .done)) (t .state .vars)) in
             (ap₂ variable count e₁, var-holds text t k l room h y l′ small e);
       });
+      typed = e₁;
       spent = same-spent (omega arith) ek;
       entry = record { counts = ek; wrote = e };
     }

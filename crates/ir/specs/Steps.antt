@@ -86,6 +86,7 @@ pub record Emits (i : Instr) (k : Counters) (l : List ℕ) (k′ : Counters) (l�
 
 pub record AddsVar (y : ℕ) (k : Counters) (l : List ℕ) (r : NewVariable) (l′ : List ℕ) : Type 0 where
   pub next : Next (Ir.new-var y) k l (varOf (r .var)) (r .counters) l′
+  pub typed : r .var .1 ≡ y
   pub spent : Spent k (r .counters) (amount 0 1 0 0 0)
   pub entry : Wrote l (variables .from * k .records + 4 * k .variables) (encodeVar y) (moreVariables k) (r .counters) l′
 
