@@ -158,7 +158,7 @@ pub(crate) fn fit_operand(
 
 // The type of the parameter in a cell; behind the parameters long Float.
 fn parameter_type(tree: &[u8], text: &[u8], parameter: usize) -> usize
-    requires { ⌜ Good (now tree) (now text) × ParamsAt (now tree) parameter ⌝ }
+    requires { ⌜ Good (now tree) (now text) × ParamsAt (now tree) parameter × TypeAt (now tree) 4 ⌝ }
     ensures { λ y. ⌜ (y ≡ parameterType (paramsAt (now (tree .entry)) (now (text .entry)) parameter) 0) × TypeAt (now (tree .entry)) y ⌝ }
 {
     if parameter == END {
