@@ -4,3 +4,5 @@ pub mod StayLaws
 pub mod JumpLaws
 pub mod StackLaws
 pub mod LeafLaws
+pub mod FitLaws
+pub mod FitTurns
