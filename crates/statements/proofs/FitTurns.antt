@@ -1,6 +1,7 @@
 -- The loops over the values of a call: what is left owes what the whole owes, when they are emitted and when they are fitted in place.
 -- By one turn and the end; a turn writes one entry of the stack, and the entries before and behind it stay. Assumes nothing.
 use mathlib.Core.Path.{_≡_, refl, sym, ap, _∙_, subst}
+use mathlib.Core.Logic.{inr}
 use mathlib.Core.List.{List, [], _∷_, _++_, append-assoc, append-nil}
 use Prim.Native.Nat.{ℕ, zero, suc, _+_, _-_, _*_, _≤_, _<_}
 use native.Mathlib.Omega.{arith}
@@ -21,7 +22,7 @@ use Rattle.ir.specs.Amounts.{amount}
 use Rattle.ir.specs.Instructions.{operandOf}
 use Rattle.ir.specs.Steps.{Emits}
 use Rattle.ir.proofs.Entries.{word-same}
-use Rattle.scope.proofs.ScopeLaws.{byte-behind}
+use Rattle.scope.proofs.Apart.{byte-apart}
 use Rattle.statements.specs.declared.answers.Fitted.{Fitted}
 use Rattle.statements.specs.Stack.{operandBytes, entryAt, operandAt, stackAt}
 use Rattle.statements.specs.Converting.{RoomFor, OperandIn, StackIn, Stays}
@@ -102,7 +103,7 @@ bytes-long o = refl
 
 module _ (s s′ : List ℕ) (n i : ℕ) (o : Ir.Operand) (e : s′ ≡ splice s (entryAt n i) (operandBytes o)) (fits : 64 * n ≤ length s) (low : i < n) where
   byte : (q : ℕ) → entryAt n i + 16 ≤ q → getD s′ q 0 ≡ getD s q 0
-  byte q h = ap (λ (x : List ℕ). getD x q 0) e ∙ byte-behind s (entryAt n i) (operandBytes o) q (omega (arith, bytes-long o)) (omega (arith, bytes-long o))
+  byte q h = ap (λ (x : List ℕ). getD x q 0) e ∙ byte-apart s (entryAt n i) (operandBytes o) (omega (arith, bytes-long o)) q (inr (omega (arith, bytes-long o)))
 
   word-behind : (p : ℕ) → entryAt n i + 16 ≤ p → wordAt s′ p ≡ wordAt s p
   word-behind p h = word-same s′ p s p (byte p h) (byte (p + 1) (omega arith)) (byte (p + 2) (omega arith)) (byte (p + 3) (omega arith))

@@ -30,7 +30,6 @@ use crate::operands::push_operand;
 use expressions::answers::Outcome;
 use expressions::arguments::END;
 use expressions::arguments::next_cell;
-use keys::keys::parameters_of;
 use ir::floats::float_entry;
 use ir::pool::float_bits;
 use ir::pool::float_id;
@@ -40,7 +39,9 @@ use ir::structs::Operand;
 use ir::structs::VarId;
 use ir::structs::emit;
 use ir::structs::new_var;
+use keys::keys::parameters_of;
 use records::convert_error::ConvertErrorKind;
+use records::words::reference;
 use types::fits::fits;
 use types::fits::range_error;
 use types::form::FLOAT;
@@ -48,7 +49,6 @@ use types::form::INT;
 use types::form::form;
 use types::form::is_short;
 use types::form::is_unsigned;
-use records::words::reference;
 
 // The float of number i with this mark.
 fn refloat(arena: &mut [u8], k: Counters, i: u32, short: bool) -> Fitted
