@@ -1,3 +1,6 @@
 pub mod PartLaws
 pub mod MeetLaws
 pub mod StayLaws
+pub mod EmitLaws
+pub mod ConvertLaws
+pub mod AroundLaws

@@ -1,7 +1,6 @@
 // statements.rs: what stands before, between and behind the parts of an expression.
 ghost use mathlib.Core.Path.{_≡_};
 ghost use mathlib.Core.List.{List};
-ghost use mathlib.Core.Option.{some};
 ghost use Prim.Native.Nat.{ℕ, _+_, _*_, _≤_, _<_};
 ghost use lib.Dec.{eqb};
 ghost use lib.ListN.{length, getD};
@@ -11,9 +10,8 @@ ghost use Rattle.syntax.specs.Syntax.{unaryOps, binaryOps, Neg, Or};
 ghost use Rattle.syntax.specs.Decode.{program};
 ghost use Rattle.syntax.specs.Places.{IsKind, TypeAt, FunctionAt, functionOf};
 ghost use Rattle.conversion.specs.ConvertError.{ok};
-ghost use Rattle.conversion.specs.Ir.{OVar, _>>_, pure};
-ghost use Rattle.conversion.specs.Expressions.{Callee};
-ghost use Rattle.conversion.specs.Statements.{castFirst, callFunction};
+ghost use Rattle.conversion.specs.Expressions.{Callee, CallFunction};
+ghost use Rattle.conversion.specs.Statements.{castFirst, callValue};
 ghost use Rattle.ir.specs.Amounts.{amount};
 ghost use Rattle.ir.specs.Instructions.{operandOf, varOf};
 ghost use Rattle.expressions.specs.Keys.{allKeys};
@@ -36,7 +34,6 @@ use crate::jumps::place_label;
 use crate::numbers::AND;
 use crate::numbers::LOGIC_END;
 use crate::numbers::LOGIC_RHS;
-use crate::operands::operand;
 use crate::operands::operand_at;
 use expressions::answers::Common;
 use expressions::answers::ExprType;
@@ -248,7 +245,7 @@ pub(crate) fn call_function(
 ) -> Converted
     requires { ⌜ Converting (now tree) (now text) (now arena) (now scratch) c × Afforded (now tree) c (amount (2 * count + 1) count 0 0 count) count 0 ⌝ }
     requires { ⌜ FunctionAt (now tree) f × TypeAt (now tree) (dest .1) × StackIn (now tree) (now scratch) (c .operands) count ⌝ }
-    ensures { λ a. ⌜ Converts (now (tree .entry)) (now (text .entry)) (callFunction (program (now (tree .entry)) (now (text .entry))) (allKeys (now (tree .entry)) (now (text .entry))) (some (varOf dest)) (functionOf (now (tree .entry)) (now (text .entry)) f) (stackAt (now (scratch .entry)) (records (now (tree .entry))) (c .operands) count) >> pure (OVar (varOf dest))) (amount (2 * count + 1) count 0 0 count) c (now (arena .entry)) (now (scratch .entry)) a (now (arena .exit)) (now (scratch .exit)) ⌝ }
+    ensures { λ a. ⌜ ((e : ℕ) → Converts (now (tree .entry)) (now (text .entry)) (callValue (program (now (tree .entry)) (now (text .entry))) (allKeys (now (tree .entry)) (now (text .entry))) e (varOf dest) (stackAt (now (scratch .entry)) (records (now (tree .entry))) (c .operands) count) (CallFunction (functionOf (now (tree .entry)) (now (text .entry)) f))) (amount (2 * count + 1) count 0 0 count) c (now (arena .entry)) (now (scratch .entry)) a (now (arena .exit)) (now (scratch .exit))) ⌝ }
 {
     let k = pass_args(tree, text, arena, scratch, c, f, count);
     let next = emit(arena, k, Instr::Call(dest, f as u32));
