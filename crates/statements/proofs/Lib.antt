@@ -4,3 +4,5 @@ pub mod StayLaws
 pub mod EmitLaws
 pub mod ConvertLaws
 pub mod AroundLaws
+pub mod ExprLaws
+pub mod ArgsLaws

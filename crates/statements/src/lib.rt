@@ -2,6 +2,7 @@
 // emitter into the arena, and the operands of a call wait on a stack in scratch until the call is written. Here stands what the functions that
 // call each other rest on: labels and jumps, the stack, fitting, and what stands around the parts of an expression.
 pub mod answers;
+mod exprs;
 mod fits;
 mod jumps;
 mod numbers;
