@@ -23,7 +23,7 @@ use records::words::reference;
 pub const END: usize = 4294967295;
 
 // An expression, or a type.
-pub(crate) enum Argument {
+pub enum Argument {
     Expr(usize),
     ToType(usize),
 }
@@ -37,7 +37,7 @@ pub struct Call {
 }
 
 // The argument in a cell.
-pub(crate) fn argument_at(tree: &[u8], text: &[u8], cell: usize) -> Argument
+pub fn argument_at(tree: &[u8], text: &[u8], cell: usize) -> Argument
     requires { ⌜ Good (now tree) (now text) ⌝ }
     requires { ⌜ ArgsAt (now tree) cell ⌝ }
     requires { ⌜ (cell ≡ 4294967295 → ⊥) ⌝ }

@@ -1,4 +1,4 @@
--- A label asked for and an instruction written, as steps that add; and the two in a row: jumps to labels and labels placed.
+-- A label asked for and then an instruction written: jumps to labels and labels placed.
 -- By the law of two steps. Assumes nothing.
 use mathlib.Core.Path.{_≡_}
 use mathlib.Core.List.{List}
@@ -6,30 +6,16 @@ use Prim.Native.Nat.{ℕ}
 use lib.ListN.{length}
 use Rattle.conversion.specs.Ir as Ir
 use Rattle.ir.specs.declared.structs.Counters.{Counters}
-use Rattle.ir.specs.declared.structs.Instr.{Instr}
 use Rattle.ir.specs.declared.structs.Instr.the-variants as Instr
 use Rattle.ir.specs.declared.structs.LabelNumber.{LabelNumber}
-use Rattle.ir.specs.declared.structs.NewVariable.{NewVariable}
 use Rattle.ir.specs.declared.structs.Operand.{Operand}
 use Rattle.ir.specs.Amounts.{amount}
-use Rattle.ir.specs.Instructions.{varOf, operandOf, instrOf}
-use Rattle.ir.specs.Steps.{named, Emits, AddsVar, NumbersLabel}
+use Rattle.ir.specs.Instructions.{operandOf}
+use Rattle.ir.specs.Steps.{named, Emits, NumbersLabel}
 use Rattle.statements.specs.Meets.{Adds}
 use Rattle.statements.specs.Parts.{placeLabel, jumpTo, jumpIfNot}
 use Rattle.statements.proofs.MeetLaws.{adds-then}
-
--- ---- the emitter's functions, as steps that add
-
-pub emit-adds : {i : Instr} {k k′ : Counters} {l l′ : List ℕ} → length l′ ≡ length l → Emits i k l k′ l′ → Adds (Ir.emit (instrOf i)) (amount 1 0 0 0 0) k l tt k′ l′
-emit-adds e p = record { next = p .next; spent = p .spent; long = e }
-
-pub label-adds : {kind opener : ℕ} {k : Counters} {l l′ : List ℕ} {r : LabelNumber} → length l′ ≡ length l → NumbersLabel kind opener k l r l′
-    → Adds (Ir.label-id (named kind opener)) (amount 0 0 1 0 0) k l (r .label .0) (r .counters) l′
-label-adds e p = record { next = p .next; spent = p .spent; long = e }
-
-pub var-adds : {y : ℕ} {k : Counters} {l l′ : List ℕ} {r : NewVariable} → length l′ ≡ length l → AddsVar y k l r l′
-    → Adds (Ir.new-var y) (amount 0 1 0 0 0) k l (varOf (r .var)) (r .counters) l′
-var-adds e p = record { next = p .next; spent = p .spent; long = e }
+use Rattle.statements.proofs.EmitLaws.{emit-adds, label-adds}
 
 -- ---- a label, and the instruction that names it
 

@@ -6,3 +6,8 @@ pub mod StackLaws
 pub mod LeafLaws
 pub mod FitLaws
 pub mod FitTurns
+pub mod EmitLaws
+pub mod ConvertLaws
+pub mod AroundLaws
+pub mod ExprLaws
+pub mod ArgsLaws

@@ -1,0 +1,28 @@
+-- A cast of the first value; without one it is refused.
+-- By whether there is one. Assumes nothing.
+use borrow.Author.Needs.{needs}
+use Rattle.statements.proofs.AroundLaws.{cast-none, cast-some}
+use native.Mathlib.Omega.{arith}
+use Rattle.statements.proofs.parts.cast_first.Statement.{statement}
+use Rattle.statements.proofs.parts.cast_first.Tie as tie
+
+refusal-requires : tie.Need-refusal-requires
+refusal-requires c κs = search needs
+
+returns : tie.Need-returns
+returns c = cast-none _ _ (c .before .if1 .taken) (c .refusal .ensures)
+
+operand-at-requires : tie.Need-operand-at-requires
+operand-at-requires c κs = search needs
+
+emit-requires : tie.Need-emit-requires
+emit-requires c κs = search needs
+
+same-length : tie.Need-same-length
+same-length c = search needs
+
+returns-2 : tie.Need-returns-2
+returns-2 c = cast-some _ _ _ (c .before .before .before .before .before .before .if1 .left) (c .before .before .before .before .operand-at .ensures) (omega arith) (c .before .before .emit .ensures) (c .before .before .before .before .before .before .before .before .before .before .before .pre .1 .1)
+
+pub cast-first-spec : {M : Type 1} → statement M
+cast-first-spec = tie.close (tie.spec refusal-requires returns operand-at-requires emit-requires same-length returns-2)

@@ -1,0 +1,22 @@
+-- Behind the right side of an And or Or.
+-- A copy and a label in a row. Assumes nothing.
+use borrow.Author.Needs.{needs}
+use Rattle.statements.proofs.AroundLaws.{end-adds}
+use native.Mathlib.Omega.{arith}
+use Rattle.statements.proofs.parts.end_logic.Statement.{statement}
+use Rattle.statements.proofs.parts.end_logic.Tie as tie
+
+emit-requires : tie.Need-emit-requires
+emit-requires c κs = search needs
+
+place-label-requires : tie.Need-place-label-requires
+place-label-requires c κs = search needs
+
+same-length : tie.Need-same-length
+same-length c = search needs
+
+returns : tie.Need-returns
+returns c = λ tree t. end-adds _ (omega arith) (c .before .before .before .before .before .before .emit .ensures) (c .before .before .place-label .ensures) t
+
+pub end-logic-spec : {M : Type 1} → statement M
+end-logic-spec = tie.close (tie.spec emit-requires place-label-requires same-length returns)

@@ -1,0 +1,22 @@
+-- Between the sides of And.
+-- A copy and a jump in a row. Assumes nothing.
+use borrow.Author.Needs.{needs}
+use Rattle.statements.proofs.AroundLaws.{and-adds}
+use native.Mathlib.Omega.{arith}
+use Rattle.statements.proofs.parts.join_and.Statement.{statement}
+use Rattle.statements.proofs.parts.join_and.Tie as tie
+
+emit-requires : tie.Need-emit-requires
+emit-requires c κs = search needs
+
+jump-if-not-requires : tie.Need-jump-if-not-requires
+jump-if-not-requires c κs = search needs
+
+same-length : tie.Need-same-length
+same-length c = search needs
+
+returns : tie.Need-returns
+returns c = and-adds _ (omega arith) (c .before .before .before .before .before .before .emit .ensures) (c .before .before .jump-if-not .ensures)
+
+pub join-and-spec : {M : Type 1} → statement M
+join-and-spec = tie.close (tie.spec emit-requires jump-if-not-requires same-length returns)

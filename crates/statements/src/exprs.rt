@@ -1,0 +1,256 @@
+// statements.rs: the instructions of an expression. The functions that call each other convert parts of records, whose numbers fall;
+// arguments are walked by a loop.
+ghost use Prim.Native.Nat.{_+_};
+ghost use Rattle.records.specs.Words.{wordOf};
+ghost use Rattle.syntax.specs.Syntax.{Or};
+ghost use Rattle.syntax.specs.Count.{under};
+ghost use Rattle.syntax.specs.Places.{IsKind, TypeAt, exprAt, argsAt};
+ghost use Rattle.types.specs.Fits.{IsExpr};
+ghost use Rattle.statements.specs.Converting.{Converting, ExprAfforded, ArgsAfforded, exprAmount, argsAmount, argsUnder, argsValues};
+ghost use Rattle.statements.specs.Answers.{Converts, ConvertsArgs, exprSteps, unarySteps, logicSteps, otherSteps, binarySteps, callSteps, argsSteps};
+use crate::answers::Converted;
+use crate::answers::ConvertedArgs;
+use crate::answers::Converter;
+use crate::answers::as_converted;
+use crate::numbers::AND;
+use crate::numbers::KIND_BINARY;
+use crate::numbers::KIND_SIZE_OF;
+use crate::numbers::KIND_UNARY;
+use crate::operands::operand;
+use crate::operands::push_operand;
+use crate::parts::begin_logic;
+use crate::parts::end_logic;
+use crate::parts::finish_binary;
+use crate::parts::finish_call;
+use crate::parts::finish_unary;
+use crate::parts::join_logic;
+use crate::parts::operand_type;
+use expressions::answers::ExprType;
+use expressions::answers::Resolved;
+use expressions::arguments::Argument;
+use expressions::arguments::END;
+use expressions::arguments::argument_at;
+use expressions::arguments::next_cell;
+use expressions::expressions::get_type;
+use expressions::expressions::resolve_call;
+use records::words::detail;
+use records::words::kind;
+use records::words::reference;
+
+// The operand of the expression e; what computes it is written.
+pub(crate) fn convert_expr(
+    tree: &[u8],
+    text: &[u8],
+    arena: &mut [u8],
+    scratch: &mut [u8],
+    c: Converter,
+    e: usize,
+) -> Converted
+    requires { ⌜ Converting (now tree) (now text) (now arena) (now scratch) c × ExprAfforded (now tree) (now text) c e ⌝ }
+    requires { ⌜ IsExpr (now tree) e ⌝ }
+    ensures { λ a. ⌜ Converts (now (tree .entry)) (now (text .entry)) (exprSteps (now (tree .entry)) (now (text .entry)) (now (scratch .entry)) c e) (exprAmount (under (exprAt (now (tree .entry)) (now (text .entry)) e))) c (now (arena .entry)) (now (scratch .entry)) a (now (arena .exit)) (now (scratch .exit)) ⌝ }
+{
+    let scope = c.scope;
+    let node = kind(tree, e);
+    if node <= KIND_SIZE_OF {
+        return operand(tree, text, arena, scratch, c, e);
+    }
+    match get_type(tree, text, scratch, c.functions, scope, e) {
+        ExprType::Refused(x) => Converted::Refused(x),
+        ExprType::Is(y) => {
+            if node == KIND_UNARY {
+                return convert_unary(tree, text, arena, scratch, c, e, y);
+            }
+            if node == KIND_BINARY {
+                return convert_binary(tree, text, arena, scratch, c, e, y);
+            }
+            convert_call_value(tree, text, arena, scratch, c, e, y)
+        }
+    }
+}
+
+// The Unary e, of type y.
+fn convert_unary(
+    tree: &[u8],
+    text: &[u8],
+    arena: &mut [u8],
+    scratch: &mut [u8],
+    c: Converter,
+    e: usize,
+    y: usize,
+) -> Converted
+    requires { ⌜ Converting (now tree) (now text) (now arena) (now scratch) c × ExprAfforded (now tree) (now text) c e ⌝ }
+    requires { ⌜ IsKind (now tree) 9 e × TypeAt (now tree) y ⌝ }
+    ensures { λ a. ⌜ Converts (now (tree .entry)) (now (text .entry)) (unarySteps (now (tree .entry)) (now (text .entry)) (now (scratch .entry)) c e y) (exprAmount (under (exprAt (now (tree .entry)) (now (text .entry)) e))) c (now (arena .entry)) (now (scratch .entry)) a (now (arena .exit)) (now (scratch .exit)) ⌝ }
+{
+    let op = detail(tree, e);
+    let part = reference(tree, e, 0);
+    match convert_expr(tree, text, arena, scratch, c, part) {
+        Converted::Refused(x) => Converted::Refused(x),
+        Converted::Is(src, k) => {
+            let f = finish_unary(arena, k, op, src, y);
+            as_converted(f)
+        }
+    }
+}
+
+// The Binary e, of type y.
+fn convert_binary(
+    tree: &[u8],
+    text: &[u8],
+    arena: &mut [u8],
+    scratch: &mut [u8],
+    c: Converter,
+    e: usize,
+    y: usize,
+) -> Converted
+    requires { ⌜ Converting (now tree) (now text) (now arena) (now scratch) c × ExprAfforded (now tree) (now text) c e ⌝ }
+    requires { ⌜ IsKind (now tree) 10 e × TypeAt (now tree) y ⌝ }
+    ensures { λ a. ⌜ Converts (now (tree .entry)) (now (text .entry)) (binarySteps (now (tree .entry)) (now (text .entry)) (now (scratch .entry)) c e y) (exprAmount (under (exprAt (now (tree .entry)) (now (text .entry)) e))) c (now (arena .entry)) (now (scratch .entry)) a (now (arena .exit)) (now (scratch .exit)) ⌝ }
+{
+    match operand_type(tree, text, scratch, c, e, y) {
+        ExprType::Refused(x) => Converted::Refused(x),
+        ExprType::Is(q) => {
+            if detail(tree, e) <= AND {
+                return convert_logic(tree, text, arena, scratch, c, e, y);
+            }
+            convert_other(tree, text, arena, scratch, c, e, y, q)
+        }
+    }
+}
+
+// The And or Or e: the right side is computed only where the left one does not decide.
+fn convert_logic(
+    tree: &[u8],
+    text: &[u8],
+    arena: &mut [u8],
+    scratch: &mut [u8],
+    c: Converter,
+    e: usize,
+    y: usize,
+) -> Converted
+    requires { ⌜ Converting (now tree) (now text) (now arena) (now scratch) c × ExprAfforded (now tree) (now text) c e ⌝ }
+    requires { ⌜ IsKind (now tree) 10 e × TypeAt (now tree) y ⌝ }
+    ensures { λ a. ⌜ Converts (now (tree .entry)) (now (text .entry)) (logicSteps (now (tree .entry)) (now (text .entry)) (now (scratch .entry)) c e y) (exprAmount (under (exprAt (now (tree .entry)) (now (text .entry)) e))) c (now (arena .entry)) (now (scratch .entry)) a (now (arena .exit)) (now (scratch .exit)) ⌝ }
+{
+    let left = reference(tree, e, 0);
+    let right = reference(tree, e, 1);
+    let k = c.counters;
+    let begun = begin_logic(arena, k, e, y);
+    let dest = begun.var;
+    let k1 = begun.counters;
+    let mut at = c;
+    at.counters = k1;
+    match convert_expr(tree, text, arena, scratch, at, left) {
+        Converted::Refused(x) => Converted::Refused(x),
+        Converted::Is(a, k2) => {
+            let k3 = join_logic(tree, arena, k2, e, dest, a);
+            at.counters = k3;
+            match convert_expr(tree, text, arena, scratch, at, right) {
+                Converted::Refused(x) => Converted::Refused(x),
+                Converted::Is(b, k4) => {
+                    let f = end_logic(arena, k4, e, dest, b);
+                    as_converted(f)
+                }
+            }
+        }
+    }
+}
+
+// Any other Binary e.
+fn convert_other(
+    tree: &[u8],
+    text: &[u8],
+    arena: &mut [u8],
+    scratch: &mut [u8],
+    c: Converter,
+    e: usize,
+    y: usize,
+    q: usize,
+) -> Converted
+    requires { ⌜ Converting (now tree) (now text) (now arena) (now scratch) c × ExprAfforded (now tree) (now text) c e ⌝ }
+    requires { ⌜ IsKind (now tree) 10 e × TypeAt (now tree) y × TypeAt (now tree) q ⌝ }
+    ensures { λ a. ⌜ Converts (now (tree .entry)) (now (text .entry)) (otherSteps (now (tree .entry)) (now (text .entry)) (now (scratch .entry)) c e y q) (exprAmount (under (exprAt (now (tree .entry)) (now (text .entry)) e))) c (now (arena .entry)) (now (scratch .entry)) a (now (arena .exit)) (now (scratch .exit)) ⌝ }
+{
+    let op = detail(tree, e);
+    let left = reference(tree, e, 0);
+    let right = reference(tree, e, 1);
+    match convert_expr(tree, text, arena, scratch, c, left) {
+        Converted::Refused(x) => Converted::Refused(x),
+        Converted::Is(a, k) => {
+            let mut at = c;
+            at.counters = k;
+            match convert_expr(tree, text, arena, scratch, at, right) {
+                Converted::Refused(x) => Converted::Refused(x),
+                Converted::Is(b, k1) => {
+                    let f = finish_binary(tree, arena, k1, op, a, b, y, q);
+                    as_converted(f)
+                }
+            }
+        }
+    }
+}
+
+// The call e, of type y, whose result is used: a Call, or a Cast.
+fn convert_call_value(
+    tree: &[u8],
+    text: &[u8],
+    arena: &mut [u8],
+    scratch: &mut [u8],
+    c: Converter,
+    e: usize,
+    y: usize,
+) -> Converted
+    requires { ⌜ Converting (now tree) (now text) (now arena) (now scratch) c × ExprAfforded (now tree) (now text) c e ⌝ }
+    requires { ⌜ IsKind (now tree) 11 e × TypeAt (now tree) y ⌝ }
+    ensures { λ a. ⌜ Converts (now (tree .entry)) (now (text .entry)) (callSteps (now (tree .entry)) (now (text .entry)) (now (scratch .entry)) c e y) (exprAmount (under (exprAt (now (tree .entry)) (now (text .entry)) e))) c (now (arena .entry)) (now (scratch .entry)) a (now (arena .exit)) (now (scratch .exit)) ⌝ }
+{
+    let scope = c.scope;
+    let callee = resolve_call(tree, text, scratch, c.functions, scope, e);
+    if let Resolved::Refused(x) = callee {
+        return Converted::Refused(x);
+    }
+    match convert_args(tree, text, arena, scratch, c, e) {
+        ConvertedArgs::Refused(x) => Converted::Refused(x),
+        ConvertedArgs::Done(count, k) => {
+            let mut at = c;
+            at.counters = k;
+            finish_call(tree, text, arena, scratch, at, e, y, callee, count)
+        }
+    }
+}
+
+// The values of the call e go onto the stack, above what waits there; a type gives none.
+pub(crate) fn convert_args(
+    tree: &[u8],
+    text: &[u8],
+    arena: &mut [u8],
+    scratch: &mut [u8],
+    c: Converter,
+    e: usize,
+) -> ConvertedArgs
+    requires { ⌜ Converting (now tree) (now text) (now arena) (now scratch) c × ArgsAfforded (now tree) (now text) c (wordOf (now tree) e 2) ⌝ }
+    requires { ⌜ IsKind (now tree) 11 e ⌝ }
+    ensures { λ a. ⌜ ConvertsArgs (now (tree .entry)) (now (text .entry)) (argsSteps (now (tree .entry)) (now (text .entry)) (now (scratch .entry)) c (wordOf (now (tree .entry)) e 2)) (argsAmount (argsUnder (argsAt (now (tree .entry)) (now (text .entry)) (wordOf (now (tree .entry)) e 2))) (argsValues (argsAt (now (tree .entry)) (now (text .entry)) (wordOf (now (tree .entry)) e 2)))) (argsValues (argsAt (now (tree .entry)) (now (text .entry)) (wordOf (now (tree .entry)) e 2))) c (now (arena .entry)) (now (scratch .entry)) a (now (arena .exit)) (now (scratch .exit)) ⌝ }
+{
+    let n = tree.len() / 32;
+    let first = c.operands;
+    let mut cell = reference(tree, e, 2);
+    let mut at = c;
+    while cell != END {
+        if let Argument::Expr(value) = argument_at(tree, text, cell) {
+            match convert_expr(tree, text, arena, scratch, at, value) {
+                Converted::Refused(x) => return ConvertedArgs::Refused(x),
+                Converted::Is(o, k) => {
+                    let top = at.operands;
+                    push_operand(scratch, n, top, o);
+                    at.counters = k;
+                    at.operands = top + 1;
+                }
+            }
+        }
+        cell = next_cell(tree, text, cell);
+    }
+    let k = at.counters;
+    ConvertedArgs::Done(at.operands - first, k)
+}

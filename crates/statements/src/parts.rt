@@ -1,0 +1,282 @@
+// statements.rs: what stands before, between and behind the parts of an expression.
+ghost use mathlib.Core.Path.{_≡_};
+ghost use mathlib.Core.List.{List};
+ghost use Prim.Native.Nat.{ℕ, _+_, _*_, _≤_, _<_};
+ghost use lib.Dec.{eqb};
+ghost use lib.ListN.{length, getD};
+ghost use Rattle.laws.specs.Fix.{pick};
+ghost use Rattle.records.specs.Words.{detailOf, records};
+ghost use Rattle.syntax.specs.Syntax.{unaryOps, binaryOps, Neg, Or};
+ghost use Rattle.syntax.specs.Decode.{program};
+ghost use Rattle.syntax.specs.Places.{IsKind, TypeAt, FunctionAt, functionOf};
+ghost use Rattle.conversion.specs.ConvertError.{ok};
+ghost use Rattle.conversion.specs.Expressions.{Callee, CallFunction};
+ghost use Rattle.conversion.specs.Statements.{castFirst, callValue};
+ghost use Rattle.ir.specs.Amounts.{amount};
+ghost use Rattle.ir.specs.Instructions.{operandOf, varOf};
+ghost use Rattle.keys.specs.Keys.{allKeys};
+ghost use Rattle.expressions.specs.Slots.{Ready};
+ghost use Rattle.expressions.specs.Answers.{IsCallee, calleeOf};
+ghost use Rattle.statements.specs.Stack.{stackAt};
+ghost use Rattle.statements.specs.Converting.{Converting, RoomFor, OperandIn, StackIn, Afforded};
+ghost use Rattle.statements.specs.Meets.{Adds};
+ghost use Rattle.statements.specs.Parts.{finishUnary, beginLogic, joinAnd, joinOr, endLogic, finishBinary, finishCall};
+ghost use Rattle.statements.specs.Answers.{FitAdds, Converts, OperandTyped};
+use crate::answers::Converted;
+use crate::answers::Converter;
+use crate::answers::Fitted;
+use crate::answers::refusal;
+use crate::fits::fit_operand;
+use crate::fits::pass_args;
+use crate::jumps::jump;
+use crate::jumps::jump_if_not;
+use crate::jumps::place_label;
+use crate::numbers::AND;
+use crate::numbers::LOGIC_END;
+use crate::numbers::LOGIC_RHS;
+use crate::operands::operand_at;
+use expressions::answers::Common;
+use expressions::answers::ExprType;
+use expressions::answers::Resolved;
+use expressions::expressions::common_type;
+use ir::structs::Counters;
+use ir::structs::Instr;
+use ir::structs::NewVariable;
+use ir::structs::Operand;
+use ir::structs::VarId;
+use ir::structs::emit;
+use ir::structs::label_id;
+use ir::structs::new_var;
+use records::convert_error::ConvertErrorKind;
+use records::words::detail;
+use records::words::reference;
+
+pub(crate) fn finish_unary(arena: &mut [u8], k: Counters, op: u8, src: Operand, y: usize) -> Fitted
+    requires { ⌜ RoomFor k (now arena) (amount 1 1 0 0 0) × (y < 4294967296) ⌝ }
+    ensures { λ r. ⌜ ((tree : List ℕ) → TypeAt tree y → FitAdds tree (finishUnary (getD unaryOps op Neg) y (operandOf src)) (amount 1 1 0 0 0) k (now (arena .entry)) r (now (arena .exit))) ⌝ }
+{
+    let made = new_var(arena, k, y as u32);
+    let dest = made.var;
+    let k1 = made.counters;
+    let next = emit(arena, k1, Instr::Unary(dest, op, src));
+    Fitted {
+        operand: Operand::Var(dest),
+        counters: next,
+    }
+}
+
+// The variable of the And or Or e, of type y. Both labels are numbered now: one inside a side takes later numbers.
+pub(crate) fn begin_logic(arena: &mut [u8], k: Counters, e: usize, y: usize) -> NewVariable
+    requires { ⌜ RoomFor k (now arena) (amount 0 1 2 0 0) × (e < 4294967296) × (y < 4294967296) ⌝ }
+    ensures adds { λ r. ⌜ Adds (beginLogic e y) (amount 0 1 2 0 0) k (now (arena .entry)) (varOf (r .var)) (r .counters) (now (arena .exit)) ⌝ }
+    ensures typed { λ r. ⌜ r .var .1 ≡ y ⌝ }
+{
+    let made = new_var(arena, k, y as u32);
+    let dest = made.var;
+    let k1 = made.counters;
+    let rhs = label_id(arena, k1, LOGIC_RHS, e as u32);
+    let k2 = rhs.counters;
+    let end = label_id(arena, k2, LOGIC_END, e as u32);
+    let next = end.counters;
+    NewVariable {
+        var: dest,
+        counters: next,
+    }
+}
+
+// Between the sides of And: the right one is skipped where the left one decides.
+pub(crate) fn join_and(
+    arena: &mut [u8],
+    k: Counters,
+    e: usize,
+    dest: VarId,
+    left: Operand,
+) -> Counters
+    requires { ⌜ RoomFor k (now arena) (amount 2 0 1 0 0) × (e < 4294967296) ⌝ }
+    ensures { λ r. ⌜ Adds (joinAnd e (varOf dest) (operandOf left)) (amount 2 0 1 0 0) k (now (arena .entry)) tt r (now (arena .exit)) ⌝ }
+{
+    let k1 = emit(arena, k, Instr::Copy(dest, left));
+    jump_if_not(arena, k1, Operand::Var(dest), LOGIC_END, e)
+}
+
+// Between the sides of Or.
+pub(crate) fn join_or(
+    arena: &mut [u8],
+    k: Counters,
+    e: usize,
+    dest: VarId,
+    left: Operand,
+) -> Counters
+    requires { ⌜ RoomFor k (now arena) (amount 4 0 3 0 0) × (e < 4294967296) ⌝ }
+    ensures { λ r. ⌜ Adds (joinOr e (varOf dest) (operandOf left)) (amount 4 0 3 0 0) k (now (arena .entry)) tt r (now (arena .exit)) ⌝ }
+{
+    let k1 = emit(arena, k, Instr::Copy(dest, left));
+    let k2 = jump_if_not(arena, k1, Operand::Var(dest), LOGIC_RHS, e);
+    let k3 = jump(arena, k2, LOGIC_END, e);
+    place_label(arena, k3, LOGIC_RHS, e)
+}
+
+// What stands between the sides of the And or Or e: the left one is copied, and tested.
+pub(crate) fn join_logic(
+    tree: &[u8],
+    arena: &mut [u8],
+    k: Counters,
+    e: usize,
+    dest: VarId,
+    left: Operand,
+) -> Counters
+    requires { ⌜ RoomFor k (now arena) (amount 4 0 3 0 0) × (e < 4294967296) × (e * 32 + 32 ≤ length (now tree)) ⌝ }
+    ensures { λ r. ⌜ Adds (pick (eqb (detailOf (now (tree .entry)) e) 1) (joinAnd e (varOf dest) (operandOf left)) (joinOr e (varOf dest) (operandOf left))) (amount 4 0 3 0 0) k (now (arena .entry)) tt r (now (arena .exit)) ⌝ }
+{
+    if detail(tree, e) == AND {
+        return join_and(arena, k, e, dest, left);
+    }
+    join_or(arena, k, e, dest, left)
+}
+
+pub(crate) fn end_logic(
+    arena: &mut [u8],
+    k: Counters,
+    e: usize,
+    dest: VarId,
+    right: Operand,
+) -> Fitted
+    requires { ⌜ RoomFor k (now arena) (amount 2 0 1 0 0) × (e < 4294967296) ⌝ }
+    ensures { λ r. ⌜ ((tree : List ℕ) → TypeAt tree (dest .1) → FitAdds tree (endLogic e (varOf dest) (operandOf right)) (amount 2 0 1 0 0) k (now (arena .entry)) r (now (arena .exit))) ⌝ }
+{
+    let k1 = emit(arena, k, Instr::Copy(dest, right));
+    let next = place_label(arena, k1, LOGIC_END, e);
+    Fitted {
+        operand: Operand::Var(dest),
+        counters: next,
+    }
+}
+
+// The type that both sides of the Binary e are fitted to; where they have none in common, its own type y.
+pub(crate) fn operand_type(
+    tree: &[u8],
+    text: &[u8],
+    scratch: &mut [u8],
+    c: Converter,
+    e: usize,
+    y: usize,
+) -> ExprType
+    requires { ⌜ Ready (now tree) (now text) (now scratch) (c .functions) (c .scope) ⌝ }
+    requires { ⌜ IsKind (now tree) 10 e × TypeAt (now tree) y ⌝ }
+    ensures { λ a. ⌜ OperandTyped (now (tree .entry)) (now (text .entry)) (now (scratch .entry)) c e y a (now (scratch .exit)) ⌝ }
+{
+    let scope = c.scope;
+    let left = reference(tree, e, 0);
+    let right = reference(tree, e, 1);
+    match common_type(tree, text, scratch, c.functions, scope, left, right) {
+        Common::Refused(x) => ExprType::Refused(x),
+        Common::Is(q) => ExprType::Is(q),
+        Common::Neither => ExprType::Is(y),
+    }
+}
+
+// Any Binary but And and Or, behind its sides: both are fitted to q, then the operator goes into a new variable of type y.
+pub(crate) fn finish_binary(
+    tree: &[u8],
+    arena: &mut [u8],
+    k: Counters,
+    op: u8,
+    left: Operand,
+    right: Operand,
+    y: usize,
+    q: usize,
+) -> Fitted
+    requires { ⌜ RoomFor k (now arena) (amount 3 3 0 0 2) × (y < 4294967296) × (q < 4294967296) ⌝ }
+    requires { ⌜ TypeAt (now tree) y × TypeAt (now tree) q ⌝ }
+    requires { ⌜ OperandIn (now tree) (operandOf left) × OperandIn (now tree) (operandOf right) ⌝ }
+    ensures { λ r. ⌜ ((text : List ℕ) → FitAdds (now (tree .entry)) (finishBinary (program (now (tree .entry)) text) (getD binaryOps op Or) y q (operandOf left) (operandOf right)) (amount 3 3 0 0 2) k (now (arena .entry)) r (now (arena .exit))) ⌝ }
+{
+    let a = fit_operand(tree, arena, k, left, q);
+    let a1 = a.operand;
+    let k1 = a.counters;
+    let b = fit_operand(tree, arena, k1, right, q);
+    let b1 = b.operand;
+    let k2 = b.counters;
+    let made = new_var(arena, k2, y as u32);
+    let dest = made.var;
+    let k3 = made.counters;
+    let next = emit(arena, k3, Instr::Binary(dest, op, a1, b1));
+    Fitted {
+        operand: Operand::Var(dest),
+        counters: next,
+    }
+}
+
+// A cast takes the first of its values; without one the Rust would panic, at the call e.
+pub(crate) fn cast_first(
+    tree: &[u8],
+    text: &[u8],
+    arena: &mut [u8],
+    scratch: &[u8],
+    c: Converter,
+    e: usize,
+    dest: VarId,
+    count: usize,
+) -> Converted
+    requires { ⌜ Converting (now tree) (now text) (now arena) (now scratch) c × Afforded (now tree) c (amount 1 0 0 0 0) count 0 ⌝ }
+    requires { ⌜ (e < 4294967296) × TypeAt (now tree) (dest .1) ⌝ }
+    ensures { λ a. ⌜ Converts (now (tree .entry)) (now (text .entry)) (castFirst e (varOf dest) (stackAt (now (scratch .entry)) (records (now (tree .entry))) (c .operands) count)) (amount 1 0 0 0 0) c (now (arena .entry)) (now (scratch .entry)) a (now (arena .exit)) (now (scratch .entry)) ⌝ }
+{
+    if count == 0 {
+        return Converted::Refused(refusal(ConvertErrorKind::WouldPanic, e));
+    }
+    let n = tree.len() / 32;
+    let k = c.counters;
+    let first = operand_at(scratch, n, c.operands);
+    let next = emit(arena, k, Instr::Cast(dest, first));
+    Converted::Is(Operand::Var(dest), next)
+}
+
+// A call of f whose result goes to dest.
+pub(crate) fn call_function(
+    tree: &[u8],
+    text: &[u8],
+    arena: &mut [u8],
+    scratch: &mut [u8],
+    c: Converter,
+    f: usize,
+    dest: VarId,
+    count: usize,
+) -> Converted
+    requires { ⌜ Converting (now tree) (now text) (now arena) (now scratch) c × Afforded (now tree) c (amount (2 * count + 1) count 0 0 count) count 0 ⌝ }
+    requires { ⌜ FunctionAt (now tree) f × TypeAt (now tree) (dest .1) × StackIn (now tree) (now scratch) (c .operands) count ⌝ }
+    ensures { λ a. ⌜ ((e : ℕ) → Converts (now (tree .entry)) (now (text .entry)) (callValue (program (now (tree .entry)) (now (text .entry))) (allKeys (now (tree .entry)) (now (text .entry))) e (varOf dest) (stackAt (now (scratch .entry)) (records (now (tree .entry))) (c .operands) count) (CallFunction (functionOf (now (tree .entry)) (now (text .entry)) f))) (amount (2 * count + 1) count 0 0 count) c (now (arena .entry)) (now (scratch .entry)) a (now (arena .exit)) (now (scratch .exit))) ⌝ }
+{
+    let k = pass_args(tree, text, arena, scratch, c, f, count);
+    let next = emit(arena, k, Instr::Call(dest, f as u32));
+    Converted::Is(Operand::Var(dest), next)
+}
+
+// The call e, of type y, behind its values, of which `count` wait on the stack.
+pub(crate) fn finish_call(
+    tree: &[u8],
+    text: &[u8],
+    arena: &mut [u8],
+    scratch: &mut [u8],
+    c: Converter,
+    e: usize,
+    y: usize,
+    callee: Resolved,
+    count: usize,
+) -> Converted
+    requires { ⌜ Converting (now tree) (now text) (now arena) (now scratch) c × Afforded (now tree) c (amount (2 * count + 1) (count + 1) 0 0 count) count 0 ⌝ }
+    requires { ⌜ (e < 4294967296) × TypeAt (now tree) y × IsCallee (now tree) callee × StackIn (now tree) (now scratch) (c .operands) count ⌝ }
+    ensures { λ a. ⌜ ((to : Callee) → calleeOf (now (tree .entry)) (now (text .entry)) callee ≡ ok to → Converts (now (tree .entry)) (now (text .entry)) (finishCall (program (now (tree .entry)) (now (text .entry))) (allKeys (now (tree .entry)) (now (text .entry))) e y (stackAt (now (scratch .entry)) (records (now (tree .entry))) (c .operands) count) to) (amount (2 * count + 1) (count + 1) 0 0 count) c (now (arena .entry)) (now (scratch .entry)) a (now (arena .exit)) (now (scratch .exit))) ⌝ }
+{
+    let k = c.counters;
+    let made = new_var(arena, k, y as u32);
+    let dest = made.var;
+    let k1 = made.counters;
+    let mut at = c;
+    at.counters = k1;
+    match callee {
+        Resolved::Refused(x) => Converted::Refused(x),
+        Resolved::Cast(_) => cast_first(tree, text, arena, scratch, at, e, dest, count),
+        Resolved::Function(f) => { call_function(tree, text, arena, scratch, at, f, dest, count) }
+    }
+}
