@@ -31,7 +31,6 @@ use crate::fits::pass_args;
 use crate::jumps::jump;
 use crate::jumps::jump_if_not;
 use crate::jumps::place_label;
-use crate::numbers::AND;
 use crate::numbers::LOGIC_END;
 use crate::numbers::LOGIC_RHS;
 use crate::operands::operand_at;
@@ -48,6 +47,7 @@ use ir::structs::emit;
 use ir::structs::label_id;
 use ir::structs::new_var;
 use records::convert_error::ConvertErrorKind;
+use records::numbers::AND;
 use records::words::detail;
 use records::words::reference;
 
