@@ -2,7 +2,7 @@
 -- buffers afterwards. What its contract says of them is `Calls` (Call.antt); the three demands are what follows for every such run
 -- (`every-call` of proofs/Demands.antt), and what keeps the first two is such a run (`page-calls`). Assumes nothing: these are definitions.
 -- What must be believed below this page, in reading order:
---   laws: Fix, Below; records: Words, Shapes, Rules, Depth, Answer, Good: the form of a tree, and a refusal's number, place and span;
+--   laws: Fix, Below; records: Words, Kinds, Shapes, Rules, Depth, Answer, Good: the form of a tree, and a refusal's number, place and span;
 --   judge: Judge: the rows 'lengths', 'buffers', 'records' and 'nesting', and what a row that refuses leaves of a buffer;
 --   syntax: Syntax, Decode: what a tree stands for; int128: Ops, Value;
 --   conversion: ConvertError, Ir, Types, Scope, Expressions, Statements, Functions, Converter: what the Rust makes of it; Written: as bytes;
@@ -123,7 +123,8 @@ abbrev pub AllRunAlike : Type 0 → List ℕ → List ℕ → Counts → Buffers
 AllRunAlike W tree text counts after = (i : ℕ) (f : Function) (b : Block) → getElem? (program tree text .functions) i ≡ some f → f .body ≡ some b
     → RunsAlike W tree text counts (outputsOf after) i f b
 
--- ---- the three, of every run of the call; a contract cites them at one type of values, and they hold over every one
+-- ---- the three, of every run of the call; a contract cites them at one type of values (ℕ: over an empty one nothing is said),
+-- and they hold over every one
 
 pub record Demands (W : Type 0) (tree text : List ℕ) (needsMain : Bool) (before : Buffers) (answer : Answer) (after : Buffers) : Type 0 where
   pub demand1 : Sound before answer after × ByRows tree text before answer after

@@ -26,7 +26,7 @@ pub record Converting (tree text l s : List ℕ) (c : Converter) : Type 0 where
   pub records-are : c .counters .records ≡ records tree
   pub room : Room (c .counters) l
 
--- the same, further on in the tables; with other operands on the stack
+-- the same, further on in the tables
 abbrev pub withCounters : Converter → Counters → Converter
 withCounters c k = record { functions = c .functions; scope = c .scope; counters = k; operands = c .operands }
 

@@ -1,5 +1,6 @@
 -- The steps of statements.rs's functions, part by part as the code makes them: what stands between the operands of an And, before and behind the
--- body of a loop, and so on. That the parts in a row are the definitions of conversion is proved (proofs/PartLaws.antt). Assumes nothing.
+-- body of a loop, and so on. That the parts in a row are the definitions of conversion is proved where they are cited (proofs/PartLaws.antt,
+-- AroundLaws.antt, ArgsLaws.antt). Assumes nothing.
 use Prim.Native.Nat.{ℕ}
 use mathlib.Core.Bool.{Bool, true, false}
 use mathlib.Core.Option.{Option, none, some}

@@ -8,7 +8,8 @@ use records::convert_error::ConvertError;
 use records::convert_error::ConvertErrorKind;
 use scope::Scope;
 
-// How many functions are listed in scratch, the names known, how far the tables are written, and how many operands wait in scratch.
+// How many functions are listed in scratch, the names known, how far the tables are written, and how many operands wait in scratch for the calls
+// around; the values of the call at hand stand behind them.
 pub struct Converter {
     pub functions: usize,
     pub scope: Scope,

@@ -1,4 +1,5 @@
-// expressions.rs, `operand`: the operands of expressions without operands of their own; and the stack of operands in scratch.
+// The operands of expressions without operands of their own: `operand` of expressions.rs, and the strings and sizes of convert_expr; and the
+// stack of operands in scratch.
 ghost use mathlib.Core.Path.{_≡_};
 ghost use mathlib.Core.List.{List, _++_};
 ghost use Prim.Native.Nat.{ℕ, _+_, _*_, _≤_};
