@@ -1,31 +1,26 @@
 // ir/structs.rs: operands, instructions, and the numbering of a function's variables and labels. The tables stand as regions of one
 // lent buffer, the arena; how many entries each has goes in and comes back by value.
 ghost use mathlib.Core.Path.{_≡_};
-ghost use Prim.Native.Nat.{_+_, _-_, _*_, _≤_, _<_};
+ghost use Prim.Native.Nat.{_+_, _*_, _≤_, _<_};
 ghost use lib.ListN.{length, getD};
 ghost use Rattle.laws.specs.Splice.{splice};
 ghost use Rattle.syntax.specs.Syntax.{unaryOps, binaryOps, unaryNumber, binaryNumber, Neg, Or};
-ghost use Rattle.conversion.specs.Written.{tag, operandValue, encodeInstr, encodeLabel};
+ghost use Rattle.conversion.specs.Written.{tag, operandValue, encodeInstr};
 ghost use Rattle.ir.specs.Instructions.{operandOf, instrOf, fieldBytes, oneBytes, noneBytes, twoBytes};
-ghost use Rattle.ir.specs.Arena.{labels, Room};
-ghost use Rattle.ir.specs.Steps.{named, moreLabels, Wrote, Emits, AddsVar, NumbersLabel, Closes};
+ghost use Rattle.ir.specs.Arena.{Room};
+ghost use Rattle.ir.specs.Steps.{Emits, AddsVar, NumbersLabel, Closes};
 use crate::arena::FUNCTIONS;
-use crate::arena::LABELS;
-use crate::arena::VARIABLES;
-use crate::search::find_pair;
+use crate::counter;
 use records::numbers::BINARY_OPS;
 use records::numbers::NEG;
 use records::numbers::OR;
 use records::numbers::UNARY_OPS;
-use records::words::Found;
 use records::words::Four;
 use records::words::NONE;
 use records::words::high;
 use records::words::low;
 use records::words::mark;
 use records::words::put_four;
-use records::words::put_pair;
-use records::words::put_word;
 use records::words::wide;
 
 // Kinds of instructions.
@@ -321,31 +316,9 @@ pub fn new_var(arena: &mut [u8], k: Counters, ty: u32) -> NewVariable
     requires { ⌜ Room k (now arena) × (k .variables < 3 * k .records) ⌝ }
     ensures { λ r. ⌜ AddsVar ty k (now (arena .entry)) r (now (arena .exit)) ⌝ }
 {
-    let v = k.variables;
-    let var = VarId((v - k.variables_before) as u32, ty);
-    let mut next = k;
-    next.variables = v + 1;
-    put_word(arena, VARIABLES * k.records + 4 * v, ty);
-    NewVariable {
-        var,
-        counters: next,
-    }
-}
-
-// A label more at the end.
-fn add_label(arena: &mut [u8], k: Counters, kind: u32, opener: u32) -> LabelNumber
-    requires { ⌜ Room k (now arena) × (k .labels < 3 * k .records) ⌝ }
-    ensures { λ r. ⌜ (r .label .0 ≡ k .labels - k .«labels_before») × Wrote (now (arena .entry)) (labels .from * k .records + 8 * k .labels) (encodeLabel (named kind opener)) (moreLabels k) (r .counters) (now (arena .exit)) ⌝ }
-{
-    let v = k.labels;
-    let label = Label((v - k.labels_before) as u32);
-    let mut next = k;
-    next.labels = v + 1;
-    put_pair(arena, LABELS * k.records + 8 * v, kind, opener);
-    LabelNumber {
-        label,
-        counters: next,
-    }
+    let mut f = k;
+    let var = counter::new_var(arena, &mut f, ty);
+    NewVariable { var, counters: f }
 }
 
 // The label of this kind that this record opens: its number is its index among its function's labels, added the first time it is asked.
@@ -353,14 +326,9 @@ pub fn label_id(arena: &mut [u8], k: Counters, kind: u32, opener: u32) -> LabelN
     requires { ⌜ Room k (now arena) × (k .labels < 3 * k .records) ⌝ }
     ensures { λ r. ⌜ NumbersLabel kind opener k (now (arena .entry)) r (now (arena .exit)) ⌝ }
 {
-    let at = LABELS * k.records + 8 * k.labels_before;
-    match find_pair(arena, at, k.labels - k.labels_before, kind, opener) {
-        Found::At(i) => LabelNumber {
-            label: Label(i as u32),
-            counters: k,
-        },
-        Found::Nothing => add_label(arena, k, kind, opener),
-    }
+    let mut f = k;
+    let label = counter::label_id(arena, &mut f, kind, opener);
+    LabelNumber { label, counters: f }
 }
 
 // The function at hand is done: its entry, and the next one begins.

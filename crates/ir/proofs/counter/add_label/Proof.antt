@@ -2,45 +2,36 @@
 -- From what `put_pair` wrote. Assumes nothing.
 use borrow.Author.Needs.{needs}
 use Rattle.conversion.specs.Written.{encodeLabel}
-use Rattle.ir.proofs.structs.add_label.Statement.{statement}
-use Rattle.ir.proofs.structs.add_label.Tie as tie
-use Rattle.ir.proofs.structs.add_label.Reads as reads
-use Rattle.ir.proofs.structs.add_label.Lts as lts
+use Rattle.ir.proofs.counter.add_label.Statement.{statement}
+use Rattle.ir.proofs.counter.add_label.Tie as tie
+use Rattle.ir.proofs.counter.add_label.Reads as reads
+use Rattle.ir.proofs.counter.add_label.Lts as lts
 use Rattle.records.proofs.words.put_pair.Reads as put-pair-reads
 
--- src/structs.rt:278:24
 sub-t8 : tie.Need-sub-t8
 sub-t8 c = search needs
 
--- src/structs.rt:278:23
 cast-t9 : tie.Need-cast-t9
 cast-t9 c = search needs
 
--- src/structs.rt:280:19
 add-next : tie.Need-add-next
 add-next c = search needs
 
--- src/structs.rt:281:21
 mul-put-pair : tie.Need-mul-put-pair
 mul-put-pair c = search needs
 
--- src/structs.rt:281:39
 mul-put-pair-2 : tie.Need-mul-put-pair-2
 mul-put-pair-2 c = search needs
 
--- src/structs.rt:281:21
 add-put-pair : tie.Need-add-put-pair
 add-put-pair c = search needs
 
--- src/structs.rt:281:5
 put-pair-requires : tie.Need-put-pair-requires
 put-pair-requires c κs = search needs
 
--- src/structs.rt:273:1
 same-length : tie.Need-same-length
 same-length c = search needs
 
--- src/structs.rt:273:1
 returns : tie.Need-returns
 unfolding encodeLabel
 returns c = search needs
