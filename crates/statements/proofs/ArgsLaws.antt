@@ -55,12 +55,12 @@ use Rattle.statements.specs.declared.answers.Converted.the-variants as C
 use Rattle.statements.specs.declared.answers.ConvertedArgs.{ConvertedArgs}
 use Rattle.statements.specs.declared.answers.ConvertedArgs.the-variants as ConvertedArgs
 use Rattle.statements.specs.Stack.{entryAt, operandBytes, operandAt, stackAt}
-use Rattle.statements.specs.Converting.{Converting, withCounters, Afforded, ExprAfforded, ArgsAfforded, exprAmount, argsAmount, argsUnder, argsValues, OperandIn, StackIn, Stays, StaysFor}
+use Rattle.statements.specs.Converting.{Converting, withCounters, Afforded, ExprAfforded, ArgsAfforded, exprAmount, argsAmount, argsUnder, argsValues, OperandIn, StackIn, Stays, StaysFor, NamesStay}
 use Rattle.statements.specs.Meets.{AddsIn}
 use Rattle.statements.specs.Parts.{finishCall}
 use Rattle.statements.specs.Answers.{convertedOf, argsOf, Converts, ConvertsArgs, exprSteps, argsSteps, callSteps}
 use Rattle.statements.proofs.MeetLaws.{meets-gave, meets-refused, meets-most, meets-then, meets-stop, meets-lift, meets-lift-stop}
-use Rattle.statements.proofs.StayLaws.{stays-refl, stays-then, frame-stays, operand-stays, scope-stays, ready-stays, operand-kept, stack-kept, converting-next}
+use Rattle.statements.proofs.StayLaws.{stays-refl, names-refl, names-then, names-of, frame-names, stays-then, frame-stays, operand-stays, scope-stays, ready-stays, operand-kept, stack-kept, converting-next}
 use Rattle.statements.proofs.ConvertLaws.{converted-next, converting-after}
 
 module _ (tree text : List ℕ) (S : Def.Scope) where
@@ -68,7 +68,7 @@ module _ (tree text : List ℕ) (S : Def.Scope) where
   argsIn w = convert-args (program tree text) (allKeys tree text) (argsAt tree text w) S
 
 -- a value is three records at least: a list cell, a kind 13 and an expression
-args-count : (l : Args) → argsUnder l + 3 * argsValues l ≤ argsRecords l
+pub args-count : (l : Args) → argsUnder l + 3 * argsValues l ≤ argsRecords l
 unfolding argsUnder argsValues argsRecords under
 args-count noArgs = omega arith
 args-count (Value r e l) = omega (arith, args-count l)
@@ -123,6 +123,7 @@ module _ {tree text l s : List ℕ} {c : Converter} {e : ℕ} (p : Converting tr
     meets = meets-lift-stop text (rest y) refl (m .meets ∙ ap (calleeOf tree text) w);
     operand = λ o k h. let z : _≡_ {A = ℕ} 0 1 = cc in absurd (omega arith);
     stays = called-stays;
+    names = frame-names (m .frame);
   }
 
   module _ {a : ConvertedArgs} {l₁ s₂ : List ℕ}
@@ -139,6 +140,7 @@ module _ {tree text l s : List ℕ} {c : Converter} {e : ℕ} (p : Converting tr
               (subst (λ (q : M (List Ir.Operand)). StopsIn text q (c .counters) l (z .kind) (z .place)) same-args (n .meets .stops z (ap (argsOf s₂ (records tree) (c .operands)) w))));
           operand = λ o k h. let z : _≡_ {A = ℕ} 0 1 = cc in absurd (omega arith);
           stays = stays-then (omega arith) (omega arith) called-stays (n .stays);
+          names = names-then (frame-names (m .frame)) (n .names);
         }
 
     module _ {count : ℕ} {k : Counters} (w : a ≡ ConvertedArgs.Done count k) where
@@ -166,6 +168,7 @@ module _ {tree text l s : List ℕ} {c : Converter} {e : ℕ} (p : Converting tr
                 (omega (arith, call-under, args-count (argsAt tree text W), n .operands count k w .0));
             operand = j .operand;
             stays = stays-then (omega arith) (omega arith) called-stays (stays-then (omega arith) (omega arith) (n .stays) (j .stays));
+            names = names-then (frame-names (m .frame)) (names-then (n .names) (j .names));
           }
 
 -- ---- the loop
@@ -193,6 +196,7 @@ pub record ArgsLeft (tree text l₀ s₀ : List ℕ) (c : Converter) (e : ℕ) (
   pub low : left w ≤ e
   pub long : length l ≡ length l₀
   pub stays : StaysFor tree c s₀ s
+  pub names : NamesStay tree s₀ s
   pub typed : StackIn tree s (c .operands) count
   pub below-is : below + argsUnder (argsAt tree text w) ≡ argsUnder (argsAt tree text (wordOf tree e C))
   pub count-is : count + argsValues (argsAt tree text w) ≡ argsValues (argsAt tree text (wordOf tree e C))
@@ -233,6 +237,7 @@ module _ {tree text l₀ s₀ : List ℕ} {c : Converter} {e : ℕ} (p : Convert
     low = first-low;
     long = refl;
     stays = stays-refl (records tree) (c .scope .names) (c .operands) s₀;
+    names = names-refl tree s₀;
     typed = λ i a b. absurd (omega arith);
     below-is = omega arith;
     count-is = omega arith;
@@ -262,6 +267,7 @@ module _ {tree text l₀ s₀ : List ℕ} {c : Converter} {e : ℕ} (p : Convert
           meets = meets-gave text (i .long) (record { next = all; spent = omega (arith, i .spent, i .below-is, i .count-is) });
           operands = λ n k h. let en : count ≡ n = cc in (omega (arith, i .count-is), subst (λ (z : ℕ). StackIn tree s (c .operands) z) (same ∙ en) (i .typed));
           stays = i .stays;
+          names = i .names;
         }
 
     module _ (more : w ≡ none → ⊥) where
@@ -307,6 +313,7 @@ module _ {tree text l₀ s₀ : List ℕ} {c : Converter} {e : ℕ} (p : Convert
               low = omega (arith, i .low, next-less (wordOf tree w B) refl);
               long = i .long;
               stays = i .stays;
+              names = i .names;
               typed = i .typed;
               below-is = omega (arith, i .below-is, ap argsUnder (t .opens));
               count-is = omega (arith, i .count-is, ap argsValues (t .opens));
@@ -358,6 +365,7 @@ module _ {tree text l₀ s₀ : List ℕ} {c : Converter} {e : ℕ} (p : Convert
                   (n .meets .stops z (ap convertedOf u))))));
               operands = λ count k h. let y : _≡_ {A = ℕ} 0 1 = cc in absurd (omega arith);
               stays = value-stays;
+              names = names-then (i .names) (n .names);
             }
 
             module _ {o : Operand} {k : Counters} (u : r ≡ Converted.Is o k) {s₂ : List ℕ} (put : s₂ ≡ splice s₁ (entryAt (records tree) (at .operands)) (operandBytes (operandOf o)))
@@ -437,6 +445,7 @@ module _ {tree text l₀ s₀ : List ℕ} {c : Converter} {e : ℕ} (p : Convert
                     low = omega (arith, i .low, next-less (wordOf tree w B) refl);
                     long = n .meets .long ∙ i .long;
                     stays = stays-then (omega (arith, names-same)) (omega (arith, i .operands)) (i .stays) after;
+                    names = names-then (i .names) (names-then (n .names) (names-of (put-stays (records tree) 0 (omega arith) (omega arith))));
                     typed = pushed-typed;
                     below-is = omega (arith, i .below-is, under-is);
                     count-is = omega (arith, i .count-is, values-is);

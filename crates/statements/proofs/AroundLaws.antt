@@ -52,12 +52,12 @@ use Rattle.statements.specs.declared.answers.Converted.{Converted}
 use Rattle.statements.specs.declared.answers.Converted.the-variants as Converted
 use Rattle.statements.specs.declared.answers.Fitted.{Fitted}
 use Rattle.statements.specs.Stack.{operandAt, stackAt}
-use Rattle.statements.specs.Converting.{withCounters, OperandIn, StaysFor}
+use Rattle.statements.specs.Converting.{withCounters, OperandIn, StaysFor, NamesStay}
 use Rattle.statements.specs.Meets.{Adds}
 use Rattle.statements.specs.Parts.{jumpTo, jumpIfNot, placeLabel, finishUnary, beginLogic, joinAnd, joinOr, endLogic, finishBinary, passArgs, finishCall, operandType}
 use Rattle.statements.specs.Answers.{FitAdds, Converts, OperandTyped}
 use Rattle.statements.proofs.MeetLaws.{adds-then, adds-seq, adds-pure, adds-most, adds-same, adds-in}
-use Rattle.statements.proofs.StayLaws.{stays-refl}
+use Rattle.statements.proofs.StayLaws.{stays-refl, names-refl}
 use Rattle.statements.proofs.EmitLaws.{emit-adds, var-adds, label-adds}
 use Rattle.statements.proofs.ConvertLaws.{converts-gave, converts-refused, converts-same, converts-most, converts-after}
 
@@ -191,7 +191,7 @@ module _ {tree text l s : List ℕ} {c : Converter} (e : ℕ) (dest : VarId) whe
   cast-none {x = x} h q =
       converts-same (ap (λ (z : ℕ). castFirst e (varOf dest) (stackAt s (records tree) (c .operands) z)) (sym h))
       (converts-refused refl (subst (λ (z : ConvertError). StopsIn text (castFirst e (varOf dest) []) (c .counters) l (z .kind) (z .place)) (sym q)
-      (fail-stops text (c .counters) l WouldPanic e)) (stays-refl (records tree) (c .scope .names) (c .operands) s))
+      (fail-stops text (c .counters) l WouldPanic e)) (stays-refl (records tree) (c .scope .names) (c .operands) s) (names-refl tree s))
 
   pub cast-some : (count : ℕ) {first : Operand} {k : Counters} {l′ : List ℕ} → (count ≡ 0 → ⊥) → operandOf first ≡ operandAt s (records tree) (c .operands)
       → length l′ ≡ length l → Emits (cast dest first) (c .counters) l k l′ → TypeAt tree (dest .1)
@@ -201,7 +201,7 @@ module _ {tree text l s : List ℕ} {c : Converter} (e : ℕ) (dest : VarId) whe
   cast-some (suc count) {k = k} {l′ = l′} n q h p t =
       converts-gave h (adds-in text (adds-most (adds-seq (pure (OVar (varOf dest)))
       (subst (λ (o : Ir.Operand). Adds (emit (Cast (varOf dest) o)) (amount 1 0 0 0 0) (c .counters) l tt k l′) q (emit-adds h p))
-      (adds-pure (OVar (varOf dest)) k l′ (p .next .room))) (omega arith))) t (stays-refl (records tree) (c .scope .names) (c .operands) s)
+      (adds-pure (OVar (varOf dest)) k l′ (p .next .room))) (omega arith))) t (stays-refl (records tree) (c .scope .names) (c .operands) s) (names-refl tree s)
 
 call-parts : (P : Program) (F : Functions) (r : ℕ) (dest : Ir.VarId) (f : Function) (operands : List Ir.Operand)
     → (passArgs P f operands >> emit (Call (some dest) (f .recOf))) >> pure (OVar dest) ≡ callValue P F r dest operands (CallFunction f)
@@ -211,16 +211,16 @@ call-parts P F r dest f operands = simp (seq-is, regroup)
 -- a call, whose values are passed
 pub call-adds : {tree text l l₁ l₂ s s′ : List ℕ} {c : Converter} (F : Functions) (e : ℕ) {f count : ℕ} {dest : VarId} (operands : List Ir.Operand) {k₁ k₂ : Counters}
     → Good tree text → FunctionAt tree f → TypeAt tree (dest .1)
-    → Adds (passArgs (program tree text) (functionOf tree text f) operands) (amount (2 * count) count 0 0 count) (c .counters) l tt k₁ l₁ → StaysFor tree c s s′
+    → Adds (passArgs (program tree text) (functionOf tree text f) operands) (amount (2 * count) count 0 0 count) (c .counters) l tt k₁ l₁ → StaysFor tree c s s′ → NamesStay tree s s′
     → length l₂ ≡ length l₁ → Emits (call dest f) k₁ l₁ k₂ l₂
     → Converts tree text (callValue (program tree text) F e (varOf dest) operands (CallFunction (functionOf tree text f))) (amount (2 * count + 1) count 0 0 count) c l s (Converted.Is (var dest) k₂) l₂ s′
 unfolding OperandIn
-call-adds {tree = tree} {text = text} {l₁ = l₁} {l₂ = l₂} F e {f = f} {dest = dest} operands {k₁ = k₁} {k₂ = k₂} good at t p stays h q =
+call-adds {tree = tree} {text = text} {l₁ = l₁} {l₂ = l₂} F e {f = f} {dest = dest} operands {k₁ = k₁} {k₂ = k₂} good at t p stays names h q =
     let i : Adds (emit (Call (some (varOf dest)) (functionOf tree text f .recOf))) (amount 1 0 0 0 0) k₁ l₁ tt k₂ l₂ =
     subst (λ (x : ℕ). Adds (emit (Call (some (varOf dest)) x)) (amount 1 0 0 0 0) k₁ l₁ tt k₂ l₂) (sym (function-rec tree text good f at)) (emit-adds h q) in
     converts-gave (h ∙ p .long)
     (adds-in text (adds-most (adds-same (call-parts (program tree text) F e (varOf dest) (functionOf tree text f) operands)
-    (adds-seq (pure (OVar (varOf dest))) (adds-seq (emit (Call (some (varOf dest)) (functionOf tree text f .recOf))) p i) (adds-pure (OVar (varOf dest)) k₂ l₂ (q .next .room)))) (omega arith))) t stays
+    (adds-seq (pure (OVar (varOf dest))) (adds-seq (emit (Call (some (varOf dest)) (functionOf tree text f .recOf))) p i) (adds-pure (OVar (varOf dest)) k₂ l₂ (q .next .room)))) (omega arith))) t stays names
 
 -- the call behind its values, by what it runs
 module _ (tree text : List ℕ) {callee : Resolved} {to : Callee} (m : calleeOf tree text callee ≡ ok to) where

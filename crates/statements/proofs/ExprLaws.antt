@@ -54,7 +54,7 @@ use Rattle.statements.specs.Parts.{operandType, finishUnary, beginLogic,
 use Rattle.statements.specs.Answers.{Converts, FitAdds, OperandTyped, exprSteps, unarySteps, logicSteps, otherSteps, binarySteps, callSteps}
 use Rattle.statements.proofs.PartLaws.{unary-parts, and-parts, or-parts, other-parts}
 use Rattle.statements.proofs.MeetLaws.{meets-lift, meets-lift-stop, adds-in}
-use Rattle.statements.proofs.StayLaws.{stays-refl, stays-then, frame-stays, scope-stays, converting-next}
+use Rattle.statements.proofs.StayLaws.{stays-refl, stays-then, frame-stays, frame-names, names-then, scope-stays, converting-next}
 use Rattle.statements.proofs.ConvertLaws.{converts-same, converts-most, converts-after, converts-seq, converted-next, converting-after, converts-stop, converts-next, converts-fit}
 
 -- ---- steps in a scope
@@ -139,6 +139,7 @@ module _ {tree text l s : List ℕ} {c : Converter} {e : ℕ} (p : Converting tr
     meets = meets-lift-stop text f refl (type-refused (typeIn tree text S e) ty z (m .meets) w);
     operand = λ o k h. let z : _≡_ {A = ℕ} 0 1 = cc in absurd (omega arith);
     stays = typed-stays;
+    names = frame-names (m .frame);
   })
 
   pub typed-stop : {z : ConvertError} {k : ℕ} → k ≡ kindOf tree e → 8 < k → ty ≡ ExprType.Refused z
@@ -165,6 +166,7 @@ module _ {tree text l s : List ℕ} {c : Converter} {e : ℕ} (p : Converting tr
         meets = meets-lift text (f S) (p .room) (type-ok (typeIn tree text S e) ty y (m .meets) w) (i′ .meets);
         operand = i′ .operand;
         stays = stays-then (omega arith) (omega arith) typed-stays (i′ .stays);
+        names = names-then (frame-names (m .frame)) (i′ .names);
       })
 
   module _ {y k : ℕ} {b : Converted} {l₁ s₂ : List ℕ} (ek : k ≡ kindOf tree e) (w : ty ≡ ExprType.Is y) where
@@ -299,6 +301,7 @@ module _ {tree text l s : List ℕ} {c : Converter} {e y : ℕ} (p : Converting 
     meets = meets-lift-stop text by refl (common-err sides y (z .kind) (z .place) (m .meets ∙ ap typeOf w));
     operand = λ o k h. let z : _≡_ {A = ℕ} 0 1 = cc in absurd (omega arith);
     stays = frame-stays (c .scope .names) (c .operands) (m .frame);
+    names = frame-names (m .frame);
   }
 
   module _ {q : ℕ} {b : Converted} {l₁ s₂ : List ℕ} (w : t ≡ ExprType.Is q) where
@@ -313,6 +316,7 @@ module _ {tree text l s : List ℕ} {c : Converter} {e y : ℕ} (p : Converting 
           meets = meets-lift text by (p .room) (o .is) (i′ .meets);
           operand = i′ .operand;
           stays = stays-then (omega arith) (omega arith) (frame-stays (c .scope .names) (c .operands) (m .frame)) (i′ .stays);
+          names = names-then (frame-names (m .frame)) (i′ .names);
         }
 
     module _ {d : ℕ} (ed : d ≡ detailOf tree e) where

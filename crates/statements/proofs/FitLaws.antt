@@ -96,7 +96,7 @@ module _ {tree : List ℕ} {k : Counters} {l : List ℕ} where
 -- ---- by the form of the place's type
 
 -- the types by form, with marks s and u: only form 1 is an Int, only form 2 a Float
-abbrev forms : Bool → Bool → ℕ → ℕ → Text → List Ty
+abbrev pub forms : Bool → Bool → ℕ → ℕ → Text → List Ty
 forms s u a n t = TNull ∷ TInt s u ∷ TFloat s ∷ TBool ∷ TChar ∷ TByte ∷ TAddress a ∷ TArray a n ∷ TCustom t ∷ TNull ∷ []
 
 only : (s u : Bool) (a n : ℕ) (t : Text) (f : ℕ)
@@ -116,12 +116,12 @@ only s u a n t (suc (suc (suc (suc (suc (suc (suc (suc (suc (suc f)))))))))) =
     (sym (ne-eqb (suc (suc (suc (suc (suc (suc (suc (suc (suc (suc f)))))))))) 1 (λ e. omega arith)), sym (ne-eqb (suc (suc (suc (suc (suc (suc (suc (suc (suc (suc f)))))))))) 2 (λ e. omega arith)))
 
 module _ (tree text : List ℕ) (y f : ℕ) (ef : f ≡ detailOf tree y % 16) where
-  type-is : typeAt tree text y
+  pub type-is : typeAt tree text y
       ≡ getD (forms (bit 16 (detailOf tree y)) (bit 32 (detailOf tree y)) (wordOf tree y A) (wideOf tree text y B) (textOf tree text y A)) f TNull
   unfolding typeAt
   type-is = rw ef
 
-  forms-are : (isInt (typeAt tree text y) ≡ eqb f 1) × (isFloat (typeAt tree text y) ≡ eqb f 2)
+  pub forms-are : (isInt (typeAt tree text y) ≡ eqb f 1) × (isFloat (typeAt tree text y) ≡ eqb f 2)
   forms-are = rw type-is (only (bit 16 (detailOf tree y)) (bit 32 (detailOf tree y)) (wordOf tree y A) (wideOf tree text y B) (textOf tree text y A) f)
 
   module _ {k : Counters} {l : List ℕ} where

@@ -59,7 +59,7 @@ use Rattle.statements.specs.Converting.{Converting, OperandIn, exprAmoun
 use Rattle.statements.specs.Meets.{AddsIn}
 use Rattle.statements.specs.Answers.{Converts, LeafAdds, exprSteps}
 use Rattle.statements.proofs.MeetLaws.{Most, adds-in, adds-in-then, adds-pure, meets-gave, meets-refused, meets-most}
-use Rattle.statements.proofs.StayLaws.{stays-refl}
+use Rattle.statements.proofs.StayLaws.{stays-refl, names-refl}
 
 -- ---- marks
 
@@ -85,7 +85,7 @@ adds-of e p = record { next = next-of e (p .next); spent = p .spent }
 
 pub converts-most : {tree text l s l′ s′ : List ℕ} {m : M Ir.Operand} {n n′ : Amount} {c : Converter} {a : Converted}
     → Converts tree text m n c l s a l′ s′ → Most n n′ → Converts tree text m n′ c l s a l′ s′
-converts-most {text = text} p q = record { meets = meets-most text (p .meets) q; operand = p .operand; stays = p .stays }
+converts-most {text = text} p q = record { meets = meets-most text (p .meets) q; operand = p .operand; stays = p .stays; names = p .names }
 
 module _ (tree text l s : List ℕ) (c : Converter) (m : M Ir.Operand) where
   -- an operand that is had without a step
@@ -95,6 +95,7 @@ module _ (tree text l s : List ℕ) (c : Converter) (m : M Ir.Operand) where
     meets = meets-gave text refl (adds-of e (adds-in text (adds-pure (operandOf o) (c .counters) l room)));
     operand = λ o′ k q. let z : o ≡ o′ = cc in subst (λ (x : Operand). OperandIn tree (operandOf x)) z h;
     stays = stays-refl _ _ _ s;
+    names = names-refl _ s;
   }
 
   -- a refusal
@@ -105,6 +106,7 @@ module _ (tree text l s : List ℕ) (c : Converter) (m : M Ir.Operand) where
         (subst (λ (y : ConvertError). StopsIn text m (c .counters) l (y .kind) (y .place)) (sym q) (stop-of e (fail-stops text (c .counters) l kind place)));
     operand = λ o k z. let w : _≡_ {A = ℕ} 0 1 = cc in absurd (omega arith);
     stays = stays-refl _ _ _ s;
+    names = names-refl _ s;
   }
 
 -- ---- a float and a string
@@ -147,6 +149,7 @@ leaf-answers tree text s c e l l′ n n′ f a p q h =
       meets = meets-gave text (p .long) (p .adds (scopeAt tree text s (c .scope)));
       operand = λ o k z. let w : f .operand ≡ o = cc in subst (λ (x : Operand). OperandIn tree (operandOf x)) w (p .operand);
       stays = stays-refl _ _ _ s;
+      names = names-refl _ s;
     }) h)
 
 -- ---- names

@@ -1,6 +1,7 @@
 pub mod PartLaws
 pub mod MeetLaws
 pub mod StayLaws
+pub mod StatedLaws
 pub mod JumpLaws
 pub mod StackLaws
 pub mod LeafLaws
@@ -11,3 +12,11 @@ pub mod ConvertLaws
 pub mod AroundLaws
 pub mod ExprLaws
 pub mod ArgsLaws
+pub mod HeadLaws
+pub mod ReturnLaws
+pub mod DeclareLaws
+pub mod InitLaws
+pub mod ForLaws
+pub mod BlockLaws
+pub mod BlockParts
+pub mod BlockTurns

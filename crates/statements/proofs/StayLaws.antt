@@ -24,7 +24,7 @@ use Rattle.expressions.specs.Slots.{Frame, Scoped, Ready}
 use Rattle.keys.proofs.KeySearch.{records-most}
 use Rattle.statements.specs.declared.answers.Converter.{Converter}
 use Rattle.statements.specs.Stack.{entryAt, operandFrom, operandAt, stackAt}
-use Rattle.statements.specs.Converting.{Converting, withCounters, Stays, StaysFor}
+use Rattle.statements.specs.Converting.{Converting, withCounters, Stays, StaysFor, NamesStay}
 
 -- ---- one writer after another
 
@@ -84,6 +84,31 @@ module _ (n names operands : ℕ) (s s′ vs : List ℕ) (i : ℕ) (e : s′ ≡
     stack = λ j a b. before (omega arith) j (omega arith);
     behind = λ j k. after (omega arith) j (omega arith);
   }
+
+-- ---- all names
+
+pub names-refl : (tree s : List ℕ) → NamesStay tree s s
+names-refl tree s = record { bytes = λ i a b. refl }
+
+pub names-then : {tree s s₁ s₂ : List ℕ} → NamesStay tree s s₁ → NamesStay tree s₁ s₂ → NamesStay tree s s₂
+names-then p q = record { bytes = λ i a b. q .bytes i a b ∙ p .bytes i a b }
+
+pub frame-names : {tree s s′ : List ℕ} → Frame tree s s′ → NamesStay tree s s′
+frame-names f = record { bytes = λ i a b. f .outside i (inr a) }
+
+pub names-of : {tree s s′ : List ℕ} {operands : ℕ} → Stays (records tree) (records tree) operands s s′ → NamesStay tree s s′
+names-of p = record { bytes = λ i a b. p .open-names i a (omega arith) }
+
+-- so a name more
+pub stays-more : {tree s s′ : List ℕ} {names operands : ℕ} (more : ℕ) → more ≤ records tree → Stays (records tree) names operands s s′ → NamesStay tree s s′
+    → Stays (records tree) more operands s s′
+stays-more more h p q = record {
+  long = p .long;
+  listed = p .listed;
+  open-names = λ i a b. q .bytes i a (omega arith);
+  stack = p .stack;
+  behind = p .behind;
+}
 
 -- ---- what is kept
 

@@ -19,12 +19,12 @@ use Rattle.conversion.specs.Ir.{M, _>>=_, _>>_, pure, lift}
 use Rattle.conversion.specs.Scope as Def
 use Rattle.conversion.specs.Scope.{withLoop}
 use Rattle.conversion.specs.Expressions.{common-type}
-use Rattle.conversion.specs.Statements.{convert-unary, convertAnd, convertOr, convertOther, convert-binary, convert-call-value, convert-expr, convert-args, convert-cond, callFunction, convert-declare, convert-init, initNew, convert-assign, assignTo, convert-return, returnAs, convert-call, convert-break, convert-continue, convert-if, convertIfElse, convert-while-loop, convert-for-loop, convert-statement, convert-block}
+use Rattle.conversion.specs.Statements.{checkBound, convert-unary, convertAnd, convertOr, convertOther, convert-binary, convert-call-value, convert-expr, convert-args, convert-cond, callFunction, convert-declare, convert-init, initNew, convert-assign, assignTo, convert-return, returnAs, convert-call, convert-break, convert-continue, convert-if, convertIfElse, convert-while-loop, convert-for-loop, convert-statement, convert-block}
 use Rattle.ir.specs.declared.structs.Counters.{Counters}
 use Rattle.ir.specs.declared.structs.VarId.{VarId}
 use Rattle.ir.specs.declared.structs.Operand.{Operand}
 use Rattle.ir.specs.Instructions.{operandOf, varOf}
-use Rattle.ir.specs.Amounts.{Amount, amount}
+use Rattle.ir.specs.Amounts.{Amount, amount, both}
 use Rattle.scope.specs.declared.Scope.{Scope}
 use Rattle.scope.specs.Open.{scopeAt}
 use Rattle.keys.specs.Keys.{allKeys}
@@ -45,9 +45,10 @@ use Rattle.statements.specs.declared.answers.Stated.the-variants as Stat
 use Rattle.statements.specs.declared.answers.Finished.{Finished}
 use Rattle.statements.specs.declared.answers.Finished.the-variants as Finished
 use Rattle.statements.specs.Meets.{Answer, gave, refused, Adds, AddsIn, Meets}
-use Rattle.statements.specs.Parts.{operandType}
+use Rattle.statements.specs.Parts.{operandType, ifHead, whileHead, forVariable, forBounds, forBegin, forTest, forTurns, forHead, declareInit}
 use Rattle.statements.specs.Stack.{stackAt}
-use Rattle.statements.specs.Converting.{OperandIn, StackIn, StaysFor}
+use Rattle.syntax.specs.Count.{under, statementRecords, blockRecords}
+use Rattle.statements.specs.Converting.{OperandIn, StackIn, StaysFor, NamesStay, exprAmount, behindAmount, statementAmount, blockAmount, headAmount, turnsAmount, forHeadAmount}
 
 -- ---- answers
 
@@ -69,6 +70,11 @@ abbrev pub finishedOf : {A : Type 0} → A → Finished → Answer A
 finishedOf a (Finished.Done k) = gave a k
 finishedOf a (Finished.Refused e) = refused e
 
+-- what leaves the scope as it was, as a statement's answer
+abbrev pub statedWith : Scope → Finished → Stated
+statedWith sc (Finished.Done k) = Stated.Done sc k
+statedWith sc (Finished.Refused e) = Stated.Refused e
+
 abbrev pub variableOf : List ℕ → List ℕ → List ℕ → ForVariable → Answer (Ir.VarId × Def.Scope)
 variableOf tree text s (ForVariable.Is v sc k) = gave (varOf v, scopeAt tree text s sc) k
 variableOf tree text s (ForVariable.Refused e) = refused e
@@ -80,6 +86,7 @@ pub record Converts (tree text : List ℕ) (m : M Ir.Operand) (n : Amount) (c : 
   pub meets : Meets text m n (c .counters) l l′ (convertedOf a)
   pub operand : (o : Operand) (k : Counters) → a ≡ Converted.Is o k → OperandIn tree (operandOf o)
   pub stays : StaysFor tree c s s′
+  pub names : NamesStay tree s s′
 
 -- an operand that is always had: for a leaf e in any scope, and for an operand that is fitted
 pub record LeafAdds (tree text : List ℕ) (e : ℕ) (n : Amount) (k : Counters) (l : List ℕ) (r : Fitted) (l′ : List ℕ) : Type 0 where
@@ -95,12 +102,14 @@ pub record FitAdds (tree : List ℕ) (m : M Ir.Operand) (n : Amount) (k : Counte
 pub record FitsArgs (tree : List ℕ) (m : M (List Ir.Operand)) (count : ℕ) (c : Converter) (l s : List ℕ) (k : Counters) (l′ s′ : List ℕ) : Type 0 where
   pub adds : Adds m (amount count count 0 0 count) (c .counters) l (stackAt s′ (records tree) (c .operands) count) k l′
   pub stays : StaysFor tree c s s′
+  pub names : NamesStay tree s s′
 
 -- the arguments of a call, above what waits on the stack: at most q of them
 pub record ConvertsArgs (tree text : List ℕ) (m : M (List Ir.Operand)) (n : Amount) (q : ℕ) (c : Converter) (l s : List ℕ) (a : ConvertedArgs) (l′ s′ : List ℕ) : Type 0 where
   pub meets : Meets text m n (c .counters) l l′ (argsOf s′ (records tree) (c .operands) a)
   pub operands : (count : ℕ) (k : Counters) → a ≡ ConvertedArgs.Done count k → (count ≤ q) × StackIn tree s′ (c .operands) count
   pub stays : StaysFor tree c s s′
+  pub names : NamesStay tree s s′
 
 -- the scope that a statement leaves: at most q names more, in the same function
 pub record Leaves (tree text : List ℕ) (q : ℕ) (c : Converter) (s′ : List ℕ) (sc : Scope) : Type 0 where
@@ -250,3 +259,101 @@ module _ (tree text s : List ℕ) (c : Converter) where
 
   abbrev pub jumpSteps : ℕ → M Def.Scope
   jumpSteps r = pick (eqb (kindOf tree r) 22) (breakSteps r) (continueSteps r)
+
+  -- ---- what stands around the blocks of the If, While or For r, x being a For's variable
+
+  abbrev pub ifHeadSteps : ℕ → M (Unit {0})
+  ifHeadSteps r = ifHead (program tree text) (allKeys tree text) (bit 1 (detailOf tree r)) r (exprAt tree text (wordOf tree r A)) scopeIn
+
+  abbrev pub whileHeadSteps : ℕ → M (Unit {0})
+  whileHeadSteps r = whileHead (program tree text) (allKeys tree text) r (exprAt tree text (wordOf tree r A)) scopeIn
+
+  abbrev pub forVariableSteps : ℕ → M (Ir.VarId × Def.Scope)
+  forVariableSteps r = forVariable (program tree text) (allKeys tree text) r (textOf tree text (wordOf tree r A) A) (reference (wordOf tree (wordOf tree r A) C)) scopeIn
+
+  abbrev pub boundSteps : ℕ → ℕ → M (Unit {0})
+  boundSteps e y = checkBound (program tree text) (allKeys tree text) (exprAt tree text e) y scopeIn
+
+  abbrev pub forBoundsSteps : ℕ → ℕ → M (Unit {0})
+  forBoundsSteps r y = forBounds (program tree text) (allKeys tree text) y (exprAt tree text (wordOf tree r B)) (exprAt tree text (wordOf tree r C)) scopeIn
+
+  abbrev pub forBeginSteps : VarId → ℕ → M (Unit {0})
+  forBeginSteps x r = forBegin (program tree text) (allKeys tree text) r (varOf x) (bit 16 (detailOf tree (x .1))) (bit 32 (detailOf tree (x .1)))
+      (exprAt tree text (wordOf tree r B)) scopeIn
+
+  abbrev pub forTestSteps : VarId → ℕ → M (Unit {0})
+  forTestSteps x r = forTest (program tree text) (allKeys tree text) r (varOf x) (exprAt tree text (wordOf tree r C)) scopeIn
+
+  abbrev pub forTurnsSteps : VarId → ℕ → M (Unit {0})
+  forTurnsSteps x r = forTurns (program tree text) (allKeys tree text) r (varOf x) (exprAt tree text (wordOf tree r B)) (exprAt tree text (wordOf tree r C)) scopeIn
+
+  abbrev pub forHeadSteps : ℕ → M Def.Scope
+  forHeadSteps r = forHead (program tree text) (allKeys tree text) r (textOf tree text (wordOf tree r A) A) (reference (wordOf tree (wordOf tree r A) C))
+      (exprAt tree text (wordOf tree r B)) (exprAt tree text (wordOf tree r C)) scopeIn
+
+  -- the Init r of a new name behind its value src, of type y
+  abbrev pub declareInitSteps : ℕ → ℕ → Operand → M Def.Scope
+  declareInitSteps r y src = declareInit (program tree text) (allKeys tree text) r (bit 1 (detailOf tree r)) (textOf tree text r A) y (operandOf src) scopeIn
+
+-- ---- what each function owes, by the step that it equals: `steps` at the record r, from the scratch s and the arena l
+
+-- what a function of statements.rs does at a record
+abbrev pub StepsAt : Type 0 → Type 0
+StepsAt X = List ℕ → List ℕ → List ℕ → Converter → ℕ → M X
+
+-- the condition or operand of the expression e
+abbrev pub ConvertsAs : StepsAt Ir.Operand → Converter → ℕ → List ℕ → List ℕ → List ℕ → List ℕ → Converted → List ℕ → List ℕ → Type 0
+ConvertsAs steps c e tree text l s a l′ s′ = Converts tree text (steps tree text s c e) (exprAmount (under (exprAt tree text e))) c l s a l′ s′
+
+-- the statement r behind its comment
+abbrev pub StatesAs : StepsAt Def.Scope → Converter → ℕ → List ℕ → List ℕ → List ℕ → List ℕ → Stated → List ℕ → List ℕ → Type 0
+StatesAs steps c r tree text l s a l′ s′ =
+    States tree text (steps tree text s c r) (behindAmount (statementRecords (statementAt tree text r))) (statementRecords (statementAt tree text r)) c l s a l′ s′
+
+-- the call e alone, whose result is not used
+abbrev pub CallOnlyAs : StepsAt Def.Scope → Converter → ℕ → List ℕ → List ℕ → List ℕ → List ℕ → Stated → List ℕ → List ℕ → Type 0
+CallOnlyAs steps c e tree text l s a l′ s′ = States tree text (steps tree text s c e) (exprAmount (under (exprAt tree text e))) 0 c l s a l′ s′
+
+-- the Init r of a new name, behind its value
+abbrev pub DeclaresAs : StepsAt Def.Scope → Converter → ℕ → List ℕ → List ℕ → List ℕ → List ℕ → Stated → List ℕ → List ℕ → Type 0
+DeclaresAs steps c r tree text l s a l′ s′ = States tree text (steps tree text s c r) (amount 1 1 0 0 0) 1 c l s a l′ s′
+
+-- the variable of the For r
+abbrev pub VariableAs : StepsAt (Ir.VarId × Def.Scope) → Converter → ℕ → List ℕ → List ℕ → List ℕ → List ℕ → ForVariable → List ℕ → List ℕ → Type 0
+VariableAs steps c r tree text l s a l′ s′ = FindsVariable tree text (steps tree text s c r) c l s a l′ s′
+
+-- the If, While or For r behind its comment, which leaves the scope as it was
+abbrev pub FinishesAs : StepsAt Def.Scope → Converter → ℕ → List ℕ → List ℕ → List ℕ → List ℕ → Finished → List ℕ → List ℕ → Type 0
+FinishesAs steps c r tree text l s a l′ s′ =
+    Finishes tree text (steps tree text s c r) (scopeIn tree text s c) (behindAmount (statementRecords (statementAt tree text r))) c l s a l′ s′
+
+-- the head of the If or While r, whose condition is in word A
+abbrev pub HeadAs : StepsAt (Unit {0}) → Converter → ℕ → List ℕ → List ℕ → List ℕ → List ℕ → Finished → List ℕ → List ℕ → Type 0
+HeadAs steps c r tree text l s a l′ s′ =
+    Finishes tree text (steps tree text s c r) tt (headAmount (under (exprAt tree text (wordOf tree r A)))) c l s a l′ s′
+
+-- the part of the For r that converts the bound in word w
+abbrev pub BoundAs : StepsAt (Unit {0}) → ℕ → Converter → ℕ → List ℕ → List ℕ → List ℕ → List ℕ → Finished → List ℕ → List ℕ → Type 0
+BoundAs steps w c r tree text l s a l′ s′ =
+    Finishes tree text (steps tree text s c r) tt (turnsAmount (under (exprAt tree text (wordOf tree r w)))) c l s a l′ s′ × NamesStay tree s s′
+
+-- the records below both bounds of the For r
+abbrev pub boundsUnder : List ℕ → List ℕ → ℕ → ℕ
+boundsUnder tree text r = under (exprAt tree text (wordOf tree r B)) + under (exprAt tree text (wordOf tree r C))
+
+-- the For r from its variable on, and from its beginning on, up to its body
+abbrev pub TurnsAs : StepsAt (Unit {0}) → Converter → ℕ → List ℕ → List ℕ → List ℕ → List ℕ → Finished → List ℕ → List ℕ → Type 0
+TurnsAs steps c r tree text l s a l′ s′ =
+    Finishes tree text (steps tree text s c r) tt (forHeadAmount (boundsUnder tree text r)) c l s a l′ s′ × NamesStay tree s s′
+
+abbrev pub ForHeadAs : StepsAt Def.Scope → Converter → ℕ → List ℕ → List ℕ → List ℕ → List ℕ → Stated → List ℕ → List ℕ → Type 0
+ForHeadAs steps c r tree text l s a l′ s′ =
+    States tree text (steps tree text s c r) (both (amount 0 1 0 0 0) (forHeadAmount (boundsUnder tree text r))) 1 c l s a l′ s′
+
+-- the statement r with its comment, and the block that word w opens
+abbrev pub StatementAs : StepsAt Def.Scope → Converter → ℕ → List ℕ → List ℕ → List ℕ → List ℕ → Stated → List ℕ → List ℕ → Type 0
+StatementAs steps c r tree text l s a l′ s′ =
+    States tree text (steps tree text s c r) (statementAmount (statementRecords (statementAt tree text r))) (statementRecords (statementAt tree text r)) c l s a l′ s′
+
+abbrev pub BlockAs : StepsAt (Unit {0}) → Converter → ℕ → List ℕ → List ℕ → List ℕ → List ℕ → Finished → List ℕ → List ℕ → Type 0
+BlockAs steps c w tree text l s a l′ s′ = Finishes tree text (steps tree text s c w) tt (blockAmount (blockRecords (blockAt tree text w))) c l s a l′ s′

@@ -4,7 +4,7 @@ use mathlib.Core.Path.{_≡_}
 use Prim.Native.Nat.{ℕ, suc, _+_, _*_, _≤_, _<_}
 use mathlib.Core.List.{List}
 use lib.ListN.{length}
-use Rattle.records.specs.Words.{byteAt, records}
+use Rattle.records.specs.Words.{byteAt, wordOf, records}
 use Rattle.syntax.specs.Syntax.{Args, noArgs, Value, ToType}
 use Rattle.syntax.specs.Count.{under, statementRecords, blockRecords}
 use Rattle.syntax.specs.Places.{exprAt, argsAt, statementAt, blockAt, TypeAt, FunctionAt}
@@ -82,7 +82,7 @@ abbrev pub turnsAmount : ℕ → Amount
 turnsAmount u = amount (4 * u + 7) (3 * u + 3) (3 * u + 3) (u + 1) (2 * u + 2)
 
 abbrev pub forHeadAmount : ℕ → Amount
-forHeadAmount u = amount (4 * u + 12) (3 * u + 6) (3 * u + 4) (u + 2) (2 * u + 4)
+forHeadAmount u = amount (4 * u + 14) (3 * u + 6) (3 * u + 6) (u + 2) (2 * u + 4)
 
 -- by a block of n records
 abbrev pub blockAmount : ℕ → Amount
@@ -100,6 +100,11 @@ pub record Afforded (tree : List ℕ) (c : Converter) (n : Amount) (q m : ℕ) :
 
 abbrev pub ExprAfforded : List ℕ → List ℕ → Converter → ℕ → Type 0
 ExprAfforded tree text c e = Afforded tree c (exprAmount (under (exprAt tree text e))) (under (exprAt tree text e)) 0
+
+-- for the part of the For r that converts the bound in word w
+abbrev pub BoundAfforded : List ℕ → List ℕ → Converter → ℕ → ℕ → Type 0
+BoundAfforded tree text c r w =
+    Afforded tree c (turnsAmount (under (exprAt tree text (wordOf tree r w)))) (under (exprAt tree text (wordOf tree r w))) 0
 
 abbrev pub ArgsAfforded : List ℕ → List ℕ → Converter → ℕ → Type 0
 ArgsAfforded tree text c w =
@@ -128,6 +133,10 @@ pub record Stays (n names operands : ℕ) (s s′ : List ℕ) : Type 0 where
   pub open-names : (i : ℕ) → 8 * n ≤ i → i < 8 * n + 16 * names → byteAt s′ i ≡ byteAt s i
   pub stack : (i : ℕ) → 24 * n ≤ i → i < 24 * n + 16 * operands → byteAt s′ i ≡ byteAt s i
   pub behind : (i : ℕ) → 40 * n ≤ i → byteAt s′ i ≡ byteAt s i
+
+-- the region of the names: an expression declares none
+pub record NamesStay (tree s s′ : List ℕ) : Type 0 where
+  pub bytes : (i : ℕ) → 8 * records tree ≤ i → i < 24 * records tree → byteAt s′ i ≡ byteAt s i
 
 abbrev pub StaysFor : List ℕ → Converter → List ℕ → List ℕ → Type 0
 StaysFor tree c s s′ = Stays (records tree) (c .scope .names) (c .operands) s s′

@@ -17,7 +17,7 @@ ghost use Rattle.ir.specs.Arena.{Room};
 ghost use Rattle.ir.specs.Instructions.{operandOf, varOf};
 ghost use Rattle.expressions.specs.Answers.{outcomeOf};
 ghost use Rattle.statements.specs.Stack.{stackAt};
-ghost use Rattle.statements.specs.Converting.{Converting, Afforded, RoomFor, OperandIn, StackIn, StaysFor};
+ghost use Rattle.statements.specs.Converting.{Converting, Afforded, RoomFor, OperandIn, StackIn, StaysFor, NamesStay};
 ghost use Rattle.statements.specs.Meets.{Adds, AddsIn};
 ghost use Rattle.statements.specs.Parts.{passArgs};
 ghost use Rattle.statements.specs.Answers.{FitAdds, FitsArgs};
@@ -239,7 +239,7 @@ pub(crate) fn pass_args(
     requires { ⌜ Converting (now tree) (now text) (now arena) (now scratch) c × FunctionAt (now tree) f ⌝ }
     requires { ⌜ Afforded (now tree) c (amount (2 * count) count 0 0 count) count 0 × StackIn (now tree) (now scratch) (c .operands) count ⌝ }
     ensures adds { λ r. ⌜ Adds (passArgs (program (now (tree .entry)) (now (text .entry))) (functionOf (now (tree .entry)) (now (text .entry)) f) (stackAt (now (scratch .entry)) (records (now (tree .entry))) (c .operands) count)) (amount (2 * count) count 0 0 count) (c .counters) (now (arena .entry)) tt r (now (arena .exit)) ⌝ }
-    ensures stays { λ _. ⌜ StaysFor (now (tree .entry)) c (now (scratch .entry)) (now (scratch .exit)) ⌝ }
+    ensures stays { λ _. ⌜ StaysFor (now (tree .entry)) c (now (scratch .entry)) (now (scratch .exit)) × NamesStay (now (tree .entry)) (now (scratch .entry)) (now (scratch .exit)) ⌝ }
 {
     let k = fit_args(tree, text, arena, scratch, c, f, count);
     let mut at = c;

@@ -1,11 +1,14 @@
-// Statements and expressions become instructions: Krc's converter/statements.rs, as far as it stands. A tree is judged before; what is written goes
-// through the emitter into the arena, and the operands of a call wait on a stack in scratch until the call is written. Here stands what the
-// functions that convert rest on: what they take and answer, labels and jumps, the stack, the operands of leaves, fitting; and the functions that
-// convert an expression. Statements and blocks are not built yet.
+// Statements and expressions become instructions: Krc's converter/statements.rs. A tree is judged before; what is written goes through the emitter into
+// the arena, and the operands of a call wait on a stack in scratch until the call is written. Every function takes and leaves the same (`answers`,
+// specs/Converting.antt); expressions are in `exprs` with what they need, statements without a block in `statements`, what stands around blocks in
+// `loops`, and statements with blocks in `blocks`.
 pub mod answers;
+pub mod blocks;
 mod exprs;
 mod fits;
 mod jumps;
+mod loops;
 mod numbers;
 mod operands;
 mod parts;
+mod statements;

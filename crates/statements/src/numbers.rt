@@ -1,6 +1,16 @@
 // Document 01's numbers for labels, and its tags as words of the stack.
 
 // Kinds of labels.
+pub(crate) const LOOP_START: u32 = 1;
+
+pub(crate) const LOOP_END: u32 = 2;
+
+pub(crate) const LOOP_CHECK: u32 = 3;
+
+pub(crate) const OTHERWISE: u32 = 4;
+
+pub(crate) const CONDITION_END: u32 = 5;
+
 pub(crate) const LOGIC_RHS: u32 = 6;
 
 pub(crate) const LOGIC_END: u32 = 7;

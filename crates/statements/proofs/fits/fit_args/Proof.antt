@@ -1,5 +1,6 @@
 -- Each value is fitted to its parameter, in place: what is left owes what the whole owes, and the rest has room.
 -- By one turn, and the end. Assumes nothing.
+use Rattle.statements.proofs.StayLaws.{names-of}
 use Prim.Native.Nat.{_-_}
 use native.Mathlib.Omega.{arith}
 use Rattle.syntax.specs.Places.{functionOf}
@@ -80,7 +81,7 @@ same-length-2 c = c .before .loop .inv .stays 0 (omega arith) .long
 
 -- src/fits.rt:181:1
 returns : tie.Need-returns Inv-loop μ-loop
-returns c = record { adds = fit-end _ _ _ _ _ _ _ _ _ _ _ _ _ (c .before .loop .inv) (omega arith); stays = c .before .loop .inv .stays _ (omega (arith, c .before .before .before .before .before .before .before .before .pre .1 .0 .names)) }
+returns c = record { adds = fit-end _ _ _ _ _ _ _ _ _ _ _ _ _ (c .before .loop .inv) (omega arith); stays = c .before .loop .inv .stays _ (omega (arith, c .before .before .before .before .before .before .before .before .pre .1 .0 .names)); names = names-of (c .before .loop .inv .stays _ (omega arith)) }
 
 pub fit-args-spec : {M : Type 1} → statement M
 fit-args-spec =

@@ -1,0 +1,389 @@
+-- A name declared behind a new variable: the scope with one name more, what stays of the scratch, and the steps up to there. The zero of a type, by its form.
+-- By what `declare` owes: its entry stands behind the open names, and the variable's type is one of the tree's. Assumes nothing.
+use mathlib.Core.Path.{_≡_, refl, sym, ap, _∙_, subst}
+use mathlib.Core.Bool.{Bool, false}
+use mathlib.Core.List.{List, [], _∷_}
+use mathlib.Core.Option.{Option}
+use Prim.Native.Nat.{ℕ, zero, suc, _+_, _*_, _/_, _%_, _≤_, _<_}
+use native.Mathlib.Decide.{decLt}
+use native.Mathlib.Omega.{arith}
+use lib.Dec.{ltb}
+use lib.ListN.{length, getD}
+use borrow.Author.Tests.{lt-ltb, le-ltb}
+use Rattle.laws.specs.Fix.{pick}
+use Rattle.records.specs.Words.{wordAt, wordOf, detailOf, textAt, records, A, B, C}
+use Rattle.records.specs.declared.convert_error.ConvertError.{ConvertError}
+use Rattle.records.proofs.GoodLaws.{inside, declare-c}
+use Rattle.syntax.specs.Syntax.{Text, Ty, TInt, TFloat, TBool, TChar, TByte, TAddress, TArray, TCustom, TNull, Program}
+use Rattle.syntax.specs.Count.{statementRecords}
+use Rattle.syntax.specs.Decode.{program, typeAt, textOf, wideOf, bit}
+use Rattle.syntax.specs.Places.{IsKind, TypeAt, statementAt}
+use Rattle.syntax.proofs.Records.{statement-declare}
+use Rattle.conversion.specs.ConvertError.{ConvertErrorKind, ok, err, AlreadyDeclared, BreakOutOfLoop, ContinueOutOfLoop, WouldPanic}
+use Rattle.conversion.specs.Ir as Ir
+use Rattle.conversion.specs.Ir.{FloatEntry, LabelName, M, _>>=_, _>>_, pure, fail, lift, new-var}
+use Rattle.conversion.specs.Scope as Def
+use Rattle.conversion.specs.Scope.{Variable, findIn, declare}
+use Rattle.conversion.specs.Expressions.{Functions}
+use Rattle.conversion.specs.Statements.{zeroValue, convert-declare, convert-break, convert-continue}
+use Rattle.conversion.proofs.MonadLaws.{regroup, seq-is}
+use Rattle.types.specs.Fits.{IsType}
+use Rattle.ir.specs.declared.structs.Counters.{Counters}
+use Rattle.ir.specs.declared.structs.Instr.{Instr}
+use Rattle.ir.specs.declared.structs.Instr.the-variants as Instr
+use Rattle.ir.specs.declared.structs.NewVariable.{NewVariable}
+use Rattle.ir.specs.declared.structs.Operand.{Operand}
+use Rattle.ir.specs.declared.structs.Operand.the-variants as Operand
+use Rattle.ir.specs.declared.structs.VarId.{VarId}
+use Rattle.ir.specs.declared.pool.PoolNumber.{PoolNumber}
+use Rattle.ir.specs.Amounts.{Amount, amount, both}
+use Rattle.ir.specs.Floats.{entry}
+use Rattle.ir.specs.Instructions.{varOf, operandOf, instrOf}
+use Rattle.ir.specs.Steps.{Next, Emits, AddsVar, NumbersFloat, named}
+use Rattle.ir.proofs.StepLaws.{next-in, lift-stops, fail-stops, stop-first, then-stop}
+use Rattle.scope.specs.declared.Scope.{Scope}
+use Rattle.scope.specs.declared.Known.{Known}
+use Rattle.scope.specs.declared.Declared.{Declared}
+use Rattle.scope.specs.declared.Declared.the-variants as Declared
+use Rattle.scope.specs.declared.InLoop.{InLoop}
+use Rattle.scope.specs.declared.InLoop.the-variants as InLoop
+use Rattle.scope.specs.Open.{Room, Afforded as NameAfforded, Added, Taken, DeclareMeets, IsFound, FindMeets, variablesOf, loopOf, loopNumber, scopeAt, entryOf}
+use Rattle.scope.proofs.ScopeLaws.{entry-long, added-entry, added-room, declare-ok, declare-err, in-loop}
+use Rattle.keys.specs.Keys.{allKeys}
+use Rattle.expressions.specs.Slots.{Ready}
+use Rattle.expressions.proofs.TakeLaws.{as-type}
+use Rattle.statements.specs.declared.answers.Converter.{Converter}
+use Rattle.statements.specs.declared.answers.Stated.the-variants as Stated
+use Rattle.statements.specs.declared.answers.Finished.{Finished}
+use Rattle.statements.specs.declared.answers.Finished.the-variants as Finished
+use Rattle.statements.specs.Meets.{Answer, gave, refused, Adds, Meets}
+use Rattle.statements.specs.Converting.{Converting, RoomFor, BehindAfforded, StaysFor, behindAmount}
+use Rattle.statements.specs.Parts.{jumpTo, zeroFloat}
+use Rattle.statements.specs.Answers.{finishedOf, Leaves, States, StatesAs, declareSteps, breakSteps, continueSteps}
+use Rattle.statements.proofs.MeetLaws.{adds-in, adds-then, adds-seq, adds-pure, adds-most, adds-same, meets-gave, meets-refused, meets-same, meets-then, meets-lift}
+use Rattle.statements.proofs.StayLaws.{stays-refl, name-stays, ready-stays}
+use Rattle.statements.proofs.EmitLaws.{emit-adds, var-adds}
+use Rattle.statements.proofs.StatedLaws.{states-gave, states-refused, states-same, states-most, seq-then, seq-not, leaves-same}
+
+-- the variable v with the name in words A and B of record r
+abbrev pub namedBy : List ℕ → List ℕ → ℕ → VarId → Bool → Variable
+namedBy tree text r v constant = record { name = textOf tree text r A; constant = constant; var-id = varOf v }
+
+-- ---- a name of the tree declared: v's, of a type of the tree, where a name more is afforded
+
+module _ {tree text l s : List ℕ} {c : Converter} (p : Converting tree text l s c) (v : VarId) (few : c .scope .names < records tree) (typed : TypeAt tree (v .1)) where
+  pub name-afforded : NameAfforded (c .scope) v
+  name-afforded = record {
+    names = omega (arith, few, p .ready .scoped .records-are);
+    type = omega (arith, typed .below, p .ready .keyed .good .few);
+  }
+
+  module _ (r : ℕ) (constant : Bool) (s′ : List ℕ) where
+    module _ {sc′ : Scope} (a : Added text (wordOf tree r A) (wordOf tree r B) v constant (c .scope) s s′ sc′) where
+      added-stays : StaysFor tree c s s′
+      added-stays =
+          name-stays (records tree) (c .scope .names) (c .operands) s s′ (entryOf (wordOf tree r A) (wordOf tree r B) v constant) (8 * c .scope .records + 16 * c .scope .names)
+          (a .written) (entry-long (wordOf tree r A) (wordOf tree r B) v constant) (omega (arith, p .ready .scoped .room .scratch, p .ready .scoped .records-are))
+          (omega (arith, p .ready .scoped .records-are)) few
+
+      kept : Ready tree text s′ (c .functions) (c .scope)
+      kept = ready-stays tree added-stays text (c .functions) (c .scope) (omega arith) (p .ready)
+
+      last-type : wordAt s′ (8 * records tree + 16 * c .scope .names + 12) / 2 ≡ v .1
+      last-type = rw (← p .ready .scoped .records-are) (ap (λ (x : Variable). x .var-id .ty) (added-entry tree text (wordOf tree r A) (wordOf tree r B) v constant (c .scope) s s′ sc′ a))
+
+      types-more : (j : ℕ) → j < c .scope .names + 1 → Dec (j < c .scope .names) → TypeAt tree (wordAt s′ (8 * records tree + 16 * j + 12) / 2)
+      types-more j h (yes i) = kept .scoped .types j i
+      types-more j h (no i) = let z : j ≡ c .scope .names = omega (arith, h, i) in rw (z, last-type) typed
+
+      added-leaves : Leaves tree text 1 c s′ sc′
+      added-leaves = record {
+        ready = record {
+          keyed = kept .keyed;
+          scoped = record {
+            records-are = rw (a .scope) (p .ready .scoped .records-are);
+            room = added-room tree text (wordOf tree r A) (wordOf tree r B) v constant (c .scope) s s′ sc′ a (p .ready .scoped .room) name-afforded;
+            types = λ j h. types-more j (rw (a .scope) at h) (decLt j (c .scope .names));
+          };
+        };
+        function = rw (a .scope);
+        least = rw (a .scope) (omega arith);
+        most = rw (a .scope) (omega arith);
+      }
+
+    module _ {d : Declared} (m : DeclareMeets text (wordOf tree r A) (wordOf tree r B) v constant (c .scope) s s′ d) where
+      was-added : {sc′ : Scope} → d ≡ Declared.Done sc′ → Added text (wordOf tree r A) (wordOf tree r B) v constant (c .scope) s s′ sc′
+      unfolding DeclareMeets
+      was-added q = subst (λ (x : Declared). DeclareMeets text (wordOf tree r A) (wordOf tree r B) v constant (c .scope) s s′ x) q m
+
+      was-taken : d ≡ Declared.Taken → Taken text (wordOf tree r A) (wordOf tree r B) v constant (c .scope) s s′
+      unfolding DeclareMeets
+      was-taken q = subst (λ (x : Declared). DeclareMeets text (wordOf tree r A) (wordOf tree r B) v constant (c .scope) s s′ x) q m
+
+      -- done: what stays, the scope that is left, and the definition's scope
+      pub declared-stays : {sc′ : Scope} → d ≡ Declared.Done sc′ → StaysFor tree c s s′
+      declared-stays q = added-stays (was-added q)
+
+      pub declared-leaves : {sc′ : Scope} → d ≡ Declared.Done sc′ → Leaves tree text 1 c s′ sc′
+      declared-leaves q = added-leaves (was-added q)
+
+      pub declared-ok : {sc′ : Scope} → d ≡ Declared.Done sc′ → (place : ℕ)
+          → declare (namedBy tree text r v constant) place (scopeAt tree text s (c .scope)) ≡ ok (scopeAt tree text s′ sc′)
+      unfolding textOf
+      declared-ok {sc′ = sc′} q place = declare-ok tree text (wordOf tree r A) (wordOf tree r B) v constant (c .scope) s s′ sc′ (was-added q) place
+
+      -- taken: nothing is written, and the definition's error
+      pub taken-same : d ≡ Declared.Taken → s′ ≡ s
+      taken-same q = was-taken q .same
+
+      pub taken-stays : d ≡ Declared.Taken → StaysFor tree c s s′
+      taken-stays q = rw (taken-same q) (stays-refl (records tree) (c .scope .names) (c .operands) s)
+
+      pub declared-err : d ≡ Declared.Taken → (place : ℕ)
+          → declare (namedBy tree text r v constant) place (scopeAt tree text s (c .scope)) ≡ err AlreadyDeclared place
+      unfolding textOf
+      declared-err q place = declare-err tree text (wordOf tree r A) (wordOf tree r B) v constant (c .scope) s s′ (was-taken q) place
+
+-- ---- a new variable of type y, and its name: with what follows, and refused
+
+-- the steps up to the scope with the name, and then f, in the scope S
+abbrev pub declaredThen : {X : Type 0} → List ℕ → List ℕ → ℕ → Bool → ℕ → ℕ → Def.Scope → (Ir.VarId → Def.Scope → M X) → M X
+declaredThen tree text r constant place y S f =
+    new-var y >>= (λ (x : Ir.VarId). lift (declare (record { name = textOf tree text r A; constant = constant; var-id = x }) place S) >>= (λ (sc1 : Def.Scope). f x sc1))
+
+module _ {tree text l s : List ℕ} {c : Converter} (p : Converting tree text l s c) {y : ℕ} {made : NewVariable} {l₁ : List ℕ}
+    (long : length l₁ ≡ length l) (new : AddsVar y (c .counters) l made l₁) (few : c .scope .names < records tree) (typed : TypeAt tree y) where
+  -- the variable's type is the one asked for
+  pub var-typed : TypeAt tree (made .var .1)
+  var-typed = subst (TypeAt tree) (sym (new .typed)) typed
+
+  pub var-afforded : NameAfforded (c .scope) (made .var)
+  var-afforded = name-afforded p (made .var) few var-typed
+
+  module _ (r : ℕ) (constant : Bool) (s′ : List ℕ) {d : Declared} (m : DeclareMeets text (wordOf tree r A) (wordOf tree r B) (made .var) constant (c .scope) s s′ d)
+      {X : Type 0} (place : ℕ) (f : Ir.VarId → Def.Scope → M X) where
+    pub variable-then : {sc′ : Scope} {n : Amount} {l′ : List ℕ} {a : Answer X} → d ≡ Declared.Done sc′
+        → Meets text (f (varOf (made .var)) (scopeAt tree text s′ sc′)) n (made .counters) l₁ l′ a
+        → Meets text (declaredThen tree text r constant place y (scopeAt tree text s (c .scope)) f) (both (amount 0 1 0 0 0) n) (c .counters) l l′ a
+    variable-then q i =
+        meets-then text (λ (x : Ir.VarId). lift (declare (record { name = textOf tree text r A; constant = constant; var-id = x }) place (scopeAt tree text s (c .scope))) >>= (λ (sc1 : Def.Scope). f x sc1))
+        long (adds-in text (var-adds long new))
+        (meets-lift text (λ (sc1 : Def.Scope). f (varOf (made .var)) sc1) (new .next .room) (declared-ok p (made .var) few var-typed r constant s′ m q place) i)
+
+    pub variable-not : {n : Amount} {e : ConvertError} → d ≡ Declared.Taken → e ≡ record { kind = AlreadyDeclared; place = place }
+        → Meets text (declaredThen tree text r constant place y (scopeAt tree text s (c .scope)) f) n (c .counters) l l₁ (refused e)
+    variable-not {e = e} q w =
+        meets-refused text long
+        (then-stop text (λ (x : Ir.VarId). lift (declare (record { name = textOf tree text r A; constant = constant; var-id = x }) place (scopeAt tree text s (c .scope))) >>= (λ (sc1 : Def.Scope). f x sc1))
+        (next-in text (new .next))
+        (stop-first text (λ (sc1 : Def.Scope). f (varOf (made .var)) sc1)
+        (lift-stops text (declare (namedBy tree text r (made .var) constant) place (scopeAt tree text s (c .scope))) (made .counters) l₁ (e .kind) (e .place)
+        (rw w (declared-err p (made .var) few var-typed r constant s′ m q place)))))
+
+-- ---- a name by its words, as the code hands it on
+
+module _ (text : List ℕ) (sc : Scope) (s : List ℕ) where
+  pub declared-named : {o n o′ n′ : ℕ} (v : VarId) (constant : Bool) (s′ : List ℕ) (d : Declared) → o ≡ o′ → n ≡ n′ → DeclareMeets text o n v constant sc s s′ d
+      → DeclareMeets text o′ n′ v constant sc s s′ d
+  declared-named v constant s′ d e q m = rw (← e, ← q) m
+
+  pub found-named : (tree : List ℕ) (r : ℕ) {o n : ℕ} (a : Known) → o ≡ wordOf tree r A → n ≡ wordOf tree r B → FindMeets text s sc (textAt text o n) a
+      → FindMeets text s sc (textOf tree text r A) a
+  unfolding textOf
+  found-named tree r a e q m = subst (λ (u : List ℕ). IsFound a (findIn u (variablesOf text s sc))) (rw (e, q)) m
+
+-- ---- the zero of a type, by its form
+
+pub less-picks : {X : Type 0} {f n : ℕ} (x y : X) → f < n → x ≡ pick (ltb f n) x y
+unfolding pick
+less-picks {f = f} {n = n} x y h = rw (lt-ltb f n h)
+
+pub least-picks : {X : Type 0} {f n : ℕ} (x y : X) → n ≤ f → y ≡ pick (ltb f n) x y
+unfolding pick
+least-picks {f = f} {n = n} x y h = rw (le-ltb f n h)
+
+pub zero-float-adds : {k k′ : Counters} {l l₁ l′ : List ℕ} {e : FloatEntry} {p : PoolNumber} (v : VarId) (short : Bool) → e ≡ entry 0 short → length l₁ ≡ length l
+    → NumbersFloat e k l p l₁ → length l′ ≡ length l₁ → Emits (Instr.Copy v (Operand.Float (p .number))) (p .counters) l₁ k′ l′
+    → Adds (zeroFloat (varOf v) short) (amount 1 0 0 0 1) k l tt k′ l′
+unfolding zeroFloat
+zero-float-adds {k = k} {l = l} {l₁ = l₁} {p = p} v short q h m d i =
+    adds-then (λ (j : ℕ). Ir.emit (Ir.Copy (varOf v) (Ir.OFloat j)))
+    (record { next = subst (λ (x : FloatEntry). Next (Ir.float-id x) k l (p .number) (p .counters) l₁) q (m .next); spent = m .spent; long = h })
+    (emit-adds d i)
+
+-- the types by form, with marks s and u
+abbrev forms : Bool → Bool → ℕ → ℕ → Text → List Ty
+forms s u a n t = TNull ∷ TInt s u ∷ TFloat s ∷ TBool ∷ TChar ∷ TByte ∷ TAddress a ∷ TArray a n ∷ TCustom t ∷ TNull ∷ []
+
+-- Bool, Char and Byte have the bool, Address and Null the null
+others : (P : Program) (F : Functions) (r : ℕ) (x : Ir.VarId) (s u : Bool) (a n : ℕ) (t : Text) (f : ℕ) → 1 ≤ f → (f ≡ 1 → ⊥) → (f ≡ 2 → ⊥) → (f ≡ 7 → ⊥) → (f ≡ 8 → ⊥)
+    → zeroValue P F r x (getD (forms s u a n t) f TNull) ≡ Ir.emit (Ir.Copy x (operandOf (pick (ltb f 6) (Operand.Bool false) Operand.Null)))
+unfolding zeroValue pick
+others P F r x s u a n t zero h n₁ n₂ n₇ n₈ = absurd (omega arith)
+others P F r x s u a n t (suc zero) h n₁ n₂ n₇ n₈ = absurd (n₁ refl)
+others P F r x s u a n t (suc (suc zero)) h n₁ n₂ n₇ n₈ = absurd (n₂ refl)
+others P F r x s u a n t (suc (suc (suc zero))) h n₁ n₂ n₇ n₈ = refl
+others P F r x s u a n t (suc (suc (suc (suc zero)))) h n₁ n₂ n₇ n₈ = refl
+others P F r x s u a n t (suc (suc (suc (suc (suc zero))))) h n₁ n₂ n₇ n₈ = refl
+others P F r x s u a n t (suc (suc (suc (suc (suc (suc zero)))))) h n₁ n₂ n₇ n₈ = refl
+others P F r x s u a n t (suc (suc (suc (suc (suc (suc (suc zero))))))) h n₁ n₂ n₇ n₈ = absurd (n₇ refl)
+others P F r x s u a n t (suc (suc (suc (suc (suc (suc (suc (suc zero)))))))) h n₁ n₂ n₇ n₈ = absurd (n₈ refl)
+others P F r x s u a n t (suc (suc (suc (suc (suc (suc (suc (suc (suc zero))))))))) h n₁ n₂ n₇ n₈ = refl
+others P F r x s u a n t (suc (suc (suc (suc (suc (suc (suc (suc (suc (suc f)))))))))) h n₁ n₂ n₇ n₈ =
+    rw (le-ltb (suc (suc (suc (suc (suc (suc (suc (suc (suc (suc f)))))))))) 6 (omega arith))
+
+module _ (tree text : List ℕ) (F : Functions) (r : ℕ) (v : VarId) (f : ℕ) (ef : f ≡ detailOf tree (v .1) % 16) where
+  type-as : typeAt tree text (v .1)
+      ≡ getD (forms (bit 16 (detailOf tree (v .1))) (bit 32 (detailOf tree (v .1))) (wordOf tree (v .1) A) (wideOf tree text (v .1) B) (textOf tree text (v .1) A)) f TNull
+  unfolding typeAt
+  type-as = rw ef
+
+  abbrev zeros : M (Unit {0})
+  zeros = zeroValue (program tree text) F r (varOf v) (typeAt tree text (v .1))
+
+  other-zero : {o : Operand} → 1 ≤ f → (f ≡ 1 → ⊥) → (f ≡ 2 → ⊥) → (f ≡ 7 → ⊥) → (f ≡ 8 → ⊥) → o ≡ pick (ltb f 6) (Operand.Bool false) Operand.Null
+      → zeros ≡ Ir.emit (Ir.Copy (varOf v) (operandOf o))
+  other-zero n₀ n₁ n₂ n₇ n₈ q =
+      rw (q, type-as)
+      (others (program tree text) F r (varOf v) (bit 16 (detailOf tree (v .1))) (bit 32 (detailOf tree (v .1))) (wordOf tree (v .1) A) (wideOf tree text (v .1) B) (textOf tree text (v .1) A) f n₀ n₁ n₂ n₇ n₈)
+
+  pub zero-custom : {k : Counters} {l : List ℕ} {z : ConvertError} → f ≡ 8 → z ≡ record { kind = WouldPanic; place = r } → Meets text zeros (amount 1 0 0 0 1) k l l (refused z)
+  unfolding zeroValue
+  zero-custom {k = k} {l = l} e w = meets-same {m = fail WouldPanic r} text (rw (type-as, e)) (meets-refused text refl (rw w (fail-stops text k l WouldPanic r)))
+
+  module _ {k : Counters} {l l′ : List ℕ} where
+    emitted : {i : Instr} {k′ : Counters} → zeros ≡ Ir.emit (instrOf i) → length l′ ≡ length l → Emits i k l k′ l′ → Meets text zeros (amount 1 0 0 0 1) k l l′ (gave tt k′)
+    emitted e h p = meets-gave text h (adds-in text (adds-most (adds-same (sym e) (emit-adds h p)) (omega arith)))
+
+    pub zero-int : {k′ : Counters} {short unsigned : Bool} → f ≡ 1 → short ≡ bit 16 (detailOf tree (v .1)) → unsigned ≡ bit 32 (detailOf tree (v .1)) → length l′ ≡ length l
+        → Emits (Instr.Copy v (Operand.Int 0 short unsigned)) k l k′ l′ → Meets text zeros (amount 1 0 0 0 1) k l l′ (gave tt k′)
+    unfolding zeroValue
+    zero-int e s u h p = emitted (rw (type-as, e, s, u)) h p
+
+    pub zero-float : {k′ : Counters} {short : Bool} → f ≡ 2 → short ≡ bit 16 (detailOf tree (v .1)) → Adds (zeroFloat (varOf v) short) (amount 1 0 0 0 1) k l tt k′ l′
+        → Meets text zeros (amount 1 0 0 0 1) k l l′ (gave tt k′)
+    unfolding zeroValue zeroFloat
+    zero-float e s p = meets-gave text (p .long) (adds-in text (adds-same (rw (type-as, e, s)) p))
+
+    pub zero-array : {k′ : Counters} → f ≡ 7 → length l′ ≡ length l → Emits (Instr.Zero v) k l k′ l′ → Meets text zeros (amount 1 0 0 0 1) k l l′ (gave tt k′)
+    unfolding zeroValue
+    zero-array e h p = emitted (rw (type-as, e)) h p
+
+    pub zero-other : {k′ : Counters} {o : Operand} → 1 ≤ f → (f ≡ 1 → ⊥) → (f ≡ 2 → ⊥) → (f ≡ 7 → ⊥) → (f ≡ 8 → ⊥) → o ≡ pick (ltb f 6) (Operand.Bool false) Operand.Null
+        → length l′ ≡ length l → Emits (Instr.Copy v o) k l k′ l′ → Meets text zeros (amount 1 0 0 0 1) k l l′ (gave tt k′)
+    zero-other n₀ n₁ n₂ n₇ n₈ q h p = emitted (other-zero n₀ n₁ n₂ n₇ n₈ q) h p
+
+-- ---- the Declare r
+
+module _ {tree text l s : List ℕ} {c : Converter} (p : Converting tree text l s c) {r : ℕ} (i : IsKind tree 15 r) (h : BehindAfforded tree text c r) where
+  declare-one : statementRecords (statementAt tree text r) ≡ 1
+  unfolding statementRecords
+  declare-one = rw (statement-declare tree text r (i .kind))
+
+  declare-few : c .scope .names < records tree
+  declare-few = omega (arith, declare-one, h .names)
+
+  declare-type : TypeAt tree (wordOf tree r C)
+  declare-type = let k = declare-c tree text (p .ready .keyed .good) r (i .below) (i .kind) in record { below = omega (arith, k .0, i .below); kind = k .1 }
+
+  module _ {y : ℕ} (e : y ≡ wordOf tree r C) {made : NewVariable} {l₁ : List ℕ} (long : length l₁ ≡ length l) (new : AddsVar y (c .counters) l made l₁) where
+    newly : AddsVar (wordOf tree r C) (c .counters) l made l₁
+    newly = subst (λ (z : ℕ). AddsVar z (c .counters) l made l₁) e new
+
+    pub declare-asks : (r * 32 + 32 ≤ length tree) × Room (c .scope) s × NameAfforded (c .scope) (made .var)
+    declare-asks = (inside tree text (p .ready .keyed .good) r (i .below), p .ready .scoped .room, var-afforded p long newly declare-few declare-type)
+
+    pub zero-asks : RoomFor (made .counters) l₁ (amount 1 0 0 0 1) × IsType tree (made .var .1) × (r < 4294967296)
+    zero-asks = (
+      record { room = new .next .room; affords = omega (arith, h .tables, new .spent) },
+      as-type tree text (p .ready .keyed .good) (made .var .1) (var-typed p long newly declare-few declare-type),
+      omega (arith, i .below, p .ready .keyed .good .few),
+    )
+
+    module _ (s′ : List ℕ) {d : Declared} (m : DeclareMeets text (wordOf tree r A) (wordOf tree r B) (made .var) false (c .scope) s s′ d) where
+      pub declare-taken : {z : ConvertError} → d ≡ Declared.Taken → z ≡ record { kind = AlreadyDeclared; place = r }
+          → StatesAs declareSteps c r tree text l s (Stated.Refused z) l₁ s′
+      unfolding convert-declare program
+      declare-taken {z = z} q w =
+          let n : Meets text (declareSteps tree text s c r) (amount 0 0 0 0 0) (c .counters) l l₁ (refused z) =
+          variable-not p long newly declare-few declare-type r false s′ m r
+          (λ (x : Ir.VarId) (S : Def.Scope). zeroValue (program tree text) (allKeys tree text) r x (typeAt tree text (wordOf tree r C)) >> pure S) q w in
+          states-refused long (n .stops z refl) (taken-stays p (made .var) declare-few (var-typed p long newly declare-few declare-type) r false s′ m q)
+
+      module _ {sc′ : Scope} (q : d ≡ Declared.Done sc′) {l₂ : List ℕ} (a : Finished)
+          (zero : (t : List ℕ) (F : Functions) → Meets t (zeroValue (program tree t) F r (varOf (made .var)) (typeAt tree t (made .var .1))) (amount 1 0 0 0 1) (made .counters) l₁ l₂ (finishedOf tt a)) where
+        zeroed : Meets text (zeroValue (program tree text) (allKeys tree text) r (varOf (made .var)) (typeAt tree text (wordOf tree r C))) (amount 1 0 0 0 1) (made .counters) l₁ l₂ (finishedOf tt a)
+        zeroed =
+            meets-same text (ap (λ (z : ℕ). zeroValue (program tree text) (allKeys tree text) r (varOf (made .var)) (typeAt tree text z)) (newly .typed))
+            (zero text (allKeys tree text))
+
+        with-name : {n : Amount} {b : Answer Def.Scope}
+            → Meets text (zeroValue (program tree text) (allKeys tree text) r (varOf (made .var)) (typeAt tree text (wordOf tree r C)) >> pure (scopeAt tree text s′ sc′)) n (made .counters) l₁ l₂ b
+            → Meets text (declareSteps tree text s c r) (both (amount 0 1 0 0 0) n) (c .counters) l l₂ b
+        unfolding convert-declare program
+        with-name z =
+            variable-then p long newly declare-few declare-type r false s′ m r
+            (λ (x : Ir.VarId) (S : Def.Scope). zeroValue (program tree text) (allKeys tree text) r x (typeAt tree text (wordOf tree r C)) >> pure S) q z
+
+        name-stayed : StaysFor tree c s s′
+        name-stayed = declared-stays p (made .var) declare-few (var-typed p long newly declare-few declare-type) r false s′ m q
+
+        pub declare-refused : {z : ConvertError} → a ≡ Finished.Refused z → StatesAs declareSteps c r tree text l s (Stated.Refused z) l₂ s′
+        declare-refused {z = z} w =
+            let n = with-name {n = amount 0 0 0 0 0} (seq-not text (pure (scopeAt tree text s′ sc′)) (zeroed .long) (zeroed .stops z (ap (finishedOf tt) w))) in
+            states-refused (n .long) (n .stops z refl) name-stayed
+
+        pub declare-done : {k : Counters} → a ≡ Finished.Done k → StatesAs declareSteps c r tree text l s (Stated.Done sc′ k) l₂ s′
+        declare-done {k = k} w =
+            let z = zeroed .gives tt k (ap (finishedOf tt) w) in
+            let n = with-name (seq-then text (pure (scopeAt tree text s′ sc′)) (zeroed .long) z
+            (meets-gave text refl (adds-in text (adds-pure (scopeAt tree text s′ sc′) k l₂ (z .next .room))))) in
+            states-most (omega arith) (omega (arith, declare-one))
+            (states-gave (n .long) (n .gives (scopeAt tree text s′ sc′) k refl)
+            (declared-leaves p (made .var) declare-few (var-typed p long newly declare-few declare-type) r false s′ m q) name-stayed)
+
+-- ---- the Break or Continue r
+
+-- a jump that leaves the scope
+jumps-on : (n : LabelName) (S : Def.Scope) → jumpTo n >> pure S ≡ Ir.label-id n >>= (λ (i : ℕ). Ir.emit (Ir.Jump i) >> pure S)
+unfolding jumpTo
+jumps-on n S = simp (seq-is, regroup)
+
+module _ {tree text l s : List ℕ} {c : Converter} (p : Converting tree text l s c) (r : ℕ) where
+  abbrev scope : Def.Scope
+  scope = scopeAt tree text s (c .scope)
+
+  outside-stops : {z : ConvertError} {steps : M Def.Scope} {kind : ConvertErrorKind} → steps ≡ fail kind r → z ≡ record { kind = kind; place = r }
+      → States tree text steps (behindAmount (statementRecords (statementAt tree text r))) (statementRecords (statementAt tree text r)) c l s (Stated.Refused z) l s
+  outside-stops {kind = kind} e w =
+      states-same (sym e) (states-refused refl (rw w (fail-stops text (c .counters) l kind r)) (stays-refl (records tree) (c .scope .names) (c .operands) s))
+
+  jump-states : {k : Counters} {l′ : List ℕ} {steps : M Def.Scope} (n : LabelName) → steps ≡ Ir.label-id n >>= (λ (i : ℕ). Ir.emit (Ir.Jump i) >> pure scope)
+      → Adds (jumpTo n) (amount 1 0 1 0 0) (c .counters) l tt k l′
+      → States tree text steps (behindAmount (statementRecords (statementAt tree text r))) (statementRecords (statementAt tree text r)) c l s (Stated.Done (c .scope) k) l′ s
+  jump-states {k = k} {l′ = l′} n e a =
+      let stays = stays-refl (records tree) (c .scope .names) (c .operands) s in
+      states-same (jumps-on n scope ∙ sym e)
+      (states-gave (a .long) (adds-in text (adds-most (adds-seq (pure scope) a (adds-pure scope k l′ (a .next .room))) (omega arith))) (leaves-same p stays) stays)
+
+  module _ (o : InLoop) (m : loopOf o ≡ loopNumber (c .scope .inner)) where
+    loop-is : {x : Option ℕ} → loopOf o ≡ x → scope .inLoop ≡ x
+    loop-is q = in-loop tree text s (c .scope) o m ∙ q
+
+    pub break-outside : {z : ConvertError} → o ≡ InLoop.Outside → z ≡ record { kind = BreakOutOfLoop; place = r } → StatesAs breakSteps c r tree text l s (Stated.Refused z) l s
+    unfolding convert-break
+    break-outside q w = outside-stops (rw (loop-is (ap loopOf q))) w
+
+    pub break-jumps : {x : ℕ} {k : Counters} {l′ : List ℕ} → o ≡ InLoop.Of x → Adds (jumpTo (named 2 x)) (amount 1 0 1 0 0) (c .counters) l tt k l′
+        → StatesAs breakSteps c r tree text l s (Stated.Done (c .scope) k) l′ s
+    unfolding convert-break
+    break-jumps {x = x} q a = jump-states (named 2 x) (rw (loop-is (ap loopOf q))) a
+
+    pub continue-outside : {z : ConvertError} → o ≡ InLoop.Outside → z ≡ record { kind = ContinueOutOfLoop; place = r } → StatesAs continueSteps c r tree text l s (Stated.Refused z) l s
+    unfolding convert-continue
+    continue-outside q w = outside-stops (rw (loop-is (ap loopOf q))) w
+
+    pub continue-jumps : {x : ℕ} {k : Counters} {l′ : List ℕ} → o ≡ InLoop.Of x → Adds (jumpTo (named 1 x)) (amount 1 0 1 0 0) (c .counters) l tt k l′
+        → StatesAs continueSteps c r tree text l s (Stated.Done (c .scope) k) l′ s
+    unfolding convert-continue
+    continue-jumps {x = x} q a = jump-states (named 1 x) (rw (loop-is (ap loopOf q))) a

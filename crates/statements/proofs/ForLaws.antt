@@ -1,0 +1,453 @@
+-- The head of a For as the code meets it: its variable, the check of its bounds, its turns; and what its words refer to.
+-- By the laws of steps in a row and what the search for a name finds; the scope stays as long as its names do. Assumes nothing.
+use mathlib.Core.Path.{_≡_, refl, sym, ap, _∙_, subst, fun-ext}
+use mathlib.Core.Logic.{_⊎_, inl, inr}
+use mathlib.Core.Bool.{Bool, true, false}
+use mathlib.Core.List.{List}
+use mathlib.Core.Option.{none as nothing, some}
+use Prim.Native.Nat.{ℕ, zero, suc, _+_, _*_, _/_, _%_, _≤_, _<_}
+use native.Mathlib.Omega.{arith}
+use lib.Dec.{eqb}
+use lib.ListN.{length}
+use borrow.Author.Tests.{eq-eqb, ne-eqb}
+use Rattle.laws.specs.Fix.{pick}
+use Rattle.records.specs.declared.convert_error.ConvertError.{ConvertError}
+use Rattle.records.specs.Words.{detailOf, wordOf, wordAt, records, none, A, B, C}
+use Rattle.records.specs.Good.{Good}
+use Rattle.records.proofs.GoodLaws.{ToKind, inside, for-a, for-b, for-c, variable-c}
+use Rattle.syntax.specs.Syntax.{place}
+use Rattle.syntax.specs.Decode.{program, textOf, typeAt, bit, reference}
+use Rattle.syntax.specs.Places.{IsKind, TypeAt, exprAt, statementAt}
+use Rattle.syntax.specs.Count.{exprRecords, statementRecords}
+use Rattle.syntax.proofs.Records.{statement-for}
+use Rattle.conversion.specs.ConvertError.{ConvertErrorKind, Result, ok, err, NotInteger, UnknownVariable, AssignToConstant, AlreadyDeclared}
+use Rattle.conversion.specs.Ir as Ir
+use Rattle.conversion.specs.Ir.{M, sameText, bind, _>>=_, _>>_, pure, fail, lift}
+use Rattle.conversion.specs.Scope as Def
+use Rattle.conversion.specs.Scope.{findIn, find-variable}
+use Rattle.conversion.specs.Expressions.{Functions}
+use Rattle.conversion.specs.Statements.{checkFits, checkBound}
+use Rattle.conversion.proofs.MonadLaws.{seq-is, pure-first}
+use Rattle.types.specs.Fits.{IsExpr, IsType}
+use Rattle.types.proofs.FromGood.{is-expr, is-type}
+use Rattle.ir.specs.declared.structs.Counters.{Counters}
+use Rattle.ir.specs.declared.structs.NewVariable.{NewVariable}
+use Rattle.ir.specs.declared.structs.VarId.{VarId}
+use Rattle.ir.specs.Amounts.{Amount, amount, both}
+use Rattle.ir.specs.Instructions.{varOf}
+use Rattle.ir.specs.Steps.{StopsIn, AddsVar}
+use Rattle.ir.proofs.StepCases.{picked, skipped, on-int, no-int, stop-of}
+use Rattle.ir.proofs.StepLaws.{fail-stops, lift-stops, stop-first, stop-seq}
+use Rattle.scope.specs.declared.Scope.{Scope}
+use Rattle.scope.specs.declared.Declared.{Declared}
+use Rattle.scope.specs.declared.Declared.the-variants as Declared
+use Rattle.scope.specs.declared.Known.{Known}
+use Rattle.scope.specs.declared.Known.the-variants as Known
+use Rattle.scope.specs.Open.{scopeAt, Room, Afforded as NameAfforded, DeclareMeets, variableAt, variablesAt, IsFound, FindMeets}
+use Rattle.scope.proofs.ScopeLaws.{Finds, find-some, find-unknown}
+use Rattle.keys.specs.Keys.{allKeys}
+use Rattle.expressions.specs.declared.answers.ExprType.{ExprType}
+use Rattle.expressions.specs.declared.answers.ExprType.the-variants as ExprType
+use Rattle.expressions.specs.declared.answers.Outcome.{Outcome}
+use Rattle.expressions.specs.declared.answers.Outcome.the-variants as Outcome
+use Rattle.expressions.specs.Slots.{Ready, typeIn}
+use Rattle.expressions.specs.Answers.{refusal, outcomeOf, TypeMeets}
+use Rattle.expressions.proofs.SlotLaws.{scope-frame, ready-frame, frame-trans}
+use Rattle.expressions.proofs.TypingLaws.{type-ok, type-refused, is-typed, expr-low, place-is}
+use Rattle.statements.specs.declared.answers.Converter.{Converter}
+use Rattle.statements.specs.declared.answers.Finished.{Finished}
+use Rattle.statements.specs.declared.answers.Finished.the-variants as Finished
+use Rattle.statements.specs.declared.answers.ForVariable.{ForVariable}
+use Rattle.statements.specs.declared.answers.ForVariable.the-variants as ForVariable
+use Rattle.statements.specs.declared.answers.Stated.{Stated}
+use Rattle.statements.specs.declared.answers.Stated.the-variants as Stated
+use Rattle.statements.specs.Meets.{Answer, gave, AddsIn, Meets}
+use Rattle.statements.specs.Parts.{knownVariable, forVariable, forBounds, forBegin, forTest, forTurns, forHead}
+use Rattle.statements.specs.Converting.{Converting, withCounters, Afforded, BehindAfforded, forHeadAmount, Stays, StaysFor, NamesStay}
+use Rattle.statements.specs.Answers.{variableOf, Leaves, States, Finishes, FindsVariable, Checks, scopeIn, forVariableSteps, forBoundsSteps, forBeginSteps, forTestSteps, forTurnsSteps, forHeadSteps, boundsUnder}
+use Rattle.statements.proofs.MeetLaws.{adds-in, adds-pure, adds-most, adds-same, meets-gave, meets-refused, meets-same, meets-most, meets-then, meets-lift}
+use Rattle.statements.proofs.StayLaws.{stays-refl, stays-then, stays-more, frame-stays, scope-stays, ready-stays, converting-next}
+use Rattle.statements.proofs.FitLaws.{type-is, forms-are}
+use Rattle.statements.proofs.DeclareLaws.{declaredThen, var-typed, var-afforded, variable-then, variable-not, taken-stays, declared-stays, declared-leaves}
+use Rattle.statements.proofs.StatedLaws.{states-gave, states-refused, finishes-refused, finished-next, finished-stop, leaves-same, scope-later, seq-then, seq-not}
+
+-- ---- what changes nothing but may fail, and then the rest
+
+module _ {X Y : Type 0} (x : Result X) (f : X → M Y) where
+  lift-then : (a : X) → x ≡ ok a → lift x >>= f ≡ f a
+  unfolding lift pure
+  lift-then a e = ap (λ (z : Result X). lift z >>= f) e ∙ pure-first a f
+
+  lift-not : (k : ConvertErrorKind) (r : ℕ) → x ≡ err k r → lift x >>= f ≡ lift (err k r)
+  unfolding lift _>>=_ bind
+  lift-not k r e = ap (λ (z : Result X). lift z >>= f) e ∙ fun-ext (λ s. refl)
+
+-- ---- what the words of a For refer to
+
+module _ {tree text : List ℕ} (good : Good tree text) {r : ℕ} (k : IsKind tree 21 r) where
+  pub from-expr : {a : ℕ} → a ≡ wordOf tree r B → IsExpr tree a
+  from-expr {a} e =
+      let h = for-b tree text good r (k .below) (k .kind) in
+      subst (λ (z : ℕ). IsExpr tree z) (sym e) (is-expr tree text good (wordOf tree r B) (omega (arith, h .0, k .below)) (h .1))
+
+  pub until-expr : {a : ℕ} → a ≡ wordOf tree r C → IsExpr tree a
+  until-expr {a} e =
+      let h = for-c tree text good r (k .below) (k .kind) in
+      subst (λ (z : ℕ). IsExpr tree z) (sym e) (is-expr tree text good (wordOf tree r C) (omega (arith, h .0, k .below)) (h .1))
+
+  -- its variable
+  pub variable-is : {v : ℕ} → v ≡ wordOf tree r A → IsKind tree 24 v
+  variable-is {v} e =
+      let h = for-a tree text good r (k .below) (k .kind) in
+      subst (λ (z : ℕ). IsKind tree 24 z) (sym e) (record { below = omega (arith, h .0, k .below); kind = h .1 })
+
+  pub variable-inside : {v : ℕ} → v ≡ wordOf tree r A → v * 32 + 32 ≤ length tree
+  variable-inside {v} e = inside tree text good v (variable-is e .below)
+
+  pub variable-typed : {v w : ℕ} → v ≡ wordOf tree r A → w ≡ wordOf tree v C → (w ≡ none → ⊥) → TypeAt tree (wordOf tree v C)
+  variable-typed {v} {w} e q n = go (variable-c tree text good v (variable-is e .below) (variable-is e .kind))
+    where
+      go : (wordOf tree v C ≡ none) ⊎ ToKind tree 1 v (wordOf tree v C) → TypeAt tree (wordOf tree v C)
+      go (inl d) = absurd (n (q ∙ d))
+      go (inr h) = record { below = omega (arith, h .0, variable-is e .below); kind = h .1 }
+
+  -- its records: its own, its variable's, its bounds' and its body's
+  pub for-records : 4 + boundsUnder tree text r ≤ statementRecords (statementAt tree text r)
+  unfolding statementRecords exprRecords
+  for-records = rw (statement-for tree text good r (k .below) (k .kind)) (omega arith)
+
+-- ---- the check of a bound
+
+-- of the bound e, of the variable's type y; of both bounds of the For r
+abbrev boundAt : List ℕ → List ℕ → List ℕ → Scope → ℕ → ℕ → M (Unit {0})
+boundAt tree text s sc e y = checkBound (program tree text) (allKeys tree text) (exprAt tree text e) y (scopeAt tree text s sc)
+
+abbrev boundsAt : List ℕ → List ℕ → List ℕ → Scope → ℕ → ℕ → M (Unit {0})
+boundsAt tree text s sc r y =
+    forBounds (program tree text) (allKeys tree text) y (exprAt tree text (wordOf tree r B)) (exprAt tree text (wordOf tree r C)) (scopeAt tree text s sc)
+
+module _ {tree text s s₁ : List ℕ} {count : ℕ} {sc : Scope} {e : ℕ} {t : ExprType} (y : ℕ) (p : Ready tree text s count sc) (is : IsExpr tree e) (m : TypeMeets tree text s sc e t s₁) where
+  pub bound-asks : {q : ℕ} → TypeAt tree y → t ≡ ExprType.Is q → IsExpr tree e × IsType tree q × IsType tree y × (e < 4294967296) × (e < 4294967296)
+  bound-asks {q} h w =
+      let good = p .keyed .good in
+      let ty = is-typed tree t q (m .typed) w in
+      let low : e < 4294967296 = omega (arith, expr-low tree text good e is, good .few) in
+      (is, is-type tree text good q (ty .below) (ty .kind), is-type tree text good y (h .below) (h .kind), low, low)
+
+  abbrev rest : ℕ → M (Unit {0})
+  rest q = checkFits (program tree text) (allKeys tree text) (exprAt tree text e) q y NotInteger (place (exprAt tree text e))
+
+  pub bound-not : {x : ConvertError} → t ≡ ExprType.Refused x → Checks tree (boundAt tree text s sc e y) s (Outcome.Refused x) s₁
+  unfolding checkBound typeIn outcomeOf refusal
+  bound-not {x} w = record {
+    meets = lift-not (typeIn tree text (scopeAt tree text s sc) e) rest (x .kind) (x .place) (type-refused (typeIn tree text (scopeAt tree text s sc) e) t x (m .meets) w);
+    frame = m .frame;
+  }
+
+  pub bound-is : {q : ℕ} {a : Outcome} → t ≡ ExprType.Is q
+      → ((u : List ℕ) (F : Functions) → checkFits (program tree u) F (exprAt tree u e) q y NotInteger e ≡ lift (outcomeOf a))
+      → Checks tree (boundAt tree text s sc e y) s a s₁
+  unfolding checkBound typeIn
+  bound-is {q} w h = record {
+    meets = lift-then (typeIn tree text (scopeAt tree text s sc) e) rest q (type-ok (typeIn tree text (scopeAt tree text s sc) e) t q (m .meets) w)
+        ∙ ap (λ (z : ℕ). checkFits (program tree text) (allKeys tree text) (exprAt tree text e) q y NotInteger z) (place-is tree text (p .keyed .good) e is)
+        ∙ h text (allKeys tree text);
+    frame = m .frame;
+  }
+
+-- both bounds, before either is converted
+module _ (tree text s : List ℕ) (sc : Scope) (r y : ℕ) {s₁ : List ℕ} {b : ℕ} {o : Outcome} (eb : b ≡ wordOf tree r B) (m : Checks tree (boundAt tree text s sc b y) s o s₁) where
+  first-is : boundAt tree text s sc (wordOf tree r B) y ≡ lift (outcomeOf o)
+  first-is = ap (λ (z : ℕ). boundAt tree text s sc z y) (sym eb) ∙ m .meets
+
+  abbrev second : M (Unit {0})
+  second = boundAt tree text s sc (wordOf tree r C) y
+
+  pub bounds-not : {x : ConvertError} → o ≡ Outcome.Refused x → Checks tree (boundsAt tree text s sc r y) s (Outcome.Refused x) s₁
+  unfolding forBounds outcomeOf refusal
+  bounds-not {x} w = record {
+    meets = ap (λ (z : M (Unit {0})). z >> second) (first-is ∙ ap (λ (z : Outcome). lift (outcomeOf z)) w)
+        ∙ seq-is (lift (outcomeOf (Outcome.Refused x))) second
+        ∙ lift-not (outcomeOf (Outcome.Refused x)) (λ (u : Unit {0}). second) (x .kind) (x .place) refl;
+    frame = m .frame;
+  }
+
+  pub bounds-then : {d : ℕ} {a : Outcome} {s₂ : List ℕ} → sc .records ≡ records tree → o ≡ Outcome.Done → d ≡ wordOf tree r C
+      → Checks tree (boundAt tree text s₁ sc d y) s₁ a s₂ → Checks tree (boundsAt tree text s sc r y) s a s₂
+  unfolding forBounds outcomeOf
+  bounds-then er w ed n = record {
+    meets = ap (λ (z : M (Unit {0})). z >> second) (first-is ∙ ap (λ (z : Outcome). lift (outcomeOf z)) w)
+        ∙ seq-is (lift (outcomeOf Outcome.Done)) second
+        ∙ lift-then (outcomeOf Outcome.Done) (λ (u : Unit {0}). second) tt refl
+        ∙ ap (λ (S : Def.Scope). checkBound (program tree text) (allKeys tree text) (exprAt tree text (wordOf tree r C)) y S) (sym (scope-frame tree s s₁ (m .frame) text sc er))
+        ∙ ap (λ (z : ℕ). boundAt tree text s₁ sc z y) (sym ed) ∙ n .meets;
+    frame = frame-trans (m .frame) (n .frame);
+  }
+
+-- ---- the answer of a For's variable
+
+module _ {tree text l l′ s s′ : List ℕ} {m : M (Ir.VarId × Def.Scope)} {c : Converter} where
+  pub variable-gave : {v : VarId} {sc : Scope} {k : Counters} → length l′ ≡ length l
+      → AddsIn text m (amount 0 1 0 0 0) (c .counters) l (varOf v, scopeAt tree text s′ sc) k l′ → TypeAt tree (v .1) → Leaves tree text 1 c s′ sc
+      → StaysFor tree c s s′ → FindsVariable tree text m c l s (ForVariable.Is v sc k) l′ s′
+  variable-gave {v} {sc} long p t h stays = record {
+    meets = meets-gave text long p;
+    variable = λ v′ sc′ k′ e.
+        let a : v ≡ v′ = cc in
+        let b : sc ≡ sc′ = cc in
+        (subst (λ (z : VarId). TypeAt tree (z .1)) a t, subst (λ (z : Scope). Leaves tree text 1 c s′ z) b h);
+    stays = stays;
+  }
+
+  pub variable-refused : {e : ConvertError} → length l′ ≡ length l → StopsIn text m (c .counters) l (e .kind) (e .place) → StaysFor tree c s s′
+      → FindsVariable tree text m c l s (ForVariable.Refused e) l′ s′
+  variable-refused long p stays = record {
+    meets = meets-refused text long p;
+    variable = λ v sc k e. let z : _≡_ {A = ℕ} 0 1 = cc in absurd (omega arith);
+    stays = stays;
+  }
+
+-- ---- a variable of the blocks around
+
+-- the type of a variable that is found is one of the tree's
+found-typed : (v : VarId) (b : Bool) (tree text s : List ℕ) (n : ℕ) (u : List ℕ) (m : ℕ) → ((j : ℕ) → j < m → TypeAt tree (wordAt s (8 * n + 16 * j + 12) / 2))
+    → IsFound (Known.Is v b) (findIn u (variablesAt text s n m)) → TypeAt tree (v .1)
+unfolding IsFound findIn variablesAt
+found-typed v b tree text s n u zero t h = absurd h
+found-typed v b tree text s n u (suc m) t h =
+    go (found-typed v b tree text s n u m (λ j k. t j (omega arith))) (sameText u (variableAt text s (8 * n + 16 * m) .name)) h
+  where
+    go : (IsFound (Known.Is v b) (findIn u (variablesAt text s n m)) → TypeAt tree (v .1))
+        → (c : Bool) → IsFound (Known.Is v b) (elim c [ true ↦ some (variableAt text s (8 * n + 16 * m)) | false ↦ findIn u (variablesAt text s n m) ]) → TypeAt tree (v .1)
+    go rest true f = subst (λ (z : ℕ). TypeAt tree z) (sym (ap (λ z. z .ty) (f .0))) (t m (omega arith))
+    go rest false f = rest f
+
+module _ {tree text l s : List ℕ} {c : Converter} (r : ℕ) {v : ℕ} (p : Converting tree text l s c) (ev : v ≡ wordOf tree r A) (free : wordOf tree v C ≡ none)
+    (a : Known) (m : FindMeets text s (c .scope) (textOf tree text v A) a) where
+  known-steps : forVariableSteps tree text s c r
+      ≡ knownVariable (program tree text) (allKeys tree text) r (find-variable (textOf tree text v A) (scopeIn tree text s c)) (scopeIn tree text s c)
+  unfolding forVariable reference
+  known-steps =
+      ap (λ (z : ℕ). forVariable (program tree text) (allKeys tree text) r (textOf tree text z A) (reference (wordOf tree z C)) (scopeIn tree text s c)) (sym ev)
+      ∙ rw (picked (eqb (wordOf tree v C) none) nothing (some (wordOf tree v C)) (eq-eqb (wordOf tree v C) none free))
+
+  met : (k : Known) → a ≡ k → FindMeets text s (c .scope) (textOf tree text v A) k
+  met k q = subst (λ (z : Known). FindMeets text s (c .scope) (textOf tree text v A) z) q m
+
+  refuses : {d : ConvertErrorKind} {x : ConvertError} → forVariableSteps tree text s c r ≡ fail d r → x ≡ record { kind = d; place = r }
+      → FindsVariable tree text (forVariableSteps tree text s c r) c l s (ForVariable.Refused x) l s
+  refuses {d} e w = variable-refused refl
+      (subst (λ (z : ConvertError). StopsIn text (forVariableSteps tree text s c r) (c .counters) l (z .kind) (z .place)) (sym w)
+      (stop-of e (fail-stops text (c .counters) l d r))) (stays-refl (records tree) (c .scope .names) (c .operands) s)
+
+  pub known-not : {x : ConvertError} → a ≡ Known.Unknown → x ≡ record { kind = UnknownVariable; place = r }
+      → FindsVariable tree text (forVariableSteps tree text s c r) c l s (ForVariable.Refused x) l s
+  unfolding knownVariable
+  known-not q w = refuses (known-steps ∙ rw (find-unknown tree text s (c .scope) (textOf tree text v A) (met Known.Unknown q))) w
+
+  module _ {x : VarId} {b : Bool} (q : a ≡ Known.Is x b) where
+    found : Finds (textOf tree text v A) (scopeIn tree text s c) x b
+    found = find-some tree text s (c .scope) (textOf tree text v A) x b (met (Known.Is x b) q)
+
+    found-steps : forVariableSteps tree text s c r ≡ pick b (fail AssignToConstant r) (pure (varOf x, scopeIn tree text s c))
+    unfolding knownVariable
+    found-steps =
+        known-steps ∙ rw (found .found)
+        (ap (λ (z : Bool). pick z (fail AssignToConstant r) (pure (found .holder .var-id, scopeIn tree text s c))) (found .fixed)
+        ∙ ap (λ (z : Ir.VarId). pick b (fail AssignToConstant r) (pure (z, scopeIn tree text s c))) (found .var))
+
+    pub known-fixed : {z : ConvertError} → b ≡ true → z ≡ record { kind = AssignToConstant; place = r }
+        → FindsVariable tree text (forVariableSteps tree text s c r) c l s (ForVariable.Refused z) l s
+    known-fixed h w = refuses (found-steps ∙ picked b (fail AssignToConstant r) (pure (varOf x, scopeIn tree text s c)) h) w
+
+    pub known-is : b ≡ false → FindsVariable tree text (forVariableSteps tree text s c r) c l s (ForVariable.Is x (c .scope) (c .counters)) l s
+    known-is h = variable-gave refl
+        (adds-in text (adds-same (sym (found-steps ∙ skipped b (fail AssignToConstant r) (pure (varOf x, scopeIn tree text s c)) h))
+        (adds-most (adds-pure (varOf x, scopeIn tree text s c) (c .counters) l (p .room)) (omega arith))))
+        (found-typed x b tree text s (c .scope .records) (textOf tree text v A) (c .scope .names)
+        (λ j i. subst (λ (z : ℕ). TypeAt tree (wordAt s (8 * z + 16 * j + 12) / 2)) (sym (p .ready .scoped .records-are)) (p .ready .scoped .types j i)) (met (Known.Is x b) q))
+        (leaves-same p (stays-refl (records tree) (c .scope .names) (c .operands) s)) (stays-refl (records tree) (c .scope .names) (c .operands) s)
+
+-- ---- the variable that it declares
+
+module _ {tree text l s : List ℕ} {c : Converter} {r v : ℕ} (p : Converting tree text l s c) (afforded : BehindAfforded tree text c r) (is : IsKind tree 21 r) (ev : v ≡ wordOf tree r A)
+    (t : TypeAt tree (wordOf tree v C)) where
+  few : c .scope .names < records tree
+  few = omega (arith, for-records (p .ready .keyed .good) is, afforded .names)
+
+  module _ {y : ℕ} {made : NewVariable} {l₁ : List ℕ} (ey : y ≡ wordOf tree v C) (long : length l₁ ≡ length l) (new : AddsVar y (c .counters) l made l₁) where
+    typed : TypeAt tree y
+    typed = subst (λ (z : ℕ). TypeAt tree z) (sym ey) t
+
+    pub declare-asks : (v * 32 + 32 ≤ length tree) × Room (c .scope) s × NameAfforded (c .scope) (made .var)
+    declare-asks = (variable-inside (p .ready .keyed .good) is ev, p .ready .scoped .room, var-afforded p long new few typed)
+
+    abbrev declared : Ir.VarId → Def.Scope → M (Ir.VarId × Def.Scope)
+    declared x sc = pure (x, sc)
+
+    declared-steps : declaredThen tree text v false r y (scopeIn tree text s c) declared ≡ forVariableSteps tree text s c r
+    unfolding forVariable reference
+    declared-steps =
+        sym (ap (λ (z : ℕ). forVariable (program tree text) (allKeys tree text) r (textOf tree text z A) (reference (wordOf tree z C)) (scopeIn tree text s c)) (sym ev)
+        ∙ rw (skipped (eqb (wordOf tree v C) none) nothing (some (wordOf tree v C)) (ne-eqb (wordOf tree v C) none (λ e. omega (arith, t .below, p .ready .keyed .good .few))))
+        (ap (λ (z : ℕ). declaredThen tree text v false r z (scopeIn tree text s c) declared) (sym ey)))
+
+    module _ (s′ : List ℕ) {d : Declared} (m : DeclareMeets text (wordOf tree v A) (wordOf tree v B) (made .var) false (c .scope) s s′ d) where
+      pub for-taken : {e : ConvertError} → d ≡ Declared.Taken → e ≡ record { kind = AlreadyDeclared; place = r }
+          → FindsVariable tree text (forVariableSteps tree text s c r) c l s (ForVariable.Refused e) l₁ s′
+      for-taken q w = record {
+        meets = meets-same text declared-steps (variable-not p long new few typed v false s′ m r declared q w);
+        variable = λ x sc k e. let z : _≡_ {A = ℕ} 0 1 = cc in absurd (omega arith);
+        stays = taken-stays p (made .var) few (var-typed p long new few typed) v false s′ m q;
+      }
+
+      pub for-done : {sc : Scope} → d ≡ Declared.Done sc
+          → FindsVariable tree text (forVariableSteps tree text s c r) c l s (ForVariable.Is (made .var) sc (made .counters)) l₁ s′
+      for-done {sc} q = variable-gave long
+          (meets-same text declared-steps (variable-then p long new few typed v false s′ m r declared q
+          (meets-gave text refl (adds-in text (adds-pure (varOf (made .var), scopeAt tree text s′ sc) (made .counters) l₁ (new .next .room)))))
+          .gives (varOf (made .var), scopeAt tree text s′ sc) (made .counters) refl)
+          (var-typed p long new few typed) (declared-leaves p (made .var) few (var-typed p long new few typed) v false s′ m q)
+          (declared-stays p (made .var) few (var-typed p long new few typed) v false s′ m q)
+
+-- ---- the turns: x is the variable
+
+-- what is only checked leaves the tables
+pub checks-converting : {tree text l s s₁ : List ℕ} {c : Converter} {m : M (Unit {0})} {o : Outcome} → Converting tree text l s c → Checks tree m s o s₁ → Converting tree text l s₁ c
+checks-converting {tree = tree} {text = text} {s = s} {s₁ = s₁} {c = c} p b = record {
+  ready = ready-frame tree s s₁ (b .frame) text (c .functions) (c .scope) (p .ready);
+  function = p .function;
+  records-are = p .records-are;
+  room = p .room;
+}
+
+module _ {tree text l s : List ℕ} {c : Converter} (x : VarId) (r : ℕ) (p : Converting tree text l s c) {f : ℕ} (ef : f ≡ detailOf tree (x .1) % 16) where
+  -- with the marks of an Int
+  abbrev marked : Bool → Bool → M (Unit {0})
+  marked short unsigned =
+      boundsAt tree text s (c .scope) r (x .1)
+      >> (forBegin (program tree text) (allKeys tree text) r (varOf x) short unsigned (exprAt tree text (wordOf tree r B)) (scopeIn tree text s c) >> forTestSteps tree text s c x r)
+
+  abbrev turns : M (Unit {0})
+  turns = forBeginSteps tree text s c x r >> forTestSteps tree text s c x r
+
+  pub turns-not-int : {n : Amount} {e : ConvertError} → (f ≡ 1 → ⊥) → e ≡ record { kind = NotInteger; place = r }
+      → Finishes tree text (forTurnsSteps tree text s c x r) tt n c l s (Finished.Refused e) l s
+  unfolding forTurns program
+  turns-not-int h w = finishes-refused refl
+      (subst (λ (z : ConvertError). StopsIn text (forTurnsSteps tree text s c x r) (c .counters) l (z .kind) (z .place)) (sym w)
+      (stop-of (no-int (typeAt tree text (x .1)) (fail NotInteger r) marked (forms-are tree text (x .1) f ef .0 ∙ ne-eqb f 1 h))
+      (fail-stops text (c .counters) l NotInteger r))) (stays-refl (records tree) (c .scope .names) (c .operands) s)
+
+  module _ (i : f ≡ 1) {o : Outcome} {s₁ : List ℕ} (b : Checks tree (forBoundsSteps tree text s c r (x .1)) s o s₁) where
+    int-steps : forTurnsSteps tree text s c x r ≡ lift (outcomeOf o) >> turns
+    unfolding forTurns program
+    int-steps =
+        on-int (typeAt tree text (x .1)) (fail NotInteger r) marked (bit 16 (detailOf tree (x .1))) (bit 32 (detailOf tree (x .1))) (type-is tree text (x .1) f ef ∙ rw i)
+        ∙ ap (λ (z : M (Unit {0})). z >> turns) (b .meets)
+
+    bounds-stay : StaysFor tree c s s₁
+    bounds-stay = frame-stays (c .scope .names) (c .operands) (b .frame)
+
+    pub turns-bounds-not : {n : Amount} {e : ConvertError} → o ≡ Outcome.Refused e
+        → Finishes tree text (forTurnsSteps tree text s c x r) tt n c l s (Finished.Refused e) l s₁
+    unfolding outcomeOf refusal
+    turns-bounds-not {e = e} w = finishes-refused refl
+        (stop-of (int-steps ∙ ap (λ (z : Outcome). lift (outcomeOf z) >> turns) w)
+        (stop-seq text turns (lift-stops text (outcomeOf (Outcome.Refused e)) (c .counters) l (e .kind) (e .place) refl))) bounds-stay
+
+    module _ (d : o ≡ Outcome.Done) {n₁ : Amount} {a : Finished} {l₂ s₂ : List ℕ} (g : Finishes tree text (forBeginSteps tree text s₁ c x r) tt n₁ c l s₁ a l₂ s₂) where
+      begin-scope : scopeIn tree text s₁ c ≡ scopeIn tree text s c
+      begin-scope = scope-later p bounds-stay
+
+      from-begin : {n : Amount} {y : Answer (Unit {0})} {l₃ : List ℕ} → Meets text (forBeginSteps tree text s₁ c x r >> forTestSteps tree text s c x r) n (c .counters) l l₃ y
+          → Meets text (forTurnsSteps tree text s c x r) n (c .counters) l l₃ y
+      unfolding outcomeOf
+      from-begin q =
+          meets-same text (sym (int-steps ∙ ap (λ (z : Outcome). lift (outcomeOf z) >> turns) d ∙ seq-is (lift (outcomeOf Outcome.Done)) turns))
+          (meets-lift text (λ (u : Unit {0}). turns) (p .room) refl
+          (meets-same text (ap (λ (S : Def.Scope). forBegin (program tree text) (allKeys tree text) r (varOf x) (bit 16 (detailOf tree (x .1))) (bit 32 (detailOf tree (x .1))) (exprAt tree text (wordOf tree r B)) S >> forTestSteps tree text s c x r) begin-scope) q))
+
+      pub turns-begin-not : {n : Amount} {e : ConvertError} → a ≡ Finished.Refused e
+          → Finishes tree text (forTurnsSteps tree text s c x r) tt n c l s (Finished.Refused e) l₂ s₂
+      turns-begin-not w = record {
+        meets = from-begin (seq-not text (forTestSteps tree text s c x r) (g .meets .long) (finished-stop g w));
+        stays = stays-then (omega arith) (omega arith) bounds-stay (g .stays);
+      }
+
+      pub turns-then : {n₂ : Amount} {k : Counters} {y : Finished} {l₃ s₃ : List ℕ} → a ≡ Finished.Done k
+          → Finishes tree text (forTestSteps tree text s₂ (withCounters c k) x r) tt n₂ (withCounters c k) l₂ s₂ y l₃ s₃
+          → Finishes tree text (forTurnsSteps tree text s c x r) tt (both n₁ n₂) c l s y l₃ s₃
+      turns-then w q = record {
+        meets = from-begin (seq-then text (forTestSteps tree text s c x r) (g .meets .long) (finished-next g w)
+            (meets-same text (ap (λ (S : Def.Scope). forTest (program tree text) (allKeys tree text) r (varOf x) (exprAt tree text (wordOf tree r C)) S)
+            (scope-later (checks-converting p b) (g .stays) ∙ begin-scope)) (q .meets)));
+        stays = stays-then (omega arith) (omega arith) bounds-stay (stays-then (omega arith) (omega arith) (g .stays) (q .stays));
+      }
+
+-- ---- the head
+
+module _ {tree text l s l₁ s₁ : List ℕ} {c : Converter} (r : ℕ) (p : Converting tree text l s c) {a : ForVariable} (m : FindsVariable tree text (forVariableSteps tree text s c r) c l s a l₁ s₁) where
+  abbrev after : Ir.VarId × Def.Scope → M Def.Scope
+  after v = forTurns (program tree text) (allKeys tree text) r (v .0) (exprAt tree text (wordOf tree r B)) (exprAt tree text (wordOf tree r C)) (scopeIn tree text s c) >> pure (v .1)
+
+  pub head-not : {n : Amount} {q : ℕ} {e : ConvertError} → a ≡ ForVariable.Refused e → States tree text (forHeadSteps tree text s c r) n q c l s (Stated.Refused e) l₁ s₁
+  unfolding forHead
+  head-not {e = e} w = states-refused (m .meets .long) (stop-first text after (m .meets .stops e (ap (variableOf tree text s₁) w))) (m .stays)
+
+  module _ {x : VarId} {inner : Scope} {k : Counters} (w : a ≡ ForVariable.Is x inner k) where
+    head-adds : AddsIn text (forVariableSteps tree text s c r) (amount 0 1 0 0 0) (c .counters) l (varOf x, scopeAt tree text s₁ inner) k l₁
+    head-adds = m .meets .gives (varOf x, scopeAt tree text s₁ inner) k (ap (variableOf tree text s₁) w)
+
+    pub head-asks : IsKind tree 21 r → BehindAfforded tree text c r
+        → (Converting tree text l₁ s₁ (withCounters c k) × Afforded tree (withCounters c k) (forHeadAmount (boundsUnder tree text r)) (boundsUnder tree text r) 0)
+        × (IsKind tree 21 r × TypeAt tree (x .1))
+    head-asks is h =
+        let few = for-records (p .ready .keyed .good) is in (
+          (
+            converting-next p (head-adds .next) (m .stays),
+            record {
+              tables = omega (arith, few, h .tables, head-adds .spent);
+              stack = omega (arith, few, h .stack);
+              names = omega (arith, h .names);
+            },
+          ),
+          (is, m .variable x inner k w .0),
+        )
+
+    module _ {n : Amount} {b : Finished} {l₂ s₂ : List ℕ} (t : Finishes tree text (forTurnsSteps tree text s₁ (withCounters c k) x r) tt n (withCounters c k) l₁ s₁ b l₂ s₂) where
+      head-stays : StaysFor tree c s s₂
+      head-stays = stays-then (omega arith) (omega arith) (m .stays) (t .stays)
+
+      head-scope : {y : Answer Def.Scope} → Meets text (forTurnsSteps tree text s₁ (withCounters c k) x r >> pure (scopeAt tree text s₁ inner)) n k l₁ l₂ y
+          → Meets text (forHeadSteps tree text s c r) (both (amount 0 1 0 0 0) n) (c .counters) l l₂ y
+      unfolding forHead
+      head-scope q =
+          meets-then text after (m .meets .long) head-adds
+          (meets-same text (ap (λ (S : Def.Scope). forTurns (program tree text) (allKeys tree text) r (varOf x) (exprAt tree text (wordOf tree r B)) (exprAt tree text (wordOf tree r C)) S
+          >> pure (scopeAt tree text s₁ inner)) (scope-later p (m .stays))) q)
+
+      pub head-turns-not : {e : ConvertError} → b ≡ Finished.Refused e
+          → States tree text (forHeadSteps tree text s c r) (both (amount 0 1 0 0 0) n) 1 c l s (Stated.Refused e) l₂ s₂
+      head-turns-not {e} d = record {
+        meets = head-scope (seq-not text (pure (scopeAt tree text s₁ inner)) (t .meets .long) (finished-stop t d));
+        leaves = λ sc k e. let z : _≡_ {A = ℕ} 0 1 = cc in absurd (omega arith);
+        stays = head-stays;
+      }
+
+      pub head-done : {k₁ : Counters} → b ≡ Finished.Done k₁ → NamesStay tree s₁ s₂
+          → States tree text (forHeadSteps tree text s c r) (both (amount 0 1 0 0 0) n) 1 c l s (Stated.Done inner k₁) l₂ s₂
+      head-done {k₁} d q =
+          let h = m .variable x inner k w .1 in
+          let names : Stays (records tree) (inner .names) (c .operands) s₁ s₂ =
+          stays-more (inner .names) (omega (arith, h .ready .scoped .room .names-in, h .ready .scoped .records-are)) (t .stays) q in
+          states-gave (t .meets .long ∙ m .meets .long)
+          (head-scope (meets-most text (seq-then text (pure (scopeAt tree text s₁ inner)) (t .meets .long) (finished-next t d)
+          (meets-gave text refl (adds-in text (adds-pure (scopeAt tree text s₁ inner) k₁ l₂ (finished-next t d .next .room))))) (omega arith))
+          .gives (scopeAt tree text s₂ inner) k₁ (ap (λ (S : Def.Scope). gave S k₁) (sym (scope-stays tree names text inner (h .ready .scoped .records-are) (omega arith)))))
+          (record {
+            ready = ready-stays tree names text (c .functions) inner (omega arith) (h .ready);
+            function = h .function;
+            least = h .least;
+            most = h .most;
+          }) head-stays

@@ -1,0 +1,417 @@
+-- The Init, as the code meets it: a value assigned to a known variable, a new variable with its name and the copy, and which of both it is.
+-- By the laws of steps in a row: the scope stays while the value is typed and converted; amounts are arithmetic over the value's records. Assumes nothing.
+use mathlib.Core.Path.{_≡_, refl, sym, ap, ap₂, _∙_, subst}
+use mathlib.Core.Bool.{Bool, true, false}
+use mathlib.Core.List.{List}
+use mathlib.Core.Option.{Option, none, some}
+use Prim.Native.Nat.{ℕ, zero, suc, _+_, _*_, _/_, _%_, _≤_, _<_}
+use native.Mathlib.Omega.{arith}
+use lib.Dec.{eqb}
+use lib.ListN.{length}
+use borrow.Author.Tests.{eq-eqb, ne-eqb}
+use Rattle.laws.specs.Fix.{pick}
+use Rattle.records.specs.declared.convert_error.ConvertError.{ConvertError}
+use Rattle.records.specs.Words.{detailOf, wordOf, wordAt, records, A, B, C}
+use Rattle.records.specs.Good.{Good}
+use Rattle.records.proofs.GoodLaws.{inside, init-detail, init-c}
+use Rattle.syntax.specs.Syntax.{Text, Expr, Program, nullType, addressOfNull}
+use Rattle.syntax.specs.Count.{under, exprRecords, statementRecords}
+use Rattle.syntax.specs.Decode.{program, bit, textOf}
+use Rattle.syntax.specs.Places.{IsKind, TypeAt, exprAt, statementAt}
+use Rattle.syntax.proofs.Records.{statement-init}
+use Rattle.conversion.specs.ConvertError.{AssignToConstant, WrongAssignType, AlreadyDeclared}
+use Rattle.conversion.specs.Ir as Ir
+use Rattle.conversion.specs.Ir.{Copy, M, _>>=_, _>>_, pure, lift, emit}
+use Rattle.conversion.specs.Scope as Def
+use Rattle.conversion.specs.Scope.{Variable, findIn, find-variable}
+use Rattle.conversion.specs.Expressions.{Functions, get-type}
+use Rattle.conversion.specs.Statements.{fit-operand, convert-expr, checkFits, assignTo, convert-assign, initNew, initBy, convert-init}
+use Rattle.conversion.proofs.MonadLaws.{regroup, seq-is}
+use Rattle.types.specs.Fits.{IsExpr, IsType}
+use Rattle.types.proofs.FromGood.{is-expr}
+use Rattle.ir.specs.declared.structs.Counters.{Counters}
+use Rattle.ir.specs.declared.structs.VarId.{VarId}
+use Rattle.ir.specs.declared.structs.Operand.{Operand}
+use Rattle.ir.specs.declared.structs.Instr.the-variants.{Copy as copy}
+use Rattle.ir.specs.declared.structs.NewVariable.{NewVariable}
+use Rattle.ir.specs.Arena.{Room}
+use Rattle.ir.specs.Amounts.{Amount, amount, both}
+use Rattle.ir.specs.Instructions.{operandOf, varOf}
+use Rattle.ir.specs.Steps.{StopsIn, Emits, AddsVar}
+use Rattle.ir.proofs.AmountLaws.{nothing-spent}
+use Rattle.ir.proofs.StepLaws.{next-in, lift-next, lift-stops, fail-stops}
+use Rattle.ir.proofs.StepCases.{next-of, stop-of}
+use Rattle.scope.specs.declared.Scope.{Scope}
+use Rattle.scope.specs.declared.Known.{Known}
+use Rattle.scope.specs.declared.Known.the-variants as Known
+use Rattle.scope.specs.declared.Declared.{Declared}
+use Rattle.scope.specs.declared.Declared.the-variants as Declared
+use Rattle.scope.specs.Open.{Room as NameRoom, Afforded as NameAfforded, variableAt, variablesAt, scopeAt, IsFound, FindMeets, DeclareMeets}
+use Rattle.scope.proofs.ScopeLaws.{find-some, find-unknown}
+use Rattle.keys.specs.Keys.{allKeys}
+use Rattle.expressions.specs.declared.answers.ExprType.{ExprType}
+use Rattle.expressions.specs.declared.answers.ExprType.the-variants as ExprType
+use Rattle.expressions.specs.declared.answers.Outcome.{Outcome}
+use Rattle.expressions.specs.declared.answers.Outcome.the-variants as Outcome
+use Rattle.expressions.specs.Answers.{refusal, outcomeOf, IsTyped, TypeMeets}
+use Rattle.expressions.proofs.OperandLaws.{first-type, type-of}
+use Rattle.expressions.proofs.TypingLaws.{is-typed}
+use Rattle.statements.specs.declared.answers.Converter.{Converter}
+use Rattle.statements.specs.declared.answers.Converted.{Converted}
+use Rattle.statements.specs.declared.answers.Converted.the-variants as Converted
+use Rattle.statements.specs.declared.answers.Fitted.{Fitted}
+use Rattle.statements.specs.declared.answers.Stated.{Stated}
+use Rattle.statements.specs.declared.answers.Stated.the-variants as Stated
+use Rattle.statements.specs.Converting.{Converting, withCounters, RoomFor, exprAmount, behindAmount, Afforded, ExprAfforded, BehindAfforded, StaysFor}
+use Rattle.statements.specs.Meets.{Answer, gave, refused, Adds, AddsIn, Meets}
+use Rattle.statements.specs.Parts.{copyFitted, declareInit}
+use Rattle.statements.specs.Answers.{FitAdds, Converts, Leaves, States, StatesAs, DeclaresAs, exprSteps, initSteps, initNewSteps, assignSteps, assignToSteps, declareInitSteps}
+use Rattle.statements.proofs.MeetLaws.{adds-then, adds-seq, adds-pure, adds-most, adds-in, meets-gave, meets-refused, meets-same, meets-most}
+use Rattle.statements.proofs.StayLaws.{stays-refl, stays-then}
+use Rattle.statements.proofs.StatedLaws.{states-same, scope-later, leaves-same, type-converting, type-stays, typed-then, typed-not, operand-then, operand-not, seq-then, seq-not}
+use Rattle.statements.proofs.EmitLaws.{emit-adds}
+use Rattle.statements.proofs.ConvertLaws.{converted-next, converting-after}
+use Rattle.statements.proofs.DeclareLaws.{declaredThen, var-afforded, var-typed, declared-stays, declared-leaves, taken-stays, variable-then, variable-not}
+
+-- ---- a statement's answer, from what its steps met
+
+module _ {tree text l l′ s s′ : List ℕ} {m : M Def.Scope} {n : Amount} {q : ℕ} {c : Converter} where
+  pub states-stop : {e : ConvertError} → Meets text m n (c .counters) l l′ (refused e) → StaysFor tree c s s′ → States tree text m n q c l s (Stated.Refused e) l′ s′
+  states-stop p stays = record {
+    meets = p;
+    leaves = λ sc k h. let z : _≡_ {A = ℕ} 0 1 = cc in absurd (omega arith);
+    stays = stays;
+  }
+
+  pub states-done : {sc : Scope} {k : Counters} → Meets text m n (c .counters) l l′ (gave (scopeAt tree text s′ sc) k) → Leaves tree text q c s′ sc
+      → StaysFor tree c s s′ → States tree text m n q c l s (Stated.Done sc k) l′ s′
+  states-done {sc = sc} p h stays = record {
+    meets = p;
+    leaves = λ sc′ k′ e. let d : sc ≡ sc′ = cc in subst (λ (x : Scope). Leaves tree text q c s′ x) d h;
+    stays = stays;
+  }
+
+  -- the scope as it was
+  pub states-kept : {k : Counters} → Converting tree text l s c → Meets text m n (c .counters) l l′ (gave (scopeAt tree text s (c .scope)) k)
+      → StaysFor tree c s s′ → States tree text m n q c l s (Stated.Done (c .scope) k) l′ s′
+  states-kept {k = k} p i st =
+      states-done (subst (λ (z : Def.Scope). Meets text m n (c .counters) l l′ (gave z k)) (sym (scope-later p st)) i) (leaves-same p st) st
+
+-- ---- what is checked: it is fine, or refused
+
+module _ {m : M (Unit {0})} {a : Outcome} (e : m ≡ lift (outcomeOf a)) (text : List ℕ) {k : Counters} {l : List ℕ} where
+  pub outcome-next : a ≡ Outcome.Done → Room k l → AddsIn text m (amount 0 0 0 0 0) k l tt k l
+  unfolding outcomeOf
+  outcome-next q room = record { next = next-of e (next-in text (lift-next (outcomeOf a) tt k l (ap outcomeOf q) room)); spent = nothing-spent }
+
+  pub outcome-stop : {z : ConvertError} → a ≡ Outcome.Refused z → StopsIn text m k l (z .kind) (z .place)
+  unfolding outcomeOf refusal
+  outcome-stop {z} q = stop-of e (lift-stops text (outcomeOf a) k l (z .kind) (z .place) (ap outcomeOf q))
+
+-- ---- the copy
+
+pub copy-adds : {tree : List ℕ} (P : Program) (v : VarId) (src : Operand) {a : Fitted} {k k₂ : Counters} {l l₁ l₂ : List ℕ}
+    → FitAdds tree (fit-operand P (operandOf src) (v .1)) (amount 1 1 0 0 1) k l a l₁ → length l₂ ≡ length l₁ → Emits (copy v (a .operand)) (a .counters) l₁ k₂ l₂
+    → Adds (copyFitted P (varOf v) (operandOf src)) (amount 2 1 0 0 1) k l tt k₂ l₂
+unfolding copyFitted
+copy-adds P v src u h p = adds-most (adds-then (λ (o : Ir.Operand). emit (Copy (varOf v) o)) (u .adds) (emit-adds h p)) (omega arith)
+
+-- ---- the parts in a row
+
+module _ (P : Program) (F : Functions) where
+  assign-parts : (r : ℕ) (e : Expr) (v : Variable) (sc : Def.Scope)
+      → convert-expr P F e sc >>= (λ src. lift (get-type P F e sc) >>= (λ y. checkFits P F e y (v .var-id .ty) WrongAssignType r >> (copyFitted P (v .var-id) src >> pure sc)))
+      ≡ assignTo P F r e v sc
+  unfolding assignTo copyFitted
+  assign-parts r e v sc = simp (seq-is, regroup)
+
+  init-parts : (r : ℕ) (constant : Bool) (n : Text) (e : Expr) (sc : Def.Scope)
+      → lift (get-type P F e sc) >>= (λ y. convert-expr P F e sc >>= (λ src. declareInit P F r constant n y src sc)) ≡ initNew P F r constant n e sc
+  unfolding initNew declareInit
+  init-parts r constant n e sc = refl
+
+-- ---- the value of the Init r
+
+module _ {tree text : List ℕ} (good : Good tree text) {r : ℕ} (x : IsKind tree 16 r) {e : ℕ} (ee : e ≡ wordOf tree r C) where
+  pub value-expr : IsExpr tree e
+  value-expr =
+      let h = init-c tree text good r (x .below) (x .kind) in
+      subst (λ (z : ℕ). IsExpr tree z) (sym ee) (is-expr tree text good (wordOf tree r C) (omega (arith, h .0, x .below)) (h .1))
+
+  value-records : statementRecords (statementAt tree text r) ≡ 1 + (1 + under (exprAt tree text e))
+  unfolding statementRecords exprRecords
+  value-records = ap statementRecords (statement-init tree text good r (x .below) (x .kind)) ∙ ap (λ (z : ℕ). 1 + (1 + under (exprAt tree text z))) (sym ee)
+
+  pub value-afforded : {c : Converter} → BehindAfforded tree text c r → ExprAfforded tree text c e
+  value-afforded f = omega (arith, f, value-records)
+
+  -- what checking asks, where the value has a type and the variable's is one
+  pub value-checks : {ty : ExprType} {y expected : ℕ} → IsTyped tree ty → ty ≡ ExprType.Is y → TypeAt tree expected
+      → IsExpr tree e × IsType tree y × IsType tree expected × (e < 4294967296) × (r < 4294967296)
+  value-checks {ty} {y} {expected} t w q =
+      (value-expr, type-of tree text good y (is-typed tree ty y t w), type-of tree text good expected q, omega (arith, value-expr .inside, good .few), omega (arith, x .below, good .few))
+
+-- ---- assigning to the variable v, behind the value
+
+module _ {tree text l s : List ℕ} {c : Converter} {r : ℕ} (p : Converting tree text l s c) (f : BehindAfforded tree text c r) (x : IsKind tree 16 r) (v : VarId)
+    {e : ℕ} (ee : e ≡ wordOf tree r C) {a : Converted} {l₁ s₁ : List ℕ}
+    (m : Converts tree text (exprSteps tree text s c e) (exprAmount (under (exprAt tree text e))) c l s a l₁ s₁) where
+  abbrev assigned : Variable
+  assigned = record { name = textOf tree text r A; constant = false; var-id = varOf v }
+
+  abbrev checkedThen : Ir.Operand → ℕ → M Def.Scope
+  checkedThen src y =
+      checkFits (program tree text) (allKeys tree text) (exprAt tree text e) y (v .1) WrongAssignType r
+      >> (copyFitted (program tree text) (varOf v) src >> pure (scopeAt tree text s (c .scope)))
+
+  abbrev typedThen : Def.Scope → Ir.Operand → M Def.Scope
+  typedThen S src = lift (get-type (program tree text) (allKeys tree text) (exprAt tree text e) S) >>= (λ y. checkedThen src y)
+
+  assign-steps : exprSteps tree text s c e >>= (λ src. typedThen (scopeAt tree text s (c .scope)) src) ≡ assignToSteps tree text s c r v
+  assign-steps =
+      assign-parts (program tree text) (allKeys tree text) r (exprAt tree text e) assigned (scopeAt tree text s (c .scope))
+      ∙ ap (λ (z : ℕ). assignTo (program tree text) (allKeys tree text) r (exprAt tree text z) assigned (scopeAt tree text s (c .scope))) ee
+
+  pub assign-stop : {z : ConvertError} → a ≡ Converted.Refused z → StatesAs (λ t u i k j. assignToSteps t u i k j v) c r tree text l s (Stated.Refused z) l₁ s₁
+  assign-stop q = states-stop (meets-same text assign-steps (operand-not m (λ src. typedThen (scopeAt tree text s (c .scope)) src) q)) (m .stays)
+
+  module _ {o : Operand} {k : Counters} (q : a ≡ Converted.Is o k) where
+    abbrev further : Converting tree text l₁ s₁ (withCounters c k)
+    further = converting-after m q p
+
+    pub copy-room : RoomFor k l₁ (amount 2 1 0 0 1)
+    copy-room = record {
+      room = further .room;
+      affords = omega (arith, f .tables, value-records (p .ready .keyed .good) x ee, converted-next m q .spent);
+    }
+
+    module _ {ty : ExprType} {s₂ : List ℕ} (t : TypeMeets tree text s₁ (c .scope) e ty s₂) where
+      both-stay : StaysFor tree c s s₂
+      both-stay = stays-then (omega arith) (omega arith) (m .stays) (type-stays further t)
+
+      value-then : {l′ : List ℕ} {b : Answer Def.Scope} → Meets text (typedThen (scopeAt tree text s₁ (c .scope)) (operandOf o)) (amount 2 1 0 0 1) k l₁ l′ b
+          → Meets text (assignToSteps tree text s c r v) (behindAmount (statementRecords (statementAt tree text r))) (c .counters) l l′ b
+      value-then i =
+          meets-same text assign-steps (meets-most text (operand-then m (λ src. typedThen (scopeAt tree text s (c .scope)) src) q
+          (meets-same text (ap (λ (S : Def.Scope). typedThen S (operandOf o)) (scope-later p (m .stays))) i)) (omega (arith, value-records (p .ready .keyed .good) x ee)))
+
+      pub assign-untyped : {z : ConvertError} → ty ≡ ExprType.Refused z → StatesAs (λ t u i k j. assignToSteps t u i k j v) c r tree text l s (Stated.Refused z) l₁ s₂
+      assign-untyped w = states-stop (value-then (typed-not further t (λ y. checkedThen (operandOf o) y) w)) both-stay
+
+      module _ {y : ℕ} (w : ty ≡ ExprType.Is y) {g : Outcome}
+          (h : checkFits (program tree text) (allKeys tree text) (exprAt tree text e) y (v .1) WrongAssignType r ≡ lift (outcomeOf g)) where
+        pub assign-unfit : {z : ConvertError} → g ≡ Outcome.Refused z → StatesAs (λ t u i k j. assignToSteps t u i k j v) c r tree text l s (Stated.Refused z) l₁ s₂
+        assign-unfit d =
+            states-stop (value-then (typed-then further t (λ y. checkedThen (operandOf o) y) w
+            (seq-not text (copyFitted (program tree text) (varOf v) (operandOf o) >> pure (scopeAt tree text s (c .scope))) refl (outcome-stop h text d)))) both-stay
+
+        pub assign-done : {k₂ : Counters} {l₂ : List ℕ} → g ≡ Outcome.Done → Adds (copyFitted (program tree text) (varOf v) (operandOf o)) (amount 2 1 0 0 1) k l₁ tt k₂ l₂
+            → StatesAs (λ t u i k j. assignToSteps t u i k j v) c r tree text l s (Stated.Done (c .scope) k₂) l₂ s₂
+        assign-done {k₂ = k₂} {l₂ = l₂} d i =
+            let S : Def.Scope = scopeAt tree text s (c .scope) in
+            states-kept p (value-then (typed-then further t (λ y. checkedThen (operandOf o) y) w
+            (meets-most text (seq-then text (copyFitted (program tree text) (varOf v) (operandOf o) >> pure S) refl (outcome-next h text d (further .room))
+            (meets-gave text (i .long) (adds-in text (adds-seq (pure S) i (adds-pure S k₂ l₂ (i .next .room)))))) (omega arith)))) both-stay
+
+-- ---- a known name: refused where it is constant
+
+module _ {tree text l s : List ℕ} {c : Converter} (r : ℕ) (v : VarId) {constant : Bool} where
+  pub assign-constant : {z : ConvertError} → constant ≡ true → z ≡ record { kind = AssignToConstant; place = r }
+      → StatesAs (λ t u i k j. assignSteps t u i k j v constant) c r tree text l s (Stated.Refused z) l s
+  unfolding convert-assign pick
+  assign-constant {z} h w =
+      states-stop (meets-same text (ap (λ (b : Bool). assignSteps tree text s c r v b) (sym h))
+      (meets-refused text refl (subst (λ (y : ConvertError). StopsIn text (assignSteps tree text s c r v true) (c .counters) l (y .kind) (y .place)) (sym w)
+      (fail-stops text (c .counters) l AssignToConstant r)))) (stays-refl (records tree) (c .scope .names) (c .operands) s)
+
+  pub assign-plain : {a : Stated} {l′ s′ : List ℕ} → constant ≡ false → StatesAs (λ t u i k j. assignToSteps t u i k j v) c r tree text l s a l′ s′
+      → StatesAs (λ t u i k j. assignSteps t u i k j v constant) c r tree text l s a l′ s′
+  unfolding convert-assign pick
+  assign-plain h i = states-same (ap (λ (b : Bool). assignSteps tree text s c r v b) (sym h)) i
+
+-- ---- a new name, behind its value
+
+-- a detail of 0 or 1 is its mark
+mark-is : {tree text : List ℕ} → Good tree text → {r d : ℕ} → IsKind tree 16 r → d ≡ detailOf tree r → eqb d 1 ≡ bit 1 (detailOf tree r)
+unfolding bit
+mark-is {tree} {text} good {r} {d} x ed =
+    let q : d ≡ detailOf tree r / 1 % 2 = omega (arith, ed, init-detail tree text good r (x .below) (x .kind)) in
+    ap (λ (z : ℕ). eqb z 1) q
+
+-- the copy of the value, behind the name
+abbrev copied : Operand → Ir.VarId → Def.Scope → M Def.Scope
+copied src v sc = emit (Copy v (operandOf src)) >> pure sc
+
+module _ {tree text l s : List ℕ} {c : Converter} {r y : ℕ} (p : Converting tree text l s c) (f : Afforded tree c (amount 1 1 0 0 0) 0 1) (x : IsKind tree 16 r)
+    (t : TypeAt tree y) {z : ℕ} (ez : z ≡ pick (eqb y nullType) addressOfNull y) where
+  pub new-type : TypeAt tree z
+  unfolding pick
+  new-type = subst (λ (w : ℕ). TypeAt tree w) (sym ez) (go (eqb y nullType))
+    where
+      go : (b : Bool) → TypeAt tree (pick b addressOfNull y)
+      go true = first-type tree text (p .ready .keyed .good) r (x .below) (λ h. omega (arith, h, x .kind)) addressOfNull (omega arith)
+      go false = t
+
+  abbrev more-names : c .scope .names < records tree
+  more-names = omega (arith, f .names)
+
+  declare-steps : (src : Operand) {d : ℕ} → d ≡ detailOf tree r
+      → declaredThen tree text r (eqb d 1) r z (scopeAt tree text s (c .scope)) (copied src) ≡ declareInitSteps tree text s c r y src
+  unfolding declareInit
+  declare-steps src ed = ap₂ (λ (b : Bool) (w : ℕ). declaredThen tree text r b r w (scopeAt tree text s (c .scope)) (copied src)) (mark-is (p .ready .keyed .good) x ed) ez
+
+  module _ {made : NewVariable} {l₁ : List ℕ} (long : length l₁ ≡ length l) (new : AddsVar z (c .counters) l made l₁) where
+    pub new-requires : (r * 32 + 32 ≤ length tree) × NameRoom (c .scope) s × NameAfforded (c .scope) (made .var)
+    new-requires = (inside tree text (p .ready .keyed .good) r (x .below), p .ready .scoped .room, var-afforded p long new more-names new-type)
+
+    module _ (src : Operand) {d : ℕ} (ed : d ≡ detailOf tree r) {s′ : List ℕ} {g : Declared}
+        (m : DeclareMeets text (wordOf tree r A) (wordOf tree r B) (made .var) (eqb d 1) (c .scope) s s′ g) where
+      pub new-taken : {e : ConvertError} → g ≡ Declared.Taken → e ≡ record { kind = AlreadyDeclared; place = r }
+          → DeclaresAs (λ t u i k j. declareInitSteps t u i k j y src) c r tree text l s (Stated.Refused e) l₁ s′
+      new-taken q w =
+          states-stop (meets-same text (declare-steps src ed) (variable-not p long new more-names new-type r (eqb d 1) s′ m r (copied src) q w))
+          (taken-stays p (made .var) more-names (var-typed p long new more-names new-type) r (eqb d 1) s′ m q)
+
+      pub new-declared : {sc : Scope} {k₂ : Counters} {l₂ : List ℕ} → g ≡ Declared.Done sc → length l₂ ≡ length l₁ → Emits (copy (made .var) src) (made .counters) l₁ k₂ l₂
+          → DeclaresAs (λ t u i k j. declareInitSteps t u i k j y src) c r tree text l s (Stated.Done sc k₂) l₂ s′
+      new-declared {sc} {k₂} {l₂} q h i =
+          let at : TypeAt tree (made .var .1) = var-typed p long new more-names new-type in
+          let S : Def.Scope = scopeAt tree text s′ sc in
+          states-done (meets-same text (declare-steps src ed) (meets-most text (variable-then p long new more-names new-type r (eqb d 1) s′ m r (copied src) q
+          (meets-gave text h (adds-in text (adds-seq (pure S) (emit-adds h i) (adds-pure S k₂ l₂ (i .next .room)))))) (omega arith)))
+          (declared-leaves p (made .var) more-names at r (eqb d 1) s′ m q)
+          (declared-stays p (made .var) more-names at r (eqb d 1) s′ m q)
+
+-- ---- a new name, from its value on
+
+module _ {tree text l s : List ℕ} {c : Converter} {r : ℕ} (p : Converting tree text l s c) (f : BehindAfforded tree text c r) (x : IsKind tree 16 r)
+    {e : ℕ} (ee : e ≡ wordOf tree r C) {ty : ExprType} {s₁ : List ℕ} (t : TypeMeets tree text s (c .scope) e ty s₁) where
+  abbrev declared : Def.Scope → ℕ → Ir.Operand → M Def.Scope
+  declared S y src = declareInit (program tree text) (allKeys tree text) r (bit 1 (detailOf tree r)) (textOf tree text r A) y src S
+
+  abbrev valued : Def.Scope → ℕ → M Def.Scope
+  valued S y = convert-expr (program tree text) (allKeys tree text) (exprAt tree text e) S >>= (λ src. declared S y src)
+
+  new-steps : lift (get-type (program tree text) (allKeys tree text) (exprAt tree text e) (scopeAt tree text s (c .scope))) >>= (λ y. valued (scopeAt tree text s (c .scope)) y)
+      ≡ initNewSteps tree text s c r
+  new-steps =
+      init-parts (program tree text) (allKeys tree text) r (bit 1 (detailOf tree r)) (textOf tree text r A) (exprAt tree text e) (scopeAt tree text s (c .scope))
+      ∙ ap (λ (z : ℕ). initNew (program tree text) (allKeys tree text) r (bit 1 (detailOf tree r)) (textOf tree text r A) (exprAt tree text z) (scopeAt tree text s (c .scope))) ee
+
+  pub new-untyped : {z : ConvertError} → ty ≡ ExprType.Refused z → StatesAs initNewSteps c r tree text l s (Stated.Refused z) l s₁
+  new-untyped w = states-stop (meets-same text new-steps (typed-not p t (λ y. valued (scopeAt tree text s (c .scope)) y) w)) (type-stays p t)
+
+  module _ {y : ℕ} (w : ty ≡ ExprType.Is y) {a : Converted} {l₁ s₂ : List ℕ}
+      (m : Converts tree text (exprSteps tree text s₁ c e) (exprAmount (under (exprAt tree text e))) c l s₁ a l₁ s₂) where
+    abbrev typed : Converting tree text l s₁ c
+    typed = type-converting p t
+
+    value-stays : StaysFor tree c s s₂
+    value-stays = stays-then (omega arith) (omega arith) (type-stays p t) (m .stays)
+
+    typed-value : {n : Amount} {l′ : List ℕ} {b : Answer Def.Scope} → Meets text (valued (scopeAt tree text s₁ (c .scope)) y) n (c .counters) l l′ b
+        → Meets text (initNewSteps tree text s c r) n (c .counters) l l′ b
+    typed-value i =
+        meets-same text new-steps (typed-then p t (λ y. valued (scopeAt tree text s (c .scope)) y) w
+        (meets-same text (ap (λ (S : Def.Scope). valued S y) (scope-later p (type-stays p t))) i))
+
+    pub new-stop : {z : ConvertError} → a ≡ Converted.Refused z → StatesAs initNewSteps c r tree text l s (Stated.Refused z) l₁ s₂
+    new-stop q = states-stop (typed-value (operand-not m (λ src. declared (scopeAt tree text s₁ (c .scope)) y src) q)) value-stays
+
+    module _ {o : Operand} {k : Counters} (q : a ≡ Converted.Is o k) where
+      pub new-converting : Converting tree text l₁ s₂ (withCounters c k)
+      new-converting = converting-after m q typed
+
+      pub new-afforded : Afforded tree (withCounters c k) (amount 1 1 0 0 0) 0 1
+      new-afforded = omega (arith, f, value-records (p .ready .keyed .good) x ee, converted-next m q .spent)
+
+      pub new-typed : TypeAt tree y
+      new-typed = is-typed tree ty y (t .typed) w
+
+      pub new-done : {b : Stated} {l₂ s₃ : List ℕ} → DeclaresAs (λ t u i k j. declareInitSteps t u i k j y o) (withCounters c k) r tree text l₁ s₂ b l₂ s₃
+          → StatesAs initNewSteps c r tree text l s b l₂ s₃
+      new-done i = record {
+        meets = meets-most text (typed-value (operand-then m (λ src. declared (scopeAt tree text s₁ (c .scope)) y src) q
+            (meets-same text (ap (λ (S : Def.Scope). declared S y (operandOf o)) (scope-later typed (m .stays))) (i .meets)))) (omega (arith, value-records (p .ready .keyed .good) x ee));
+        leaves = λ sc k′ h.
+            let g = i .leaves sc k′ h in
+            record { ready = g .ready; function = g .function; least = g .least; most = omega (arith, g .most, value-records (p .ready .keyed .good) x ee) };
+        stays = stays-then (omega arith) (omega arith) value-stays (i .stays);
+      }
+
+-- ---- which of both
+
+module _ (P : Program) (F : Functions) (r : ℕ) (n : Text) (e : Expr) (sc : Def.Scope) where
+  by-constant : (b : Bool) (o : Option Variable) → b ≡ true → initNew P F r b n e sc ≡ initBy P F r b n e sc o
+  unfolding initBy
+  by-constant b o h = subst (λ (z : Bool). initNew P F r z n e sc ≡ initBy P F r z n e sc o) (sym h) refl
+
+  by-unknown : (b : Bool) (o : Option Variable) → o ≡ none → initNew P F r b n e sc ≡ initBy P F r b n e sc o
+  unfolding initBy
+  by-unknown true o h = refl
+  by-unknown false o h = subst (λ (z : Option Variable). initNew P F r false n e sc ≡ initBy P F r false n e sc z) (sym h) refl
+
+  by-known : (b : Bool) (o : Option Variable) (v : Variable) → b ≡ false → o ≡ some v → convert-assign P F r e v sc ≡ initBy P F r b n e sc o
+  unfolding initBy
+  by-known b o v h q = ap₂ (λ (z : Bool) (w : Option Variable). initBy P F r z n e sc w) (sym h) (sym q)
+
+  -- an assignment does not look at the name
+  assign-by : (u : Text) (v : Variable) (constant : Bool) (x : Ir.VarId) → v .constant ≡ constant → v .var-id ≡ x
+      → convert-assign P F r e (record { name = u; constant = constant; var-id = x }) sc ≡ convert-assign P F r e v sc
+  unfolding convert-assign assignTo
+  assign-by u v constant x h q = ap₂ (λ (b : Bool) (y : Ir.VarId). convert-assign P F r e (record { name = u; constant = b; var-id = y }) sc) (sym h) (sym q)
+
+-- a variable that is found has a type of the tree, where the open names have
+found-typed : (v : VarId) (b : Bool) (tree text s : List ℕ) (n : ℕ) (u : List ℕ) (m : ℕ) → ((j : ℕ) → j < m → TypeAt tree (wordAt s (8 * n + 16 * j + 12) / 2))
+    → IsFound (Known.Is v b) (findIn u (variablesAt text s n m)) → TypeAt tree (v .1)
+unfolding IsFound findIn variablesAt
+found-typed v b tree text s n u zero t h = absurd h
+found-typed v b tree text s n u (suc m) t h =
+    go (found-typed v b tree text s n u m (λ j k. t j (omega arith))) (Ir.sameText u (variableAt text s (8 * n + 16 * m) .name)) h
+  where
+    go : (IsFound (Known.Is v b) (findIn u (variablesAt text s n m)) → TypeAt tree (v .1))
+        → (c : Bool) → IsFound (Known.Is v b) (elim c [ true ↦ some (variableAt text s (8 * n + 16 * m)) | false ↦ findIn u (variablesAt text s n m) ]) → TypeAt tree (v .1)
+    go rest true f = subst (λ (z : ℕ). TypeAt tree z) (sym (ap (λ z. z .ty) (f .0))) (t m (omega arith))
+    go rest false f = rest f
+
+module _ {tree text l s : List ℕ} {c : Converter} {r : ℕ} (p : Converting tree text l s c) (x : IsKind tree 16 r) {d : ℕ} (ed : d ≡ detailOf tree r) where
+  abbrev S : Def.Scope
+  S = scopeAt tree text s (c .scope)
+
+  abbrev value : Expr
+  value = exprAt tree text (wordOf tree r C)
+
+  mark : eqb d 1 ≡ bit 1 (detailOf tree r)
+  mark = mark-is (p .ready .keyed .good) x ed
+
+  pub init-constant : {a : Stated} {l′ s′ : List ℕ} → d ≡ 1 → StatesAs initNewSteps c r tree text l s a l′ s′ → StatesAs initSteps c r tree text l s a l′ s′
+  unfolding convert-init
+  init-constant h i =
+      states-same (by-constant (program tree text) (allKeys tree text) r (textOf tree text r A) value S (bit 1 (detailOf tree r)) (find-variable (textOf tree text r A) S) (sym mark ∙ eq-eqb d 1 h)) i
+
+  module _ {known : Known} (g : FindMeets text s (c .scope) (textOf tree text r A) known) where
+    was : {k : Known} → known ≡ k → FindMeets text s (c .scope) (textOf tree text r A) k
+    was {k} q = subst (λ (z : Known). FindMeets text s (c .scope) (textOf tree text r A) z) q g
+
+    pub init-unknown : {a : Stated} {l′ s′ : List ℕ} → known ≡ Known.Unknown → StatesAs initNewSteps c r tree text l s a l′ s′ → StatesAs initSteps c r tree text l s a l′ s′
+    unfolding convert-init
+    init-unknown q i =
+        states-same (by-unknown (program tree text) (allKeys tree text) r (textOf tree text r A) value S (bit 1 (detailOf tree r)) (find-variable (textOf tree text r A) S)
+        (find-unknown tree text s (c .scope) (textOf tree text r A) (was q))) i
+
+    module _ {v : VarId} {constant : Bool} (q : known ≡ Known.Is v constant) where
+      pub known-typed : TypeAt tree (v .1)
+      known-typed =
+          found-typed v constant tree text s (c .scope .records) (textOf tree text r A) (c .scope .names)
+          (λ j h. subst (λ (z : ℕ). TypeAt tree (wordAt s (8 * z + 16 * j + 12) / 2)) (sym (p .ready .scoped .records-are)) (p .ready .scoped .types j h)) (was q)
+
+      pub init-known : {a : Stated} {l′ s′ : List ℕ} → (d ≡ 1 → ⊥) → StatesAs (λ t u i k j. assignSteps t u i k j v constant) c r tree text l s a l′ s′
+          → StatesAs initSteps c r tree text l s a l′ s′
+      unfolding convert-init
+      init-known h i =
+          let k = find-some tree text s (c .scope) (textOf tree text r A) v constant (was q) in
+          states-same (
+          assign-by (program tree text) (allKeys tree text) r (textOf tree text r A) value S (textOf tree text r A) (k .holder) constant (varOf v) (k .fixed) (k .var)
+          ∙ by-known (program tree text) (allKeys tree text) r (textOf tree text r A) value S (bit 1 (detailOf tree r)) (find-variable (textOf tree text r A) S) (k .holder)
+          (sym mark ∙ ne-eqb d 1 h) (k .found)
+          ) i

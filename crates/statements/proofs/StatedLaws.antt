@@ -1,0 +1,170 @@
+-- What a statement, a block and a part of them owe, from their answers, and one part after another: typing first, an operand first, a step first.
+-- By the laws of steps in a row; the answers are told apart by their constructor, and the scope is the same as long as its names stay. Assumes nothing.
+use mathlib.Core.Path.{_≡_, refl, sym, ap, _∙_, subst}
+use mathlib.Core.List.{List}
+use Prim.Native.Nat.{ℕ, _+_, _≤_}
+use native.Mathlib.Omega.{arith}
+use lib.ListN.{length}
+use Rattle.records.specs.declared.convert_error.ConvertError.{ConvertError}
+use Rattle.records.specs.Words.{records}
+use Rattle.syntax.specs.Decode.{program}
+use Rattle.syntax.specs.Places.{exprAt}
+use Rattle.conversion.specs.ConvertError.{Result, ok, err}
+use Rattle.conversion.specs.Ir as Ir
+use Rattle.conversion.specs.Ir.{M, _>>=_, _>>_, pure, lift}
+use Rattle.conversion.specs.Scope as Def
+use Rattle.conversion.specs.Expressions.{get-type}
+use Rattle.conversion.proofs.MonadLaws.{seq-is}
+use Rattle.ir.specs.declared.structs.Counters.{Counters}
+use Rattle.ir.specs.declared.structs.Operand.{Operand}
+use Rattle.ir.specs.Instructions.{operandOf}
+use Rattle.ir.specs.Amounts.{Amount, both}
+use Rattle.ir.specs.Steps.{StopsIn}
+use Rattle.ir.proofs.StepLaws.{stop-first}
+use Rattle.scope.specs.declared.Scope.{Scope}
+use Rattle.scope.specs.Open.{scopeAt}
+use Rattle.keys.specs.Keys.{allKeys}
+use Rattle.expressions.specs.declared.answers.ExprType.{ExprType}
+use Rattle.expressions.specs.declared.answers.ExprType.the-variants as ExprType
+use Rattle.expressions.specs.Slots.{Frame, Ready, typeIn}
+use Rattle.expressions.specs.Answers.{refusal, TypeMeets}
+use Rattle.expressions.proofs.SlotLaws.{ready-frame}
+use Rattle.expressions.proofs.TypingLaws.{type-ok, type-refused}
+use Rattle.statements.specs.declared.answers.Converter.{Converter}
+use Rattle.statements.specs.declared.answers.Converted.{Converted}
+use Rattle.statements.specs.declared.answers.Converted.the-variants as Converted
+use Rattle.statements.specs.declared.answers.Stated.{Stated}
+use Rattle.statements.specs.declared.answers.Stated.the-variants as Stated
+use Rattle.statements.specs.declared.answers.Finished.{Finished}
+use Rattle.statements.specs.declared.answers.Finished.the-variants as Finished
+use Rattle.statements.specs.Meets.{Answer, gave, refused, Adds, AddsIn, Meets}
+use Rattle.statements.specs.Converting.{Converting, withCounters, StaysFor}
+use Rattle.statements.specs.Answers.{convertedOf, finishedOf, Converts, Leaves, States, Finishes}
+use Rattle.statements.proofs.MeetLaws.{Most, adds-in, meets-gave, meets-refused, meets-same, meets-most, meets-then, meets-lift, meets-lift-stop}
+use Rattle.statements.proofs.StayLaws.{stays-then, frame-stays, scope-stays, ready-stays, converting-next}
+use Rattle.statements.proofs.ConvertLaws.{converted-next}
+
+-- ---- a statement's answer
+
+module _ {tree text l l′ s s′ : List ℕ} {m : M Def.Scope} {n : Amount} {q : ℕ} {c : Converter} where
+  pub states-gave : {sc : Scope} {k : Counters} → length l′ ≡ length l → AddsIn text m n (c .counters) l (scopeAt tree text s′ sc) k l′ → Leaves tree text q c s′ sc
+      → StaysFor tree c s s′ → States tree text m n q c l s (Stated.Done sc k) l′ s′
+  states-gave {sc = sc} long p h stays = record {
+    meets = meets-gave text long p;
+    leaves = λ sc′ k′ e. let d : sc ≡ sc′ = cc in subst (λ (x : Scope). Leaves tree text q c s′ x) d h;
+    stays = stays;
+  }
+
+  pub states-refused : {e : ConvertError} → length l′ ≡ length l → StopsIn text m (c .counters) l (e .kind) (e .place)
+      → StaysFor tree c s s′ → States tree text m n q c l s (Stated.Refused e) l′ s′
+  states-refused long p stays = record {
+    meets = meets-refused text long p;
+    leaves = λ sc k e. let z : _≡_ {A = ℕ} 0 1 = cc in absurd (omega arith);
+    stays = stays;
+  }
+
+  pub states-same : {m′ : M Def.Scope} {a : Stated} → m ≡ m′ → States tree text m n q c l s a l′ s′ → States tree text m′ n q c l s a l′ s′
+  states-same {a = a} e p = subst (λ (x : M Def.Scope). States tree text x n q c l s a l′ s′) e p
+
+  pub states-most : {n′ : Amount} {q′ : ℕ} {a : Stated} → Most n n′ → q ≤ q′ → States tree text m n q c l s a l′ s′ → States tree text m n′ q′ c l s a l′ s′
+  states-most h i p = record {
+    meets = meets-most text (p .meets) h;
+    leaves = λ sc k e. let x = p .leaves sc k e in record { ready = x .ready; function = x .function; least = x .least; most = omega (arith, i, x .most) };
+    stays = p .stays;
+  }
+
+-- ---- the answer of a block or of a part that leaves the scope
+
+module _ {X : Type 0} {tree text l l′ s s′ : List ℕ} {m : M X} {x : X} {n : Amount} {c : Converter} where
+  pub finishes-gave : {k : Counters} → length l′ ≡ length l → AddsIn text m n (c .counters) l x k l′ → StaysFor tree c s s′
+      → Finishes tree text m x n c l s (Finished.Done k) l′ s′
+  finishes-gave long p stays = record { meets = meets-gave text long p; stays = stays }
+
+  pub finishes-refused : {e : ConvertError} → length l′ ≡ length l → StopsIn text m (c .counters) l (e .kind) (e .place) → StaysFor tree c s s′
+      → Finishes tree text m x n c l s (Finished.Refused e) l′ s′
+  finishes-refused long p stays = record { meets = meets-refused text long p; stays = stays }
+
+  pub finishes-same : {m′ : M X} {a : Finished} → m ≡ m′ → Finishes tree text m x n c l s a l′ s′ → Finishes tree text m′ x n c l s a l′ s′
+  finishes-same {a = a} e p = subst (λ (y : M X). Finishes tree text y x n c l s a l′ s′) e p
+
+  pub finishes-most : {n′ : Amount} {a : Finished} → Most n n′ → Finishes tree text m x n c l s a l′ s′ → Finishes tree text m x n′ c l s a l′ s′
+  finishes-most h p = record { meets = meets-most text (p .meets) h; stays = p .stays }
+
+  -- what it added, and its refusal
+  module _ {a : Finished} (p : Finishes tree text m x n c l s a l′ s′) where
+    pub finished-next : {k : Counters} → a ≡ Finished.Done k → AddsIn text m n (c .counters) l x k l′
+    finished-next {k = k} e = p .meets .gives x k (ap (finishedOf x) e)
+
+    pub finished-stop : {z : ConvertError} → a ≡ Finished.Refused z → StopsIn text m (c .counters) l (z .kind) (z .place)
+    finished-stop {z = z} e = p .meets .stops z (ap (finishedOf x) e)
+
+    pub finished-converting : {k : Counters} → a ≡ Finished.Done k → Converting tree text l s c → Converting tree text l′ s′ (withCounters c k)
+    finished-converting e h = converting-next h (finished-next e .next) (p .stays)
+
+-- ---- the scope as it was
+
+module _ {tree text l s s′ : List ℕ} {c : Converter} (p : Converting tree text l s c) (st : StaysFor tree c s s′) where
+  pub scope-later : scopeAt tree text s′ (c .scope) ≡ scopeAt tree text s (c .scope)
+  scope-later = scope-stays tree st text (c .scope) (p .ready .scoped .records-are) (omega arith)
+
+  pub leaves-same : {q : ℕ} → Leaves tree text q c s′ (c .scope)
+  leaves-same = record {
+    ready = ready-stays tree st text (c .functions) (c .scope) (omega arith) (p .ready);
+    function = refl;
+    least = omega arith;
+    most = omega arith;
+  }
+
+-- ---- typing first: the step of the expression e's type, which writes no table
+
+module _ {tree text l s : List ℕ} {c : Converter} {e : ℕ} (p : Converting tree text l s c) {ty : ExprType} {s₁ : List ℕ} (t : TypeMeets tree text s (c .scope) e ty s₁) where
+  pub type-converting : Converting tree text l s₁ c
+  type-converting = record {
+    ready = ready-frame tree s s₁ (t .frame) text (c .functions) (c .scope) (p .ready);
+    function = p .function;
+    records-are = p .records-are;
+    room = p .room;
+  }
+
+  pub type-stays : StaysFor tree c s s₁
+  type-stays = frame-stays (c .scope .names) (c .operands) (t .frame)
+
+  -- the type is y
+  pub type-known : {y : ℕ} → ty ≡ ExprType.Is y
+      → get-type (program tree text) (allKeys tree text) (exprAt tree text e) (scopeAt tree text s (c .scope)) ≡ ok y
+  unfolding typeIn
+  type-known {y = y} w = type-ok (typeIn tree text (scopeAt tree text s (c .scope)) e) ty y (t .meets) w
+
+  pub type-error : {z : ConvertError} → ty ≡ ExprType.Refused z
+      → get-type (program tree text) (allKeys tree text) (exprAt tree text e) (scopeAt tree text s (c .scope)) ≡ err (z .kind) (z .place)
+  unfolding typeIn refusal
+  type-error {z = z} w = type-refused (typeIn tree text (scopeAt tree text s (c .scope)) e) ty z (t .meets) w
+
+  module _ {X : Type 0} {n : Amount} (f : ℕ → M X) where
+    pub typed-then : {y : ℕ} {l′ : List ℕ} {a : Answer X} → ty ≡ ExprType.Is y → Meets text (f y) n (c .counters) l l′ a
+        → Meets text (lift (get-type (program tree text) (allKeys tree text) (exprAt tree text e) (scopeAt tree text s (c .scope))) >>= f) n (c .counters) l l′ a
+    typed-then w i = meets-lift text f (p .room) (type-known w) i
+
+    pub typed-not : {z : ConvertError} → ty ≡ ExprType.Refused z
+        → Meets text (lift (get-type (program tree text) (allKeys tree text) (exprAt tree text e) (scopeAt tree text s (c .scope))) >>= f) n (c .counters) l l (refused z)
+    typed-not w = meets-lift-stop text f refl (type-error w)
+
+-- ---- an operand first
+
+module _ {tree text l l₁ s s₁ : List ℕ} {m : M Ir.Operand} {n₁ : Amount} {c : Converter} {a : Converted} (p : Converts tree text m n₁ c l s a l₁ s₁) {X : Type 0} (f : Ir.Operand → M X) where
+  pub operand-then : {n₂ : Amount} {l₂ : List ℕ} {b : Answer X} {o : Operand} {k : Counters} → a ≡ Converted.Is o k → Meets text (f (operandOf o)) n₂ k l₁ l₂ b
+      → Meets text (m >>= f) (both n₁ n₂) (c .counters) l l₂ b
+  operand-then q i = meets-then text f (p .meets .long) (converted-next p q) i
+
+  pub operand-not : {n : Amount} {e : ConvertError} → a ≡ Converted.Refused e → Meets text (m >>= f) n (c .counters) l l₁ (refused e)
+  operand-not {e = e} q = meets-refused text (p .meets .long) (stop-first text f (p .meets .stops e (ap convertedOf q)))
+
+-- ---- a step first that is dropped: `m >> f`
+
+module _ {X Y : Type 0} {n₁ n₂ : Amount} {k k₁ : Counters} {l l₁ l₂ : List ℕ} {x : X} {m : M X} {a : Answer Y} (text : List ℕ) (f : M Y) where
+  pub seq-then : length l₁ ≡ length l → AddsIn text m n₁ k l x k₁ l₁ → Meets text f n₂ k₁ l₁ l₂ a → Meets text (m >> f) (both n₁ n₂) k l l₂ a
+  seq-then h p q = meets-same text (sym (seq-is m f)) (meets-then text (λ (y : X). f) h p q)
+
+pub seq-not : {X Y : Type 0} {n : Amount} {k : Counters} {l l₁ : List ℕ} {e : ConvertError} {m : M X} (text : List ℕ) (f : M Y)
+    → length l₁ ≡ length l → StopsIn text m k l (e .kind) (e .place) → Meets text (m >> f) n k l l₁ (refused e)
+seq-not {X = X} {m = m} text f h p = meets-same text (sym (seq-is m f)) (meets-refused text h (stop-first text (λ (y : X). f) p))

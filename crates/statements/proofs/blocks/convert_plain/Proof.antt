@@ -1,0 +1,79 @@
+-- A Declare, Init, Return or call statement is converted by its kind.
+-- Each branch is the definition's case of that kind. Assumes nothing.
+use Rattle.statements.proofs.BlockLaws.{plain-declare, plain-init, plain-return, plain-call}
+use borrow.Author.Needs.{needs}
+use Rattle.statements.proofs.blocks.convert_plain.Statement.{statement}
+use Rattle.statements.proofs.blocks.convert_plain.Tie as tie
+
+kind-requires : tie.Need-kind-requires
+kind-requires c κs = search needs
+
+convert-declare-requires : tie.Need-convert-declare-requires
+convert-declare-requires c κs = search needs
+
+same-length : tie.Need-same-length
+same-length c = search needs
+
+same-length-2 : tie.Need-same-length-2
+same-length-2 c = search needs
+
+returns : tie.Need-returns
+returns c = plain-declare _ _ (c .before .before .before .before .before .before .before .before .kind .ensures) (c .before .before .before .before .before .before .before .if1 .taken) (c .before .before .before .before .convert-declare .ensures)
+
+convert-init-requires : tie.Need-convert-init-requires
+convert-init-requires c κs = search needs
+
+same-length-3 : tie.Need-same-length-3
+same-length-3 c = search needs
+
+same-length-4 : tie.Need-same-length-4
+same-length-4 c = search needs
+
+returns-2 : tie.Need-returns-2
+returns-2 c = plain-init _ _ (c .before .before .before .before .before .before .before .before .before .kind .ensures) (c .before .before .before .before .before .before .before .before .if1 .left) (c .before .before .before .before .before .before .before .if2 .taken) (c .before .before .before .before .convert-init .ensures)
+
+convert-return-requires : tie.Need-convert-return-requires
+convert-return-requires c κs = search needs
+
+same-length-5 : tie.Need-same-length-5
+same-length-5 c = search needs
+
+same-length-6 : tie.Need-same-length-6
+same-length-6 c = search needs
+
+returns-3 : tie.Need-returns-3
+returns-3 c = plain-return _ _ (c .before .before .before .before .before .before .before .before .before .before .kind .ensures) (c .before .before .before .before .before .before .before .before .before .if1 .left) (c .before .before .before .before .before .before .before .before .if2 .left) (c .before .before .before .before .before .before .before .if3 .taken) (c .before .before .before .before .convert-return .ensures)
+
+convert-call-requires : tie.Need-convert-call-requires
+convert-call-requires c κs = search needs
+
+same-length-7 : tie.Need-same-length-7
+same-length-7 c = search needs
+
+same-length-8 : tie.Need-same-length-8
+same-length-8 c = search needs
+
+returns-4 : tie.Need-returns-4
+returns-4 c = plain-call _ _ (c .before .before .before .before .before .before .before .before .before .before .kind .ensures) (c .before .before .before .before .before .before .before .before .before .if1 .left) (c .before .before .before .before .before .before .before .before .if2 .left) (c .before .before .before .before .before .before .before .if3 .left) (c .before .before .before .before .convert-call .ensures)
+
+pub convert-plain-spec : {M : Type 1} → statement M
+convert-plain-spec =
+    tie.close
+    (tie.spec
+    kind-requires
+    convert-declare-requires
+    same-length
+    same-length-2
+    returns
+    convert-init-requires
+    same-length-3
+    same-length-4
+    returns-2
+    convert-return-requires
+    same-length-5
+    same-length-6
+    returns-3
+    convert-call-requires
+    same-length-7
+    same-length-8
+    returns-4)

@@ -1,0 +1,43 @@
+-- A bound's type is asked, and then whether it fits the variable's.
+-- By what typing and fitting owe, one after the other. Assumes nothing.
+use Rattle.statements.proofs.ForLaws.{bound-asks, bound-not, bound-is}
+use borrow.Author.Needs.{needs}
+use Rattle.statements.proofs.loops.check_bound.Statement.{statement}
+use Rattle.statements.proofs.loops.check_bound.Tie as tie
+
+get-type-requires : tie.Need-get-type-requires
+get-type-requires c κs = search needs
+
+enum-known-x : tie.Need-enum-known-x
+enum-known-x c = search needs
+
+enum-known-q : tie.Need-enum-known-q
+enum-known-q c = search needs
+
+check-fits-requires : tie.Need-check-fits-requires
+check-fits-requires c κs = bound-asks _ (c .before .before .before .before .before .before .before .before .before .before .before .pre .0) (c .before .before .before .before .before .before .before .before .before .before .before .pre .1) (c .before .before .before .before .before .get-type .ensures) (c .before .before .before .before .before .before .before .before .before .before .before .pre .2) (c .before .q .given .1)
+
+same-length : tie.Need-same-length
+same-length c = search needs
+
+returns : tie.Need-returns
+returns c = bound-not _ (c .before .before .before .before .before .before .before .before .before .before .before .pre .0) (c .before .before .before .before .before .before .before .before .before .before .before .pre .1) (c .before .before .before .before .before .get-type .ensures) (c .before .x .given .1)
+
+same-length-2 : tie.Need-same-length-2
+same-length-2 c = search needs
+
+returns-2 : tie.Need-returns-2
+returns-2 c = bound-is _ (c .before .before .before .before .before .before .before .before .before .before .before .before .pre .0) (c .before .before .before .before .before .before .before .before .before .before .before .before .pre .1) (c .before .before .before .before .before .before .get-type .ensures) (c .before .before .q .given .1) (c .check-fits .ensures)
+
+pub check-bound-spec : {M : Type 1} → statement M
+check-bound-spec =
+    tie.close
+    (tie.spec
+    get-type-requires
+    enum-known-x
+    enum-known-q
+    check-fits-requires
+    same-length
+    returns
+    same-length-2
+    returns-2)

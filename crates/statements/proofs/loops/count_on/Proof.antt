@@ -1,0 +1,48 @@
+-- Where the For counts on.
+-- A jump, two labels and an instruction in a row. Assumes nothing.
+use native.Mathlib.Omega.{arith}
+use borrow.Author.Needs.{needs}
+use Rattle.statements.proofs.HeadLaws.{count-adds}
+use Rattle.statements.proofs.loops.count_on.Statement.{statement}
+use Rattle.statements.proofs.loops.count_on.Tie as tie
+
+cast-y : tie.Need-cast-y
+cast-y c = search needs
+
+is-short-requires : tie.Need-is-short-requires
+is-short-requires c κs = search needs
+
+is-unsigned-requires : tie.Need-is-unsigned-requires
+is-unsigned-requires c κs = search needs
+
+jump-requires : tie.Need-jump-requires
+jump-requires c κs = search needs
+
+place-label-requires : tie.Need-place-label-requires
+place-label-requires c κs = search needs
+
+emit-requires : tie.Need-emit-requires
+emit-requires c κs = (c .before .before .before .place-label .ensures .next .room, omega (arith, c .before .before .before .before .before .before .before .before .before .before .before .before .before .before .pre .0 .affords, c .before .before .before .before .before .before .before .jump .ensures .spent, c .before .before .before .place-label .ensures .spent))
+
+place-label-requires-2 : tie.Need-place-label-requires-2
+place-label-requires-2 c κs = (record { room = c .before .before .before .emit .ensures .next .room; affords = omega (arith, c .before .before .before .before .before .before .before .before .before .before .before .before .before .before .before .before .before .before .pre .0 .affords, c .before .before .before .before .before .before .before .before .before .before .before .jump .ensures .spent, c .before .before .before .before .before .before .before .place-label .ensures .spent, c .before .before .before .emit .ensures .spent) }, c .before .before .before .before .before .before .before .before .before .before .before .before .before .before .before .before .before .before .pre .1)
+
+same-length : tie.Need-same-length
+same-length c = search needs
+
+returns : tie.Need-returns
+returns c = count-adds _ (c .before .before .before .before .before .before .before .before .before .before .before .before .before .before .before .before .before .is-short .ensures) (c .before .before .before .before .before .before .before .before .before .before .before .before .before .before .before .before .is-unsigned .ensures) (c .before .before .before .before .before .before .before .before .before .before .before .before .before .before .jump .ensures) (c .before .before .before .before .before .before .before .before .before .before .place-label .ensures) (omega (arith, c .before .before .before .before .before .arena3 .given)) (c .before .before .before .before .before .before .emit .ensures) (c .before .before .place-label2 .ensures)
+
+pub count-on-spec : {M : Type 1} → statement M
+count-on-spec =
+    tie.close
+    (tie.spec
+    cast-y
+    is-short-requires
+    is-unsigned-requires
+    jump-requires
+    place-label-requires
+    emit-requires
+    place-label-requires-2
+    same-length
+    returns)

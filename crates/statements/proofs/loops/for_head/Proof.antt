@@ -1,0 +1,71 @@
+-- A For before its body: its variable, and its turns in the scope around it.
+-- By what the two parts owe, one after the other. Assumes nothing.
+use Rattle.statements.proofs.ForLaws.{head-not, head-asks, head-turns-not, head-done}
+use borrow.Author.Needs.{needs}
+use Rattle.statements.proofs.loops.for_head.Statement.{statement}
+use Rattle.statements.proofs.loops.for_head.Tie as tie
+
+for-variable-requires : tie.Need-for-variable-requires
+for-variable-requires c κs = search needs
+
+enum-known-e : tie.Need-enum-known-e
+enum-known-e c = search needs
+
+enum-known-x : tie.Need-enum-known-x
+enum-known-x c = search needs
+
+for-turns-requires : tie.Need-for-turns-requires
+for-turns-requires c κs = head-asks _ (c .before .before .before .before .before .before .before .before .before .before .before .before .before .before .before .before .pre .0 .0) (c .before .before .before .before .before .before .before .before .before .for-variable .ensures) (c .before .before .before .x .given .1) (c .before .before .before .before .before .before .before .before .before .before .before .before .before .before .before .before .pre .1) (c .before .before .before .before .before .before .before .before .before .before .before .before .before .before .before .before .pre .0 .1)
+
+enum-known-e-2 : tie.Need-enum-known-e-2
+enum-known-e-2 c = search needs
+
+enum-known-k1 : tie.Need-enum-known-k1
+enum-known-k1 c = search needs
+
+same-length : tie.Need-same-length
+same-length c = search needs
+
+same-length-2 : tie.Need-same-length-2
+same-length-2 c = search needs
+
+returns : tie.Need-returns
+returns c = head-not _ (c .before .before .before .before .before .before .before .before .before .before .before .before .before .before .pre .0 .0) (c .before .before .before .before .before .before .before .for-variable .ensures) (c .before .e .given .1)
+
+same-length-3 : tie.Need-same-length-3
+same-length-3 c = search needs
+
+same-length-4 : tie.Need-same-length-4
+same-length-4 c = search needs
+
+returns-2 : tie.Need-returns-2
+returns-2 c = head-turns-not _ (c .before .before .before .before .before .before .before .before .before .before .before .before .before .before .before .before .before .before .before .before .before .before .before .before .pre .0 .0) (c .before .before .before .before .before .before .before .before .before .before .before .before .before .before .before .before .before .for-variable .ensures) (c .before .before .before .before .before .before .before .before .before .before .before .x .given .1) (c .before .before .before .before .before .before .before .for-turns .ensures .0) (c .before .e2 .given .1)
+
+same-length-5 : tie.Need-same-length-5
+same-length-5 c = search needs
+
+same-length-6 : tie.Need-same-length-6
+same-length-6 c = search needs
+
+returns-3 : tie.Need-returns-3
+returns-3 c = head-done _ (c .before .before .before .before .before .before .before .before .before .before .before .before .before .before .before .before .before .before .before .before .before .before .before .before .pre .0 .0) (c .before .before .before .before .before .before .before .before .before .before .before .before .before .before .before .before .before .for-variable .ensures) (c .before .before .before .before .before .before .before .before .before .before .before .x .given .1) (c .before .before .before .before .before .before .before .for-turns .ensures .0) (c .before .k1 .given .1) (c .before .before .before .before .before .before .before .for-turns .ensures .1)
+
+pub for-head-spec : {M : Type 1} → statement M
+for-head-spec =
+    tie.close
+    (tie.spec
+    for-variable-requires
+    enum-known-e
+    enum-known-x
+    for-turns-requires
+    enum-known-e-2
+    enum-known-k1
+    same-length
+    same-length-2
+    returns
+    same-length-3
+    same-length-4
+    returns-2
+    same-length-5
+    same-length-6
+    returns-3)

@@ -1,0 +1,43 @@
+-- The variable that a For changes: one of the blocks around, which may not be constant.
+-- By what the search finds. Assumes nothing.
+use Rattle.statements.proofs.ForLaws.{variable-inside, known-not, known-fixed, known-is}
+use borrow.Author.Needs.{needs}
+use Rattle.statements.proofs.loops.for_known.Statement.{statement}
+use Rattle.statements.proofs.loops.for_known.Tie as tie
+
+find-name-requires : tie.Need-find-name-requires
+find-name-requires c κs = (variable-inside (c .before .before .before .before .before .before .pre .0 .0 .ready .keyed .good) (c .before .before .before .before .before .before .pre .1 .0) (c .before .before .before .before .before .before .pre .1 .1), c .before .before .before .before .before .before .pre .0 .0 .ready .scoped .room)
+
+enum-told : tie.Need-enum-told
+enum-told c = search needs
+
+refusal-requires : tie.Need-refusal-requires
+refusal-requires c κs = search needs
+
+enum-known-x : tie.Need-enum-known-x
+enum-known-x c = search needs
+
+refusal-requires-2 : tie.Need-refusal-requires-2
+refusal-requires-2 c κs = search needs
+
+returns : tie.Need-returns
+returns c = known-fixed _ (c .before .before .before .before .before .before .before .before .before .before .before .before .pre .0 .0) (c .before .before .before .before .before .before .before .before .before .before .before .before .pre .1 .1) (c .before .before .before .before .before .before .before .before .before .before .before .before .pre .1 .2) _ (c .before .before .before .before .before .find-name .ensures) (c .before .before .before .x .given .1) (c .before .if1 .taken) (c .refusal2 .ensures)
+
+returns-2 : tie.Need-returns-2
+returns-2 c = known-not _ (c .before .before .before .before .before .before .before .before .before .before .pre .0 .0) (c .before .before .before .before .before .before .before .before .before .before .pre .1 .1) (c .before .before .before .before .before .before .before .before .before .before .pre .1 .2) _ (c .before .before .before .find-name .ensures) (c .before .enum-told .given .1) (c .refusal .ensures)
+
+returns-3 : tie.Need-returns-3
+returns-3 c = known-is _ (c .before .before .before .before .before .before .before .before .before .before .before .pre .0 .0) (c .before .before .before .before .before .before .before .before .before .before .before .pre .1 .1) (c .before .before .before .before .before .before .before .before .before .before .before .pre .1 .2) _ (c .before .before .before .before .find-name .ensures) (c .before .before .x .given .1) (c .if1 .left)
+
+pub for-known-spec : {M : Type 1} → statement M
+for-known-spec =
+    tie.close
+    (tie.spec
+    find-name-requires
+    enum-told
+    refusal-requires
+    enum-known-x
+    refusal-requires-2
+    returns
+    returns-2
+    returns-3)

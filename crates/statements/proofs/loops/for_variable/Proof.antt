@@ -1,0 +1,52 @@
+-- The variable of a For: declared, or one of the blocks around where its record has no type.
+-- By the word of its type. Assumes nothing.
+use Rattle.statements.proofs.ForLaws.{variable-inside, variable-typed}
+use native.Mathlib.Omega.{arith}
+use borrow.Author.Needs.{needs}
+use Rattle.statements.proofs.loops.for_variable.Statement.{statement}
+use Rattle.statements.proofs.loops.for_variable.Tie as tie
+
+reference-requires : tie.Need-reference-requires
+reference-requires c κs = search needs
+
+word-requires : tie.Need-word-requires
+word-requires c κs = (variable-inside (c .before .before .before .before .before .pre .0 .0 .ready .keyed .good) (c .before .before .before .before .before .pre .1) (c .reference .ensures), omega arith)
+
+for-known-requires : tie.Need-for-known-requires
+for-known-requires c κs = search needs
+
+same-length : tie.Need-same-length
+same-length c = search needs
+
+same-length-2 : tie.Need-same-length-2
+same-length-2 c = search needs
+
+returns : tie.Need-returns
+returns c = search needs
+
+for-declared-requires : tie.Need-for-declared-requires
+for-declared-requires c κs = (c .before .before .before .before .before .before .before .before .before .pre .0, (c .before .before .before .before .before .before .before .before .before .pre .1, c .before .before .before .before .reference .ensures, variable-typed (c .before .before .before .before .before .before .before .before .before .pre .0 .0 .ready .keyed .good) (c .before .before .before .before .before .before .before .before .before .pre .1) (c .before .before .before .before .reference .ensures) (c .before .before .before .word .ensures) (c .before .before .if1 .left)))
+
+same-length-3 : tie.Need-same-length-3
+same-length-3 c = search needs
+
+same-length-4 : tie.Need-same-length-4
+same-length-4 c = search needs
+
+returns-2 : tie.Need-returns-2
+returns-2 c = search needs
+
+pub for-variable-spec : {M : Type 1} → statement M
+for-variable-spec =
+    tie.close
+    (tie.spec
+    reference-requires
+    word-requires
+    for-known-requires
+    same-length
+    same-length-2
+    returns
+    for-declared-requires
+    same-length-3
+    same-length-4
+    returns-2)

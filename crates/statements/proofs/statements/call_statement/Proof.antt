@@ -1,0 +1,65 @@
+-- A call statement whose expression is a call.
+-- By what it runs: a function is called, a cast is refused. Assumes nothing.
+use borrow.Author.Needs.{needs}
+use Rattle.statements.proofs.AroundLaws.{function-callee}
+use Rattle.statements.proofs.ArgsLaws.{called-converting}
+use Rattle.statements.proofs.ReturnLaws.{statement-afforded, resolved-stop, resolved-cast, resolved-function}
+use Rattle.statements.proofs.statements.call_statement.Statement.{statement}
+use Rattle.statements.proofs.statements.call_statement.Tie as tie
+
+resolve-call-requires : tie.Need-resolve-call-requires
+resolve-call-requires c κs = search needs
+
+enum-known-x : tie.Need-enum-known-x
+enum-known-x c = search needs
+
+enum-told : tie.Need-enum-told
+enum-told c = search needs
+
+refusal-requires : tie.Need-refusal-requires
+refusal-requires c κs = search needs
+
+enum-known-f : tie.Need-enum-known-f
+enum-known-f c = search needs
+
+call-only-requires : tie.Need-call-only-requires
+call-only-requires c κs = ((called-converting (c .before .before .before .before .before .before .before .before .before .before .before .before .before .before .pre .0 .0) (statement-afforded (c .before .before .before .before .before .before .before .before .before .before .before .before .before .before .pre .0 .0) (c .before .before .before .before .before .before .before .before .before .before .before .before .before .before .pre .0 .1) (c .before .before .before .before .before .before .before .before .before .before .before .before .before .before .pre .1 .0) (c .before .before .before .before .before .before .before .before .before .before .before .before .before .before .pre .1 .2)) (c .before .before .before .before .before .before .before .before .before .before .before .before .before .before .pre .1 .1) (c .before .before .before .before .before .before .before .resolve-call .ensures), statement-afforded (c .before .before .before .before .before .before .before .before .before .before .before .before .before .before .pre .0 .0) (c .before .before .before .before .before .before .before .before .before .before .before .before .before .before .pre .0 .1) (c .before .before .before .before .before .before .before .before .before .before .before .before .before .before .pre .1 .0) (c .before .before .before .before .before .before .before .before .before .before .before .before .before .before .pre .1 .2)), (c .before .before .before .before .before .before .before .before .before .before .before .before .before .before .pre .1 .1, function-callee (c .before .before .before .before .before .before .before .resolve-call .ensures .callee) (c .before .before .before .f .given .1)))
+
+same-length : tie.Need-same-length
+same-length c = search needs
+
+returns : tie.Need-returns
+returns c = resolved-stop (c .before .before .before .before .before .before .before .before .before .before .before .before .pre .0 .0) (c .before .before .before .before .before .before .before .before .before .before .before .before .pre .0 .1) (c .before .before .before .before .before .before .before .before .before .before .before .before .pre .1 .0) (c .before .before .before .before .before .before .before .before .before .before .before .before .pre .1 .2) (c .before .before .before .before .before .before .before .before .before .before .before .before .pre .1 .1) (c .before .before .before .before .before .resolve-call .ensures) (c .before .x .given .1)
+
+same-length-2 : tie.Need-same-length-2
+same-length-2 c = search needs
+
+returns-2 : tie.Need-returns-2
+returns-2 c = resolved-cast (c .before .before .before .before .before .before .before .before .before .before .before .before .pre .0 .0) (c .before .before .before .before .before .before .before .before .before .before .before .before .pre .0 .1) (c .before .before .before .before .before .before .before .before .before .before .before .before .pre .1 .0) (c .before .before .before .before .before .before .before .before .before .before .before .before .pre .1 .2) (c .before .before .before .before .before .before .before .before .before .before .before .before .pre .1 .1) (c .before .before .before .before .before .resolve-call .ensures) (c .before .enum-told .given .1) (c .refusal .ensures)
+
+same-length-3 : tie.Need-same-length-3
+same-length-3 c = search needs
+
+same-length-4 : tie.Need-same-length-4
+same-length-4 c = search needs
+
+returns-3 : tie.Need-returns-3
+returns-3 c = resolved-function (c .before .before .before .before .before .before .before .before .before .before .before .before .before .before .before .before .before .before .before .pre .0 .0) (c .before .before .before .before .before .before .before .before .before .before .before .before .before .before .before .before .before .before .before .pre .0 .1) (c .before .before .before .before .before .before .before .before .before .before .before .before .before .before .before .before .before .before .before .pre .1 .0) (c .before .before .before .before .before .before .before .before .before .before .before .before .before .before .before .before .before .before .before .pre .1 .2) (c .before .before .before .before .before .before .before .before .before .before .before .before .before .before .before .before .before .before .before .pre .1 .1) (c .before .before .before .before .before .before .before .before .before .before .before .before .resolve-call .ensures) (c .before .before .before .before .before .before .before .before .f .given .1) (c .before .before .before .before .call-only .ensures)
+
+pub call-statement-spec : {M : Type 1} → statement M
+call-statement-spec =
+    tie.close
+    (tie.spec
+    resolve-call-requires
+    enum-known-x
+    enum-told
+    refusal-requires
+    enum-known-f
+    call-only-requires
+    same-length
+    returns
+    same-length-2
+    returns-2
+    same-length-3
+    same-length-4
+    returns-3)

@@ -1,0 +1,29 @@
+-- An Init of a known name: refused where that is constant.
+-- By the choice of the definition. Assumes nothing.
+use borrow.Author.Needs.{needs}
+use Rattle.statements.proofs.InitLaws.{assign-constant, assign-plain}
+use Rattle.statements.proofs.statements.convert_assign.Statement.{statement}
+use Rattle.statements.proofs.statements.convert_assign.Tie as tie
+
+refusal-requires : tie.Need-refusal-requires
+refusal-requires c κs = search needs
+
+returns : tie.Need-returns
+returns c = assign-constant (c .before .before .before .before .before .before .args .r) (c .before .before .before .before .before .before .args .v) (c .before .if1 .taken) (c .refusal .ensures)
+
+assign-to-requires : tie.Need-assign-to-requires
+assign-to-requires c κs = search needs
+
+same-length : tie.Need-same-length
+same-length c = search needs
+
+same-length-2 : tie.Need-same-length-2
+same-length-2 c = search needs
+
+returns-2 : tie.Need-returns-2
+returns-2 c = assign-plain (c .before .before .before .before .before .before .before .before .before .before .before .before .args .r) (c .before .before .before .before .before .before .before .before .before .before .before .before .args .v) (c .before .before .before .before .before .before .before .if1 .left) (c .before .before .before .before .assign-to .ensures)
+
+pub convert-assign-spec : {M : Type 1} → statement M
+convert-assign-spec =
+    tie.close
+    (tie.spec refusal-requires returns assign-to-requires same-length same-length-2 returns-2)

@@ -1,0 +1,47 @@
+-- A Continue jumps to the start of the innermost loop; outside of all it is refused.
+-- By what `in_loop` answers. Assumes nothing.
+use Rattle.statements.proofs.DeclareLaws.{continue-outside, continue-jumps}
+use borrow.Author.Needs.{needs}
+use Rattle.statements.proofs.statements.convert_continue.Statement.{statement}
+use Rattle.statements.proofs.statements.convert_continue.Tie as tie
+
+in-loop-requires : tie.Need-in-loop-requires
+in-loop-requires c κs = search needs
+
+enum-told : tie.Need-enum-told
+enum-told c = search needs
+
+refusal-requires : tie.Need-refusal-requires
+refusal-requires c κs = search needs
+
+enum-known-l : tie.Need-enum-known-l
+enum-known-l c = search needs
+
+cast-jump : tie.Need-cast-jump
+cast-jump c = search needs
+
+jump-requires : tie.Need-jump-requires
+jump-requires c κs = search needs
+
+returns : tie.Need-returns
+returns c = continue-outside (c .before .before .before .before .before .before .before .before .before .before .pre .0 .0) _ _ (c .before .before .before .in-loop .ensures) (c .before .enum-told .given .1) (c .refusal .ensures)
+
+same-length : tie.Need-same-length
+same-length c = search needs
+
+returns-2 : tie.Need-returns-2
+returns-2 c = continue-jumps (c .before .before .before .before .before .before .before .before .before .before .before .before .before .before .pre .0 .0) _ _ (c .before .before .before .before .before .before .before .in-loop .ensures) (c .before .before .before .before .before .l .given .1) (c .before .before .jump .ensures)
+
+pub convert-continue-spec : {M : Type 1} → statement M
+convert-continue-spec =
+    tie.close
+    (tie.spec
+    in-loop-requires
+    enum-told
+    refusal-requires
+    enum-known-l
+    cast-jump
+    jump-requires
+    returns
+    same-length
+    returns-2)

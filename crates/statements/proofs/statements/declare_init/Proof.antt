@@ -1,0 +1,72 @@
+-- An Init of a new name behind its value: the variable, then the name, then the copy.
+-- By what declaring answers. Assumes nothing.
+use native.Mathlib.Omega.{arith}
+use borrow.Author.Needs.{needs}
+use Rattle.statements.proofs.InitLaws.{new-type, new-requires, new-taken, new-declared}
+use Rattle.statements.proofs.statements.declare_init.Statement.{statement}
+use Rattle.statements.proofs.statements.declare_init.Tie as tie
+
+detail-requires : tie.Need-detail-requires
+detail-requires c κs = search needs
+
+init-type-requires : tie.Need-init-type-requires
+init-type-requires c κs = search needs
+
+cast-new-var : tie.Need-cast-new-var
+cast-new-var c = omega (arith, new-type (c .before .before .before .before .before .before .before .before .before .pre .0 .0) (c .before .before .before .before .before .before .before .before .before .pre .0 .1) (c .before .before .before .before .before .before .before .before .before .pre .1 .0) (c .before .before .before .before .before .before .before .before .before .pre .1 .1) (c .init-type .ensures) .below, c .before .before .before .before .before .before .before .before .before .pre .0 .0 .ready .keyed .good .few)
+
+new-var-requires : tie.Need-new-var-requires
+new-var-requires c κs = search needs
+
+declare-name-requires : tie.Need-declare-name-requires
+declare-name-requires c κs = new-requires (c .before .before .before .before .before .before .before .before .before .before .before .before .before .before .before .pre .0 .0) (c .before .before .before .before .before .before .before .before .before .before .before .before .before .before .before .pre .0 .1) (c .before .before .before .before .before .before .before .before .before .before .before .before .before .before .before .pre .1 .0) (c .before .before .before .before .before .before .before .before .before .before .before .before .before .before .before .pre .1 .1) (c .before .before .before .before .before .before .init-type .ensures) (omega (arith, c .before .before .before .before .arena .given)) (c .before .before .before .before .before .new-var .ensures)
+
+enum-told : tie.Need-enum-told
+enum-told c = search needs
+
+refusal-requires : tie.Need-refusal-requires
+refusal-requires c κs = omega (arith, c .before .before .before .before .before .before .before .before .before .before .before .before .before .before .before .before .before .before .before .before .pre .1 .0 .below, c .before .before .before .before .before .before .before .before .before .before .before .before .before .before .before .before .before .before .before .before .pre .0 .0 .ready .keyed .good .few)
+
+enum-known-next : tie.Need-enum-known-next
+enum-known-next c = search needs
+
+emit-requires : tie.Need-emit-requires
+emit-requires c κs = (c .before .before .before .before .before .before .before .before .before .before .before .before .new-var .ensures .next .room, omega (arith, c .before .before .before .before .before .before .before .before .before .before .before .before .before .before .before .before .before .before .before .before .before .before .pre .0 .1 .tables, c .before .before .before .before .before .before .before .before .before .before .before .before .new-var .ensures .spent))
+
+same-length : tie.Need-same-length
+same-length c = search needs
+
+same-length-2 : tie.Need-same-length-2
+same-length-2 c = search needs
+
+returns : tie.Need-returns
+returns c = new-taken (c .before .before .before .before .before .before .before .before .before .before .before .before .before .before .before .before .before .before .before .before .before .pre .0 .0) (c .before .before .before .before .before .before .before .before .before .before .before .before .before .before .before .before .before .before .before .before .before .pre .0 .1) (c .before .before .before .before .before .before .before .before .before .before .before .before .before .before .before .before .before .before .before .before .before .pre .1 .0) (c .before .before .before .before .before .before .before .before .before .before .before .before .before .before .before .before .before .before .before .before .before .pre .1 .1) (c .before .before .before .before .before .before .before .before .before .before .before .before .init-type .ensures) (omega (arith, c .before .before .before .before .before .before .before .before .before .before .arena .given)) (c .before .before .before .before .before .before .before .before .before .before .before .new-var .ensures) (c .before .before .before .before .before .before .before .before .before .before .before .before .before .before .before .before .before .before .before .before .before .args .src) (c .before .before .before .before .before .before .before .before .before .before .before .before .before .before .detail .ensures) (c .before .before .before .before .before .declare-name .ensures) (c .before .enum-told .given .1) (c .refusal .ensures)
+
+same-length-3 : tie.Need-same-length-3
+same-length-3 c = search needs
+
+same-length-4 : tie.Need-same-length-4
+same-length-4 c = search needs
+
+returns-2 : tie.Need-returns-2
+returns-2 c = new-declared (c .before .before .before .before .before .before .before .before .before .before .before .before .before .before .before .before .before .before .before .before .before .before .before .before .before .pre .0 .0) (c .before .before .before .before .before .before .before .before .before .before .before .before .before .before .before .before .before .before .before .before .before .before .before .before .before .pre .0 .1) (c .before .before .before .before .before .before .before .before .before .before .before .before .before .before .before .before .before .before .before .before .before .before .before .before .before .pre .1 .0) (c .before .before .before .before .before .before .before .before .before .before .before .before .before .before .before .before .before .before .before .before .before .before .before .before .before .pre .1 .1) (c .before .before .before .before .before .before .before .before .before .before .before .before .before .before .before .before .init-type .ensures) (omega (arith, c .before .before .before .before .before .before .before .before .before .before .before .before .before .before .arena .given)) (c .before .before .before .before .before .before .before .before .before .before .before .before .before .before .before .new-var .ensures) (c .before .before .before .before .before .before .before .before .before .before .before .before .before .before .before .before .before .before .before .before .before .before .before .before .before .args .src) (c .before .before .before .before .before .before .before .before .before .before .before .before .before .before .before .before .before .before .detail .ensures) (c .before .before .before .before .before .before .before .before .before .declare-name .ensures) (c .before .before .before .before .before .next .given .1) (omega (arith, c .before .arena2 .given)) (c .before .before .emit .ensures)
+
+pub declare-init-spec : {M : Type 1} → statement M
+declare-init-spec =
+    tie.close
+    (tie.spec
+    detail-requires
+    init-type-requires
+    cast-new-var
+    new-var-requires
+    declare-name-requires
+    enum-told
+    refusal-requires
+    enum-known-next
+    emit-requires
+    same-length
+    same-length-2
+    returns
+    same-length-3
+    same-length-4
+    returns-2)

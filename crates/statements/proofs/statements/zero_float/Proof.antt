@@ -1,0 +1,26 @@
+-- The zero of a Float: its float, and then the copy.
+-- By the law of both steps in a row. Assumes nothing.
+use native.Mathlib.Omega.{arith}
+use Rattle.statements.proofs.DeclareLaws.{zero-float-adds}
+use borrow.Author.Needs.{needs}
+use Rattle.statements.proofs.statements.zero_float.Statement.{statement}
+use Rattle.statements.proofs.statements.zero_float.Tie as tie
+
+float-entry-requires : tie.Need-float-entry-requires
+float-entry-requires c κs = search needs
+
+float-id-requires : tie.Need-float-id-requires
+float-id-requires c κs = search needs
+
+emit-requires : tie.Need-emit-requires
+emit-requires c κs = search needs
+
+same-length : tie.Need-same-length
+same-length c = search needs
+
+returns : tie.Need-returns
+returns c = zero-float-adds _ _ (c .before .before .before .before .before .before .before .before .float-entry .ensures) (omega arith) (c .before .before .before .before .before .before .before .float-id .ensures) (omega arith) (c .before .before .emit .ensures)
+
+pub zero-float-spec : {M : Type 1} → statement M
+zero-float-spec =
+    tie.close (tie.spec float-entry-requires float-id-requires emit-requires same-length returns)

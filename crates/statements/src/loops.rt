@@ -1,0 +1,402 @@
+// statements.rs: what stands around the blocks of an If, a While and a For.
+ghost use mathlib.Core.Path.{_≡_};
+ghost use mathlib.Core.List.{List};
+ghost use Prim.Native.Nat.{ℕ, _+_, _*_, _≤_, _<_};
+ghost use lib.ListN.{length};
+ghost use Rattle.laws.specs.Fix.{pick};
+ghost use Rattle.records.specs.Words.{detailOf, wordOf};
+ghost use Rattle.syntax.specs.Decode.{program, bit};
+ghost use Rattle.syntax.specs.Places.{IsKind, TypeAt};
+ghost use Rattle.conversion.specs.Ir.{conditionEnd};
+ghost use Rattle.types.specs.Fits.{IsExpr};
+ghost use Rattle.ir.specs.Amounts.{amount};
+ghost use Rattle.ir.specs.Instructions.{operandOf, varOf};
+ghost use Rattle.expressions.specs.Slots.{Ready};
+ghost use Rattle.statements.specs.Converting.{Converting, RoomFor, OperandIn, Afforded, BehindAfforded, BoundAfforded, forHeadAmount};
+ghost use Rattle.statements.specs.Meets.{Adds};
+ghost use Rattle.statements.specs.Parts.{ifMiddle, loopBack, countOn, testBound, placeLabel};
+ghost use Rattle.statements.specs.Answers.{HeadAs, BoundAs, TurnsAs, ForHeadAs, VariableAs, Checks, ifHeadSteps, whileHeadSteps, forVariableSteps, boundSteps, forBoundsSteps, forBeginSteps, forTestSteps, forTurnsSteps, forHeadSteps, boundsUnder};
+use crate::answers::Converted;
+use crate::answers::Converter;
+use crate::answers::Finished;
+use crate::answers::ForVariable;
+use crate::answers::Stated;
+use crate::answers::refusal;
+use crate::exprs::convert_expr;
+use crate::fits::check_fits;
+use crate::fits::fit_operand;
+use crate::jumps::jump;
+use crate::jumps::jump_if_not;
+use crate::jumps::place_label;
+use crate::numbers::CONDITION_END;
+use crate::numbers::LOOP_CHECK;
+use crate::numbers::LOOP_END;
+use crate::numbers::LOOP_START;
+use crate::numbers::OTHERWISE;
+use crate::statements::convert_cond;
+use crate::statements::copy_fitted;
+use crate::statements::declare_name;
+use crate::statements::find_name;
+use expressions::answers::ExprType;
+use expressions::answers::Outcome;
+use expressions::expressions::get_type;
+use ir::structs::Counters;
+use ir::structs::Instr;
+use ir::structs::Operand;
+use ir::structs::VarId;
+use ir::structs::emit;
+use ir::structs::new_var;
+use records::convert_error::ConvertErrorKind;
+use records::numbers::ADD;
+use records::numbers::BOOL_TYPE;
+use records::numbers::LT;
+use records::words::NONE;
+use records::words::detail;
+use records::words::reference;
+use records::words::word;
+use scope::Declared;
+use scope::Known;
+use types::form::INT;
+use types::form::form;
+use types::form::is_short;
+use types::form::is_unsigned;
+
+// Whether the If r has an otherwise.
+pub(crate) fn has_otherwise(tree: &[u8], r: usize) -> bool
+    requires { ⌜ r * 32 + 32 ≤ length (now tree) ⌝ }
+    requires { ⌜ detailOf (now tree) r ≤ 1 ⌝ }
+    ensures { λ b. ⌜ b ≡ bit 1 (detailOf (now (tree .entry)) r) ⌝ }
+{
+    detail(tree, r) == 1
+}
+
+// Where the If r goes when its condition does not hold.
+fn if_not_label(tree: &[u8], r: usize) -> u32
+    requires { ⌜ r * 32 + 32 ≤ length (now tree) ⌝ }
+    requires { ⌜ detailOf (now tree) r ≤ 1 ⌝ }
+    ensures { λ k. ⌜ k ≡ pick (bit 1 (detailOf (now (tree .entry)) r)) 4 5 ⌝ }
+{
+    if has_otherwise(tree, r) {
+        return OTHERWISE;
+    }
+    CONDITION_END
+}
+
+// The If r before its then-block.
+pub(crate) fn if_head(
+    tree: &[u8],
+    text: &[u8],
+    arena: &mut [u8],
+    scratch: &mut [u8],
+    c: Converter,
+    r: usize,
+) -> Finished
+    requires { ⌜ Converting (now tree) (now text) (now arena) (now scratch) c × BehindAfforded (now tree) (now text) c r ⌝ }
+    requires { ⌜ IsKind (now tree) 19 r ⌝ }
+    ensures { λ a. ⌜ HeadAs ifHeadSteps c r (now (tree .entry)) (now (text .entry)) (now (arena .entry)) (now (scratch .entry)) a (now (arena .exit)) (now (scratch .exit)) ⌝ }
+{
+    let e = reference(tree, r, 0);
+    let label = if_not_label(tree, r);
+    match convert_cond(tree, text, arena, scratch, c, e) {
+        Converted::Refused(x) => Finished::Refused(x),
+        Converted::Is(cond, k) => Finished::Done(jump_if_not(arena, k, cond, label, r)),
+    }
+}
+
+// Between the blocks of the If r.
+pub(crate) fn if_middle(arena: &mut [u8], k: Counters, r: usize) -> Counters
+    requires { ⌜ RoomFor k (now arena) (amount 2 0 2 0 0) × (r < 4294967296) ⌝ }
+    ensures { λ k′. ⌜ Adds (ifMiddle r) (amount 2 0 2 0 0) k (now (arena .entry)) tt k′ (now (arena .exit)) ⌝ }
+{
+    let k1 = jump(arena, k, CONDITION_END, r);
+    place_label(arena, k1, OTHERWISE, r)
+}
+
+// Behind the last block of the If r.
+pub(crate) fn if_end(arena: &mut [u8], k: Counters, r: usize) -> Counters
+    requires { ⌜ RoomFor k (now arena) (amount 1 0 1 0 0) × (r < 4294967296) ⌝ }
+    ensures { λ k′. ⌜ Adds (placeLabel (conditionEnd r)) (amount 1 0 1 0 0) k (now (arena .entry)) tt k′ (now (arena .exit)) ⌝ }
+{
+    place_label(arena, k, CONDITION_END, r)
+}
+
+// The While r before its body.
+pub(crate) fn while_head(
+    tree: &[u8],
+    text: &[u8],
+    arena: &mut [u8],
+    scratch: &mut [u8],
+    c: Converter,
+    r: usize,
+) -> Finished
+    requires { ⌜ Converting (now tree) (now text) (now arena) (now scratch) c × BehindAfforded (now tree) (now text) c r ⌝ }
+    requires { ⌜ IsKind (now tree) 20 r ⌝ }
+    ensures { λ a. ⌜ HeadAs whileHeadSteps c r (now (tree .entry)) (now (text .entry)) (now (arena .entry)) (now (scratch .entry)) a (now (arena .exit)) (now (scratch .exit)) ⌝ }
+{
+    let k = c.counters;
+    let e = reference(tree, r, 0);
+    let k1 = place_label(arena, k, LOOP_START, r);
+    let mut at = c;
+    at.counters = k1;
+    match convert_cond(tree, text, arena, scratch, at, e) {
+        Converted::Refused(x) => Finished::Refused(x),
+        Converted::Is(cond, k2) => Finished::Done(jump_if_not(arena, k2, cond, LOOP_END, r)),
+    }
+}
+
+// Behind the body of the While or For r.
+pub(crate) fn loop_end(arena: &mut [u8], k: Counters, r: usize) -> Counters
+    requires { ⌜ RoomFor k (now arena) (amount 2 0 2 0 0) × (r < 4294967296) ⌝ }
+    ensures { λ k′. ⌜ Adds (loopBack r) (amount 2 0 2 0 0) k (now (arena .entry)) tt k′ (now (arena .exit)) ⌝ }
+{
+    let k1 = jump(arena, k, LOOP_START, r);
+    place_label(arena, k1, LOOP_END, r)
+}
+
+// The For r that declares its variable, of record v, in the scope of its body.
+fn for_declared(
+    tree: &[u8],
+    text: &[u8],
+    arena: &mut [u8],
+    scratch: &mut [u8],
+    c: Converter,
+    r: usize,
+    v: usize,
+) -> ForVariable
+    requires { ⌜ Converting (now tree) (now text) (now arena) (now scratch) c × BehindAfforded (now tree) (now text) c r ⌝ }
+    requires { ⌜ IsKind (now tree) 21 r × (v ≡ wordOf (now tree) r 0) × TypeAt (now tree) (wordOf (now tree) v 2) ⌝ }
+    ensures { λ a. ⌜ VariableAs forVariableSteps c r (now (tree .entry)) (now (text .entry)) (now (arena .entry)) (now (scratch .entry)) a (now (arena .exit)) (now (scratch .exit)) ⌝ }
+{
+    let scope = c.scope;
+    let k = c.counters;
+    let made = new_var(arena, k, word(tree, v, 2));
+    let x = made.var;
+    let k1 = made.counters;
+    match declare_name(tree, text, scratch, scope, v, x, false) {
+        Declared::Taken => ForVariable::Refused(refusal(ConvertErrorKind::AlreadyDeclared, r)),
+        Declared::Done(next) => ForVariable::Is(x, next, k1),
+    }
+}
+
+// The For r that changes a variable of the blocks around it, named in record v.
+fn for_known(
+    tree: &[u8],
+    text: &[u8],
+    arena: &[u8],
+    scratch: &[u8],
+    c: Converter,
+    r: usize,
+    v: usize,
+) -> ForVariable
+    requires { ⌜ Converting (now tree) (now text) (now arena) (now scratch) c × BehindAfforded (now tree) (now text) c r ⌝ }
+    requires { ⌜ IsKind (now tree) 21 r × (v ≡ wordOf (now tree) r 0) × (wordOf (now tree) v 2 ≡ 4294967295) ⌝ }
+    ensures { λ a. ⌜ VariableAs forVariableSteps c r (now (tree .entry)) (now (text .entry)) (now (arena .entry)) (now (scratch .entry)) a (now (arena .entry)) (now (scratch .entry)) ⌝ }
+{
+    let scope = c.scope;
+    let k = c.counters;
+    match find_name(tree, text, scratch, scope, v) {
+        Known::Unknown => ForVariable::Refused(refusal(ConvertErrorKind::UnknownVariable, r)),
+        Known::Is(x, constant) => {
+            if constant {
+                return ForVariable::Refused(refusal(ConvertErrorKind::AssignToConstant, r));
+            }
+            ForVariable::Is(x, scope, k)
+        }
+    }
+}
+
+// The variable of the For r.
+fn for_variable(
+    tree: &[u8],
+    text: &[u8],
+    arena: &mut [u8],
+    scratch: &mut [u8],
+    c: Converter,
+    r: usize,
+) -> ForVariable
+    requires { ⌜ Converting (now tree) (now text) (now arena) (now scratch) c × BehindAfforded (now tree) (now text) c r ⌝ }
+    requires { ⌜ IsKind (now tree) 21 r ⌝ }
+    ensures { λ a. ⌜ VariableAs forVariableSteps c r (now (tree .entry)) (now (text .entry)) (now (arena .entry)) (now (scratch .entry)) a (now (arena .exit)) (now (scratch .exit)) ⌝ }
+{
+    let v = reference(tree, r, 0);
+    if word(tree, v, 2) == NONE {
+        return for_known(tree, text, arena, scratch, c, r, v);
+    }
+    for_declared(tree, text, arena, scratch, c, r, v)
+}
+
+// The bound e is of the variable's type y.
+fn check_bound(
+    tree: &[u8],
+    text: &[u8],
+    scratch: &mut [u8],
+    c: Converter,
+    e: usize,
+    y: usize,
+) -> Outcome
+    requires { ⌜ Ready (now tree) (now text) (now scratch) (c .functions) (c .scope) × IsExpr (now tree) e × TypeAt (now tree) y ⌝ }
+    ensures { λ a. ⌜ Checks (now (tree .entry)) (boundSteps (now (tree .entry)) (now (text .entry)) (now (scratch .entry)) c e y) (now (scratch .entry)) a (now (scratch .exit)) ⌝ }
+{
+    let scope = c.scope;
+    match get_type(tree, text, scratch, c.functions, scope, e) {
+        ExprType::Refused(x) => Outcome::Refused(x),
+        ExprType::Is(q) => check_fits(tree, e, q, y, ConvertErrorKind::NotInteger, e),
+    }
+}
+
+// Both bounds of the For r are looked at before either is converted.
+fn for_bounds(
+    tree: &[u8],
+    text: &[u8],
+    scratch: &mut [u8],
+    c: Converter,
+    r: usize,
+    y: usize,
+) -> Outcome
+    requires { ⌜ Ready (now tree) (now text) (now scratch) (c .functions) (c .scope) × IsKind (now tree) 21 r × TypeAt (now tree) y ⌝ }
+    ensures { λ a. ⌜ Checks (now (tree .entry)) (forBoundsSteps (now (tree .entry)) (now (text .entry)) (now (scratch .entry)) c r y) (now (scratch .entry)) a (now (scratch .exit)) ⌝ }
+{
+    let from = reference(tree, r, 1);
+    let until = reference(tree, r, 2);
+    match check_bound(tree, text, scratch, c, from, y) {
+        Outcome::Refused(x) => Outcome::Refused(x),
+        Outcome::Done => check_bound(tree, text, scratch, c, until, y),
+    }
+}
+
+// Where the For r counts on: at its start, which the first turn passes by, and then the check.
+fn count_on(tree: &[u8], arena: &mut [u8], k: Counters, r: usize, x: VarId) -> Counters
+    requires { ⌜ RoomFor k (now arena) (amount 4 0 3 0 0) × (r < 4294967296) × TypeAt (now tree) (x .1) ⌝ }
+    ensures { λ k′. ⌜ Adds (countOn r (varOf x) (bit 16 (detailOf (now (tree .entry)) (x .1))) (bit 32 (detailOf (now (tree .entry)) (x .1)))) (amount 4 0 3 0 0) k (now (arena .entry)) tt k′ (now (arena .exit)) ⌝ }
+{
+    let y = x.1 as usize;
+    let one = Operand::Int(1, is_short(tree, y), is_unsigned(tree, y));
+    let k1 = jump(arena, k, LOOP_CHECK, r);
+    let k2 = place_label(arena, k1, LOOP_START, r);
+    let k3 = emit(arena, k2, Instr::Binary(x, ADD, Operand::Var(x), one));
+    place_label(arena, k3, LOOP_CHECK, r)
+}
+
+// The For r up to its check: its variable gets the first bound.
+fn for_begin(
+    tree: &[u8],
+    text: &[u8],
+    arena: &mut [u8],
+    scratch: &mut [u8],
+    c: Converter,
+    r: usize,
+    x: VarId,
+) -> Finished
+    requires { ⌜ Converting (now tree) (now text) (now arena) (now scratch) c × BoundAfforded (now tree) (now text) c r 1 ⌝ }
+    requires { ⌜ IsKind (now tree) 21 r × TypeAt (now tree) (x .1) ⌝ }
+    ensures { λ a. ⌜ BoundAs (λ t y s k q. forBeginSteps t y s k x q) 1 c r (now (tree .entry)) (now (text .entry)) (now (arena .entry)) (now (scratch .entry)) a (now (arena .exit)) (now (scratch .exit)) ⌝ }
+{
+    let from = reference(tree, r, 1);
+    match convert_expr(tree, text, arena, scratch, c, from) {
+        Converted::Refused(e) => Finished::Refused(e),
+        Converted::Is(a, k) => {
+            let k1 = copy_fitted(tree, arena, k, x, a);
+            Finished::Done(count_on(tree, arena, k1, r, x))
+        }
+    }
+}
+
+// Whether the variable is below the bound, or the For r ends.
+fn test_bound(
+    tree: &[u8],
+    arena: &mut [u8],
+    k: Counters,
+    r: usize,
+    x: VarId,
+    until: Operand,
+) -> Counters
+    requires { ⌜ RoomFor k (now arena) (amount 3 2 1 0 1) × (r < 4294967296) × TypeAt (now tree) (x .1) × OperandIn (now tree) (operandOf until) ⌝ }
+    ensures { λ k′. ⌜ ((text : List ℕ) → Adds (testBound (program (now (tree .entry)) text) r (varOf x) (operandOf until)) (amount 3 2 1 0 1) k (now (arena .entry)) tt k′ (now (arena .exit))) ⌝ }
+{
+    let b = fit_operand(tree, arena, k, until, x.1 as usize);
+    let bound = b.operand;
+    let k1 = b.counters;
+    let made = new_var(arena, k1, BOOL_TYPE as u32);
+    let cond = made.var;
+    let k2 = made.counters;
+    let k3 = emit(arena, k2, Instr::Binary(cond, LT, Operand::Var(x), bound));
+    jump_if_not(arena, k3, Operand::Var(cond), LOOP_END, r)
+}
+
+// The check of the For r: its second bound is computed anew at each turn.
+fn for_test(
+    tree: &[u8],
+    text: &[u8],
+    arena: &mut [u8],
+    scratch: &mut [u8],
+    c: Converter,
+    r: usize,
+    x: VarId,
+) -> Finished
+    requires { ⌜ Converting (now tree) (now text) (now arena) (now scratch) c × BoundAfforded (now tree) (now text) c r 2 ⌝ }
+    requires { ⌜ IsKind (now tree) 21 r × TypeAt (now tree) (x .1) ⌝ }
+    ensures { λ a. ⌜ BoundAs (λ t y s k q. forTestSteps t y s k x q) 2 c r (now (tree .entry)) (now (text .entry)) (now (arena .entry)) (now (scratch .entry)) a (now (arena .exit)) (now (scratch .exit)) ⌝ }
+{
+    let until = reference(tree, r, 2);
+    match convert_expr(tree, text, arena, scratch, c, until) {
+        Converted::Refused(e) => Finished::Refused(e),
+        Converted::Is(b, k) => Finished::Done(test_bound(tree, arena, k, r, x, b)),
+    }
+}
+
+// The For r from its variable on, up to its body.
+fn for_turns(
+    tree: &[u8],
+    text: &[u8],
+    arena: &mut [u8],
+    scratch: &mut [u8],
+    c: Converter,
+    r: usize,
+    x: VarId,
+) -> Finished
+    requires { ⌜ Converting (now tree) (now text) (now arena) (now scratch) c × Afforded (now tree) c (forHeadAmount (boundsUnder (now tree) (now text) r)) (boundsUnder (now tree) (now text) r) 0 ⌝ }
+    requires { ⌜ IsKind (now tree) 21 r × TypeAt (now tree) (x .1) ⌝ }
+    ensures { λ a. ⌜ TurnsAs (λ t y s k q. forTurnsSteps t y s k x q) c r (now (tree .entry)) (now (text .entry)) (now (arena .entry)) (now (scratch .entry)) a (now (arena .exit)) (now (scratch .exit)) ⌝ }
+{
+    let y = x.1 as usize;
+    if form(tree, y) != INT {
+        return Finished::Refused(refusal(ConvertErrorKind::NotInteger, r));
+    }
+    match for_bounds(tree, text, scratch, c, r, y) {
+        Outcome::Refused(e) => Finished::Refused(e),
+        Outcome::Done => match for_begin(tree, text, arena, scratch, c, r, x) {
+            Finished::Refused(e) => Finished::Refused(e),
+            Finished::Done(k) => {
+                let mut at = c;
+                at.counters = k;
+                for_test(tree, text, arena, scratch, at, r, x)
+            }
+        },
+    }
+}
+
+// The For r before its body, with the scope of the body: a variable that it declares is unknown in its bounds.
+pub(crate) fn for_head(
+    tree: &[u8],
+    text: &[u8],
+    arena: &mut [u8],
+    scratch: &mut [u8],
+    c: Converter,
+    r: usize,
+) -> Stated
+    requires { ⌜ Converting (now tree) (now text) (now arena) (now scratch) c × BehindAfforded (now tree) (now text) c r ⌝ }
+    requires { ⌜ IsKind (now tree) 21 r ⌝ }
+    ensures { λ a. ⌜ ForHeadAs forHeadSteps c r (now (tree .entry)) (now (text .entry)) (now (arena .entry)) (now (scratch .entry)) a (now (arena .exit)) (now (scratch .exit)) ⌝ }
+{
+    match for_variable(tree, text, arena, scratch, c, r) {
+        ForVariable::Refused(e) => Stated::Refused(e),
+        ForVariable::Is(x, inner, k) => {
+            let mut at = c;
+            at.counters = k;
+            match for_turns(tree, text, arena, scratch, at, r, x) {
+                Finished::Refused(e) => Stated::Refused(e),
+                Finished::Done(k1) => Stated::Done(inner, k1),
+            }
+        }
+    }
+}

@@ -1,0 +1,523 @@
+// statements.rs: the statements that hold no block, and conditions.
+ghost use mathlib.Core.Path.{_≡_};
+ghost use mathlib.Core.Bool.{false};
+ghost use mathlib.Core.List.{List};
+ghost use Prim.Native.Nat.{ℕ, _+_, _*_, _≤_, _<_};
+ghost use lib.Dec.{eqb, ltb};
+ghost use lib.ListN.{length};
+ghost use Rattle.laws.specs.Fix.{pick};
+ghost use Rattle.records.specs.Words.{wordOf};
+ghost use Rattle.syntax.specs.Syntax.{nullType, addressOfNull};
+ghost use Rattle.syntax.specs.Decode.{program, typeAt, textOf};
+ghost use Rattle.syntax.specs.Places.{IsKind, TypeAt, FunctionAt};
+ghost use Rattle.conversion.specs.Expressions.{Functions};
+ghost use Rattle.conversion.specs.Statements.{zeroValue};
+ghost use Rattle.types.specs.Fits.{IsExpr, IsType};
+ghost use Rattle.ir.specs.Amounts.{amount};
+ghost use Rattle.ir.specs.Instructions.{operandOf, varOf};
+ghost use Rattle.scope.specs.Open.{Room, Afforded as NameAfforded, FindMeets, DeclareMeets};
+ghost use Rattle.statements.specs.Converting.{Converting, RoomFor, OperandIn, Afforded, ExprAfforded, BehindAfforded};
+ghost use Rattle.statements.specs.Meets.{Adds, Meets};
+ghost use Rattle.statements.specs.Parts.{copyFitted, zeroFloat};
+ghost use Rattle.statements.specs.Answers.{ConvertsAs, StatesAs, CallOnlyAs, DeclaresAs, finishedOf, condSteps, declareSteps, initSteps, initNewSteps, assignSteps, assignToSteps, returnSteps, returnAsSteps, callStatementSteps, callOnlySteps, breakSteps, continueSteps, declareInitSteps};
+use crate::answers::Converted;
+use crate::answers::ConvertedArgs;
+use crate::answers::Converter;
+use crate::answers::Finished;
+use crate::answers::Stated;
+use crate::answers::refusal;
+use crate::exprs::convert_args;
+use crate::exprs::convert_expr;
+use crate::fits::check_fits;
+use crate::fits::fit_operand;
+use crate::fits::pass_args;
+use crate::jumps::jump;
+use crate::numbers::LOOP_END;
+use crate::numbers::LOOP_START;
+use expressions::answers::ExprType;
+use expressions::answers::Outcome;
+use expressions::answers::Resolved;
+use expressions::expressions::get_type;
+use expressions::expressions::resolve_call;
+use ir::floats::float_entry;
+use ir::pool::float_id;
+use ir::structs::Counters;
+use ir::structs::Instr;
+use ir::structs::Operand;
+use ir::structs::VarId;
+use ir::structs::emit;
+use ir::structs::new_var;
+use records::convert_error::ConvertErrorKind;
+use records::numbers::ADDRESS_OF_NULL;
+use records::numbers::BOOL_TYPE;
+use records::numbers::KIND_CALL;
+use records::numbers::NULL_TYPE;
+use records::words::NONE;
+use records::words::detail;
+use records::words::kind;
+use records::words::reference;
+use records::words::word;
+use scope::Declared;
+use scope::InLoop;
+use scope::Known;
+use scope::Scope;
+use types::form::ADDRESS;
+use types::form::ARRAY;
+use types::form::CUSTOM;
+use types::form::FLOAT;
+use types::form::INT;
+use types::form::form;
+use types::form::is_short;
+use types::form::is_unsigned;
+
+// The operand of the condition e, which must be a Bool.
+pub(crate) fn convert_cond(
+    tree: &[u8],
+    text: &[u8],
+    arena: &mut [u8],
+    scratch: &mut [u8],
+    c: Converter,
+    e: usize,
+) -> Converted
+    requires { ⌜ Converting (now tree) (now text) (now arena) (now scratch) c × ExprAfforded (now tree) (now text) c e ⌝ }
+    requires { ⌜ IsExpr (now tree) e ⌝ }
+    ensures { λ a. ⌜ ConvertsAs condSteps c e (now (tree .entry)) (now (text .entry)) (now (arena .entry)) (now (scratch .entry)) a (now (arena .exit)) (now (scratch .exit)) ⌝ }
+{
+    let scope = c.scope;
+    match get_type(tree, text, scratch, c.functions, scope, e) {
+        ExprType::Refused(x) => Converted::Refused(x),
+        ExprType::Is(y) => {
+            if y == BOOL_TYPE {
+                return convert_expr(tree, text, arena, scratch, c, e);
+            }
+            Converted::Refused(refusal(ConvertErrorKind::NotBool, e))
+        }
+    }
+}
+
+// The name in words A and B of record r, declared.
+pub(crate) fn declare_name(
+    tree: &[u8],
+    text: &[u8],
+    scratch: &mut [u8],
+    scope: Scope,
+    r: usize,
+    v: VarId,
+    constant: bool,
+) -> Declared
+    requires { ⌜ (r * 32 + 32 ≤ length (now tree)) × Room scope (now scratch) × NameAfforded scope v ⌝ }
+    ensures { λ a. ⌜ DeclareMeets (now (text .entry)) (wordOf (now (tree .entry)) r 0) (wordOf (now (tree .entry)) r 1) v constant scope (now (scratch .entry)) (now (scratch .exit)) a ⌝ }
+{
+    let offset = word(tree, r, 0);
+    let len = word(tree, r, 1);
+    scope.declare(text, scratch, offset, len, v, constant)
+}
+
+// The variable of the name in words A and B of record r.
+pub(crate) fn find_name(tree: &[u8], text: &[u8], scratch: &[u8], scope: Scope, r: usize) -> Known
+    requires { ⌜ (r * 32 + 32 ≤ length (now tree)) × Room scope (now scratch) ⌝ }
+    ensures { λ a. ⌜ FindMeets (now (text .entry)) (now (scratch .entry)) scope (textOf (now (tree .entry)) (now (text .entry)) r 0) a ⌝ }
+{
+    let offset = word(tree, r, 0);
+    let len = word(tree, r, 1);
+    scope.find_variable(text, scratch, offset, len)
+}
+
+fn zero_float(arena: &mut [u8], k: Counters, v: VarId, short: bool) -> Counters
+    requires { ⌜ RoomFor k (now arena) (amount 1 0 0 0 1) ⌝ }
+    ensures { λ r. ⌜ Adds (zeroFloat (varOf v) short) (amount 1 0 0 0 1) k (now (arena .entry)) tt r (now (arena .exit)) ⌝ }
+{
+    let p = float_id(arena, k, float_entry(0, short));
+    let next = p.counters;
+    emit(arena, next, Instr::Copy(v, Operand::Float(p.number)))
+}
+
+// The zero of a type that is neither Int nor Float nor Array nor Custom: Bool, Char and Byte have the bool, Address and Null the null.
+fn zero_operand(f: u8) -> Operand
+    ensures { λ r. ⌜ r ≡ pick (ltb f 6) (Operand.Bool false) Operand.Null ⌝ }
+{
+    if f < ADDRESS {
+        return Operand::Bool(false);
+    }
+    Operand::Null
+}
+
+// The zero value that the Declare r writes; of a Custom the Rust would panic.
+fn zero_value(tree: &[u8], arena: &mut [u8], k: Counters, r: usize, v: VarId) -> Finished
+    requires { ⌜ RoomFor k (now arena) (amount 1 0 0 0 1) × IsType (now tree) (v .1) × (r < 4294967296) ⌝ }
+    ensures { λ a. ⌜ ((text : List ℕ) (F : Functions) → Meets text (zeroValue (program (now (tree .entry)) text) F r (varOf v) (typeAt (now (tree .entry)) text (v .1))) (amount 1 0 0 0 1) k (now (arena .entry)) (now (arena .exit)) (finishedOf tt a)) ⌝ }
+{
+    let y = v.1 as usize;
+    let f = form(tree, y);
+    let short = is_short(tree, y);
+    if f == INT {
+        let zero = Operand::Int(0, short, is_unsigned(tree, y));
+        return Finished::Done(emit(arena, k, Instr::Copy(v, zero)));
+    }
+    if f == FLOAT {
+        return Finished::Done(zero_float(arena, k, v, short));
+    }
+    if f == ARRAY {
+        return Finished::Done(emit(arena, k, Instr::Zero(v)));
+    }
+    if f == CUSTOM {
+        return Finished::Refused(refusal(ConvertErrorKind::WouldPanic, r));
+    }
+    Finished::Done(emit(arena, k, Instr::Copy(v, zero_operand(f))))
+}
+
+// The Declare r: the variable takes its number before its name is looked at.
+pub(crate) fn convert_declare(
+    tree: &[u8],
+    text: &[u8],
+    arena: &mut [u8],
+    scratch: &mut [u8],
+    c: Converter,
+    r: usize,
+) -> Stated
+    requires { ⌜ Converting (now tree) (now text) (now arena) (now scratch) c × BehindAfforded (now tree) (now text) c r ⌝ }
+    requires { ⌜ IsKind (now tree) 15 r ⌝ }
+    ensures { λ a. ⌜ StatesAs declareSteps c r (now (tree .entry)) (now (text .entry)) (now (arena .entry)) (now (scratch .entry)) a (now (arena .exit)) (now (scratch .exit)) ⌝ }
+{
+    let scope = c.scope;
+    let k = c.counters;
+    let made = new_var(arena, k, word(tree, r, 2));
+    let v = made.var;
+    let k1 = made.counters;
+    match declare_name(tree, text, scratch, scope, r, v, false) {
+        Declared::Taken => Stated::Refused(refusal(ConvertErrorKind::AlreadyDeclared, r)),
+        Declared::Done(next) => match zero_value(tree, arena, k1, r, v) {
+            Finished::Refused(x) => Stated::Refused(x),
+            Finished::Done(k2) => Stated::Done(next, k2),
+        },
+    }
+}
+
+// The operand, fitted to the variable's type, is copied into it.
+pub(crate) fn copy_fitted(
+    tree: &[u8],
+    arena: &mut [u8],
+    k: Counters,
+    v: VarId,
+    src: Operand,
+) -> Counters
+    requires { ⌜ RoomFor k (now arena) (amount 2 1 0 0 1) × TypeAt (now tree) (v .1) × OperandIn (now tree) (operandOf src) ⌝ }
+    ensures { λ r. ⌜ ((text : List ℕ) → Adds (copyFitted (program (now (tree .entry)) text) (varOf v) (operandOf src)) (amount 2 1 0 0 1) k (now (arena .entry)) tt r (now (arena .exit))) ⌝ }
+{
+    let a = fit_operand(tree, arena, k, src, v.1 as usize);
+    let fitted = a.operand;
+    let next = a.counters;
+    emit(arena, next, Instr::Copy(v, fitted))
+}
+
+// The Init r of the known variable v: its value is converted before its type is held against the variable's.
+fn assign_to(
+    tree: &[u8],
+    text: &[u8],
+    arena: &mut [u8],
+    scratch: &mut [u8],
+    c: Converter,
+    r: usize,
+    v: VarId,
+) -> Stated
+    requires { ⌜ Converting (now tree) (now text) (now arena) (now scratch) c × BehindAfforded (now tree) (now text) c r ⌝ }
+    requires { ⌜ IsKind (now tree) 16 r × TypeAt (now tree) (v .1) ⌝ }
+    ensures { λ a. ⌜ StatesAs (λ t x s k q. assignToSteps t x s k q v) c r (now (tree .entry)) (now (text .entry)) (now (arena .entry)) (now (scratch .entry)) a (now (arena .exit)) (now (scratch .exit)) ⌝ }
+{
+    let scope = c.scope;
+    let e = reference(tree, r, 2);
+    match convert_expr(tree, text, arena, scratch, c, e) {
+        Converted::Refused(x) => Stated::Refused(x),
+        Converted::Is(src, k) => match get_type(tree, text, scratch, c.functions, scope, e) {
+            ExprType::Refused(x) => Stated::Refused(x),
+            ExprType::Is(y) => {
+                let expected = v.1 as usize;
+                match check_fits(tree, e, y, expected, ConvertErrorKind::WrongAssignType, r) {
+                    Outcome::Refused(x) => Stated::Refused(x),
+                    Outcome::Done => Stated::Done(scope, copy_fitted(tree, arena, k, v, src)),
+                }
+            }
+        },
+    }
+}
+
+fn convert_assign(
+    tree: &[u8],
+    text: &[u8],
+    arena: &mut [u8],
+    scratch: &mut [u8],
+    c: Converter,
+    r: usize,
+    v: VarId,
+    constant: bool,
+) -> Stated
+    requires { ⌜ Converting (now tree) (now text) (now arena) (now scratch) c × BehindAfforded (now tree) (now text) c r ⌝ }
+    requires { ⌜ IsKind (now tree) 16 r × TypeAt (now tree) (v .1) ⌝ }
+    ensures { λ a. ⌜ StatesAs (λ t x s k q. assignSteps t x s k q v constant) c r (now (tree .entry)) (now (text .entry)) (now (arena .entry)) (now (scratch .entry)) a (now (arena .exit)) (now (scratch .exit)) ⌝ }
+{
+    if constant {
+        return Stated::Refused(refusal(ConvertErrorKind::AssignToConstant, r));
+    }
+    assign_to(tree, text, arena, scratch, c, r, v)
+}
+
+// What a new variable of a value of type y has as its type: an address to nothing for Null.
+fn init_type(y: usize) -> usize
+    ensures { λ r. ⌜ r ≡ pick (eqb y nullType) addressOfNull y ⌝ }
+{
+    if y == NULL_TYPE {
+        return ADDRESS_OF_NULL;
+    }
+    y
+}
+
+// The Init r of a new name, behind its value: the variable, then the name, then the copy.
+fn declare_init(
+    tree: &[u8],
+    text: &[u8],
+    arena: &mut [u8],
+    scratch: &mut [u8],
+    c: Converter,
+    r: usize,
+    y: usize,
+    src: Operand,
+) -> Stated
+    requires { ⌜ Converting (now tree) (now text) (now arena) (now scratch) c × Afforded (now tree) c (amount 1 1 0 0 0) 0 1 ⌝ }
+    requires { ⌜ IsKind (now tree) 16 r × TypeAt (now tree) y ⌝ }
+    ensures { λ a. ⌜ DeclaresAs (λ t x s k q. declareInitSteps t x s k q y src) c r (now (tree .entry)) (now (text .entry)) (now (arena .entry)) (now (scratch .entry)) a (now (arena .exit)) (now (scratch .exit)) ⌝ }
+{
+    let scope = c.scope;
+    let k = c.counters;
+    let constant = detail(tree, r) == 1;
+    let made = new_var(arena, k, init_type(y) as u32);
+    let v = made.var;
+    let k1 = made.counters;
+    match declare_name(tree, text, scratch, scope, r, v, constant) {
+        Declared::Taken => Stated::Refused(refusal(ConvertErrorKind::AlreadyDeclared, r)),
+        Declared::Done(next) => Stated::Done(next, emit(arena, k1, Instr::Copy(v, src))),
+    }
+}
+
+// The Init r of a new name.
+fn init_new(
+    tree: &[u8],
+    text: &[u8],
+    arena: &mut [u8],
+    scratch: &mut [u8],
+    c: Converter,
+    r: usize,
+) -> Stated
+    requires { ⌜ Converting (now tree) (now text) (now arena) (now scratch) c × BehindAfforded (now tree) (now text) c r ⌝ }
+    requires { ⌜ IsKind (now tree) 16 r ⌝ }
+    ensures { λ a. ⌜ StatesAs initNewSteps c r (now (tree .entry)) (now (text .entry)) (now (arena .entry)) (now (scratch .entry)) a (now (arena .exit)) (now (scratch .exit)) ⌝ }
+{
+    let scope = c.scope;
+    let e = reference(tree, r, 2);
+    match get_type(tree, text, scratch, c.functions, scope, e) {
+        ExprType::Refused(x) => Stated::Refused(x),
+        ExprType::Is(y) => match convert_expr(tree, text, arena, scratch, c, e) {
+            Converted::Refused(x) => Stated::Refused(x),
+            Converted::Is(src, k) => {
+                let mut at = c;
+                at.counters = k;
+                declare_init(tree, text, arena, scratch, at, r, y, src)
+            }
+        },
+    }
+}
+
+// The Init r: a plain one of a known name assigns.
+pub(crate) fn convert_init(
+    tree: &[u8],
+    text: &[u8],
+    arena: &mut [u8],
+    scratch: &mut [u8],
+    c: Converter,
+    r: usize,
+) -> Stated
+    requires { ⌜ Converting (now tree) (now text) (now arena) (now scratch) c × BehindAfforded (now tree) (now text) c r ⌝ }
+    requires { ⌜ IsKind (now tree) 16 r ⌝ }
+    ensures { λ a. ⌜ StatesAs initSteps c r (now (tree .entry)) (now (text .entry)) (now (arena .entry)) (now (scratch .entry)) a (now (arena .exit)) (now (scratch .exit)) ⌝ }
+{
+    let scope = c.scope;
+    if detail(tree, r) == 1 {
+        return init_new(tree, text, arena, scratch, c, r);
+    }
+    match find_name(tree, text, scratch, scope, r) {
+        Known::Is(v, constant) => { convert_assign(tree, text, arena, scratch, c, r, v, constant) }
+        Known::Unknown => init_new(tree, text, arena, scratch, c, r),
+    }
+}
+
+// The Return r of a value of type y, where `expected` is the function's.
+fn return_as(
+    tree: &[u8],
+    text: &[u8],
+    arena: &mut [u8],
+    scratch: &mut [u8],
+    c: Converter,
+    r: usize,
+    y: usize,
+    expected: usize,
+) -> Stated
+    requires { ⌜ Converting (now tree) (now text) (now arena) (now scratch) c × BehindAfforded (now tree) (now text) c r ⌝ }
+    requires { ⌜ IsKind (now tree) 17 r × TypeAt (now tree) y × TypeAt (now tree) expected ⌝ }
+    ensures { λ a. ⌜ StatesAs (λ t x s k q. returnAsSteps t x s k q y expected) c r (now (tree .entry)) (now (text .entry)) (now (arena .entry)) (now (scratch .entry)) a (now (arena .exit)) (now (scratch .exit)) ⌝ }
+{
+    let scope = c.scope;
+    let e = reference(tree, r, 0);
+    match check_fits(tree, e, y, expected, ConvertErrorKind::WrongReturnType, r) {
+        Outcome::Refused(x) => Stated::Refused(x),
+        Outcome::Done => match convert_expr(tree, text, arena, scratch, c, e) {
+            Converted::Refused(x) => Stated::Refused(x),
+            Converted::Is(value, k) => {
+                let a = fit_operand(tree, arena, k, value, expected);
+                let fitted = a.operand;
+                let k1 = a.counters;
+                Stated::Done(scope, emit(arena, k1, Instr::Return(fitted)))
+            }
+        },
+    }
+}
+
+// The Return r: its type is held against the function's before the value is converted.
+pub(crate) fn convert_return(
+    tree: &[u8],
+    text: &[u8],
+    arena: &mut [u8],
+    scratch: &mut [u8],
+    c: Converter,
+    r: usize,
+) -> Stated
+    requires { ⌜ Converting (now tree) (now text) (now arena) (now scratch) c × BehindAfforded (now tree) (now text) c r ⌝ }
+    requires { ⌜ IsKind (now tree) 17 r ⌝ }
+    ensures { λ a. ⌜ StatesAs returnSteps c r (now (tree .entry)) (now (text .entry)) (now (arena .entry)) (now (scratch .entry)) a (now (arena .exit)) (now (scratch .exit)) ⌝ }
+{
+    let scope = c.scope;
+    let e = reference(tree, r, 0);
+    let expected = reference(tree, scope.function as usize, 3);
+    match get_type(tree, text, scratch, c.functions, scope, e) {
+        ExprType::Refused(x) => Stated::Refused(x),
+        ExprType::Is(y) => {
+            if expected == NONE as usize {
+                return Stated::Refused(refusal(ConvertErrorKind::ReturnWithoutType, r));
+            }
+            return_as(tree, text, arena, scratch, c, r, y, expected)
+        }
+    }
+}
+
+// A call of f by the call e, whose result is not used.
+fn call_only(
+    tree: &[u8],
+    text: &[u8],
+    arena: &mut [u8],
+    scratch: &mut [u8],
+    c: Converter,
+    e: usize,
+    f: usize,
+) -> Stated
+    requires { ⌜ Converting (now tree) (now text) (now arena) (now scratch) c × ExprAfforded (now tree) (now text) c e ⌝ }
+    requires { ⌜ IsKind (now tree) 11 e × FunctionAt (now tree) f ⌝ }
+    ensures { λ a. ⌜ CallOnlyAs (λ t x s k q. callOnlySteps t x s k q f) c e (now (tree .entry)) (now (text .entry)) (now (arena .entry)) (now (scratch .entry)) a (now (arena .exit)) (now (scratch .exit)) ⌝ }
+{
+    let scope = c.scope;
+    match convert_args(tree, text, arena, scratch, c, e) {
+        ConvertedArgs::Refused(x) => Stated::Refused(x),
+        ConvertedArgs::Done(count, k) => {
+            let mut at = c;
+            at.counters = k;
+            let k1 = pass_args(tree, text, arena, scratch, at, f, count);
+            Stated::Done(scope, emit(arena, k1, Instr::CallOnly(f as u32)))
+        }
+    }
+}
+
+// The call statement r whose expression e is a call; at a cast the Rust would panic.
+fn call_statement(
+    tree: &[u8],
+    text: &[u8],
+    arena: &mut [u8],
+    scratch: &mut [u8],
+    c: Converter,
+    r: usize,
+    e: usize,
+) -> Stated
+    requires { ⌜ Converting (now tree) (now text) (now arena) (now scratch) c × BehindAfforded (now tree) (now text) c r ⌝ }
+    requires { ⌜ IsKind (now tree) 18 r × IsKind (now tree) 11 e × (e ≡ wordOf (now tree) r 0) ⌝ }
+    ensures { λ a. ⌜ StatesAs callStatementSteps c r (now (tree .entry)) (now (text .entry)) (now (arena .entry)) (now (scratch .entry)) a (now (arena .exit)) (now (scratch .exit)) ⌝ }
+{
+    let scope = c.scope;
+    match resolve_call(tree, text, scratch, c.functions, scope, e) {
+        Resolved::Refused(x) => Stated::Refused(x),
+        Resolved::Cast(_) => Stated::Refused(refusal(ConvertErrorKind::WouldPanic, r)),
+        Resolved::Function(f) => call_only(tree, text, arena, scratch, c, e, f),
+    }
+}
+
+// The call statement r: an expression that is no call is typed and never converted.
+pub(crate) fn convert_call(
+    tree: &[u8],
+    text: &[u8],
+    arena: &mut [u8],
+    scratch: &mut [u8],
+    c: Converter,
+    r: usize,
+) -> Stated
+    requires { ⌜ Converting (now tree) (now text) (now arena) (now scratch) c × BehindAfforded (now tree) (now text) c r ⌝ }
+    requires { ⌜ IsKind (now tree) 18 r ⌝ }
+    ensures { λ a. ⌜ StatesAs callStatementSteps c r (now (tree .entry)) (now (text .entry)) (now (arena .entry)) (now (scratch .entry)) a (now (arena .exit)) (now (scratch .exit)) ⌝ }
+{
+    let scope = c.scope;
+    let k = c.counters;
+    let e = reference(tree, r, 0);
+    if kind(tree, e) == KIND_CALL {
+        return call_statement(tree, text, arena, scratch, c, r, e);
+    }
+    match get_type(tree, text, scratch, c.functions, scope, e) {
+        ExprType::Refused(x) => Stated::Refused(x),
+        ExprType::Is(_) => Stated::Done(scope, k),
+    }
+}
+
+// The Break r goes to the end of the innermost loop.
+pub(crate) fn convert_break(
+    tree: &[u8],
+    text: &[u8],
+    arena: &mut [u8],
+    scratch: &[u8],
+    c: Converter,
+    r: usize,
+) -> Stated
+    requires { ⌜ Converting (now tree) (now text) (now arena) (now scratch) c × BehindAfforded (now tree) (now text) c r ⌝ }
+    requires { ⌜ IsKind (now tree) 22 r ⌝ }
+    ensures { λ a. ⌜ StatesAs breakSteps c r (now (tree .entry)) (now (text .entry)) (now (arena .entry)) (now (scratch .entry)) a (now (arena .exit)) (now (scratch .entry)) ⌝ }
+{
+    let scope = c.scope;
+    let k = c.counters;
+    match scope.in_loop() {
+        InLoop::Outside => Stated::Refused(refusal(ConvertErrorKind::BreakOutOfLoop, r)),
+        InLoop::Of(l) => Stated::Done(scope, jump(arena, k, LOOP_END, l as usize)),
+    }
+}
+
+// The Continue r goes to the start of the innermost loop, which for a For is where it counts on.
+pub(crate) fn convert_continue(
+    tree: &[u8],
+    text: &[u8],
+    arena: &mut [u8],
+    scratch: &[u8],
+    c: Converter,
+    r: usize,
+) -> Stated
+    requires { ⌜ Converting (now tree) (now text) (now arena) (now scratch) c × BehindAfforded (now tree) (now text) c r ⌝ }
+    requires { ⌜ IsKind (now tree) 23 r ⌝ }
+    ensures { λ a. ⌜ StatesAs continueSteps c r (now (tree .entry)) (now (text .entry)) (now (arena .entry)) (now (scratch .entry)) a (now (arena .exit)) (now (scratch .entry)) ⌝ }
+{
+    let scope = c.scope;
+    let k = c.counters;
+    match scope.in_loop() {
+        InLoop::Outside => Stated::Refused(refusal(ConvertErrorKind::ContinueOutOfLoop, r)),
+        InLoop::Of(l) => Stated::Done(scope, jump(arena, k, LOOP_START, l as usize)),
+    }
+}
