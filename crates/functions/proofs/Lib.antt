@@ -4,3 +4,5 @@ pub mod ParameterLaws
 pub mod ParameterRegion
 pub mod ParameterRun
 pub mod Turns
+pub mod ReturnLaws
+pub mod BodyLaws

@@ -1,3 +1,5 @@
-// Krc's converter/functions.rs: all functions by key, `main`, and the parameters with which a function's body begins.
+// Krc's converter/functions.rs: all functions by key, `main`, and a function's parameters, body and entry.
+pub mod bodies;
 pub mod functions;
 pub mod parameters;
+pub mod returns;
