@@ -119,7 +119,7 @@ fn has_place(answer: Judged) -> bool
 }
 
 // Zero in every byte of the six outputs.
-fn clear_outputs(
+pub fn clear_outputs(
     instructions: &mut [u8],
     variables: &mut [u8],
     labels: &mut [u8],

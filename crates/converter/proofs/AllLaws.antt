@@ -1,0 +1,253 @@
+-- All functions converted one after the other: where the loop starts, one function more, a refusal, the end; and the definition's three steps in a row.
+-- What was asked equals what is left from the place at hand on, and what a function spends is taken from what all may add. Assumes nothing.
+use mathlib.Core.Path.{_≡_, refl, sym, ap, _∙_, subst}
+use Prim.Native.Nat.{ℕ, _+_, _*_, _≤_, _<_}
+use mathlib.Core.Bool.{Bool}
+use mathlib.Core.List.{List, [], _∷_, _++_}
+use native.Mathlib.Omega.{arith}
+use lib.ListN.{length}
+use Rattle.records.specs.Words.{wordAt, records}
+use Rattle.records.specs.Good.{Good}
+use Rattle.records.specs.declared.convert_error.ConvertError.{ConvertError}
+use Rattle.syntax.specs.Syntax.{Function}
+use Rattle.syntax.specs.Decode.{program}
+use Rattle.syntax.specs.Count.{functionRecords, allRecords}
+use Rattle.syntax.specs.Places.{functionOf}
+use Rattle.syntax.proofs.Held.{functions-records}
+use Rattle.syntax.proofs.Judged.{judged-complete, judged-once}
+use Rattle.conversion.specs.ConvertError.{Result, ok, err, _>>=_}
+use Rattle.conversion.specs.Ir.{IrFunction}
+use Rattle.conversion.specs.Functions.{Pool, get-all-functions, check-main, convert-func}
+use Rattle.conversion.specs.Converter.{convertAll, convert}
+use Rattle.conversion.specs.Written.{bytesOf, word, wide, encodeAll, encodeFields, encodeInstr, encodeVar, encodeLabel, encodeFunctions, encodeString, encodeFloat, allCode, allVars, allLabels}
+use Rattle.ir.specs.declared.structs.Counters.{Counters}
+use Rattle.ir.specs.Arena.{Table, All, Holds, Room}
+use Rattle.keys.specs.Keys.{allKeys, Keyed}
+use Rattle.keys.proofs.KeyLaws.{from, from-start, from-one, from-end}
+use Rattle.keys.proofs.KeySearch.{records-most}
+use Rattle.expressions.specs.declared.answers.Outcome.{Outcome}
+use Rattle.expressions.specs.declared.answers.Outcome.the-variants as Outcome
+use Rattle.expressions.specs.Answers.{refusal, outcomeOf}
+use Rattle.statements.specs.declared.answers.Finished.{Finished}
+use Rattle.statements.specs.declared.answers.Finished.the-variants as Finished
+use Rattle.statements.specs.Converting.{Stays}
+use Rattle.statements.proofs.StayLaws.{listed-word}
+use Rattle.functions.specs.declared.functions.AllFunctions.{AllFunctions}
+use Rattle.functions.specs.declared.functions.AllFunctions.the-variants as AllFunctions
+use Rattle.functions.specs.Functions.{AllMeet, done, refused}
+use Rattle.functions.proofs.Listing.{listed-length}
+use Rattle.functions.specs.Bodies.{begun, FunctionsAfforded, FunctionSpent, FunctionStands, FunctionDone, ConvertsFunction}
+use Rattle.converter.specs.Convert.{emptyPool, ProgramStands, ConvertsTo, allFunctions, emptyCounters}
+
+-- ---- no tables yet
+
+no-entries : {X : Type 0} (f : X → List ℕ) (w at : ℕ) (l : List ℕ) → ((x : X) → length (f x) ≡ w) → Table f w [] at 0 l
+unfolding encodeAll
+no-entries f w at l h = record { bytes = record { is = refl }; width = h; count = refl }
+
+pub nothing-held : (text : List ℕ) (n : ℕ) (l : List ℕ) → Holds text (begun [] emptyPool) (emptyCounters n) l
+unfolding allCode allVars allLabels encodeFunctions encodeInstr encodeFields encodeVar encodeLabel encodeString encodeFloat word wide bytesOf All
+nothing-held text n l = record {
+  instructions-hold = no-entries encodeInstr 32 (0 * n) l (λ x. refl);
+  variables-hold = no-entries encodeVar 4 (128 * n) l (λ x. refl);
+  labels-hold = no-entries encodeLabel 8 (140 * n) l (λ x. refl);
+  functions-hold = record { is = refl };
+  strings-hold = no-entries encodeString 8 (196 * n) l (λ x. refl);
+  floats-hold = no-entries encodeFloat 16 (204 * n) l (λ x. refl);
+  before = record { functions-count = refl; instructions-before = refl; variables-before = refl; labels-before = refl };
+  fits = record { labels-fit = tt; strings-stand = tt; floats-fit = tt };
+}
+
+-- ---- the functions by key stay
+
+pub keyed-stays : {tree text s s′ : List ℕ} {count names operands : ℕ} → Stays (records tree) names operands s s′ → Keyed tree text s count → Keyed tree text s′ count
+keyed-stays {tree = tree} f k = record {
+  good = k .good;
+  distinct = k .distinct;
+  listed = record {
+    room = omega (arith, k .listed .room, f .long);
+    counted = k .listed .counted;
+    listed = λ j h. listed-word tree f (4 * j) (omega (arith, k .listed .counted, records-most tree (records tree))) ∙ k .listed .listed j h;
+  };
+}
+
+-- ---- the loop
+
+-- j functions are converted: they stand in the arena l, and what was asked is what is left; l₀ and s₀ are arena and scratch at the start
+pub record SoFar (tree text l₀ s₀ : List ℕ) (count : ℕ) (k : Counters) (j : ℕ) (l s : List ℕ) : Type 0 where
+  pub converted : List IrFunction
+  pub pool : Pool
+  pub keyed : Keyed tree text s count
+  pub below : j ≤ count
+  pub records-are : k .records ≡ records tree
+  pub room : Room k l
+  pub affords : FunctionsAfforded k (allRecords (from tree text j))
+  pub holds : Holds text (begun converted pool) k l
+  pub asked : allFunctions tree text ≡ convertAll (program tree text) (allKeys tree text) (from tree text j) converted pool
+  pub long : length l ≡ length l₀
+  pub scratch-long : length s ≡ length s₀
+
+-- the functions are made of no more records than the tree has
+all-afforded : (tree text : List ℕ) → Good tree text → allRecords (from tree text 0) ≤ records tree
+unfolding program
+all-afforded tree text good =
+    subst (λ (fs : List Function). allRecords fs ≤ records tree) (from-start tree text)
+    (functions-records tree text (records tree) (judged-complete tree text (good .ok)) (judged-once tree text (good .ok)))
+
+pub all-start : (tree text l s : List ℕ) (count : ℕ) (k : Counters) → Keyed tree text s count → 320 * records tree ≤ length l → k ≡ emptyCounters (records tree)
+    → SoFar tree text l s count k 0 l s
+all-start tree text l s count k keyed room e =
+    let few = keyed .good .few in
+    let all = all-afforded tree text (keyed .good) in
+    subst (λ (x : Counters). SoFar tree text l s count x 0 l s) (sym e) (record {
+      converted = [];
+      pool = emptyPool;
+      keyed = keyed;
+      below = omega arith;
+      records-are = refl;
+      room = omega (arith, room, few);
+      affords = record { tables = omega (arith, all); functions = omega (arith, all) };
+      holds = nothing-held text (records tree) l;
+      asked = ap (λ (fs : List Function). convertAll (program tree text) (allKeys tree text) fs [] emptyPool) (from-start tree text);
+      long = refl;
+      scratch-long = refl;
+    })
+
+module _ (tree text l₀ s₀ : List ℕ) (count : ℕ) (k : Counters) (j : ℕ) (l s : List ℕ) (w : SoFar tree text l₀ s₀ count k j l s) where
+  pub few-functions : count ≤ 2048
+  few-functions = omega (arith, w .keyed .listed .counted, records-most tree (records tree), w .keyed .good .few)
+
+  module _ (h : j < count) (f : ℕ) (is : f ≡ wordAt s (4 * j)) where
+    -- the function at hand, and those behind it
+    one-more : from tree text j ≡ functionOf tree text f ∷ from tree text (j + 1)
+    one-more = from-one tree text j (omega (arith, w .keyed .listed .counted))
+        ∙ ap (λ (r : ℕ). functionOf tree text r ∷ from tree text (j + 1)) (sym (is ∙ w .keyed .listed .listed j h))
+
+    records-left : allRecords (from tree text j) ≡ functionRecords (functionOf tree text f) + allRecords (from tree text (j + 1))
+    unfolding allRecords
+    records-left = ap allRecords one-more
+
+    pub one-afforded : FunctionsAfforded k (functionRecords (functionOf tree text f))
+    one-afforded = record { tables = omega (arith, w .affords .tables, records-left); functions = omega (arith, w .affords .functions, records-left) }
+
+    -- what is asked, by what the function at hand gives
+    asked-next : allFunctions tree text ≡ (convert-func (program tree text) (allKeys tree text) (functionOf tree text f) (w .pool)
+        >>= λ q. convertAll (program tree text) (allKeys tree text) (from tree text (j + 1)) (w .converted ++ (q .0 ∷ [])) (q .1))
+    unfolding convertAll
+    asked-next = w .asked ∙ ap (λ (fs : List Function). convertAll (program tree text) (allKeys tree text) fs (w .converted) (w .pool)) one-more
+
+    module _ (a : Finished) (l′ s′ : List ℕ) (m : ConvertsFunction tree text f k l s a l′ s′) where
+      spent-left : (k′ : Counters) → FunctionSpent k k′ (functionRecords (functionOf tree text f)) → FunctionsAfforded k′ (allRecords (from tree text (j + 1)))
+      unfolding functionRecords
+      spent-left k′ p = record {
+        tables = omega (arith, w .affords .tables, records-left, p);
+        functions = omega (arith, w .affords .functions, records-left, p .functions, p .records);
+      }
+
+      next-by : (k′ : Counters) → FunctionDone tree text f k l k′ l′ → (x : Result (IrFunction × Pool))
+          → convert-func (program tree text) (allKeys tree text) (functionOf tree text f) (w .pool) ≡ x → FunctionStands x (w .converted) text k′ l′
+          → SoFar tree text l₀ s₀ count k′ (j + 1) l′ s′
+      unfolding FunctionStands _>>=_
+      next-by k′ d (ok q) e stands = record {
+        converted = w .converted ++ (q .0 ∷ []);
+        pool = q .1;
+        keyed = keyed-stays (m .stays) (w .keyed);
+        below = omega arith;
+        records-are = d .spent .records ∙ w .records-are;
+        room = d .room;
+        affords = spent-left k′ (d .spent);
+        holds = stands;
+        asked = asked-next ∙ ap (λ (x : Result (IrFunction × Pool)). x >>= λ y. convertAll (program tree text) (allKeys tree text) (from tree text (j + 1)) (w .converted ++ (y .0 ∷ [])) (y .1)) e;
+        long = m .long ∙ w .long;
+        scratch-long = m .stays .long ∙ w .scratch-long;
+      }
+      next-by k′ d (err e r) q stands = absurd stands
+
+      pub all-next : (k′ : Counters) → a ≡ Finished.Done k′ → SoFar tree text l₀ s₀ count k′ (j + 1) l′ s′
+      all-next k′ e =
+          let d = m .gives k′ e in
+          next-by k′ d (convert-func (program tree text) (allKeys tree text) (functionOf tree text f) (w .pool)) refl (d .stands (w .converted) (w .pool) (w .holds))
+
+      pub all-refused : (e : ConvertError) → a ≡ Finished.Refused e → ConvertsTo tree text (allFunctions tree text) l₀ s₀ (Finished.Refused e) l′ s′
+      unfolding _>>=_
+      all-refused e q = record {
+        long = m .long ∙ w .long;
+        scratch-long = m .stays .long ∙ w .scratch-long;
+        gives = λ k′ z. absurd (let y : _≡_ {A = ℕ} 0 1 = cc in omega arith);
+        stops = λ x z. let y : a ≡ Finished.Refused x = cc in
+            asked-next ∙ ap (λ (r : Result (IrFunction × Pool)). r >>= λ y. convertAll (program tree text) (allKeys tree text) (from tree text (j + 1)) (w .converted ++ (y .0 ∷ [])) (y .1))
+            (m .stops x y (w .converted) (w .pool) (w .holds));
+      }
+
+  program-stands : count ≤ j → ProgramStands text (records tree) (allFunctions tree text) k l
+  unfolding convertAll
+  program-stands h = record {
+    result = record { funcs = w .converted; strings = w .pool .strings; floats = w .pool .floats };
+    converts = w .asked
+        ∙ ap (λ (fs : List Function). convertAll (program tree text) (allKeys tree text) fs (w .converted) (w .pool)) (from-end tree text j (omega (arith, w .keyed .listed .counted)));
+    records-are = w .records-are;
+    room = w .room;
+    holds = w .holds;
+  }
+
+  pub all-end : count ≤ j → ConvertsTo tree text (allFunctions tree text) l₀ s₀ (Finished.Done k) l s
+  all-end h = record {
+    long = w .long;
+    scratch-long = w .scratch-long;
+    gives = λ k′ z. let y : k ≡ k′ = cc in subst (λ (x : Counters). ProgramStands text (records tree) (allFunctions tree text) x l) y (program-stands h);
+    stops = λ e z. absurd (let y : _≡_ {A = ℕ} 0 1 = cc in omega arith);
+  }
+
+-- ---- the three steps of `convert`
+
+module _ (tree text s s₁ : List ℕ) (r : AllFunctions) (m : AllMeet tree text s s₁ r) where
+  -- what `get_all_functions` answered
+  keys-refused : (e : ConvertError) → r ≡ AllFunctions.Refused e → get-all-functions (program tree text .functions) [] ≡ refusal e
+  keys-refused e q = go r m q
+    where
+      go : (x : AllFunctions) → AllMeet tree text s s₁ x → x ≡ AllFunctions.Refused e → get-all-functions (program tree text .functions) [] ≡ refusal e
+      go x (done p k) z = absurd (let y : _≡_ {A = ℕ} 0 1 = cc in omega arith)
+      go x (refused {e = f} p g) z = let y : f ≡ e = cc in g ∙ ap refusal y
+
+  pub keys-done : (count : ℕ) → r ≡ AllFunctions.Done count → Keyed tree text s₁ count
+  keys-done count q = go r m q
+    where
+      go : (x : AllFunctions) → AllMeet tree text s s₁ x → x ≡ AllFunctions.Done count → Keyed tree text s₁ count
+      go x (done {count = n} p k) z = let y : n ≡ count = cc in subst (Keyed tree text s₁) y k
+      go x (refused p g) z = absurd (let y : _≡_ {A = ℕ} 0 1 = cc in omega arith)
+
+  module _ (good : Good tree text) (room : 64 * records tree ≤ length s) where
+    pub listed-long : length s₁ ≡ length s
+    listed-long = go r m
+      where
+        go : (x : AllFunctions) → AllMeet tree text s s₁ x → length s₁ ≡ length s
+        go x (done p k) = ap length p ∙ listed-length tree text s good room
+        go x (refused p g) = ap length p ∙ listed-length tree text s good room
+
+    module _ (needsMain : Bool) where
+      pub tree-unkeyed : (l : List ℕ) (e : ConvertError) → r ≡ AllFunctions.Refused e → ConvertsTo tree text (convert (program tree text) needsMain) l s (Finished.Refused e) l s₁
+      unfolding convert _>>=_ refusal
+      tree-unkeyed l e q = record {
+        long = refl;
+        scratch-long = listed-long;
+        gives = λ k z. absurd (let y : _≡_ {A = ℕ} 0 1 = cc in omega arith);
+        stops = λ x z. let y : e ≡ x = cc in rw (keys-refused e q, y);
+      }
+
+      module _ (count : ℕ) (q : r ≡ AllFunctions.Done count) (o : Outcome) (c : check-main (program tree text) needsMain ≡ outcomeOf o) where
+        pub tree-mainless : (l : List ℕ) (e : ConvertError) → o ≡ Outcome.Refused e → ConvertsTo tree text (convert (program tree text) needsMain) l s (Finished.Refused e) l s₁
+        unfolding convert _>>=_ outcomeOf refusal
+        tree-mainless l e p = record {
+          long = refl;
+          scratch-long = listed-long;
+          gives = λ k z. absurd (let y : _≡_ {A = ℕ} 0 1 = cc in omega arith);
+          stops = λ x z. let y : o ≡ Outcome.Refused x = cc in rw (keys-done count q .distinct, c ∙ ap outcomeOf y);
+        }
+
+        all-asked : o ≡ Outcome.Done → convert (program tree text) needsMain ≡ allFunctions tree text
+        unfolding convert _>>=_ outcomeOf
+        all-asked p = rw (keys-done count q .distinct, c ∙ ap outcomeOf p)
+
+        pub tree-all : o ≡ Outcome.Done → (l l′ s′ : List ℕ) (a : Finished) → ConvertsTo tree text (allFunctions tree text) l s₁ a l′ s′
+            → ConvertsTo tree text (convert (program tree text) needsMain) l s a l′ s′
+        tree-all p l l′ s′ a m = rw (all-asked p) (record { long = m .long; scratch-long = m .scratch-long ∙ listed-long; gives = m .gives; stops = m .stops })

@@ -1,0 +1,87 @@
+-- A good tree is converted as the definition converts its program: the functions by key, `main`, then each function.
+-- The laws of the three steps; a refusal of one is the definition's. Assumes nothing.
+use borrow.Author.Needs.{needs}
+use Rattle.converter.proofs.AllLaws.{keys-done, tree-unkeyed, tree-mainless, tree-all}
+use Rattle.converter.proofs.convert_tree.Statement.{statement}
+use Rattle.converter.proofs.convert_tree.Tie as tie
+
+get-all-functions-requires : tie.Need-get-all-functions-requires
+get-all-functions-requires c κs = search needs
+
+enum-known-e : tie.Need-enum-known-e
+enum-known-e c = search needs
+
+enum-known-count : tie.Need-enum-known-count
+enum-known-count c = search needs
+
+check-main-requires : tie.Need-check-main-requires
+check-main-requires c κs =
+    let all = c .before .before .before .before .before .before in
+    (all .before .before .before .before .before .before .pre .0, keys-done _ _ _ _ _ (all .get-all-functions .ensures) _ (c .before .before .count .given .1) .listed)
+
+enum-known-e-2 : tie.Need-enum-known-e-2
+enum-known-e-2 c = search needs
+
+enum-told : tie.Need-enum-told
+enum-told c = search needs
+
+convert-all-requires : tie.Need-convert-all-requires
+convert-all-requires c κs =
+    let all = c .before .before .before .before .before .before .before .before .before .before .before in
+    (keys-done _ _ _ _ _ (all .get-all-functions .ensures) _ (c .before .before .before .before .before .before .before .count .given .1), all .before .before .before .before .before .before .pre .1)
+
+same-length : tie.Need-same-length
+same-length c = search needs
+
+returns : tie.Need-returns
+returns c =
+    let all = c .before .before .before .before .before in
+    let first = all .before .before .before .before .before .before in
+    tree-unkeyed _ _ _ _ _ (all .get-all-functions .ensures) (first .pre .0) (first .pre .2) _ _ _ (c .before .e .given .1)
+
+same-length-2 : tie.Need-same-length-2
+same-length-2 c = search needs
+
+returns-2 : tie.Need-returns-2
+returns-2 c =
+    let main = c .before .before .before in
+    let known = main .before .before .before in
+    let all = known .before .before .before .before in
+    let first = all .before .before .before .before .before .before in
+    tree-mainless _ _ _ _ _ (all .get-all-functions .ensures) (first .pre .0) (first .pre .2) _ _ (known .count .given .1) _ (main .check-main .ensures) _ _ (c .before .e2 .given .1)
+
+same-length-3 : tie.Need-same-length-3
+same-length-3 c = search needs
+
+same-length-4 : tie.Need-same-length-4
+same-length-4 c = search needs
+
+returns-3 : tie.Need-returns-3
+returns-3 c =
+    let made = c .before .before .before .before in
+    let told = made .before .before .before in
+    let main = told .before .before in
+    let known = main .before .before .before in
+    let all = known .before .before .before .before in
+    let first = all .before .before .before .before .before .before in
+    tree-all _ _ _ _ _ (all .get-all-functions .ensures) (first .pre .0) (first .pre .2) _ _ (known .count .given .1) _ (main .check-main .ensures) (told .enum-told .given .1) _ _ _ _
+    (made .convert-all .ensures)
+
+pub convert-tree-spec : {M : Type 1} → statement M
+convert-tree-spec =
+    tie.close
+    (tie.spec
+    get-all-functions-requires
+    enum-known-e
+    enum-known-count
+    check-main-requires
+    enum-known-e-2
+    enum-told
+    convert-all-requires
+    same-length
+    returns
+    same-length-2
+    returns-2
+    same-length-3
+    same-length-4
+    returns-3)

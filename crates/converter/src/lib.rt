@@ -1,0 +1,225 @@
+// The call: a tree of any bytes is judged, and a good one is converted. Krc's converter/converter.rs.
+ghost use mathlib.Core.Path.{_≡_};
+ghost use Prim.Native.Nat.{_*_, _≤_};
+ghost use lib.ListN.{length};
+ghost use Rattle.records.specs.Words.{records};
+ghost use Rattle.records.specs.Good.{Good};
+ghost use Rattle.syntax.specs.Decode.{program};
+ghost use Rattle.conversion.specs.Converter as Krc;
+ghost use Rattle.keys.specs.Keys.{Keyed};
+ghost use Rattle.judge.specs.Judge.{buffers};
+ghost use Rattle.demands.specs.Demands.{AsTheRust};
+ghost use Rattle.converter.specs.Convert.{ConvertsTo, allFunctions, emptyCounters, countsIn, answerFrom, outputs, Lent, CutAfforded, FinishesIn, Promised};
+use expressions::answers::Outcome;
+use functions::bodies::convert_func;
+use functions::functions::AllFunctions;
+use functions::functions::check_main;
+use functions::functions::get_all_functions;
+use ir::cut::cut_tables;
+use ir::structs::Counters;
+use judge::Judged;
+use judge::clear;
+use judge::clear_outputs;
+use judge::judge;
+use keys::keys::function_at;
+use records::convert_error::ConvertError;
+use statements::answers::Finished;
+
+// How many entries each table has.
+pub struct Counts {
+    pub functions: usize,
+    pub instructions: usize,
+    pub variables: usize,
+    pub labels: usize,
+    pub strings: usize,
+    pub floats: usize,
+}
+
+pub enum Answer {
+    Converted(Counts),
+    Refused(ConvertError),
+}
+
+// Empty tables, for a tree of so many records.
+fn empty_tables(records: usize) -> Counters
+    ensures { λ k. ⌜ k ≡ emptyCounters records ⌝ }
+{
+    Counters {
+        records,
+        instructions: 0,
+        variables: 0,
+        labels: 0,
+        functions: 0,
+        strings: 0,
+        floats: 0,
+        instructions_before: 0,
+        variables_before: 0,
+        labels_before: 0,
+    }
+}
+
+fn counts_of(k: Counters) -> Counts
+    ensures { λ c. ⌜ c ≡ countsIn k ⌝ }
+{
+    Counts {
+        functions: k.functions,
+        instructions: k.instructions,
+        variables: k.variables,
+        labels: k.labels,
+        strings: k.strings,
+        floats: k.floats,
+    }
+}
+
+// The functions in their order, the first `count` words of scratch.
+fn convert_all(
+    tree: &[u8],
+    text: &[u8],
+    arena: &mut [u8],
+    scratch: &mut [u8],
+    count: usize,
+) -> Finished
+    requires { ⌜ Keyed (now tree) (now text) (now scratch) count × (320 * records (now tree) ≤ length (now arena)) ⌝ }
+    ensures { λ a. ⌜ ConvertsTo (now (tree .entry)) (now (text .entry)) (allFunctions (now (tree .entry)) (now (text .entry))) (now (arena .entry)) (now (scratch .entry)) a (now (arena .exit)) (now (scratch .exit)) ⌝ }
+{
+    let mut k = empty_tables(tree.len() / 32);
+    let mut j = 0;
+    while j < count {
+        let f = function_at(tree, scratch, count, j);
+        match convert_func(tree, text, arena, scratch, count, k, f) {
+            Finished::Refused(e) => return Finished::Refused(e),
+            Finished::Done(next) => k = next,
+        }
+        j += 1;
+    }
+    Finished::Done(k)
+}
+
+// A good tree, whose tables stand in the arena afterwards.
+fn convert_tree(
+    tree: &[u8],
+    text: &[u8],
+    needs_main: bool,
+    arena: &mut [u8],
+    scratch: &mut [u8],
+) -> Finished
+    requires { ⌜ Good (now tree) (now text) × (320 * records (now tree) ≤ length (now arena)) × (64 * records (now tree) ≤ length (now scratch)) ⌝ }
+    ensures { λ a. ⌜ ConvertsTo (now (tree .entry)) (now (text .entry)) (Krc.convert (program (now (tree .entry)) (now (text .entry))) «needs_main») (now (arena .entry)) (now (scratch .entry)) a (now (arena .exit)) (now (scratch .exit)) ⌝ }
+{
+    match get_all_functions(tree, text, scratch) {
+        AllFunctions::Refused(e) => Finished::Refused(e),
+        AllFunctions::Done(count) => {
+            match check_main(tree, text, scratch, count, needs_main) {
+                Outcome::Refused(e) => Finished::Refused(e),
+                Outcome::Done => convert_all(tree, text, arena, scratch, count),
+            }
+        }
+    }
+}
+
+// What is left in the outputs: each table in its own, or zero everywhere.
+fn finish(
+    done: Finished,
+    instructions: &mut [u8],
+    variables: &mut [u8],
+    labels: &mut [u8],
+    functions: &mut [u8],
+    strings: &mut [u8],
+    floats: &mut [u8],
+) -> Answer
+    requires { ⌜ CutAfforded done (outputs (now instructions) (now variables) (now labels) (now functions) (now strings) (now floats)) ⌝ }
+    ensures { λ a. ⌜ FinishesIn done a (outputs (now (instructions .entry)) (now (variables .entry)) (now (labels .entry)) (now (functions .entry)) (now (strings .entry)) (now (floats .entry))) (outputs (now (instructions .exit)) (now (variables .exit)) (now (labels .exit)) (now (functions .exit)) (now (strings .exit)) (now (floats .exit))) ⌝ }
+{
+    match done {
+        Finished::Refused(e) => {
+            clear_outputs(instructions, variables, labels, functions, strings, floats);
+            Answer::Refused(e)
+        }
+        Finished::Done(k) => {
+            cut_tables(
+                instructions,
+                k,
+                variables,
+                labels,
+                functions,
+                strings,
+                floats,
+            );
+            Answer::Converted(counts_of(k))
+        }
+    }
+}
+
+// A good tree: its tables are cut out of the arena, which is the instructions' buffer, and scratch is left zero.
+fn convert_good(
+    tree: &[u8],
+    text: &[u8],
+    needs_main: bool,
+    instructions: &mut [u8],
+    variables: &mut [u8],
+    labels: &mut [u8],
+    functions: &mut [u8],
+    strings: &mut [u8],
+    floats: &mut [u8],
+    scratch: &mut [u8],
+) -> Answer
+    requires { ⌜ Good (now tree) (now text) ⌝ }
+    requires { ⌜ Lent (records (now tree)) (buffers (now instructions) (now variables) (now labels) (now functions) (now strings) (now floats) (now scratch)) ⌝ }
+    ensures { λ a. ⌜ AsTheRust (now (tree .entry)) (now (text .entry)) «needs_main» (buffers (now (instructions .entry)) (now (variables .entry)) (now (labels .entry)) (now (functions .entry)) (now (strings .entry)) (now (floats .entry)) (now (scratch .entry))) (answerFrom (now (tree .entry)) a) (buffers (now (instructions .exit)) (now (variables .exit)) (now (labels .exit)) (now (functions .exit)) (now (strings .exit)) (now (floats .exit)) (now (scratch .exit))) ⌝ }
+{
+    let done = convert_tree(tree, text, needs_main, instructions, scratch);
+    clear(scratch);
+    finish(
+        done,
+        instructions,
+        variables,
+        labels,
+        functions,
+        strings,
+        floats,
+    )
+}
+
+// Converts a tree. A refusal by lengths or buffers writes nothing, any other leaves every buffer zero; a converted tree leaves each table
+// at the start of its buffer and zero everywhere else.
+pub fn convert(
+    tree: &[u8],
+    text: &[u8],
+    needs_main: bool,
+    instructions: &mut [u8],
+    variables: &mut [u8],
+    labels: &mut [u8],
+    functions: &mut [u8],
+    strings: &mut [u8],
+    floats: &mut [u8],
+    scratch: &mut [u8],
+) -> Answer
+    ensures { λ a. ⌜ Promised (now (tree .entry)) (now (text .entry)) «needs_main» (buffers (now (instructions .entry)) (now (variables .entry)) (now (labels .entry)) (now (functions .entry)) (now (strings .entry)) (now (floats .entry)) (now (scratch .entry))) a (buffers (now (instructions .exit)) (now (variables .exit)) (now (labels .exit)) (now (functions .exit)) (now (strings .exit)) (now (floats .exit)) (now (scratch .exit))) ⌝ }
+{
+    let judged = judge(
+        tree,
+        text,
+        instructions,
+        variables,
+        labels,
+        functions,
+        strings,
+        floats,
+        scratch,
+    );
+    if let Judged::Refused(e) = judged {
+        return Answer::Refused(e);
+    }
+    convert_good(
+        tree,
+        text,
+        needs_main,
+        instructions,
+        variables,
+        labels,
+        functions,
+        strings,
+        floats,
+        scratch,
+    )
+}
