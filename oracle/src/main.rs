@@ -6,13 +6,14 @@ use std::process::ExitCode;
 use std::{env, fs};
 
 use oracle::convert::try_convert;
+use oracle::generate::call_list;
 use oracle::generate::list::{bytes, cases};
 use oracle::source::source_text;
 use oracle::tree::Tree;
 use oracle::{Answer, classes, generate, judge, needed, show};
 
 const USAGE: &str = "oracle judge TREE TEXT | convert TREE TEXT [--main] [--long] | show TREE TEXT [--main] |
-    gen SEED CLASS DIR | count N SEED [CLASS] | list judge SEED N FILE | classes";
+    gen SEED CLASS DIR | count N SEED [CLASS] | list judge SEED N FILE | list convert SEED N FILE VECTORS | classes";
 
 /// What document 01's program takes at most.
 const MOST_TREE_BYTES: usize = 6400;
@@ -78,8 +79,10 @@ fn count(n: &str, seed: &str, class: Option<&str>) -> Result<(), String> {
     let (n, seed) = (number(n)?, number(seed)?);
     let mut numbers: BTreeMap<u32, u64> = BTreeMap::new();
     for at in 0..n {
+        // Each class takes the seeds one by one, so that what a class does in turn comes up whole.
+        let turn = if class.is_some() { at } else { at / classes().len() as u64 };
         let class = class.unwrap_or(classes()[at as usize % classes().len()]);
-        let case = generate(seed.wrapping_mul(1_000_003).wrapping_add(at), class);
+        let case = generate(seed.wrapping_mul(1_000_003).wrapping_add(turn), class);
         let answer = try_convert(&case.tree, &case.text, case.needs_main, case.lens)
             .map_err(|message| format!("internal error: {}: {message}", case.label))?;
         *numbers.entry(answer.number()).or_default() += 1;
@@ -105,6 +108,23 @@ fn list(seed: &str, n: &str, file: &str) -> Result<(), String> {
     fs::write(file, bytes).map_err(|err| format!("{file}: {err}"))
 }
 
+/// The list for the whole call, with all trees of a file of vectors.
+fn list_convert(seed: &str, n: &str, file: &str, vectors: &str) -> Result<(), String> {
+    let vectors = fs::read_to_string(vectors).map_err(|err| format!("{vectors}: {err}"))?;
+    let cases = call_list::cases(number(seed)?, number(n)? as usize, &vectors)?;
+    let bytes = call_list::bytes(&cases)?;
+    let mut numbers: BTreeMap<u32, u32> = BTreeMap::new();
+    for case in &cases {
+        let answer = try_convert(&case.tree, &case.text, case.needs_main, case.lens)?;
+        *numbers.entry(answer.number()).or_default() += 1;
+    }
+    println!("{} cases, {} bytes", cases.len(), bytes.len());
+    for (number, count) in numbers {
+        println!("{number:2} {count}");
+    }
+    fs::write(file, bytes).map_err(|err| format!("{file}: {err}"))
+}
+
 fn run(args: &[&str]) -> Result<(), String> {
     match args {
         ["judge", tree, text] => judge_files(tree, text),
@@ -114,6 +134,7 @@ fn run(args: &[&str]) -> Result<(), String> {
         ["count", n, seed] => count(n, seed, None),
         ["count", n, seed, class] => count(n, seed, Some(class)),
         ["list", "judge", seed, n, file] => list(seed, n, file),
+        ["list", "convert", seed, n, file, vectors] => list_convert(seed, n, file, vectors),
         ["classes"] => {
             println!("{}", classes().join(" "));
             Ok(())

@@ -1,6 +1,13 @@
-//! Safe calls of Rudderplum's proved library, which judges trees of records.
+//! Safe calls of Rudderplum's proved library: a tree of records is judged, and a good one is converted to flat bodies.
 //!
-//! A call lends its buffers. What each of them holds afterwards is proved: see `judge`.
+//! `convert` brings its own buffers and hands the tables back as typed entries. `convert_into` and `judge_into` take lent
+//! buffers; what each of them holds afterwards is proved.
+
+mod error;
+mod tables;
+
+pub use error::{ErrorKind, Refusal};
+pub use tables::{Float, Function, Instruction, Kind, Label, LabelKind, Operand, Str, Tables};
 
 /// Bytes of a record.
 pub const RECORD_BYTES: usize = 32;
@@ -12,10 +19,9 @@ pub const BYTES_PER_RECORD: [usize; 7] = [320, 12, 24, 32, 8, 32, 64];
 pub const FEWEST_RECORDS: usize = 12;
 pub const MOST_RECORDS: usize = 2048;
 
-/// Bytes of an answer: four little-endian words of 32 bits.
-pub const ANSWER_BYTES: usize = 16;
-
-const NONE: u32 = u32::MAX;
+/// Bytes of the judge's answer, four little-endian words of 32 bits, and of a conversion's, eight.
+pub const JUDGE_ANSWER_BYTES: usize = 16;
+pub const ANSWER_BYTES: usize = 32;
 
 mod linked {
     unsafe extern "C" {
@@ -24,6 +30,30 @@ mod linked {
             tree_len: usize,
             text: *const u8,
             text_len: usize,
+            instructions: *mut u8,
+            instructions_len: usize,
+            variables: *mut u8,
+            variables_len: usize,
+            labels: *mut u8,
+            labels_len: usize,
+            functions: *mut u8,
+            functions_len: usize,
+            strings: *mut u8,
+            strings_len: usize,
+            floats: *mut u8,
+            floats_len: usize,
+            scratch: *mut u8,
+            scratch_len: usize,
+            answer: *mut u8,
+            answer_len: usize,
+        ) -> u32;
+
+        pub fn rudderplum_convert(
+            tree: *const u8,
+            tree_len: usize,
+            text: *const u8,
+            text_len: usize,
+            needs_main: u32,
             instructions: *mut u8,
             instructions_len: usize,
             variables: *mut u8,
@@ -55,18 +85,23 @@ pub struct Buffers<'a> {
     pub scratch: &'a mut [u8],
 }
 
-/// Why a tree is refused: the number, the record at fault, and that record's span.
-#[derive(Clone, Copy, Debug, PartialEq, Eq)]
-pub struct Refusal {
-    pub number: u32,
-    pub place: Option<u32>,
-    pub start: u32,
-    pub end: u32,
-}
-
 /// How long each buffer has to be for a tree of so many bytes.
 pub fn needed(tree_len: usize) -> [usize; 7] {
     BYTES_PER_RECORD.map(|bytes| bytes * (tree_len / RECORD_BYTES))
+}
+
+/// Converts a tree of any bytes; `needs_main` refuses a program without a `main`.
+pub fn convert(tree: &[u8], text: &[u8], needs_main: bool) -> Result<Tables, Refusal> {
+    // A tree above the limit is refused before any buffer is looked at.
+    let lens = if tree.len() / RECORD_BYTES > MOST_RECORDS { [0; 7] } else { needed(tree.len()) };
+    let mut owned = lens.map(|len| vec![0; len]);
+    let [instructions, variables, labels, functions, strings, floats, scratch] = &mut owned;
+    let buffers = Buffers { instructions, variables, labels, functions, strings, floats, scratch };
+    let mut answer = [0; ANSWER_BYTES];
+    convert_into(tree, text, needs_main, buffers, &mut answer);
+    let counts = read_conversion(&answer)?;
+    let [instructions, variables, labels, functions, strings, floats, _] = owned;
+    Ok(Tables::new(counts, [functions, instructions, variables, labels, strings, floats]))
 }
 
 /// Judges a tree of any bytes.
@@ -74,7 +109,7 @@ pub fn needed(tree_len: usize) -> [usize; 7] {
 /// Accepted: scratch is zero, the six outputs are as found. Refused with a place: scratch and outputs are zero. Refused
 /// without a place: nothing was written.
 pub fn judge(tree: &[u8], text: &[u8], buffers: Buffers) -> Result<(), Refusal> {
-    let mut answer = [0; ANSWER_BYTES];
+    let mut answer = [0; JUDGE_ANSWER_BYTES];
     judge_into(tree, text, buffers, &mut answer);
     read_answer(&answer)
 }
@@ -112,14 +147,59 @@ pub fn judge_into(tree: &[u8], text: &[u8], buffers: Buffers, answer: &mut [u8])
     wrote == 1
 }
 
-/// The answer that a call wrote.
-pub fn read_answer(answer: &[u8; ANSWER_BYTES]) -> Result<(), Refusal> {
-    let word = |at: usize| u32::from_le_bytes([answer[at], answer[at + 1], answer[at + 2], answer[at + 3]]);
-    match word(0) {
+/// Converts into lent buffers, with the answer as bytes: 0 and the counts of functions, instructions, variables, labels,
+/// strings and floats, and a zero; or number, place (FFFFFFFF for none), span start, span end, and zeros. Bytes past the
+/// 32nd stay as found. With a shorter answer nothing is written anywhere, and the result is false.
+///
+/// Converted: each table stands at the start of its buffer, with zeros behind it, and scratch is zero. Refused for its
+/// length or for short buffers (24 without a place, 26): nothing was written. Any other refusal: all seven are zero.
+pub fn convert_into(tree: &[u8], text: &[u8], needs_main: bool, buffers: Buffers, answer: &mut [u8]) -> bool {
+    let b = buffers;
+    // SAFETY: as for `judge_into`.
+    let wrote = unsafe {
+        linked::rudderplum_convert(
+            tree.as_ptr(),
+            tree.len(),
+            text.as_ptr(),
+            text.len(),
+            u32::from(needs_main),
+            b.instructions.as_mut_ptr(),
+            b.instructions.len(),
+            b.variables.as_mut_ptr(),
+            b.variables.len(),
+            b.labels.as_mut_ptr(),
+            b.labels.len(),
+            b.functions.as_mut_ptr(),
+            b.functions.len(),
+            b.strings.as_mut_ptr(),
+            b.strings.len(),
+            b.floats.as_mut_ptr(),
+            b.floats.len(),
+            b.scratch.as_mut_ptr(),
+            b.scratch.len(),
+            answer.as_mut_ptr(),
+            answer.len(),
+        )
+    };
+    wrote == 1
+}
+
+fn word(bytes: &[u8], at: usize) -> u32 {
+    u32::from_le_bytes([bytes[at], bytes[at + 1], bytes[at + 2], bytes[at + 3]])
+}
+
+/// The answer that a judging call wrote.
+pub fn read_answer(answer: &[u8; JUDGE_ANSWER_BYTES]) -> Result<(), Refusal> {
+    match word(answer, 0) {
         0 => Ok(()),
-        number => {
-            let place = Some(word(4)).filter(|&place| place != NONE);
-            Err(Refusal { number, place, start: word(8), end: word(12) })
-        }
+        number => Err(Refusal::new(number, word(answer, 4), word(answer, 8), word(answer, 12))),
+    }
+}
+
+/// The answer that a conversion wrote: the counts of functions, instructions, variables, labels, strings and floats.
+pub fn read_conversion(answer: &[u8; ANSWER_BYTES]) -> Result<[usize; 6], Refusal> {
+    match word(answer, 0) {
+        0 => Ok(std::array::from_fn(|i| word(answer, 4 + 4 * i) as usize)),
+        number => Err(Refusal::new(number, word(answer, 4), word(answer, 8), word(answer, 12))),
     }
 }

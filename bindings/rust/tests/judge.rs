@@ -1,6 +1,6 @@
 //! The promises of the call, seen from Rust: answers, and what each buffer holds afterwards.
 
-use rudderplum::{Buffers, Refusal, judge, judge_into, needed, read_answer};
+use rudderplum::{Buffers, ErrorKind, Refusal, judge, judge_into, needed, read_answer};
 
 const FILL: u8 = 0xA5;
 const SCRATCH: usize = 6;
@@ -54,7 +54,8 @@ impl Lent {
 }
 
 fn refusal(number: u32, place: Option<u32>) -> Result<(), Refusal> {
-    Err(Refusal { number, place, start: 0, end: 0 })
+    let kind = ErrorKind::from_number(number).expect("a number of document 01");
+    Err(Refusal { kind, place, start: 0, end: 0 })
 }
 
 /// The answer, and whether outputs and scratch are then the bytes named.

@@ -1,9 +1,9 @@
 -- The boundary that C and Rust call over: an answer as bytes in a lent buffer, and what each lent buffer holds afterwards.
 -- Assumes nothing: these are definitions.
 use Prim.Native.Nat.{ℕ}
-use mathlib.Core.Bool.{Bool, true, false}
+use mathlib.Core.Bool.{Bool, true, false, not}
 use mathlib.Core.List.{List, _++_}
-use lib.Dec.{leb}
+use lib.Dec.{eqb, leb}
 use lib.ListN.{length}
 use Rattle.laws.specs.Fix.{pick}
 use Rattle.laws.specs.Splice.{splice}
@@ -11,6 +11,7 @@ use Rattle.records.specs.Words.{none, word}
 use Rattle.records.specs.Answer.{wordsOf}
 use Rattle.records.specs.declared.convert_error.AnswerWords.{AnswerWords}
 use Rattle.judge.specs.Judge.{Buffers, buffers, judgedIn, judgeLeaves}
+use Rattle.demands.specs.Call.{Answer, Refusal, Counted, callOf, answerOf, buffersAfter}
 use Rattle.judge.specs.declared.Judged.{Judged}
 use Rattle.judge.specs.declared.Judged.the-variants.{Accepted, Refused}
 
@@ -56,3 +57,38 @@ answeredIn tree text b =
 unfoldable pub judgeCall : List ℕ → List ℕ → Lent → Lent
 unfolding pick roomy answeredIn
 judgeCall tree text b = pick (roomy (b .answer)) (answeredIn tree text b) b
+
+-- ---- a conversion
+
+-- 'the answer is eight words, 0, the six counts in document 01's order and a zero, or number, place, span start, span end and zeros'
+unfoldable pub conversionBytes : Answer → List ℕ
+unfolding word answerBytes
+conversionBytes (Refusal a) = answerBytes a ++ (word 0 ++ word 0 ++ word 0 ++ word 0)
+conversionBytes (Counted c) =
+    (word 0 ++ word (c .functions) ++ word (c .instructions) ++ word (c .variables)) ++ (word (c .labels) ++ word (c .strings) ++ word (c .floats) ++ word 0)
+
+-- the eight words fit the buffer lent for them
+unfoldable pub roomyForEight : List ℕ → Bool
+roomyForEight answer = leb 32 (length answer)
+
+unfoldable pub returnedEight : List ℕ → ℕ
+unfolding roomyForEight pick
+returnedEight answer = pick (roomyForEight answer) 1 0
+
+-- any number but 0 asks for a `main`
+unfoldable pub asked : ℕ → Bool
+asked n = not (eqb n 0)
+
+-- the buffers once a tree was converted: the seven as the call's definition says, and the answer's first 32 bytes
+unfoldable pub convertedIn : List ℕ → List ℕ → Bool → Lent → Lent
+unfolding buffersAfter callOf splice conversionBytes answerOf
+convertedIn tree text needsMain b =
+    record {
+      seven = buffersAfter (callOf tree text needsMain (b .seven)) (b .seven);
+      answer = splice (b .answer) 0 (conversionBytes (answerOf (callOf tree text needsMain (b .seven))));
+    }
+
+-- the buffers after the call; all are as found where the answer does not fit
+unfoldable pub convertCall : List ℕ → List ℕ → Bool → Lent → Lent
+unfolding pick roomyForEight convertedIn
+convertCall tree text needsMain b = pick (roomyForEight (b .answer)) (convertedIn tree text needsMain b) b

@@ -1,11 +1,13 @@
 //! Trees from a seed: the same seed and class give the same case on every machine.
 
+pub mod call_list;
 pub mod constants;
 pub mod damage;
 pub mod list;
 pub mod misses;
 pub mod odd;
 pub mod programs;
+pub mod rare;
 pub mod rng;
 pub mod shapes;
 pub mod soup;
@@ -25,7 +27,7 @@ pub struct Case {
     pub label: String,
 }
 
-const CLASSES: [&str; 13] = [
+const CLASSES: [&str; 14] = [
     "program",
     "near",
     "miss",
@@ -39,6 +41,7 @@ const CLASSES: [&str; 13] = [
     "deep",
     "dense",
     "bytes",
+    "rare",
 ];
 
 /// The names of the classes.
@@ -66,6 +69,7 @@ pub fn generate(seed: u64, class: &str) -> Case {
         "deep" => laid_out(&mut rng, &shapes::deep(&mut seeded(seed))),
         "dense" => laid_out(&mut rng, &shapes::dense(&mut seeded(seed), seed as usize % 6)),
         "bytes" => random_bytes(&mut rng),
+        "rare" => laid_out(&mut rng, &rare::program(&mut seeded(seed), seed as usize)),
         _ => program(&mut rng, 0),
     };
     case.label = format!("{class} {seed} {}", case.label).trim_end().to_string();

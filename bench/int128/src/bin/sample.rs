@@ -1,4 +1,4 @@
-//! Writes the sample that crates/int128_test runs: its standard input, and what Rust's i128 answers.
+//! Writes the sample that crates/int128_replay runs: its standard input, and what Rust's i128 answers.
 //!
 //!     cargo run --release --manifest-path bench/int128/Cargo.toml --bin sample
 
@@ -63,7 +63,7 @@ fn main() -> std::io::Result<()> {
             None => writeln!(output, "0").unwrap(),
         }
     }
-    let crate_folder = concat!(env!("CARGO_MANIFEST_DIR"), "/../../crates/int128_test");
+    let crate_folder = concat!(env!("CARGO_MANIFEST_DIR"), "/../../crates/int128_replay");
     std::fs::write(format!("{crate_folder}/stdin"), &input)?;
     std::fs::write(format!("{crate_folder}/stdout"), &output)
 }

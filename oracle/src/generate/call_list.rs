@@ -1,0 +1,89 @@
+//! A list of cases for the whole call: the answer and every byte of the seven buffers of each.
+
+use super::{Case, generate, list};
+use crate::convert::{Answer, try_convert};
+use crate::generate::classes;
+use crate::judge::needed;
+use crate::tree::RECORD_BYTES;
+
+/// The most records of a generated tree in the list, so that the list stays small.
+const MOST_RECORDS: usize = 90;
+
+/// A case of the line `number|main needed|tree|text|answer` of a file of vectors, bytes in hexadecimal.
+fn vector(line: &str) -> Result<Case, String> {
+    let fields: Vec<&str> = line.split('|').collect();
+    let [number, main, tree, text, _] = fields[..] else {
+        return Err(format!("a line of a file of vectors has five fields: {line:.40}"));
+    };
+    let bytes = |hex: &str| -> Result<Vec<u8>, String> {
+        (0..hex.len() / 2)
+            .map(|i| u8::from_str_radix(&hex[2 * i..2 * i + 2], 16).map_err(|err| format!("{number}: {err}")))
+            .collect()
+    };
+    let tree = bytes(tree)?;
+    let lens = needed(tree.len());
+    Ok(Case { tree, text: bytes(text)?, needs_main: main == "1", lens, label: format!("vector {number}") })
+}
+
+/// The cases: the vectors, those of the judge's list, and `count` generated ones of all classes in turn, with buffers longer than needed for
+/// every third.
+pub fn cases(seed: u64, count: usize, vectors: &str) -> Result<Vec<Case>, String> {
+    let mut cases: Vec<Case> = vectors.lines().map(vector).collect::<Result<_, _>>()?;
+    cases.extend(list::cases(seed, 300).into_iter().filter(|case| case.tree.len() <= 70_000));
+    let mut at = 0;
+    while cases.len() < count {
+        let class = classes()[at as usize % classes().len()];
+        let turn = at / classes().len() as u64;
+        let mut case = generate(seed.wrapping_mul(1_000_003).wrapping_add(turn), class);
+        at += 1;
+        if case.tree.len() > MOST_RECORDS * RECORD_BYTES && at % 500 != 0 {
+            continue;
+        }
+        if at % 3 == 0 && class != "buffers" {
+            case.lens = std::array::from_fn(|i| case.lens[i] + (at as usize / 3 + i) % 17);
+        }
+        cases.push(case);
+    }
+    Ok(cases)
+}
+
+/// The list as bytes: 26 words (tree length, text length, main needed; the seven lengths; the byte that fills the buffers, the byte behind the tables
+/// afterwards; the eight words of the answer; the lengths of the six tables), then tree, text and tables. The tables stand in the order of the
+/// buffers: instructions, variables, labels, functions, strings, floats.
+pub fn bytes(cases: &[Case]) -> Result<Vec<u8>, String> {
+    let mut list = Vec::new();
+    for (at, case) in cases.iter().enumerate() {
+        let fill = 1 + (at * 37 % 255) as u32;
+        let answer = try_convert(&case.tree, &case.text, case.needs_main, case.lens)
+            .map_err(|message| format!("internal error: {}: {message}", case.label))?;
+        let mut words = vec![case.tree.len() as u32, case.text.len() as u32, u32::from(case.needs_main)];
+        words.extend(case.lens.iter().map(|len| *len as u32));
+        let mut tables: [&[u8]; 6] = [&[]; 6];
+        match &answer {
+            Answer::Converted(made) => {
+                words.extend([fill, 0, 0]);
+                words.extend(made.counts());
+                words.push(0);
+                tables = [
+                    &made.instructions,
+                    &made.variables,
+                    &made.labels,
+                    &made.functions,
+                    &made.strings,
+                    &made.floats,
+                ];
+            }
+            Answer::Refused(r) => {
+                let untouched = r.place == u32::MAX && r.number != 10;
+                words.extend([fill, if untouched { fill } else { 0 }]);
+                words.extend([r.number, r.place, r.start, r.end, 0, 0, 0, 0]);
+            }
+        }
+        words.extend(tables.iter().map(|table| table.len() as u32));
+        list.extend(words.iter().flat_map(|word| word.to_le_bytes()));
+        list.extend(&case.tree);
+        list.extend(&case.text);
+        tables.iter().for_each(|table| list.extend(*table));
+    }
+    Ok(list)
+}
