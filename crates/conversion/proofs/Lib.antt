@@ -1,7 +1,7 @@
+pub mod Avoided
 pub mod Trees
 pub mod Casts
 pub mod Marked
-pub mod Mistakes
 pub mod MonadLaws
 pub mod Within
 pub mod Sizes

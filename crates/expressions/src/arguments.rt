@@ -14,6 +14,7 @@ ghost use Rattle.expressions.specs.Slots.{slotAt, FirstType};
 ghost use Rattle.expressions.specs.Answers.{ArgumentIs, numberOf, TypeFound};
 use keys::parts::Part;
 use keys::parts::text_part;
+use records::numbers::KIND_VALUE;
 use records::words::Found;
 use records::words::kind;
 use records::words::load;
@@ -45,7 +46,7 @@ pub fn argument_at(tree: &[u8], text: &[u8], cell: usize) -> Argument
 {
     let item = reference(tree, cell, 0);
     let inner = reference(tree, item, 0);
-    if kind(tree, item) == 13 {
+    if kind(tree, item) == KIND_VALUE {
         return Argument::Expr(inner);
     }
     Argument::ToType(inner)

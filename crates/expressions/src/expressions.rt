@@ -25,6 +25,9 @@ use crate::operands::common_of;
 use crate::operands::leaf_type;
 use crate::operands::unary_type;
 use crate::operands::value_type;
+use records::numbers::KIND_BINARY;
+use records::numbers::KIND_CALL;
+use records::numbers::KIND_UNARY;
 use records::words::Found;
 use records::words::kind;
 use records::words::put_word;
@@ -54,14 +57,14 @@ pub fn get_type(
     ensures { λ a. ⌜ TypeMeets (now (tree .entry)) (now (text .entry)) (now (scratch .entry)) scope e a (now (scratch .exit)) ⌝ }
 {
     let k = kind(tree, e);
-    if k == 9 {
+    if k == KIND_UNARY {
         let operand = reference(tree, e, 0);
         return match get_type(tree, text, scratch, functions, scope, operand) {
             ExprType::Refused(x) => ExprType::Refused(x),
             ExprType::Is(ty) => unary_type(tree, text, e, ty),
         };
     }
-    if k == 10 {
+    if k == KIND_BINARY {
         let left = reference(tree, e, 0);
         let right = reference(tree, e, 1);
         return match get_type(tree, text, scratch, functions, scope, left) {
@@ -80,7 +83,7 @@ pub fn get_type(
             },
         };
     }
-    if k == 11 {
+    if k == KIND_CALL {
         let callee = resolve_call(tree, text, scratch, functions, scope, e);
         return value_type(tree, text, e, callee);
     }

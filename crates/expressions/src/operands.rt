@@ -19,6 +19,12 @@ use crate::answers::ExprType;
 use crate::answers::Resolved;
 use records::convert_error::ConvertError;
 use records::convert_error::ConvertErrorKind;
+use records::numbers::KIND_BOOL;
+use records::numbers::KIND_FLOAT;
+use records::numbers::KIND_INT;
+use records::numbers::KIND_NAME;
+use records::numbers::KIND_NULL;
+use records::numbers::KIND_STR;
 use records::words::Found;
 use records::words::NONE;
 use records::words::detail;
@@ -193,19 +199,19 @@ fn literal_type(tree: &[u8], text: &[u8], e: usize) -> usize
 {
     let k = kind(tree, e);
     let mark = detail(tree, e) as usize;
-    if k == 2 {
+    if k == KIND_INT {
         return mark;
     }
-    if k == 3 {
+    if k == KIND_FLOAT {
         return FLOAT_LONG + mark;
     }
-    if k == 4 {
+    if k == KIND_STR {
         return ADDRESS_OF_CHAR;
     }
-    if k == 5 {
+    if k == KIND_BOOL {
         return BOOL_TYPE;
     }
-    if k == 7 {
+    if k == KIND_NULL {
         return NULL_TYPE;
     }
     UNSIGNED
@@ -238,7 +244,7 @@ pub(crate) fn leaf_type(
     requires { ⌜ kindOf (now tree) e ≤ 8 ⌝ }
     ensures { λ a. ⌜ TypeIs (now (tree .entry)) a (typeIn (now (tree .entry)) (now (text .entry)) (scopeAt (now (tree .entry)) (now (text .entry)) (now (scratch .entry)) scope) e) ⌝ }
 {
-    if kind(tree, e) == 6 {
+    if kind(tree, e) == KIND_NAME {
         return name_type(tree, text, scratch, scope, e);
     }
     ExprType::Is(literal_type(tree, text, e))

@@ -453,7 +453,7 @@ module _ {tree text l s : List ℕ} {functions f : ℕ} {k : Counters} (keyed : 
 
       -- what the body needs
       pub body-needs : (Converting tree text l₁ s₁ inner × BlockAfforded tree text inner (wordOf tree f E))
-          × (FunctionAt tree f × (sc .function ≡ f) × (k₁ .functions < k₁ .records))
+          × (FunctionAt tree f × (k₁ .functions < k₁ .records))
       body-needs = (
         (
           record { ready = is-declared .ready; function = rw (is-declared .function) at; records-are = v .spent .records ∙ are; room = v .next .room },
@@ -463,7 +463,7 @@ module _ {tree text l s : List ℕ} {functions f : ℕ} {k : Counters} (keyed : 
             names = omega (arith, h .functions, record-count, are, is-declared .names);
           },
         ),
-        (at, is-declared .function, omega (arith, h .functions, record-count, v .spent .functions, v .spent .records)),
+        (at, omega (arith, h .functions, record-count, v .spent .functions, v .spent .records)),
       )
 
       -- from any tables at a function's beginning

@@ -85,7 +85,7 @@ fn convert_body(
     f: usize,
 ) -> Finished
     requires { ⌜ Converting (now tree) (now text) (now arena) (now scratch) c × BlockAfforded (now tree) (now text) c (wordOf (now tree) f 4) ⌝ }
-    requires { ⌜ FunctionAt (now tree) f × (c .scope .function ≡ f) × (c .counters .functions < c .counters .records) ⌝ }
+    requires { ⌜ FunctionAt (now tree) f × (c .counters .functions < c .counters .records) ⌝ }
     ensures { λ a. ⌜ BodyAs c f (now (tree .entry)) (now (text .entry)) (now (arena .entry)) (now (scratch .entry)) a (now (arena .exit)) (now (scratch .exit)) ⌝ }
 {
     let body = reference(tree, f, 4);

@@ -20,6 +20,7 @@ use keys::parts::is_ascii;
 use keys::parts::is_main;
 use records::convert_error::ConvertError;
 use records::convert_error::ConvertErrorKind;
+use records::numbers::KIND_FUNCTION;
 use records::words::Found;
 use records::words::NONE;
 use records::words::kind;
@@ -50,7 +51,7 @@ fn list_functions(tree: &[u8], text: &[u8], scratch: &mut [u8]) -> usize
     let mut r = 0;
     let mut count = 0;
     while r < n {
-        if kind(tree, r) == 25 {
+        if kind(tree, r) == KIND_FUNCTION {
             put_word(scratch, 4 * count, r as u32);
             count += 1;
         }

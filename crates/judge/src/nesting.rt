@@ -6,6 +6,7 @@ ghost use lib.Dec.{ltb};
 ghost use Rattle.records.specs.Depth.{larger, depthBelow, deepest, depth};
 ghost use Rattle.judge.specs.Inner.{Lowest, Depths};
 use crate::references::size;
+use records::numbers::KIND_LIST;
 use records::shape::Role;
 use records::shape::refers_to;
 use records::shape::row_of;
@@ -70,7 +71,7 @@ pub(crate) fn lowest_deep(tree: &[u8], n: usize, depths: &mut [u8]) -> usize
     while r < n {
         let below = deepest_below(tree, depths, r);
         let next = r + 1;
-        if kind(tree, r) == 12 {
+        if kind(tree, r) == KIND_LIST {
             if below > 64 {
                 return r;
             }

@@ -10,6 +10,18 @@ ghost use Rattle.judge.specs.Inner.{Lowest, Counts, TypesLead};
 use crate::references::size;
 use crate::types::is_first_type;
 use crate::types::type_is_new;
+use records::numbers::KIND_CALL;
+use records::numbers::KIND_CONTINUE;
+use records::numbers::KIND_DECLARE;
+use records::numbers::KIND_FUNCTION;
+use records::numbers::KIND_IF;
+use records::numbers::KIND_INT;
+use records::numbers::KIND_LIST;
+use records::numbers::KIND_NAME;
+use records::numbers::KIND_TYPE;
+use records::numbers::KIND_TYPE_ARGUMENT;
+use records::numbers::KIND_VALUE;
+use records::numbers::KIND_VARIABLE;
 use records::shape::Role;
 use records::shape::Row;
 use records::shape::row_of;
@@ -40,9 +52,9 @@ fn item_ok(tree: &[u8], role: Role, a: usize) -> bool
     let k = kind(tree, a);
     let typed = word(tree, a, 2) != NONE;
     match role {
-        Role::Arguments => (k == 13) | (k == 14),
-        Role::Parameters => (k == 24) & typed,
-        Role::Body => (15 <= k) & (k <= 23),
+        Role::Arguments => (k == KIND_VALUE) | (k == KIND_TYPE_ARGUMENT),
+        Role::Parameters => (k == KIND_VARIABLE) & typed,
+        Role::Body => (KIND_DECLARE <= k) & (k <= KIND_CONTINUE),
         _ => false,
     }
 }
@@ -88,15 +100,15 @@ fn reference_ok(tree: &[u8], r: usize, role: Role, w: u32) -> bool
         Role::Text => false,
         Role::Length => false,
         Role::Expr => is_expr(k),
-        Role::TypeRef => k == 1,
-        Role::TypeOrNone => (w == NONE) | (k == 1),
-        Role::Name => k == 6,
-        Role::Variable => k == 24,
+        Role::TypeRef => k == KIND_TYPE,
+        Role::TypeOrNone => (w == NONE) | (k == KIND_TYPE),
+        Role::Name => k == KIND_NAME,
+        Role::Variable => k == KIND_VARIABLE,
         Role::Arguments => (w == NONE) | list_ok(tree, Role::Arguments, r, w),
         Role::Parameters => (w == NONE) | list_ok(tree, Role::Parameters, r, w),
         Role::Body => (w == NONE) | list_ok(tree, Role::Body, r, w),
         Role::Item => lower,
-        Role::Rest => (w == NONE) | (k == 12),
+        Role::Rest => (w == NONE) | (k == KIND_LIST),
     }
 }
 
@@ -117,7 +129,7 @@ fn word_ok(tree: &[u8], bytes: usize, r: usize, role: Role, w: u32, next: u32) -
 fn is_expr(k: u8) -> bool
     ensures { λ v. ⌜ v ≡ isExpr k ⌝ }
 {
-    (2 <= k) & (k <= 11)
+    (KIND_INT <= k) & (k <= KIND_CALL)
 }
 
 fn is_unused(role: Role) -> bool
@@ -177,7 +189,8 @@ fn marks_ok(tree: &[u8], r: usize) -> bool
     let found = detail(tree, r);
     let c = word(tree, r, 2);
     let e = word(tree, r, 4);
-    ((k != 19) | (found == 1) | (c == NONE)) & ((k != 25) | (4 <= found) | (e == NONE))
+    ((k != KIND_IF) | (found == 1) | (c == NONE))
+        & ((k != KIND_FUNCTION) | (4 <= found) | (e == NONE))
 }
 
 // Record r breaks no rule; `types` records stand before the first that is no type, and byte k of `counts` says how often record k is referred to.
@@ -190,9 +203,9 @@ fn record_ok(tree: &[u8], text: &[u8], r: usize, n: usize, types: usize, counts:
     let form = form_ok(tree, text.len(), r);
     let marks = marks_ok(tree, r);
     let first = is_first_type(tree, r);
-    let lead = (k != 1) | (r < types);
+    let lead = (k != KIND_TYPE) | (r < types);
     let fresh = type_is_new(tree, text, r);
-    let once = (k == 1) | (k == 25) | (counts[r] == 1);
+    let once = (k == KIND_TYPE) | (k == KIND_FUNCTION) | (counts[r] == 1);
     form & marks & first & lead & fresh & once
 }
 

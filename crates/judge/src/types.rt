@@ -5,6 +5,7 @@ ghost use Prim.Native.Nat.{_+_, _*_, _≤_, _<_};
 ghost use lib.ListN.{length};
 ghost use Rattle.records.specs.Rules.{isFirstType, sameType, typeIsNew};
 ghost use Rattle.judge.specs.Inner.{TypesLead};
+use records::numbers::KIND_TYPE;
 use records::texts::same_text;
 use records::words::detail;
 use records::words::kind;
@@ -24,7 +25,7 @@ pub(crate) fn is_first_type(tree: &[u8], r: usize) -> bool
     if r >= 12 {
         return true;
     }
-    (kind(tree, r) == 1) & (detail(tree, r) == TWELVE[r]) & (word(tree, r, 0) == INNER[r])
+    (kind(tree, r) == KIND_TYPE) & (detail(tree, r) == TWELVE[r]) & (word(tree, r, 0) == INNER[r])
 }
 
 // How many records stand before the first that is no type.
@@ -71,7 +72,7 @@ pub(crate) fn type_is_new(tree: &[u8], text: &[u8], r: usize) -> bool
     }
     let mut j = 0;
     while j < r {
-        if (kind(tree, j) == 1) & same_type(tree, text, j, r) {
+        if (kind(tree, j) == KIND_TYPE) & same_type(tree, text, j, r) {
             return false;
         }
         j += 1;

@@ -60,7 +60,7 @@ judgeCall tree text b = pick (roomy (b .answer)) (answeredIn tree text b) b
 
 -- ---- a conversion
 
--- 'the answer is eight words, 0, the six counts in document 01's order and a zero, or number, place, span start, span end and zeros'
+-- the answer is eight words: 0, the six counts in document 01's order and a zero, kept for a seventh count; or number, place, span start, span end and zeros
 unfoldable pub conversionBytes : Answer → List ℕ
 unfolding word answerBytes
 conversionBytes (Refusal a) = answerBytes a ++ (word 0 ++ word 0 ++ word 0 ++ word 0)

@@ -1,9 +1,9 @@
 -- A name declared behind a new variable: the scope with one name more, what stays of the scratch, and the steps up to there. The zero of a type, by its form.
 -- By what `declare` owes: its entry stands behind the open names, and the variable's type is one of the tree's. Assumes nothing.
 use mathlib.Core.Path.{_≡_, refl, sym, ap, _∙_, subst}
-use mathlib.Core.Bool.{Bool, false}
-use mathlib.Core.List.{List, [], _∷_}
-use mathlib.Core.Option.{Option}
+use mathlib.Core.Bool.{Bool, true, false}
+use mathlib.Core.List.{List}
+use mathlib.Core.Option.{Option, some}
 use Prim.Native.Nat.{ℕ, zero, suc, _+_, _*_, _/_, _%_, _≤_, _<_}
 use native.Mathlib.Decide.{decLt}
 use native.Mathlib.Omega.{arith}
@@ -14,7 +14,7 @@ use Rattle.laws.specs.Fix.{pick}
 use Rattle.records.specs.Words.{wordAt, wordOf, detailOf, textAt, records, A, B, C}
 use Rattle.records.specs.declared.convert_error.ConvertError.{ConvertError}
 use Rattle.records.proofs.GoodLaws.{inside, declare-c}
-use Rattle.syntax.specs.Syntax.{Text, Ty, TInt, TFloat, TBool, TChar, TByte, TAddress, TArray, TCustom, TNull, Program}
+use Rattle.syntax.specs.Syntax.{Text, TNull, Program}
 use Rattle.syntax.specs.Count.{statementRecords}
 use Rattle.syntax.specs.Decode.{program, typeAt, textOf, wideOf, bit}
 use Rattle.syntax.specs.Places.{IsKind, TypeAt, statementAt}
@@ -43,11 +43,12 @@ use Rattle.ir.specs.Steps.{Next, Emits, AddsVar, NumbersFloat, named}
 use Rattle.ir.proofs.StepLaws.{next-in, lift-stops, fail-stops, stop-first, then-stop}
 use Rattle.scope.specs.declared.Scope.{Scope}
 use Rattle.scope.specs.declared.Known.{Known}
+use Rattle.scope.specs.declared.Known.the-variants as Known
 use Rattle.scope.specs.declared.Declared.{Declared}
 use Rattle.scope.specs.declared.Declared.the-variants as Declared
 use Rattle.scope.specs.declared.InLoop.{InLoop}
 use Rattle.scope.specs.declared.InLoop.the-variants as InLoop
-use Rattle.scope.specs.Open.{Room, Afforded as NameAfforded, Added, Taken, DeclareMeets, IsFound, FindMeets, variablesOf, loopOf, loopNumber, scopeAt, entryOf}
+use Rattle.scope.specs.Open.{Room, Afforded as NameAfforded, Added, Taken, DeclareMeets, IsFound, FindMeets, variableAt, variablesAt, variablesOf, loopOf, loopNumber, scopeAt, entryOf}
 use Rattle.scope.proofs.ScopeLaws.{entry-long, added-entry, added-room, declare-ok, declare-err, in-loop}
 use Rattle.keys.specs.Keys.{allKeys}
 use Rattle.expressions.specs.Slots.{Ready}
@@ -62,6 +63,7 @@ use Rattle.statements.specs.Parts.{jumpTo, zeroFloat}
 use Rattle.statements.specs.Answers.{finishedOf, Leaves, States, StatesAs, declareSteps, breakSteps, continueSteps}
 use Rattle.statements.proofs.MeetLaws.{adds-in, adds-then, adds-seq, adds-pure, adds-most, adds-same, meets-gave, meets-refused, meets-same, meets-then, meets-lift}
 use Rattle.statements.proofs.StayLaws.{stays-refl, name-stays, ready-stays}
+use Rattle.statements.proofs.FitLaws.{forms, type-is}
 use Rattle.statements.proofs.EmitLaws.{emit-adds, var-adds}
 use Rattle.statements.proofs.StatedLaws.{states-gave, states-refused, states-same, states-most, seq-then, seq-not, leaves-same}
 
@@ -192,6 +194,24 @@ module _ (text : List ℕ) (sc : Scope) (s : List ℕ) where
   unfolding textOf
   found-named tree r a e q m = subst (λ (u : List ℕ). IsFound a (findIn u (variablesOf text s sc))) (rw (e, q)) m
 
+-- the type of a variable that is found is one of the tree's, where those of the open names are
+found-among : (v : VarId) (b : Bool) (tree text s : List ℕ) (n : ℕ) (u : List ℕ) (m : ℕ) → ((j : ℕ) → j < m → TypeAt tree (wordAt s (8 * n + 16 * j + 12) / 2))
+    → IsFound (Known.Is v b) (findIn u (variablesAt text s n m)) → TypeAt tree (v .1)
+unfolding IsFound findIn variablesAt
+found-among v b tree text s n u zero t h = absurd h
+found-among v b tree text s n u (suc m) t h =
+    go (found-among v b tree text s n u m (λ j k. t j (omega arith))) (Ir.sameText u (variableAt text s (8 * n + 16 * m) .name)) h
+  where
+    go : (IsFound (Known.Is v b) (findIn u (variablesAt text s n m)) → TypeAt tree (v .1))
+        → (c : Bool) → IsFound (Known.Is v b) (elim c [ true ↦ some (variableAt text s (8 * n + 16 * m)) | false ↦ findIn u (variablesAt text s n m) ]) → TypeAt tree (v .1)
+    go rest true f = subst (λ (z : ℕ). TypeAt tree z) (sym (ap (λ z. z .ty) (f .0))) (t m (omega arith))
+    go rest false f = rest f
+
+pub found-typed : {tree text l s : List ℕ} {c : Converter} → Converting tree text l s c → (u : List ℕ) (v : VarId) (b : Bool) → FindMeets text s (c .scope) u (Known.Is v b) → TypeAt tree (v .1)
+found-typed {tree = tree} {text = text} {s = s} {c = c} p u v b h =
+    found-among v b tree text s (c .scope .records) u (c .scope .names)
+    (λ j i. subst (λ (z : ℕ). TypeAt tree (wordAt s (8 * z + 16 * j + 12) / 2)) (sym (p .ready .scoped .records-are)) (p .ready .scoped .types j i)) h
+
 -- ---- the zero of a type, by its form
 
 pub less-picks : {X : Type 0} {f n : ℕ} (x y : X) → f < n → x ≡ pick (ltb f n) x y
@@ -211,10 +231,6 @@ zero-float-adds {k = k} {l = l} {l₁ = l₁} {p = p} v short q h m d i =
     (record { next = subst (λ (x : FloatEntry). Next (Ir.float-id x) k l (p .number) (p .counters) l₁) q (m .next); spent = m .spent; long = h })
     (emit-adds d i)
 
--- the types by form, with marks s and u
-abbrev forms : Bool → Bool → ℕ → ℕ → Text → List Ty
-forms s u a n t = TNull ∷ TInt s u ∷ TFloat s ∷ TBool ∷ TChar ∷ TByte ∷ TAddress a ∷ TArray a n ∷ TCustom t ∷ TNull ∷ []
-
 -- Bool, Char and Byte have the bool, Address and Null the null
 others : (P : Program) (F : Functions) (r : ℕ) (x : Ir.VarId) (s u : Bool) (a n : ℕ) (t : Text) (f : ℕ) → 1 ≤ f → (f ≡ 1 → ⊥) → (f ≡ 2 → ⊥) → (f ≡ 7 → ⊥) → (f ≡ 8 → ⊥)
     → zeroValue P F r x (getD (forms s u a n t) f TNull) ≡ Ir.emit (Ir.Copy x (operandOf (pick (ltb f 6) (Operand.Bool false) Operand.Null)))
@@ -233,23 +249,18 @@ others P F r x s u a n t (suc (suc (suc (suc (suc (suc (suc (suc (suc (suc f))))
     rw (le-ltb (suc (suc (suc (suc (suc (suc (suc (suc (suc (suc f)))))))))) 6 (omega arith))
 
 module _ (tree text : List ℕ) (F : Functions) (r : ℕ) (v : VarId) (f : ℕ) (ef : f ≡ detailOf tree (v .1) % 16) where
-  type-as : typeAt tree text (v .1)
-      ≡ getD (forms (bit 16 (detailOf tree (v .1))) (bit 32 (detailOf tree (v .1))) (wordOf tree (v .1) A) (wideOf tree text (v .1) B) (textOf tree text (v .1) A)) f TNull
-  unfolding typeAt
-  type-as = rw ef
-
   abbrev zeros : M (Unit {0})
   zeros = zeroValue (program tree text) F r (varOf v) (typeAt tree text (v .1))
 
   other-zero : {o : Operand} → 1 ≤ f → (f ≡ 1 → ⊥) → (f ≡ 2 → ⊥) → (f ≡ 7 → ⊥) → (f ≡ 8 → ⊥) → o ≡ pick (ltb f 6) (Operand.Bool false) Operand.Null
       → zeros ≡ Ir.emit (Ir.Copy (varOf v) (operandOf o))
   other-zero n₀ n₁ n₂ n₇ n₈ q =
-      rw (q, type-as)
+      rw (q, type-is tree text (v .1) f ef)
       (others (program tree text) F r (varOf v) (bit 16 (detailOf tree (v .1))) (bit 32 (detailOf tree (v .1))) (wordOf tree (v .1) A) (wideOf tree text (v .1) B) (textOf tree text (v .1) A) f n₀ n₁ n₂ n₇ n₈)
 
   pub zero-custom : {k : Counters} {l : List ℕ} {z : ConvertError} → f ≡ 8 → z ≡ record { kind = WouldPanic; place = r } → Meets text zeros (amount 1 0 0 0 1) k l l (refused z)
   unfolding zeroValue
-  zero-custom {k = k} {l = l} e w = meets-same {m = fail WouldPanic r} text (rw (type-as, e)) (meets-refused text refl (rw w (fail-stops text k l WouldPanic r)))
+  zero-custom {k = k} {l = l} e w = meets-same {m = fail WouldPanic r} text (rw (type-is tree text (v .1) f ef, e)) (meets-refused text refl (rw w (fail-stops text k l WouldPanic r)))
 
   module _ {k : Counters} {l l′ : List ℕ} where
     emitted : {i : Instr} {k′ : Counters} → zeros ≡ Ir.emit (instrOf i) → length l′ ≡ length l → Emits i k l k′ l′ → Meets text zeros (amount 1 0 0 0 1) k l l′ (gave tt k′)
@@ -258,16 +269,16 @@ module _ (tree text : List ℕ) (F : Functions) (r : ℕ) (v : VarId) (f : ℕ) 
     pub zero-int : {k′ : Counters} {short unsigned : Bool} → f ≡ 1 → short ≡ bit 16 (detailOf tree (v .1)) → unsigned ≡ bit 32 (detailOf tree (v .1)) → length l′ ≡ length l
         → Emits (Instr.Copy v (Operand.Int 0 short unsigned)) k l k′ l′ → Meets text zeros (amount 1 0 0 0 1) k l l′ (gave tt k′)
     unfolding zeroValue
-    zero-int e s u h p = emitted (rw (type-as, e, s, u)) h p
+    zero-int e s u h p = emitted (rw (type-is tree text (v .1) f ef, e, s, u)) h p
 
     pub zero-float : {k′ : Counters} {short : Bool} → f ≡ 2 → short ≡ bit 16 (detailOf tree (v .1)) → Adds (zeroFloat (varOf v) short) (amount 1 0 0 0 1) k l tt k′ l′
         → Meets text zeros (amount 1 0 0 0 1) k l l′ (gave tt k′)
     unfolding zeroValue zeroFloat
-    zero-float e s p = meets-gave text (p .long) (adds-in text (adds-same (rw (type-as, e, s)) p))
+    zero-float e s p = meets-gave text (p .long) (adds-in text (adds-same (rw (type-is tree text (v .1) f ef, e, s)) p))
 
     pub zero-array : {k′ : Counters} → f ≡ 7 → length l′ ≡ length l → Emits (Instr.Zero v) k l k′ l′ → Meets text zeros (amount 1 0 0 0 1) k l l′ (gave tt k′)
     unfolding zeroValue
-    zero-array e h p = emitted (rw (type-as, e)) h p
+    zero-array e h p = emitted (rw (type-is tree text (v .1) f ef, e)) h p
 
     pub zero-other : {k′ : Counters} {o : Operand} → 1 ≤ f → (f ≡ 1 → ⊥) → (f ≡ 2 → ⊥) → (f ≡ 7 → ⊥) → (f ≡ 8 → ⊥) → o ≡ pick (ltb f 6) (Operand.Bool false) Operand.Null
         → length l′ ≡ length l → Emits (Instr.Copy v o) k l k′ l′ → Meets text zeros (amount 1 0 0 0 1) k l l′ (gave tt k′)

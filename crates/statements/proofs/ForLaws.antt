@@ -5,16 +5,16 @@ use mathlib.Core.Logic.{_⊎_, inl, inr}
 use mathlib.Core.Bool.{Bool, true, false}
 use mathlib.Core.List.{List}
 use mathlib.Core.Option.{none as nothing, some}
-use Prim.Native.Nat.{ℕ, zero, suc, _+_, _*_, _/_, _%_, _≤_, _<_}
+use Prim.Native.Nat.{ℕ, _+_, _*_, _%_, _≤_, _<_}
 use native.Mathlib.Omega.{arith}
 use lib.Dec.{eqb}
 use lib.ListN.{length}
 use borrow.Author.Tests.{eq-eqb, ne-eqb}
 use Rattle.laws.specs.Fix.{pick}
 use Rattle.records.specs.declared.convert_error.ConvertError.{ConvertError}
-use Rattle.records.specs.Words.{detailOf, wordOf, wordAt, records, none, A, B, C}
+use Rattle.records.specs.Words.{detailOf, wordOf, records, none, A, B, C}
 use Rattle.records.specs.Good.{Good}
-use Rattle.records.proofs.GoodLaws.{ToKind, inside, for-a, for-b, for-c, variable-c}
+use Rattle.records.proofs.GoodLaws.{ToKind, inside, for-a, variable-c}
 use Rattle.syntax.specs.Syntax.{place}
 use Rattle.syntax.specs.Decode.{program, textOf, typeAt, bit, reference}
 use Rattle.syntax.specs.Places.{IsKind, TypeAt, exprAt, statementAt}
@@ -22,14 +22,14 @@ use Rattle.syntax.specs.Count.{exprRecords, statementRecords}
 use Rattle.syntax.proofs.Records.{statement-for}
 use Rattle.conversion.specs.ConvertError.{ConvertErrorKind, Result, ok, err, NotInteger, UnknownVariable, AssignToConstant, AlreadyDeclared}
 use Rattle.conversion.specs.Ir as Ir
-use Rattle.conversion.specs.Ir.{M, sameText, bind, _>>=_, _>>_, pure, fail, lift}
+use Rattle.conversion.specs.Ir.{M, bind, _>>=_, _>>_, pure, fail, lift}
 use Rattle.conversion.specs.Scope as Def
-use Rattle.conversion.specs.Scope.{findIn, find-variable}
+use Rattle.conversion.specs.Scope.{find-variable}
 use Rattle.conversion.specs.Expressions.{Functions}
 use Rattle.conversion.specs.Statements.{checkFits, checkBound}
 use Rattle.conversion.proofs.MonadLaws.{seq-is, pure-first}
 use Rattle.types.specs.Fits.{IsExpr, IsType}
-use Rattle.types.proofs.FromGood.{is-expr, is-type}
+use Rattle.types.proofs.FromGood.{is-type}
 use Rattle.ir.specs.declared.structs.Counters.{Counters}
 use Rattle.ir.specs.declared.structs.NewVariable.{NewVariable}
 use Rattle.ir.specs.declared.structs.VarId.{VarId}
@@ -37,13 +37,13 @@ use Rattle.ir.specs.Amounts.{Amount, amount, both}
 use Rattle.ir.specs.Instructions.{varOf}
 use Rattle.ir.specs.Steps.{StopsIn, AddsVar}
 use Rattle.ir.proofs.StepCases.{picked, skipped, on-int, no-int, stop-of}
-use Rattle.ir.proofs.StepLaws.{fail-stops, lift-stops, stop-first, stop-seq}
+use Rattle.ir.proofs.StepLaws.{lift-stops, stop-first, stop-seq}
 use Rattle.scope.specs.declared.Scope.{Scope}
 use Rattle.scope.specs.declared.Declared.{Declared}
 use Rattle.scope.specs.declared.Declared.the-variants as Declared
 use Rattle.scope.specs.declared.Known.{Known}
 use Rattle.scope.specs.declared.Known.the-variants as Known
-use Rattle.scope.specs.Open.{scopeAt, Room, Afforded as NameAfforded, DeclareMeets, variableAt, variablesAt, IsFound, FindMeets}
+use Rattle.scope.specs.Open.{scopeAt, Room, Afforded as NameAfforded, DeclareMeets, FindMeets}
 use Rattle.scope.proofs.ScopeLaws.{Finds, find-some, find-unknown}
 use Rattle.keys.specs.Keys.{allKeys}
 use Rattle.expressions.specs.declared.answers.ExprType.{ExprType}
@@ -68,8 +68,8 @@ use Rattle.statements.specs.Answers.{variableOf, Leaves, States, Finishe
 use Rattle.statements.proofs.MeetLaws.{adds-in, adds-pure, adds-most, adds-same, meets-gave, meets-refused, meets-same, meets-most, meets-then, meets-lift}
 use Rattle.statements.proofs.StayLaws.{stays-refl, stays-then, stays-more, frame-stays, scope-stays, ready-stays, converting-next}
 use Rattle.statements.proofs.FitLaws.{type-is, forms-are}
-use Rattle.statements.proofs.DeclareLaws.{declaredThen, var-typed, var-afforded, variable-then, variable-not, taken-stays, declared-stays, declared-leaves}
-use Rattle.statements.proofs.StatedLaws.{states-gave, states-refused, finishes-refused, finished-next, finished-stop, leaves-same, scope-later, seq-then, seq-not}
+use Rattle.statements.proofs.DeclareLaws.{found-typed, declaredThen, var-typed, var-afforded, variable-then, variable-not, taken-stays, declared-stays, declared-leaves}
+use Rattle.statements.proofs.StatedLaws.{states-stop, states-gave, states-refused, finishes-refused, finished-next, finished-stop, leaves-same, scope-later, seq-then, seq-not, fails-as}
 
 -- ---- what changes nothing but may fail, and then the rest
 
@@ -85,16 +85,6 @@ module _ {X Y : Type 0} (x : Result X) (f : X → M Y) where
 -- ---- what the words of a For refer to
 
 module _ {tree text : List ℕ} (good : Good tree text) {r : ℕ} (k : IsKind tree 21 r) where
-  pub from-expr : {a : ℕ} → a ≡ wordOf tree r B → IsExpr tree a
-  from-expr {a} e =
-      let h = for-b tree text good r (k .below) (k .kind) in
-      subst (λ (z : ℕ). IsExpr tree z) (sym e) (is-expr tree text good (wordOf tree r B) (omega (arith, h .0, k .below)) (h .1))
-
-  pub until-expr : {a : ℕ} → a ≡ wordOf tree r C → IsExpr tree a
-  until-expr {a} e =
-      let h = for-c tree text good r (k .below) (k .kind) in
-      subst (λ (z : ℕ). IsExpr tree z) (sym e) (is-expr tree text good (wordOf tree r C) (omega (arith, h .0, k .below)) (h .1))
-
   -- its variable
   pub variable-is : {v : ℕ} → v ≡ wordOf tree r A → IsKind tree 24 v
   variable-is {v} e =
@@ -209,19 +199,6 @@ module _ {tree text l l′ s s′ : List ℕ} {m : M (Ir.VarId × Def.Scope)} {c
 
 -- ---- a variable of the blocks around
 
--- the type of a variable that is found is one of the tree's
-found-typed : (v : VarId) (b : Bool) (tree text s : List ℕ) (n : ℕ) (u : List ℕ) (m : ℕ) → ((j : ℕ) → j < m → TypeAt tree (wordAt s (8 * n + 16 * j + 12) / 2))
-    → IsFound (Known.Is v b) (findIn u (variablesAt text s n m)) → TypeAt tree (v .1)
-unfolding IsFound findIn variablesAt
-found-typed v b tree text s n u zero t h = absurd h
-found-typed v b tree text s n u (suc m) t h =
-    go (found-typed v b tree text s n u m (λ j k. t j (omega arith))) (sameText u (variableAt text s (8 * n + 16 * m) .name)) h
-  where
-    go : (IsFound (Known.Is v b) (findIn u (variablesAt text s n m)) → TypeAt tree (v .1))
-        → (c : Bool) → IsFound (Known.Is v b) (elim c [ true ↦ some (variableAt text s (8 * n + 16 * m)) | false ↦ findIn u (variablesAt text s n m) ]) → TypeAt tree (v .1)
-    go rest true f = subst (λ (z : ℕ). TypeAt tree z) (sym (ap (λ z. z .ty) (f .0))) (t m (omega arith))
-    go rest false f = rest f
-
 module _ {tree text l s : List ℕ} {c : Converter} (r : ℕ) {v : ℕ} (p : Converting tree text l s c) (ev : v ≡ wordOf tree r A) (free : wordOf tree v C ≡ none)
     (a : Known) (m : FindMeets text s (c .scope) (textOf tree text v A) a) where
   known-steps : forVariableSteps tree text s c r
@@ -236,9 +213,7 @@ module _ {tree text l s : List ℕ} {c : Converter} (r : ℕ) {v : ℕ} (p : Con
 
   refuses : {d : ConvertErrorKind} {x : ConvertError} → forVariableSteps tree text s c r ≡ fail d r → x ≡ record { kind = d; place = r }
       → FindsVariable tree text (forVariableSteps tree text s c r) c l s (ForVariable.Refused x) l s
-  refuses {d} e w = variable-refused refl
-      (subst (λ (z : ConvertError). StopsIn text (forVariableSteps tree text s c r) (c .counters) l (z .kind) (z .place)) (sym w)
-      (stop-of e (fail-stops text (c .counters) l d r))) (stays-refl (records tree) (c .scope .names) (c .operands) s)
+  refuses e w = variable-refused refl (stop-of e (fails-as text w)) (stays-refl (records tree) (c .scope .names) (c .operands) s)
 
   pub known-not : {x : ConvertError} → a ≡ Known.Unknown → x ≡ record { kind = UnknownVariable; place = r }
       → FindsVariable tree text (forVariableSteps tree text s c r) c l s (ForVariable.Refused x) l s
@@ -264,8 +239,7 @@ module _ {tree text l s : List ℕ} {c : Converter} (r : ℕ) {v : ℕ} (p : Con
     known-is h = variable-gave refl
         (adds-in text (adds-same (sym (found-steps ∙ skipped b (fail AssignToConstant r) (pure (varOf x, scopeIn tree text s c)) h))
         (adds-most (adds-pure (varOf x, scopeIn tree text s c) (c .counters) l (p .room)) (omega arith))))
-        (found-typed x b tree text s (c .scope .records) (textOf tree text v A) (c .scope .names)
-        (λ j i. subst (λ (z : ℕ). TypeAt tree (wordAt s (8 * z + 16 * j + 12) / 2)) (sym (p .ready .scoped .records-are)) (p .ready .scoped .types j i)) (met (Known.Is x b) q))
+        (found-typed p (textOf tree text v A) x b (met (Known.Is x b) q))
         (leaves-same p (stays-refl (records tree) (c .scope .names) (c .operands) s)) (stays-refl (records tree) (c .scope .names) (c .operands) s)
 
 -- ---- the variable that it declares
@@ -335,9 +309,8 @@ module _ {tree text l s : List ℕ} {c : Converter} (x : VarId) (r : ℕ) (p : C
       → Finishes tree text (forTurnsSteps tree text s c x r) tt n c l s (Finished.Refused e) l s
   unfolding forTurns program
   turns-not-int h w = finishes-refused refl
-      (subst (λ (z : ConvertError). StopsIn text (forTurnsSteps tree text s c x r) (c .counters) l (z .kind) (z .place)) (sym w)
-      (stop-of (no-int (typeAt tree text (x .1)) (fail NotInteger r) marked (forms-are tree text (x .1) f ef .0 ∙ ne-eqb f 1 h))
-      (fail-stops text (c .counters) l NotInteger r))) (stays-refl (records tree) (c .scope .names) (c .operands) s)
+      (stop-of (no-int (typeAt tree text (x .1)) (fail NotInteger r) marked (forms-are tree text (x .1) f ef .0 ∙ ne-eqb f 1 h)) (fails-as text w))
+      (stays-refl (records tree) (c .scope .names) (c .operands) s)
 
   module _ (i : f ≡ 1) {o : Outcome} {s₁ : List ℕ} (b : Checks tree (forBoundsSteps tree text s c r (x .1)) s o s₁) where
     int-steps : forTurnsSteps tree text s c x r ≡ lift (outcomeOf o) >> turns
@@ -429,11 +402,7 @@ module _ {tree text l s l₁ s₁ : List ℕ} {c : Converter} (r : ℕ) (p : Con
 
       pub head-turns-not : {e : ConvertError} → b ≡ Finished.Refused e
           → States tree text (forHeadSteps tree text s c r) (both (amount 0 1 0 0 0) n) 1 c l s (Stated.Refused e) l₂ s₂
-      head-turns-not {e} d = record {
-        meets = head-scope (seq-not text (pure (scopeAt tree text s₁ inner)) (t .meets .long) (finished-stop t d));
-        leaves = λ sc k e. let z : _≡_ {A = ℕ} 0 1 = cc in absurd (omega arith);
-        stays = head-stays;
-      }
+      head-turns-not d = states-stop (head-scope (seq-not text (pure (scopeAt tree text s₁ inner)) (t .meets .long) (finished-stop t d))) head-stays
 
       pub head-done : {k₁ : Counters} → b ≡ Finished.Done k₁ → NamesStay tree s₁ s₂
           → States tree text (forHeadSteps tree text s c r) (both (amount 0 1 0 0 0) n) 1 c l s (Stated.Done inner k₁) l₂ s₂

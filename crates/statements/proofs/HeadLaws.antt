@@ -3,9 +3,9 @@
 use mathlib.Core.Path.{_≡_, refl, sym, ap, _∙_, subst}
 use mathlib.Core.Bool.{Bool, true, false}
 use mathlib.Core.List.{List}
-use Prim.Native.Nat.{ℕ, _+_, _*_, _/_, _%_, _≤_, _<_}
+use Prim.Native.Nat.{ℕ, _+_, _*_, _≤_, _<_}
 use native.Mathlib.Omega.{arith}
-use lib.Dec.{eqb, lit<}
+use lib.Dec.{lit<}
 use lib.IntN.{ℤ, pos}
 use lib.ListN.{length}
 use mir.Syntax.{w64}
@@ -52,13 +52,8 @@ use Rattle.statements.proofs.EmitLaws.{emit-adds, var-adds}
 use Rattle.statements.proofs.ConvertLaws.{converted-next}
 use Rattle.statements.proofs.StatedLaws.{finishes-most, operand-then, operand-not, seq-then}
 
--- ---- an If's detail
+-- ---- where an If goes unless its condition holds
 
-pub one-bit : {d t : ℕ} → d ≡ t → t ≤ 1 → eqb d 1 ≡ bit 1 t
-unfolding bit
-one-bit {d = d} {t = t} e h = let q : d ≡ t / 1 % 2 = omega arith in ap (λ (x : ℕ). eqb x 1) q
-
--- where it goes unless its condition holds
 not-label : (b : Bool) (r : ℕ) → named (pick b 4 5) r ≡ pick b (otherwiseLabel r) (conditionEnd r)
 unfolding pick
 not-label true r = refl
@@ -158,11 +153,12 @@ module _ {tree text l s : List ℕ} {c : Converter} (p : Converting tree text l 
     fewer = while-records tree text good r x;
   }
 
-  pub first-bound : {r e : ℕ} → IsKind tree 21 r → e ≡ wordOf tree r B → IsExpr tree e
-  first-bound {r} x q = subst (λ (z : ℕ). IsExpr tree z) (sym q) (word-expr tree text good r (wordOf tree r B) (x .below) (for-b tree text good r (x .below) (x .kind)))
+module _ {tree text : List ℕ} (good : Good tree text) {r e : ℕ} (x : IsKind tree 21 r) where
+  pub first-bound : e ≡ wordOf tree r B → IsExpr tree e
+  first-bound q = subst (λ (z : ℕ). IsExpr tree z) (sym q) (word-expr tree text good r (wordOf tree r B) (x .below) (for-b tree text good r (x .below) (x .kind)))
 
-  pub second-bound : {r e : ℕ} → IsKind tree 21 r → e ≡ wordOf tree r C → IsExpr tree e
-  second-bound {r} x q = subst (λ (z : ℕ). IsExpr tree z) (sym q) (word-expr tree text good r (wordOf tree r C) (x .below) (for-c tree text good r (x .below) (x .kind)))
+  pub second-bound : e ≡ wordOf tree r C → IsExpr tree e
+  second-bound q = subst (λ (z : ℕ). IsExpr tree z) (sym q) (word-expr tree text good r (wordOf tree r C) (x .below) (for-c tree text good r (x .below) (x .kind)))
 
 -- ---- an operand first, and then what is always done with it
 

@@ -4,14 +4,14 @@ use mathlib.Core.Path.{_≡_, refl, sym, ap, ap₂, _∙_, subst}
 use mathlib.Core.Bool.{Bool, true, false}
 use mathlib.Core.List.{List}
 use mathlib.Core.Option.{Option, none, some}
-use Prim.Native.Nat.{ℕ, zero, suc, _+_, _*_, _/_, _%_, _≤_, _<_}
+use Prim.Native.Nat.{ℕ, _+_, _*_, _≤_, _<_}
 use native.Mathlib.Omega.{arith}
 use lib.Dec.{eqb}
 use lib.ListN.{length}
 use borrow.Author.Tests.{eq-eqb, ne-eqb}
 use Rattle.laws.specs.Fix.{pick}
 use Rattle.records.specs.declared.convert_error.ConvertError.{ConvertError}
-use Rattle.records.specs.Words.{detailOf, wordOf, wordAt, records, A, B, C}
+use Rattle.records.specs.Words.{detailOf, wordOf, records, A, B, C}
 use Rattle.records.specs.Good.{Good}
 use Rattle.records.proofs.GoodLaws.{inside, init-detail, init-c}
 use Rattle.syntax.specs.Syntax.{Text, Expr, Program, nullType, addressOfNull}
@@ -23,7 +23,7 @@ use Rattle.conversion.specs.ConvertError.{AssignToConstant, WrongAssignType, Al
 use Rattle.conversion.specs.Ir as Ir
 use Rattle.conversion.specs.Ir.{Copy, M, _>>=_, _>>_, pure, lift, emit}
 use Rattle.conversion.specs.Scope as Def
-use Rattle.conversion.specs.Scope.{Variable, findIn, find-variable}
+use Rattle.conversion.specs.Scope.{Variable, find-variable}
 use Rattle.conversion.specs.Expressions.{Functions, get-type}
 use Rattle.conversion.specs.Statements.{fit-operand, convert-expr, checkFits, assignTo, convert-assign, initNew, initBy, convert-init}
 use Rattle.conversion.proofs.MonadLaws.{regroup, seq-is}
@@ -34,26 +34,22 @@ use Rattle.ir.specs.declared.structs.VarId.{VarId}
 use Rattle.ir.specs.declared.structs.Operand.{Operand}
 use Rattle.ir.specs.declared.structs.Instr.the-variants.{Copy as copy}
 use Rattle.ir.specs.declared.structs.NewVariable.{NewVariable}
-use Rattle.ir.specs.Arena.{Room}
-use Rattle.ir.specs.Amounts.{Amount, amount, both}
+use Rattle.ir.specs.Amounts.{Amount, amount}
 use Rattle.ir.specs.Instructions.{operandOf, varOf}
-use Rattle.ir.specs.Steps.{StopsIn, Emits, AddsVar}
-use Rattle.ir.proofs.AmountLaws.{nothing-spent}
-use Rattle.ir.proofs.StepLaws.{next-in, lift-next, lift-stops, fail-stops}
-use Rattle.ir.proofs.StepCases.{next-of, stop-of}
+use Rattle.ir.specs.Steps.{Emits, AddsVar}
 use Rattle.scope.specs.declared.Scope.{Scope}
 use Rattle.scope.specs.declared.Known.{Known}
 use Rattle.scope.specs.declared.Known.the-variants as Known
 use Rattle.scope.specs.declared.Declared.{Declared}
 use Rattle.scope.specs.declared.Declared.the-variants as Declared
-use Rattle.scope.specs.Open.{Room as NameRoom, Afforded as NameAfforded, variableAt, variablesAt, scopeAt, IsFound, FindMeets, DeclareMeets}
+use Rattle.scope.specs.Open.{Room as NameRoom, Afforded as NameAfforded, scopeAt, FindMeets, DeclareMeets}
 use Rattle.scope.proofs.ScopeLaws.{find-some, find-unknown}
 use Rattle.keys.specs.Keys.{allKeys}
 use Rattle.expressions.specs.declared.answers.ExprType.{ExprType}
 use Rattle.expressions.specs.declared.answers.ExprType.the-variants as ExprType
 use Rattle.expressions.specs.declared.answers.Outcome.{Outcome}
 use Rattle.expressions.specs.declared.answers.Outcome.the-variants as Outcome
-use Rattle.expressions.specs.Answers.{refusal, outcomeOf, IsTyped, TypeMeets}
+use Rattle.expressions.specs.Answers.{outcomeOf, IsTyped, TypeMeets}
 use Rattle.expressions.proofs.OperandLaws.{first-type, type-of}
 use Rattle.expressions.proofs.TypingLaws.{is-typed}
 use Rattle.statements.specs.declared.answers.Converter.{Converter}
@@ -63,50 +59,16 @@ use Rattle.statements.specs.declared.answers.Fitted.{Fitted}
 use Rattle.statements.specs.declared.answers.Stated.{Stated}
 use Rattle.statements.specs.declared.answers.Stated.the-variants as Stated
 use Rattle.statements.specs.Converting.{Converting, withCounters, RoomFor, exprAmount, behindAmount, Afforded, ExprAfforded, BehindAfforded, StaysFor}
-use Rattle.statements.specs.Meets.{Answer, gave, refused, Adds, AddsIn, Meets}
+use Rattle.statements.specs.Meets.{Answer, Adds, Meets}
 use Rattle.statements.specs.Parts.{copyFitted, declareInit}
-use Rattle.statements.specs.Answers.{FitAdds, Converts, Leaves, States, StatesAs, DeclaresAs, exprSteps, initSteps, initNewSteps, assignSteps, assignToSteps, declareInitSteps}
+use Rattle.statements.specs.Answers.{FitAdds, Converts, StatesAs, DeclaresAs, exprSteps, initSteps, initNewSteps, assignSteps, assignToSteps, declareInitSteps}
 use Rattle.statements.proofs.MeetLaws.{adds-then, adds-seq, adds-pure, adds-most, adds-in, meets-gave, meets-refused, meets-same, meets-most}
 use Rattle.statements.proofs.StayLaws.{stays-refl, stays-then}
-use Rattle.statements.proofs.StatedLaws.{states-same, scope-later, leaves-same, type-converting, type-stays, typed-then, typed-not, operand-then, operand-not, seq-then, seq-not}
+use Rattle.statements.proofs.StatedLaws.{states-done, states-stop, states-same, states-kept, scope-later, type-converting, type-stays, typed-then, typed-not, operand-then, operand-not, fails-as, checked-then, checked-not}
+use Rattle.statements.proofs.LeafLaws.{mark-bit}
 use Rattle.statements.proofs.EmitLaws.{emit-adds}
 use Rattle.statements.proofs.ConvertLaws.{converted-next, converting-after}
-use Rattle.statements.proofs.DeclareLaws.{declaredThen, var-afforded, var-typed, declared-stays, declared-leaves, taken-stays, variable-then, variable-not}
-
--- ---- a statement's answer, from what its steps met
-
-module _ {tree text l l′ s s′ : List ℕ} {m : M Def.Scope} {n : Amount} {q : ℕ} {c : Converter} where
-  pub states-stop : {e : ConvertError} → Meets text m n (c .counters) l l′ (refused e) → StaysFor tree c s s′ → States tree text m n q c l s (Stated.Refused e) l′ s′
-  states-stop p stays = record {
-    meets = p;
-    leaves = λ sc k h. let z : _≡_ {A = ℕ} 0 1 = cc in absurd (omega arith);
-    stays = stays;
-  }
-
-  pub states-done : {sc : Scope} {k : Counters} → Meets text m n (c .counters) l l′ (gave (scopeAt tree text s′ sc) k) → Leaves tree text q c s′ sc
-      → StaysFor tree c s s′ → States tree text m n q c l s (Stated.Done sc k) l′ s′
-  states-done {sc = sc} p h stays = record {
-    meets = p;
-    leaves = λ sc′ k′ e. let d : sc ≡ sc′ = cc in subst (λ (x : Scope). Leaves tree text q c s′ x) d h;
-    stays = stays;
-  }
-
-  -- the scope as it was
-  pub states-kept : {k : Counters} → Converting tree text l s c → Meets text m n (c .counters) l l′ (gave (scopeAt tree text s (c .scope)) k)
-      → StaysFor tree c s s′ → States tree text m n q c l s (Stated.Done (c .scope) k) l′ s′
-  states-kept {k = k} p i st =
-      states-done (subst (λ (z : Def.Scope). Meets text m n (c .counters) l l′ (gave z k)) (sym (scope-later p st)) i) (leaves-same p st) st
-
--- ---- what is checked: it is fine, or refused
-
-module _ {m : M (Unit {0})} {a : Outcome} (e : m ≡ lift (outcomeOf a)) (text : List ℕ) {k : Counters} {l : List ℕ} where
-  pub outcome-next : a ≡ Outcome.Done → Room k l → AddsIn text m (amount 0 0 0 0 0) k l tt k l
-  unfolding outcomeOf
-  outcome-next q room = record { next = next-of e (next-in text (lift-next (outcomeOf a) tt k l (ap outcomeOf q) room)); spent = nothing-spent }
-
-  pub outcome-stop : {z : ConvertError} → a ≡ Outcome.Refused z → StopsIn text m k l (z .kind) (z .place)
-  unfolding outcomeOf refusal
-  outcome-stop {z} q = stop-of e (lift-stops text (outcomeOf a) k l (z .kind) (z .place) (ap outcomeOf q))
+use Rattle.statements.proofs.DeclareLaws.{found-typed, declaredThen, var-afforded, var-typed, declared-stays, declared-leaves, taken-stays, variable-then, variable-not}
 
 -- ---- the copy
 
@@ -203,15 +165,15 @@ module _ {tree text l s : List ℕ} {c : Converter} {r : ℕ} (p : Converting tr
         pub assign-unfit : {z : ConvertError} → g ≡ Outcome.Refused z → StatesAs (λ t u i k j. assignToSteps t u i k j v) c r tree text l s (Stated.Refused z) l₁ s₂
         assign-unfit d =
             states-stop (value-then (typed-then further t (λ y. checkedThen (operandOf o) y) w
-            (seq-not text (copyFitted (program tree text) (varOf v) (operandOf o) >> pure (scopeAt tree text s (c .scope))) refl (outcome-stop h text d)))) both-stay
+            (checked-not g h (copyFitted (program tree text) (varOf v) (operandOf o) >> pure (scopeAt tree text s (c .scope))) text d))) both-stay
 
         pub assign-done : {k₂ : Counters} {l₂ : List ℕ} → g ≡ Outcome.Done → Adds (copyFitted (program tree text) (varOf v) (operandOf o)) (amount 2 1 0 0 1) k l₁ tt k₂ l₂
             → StatesAs (λ t u i k j. assignToSteps t u i k j v) c r tree text l s (Stated.Done (c .scope) k₂) l₂ s₂
         assign-done {k₂ = k₂} {l₂ = l₂} d i =
             let S : Def.Scope = scopeAt tree text s (c .scope) in
-            states-kept p (value-then (typed-then further t (λ y. checkedThen (operandOf o) y) w
-            (meets-most text (seq-then text (copyFitted (program tree text) (varOf v) (operandOf o) >> pure S) refl (outcome-next h text d (further .room))
-            (meets-gave text (i .long) (adds-in text (adds-seq (pure S) i (adds-pure S k₂ l₂ (i .next .room)))))) (omega arith)))) both-stay
+            states-kept p both-stay (value-then (typed-then further t (λ y. checkedThen (operandOf o) y) w
+            (meets-most text (checked-then g h (copyFitted (program tree text) (varOf v) (operandOf o) >> pure S) text d (further .room)
+            (meets-gave text (i .long) (adds-in text (adds-seq (pure S) i (adds-pure S k₂ l₂ (i .next .room)))))) (omega arith))))
 
 -- ---- a known name: refused where it is constant
 
@@ -221,8 +183,7 @@ module _ {tree text l s : List ℕ} {c : Converter} (r : ℕ) (v : VarId) {const
   unfolding convert-assign pick
   assign-constant {z} h w =
       states-stop (meets-same text (ap (λ (b : Bool). assignSteps tree text s c r v b) (sym h))
-      (meets-refused text refl (subst (λ (y : ConvertError). StopsIn text (assignSteps tree text s c r v true) (c .counters) l (y .kind) (y .place)) (sym w)
-      (fail-stops text (c .counters) l AssignToConstant r)))) (stays-refl (records tree) (c .scope .names) (c .operands) s)
+      (meets-refused text refl (fails-as text w))) (stays-refl (records tree) (c .scope .names) (c .operands) s)
 
   pub assign-plain : {a : Stated} {l′ s′ : List ℕ} → constant ≡ false → StatesAs (λ t u i k j. assignToSteps t u i k j v) c r tree text l s a l′ s′
       → StatesAs (λ t u i k j. assignSteps t u i k j v constant) c r tree text l s a l′ s′
@@ -230,13 +191,6 @@ module _ {tree text l s : List ℕ} {c : Converter} (r : ℕ) (v : VarId) {const
   assign-plain h i = states-same (ap (λ (b : Bool). assignSteps tree text s c r v b) (sym h)) i
 
 -- ---- a new name, behind its value
-
--- a detail of 0 or 1 is its mark
-mark-is : {tree text : List ℕ} → Good tree text → {r d : ℕ} → IsKind tree 16 r → d ≡ detailOf tree r → eqb d 1 ≡ bit 1 (detailOf tree r)
-unfolding bit
-mark-is {tree} {text} good {r} {d} x ed =
-    let q : d ≡ detailOf tree r / 1 % 2 = omega (arith, ed, init-detail tree text good r (x .below) (x .kind)) in
-    ap (λ (z : ℕ). eqb z 1) q
 
 -- the copy of the value, behind the name
 abbrev copied : Operand → Ir.VarId → Def.Scope → M Def.Scope
@@ -258,7 +212,7 @@ module _ {tree text l s : List ℕ} {c : Converter} {r y : ℕ} (p : Converting 
   declare-steps : (src : Operand) {d : ℕ} → d ≡ detailOf tree r
       → declaredThen tree text r (eqb d 1) r z (scopeAt tree text s (c .scope)) (copied src) ≡ declareInitSteps tree text s c r y src
   unfolding declareInit
-  declare-steps src ed = ap₂ (λ (b : Bool) (w : ℕ). declaredThen tree text r b r w (scopeAt tree text s (c .scope)) (copied src)) (mark-is (p .ready .keyed .good) x ed) ez
+  declare-steps src ed = ap₂ (λ (b : Bool) (w : ℕ). declaredThen tree text r b r w (scopeAt tree text s (c .scope)) (copied src)) (mark-bit ed (init-detail tree text (p .ready .keyed .good) r (x .below) (x .kind))) ez
 
   module _ {made : NewVariable} {l₁ : List ℕ} (long : length l₁ ≡ length l) (new : AddsVar z (c .counters) l made l₁) where
     pub new-requires : (r * 32 + 32 ≤ length tree) × NameRoom (c .scope) s × NameAfforded (c .scope) (made .var)
@@ -361,19 +315,6 @@ module _ (P : Program) (F : Functions) (r : ℕ) (n : Text) (e : Expr) (sc : Def
   unfolding convert-assign assignTo
   assign-by u v constant x h q = ap₂ (λ (b : Bool) (y : Ir.VarId). convert-assign P F r e (record { name = u; constant = b; var-id = y }) sc) (sym h) (sym q)
 
--- a variable that is found has a type of the tree, where the open names have
-found-typed : (v : VarId) (b : Bool) (tree text s : List ℕ) (n : ℕ) (u : List ℕ) (m : ℕ) → ((j : ℕ) → j < m → TypeAt tree (wordAt s (8 * n + 16 * j + 12) / 2))
-    → IsFound (Known.Is v b) (findIn u (variablesAt text s n m)) → TypeAt tree (v .1)
-unfolding IsFound findIn variablesAt
-found-typed v b tree text s n u zero t h = absurd h
-found-typed v b tree text s n u (suc m) t h =
-    go (found-typed v b tree text s n u m (λ j k. t j (omega arith))) (Ir.sameText u (variableAt text s (8 * n + 16 * m) .name)) h
-  where
-    go : (IsFound (Known.Is v b) (findIn u (variablesAt text s n m)) → TypeAt tree (v .1))
-        → (c : Bool) → IsFound (Known.Is v b) (elim c [ true ↦ some (variableAt text s (8 * n + 16 * m)) | false ↦ findIn u (variablesAt text s n m) ]) → TypeAt tree (v .1)
-    go rest true f = subst (λ (z : ℕ). TypeAt tree z) (sym (ap (λ z. z .ty) (f .0))) (t m (omega arith))
-    go rest false f = rest f
-
 module _ {tree text l s : List ℕ} {c : Converter} {r : ℕ} (p : Converting tree text l s c) (x : IsKind tree 16 r) {d : ℕ} (ed : d ≡ detailOf tree r) where
   abbrev S : Def.Scope
   S = scopeAt tree text s (c .scope)
@@ -382,7 +323,7 @@ module _ {tree text l s : List ℕ} {c : Converter} {r : ℕ} (p : Converting tr
   value = exprAt tree text (wordOf tree r C)
 
   mark : eqb d 1 ≡ bit 1 (detailOf tree r)
-  mark = mark-is (p .ready .keyed .good) x ed
+  mark = mark-bit ed (init-detail tree text (p .ready .keyed .good) r (x .below) (x .kind))
 
   pub init-constant : {a : Stated} {l′ s′ : List ℕ} → d ≡ 1 → StatesAs initNewSteps c r tree text l s a l′ s′ → StatesAs initSteps c r tree text l s a l′ s′
   unfolding convert-init
@@ -401,9 +342,7 @@ module _ {tree text l s : List ℕ} {c : Converter} {r : ℕ} (p : Converting tr
 
     module _ {v : VarId} {constant : Bool} (q : known ≡ Known.Is v constant) where
       pub known-typed : TypeAt tree (v .1)
-      known-typed =
-          found-typed v constant tree text s (c .scope .records) (textOf tree text r A) (c .scope .names)
-          (λ j h. subst (λ (z : ℕ). TypeAt tree (wordAt s (8 * z + 16 * j + 12) / 2)) (sym (p .ready .scoped .records-are)) (p .ready .scoped .types j h)) (was q)
+      known-typed = found-typed p (textOf tree text r A) v constant (was q)
 
       pub init-known : {a : Stated} {l′ s′ : List ℕ} → (d ≡ 1 → ⊥) → StatesAs (λ t u i k j. assignSteps t u i k j v constant) c r tree text l s a l′ s′
           → StatesAs initSteps c r tree text l s a l′ s′

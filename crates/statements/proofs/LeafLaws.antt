@@ -4,7 +4,7 @@ use mathlib.Core.Path.{_≡_, refl, sym, ap, ap₂, _∙_, subst}
 use mathlib.Core.Bool.{Bool, true, false}
 use mathlib.Core.List.{List}
 use mathlib.Core.Option.{Option, none, some}
-use Prim.Native.Nat.{ℕ, zero, suc, _+_, _*_, _/_, _%_, _^_, _≤_, _<_}
+use Prim.Native.Nat.{ℕ, _+_, _*_, _/_, _%_, _^_, _≤_, _<_}
 use native.Mathlib.Omega.{arith}
 use lib.Dec.{eqb, ltb, leb}
 use lib.ListN.{length}
@@ -40,8 +40,7 @@ use Rattle.ir.specs.Arena.{Room}
 use Rattle.ir.specs.Amounts.{Amount, amount}
 use Rattle.ir.specs.Floats.{entry, entryOf}
 use Rattle.ir.specs.Instructions.{operandOf}
-use Rattle.ir.specs.Steps.{StopsIn, stringAt, NumbersString, NumbersFloat}
-use Rattle.ir.proofs.StepLaws.{fail-stops}
+use Rattle.ir.specs.Steps.{stringAt, NumbersString, NumbersFloat}
 use Rattle.ir.proofs.StepCases.{next-of, stop-of}
 use Rattle.scope.specs.declared.Known.{Known}
 use Rattle.scope.specs.declared.Known.the-variants as Known
@@ -60,15 +59,14 @@ use Rattle.statements.specs.Meets.{AddsIn}
 use Rattle.statements.specs.Answers.{Converts, LeafAdds, exprSteps}
 use Rattle.statements.proofs.MeetLaws.{Most, adds-in, adds-in-then, adds-pure, meets-gave, meets-refused, meets-most}
 use Rattle.statements.proofs.StayLaws.{stays-refl, names-refl}
+use Rattle.statements.proofs.StatedLaws.{fails-as}
 
 -- ---- marks
 
 -- a detail of 0 or 1 is its mark
-mark-bit : (d : ℕ) → d < 2 → eqb d 1 ≡ bit 1 d
+pub mark-bit : {d t : ℕ} → d ≡ t → t < 2 → eqb d 1 ≡ bit 1 t
 unfolding bit
-mark-bit zero h = refl
-mark-bit (suc zero) h = refl
-mark-bit (suc (suc d)) h = absurd (omega arith)
+mark-bit {d = d} {t = t} e h = let q : d ≡ t / 1 % 2 = omega arith in ap (λ (x : ℕ). eqb x 1) q
 
 pub int-is : (tree : List ℕ) (e m b : ℕ) → m ≡ detailOf tree e → b ≡ wordOf tree e 0 + wordOf tree e 1 * 4294967296 → (text : List ℕ)
     → OInt (toZ w64 b) (eqb (m % 2) 1) (eqb (m / 2 % 2) 1)
@@ -102,8 +100,7 @@ module _ (tree text l s : List ℕ) (c : Converter) (m : M Ir.Operand) where
   pub refuses-operand : (kind : ConvertErrorKind) (place : ℕ) (x : ConvertError) → x ≡ record { kind = kind; place = place } → m ≡ fail kind place
       → Converts tree text m (amount 0 0 0 0 0) c l s (Converted.Refused x) l s
   refuses-operand kind place x q e = record {
-    meets = meets-refused text refl
-        (subst (λ (y : ConvertError). StopsIn text m (c .counters) l (y .kind) (y .place)) (sym q) (stop-of e (fail-stops text (c .counters) l kind place)));
+    meets = meets-refused text refl (stop-of e (fails-as text q));
     operand = λ o k z. let w : _≡_ {A = ℕ} 0 1 = cc in absurd (omega arith);
     stays = stays-refl _ _ _ s;
     names = names-refl _ s;
@@ -117,7 +114,7 @@ module _ (tree text : List ℕ) (e : ℕ) (k : Counters) (l l′ : List ℕ) (r 
       → LeafAdds tree text e (amount 0 0 0 0 1) k l (record { operand = Operand.Float (r .number); counters = r .counters }) l′
   unfolding convert-expr wideOf OperandIn
   float-leaf good is b d f eb ed ef p =
-      let mark : eqb d 1 ≡ bit 1 (detailOf tree e) = ap (λ (x : ℕ). eqb x 1) ed ∙ mark-bit (detailOf tree e) (float-detail tree text good e (is .below) (is .kind)) in
+      let mark : eqb d 1 ≡ bit 1 (detailOf tree e) = mark-bit ed (float-detail tree text good e (is .below) (is .kind)) in
       let is-entry : entry (wideOf tree text e A) (bit 1 (detailOf tree e)) ≡ entryOf f = sym (ef ∙ ap₂ (λ (x : ℕ) (y : Bool). entry x y) eb mark) in
       record {
         adds = λ S. adds-of
@@ -242,7 +239,7 @@ module _ (tree text l s : List ℕ) (c : Converter) (e : ℕ) (x : Converting tr
   unfolding convert-expr OperandIn
   leaf-bool q d ed =
       let good = x .ready .keyed .good in
-      let mark : eqb d 1 ≡ bit 1 (detailOf tree e) = ap (λ (z : ℕ). eqb z 1) ed ∙ mark-bit (detailOf tree e) (bool-detail tree text good e (expr-low tree text good e is) (sym ek ∙ q)) in
+      let mark : eqb d 1 ≡ bit 1 (detailOf tree e) = mark-bit ed (bool-detail tree text good e (expr-low tree text good e is) (sym ek ∙ q)) in
       converts-most (gives-operand tree text l s c (exprSteps tree text s c e) (Operand.Bool (eqb d 1)) (x .room)
       (rw (expr-bool tree text e (sym ek ∙ q)) (ap (λ (z : Bool). pure (OBool z)) (sym mark))) tt) (omega arith)
 

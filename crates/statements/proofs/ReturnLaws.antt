@@ -22,7 +22,7 @@ use Rattle.syntax.specs.Count.{under, argsRecords, exprRecords, statementRecord
 use Rattle.syntax.specs.Decode.{program, reference, textOf}
 use Rattle.syntax.specs.Places.{IsKind, TypeAt, FunctionAt, functionOf, exprAt, argsAt, statementAt}
 use Rattle.syntax.proofs.Records.{expr-int, expr-float, expr-str, expr-bool, expr-name, expr-null, expr-sizeOf, expr-unary, expr-binary, expr-call, statement-return, statement-call, function-rec, function-return, return-is}
-use Rattle.conversion.specs.ConvertError.{ConvertErrorKind, NotBool, ReturnWithoutType, WrongReturnType, WouldPanic}
+use Rattle.conversion.specs.ConvertError.{NotBool, ReturnWithoutType, WrongReturnType, WouldPanic}
 use Rattle.conversion.specs.Ir as Ir
 use Rattle.conversion.specs.Ir.{Return, Call, M, _>>=_, _>>_, pure, fail, lift, emit}
 use Rattle.conversion.specs.Scope as Def
@@ -37,8 +37,7 @@ use Rattle.ir.specs.declared.structs.Instr.the-variants.{Return as return, Call
 use Rattle.ir.specs.Amounts.{Amount, amount, both}
 use Rattle.ir.specs.Arena.{Room}
 use Rattle.ir.specs.Instructions.{operandOf}
-use Rattle.ir.specs.Steps.{StopsIn, Emits}
-use Rattle.ir.proofs.StepLaws.{fail-stops}
+use Rattle.ir.specs.Steps.{Emits}
 use Rattle.ir.proofs.StepCases.{picked, skipped}
 use Rattle.scope.specs.Open.{scopeAt}
 use Rattle.keys.specs.Keys.{allKeys}
@@ -60,35 +59,16 @@ use Rattle.statements.specs.declared.answers.Stated.{Stated}
 use Rattle.statements.specs.declared.answers.Stated.the-variants as Stated
 use Rattle.statements.specs.declared.answers.Fitted.{Fitted}
 use Rattle.statements.specs.Stack.{stackAt}
-use Rattle.statements.specs.Meets.{Answer, gave, refused, Adds, AddsIn, Meets}
+use Rattle.statements.specs.Meets.{Adds, AddsIn}
 use Rattle.statements.specs.Parts.{passArgs}
 use Rattle.statements.specs.Converting.{Converting, withCounters, RoomFor, Afforded, ExprAfforded, ArgsAfforded, BehindAfforded, exprAmount, argsAmount, argsUnder, argsValues, behindAmount, StackIn, StaysFor}
 use Rattle.statements.specs.Answers.{argsOf, Converts, ConvertsArgs, States, FitAdds, ConvertsAs, StatesAs, CallOnlyAs, exprSteps, condSteps, argsSteps, returnSteps, returnAsSteps, callStatementSteps, callOnlySteps}
 use Rattle.statements.proofs.MeetLaws.{Most, adds-in, adds-then, adds-seq, adds-pure, adds-same, meets-gave, meets-refused, meets-same, meets-most, meets-then, meets-stop, meets-lift, meets-lift-stop}
 use Rattle.statements.proofs.StayLaws.{names-then, frame-names, stays-refl, stays-then, frame-stays, converting-next}
-use Rattle.statements.proofs.StatedLaws.{states-gave, states-same, states-most, scope-later, leaves-same, type-stays, typed-then, typed-not, operand-then, operand-not, seq-not}
+use Rattle.statements.proofs.StatedLaws.{states-stop, states-same, states-most, states-kept, scope-later, type-stays, typed-then, typed-not, operand-then, operand-not, seq-not, fails-as, checked-then, checked-not}
 use Rattle.statements.proofs.EmitLaws.{emit-adds}
 use Rattle.statements.proofs.ConvertLaws.{converts-same, converted-next}
 use Rattle.statements.proofs.ArgsLaws.{args-count}
-
--- ---- an error that the code makes; a check before the rest
-
-pub fails-as : {X : Type 0} {k : Counters} {l : List ℕ} {kind : ConvertErrorKind} {r : ℕ} {z : ConvertError} (text : List ℕ) → z ≡ record { kind = kind; place = r }
-    → StopsIn {A = X} text (fail kind r) k l (z .kind) (z .place)
-fails-as {X = X} {k = k} {l = l} {kind = kind} {r = r} text q =
-    subst (λ (v : ConvertError). StopsIn {A = X} text (fail kind r) k l (v .kind) (v .place)) (sym q) (fail-stops text k l kind r)
-
-module _ {X : Type 0} {m : M (Unit {0})} (o : Outcome) (q : m ≡ lift (outcomeOf o)) (f : M X) where
-  as-lift : lift (outcomeOf o) >>= (λ (u : Unit {0}). f) ≡ m >> f
-  as-lift = sym (seq-is (lift (outcomeOf o)) f) ∙ ap (λ (z : M (Unit {0})). z >> f) (sym q)
-
-  pub checked-then : {n : Amount} {k : Counters} {l l′ : List ℕ} {a : Answer X} (text : List ℕ) → o ≡ Outcome.Done → Room k l → Meets text f n k l l′ a → Meets text (m >> f) n k l l′ a
-  unfolding outcomeOf
-  checked-then text w room i = meets-same text as-lift (meets-lift text (λ (u : Unit {0}). f) room (ap outcomeOf w) i)
-
-  pub checked-not : {n : Amount} {k : Counters} {l : List ℕ} {z : ConvertError} (text : List ℕ) → o ≡ Outcome.Refused z → Meets text (m >> f) n k l l (refused z)
-  unfolding outcomeOf refusal
-  checked-not text w = meets-same text as-lift (meets-lift-stop text (λ (u : Unit {0}). f) refl (ap outcomeOf w))
 
 -- ---- a condition
 
@@ -131,24 +111,8 @@ module _ {tree text l s : List ℕ} {c : Converter} {e : ℕ} (p : Converting tr
           names = names-then (frame-names (t .frame)) (i′ .names);
         }
 
--- ---- a statement, from what it meets
+-- ---- a statement behind typing, which writes no table
 
-module _ {tree text l l′ s s′ : List ℕ} {m : M Def.Scope} {n : Amount} {q : ℕ} {c : Converter} (st : StaysFor tree c s s′) where
-  pub states-stop : {z : ConvertError} → Meets text m n (c .counters) l l′ (refused z) → States tree text m n q c l s (Stated.Refused z) l′ s′
-  states-stop i = record {
-    meets = i;
-    leaves = λ sc k e. let z : _≡_ {A = ℕ} 0 1 = cc in absurd (omega arith);
-    stays = st;
-  }
-
-  -- the scope is the one from before
-  pub states-on : {k : Counters} → Converting tree text l s c → Meets text m n (c .counters) l l′ (gave (scopeAt tree text s (c .scope)) k)
-      → States tree text m n q c l s (Stated.Done (c .scope) k) l′ s′
-  states-on {k = k} p i =
-      states-gave (i .long)
-      (subst (λ (S : Def.Scope). AddsIn text m n (c .counters) l S k l′) (sym (scope-later p st)) (i .gives (scopeAt tree text s (c .scope)) k refl)) (leaves-same p st) st
-
--- behind typing, which writes no table
 module _ {tree text l s : List ℕ} {c : Converter} {e : ℕ} (p : Converting tree text l s c) {ty : ExprType} {s₁ : List ℕ} (t : TypeMeets tree text s (c .scope) e ty s₁)
     (f : Def.Scope → ℕ → M Def.Scope) where
   abbrev typedSteps : M Def.Scope
@@ -165,7 +129,7 @@ module _ {tree text l s : List ℕ} {c : Converter} {e : ℕ} (p : Converting tr
       }
 
   pub typed-refused : {n : Amount} {q : ℕ} {z : ConvertError} → ty ≡ ExprType.Refused z → States tree text typedSteps n q c l s (Stated.Refused z) l s₁
-  typed-refused w = states-stop (type-stays p t) (typed-not p t (f (scopeAt tree text s (c .scope))) w)
+  typed-refused w = states-stop (typed-not p t (f (scopeAt tree text s (c .scope))) w) (type-stays p t)
 
 -- ---- the expression of a Return or of a call statement
 
@@ -233,13 +197,13 @@ module _ {tree text l s : List ℕ} {c : Converter} {r e : ℕ} (p : Converting 
     module _ (o : Outcome) (q : fitsIn ≡ lift (outcomeOf o)) where
       pub return-unfit : {z : ConvertError} → o ≡ Outcome.Refused z → StatesAs (λ t x s k q. returnAsSteps t x s k q y expected) c r tree text l s (Stated.Refused z) l s
       unfolding returnAs
-      return-unfit w = as-return (amount 0 0 0 0 0) (omega arith) (states-stop (stays-refl (records tree) (c .scope .names) (c .operands) s) (checked-not o q valued text w))
+      return-unfit w = as-return (amount 0 0 0 0 0) (omega arith) (states-stop (checked-not o q valued text w) (stays-refl (records tree) (c .scope .names) (c .operands) s))
 
       module _ (fine : o ≡ Outcome.Done) {v : Converted} {l₁ s₁ : List ℕ}
           (m : Converts tree text (exprSteps tree text s c e) (exprAmount (under (exprAt tree text e))) c l s v l₁ s₁) where
         pub return-stop : {z : ConvertError} → v ≡ Converted.Refused z → StatesAs (λ t x s k q. returnAsSteps t x s k q y expected) c r tree text l s (Stated.Refused z) l₁ s₁
         unfolding returnAs
-        return-stop w = as-return (amount 0 0 0 0 0) (omega arith) (states-stop (m .stays) (checked-then o q valued text fine (p .room) (operand-not m fitted w)))
+        return-stop w = as-return (amount 0 0 0 0 0) (omega arith) (states-stop (checked-then o q valued text fine (p .room) (operand-not m fitted w)) (m .stays))
 
         pub return-done : {a : Operand} {k k₃ : Counters} {g : Fitted} {l₂ l₃ : List ℕ} → v ≡ Converted.Is a k
             → FitAdds tree (fit-operand (program tree text) (operandOf a) expected) (amount 1 1 0 0 1) k l₁ g l₂
@@ -251,7 +215,7 @@ module _ {tree text l s : List ℕ} {c : Converter} {r e : ℕ} (p : Converting 
             let last = adds-then ended (i .adds) (adds-seq (pure S) (emit-adds h j) (adds-pure S k₃ l₃ (j .next .room))) in
             let u = under (exprAt tree text e) in
             as-return (both (exprAmount u) (both (amount 1 1 0 0 1) (both (amount 1 0 0 0 0) (amount 0 0 0 0 0)))) (omega arith)
-            (states-on (m .stays) p (checked-then o q valued text fine (p .room) (operand-then m fitted w (meets-gave text (last .long) (adds-in text last)))))
+            (states-kept p (m .stays) (checked-then o q valued text fine (p .room) (operand-then m fitted w (meets-gave text (last .long) (adds-in text last)))))
 
 -- ---- a Return, once its value is typed
 
@@ -286,7 +250,7 @@ module _ {tree text l s : List ℕ} {c : Converter} {r e : ℕ} (p : Converting 
       return-none q h = typed-states p typed byFunction w
           (states-same (ap (λ (o : Option ℕ). returnAs (program tree text) (allKeys tree text) r (exprAt tree text (wordOf tree r A)) y (scopeAt tree text s₁ (c .scope)) o)
           (sym (function-type s₁ ∙ picked (eqb expected none) nothing (some expected) (eq-eqb expected none q))))
-          (states-stop (stays-refl (records tree) (c .scope .names) (c .operands) s₁) (meets-refused text refl (fails-as text h))))
+          (states-stop (meets-refused text refl (fails-as text h)) (stays-refl (records tree) (c .scope .names) (c .operands) s₁)))
 
       pub return-some : {a : Stated} {l₁ s₂ : List ℕ} → (expected ≡ none → ⊥)
           → StatesAs (λ t x s k q. returnAsSteps t x s k q y expected) c r tree text l s₁ a l₁ s₂ → StatesAs returnSteps c r tree text l s a l₁ s₂
@@ -320,7 +284,7 @@ module _ {tree text l s : List ℕ} {c : Converter} {e : ℕ} (p : Converting tr
       passed os = callFunction (program tree text) (allKeys tree text) nothing (functionOf tree text g) os >> pure (scopeAt tree text s (c .scope))
 
       pub values-stop : {z : ConvertError} → a ≡ ConvertedArgs.Refused z → CallOnlyAs (λ t x s k q. callOnlySteps t x s k q g) c e tree text l s (Stated.Refused z) l₁ s₁
-      values-stop {z = z} w = states-stop (m .stays) (meets-stop text passed (m .meets .long) (m .meets .stops z (ap (argsOf s₁ (records tree) (c .operands)) w)))
+      values-stop {z = z} w = states-stop (meets-stop text passed (m .meets .long) (m .meets .stops z (ap (argsOf s₁ (records tree) (c .operands)) w))) (m .stays)
 
     module _ {count : ℕ} {k : Counters} (w : a ≡ ConvertedArgs.Done count k) where
       computed : AddsIn text (argsSteps tree text s c (wordOf tree e C)) (argsAmount (argsUnder values) (argsValues values)) (c .counters) l (stackAt s₁ (records tree) (c .operands) count) k l₁
@@ -351,7 +315,7 @@ module _ {tree text l s : List ℕ} {c : Converter} {e : ℕ} (p : Converting tr
           subst (λ (z : ℕ). Adds (emit (Call nothing z)) (amount 1 0 0 0 0) k₁ l₂ tt k₂ l₃) (sym (function-rec tree text (p .ready .keyed .good) g at)) (emit-adds h j) in
           let last = adds-same (call-parts (program tree text) (allKeys tree text) F os S)
           (adds-seq (pure S) (adds-seq (emit (Call nothing (F .recOf))) i j′) (adds-pure S k₂ l₃ (j .next .room))) in
-          states-on (stays-then (omega arith) (omega arith) (m .stays) st) p
+          states-kept p (stays-then (omega arith) (omega arith) (m .stays) st)
           (meets-most text (meets-then text (passed g) (m .meets .long) computed (meets-gave text (last .long) (adds-in text last)))
           (omega (arith, values-under, args-count values, m .operands count k w .0)))
 
@@ -387,14 +351,14 @@ module _ {tree text l s : List ℕ} {c : Converter} {r e : ℕ} (p : Converting 
     pub resolved-stop : {z : ConvertError} → callee ≡ Resolved.Refused z → StatesAs callStatementSteps c r tree text l s (Stated.Refused z) l s₁
     unfolding calleeOf refusal
     resolved-stop w = states-same is-called
-        (states-stop resolved-stays (meets-lift-stop text (called (scopeAt tree text s (c .scope))) refl (m .meets ∙ ap (calleeOf tree text) w)))
+        (states-stop (meets-lift-stop text (called (scopeAt tree text s (c .scope))) refl (m .meets ∙ ap (calleeOf tree text) w)) resolved-stays)
 
     pub resolved-cast : {to : ℕ} {z : ConvertError} → callee ≡ Resolved.Cast to → z ≡ record { kind = WouldPanic; place = r }
         → StatesAs callStatementSteps c r tree text l s (Stated.Refused z) l s₁
     unfolding calleeOf callStatement
     resolved-cast w q = states-same is-called
-        (states-stop resolved-stays (meets-lift text (called (scopeAt tree text s (c .scope))) (p .room) (m .meets ∙ ap (calleeOf tree text) w)
-        (seq-not {X = Unit {0}} text (pure (scopeAt tree text s (c .scope))) refl (fails-as text q))))
+        (states-stop (meets-lift text (called (scopeAt tree text s (c .scope))) (p .room) (m .meets ∙ ap (calleeOf tree text) w)
+        (seq-not {X = Unit {0}} text (pure (scopeAt tree text s (c .scope))) refl (fails-as text q))) resolved-stays)
 
     function-parts : (S : Def.Scope) (g : ℕ) → only S g ≡ called S (CallFunction (functionOf tree text g))
     unfolding callStatement
@@ -448,4 +412,4 @@ module _ {tree text l s : List ℕ} {c : Converter} {r e : ℕ} (p : Converting 
     typed-only {y = y} w =
         let S = scopeAt tree text s (c .scope) in
         let done = adds-pure S (c .counters) l (p .room) in
-        states-most {q = 0} (omega arith) (omega arith) (states-same never-run (states-on (type-stays p t) p (typed-then p t (dropped S) w (meets-gave text (done .long) (adds-in text done)))))
+        states-most {q = 0} (omega arith) (omega arith) (states-same never-run (states-kept p (type-stays p t) (typed-then p t (dropped S) w (meets-gave text (done .long) (adds-in text done)))))

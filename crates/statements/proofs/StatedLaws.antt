@@ -2,32 +2,34 @@
 -- By the laws of steps in a row; the answers are told apart by their constructor, and the scope is the same as long as its names stay. Assumes nothing.
 use mathlib.Core.Path.{_≡_, refl, sym, ap, _∙_, subst}
 use mathlib.Core.List.{List}
-use Prim.Native.Nat.{ℕ, _+_, _≤_}
+use Prim.Native.Nat.{ℕ, _≤_}
 use native.Mathlib.Omega.{arith}
 use lib.ListN.{length}
 use Rattle.records.specs.declared.convert_error.ConvertError.{ConvertError}
-use Rattle.records.specs.Words.{records}
 use Rattle.syntax.specs.Decode.{program}
 use Rattle.syntax.specs.Places.{exprAt}
-use Rattle.conversion.specs.ConvertError.{Result, ok, err}
+use Rattle.conversion.specs.ConvertError.{ConvertErrorKind, ok, err}
 use Rattle.conversion.specs.Ir as Ir
-use Rattle.conversion.specs.Ir.{M, _>>=_, _>>_, pure, lift}
+use Rattle.conversion.specs.Ir.{M, _>>=_, _>>_, fail, lift}
 use Rattle.conversion.specs.Scope as Def
 use Rattle.conversion.specs.Expressions.{get-type}
 use Rattle.conversion.proofs.MonadLaws.{seq-is}
 use Rattle.ir.specs.declared.structs.Counters.{Counters}
 use Rattle.ir.specs.declared.structs.Operand.{Operand}
 use Rattle.ir.specs.Instructions.{operandOf}
+use Rattle.ir.specs.Arena.{Room}
 use Rattle.ir.specs.Amounts.{Amount, both}
 use Rattle.ir.specs.Steps.{StopsIn}
-use Rattle.ir.proofs.StepLaws.{stop-first}
+use Rattle.ir.proofs.StepLaws.{fail-stops, stop-first}
 use Rattle.scope.specs.declared.Scope.{Scope}
 use Rattle.scope.specs.Open.{scopeAt}
 use Rattle.keys.specs.Keys.{allKeys}
 use Rattle.expressions.specs.declared.answers.ExprType.{ExprType}
 use Rattle.expressions.specs.declared.answers.ExprType.the-variants as ExprType
-use Rattle.expressions.specs.Slots.{Frame, Ready, typeIn}
-use Rattle.expressions.specs.Answers.{refusal, TypeMeets}
+use Rattle.expressions.specs.declared.answers.Outcome.{Outcome}
+use Rattle.expressions.specs.declared.answers.Outcome.the-variants as Outcome
+use Rattle.expressions.specs.Slots.{typeIn}
+use Rattle.expressions.specs.Answers.{refusal, outcomeOf, TypeMeets}
 use Rattle.expressions.proofs.SlotLaws.{ready-frame}
 use Rattle.expressions.proofs.TypingLaws.{type-ok, type-refused}
 use Rattle.statements.specs.declared.answers.Converter.{Converter}
@@ -37,31 +39,40 @@ use Rattle.statements.specs.declared.answers.Stated.{Stated}
 use Rattle.statements.specs.declared.answers.Stated.the-variants as Stated
 use Rattle.statements.specs.declared.answers.Finished.{Finished}
 use Rattle.statements.specs.declared.answers.Finished.the-variants as Finished
-use Rattle.statements.specs.Meets.{Answer, gave, refused, Adds, AddsIn, Meets}
+use Rattle.statements.specs.Meets.{Answer, gave, refused, AddsIn, Meets}
 use Rattle.statements.specs.Converting.{Converting, withCounters, StaysFor}
 use Rattle.statements.specs.Answers.{convertedOf, finishedOf, Converts, Leaves, States, Finishes}
-use Rattle.statements.proofs.MeetLaws.{Most, adds-in, meets-gave, meets-refused, meets-same, meets-most, meets-then, meets-lift, meets-lift-stop}
-use Rattle.statements.proofs.StayLaws.{stays-then, frame-stays, scope-stays, ready-stays, converting-next}
+use Rattle.statements.proofs.MeetLaws.{Most, meets-gave, meets-refused, meets-same, meets-most, meets-then, meets-lift, meets-lift-stop}
+use Rattle.statements.proofs.StayLaws.{frame-stays, scope-stays, ready-stays, converting-next}
 use Rattle.statements.proofs.ConvertLaws.{converted-next}
 
 -- ---- a statement's answer
 
 module _ {tree text l l′ s s′ : List ℕ} {m : M Def.Scope} {n : Amount} {q : ℕ} {c : Converter} where
-  pub states-gave : {sc : Scope} {k : Counters} → length l′ ≡ length l → AddsIn text m n (c .counters) l (scopeAt tree text s′ sc) k l′ → Leaves tree text q c s′ sc
+  -- from what it meets
+  pub states-done : {sc : Scope} {k : Counters} → Meets text m n (c .counters) l l′ (gave (scopeAt tree text s′ sc) k) → Leaves tree text q c s′ sc
       → StaysFor tree c s s′ → States tree text m n q c l s (Stated.Done sc k) l′ s′
-  states-gave {sc = sc} long p h stays = record {
-    meets = meets-gave text long p;
+  states-done {sc = sc} p h stays = record {
+    meets = p;
     leaves = λ sc′ k′ e. let d : sc ≡ sc′ = cc in subst (λ (x : Scope). Leaves tree text q c s′ x) d h;
     stays = stays;
   }
 
-  pub states-refused : {e : ConvertError} → length l′ ≡ length l → StopsIn text m (c .counters) l (e .kind) (e .place)
-      → StaysFor tree c s s′ → States tree text m n q c l s (Stated.Refused e) l′ s′
-  states-refused long p stays = record {
-    meets = meets-refused text long p;
+  pub states-stop : {e : ConvertError} → Meets text m n (c .counters) l l′ (refused e) → StaysFor tree c s s′ → States tree text m n q c l s (Stated.Refused e) l′ s′
+  states-stop p stays = record {
+    meets = p;
     leaves = λ sc k e. let z : _≡_ {A = ℕ} 0 1 = cc in absurd (omega arith);
     stays = stays;
   }
+
+  -- from what its steps add, or where they stop
+  pub states-gave : {sc : Scope} {k : Counters} → length l′ ≡ length l → AddsIn text m n (c .counters) l (scopeAt tree text s′ sc) k l′ → Leaves tree text q c s′ sc
+      → StaysFor tree c s s′ → States tree text m n q c l s (Stated.Done sc k) l′ s′
+  states-gave long p h stays = states-done (meets-gave text long p) h stays
+
+  pub states-refused : {e : ConvertError} → length l′ ≡ length l → StopsIn text m (c .counters) l (e .kind) (e .place)
+      → StaysFor tree c s s′ → States tree text m n q c l s (Stated.Refused e) l′ s′
+  states-refused long p stays = states-stop (meets-refused text long p) stays
 
   pub states-same : {m′ : M Def.Scope} {a : Stated} → m ≡ m′ → States tree text m n q c l s a l′ s′ → States tree text m′ n q c l s a l′ s′
   states-same {a = a} e p = subst (λ (x : M Def.Scope). States tree text x n q c l s a l′ s′) e p
@@ -114,6 +125,11 @@ module _ {tree text l s s′ : List ℕ} {c : Converter} (p : Converting tree te
     least = omega arith;
     most = omega arith;
   }
+
+  pub states-kept : {m : M Def.Scope} {n : Amount} {q : ℕ} {k : Counters} {l′ : List ℕ} → Meets text m n (c .counters) l l′ (gave (scopeAt tree text s (c .scope)) k)
+      → States tree text m n q c l s (Stated.Done (c .scope) k) l′ s′
+  states-kept {m = m} {n = n} {k = k} {l′ = l′} i =
+      states-done (subst (λ (S : Def.Scope). Meets text m n (c .counters) l l′ (gave S k)) (sym scope-later) i) leaves-same st
 
 -- ---- typing first: the step of the expression e's type, which writes no table
 
@@ -168,3 +184,22 @@ module _ {X Y : Type 0} {n₁ n₂ : Amount} {k k₁ : Counters} {l l₁ l₂ : 
 pub seq-not : {X Y : Type 0} {n : Amount} {k : Counters} {l l₁ : List ℕ} {e : ConvertError} {m : M X} (text : List ℕ) (f : M Y)
     → length l₁ ≡ length l → StopsIn text m k l (e .kind) (e .place) → Meets text (m >> f) n k l l₁ (refused e)
 seq-not {X = X} {m = m} text f h p = meets-same text (sym (seq-is m f)) (meets-refused text h (stop-first text (λ (y : X). f) p))
+
+-- ---- an error that the code makes; a check before the rest
+
+pub fails-as : {X : Type 0} {k : Counters} {l : List ℕ} {kind : ConvertErrorKind} {r : ℕ} {z : ConvertError} (text : List ℕ) → z ≡ record { kind = kind; place = r }
+    → StopsIn {A = X} text (fail kind r) k l (z .kind) (z .place)
+fails-as {X = X} {k = k} {l = l} {kind = kind} {r = r} text q =
+    subst (λ (v : ConvertError). StopsIn {A = X} text (fail kind r) k l (v .kind) (v .place)) (sym q) (fail-stops text k l kind r)
+
+module _ {X : Type 0} {m : M (Unit {0})} (o : Outcome) (q : m ≡ lift (outcomeOf o)) (f : M X) where
+  as-lift : lift (outcomeOf o) >>= (λ (u : Unit {0}). f) ≡ m >> f
+  as-lift = sym (seq-is (lift (outcomeOf o)) f) ∙ ap (λ (z : M (Unit {0})). z >> f) (sym q)
+
+  pub checked-then : {n : Amount} {k : Counters} {l l′ : List ℕ} {a : Answer X} (text : List ℕ) → o ≡ Outcome.Done → Room k l → Meets text f n k l l′ a → Meets text (m >> f) n k l l′ a
+  unfolding outcomeOf
+  checked-then text w room i = meets-same text as-lift (meets-lift text (λ (u : Unit {0}). f) room (ap outcomeOf w) i)
+
+  pub checked-not : {n : Amount} {k : Counters} {l : List ℕ} {z : ConvertError} (text : List ℕ) → o ≡ Outcome.Refused z → Meets text (m >> f) n k l l (refused z)
+  unfolding outcomeOf refusal
+  checked-not text w = meets-same text as-lift (meets-lift-stop text (λ (u : Unit {0}). f) refl (ap outcomeOf w))

@@ -1,7 +1,7 @@
 -- What each answer says, as the definitions of conversion say it: a result with how far the tables are written, or a refusal's kind and place;
 -- and which definition each function of statements.rs equals. Assumes nothing: these are definitions.
 use mathlib.Core.Path.{_≡_}
-use Prim.Native.Nat.{ℕ, _+_, _≤_}
+use Prim.Native.Nat.{ℕ, _+_, _*_, _≤_}
 use mathlib.Core.Bool.{Bool, false}
 use mathlib.Core.Option.{none, some}
 use mathlib.Core.List.{List}
@@ -18,8 +18,8 @@ use Rattle.conversion.specs.Ir as Ir
 use Rattle.conversion.specs.Ir.{M, _>>=_, _>>_, pure, lift}
 use Rattle.conversion.specs.Scope as Def
 use Rattle.conversion.specs.Scope.{withLoop}
-use Rattle.conversion.specs.Expressions.{common-type}
-use Rattle.conversion.specs.Statements.{checkBound, convert-unary, convertAnd, convertOr, convertOther, convert-binary, convert-call-value, convert-expr, convert-args, convert-cond, callFunction, convert-declare, convert-init, initNew, convert-assign, assignTo, convert-return, returnAs, convert-call, convert-break, convert-continue, convert-if, convertIfElse, convert-while-loop, convert-for-loop, convert-statement, convert-block}
+use Rattle.conversion.specs.Expressions.{Callee, CallFunction, common-type}
+use Rattle.conversion.specs.Statements.{checkBound, fit-args, castFirst, callValue, convert-unary, convertAnd, convertOr, convertOther, convert-binary, convert-call-value, convert-expr, convert-args, convert-cond, callFunction, convert-declare, convert-init, initNew, convert-assign, assignTo, convert-return, returnAs, convert-call, convert-break, convert-continue, convert-if, convertIfElse, convert-while-loop, convert-for-loop, convert-statement, convert-block}
 use Rattle.ir.specs.declared.structs.Counters.{Counters}
 use Rattle.ir.specs.declared.structs.VarId.{VarId}
 use Rattle.ir.specs.declared.structs.Operand.{Operand}
@@ -31,7 +31,8 @@ use Rattle.keys.specs.Keys.{allKeys}
 use Rattle.expressions.specs.declared.answers.ExprType.{ExprType}
 use Rattle.expressions.specs.Slots.{Frame, Ready}
 use Rattle.expressions.specs.declared.answers.Outcome.{Outcome}
-use Rattle.expressions.specs.Answers.{IsTyped, typeOf, outcomeOf}
+use Rattle.expressions.specs.declared.answers.Resolved.{Resolved}
+use Rattle.expressions.specs.Answers.{IsTyped, typeOf, outcomeOf, calleeOf}
 use Rattle.statements.specs.declared.answers.Converter.{Converter}
 use Rattle.statements.specs.declared.answers.Converted.{Converted}
 use Rattle.statements.specs.declared.answers.Converted.the-variants as Converted
@@ -45,10 +46,10 @@ use Rattle.statements.specs.declared.answers.Stated.the-variants as Stat
 use Rattle.statements.specs.declared.answers.Finished.{Finished}
 use Rattle.statements.specs.declared.answers.Finished.the-variants as Finished
 use Rattle.statements.specs.Meets.{Answer, gave, refused, Adds, AddsIn, Meets}
-use Rattle.statements.specs.Parts.{operandType, ifHead, whileHead, forVariable, forBounds, forBegin, forTest, forTurns, forHead, declareInit}
+use Rattle.statements.specs.Parts.{operandType, ifHead, whileHead, forVariable, forBounds, forBegin, forTest, forTurns, forHead, declareInit, passArgs, finishCall}
 use Rattle.statements.specs.Stack.{stackAt}
 use Rattle.syntax.specs.Count.{under, statementRecords, blockRecords}
-use Rattle.statements.specs.Converting.{OperandIn, StackIn, StaysFor, NamesStay, exprAmount, behindAmount, statementAmount, blockAmount, headAmount, turnsAmount, forHeadAmount}
+use Rattle.statements.specs.Converting.{OperandIn, StackIn, StaysFor, NamesStay, exprAmount, argsAmount, argsUnder, argsValues, behindAmount, statementAmount, blockAmount, headAmount, turnsAmount, forHeadAmount}
 
 -- ---- answers
 
@@ -357,3 +358,38 @@ StatementAs steps c r tree text l s a l′ s′ =
 
 abbrev pub BlockAs : StepsAt (Unit {0}) → Converter → ℕ → List ℕ → List ℕ → List ℕ → List ℕ → Finished → List ℕ → List ℕ → Type 0
 BlockAs steps c w tree text l s a l′ s′ = Finishes tree text (steps tree text s c w) tt (blockAmount (blockRecords (blockAt tree text w))) c l s a l′ s′
+
+-- the values of a call, whose arguments word w opens
+abbrev pub ArgsAs : StepsAt (List Ir.Operand) → Converter → ℕ → List ℕ → List ℕ → List ℕ → List ℕ → ConvertedArgs → List ℕ → List ℕ → Type 0
+ArgsAs steps c w tree text l s a l′ s′ =
+    ConvertsArgs tree text (steps tree text s c w) (argsAmount (argsUnder (argsAt tree text w)) (argsValues (argsAt tree text w))) (argsValues (argsAt tree text w)) c l s a l′ s′
+
+-- ---- what is done with the values of a call: the `count` operands that wait on the stack
+
+abbrev pub waiting : List ℕ → List ℕ → Converter → ℕ → List Ir.Operand
+waiting tree s c count = stackAt s (records tree) (c .operands) count
+
+-- they are fitted to the parameters of the function f
+abbrev pub FitsAs : ℕ → ℕ → Converter → List ℕ → List ℕ → List ℕ → List ℕ → Counters → List ℕ → List ℕ → Type 0
+FitsAs f count c tree text l s k l′ s′ = FitsArgs tree (fit-args (program tree text) (waiting tree s c count) (functionOf tree text f)) count c l s k l′ s′
+
+-- they are passed to the function f: fitted, then an Arg for each
+abbrev pub PassesAs : ℕ → ℕ → Converter → List ℕ → List ℕ → List ℕ → List ℕ → Counters → List ℕ → Type 0
+PassesAs f count c tree text l s k l′ =
+    Adds (passArgs (program tree text) (functionOf tree text f) (waiting tree s c count)) (amount (2 * count) count 0 0 count) (c .counters) l tt k l′
+
+-- the first of them is cast to dest, by the call e; the scratch stays as it is
+abbrev pub CastsAs : ℕ → VarId → ℕ → Converter → List ℕ → List ℕ → List ℕ → List ℕ → Converted → List ℕ → Type 0
+CastsAs e dest count c tree text l s a l′ = Converts tree text (castFirst e (varOf dest) (waiting tree s c count)) (amount 1 0 0 0 0) c l s a l′ s
+
+-- the function f is called with them, its result in dest, whichever the call's record is
+abbrev pub CallsAs : ℕ → VarId → ℕ → Converter → List ℕ → List ℕ → List ℕ → List ℕ → Converted → List ℕ → List ℕ → Type 0
+CallsAs f dest count c tree text l s a l′ s′ =
+    (e : ℕ) → Converts tree text (callValue (program tree text) (allKeys tree text) e (varOf dest) (waiting tree s c count) (CallFunction (functionOf tree text f)))
+    (amount (2 * count + 1) count 0 0 count) c l s a l′ s′
+
+-- the call e, of type y, is ended with them, where its callee was found
+abbrev pub CallEndsAs : ℕ → ℕ → Resolved → ℕ → Converter → List ℕ → List ℕ → List ℕ → List ℕ → Converted → List ℕ → List ℕ → Type 0
+CallEndsAs e y callee count c tree text l s a l′ s′ =
+    (to : Callee) → calleeOf tree text callee ≡ ok to
+    → Converts tree text (finishCall (program tree text) (allKeys tree text) e y (waiting tree s c count) to) (amount (2 * count + 1) (count + 1) 0 0 count) c l s a l′ s′

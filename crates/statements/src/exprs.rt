@@ -2,12 +2,10 @@
 // arguments are walked by a loop.
 ghost use Prim.Native.Nat.{_+_};
 ghost use Rattle.records.specs.Words.{wordOf};
-ghost use Rattle.syntax.specs.Syntax.{Or};
-ghost use Rattle.syntax.specs.Count.{under};
-ghost use Rattle.syntax.specs.Places.{IsKind, TypeAt, exprAt, argsAt};
+ghost use Rattle.syntax.specs.Places.{IsKind, TypeAt};
 ghost use Rattle.types.specs.Fits.{IsExpr};
-ghost use Rattle.statements.specs.Converting.{Converting, ExprAfforded, ArgsAfforded, exprAmount, argsAmount, argsUnder, argsValues};
-ghost use Rattle.statements.specs.Answers.{Converts, ConvertsArgs, exprSteps, unarySteps, logicSteps, otherSteps, binarySteps, callSteps, argsSteps};
+ghost use Rattle.statements.specs.Converting.{Converting, ExprAfforded, ArgsAfforded};
+ghost use Rattle.statements.specs.Answers.{exprSteps, unarySteps, logicSteps, otherSteps, binarySteps, callSteps, argsSteps, ConvertsAs, ArgsAs};
 use crate::answers::Converted;
 use crate::answers::ConvertedArgs;
 use crate::answers::Converter;
@@ -48,7 +46,7 @@ pub(crate) fn convert_expr(
 ) -> Converted
     requires { ⌜ Converting (now tree) (now text) (now arena) (now scratch) c × ExprAfforded (now tree) (now text) c e ⌝ }
     requires { ⌜ IsExpr (now tree) e ⌝ }
-    ensures { λ a. ⌜ Converts (now (tree .entry)) (now (text .entry)) (exprSteps (now (tree .entry)) (now (text .entry)) (now (scratch .entry)) c e) (exprAmount (under (exprAt (now (tree .entry)) (now (text .entry)) e))) c (now (arena .entry)) (now (scratch .entry)) a (now (arena .exit)) (now (scratch .exit)) ⌝ }
+    ensures { λ a. ⌜ ConvertsAs exprSteps c e (now (tree .entry)) (now (text .entry)) (now (arena .entry)) (now (scratch .entry)) a (now (arena .exit)) (now (scratch .exit)) ⌝ }
 {
     let scope = c.scope;
     let node = kind(tree, e);
@@ -81,7 +79,7 @@ fn convert_unary(
 ) -> Converted
     requires { ⌜ Converting (now tree) (now text) (now arena) (now scratch) c × ExprAfforded (now tree) (now text) c e ⌝ }
     requires { ⌜ IsKind (now tree) 9 e × TypeAt (now tree) y ⌝ }
-    ensures { λ a. ⌜ Converts (now (tree .entry)) (now (text .entry)) (unarySteps (now (tree .entry)) (now (text .entry)) (now (scratch .entry)) c e y) (exprAmount (under (exprAt (now (tree .entry)) (now (text .entry)) e))) c (now (arena .entry)) (now (scratch .entry)) a (now (arena .exit)) (now (scratch .exit)) ⌝ }
+    ensures { λ a. ⌜ ConvertsAs (λ t x s k q. unarySteps t x s k q y) c e (now (tree .entry)) (now (text .entry)) (now (arena .entry)) (now (scratch .entry)) a (now (arena .exit)) (now (scratch .exit)) ⌝ }
 {
     let op = detail(tree, e);
     let part = reference(tree, e, 0);
@@ -106,7 +104,7 @@ fn convert_binary(
 ) -> Converted
     requires { ⌜ Converting (now tree) (now text) (now arena) (now scratch) c × ExprAfforded (now tree) (now text) c e ⌝ }
     requires { ⌜ IsKind (now tree) 10 e × TypeAt (now tree) y ⌝ }
-    ensures { λ a. ⌜ Converts (now (tree .entry)) (now (text .entry)) (binarySteps (now (tree .entry)) (now (text .entry)) (now (scratch .entry)) c e y) (exprAmount (under (exprAt (now (tree .entry)) (now (text .entry)) e))) c (now (arena .entry)) (now (scratch .entry)) a (now (arena .exit)) (now (scratch .exit)) ⌝ }
+    ensures { λ a. ⌜ ConvertsAs (λ t x s k q. binarySteps t x s k q y) c e (now (tree .entry)) (now (text .entry)) (now (arena .entry)) (now (scratch .entry)) a (now (arena .exit)) (now (scratch .exit)) ⌝ }
 {
     match operand_type(tree, text, scratch, c, e, y) {
         ExprType::Refused(x) => Converted::Refused(x),
@@ -131,7 +129,7 @@ fn convert_logic(
 ) -> Converted
     requires { ⌜ Converting (now tree) (now text) (now arena) (now scratch) c × ExprAfforded (now tree) (now text) c e ⌝ }
     requires { ⌜ IsKind (now tree) 10 e × TypeAt (now tree) y ⌝ }
-    ensures { λ a. ⌜ Converts (now (tree .entry)) (now (text .entry)) (logicSteps (now (tree .entry)) (now (text .entry)) (now (scratch .entry)) c e y) (exprAmount (under (exprAt (now (tree .entry)) (now (text .entry)) e))) c (now (arena .entry)) (now (scratch .entry)) a (now (arena .exit)) (now (scratch .exit)) ⌝ }
+    ensures { λ a. ⌜ ConvertsAs (λ t x s k q. logicSteps t x s k q y) c e (now (tree .entry)) (now (text .entry)) (now (arena .entry)) (now (scratch .entry)) a (now (arena .exit)) (now (scratch .exit)) ⌝ }
 {
     let left = reference(tree, e, 0);
     let right = reference(tree, e, 1);
@@ -170,7 +168,7 @@ fn convert_other(
 ) -> Converted
     requires { ⌜ Converting (now tree) (now text) (now arena) (now scratch) c × ExprAfforded (now tree) (now text) c e ⌝ }
     requires { ⌜ IsKind (now tree) 10 e × TypeAt (now tree) y × TypeAt (now tree) q ⌝ }
-    ensures { λ a. ⌜ Converts (now (tree .entry)) (now (text .entry)) (otherSteps (now (tree .entry)) (now (text .entry)) (now (scratch .entry)) c e y q) (exprAmount (under (exprAt (now (tree .entry)) (now (text .entry)) e))) c (now (arena .entry)) (now (scratch .entry)) a (now (arena .exit)) (now (scratch .exit)) ⌝ }
+    ensures { λ a. ⌜ ConvertsAs (λ t x s k r. otherSteps t x s k r y q) c e (now (tree .entry)) (now (text .entry)) (now (arena .entry)) (now (scratch .entry)) a (now (arena .exit)) (now (scratch .exit)) ⌝ }
 {
     let op = detail(tree, e);
     let left = reference(tree, e, 0);
@@ -203,7 +201,7 @@ fn convert_call_value(
 ) -> Converted
     requires { ⌜ Converting (now tree) (now text) (now arena) (now scratch) c × ExprAfforded (now tree) (now text) c e ⌝ }
     requires { ⌜ IsKind (now tree) 11 e × TypeAt (now tree) y ⌝ }
-    ensures { λ a. ⌜ Converts (now (tree .entry)) (now (text .entry)) (callSteps (now (tree .entry)) (now (text .entry)) (now (scratch .entry)) c e y) (exprAmount (under (exprAt (now (tree .entry)) (now (text .entry)) e))) c (now (arena .entry)) (now (scratch .entry)) a (now (arena .exit)) (now (scratch .exit)) ⌝ }
+    ensures { λ a. ⌜ ConvertsAs (λ t x s k q. callSteps t x s k q y) c e (now (tree .entry)) (now (text .entry)) (now (arena .entry)) (now (scratch .entry)) a (now (arena .exit)) (now (scratch .exit)) ⌝ }
 {
     let scope = c.scope;
     let callee = resolve_call(tree, text, scratch, c.functions, scope, e);
@@ -231,7 +229,7 @@ pub(crate) fn convert_args(
 ) -> ConvertedArgs
     requires { ⌜ Converting (now tree) (now text) (now arena) (now scratch) c × ArgsAfforded (now tree) (now text) c (wordOf (now tree) e 2) ⌝ }
     requires { ⌜ IsKind (now tree) 11 e ⌝ }
-    ensures { λ a. ⌜ ConvertsArgs (now (tree .entry)) (now (text .entry)) (argsSteps (now (tree .entry)) (now (text .entry)) (now (scratch .entry)) c (wordOf (now (tree .entry)) e 2)) (argsAmount (argsUnder (argsAt (now (tree .entry)) (now (text .entry)) (wordOf (now (tree .entry)) e 2))) (argsValues (argsAt (now (tree .entry)) (now (text .entry)) (wordOf (now (tree .entry)) e 2)))) (argsValues (argsAt (now (tree .entry)) (now (text .entry)) (wordOf (now (tree .entry)) e 2))) c (now (arena .entry)) (now (scratch .entry)) a (now (arena .exit)) (now (scratch .exit)) ⌝ }
+    ensures { λ a. ⌜ ArgsAs argsSteps c (wordOf (now (tree .entry)) e 2) (now (tree .entry)) (now (text .entry)) (now (arena .entry)) (now (scratch .entry)) a (now (arena .exit)) (now (scratch .exit)) ⌝ }
 {
     let n = tree.len() / 32;
     let first = c.operands;

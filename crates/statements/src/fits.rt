@@ -4,13 +4,13 @@ ghost use mathlib.Core.Bool.{Bool, true};
 ghost use lib.ListN.{length};
 ghost use mathlib.Core.List.{List};
 ghost use Prim.Native.Nat.{ℕ, suc, _+_, _*_, _≤_, _<_};
-ghost use Rattle.records.specs.Words.{records, wordOf};
+ghost use Rattle.records.specs.Words.{records};
 ghost use Rattle.records.specs.Good.{Good};
-ghost use Rattle.syntax.specs.Decode.{program, bit};
-ghost use Rattle.syntax.specs.Places.{TypeAt, FunctionAt, ParamsAt, exprAt, functionOf, paramsAt};
+ghost use Rattle.syntax.specs.Decode.{program};
+ghost use Rattle.syntax.specs.Places.{TypeAt, FunctionAt, ParamsAt, exprAt, paramsAt};
 ghost use Rattle.conversion.specs.Ir.{OVar, OFloat, lift};
 ghost use Rattle.conversion.specs.Expressions.{Functions};
-ghost use Rattle.conversion.specs.Statements.{refloat, castOperand, fit-operand, fit-args, emitArgs, checkFits, parameterType};
+ghost use Rattle.conversion.specs.Statements.{refloat, castOperand, fit-operand, emitArgs, checkFits, parameterType};
 ghost use Rattle.types.specs.Fits.{IsExpr, IsType};
 ghost use Rattle.ir.specs.Amounts.{amount};
 ghost use Rattle.ir.specs.Arena.{Room};
@@ -18,9 +18,8 @@ ghost use Rattle.ir.specs.Instructions.{operandOf, varOf};
 ghost use Rattle.expressions.specs.Answers.{outcomeOf};
 ghost use Rattle.statements.specs.Stack.{stackAt};
 ghost use Rattle.statements.specs.Converting.{Converting, Afforded, RoomFor, OperandIn, StackIn, StaysFor, NamesStay};
-ghost use Rattle.statements.specs.Meets.{Adds, AddsIn};
-ghost use Rattle.statements.specs.Parts.{passArgs};
-ghost use Rattle.statements.specs.Answers.{FitAdds, FitsArgs};
+ghost use Rattle.statements.specs.Meets.{Adds};
+ghost use Rattle.statements.specs.Answers.{FitAdds, FitsAs, PassesAs};
 use crate::answers::Converter;
 use crate::answers::Fitted;
 use crate::answers::refusal;
@@ -189,7 +188,7 @@ fn fit_args(
 ) -> Counters
     requires { ⌜ Converting (now tree) (now text) (now arena) (now scratch) c × FunctionAt (now tree) f ⌝ }
     requires { ⌜ Afforded (now tree) c (amount count count 0 0 count) count 0 × StackIn (now tree) (now scratch) (c .operands) count ⌝ }
-    ensures { λ r. ⌜ FitsArgs (now (tree .entry)) (fit-args (program (now (tree .entry)) (now (text .entry))) (stackAt (now (scratch .entry)) (records (now (tree .entry))) (c .operands) count) (functionOf (now (tree .entry)) (now (text .entry)) f)) count c (now (arena .entry)) (now (scratch .entry)) r (now (arena .exit)) (now (scratch .exit)) ⌝ }
+    ensures { λ r. ⌜ FitsAs f count c (now (tree .entry)) (now (text .entry)) (now (arena .entry)) (now (scratch .entry)) r (now (arena .exit)) (now (scratch .exit)) ⌝ }
 {
     let first = c.operands;
     let n = tree.len() / 32;
@@ -238,7 +237,7 @@ pub(crate) fn pass_args(
 ) -> Counters
     requires { ⌜ Converting (now tree) (now text) (now arena) (now scratch) c × FunctionAt (now tree) f ⌝ }
     requires { ⌜ Afforded (now tree) c (amount (2 * count) count 0 0 count) count 0 × StackIn (now tree) (now scratch) (c .operands) count ⌝ }
-    ensures adds { λ r. ⌜ Adds (passArgs (program (now (tree .entry)) (now (text .entry))) (functionOf (now (tree .entry)) (now (text .entry)) f) (stackAt (now (scratch .entry)) (records (now (tree .entry))) (c .operands) count)) (amount (2 * count) count 0 0 count) (c .counters) (now (arena .entry)) tt r (now (arena .exit)) ⌝ }
+    ensures adds { λ r. ⌜ PassesAs f count c (now (tree .entry)) (now (text .entry)) (now (arena .entry)) (now (scratch .entry)) r (now (arena .exit)) ⌝ }
     ensures stays { λ _. ⌜ StaysFor (now (tree .entry)) c (now (scratch .entry)) (now (scratch .exit)) × NamesStay (now (tree .entry)) (now (scratch .entry)) (now (scratch .exit)) ⌝ }
 {
     let k = fit_args(tree, text, arena, scratch, c, f, count);

@@ -5,23 +5,18 @@ ghost use Prim.Native.Nat.{ℕ, _+_, _*_, _≤_, _<_};
 ghost use lib.Dec.{eqb};
 ghost use lib.ListN.{length, getD};
 ghost use Rattle.laws.specs.Fix.{pick};
-ghost use Rattle.records.specs.Words.{detailOf, records};
+ghost use Rattle.records.specs.Words.{detailOf};
 ghost use Rattle.syntax.specs.Syntax.{unaryOps, binaryOps, Neg, Or};
 ghost use Rattle.syntax.specs.Decode.{program};
-ghost use Rattle.syntax.specs.Places.{IsKind, TypeAt, FunctionAt, functionOf};
-ghost use Rattle.conversion.specs.ConvertError.{ok};
-ghost use Rattle.conversion.specs.Expressions.{Callee, CallFunction};
-ghost use Rattle.conversion.specs.Statements.{castFirst, callValue};
+ghost use Rattle.syntax.specs.Places.{IsKind, TypeAt, FunctionAt};
 ghost use Rattle.ir.specs.Amounts.{amount};
 ghost use Rattle.ir.specs.Instructions.{operandOf, varOf};
-ghost use Rattle.keys.specs.Keys.{allKeys};
 ghost use Rattle.expressions.specs.Slots.{Ready};
-ghost use Rattle.expressions.specs.Answers.{IsCallee, calleeOf};
-ghost use Rattle.statements.specs.Stack.{stackAt};
+ghost use Rattle.expressions.specs.Answers.{IsCallee};
 ghost use Rattle.statements.specs.Converting.{Converting, RoomFor, OperandIn, StackIn, Afforded};
 ghost use Rattle.statements.specs.Meets.{Adds};
-ghost use Rattle.statements.specs.Parts.{finishUnary, beginLogic, joinAnd, joinOr, endLogic, finishBinary, finishCall};
-ghost use Rattle.statements.specs.Answers.{FitAdds, Converts, OperandTyped};
+ghost use Rattle.statements.specs.Parts.{finishUnary, beginLogic, joinAnd, joinOr, endLogic, finishBinary};
+ghost use Rattle.statements.specs.Answers.{FitAdds, OperandTyped, CastsAs, CallsAs, CallEndsAs};
 use crate::answers::Converted;
 use crate::answers::Converter;
 use crate::answers::Fitted;
@@ -220,7 +215,7 @@ pub(crate) fn cast_first(
 ) -> Converted
     requires { ⌜ Converting (now tree) (now text) (now arena) (now scratch) c × Afforded (now tree) c (amount 1 0 0 0 0) count 0 ⌝ }
     requires { ⌜ (e < 4294967296) × TypeAt (now tree) (dest .1) ⌝ }
-    ensures { λ a. ⌜ Converts (now (tree .entry)) (now (text .entry)) (castFirst e (varOf dest) (stackAt (now (scratch .entry)) (records (now (tree .entry))) (c .operands) count)) (amount 1 0 0 0 0) c (now (arena .entry)) (now (scratch .entry)) a (now (arena .exit)) (now (scratch .entry)) ⌝ }
+    ensures { λ a. ⌜ CastsAs e dest count c (now (tree .entry)) (now (text .entry)) (now (arena .entry)) (now (scratch .entry)) a (now (arena .exit)) ⌝ }
 {
     if count == 0 {
         return Converted::Refused(refusal(ConvertErrorKind::WouldPanic, e));
@@ -245,7 +240,7 @@ pub(crate) fn call_function(
 ) -> Converted
     requires { ⌜ Converting (now tree) (now text) (now arena) (now scratch) c × Afforded (now tree) c (amount (2 * count + 1) count 0 0 count) count 0 ⌝ }
     requires { ⌜ FunctionAt (now tree) f × TypeAt (now tree) (dest .1) × StackIn (now tree) (now scratch) (c .operands) count ⌝ }
-    ensures { λ a. ⌜ ((e : ℕ) → Converts (now (tree .entry)) (now (text .entry)) (callValue (program (now (tree .entry)) (now (text .entry))) (allKeys (now (tree .entry)) (now (text .entry))) e (varOf dest) (stackAt (now (scratch .entry)) (records (now (tree .entry))) (c .operands) count) (CallFunction (functionOf (now (tree .entry)) (now (text .entry)) f))) (amount (2 * count + 1) count 0 0 count) c (now (arena .entry)) (now (scratch .entry)) a (now (arena .exit)) (now (scratch .exit))) ⌝ }
+    ensures { λ a. ⌜ CallsAs f dest count c (now (tree .entry)) (now (text .entry)) (now (arena .entry)) (now (scratch .entry)) a (now (arena .exit)) (now (scratch .exit)) ⌝ }
 {
     let k = pass_args(tree, text, arena, scratch, c, f, count);
     let next = emit(arena, k, Instr::Call(dest, f as u32));
@@ -266,7 +261,7 @@ pub(crate) fn finish_call(
 ) -> Converted
     requires { ⌜ Converting (now tree) (now text) (now arena) (now scratch) c × Afforded (now tree) c (amount (2 * count + 1) (count + 1) 0 0 count) count 0 ⌝ }
     requires { ⌜ (e < 4294967296) × TypeAt (now tree) y × IsCallee (now tree) callee × StackIn (now tree) (now scratch) (c .operands) count ⌝ }
-    ensures { λ a. ⌜ ((to : Callee) → calleeOf (now (tree .entry)) (now (text .entry)) callee ≡ ok to → Converts (now (tree .entry)) (now (text .entry)) (finishCall (program (now (tree .entry)) (now (text .entry))) (allKeys (now (tree .entry)) (now (text .entry))) e y (stackAt (now (scratch .entry)) (records (now (tree .entry))) (c .operands) count) to) (amount (2 * count + 1) (count + 1) 0 0 count) c (now (arena .entry)) (now (scratch .entry)) a (now (arena .exit)) (now (scratch .exit))) ⌝ }
+    ensures { λ a. ⌜ CallEndsAs e y callee count c (now (tree .entry)) (now (text .entry)) (now (arena .entry)) (now (scratch .entry)) a (now (arena .exit)) (now (scratch .exit)) ⌝ }
 {
     let k = c.counters;
     let made = new_var(arena, k, y as u32);

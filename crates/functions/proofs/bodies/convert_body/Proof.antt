@@ -47,7 +47,7 @@ cast-add-function c =
     omega (arith, function-small (first .pre .0 .0 .ready .keyed .good) (first .pre .1 .0))
 
 add-function-requires : tie.Need-add-function-requires
-add-function-requires c κs = entry-room _ (c .before .before .before .before .before .before .before .before .before .before .before .before .before .reference .ensures) (c .before .before .before .before .before .before .before .before .before .before .convert-block .ensures) (c .before .before .before .before .k .given .1) (c .before .before .misses-return .ensures) (c .before .before .before .before .before .before .before .before .before .before .before .before .before .before .before .before .before .before .pre .1 .2)
+add-function-requires c κs = entry-room _ (c .before .before .before .before .before .before .before .before .before .before .before .before .before .reference .ensures) (c .before .before .before .before .before .before .before .before .before .before .convert-block .ensures) (c .before .before .before .before .k .given .1) (c .before .before .misses-return .ensures) (c .before .before .before .before .before .before .before .before .before .before .before .before .before .before .before .before .before .before .pre .1 .1)
 
 same-length-3 : tie.Need-same-length-3
 same-length-3 c = search needs

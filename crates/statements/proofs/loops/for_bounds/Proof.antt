@@ -1,7 +1,8 @@
 -- Both bounds of a For are checked, the second where the first is fine.
 -- By what each check owes; the scope stays. Assumes nothing.
 use Rattle.expressions.proofs.SlotLaws.{ready-frame}
-use Rattle.statements.proofs.ForLaws.{from-expr, until-expr, bounds-not, bounds-then}
+use Rattle.statements.proofs.ForLaws.{bounds-not, bounds-then}
+use Rattle.statements.proofs.HeadLaws.{first-bound, second-bound}
 use borrow.Author.Needs.{needs}
 use Rattle.statements.proofs.loops.for_bounds.Statement.{statement}
 use Rattle.statements.proofs.loops.for_bounds.Tie as tie
@@ -13,7 +14,7 @@ reference-requires-2 : tie.Need-reference-requires-2
 reference-requires-2 c κs = search needs
 
 check-bound-requires : tie.Need-check-bound-requires
-check-bound-requires c κs = (c .before .before .before .before .before .before .pre .0, from-expr (c .before .before .before .before .before .before .pre .0 .keyed .good) (c .before .before .before .before .before .before .pre .1) (c .before .before .reference .ensures), c .before .before .before .before .before .before .pre .2)
+check-bound-requires c κs = (c .before .before .before .before .before .before .pre .0, first-bound (c .before .before .before .before .before .before .pre .0 .keyed .good) (c .before .before .before .before .before .before .pre .1) (c .before .before .reference .ensures), c .before .before .before .before .before .before .pre .2)
 
 enum-known-x : tie.Need-enum-known-x
 enum-known-x c = search needs
@@ -22,7 +23,7 @@ enum-told : tie.Need-enum-told
 enum-told c = search needs
 
 check-bound-requires-2 : tie.Need-check-bound-requires-2
-check-bound-requires-2 c κs = (ready-frame _ _ _ (c .before .before .before .before .before .check-bound .ensures .frame) _ _ _ (c .before .before .before .before .before .before .before .before .before .before .before .before .pre .0), until-expr (c .before .before .before .before .before .before .before .before .before .before .before .before .pre .0 .keyed .good) (c .before .before .before .before .before .before .before .before .before .before .before .before .pre .1) (c .before .before .before .before .before .before .before .reference2 .ensures), c .before .before .before .before .before .before .before .before .before .before .before .before .pre .2)
+check-bound-requires-2 c κs = (ready-frame _ _ _ (c .before .before .before .before .before .check-bound .ensures .frame) _ _ _ (c .before .before .before .before .before .before .before .before .before .before .before .before .pre .0), second-bound (c .before .before .before .before .before .before .before .before .before .before .before .before .pre .0 .keyed .good) (c .before .before .before .before .before .before .before .before .before .before .before .before .pre .1) (c .before .before .before .before .before .before .before .reference2 .ensures), c .before .before .before .before .before .before .before .before .before .before .before .before .pre .2)
 
 same-length : tie.Need-same-length
 same-length c = search needs

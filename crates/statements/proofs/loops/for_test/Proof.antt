@@ -10,7 +10,7 @@ reference-requires : tie.Need-reference-requires
 reference-requires c κs = search needs
 
 convert-expr-requires : tie.Need-convert-expr-requires
-convert-expr-requires c κs = ((c .before .before .before .before .before .before .before .pre .0 .0, bound-afforded _ _ (c .before .before .before .before .before .before .before .pre .0 .0) (c .before .before .before .before .before .before .before .pre .0 .1) (c .before .before .reference .ensures)), second-bound (c .before .before .before .before .before .before .before .pre .0 .0) (c .before .before .before .before .before .before .before .pre .1 .0) (c .before .before .reference .ensures))
+convert-expr-requires c κs = ((c .before .before .before .before .before .before .before .pre .0 .0, bound-afforded _ _ (c .before .before .before .before .before .before .before .pre .0 .0) (c .before .before .before .before .before .before .before .pre .0 .1) (c .before .before .reference .ensures)), second-bound (c .before .before .before .before .before .before .before .pre .0 .0 .ready .keyed .good) (c .before .before .before .before .before .before .before .pre .1 .0) (c .before .before .reference .ensures))
 
 enum-known-e : tie.Need-enum-known-e
 enum-known-e c = search needs

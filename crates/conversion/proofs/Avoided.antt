@@ -59,8 +59,24 @@ unfolding types row
 for = types ++ row 24 0 0 1 0 0 0 ++ row 2 0 0 0 0 0 0 ++ row 2 0 1 0 0 0 0 ++ row 21 0 12 13 14 none 0 ++ row 12 0 15 none 0 0 0
     ++ row 6 0 2 3 0 0 0 ++ row 6 0 2 3 0 0 0 ++ row 25 4 17 18 none none 16
 
+-- a Break outside a loop, in a function that returns a long Int and has no Return
+leaves : List ℕ
+unfolding types row
+leaves = types ++ row 22 0 0 0 0 0 0 ++ row 12 0 12 none 0 0 0 ++ row 6 0 2 3 0 0 0 ++ row 6 0 2 3 0 0 0 ++ row 25 4 14 15 none 0 13
+
+-- p, a new name, is p
+itself : List ℕ
+unfolding types row
+itself = types ++ row 6 0 0 1 0 0 0 ++ row 16 0 0 1 12 0 0 ++ row 12 0 13 none 0 0 0 ++ row 6 0 2 3 0 0 0 ++ row 6 0 2 3 0 0 0 ++ row 25 4 15 16 none none 14
+
+-- p, a parameter, is declared again as a constant whose value is the unknown q
+again : List ℕ
+unfolding types row
+again = types ++ row 24 0 0 1 6 0 0 ++ row 12 0 12 none 0 0 0 ++ row 6 0 1 1 0 0 0 ++ row 16 1 0 1 14 0 0 ++ row 12 0 15 none 0 0 0
+    ++ row 6 0 2 3 0 0 0 ++ row 6 0 2 3 0 0 0 ++ row 25 4 17 18 13 none 16
+
 pub computed : List Said
-unfolding bodyOf floatsOf answerOf labelsOf convertTree sizeOf sum zeros loop assigns returns while for
+unfolding bodyOf floatsOf answerOf labelsOf convertTree sizeOf sum zeros loop assigns returns while for leaves itself again
 computed =
     bodyOf (convertTree sizeOf)
     ∷ bodyOf (convertTree sum)
@@ -70,6 +86,9 @@ computed =
     ∷ answerOf (convertTree returns)
     ∷ labelsOf (convertTree while)
     ∷ labelsOf (convertTree for)
+    ∷ answerOf (convertTree leaves)
+    ∷ answerOf (convertTree itself)
+    ∷ answerOf (convertTree again)
     ∷ []
 
 var : ℕ → ℕ → VarId
@@ -93,6 +112,12 @@ expected =
     ∷ answers 12 14
     ∷ labelled (loopStart 19 ∷ logicRhs 18 ∷ logicEnd 18 ∷ loopEnd 19 ∷ [])
     ∷ labelled (loopCheck 15 ∷ loopStart 15 ∷ loopEnd 15 ∷ [])
+    -- MissingReturn follows the body's own errors
+    ∷ answers 20 12
+    -- a name is not known in its own value
+    ∷ answers 4 12
+    -- a constant's name is held against the known ones after its value
+    ∷ answers 4 14
     ∷ []
 
 pub mistakes : computed ≡ expected
