@@ -21,7 +21,8 @@ use Rattle.records.specs.declared.convert_error.ConvertErrorKind.the-variants.{
 use Rattle.judge.specs.declared.Lengths.{Lengths}
 use Rattle.judge.specs.declared.Judged.{Judged}
 use Rattle.judge.specs.declared.Judged.the-variants.{Refused}
-use Rattle.judge.specs.Inner.{Lowest, placed}
+use Rattle.judge.specs.Inner.{Lowest}
+use Rattle.judge.specs.Keeps.{writesNothing, JudgeKeeps, placed, unplaced}
 use Rattle.judge.specs.Judge.{lengthsOk, buffersOk, Buffers, buffers, lengthsOf, lowestFault, lowestDeep, atLengths, atBuffers, atRecords, atNesting, atConversion, Verdict, RefusedBy, Passed, refusedBy, atLowest, recordsVerdict, verdict, judgedBy, judged, judgedIn, verdictIn, refusalLeaves, outputAfter, scratchAfter, verdictLeaves, judgeLeaves, cleared}
 use Rattle.laws.proofs.BelowLaws.{lowest-none, lowest-some}
 
@@ -132,16 +133,6 @@ enough n l scratch e =
 pub scratch-fits : (n : ℕ) (l : Lengths) (scratch : ℕ) → buffersOk n l scratch ≡ true → n ≤ scratch
 scratch-fits n l scratch e = omega (arith, enough n l scratch e .scratch)
 
--- rows 'records' and 'nesting', and a tree that passes both, leave scratch zero
-records-clear : (tree text l : List ℕ) → scratchAfter (recordsVerdict tree text) l ≡ cleared l
-unfolding recordsVerdict atLowest refusedBy scratchAfter refusalLeaves
-records-clear tree text l = go (lowestFault tree text) (lowestDeep tree)
-  where
-    go : (f d : Option ℕ) → scratchAfter (atLowest atRecords BadTree f (atLowest atNesting TooDeep d Passed)) l ≡ cleared l
-    go (some r) d = refl
-    go nothing (some r) = refl
-    go nothing nothing = refl
-
 -- a list filled to its end is cleared
 pub filled : (n : ℕ) (d : List ℕ) → n ≡ length d → replicate n 0 ++ drop n d ≡ cleared d
 filled n d e = rw (e, drop-length d, append-nil) refl
@@ -152,35 +143,47 @@ cleared-length d e q = ap length q ∙ length-replicate (length d) 0
 pub cleared-twice : (d e : List ℕ) → e ≡ cleared d → e ≡ cleared e
 cleared-twice d e q = q ∙ ap (λ (k : ℕ). replicate k 0) (sym (cleared-length d e q))
 
+-- rows 'records' and 'nesting', and a tree that passes both, may write
+records-write : (tree text : List ℕ) → writesNothing (recordsVerdict tree text) ≡ false
+unfolding recordsVerdict atLowest refusedBy writesNothing
+records-write tree text = go (lowestFault tree text) (lowestDeep tree)
+  where
+    go : (f d : Option ℕ) → writesNothing (atLowest atRecords BadTree f (atLowest atNesting TooDeep d Passed)) ≡ false
+    go (some r) d = refl
+    go nothing (some r) = refl
+    go nothing nothing = refl
+
 -- the whole answer, as the code meets it: ok and room are the code's tests
 module _ (tree text : List ℕ) (l : Lengths) (scratch : List ℕ) (ok : Bool) (okIs : ok ≡ lengthsOk (length tree)) where
-  judges : (answer : Judged) (after : List ℕ) (v : Verdict) → verdict tree text l (length scratch) ≡ v → answer ≡ judgedBy v → after ≡ scratchAfter v scratch
-      → (answer ≡ judged tree text l (length scratch)) × (after ≡ scratchAfter (verdict tree text l (length scratch)) scratch)
+  abbrev Judges : Judged → List ℕ → Type 0
+  Judges answer after = (answer ≡ judged tree text l (length scratch)) × JudgeKeeps (verdict tree text l (length scratch)) scratch after
+
+  judges : (answer : Judged) (after : List ℕ) (v : Verdict) → verdict tree text l (length scratch) ≡ v → answer ≡ judgedBy v → JudgeKeeps v scratch after → Judges answer after
   unfolding judged
   judges answer after v e a s = (rw e a, rw e s)
 
-  pub judged-length : (answer : Judged) → ok ≡ false → answer ≡ Refused (record { kind = BadTree; place = none })
-      → (answer ≡ judged tree text l (length scratch)) × (scratch ≡ scratchAfter (verdict tree text l (length scratch)) scratch)
-  unfolding verdict pick refusedBy judgedBy scratchAfter refusalLeaves
-  judged-length answer e a = judges answer scratch (refusedBy atLengths BadTree none) (rw (sym okIs ∙ e) refl) a refl
+  as-found : (v : Verdict) → JudgeKeeps v scratch scratch
+  as-found v = record { same = refl; kept = λ _. refl }
+
+  pub judged-length : (answer : Judged) → ok ≡ false → answer ≡ Refused (record { kind = BadTree; place = none }) → Judges answer scratch
+  unfolding verdict pick refusedBy judgedBy
+  judged-length answer e a = judges answer scratch (refusedBy atLengths BadTree none) (rw (sym okIs ∙ e) refl) a (as-found _)
 
   module _ (yes : ok ≡ true) (room : Bool) (roomIs : room ≡ buffersOk (records tree) l (length scratch)) where
-    pub judged-buffer : (answer : Judged) → room ≡ false → answer ≡ Refused (record { kind = ShortBuffer; place = none })
-        → (answer ≡ judged tree text l (length scratch)) × (scratch ≡ scratchAfter (verdict tree text l (length scratch)) scratch)
-    unfolding verdict pick refusedBy judgedBy scratchAfter refusalLeaves
-    judged-buffer answer e a = judges answer scratch (refusedBy atBuffers ShortBuffer none) (rw (sym okIs ∙ yes, sym roomIs ∙ e) refl) a refl
+    pub judged-buffer : (answer : Judged) → room ≡ false → answer ≡ Refused (record { kind = ShortBuffer; place = none }) → Judges answer scratch
+    unfolding verdict pick refusedBy judgedBy
+    judged-buffer answer e a = judges answer scratch (refusedBy atBuffers ShortBuffer none) (rw (sym okIs ∙ yes, sym roomIs ∙ e) refl) a (as-found _)
 
-    -- scratch was used by the rows, and is cleared again
-    pub judged-records : (answer : Judged) (used after : List ℕ) → room ≡ true → answer ≡ judgedBy (recordsVerdict tree text) → length used ≡ length scratch → after ≡ cleared used
-        → (answer ≡ judged tree text l (length scratch)) × (after ≡ scratchAfter (verdict tree text l (length scratch)) scratch)
+    -- the rows used scratch
+    pub judged-records : (answer : Judged) (used : List ℕ) → room ≡ true → answer ≡ judgedBy (recordsVerdict tree text) → length used ≡ length scratch → Judges answer used
     unfolding verdict pick
-    judged-records answer used after e a s q = judges answer after (recordsVerdict tree text) (rw (sym okIs ∙ yes, sym roomIs ∙ e) refl) a
-        (q ∙ ap (λ (k : ℕ). replicate k 0) s ∙ sym (records-clear tree text scratch))
+    judged-records answer used e a s = judges answer used (recordsVerdict tree text) (rw (sym okIs ∙ yes, sym roomIs ∙ e) refl) a
+        (record { same = s; kept = λ w. absurd (false≢true (sym (records-write tree text) ∙ w)) })
 
 -- ---- of the rows judged here one and two have no place, and the others have one
 
 -- whether a verdict leaves the outputs zero
-unfoldable clears : Verdict → Bool
+unfoldable pub clears : Verdict → Bool
 clears (RefusedBy atLengths e) = false
 clears (RefusedBy atBuffers e) = false
 clears (RefusedBy atRecords e) = true
@@ -198,30 +201,70 @@ lowest-below (suc n) f r e = go (lowest n f) (f n) (λ h. lowest-below n f r h) 
     go nothing true h k = let z : n ≡ r = cc in omega arith
     go nothing false h k = let z : _≡_ {A = ℕ} 0 1 = cc in absurd (omega arith)
 
-placed-record : (kind : ConvertErrorKind) (r : ℕ) → r < 2048 → placed (Refused (record { kind = kind; place = r })) ≡ true
-unfolding placed
-placed-record kind r h = rw (ne-eqb r none (λ e. omega arith)) refl
+place-told : (r : ℕ) → r < 2048 → eqb r none ≡ false
+place-told r h = ne-eqb r none (λ e. omega arith)
 
-records-placed : (tree text : List ℕ) → records tree ≤ 2048 → placed (judgedBy (recordsVerdict tree text)) ≡ clears (recordsVerdict tree text)
-unfolding recordsVerdict lowestFault lowestDeep atLowest refusedBy judgedBy clears placed
+-- what an answer's place says of its verdict
+pub record Placed (v : Verdict) : Type 0 where
+  pub with : placed (judgedBy v) ≡ clears v
+  pub without : unplaced (judgedBy v) ≡ writesNothing v
+
+records-placed : (tree text : List ℕ) → records tree ≤ 2048 → Placed (recordsVerdict tree text)
+unfolding recordsVerdict lowestFault lowestDeep atLowest refusedBy judgedBy clears placed unplaced writesNothing
 records-placed tree text few = go (lowestFault tree text) (lowestDeep tree) refl refl
   where
-    go : (f d : Option ℕ) → lowestFault tree text ≡ f → lowestDeep tree ≡ d
-        → placed (judgedBy (atLowest atRecords BadTree f (atLowest atNesting TooDeep d Passed))) ≡ clears (atLowest atRecords BadTree f (atLowest atNesting TooDeep d Passed))
-    go (some r) d h k = placed-record BadTree r (omega (arith, lowest-below (records tree) (λ k. not (recordOk tree text k)) r h))
-    go nothing (some r) h k = placed-record TooDeep r (omega (arith, lowest-below (records tree) (λ k. ltb 64 (depth tree k)) r k))
-    go nothing nothing h k = refl
+    at : (r : ℕ) → r < records tree → eqb r none ≡ false
+    at r h = place-told r (omega arith)
 
-placed-clears : (tree text : List ℕ) (l : Lengths) (scratch : ℕ) → placed (judged tree text l scratch) ≡ clears (verdict tree text l scratch)
-unfolding judged verdict pick refusedBy judgedBy clears placed
-placed-clears tree text l scratch = go (lengthsOk (length tree)) (buffersOk (records tree) l scratch) refl
+    go : (f d : Option ℕ) → lowestFault tree text ≡ f → lowestDeep tree ≡ d → Placed (atLowest atRecords BadTree f (atLowest atNesting TooDeep d Passed))
+    go (some r) d h k =
+        let e = at r (lowest-below (records tree) (λ k. not (recordOk tree text k)) r h) in
+        record { with = rw e refl; without = e }
+    go nothing (some r) h k =
+        let e = at r (lowest-below (records tree) (λ k. ltb 64 (depth tree k)) r k) in
+        record { with = rw e refl; without = e }
+    go nothing nothing h k = record { with = refl; without = refl }
+
+pub verdict-placed : (tree text : List ℕ) (l : Lengths) (scratch : ℕ) → Placed (verdict tree text l scratch)
+unfolding verdict pick refusedBy judgedBy clears placed unplaced writesNothing
+verdict-placed tree text l scratch = go (lengthsOk (length tree)) (buffersOk (records tree) l scratch) refl
   where
     go : (a b : Bool) → lengthsOk (length tree) ≡ a
-        → placed (judgedBy (pick (not a) (refusedBy atLengths BadTree none) (pick (not b) (refusedBy atBuffers ShortBuffer none) (recordsVerdict tree text))))
-        ≡ clears (pick (not a) (refusedBy atLengths BadTree none) (pick (not b) (refusedBy atBuffers ShortBuffer none) (recordsVerdict tree text)))
-    go false b e = refl
-    go true false e = refl
+        → Placed (pick (not a) (refusedBy atLengths BadTree none) (pick (not b) (refusedBy atBuffers ShortBuffer none) (recordsVerdict tree text)))
+    go false b e = record { with = refl; without = refl }
+    go true false e = record { with = refl; without = refl }
     go true true e = records-placed tree text (lengths-fit (length tree) e .1)
+
+-- the core: the rows' answer r and what they leave of scratch, and b, the code's test whether r has no place
+scratch-kept : (v : Verdict) (l : List ℕ) → writesNothing v ≡ true → scratchAfter v l ≡ l
+unfolding writesNothing scratchAfter refusalLeaves
+scratch-kept (RefusedBy atLengths e) l h = refl
+scratch-kept (RefusedBy atBuffers e) l h = refl
+scratch-kept (RefusedBy atRecords e) l h = absurd (false≢true h)
+scratch-kept (RefusedBy atNesting e) l h = absurd (false≢true h)
+scratch-kept (RefusedBy atConversion e) l h = absurd (false≢true h)
+scratch-kept Passed l h = absurd (false≢true h)
+
+scratch-cleared : (v : Verdict) (l : List ℕ) → writesNothing v ≡ false → scratchAfter v l ≡ cleared l
+unfolding writesNothing scratchAfter refusalLeaves
+scratch-cleared (RefusedBy atLengths e) l h = absurd (false≢true (sym h))
+scratch-cleared (RefusedBy atBuffers e) l h = absurd (false≢true (sym h))
+scratch-cleared (RefusedBy atRecords e) l h = refl
+scratch-cleared (RefusedBy atNesting e) l h = refl
+scratch-cleared (RefusedBy atConversion e) l h = refl
+scratch-cleared Passed l h = refl
+
+module _ (tree text : List ℕ) (l : Lengths) (scratch used : List ℕ) (r : Judged)
+    (rows : (r ≡ judged tree text l (length scratch)) × JudgeKeeps (verdict tree text l (length scratch)) scratch used) (b : Bool) (bIs : b ≡ unplaced r) where
+  wrote : b ≡ writesNothing (verdict tree text l (length scratch))
+  unfolding judged
+  wrote = bIs ∙ ap unplaced (rows .0) ∙ verdict-placed tree text l (length scratch) .without
+
+  pub core-kept : b ≡ true → used ≡ scratchAfter (verdict tree text l (length scratch)) scratch
+  core-kept t = let h = sym wrote ∙ t in rows .1 .kept h ∙ sym (scratch-kept _ scratch h)
+
+  pub core-cleared : b ≡ false → (after : List ℕ) → after ≡ cleared used → after ≡ scratchAfter (verdict tree text l (length scratch)) scratch
+  core-cleared t after e = e ∙ ap (λ (k : ℕ). replicate k 0) (rows .1 .same) ∙ sym (scratch-cleared _ scratch (sym wrote ∙ t))
 
 output-cleared : (v : Verdict) (l : List ℕ) → clears v ≡ true → outputAfter v l ≡ cleared l
 unfolding clears outputAfter refusalLeaves
@@ -248,7 +291,8 @@ module _ (tree text : List ℕ) (b : Buffers) (r : Judged) (rIs : r ≡ judged t
   answer-in = rIs
 
   told : p ≡ clears (verdict tree text (lengthsOf b) (length (b .scratch)))
-  told = pIs ∙ ap placed rIs ∙ placed-clears tree text (lengthsOf b) (length (b .scratch))
+  unfolding judged
+  told = pIs ∙ ap placed rIs ∙ verdict-placed tree text (lengthsOf b) (length (b .scratch)) .with
 
   module _ (scratch′ : List ℕ) (scratchIs : scratch′ ≡ scratchAfter (verdict tree text (lengthsOf b) (length (b .scratch))) (b .scratch)) where
     pub outputs-cleared : p ≡ true → (i v l f s x : List ℕ)

@@ -1,17 +1,15 @@
--- What the judge's inner functions are held to: a lowest number, reference counts that stop at 2, depths, answers with a place.
+-- What the judge's inner functions are held to: a lowest number, reference counts that stop at 2, depths.
 -- Assumes nothing: these are definitions.
 use mathlib.Core.Path.{_≡_}
 use Prim.Native.Nat.{ℕ, _+_, _*_, _≤_, _<_}
-use mathlib.Core.Bool.{Bool, true, false, not}
+use mathlib.Core.Bool.{Bool, true, false}
 use mathlib.Core.List.{List}
-use lib.Dec.{eqb, ltb}
+use lib.Dec.{ltb}
 use lib.ListN.{length, getD}
 use Rattle.laws.specs.Fix.{pick}
-use Rattle.records.specs.Words.{kindOf, none}
+use Rattle.records.specs.Words.{kindOf}
 use Rattle.records.specs.Rules.{references}
 use Rattle.records.specs.Depth.{depth}
-use Rattle.judge.specs.declared.Judged.{Judged}
-use Rattle.judge.specs.declared.Judged.the-variants.{Accepted, Refused}
 
 -- r is the lowest number below n of which f holds, or n where there is none
 pub record Lowest (n : ℕ) (f : ℕ → Bool) (r : ℕ) : Type 0 where
@@ -43,8 +41,3 @@ pub record Counts (tree : List ℕ) (n : ℕ) (l : List ℕ) : Type 0 where
 pub record Depths (tree : List ℕ) (r : ℕ) (l : List ℕ) : Type 0 where
   pub depths : (k : ℕ) → k < r → getD l k 0 ≡ depth tree k
   pub low : (k : ℕ) → k < r → getD l k 0 ≤ 64
-
--- the answer is a refusal with a place
-unfoldable pub placed : Judged → Bool
-placed Accepted = false
-placed (Refused e) = not (eqb (e .place) none)

@@ -3,7 +3,7 @@ ghost use mathlib.Core.Path.{_≡_};
 ghost use Prim.Native.Nat.{_*_, _≤_};
 ghost use lib.ListN.{length};
 ghost use Rattle.records.specs.Words.{mostRecords};
-ghost use Rattle.judge.specs.Inner.{placed};
+ghost use Rattle.judge.specs.Keeps.{JudgeKeeps, placed, unplaced};
 ghost use Rattle.judge.specs.Judge.{lengthsOk, buffersOk, buffers, recordsVerdict, verdict, judgedBy, judged, judgedIn, scratchAfter, judgeLeaves, cleared};
 use records::convert_error::ConvertError;
 use records::convert_error::ConvertErrorKind;
@@ -86,9 +86,9 @@ fn judge_records(tree: &[u8], text: &[u8], n: usize, scratch: &mut [u8]) -> Judg
     Judged::Accepted
 }
 
-// The core: judges a tree, given how long the outputs are. Rows one and two leave scratch as found, the others leave it zero.
-pub fn judge_tree(tree: &[u8], text: &[u8], l: Lengths, scratch: &mut [u8]) -> Judged
-    ensures { λ r. ⌜ (r ≡ judged (now (tree .entry)) (now (text .entry)) l (length (now (scratch .entry)))) × (now (scratch .exit) ≡ scratchAfter (verdict (now (tree .entry)) (now (text .entry)) l (length (now (scratch .entry)))) (now (scratch .entry))) ⌝ }
+// Judges a tree, given how long the outputs are. Rows one and two leave scratch as found; past them its bytes are the judge's own.
+pub fn judge_rows(tree: &[u8], text: &[u8], l: Lengths, scratch: &mut [u8]) -> Judged
+    ensures { λ r. ⌜ (r ≡ judged (now (tree .entry)) (now (text .entry)) l (length (now (scratch .entry)))) × JudgeKeeps (verdict (now (tree .entry)) (now (text .entry)) l (length (now (scratch .entry)))) (now (scratch .entry)) (now (scratch .exit)) ⌝ }
 {
     let n = tree.len() / 32;
     let lengths = lengths_ok(tree.len());
@@ -100,13 +100,11 @@ pub fn judge_tree(tree: &[u8], text: &[u8], l: Lengths, scratch: &mut [u8]) -> J
         return refuse(ConvertErrorKind::ShortBuffer, NONE);
     }
     clear(scratch);
-    let answer = judge_records(tree, text, n, scratch);
-    clear(scratch);
-    answer
+    judge_records(tree, text, n, scratch)
 }
 
 // The answer is a refusal with a place. Of the rows judged here one and two have none, the others have one.
-fn has_place(answer: Judged) -> bool
+pub fn has_place(answer: Judged) -> bool
     ensures { λ r. ⌜ r ≡ placed answer ⌝ }
 {
     match answer {
@@ -116,6 +114,31 @@ fn has_place(answer: Judged) -> bool
             place != NONE
         }
     }
+}
+
+// The answer is a refusal without a place: rows one and two.
+fn has_no_place(answer: Judged) -> bool
+    ensures { λ r. ⌜ r ≡ unplaced answer ⌝ }
+{
+    match answer {
+        Judged::Accepted => false,
+        Judged::Refused(e) => {
+            let place = e.place;
+            place == NONE
+        }
+    }
+}
+
+// The core: judges a tree, given how long the outputs are. Rows one and two leave scratch as found, the others leave it zero.
+pub fn judge_tree(tree: &[u8], text: &[u8], l: Lengths, scratch: &mut [u8]) -> Judged
+    ensures { λ r. ⌜ (r ≡ judged (now (tree .entry)) (now (text .entry)) l (length (now (scratch .entry)))) × (now (scratch .exit) ≡ scratchAfter (verdict (now (tree .entry)) (now (text .entry)) l (length (now (scratch .entry)))) (now (scratch .entry))) ⌝ }
+{
+    let answer = judge_rows(tree, text, l, scratch);
+    if has_no_place(answer) {
+        return answer;
+    }
+    clear(scratch);
+    answer
 }
 
 // Zero in every byte of the six outputs.

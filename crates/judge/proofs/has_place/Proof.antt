@@ -1,7 +1,7 @@
 -- Whether a refusal has a place.
 -- By the case that the match met. Assumes nothing.
 use mathlib.Core.Path.{sym, ap}
-use Rattle.judge.specs.Inner.{placed}
+use Rattle.judge.specs.Keeps.{placed}
 use borrow.Author.Needs.{needs}
 use Rattle.judge.proofs.has_place.Statement.{statement}
 use Rattle.judge.proofs.has_place.Tie as tie

@@ -1,0 +1,57 @@
+-- The rows in order, and what scratch holds afterwards.
+-- Rows one and two return before anything is written. Assumes nothing.
+use mathlib.Core.Path.{sym, _∙_}
+use borrow.Author.Tests.{not-true, not-false}
+use Rattle.judge.proofs.RowLaws.{lengths-fit, scratch-fits, judged-length, judged-buffer, judged-records, cleared-length, cleared-twice}
+use borrow.Author.Needs.{needs}
+use Rattle.judge.proofs.judge_rows.Statement.{statement}
+use Rattle.judge.proofs.judge_rows.Tie as tie
+
+lengths-ok-requires : tie.Need-lengths-ok-requires
+lengths-ok-requires c κs = search needs
+
+buffers-ok-requires : tie.Need-buffers-ok-requires
+buffers-ok-requires c κs = search needs
+
+refuse-requires : tie.Need-refuse-requires
+refuse-requires c κs = search needs
+
+returns : tie.Need-returns
+returns c = judged-length _ _ _ _ _ (c .before .before .before .lengths-ok .ensures) _ (not-true _ (c .before .if1 .taken)) (c .refuse .ensures)
+
+refuse-requires-2 : tie.Need-refuse-requires-2
+refuse-requires-2 c κs = search needs
+
+returns-2 : tie.Need-returns-2
+returns-2 c = judged-buffer _ _ _ _ _ (c .before .before .before .before .lengths-ok .ensures) (not-false _ (c .before .before .if1 .left)) _ (c .before .before .before .buffers-ok .ensures) _ (not-true _ (c .before .if2 .taken)) (c .refuse2 .ensures)
+
+clear-requires : tie.Need-clear-requires
+clear-requires c κs = search needs
+
+judge-records-requires : tie.Need-judge-records-requires
+judge-records-requires c κs =
+    let fit = lengths-fit _ (sym (c .before .before .before .before .before .before .before .before .lengths-ok .ensures) ∙ not-false _ (c .before .before .before .before .before .before .if1 .left)) in (
+      (fit .0, fit .1, rw (cleared-length (c .before .before .before .before .before .before .before .before .before .before .before .before .args .scratch .now) _ (c .before .before .before .clear .ensures)) (scratch-fits _ _ _ (sym (c .before .before .before .before .before .before .before .buffers-ok .ensures) ∙ not-false _ (c .before .before .before .before .before .if2 .left)))),
+      cleared-twice (c .before .before .before .before .before .before .before .before .before .before .before .before .args .scratch .now) _ (c .before .before .before .clear .ensures),
+    )
+
+same-length : tie.Need-same-length
+same-length c = search needs
+
+returns-3 : tie.Need-returns-3
+returns-3 c = judged-records _ _ _ _ _ (c .before .before .before .before .before .before .before .before .before .before .before .lengths-ok .ensures) (not-false _ (c .before .before .before .before .before .before .before .before .before .if1 .left)) _ (c .before .before .before .before .before .before .before .before .before .before .buffers-ok .ensures) _ _ (not-false _ (c .before .before .before .before .before .before .before .before .if2 .left)) (c .before .before .judge-records .ensures .0) (c .before .before .judge-records .ensures .1 ∙ cleared-length (c .before .before .before .before .before .before .before .before .before .before .before .before .before .before .before .args .scratch .now) _ (c .before .before .before .before .before .before .clear .ensures))
+
+pub judge-rows-spec : {M : Type 1} → statement M
+judge-rows-spec =
+    tie.close
+    (tie.spec
+    lengths-ok-requires
+    buffers-ok-requires
+    refuse-requires
+    returns
+    refuse-requires-2
+    returns-2
+    clear-requires
+    judge-records-requires
+    same-length
+    returns-3)
