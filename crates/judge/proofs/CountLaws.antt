@@ -1,133 +1,150 @@
--- Laws of counts that stop at 2: one word's count, counts one after the other, and the counts of all records below a bound.
--- Each byte by itself: a count that stops may be taken in parts. Assumes nothing.
+-- Laws of counts that stop at 2: one word's count, counts one after the other, and the counts of all records that were passed.
+-- Each count by itself: a count that stops may be taken in parts. The other bytes stay, since the four of a record are told apart. Assumes nothing.
 use mathlib.Core.Path.{_≡_, refl, sym, ap, _∙_}
-use mathlib.Core.Logic.{⊎-elim}
 use Prim.Native.Nat.{ℕ, zero, suc, _+_, _*_, _/_, _≤_, _<_}
-use mathlib.Core.Bool.{Bool, true, false, _&&_}
+use mathlib.Core.Bool.{Bool, true, false, not, _&&_}
 use mathlib.Core.List.{List}
 use native.Mathlib.Omega.{arith}
 use lib.Dec.{eqb, ltb}
-use lib.ListN.{length, getD, set, length-set, replicate, getD-replicate}
+use lib.ListN.{length, getD, set, length-set}
 use lib.Seq.{getD-set-same, getD-set-other}
-use borrow.Author.Tests.{lt-ltb, le-ltb, ltb-true, ltb-false, eq-eqb, ne-eqb, eqb-true, eqb-false}
-use Rattle.laws.specs.Fix.{pick}
+use borrow.Author.Tests.{lt-ltb, le-ltb, eq-eqb, ne-eqb, eqb-true, eqb-false, ltb-true, ltb-false}
+use Rattle.laws.specs.Fix.{pick, fix}
 use Rattle.laws.specs.Below.{sumBelow}
 use Rattle.laws.proofs.BelowLaws.{sumBelow-more}
+use Rattle.laws.proofs.FixLaws.{pick-yes, pick-no}
 use Rattle.laws.proofs.Tests.{tested}
 use Rattle.records.specs.declared.shape.Role.{Role}
+use Rattle.records.specs.declared.shape.Role.the-variants.{Unused}
 use Rattle.records.specs.declared.shape.Row.{Row}
 use Rattle.records.specs.Words.{kindOf, detailOf, wordOf, A, B, C, D, E}
 use Rattle.records.specs.Shapes.{refers, shapeOf, rowOf, rowAt}
-use Rattle.records.specs.Rules.{refersTo, refersFrom, references}
-use Rattle.judge.specs.Inner.{cap, Counted, Counts}
-use Rattle.judge.specs.Judge.{cleared}
-
-pub cap-low : (x : ℕ) → x ≤ 2 → cap x ≡ x
-unfolding cap pick
-cap-low x h = tested (ltb x 2) (λ t. rw t refl) (λ t. rw t (omega (arith, ltb-false x 2 t)))
-
-pub cap-high : (x : ℕ) → 2 ≤ x → cap x ≡ 2
-unfolding cap pick
-cap-high x h = rw (le-ltb x 2 h) refl
-
-pub cap-small : (x : ℕ) → cap x ≤ 2
-cap-small x = tested (ltb x 2) (λ t. omega (arith, ltb-true x 2 t, cap-low x (omega (arith, ltb-true x 2 t)))) (λ t. omega (arith, cap-high x (ltb-false x 2 t)))
+use Rattle.records.specs.Rules.{listStep, refersTo, refersFrom, references}
+use Rattle.judge.specs.Inner.{capped, classIn, depthIn, countIn, kindIn, listNumber, shallowDepth, stored, laterRefs, Known, Counting, Counted}
+use Rattle.judge.proofs.CapLaws.{cap-low, cap-high, cap-small, cap-cap}
 
 -- a count that nothing is added to
-cap-plus : (x z : ℕ) → x ≤ 2 → z ≡ 0 → x ≡ cap (x + z)
-cap-plus x z h e = let s : x + z ≡ x = omega arith in sym (ap cap s ∙ cap-low x h)
-
-pub cap-cap : (x y : ℕ) → cap (cap x + y) ≡ cap (x + y)
-cap-cap x y =
-    tested (ltb x 2)
-    (λ t. ap (λ (z : ℕ). cap (z + y)) (cap-low x (omega (arith, ltb-true x 2 t))))
-    (λ t.
-    let h : 2 ≤ x = ltb-false x 2 t in
-    cap-high (cap x + y) (omega (arith, cap-high x h)) ∙ sym (cap-high (x + y) (omega arith)))
+cap-plus : (x z : ℕ) → x ≤ 2 → z ≡ 0 → x ≡ capped 2 (x + z)
+cap-plus x z h e = let s : x + z ≡ x = omega arith in sym (ap (capped 2) s ∙ cap-low 2 x h)
 
 pub refers-not : (role : Role) (w k : ℕ) → refers role ≡ false → refersTo role w k ≡ 0
 unfolding refersTo pick
 refers-not role w k e = rw e refl
 
-pub refers-other : (role : Role) (w k : ℕ) → (w ≡ k → ⊥) → refersTo role w k ≡ 0
+refers-other : (role : Role) (w k : ℕ) → (w ≡ k → ⊥) → refersTo role w k ≡ 0
 unfolding refersTo pick
 refers-other role w k h = tested (refers role) (λ t. rw (t, ne-eqb w k h) refl) (λ t. rw t refl)
 
-pub refers-same : (role : Role) (w : ℕ) → refers role ≡ true → refersTo role w w ≡ 1
+refers-same : (role : Role) (w : ℕ) → refers role ≡ true → refersTo role w w ≡ 1
 unfolding refersTo pick
 refers-same role w e = rw (e, eq-eqb w w refl) refl
 
 -- nothing is counted
-pub counted-none : (n : ℕ) (more : ℕ → ℕ) (l : List ℕ) → ((k : ℕ) → k < n → more k ≡ 0) → Counted n more l l
-counted-none n more l z =
+pub counted-none : (r : ℕ) (more : ℕ → ℕ) (l : List ℕ) → ((k : ℕ) → k < r → more k ≡ 0) → Counted r more l l
+counted-none r more l z =
     record {
       same = refl;
-      grown = λ k hk h. cap-plus (getD l k 0) (more k) h (z k hk);
+      grown = λ k hk h. cap-plus (countIn l k) (more k) h (z k hk);
+      classes = λ k. refl;
+      depths = λ k. refl;
+      kinds = λ k. refl;
     }
 
--- one word: the code's test is b, and the record that the word refers to is i
-module _ (role : Role) (w n i : ℕ) (l : List ℕ) (b : Bool) (told : b ≡ refers role) where
-  pub word-not : b ≡ false → Counted n (refersTo role w) l l
-  word-not e = counted-none n (refersTo role w) l (λ k hk. refers-not role w k (sym told ∙ e))
+-- one word that refers to record i
+module _ (role : Role) (w r i : ℕ) (l : List ℕ) (same : i ≡ w) where
+  pub word-out : r ≤ i → Counted r (refersTo role w) l l
+  word-out h = counted-none r (refersTo role w) l (λ k hk. refers-other role w k (λ e. omega arith))
 
-  module _ (same : i ≡ w) where
-    pub word-out : n ≤ i → Counted n (refersTo role w) l l
-    word-out h = counted-none n (refersTo role w) l (λ k hk. refers-other role w k (λ e. omega arith))
+  module _ (yes : refers role ≡ true) where
+    pub word-full : 2 ≤ countIn l i → Counted r (refersTo role w) l l
+    word-full c =
+        record {
+          same = refl;
+          grown = λ k hk h.
+              tested (eqb w k)
+              (λ t.
+              let q : i ≡ k = same ∙ eqb-true w k t in
+              let f : 2 ≤ countIn l k = rw q at c in
+              sym (cap-high 2 (countIn l k + refersTo role w k) (omega arith) ∙ omega arith))
+              (λ t. cap-plus (countIn l k) (refersTo role w k) h (refers-other role w k (eqb-false w k t)));
+          classes = λ k. refl;
+          depths = λ k. refl;
+          kinds = λ k. refl;
+        }
 
-    module _ (yes : b ≡ true) where
-      pub word-full : 2 ≤ getD l i 0 → Counted n (refersTo role w) l l
-      word-full c =
-          record {
-            same = refl;
-            grown = λ k hk h.
-                tested (eqb w k)
-                (λ t.
-                let q : i ≡ k = same ∙ eqb-true w k t in
-                let f : 2 ≤ getD l k 0 = rw q at c in
-                sym (cap-high (getD l k 0 + refersTo role w k) (omega arith) ∙ omega arith))
-                (λ t. cap-plus (getD l k 0) (refersTo role w k) h (refers-other role w k (eqb-false w k t)));
-          }
-
-      pub word-more : i < length l → getD l i 0 < 2 → Counted n (refersTo role w) l (set l i (getD l i 0 + 1))
-      word-more hl c =
-          record {
-            same = length-set l i (getD l i 0 + 1);
-            grown = λ k hk h.
-                tested (eqb w k)
-                (λ t.
-                let q : k ≡ i = sym (same ∙ eqb-true w k t) in
-                let once : refersTo role w i ≡ 1 = rw same (refers-same role w (sym told ∙ yes)) in
-                rw q
-                (getD-set-same l i (getD l i 0 + 1) 0 hl
-                ∙ sym (ap (λ (x : ℕ). cap (getD l i 0 + x)) once ∙ cap-low (getD l i 0 + 1) (omega arith))))
-                (λ t.
-                getD-set-other l i k (getD l i 0 + 1) 0 (λ e. eqb-false w k t (sym (e ∙ same)))
-                ∙ cap-plus (getD l k 0) (refersTo role w k) h (refers-other role w k (eqb-false w k t)));
-          }
+    pub word-more : i * 4 + 2 < length l → countIn l i < 2 → Counted r (refersTo role w) l (set l (i * 4 + 2) (countIn l i + 1))
+    word-more hl c =
+        let at = i * 4 + 2 in
+        let v = countIn l i + 1 in
+        record {
+          same = length-set l at v;
+          grown = λ k hk h.
+              tested (eqb w k)
+              (λ t.
+              let q : k ≡ i = sym (same ∙ eqb-true w k t) in
+              let once : refersTo role w i ≡ 1 = rw same (refers-same role w yes) in
+              rw q
+              (getD-set-same l at v 0 hl
+              ∙ sym (ap (λ (x : ℕ). capped 2 (countIn l i + x)) once ∙ cap-low 2 (countIn l i + 1) (omega arith))))
+              (λ t.
+              let n : w ≡ k → ⊥ = eqb-false w k t in
+              getD-set-other l at (k * 4 + 2) v 0 (λ e. n (omega arith))
+              ∙ cap-plus (countIn l k) (refersTo role w k) h (refers-other role w k n));
+          classes = λ k. getD-set-other l at (k * 4) v 0 (λ e. omega arith);
+          depths = λ k. getD-set-other l at (k * 4 + 1) v 0 (λ e. omega arith);
+          kinds = λ k. getD-set-other l at (k * 4 + 3) v 0 (λ e. omega arith);
+        }
 
 -- what is counted first, and then more
-pub counted-more : (n : ℕ) (f g : ℕ → ℕ) (l m p : List ℕ) → Counted n f l m → Counted n g m p → Counted n (λ k. f k + g k) l p
-counted-more n f g l m p a b =
+counted-more : (r : ℕ) (f g : ℕ → ℕ) (l m p : List ℕ) → Counted r f l m → Counted r g m p → Counted r (λ k. f k + g k) l p
+counted-more r f g l m p a b =
     record {
       same = b .same ∙ a .same;
       grown = λ k hk h.
-          let e : getD m k 0 ≡ cap (getD l k 0 + f k) = a .grown k hk h in
-          b .grown k hk (omega (arith, cap-small (getD l k 0 + f k)))
-          ∙ ap (λ (x : ℕ). cap (x + g k)) e
-          ∙ cap-cap (getD l k 0 + f k) (g k)
-          ∙ ap cap (omega arith);
+          let e : countIn m k ≡ capped 2 (countIn l k + f k) = a .grown k hk h in
+          b .grown k hk (omega (arith, cap-small 2 (countIn l k + f k)))
+          ∙ ap (λ (x : ℕ). capped 2 (x + g k)) e
+          ∙ cap-cap 2 (countIn l k + f k) (g k)
+          ∙ ap (capped 2) (omega arith);
+      classes = λ k. b .classes k ∙ a .classes k;
+      depths = λ k. b .depths k ∙ a .depths k;
+      kinds = λ k. b .kinds k ∙ a .kinds k;
     }
 
--- counts of records below r, and then of record r
-pub counts-more : (n r : ℕ) (f : ℕ → ℕ → ℕ) (l m : List ℕ)
-    → ((k : ℕ) → k < n → getD l k 0 ≡ cap (sumBelow r (f k)))
-    → Counted n (λ k. f k r) l m
-    → (k : ℕ) → k < n → getD m k 0 ≡ cap (sumBelow (r + 1) (f k))
-counts-more n r f l m before now k hk =
-    now .grown k hk (omega (arith, cap-small (sumBelow r (f k)), before k hk))
-    ∙ ap (λ (x : ℕ). cap (x + f k r)) (before k hk)
-    ∙ cap-cap (sumBelow r (f k)) (f k r)
-    ∙ sym (ap cap (sumBelow-more r (f k)))
+counted-as : (r : ℕ) (f g : ℕ → ℕ) (l m : List ℕ) → ((k : ℕ) → f k ≡ g k) → Counted r f l m → Counted r g l m
+counted-as r f g l m e a =
+    record {
+      same = a .same;
+      grown = λ k hk h. a .grown k hk h ∙ ap (λ (x : ℕ). capped 2 (countIn l k + x)) (e k);
+      classes = a .classes;
+      depths = a .depths;
+      kinds = a .kinds;
+    }
+
+-- before any record is taken
+pub known-none : (tree l : List ℕ) → Known tree 0 l
+known-none tree l =
+    record {
+      lists = λ role k h. absurd (omega arith);
+      small = λ k h. absurd (omega arith);
+      cells = λ k h. absurd (omega arith);
+      depths = λ k h. absurd (omega arith);
+      kinds = λ k h. absurd (omega arith);
+    }
+
+pub counting-none : (tree l : List ℕ) → Counting tree 0 l
+counting-none tree l = record { counts = λ k h. absurd (omega arith) }
+
+-- counting changes nothing that is known
+pub known-counted : (tree : List ℕ) (r : ℕ) (more : ℕ → ℕ) (l l′ : List ℕ) → Known tree r l → Counted r more l l′ → Known tree r l′
+known-counted tree r more l l′ k c =
+    record {
+      lists = λ role i h. k .lists role i h ∙ ap (λ (x : ℕ). eqb x (listNumber role)) (sym (c .classes i));
+      small = λ i h. rw (c .classes i) (k .small i h);
+      cells = λ i h n. c .classes i ∙ k .cells i h n;
+      depths = λ i h. c .depths i ∙ k .depths i h;
+      kinds = λ i h. c .kinds i ∙ k .kinds i h;
+    }
 
 -- the row of a record, as the code looks it up
 pub row-told : (tree : List ℕ) (r kind detail shape : ℕ) (row : Row)
@@ -135,10 +152,6 @@ pub row-told : (tree : List ℕ) (r kind detail shape : ℕ) (row : Row)
 unfolding rowAt
 row-told tree r kind detail shape row k d s e =
     e ∙ ap rowOf (s ∙ ap (λ (x : ℕ). shapeOf x detail) k ∙ ap (λ (x : ℕ). shapeOf (kindOf tree r) x) d)
-
-counted-as : (n : ℕ) (f g : ℕ → ℕ) (l m : List ℕ) → ((k : ℕ) → f k ≡ g k) → Counted n f l m → Counted n g l m
-counted-as n f g l m e a =
-    record { same = a .same; grown = λ k hk h. a .grown k hk h ∙ ap (λ (x : ℕ). cap (getD l k 0 + x)) (e k) }
 
 from-words : (tree : List ℕ) (r k : ℕ) (row : Row) (va vb vc vd ve : ℕ)
     → row ≡ rowAt tree r
@@ -148,30 +161,109 @@ unfolding refersFrom
 from-words tree r k row va vb vc vd ve w wa wb wc wd we = rw (wa, wb, wc, wd, we, w) refl
 
 -- the five words of record r
-pub counted-words : (tree : List ℕ) (r n : ℕ) (row : Row) (va vb vc vd ve : ℕ) (l la lb lc ld le : List ℕ)
+pub counted-words : (tree : List ℕ) (r : ℕ) (row : Row) (va vb vc vd ve : ℕ) (l la lb lc ld le : List ℕ)
     → row ≡ rowAt tree r
     → va ≡ wordOf tree r A → vb ≡ wordOf tree r B → vc ≡ wordOf tree r C → vd ≡ wordOf tree r D → ve ≡ wordOf tree r E
-    → Counted n (refersTo (row .a) va) l la
-    → Counted n (refersTo (row .b) vb) la lb
-    → Counted n (refersTo (row .c) vc) lb lc
-    → Counted n (refersTo (row .d) vd) lc ld
-    → Counted n (refersTo (row .e) ve) ld le
-    → Counted n (λ k. refersFrom tree k r) l le
-counted-words tree r n row va vb vc vd ve l la lb lc ld le w wa wb wc wd we a b c d e =
-    counted-as n _ (λ k. refersFrom tree k r) l le (λ k. from-words tree r k row va vb vc vd ve w wa wb wc wd we)
-    (counted-more n _ _ l ld le (counted-more n _ _ l lc ld (counted-more n _ _ l lb lc (counted-more n _ _ l la lb a b) c) d) e)
+    → Counted r (refersTo (row .a) va) l la
+    → Counted r (refersTo (row .b) vb) la lb
+    → Counted r (refersTo (row .c) vc) lb lc
+    → Counted r (refersTo (row .d) vd) lc ld
+    → Counted r (refersTo (row .e) ve) ld le
+    → Counted r (λ k. refersFrom tree k r) l le
+counted-words tree r row va vb vc vd ve l la lb lc ld le w wa wb wc wd we a b c d e =
+    counted-as r _ (λ k. refersFrom tree k r) l le (λ k. from-words tree r k row va vb vc vd ve w wa wb wc wd we)
+    (counted-more r _ _ l ld le (counted-more r _ _ l lc ld (counted-more r _ _ l lb lc (counted-more r _ _ l la lb a b) c) d) e)
 
--- before any record is counted, every byte of a cleared slice is 0
-pub counts-none : (n : ℕ) (f : ℕ → ℕ → ℕ) (l : List ℕ) → l ≡ cleared l → n ≤ length l
-    → (k : ℕ) → k < n → getD l k 0 ≡ cap (sumBelow 0 (f k))
-unfolding sumBelow cap pick
-counts-none n f l e h k hk = ap (λ (x : List ℕ). getD x k 0) e ∙ getD-replicate (length l) k 0 0 (omega arith)
+-- no record up to k is behind k
+none-later : (tree : List ℕ) (n k : ℕ) → n ≤ k + 1 → sumBelow n (laterRefs tree k) ≡ 0
+unfolding sumBelow laterRefs
+none-later tree zero k h = refl
+none-later tree (suc n) k h =
+    rw (none-later tree n k (omega arith), pick-no (ltb k n) (refersFrom tree k n) 0 (le-ltb k n (omega arith))) refl
 
--- once all records are counted
-pub counts-all : (tree : List ℕ) (n : ℕ) (l : List ℕ) → n * 32 ≡ length tree
-    → ((k : ℕ) → k < n → getD l k 0 ≡ cap (sumBelow n (refersFrom tree k)))
-    → Counts tree n l
-unfolding references
-counts-all tree n l e h =
-    let q : length tree / 32 ≡ n = omega arith in
-    record { counts = λ k hk. rw q (h k hk) }
+-- ---- the bytes of record r are written
+
+module _ (l : List ℕ) (r class depth kind : ℕ) (room : r * 4 + 4 ≤ length l) where
+  abbrev l₁ : List ℕ
+  l₁ = set l (r * 4) class
+
+  abbrev l₂ : List ℕ
+  l₂ = set l₁ (r * 4 + 1) depth
+
+  abbrev l₃ : List ℕ
+  l₃ = set l₂ (r * 4 + 2) 0
+
+  abbrev after : List ℕ
+  after = stored l r class depth kind
+
+  pub stored-length : length after ≡ length l
+  stored-length = simp length-set
+
+  one : length l₁ ≡ length l
+  one = simp length-set
+
+  two : length l₂ ≡ length l
+  two = simp length-set
+
+  three : length l₃ ≡ length l
+  three = simp length-set
+
+  -- what the last two stores leave
+  kept : (x : ℕ) → (x ≡ r * 4 + 3 → ⊥) → (x ≡ r * 4 + 2 → ⊥) → getD after x 0 ≡ getD l₂ x 0
+  kept x a b = getD-set-other l₃ (r * 4 + 3) x kind 0 a ∙ getD-set-other l₂ (r * 4 + 2) x 0 0 b
+
+  stored-below : (x : ℕ) → x < r * 4 → getD after x 0 ≡ getD l x 0
+  stored-below x h =
+      kept x (λ e. omega arith) (λ e. omega arith)
+      ∙ getD-set-other l₁ (r * 4 + 1) x depth 0 (λ e. omega arith)
+      ∙ getD-set-other l (r * 4) x class 0 (λ e. omega arith)
+
+  stored-class : classIn after r ≡ class
+  stored-class =
+      kept (r * 4) (λ e. omega arith) (λ e. omega arith)
+      ∙ getD-set-other l₁ (r * 4 + 1) (r * 4) depth 0 (λ e. omega arith)
+      ∙ getD-set-same l (r * 4) class 0 (omega arith)
+
+  stored-depth : depthIn after r ≡ depth
+  stored-depth =
+      kept (r * 4 + 1) (λ e. omega arith) (λ e. omega arith) ∙ getD-set-same l₁ (r * 4 + 1) depth 0 (omega (arith, one))
+
+  stored-count : countIn after r ≡ 0
+  stored-count =
+      getD-set-other l₃ (r * 4 + 3) (r * 4 + 2) kind 0 (λ e. omega arith) ∙ getD-set-same l₂ (r * 4 + 2) 0 0 (omega (arith, two))
+
+  stored-kind : kindIn after r ≡ kind
+  stored-kind = getD-set-same l₃ (r * 4 + 3) kind 0 (omega (arith, three))
+
+  -- of each record below r + 1, where it holds of those below r and of r
+  grow : (P : ℕ → Type 0) → ((k : ℕ) → k < r → P k) → P r → (k : ℕ) → k < r + 1 → P k
+  grow P below here k h = tested (eqb k r) (λ t. let e : r ≡ k = sym (eqb-true k r t) in rw e at here) (λ t. let n : k ≡ r → ⊥ = eqb-false k r t in below k (omega arith))
+
+  pub known-stored : (tree : List ℕ) → Known tree r l
+      → ((role : _) → fix false (listStep tree role) r ≡ eqb class (listNumber role))
+      → class ≤ 3 → ((kindOf tree r ≡ 12 → ⊥) → class ≡ 0) → depth ≡ shallowDepth tree r → kind ≡ kindOf tree r
+      → Known tree (r + 1) after
+  known-stored tree k lists small cells deep is =
+      record {
+        lists = λ role. grow (λ i. fix false (listStep tree role) i ≡ eqb (classIn after i) (listNumber role)) (λ i h. k .lists role i h ∙ ap (λ (x : ℕ). eqb x (listNumber role)) (sym (stored-below (i * 4) (omega arith)))) (lists role ∙ ap (λ (x : ℕ). eqb x (listNumber role)) (sym stored-class));
+        small = grow (λ i. classIn after i ≤ 3) (λ i h. rw (stored-below (i * 4) (omega arith)) (k .small i h)) (rw stored-class small);
+        cells = grow (λ i. (kindOf tree i ≡ 12 → ⊥) → classIn after i ≡ 0) (λ i h n. stored-below (i * 4) (omega arith) ∙ k .cells i h n) (λ n. stored-class ∙ cells n);
+        depths = grow (λ i. depthIn after i ≡ shallowDepth tree i) (λ i h. stored-below (i * 4 + 1) (omega arith) ∙ k .depths i h) (stored-depth ∙ deep);
+        kinds = grow (λ i. kindIn after i ≡ kindOf tree i) (λ i h. stored-below (i * 4 + 3) (omega arith) ∙ k .kinds i h) (stored-kind ∙ is);
+      }
+
+  -- the references of record r were counted before
+  pub counting-stored : (tree l₀ : List ℕ) → Counting tree r l₀ → Counted r (λ k. refersFrom tree k r) l₀ l → Counting tree (r + 1) after
+  unfolding laterRefs
+  counting-stored tree l₀ before now =
+      record {
+        counts = grow (λ i. countIn after i ≡ capped 2 (sumBelow (r + 1) (laterRefs tree i)))
+            (λ i h.
+            stored-below (i * 4 + 2) (omega arith)
+            ∙ now .grown i h (omega (arith, cap-small 2 (sumBelow r (laterRefs tree i)), before .counts i h))
+            ∙ ap (λ (x : ℕ). capped 2 (x + refersFrom tree i r)) (before .counts i h)
+            ∙ cap-cap 2 (sumBelow r (laterRefs tree i)) (refersFrom tree i r)
+            ∙ ap (λ (x : ℕ). capped 2 (sumBelow r (laterRefs tree i) + x)) (sym (pick-yes (ltb i r) (refersFrom tree i r) 0 (lt-ltb i r h)))
+            ∙ sym (ap (capped 2) (sumBelow-more r (laterRefs tree i))))
+            (stored-count ∙ sym (ap (capped 2) (none-later tree (r + 1) r (omega arith)) ∙ cap-low 2 0 (omega arith)));
+      }

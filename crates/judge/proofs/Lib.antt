@@ -1,5 +1,9 @@
+pub mod CapLaws
 pub mod CountLaws
 pub mod DepthLaws
-pub mod RecordCases
+pub mod FaultLaws
+pub mod KeyLaws
+pub mod ListClass
 pub mod RoleCases
 pub mod RowLaws
+pub mod TakeLaws

@@ -78,7 +78,7 @@ lengths-fit bytes e =
     (omega arith, omega arith)
 
 -- a product compared by a quotient: either test says what the other says
-divided : (a b c d : ℕ) → (a ≤ b → c ≤ d) → (b < a → d < c) → leb a b ≡ leb c d
+pub divided : (a b c d : ℕ) → (a ≤ b → c ≤ d) → (b < a → d < c) → leb a b ≡ leb c d
 divided a b c d y n =
     tested (leb a b) (λ e. e ∙ sym (le-leb c d (y (leb-true a b e)))) (λ e. e ∙ sym (lt-leb c d (n (leb-false a b e))))
 
@@ -129,19 +129,12 @@ enough n l scratch e =
       scratch = leb-true _ _ (and-right six (leb (64 * n) scratch) e);
     }
 
--- a scratch that is long enough
-pub scratch-fits : (n : ℕ) (l : Lengths) (scratch : ℕ) → buffersOk n l scratch ≡ true → n ≤ scratch
-scratch-fits n l scratch e = omega (arith, enough n l scratch e .scratch)
-
 -- a list filled to its end is cleared
 pub filled : (n : ℕ) (d : List ℕ) → n ≡ length d → replicate n 0 ++ drop n d ≡ cleared d
 filled n d e = rw (e, drop-length d, append-nil) refl
 
 pub cleared-length : (d e : List ℕ) → e ≡ cleared d → length e ≡ length d
 cleared-length d e q = ap length q ∙ length-replicate (length d) 0
-
-pub cleared-twice : (d e : List ℕ) → e ≡ cleared d → e ≡ cleared e
-cleared-twice d e q = q ∙ ap (λ (k : ℕ). replicate k 0) (sym (cleared-length d e q))
 
 -- rows 'records' and 'nesting', and a tree that passes both, may write
 records-write : (tree text : List ℕ) → writesNothing (recordsVerdict tree text) ≡ false

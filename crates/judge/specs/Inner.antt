@@ -1,15 +1,21 @@
--- What the judge's inner functions are held to: a lowest number, reference counts that stop at 2, depths.
--- Assumes nothing: these are definitions.
+-- What the judge's inner functions are held to: a lowest number, and the four bytes that the pass leaves for each record: what its list holds, how deep it
+-- is, how often it was referred to so far, its kind. Assumes nothing: these are definitions.
 use mathlib.Core.Path.{_≡_}
 use Prim.Native.Nat.{ℕ, _+_, _*_, _≤_, _<_}
-use mathlib.Core.Bool.{Bool, true, false}
+use mathlib.Core.Bool.{Bool, true, false, not, _&&_, _||_}
 use mathlib.Core.List.{List}
-use lib.Dec.{ltb}
-use lib.ListN.{length, getD}
-use Rattle.laws.specs.Fix.{pick}
-use Rattle.records.specs.Words.{kindOf}
-use Rattle.records.specs.Rules.{references}
-use Rattle.records.specs.Depth.{depth}
+use lib.Dec.{eqb, leb, ltb}
+use lib.ListN.{length, getD, set}
+use Rattle.laws.specs.Fix.{pick, below, fix}
+use Rattle.laws.specs.Below.{sumBelow}
+use Rattle.records.specs.declared.shape.Role.{Role}
+use Rattle.records.specs.declared.shape.Role.the-variants.{Unused, Number, Text, Length, Expr, TypeRef, TypeOrNone, Name, Variable, Arguments, Parameters, Body, Item, Rest}
+use Rattle.records.specs.Words.{kindOf, wordOf, none, A, B, C, D, E}
+use Rattle.records.specs.Kinds.{kindList, kindValue, kindTypeArgument, kindDeclare, kindContinue, kindVariable}
+use Rattle.records.specs.Shapes.{rowAt}
+use Rattle.records.specs.Rules.{listStep, wordOk, wordsOk, formOk, otherwiseMarked, bodyMarked, isFirstType, typesFirst, refersTo, refersFrom, references}
+use Rattle.records.specs.Depth.{depth, depthBelow, deepest}
+use Rattle.judge.specs.declared.pass.Words.{Words}
 
 -- r is the lowest number below n of which f holds, or n where there is none
 pub record Lowest (n : ℕ) (f : ℕ → Bool) (r : ℕ) : Type 0 where
@@ -23,21 +29,189 @@ pub record TypesLead (tree : List ℕ) (n count : ℕ) : Type 0 where
   pub types : (k : ℕ) → k < count → kindOf tree k ≡ 1
   pub other : count < n → kindOf tree count ≡ 1 → ⊥
 
--- a count that stops at 2
-unfoldable pub cap : ℕ → ℕ
+-- a number that stops at `most`: a count at 2, a depth at 65
+unfoldable pub capped : ℕ → ℕ → ℕ
 unfolding pick
-cap x = pick (ltb x 2) x 2
+capped most x = pick (ltb x most) x most
 
--- each of the first n bytes, at most 2 at entry, has grown by what `more` says, up to 2
-pub record Counted (n : ℕ) (more : ℕ → ℕ) (l l′ : List ℕ) : Type 0 where
-  pub same : length l′ ≡ length l
-  pub grown : (k : ℕ) → k < n → getD l k 0 ≤ 2 → getD l′ k 0 ≡ cap (getD l k 0 + more k)
+abbrev pub shallowDepth : List ℕ → ℕ → ℕ
+shallowDepth tree r = capped 65 (depth tree r)
 
--- byte k of the first n is the count of references to record k, up to 2
+-- ---- the bytes of record k
+
+abbrev pub classIn : List ℕ → ℕ → ℕ
+classIn l k = getD l (k * 4) 0
+
+abbrev pub depthIn : List ℕ → ℕ → ℕ
+depthIn l k = getD l (k * 4 + 1) 0
+
+abbrev pub countIn : List ℕ → ℕ → ℕ
+countIn l k = getD l (k * 4 + 2) 0
+
+abbrev pub kindIn : List ℕ → ℕ → ℕ
+kindIn l k = getD l (k * 4 + 3) 0
+
+-- the bytes of record r are written, with a count of 0
+abbrev pub stored : List ℕ → ℕ → ℕ → ℕ → ℕ → List ℕ
+stored l r class depth kind = set (set (set (set l (r * 4) class) (r * 4 + 1) depth) (r * 4 + 2) 0) (r * 4 + 3) kind
+
+-- ---- what a list holds
+
+-- the number of the lists of a role; no list has the number of another role
+abbrev pub listNumber : Role → ℕ
+listNumber Arguments = 1
+listNumber Parameters = 2
+listNumber Body = 3
+listNumber Unused = 4
+listNumber Number = 4
+listNumber Text = 4
+listNumber Length = 4
+listNumber Expr = 4
+listNumber TypeRef = 4
+listNumber TypeOrNone = 4
+listNumber Name = 4
+listNumber Variable = 4
+listNumber Item = 4
+listNumber Rest = 4
+
+-- the number of the lists that record a may stand in, 0 where there are none
+unfoldable pub itemClass : List ℕ → ℕ → ℕ
+unfolding pick kindOf wordOf
+itemClass tree a =
+    pick (eqb (kindOf tree a) kindValue || eqb (kindOf tree a) kindTypeArgument) 1
+    (pick (leb kindDeclare (kindOf tree a) && leb (kindOf tree a) kindContinue) 3
+    (pick (not (eqb (kindOf tree a) kindVariable)) 0 (pick (eqb (wordOf tree a C) none) 0 2)))
+
+-- the number of the list from cell r on, whose item is a and whose rest is b: that of its item, where the rest has the same
+unfoldable pub cellClass : List ℕ → (ℕ → ℕ) → ℕ → ℕ → ℕ → ℕ
+unfolding pick below itemClass
+cellClass tree g r a b =
+    pick (leb r a) 0
+    (pick (eqb b none) (itemClass tree a) (pick (eqb (below g r b 0) (itemClass tree a)) (itemClass tree a) 0))
+
+unfoldable pub classAt : List ℕ → (ℕ → ℕ) → ℕ → ℕ → ℕ → ℕ → ℕ
+unfolding pick cellClass
+classAt tree g r kind a b = pick (eqb kind kindList) (cellClass tree g r a b) 0
+
+-- a record's key is four times its kind, and the number of its list: the keys from `lowKey` to `highKey` are right for a role
+abbrev pub lowKey : Role → ℕ
+lowKey Unused = 0
+lowKey Number = 0
+lowKey Text = 0
+lowKey Length = 0
+lowKey Expr = 8
+lowKey TypeRef = 4
+lowKey TypeOrNone = 4
+lowKey Name = 24
+lowKey Variable = 96
+lowKey Arguments = 49
+lowKey Parameters = 50
+lowKey Body = 51
+lowKey Item = 0
+lowKey Rest = 48
+
+abbrev pub highKey : Role → ℕ
+highKey Unused = 0
+highKey Number = 0
+highKey Text = 0
+highKey Length = 0
+highKey Expr = 47
+highKey TypeRef = 7
+highKey TypeOrNone = 7
+highKey Name = 27
+highKey Variable = 99
+highKey Arguments = 49
+highKey Parameters = 50
+highKey Body = 51
+highKey Item = 1023
+highKey Rest = 51
+
+abbrev pub noneOk : Role → Bool
+noneOk Unused = false
+noneOk Number = false
+noneOk Text = false
+noneOk Length = false
+noneOk Expr = false
+noneOk TypeRef = false
+noneOk TypeOrNone = true
+noneOk Name = false
+noneOk Variable = false
+noneOk Arguments = true
+noneOk Parameters = true
+noneOk Body = true
+noneOk Item = false
+noneOk Rest = true
+
+-- ---- what is known when record r is reached
+
+-- of each record below r: what its list holds, how deep it is, its kind
+pub record Known (tree : List ℕ) (r : ℕ) (l : List ℕ) : Type 0 where
+  pub lists : (role : Role) (k : ℕ) → k < r → fix false (listStep tree role) k ≡ eqb (classIn l k) (listNumber role)
+  pub small : (k : ℕ) → k < r → classIn l k ≤ 3
+  pub cells : (k : ℕ) → k < r → (kindOf tree k ≡ kindList → ⊥) → classIn l k ≡ 0
+  pub depths : (k : ℕ) → k < r → depthIn l k ≡ shallowDepth tree k
+  pub kinds : (k : ℕ) → k < r → kindIn l k ≡ kindOf tree k
+
+-- references to record k from a record behind it
+unfoldable pub laterRefs : List ℕ → ℕ → ℕ → ℕ
+unfolding pick refersFrom
+laterRefs tree k i = pick (ltb k i) (refersFrom tree k i) 0
+
+-- of each record below r: how often the records below r and behind it refer to it, up to 2
+pub record Counting (tree : List ℕ) (r : ℕ) (l : List ℕ) : Type 0 where
+  pub counts : (k : ℕ) → k < r → countIn l k ≡ capped 2 (sumBelow r (laterRefs tree k))
+
+-- of each of the first n records: how often it is referred to, up to 2
 pub record Counts (tree : List ℕ) (n : ℕ) (l : List ℕ) : Type 0 where
-  pub counts : (k : ℕ) → k < n → getD l k 0 ≡ cap (references tree k)
+  pub counts : (k : ℕ) → k < n → countIn l k ≡ capped 2 (references tree k)
 
--- byte k of the first r is how deep record k is, at most 64
-pub record Depths (tree : List ℕ) (r : ℕ) (l : List ℕ) : Type 0 where
-  pub depths : (k : ℕ) → k < r → getD l k 0 ≡ depth tree k
-  pub low : (k : ℕ) → k < r → getD l k 0 ≤ 64
+-- ---- what a step does
+
+-- each count below r, at most 2 at entry, has grown by what `more` says, up to 2; the other bytes are as they were
+pub record Counted (r : ℕ) (more : ℕ → ℕ) (l l′ : List ℕ) : Type 0 where
+  pub same : length l′ ≡ length l
+  pub grown : (k : ℕ) → k < r → countIn l k ≤ 2 → countIn l′ k ≡ capped 2 (countIn l k + more k)
+  pub classes : (k : ℕ) → classIn l′ k ≡ classIn l k
+  pub depths : (k : ℕ) → depthIn l′ k ≡ depthIn l k
+  pub kinds : (k : ℕ) → kindIn l′ k ≡ kindIn l k
+
+-- one word was taken: whether it is right, how deep what it refers to is, and its reference counted
+pub record Took (tree : List ℕ) (bytes r : ℕ) (role : Role) (w next : ℕ) (l l′ : List ℕ) (ok : Bool) (deep : ℕ) : Type 0 where
+  pub right : ok ≡ wordOk tree bytes r role w next
+  pub depth : deep ≡ depthBelow (shallowDepth tree) r role w
+  pub counted : Counted r (refersTo role w) l l′
+
+-- the words of record r
+pub record WordsOf (tree : List ℕ) (r : ℕ) (words : Words) : Type 0 where
+  pub a : words .a ≡ wordOf tree r A
+  pub b : words .b ≡ wordOf tree r B
+  pub c : words .c ≡ wordOf tree r C
+  pub d : words .d ≡ wordOf tree r D
+  pub e : words .e ≡ wordOf tree r E
+
+-- the five words of record r were taken
+pub record TookWords (tree : List ℕ) (bytes r : ℕ) (l l′ : List ℕ) (ok : Bool) (deep : ℕ) : Type 0 where
+  pub right : ok ≡ wordsOk tree bytes r (rowAt tree r)
+  pub depth : deep ≡ deepest tree (shallowDepth tree) r
+  pub counted : Counted r (λ k. refersFrom tree k r) l l′
+
+-- record r breaks no rule but perhaps two: that no two types are equal, and that it is referred to once
+unfoldable pub otherRules : List ℕ → ℕ → ℕ → Bool
+unfolding formOk otherwiseMarked bodyMarked isFirstType typesFirst
+otherRules tree bytes r =
+    formOk tree bytes r && otherwiseMarked tree r && bodyMarked tree r && isFirstType tree r && typesFirst tree r
+
+-- record r was taken
+pub record TookRecord (tree : List ℕ) (bytes r : ℕ) (l l′ : List ℕ) (ok : Bool) (deep : ℕ) : Type 0 where
+  pub right : ok ≡ otherRules tree bytes r
+  pub depth : deep ≡ shallowDepth tree r
+  pub same : length l′ ≡ length l
+  pub known : Known tree (r + 1) l′
+  pub counting : Counting tree (r + 1) l′
+
+-- all n records were taken
+pub record Passed (tree : List ℕ) (bytes n : ℕ) (l l′ : List ℕ) (f d : ℕ) : Type 0 where
+  pub fault : Lowest n (λ k. not (otherRules tree bytes k)) f
+  pub deep : Lowest n (λ k. ltb 64 (depth tree k)) d
+  pub same : length l′ ≡ length l
+  pub counting : Counting tree n l′

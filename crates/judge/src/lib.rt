@@ -10,7 +10,9 @@ use records::convert_error::ConvertErrorKind;
 use records::words::MOST_RECORDS;
 use records::words::NONE;
 
+mod equal;
 mod nesting;
+mod pass;
 mod references;
 mod rules;
 mod types;
@@ -67,19 +69,17 @@ fn buffers_ok(n: usize, l: Lengths, scratch: usize) -> bool
         & (n <= scratch / 64)
 }
 
-// Rows 'records' and 'nesting', over a cleared scratch; its first n bytes hold counts of references, and then depths.
+// Rows 'records' and 'nesting'; the bytes of scratch are the pass's own.
 fn judge_records(tree: &[u8], text: &[u8], n: usize, scratch: &mut [u8]) -> Judged
-    requires { ⌜ (n * 32 ≡ length (now tree)) × (n ≤ mostRecords) × (n ≤ length (now scratch)) ⌝ }
-    requires { ⌜ now scratch ≡ cleared (now scratch) ⌝ }
+    requires { ⌜ (n * 32 ≡ length (now tree)) × (n ≤ mostRecords) × (64 * n ≤ length (now scratch)) ⌝ }
     ensures { λ r. ⌜ (r ≡ judgedBy (recordsVerdict (now (tree .entry)) (now (text .entry)))) × (length (now (scratch .exit)) ≡ length (now (scratch .entry))) ⌝ }
 {
-    references::count_references(tree, n, scratch);
-    let types = types::leading_types(tree, n);
-    let fault = rules::lowest_fault(tree, text, n, types, scratch);
+    let lowest = pass::lowest_records(tree, text, n, scratch);
+    let fault = lowest.fault;
+    let deep = lowest.deep;
     if fault < n {
         return refuse(ConvertErrorKind::BadTree, fault as u32);
     }
-    let deep = nesting::lowest_deep(tree, n, scratch);
     if deep < n {
         return refuse(ConvertErrorKind::TooDeep, deep as u32);
     }
@@ -99,7 +99,6 @@ pub fn judge_rows(tree: &[u8], text: &[u8], l: Lengths, scratch: &mut [u8]) -> J
     if !buffers {
         return refuse(ConvertErrorKind::ShortBuffer, NONE);
     }
-    clear(scratch);
     judge_records(tree, text, n, scratch)
 }
 

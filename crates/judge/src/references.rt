@@ -1,17 +1,27 @@
-// How often each record is referred to.
+// What a record refers to: counted, and each record that is not referred to exactly once.
 ghost use mathlib.Core.Path.{_≡_};
-ghost use Prim.Native.Nat.{_+_, _*_, _≤_, _<_};
+ghost use mathlib.Core.Bool.{true, not};
+ghost use Prim.Native.Nat.{ℕ, _+_, _*_, _≤_, _<_};
 ghost use lib.ListN.{length};
-ghost use Rattle.records.specs.Rules.{refersTo, refersFrom};
-ghost use Rattle.judge.specs.Inner.{Counted, Counts};
-ghost use Rattle.judge.specs.Judge.{cleared};
+ghost use Rattle.records.specs.Words.{mostRecords};
+ghost use Rattle.records.specs.Shapes.{refers};
+ghost use Rattle.records.specs.Rules.{referredOnce};
+ghost use Rattle.judge.specs.Inner.{Lowest, Known, Counts, Took};
+use crate::rules::high_key;
+use crate::rules::low_key;
+use crate::rules::none_ok;
+use records::numbers::KIND_FUNCTION;
+use records::numbers::KIND_TYPE;
 use records::shape::Role;
-use records::shape::refers_to;
-use records::shape::row_of;
-use records::shape::shape_of;
-use records::words::detail;
+use records::words::NONE;
 use records::words::kind;
-use records::words::word;
+use records::words::wide;
+
+// What a word, or a whole record, was found to be: right, and so deep, up to 65.
+pub struct Told {
+    pub ok: bool,
+    pub depth: u8,
+}
 
 pub(crate) fn size(x: u32) -> usize
     ensures { λ r. ⌜ r ≡ x ⌝ }
@@ -19,54 +29,43 @@ pub(crate) fn size(x: u32) -> usize
     x as usize
 }
 
-// One more for the record that a word refers to, up to 2: more than once is all that matters.
-fn count_word(role: Role, w: u32, n: usize, counts: &mut [u8])
-    requires { ⌜ n ≤ length (now counts) ⌝ }
-    ensures { λ _. ⌜ Counted n (refersTo role w) (now (counts .entry)) (now (counts .exit)) ⌝ }
+// Word w of record r, which refers: judged, and one more for a lower record that it refers to, up to 2. More than once is all that matters; what is
+// not lower has no bytes yet, and its count never matters: the record that refers to it is lower and at fault.
+pub(crate) fn take_reference(tree: &[u8], r: usize, role: Role, w: u32, known: &mut [u8]) -> Told
+    requires { ⌜ (r < mostRecords) × (r * 4 ≤ length (now known)) × Known (now tree) r (now known) × (refers role ≡ true) ⌝ }
+    ensures { λ t. ⌜ ((bytes next : ℕ) → Took (now (tree .entry)) bytes r role w next (now (known .entry)) (now (known .exit)) (t .ok) (t .depth)) ⌝ }
 {
-    if refers_to(role) {
-        let i = size(w);
-        if i < n {
-            let c = counts[i];
-            if c < 2 {
-                counts[i] = c + 1;
-            }
-        }
+    let i = size(w);
+    if i >= r {
+        return Told {
+            ok: (w == NONE) & none_ok(role),
+            depth: 0,
+        };
     }
+    let key = wide(known[i * 4 + 3]) * 4 + wide(known[i * 4]);
+    let ok = (low_key(role) <= key) & (key <= high_key(role));
+    let depth = known[i * 4 + 1];
+    let count = known[i * 4 + 2];
+    if count >= 2 {
+        return Told { ok, depth };
+    }
+    known[i * 4 + 2] = count + 1;
+    Told { ok, depth }
 }
 
-// One more for each record that record r refers to.
-fn count_record(tree: &[u8], r: usize, n: usize, counts: &mut [u8])
-    requires { ⌜ (r * 32 + 32 ≤ length (now tree)) × (n ≤ length (now counts)) ⌝ }
-    ensures { λ _. ⌜ Counted n (λ k. refersFrom (now (tree .entry)) k r) (now (counts .entry)) (now (counts .exit)) ⌝ }
-{
-    let row = row_of(shape_of(kind(tree, r), detail(tree, r)));
-    let ra = row.a;
-    let rb = row.b;
-    let rc = row.c;
-    let rd = row.d;
-    let re = row.e;
-    let a = word(tree, r, 0);
-    let b = word(tree, r, 1);
-    let c = word(tree, r, 2);
-    let d = word(tree, r, 3);
-    let e = word(tree, r, 4);
-    count_word(ra, a, n, counts);
-    count_word(rb, b, n, counts);
-    count_word(rc, c, n, counts);
-    count_word(rd, d, n, counts);
-    count_word(re, e, n, counts);
-}
-
-// Byte k of a cleared slice becomes the count of references to record k, up to 2.
-pub(crate) fn count_references(tree: &[u8], n: usize, counts: &mut [u8])
-    requires { ⌜ (n * 32 ≡ length (now tree)) × (n ≤ length (now counts)) ⌝ }
-    requires { ⌜ now counts ≡ cleared (now counts) ⌝ }
-    ensures { λ _. ⌜ (length (now (counts .exit)) ≡ length (now (counts .entry))) × Counts (now (tree .entry)) n (now (counts .exit)) ⌝ }
+// The lowest of n records that is neither type nor function and not referred to exactly once, or n.
+pub(crate) fn lowest_miscounted(tree: &[u8], n: usize, known: &[u8]) -> usize
+    requires { ⌜ (n * 32 ≤ length (now tree)) × (n * 4 ≤ length (now known)) × Counts (now tree) n (now known) ⌝ }
+    ensures { λ v. ⌜ Lowest n (λ k. not (referredOnce (now (tree .entry)) k)) v ⌝ }
 {
     let mut r = 0;
     while r < n {
-        count_record(tree, r, n, counts);
+        let k = kind(tree, r);
+        let count = known[r * 4 + 2];
+        if !((k == KIND_TYPE) | (k == KIND_FUNCTION) | (count == 1)) {
+            return r;
+        }
         r += 1;
     }
+    n
 }

@@ -1,138 +1,167 @@
-// The rules for one record, and the lowest record that breaks one.
+// The rules for one record, over what is known of the records below it.
 ghost use mathlib.Core.Path.{_≡_};
-ghost use mathlib.Core.Bool.{true, not, _&&_};
-ghost use Prim.Native.Nat.{ℕ, _+_, _*_, _≤_, _<_};
+ghost use mathlib.Core.Bool.{true, not, _&&_, _||_};
+ghost use Prim.Native.Nat.{_+_, _*_, _≤_};
+ghost use lib.Dec.{eqb, leb};
 ghost use lib.ListN.{length};
+ghost use Rattle.laws.specs.Fix.{below};
+ghost use Rattle.records.specs.Words.{none};
 ghost use Rattle.records.specs.declared.shape.Role.the-variants.{Unused};
-ghost use Rattle.records.specs.Shapes.{refers};
-ghost use Rattle.records.specs.Rules.{kindBelow, isExpr, itemOk, listOk, wordOk, wordsOk, formOk, otherwiseMarked, bodyMarked, recordOk};
-ghost use Rattle.judge.specs.Inner.{Lowest, Counts, TypesLead};
+ghost use Rattle.judge.specs.Inner.{itemClass, cellClass, classAt, classIn, lowKey, highKey, noneOk};
 use crate::references::size;
-use crate::types::is_first_type;
-use crate::types::type_is_new;
-use records::numbers::KIND_CALL;
 use records::numbers::KIND_CONTINUE;
 use records::numbers::KIND_DECLARE;
 use records::numbers::KIND_FUNCTION;
 use records::numbers::KIND_IF;
-use records::numbers::KIND_INT;
 use records::numbers::KIND_LIST;
-use records::numbers::KIND_NAME;
-use records::numbers::KIND_TYPE;
 use records::numbers::KIND_TYPE_ARGUMENT;
 use records::numbers::KIND_VALUE;
 use records::numbers::KIND_VARIABLE;
 use records::shape::Role;
-use records::shape::Row;
-use records::shape::row_of;
-use records::shape::shape_of;
 use records::words::NONE;
-use records::words::detail;
+use records::words::WORD_C;
 use records::words::kind;
-use records::words::pad;
 use records::words::word;
 
-// The kind of the lower record that a word refers to, 0 where that is none or not lower.
-fn kind_below(tree: &[u8], r: usize, w: u32) -> u8
-    requires { ⌜ r * 32 ≤ length (now tree) ⌝ }
-    ensures { λ v. ⌜ v ≡ kindBelow (now (tree .entry)) r w ⌝ }
+// What the items of a list are, all of them: the first byte of a cell's four.
+const MIXED: u8 = 0;
+
+const ARGUMENTS: u8 = 1;
+
+const PARAMETERS: u8 = 2;
+
+const STATEMENTS: u8 = 3;
+
+// What the lower list holds that a word refers to.
+fn class_below(known: &[u8], r: usize, w: u32) -> u8
+    requires { ⌜ r * 4 ≤ length (now known) ⌝ }
+    ensures { λ v. ⌜ v ≡ below (classIn (now (known .entry))) r w 0 ⌝ }
 {
     let i = size(w);
     if i < r {
-        return kind(tree, i);
+        return known[i * 4];
     }
-    0
+    MIXED
 }
 
-// Record a is an item for a list of this role.
-fn item_ok(tree: &[u8], role: Role, a: usize) -> bool
+// Which list record a may stand in.
+fn item_class(tree: &[u8], a: usize) -> u8
     requires { ⌜ a * 32 + 32 ≤ length (now tree) ⌝ }
-    ensures { λ v. ⌜ v ≡ itemOk (now (tree .entry)) role a ⌝ }
+    ensures { λ v. ⌜ v ≡ itemClass (now (tree .entry)) a ⌝ }
 {
     let k = kind(tree, a);
-    let typed = word(tree, a, 2) != NONE;
+    if (k == KIND_VALUE) | (k == KIND_TYPE_ARGUMENT) {
+        return ARGUMENTS;
+    }
+    if (KIND_DECLARE <= k) & (k <= KIND_CONTINUE) {
+        return STATEMENTS;
+    }
+    if k != KIND_VARIABLE {
+        return MIXED;
+    }
+    if word(tree, a, WORD_C) == NONE {
+        return MIXED;
+    }
+    PARAMETERS
+}
+
+// What the list holds whose first cell is record r, with the words a and b: its item, where the rest holds the same.
+fn cell_class(tree: &[u8], r: usize, a: u32, b: u32, known: &[u8]) -> u8
+    requires { ⌜ (r * 32 ≤ length (now tree)) × (r * 4 ≤ length (now known)) ⌝ }
+    ensures { λ v. ⌜ v ≡ cellClass (now (tree .entry)) (classIn (now (known .entry))) r a b ⌝ }
+{
+    let item = size(a);
+    if item >= r {
+        return MIXED;
+    }
+    let class = item_class(tree, item);
+    if b == NONE {
+        return class;
+    }
+    if class_below(known, r, b) != class {
+        return MIXED;
+    }
+    class
+}
+
+// What the list holds whose first cell is record r; 0 where it is no cell.
+pub(crate) fn class_at(tree: &[u8], r: usize, k: u8, a: u32, b: u32, known: &[u8]) -> u8
+    requires { ⌜ (r * 32 ≤ length (now tree)) × (r * 4 ≤ length (now known)) ⌝ }
+    ensures { λ v. ⌜ v ≡ classAt (now (tree .entry)) (classIn (now (known .entry))) r k a b ⌝ }
+{
+    if k == KIND_LIST {
+        return cell_class(tree, r, a, b, known);
+    }
+    MIXED
+}
+
+// A record's key: four times its kind, and what its list holds. The keys that a word of this role may refer to, from the lowest ..
+pub(crate) fn low_key(role: Role) -> u32
+    ensures { λ v. ⌜ v ≡ lowKey role ⌝ }
+{
     match role {
-        Role::Arguments => (k == KIND_VALUE) | (k == KIND_TYPE_ARGUMENT),
-        Role::Parameters => (k == KIND_VARIABLE) & typed,
-        Role::Body => (KIND_DECLARE <= k) & (k <= KIND_CONTINUE),
-        _ => false,
+        Role::Unused => 0,
+        Role::Number => 0,
+        Role::Text => 0,
+        Role::Length => 0,
+        Role::Expr => 8,
+        Role::TypeRef => 4,
+        Role::TypeOrNone => 4,
+        Role::Name => 24,
+        Role::Variable => 96,
+        Role::Arguments => 49,
+        Role::Parameters => 50,
+        Role::Body => 51,
+        Role::Item => 0,
+        Role::Rest => 48,
     }
 }
 
-// The list that word w of record r opens, cell by cell.
-fn list_ok(tree: &[u8], role: Role, r: usize, w: u32) -> bool
-    requires { ⌜ r * 32 ≤ length (now tree) ⌝ }
-    ensures { λ v. ⌜ v ≡ listOk (now (tree .entry)) role r w ⌝ }
+// .. to the highest.
+pub(crate) fn high_key(role: Role) -> u32
+    ensures { λ v. ⌜ v ≡ highKey role ⌝ }
 {
-    let mut from = r;
-    let mut cell = size(w);
-    while cell < from {
-        if kind(tree, cell) != 12 {
-            return false;
-        }
-        let item = size(word(tree, cell, 0));
-        if item >= cell {
-            return false;
-        }
-        if !item_ok(tree, role, item) {
-            return false;
-        }
-        let rest = word(tree, cell, 1);
-        if rest == NONE {
-            return true;
-        }
-        from = cell;
-        cell = size(rest);
+    match role {
+        Role::Unused => 0,
+        Role::Number => 0,
+        Role::Text => 0,
+        Role::Length => 0,
+        Role::Expr => 47,
+        Role::TypeRef => 7,
+        Role::TypeOrNone => 7,
+        Role::Name => 27,
+        Role::Variable => 99,
+        Role::Arguments => 49,
+        Role::Parameters => 50,
+        Role::Body => 51,
+        Role::Item => 1023,
+        Role::Rest => 51,
     }
-    false
 }
 
-// Word w of record r refers to a record that is right for its role; not asked of a role that refers to none.
-fn reference_ok(tree: &[u8], r: usize, role: Role, w: u32) -> bool
-    requires { ⌜ r * 32 ≤ length (now tree) ⌝ }
-    ensures { λ v. ⌜ (refers role ≡ true → (bytes next : ℕ) → v ≡ wordOk (now (tree .entry)) bytes r role w next) ⌝ }
+// A word of this role may refer to none.
+pub(crate) fn none_ok(role: Role) -> bool
+    ensures { λ v. ⌜ v ≡ noneOk role ⌝ }
 {
-    let lower = size(w) < r;
-    let k = kind_below(tree, r, w);
     match role {
         Role::Unused => false,
         Role::Number => false,
         Role::Text => false,
         Role::Length => false,
-        Role::Expr => is_expr(k),
-        Role::TypeRef => k == KIND_TYPE,
-        Role::TypeOrNone => (w == NONE) | (k == KIND_TYPE),
-        Role::Name => k == KIND_NAME,
-        Role::Variable => k == KIND_VARIABLE,
-        Role::Arguments => (w == NONE) | list_ok(tree, Role::Arguments, r, w),
-        Role::Parameters => (w == NONE) | list_ok(tree, Role::Parameters, r, w),
-        Role::Body => (w == NONE) | list_ok(tree, Role::Body, r, w),
-        Role::Item => lower,
-        Role::Rest => (w == NONE) | (k == KIND_LIST),
+        Role::Expr => false,
+        Role::TypeRef => false,
+        Role::TypeOrNone => true,
+        Role::Name => false,
+        Role::Variable => false,
+        Role::Arguments => true,
+        Role::Parameters => true,
+        Role::Body => true,
+        Role::Item => false,
+        Role::Rest => true,
     }
 }
 
-// Word w of record r, with the word after it, is right for its role. Most words refer to nothing, and are judged where they stand.
-fn word_ok(tree: &[u8], bytes: usize, r: usize, role: Role, w: u32, next: u32) -> bool
-    requires { ⌜ r * 32 ≤ length (now tree) ⌝ }
-    ensures { λ v. ⌜ v ≡ wordOk (now (tree .entry)) bytes r role w next ⌝ }
-{
-    match role {
-        Role::Unused => w == 0,
-        Role::Number => true,
-        Role::Text => size(w) + size(next) <= bytes,
-        Role::Length => true,
-        _ => reference_ok(tree, r, role, w),
-    }
-}
-
-fn is_expr(k: u8) -> bool
-    ensures { λ v. ⌜ v ≡ isExpr k ⌝ }
-{
-    (KIND_INT <= k) & (k <= KIND_CALL)
-}
-
-fn is_unused(role: Role) -> bool
+pub(crate) fn is_unused(role: Role) -> bool
     ensures { λ v. ⌜ (v ≡ true → role ≡ Unused) ⌝ }
 {
     match role {
@@ -141,86 +170,10 @@ fn is_unused(role: Role) -> bool
     }
 }
 
-// The five words of record r. Most kinds use A and B alone, and the other three are zero then.
-fn words_ok(tree: &[u8], bytes: usize, r: usize, row: Row) -> bool
-    requires { ⌜ r * 32 + 32 ≤ length (now tree) ⌝ }
-    ensures { λ v. ⌜ v ≡ wordsOk (now (tree .entry)) bytes r row ⌝ }
+// An If without the mark has no otherwise (its word c), a function without the flag no body (its word e).
+pub(crate) fn marks_ok(k: u8, found: u8, c: u32, e: u32) -> bool
+    ensures { λ v. ⌜ v ≡ ((not (eqb k 19) || eqb found 1 || eqb c none) && (not (eqb k 25) || leb 4 found || eqb e none)) ⌝ }
 {
-    let ra = row.a;
-    let rb = row.b;
-    let rc = row.c;
-    let rd = row.d;
-    let re = row.e;
-    let a = word(tree, r, 0);
-    let b = word(tree, r, 1);
-    let c = word(tree, r, 2);
-    let d = word(tree, r, 3);
-    let e = word(tree, r, 4);
-    if is_unused(rc) & is_unused(rd) & is_unused(re) {
-        return word_ok(tree, bytes, r, ra, a, b)
-            & word_ok(tree, bytes, r, rb, b, c)
-            & (c == 0)
-            & (d == 0)
-            & (e == 0);
-    }
-    word_ok(tree, bytes, r, ra, a, b)
-        & word_ok(tree, bytes, r, rb, b, c)
-        & word_ok(tree, bytes, r, rc, c, d)
-        & word_ok(tree, bytes, r, rd, d, e)
-        & word_ok(tree, bytes, r, re, e, 0)
-}
-
-// Record r has a known kind and detail, zero padding and words that are right.
-fn form_ok(tree: &[u8], bytes: usize, r: usize) -> bool
-    requires { ⌜ r * 32 + 32 ≤ length (now tree) ⌝ }
-    ensures { λ v. ⌜ v ≡ formOk (now (tree .entry)) bytes r ⌝ }
-{
-    let found = detail(tree, r);
-    let row = row_of(shape_of(kind(tree, r), found));
-    (pad(tree, r) == 0) & (found < row.limit) & words_ok(tree, bytes, r, row)
-}
-
-// An If without the mark has no otherwise, a function without the flag no body.
-fn marks_ok(tree: &[u8], r: usize) -> bool
-    requires { ⌜ r * 32 + 32 ≤ length (now tree) ⌝ }
-    ensures { λ v. ⌜ v ≡ (otherwiseMarked (now (tree .entry)) r && bodyMarked (now (tree .entry)) r) ⌝ }
-{
-    let k = kind(tree, r);
-    let found = detail(tree, r);
-    let c = word(tree, r, 2);
-    let e = word(tree, r, 4);
     ((k != KIND_IF) | (found == 1) | (c == NONE))
         & ((k != KIND_FUNCTION) | (4 <= found) | (e == NONE))
-}
-
-// Record r breaks no rule; `types` records stand before the first that is no type, and byte k of `counts` says how often record k is referred to.
-fn record_ok(tree: &[u8], text: &[u8], r: usize, n: usize, types: usize, counts: &[u8]) -> bool
-    requires { ⌜ (n * 32 ≡ length (now tree)) × (r < n) × (n ≤ length (now counts)) ⌝ }
-    requires { ⌜ TypesLead (now tree) n types × Counts (now tree) n (now counts) ⌝ }
-    ensures { λ v. ⌜ v ≡ recordOk (now (tree .entry)) (now (text .entry)) r ⌝ }
-{
-    let k = kind(tree, r);
-    let form = form_ok(tree, text.len(), r);
-    let marks = marks_ok(tree, r);
-    let first = is_first_type(tree, r);
-    let lead = (k != KIND_TYPE) | (r < types);
-    let fresh = type_is_new(tree, text, r);
-    let once = (k == KIND_TYPE) | (k == KIND_FUNCTION) | (counts[r] == 1);
-    form & marks & first & lead & fresh & once
-}
-
-// The lowest record that breaks a rule, or n.
-pub(crate) fn lowest_fault(tree: &[u8], text: &[u8], n: usize, types: usize, counts: &[u8]) -> usize
-    requires { ⌜ (n * 32 ≡ length (now tree)) × (n ≤ length (now counts)) ⌝ }
-    requires { ⌜ TypesLead (now tree) n types × Counts (now tree) n (now counts) ⌝ }
-    ensures { λ v. ⌜ Lowest n (λ k. not (recordOk (now (tree .entry)) (now (text .entry)) k)) v ⌝ }
-{
-    let mut r = 0;
-    while r < n {
-        if !record_ok(tree, text, r, n, types, counts) {
-            return r;
-        }
-        r += 1;
-    }
-    n
 }

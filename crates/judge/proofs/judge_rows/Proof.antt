@@ -1,9 +1,9 @@
 -- The rows in order, and what scratch holds afterwards.
 -- Rows one and two return before anything is written. Assumes nothing.
+use borrow.Author.Needs.{needs}
 use mathlib.Core.Path.{sym, _∙_}
 use borrow.Author.Tests.{not-true, not-false}
-use Rattle.judge.proofs.RowLaws.{lengths-fit, scratch-fits, judged-length, judged-buffer, judged-records, cleared-length, cleared-twice}
-use borrow.Author.Needs.{needs}
+use Rattle.judge.proofs.RowLaws.{lengths-fit, enough, judged-length, judged-buffer, judged-records}
 use Rattle.judge.proofs.judge_rows.Statement.{statement}
 use Rattle.judge.proofs.judge_rows.Tie as tie
 
@@ -17,29 +17,27 @@ refuse-requires : tie.Need-refuse-requires
 refuse-requires c κs = search needs
 
 returns : tie.Need-returns
-returns c = judged-length _ _ _ _ _ (c .before .before .before .lengths-ok .ensures) _ (not-true _ (c .before .if1 .taken)) (c .refuse .ensures)
+returns c =
+    judged-length _ _ _ _ _ (c .before .before .before .lengths-ok .ensures) _ (not-true _ (c .before .if1 .taken)) (c .refuse .ensures)
 
 refuse-requires-2 : tie.Need-refuse-requires-2
 refuse-requires-2 c κs = search needs
 
 returns-2 : tie.Need-returns-2
-returns-2 c = judged-buffer _ _ _ _ _ (c .before .before .before .before .lengths-ok .ensures) (not-false _ (c .before .before .if1 .left)) _ (c .before .before .before .buffers-ok .ensures) _ (not-true _ (c .before .if2 .taken)) (c .refuse2 .ensures)
-
-clear-requires : tie.Need-clear-requires
-clear-requires c κs = search needs
+returns-2 c =
+    judged-buffer _ _ _ _ _ (c .before .before .before .before .lengths-ok .ensures) (not-false _ (c .before .before .if1 .left)) _ (c .before .before .before .buffers-ok .ensures) _ (not-true _ (c .before .if2 .taken)) (c .refuse2 .ensures)
 
 judge-records-requires : tie.Need-judge-records-requires
 judge-records-requires c κs =
-    let fit = lengths-fit _ (sym (c .before .before .before .before .before .before .before .before .lengths-ok .ensures) ∙ not-false _ (c .before .before .before .before .before .before .if1 .left)) in (
-      (fit .0, fit .1, rw (cleared-length (c .before .before .before .before .before .before .before .before .before .before .before .before .args .scratch .now) _ (c .before .before .before .clear .ensures)) (scratch-fits _ _ _ (sym (c .before .before .before .before .before .before .before .buffers-ok .ensures) ∙ not-false _ (c .before .before .before .before .before .if2 .left)))),
-      cleared-twice (c .before .before .before .before .before .before .before .before .before .before .before .before .args .scratch .now) _ (c .before .before .before .clear .ensures),
-    )
+    let fit = lengths-fit _ (sym (c .before .before .before .before .lengths-ok .ensures) ∙ not-false _ (c .before .before .if1 .left)) in
+    (fit .0, fit .1, enough _ _ _ (sym (c .before .before .before .buffers-ok .ensures) ∙ not-false _ (c .before .if2 .left)) .scratch)
 
 same-length : tie.Need-same-length
 same-length c = search needs
 
 returns-3 : tie.Need-returns-3
-returns-3 c = judged-records _ _ _ _ _ (c .before .before .before .before .before .before .before .before .before .before .before .lengths-ok .ensures) (not-false _ (c .before .before .before .before .before .before .before .before .before .if1 .left)) _ (c .before .before .before .before .before .before .before .before .before .before .buffers-ok .ensures) _ _ (not-false _ (c .before .before .before .before .before .before .before .before .if2 .left)) (c .before .before .judge-records .ensures .0) (c .before .before .judge-records .ensures .1 ∙ cleared-length (c .before .before .before .before .before .before .before .before .before .before .before .before .before .before .before .args .scratch .now) _ (c .before .before .before .before .before .before .clear .ensures))
+returns-3 c =
+    judged-records _ _ _ _ _ (c .before .before .before .before .before .before .before .lengths-ok .ensures) (not-false _ (c .before .before .before .before .before .if1 .left)) _ (c .before .before .before .before .before .before .buffers-ok .ensures) _ _ (not-false _ (c .before .before .before .before .if2 .left)) (c .before .before .judge-records .ensures .0) (c .before .before .judge-records .ensures .1)
 
 pub judge-rows-spec : {M : Type 1} → statement M
 judge-rows-spec =
@@ -51,7 +49,6 @@ judge-rows-spec =
     returns
     refuse-requires-2
     returns-2
-    clear-requires
     judge-records-requires
     same-length
     returns-3)

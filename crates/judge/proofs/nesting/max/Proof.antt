@@ -1,6 +1,6 @@
 -- The larger of two bytes.
 -- By the test that was passed or left. Assumes nothing.
-use Rattle.judge.proofs.DepthLaws.{larger-second, larger-first}
+use Rattle.judge.proofs.CapLaws.{larger-second, larger-first}
 use Rattle.judge.proofs.nesting.max.Statement.{statement}
 use Rattle.judge.proofs.nesting.max.Tie as tie
 

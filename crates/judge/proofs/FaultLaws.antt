@@ -1,0 +1,197 @@
+-- The lowest record that breaks a rule, from three lowest ones: of equal types, of records that break another rule, and of those that are not referred to once.
+-- Below the lowest fault every reference goes down, so the references from behind are all of them. Assumes nothing.
+use mathlib.Core.Path.{_≡_, refl, sym, ap, _∙_}
+use Prim.Native.Nat.{ℕ, zero, suc, _+_, _*_, _/_, _≤_, _<_}
+use mathlib.Core.Bool.{Bool, true, false, not, _&&_, _||_, false≢true}
+use mathlib.Core.List.{List}
+use native.Mathlib.Omega.{arith}
+use lib.Dec.{eqb, leb, ltb}
+use lib.ListN.{length}
+use borrow.Author.Tests.{lt-ltb, le-ltb, eq-eqb, ne-eqb, eqb-true, eqb-false, ltb-true, ltb-false, not-true, not-false}
+use Rattle.laws.specs.Fix.{pick}
+use Rattle.laws.specs.Below.{allBelow, sumBelow}
+use Rattle.laws.proofs.AllBelow.{all-at}
+use Rattle.laws.proofs.FixLaws.{pick-yes, pick-no}
+use Rattle.laws.proofs.Tests.{tested, and-left, and-right}
+use Rattle.records.specs.Words.{kindOf, detailOf, padOf, wordOf, A, B, C, D, E}
+use Rattle.records.specs.Shapes.{rowAt}
+use Rattle.records.specs.Rules.{wordOk, wordsOk, formOk, otherwiseMarked, bodyMarked, isFirstType, typesFirst, typeIsNew, refersFrom, references, referredOnce, recordOk}
+use Rattle.judge.specs.Inner.{Lowest, TypesLead, capped, laterRefs, countIn, Counting, Counts, otherRules}
+use Rattle.judge.proofs.CapLaws.{cap-one}
+use Rattle.judge.proofs.KeyLaws.{refers-down}
+
+-- ---- a lowest number, with one more
+
+pub lowest-start : (f : ℕ → Bool) → Lowest 0 f 0
+lowest-start f = record { within = omega arith; before = λ k h. absurd (omega arith); found = λ h. absurd (omega arith) }
+
+module _ (f : ℕ → Bool) (r found : ℕ) (l : Lowest r f found) where
+  pub lowest-stays : found < r → Lowest (r + 1) f found
+  lowest-stays h = record { within = omega (arith, l .within); before = l .before; found = λ _. l .found h }
+
+  module _ (h : r ≤ found) (ok : Bool) (told : not ok ≡ f r) where
+    pub lowest-here : ok ≡ false → Lowest (r + 1) f r
+    lowest-here e =
+        record { within = omega arith; before = λ k hk. l .before k (omega arith); found = λ _. sym told ∙ ap not e }
+
+    pub lowest-passes : ok ≡ true → Lowest (r + 1) f (r + 1)
+    lowest-passes e =
+        record {
+          within = omega arith;
+          before = λ k hk.
+              tested (eqb k r)
+              (λ t. ap f (eqb-true k r t) ∙ sym told ∙ ap not e)
+              (λ t. let n : k ≡ r → ⊥ = eqb-false k r t in l .before k (omega arith));
+          found = λ b. absurd (omega arith);
+        }
+
+-- ---- references of good records go down
+
+module _ (tree : List ℕ) (bytes i k : ℕ) (h : i ≤ k) (few : k < 2048) (good : otherRules tree bytes i ≡ true) where
+  words-good : wordsOk tree bytes i (rowAt tree i) ≡ true
+  unfolding otherRules formOk
+  words-good =
+      let form = formOk tree bytes i in
+      let first = form && otherwiseMarked tree i && bodyMarked tree i in
+      and-right (eqb (padOf tree i) 0 && ltb (detailOf tree i) (rowAt tree i .limit)) (wordsOk tree bytes i (rowAt tree i))
+      (and-left form (otherwiseMarked tree i)
+      (and-left (form && otherwiseMarked tree i) (bodyMarked tree i) (and-left first (isFirstType tree i) (and-left (first && isFirstType tree i) (typesFirst tree i) good))))
+
+  pub goes-down : refersFrom tree k i ≡ 0
+  unfolding refersFrom wordsOk
+  goes-down =
+      let row = rowAt tree i in
+      let a = wordOk tree bytes i (row .a) (wordOf tree i A) (wordOf tree i B) in
+      let b = wordOk tree bytes i (row .b) (wordOf tree i B) (wordOf tree i C) in
+      let c = wordOk tree bytes i (row .c) (wordOf tree i C) (wordOf tree i D) in
+      let d = wordOk tree bytes i (row .d) (wordOf tree i D) (wordOf tree i E) in
+      let e = wordOk tree bytes i (row .e) (wordOf tree i E) 0 in
+      let toD = and-left (a && b && c && d) e words-good in
+      let toC = and-left (a && b && c) d toD in
+      let toB = and-left (a && b) c toC in
+      rw (
+        refers-down tree bytes i (row .a) (wordOf tree i A) (wordOf tree i B) k (and-left a b toB) h few,
+        refers-down tree bytes i (row .b) (wordOf tree i B) (wordOf tree i C) k (and-right a b toB) h few,
+        refers-down tree bytes i (row .c) (wordOf tree i C) (wordOf tree i D) k (and-right (a && b) c toC) h few,
+        refers-down tree bytes i (row .d) (wordOf tree i D) (wordOf tree i E) k (and-right (a && b && c) d toD) h few,
+        refers-down tree bytes i (row .e) (wordOf tree i E) 0 k (and-right (a && b && c && d) e words-good) h few,
+      ) refl
+
+sum-same : (n : ℕ) (f g : ℕ → ℕ) → ((i : ℕ) → i < n → f i ≡ g i) → sumBelow n f ≡ sumBelow n g
+unfolding sumBelow
+sum-same zero f g e = refl
+sum-same (suc n) f g e = rw (sum-same n f g (λ i h. e i (omega arith)), e n (omega arith)) refl
+
+module _ (tree : List ℕ) (bytes n fault : ℕ) (whole : n * 32 ≡ length tree) (few : n ≤ 2048) (low : Lowest n (λ k. not (otherRules tree bytes k)) fault) where
+  good : (k : ℕ) → k < fault → otherRules tree bytes k ≡ true
+  good k h = not-false _ (low .before k h)
+
+  later : (k : ℕ) → k < fault → (i : ℕ) → laterRefs tree k i ≡ refersFrom tree k i
+  unfolding laterRefs
+  later k h i =
+      tested (ltb k i)
+      (λ t. pick-yes (ltb k i) (refersFrom tree k i) 0 t)
+      (λ t.
+      let up : i ≤ k = ltb-false k i t in
+      pick-no (ltb k i) (refersFrom tree k i) 0 t
+      ∙ sym (goes-down tree bytes i k up (omega (arith, low .within)) (good i (omega arith))))
+
+  -- below the fault the counts are those of all references
+  pub counts-told : (l : List ℕ) → Counting tree n l → Counts tree fault l
+  unfolding references
+  counts-told l c =
+      let q : length tree / 32 ≡ n = omega arith in
+      record {
+        counts = λ k h.
+            c .counts k (omega (arith, low .within)) ∙ ap (capped 2) (sum-same n _ _ (λ i hi. later k h i) ∙ ap (λ (x : ℕ). sumBelow x (refersFrom tree k)) (sym q));
+      }
+
+  module _ (text : List ℕ) (bytesIs : bytes ≡ length text) (types : ℕ) (lead : TypesLead tree n types) (once equal : ℕ)
+      (lowOnce : Lowest fault (λ k. not (referredOnce tree k)) once) (lowEqual : Lowest types (λ k. not (typeIsNew tree text k)) equal) where
+    all : (k : ℕ) → recordOk tree text k ≡ (otherRules tree bytes k && typeIsNew tree text k && referredOnce tree k)
+    unfolding recordOk otherRules
+    all k = rw bytesIs refl
+
+    -- a good type stands among those that lead
+    leading : (k : ℕ) → k < fault → kindOf tree k ≡ 1 → k < types
+    unfolding otherRules typesFirst
+    leading k h e =
+        let first : (not (eqb (kindOf tree k) 1) || allBelow k (λ j. eqb (kindOf tree j) 1)) ≡ true =
+        and-right (formOk tree bytes k && otherwiseMarked tree k && bodyMarked tree k && isFirstType tree k) (typesFirst tree k) (good k h) in
+        let below : allBelow k (λ j. eqb (kindOf tree j) 1) ≡ true = rw (eq-eqb (kindOf tree k) 1 e) at first in
+        tested (ltb k types)
+        (λ t. ltb-true k types t)
+        (λ t.
+        let past : types ≤ k = ltb-false k types t in
+        let other : kindOf tree types ≡ 1 → ⊥ = lead .other (omega (arith, low .within)) in
+        absurd
+        (tested (eqb types k)
+        (λ s. other (ap (kindOf tree) (eqb-true types k s) ∙ e))
+        (λ s.
+        let apart : types ≡ k → ⊥ = eqb-false types k s in
+        other (eqb-true _ 1 (all-at (λ j. eqb (kindOf tree j) 1) k types below (omega arith))))))
+
+    fresh : (k : ℕ) → k < fault → (k < types → k < equal) → typeIsNew tree text k ≡ true
+    unfolding typeIsNew
+    fresh k h under =
+        tested (eqb (kindOf tree k) 1)
+        (λ t. not-false _ (lowEqual .before k (under (leading k h (eqb-true (kindOf tree k) 1 t)))))
+        (λ t. rw t refl)
+
+    passes : (k : ℕ) → k < once → (k < types → k < equal) → not (recordOk tree text k) ≡ false
+    passes k h under =
+        rw (all k, good k (omega (arith, lowOnce .within)), fresh k (omega (arith, lowOnce .within)) under, not-false (referredOnce tree k) (lowOnce .before k h)) refl
+
+    pub lowest-equal : equal < types → equal < once → Lowest n (λ k. not (recordOk tree text k)) equal
+    lowest-equal h o =
+        record {
+          within = omega (arith, lead .within);
+          before = λ k hk. passes k (omega arith) (λ _. hk);
+          found = λ _. rw (all equal, not-true (typeIsNew tree text equal) (lowEqual .found h)) (absorbs (otherRules tree bytes equal) (referredOnce tree equal));
+        }
+      where
+        absorbs : (a b : Bool) → not (a && false && b) ≡ true
+        absorbs true b = refl
+        absorbs false b = refl
+
+    pub lowest-other : (equal < types → once ≤ equal) → Lowest n (λ k. not (recordOk tree text k)) once
+    lowest-other o =
+        record {
+          within = omega (arith, lowOnce .within, low .within);
+          before = λ k hk. passes k hk (λ t. under k hk t);
+          found = λ h. broken h;
+        }
+      where
+        under : (k : ℕ) → k < once → k < types → k < equal
+        under k hk t =
+            tested (ltb equal types)
+            (λ s. omega (arith, o (ltb-true equal types s)))
+            (λ s. omega (arith, ltb-false equal types s))
+
+        last : (a b : Bool) → not (a && b && false) ≡ true
+        last true true = refl
+        last true false = refl
+        last false b = refl
+
+        broken : once < n → not (recordOk tree text once) ≡ true
+        broken h =
+            tested (ltb once fault)
+            (λ s. rw (all once, not-true (referredOnce tree once) (lowOnce .found (ltb-true once fault s))) (last (otherRules tree bytes once) (typeIsNew tree text once)))
+            (λ s.
+            let e : once ≡ fault = omega (arith, ltb-false once fault s, lowOnce .within) in
+            let bad : otherRules tree bytes once ≡ false = ap (otherRules tree bytes) e ∙ not-true (otherRules tree bytes fault) (low .found (omega arith)) in
+            rw (all once, bad) refl)
+
+-- one record's count, as the code tests it
+pub once-told : (tree : List ℕ) (n r k : ℕ) (l : List ℕ) → Counts tree n l → r < n → k ≡ kindOf tree r
+    → (eqb k 1 || eqb k 25 || eqb (countIn l r) 1) ≡ referredOnce tree r
+unfolding referredOnce
+once-told tree n r k l c h e = rw (e, c .counts r h, cap-one (references tree r)) refl
+
+-- two tests of one number, as the code makes them
+module _ (a b c : ℕ) where
+  pub both-below : (ltb a b && ltb a c) ≡ true → (a < b) × (a < c)
+  both-below e = (ltb-true a b (and-left (ltb a b) (ltb a c) e), ltb-true a c (and-right (ltb a b) (ltb a c) e))
+
+  pub not-both : (ltb a b && ltb a c) ≡ false → a < b → c ≤ a
+  not-both e h = let s : ltb a c ≡ false = rw (lt-ltb a b h) at e in ltb-false a c s
