@@ -2,11 +2,12 @@
 -- By what the arena holds, case by case of the conversion's answer; demands: WaysOut, every-call. Assumes nothing.
 use mathlib.Core.Path.{_≡_, refl, sym, ap, ap₂, _∙_, subst}
 use Prim.Native.Nat.{ℕ, suc, _<_}
-use mathlib.Core.Bool.{Bool, true}
+use mathlib.Core.Bool.{Bool, true, false, not, false≢true}
 use mathlib.Core.List.{List, [], _∷_, append-nil}
 use native.Mathlib.Omega.{arith}
-use lib.ListN.{length, getD, replicate, length-replicate}
-use Rattle.records.specs.Words.{records}
+use lib.Dec.{eqb}
+use lib.ListN.{length, getD, replicate}
+use Rattle.records.specs.Words.{records, none}
 use Rattle.records.specs.Good.{Good}
 use Rattle.records.specs.Answer.{wordsOf}
 use Rattle.records.specs.declared.convert_error.ConvertErrorKind.{ConvertErrorKind}
@@ -24,21 +25,22 @@ use Rattle.ir.specs.Cut as Cut
 use Rattle.ir.specs.Cut.{alone}
 use Rattle.ir.proofs.CutLaws as CutLaws
 use Rattle.ir.proofs.CutLaws.{instructions-are, variables-are, labels-are, functions-are, strings-are, floats-are}
-use Rattle.judge.specs.Judge.{Buffers, buffers, cleared, judgedIn, judgeLeaves}
+use Rattle.judge.specs.Judge.{Buffers, buffers, lengthsOf, verdict, judged, cleared, judgedIn, judgeLeaves}
+use Rattle.judge.specs.Keeps.{JudgeKeeps, placed, unplaced}
 use Rattle.judge.specs.declared.Judged.{Judged}
 use Rattle.judge.specs.declared.Judged.the-variants as Judged
-use Rattle.judge.proofs.RowLaws.{cleared-length}
+use Rattle.judge.proofs.RowLaws.{cleared-length, core-kept, core-cleared, answer-in, outputs-cleared, outputs-kept}
 use Rattle.statements.specs.declared.answers.Finished.{Finished}
 use Rattle.statements.specs.declared.answers.Finished.the-variants as Finished
 use Rattle.functions.specs.Bodies.{begun}
 use Rattle.demands.specs.Call.{Counted, Refusal, filled, buffersAfter, Calls}
 use Rattle.demands.specs.Demands.{allZero, AsTheRust}
-use Rattle.demands.proofs.WaysOut.{refused-run, good-in, enough-in, accepted-leaves, failed-run, converted-run}
+use Rattle.demands.proofs.WaysOut.{refused-run, good-in, enough-in, failed-run, converted-run}
 use Rattle.demands.proofs.Demands.{every-call}
 use Rattle.converter.specs.declared.Counts.{Counts}
 use Rattle.converter.specs.declared.Answer.{Answer}
 use Rattle.converter.specs.declared.Answer.the-variants as Answer
-use Rattle.converter.specs.Convert.{poolOf, ConvertsTo, countsIn, outputs, CutAfforded, SameLengths, FinishesIn, Lent, countsFrom, answerFrom, Promised}
+use Rattle.converter.specs.Convert.{poolOf, ConvertsTo, countsIn, outputs, CutAfforded, SameLengths, FinishesIn, Lent, countsFrom, answerFrom, JudgedFirst, Promised}
 
 -- ---- one component after the other
 
@@ -184,26 +186,72 @@ pub all-bytes : (l : List ℕ) → ((i : ℕ) → getD l i 0 < 256) → All Byte
 all-bytes [] h = tt
 all-bytes (b ∷ l) h = (h 0, all-bytes l (λ i. h (suc i)))
 
+-- ---- judging
+
+unplaced-where : (r : Judged) → placed r ≡ true → unplaced r ≡ false
+unfolding placed unplaced
+unplaced-where Judged.Accepted h = absurd (false≢true h)
+unplaced-where (Judged.Refused e) h = go (eqb (e .place) none) h
+  where
+    go : (t : Bool) → not t ≡ true → t ≡ false
+    go true z = absurd (false≢true z)
+    go false z = refl
+
+refused-unplaced : (r : Judged) (e : ConvertError) → r ≡ Judged.Refused e → placed r ≡ false → unplaced r ≡ true
+unfolding placed unplaced
+refused-unplaced Judged.Accepted e q h = absurd (let y : _≡_ {A = ℕ} 0 1 = cc in omega arith)
+refused-unplaced (Judged.Refused x) e q h = go (eqb (x .place) none) h
+  where
+    go : (t : Bool) → not t ≡ false → t ≡ true
+    go true z = refl
+    go false z = absurd (false≢true (sym z))
+
+accepted-unplaced : (r : Judged) → r ≡ Judged.Accepted → placed r ≡ false
+unfolding placed
+accepted-unplaced r q = ap placed q
+
+-- r is the rows' answer, u what they leave of scratch, and p the code's test whether r has a place
+module _ (tree text : List ℕ) (b : Buffers) (r : Judged) (u : List ℕ)
+    (rows : (r ≡ judged tree text (lengthsOf b) (length (b .scratch))) × JudgeKeeps (verdict tree text (lengthsOf b) (length (b .scratch))) (b .scratch) u)
+    (p : Bool) (placed-is : p ≡ placed r) where
+  pub first-cleared : p ≡ true → (i v l f s x t : List ℕ)
+      → (i ≡ cleared (b .instructions)) × (v ≡ cleared (b .variables)) × (l ≡ cleared (b .labels)) × (f ≡ cleared (b .functions)) × (s ≡ cleared (b .strings)) × (x ≡ cleared (b .floats))
+      → t ≡ cleared u → JudgedFirst tree text b r (buffers i v l f s x t)
+  first-cleared has i v l f s x t six z =
+      let at-place : placed r ≡ true = sym placed-is ∙ has in
+      record {
+        is = answer-in tree text b r (rows .0) p placed-is;
+        refused = λ e q. outputs-cleared tree text b r (rows .0) p placed-is t
+            (core-cleared tree text (lengthsOf b) (b .scratch) u r rows false (sym (unplaced-where r at-place)) refl t z) has i v l f s x six;
+        accepted = λ q. absurd (false≢true (sym (accepted-unplaced r q) ∙ at-place));
+      }
+
+  pub first-kept : p ≡ false → JudgedFirst tree text b r (buffers (b .instructions) (b .variables) (b .labels) (b .functions) (b .strings) (b .floats) u)
+  first-kept lacks =
+      let at-none : placed r ≡ false = sym placed-is ∙ lacks in
+      record {
+        is = answer-in tree text b r (rows .0) p placed-is;
+        refused = λ e q. outputs-kept tree text b r (rows .0) p placed-is u
+            (core-kept tree text (lengthsOf b) (b .scratch) u r rows true (sym (refused-unplaced r e q at-none)) refl) lacks;
+        accepted = λ q. (refl, rows .1 .same);
+      }
+
 -- r is the judge's answer, and b₁ the buffers that it leaves
-module _ (tree text : List ℕ) (b : Buffers) (r : Judged) (is : r ≡ judgedIn tree text b) (b₁ : Buffers) (leaves : b₁ ≡ judgeLeaves tree text b) where
+module _ (tree text : List ℕ) (b : Buffers) (r : Judged) (b₁ : Buffers) (first : JudgedFirst tree text b r b₁) where
   module _ (q : r ≡ Judged.Accepted) where
     accepted : judgedIn tree text b ≡ Judged.Accepted
-    accepted = sym is ∙ q
+    accepted = sym (first .is) ∙ q
 
     pub judged-good : Good tree text
     judged-good = good-in tree text true b accepted
 
-    -- outputs as found, scratch zero
-    left : b₁ ≡ buffers (b .instructions) (b .variables) (b .labels) (b .functions) (b .strings) (b .floats) (cleared (b .scratch))
-    left = leaves ∙ accepted-leaves tree text true b accepted
-
     pub judged-lent : Lent (records tree) b₁
     judged-lent =
         let h = enough-in tree text true b accepted in
-        rw left (record {
+        subst (Lent (records tree)) (sym (first .accepted q .0)) (record {
           arena = h .instructions;
           tables = record { variables-long = h .variables; labels-long = h .labels; functions-long = h .functions; strings-long = h .strings; floats-long = h .floats };
-          scratch = omega (arith, h .scratch, length-replicate {A = ℕ} (length (b .scratch)) 0);
+          scratch = omega (arith, h .scratch, first .accepted q .1);
         })
 
   module _ (needsMain : Bool) (bytes : (i : ℕ) → getD tree i 0 < 256) where
@@ -212,27 +260,31 @@ module _ (tree text : List ℕ) (b : Buffers) (r : Judged) (is : r ≡ judgedIn 
 
     pub judge-refuses : (e : ConvertError) → r ≡ Judged.Refused e → Promised tree text needsMain b (Answer.Refused e) b₁
     unfolding answerFrom
-    judge-refuses e q = kept (Answer.Refused e) b₁ (rw leaves (refused-run tree text needsMain b e (sym is ∙ q)))
+    judge-refuses e q = kept (Answer.Refused e) b₁ (rw (first .refused e q) (refused-run tree text needsMain b e (sym (first .is) ∙ q)))
 
     module _ (q : r ≡ Judged.Accepted) (a : Answer) (b₂ : Buffers) (rust : AsTheRust tree text needsMain b₁ (answerFrom tree a) b₂) where
-      once-cleared : cleared (cleared (b .scratch)) ≡ cleared (b .scratch)
-      once-cleared = cleared-same (cleared (b .scratch)) (b .scratch) (length-replicate (length (b .scratch)) 0)
+      -- the same over the buffers as found, but for scratch
+      found : AsTheRust tree text needsMain (buffers (b .instructions) (b .variables) (b .labels) (b .functions) (b .strings) (b .floats) (b₁ .scratch)) (answerFrom tree a) b₂
+      found = subst (λ (z : Buffers). AsTheRust tree text needsMain z (answerFrom tree a) b₂) (first .accepted q .0) rust
+
+      cleared-alike : cleared (b₁ .scratch) ≡ cleared (b .scratch)
+      cleared-alike = cleared-same (b₁ .scratch) (b .scratch) (first .accepted q .1)
 
       by-definition : (x : Result IrProgram) → convert (program tree text) needsMain ≡ x → Calls tree text needsMain b (answerFrom tree a) b₂
       unfolding buffersAfter
       by-definition (ok p) e =
-          let o = (rw (left q) at rust) .bodies p e in
+          let o = found .bodies p e in
           let c = converted-run tree text needsMain b (accepted q) p e in
           record {
             answers = o .0 ∙ c .answers;
-            leaves = o .1 ∙ seven-buffers refl refl refl refl refl refl once-cleared ∙ c .leaves;
+            leaves = o .1 ∙ seven-buffers refl refl refl refl refl refl cleared-alike ∙ c .leaves;
           }
       by-definition (err kind place) e =
-          let o = (rw (left q) at rust) .error kind place e in
+          let o = found .error kind place e in
           let c = failed-run tree text needsMain b (accepted q) kind place e in
           record {
             answers = o .0 ∙ c .answers;
-            leaves = o .1 ∙ seven-buffers refl refl refl refl refl refl once-cleared ∙ c .leaves;
+            leaves = o .1 ∙ seven-buffers refl refl refl refl refl refl cleared-alike ∙ c .leaves;
           }
 
       pub promise-kept : Promised tree text needsMain b a b₂

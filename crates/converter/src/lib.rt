@@ -9,7 +9,7 @@ ghost use Rattle.conversion.specs.Converter as Krc;
 ghost use Rattle.keys.specs.Keys.{Keyed};
 ghost use Rattle.judge.specs.Judge.{buffers};
 ghost use Rattle.demands.specs.Demands.{AsTheRust};
-ghost use Rattle.converter.specs.Convert.{ConvertsTo, allFunctions, emptyCounters, countsIn, answerFrom, outputs, Lent, CutAfforded, FinishesIn, Promised};
+ghost use Rattle.converter.specs.Convert.{ConvertsTo, allFunctions, emptyCounters, countsIn, answerFrom, outputs, Lent, CutAfforded, FinishesIn, JudgedFirst, Promised};
 use expressions::answers::Outcome;
 use functions::bodies::convert_func;
 use functions::functions::AllFunctions;
@@ -18,9 +18,11 @@ use functions::functions::get_all_functions;
 use ir::cut::cut_tables;
 use ir::structs::Counters;
 use judge::Judged;
+use judge::Lengths;
 use judge::clear;
 use judge::clear_outputs;
-use judge::judge;
+use judge::has_place;
+use judge::judge_rows;
 use keys::keys::function_at;
 use records::convert_error::ConvertError;
 use statements::answers::Finished;
@@ -180,6 +182,38 @@ fn convert_good(
     )
 }
 
+// Judges the tree. A refusal leaves the buffers as its row says. An accepted tree's outputs are as found, and scratch is not cleared yet: the
+// conversion writes it before it reads it, and clears it at the end.
+fn judge_first(
+    tree: &[u8],
+    text: &[u8],
+    instructions: &mut [u8],
+    variables: &mut [u8],
+    labels: &mut [u8],
+    functions: &mut [u8],
+    strings: &mut [u8],
+    floats: &mut [u8],
+    scratch: &mut [u8],
+) -> Judged
+    ensures { λ r. ⌜ JudgedFirst (now (tree .entry)) (now (text .entry)) (buffers (now (instructions .entry)) (now (variables .entry)) (now (labels .entry)) (now (functions .entry)) (now (strings .entry)) (now (floats .entry)) (now (scratch .entry))) r (buffers (now (instructions .exit)) (now (variables .exit)) (now (labels .exit)) (now (functions .exit)) (now (strings .exit)) (now (floats .exit)) (now (scratch .exit))) ⌝ }
+{
+    let l = Lengths {
+        instructions: instructions.len(),
+        variables: variables.len(),
+        labels: labels.len(),
+        functions: functions.len(),
+        strings: strings.len(),
+        floats: floats.len(),
+    };
+    let answer = judge_rows(tree, text, l, scratch);
+    if has_place(answer) {
+        clear_outputs(instructions, variables, labels, functions, strings, floats);
+        clear(scratch);
+        return answer;
+    }
+    answer
+}
+
 // Converts a tree. A refusal by lengths or buffers writes nothing, any other leaves every buffer zero; a converted tree leaves each table
 // at the start of its buffer and zero everywhere else.
 pub fn convert(
@@ -196,7 +230,7 @@ pub fn convert(
 ) -> Answer
     ensures { λ a. ⌜ Promised (now (tree .entry)) (now (text .entry)) «needs_main» (buffers (now (instructions .entry)) (now (variables .entry)) (now (labels .entry)) (now (functions .entry)) (now (strings .entry)) (now (floats .entry)) (now (scratch .entry))) a (buffers (now (instructions .exit)) (now (variables .exit)) (now (labels .exit)) (now (functions .exit)) (now (strings .exit)) (now (floats .exit)) (now (scratch .exit))) ⌝ }
 {
-    let judged = judge(
+    let judged = judge_first(
         tree,
         text,
         instructions,

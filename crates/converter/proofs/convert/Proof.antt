@@ -5,8 +5,8 @@ use Rattle.converter.proofs.CallLaws.{judge-refuses, judged-good, judge
 use Rattle.converter.proofs.convert.Statement.{statement}
 use Rattle.converter.proofs.convert.Tie as tie
 
-judge-requires : tie.Need-judge-requires
-judge-requires c κs = search needs
+judge-first-requires : tie.Need-judge-first-requires
+judge-first-requires c κs = search needs
 
 enum-known-judged : tie.Need-enum-known-judged
 enum-known-judged c = search needs
@@ -35,7 +35,7 @@ same-length-7 c = search needs
 returns : tie.Need-returns
 returns c =
     let judged = c .before .before .before .before .before .before .before .before .before .before .before .before .before .before .before .before .before in
-    judge-refuses _ _ _ _ (judged .judge .ensures .0) _ (judged .judge .ensures .1) _ (λ i. judged .before .before .before .before .before .before .before .before .before .before .before .before .before .before .before .before .shared-slice-known .given i .fits) _ (c .before .judged .given .1)
+    judge-refuses _ _ _ _ _ (judged .judge-first .ensures) _ (λ i. judged .before .before .before .before .before .before .before .before .before .before .before .before .before .before .before .before .shared-slice-known .given i .fits) _ (c .before .judged .given .1)
 
 enum-told : tie.Need-enum-told
 enum-told c = search needs
@@ -43,8 +43,8 @@ enum-told c = search needs
 convert-good-requires : tie.Need-convert-good-requires
 convert-good-requires c κs =
     let told = c .before .before .before .before .before .before .before in
-    let e = told .before .before .before .before .before .before .before .before .before .before .before .before .before .before .before .before .judge .ensures in
-    (judged-good _ _ _ _ (e .0) _ (e .1) (told .enum-told .given .1), judged-lent _ _ _ _ (e .0) _ (e .1) (told .enum-told .given .1))
+    let e = told .before .before .before .before .before .before .before .before .before .before .before .before .before .before .before .before .judge-first .ensures in
+    (judged-good _ _ _ _ _ e (told .enum-told .given .1), judged-lent _ _ _ _ _ e (told .enum-told .given .1))
 
 same-length-8 : tie.Need-same-length-8
 same-length-8 c = search needs
@@ -72,14 +72,14 @@ returns-2 c =
     let made = c .before .before .before .before .before .before .before .before .before .before .before .before .before .before in
     let told = made .before .before .before .before .before .before .before .before in
     let judged = told .before .before .before .before .before .before .before .before .before .before .before .before .before .before .before .before in
-    promise-kept _ _ _ _ (judged .judge .ensures .0) _ (judged .judge .ensures .1) _ (λ i. judged .before .before .before .before .before .before .before .before .before .before .before .before .before .before .before .before .shared-slice-known .given i .fits) (told .enum-told .given .1) _ _
+    promise-kept _ _ _ _ _ (judged .judge-first .ensures) _ (λ i. judged .before .before .before .before .before .before .before .before .before .before .before .before .before .before .before .before .shared-slice-known .given i .fits) (told .enum-told .given .1) _ _
     (made .convert-good .ensures)
 
 pub convert-spec : {M : Type 1} → statement M
 convert-spec =
     tie.close
     (tie.spec
-    judge-requires
+    judge-first-requires
     enum-known-judged
     same-length
     same-length-2
