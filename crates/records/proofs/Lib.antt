@@ -1,3 +1,4 @@
+pub mod DigestLaws
 pub mod Good
 pub mod GoodLaws
 pub mod LayoutFits
