@@ -1,3 +1,4 @@
+pub mod Apart
 pub mod DigestLaws
 pub mod Good
 pub mod GoodLaws
