@@ -1,5 +1,6 @@
 pub mod CountLaws
 pub mod DepthLaws
+pub mod EqualLaws
 pub mod RecordCases
 pub mod RoleCases
 pub mod RowLaws

@@ -10,6 +10,7 @@ use records::convert_error::ConvertErrorKind;
 use records::words::MOST_RECORDS;
 use records::words::NONE;
 
+mod equal;
 mod nesting;
 mod references;
 mod rules;

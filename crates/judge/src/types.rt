@@ -44,7 +44,7 @@ pub(crate) fn leading_types(tree: &[u8], n: usize) -> usize
 }
 
 // Types j and r are equal, key text aside.
-fn same_type(tree: &[u8], text: &[u8], j: usize, r: usize) -> bool
+pub(crate) fn same_type(tree: &[u8], text: &[u8], j: usize, r: usize) -> bool
     requires { ⌜ (j * 32 + 32 ≤ length (now tree)) × (r * 32 + 32 ≤ length (now tree)) ⌝ }
     ensures { λ v. ⌜ v ≡ sameType (now (tree .entry)) (now (text .entry)) j r ⌝ }
 {
