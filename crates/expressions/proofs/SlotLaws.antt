@@ -16,11 +16,9 @@ use Rattle.records.specs.Words.{byteAt, wordAt, records}
 use Rattle.conversion.specs.ConvertError.{ok}
 use Rattle.conversion.specs.Scope as Def
 use Rattle.conversion.specs.Written.{bytesOf, word}
-use Rattle.ir.proofs.Entries.{word-same}
-use Rattle.ir.proofs.ReadBack.{word-back}
 use Rattle.scope.specs.declared.Scope.{Scope}
 use Rattle.scope.specs.Open.{scopeAt, Kept}
-use Rattle.scope.proofs.Apart.{byte-apart, word-apart, word-there}
+use Rattle.records.proofs.Apart.{byte-apart, word-apart, word-there, word-same, word-back}
 use Rattle.scope.proofs.ScopeLaws.{scope-kept}
 use Rattle.types.specs.Fits.{IsExpr}
 use Rattle.syntax.specs.Places.{TypeAt}

@@ -27,7 +27,7 @@ use Rattle.scope.specs.declared.Scope.{Scope}
 use Rattle.scope.specs.declared.Declared.{Declared}
 use Rattle.scope.specs.declared.Declared.the-variants as Declared
 use Rattle.scope.specs.Open.{variablesAt, loopNumber, scopeAt, variable, entryOf as declaredEntry, Afforded, Added, Taken, DeclareMeets}
-use Rattle.scope.proofs.Apart.{word-apart}
+use Rattle.records.proofs.Apart.{word-apart}
 use Rattle.scope.proofs.ScopeLaws.{added-entry, added-fits, added-long, added-room, scope-more}
 use Rattle.functions.specs.declared.parameters.Parameters.{Parameters as Answered}
 use Rattle.functions.specs.declared.parameters.Parameters.the-variants as Answer

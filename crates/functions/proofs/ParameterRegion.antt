@@ -23,7 +23,7 @@ use Rattle.syntax.specs.Places.{FunctionAt, ParamsAt, functionOf, paramsAt}
 use Rattle.keys.specs.Keys.{Keyed}
 use Rattle.functions.specs.declared.parameters.Parameters.{Parameters as Answered}
 use Rattle.functions.specs.Parameters.{parameterOf, emptyIn, untilTaken, entries, ParametersMeet}
-use Rattle.scope.proofs.Apart.{byte-apart}
+use Rattle.records.proofs.Apart.{byte-apart}
 use Rattle.syntax.proofs.Lists.{left, cell-is, next-list, next-falls, left-most, params-end, parameter-item}
 use Rattle.syntax.proofs.Records.{function-params, params-are}
 use Rattle.functions.proofs.ParameterLaws.{entries-long}

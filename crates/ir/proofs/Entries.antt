@@ -9,7 +9,8 @@ use lib.ListN.{length, take, drop, getD, length-append, List·getD-append}
 use lib.Seq.{getD-append-add}
 use Rattle.laws.specs.Splice.{splice}
 use Rattle.laws.proofs.Splices.{length-splice, part-before, part-behind, part-grown, part-element}
-use Rattle.records.specs.Words.{byteAt, wordAt}
+use Rattle.records.specs.Words.{wordAt}
+use Rattle.records.proofs.Apart.{word-same}
 use Rattle.conversion.specs.Written.{encodeAll}
 use Rattle.ir.specs.Arena.{Has, Table}
 
@@ -62,11 +63,6 @@ below-product : (w m b k : ℕ) → b < w → m < k → w * m + b < w * k
 below-product w m b zero hb h = absurd (omega arith)
 below-product w zero b (suc k) hb h = rw mul-suc (omega arith)
 below-product w (suc m) b (suc k) hb h = rw (mul-suc w m, mul-suc w k) (omega (arith, below-product w m b k hb (omega arith)))
-
-pub word-same : (l : List ℕ) (p : ℕ) (r : List ℕ) (b : ℕ) → getD l p 0 ≡ getD r b 0 → getD l (p + 1) 0 ≡ getD r (b + 1) 0
-    → getD l (p + 2) 0 ≡ getD r (b + 2) 0 → getD l (p + 3) 0 ≡ getD r (b + 3) 0 → wordAt l p ≡ wordAt r b
-unfolding wordAt byteAt
-word-same l p r b e₀ e₁ e₂ e₃ = rw (e₀, e₁, e₂, e₃)
 
 module _ {X : Type 0} {f : X → List ℕ} {w : ℕ} {xs : List X} {at n : ℕ} {l : List ℕ} (t : Table f w xs at n l) where
   pub bytes-length : length (encodeAll f xs) ≡ w * n

@@ -11,6 +11,7 @@ use lib.Seq.{getD-append-add}
 use borrow.Author.Tests.{eqb-true, eq-eqb}
 use Rattle.laws.proofs.Tests.{and-left, and-right}
 use Rattle.records.specs.Words.{byteAt, wordAt, textAt}
+use Rattle.records.proofs.Apart.{word-back}
 use Rattle.conversion.specs.Ir.{LabelName, StringEntry, FloatEntry, position, sameLabel, sameText, sameFloat}
 use Rattle.conversion.specs.Written.{bytesOf, word, wide, boolNumber, encodeLabel, encodeString, encodeFloat, allLabels}
 use Rattle.ir.specs.declared.structs.Counters.{Counters}
@@ -25,10 +26,6 @@ unfolding All
 all-at P [] d j a h = absurd (omega arith)
 all-at P (x ∷ xs) d zero a h = a .0
 all-at P (x ∷ xs) d (suc j) a h = all-at P xs d j (a .1) (omega arith)
-
--- a word's four bytes make it again
-pub word-back : (w : ℕ) → w < 2 ^ 32 → w % 256 + w / 256 % 256 * 256 + w / 256 / 256 % 256 * 65536 + w / 256 / 256 / 256 % 256 * 16777216 ≡ w
-word-back w h = omega arith
 
 -- ---- the words of entries
 

@@ -1,6 +1,7 @@
 pub mod CapLaws
 pub mod CountLaws
 pub mod DepthLaws
+pub mod EqualLaws
 pub mod FaultLaws
 pub mod KeyLaws
 pub mod ListClass

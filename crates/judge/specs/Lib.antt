@@ -1,3 +1,4 @@
+pub mod Equal
 pub mod Inner
 pub mod Judge
 pub mod Keeps

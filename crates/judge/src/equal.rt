@@ -1,13 +1,113 @@
-// No two types are equal.
+// The first type that equals an earlier one, found through buckets of digests, so that a tree of types alone costs little more than another.
 ghost use mathlib.Core.Path.{_≡_};
 ghost use mathlib.Core.Bool.{not};
-ghost use Prim.Native.Nat.{_*_, _≤_};
-ghost use lib.ListN.{length};
-ghost use Rattle.records.specs.Rules.{typeIsNew};
+ghost use Prim.Native.Nat.{ℕ, _+_, _*_, _≤_, _<_};
+ghost use lib.ListN.{length, getD};
+ghost use Rattle.laws.specs.Chain.{linkTo};
+ghost use Rattle.records.specs.Words.{kindOf, mostRecords};
+ghost use Rattle.records.specs.Rules.{sameType, typeIsNew};
+ghost use Rattle.records.specs.Digest.{typeDigest};
 ghost use Rattle.judge.specs.Inner.{Lowest, TypesLead};
-use crate::types::type_is_new;
+ghost use Rattle.judge.specs.Equal.{bucketOf, typeBucket, Chained, entered, Room};
+use crate::references::size;
+use crate::types::same_type;
+use records::texts::text_digest;
+use records::texts::word_digest;
+use records::words::WORD_A;
+use records::words::WORD_B;
+use records::words::WORD_C;
+use records::words::detail;
+use records::words::load;
+use records::words::put_pair;
+use records::words::put_word;
+use records::words::wide;
+use records::words::word;
 
-// The lowest of the types that lead which equals an earlier one, or `types`.
+// The digest of what makes type r equal to another.
+fn type_digest(tree: &[u8], text: &[u8], r: usize) -> u32
+    requires { ⌜ r * 32 + 32 ≤ length (now tree) ⌝ }
+    ensures { λ v. ⌜ v ≡ typeDigest (now (tree .entry)) (now (text .entry)) r ⌝ }
+{
+    let d = detail(tree, r);
+    let a = word(tree, r, WORD_A);
+    let b = word(tree, r, WORD_B);
+    if d == 8 {
+        return text_digest(text, a, b);
+    }
+    word_digest(wide(d), a, b, word(tree, r, WORD_C))
+}
+
+// The bucket of a digest: a product and its upper half cost less than a remainder.
+fn bucket(d: u32, types: usize) -> usize
+    requires { ⌜ (0 < types) × (types ≤ mostRecords) ⌝ }
+    ensures { λ v. ⌜ (v ≡ bucketOf types d) × (v < types) ⌝ }
+{
+    ((d as usize) * types) / 4294967296
+}
+
+// Zero in the first n bytes: no bucket has a type yet.
+fn clear_heads(scratch: &mut [u8], n: usize)
+    requires { ⌜ n ≤ length (now scratch) ⌝ }
+    ensures { λ _. ⌜ ((i : ℕ) → i < n → getD (now (scratch .exit)) i 0 ≡ 0) × (length (now (scratch .exit)) ≡ length (now (scratch .entry))) ⌝ }
+{
+    let mut i = 0;
+    while i < n {
+        scratch[i] = 0;
+        i += 1;
+    }
+}
+
+// Type r goes before the others of its bucket.
+fn enter(scratch: &mut [u8], types: usize, r: usize, d: u32, b: usize, head: u32)
+    requires { ⌜ Room types (now scratch) × (r < types) × (b < types) ⌝ }
+    ensures { λ _. ⌜ now (scratch .exit) ≡ entered types r d b head (now (scratch .entry)) ⌝ }
+{
+    let next = (r + 1) as u32;
+    put_pair(scratch, 4 * types + 8 * r, d, head);
+    put_word(scratch, 4 * b, next);
+}
+
+// Types k and r are equal, by their digests first. Few texts of one digest differ, so few are compared in vain.
+fn equals(tree: &[u8], text: &[u8], k: usize, r: usize, digest: u32, d: u32) -> bool
+    requires { ⌜ (k * 32 + 32 ≤ length (now tree)) × (r * 32 + 32 ≤ length (now tree)) ⌝ }
+    requires { ⌜ (digest ≡ typeDigest (now tree) (now text) k) × (d ≡ typeDigest (now tree) (now text) r) ⌝ }
+    ensures { λ v. ⌜ v ≡ sameType (now (tree .entry)) (now (text .entry)) k r ⌝ }
+{
+    if digest != d {
+        return false;
+    }
+    same_type(tree, text, k, r)
+}
+
+// Some type below r equals it: the chain of its bucket is walked from the head on.
+fn has_equal(
+    tree: &[u8],
+    text: &[u8],
+    types: usize,
+    scratch: &[u8],
+    r: usize,
+    d: u32,
+    head: u32,
+) -> bool
+    requires { ⌜ (types * 32 ≤ length (now tree)) × (r < types) × ((k : ℕ) → k < types → kindOf (now tree) k ≡ 1) ⌝ }
+    requires { ⌜ Room types (now scratch) × Chained (now tree) (now text) types r (now scratch) ⌝ }
+    requires { ⌜ (d ≡ typeDigest (now tree) (now text) r) × (head ≡ linkTo (typeBucket (now tree) (now text) types) r (typeBucket (now tree) (now text) types r)) ⌝ }
+    ensures { λ v. ⌜ v ≡ not (typeIsNew (now (tree .entry)) (now (text .entry)) r) ⌝ }
+{
+    let mut at = size(head);
+    while at > 0 {
+        let k = at - 1;
+        let e = 4 * types + 8 * k;
+        let digest = load(scratch, e);
+        if equals(tree, text, k, r, digest, d) {
+            return true;
+        }
+        at = size(load(scratch, e + 4));
+    }
+    false
+}
+
+// The lowest of the leading types that equals an earlier one, or their count.
 pub(crate) fn first_equal(
     tree: &[u8],
     text: &[u8],
@@ -15,14 +115,20 @@ pub(crate) fn first_equal(
     types: usize,
     scratch: &mut [u8],
 ) -> usize
-    requires { ⌜ (n * 32 ≡ length (now tree)) × TypesLead (now tree) n types × (64 * n ≤ length (now scratch)) ⌝ }
+    requires { ⌜ (n * 32 ≡ length (now tree)) × (64 * n ≤ length (now scratch)) × (n ≤ mostRecords) ⌝ }
+    requires { ⌜ TypesLead (now tree) n types ⌝ }
     ensures { λ v. ⌜ Lowest types (λ k. not (typeIsNew (now (tree .entry)) (now (text .entry)) k)) v × (length (now (scratch .exit)) ≡ length (now (scratch .entry))) ⌝ }
 {
+    clear_heads(scratch, 4 * types);
     let mut r = 0;
     while r < types {
-        if !type_is_new(tree, text, r) {
+        let d = type_digest(tree, text, r);
+        let b = bucket(d, types);
+        let head = load(scratch, 4 * b);
+        if has_equal(tree, text, types, scratch, r, d, head) {
             return r;
         }
+        enter(scratch, types, r, d, b, head);
         r += 1;
     }
     types

@@ -1,9 +1,8 @@
-// The rules for types: the twelve first, types before all else, no two equal.
+// The rules for types: the twelve first, types before all else; when two are equal.
 ghost use mathlib.Core.Path.{_≡_};
-ghost use mathlib.Core.Bool.{not, _||_, _&&_};
 ghost use Prim.Native.Nat.{_+_, _*_, _≤_, _<_};
 ghost use lib.ListN.{length};
-ghost use Rattle.records.specs.Rules.{isFirstType, sameType, typeIsNew};
+ghost use Rattle.records.specs.Rules.{isFirstType, sameType};
 ghost use Rattle.judge.specs.Inner.{TypesLead};
 use records::numbers::KIND_TYPE;
 use records::texts::same_text;
@@ -44,7 +43,7 @@ pub(crate) fn leading_types(tree: &[u8], n: usize) -> usize
 }
 
 // Types j and r are equal, key text aside.
-fn same_type(tree: &[u8], text: &[u8], j: usize, r: usize) -> bool
+pub(crate) fn same_type(tree: &[u8], text: &[u8], j: usize, r: usize) -> bool
     requires { ⌜ (j * 32 + 32 ≤ length (now tree)) × (r * 32 + 32 ≤ length (now tree)) ⌝ }
     ensures { λ v. ⌜ v ≡ sameType (now (tree .entry)) (now (text .entry)) j r ⌝ }
 {
@@ -60,22 +59,4 @@ fn same_type(tree: &[u8], text: &[u8], j: usize, r: usize) -> bool
         return same_text(text, ja, jb, ra, rb);
     }
     (ja == ra) & (jb == rb) & (word(tree, j, 2) == word(tree, r, 2))
-}
-
-// No type before record r equals it, where it is a type.
-pub(crate) fn type_is_new(tree: &[u8], text: &[u8], r: usize) -> bool
-    requires { ⌜ r * 32 + 32 ≤ length (now tree) ⌝ }
-    ensures { λ v. ⌜ v ≡ typeIsNew (now (tree .entry)) (now (text .entry)) r ⌝ }
-{
-    if kind(tree, r) != 1 {
-        return true;
-    }
-    let mut j = 0;
-    while j < r {
-        if (kind(tree, j) == KIND_TYPE) & same_type(tree, text, j, r) {
-            return false;
-        }
-        j += 1;
-    }
-    true
 }

@@ -82,3 +82,8 @@ module _ (f : ℕ → Bool) where
       split n i _ refl h
       (λ q. ap f q ∙ or-right (anyBelow n f) (f n) a)
       (λ b. any-at n i (or-left (anyBelow n f) (f n) a) b)
+
+  pub any-of : (n : ℕ) → ((i : ℕ) → i < n → f i ≡ false) → anyBelow n f ≡ false
+  unfolding anyBelow
+  any-of zero h = refl
+  any-of (suc n) h = rw (any-of n (λ i b. h i (omega arith))) (h n (omega arith))

@@ -28,3 +28,14 @@ unfoldable pub lowest : ℕ → (ℕ → Bool) → Option ℕ
 unfolding pick orElse
 lowest zero f = none
 lowest (suc n) f = orElse (lowest n f) (pick (f n) (some n) none)
+
+-- the highest number below n of which f holds
+unfoldable pub last : ℕ → (ℕ → Bool) → Option ℕ
+unfolding pick
+last zero f = none
+last (suc n) f = pick (f n) (some n) (last n f)
+
+-- a number that may be missing, as it stands in bytes: one more than it, or 0
+unfoldable pub past : Option ℕ → ℕ
+past none = 0
+past (some j) = suc j

@@ -1,3 +1,5 @@
+pub mod Apart
+pub mod DigestLaws
 pub mod Good
 pub mod GoodLaws
 pub mod LayoutFits

@@ -1,8 +1,11 @@
 // Texts compared, by their places in the text buffer.
 ghost use mathlib.Core.Path.{_≡_};
-ghost use Prim.Native.Nat.{_+_, _≤_};
+ghost use Prim.Native.Nat.{_+_, _≤_, _<_};
 ghost use lib.ListN.{length};
 ghost use Rattle.records.specs.Words.{textAt, sameText};
+ghost use Rattle.records.specs.Digest.{digestStep, digestEnd, digestOf, digestFour};
+use crate::words::load;
+use crate::words::wide;
 
 // How many bytes a text has: none of them lie past the buffer's end.
 fn reach(text: &[u8], offset: usize, len: usize) -> usize
@@ -56,4 +59,72 @@ pub fn same_text(text: &[u8], a: u32, n: u32, b: u32, m: u32) -> bool
         return true;
     }
     same_part(text, i, j, x)
+}
+
+// What a digest is multiplied by: odd numbers with bits spread over 30 and 31 places, small enough that no sum below exceeds 64 bits.
+const FACTOR: u64 = 663608941;
+
+const FACTOR_SECOND: u64 = 1013904223;
+
+const FACTOR_LAST: u64 = 1481765933;
+
+// The upper half is added to the lower: a remainder alone would keep the lowest bits from ever seeing the others.
+fn step(h: u64, w: u32, v: u32) -> u64
+    requires { ⌜ h < 8589934592 ⌝ }
+    ensures { λ r. ⌜ (r ≡ digestStep h w v) × (r < 8589934592) ⌝ }
+{
+    let x = h * FACTOR + (w as u64) + (v as u64) * FACTOR_SECOND;
+    x % 4294967296 + x / 4294967296
+}
+
+fn finish(h: u64) -> u32
+    requires { ⌜ h < 8589934592 ⌝ }
+    ensures { λ r. ⌜ r ≡ digestEnd h ⌝ }
+{
+    let x = h * FACTOR_LAST;
+    let y = x % 4294967296 + x / 4294967296;
+    (y % 4294967296) as u32
+}
+
+// The digest of n bytes from `at` on. A polynomial over words is chosen since eight bytes cost one product that waits for the one before,
+// so that long names, which may overlap, are read about as quickly as memory gives them.
+pub fn digest(text: &[u8], at: usize, n: usize) -> u32
+    requires { ⌜ at + n ≤ length (now text) ⌝ }
+    ensures { λ r. ⌜ r ≡ digestOf (textAt (now (text .entry)) at n) ⌝ }
+{
+    let eights = n / 8;
+    let rest = n % 8;
+    let mut h = 1;
+    let mut k = 0;
+    while k < eights {
+        let i = at + 8 * k;
+        h = step(h, load(text, i), load(text, i + 4));
+        k += 1;
+    }
+    let from = at + 8 * eights;
+    let mut j = 0;
+    while j < rest {
+        h = step(h, wide(text[from + j]), 0);
+        j += 1;
+    }
+    finish(h)
+}
+
+// The digest of a text, as far as it lies within the buffer.
+pub fn text_digest(text: &[u8], offset: u32, len: u32) -> u32
+    ensures { λ r. ⌜ r ≡ digestOf (textAt (now (text .entry)) offset len) ⌝ }
+{
+    let i = offset as usize;
+    let x = reach(text, i, len as usize);
+    if x == 0 {
+        return digest(text, 0, 0);
+    }
+    digest(text, i, x)
+}
+
+// The digest of four words.
+pub fn word_digest(a: u32, b: u32, c: u32, d: u32) -> u32
+    ensures { λ r. ⌜ r ≡ digestFour a b c d ⌝ }
+{
+    finish(step(step(1, a, b), c, d))
 }

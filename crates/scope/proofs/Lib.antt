@@ -1,3 +1,2 @@
-pub mod Apart
 pub mod Names
 pub mod ScopeLaws

@@ -11,8 +11,10 @@ use lib.Dec.{eqb}
 use lib.ListN.{length}
 use borrow.Author.Tests.{eq-eqb, ne-eqb}
 use Rattle.laws.specs.Fix.{pick}
+use Rattle.laws.specs.Below.{last}
 use Rattle.laws.specs.Splice.{splice}
 use Rattle.records.specs.Words.{byteAt, wordAt, textAt}
+use Rattle.records.proofs.Apart.{word-back, word-there}
 use Rattle.conversion.specs.Ir.{sameText}
 use Rattle.conversion.specs.Scope.{Variable, findIn}
 use Rattle.conversion.specs.Written.{bytesOf, word, boolNumber}
@@ -20,14 +22,12 @@ use Rattle.records.specs.declared.words.Found.{Found}
 use Rattle.records.specs.declared.words.Found.the-variants.{At, Nothing}
 use Rattle.ir.specs.declared.structs.VarId.{VarId}
 use Rattle.ir.specs.Search.{foundOf}
-use Rattle.ir.proofs.ReadBack.{word-back}
 use Rattle.ir.proofs.SearchLaws.{found-some, found-none}
 use Rattle.scope.specs.declared.Scope.{Scope}
 use Rattle.scope.specs.declared.Known.{Known}
 use Rattle.scope.specs.declared.Known.the-variants as Known
 use Rattle.scope.specs.declared.Declared.the-variants as Declared
-use Rattle.scope.specs.Open.{variableAt, variablesAt, variablesOf, Room, last, nameIs, VariableAt, IsFound, FindMeets, more, variable, entryOf, Afforded, DeclareMeets}
-use Rattle.scope.proofs.Apart.{word-there}
+use Rattle.scope.specs.Open.{variableAt, variablesAt, variablesOf, Room, nameIs, VariableAt, IsFound, FindMeets, more, variable, entryOf, Afforded, DeclareMeets}
 use Rattle.scope.proofs.ScopeLaws.{kept-above, variables-kept, entry-long}
 
 -- ---- the loop

@@ -21,13 +21,12 @@ use Rattle.conversion.specs.Scope.{Variable, findIn, find-variable, declare, de
 use Rattle.conversion.specs.Written.{bytesOf, word}
 use Rattle.ir.specs.declared.structs.VarId.{VarId}
 use Rattle.ir.specs.Instructions.{varOf}
-use Rattle.ir.proofs.Entries.{word-same}
 use Rattle.scope.specs.declared.Scope.{Scope}
 use Rattle.scope.specs.declared.Known.the-variants as Known
 use Rattle.scope.specs.declared.InLoop.{InLoop}
 use Rattle.scope.specs.declared.InLoop.the-variants as InLoop
 use Rattle.scope.specs.Open.{variableAt, variablesAt, variablesOf, loopNumber, scopeAt, Room, IsFound, FindMeets, variable, entryOf, Afforded, Added, Taken, within, loopOf, Kept}
-use Rattle.scope.proofs.Apart.{byte-apart}
+use Rattle.records.proofs.Apart.{byte-apart, word-same}
 
 -- ---- bytes that stay
 

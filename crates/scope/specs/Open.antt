@@ -65,12 +65,6 @@ pub record Room (sc : Scope) (s : List ℕ) : Type 0 where
 
 -- ---- looking for a name
 
--- the highest number below n of which f holds
-unfoldable pub last : ℕ → (ℕ → Bool) → Option ℕ
-unfolding pick
-last zero f = none
-last (suc n) f = pick (f n) (some n) (last n f)
-
 -- the name of entry j is the text u
 unfoldable pub nameIs : List ℕ → List ℕ → ℕ → List ℕ → ℕ → Bool
 nameIs text s n u j = sameText u (textAt text (wordAt s (8 * n + 16 * j)) (wordAt s (8 * n + 16 * j + 4)))

@@ -21,8 +21,7 @@ use Rattle.ir.specs.declared.structs.Instr.the-variants as Instr
 use Rattle.ir.specs.Amounts.{amount}
 use Rattle.ir.specs.Instructions.{operandOf}
 use Rattle.ir.specs.Steps.{Emits}
-use Rattle.ir.proofs.Entries.{word-same}
-use Rattle.scope.proofs.Apart.{byte-apart}
+use Rattle.records.proofs.Apart.{byte-apart, word-same}
 use Rattle.statements.specs.declared.answers.Fitted.{Fitted}
 use Rattle.statements.specs.Stack.{operandBytes, entryAt, operandAt, stackAt}
 use Rattle.statements.specs.Converting.{RoomFor, OperandIn, StackIn, Stays}

@@ -14,10 +14,9 @@ use Rattle.syntax.specs.Places.{TypeAt}
 use Rattle.conversion.specs.Ir.{Operand, M}
 use Rattle.ir.specs.declared.structs.Counters.{Counters}
 use Rattle.ir.specs.Steps.{NextIn}
-use Rattle.ir.proofs.Entries.{word-same}
 use Rattle.scope.specs.declared.Scope.{Scope}
 use Rattle.scope.specs.Open.{Kept, scopeAt}
-use Rattle.scope.proofs.Apart.{byte-apart}
+use Rattle.records.proofs.Apart.{byte-apart, word-same}
 use Rattle.scope.proofs.ScopeLaws.{scope-kept}
 use Rattle.keys.specs.Keys.{Listed, Keyed}
 use Rattle.expressions.specs.Slots.{Frame, Scoped, Ready}

@@ -4,7 +4,8 @@ use mathlib.Core.Path.{_≡_, refl, sym, _∙_}
 use Prim.Native.Nat.{_≤_}
 use native.Mathlib.Omega.{arith}
 use Rattle.records.specs.Words.{textAt}
-use Rattle.scope.specs.Open.{last, nameIs}
+use Rattle.laws.specs.Below.{last}
+use Rattle.scope.specs.Open.{nameIs}
 use Rattle.scope.proofs.Names.{last-more, last-hit, last-end}
 use Rattle.scope.proofs.find_name.Statement.{statement}
 use Rattle.scope.proofs.find_name.Tie as tie

@@ -1,50 +1,102 @@
--- The lowest type that equals an earlier one. The loop's invariant: every type passed is new.
--- The measure is what is left of the types. Assumes nothing.
+-- The leading types are entered one after the other, each after a walk along its bucket's chain. The invariant: the types passed are chained, and each is new.
+-- By the laws of chains of types at each turn; the measure is what is left of the types. Assumes nothing.
+use mathlib.Core.Path.{_≡_, refl, sym, _∙_}
+use mathlib.Core.Bool.{not, false}
 use Prim.Native.Nat.{ℕ, _≤_, _<_, _-_}
-use mathlib.Core.Path.{_≡_, refl, sym}
-use mathlib.Core.Bool.{false, not}
 use native.Mathlib.Omega.{arith}
-use borrow.Author.Count.{below-more}
 use lib.ListN.{length}
+use borrow.Author.Count.{below-more}
+use borrow.Author.Needs.{needs}
 use Rattle.records.specs.Rules.{typeIsNew}
+use Rattle.judge.specs.Equal.{Chained, Room}
+use Rattle.judge.proofs.EqualLaws.{bucket-told, chained-none, head-told, entered-long, chained-more}
 use Rattle.judge.proofs.equal.first_equal.Statement.{statement}
 use Rattle.judge.proofs.equal.first_equal.Tie as tie
+use Rattle.judge.proofs.equal.first_equal.Reads as reads
+use Rattle.judge.proofs.equal.first_equal.Lts as lts
+use Rattle.judge.proofs.equal.bucket.Reads as bucket-reads
+use Rattle.judge.proofs.equal.clear_heads.Reads as clear-heads-reads
+use Rattle.judge.proofs.equal.enter.Reads as enter-reads
+use Rattle.judge.proofs.equal.has_equal.Reads as has-equal-reads
+use Rattle.judge.proofs.equal.type_digest.Reads as type-digest-reads
+use Rattle.records.proofs.words.load.Reads as load-reads
 
 abbrev Inv-loop : tie.InvT-loop
-Inv-loop tree text n types scratch r₀ r =
-    (r ≤ types) × ((k : ℕ) → k < r → not (typeIsNew tree text k) ≡ false)
+Inv-loop tree text n types scratch₀ r₀ scratch r = (r ≤ types) × (length scratch ≡ length scratch₀) × Chained tree text types r scratch × ((k : ℕ) → k < r → not (typeIsNew tree text k) ≡ false)
 
 abbrev μ-loop : tie.MeasureT-loop
-μ-loop tree text n types scratch r₀ r =
-    types - r
+μ-loop tree text n types scratch₀ r₀ scratch r = types - r
+
+mul-clear-heads : tie.Need-mul-clear-heads Inv-loop μ-loop
+mul-clear-heads c = omega arith
+
+clear-heads-requires : tie.Need-clear-heads-requires Inv-loop μ-loop
+clear-heads-requires c κs = omega arith
 
 loop-holds : tie.Need-loop-holds Inv-loop μ-loop
 loop-holds c =
-    (omega arith, λ k h. absurd (omega arith))
+    (omega arith, refl, chained-none _ _ _ _ (c .before .before .clear-heads .ensures .0), λ k h. absurd (omega arith))
 
-type-is-new-requires : tie.Need-type-is-new-requires Inv-loop μ-loop
-type-is-new-requires c κs =
-    omega (arith, c .before .before .before .before .before .pre .1 .within)
+type-digest-requires : tie.Need-type-digest-requires Inv-loop μ-loop
+type-digest-requires c κs =
+    omega (arith, c .before .before .before .before .before .before .before .before .before .pre .1 .within)
+
+bucket-requires : tie.Need-bucket-requires Inv-loop μ-loop
+bucket-requires c κs =
+    (omega arith, omega (arith, c .before .before .before .before .before .before .before .before .before .before .pre .1 .within))
+
+mul-load : tie.Need-mul-load Inv-loop μ-loop
+mul-load c =
+    omega (arith, c .before .before .before .before .before .before .before .before .before .before .before .before .pre .1 .within, c .before .bucket .ensures .1)
+
+load-requires : tie.Need-load-requires Inv-loop μ-loop
+load-requires c κs =
+    omega (arith, c .before .before .before .before .before .before .before .before .before .before .before .before .pre .1 .within, c .before .bucket .ensures .1, c .before .before .before .before .loop .inv .1, c .before .before .before .before .before .before .before .clear-heads .ensures .1)
+
+has-equal-requires : tie.Need-has-equal-requires Inv-loop μ-loop
+has-equal-requires c κs =
+    ((omega (arith, c .before .before .before .before .before .before .before .before .before .before .before .before .before .before .pre .1 .within), c .before .before .before .before .before .loop-test .taken, c .before .before .before .before .before .before .before .before .before .before .before .before .before .before .pre .1 .types), ((record { few = omega (arith, c .before .before .before .before .before .before .before .before .before .before .before .before .before .before .pre .1 .within); room = omega (arith, c .before .before .before .before .before .before .before .before .before .before .before .before .before .before .pre .1 .within, c .before .before .before .before .before .before .loop .inv .1, c .before .before .before .before .before .before .before .before .before .clear-heads .ensures .1) }, c .before .before .before .before .before .before .loop .inv .2), (c .before .before .before .before .type-digest .ensures, head-told _ _ _ _ _ _ _ (c .before .before .before .before .before .before .loop .inv .2) (c .before .before .before .bucket .ensures .1) (bucket-told _ _ _ _ _ _ (c .before .before .before .before .type-digest .ensures) (c .before .before .before .bucket .ensures .0)) (c .before .load .ensures))))
+
+same-length : tie.Need-same-length Inv-loop μ-loop
+same-length c =
+    c .before .before .before .before .before .before .before .before .loop .inv .1 ∙ c .before .before .before .before .before .before .before .before .before .before .before .clear-heads .ensures .1
 
 returns : tie.Need-returns Inv-loop μ-loop
 returns c =
-    (record { within = omega arith; before = c .before .before .before .loop .inv .1; found = λ h. rw (sym (c .before .type-is-new .ensures)) (c .if1 .taken) }, refl)
+    (record { within = c .before .before .before .before .before .before .before .before .loop .inv .0; before = c .before .before .before .before .before .before .before .before .loop .inv .3; found = λ h. sym (c .before .has-equal .ensures) ∙ c .if1 .taken }, c .before .before .before .before .before .before .before .before .loop .inv .1 ∙ c .before .before .before .before .before .before .before .before .before .before .before .clear-heads .ensures .1)
+
+enter-requires : tie.Need-enter-requires Inv-loop μ-loop
+enter-requires c κs =
+    (record { few = omega (arith, c .before .before .before .before .before .before .before .before .before .before .before .before .before .before .before .before .before .pre .1 .within); room = omega (arith, c .before .before .before .before .before .before .before .before .before .before .before .before .before .before .before .before .before .pre .1 .within, c .before .before .before .before .before .before .before .before .before .loop .inv .1, c .before .before .before .before .before .before .before .before .before .before .before .before .clear-heads .ensures .1) }, c .before .before .before .before .before .before .before .before .loop-test .taken, c .before .before .before .before .before .before .bucket .ensures .1)
 
 add-r : tie.Need-add-r Inv-loop μ-loop
-add-r c =
-    omega (arith, c .before .before .before .before .before .before .before .pre .1 .within)
+add-r c = omega arith
 
 loop-less : tie.Need-loop-less Inv-loop μ-loop
-loop-less c =
-    omega arith
+loop-less c = omega arith
 
 loop-again : tie.Need-loop-again Inv-loop μ-loop
 loop-again c =
-    (omega arith, below-more _ _ (c .before .before .before .loop .inv .1) (rw (sym (c .before .type-is-new .ensures)) (c .if1 .left)))
+    let lead = c .before .before .before .before .before .before .before .before .before .before .before .before .before .before .before .before .before .before .before .before .pre .1 .within in
+    let at-loop = c .before .before .before .before .before .before .before .before .before .before .before .before .loop in
+    let room : Room (c .before .before .before .before .before .before .before .before .before .before .before .before .before .before .before .before .before .before .before .before .args .types) (at-loop .scratch) = record { few = omega (arith, lead); room = omega (arith, lead, at-loop .inv .1, c .before .before .before .before .before .before .before .before .before .before .before .before .before .before .before .clear-heads .ensures .1) } in
+    let r-below = c .before .before .before .before .before .before .before .before .before .before .before .loop-test .taken in
+    let digest = c .before .before .before .before .before .before .before .before .before .before .type-digest .ensures in
+    let at-bucket = c .before .before .before .before .before .before .before .before .before .bucket .ensures in
+    let is-entered = c .before .before .enter .ensures in (
+      omega arith,
+      entered-long _ _ _ _ _ _ room r-below (at-bucket .1) (search needs) (search needs) _ is-entered ∙ at-loop .inv .1,
+      chained-more _ _ _ _ _ _ room r-below (at-bucket .1) (search needs) (search needs) _ _ _ is-entered (at-loop .inv .2) digest (bucket-told _ _ _ _ _ _ digest (at-bucket .0)) (c .before .before .before .before .before .before .before .load .ensures),
+      below-more _ _ (at-loop .inv .3) (sym (c .before .before .before .before .before .has-equal .ensures) ∙ c .before .before .before .before .if1 .left),
+    )
+
+same-length-2 : tie.Need-same-length-2 Inv-loop μ-loop
+same-length-2 c =
+    c .before .loop .inv .1 ∙ c .before .before .before .before .clear-heads .ensures .1
 
 returns-2 : tie.Need-returns-2 Inv-loop μ-loop
 returns-2 c =
-    (record { within = omega arith; before = λ k h. c .before .loop .inv .1 k (omega arith); found = λ h. absurd (omega arith) }, refl)
+    (record { within = omega arith; before = λ k h. c .before .loop .inv .3 k (omega arith); found = λ h. absurd (omega arith) }, c .before .loop .inv .1 ∙ c .before .before .before .before .clear-heads .ensures .1)
 
 pub first-equal-spec : {M : Type 1} → statement M
 first-equal-spec =
@@ -52,10 +104,19 @@ first-equal-spec =
     (tie.spec
     Inv-loop
     μ-loop
+    mul-clear-heads
+    clear-heads-requires
     loop-holds
-    type-is-new-requires
+    type-digest-requires
+    bucket-requires
+    mul-load
+    load-requires
+    has-equal-requires
+    same-length
     returns
+    enter-requires
     add-r
     loop-less
     loop-again
+    same-length-2
     returns-2)

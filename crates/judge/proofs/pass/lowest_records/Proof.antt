@@ -12,7 +12,7 @@ leading-types-requires c κs = search needs
 
 first-equal-requires : tie.Need-first-equal-requires
 first-equal-requires c κs =
-    (c .before .before .before .before .before .pre .0, c .before .leading-types .ensures, c .before .before .before .before .before .pre .2)
+    ((c .before .before .before .before .before .pre .0, c .before .before .before .before .before .pre .2, c .before .before .before .before .before .pre .1), c .before .leading-types .ensures)
 
 pass-requires : tie.Need-pass-requires
 pass-requires c κs =

@@ -1,16 +1,25 @@
--- A run of bytes written into a list: the bytes and words apart from it stay, and those inside it are its own.
+-- A run of bytes written into a list: the bytes and words apart from it stay, those inside it are its own, and a word is read as it was written.
 -- By the laws of `take` and `drop`, and byte for byte. Assumes nothing.
 use mathlib.Core.Path.{_≡_, refl, sym, ap, _∙_}
 use mathlib.Core.Logic.{_⊎_, inl, inr}
 use mathlib.Core.List.{List, [], _++_}
-use Prim.Native.Nat.{ℕ, _+_, _-_, _≤_, _<_}
+use Prim.Native.Nat.{ℕ, _+_, _-_, _*_, _/_, _%_, _^_, _≤_, _<_}
 use native.Mathlib.Omega.{arith}
 use lib.ListN.{length, take, drop, getD, length-append, List·getD-append}
 use lib.Seq.{getD-take, getD-drop, length-take-le}
 use Rattle.laws.specs.Splice.{splice}
 use Rattle.laws.proofs.Splices.{drop-splice, part-grown, part-element}
-use Rattle.records.specs.Words.{wordAt}
-use Rattle.ir.proofs.Entries.{word-same}
+use Rattle.records.specs.Words.{byteAt, wordAt}
+
+-- two words are the same where their bytes are
+pub word-same : (l : List ℕ) (p : ℕ) (r : List ℕ) (b : ℕ) → getD l p 0 ≡ getD r b 0 → getD l (p + 1) 0 ≡ getD r (b + 1) 0
+    → getD l (p + 2) 0 ≡ getD r (b + 2) 0 → getD l (p + 3) 0 ≡ getD r (b + 3) 0 → wordAt l p ≡ wordAt r b
+unfolding wordAt byteAt
+word-same l p r b e₀ e₁ e₂ e₃ = rw (e₀, e₁, e₂, e₃)
+
+-- a word's four bytes make it again
+pub word-back : (w : ℕ) → w < 2 ^ 32 → w % 256 + w / 256 % 256 * 256 + w / 256 / 256 % 256 * 65536 + w / 256 / 256 / 256 % 256 * 16777216 ≡ w
+word-back w h = omega arith
 
 module _ (l : List ℕ) (i : ℕ) (vs : List ℕ) (fit : i + length vs ≤ length l) where
   -- before the run, and behind it

@@ -1,0 +1,25 @@
+-- The last step, down to 32 bits.
+-- By the definition. Assumes nothing.
+use mathlib.Core.Path.{refl}
+use Rattle.records.specs.Digest.{digestEnd}
+use borrow.Author.Needs.{needs}
+use Rattle.records.proofs.texts.finish.Statement.{statement}
+use Rattle.records.proofs.texts.finish.Tie as tie
+use Rattle.records.proofs.texts.finish.Reads as reads
+use Rattle.records.proofs.texts.finish.Lts as lts
+
+mul-x : tie.Need-mul-x
+mul-x c = search needs
+
+add-y : tie.Need-add-y
+add-y c = search needs
+
+cast-result : tie.Need-cast-result
+cast-result c = search needs
+
+returns : tie.Need-returns
+unfolding digestEnd
+returns c = refl
+
+pub finish-spec : {M : Type 1} → statement M
+finish-spec = tie.close (tie.spec mul-x add-y cast-result returns)

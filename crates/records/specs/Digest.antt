@@ -1,0 +1,50 @@
+-- Digests of texts and of types: 32 bits by which texts that differ are mostly told apart before they are compared. Only that equal
+-- texts have equal digests is relied on. Assumes nothing: these are definitions.
+use Prim.Native.Nat.{ℕ, zero, suc, _+_, _*_, _/_, _%_}
+use mathlib.Core.List.{List}
+use lib.Dec.{eqb}
+use lib.ListN.{length}
+use Rattle.laws.specs.Fix.{pick}
+use Rattle.records.specs.Words.{byteAt, wordAt, detailOf, wordOf, textAt, A, B, C}
+
+-- the upper half is added to the lower, so that every bit of a product counts and nothing is lost upwards
+abbrev pub folded : ℕ → ℕ
+folded x = x % 4294967296 + x / 4294967296
+
+-- two words more
+unfoldable pub digestStep : ℕ → ℕ → ℕ → ℕ
+digestStep h w v = folded (h * 663608941 + w + v * 1013904223)
+
+-- the digest's last step, down to 32 bits
+unfoldable pub digestEnd : ℕ → ℕ
+digestEnd h = folded (h * 1481765933) % 4294967296
+
+-- after the first k eights of bytes
+unfoldable pub digestEights : List ℕ → ℕ → ℕ
+unfolding digestStep wordAt
+digestEights t zero = 1
+digestEights t (suc k) = digestStep (digestEights t k) (wordAt t (8 * k)) (wordAt t (8 * k + 4))
+
+-- and after j bytes more
+unfoldable pub digestBytes : List ℕ → ℕ → ℕ → ℕ
+unfolding digestStep byteAt digestEights
+digestBytes t k zero = digestEights t k
+digestBytes t k (suc j) = digestStep (digestBytes t k j) (byteAt t (8 * k + j)) 0
+
+-- the digest of a text
+unfoldable pub digestOf : List ℕ → ℕ
+unfolding digestEnd digestBytes
+digestOf t = digestEnd (digestBytes t (length t / 8) (length t % 8))
+
+-- the digest of four words
+unfoldable pub digestFour : ℕ → ℕ → ℕ → ℕ → ℕ
+unfolding digestEnd digestStep
+digestFour a b c d = digestEnd (digestStep (digestStep 1 a b) c d)
+
+-- the digest of type r, of what `sameType` compares: Custom's name, the others' detail, inner type and count
+unfoldable pub typeDigest : List ℕ → List ℕ → ℕ → ℕ
+unfolding pick digestOf digestFour textAt detailOf wordOf
+typeDigest tree text r =
+    pick (eqb (detailOf tree r) 8)
+    (digestOf (textAt text (wordOf tree r A) (wordOf tree r B)))
+    (digestFour (detailOf tree r) (wordOf tree r A) (wordOf tree r B) (wordOf tree r C))
