@@ -1,14 +1,14 @@
 -- Digests: what each turn of the loops over a text's bytes adds, the digest of a text that is cut off or empty, and equal types have equal digests.
 -- A text's bytes and words are the buffer's, further on; equal types have the same texts or the same words. Assumes nothing.
 use mathlib.Core.Path.{_≡_, refl, sym, ap, ap₂, _∙_}
-use mathlib.Core.Bool.{Bool, true, false, _&&_, false≢true}
+use mathlib.Core.Bool.{Bool, true, _&&_, false≢true}
 use mathlib.Core.List.{List, [], _∷_}
-use Prim.Native.Nat.{ℕ, zero, suc, _+_, _-_, _*_, _/_, _%_, _≤_, _<_, min}
+use Prim.Native.Nat.{ℕ, _+_, _-_, _*_, _/_, _%_, _≤_, _<_}
 use native.Mathlib.Numerals.{add-one}
 use native.Mathlib.Nat.{add-assoc}
 use native.Mathlib.Omega.{arith}
 use lib.Dec.{eqb}
-use lib.ListN.{length, take, drop, getD}
+use lib.ListN.{length, drop, getD}
 use lib.Seq.{getD-take, getD-drop}
 use borrow.Author.Tests.{eq-eqb, ne-eqb, eqb-true, eqb-false}
 use Rattle.laws.specs.Fix.{pick}
@@ -17,7 +17,7 @@ use Rattle.records.specs.Words.{byteAt, wordAt, detailOf, wordOf, textAt
 use Rattle.records.specs.Rules.{sameType}
 use Rattle.records.specs.Digest.{digestStep, digestEnd, digestEights, digestBytes, digestOf, digestFour, typeDigest}
 use Rattle.records.proofs.TextLaws.{text-length, text-taken}
-use Rattle.records.proofs.TypeLaws.{type-detail, type-custom, type-words}
+use Rattle.records.proofs.TypeLaws.{type-custom, type-words}
 
 module _ (t : List ℕ) (at n : ℕ) (fit : at + n ≤ length t) where
   whole : length (textAt t at n) ≡ n

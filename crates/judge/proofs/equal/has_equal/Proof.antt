@@ -1,7 +1,7 @@
 -- A walk along the chain of type r's bucket. The invariant: no type from the place at hand on equals type r.
 -- By the laws of chains at the head, at each link and at the end; the measure is the place. Assumes nothing.
-use mathlib.Core.Path.{_≡_, sym, _∙_}
-use Prim.Native.Nat.{suc, _-_, _<_, _≤_}
+use mathlib.Core.Path.{sym, _∙_}
+use Prim.Native.Nat.{_-_}
 use native.Mathlib.Omega.{arith}
 use borrow.Author.Needs.{needs}
 use Rattle.laws.specs.Chain.{Met}

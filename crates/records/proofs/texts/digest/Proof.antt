@@ -1,7 +1,7 @@
 -- The digest of a run of bytes. The invariants: what was gathered is the definition's, after so many eights and then so many bytes, and has at most 33 bits.
 -- The measures are what is left of the two counts; the laws of digests give each turn. Assumes nothing.
 use mathlib.Core.Path.{_≡_, refl}
-use Prim.Native.Nat.{_+_, _*_, _/_, _%_, _-_, _≤_, _<_}
+use Prim.Native.Nat.{_/_, _%_, _-_, _≤_, _<_}
 use native.Mathlib.Omega.{arith}
 use Rattle.records.specs.Words.{textAt}
 use Rattle.records.specs.Digest.{digestEights, digestBytes}
