@@ -38,7 +38,7 @@ use Rattle.demands.proofs.Demands.{every-call}
 use Rattle.converter.specs.declared.Counts.{Counts}
 use Rattle.converter.specs.declared.Answer.{Answer}
 use Rattle.converter.specs.declared.Answer.the-variants as Answer
-use Rattle.converter.specs.Convert.{poolOf, ConvertsTo, countsIn, outputs, CutAfforded, SameLengths, FinishesIn, Lent, countsFrom, answerFrom, Promised}
+use Rattle.converter.specs.Convert.{poolOf, ConvertsTo, countsIn, outputs, CutAfforded, SameTableLengths, FinishesIn, SevenLong, countsFrom, answerFrom, Promised}
 
 -- ---- one component after the other
 
@@ -76,7 +76,7 @@ module _ (done : Finished) (i v l f s x i′ v′ l′ f′ s′ x′ : List ℕ
     refused = λ r z. let y : e ≡ r = cc in (ap Answer.Refused y, six-outputs a b c d g h);
   }
 
-  pub finish-converted : (k : Counters) (c : Counts) → done ≡ Finished.Done k → c ≡ countsIn k → SameLengths (outputs i v l f s x) (outputs i′ v′ l′ f′ s′ x′)
+  pub finish-converted : (k : Counters) (c : Counts) → done ≡ Finished.Done k → c ≡ countsIn k → SameTableLengths (outputs i v l f s x) (outputs i′ v′ l′ f′ s′ x′)
       → Cut.Cut k i i′ v′ l′ f′ s′ x′ → FinishesIn done (Answer.Converted c) (outputs i v l f s x) (outputs i′ v′ l′ f′ s′ x′)
   finish-converted k c q e long cut = record {
     long = long;
@@ -102,10 +102,10 @@ counts-are text p k l h = six-counts
 -- the buffers before, with t scratch; the arena j and scratch u when the tree is converted
 module _ (tree text : List ℕ) (needsMain : Bool) (i v l f s x t : List ℕ) (done : Finished) (j u : List ℕ)
     (m : ConvertsTo tree text (convert (program tree text) needsMain) i t done j u) where
-  pub cut-afforded : Lent (records tree) (buffers i v l f s x t) → CutAfforded done (outputs j v l f s x)
+  pub cut-afforded : SevenLong (records tree) (buffers i v l f s x t) → CutAfforded done (outputs j v l f s x)
   cut-afforded lent = record {
     room = λ k q. m .gives k q .room;
-    lent = λ k q. subst (λ (n : ℕ). Cut.Lent n v l f s x) (sym (m .gives k q .records-are)) (lent .tables);
+    lent = λ k q. subst (λ (n : ℕ). Cut.FiveLong n v l f s x) (sym (m .gives k q .records-are)) (lent .tables);
   }
 
   -- the buffers afterwards
@@ -197,7 +197,7 @@ module _ (tree text : List ℕ) (b : Buffers) (r : Judged) (is : r ≡ judgedIn 
     left : b₁ ≡ buffers (b .instructions) (b .variables) (b .labels) (b .functions) (b .strings) (b .floats) (cleared (b .scratch))
     left = leaves ∙ accepted-leaves tree text true b accepted
 
-    pub judged-lent : Lent (records tree) b₁
+    pub judged-lent : SevenLong (records tree) b₁
     judged-lent =
         let h = enough-in tree text true b accepted in
         rw left (record {

@@ -88,12 +88,12 @@ outputs instructions variables labels functions strings floats = record {
 -- tables that were converted can be cut out of the arena, which is the instructions' buffer
 pub record CutAfforded (done : Finished) (b : Written.Tables) : Type 0 where
   pub room : (k : Counters) → done ≡ Finished.Done k → Room k (b .instructions)
-  pub lent : (k : Counters) → done ≡ Finished.Done k → Cut.Lent (k .records) (b .variables) (b .labels) (b .functions) (b .strings) (b .floats)
+  pub lent : (k : Counters) → done ≡ Finished.Done k → Cut.FiveLong (k .records) (b .variables) (b .labels) (b .functions) (b .strings) (b .floats)
 
 abbrev pub clearedAll : Written.Tables → Written.Tables
 clearedAll b = outputs (cleared (b .instructions)) (cleared (b .variables)) (cleared (b .labels)) (cleared (b .functions)) (cleared (b .strings)) (cleared (b .floats))
 
-pub record SameLengths (b b′ : Written.Tables) : Type 0 where
+pub record SameTableLengths (b b′ : Written.Tables) : Type 0 where
   pub instructions : length (b′ .instructions) ≡ length (b .instructions)
   pub variables : length (b′ .variables) ≡ length (b .variables)
   pub labels : length (b′ .labels) ≡ length (b .labels)
@@ -102,15 +102,15 @@ pub record SameLengths (b b′ : Written.Tables) : Type 0 where
   pub floats : length (b′ .floats) ≡ length (b .floats)
 
 pub record FinishesIn (done : Finished) (a : Answer) (b b′ : Written.Tables) : Type 0 where
-  pub long : SameLengths b b′
+  pub long : SameTableLengths b b′
   pub converted : (k : Counters) → done ≡ Finished.Done k → (a ≡ Answer.Converted (countsIn k))
       × Cut.Cut k (b .instructions) (b′ .instructions) (b′ .variables) (b′ .labels) (b′ .functions) (b′ .strings) (b′ .floats)
   pub refused : (e : ConvertError) → done ≡ Finished.Refused e → (a ≡ Answer.Refused e) × (b′ ≡ clearedAll b)
 
 -- the seven buffers are as long as document 01 lends them
-pub record Lent (n : ℕ) (b : Buffers) : Type 0 where
+pub record SevenLong (n : ℕ) (b : Buffers) : Type 0 where
   pub arena : 320 * n ≤ length (b .instructions)
-  pub tables : Cut.Lent n (b .variables) (b .labels) (b .functions) (b .strings) (b .floats)
+  pub tables : Cut.FiveLong n (b .variables) (b .labels) (b .functions) (b .strings) (b .floats)
   pub scratch : 64 * n ≤ length (b .scratch)
 
 -- ---- the answer

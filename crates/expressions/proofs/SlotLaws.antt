@@ -27,7 +27,7 @@ use Rattle.syntax.specs.Places.{TypeAt}
 use Rattle.keys.specs.Keys.{Listed, Keyed}
 use Rattle.expressions.specs.Slots.{slotAt, Scoped, Frame, typeIn, Slots, Ready}
 use Rattle.expressions.specs.declared.answers.ExprType.{ExprType}
-use Rattle.expressions.specs.Answers.{typeOf, TypeMeets}
+use Rattle.expressions.specs.Answers.{typeResult, TypeMeets}
 use Rattle.keys.proofs.KeySearch.{records-most}
 
 -- ---- a word that is written
@@ -184,5 +184,5 @@ module _ (tree text : List ℕ) (S : Def.Scope) where
 -- typing leaves the scope as it was: what it says after an earlier typing it says of the scope before that
 module _ (tree text s s₁ : List ℕ) (sc : Scope) (f : Frame tree s s₁) (is : sc .records ≡ records tree) where
   pub type-later : (e : ℕ) (a : ExprType) (s₂ : List ℕ) → TypeMeets tree text s₁ sc e a s₂
-      → Slots tree text (scopeAt tree text s sc) s₁ s₂ × (typeIn tree text (scopeAt tree text s sc) e ≡ typeOf a)
+      → Slots tree text (scopeAt tree text s sc) s₁ s₂ × (typeIn tree text (scopeAt tree text s sc) e ≡ typeResult a)
   type-later e a s₂ m = rw (← scope-frame tree s s₁ f text sc is) (m .slots, m .meets)

@@ -11,7 +11,7 @@ ghost use Rattle.syntax.specs.Places.{TypeAt, ArgsAt, ParamsAt, paramsAt};
 ghost use Rattle.keys.specs.Parts.{PartIs};
 ghost use Rattle.expressions.specs.Calls.{typedAt, Argued};
 ghost use Rattle.expressions.specs.Slots.{slotAt, FirstType};
-ghost use Rattle.expressions.specs.Answers.{ArgumentIs, numberOf, TypeFound};
+ghost use Rattle.expressions.specs.Answers.{ArgumentIs, foundNumber, TypeFound};
 use keys::parts::Part;
 use keys::parts::text_part;
 use records::numbers::KIND_VALUE;
@@ -123,7 +123,7 @@ pub(crate) fn count_parameters(tree: &[u8], text: &[u8], first: usize) -> usize
 pub(crate) fn target_type(tree: &[u8], text: &[u8], first: usize) -> Found
     requires { ⌜ Good (now tree) (now text) ⌝ }
     requires { ⌜ ArgsAt (now tree) first ⌝ }
-    ensures { λ r. ⌜ ((s : List ℕ) → numberOf r ≡ targetType (typedAt (now (tree .entry)) (now (text .entry)) s first)) × TypeFound (now (tree .entry)) r ⌝ }
+    ensures { λ r. ⌜ ((s : List ℕ) → foundNumber r ≡ targetType (typedAt (now (tree .entry)) (now (text .entry)) s first)) × TypeFound (now (tree .entry)) r ⌝ }
 {
     let mut cell = first;
     while cell != END {
@@ -138,7 +138,7 @@ pub(crate) fn target_type(tree: &[u8], text: &[u8], first: usize) -> Found
 // The type of the first expression among the arguments.
 pub(crate) fn source_type(tree: &[u8], text: &[u8], scratch: &[u8], first: usize) -> Found
     requires { ⌜ Argued (now tree) (now text) (now scratch) first ⌝ }
-    ensures { λ r. ⌜ (numberOf r ≡ sourceType (typedAt (now (tree .entry)) (now (text .entry)) (now (scratch .entry)) first)) × TypeFound (now (tree .entry)) r ⌝ }
+    ensures { λ r. ⌜ (foundNumber r ≡ sourceType (typedAt (now (tree .entry)) (now (text .entry)) (now (scratch .entry)) first)) × TypeFound (now (tree .entry)) r ⌝ }
 {
     let mut cell = first;
     while cell != END {

@@ -4,7 +4,7 @@ ghost use Rattle.records.specs.Words.{wordOf};
 ghost use Rattle.records.specs.Good.{Good};
 ghost use Rattle.syntax.specs.Places.{FunctionAt, IsKind, functionOf, argsAt};
 ghost use Rattle.keys.specs.Keys.{Keyed};
-ghost use Rattle.expressions.specs.Slots.{Typed};
+ghost use Rattle.expressions.specs.Slots.{ArgsTyped};
 ghost use Rattle.expressions.specs.Calls.{Called, CallAt, isCandidate, literalFits, castTypeOf, functionFor, resolvedAt};
 ghost use Rattle.expressions.specs.Answers.{CandidatesAre, CastIs, CalleeIs};
 use crate::answers::Candidates;
@@ -151,7 +151,7 @@ pub(crate) fn resolve_typed(
 ) -> Resolved
     requires { ⌜ Keyed (now tree) (now text) (now scratch) functions ⌝ }
     requires { ⌜ IsKind (now tree) 11 r ⌝ }
-    requires { ⌜ Typed (now tree) (now scratch) (argsAt (now tree) (now text) (wordOf (now tree) r 2)) ⌝ }
+    requires { ⌜ ArgsTyped (now tree) (now scratch) (argsAt (now tree) (now text) (wordOf (now tree) r 2)) ⌝ }
     ensures { λ a. ⌜ CalleeIs (now (tree .entry)) (now (text .entry)) a (resolvedAt (now (tree .entry)) (now (text .entry)) (now (scratch .entry)) r) ⌝ }
 {
     let call = call_of(tree, text, r);

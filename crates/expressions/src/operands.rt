@@ -14,7 +14,7 @@ ghost use Rattle.syntax.specs.Places.{TypeAt, IsKind};
 ghost use Rattle.keys.specs.Keys.{allKeys};
 ghost use Rattle.expressions.specs.Slots.{Scoped, typeIn};
 ghost use Rattle.conversion.specs.ConvertError.{ok};
-ghost use Rattle.expressions.specs.Answers.{valueOf, IsCallee, Operands, TypeIs, FoundIs, Accepts, unaryTypeAt, commonAt, operandsErrorAt, binaryTypeAt};
+ghost use Rattle.expressions.specs.Answers.{valueResult, IsCallee, Operands, TypeIs, FoundIs, Accepts, unaryTypeAt, commonAt, operandsErrorAt, binaryTypeAt};
 use crate::answers::ExprType;
 use crate::answers::Resolved;
 use records::convert_error::ConvertError;
@@ -175,7 +175,7 @@ pub(crate) fn value_type(tree: &[u8], text: &[u8], e: usize, callee: Resolved) -
     requires { ⌜ Good (now tree) (now text) ⌝ }
     requires { ⌜ IsCallee (now tree) callee ⌝ }
     requires { ⌜ e < records (now tree) ⌝ }
-    ensures { λ a. ⌜ TypeIs (now (tree .entry)) a (valueOf (now (tree .entry)) (now (text .entry)) e callee) ⌝ }
+    ensures { λ a. ⌜ TypeIs (now (tree .entry)) a (valueResult (now (tree .entry)) (now (text .entry)) e callee) ⌝ }
 {
     match callee {
         Resolved::Refused(x) => ExprType::Refused(x),

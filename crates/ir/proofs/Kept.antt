@@ -11,7 +11,7 @@ use Rattle.conversion.specs.Ir.{State, LabelName, StringEntry, FloatEntry}
 use Rattle.conversion.specs.Written.{encodeInstr, encodeVar, encodeLabel, encodeFunctions, encodeString, encodeFloat, allCode, allVars, allLabels}
 use Rattle.conversion.proofs.Bytes.{functions-length}
 use Rattle.ir.specs.declared.structs.Counters.{Counters}
-use Rattle.ir.specs.Arena.{Has, Table, All, Tables, LabelFits, StringStands, FloatFits, Holds, Room}
+use Rattle.ir.specs.Arena.{Has, Table, All, TablesSoFar, LabelFits, StringStands, FloatFits, Holds, Room}
 use Rattle.ir.specs.Steps.{grown, moreInstructions, moreVariables, moreLabels, moreStrings, moreFloats}
 use Rattle.ir.proofs.Entries.{has-before, has-behind, table-before, table-behind, table-grown}
 
@@ -34,7 +34,7 @@ withString x s = record { vars = s .vars; labels = s .labels; strings = s .strin
 abbrev pub withFloat : FloatEntry → State → State
 withFloat x s = record { vars = s .vars; labels = s .labels; strings = s .strings; floats = s .floats ++ (x ∷ []) }
 
-module _ (text : List ℕ) (t : Tables) (k : Counters) (l : List ℕ) (room : Room k l) (h : Holds text t k l) where
+module _ (text : List ℕ) (t : TablesSoFar) (k : Counters) (l : List ℕ) (room : Room k l) (h : Holds text t k l) where
   functions-end : length (encodeFunctions 0 0 0 (t .done)) ≡ 32 * k .functions
   functions-end = functions-length 0 0 0 (t .done) ∙ omega (arith, h .before .functions-count)
 

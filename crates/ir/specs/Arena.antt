@@ -68,7 +68,7 @@ All P [] = Unit {0}
 All P (x ∷ l) = P x × All P l
 
 -- what is written so far: the functions that are done, the instructions of the function at hand, and the definitions' state
-pub record Tables : Type 0 where
+pub record TablesSoFar : Type 0 where
   pub done : List IrFunction
   pub code : List Ir.Instr
   pub state : State
@@ -107,7 +107,7 @@ pub record Fits (text : List ℕ) (labels : List LabelName) (strings : List Stri
   pub floats-fit : All FloatFits floats
 
 -- the arena holds these tables, and the counters count them
-pub record Holds (text : List ℕ) (t : Tables) (k : Counters) (l : List ℕ) : Type 0 where
+pub record Holds (text : List ℕ) (t : TablesSoFar) (k : Counters) (l : List ℕ) : Type 0 where
   pub instructions-hold : Table encodeInstr 32 (allCode (t .done) ++ t .code) (instructions .from * k .records) (k .instructions) l
   pub variables-hold : Table encodeVar 4 (allVars (t .done) ++ t .state .vars) (variables .from * k .records) (k .variables) l
   pub labels-hold : Table encodeLabel 8 (allLabels (t .done) ++ t .state .labels) (labels .from * k .records) (k .labels) l
@@ -119,7 +119,7 @@ pub record Holds (text : List ℕ) (t : Tables) (k : Counters) (l : List ℕ) : 
 
 -- some tables stand there
 pub record Held (text : List ℕ) (k : Counters) (l : List ℕ) : Type 0 where
-  pub tables : Tables
+  pub tables : TablesSoFar
   pub holds : Holds text tables k l
 
 -- the counters stay within the regions, and the arena is as long as document 01 lends it; its offsets fit a word

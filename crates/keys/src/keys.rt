@@ -7,7 +7,7 @@ ghost use Rattle.records.specs.Good.{Good};
 ghost use Rattle.conversion.specs.Expressions.{is-mangled, getFunction};
 ghost use Rattle.syntax.specs.Places.{FunctionAt, functionOf, ParamsAt, paramsAt};
 ghost use Rattle.keys.specs.Parts.{PartIs};
-ghost use Rattle.keys.specs.Keys.{keyOf, keysBelow, Listed, FunctionIs};
+ghost use Rattle.keys.specs.Keys.{functionKey, keysBelow, Listed, FunctionIs};
 use crate::parts::Part;
 use crate::parts::is_main;
 use crate::parts::same_parts;
@@ -73,7 +73,7 @@ pub fn is_mangled(tree: &[u8], text: &[u8], f: usize) -> bool
 pub fn key_of(tree: &[u8], text: &[u8], f: usize) -> Part
     requires { ⌜ Good (now tree) (now text) ⌝ }
     requires { ⌜ FunctionAt (now tree) f ⌝ }
-    ensures { λ p. ⌜ PartIs (now (text .entry)) p (keyOf (functionOf (now (tree .entry)) (now (text .entry)) f)) ⌝ }
+    ensures { λ p. ⌜ PartIs (now (text .entry)) p (functionKey (functionOf (now (tree .entry)) (now (text .entry)) f)) ⌝ }
 {
     if is_mangled(tree, text, f) {
         return mangled_name_of(tree, text, f);

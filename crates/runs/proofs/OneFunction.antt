@@ -18,7 +18,7 @@ use Rattle.conversion.specs.Expressions.{Functions}
 use Rattle.conversion.specs.Statements.{convert-block}
 use Rattle.conversion.specs.Functions.{declareParams, convertBody, always-returns}
 use Rattle.runs.specs.Rule.{halt, halts, Rule, comes, Answers, NullContent}
-use Rattle.runs.specs.TreeRun.{Known, Values, set, runBlock, parametersKnown, parameterValues, treeRun}
+use Rattle.runs.specs.TreeRun.{KnownName, Values, set, runBlock, parametersKnown, parameterValues, treeRun}
 use Rattle.runs.specs.BodyRun.{Vars, bodyRun}
 use Rattle.runs.specs.Shared.{Shared, InPlace}
 use Rattle.runs.proofs.Opens.{opensB}
@@ -121,7 +121,7 @@ module _ {W : Type 0} (X : Ctx W) where
       share X (λ n. runBlock (X .prog) (X .funs) (X .fun) (X .rule) (X .answers) b n N σ []) ρ (X .fun .returnType) sums
       (λ y n e p. not-passed _ (block-returns (X .prog) (X .funs) (X .fun) (X .rule) (X .answers) b n N σ [] (returning y e)) p)
     where
-      N : List Known
+      N : List KnownName
       N = parametersKnown (X .fun .params) []
 
       σ : Values W

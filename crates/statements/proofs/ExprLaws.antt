@@ -41,7 +41,7 @@ use Rattle.keys.specs.Keys.{allKeys}
 use Rattle.expressions.specs.declared.answers.ExprType.{ExprType}
 use Rattle.expressions.specs.declared.answers.ExprType.the-variants as ExprType
 use Rattle.expressions.specs.Slots.{typeIn}
-use Rattle.expressions.specs.Answers.{refusal, typeOf, TypeMeets}
+use Rattle.expressions.specs.Answers.{refusal, typeResult, TypeMeets}
 use Rattle.expressions.proofs.SlotLaws.{ready-frame, scope-frame}
 use Rattle.expressions.proofs.TypingLaws.{type-ok, type-refused, expr-low, operand-expr}
 use Rattle.statements.specs.declared.answers.Converter.{Converter}
@@ -296,9 +296,9 @@ module _ {tree text l s : List ℕ} {c : Converter} {e y : ℕ} (p : Converting 
 
   pub fitted-stop : {z : ConvertError} → t ≡ ExprType.Refused z
       → Converts tree text (binarySteps tree text s c e y) (exprAmount (under (exprAt tree text e))) c l s (Converted.Refused z) l s₁
-  unfolding convert-binary typeOf refusal
+  unfolding convert-binary typeResult refusal
   fitted-stop {z} w = record {
-    meets = meets-lift-stop text by refl (common-err sides y (z .kind) (z .place) (m .meets ∙ ap typeOf w));
+    meets = meets-lift-stop text by refl (common-err sides y (z .kind) (z .place) (m .meets ∙ ap typeResult w));
     operand = λ o k h. let z : _≡_ {A = ℕ} 0 1 = cc in absurd (omega arith);
     stays = frame-stays (c .scope .names) (c .operands) (m .frame);
     names = frame-names (m .frame);
@@ -308,9 +308,9 @@ module _ {tree text l s : List ℕ} {c : Converter} {e y : ℕ} (p : Converting 
     fitted-by : (g : Def.Scope → M Ir.Operand) → ((o : Option ℕ) → unwrapOr y o ≡ q → g T ≡ by o)
         → Converts tree text (g (scopeAt tree text s₁ (c .scope))) (exprAmount (under (exprAt tree text e))) c l s₁ b l₁ s₂
         → Converts tree text (binarySteps tree text s c e y) (exprAmount (under (exprAt tree text e))) c l s b l₁ s₂
-    unfolding convert-binary typeOf
+    unfolding convert-binary typeResult
     fitted-by g same i =
-        let o = common-ok sides y q (m .meets ∙ ap typeOf w) in
+        let o = common-ok sides y q (m .meets ∙ ap typeResult w) in
         let i′ = converts-same (ap g (scope-frame tree s s₁ (m .frame) text (c .scope) (p .ready .scoped .records-are)) ∙ same (o .common) (o .fitted)) i in
         record {
           meets = meets-lift text by (p .room) (o .is) (i′ .meets);

@@ -36,7 +36,7 @@ use Rattle.ir.specs.declared.pool.PoolNumber.{PoolNumber}
 use Rattle.ir.specs.declared.floats.FloatBits.{FloatBits}
 use Rattle.ir.specs.Amounts.{Amount, amount}
 use Rattle.ir.specs.Arena.{Room}
-use Rattle.ir.specs.Floats.{entry, entryOf}
+use Rattle.ir.specs.Floats.{entry, entryOfFloat}
 use Rattle.ir.specs.Instructions.{varOf, operandOf}
 use Rattle.ir.specs.Steps.{Next, Emits, AddsVar, NumbersFloat}
 use Rattle.ir.proofs.AmountLaws.{both-spent}
@@ -67,7 +67,7 @@ module _ {tree : List ℕ} {k : Counters} {l : List ℕ} where
   -- ---- a float that takes another mark, and a variable that is cast
 
   pub refloat-fits : {l′ : List ℕ} (i b : ℕ) (short : Bool) (f : FloatBits) (p : PoolNumber) → length l′ ≡ length l
-      → Next (floatBits i) k l b k l → entryOf f ≡ entry b short → NumbersFloat (entryOf f) k l p l′
+      → Next (floatBits i) k l b k l → entryOfFloat f ≡ entry b short → NumbersFloat (entryOfFloat f) k l p l′
       → FitAdds tree (refloat i short) (amount 0 0 0 0 1) k l (record { operand = Operand.Float (p .number); counters = p .counters }) l′
   unfolding OperandIn
   refloat-fits {l′} i b short f p long q e n = record {

@@ -43,7 +43,7 @@ use Rattle.scope.specs.declared.Declared.{Declared}
 use Rattle.scope.specs.declared.Declared.the-variants as Declared
 use Rattle.scope.specs.declared.Known.{Known}
 use Rattle.scope.specs.declared.Known.the-variants as Known
-use Rattle.scope.specs.Open.{scopeAt, Room, Afforded as NameAfforded, DeclareMeets, FindMeets}
+use Rattle.scope.specs.Open.{scopeAt, NamesRoom, NameAfforded, DeclareMeets, FindMeets}
 use Rattle.scope.proofs.ScopeLaws.{Finds, find-some, find-unknown}
 use Rattle.keys.specs.Keys.{allKeys}
 use Rattle.expressions.specs.declared.answers.ExprType.{ExprType}
@@ -61,7 +61,7 @@ use Rattle.statements.specs.declared.answers.ForVariable.{ForVariable}
 use Rattle.statements.specs.declared.answers.ForVariable.the-variants as ForVariable
 use Rattle.statements.specs.declared.answers.Stated.{Stated}
 use Rattle.statements.specs.declared.answers.Stated.the-variants as Stated
-use Rattle.statements.specs.Meets.{Answer, gave, AddsIn, Meets}
+use Rattle.statements.specs.Meets.{StepAnswer, gave, AddsIn, Meets}
 use Rattle.statements.specs.Parts.{knownVariable, forVariable, forBounds, forBegin, forTest, forTurns, forHead}
 use Rattle.statements.specs.Converting.{Converting, withCounters, Afforded, BehindAfforded, forHeadAmount, Stays, StaysFor, NamesStay}
 use Rattle.statements.specs.Answers.{variableOf, Leaves, States, Finishes, FindsVariable, Checks, scopeIn, forVariableSteps, forBoundsSteps, forBeginSteps, forTestSteps, forTurnsSteps, forHeadSteps, boundsUnder}
@@ -253,7 +253,7 @@ module _ {tree text l s : List ℕ} {c : Converter} {r v : ℕ} (p : Converting 
     typed : TypeAt tree y
     typed = subst (λ (z : ℕ). TypeAt tree z) (sym ey) t
 
-    pub declare-asks : (v * 32 + 32 ≤ length tree) × Room (c .scope) s × NameAfforded (c .scope) (made .var)
+    pub declare-asks : (v * 32 + 32 ≤ length tree) × NamesRoom (c .scope) s × NameAfforded (c .scope) (made .var)
     declare-asks = (variable-inside (p .ready .keyed .good) is ev, p .ready .scoped .room, var-afforded p long new few typed)
 
     abbrev declared : Ir.VarId → Def.Scope → M (Ir.VarId × Def.Scope)
@@ -333,7 +333,7 @@ module _ {tree text l s : List ℕ} {c : Converter} (x : VarId) (r : ℕ) (p : C
       begin-scope : scopeIn tree text s₁ c ≡ scopeIn tree text s c
       begin-scope = scope-later p bounds-stay
 
-      from-begin : {n : Amount} {y : Answer (Unit {0})} {l₃ : List ℕ} → Meets text (forBeginSteps tree text s₁ c x r >> forTestSteps tree text s c x r) n (c .counters) l l₃ y
+      from-begin : {n : Amount} {y : StepAnswer (Unit {0})} {l₃ : List ℕ} → Meets text (forBeginSteps tree text s₁ c x r >> forTestSteps tree text s c x r) n (c .counters) l l₃ y
           → Meets text (forTurnsSteps tree text s c x r) n (c .counters) l l₃ y
       unfolding outcomeOf
       from-begin q =
@@ -392,7 +392,7 @@ module _ {tree text l s l₁ s₁ : List ℕ} {c : Converter} (r : ℕ) (p : Con
       head-stays : StaysFor tree c s s₂
       head-stays = stays-then (omega arith) (omega arith) (m .stays) (t .stays)
 
-      head-scope : {y : Answer Def.Scope} → Meets text (forTurnsSteps tree text s₁ (withCounters c k) x r >> pure (scopeAt tree text s₁ inner)) n k l₁ l₂ y
+      head-scope : {y : StepAnswer Def.Scope} → Meets text (forTurnsSteps tree text s₁ (withCounters c k) x r >> pure (scopeAt tree text s₁ inner)) n k l₁ l₂ y
           → Meets text (forHeadSteps tree text s c r) (both (amount 0 1 0 0 0) n) (c .counters) l l₂ y
       unfolding forHead
       head-scope q =

@@ -38,7 +38,7 @@ use Rattle.ir.specs.declared.floats.FloatBits.{FloatBits}
 use Rattle.ir.specs.declared.pool.PoolNumber.{PoolNumber}
 use Rattle.ir.specs.Arena.{Room}
 use Rattle.ir.specs.Amounts.{Amount, amount}
-use Rattle.ir.specs.Floats.{entry, entryOf}
+use Rattle.ir.specs.Floats.{entry, entryOfFloat}
 use Rattle.ir.specs.Instructions.{operandOf}
 use Rattle.ir.specs.Steps.{stringAt, NumbersString, NumbersFloat}
 use Rattle.ir.proofs.StepCases.{next-of, stop-of}
@@ -110,12 +110,12 @@ module _ (tree text l s : List ℕ) (c : Converter) (m : M Ir.Operand) where
 
 module _ (tree text : List ℕ) (e : ℕ) (k : Counters) (l l′ : List ℕ) (r : PoolNumber) (long : length l′ ≡ length l) where
   pub float-leaf : Good tree text → IsKind tree 3 e → (b d : ℕ) (f : FloatBits) → b ≡ wordOf tree e 0 + wordOf tree e 1 * 4294967296 → d ≡ detailOf tree e
-      → entryOf f ≡ entry b (eqb d 1) → NumbersFloat (entryOf f) k l r l′
+      → entryOfFloat f ≡ entry b (eqb d 1) → NumbersFloat (entryOfFloat f) k l r l′
       → LeafAdds tree text e (amount 0 0 0 0 1) k l (record { operand = Operand.Float (r .number); counters = r .counters }) l′
   unfolding convert-expr wideOf OperandIn
   float-leaf good is b d f eb ed ef p =
       let mark : eqb d 1 ≡ bit 1 (detailOf tree e) = mark-bit ed (float-detail tree text good e (is .below) (is .kind)) in
-      let is-entry : entry (wideOf tree text e A) (bit 1 (detailOf tree e)) ≡ entryOf f = sym (ef ∙ ap₂ (λ (x : ℕ) (y : Bool). entry x y) eb mark) in
+      let is-entry : entry (wideOf tree text e A) (bit 1 (detailOf tree e)) ≡ entryOfFloat f = sym (ef ∙ ap₂ (λ (x : ℕ) (y : Bool). entry x y) eb mark) in
       record {
         adds = λ S. adds-of
             (rw (expr-float tree text e (is .kind)) (ap (λ (x : Ir.FloatEntry). Ir.float-id x >>= (λ i. pure (OFloat i))) is-entry))

@@ -39,7 +39,7 @@ use Rattle.statements.specs.declared.answers.Stated.{Stated}
 use Rattle.statements.specs.declared.answers.Stated.the-variants as Stated
 use Rattle.statements.specs.declared.answers.Finished.{Finished}
 use Rattle.statements.specs.declared.answers.Finished.the-variants as Finished
-use Rattle.statements.specs.Meets.{Answer, gave, refused, AddsIn, Meets}
+use Rattle.statements.specs.Meets.{StepAnswer, gave, refused, AddsIn, Meets}
 use Rattle.statements.specs.Converting.{Converting, withCounters, StaysFor}
 use Rattle.statements.specs.Answers.{convertedOf, finishedOf, Converts, Leaves, States, Finishes}
 use Rattle.statements.proofs.MeetLaws.{Most, meets-gave, meets-refused, meets-same, meets-most, meets-then, meets-lift, meets-lift-stop}
@@ -157,7 +157,7 @@ module _ {tree text l s : List ℕ} {c : Converter} {e : ℕ} (p : Converting tr
   type-error {z = z} w = type-refused (typeIn tree text (scopeAt tree text s (c .scope)) e) ty z (t .meets) w
 
   module _ {X : Type 0} {n : Amount} (f : ℕ → M X) where
-    pub typed-then : {y : ℕ} {l′ : List ℕ} {a : Answer X} → ty ≡ ExprType.Is y → Meets text (f y) n (c .counters) l l′ a
+    pub typed-then : {y : ℕ} {l′ : List ℕ} {a : StepAnswer X} → ty ≡ ExprType.Is y → Meets text (f y) n (c .counters) l l′ a
         → Meets text (lift (get-type (program tree text) (allKeys tree text) (exprAt tree text e) (scopeAt tree text s (c .scope))) >>= f) n (c .counters) l l′ a
     typed-then w i = meets-lift text f (p .room) (type-known w) i
 
@@ -168,7 +168,7 @@ module _ {tree text l s : List ℕ} {c : Converter} {e : ℕ} (p : Converting tr
 -- ---- an operand first
 
 module _ {tree text l l₁ s s₁ : List ℕ} {m : M Ir.Operand} {n₁ : Amount} {c : Converter} {a : Converted} (p : Converts tree text m n₁ c l s a l₁ s₁) {X : Type 0} (f : Ir.Operand → M X) where
-  pub operand-then : {n₂ : Amount} {l₂ : List ℕ} {b : Answer X} {o : Operand} {k : Counters} → a ≡ Converted.Is o k → Meets text (f (operandOf o)) n₂ k l₁ l₂ b
+  pub operand-then : {n₂ : Amount} {l₂ : List ℕ} {b : StepAnswer X} {o : Operand} {k : Counters} → a ≡ Converted.Is o k → Meets text (f (operandOf o)) n₂ k l₁ l₂ b
       → Meets text (m >>= f) (both n₁ n₂) (c .counters) l l₂ b
   operand-then q i = meets-then text f (p .meets .long) (converted-next p q) i
 
@@ -177,7 +177,7 @@ module _ {tree text l l₁ s s₁ : List ℕ} {m : M Ir.Operand} {n₁ : Amount}
 
 -- ---- a step first that is dropped: `m >> f`
 
-module _ {X Y : Type 0} {n₁ n₂ : Amount} {k k₁ : Counters} {l l₁ l₂ : List ℕ} {x : X} {m : M X} {a : Answer Y} (text : List ℕ) (f : M Y) where
+module _ {X Y : Type 0} {n₁ n₂ : Amount} {k k₁ : Counters} {l l₁ l₂ : List ℕ} {x : X} {m : M X} {a : StepAnswer Y} (text : List ℕ) (f : M Y) where
   pub seq-then : length l₁ ≡ length l → AddsIn text m n₁ k l x k₁ l₁ → Meets text f n₂ k₁ l₁ l₂ a → Meets text (m >> f) (both n₁ n₂) k l l₂ a
   seq-then h p q = meets-same text (sym (seq-is m f)) (meets-then text (λ (y : X). f) h p q)
 
@@ -196,7 +196,7 @@ module _ {X : Type 0} {m : M (Unit {0})} (o : Outcome) (q : m ≡ lift (outcomeO
   as-lift : lift (outcomeOf o) >>= (λ (u : Unit {0}). f) ≡ m >> f
   as-lift = sym (seq-is (lift (outcomeOf o)) f) ∙ ap (λ (z : M (Unit {0})). z >> f) (sym q)
 
-  pub checked-then : {n : Amount} {k : Counters} {l l′ : List ℕ} {a : Answer X} (text : List ℕ) → o ≡ Outcome.Done → Room k l → Meets text f n k l l′ a → Meets text (m >> f) n k l l′ a
+  pub checked-then : {n : Amount} {k : Counters} {l l′ : List ℕ} {a : StepAnswer X} (text : List ℕ) → o ≡ Outcome.Done → Room k l → Meets text f n k l l′ a → Meets text (m >> f) n k l l′ a
   unfolding outcomeOf
   checked-then text w room i = meets-same text as-lift (meets-lift text (λ (u : Unit {0}). f) room (ap outcomeOf w) i)
 

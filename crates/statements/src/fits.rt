@@ -22,7 +22,7 @@ ghost use Rattle.statements.specs.Meets.{Adds};
 ghost use Rattle.statements.specs.Answers.{FitAdds, FitsAs, PassesAs};
 use crate::answers::Converter;
 use crate::answers::Fitted;
-use crate::answers::refusal;
+use crate::answers::error_at;
 use crate::operands::operand_at;
 use crate::operands::push_operand;
 use expressions::answers::Outcome;
@@ -262,7 +262,7 @@ pub(crate) fn check_fits(
         return Outcome::Done;
     }
     if range_error(tree, e, y, expected) {
-        return Outcome::Refused(refusal(ConvertErrorKind::LiteralOutOfRange, e));
+        return Outcome::Refused(error_at(ConvertErrorKind::LiteralOutOfRange, e));
     }
-    Outcome::Refused(refusal(kind, place))
+    Outcome::Refused(error_at(kind, place))
 }

@@ -21,7 +21,7 @@ use crate::answers::Converter;
 use crate::answers::Finished;
 use crate::answers::ForVariable;
 use crate::answers::Stated;
-use crate::answers::refusal;
+use crate::answers::error_at;
 use crate::exprs::convert_expr;
 use crate::fits::check_fits;
 use crate::fits::fit_operand;
@@ -173,7 +173,7 @@ fn for_declared(
     let x = made.var;
     let k1 = made.counters;
     match declare_name(tree, text, scratch, scope, v, x, false) {
-        Declared::Taken => ForVariable::Refused(refusal(ConvertErrorKind::AlreadyDeclared, r)),
+        Declared::Taken => ForVariable::Refused(error_at(ConvertErrorKind::AlreadyDeclared, r)),
         Declared::Done(next) => ForVariable::Is(x, next, k1),
     }
 }
@@ -195,10 +195,10 @@ fn for_known(
     let scope = c.scope;
     let k = c.counters;
     match find_name(tree, text, scratch, scope, v) {
-        Known::Unknown => ForVariable::Refused(refusal(ConvertErrorKind::UnknownVariable, r)),
+        Known::Unknown => ForVariable::Refused(error_at(ConvertErrorKind::UnknownVariable, r)),
         Known::Is(x, constant) => {
             if constant {
-                return ForVariable::Refused(refusal(ConvertErrorKind::AssignToConstant, r));
+                return ForVariable::Refused(error_at(ConvertErrorKind::AssignToConstant, r));
             }
             ForVariable::Is(x, scope, k)
         }
@@ -360,7 +360,7 @@ fn for_turns(
 {
     let y = x.1 as usize;
     if form(tree, y) != INT {
-        return Finished::Refused(refusal(ConvertErrorKind::NotInteger, r));
+        return Finished::Refused(error_at(ConvertErrorKind::NotInteger, r));
     }
     match for_bounds(tree, text, scratch, c, r, y) {
         Outcome::Refused(e) => Finished::Refused(e),

@@ -24,7 +24,7 @@ use crate::answers::Converted;
 use crate::answers::Converter;
 use crate::answers::Fitted;
 use crate::answers::as_converted;
-use crate::answers::refusal;
+use crate::answers::error_at;
 use crate::numbers::TAG_BOOL;
 use crate::numbers::TAG_FLOAT;
 use crate::numbers::TAG_INT;
@@ -182,7 +182,7 @@ fn name_operand(
     let len = word(tree, e, 1);
     match scope.find_variable(text, scratch, offset, len) {
         Known::Is(v, _) => Converted::Is(Operand::Var(v), k),
-        Known::Unknown => Converted::Refused(refusal(ConvertErrorKind::UnknownVariable, e)),
+        Known::Unknown => Converted::Refused(error_at(ConvertErrorKind::UnknownVariable, e)),
     }
 }
 
@@ -202,8 +202,8 @@ fn size_operand(
     let k = c.counters;
     match size(tree, reference(tree, e, 0)) {
         Bytes::Exactly(n) => Converted::Is(Operand::Int(n, false, false), k),
-        Bytes::Over => Converted::Refused(refusal(ConvertErrorKind::WouldPanic, e)),
-        Bytes::Nothing => Converted::Refused(refusal(ConvertErrorKind::WouldPanic, e)),
+        Bytes::Over => Converted::Refused(error_at(ConvertErrorKind::WouldPanic, e)),
+        Bytes::Nothing => Converted::Refused(error_at(ConvertErrorKind::WouldPanic, e)),
     }
 }
 

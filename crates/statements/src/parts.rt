@@ -20,7 +20,7 @@ ghost use Rattle.statements.specs.Answers.{FitAdds, OperandTyped, CastsA
 use crate::answers::Converted;
 use crate::answers::Converter;
 use crate::answers::Fitted;
-use crate::answers::refusal;
+use crate::answers::error_at;
 use crate::fits::fit_operand;
 use crate::fits::pass_args;
 use crate::jumps::jump;
@@ -218,7 +218,7 @@ pub(crate) fn cast_first(
     ensures { λ a. ⌜ CastsAs e dest count c (now (tree .entry)) (now (text .entry)) (now (arena .entry)) (now (scratch .entry)) a (now (arena .exit)) ⌝ }
 {
     if count == 0 {
-        return Converted::Refused(refusal(ConvertErrorKind::WouldPanic, e));
+        return Converted::Refused(error_at(ConvertErrorKind::WouldPanic, e));
     }
     let n = tree.len() / 32;
     let k = c.counters;

@@ -15,7 +15,7 @@ ghost use Rattle.conversion.specs.Statements.{zeroValue};
 ghost use Rattle.types.specs.Fits.{IsExpr, IsType};
 ghost use Rattle.ir.specs.Amounts.{amount};
 ghost use Rattle.ir.specs.Instructions.{operandOf, varOf};
-ghost use Rattle.scope.specs.Open.{Room, Afforded as NameAfforded, FindMeets, DeclareMeets};
+ghost use Rattle.scope.specs.Open.{NamesRoom, NameAfforded, FindMeets, DeclareMeets};
 ghost use Rattle.statements.specs.Converting.{Converting, RoomFor, OperandIn, Afforded, ExprAfforded, BehindAfforded};
 ghost use Rattle.statements.specs.Meets.{Adds, Meets};
 ghost use Rattle.statements.specs.Parts.{copyFitted, zeroFloat};
@@ -25,7 +25,7 @@ use crate::answers::ConvertedArgs;
 use crate::answers::Converter;
 use crate::answers::Finished;
 use crate::answers::Stated;
-use crate::answers::refusal;
+use crate::answers::error_at;
 use crate::exprs::convert_args;
 use crate::exprs::convert_expr;
 use crate::fits::check_fits;
@@ -90,7 +90,7 @@ pub(crate) fn convert_cond(
             if y == BOOL_TYPE {
                 return convert_expr(tree, text, arena, scratch, c, e);
             }
-            Converted::Refused(refusal(ConvertErrorKind::NotBool, e))
+            Converted::Refused(error_at(ConvertErrorKind::NotBool, e))
         }
     }
 }
@@ -105,7 +105,7 @@ pub(crate) fn declare_name(
     v: VarId,
     constant: bool,
 ) -> Declared
-    requires { ⌜ (r * 32 + 32 ≤ length (now tree)) × Room scope (now scratch) × NameAfforded scope v ⌝ }
+    requires { ⌜ (r * 32 + 32 ≤ length (now tree)) × NamesRoom scope (now scratch) × NameAfforded scope v ⌝ }
     ensures { λ a. ⌜ DeclareMeets (now (text .entry)) (wordOf (now (tree .entry)) r 0) (wordOf (now (tree .entry)) r 1) v constant scope (now (scratch .entry)) (now (scratch .exit)) a ⌝ }
 {
     let offset = word(tree, r, 0);
@@ -115,7 +115,7 @@ pub(crate) fn declare_name(
 
 // The variable of the name in words A and B of record r.
 pub(crate) fn find_name(tree: &[u8], text: &[u8], scratch: &[u8], scope: Scope, r: usize) -> Known
-    requires { ⌜ (r * 32 + 32 ≤ length (now tree)) × Room scope (now scratch) ⌝ }
+    requires { ⌜ (r * 32 + 32 ≤ length (now tree)) × NamesRoom scope (now scratch) ⌝ }
     ensures { λ a. ⌜ FindMeets (now (text .entry)) (now (scratch .entry)) scope (textOf (now (tree .entry)) (now (text .entry)) r 0) a ⌝ }
 {
     let offset = word(tree, r, 0);
@@ -161,7 +161,7 @@ fn zero_value(tree: &[u8], arena: &mut [u8], k: Counters, r: usize, v: VarId) ->
         return Finished::Done(emit(arena, k, Instr::Zero(v)));
     }
     if f == CUSTOM {
-        return Finished::Refused(refusal(ConvertErrorKind::WouldPanic, r));
+        return Finished::Refused(error_at(ConvertErrorKind::WouldPanic, r));
     }
     Finished::Done(emit(arena, k, Instr::Copy(v, zero_operand(f))))
 }
@@ -185,7 +185,7 @@ pub(crate) fn convert_declare(
     let v = made.var;
     let k1 = made.counters;
     match declare_name(tree, text, scratch, scope, r, v, false) {
-        Declared::Taken => Stated::Refused(refusal(ConvertErrorKind::AlreadyDeclared, r)),
+        Declared::Taken => Stated::Refused(error_at(ConvertErrorKind::AlreadyDeclared, r)),
         Declared::Done(next) => match zero_value(tree, arena, k1, r, v) {
             Finished::Refused(x) => Stated::Refused(x),
             Finished::Done(k2) => Stated::Done(next, k2),
@@ -256,7 +256,7 @@ fn convert_assign(
     ensures { λ a. ⌜ StatesAs (λ t x s k q. assignSteps t x s k q v constant) c r (now (tree .entry)) (now (text .entry)) (now (arena .entry)) (now (scratch .entry)) a (now (arena .exit)) (now (scratch .exit)) ⌝ }
 {
     if constant {
-        return Stated::Refused(refusal(ConvertErrorKind::AssignToConstant, r));
+        return Stated::Refused(error_at(ConvertErrorKind::AssignToConstant, r));
     }
     assign_to(tree, text, arena, scratch, c, r, v)
 }
@@ -293,7 +293,7 @@ fn declare_init(
     let v = made.var;
     let k1 = made.counters;
     match declare_name(tree, text, scratch, scope, r, v, constant) {
-        Declared::Taken => Stated::Refused(refusal(ConvertErrorKind::AlreadyDeclared, r)),
+        Declared::Taken => Stated::Refused(error_at(ConvertErrorKind::AlreadyDeclared, r)),
         Declared::Done(next) => Stated::Done(next, emit(arena, k1, Instr::Copy(v, src))),
     }
 }
@@ -400,7 +400,7 @@ pub(crate) fn convert_return(
         ExprType::Refused(x) => Stated::Refused(x),
         ExprType::Is(y) => {
             if expected == NONE as usize {
-                return Stated::Refused(refusal(ConvertErrorKind::ReturnWithoutType, r));
+                return Stated::Refused(error_at(ConvertErrorKind::ReturnWithoutType, r));
             }
             return_as(tree, text, arena, scratch, c, r, y, expected)
         }
@@ -450,7 +450,7 @@ fn call_statement(
     let scope = c.scope;
     match resolve_call(tree, text, scratch, c.functions, scope, e) {
         Resolved::Refused(x) => Stated::Refused(x),
-        Resolved::Cast(_) => Stated::Refused(refusal(ConvertErrorKind::WouldPanic, r)),
+        Resolved::Cast(_) => Stated::Refused(error_at(ConvertErrorKind::WouldPanic, r)),
         Resolved::Function(f) => call_only(tree, text, arena, scratch, c, e, f),
     }
 }
@@ -496,7 +496,7 @@ pub(crate) fn convert_break(
     let scope = c.scope;
     let k = c.counters;
     match scope.in_loop() {
-        InLoop::Outside => Stated::Refused(refusal(ConvertErrorKind::BreakOutOfLoop, r)),
+        InLoop::Outside => Stated::Refused(error_at(ConvertErrorKind::BreakOutOfLoop, r)),
         InLoop::Of(l) => Stated::Done(scope, jump(arena, k, LOOP_END, l as usize)),
     }
 }
@@ -517,7 +517,7 @@ pub(crate) fn convert_continue(
     let scope = c.scope;
     let k = c.counters;
     match scope.in_loop() {
-        InLoop::Outside => Stated::Refused(refusal(ConvertErrorKind::ContinueOutOfLoop, r)),
+        InLoop::Outside => Stated::Refused(error_at(ConvertErrorKind::ContinueOutOfLoop, r)),
         InLoop::Of(l) => Stated::Done(scope, jump(arena, k, LOOP_START, l as usize)),
     }
 }
