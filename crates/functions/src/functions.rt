@@ -23,6 +23,7 @@ use records::convert_error::ConvertErrorKind;
 use records::numbers::KIND_FUNCTION;
 use records::words::Found;
 use records::words::NONE;
+use records::words::WORD_D;
 use records::words::kind;
 use records::words::put_word;
 use records::words::reference;
@@ -129,7 +130,7 @@ fn returns_int(tree: &[u8], text: &[u8], f: usize) -> bool
     requires { ⌜ FunctionAt (now tree) f ⌝ }
     ensures { λ r. ⌜ r ≡ returnsInt (typeAt (now (tree .entry)) (now (text .entry))) (functionOf (now (tree .entry)) (now (text .entry)) f .returnType) ⌝ }
 {
-    let ty = reference(tree, f, 3);
+    let ty = reference(tree, f, WORD_D);
     if ty == NONE as usize {
         return false;
     }

@@ -40,6 +40,8 @@ use ir::structs::new_var;
 use keys::keys::parameters_of;
 use records::convert_error::ConvertErrorKind;
 use records::numbers::FLOAT_LONG;
+use records::words::WORD_A;
+use records::words::WORD_C;
 use records::words::reference;
 use types::fits::fits;
 use types::fits::range_error;
@@ -163,7 +165,7 @@ fn parameter_type(tree: &[u8], text: &[u8], parameter: usize) -> usize
     if parameter == END {
         return FLOAT_LONG;
     }
-    reference(tree, reference(tree, parameter, 0), 2)
+    reference(tree, reference(tree, parameter, WORD_A), WORD_C)
 }
 
 fn next_parameter(tree: &[u8], text: &[u8], parameter: usize) -> usize

@@ -6,6 +6,7 @@ ghost use lib.Dec.{eqb};
 ghost use lib.ListN.{length, getD};
 ghost use Rattle.laws.specs.Fix.{pick};
 ghost use Rattle.records.specs.Words.{detailOf};
+ghost use Rattle.records.specs.Kinds.{kindBinary};
 ghost use Rattle.syntax.specs.Syntax.{unaryOps, binaryOps, Neg, Or};
 ghost use Rattle.syntax.specs.Decode.{program};
 ghost use Rattle.syntax.specs.Places.{IsKind, TypeAt, FunctionAt};
@@ -43,6 +44,8 @@ use ir::structs::label_id;
 use ir::structs::new_var;
 use records::convert_error::ConvertErrorKind;
 use records::numbers::AND;
+use records::words::WORD_A;
+use records::words::WORD_B;
 use records::words::detail;
 use records::words::reference;
 
@@ -157,12 +160,12 @@ pub(crate) fn operand_type(
     y: usize,
 ) -> ExprType
     requires { ⌜ Ready (now tree) (now text) (now scratch) (c .functions) (c .scope) ⌝ }
-    requires { ⌜ IsKind (now tree) 10 e × TypeAt (now tree) y ⌝ }
+    requires { ⌜ IsKind (now tree) kindBinary e × TypeAt (now tree) y ⌝ }
     ensures { λ a. ⌜ OperandTyped (now (tree .entry)) (now (text .entry)) (now (scratch .entry)) c e y a (now (scratch .exit)) ⌝ }
 {
     let scope = c.scope;
-    let left = reference(tree, e, 0);
-    let right = reference(tree, e, 1);
+    let left = reference(tree, e, WORD_A);
+    let right = reference(tree, e, WORD_B);
     match common_type(tree, text, scratch, c.functions, scope, left, right) {
         Common::Refused(x) => ExprType::Refused(x),
         Common::Is(q) => ExprType::Is(q),

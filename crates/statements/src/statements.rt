@@ -6,7 +6,9 @@ ghost use Prim.Native.Nat.{ℕ, _+_, _*_, _≤_, _<_};
 ghost use lib.Dec.{eqb, ltb};
 ghost use lib.ListN.{length};
 ghost use Rattle.laws.specs.Fix.{pick};
+ghost use Rattle.records.specs.Words as Words;
 ghost use Rattle.records.specs.Words.{wordOf};
+ghost use Rattle.records.specs.Kinds.{kindCall, kindDeclare, kindInit, kindReturn, kindCallStatement, kindBreak, kindContinue};
 ghost use Rattle.syntax.specs.Syntax.{nullType, addressOfNull};
 ghost use Rattle.syntax.specs.Decode.{program, typeAt, textOf};
 ghost use Rattle.syntax.specs.Places.{IsKind, TypeAt, FunctionAt};
@@ -53,6 +55,10 @@ use records::numbers::BOOL_TYPE;
 use records::numbers::KIND_CALL;
 use records::numbers::NULL_TYPE;
 use records::words::NONE;
+use records::words::WORD_A;
+use records::words::WORD_B;
+use records::words::WORD_C;
+use records::words::WORD_D;
 use records::words::detail;
 use records::words::kind;
 use records::words::reference;
@@ -106,10 +112,10 @@ pub(crate) fn declare_name(
     constant: bool,
 ) -> Declared
     requires { ⌜ (r * 32 + 32 ≤ length (now tree)) × NamesRoom scope (now scratch) × NameAfforded scope v ⌝ }
-    ensures { λ a. ⌜ DeclareMeets (now (text .entry)) (wordOf (now (tree .entry)) r 0) (wordOf (now (tree .entry)) r 1) v constant scope (now (scratch .entry)) (now (scratch .exit)) a ⌝ }
+    ensures { λ a. ⌜ DeclareMeets (now (text .entry)) (wordOf (now (tree .entry)) r Words.A) (wordOf (now (tree .entry)) r Words.B) v constant scope (now (scratch .entry)) (now (scratch .exit)) a ⌝ }
 {
-    let offset = word(tree, r, 0);
-    let len = word(tree, r, 1);
+    let offset = word(tree, r, WORD_A);
+    let len = word(tree, r, WORD_B);
     scope.declare(text, scratch, offset, len, v, constant)
 }
 
@@ -118,8 +124,8 @@ pub(crate) fn find_name(tree: &[u8], text: &[u8], scratch: &[u8], scope: Scope, 
     requires { ⌜ (r * 32 + 32 ≤ length (now tree)) × NamesRoom scope (now scratch) ⌝ }
     ensures { λ a. ⌜ FindMeets (now (text .entry)) (now (scratch .entry)) scope (textOf (now (tree .entry)) (now (text .entry)) r 0) a ⌝ }
 {
-    let offset = word(tree, r, 0);
-    let len = word(tree, r, 1);
+    let offset = word(tree, r, WORD_A);
+    let len = word(tree, r, WORD_B);
     scope.find_variable(text, scratch, offset, len)
 }
 
@@ -176,12 +182,12 @@ pub(crate) fn convert_declare(
     r: usize,
 ) -> Stated
     requires { ⌜ Converting (now tree) (now text) (now arena) (now scratch) c × BehindAfforded (now tree) (now text) c r ⌝ }
-    requires { ⌜ IsKind (now tree) 15 r ⌝ }
+    requires { ⌜ IsKind (now tree) kindDeclare r ⌝ }
     ensures { λ a. ⌜ StatesAs declareSteps c r (now (tree .entry)) (now (text .entry)) (now (arena .entry)) (now (scratch .entry)) a (now (arena .exit)) (now (scratch .exit)) ⌝ }
 {
     let scope = c.scope;
     let k = c.counters;
-    let made = new_var(arena, k, word(tree, r, 2));
+    let made = new_var(arena, k, word(tree, r, WORD_C));
     let v = made.var;
     let k1 = made.counters;
     match declare_name(tree, text, scratch, scope, r, v, false) {
@@ -221,11 +227,11 @@ fn assign_to(
     v: VarId,
 ) -> Stated
     requires { ⌜ Converting (now tree) (now text) (now arena) (now scratch) c × BehindAfforded (now tree) (now text) c r ⌝ }
-    requires { ⌜ IsKind (now tree) 16 r × TypeAt (now tree) (v .1) ⌝ }
+    requires { ⌜ IsKind (now tree) kindInit r × TypeAt (now tree) (v .1) ⌝ }
     ensures { λ a. ⌜ StatesAs (λ t x s k q. assignToSteps t x s k q v) c r (now (tree .entry)) (now (text .entry)) (now (arena .entry)) (now (scratch .entry)) a (now (arena .exit)) (now (scratch .exit)) ⌝ }
 {
     let scope = c.scope;
-    let e = reference(tree, r, 2);
+    let e = reference(tree, r, WORD_C);
     match convert_expr(tree, text, arena, scratch, c, e) {
         Converted::Refused(x) => Stated::Refused(x),
         Converted::Is(src, k) => match get_type(tree, text, scratch, c.functions, scope, e) {
@@ -252,7 +258,7 @@ fn convert_assign(
     constant: bool,
 ) -> Stated
     requires { ⌜ Converting (now tree) (now text) (now arena) (now scratch) c × BehindAfforded (now tree) (now text) c r ⌝ }
-    requires { ⌜ IsKind (now tree) 16 r × TypeAt (now tree) (v .1) ⌝ }
+    requires { ⌜ IsKind (now tree) kindInit r × TypeAt (now tree) (v .1) ⌝ }
     ensures { λ a. ⌜ StatesAs (λ t x s k q. assignSteps t x s k q v constant) c r (now (tree .entry)) (now (text .entry)) (now (arena .entry)) (now (scratch .entry)) a (now (arena .exit)) (now (scratch .exit)) ⌝ }
 {
     if constant {
@@ -283,7 +289,7 @@ fn declare_init(
     src: Operand,
 ) -> Stated
     requires { ⌜ Converting (now tree) (now text) (now arena) (now scratch) c × Afforded (now tree) c (amount 1 1 0 0 0) 0 1 ⌝ }
-    requires { ⌜ IsKind (now tree) 16 r × TypeAt (now tree) y ⌝ }
+    requires { ⌜ IsKind (now tree) kindInit r × TypeAt (now tree) y ⌝ }
     ensures { λ a. ⌜ DeclaresAs (λ t x s k q. declareInitSteps t x s k q y src) c r (now (tree .entry)) (now (text .entry)) (now (arena .entry)) (now (scratch .entry)) a (now (arena .exit)) (now (scratch .exit)) ⌝ }
 {
     let scope = c.scope;
@@ -308,11 +314,11 @@ fn init_new(
     r: usize,
 ) -> Stated
     requires { ⌜ Converting (now tree) (now text) (now arena) (now scratch) c × BehindAfforded (now tree) (now text) c r ⌝ }
-    requires { ⌜ IsKind (now tree) 16 r ⌝ }
+    requires { ⌜ IsKind (now tree) kindInit r ⌝ }
     ensures { λ a. ⌜ StatesAs initNewSteps c r (now (tree .entry)) (now (text .entry)) (now (arena .entry)) (now (scratch .entry)) a (now (arena .exit)) (now (scratch .exit)) ⌝ }
 {
     let scope = c.scope;
-    let e = reference(tree, r, 2);
+    let e = reference(tree, r, WORD_C);
     match get_type(tree, text, scratch, c.functions, scope, e) {
         ExprType::Refused(x) => Stated::Refused(x),
         ExprType::Is(y) => match convert_expr(tree, text, arena, scratch, c, e) {
@@ -336,7 +342,7 @@ pub(crate) fn convert_init(
     r: usize,
 ) -> Stated
     requires { ⌜ Converting (now tree) (now text) (now arena) (now scratch) c × BehindAfforded (now tree) (now text) c r ⌝ }
-    requires { ⌜ IsKind (now tree) 16 r ⌝ }
+    requires { ⌜ IsKind (now tree) kindInit r ⌝ }
     ensures { λ a. ⌜ StatesAs initSteps c r (now (tree .entry)) (now (text .entry)) (now (arena .entry)) (now (scratch .entry)) a (now (arena .exit)) (now (scratch .exit)) ⌝ }
 {
     let scope = c.scope;
@@ -361,11 +367,11 @@ fn return_as(
     expected: usize,
 ) -> Stated
     requires { ⌜ Converting (now tree) (now text) (now arena) (now scratch) c × BehindAfforded (now tree) (now text) c r ⌝ }
-    requires { ⌜ IsKind (now tree) 17 r × TypeAt (now tree) y × TypeAt (now tree) expected ⌝ }
+    requires { ⌜ IsKind (now tree) kindReturn r × TypeAt (now tree) y × TypeAt (now tree) expected ⌝ }
     ensures { λ a. ⌜ StatesAs (λ t x s k q. returnAsSteps t x s k q y expected) c r (now (tree .entry)) (now (text .entry)) (now (arena .entry)) (now (scratch .entry)) a (now (arena .exit)) (now (scratch .exit)) ⌝ }
 {
     let scope = c.scope;
-    let e = reference(tree, r, 0);
+    let e = reference(tree, r, WORD_A);
     match check_fits(tree, e, y, expected, ConvertErrorKind::WrongReturnType, r) {
         Outcome::Refused(x) => Stated::Refused(x),
         Outcome::Done => match convert_expr(tree, text, arena, scratch, c, e) {
@@ -390,12 +396,12 @@ pub(crate) fn convert_return(
     r: usize,
 ) -> Stated
     requires { ⌜ Converting (now tree) (now text) (now arena) (now scratch) c × BehindAfforded (now tree) (now text) c r ⌝ }
-    requires { ⌜ IsKind (now tree) 17 r ⌝ }
+    requires { ⌜ IsKind (now tree) kindReturn r ⌝ }
     ensures { λ a. ⌜ StatesAs returnSteps c r (now (tree .entry)) (now (text .entry)) (now (arena .entry)) (now (scratch .entry)) a (now (arena .exit)) (now (scratch .exit)) ⌝ }
 {
     let scope = c.scope;
-    let e = reference(tree, r, 0);
-    let expected = reference(tree, scope.function as usize, 3);
+    let e = reference(tree, r, WORD_A);
+    let expected = reference(tree, scope.function as usize, WORD_D);
     match get_type(tree, text, scratch, c.functions, scope, e) {
         ExprType::Refused(x) => Stated::Refused(x),
         ExprType::Is(y) => {
@@ -418,7 +424,7 @@ fn call_only(
     f: usize,
 ) -> Stated
     requires { ⌜ Converting (now tree) (now text) (now arena) (now scratch) c × ExprAfforded (now tree) (now text) c e ⌝ }
-    requires { ⌜ IsKind (now tree) 11 e × FunctionAt (now tree) f ⌝ }
+    requires { ⌜ IsKind (now tree) kindCall e × FunctionAt (now tree) f ⌝ }
     ensures { λ a. ⌜ CallOnlyAs (λ t x s k q. callOnlySteps t x s k q f) c e (now (tree .entry)) (now (text .entry)) (now (arena .entry)) (now (scratch .entry)) a (now (arena .exit)) (now (scratch .exit)) ⌝ }
 {
     let scope = c.scope;
@@ -444,7 +450,7 @@ fn call_statement(
     e: usize,
 ) -> Stated
     requires { ⌜ Converting (now tree) (now text) (now arena) (now scratch) c × BehindAfforded (now tree) (now text) c r ⌝ }
-    requires { ⌜ IsKind (now tree) 18 r × IsKind (now tree) 11 e × (e ≡ wordOf (now tree) r 0) ⌝ }
+    requires { ⌜ IsKind (now tree) kindCallStatement r × IsKind (now tree) kindCall e × (e ≡ wordOf (now tree) r Words.A) ⌝ }
     ensures { λ a. ⌜ StatesAs callStatementSteps c r (now (tree .entry)) (now (text .entry)) (now (arena .entry)) (now (scratch .entry)) a (now (arena .exit)) (now (scratch .exit)) ⌝ }
 {
     let scope = c.scope;
@@ -465,12 +471,12 @@ pub(crate) fn convert_call(
     r: usize,
 ) -> Stated
     requires { ⌜ Converting (now tree) (now text) (now arena) (now scratch) c × BehindAfforded (now tree) (now text) c r ⌝ }
-    requires { ⌜ IsKind (now tree) 18 r ⌝ }
+    requires { ⌜ IsKind (now tree) kindCallStatement r ⌝ }
     ensures { λ a. ⌜ StatesAs callStatementSteps c r (now (tree .entry)) (now (text .entry)) (now (arena .entry)) (now (scratch .entry)) a (now (arena .exit)) (now (scratch .exit)) ⌝ }
 {
     let scope = c.scope;
     let k = c.counters;
-    let e = reference(tree, r, 0);
+    let e = reference(tree, r, WORD_A);
     if kind(tree, e) == KIND_CALL {
         return call_statement(tree, text, arena, scratch, c, r, e);
     }
@@ -490,7 +496,7 @@ pub(crate) fn convert_break(
     r: usize,
 ) -> Stated
     requires { ⌜ Converting (now tree) (now text) (now arena) (now scratch) c × BehindAfforded (now tree) (now text) c r ⌝ }
-    requires { ⌜ IsKind (now tree) 22 r ⌝ }
+    requires { ⌜ IsKind (now tree) kindBreak r ⌝ }
     ensures { λ a. ⌜ StatesAs breakSteps c r (now (tree .entry)) (now (text .entry)) (now (arena .entry)) (now (scratch .entry)) a (now (arena .exit)) (now (scratch .entry)) ⌝ }
 {
     let scope = c.scope;
@@ -511,7 +517,7 @@ pub(crate) fn convert_continue(
     r: usize,
 ) -> Stated
     requires { ⌜ Converting (now tree) (now text) (now arena) (now scratch) c × BehindAfforded (now tree) (now text) c r ⌝ }
-    requires { ⌜ IsKind (now tree) 23 r ⌝ }
+    requires { ⌜ IsKind (now tree) kindContinue r ⌝ }
     ensures { λ a. ⌜ StatesAs continueSteps c r (now (tree .entry)) (now (text .entry)) (now (arena .entry)) (now (scratch .entry)) a (now (arena .exit)) (now (scratch .entry)) ⌝ }
 {
     let scope = c.scope;
