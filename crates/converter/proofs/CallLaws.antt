@@ -6,6 +6,7 @@ use mathlib.Core.Bool.{Bool, true}
 use mathlib.Core.List.{List, [], _∷_, append-nil}
 use native.Mathlib.Omega.{arith}
 use lib.ListN.{length, getD, replicate, length-replicate}
+use Rattle.laws.specs.All.{All}
 use Rattle.records.specs.Words.{records}
 use Rattle.records.specs.Good.{Good}
 use Rattle.records.specs.Answer.{wordsOf}
@@ -17,7 +18,7 @@ use Rattle.conversion.specs.Ir.{IrProgram}
 use Rattle.conversion.specs.Converter.{convert}
 use Rattle.conversion.specs.Written as Written
 use Rattle.conversion.specs.Written.{allCode, allVars, allLabels, tablesOf, countsOf}
-use Rattle.tables.specs.Bytes.{All, Byte}
+use Rattle.tables.specs.Bytes.{Byte}
 use Rattle.ir.specs.declared.structs.Counters.{Counters}
 use Rattle.ir.specs.Arena.{Holds}
 use Rattle.ir.specs.Cut as Cut

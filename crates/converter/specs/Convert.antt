@@ -5,6 +5,7 @@ use Prim.Native.Nat.{ℕ, _*_, _≤_}
 use mathlib.Core.Bool.{Bool}
 use mathlib.Core.List.{List, []}
 use lib.ListN.{length}
+use Rattle.laws.specs.All.{All}
 use Rattle.records.specs.Words.{records}
 use Rattle.records.specs.Answer.{wordsOf}
 use Rattle.records.specs.declared.convert_error.ConvertError.{ConvertError}
@@ -22,7 +23,7 @@ use Rattle.judge.specs.Judge.{Buffers, cleared}
 use Rattle.statements.specs.declared.answers.Finished.{Finished}
 use Rattle.statements.specs.declared.answers.Finished.the-variants as Finished
 use Rattle.functions.specs.Bodies.{begun}
-use Rattle.tables.specs.Bytes.{All, Byte}
+use Rattle.tables.specs.Bytes.{Byte}
 use Rattle.demands.specs.Call as Call
 use Rattle.demands.specs.Call.{Calls}
 use Rattle.demands.specs.Demands.{Demands}

@@ -9,6 +9,7 @@ use native.Mathlib.Omega.{arith}
 use lib.Dec.{ltb}
 use lib.ListN.{length, getD, getElem?}
 use borrow.Author.Tests.{ltb-true}
+use Rattle.laws.specs.All.{All}
 use Rattle.laws.specs.Below.{allBelow}
 use Rattle.laws.proofs.Tests.{and-left, and-right}
 use Rattle.laws.proofs.AllBelow.{all-at}
@@ -23,7 +24,7 @@ use Rattle.conversion.specs.Expressions.{Functions, get-type, common-type, unwr
 use Rattle.conversion.specs.Functions.{get-all-functions}
 use Rattle.conversion.specs.Written.{Counts, Tables, Conversion, Refused, Converted, conversion}
 use Rattle.conversion.proofs.Trees.{row, types, text}
-use Rattle.tables.specs.Bytes.{All, Byte}
+use Rattle.tables.specs.Bytes.{Byte}
 use Rattle.tables.specs.Read as Read
 use Rattle.tables.specs.Read.{Begin, bodyAt}
 use Rattle.runs.specs.Rule.{asked, content, literalType, read, returns}

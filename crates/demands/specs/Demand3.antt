@@ -8,6 +8,7 @@ use mathlib.Core.Bool.{Bool}
 use mathlib.Core.List.{List, []}
 use mathlib.Core.Option.{some}
 use lib.ListN.{length, getElem?}
+use Rattle.laws.specs.All.{All}
 use Rattle.records.specs.Good.{Good}
 use Rattle.syntax.specs.Syntax.{Block, Function}
 use Rattle.syntax.specs.Decode.{program}
@@ -15,7 +16,7 @@ use Rattle.conversion.specs.ConvertError.{ok}
 use Rattle.conversion.specs.Expressions.{Functions}
 use Rattle.conversion.specs.Functions.{get-all-functions}
 use Rattle.conversion.specs.Written.{Counts, Tables, Converted, conversion}
-use Rattle.tables.specs.Bytes.{All, Byte}
+use Rattle.tables.specs.Bytes.{Byte}
 use Rattle.tables.specs.Read as Read
 use Rattle.tables.specs.Read.{Begin, bodyAt}
 use Rattle.runs.specs.Rule.{Rule, Answers, asked}

@@ -22,13 +22,12 @@ use Rattle.syntax.specs.Syntax.{ToType, place}
 use Rattle.syntax.specs.Decode.{node, exprOf, kinds, nothingAt, intAt, floatAt, strAt, boolAt, nameAt, nullAt, sizeOfAt, unaryAt, binaryAt, callAt, keyAt, textOf}
 use Rattle.syntax.proofs.Unfold.{node-is}
 use Rattle.conversion.specs.Expressions.{TypedArg, targetType, sourceType}
-use Rattle.types.specs.Fits.{IsExpr}
 use Rattle.records.specs.declared.words.Found.{Found}
 use Rattle.records.specs.declared.words.Found.the-variants as Found
 use Rattle.keys.specs.declared.parts.Part.{Part}
 use Rattle.expressions.specs.declared.arguments.Argument.{Argument}
 use Rattle.expressions.specs.declared.arguments.Argument.the-variants as Argument
-use Rattle.syntax.specs.Places.{TypeAt, ArgsAt, ParamsAt, exprAt, argsAt, paramsAt}
+use Rattle.syntax.specs.Places.{IsExpr, TypeAt, ArgsAt, ParamsAt, exprAt, argsAt, paramsAt}
 use Rattle.keys.specs.Parts.{PartIs}
 use Rattle.expressions.specs.Slots.{FirstType, slotAt, slotted, ArgsTyped}
 use Rattle.expressions.specs.Calls.{typedAt}

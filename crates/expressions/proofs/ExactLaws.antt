@@ -9,6 +9,7 @@ use native.Mathlib.Omega.{arith}
 use lib.Dec.{ltb, leb}
 use lib.ListN.{length, take, getD, length-append}
 use borrow.Author.Tests.{ltb-true, ltb-false, leb-true, le-leb}
+use Rattle.laws.specs.Below.{orElse}
 use Rattle.laws.specs.Fix.{pick}
 use Rattle.laws.proofs.Tests.{and-left, and-right, tested}
 use Rattle.records.specs.Words.{textAt, wordAt, wordOf, A, B}
@@ -16,10 +17,10 @@ use Rattle.records.specs.Good.{Good}
 use Rattle.syntax.specs.Syntax.{Text, Function, Program}
 use Rattle.syntax.specs.Decode.{program, textOf}
 use Rattle.conversion.specs.Ir.{sameText}
-use Rattle.conversion.specs.Expressions.{Functions, is-mangled, takes-args, getFunction, filterOption, orElse, variadicMark, suffixes, joined, mangledFunction, variadicFunction, find-exact-function}
+use Rattle.conversion.specs.Expressions.{Functions, is-mangled, takes-args, getFunction, filterOption, variadicMark, suffixes, joined, mangledFunction, variadicFunction, find-exact-function}
 use Rattle.records.specs.declared.words.Found.{Found}
 use Rattle.records.specs.declared.words.Found.the-variants as Found
-use Rattle.records.proofs.TextLaws.{text-length, other-lengths}
+use Rattle.records.proofs.TextLaws.{same-texts, text-length, other-lengths}
 use Rattle.keys.specs.declared.parts.Part.{Part}
 use Rattle.expressions.specs.declared.arguments.Call.{Call}
 use Rattle.syntax.specs.Places.{FunctionAt, functionOf}
@@ -29,7 +30,7 @@ use Rattle.expressions.specs.Calls.{typedAt, suffixesAt, verbOf, nameOf,
 use Rattle.syntax.proofs.Records.{function-name, function-mangled}
 use Rattle.keys.proofs.FunctionLaws.{found-function}
 use Rattle.keys.proofs.KeyLaws.{find-hit, find-miss, recordAt, from, from-start, from-one, from-end, keys-all, distinct-finds}
-use Rattle.expressions.proofs.NameLaws.{same-is, is-same, same-turned, part-length, part-split, cut-same, name-length, name-pieces, all-taken, number-inside, inside-number, number-least, name-number, key-number}
+use Rattle.expressions.proofs.NameLaws.{same-is, same-turned, part-length, part-split, cut-same, name-length, name-pieces, all-taken, number-inside, inside-number, number-least, name-number, key-number}
 
 -- ---- an answer, and what it stands for
 
@@ -225,7 +226,7 @@ module _ (tree text s : List ℕ) (c : Call) (h : Called tree text s c) (key : T
 
     module _ (b : Bool) (eb : b ≡ sameText (textAt text (p .0 + (p .1 - 4)) 4) variadicMark) where
       pub key-unmarked : b ≡ false → VariadicKey tree text s c key Found.Nothing
-      key-unmarked q = no-number (λ k hk e. false≢true (sym q ∙ eb ∙ is-same (textAt text (p .0 + (p .1 - 4)) 4) variadicMark (pieces k e .1)))
+      key-unmarked q = no-number (λ k hk e. false≢true (sym q ∙ eb ∙ same-texts (textAt text (p .0 + (p .1 - 4)) 4) variadicMark (pieces k e .1)))
 
       module _ (q : b ≡ true) (r : Found) (pre : PrefixIs tree text s (c .first) (p .1 - 4 - c .len) r) where
         pub key-none : r ≡ Found.Nothing → VariadicKey tree text s c key Found.Nothing
@@ -262,7 +263,7 @@ module _ (tree text s : List ℕ) (c : Call) (h : Called tree text s c) (key : T
             pub key-unlike : d ≡ false → VariadicKey tree text s c key Found.Nothing
             key-unlike t = no-number (λ i hi w.
                 let same : i ≡ k = name-number tree text s c i k h hi prefix-number (sym (ap length (pieces i w .0)) ∙ part-length text (p .0) (p .1 - 4) (omega (arith, is .inside)) ∙ prefix-size) in
-                false≢true (sym t ∙ ed ∙ is-same (textAt text (p .0) (p .1 - 4)) (nameOf tree text s c k) (pieces i w .0 ∙ ap (nameOf tree text s c) same)))
+                false≢true (sym t ∙ ed ∙ same-texts (textAt text (p .0) (p .1 - 4)) (nameOf tree text s c k) (pieces i w .0 ∙ ap (nameOf tree text s c) same)))
 
 -- ---- the function with the longest prefix
 

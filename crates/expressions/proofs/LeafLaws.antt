@@ -29,12 +29,11 @@ use Rattle.scope.specs.declared.Scope.{Scope}
 use Rattle.scope.specs.declared.Known.{Known}
 use Rattle.scope.specs.declared.Known.the-variants as Known
 use Rattle.scope.specs.Open.{variableAt, variablesAt, variablesOf, scopeAt, IsFound, FindMeets}
-use Rattle.types.specs.Fits.{IsExpr}
 use Rattle.expressions.specs.declared.answers.ExprType.{ExprType}
 use Rattle.expressions.specs.declared.answers.ExprType.the-variants as ExprType
 use Rattle.expressions.specs.declared.answers.Resolved.{Resolved}
 use Rattle.expressions.specs.declared.answers.Resolved.the-variants as Resolved
-use Rattle.syntax.specs.Places.{IsKind, TypeAt, FunctionAt, functionOf}
+use Rattle.syntax.specs.Places.{IsExpr, IsKind, TypeAt, FunctionAt, functionOf}
 use Rattle.expressions.specs.Slots.{typeIn, Scoped}
 use Rattle.expressions.specs.Answers.{refusal, typeResult, calleeOf, valueResult, IsTyped, IsCallee, TypeIs}
 use Rattle.expressions.proofs.TypingLaws.{expr-low}

@@ -23,13 +23,13 @@ use Rattle.conversion.specs.Types.{isInt, onInt, is-number, fits, range-error}
 use Rattle.conversion.specs.Expressions.{OperandClass, Bools, Any, Numbers, Integers, operandClass, givesBool, filterOption, commonOf, acceptsUnary, acceptsClass, unaryType, operandsError, accepted, binaryType}
 use Rattle.records.specs.declared.words.Found.{Found}
 use Rattle.records.specs.declared.words.Found.the-variants as Found
-use Rattle.types.specs.Fits.{IsExpr, IsType, fitsAt, rangeErrorAt}
+use Rattle.types.specs.Fits.{IsType, fitsAt, rangeErrorAt}
 use Rattle.types.specs.Operators.{classNumber, resultNumber}
 use Rattle.types.proofs.FromGood.{is-type}
 use Rattle.expressions.specs.declared.answers.ExprType.{ExprType}
 use Rattle.expressions.specs.declared.answers.ExprType.the-variants as ExprType
 use Rattle.expressions.specs.declared.operands.Sides.{Sides}
-use Rattle.syntax.specs.Places.{IsKind, TypeAt, exprAt}
+use Rattle.syntax.specs.Places.{IsExpr, IsKind, TypeAt, exprAt}
 use Rattle.keys.specs.Keys.{allKeys}
 use Rattle.expressions.specs.Answers.{refusal, typeResult, foundNumber, TypeFound, IsTyped, TypeIs, FoundIs, Operands, Accepts}
 use Rattle.expressions.proofs.TypingLaws.{place-is}

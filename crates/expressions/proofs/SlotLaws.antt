@@ -19,11 +19,10 @@ use Rattle.conversion.specs.Written.{bytesOf, word}
 use Rattle.ir.proofs.Entries.{word-same}
 use Rattle.ir.proofs.ReadBack.{word-back}
 use Rattle.scope.specs.declared.Scope.{Scope}
-use Rattle.scope.specs.Open.{scopeAt, Kept}
+use Rattle.scope.specs.Open.{scopeAt}
 use Rattle.scope.proofs.Apart.{byte-apart, word-apart, word-there}
-use Rattle.scope.proofs.ScopeLaws.{scope-kept}
-use Rattle.types.specs.Fits.{IsExpr}
-use Rattle.syntax.specs.Places.{TypeAt}
+use Rattle.scope.proofs.ScopeLaws.{Kept, scope-kept}
+use Rattle.syntax.specs.Places.{IsExpr, TypeAt}
 use Rattle.keys.specs.Keys.{Listed, Keyed}
 use Rattle.expressions.specs.Slots.{slotAt, Scoped, Frame, typeIn, Slots, Ready}
 use Rattle.expressions.specs.declared.answers.ExprType.{ExprType}

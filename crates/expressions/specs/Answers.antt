@@ -16,7 +16,6 @@ use Rattle.records.specs.declared.words.Found.{Found}
 use Rattle.records.specs.declared.words.Found.the-variants as Found
 use Rattle.scope.specs.declared.Scope.{Scope}
 use Rattle.scope.specs.Open.{scopeAt}
-use Rattle.types.specs.Fits.{IsExpr}
 use Rattle.types.specs.Operators.{classNumber}
 use Rattle.expressions.specs.declared.answers.Outcome.{Outcome}
 use Rattle.expressions.specs.declared.answers.Outcome.the-variants as Outcome
@@ -33,7 +32,7 @@ use Rattle.expressions.specs.declared.answers.Candidates.the-variants as
 use Rattle.expressions.specs.declared.operands.Sides.{Sides}
 use Rattle.expressions.specs.declared.arguments.Argument.{Argument}
 use Rattle.expressions.specs.declared.arguments.Argument.the-variants as Argument
-use Rattle.syntax.specs.Places.{TypeAt, FunctionAt, functionOf, exprAt, argsAt}
+use Rattle.syntax.specs.Places.{IsExpr, TypeAt, FunctionAt, functionOf, exprAt, argsAt}
 use Rattle.keys.specs.Keys.{allKeys}
 use Rattle.expressions.specs.Slots.{slotted, ArgsTyped, Frame, Slots, typeIn}
 

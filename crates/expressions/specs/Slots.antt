@@ -14,8 +14,7 @@ use Rattle.conversion.specs.Scope as Def
 use Rattle.conversion.specs.Expressions.{TypedArg, get-type}
 use Rattle.scope.specs.declared.Scope.{Scope}
 use Rattle.scope.specs.Open.{NamesRoom}
-use Rattle.types.specs.Fits.{IsExpr}
-use Rattle.syntax.specs.Places.{TypeAt, exprAt}
+use Rattle.syntax.specs.Places.{IsExpr, TypeAt, exprAt}
 use Rattle.keys.specs.Keys.{allKeys, Keyed}
 
 -- y is the type of the first of the arguments

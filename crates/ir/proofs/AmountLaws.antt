@@ -10,7 +10,7 @@ use Rattle.conversion.specs.Written.{allCode, allVars, allLabels}
 use Rattle.conversion.proofs.Within.{Grown, grew, fell, Within}
 use Rattle.ir.specs.declared.structs.Counters.{Counters}
 use Rattle.ir.specs.Amounts.{Amount, amount, both, Affords, Spent}
-use Rattle.ir.specs.Arena.{TablesSoFar, Holds, Held}
+use Rattle.ir.specs.Arena.{TablesSoFar, Holds}
 use Rattle.ir.specs.Steps.{grown, Stands, NextIn}
 
 -- ---- sums and differences
@@ -60,6 +60,11 @@ module _ {A : Type 0} {Q : A → Type 0} {i v l s f : ℕ} (text : List ℕ) (t 
         labels-before = h′ .before .labels-before ∙ sym (h .before .labels-before);
       }
   spent-by a (fell d r) z e = absurd z
+
+-- some tables stand there
+pub record Held (text : List ℕ) (k : Counters) (l : List ℕ) : Type 0 where
+  pub tables : TablesSoFar
+  pub holds : Holds text tables k l
 
 pub spent : {A : Type 0} {Q : A → Type 0} {i v l s f : ℕ} {m : M A} {text : List ℕ} {k k′ : Counters} {b b′ : List ℕ} {a : A}
     → Within Q i v l s f m → NextIn text m k b a k′ b′ → Held text k b → Spent k k′ (amount i v l s f)

@@ -16,13 +16,13 @@ use Rattle.conversion.specs.Ir.{FloatEntry, position, numbered, sameFloat, floa
 use Rattle.conversion.specs.Written.{boolNumber}
 use Rattle.ir.specs.declared.structs.Counters.{Counters}
 use Rattle.ir.specs.declared.pool.PoolNumber.{PoolNumber}
-use Rattle.ir.specs.Arena.{TablesSoFar, FloatAt, Holds, Room}
+use Rattle.ir.specs.Arena.{TablesSoFar, Holds, Room}
 use Rattle.ir.specs.Floats.{bitsOf, entry, entryOfFloat}
 use Rattle.ir.specs.declared.floats.FloatEntry as Code
 use Rattle.ir.specs.declared.floats.FloatBits.the-variants.{Number, Nan}
 use Rattle.ir.specs.Steps.{grown, Stands, Next, NumbersFloat}
 use Rattle.ir.proofs.Kept.{withFloat, no-code}
-use Rattle.ir.proofs.ReadBack.{no-float, floats-at}
+use Rattle.ir.proofs.ReadBack.{FloatAt, no-float, floats-at}
 use Rattle.ir.proofs.SearchLaws.{position-hit}
 
 -- ---- the bits and the mark, from the words

@@ -9,19 +9,25 @@ use lib.Dec.{eqb}
 use lib.ListN.{length, getD, length-append}
 use lib.Seq.{getD-append-add}
 use borrow.Author.Tests.{eqb-true, eq-eqb}
+use Rattle.laws.specs.All.{All}
 use Rattle.laws.proofs.Tests.{and-left, and-right}
 use Rattle.records.specs.Words.{byteAt, wordAt, textAt}
 use Rattle.conversion.specs.Ir.{LabelName, StringEntry, FloatEntry, position, sameLabel, sameText, sameFloat}
 use Rattle.conversion.specs.Written.{bytesOf, word, wide, boolNumber, encodeLabel, encodeString, encodeFloat, allLabels}
 use Rattle.ir.specs.declared.structs.Counters.{Counters}
-use Rattle.ir.specs.Arena.{All, TablesSoFar, LabelFits, StringStands, FloatFits, FloatAt, Holds}
+use Rattle.ir.specs.Arena.{TablesSoFar, LabelFits, StringStands, FloatFits, Holds}
 use Rattle.ir.specs.Steps.{named}
 use Rattle.ir.specs.Search.{first, pairAt, sameTextAt, fourAt}
 use Rattle.ir.proofs.Entries.{table-word}
 use Rattle.ir.proofs.SearchLaws.{first-position}
 
+-- the entry at byte p is the float x: its bits, the lower word first, and its mark
+pub record FloatAt (l : List ℕ) (p : ℕ) (x : FloatEntry) : Type 0 where
+  pub low : wordAt l p ≡ x .bits % 4294967296
+  pub high : wordAt l (p + 4) ≡ x .bits / 4294967296
+  pub mark : wordAt l (p + 8) ≡ boolNumber (x .short)
+
 all-at : {X : Type 0} (P : X → Type 0) (xs : List X) (d : X) (j : ℕ) → All P xs → j < length xs → P (getD xs j d)
-unfolding All
 all-at P [] d j a h = absurd (omega arith)
 all-at P (x ∷ xs) d zero a h = a .0
 all-at P (x ∷ xs) d (suc j) a h = all-at P xs d j (a .1) (omega arith)

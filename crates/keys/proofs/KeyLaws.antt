@@ -9,9 +9,9 @@ use native.Mathlib.Numerals.{add-one}
 use native.Mathlib.Omega.{arith}
 use lib.ListN.{length, take, drop, getD, drop-of-length-le}
 use lib.Seq.{take-suc, take-all, drop-cons, split-at}
-use borrow.Author.Tests.{eq-eqb}
 use Rattle.laws.specs.Fix.{pick}
 use Rattle.records.specs.Words.{wordAt}
+use Rattle.records.proofs.TextLaws.{same-self}
 use Rattle.syntax.specs.Syntax.{Text, Function}
 use Rattle.syntax.specs.Decode.{program}
 use Rattle.conversion.specs.ConvertError.{ConvertErrorKind, Result, ok, err, _>>=_, SameSignature, SameSymbol, LatinCharInNonLibCFunction, ExternNotLatin}
@@ -24,11 +24,6 @@ use Rattle.keys.specs.Keys.{functionKey, keyed, functionPlaces, function
 use Rattle.keys.proofs.FunctionLaws.{all-functions, functions-append}
 
 -- ---- a key looked for
-
-pub same-self : (t : Text) → sameText t t ≡ true
-unfolding sameText
-same-self [] = refl
-same-self (b ∷ t) = rw (eq-eqb b b refl) (same-self t)
 
 find-by : (k : Text) (e : Text × Function) (l : Functions) (b : Bool) → sameText k (e .0) ≡ b
     → getFunction k (e ∷ l) ≡ elim b [ true ↦ some (e .1) | false ↦ getFunction k l ]

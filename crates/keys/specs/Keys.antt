@@ -8,6 +8,7 @@ use lib.Dec.{eqb}
 use lib.ListN.{length, take, getD}
 use Rattle.laws.specs.Fix.{pick}
 use Rattle.records.specs.Words.{kindOf, wordAt, records}
+use Rattle.records.specs.Kinds.{kindFunction}
 use Rattle.records.specs.Good.{Good}
 use Rattle.syntax.specs.Syntax.{Text, Function}
 use Rattle.syntax.specs.Decode.{program}
@@ -29,11 +30,11 @@ unfolding functionKey
 keyed [] = []
 keyed (f ∷ l) = (functionKey f, f) ∷ keyed l
 
--- the records of kind 25 among the first n
+-- the functions' records among the first n
 unfoldable pub recordsBelow : List ℕ → ℕ → List ℕ
 unfolding pick kindOf
 recordsBelow tree zero = []
-recordsBelow tree (suc r) = recordsBelow tree r ++ pick (eqb (kindOf tree r) 25) (r ∷ []) []
+recordsBelow tree (suc r) = recordsBelow tree r ++ pick (eqb (kindOf tree r) kindFunction) (r ∷ []) []
 
 -- 'Functions count in record order'
 abbrev pub functionPlaces : List ℕ → List ℕ

@@ -1,5 +1,6 @@
 pub mod Good
 pub mod GoodLaws
+pub mod KindsInOrder
 pub mod LayoutFits
 pub mod ListLaws
 pub mod RuleLaws

@@ -7,12 +7,12 @@ use Prim.Native.Nat.{ℕ, zero, suc, _+_, _-_, _≤_}
 use native.Mathlib.Nat.{zero-add, suc-add}
 use native.Mathlib.Omega.{arith}
 use lib.ListN.{getElem?}
+use Rattle.laws.proofs.Prefixes.{Prefix, prefix-refl, prefix-trans, prefix-append}
 use Rattle.conversion.specs.Ir.{VarId, Instr, Copy, Unary, Binary, Cast, Zero, Arg, Call, Label, Jump, JumpIfNot, Return, Comment}
 use Rattle.runs.specs.Rule.{ValueOrStop, gives, halt, Truth, holds, fails, halts, Typed, Calls, Rule, Reply, comes, pending, Answers, Ending}
 use Rattle.runs.specs.BodyRun.{Body, Vars, Spot, spot, over, waits, lost, putTo, dropTo, putReply, dropReply, jumpTo, branchTo, finishWith, operand, execute, fetch, step, steps, bodyRun}
 use Rattle.runs.specs.Shared.{callsB, endB}
-use Rattle.runs.proofs.Invert.{Prefix, prefix-refl, prefix-trans}
-use Rattle.runs.proofs.Less.{AsReply, Extends, prefix-append, prefix-under}
+use Rattle.runs.proofs.Less.{AsReply, Extends, prefix-under}
 
 -- an instruction of the body calls the function of this record
 pub record CallIn (B : Body) (g : ℕ) : Type 0 where

@@ -10,6 +10,7 @@ use native.Mathlib.Omega.{arith}
 use lib.Dec.{eqb}
 use lib.IntN.{ℤ, pos}
 use lib.ListN.{length, getD}
+use Rattle.laws.proofs.Prefixes.{prefix-refl, prefix-trans}
 use Rattle.syntax.specs.Syntax.{Text, Ty, TInt, TFloat, TBool, TChar, TByte, TAddress, TArray, TCustom, TNull, UnaryOp, BinaryOp, Or, And, BitOr, BitXor, BitAnd, Eq, NotEq, Lt, Le, Gt, Ge, Shl, Shr, Add, Sub, Mul, Div, Rem, Expr, EInt, EFloat, EStr, EBool, EName, ENull, ESizeOf, EUnary, EBinary, ECall, Args, noArgs, Value, ToType, Function, Program, place, boolType}
 use Rattle.laws.specs.Fix.{pick}
 use Rattle.conversion.specs.ConvertError as C
@@ -25,7 +26,7 @@ use Rattle.runs.specs.TreeRun as Tree
 use Rattle.runs.specs.BodyRun.{Vars, datum, isLabel, operand}
 use Rattle.runs.proofs.Opens.{bit, opensE, opensA, logicOpens}
 use Rattle.runs.proofs.Machine.{Code, at, count, count-append, goto, placed-drop, exec, step, dat, dats, argsOf, push}
-use Rattle.runs.proofs.Invert.{Grow, grow-refl, grow-trans, inv, inv-then, inv-pure, inv-emit, inv-lift, inv-last, inv-new, inv-label, joinE, joinS, AskedLabel, noFloat, inv-bits, prefix-getD, prefix-refl, prefix-trans, position-holds, found-in, nextVar, withVar, withVar-length, withVar-grow, ask-string, ask-float}
+use Rattle.runs.proofs.Invert.{Grow, grow-refl, grow-trans, inv, inv-then, inv-pure, inv-emit, inv-lift, inv-last, inv-new, inv-label, joinE, joinS, AskedLabel, noFloat, inv-bits, prefix-getD, position-holds, found-in, nextVar, withVar, withVar-length, withVar-grow, ask-string, ask-float}
 use Rattle.runs.proofs.Texts.{kinds-once, float-refl}
 use Rattle.runs.proofs.Names.{known, typing, resolving, commoning, scoped-mono, agree-frame}
 use Rattle.conversion.proofs.Steps.{castSteps-is, refloatSteps-is, fitSteps-is, argSteps-is, unarySteps-is, andSteps-is, orSteps-is, castFirstSteps-is, otherSteps-is, binarySteps-is, unaryExprSteps-is, floatSteps, stringSteps, callSteps-is, valueSteps-is, functionSteps-is, fits-is, callValue-is, castValue-is}

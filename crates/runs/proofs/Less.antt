@@ -8,6 +8,7 @@ use Prim.Native.Nat.{ℕ, zero, suc, _≤_}
 use native.Mathlib.Omega.{arith}
 use lib.Dec.{eqb}
 use lib.IntN.{pos}
+use Rattle.laws.proofs.Prefixes.{Prefix, prefix-refl, prefix-trans, prefix-append}
 use Rattle.syntax.specs.Syntax.{Text, Ty, TInt, TFloat, TBool, TChar, TByte, TAddress, TArray, TCustom, TNull, BinaryOp, Or, And, BitOr, BitXor, BitAnd, Eq, NotEq, Lt, Le, Gt, Ge, Shl, Shr, Add, Sub, Mul, Div, Rem, Expr, EInt, EFloat, EStr, EBool, EName, ENull, ESizeOf, EUnary, EBinary, ECall, Args, noArgs, Value, ToType, Statement, SDeclare, SInit, SReturn, SCall, SIf, SIfElse, SWhile, SFor, SBreak, SContinue, Block, done, next, Function, Program}
 use Rattle.conversion.specs.ConvertError.{Result, ok, err}
 use Rattle.conversion.specs.Types.{onInt, isFloat, size}
@@ -18,7 +19,6 @@ use Rattle.conversion.proofs.Called.{Among, called-among}
 use Rattle.runs.specs.Rule.{ValueOrStop, gives, halt, Truth, holds, fails, halts, Typed, Calls, Rule, Reply, comes, pending, Answers, Literal, IntLiteral, Datum, constant, computed, read, readAll, Ending}
 use Rattle.runs.specs.TreeRun.{KnownName, Values, set, knownType, scopeOf, Got, value, stop, wait, Ran, normal, broke, continued, returned, stopped, held, unfinished, bindG, bindO, bindS, bindT, answered, bare, replied, handed, test, testO, typed, typedO, sizeDatum, fitComputed, fit, fitArguments, toBool, evalAnd, evalOr, evalOther, evalBinary, castFirst, callWith, evalExpr, evalArgs, store, assign, newType, introduce, initialise, giveBack, callOnly, callStatement, turns, rounds, forLoop, forInt, forOver, withNew, knownInit, knownAfter, runStatement, runBlock, treeRun}
 use Rattle.runs.specs.Shared.{callsT, endT}
-use Rattle.runs.proofs.Invert.{Prefix, prefix-refl, prefix-trans}
 
 -- ---- one who answers more: the same reply with the same calls where there is one, and where it is pending the calls only go on
 
@@ -117,9 +117,6 @@ g-bare (gives v) h = g-value v
 g-bare halt h = g-stop
 
 -- ---- a reply
-
-pub prefix-append : {X : Type 0} (a b : List X) → Prefix a (a ++ b)
-prefix-append a b = record { more = b; whole = refl }
 
 pub prefix-under : {X : Type 0} (a b c : List X) → Prefix b c → Prefix (a ++ b) (a ++ c)
 prefix-under a b c p = record { more = p .more; whole = append-assoc a b (p .more) ∙ ap (λ z. a ++ z) (p .whole) }

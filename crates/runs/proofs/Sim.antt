@@ -9,6 +9,7 @@ use native.Mathlib.Nat.{le-refl}
 use native.Mathlib.Omega.{arith}
 use lib.Dec.{eqb}
 use lib.ListN.{length, getD}
+use Rattle.laws.proofs.Prefixes.{Prefix, prefix-trans, prefix-length}
 use Rattle.syntax.specs.Syntax.{Function, Program}
 use Rattle.conversion.specs.Ir.{VarId, Operand, OVar, OInt, OFloat, OBool, ODataAddress, ONull, Instr, Label, LabelName, loopStart, StringEntry, texts, FloatEntry, State, made, M, position, sameLabel, sameText, sameFloat}
 use Rattle.conversion.specs.Scope.{Variable}
@@ -18,7 +19,7 @@ use Rattle.runs.specs.TreeRun.{Values, Got, value, stop, wait, bindG, an
 use Rattle.runs.specs.BodyRun.{Body, Vars, write, datum}
 use Rattle.runs.proofs.Opens.{bit}
 use Rattle.runs.proofs.Machine.{Code, Queue, Cfg, at, ended, waiting, Same, is, isnt, same, write-same, write-other, count, goto, Placed, put, putR, aim, branch, step, To, here, one, to-trans, to-label, dat, dats}
-use Rattle.runs.proofs.Invert.{Prefix, prefix-trans, prefix-length, Grow, Asked, position-holds, found-in, noFloat}
+use Rattle.runs.proofs.Invert.{Grow, Asked, position-holds, found-in, noFloat}
 use Rattle.runs.proofs.Texts.{label-eq, label-refl, text-eq, text-refl, float-eq, float-refl}
 use Rattle.runs.proofs.Names.{Scoped, Frame, Agree}
 

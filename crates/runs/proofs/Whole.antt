@@ -1,13 +1,14 @@
 -- A simulation of whole runs gives the claim: the same calls, endless runs included, and the same ends.
 -- The tree's run with n turns tells of n steps of the body's run or more, and the body's run is a function: so one direction gives both.
 use mathlib.Core.Path.{_≡_, refl, sym, _∙_, ap, subst}
-use mathlib.Core.List.{List, [], _∷_, _++_}
+use mathlib.Core.List.{List, [], _∷_}
 use mathlib.Core.Option.{Option, none, some}
 use Prim.Native.Nat.{ℕ, zero, suc, _-_, _≤_}
 use native.Mathlib.Decide.{decLe}
 use native.Mathlib.Omega.{arith}
 use mathlib.Core.Bool.{false}
 use lib.ListN.{getElem?}
+use Rattle.laws.proofs.Prefixes.{get-append}
 use Rattle.conversion.specs.Ir.{Instr, Copy, Unary, Binary, Cast, Zero, Arg, Call, Label, Jump, JumpIfNot, Return, Comment}
 use Rattle.conversion.specs.Scope.{Variable}
 use Rattle.runs.specs.Rule.{ValueOrStop, gives, halt, Truth, holds, fails, halts, Typed, Calls, Reply, comes, pending, Ending, passed, returns, halted}
@@ -50,11 +51,6 @@ none-some : {A : Type 0} {a : A} → none ≡ some a → ⊥
 none-some e = let z : _≡_ {A = ℕ} 0 1 = cc in omega arith
 
 -- a call once made stays
-pub get-append : {A : Type 0} (a b : List A) (i : ℕ) (q : A) → getElem? a i ≡ some q → getElem? (a ++ b) i ≡ some q
-get-append [] b i q e = let z : _≡_ {A = ℕ} 0 1 = cc in absurd (omega arith)
-get-append (x ∷ a) b zero q e = e
-get-append (x ∷ a) b (suc i) q e = get-append a b i q e
-
 put-calls : {W : Type 0} (u : ValueOrStop W) (d : ℕ) (r : Code) (q : Queue W) (ρ : Vars W) (h : Calls W) → callsM (put u d r q ρ h) ≡ h
 unfolding put callsM
 put-calls (gives v) d r q ρ h = refl

@@ -26,10 +26,15 @@ use Rattle.scope.specs.declared.Scope.{Scope}
 use Rattle.scope.specs.declared.Known.the-variants as Known
 use Rattle.scope.specs.declared.InLoop.{InLoop}
 use Rattle.scope.specs.declared.InLoop.the-variants as InLoop
-use Rattle.scope.specs.Open.{variableAt, variablesAt, variablesOf, loopNumber, scopeAt, NamesRoom, IsFound, FindMeets, variable, nameEntry, NameAfforded, Added, Taken, within, loopOf, Kept}
+use Rattle.scope.specs.Open.{variableAt, variablesAt, variablesOf, loopNumber, scopeAt, NamesRoom, IsFound, FindMeets, variable, nameEntry, NameAfforded, Added, Taken, within, loopOf}
 use Rattle.scope.proofs.Apart.{byte-apart}
 
 -- ---- bytes that stay
+
+-- the bytes of the first m open names are what they were, and the scratch is as long
+pub record Kept (n m : ℕ) (s s′ : List ℕ) : Type 0 where
+  pub bytes : (j : ℕ) → 8 * n ≤ j → j < 8 * n + 16 * m → getD s′ j 0 ≡ getD s j 0
+  pub long : length s′ ≡ length s
 
 pub kept-refl : (n m : ℕ) (s : List ℕ) → Kept n m s s
 kept-refl n m s = record { bytes = λ j a b. refl; long = refl }

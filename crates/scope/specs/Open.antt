@@ -6,7 +6,7 @@ use mathlib.Core.Bool.{Bool}
 use mathlib.Core.List.{List, [], _∷_, _++_}
 use mathlib.Core.Option.{Option, none, some}
 use lib.Dec.{eqb}
-use lib.ListN.{length, getD}
+use lib.ListN.{length}
 use Rattle.laws.specs.Fix.{pick}
 use Rattle.laws.specs.Splice.{splice}
 use Rattle.records.specs.Words as Words
@@ -135,10 +135,3 @@ within r sc = record { records = sc .records; names = sc .names; inner = r; func
 abbrev pub loopOf : InLoop → Option ℕ
 loopOf (InLoop.Of r) = some r
 loopOf InLoop.Outside = none
-
--- ---- what others leave
-
--- the bytes of the first m open names are what they were, and the scratch is as long
-pub record Kept (n m : ℕ) (s s′ : List ℕ) : Type 0 where
-  pub bytes : (j : ℕ) → 8 * n ≤ j → j < 8 * n + 16 * m → getD s′ j 0 ≡ getD s j 0
-  pub long : length s′ ≡ length s

@@ -15,7 +15,7 @@ use Rattle.records.specs.Rules.{isExpr}
 use Rattle.records.specs.Good.{Good}
 use Rattle.syntax.specs.Syntax.{unaryOps, binaryOps, Neg, Or, Program, Function}
 use Rattle.syntax.specs.Decode.{program}
-use Rattle.syntax.specs.Places.{IsKind, TypeAt, FunctionAt, functionOf, exprAt}
+use Rattle.syntax.specs.Places.{IsExpr, IsKind, TypeAt, FunctionAt, functionOf, exprAt}
 use Rattle.syntax.proofs.Records.{function-rec}
 use Rattle.conversion.specs.ConvertError.{Result, ok, err, WouldPanic}
 use Rattle.conversion.specs.Ir as Ir
@@ -23,7 +23,6 @@ use Rattle.conversion.specs.Ir.{OVar, Unary, Binary, Cast, Call, logicRhs, logi
 use Rattle.conversion.specs.Expressions.{Functions, Callee, CallFunction, CallCast, common-type}
 use Rattle.conversion.specs.Statements.{fit-operand, castFirst, callFunction, callValue}
 use Rattle.conversion.proofs.MonadLaws.{regroup, seq-is}
-use Rattle.types.specs.Fits.{IsExpr}
 use Rattle.types.proofs.FromGood.{is-expr}
 use Rattle.ir.specs.declared.structs.Counters.{Counters}
 use Rattle.ir.specs.declared.structs.VarId.{VarId}

@@ -17,7 +17,7 @@ use Rattle.records.specs.Words.{detailOf, wordOf, none, A, B, C}
 use Rattle.records.specs.Good.{Good}
 use Rattle.syntax.specs.Syntax.{Text, Ty, TInt, TFloat, TBool, TChar, TByte, TAddress, TArray, TCustom, TNull, floatType}
 use Rattle.syntax.specs.Decode.{program, bit, typeAt, textOf, wideOf}
-use Rattle.syntax.specs.Places.{TypeAt, ParamsAt, exprAt, paramsAt}
+use Rattle.syntax.specs.Places.{IsExpr, TypeAt, ParamsAt, exprAt, paramsAt}
 use Rattle.syntax.proofs.Lists.{cell-is, next-list, params-end, parameter-item}
 use Rattle.conversion.specs.ConvertError.{ConvertErrorKind, LiteralOutOfRange}
 use Rattle.conversion.specs.Ir as Ir
@@ -25,7 +25,7 @@ use Rattle.conversion.specs.Ir.{FloatEntry, OVar, OInt, OFloat, M, pure, fail, 
 use Rattle.conversion.specs.Types.{onFloat, onInt, isFloat, isInt}
 use Rattle.conversion.specs.Expressions.{Functions}
 use Rattle.conversion.specs.Statements.{refloat, castOperand, fit-operand, parameterType, checkFits}
-use Rattle.types.specs.Fits.{IsExpr, fitsAt, rangeErrorAt}
+use Rattle.types.specs.Fits.{fitsAt, rangeErrorAt}
 use Rattle.ir.specs.declared.structs.Counters.{Counters}
 use Rattle.ir.specs.declared.structs.VarId.{VarId}
 use Rattle.ir.specs.declared.structs.NewVariable.{NewVariable}

@@ -17,7 +17,7 @@ use Rattle.records.proofs.GoodLaws.{inside, init-detail, init-c}
 use Rattle.syntax.specs.Syntax.{Text, Expr, Program, nullType, addressOfNull}
 use Rattle.syntax.specs.Count.{under, exprRecords, statementRecords}
 use Rattle.syntax.specs.Decode.{program, bit, textOf}
-use Rattle.syntax.specs.Places.{IsKind, TypeAt, exprAt, statementAt}
+use Rattle.syntax.specs.Places.{IsExpr, IsKind, TypeAt, exprAt, statementAt}
 use Rattle.syntax.proofs.Records.{statement-init}
 use Rattle.conversion.specs.ConvertError.{AssignToConstant, WrongAssignType, AlreadyDeclared}
 use Rattle.conversion.specs.Ir as Ir
@@ -27,7 +27,7 @@ use Rattle.conversion.specs.Scope.{Variable, find-variable}
 use Rattle.conversion.specs.Expressions.{Functions, get-type}
 use Rattle.conversion.specs.Statements.{fit-operand, convert-expr, checkFits, assignTo, convert-assign, initNew, initBy, convert-init}
 use Rattle.conversion.proofs.MonadLaws.{regroup, seq-is}
-use Rattle.types.specs.Fits.{IsExpr, IsType}
+use Rattle.types.specs.Fits.{IsType}
 use Rattle.types.proofs.FromGood.{is-expr}
 use Rattle.ir.specs.declared.structs.Counters.{Counters}
 use Rattle.ir.specs.declared.structs.VarId.{VarId}

@@ -30,7 +30,6 @@ use Rattle.expressions.specs.declared.answers.Outcome.{Outcome}
 use Rattle.expressions.specs.declared.answers.Outcome.the-variants as Outcome
 use Rattle.expressions.specs.Slots.{typeIn}
 use Rattle.expressions.specs.Answers.{refusal, outcomeOf, TypeMeets}
-use Rattle.expressions.proofs.SlotLaws.{ready-frame}
 use Rattle.expressions.proofs.TypingLaws.{type-ok, type-refused}
 use Rattle.statements.specs.declared.answers.Converter.{Converter}
 use Rattle.statements.specs.declared.answers.Converted.{Converted}
@@ -43,7 +42,7 @@ use Rattle.statements.specs.Meets.{StepAnswer, gave, refused, AddsIn, Me
 use Rattle.statements.specs.Converting.{Converting, withCounters, StaysFor}
 use Rattle.statements.specs.Answers.{convertedOf, finishedOf, Converts, Leaves, States, Finishes}
 use Rattle.statements.proofs.MeetLaws.{Most, meets-gave, meets-refused, meets-same, meets-most, meets-then, meets-lift, meets-lift-stop}
-use Rattle.statements.proofs.StayLaws.{frame-stays, scope-stays, ready-stays, converting-next}
+use Rattle.statements.proofs.StayLaws.{frame-stays, scope-stays, ready-stays, converting-next, converting-frame}
 use Rattle.statements.proofs.ConvertLaws.{converted-next}
 
 -- ---- a statement's answer
@@ -135,12 +134,7 @@ module _ {tree text l s s′ : List ℕ} {c : Converter} (p : Converting tree te
 
 module _ {tree text l s : List ℕ} {c : Converter} {e : ℕ} (p : Converting tree text l s c) {ty : ExprType} {s₁ : List ℕ} (t : TypeMeets tree text s (c .scope) e ty s₁) where
   pub type-converting : Converting tree text l s₁ c
-  type-converting = record {
-    ready = ready-frame tree s s₁ (t .frame) text (c .functions) (c .scope) (p .ready);
-    function = p .function;
-    records-are = p .records-are;
-    room = p .room;
-  }
+  type-converting = converting-frame p (t .frame)
 
   pub type-stays : StaysFor tree c s s₁
   type-stays = frame-stays (c .scope .names) (c .operands) (t .frame)

@@ -48,8 +48,8 @@ use Rattle.statements.specs.declared.answers.Finished.the-variants as Fi
 use Rattle.statements.specs.Meets.{StepAnswer, gave, refused, Adds, AddsIn, Meets}
 use Rattle.statements.specs.Parts.{operandType, ifHead, whileHead, forVariable, forBounds, forBegin, forTest, forTurns, forHead, declareInit, passArgs, finishCall}
 use Rattle.statements.specs.Stack.{stackAt}
-use Rattle.syntax.specs.Count.{under, statementRecords, blockRecords}
-use Rattle.statements.specs.Converting.{OperandIn, StackIn, StaysFor, NamesStay, exprAmount, argsAmount, argsUnder, argsValues, behindAmount, statementAmount, blockAmount, headAmount, turnsAmount, forHeadAmount}
+use Rattle.syntax.specs.Count.{under, statementRecords, blockRecords, argsUnder, argsValues}
+use Rattle.statements.specs.Converting.{OperandIn, StackIn, StaysFor, NamesStay, exprAmount, argsAmount, behindAmount, statementAmount, blockAmount, headAmount, turnsAmount, forHeadAmount}
 
 -- ---- answers
 

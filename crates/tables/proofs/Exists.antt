@@ -6,11 +6,11 @@ use mathlib.Core.Option.{Option, none as nothing, some}
 use lib.ListN.{length, getElem?}
 use mir.Syntax.{w64}
 use mir.Val.{SFits}
+use Rattle.laws.specs.All.{All}
 use Rattle.records.specs.Words.{textAt}
 use Rattle.syntax.specs.Syntax.{Text}
 use Rattle.conversion.specs.Ir.{VarId, Operand, OVar, OInt, OFloat, OBool, ODataAddress, ONull, Instr, Copy, Unary, Binary, Cast, Zero, Arg, Call, Label, Jump, JumpIfNot, Return, Comment, LabelName, StringEntry, texts, FloatEntry, State, IrFunction, IrProgram}
 use Rattle.conversion.specs.Written.{Counts, codeOf, countsOf}
-use Rattle.tables.specs.Bytes.{All}
 use Rattle.tables.specs.Read.{_>>=_, ReadBody}
 
 -- a word of 32 bits holds it
