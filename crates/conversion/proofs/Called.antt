@@ -7,12 +7,13 @@ use mathlib.Core.List.{List, [], _∷_, _++_}
 use mathlib.Core.Option.{Option, none, some}
 use native.Mathlib.Omega.{arith}
 use lib.ListN.{getElem?}
+use Rattle.laws.specs.Below.{orElse}
 use Rattle.laws.specs.Fix.{pick}
 use Rattle.syntax.specs.Syntax.{Text, Args, Function, Program}
 use Rattle.conversion.specs.ConvertError.{Result, ok, err, _>>=_, ExternNotLatin, SameSymbol, LatinCharInNonLibCFunction, SameSignature}
 use Rattle.conversion.specs.Ir.{sameText}
 use Rattle.conversion.specs.Scope.{Scope}
-use Rattle.conversion.specs.Expressions.{Callee, CallFunction, CallCast, TypedArg, mainName, variadicMark, Functions, getFunction, is-mangled, filterOption, orElse, chosen, takes-args, cast-type, suffixes, mangledFunction, joined, variadicFunction, find-exact-function, byLiterals, find-functions-by-literals, exactOr, resolveFunction, resolveTyped, get-argument-types, resolve-call}
+use Rattle.conversion.specs.Expressions.{Callee, CallFunction, CallCast, TypedArg, mainName, variadicMark, Functions, getFunction, is-mangled, filterOption, chosen, takes-args, cast-type, suffixes, mangledFunction, joined, variadicFunction, find-exact-function, byLiterals, find-functions-by-literals, exactOr, resolveFunction, resolveTyped, get-argument-types, resolve-call}
 use Rattle.conversion.specs.Functions.{is-ascii, contains-key, addFunction, get-all-functions}
 
 module _ (Q : Function → Type 0) (T : ℕ → Type 0) where

@@ -14,7 +14,7 @@ use Rattle.syntax.specs.Syntax.{Text, Ty, TInt, TFloat, TBool, TChar, TByte, TA
 use Rattle.records.specs.Words.{records}
 use Rattle.syntax.specs.Decode.{program, functionsBelow}
 use Rattle.syntax.proofs.Held.{Complete, Once, functions-records}
-use Rattle.syntax.specs.Count.{under, argsRecords, exprRecords, statementRecords, blockRecords, bodyRecords, functionRecords, allRecords}
+use Rattle.syntax.specs.Count.{under, argsRecords, argsUnder, argsValues, exprRecords, statementRecords, blockRecords, bodyRecords, functionRecords, allRecords}
 use Rattle.conversion.specs.ConvertError as C
 use Rattle.conversion.specs.ConvertError.{Result, ok, err, ConvertErrorKind, AssignToConstant, LiteralOutOfRange, NotBool, NotInteger, UnknownVariable, ReturnWithoutType, BreakOutOfLoop, ContinueOutOfLoop, WrongAssignType, WrongReturnType, AlreadyDeclared, MissingReturn, WouldPanic}
 use Rattle.conversion.specs.Ir.{Copy, Unary, Binary, Cast, Zero, Arg, Call, Label, Jump, JumpIfNot, Return, Comment, loopStart, loopEnd, loopCheck, otherwiseLabel, conditionEnd, logicRhs, logicEnd, VarId, Operand, OVar, OInt, OFloat, OBool, ODataAddress, ONull, State, Out, M, _>>=_, pure, lift, IrFunction, IrProgram}
@@ -27,29 +27,17 @@ use Rattle.conversion.specs.Converter.{convertAll, convert}
 use Rattle.conversion.specs.Written.{codeOf, allCode, allVars, allLabels}
 use Rattle.conversion.proofs.Within.{Grown, grew, fell, Within, Any, pure-within, fail-within, lift-within, emit-within, new-var-within, floatBits-within, label-within, string-within, float-within, then-using, then-within, seq-within, widen, pick-within, onInt-within, onFloat-within}
 
--- ---- what is counted of arguments: their expressions' records below their own, and how many values there are
+-- ---- operands
 
-unfoldable argsUnder : Args → ℕ
-unfolding under
-argsUnder noArgs = 0
-argsUnder (Value r e l) = under e + argsUnder l
-argsUnder (ToType r y l) = argsUnder l
-
-unfoldable values : Args → ℕ
-values noArgs = 0
-values (Value r e l) = suc (values l)
-values (ToType r y l) = values l
-
-args-count : (l : Args) → argsUnder l + 3 * values l ≤ argsRecords l
-unfolding argsUnder values argsRecords under
+-- a value of a call is a list cell, its own record, and the records below
+args-count : (l : Args) → argsUnder l + 3 * argsValues l ≤ argsRecords l
+unfolding argsUnder argsValues argsRecords under
 args-count noArgs = omega arith
 args-count (Value r e l) = omega (arith, args-count l)
 args-count (ToType r y l) = omega (arith, args-count l)
 
 done-within : {A : Type 0} (a : A) → Within Any 0 0 0 0 0 (pure a)
 done-within a = pure-within Any a tt
-
--- ---- operands
 
 name-within : (r : ℕ) (o : Option Variable) → Within Any 0 0 0 0 0 (nameOperand r o)
 unfolding nameOperand
@@ -195,19 +183,19 @@ module _ (P : Program) (F : Functions) where
 
   -- arguments of k values with u records below theirs
   abbrev FitsArgs : Args → M (List Operand) → Type 0
-  FitsArgs l m = Within (λ os. length os ≡ values l) (4 * argsUnder l + values l) (3 * argsUnder l + values l) (3 * argsUnder l)
-      (argsUnder l + values l) (2 * argsUnder l + values l) m
+  FitsArgs l m = Within (λ os. length os ≡ argsValues l) (4 * argsUnder l + argsValues l) (3 * argsUnder l + argsValues l) (3 * argsUnder l)
+      (argsUnder l + argsValues l) (2 * argsUnder l + argsValues l) m
 
   call-within : (r : ℕ) (verb : Text) (l : Args) (y : ℕ) (sc : Scope) (m : M (List Operand))
       → FitsArgs l m → Fits (argsRecords l) (convert-call-value P F r verb l y sc m)
   unfolding convert-call-value
   call-within r verb l y sc m w = widen
       (then-within (lift-within (resolve-call P F verb l sc r)) (λ c. then-using {R = Any} w (λ os e. then-within (new-var-within y) (λ d.
-      widen {i′ = 2 * values l + 1} {v′ = values l} {l′ = 0} {s′ = 0} {f′ = values l} (callValue-within r d os c) (omega (arith, e))))))
+      widen {i′ = 2 * argsValues l + 1} {v′ = argsValues l} {l′ = 0} {s′ = 0} {f′ = argsValues l} (callValue-within r d os c) (omega (arith, e))))))
       (omega (arith, args-count l))
 
   mutual
-    unfolding convert-expr under argsUnder values argsRecords
+    unfolding convert-expr under argsUnder argsValues argsRecords
 
     expr-within : (e : Expr) (sc : Scope) → Fits (under e) (convert-expr P F e sc)
     expr-within (EInt r v s u) sc = widen (done-within (OInt v s u)) (omega arith)
@@ -314,7 +302,7 @@ module _ (P : Program) (F : Functions) where
   unfolding callStatement
   callStatement-within r l sc (CallFunction f) = widen
       (then-using {R = Any} (args-within l sc) (λ os e.
-      widen {i′ = 2 * values l + 1} {v′ = values l} {l′ = 0} {s′ = 0} {f′ = values l} (function-call-within none f os) (omega (arith, e))))
+      widen {i′ = 2 * argsValues l + 1} {v′ = argsValues l} {l′ = 0} {s′ = 0} {f′ = argsValues l} (function-call-within none f os) (omega (arith, e))))
       (omega (arith, args-count l))
   callStatement-within r l sc (CallCast y) = fail-within Any _ _ _ _ _ WouldPanic r
 

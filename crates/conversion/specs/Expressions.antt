@@ -7,6 +7,7 @@ use mathlib.Core.Option.{Option, none, some}
 use lib.Dec.{eqb, ltb}
 use lib.ListN.{length}
 use Rattle.laws.specs.Fix.{pick}
+use Rattle.laws.specs.Below.{orElse}
 use Rattle.syntax.specs.Syntax.{Text, UnaryOp, Neg, BitNot, Not, BinaryOp, Or, And, BitOr, BitXor, BitAnd, Eq, NotEq, Lt, Le, Gt, Ge, Shl, Shr, Add, Sub, Mul, Div, Rem, Expr, EInt, EFloat, EStr, EBool, EName, ENull, ESizeOf, EUnary, EBinary, ECall, Args, noArgs, Value, ToType, Param, Function, Program, place, intType, floatType, boolType, nullType, addressOfChar}
 use Rattle.conversion.specs.ConvertError.{Result, ok, err, _>>=_, UnknownVariable, UnknownFunction, NoValue, WrongOperands, AmbiguousCall, LiteralOutOfRange, InvalidCast}
 use Rattle.conversion.specs.Ir.{sameText}
@@ -63,15 +64,11 @@ unfolding sameText
 getFunction k [] = none
 getFunction k (e ∷ l) = elim (sameText k (e .0)) [ true ↦ some (e .1) | false ↦ getFunction k l ]
 
--- `filter`, `or_else`, `unwrap_or`
+-- `filter`, `unwrap_or`
 unfoldable pub filterOption : {X : Type 0} → (X → Bool) → Option X → Option X
 unfolding pick
 filterOption p none = none
 filterOption p (some x) = pick (p x) (some x) none
-
-unfoldable pub orElse : {X : Type 0} → Option X → Option X → Option X
-orElse (some x) o = some x
-orElse none o = o
 
 unfoldable pub unwrapOr : {X : Type 0} → X → Option X → X
 unwrapOr d none = d

@@ -7,6 +7,7 @@ use mathlib.Core.List.{List, [], _∷_, append-nil}
 use native.Mathlib.Omega.{arith}
 use lib.Dec.{eqb}
 use lib.ListN.{length, getD, replicate}
+use Rattle.laws.specs.All.{All}
 use Rattle.records.specs.Words.{records, none}
 use Rattle.records.specs.Good.{Good}
 use Rattle.records.specs.Answer.{wordsOf}
@@ -18,7 +19,7 @@ use Rattle.conversion.specs.Ir.{IrProgram}
 use Rattle.conversion.specs.Converter.{convert}
 use Rattle.conversion.specs.Written as Written
 use Rattle.conversion.specs.Written.{allCode, allVars, allLabels, tablesOf, countsOf}
-use Rattle.tables.specs.Bytes.{All, Byte}
+use Rattle.tables.specs.Bytes.{Byte}
 use Rattle.ir.specs.declared.structs.Counters.{Counters}
 use Rattle.ir.specs.Arena.{Holds}
 use Rattle.ir.specs.Cut as Cut
@@ -40,7 +41,7 @@ use Rattle.demands.proofs.Demands.{every-call}
 use Rattle.converter.specs.declared.Counts.{Counts}
 use Rattle.converter.specs.declared.Answer.{Answer}
 use Rattle.converter.specs.declared.Answer.the-variants as Answer
-use Rattle.converter.specs.Convert.{poolOf, ConvertsTo, countsIn, outputs, CutAfforded, SameLengths, FinishesIn, Lent, countsFrom, answerFrom, JudgedFirst, Promised}
+use Rattle.converter.specs.Convert.{poolOf, ConvertsTo, countsIn, outputs, CutAfforded, SameTableLengths, FinishesIn, SevenLong, countsFrom, answerFrom, JudgedFirst, Promised}
 
 -- ---- one component after the other
 
@@ -78,7 +79,7 @@ module _ (done : Finished) (i v l f s x i′ v′ l′ f′ s′ x′ : List ℕ
     refused = λ r z. let y : e ≡ r = cc in (ap Answer.Refused y, six-outputs a b c d g h);
   }
 
-  pub finish-converted : (k : Counters) (c : Counts) → done ≡ Finished.Done k → c ≡ countsIn k → SameLengths (outputs i v l f s x) (outputs i′ v′ l′ f′ s′ x′)
+  pub finish-converted : (k : Counters) (c : Counts) → done ≡ Finished.Done k → c ≡ countsIn k → SameTableLengths (outputs i v l f s x) (outputs i′ v′ l′ f′ s′ x′)
       → Cut.Cut k i i′ v′ l′ f′ s′ x′ → FinishesIn done (Answer.Converted c) (outputs i v l f s x) (outputs i′ v′ l′ f′ s′ x′)
   finish-converted k c q e long cut = record {
     long = long;
@@ -104,10 +105,10 @@ counts-are text p k l h = six-counts
 -- the buffers before, with t scratch; the arena j and scratch u when the tree is converted
 module _ (tree text : List ℕ) (needsMain : Bool) (i v l f s x t : List ℕ) (done : Finished) (j u : List ℕ)
     (m : ConvertsTo tree text (convert (program tree text) needsMain) i t done j u) where
-  pub cut-afforded : Lent (records tree) (buffers i v l f s x t) → CutAfforded done (outputs j v l f s x)
+  pub cut-afforded : SevenLong (records tree) (buffers i v l f s x t) → CutAfforded done (outputs j v l f s x)
   cut-afforded lent = record {
     room = λ k q. m .gives k q .room;
-    lent = λ k q. subst (λ (n : ℕ). Cut.Lent n v l f s x) (sym (m .gives k q .records-are)) (lent .tables);
+    lent = λ k q. subst (λ (n : ℕ). Cut.FiveLong n v l f s x) (sym (m .gives k q .records-are)) (lent .tables);
   }
 
   -- the buffers afterwards
@@ -245,10 +246,10 @@ module _ (tree text : List ℕ) (b : Buffers) (r : Judged) (b₁ : Buffers) (fir
     pub judged-good : Good tree text
     judged-good = good-in tree text true b accepted
 
-    pub judged-lent : Lent (records tree) b₁
+    pub judged-lent : SevenLong (records tree) b₁
     judged-lent =
         let h = enough-in tree text true b accepted in
-        subst (Lent (records tree)) (sym (first .accepted q .0)) (record {
+        subst (SevenLong (records tree)) (sym (first .accepted q .0)) (record {
           arena = h .instructions;
           tables = record { variables-long = h .variables; labels-long = h .labels; functions-long = h .functions; strings-long = h .strings; floats-long = h .floats };
           scratch = omega (arith, h .scratch, first .accepted q .1);

@@ -5,6 +5,7 @@ use Prim.Native.Nat.{ℕ, _*_, _≤_}
 use mathlib.Core.Bool.{Bool}
 use mathlib.Core.List.{List, []}
 use lib.ListN.{length}
+use Rattle.laws.specs.All.{All}
 use Rattle.records.specs.Words.{records}
 use Rattle.records.specs.Answer.{wordsOf}
 use Rattle.records.specs.declared.convert_error.ConvertError.{ConvertError}
@@ -24,7 +25,7 @@ use Rattle.judge.specs.declared.Judged.the-variants as Judged
 use Rattle.statements.specs.declared.answers.Finished.{Finished}
 use Rattle.statements.specs.declared.answers.Finished.the-variants as Finished
 use Rattle.functions.specs.Bodies.{begun}
-use Rattle.tables.specs.Bytes.{All, Byte}
+use Rattle.tables.specs.Bytes.{Byte}
 use Rattle.demands.specs.Call as Call
 use Rattle.demands.specs.Call.{Calls}
 use Rattle.demands.specs.Demands.{Demands}
@@ -90,12 +91,12 @@ outputs instructions variables labels functions strings floats = record {
 -- tables that were converted can be cut out of the arena, which is the instructions' buffer
 pub record CutAfforded (done : Finished) (b : Written.Tables) : Type 0 where
   pub room : (k : Counters) → done ≡ Finished.Done k → Room k (b .instructions)
-  pub lent : (k : Counters) → done ≡ Finished.Done k → Cut.Lent (k .records) (b .variables) (b .labels) (b .functions) (b .strings) (b .floats)
+  pub lent : (k : Counters) → done ≡ Finished.Done k → Cut.FiveLong (k .records) (b .variables) (b .labels) (b .functions) (b .strings) (b .floats)
 
 abbrev pub clearedAll : Written.Tables → Written.Tables
 clearedAll b = outputs (cleared (b .instructions)) (cleared (b .variables)) (cleared (b .labels)) (cleared (b .functions)) (cleared (b .strings)) (cleared (b .floats))
 
-pub record SameLengths (b b′ : Written.Tables) : Type 0 where
+pub record SameTableLengths (b b′ : Written.Tables) : Type 0 where
   pub instructions : length (b′ .instructions) ≡ length (b .instructions)
   pub variables : length (b′ .variables) ≡ length (b .variables)
   pub labels : length (b′ .labels) ≡ length (b .labels)
@@ -104,15 +105,15 @@ pub record SameLengths (b b′ : Written.Tables) : Type 0 where
   pub floats : length (b′ .floats) ≡ length (b .floats)
 
 pub record FinishesIn (done : Finished) (a : Answer) (b b′ : Written.Tables) : Type 0 where
-  pub long : SameLengths b b′
+  pub long : SameTableLengths b b′
   pub converted : (k : Counters) → done ≡ Finished.Done k → (a ≡ Answer.Converted (countsIn k))
       × Cut.Cut k (b .instructions) (b′ .instructions) (b′ .variables) (b′ .labels) (b′ .functions) (b′ .strings) (b′ .floats)
   pub refused : (e : ConvertError) → done ≡ Finished.Refused e → (a ≡ Answer.Refused e) × (b′ ≡ clearedAll b)
 
 -- the seven buffers are as long as document 01 lends them
-pub record Lent (n : ℕ) (b : Buffers) : Type 0 where
+pub record SevenLong (n : ℕ) (b : Buffers) : Type 0 where
   pub arena : 320 * n ≤ length (b .instructions)
-  pub tables : Cut.Lent n (b .variables) (b .labels) (b .functions) (b .strings) (b .floats)
+  pub tables : Cut.FiveLong n (b .variables) (b .labels) (b .functions) (b .strings) (b .floats)
   pub scratch : 64 * n ≤ length (b .scratch)
 
 -- ---- judging, before anything is converted

@@ -9,7 +9,7 @@ ghost use Rattle.conversion.specs.Converter as Krc;
 ghost use Rattle.keys.specs.Keys.{Keyed};
 ghost use Rattle.judge.specs.Judge.{buffers};
 ghost use Rattle.demands.specs.Demands.{AsTheRust};
-ghost use Rattle.converter.specs.Convert.{ConvertsTo, allFunctions, emptyCounters, countsIn, answerFrom, outputs, Lent, CutAfforded, FinishesIn, JudgedFirst, Promised};
+ghost use Rattle.converter.specs.Convert.{ConvertsTo, allFunctions, emptyCounters, countsIn, answerFrom, outputs, SevenLong, CutAfforded, FinishesIn, JudgedFirst, Promised};
 use expressions::answers::Outcome;
 use functions::bodies::convert_func;
 use functions::functions::AllFunctions;
@@ -166,7 +166,7 @@ fn convert_good(
     scratch: &mut [u8],
 ) -> Answer
     requires { ⌜ Good (now tree) (now text) ⌝ }
-    requires { ⌜ Lent (records (now tree)) (buffers (now instructions) (now variables) (now labels) (now functions) (now strings) (now floats) (now scratch)) ⌝ }
+    requires { ⌜ SevenLong (records (now tree)) (buffers (now instructions) (now variables) (now labels) (now functions) (now strings) (now floats) (now scratch)) ⌝ }
     ensures { λ a. ⌜ AsTheRust (now (tree .entry)) (now (text .entry)) «needs_main» (buffers (now (instructions .entry)) (now (variables .entry)) (now (labels .entry)) (now (functions .entry)) (now (strings .entry)) (now (floats .entry)) (now (scratch .entry))) (answerFrom (now (tree .entry)) a) (buffers (now (instructions .exit)) (now (variables .exit)) (now (labels .exit)) (now (functions .exit)) (now (strings .exit)) (now (floats .exit)) (now (scratch .exit))) ⌝ }
 {
     let done = convert_tree(tree, text, needs_main, instructions, scratch);

@@ -11,6 +11,7 @@ use native.Mathlib.Omega.{arith}
 use lib.Dec.{eqb, leb}
 use lib.ListN.{length, getElem?}
 use borrow.Author.Tests.{eqb-true, leb-true}
+use Rattle.laws.specs.All.{All}
 use Rattle.laws.specs.Fix.{pick}
 use Rattle.laws.specs.Below.{orElse, lowest}
 use Rattle.laws.proofs.Tests.{and-left, and-right}
@@ -21,7 +22,7 @@ use Rattle.records.specs.declared.convert_error.ConvertErrorKind.the-variants.{
 use Rattle.syntax.specs.Syntax.{Block, Function}
 use Rattle.syntax.specs.Decode.{program}
 use Rattle.conversion.specs.Written.{Counts, Tables, Converted, conversion}
-use Rattle.tables.specs.Bytes.{All, Byte}
+use Rattle.tables.specs.Bytes.{Byte}
 use Rattle.tables.specs.Read.{Begin}
 use Rattle.judge.specs.declared.Lengths.{Lengths}
 use Rattle.judge.specs.declared.Judged.the-variants.{Accepted}

@@ -59,7 +59,7 @@ found P needsMain ir e = go (get-all-functions (P .functions) []) refl e
 -- ---- the body that the buffers say is the one that runs
 
 -- the body of a function that agrees, as it is read
-unfoldable bodyRead : {W : Type 0} {P : Program} {F : Functions} {ir : IrProgram} {i : ℕ} {f : Function} {b : Block} → Agrees W P F ir i f b → Read.Body
+unfoldable bodyRead : {W : Type 0} {P : Program} {F : Functions} {ir : IrProgram} {i : ℕ} {f : Function} {b : Block} → Agrees W P F ir i f b → Read.ReadBody
 bodyRead {ir = ir} a = record {
   func = a .function .func;
   instrs = a .code;

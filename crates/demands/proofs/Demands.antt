@@ -7,6 +7,7 @@ use mathlib.Core.Option.{Option, none as nothing, some}
 use mathlib.Core.List.{List}
 use native.Mathlib.Omega.{arith}
 use lib.ListN.{length, replicate, getElem?, length-append, length-replicate}
+use Rattle.laws.specs.All.{All}
 use Rattle.records.specs.Words.{records, none}
 use Rattle.records.specs.Answer.{numberOf, wordsOf}
 use Rattle.records.specs.declared.convert_error.ConvertErrorKind.{ConvertErrorKind}
@@ -23,7 +24,7 @@ use Rattle.conversion.specs.Written as Written
 use Rattle.conversion.specs.Written.{Counts, Tables, Converted, conversion, tablesOf, countsOf}
 use Rattle.conversion.proofs.Sizes.{IfOk}
 use Rattle.conversion.proofs.Bytes.{Fit}
-use Rattle.tables.specs.Bytes.{All, Byte}
+use Rattle.tables.specs.Bytes.{Byte}
 use Rattle.tables.specs.Read.{Begin}
 use Rattle.demands.specs.Demand3.{RunsAlike}
 use Rattle.demands.specs.Call.{Outcome, RefusedAt, Success, conversionRow, judgedRows, callOf, Answer, Counted, answerOf, filled, buffersAfter, Calls}

@@ -9,6 +9,7 @@ use native.Mathlib.Omega.{arith}
 use lib.Dec.{ltb}
 use lib.ListN.{length, getD, getElem?}
 use borrow.Author.Tests.{ltb-true}
+use Rattle.laws.specs.All.{All}
 use Rattle.laws.specs.Below.{allBelow}
 use Rattle.laws.proofs.Tests.{and-left, and-right}
 use Rattle.laws.proofs.AllBelow.{all-at}
@@ -23,12 +24,12 @@ use Rattle.conversion.specs.Expressions.{Functions, get-type, common-type, unwr
 use Rattle.conversion.specs.Functions.{get-all-functions}
 use Rattle.conversion.specs.Written.{Counts, Tables, Conversion, Refused, Converted, conversion}
 use Rattle.conversion.proofs.Trees.{row, types, text}
-use Rattle.tables.specs.Bytes.{All, Byte}
+use Rattle.tables.specs.Bytes.{Byte}
 use Rattle.tables.specs.Read as Read
 use Rattle.tables.specs.Read.{Begin, bodyAt}
 use Rattle.runs.specs.Rule.{asked, content, literalType, read, returns}
 use Rattle.runs.specs.TreeRun as Tree
-use Rattle.runs.specs.TreeRun.{Out, treeRun, parametersKnown, parameterValues, set, runStatement, bindS, bindO, giveBack, evalExpr, typed, scopeOf, evalBinary, evalAnd, toBool, answered, bindG, test, bare, fit, fitLiteral, fitComputed, knownAfter}
+use Rattle.runs.specs.TreeRun.{Ran, treeRun, parametersKnown, parameterValues, set, runStatement, bindS, bindO, giveBack, evalExpr, typed, scopeOf, evalBinary, evalAnd, toBool, answered, bindG, test, bare, fit, fitLiteral, fitComputed, knownAfter}
 use Rattle.runs.specs.BodyRun.{Spot, bodyRun, steps, step, fetch, execute, putTo, jumpTo, branchTo, finishWith, operand, datum, write, oneOn, labelPlace, isLabel}
 use Rattle.runs.specs.Shared.{endT, endB}
 use Rattle.runs.proofs.Alike.{rule, number, compute, answer}
@@ -137,7 +138,7 @@ begins = record {
 unfoldable pub bool : ℕ → VarId
 bool i = record { id = i; ty = 6 }
 
-unfoldable pub said : Read.Body
+unfoldable pub said : Read.ReadBody
 unfolding bool
 said = record {
   func = 23;
@@ -184,11 +185,11 @@ unfoldable pub functionsOf : Result Functions → Functions
 functionsOf (ok F) = F
 functionsOf (err k r) = []
 
-unfoldable pub readBody : Option Read.Body → Read.Body
+unfoldable pub readBody : Option Read.ReadBody → Read.ReadBody
 readBody nothing = record { func = 0; instrs = []; vars = []; labels = []; strings = []; floats = [] }
 readBody (some b) = b
 
-unfoldable pub treeWith : ℕ → ℕ → ℕ → Out ℕ
+unfoldable pub treeWith : ℕ → ℕ → ℕ → Ran ℕ
 unfolding tree text program function body functionsOf get-all-functions get-type common-type unwrapOr rule number compute answer asked treeRun parametersKnown parameterValues set runStatement bindS bindO giveBack evalExpr typed scopeOf Tree.variables evalBinary evalAnd toBool answered bindG test read literalType content bare fit fitLiteral fitComputed knownAfter
 treeWith p q = treeRun (program tree text) (functionsOf (get-all-functions (program tree text .functions) [])) function rule (asked rule) body (p ∷ q ∷ [])
 

@@ -8,6 +8,7 @@ use mathlib.Core.Bool.{Bool}
 use mathlib.Core.List.{List, []}
 use mathlib.Core.Option.{some}
 use lib.ListN.{length, getElem?}
+use Rattle.laws.specs.All.{All}
 use Rattle.records.specs.Good.{Good}
 use Rattle.syntax.specs.Syntax.{Block, Function}
 use Rattle.syntax.specs.Decode.{program}
@@ -15,7 +16,7 @@ use Rattle.conversion.specs.ConvertError.{ok}
 use Rattle.conversion.specs.Expressions.{Functions}
 use Rattle.conversion.specs.Functions.{get-all-functions}
 use Rattle.conversion.specs.Written.{Counts, Tables, Converted, conversion}
-use Rattle.tables.specs.Bytes.{All, Byte}
+use Rattle.tables.specs.Bytes.{Byte}
 use Rattle.tables.specs.Read as Read
 use Rattle.tables.specs.Read.{Begin, bodyAt}
 use Rattle.runs.specs.Rule.{Rule, Answers, asked}
@@ -24,7 +25,7 @@ use Rattle.runs.specs.BodyRun.{Body, Vars, bodyRun}
 use Rattle.runs.specs.Shared.{Shared, SameRuns, InPlace}
 
 -- what a run takes of a body that was read from bytes; the return type is that of the function in the tree
-unfoldable pub runnable : Function → Read.Body → Body
+unfoldable pub runnable : Function → Read.ReadBody → Body
 runnable f b = record { instrs = b .instrs; result = f .returnType; strings = b .strings; floats = b .floats }
 
 -- what is found and read for f, the i-th function of the tree: the buffers t say a body for it
@@ -33,7 +34,7 @@ pub record BodySaid (tree text : List ℕ) (c : Counts) (t : Tables) (i : ℕ) (
   pub functions : Functions
   pub found : get-all-functions (program tree text .functions) [] ≡ ok functions
   -- the i-th body, read from bytes, is that of f's record
-  pub body : Read.Body
+  pub body : Read.ReadBody
   pub reads : bodyAt c t text i ≡ some body
   pub same : body .func ≡ f .recOf
 

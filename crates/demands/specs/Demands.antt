@@ -4,15 +4,16 @@
 -- What must be believed below this page, in reading order:
 --   laws: Fix, Below; records: Words, Kinds, Shapes, Rules, Depth, Answer, Good: the form of a tree, and a refusal's number, place and span;
 --   judge: Judge: the rows 'lengths', 'buffers', 'records' and 'nesting', and what a row that refuses leaves of a buffer;
---   syntax: Syntax, Decode: what a tree stands for; int128: Ops, Value;
+--   syntax: Syntax, Decode: what a tree stands for; int128: Ops;
 --   conversion: ConvertError, Ir, Types, Scope, Expressions, Statements, Functions, Converter: what the Rust makes of it; Written: as bytes;
---   Call: the whole call; for demand 3 also tables: Bytes, Read; runs: Rule, TreeRun, BodyRun, Shared: the two runs; and Demand3.
+--   Call: the whole call; for demand 3 also laws: All; tables: Bytes, Read; runs: Rule, TreeRun, BodyRun, Shared: the two runs; and Demand3.
 use mathlib.Core.Path.{_≡_}
 use Prim.Native.Nat.{ℕ, _≤_}
 use mathlib.Core.Bool.{Bool, true, false}
 use mathlib.Core.List.{List}
 use mathlib.Core.Option.{none as nothing, some}
 use lib.ListN.{length, getElem?}
+use Rattle.laws.specs.All.{All}
 use Rattle.records.specs.Words.{records, none}
 use Rattle.records.specs.Answer.{wordsOf}
 use Rattle.records.specs.declared.convert_error.ConvertErrorKind.{ConvertErrorKind}
@@ -24,7 +25,7 @@ use Rattle.conversion.specs.ConvertError.{ok, err}
 use Rattle.conversion.specs.Ir.{IrProgram}
 use Rattle.conversion.specs.Converter.{convert}
 use Rattle.conversion.specs.Written.{Counts, Tables, tablesOf, countsOf}
-use Rattle.tables.specs.Bytes.{All, Byte}
+use Rattle.tables.specs.Bytes.{Byte}
 use Rattle.demands.specs.Call.{Answer, Refusal, Counted, filled, Calls}
 use Rattle.demands.specs.Demand3.{RunsAlike}
 

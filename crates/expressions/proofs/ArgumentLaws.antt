@@ -22,17 +22,16 @@ use Rattle.syntax.specs.Syntax.{ToType, place}
 use Rattle.syntax.specs.Decode.{node, exprOf, kinds, nothingAt, intAt, floatAt, strAt, boolAt, nameAt, nullAt, sizeOfAt, unaryAt, binaryAt, callAt, keyAt, textOf}
 use Rattle.syntax.proofs.Unfold.{node-is}
 use Rattle.conversion.specs.Expressions.{TypedArg, targetType, sourceType}
-use Rattle.types.specs.Fits.{IsExpr}
 use Rattle.records.specs.declared.words.Found.{Found}
 use Rattle.records.specs.declared.words.Found.the-variants as Found
 use Rattle.keys.specs.declared.parts.Part.{Part}
 use Rattle.expressions.specs.declared.arguments.Argument.{Argument}
 use Rattle.expressions.specs.declared.arguments.Argument.the-variants as Argument
-use Rattle.syntax.specs.Places.{TypeAt, ArgsAt, ParamsAt, exprAt, argsAt, paramsAt}
+use Rattle.syntax.specs.Places.{IsExpr, TypeAt, ArgsAt, ParamsAt, exprAt, argsAt, paramsAt}
 use Rattle.keys.specs.Parts.{PartIs}
-use Rattle.expressions.specs.Slots.{FirstType, slotAt, slotted, Typed}
+use Rattle.expressions.specs.Slots.{FirstType, slotAt, slotted, ArgsTyped}
 use Rattle.expressions.specs.Calls.{typedAt}
-use Rattle.expressions.specs.Answers.{ArgumentIs, an-expr, a-type, numberOf}
+use Rattle.expressions.specs.Answers.{ArgumentIs, an-expr, a-type, foundNumber}
 use Rattle.types.proofs.FromGood.{is-expr}
 use Rattle.syntax.proofs.Lists.{cell-is, value-item, value-lower, value-inside, value-kind, type-item, type-is, parameter-item, args-end, params-end}
 
@@ -101,17 +100,17 @@ module _ (tree text : List ℕ) where
     head-is s (an-expr {e} r q x l) = rw (q, place-is e (x .expression))
     head-is s (a-type r q t) = rw q
 
-    pub head-typed : (s : List ℕ) {a : Argument} → ArgumentIs tree text w a → Typed tree s (argsAt tree text w) → TypeAt tree (typedArg s a .ty)
-    unfolding Typed typedArg
+    pub head-typed : (s : List ℕ) {a : Argument} → ArgumentIs tree text w a → ArgsTyped tree s (argsAt tree text w) → TypeAt tree (typedArg s a .ty)
+    unfolding ArgsTyped typedArg
     head-typed s (an-expr {e} r q x l) t = rw (place-is e (x .expression)) at ((rw q at t) .0)
     head-typed s (a-type r q y) t = y
 
-    pub rest-typed : (s : List ℕ) {a : Argument} → ArgumentIs tree text w a → Typed tree s (argsAt tree text w) → Typed tree s (argsAt tree text (wordOf tree w B))
-    unfolding Typed
+    pub rest-typed : (s : List ℕ) {a : Argument} → ArgumentIs tree text w a → ArgsTyped tree s (argsAt tree text w) → ArgsTyped tree s (argsAt tree text (wordOf tree w B))
+    unfolding ArgsTyped
     rest-typed s (an-expr r q x l) t = (rw q at t) .1
     rest-typed s (a-type r q y) t = rw q at t
 
-    pub next-typed : (s : List ℕ) {a : Argument} (v : ℕ) → ArgumentIs tree text w a → Typed tree s (argsAt tree text w) → v ≡ wordOf tree w B → Typed tree s (argsAt tree text v)
+    pub next-typed : (s : List ℕ) {a : Argument} (v : ℕ) → ArgumentIs tree text w a → ArgsTyped tree s (argsAt tree text w) → v ≡ wordOf tree w B → ArgsTyped tree s (argsAt tree text v)
     next-typed s v is t e = rw e (rest-typed s is t)
 
     pub of-type : {a : Argument} → ArgumentIs tree text w a → (y : ℕ) → a ≡ Argument.ToType y → TypeAt tree y
@@ -189,8 +188,8 @@ module _ (tree text : List ℕ) where
   -- ---- the first type, and the type of the first expression
 
   module _ (s : List ℕ) (w : ℕ) (o : Option ℕ) where
-    pub target-hit : (a : Argument) (y : ℕ) → ArgumentIs tree text w a → a ≡ Argument.ToType y → o ≡ targetType (typedAt tree text s w) → numberOf (Found.At y) ≡ o
-    unfolding targetType typedArg numberOf
+    pub target-hit : (a : Argument) (y : ℕ) → ArgumentIs tree text w a → a ≡ Argument.ToType y → o ≡ targetType (typedAt tree text s w) → foundNumber (Found.At y) ≡ o
+    unfolding targetType typedArg foundNumber
     target-hit a y is e h = sym (h ∙ rw (head-is w s is, e))
 
     pub target-more : (a : Argument) (e v : ℕ) → ArgumentIs tree text w a → a ≡ Argument.Expr e → v ≡ wordOf tree w B
@@ -198,13 +197,13 @@ module _ (tree text : List ℕ) where
     unfolding targetType typedArg
     target-more a e v is q p h = h ∙ rw (head-is w s is, q, p)
 
-    pub target-end : Good tree text → w ≡ none → o ≡ targetType (typedAt tree text s w) → numberOf Found.Nothing ≡ o
-    unfolding targetType numberOf
+    pub target-end : Good tree text → w ≡ none → o ≡ targetType (typedAt tree text s w) → foundNumber Found.Nothing ≡ o
+    unfolding targetType foundNumber
     target-end good e h = sym (h ∙ rw (typed-end good s w e))
 
     pub source-hit : (a : Argument) (e y : ℕ) → ArgumentIs tree text w a → a ≡ Argument.Expr e → y ≡ slotAt tree s e
-        → o ≡ sourceType (typedAt tree text s w) → numberOf (Found.At y) ≡ o
-    unfolding sourceType typedArg numberOf
+        → o ≡ sourceType (typedAt tree text s w) → foundNumber (Found.At y) ≡ o
+    unfolding sourceType typedArg foundNumber
     source-hit a e y is q p h = rw p (sym (h ∙ rw (head-is w s is, q)))
 
     pub source-more : (a : Argument) (y v : ℕ) → ArgumentIs tree text w a → a ≡ Argument.ToType y → v ≡ wordOf tree w B
@@ -212,12 +211,12 @@ module _ (tree text : List ℕ) where
     unfolding sourceType typedArg
     source-more a y v is q p h = h ∙ rw (head-is w s is, q, p)
 
-    pub source-end : Good tree text → w ≡ none → o ≡ sourceType (typedAt tree text s w) → numberOf Found.Nothing ≡ o
-    unfolding sourceType numberOf
+    pub source-end : Good tree text → w ≡ none → o ≡ sourceType (typedAt tree text s w) → foundNumber Found.Nothing ≡ o
+    unfolding sourceType foundNumber
     source-end good e h = sym (h ∙ rw (typed-end good s w e))
 
   -- the type of an argument that is an expression, or a type
-  module _ (s : List ℕ) (w : ℕ) (a : Argument) (is : ArgumentIs tree text w a) (t : Typed tree s (argsAt tree text w)) where
+  module _ (s : List ℕ) (w : ℕ) (a : Argument) (is : ArgumentIs tree text w a) (t : ArgsTyped tree s (argsAt tree text w)) where
     pub slot-type : (e y : ℕ) → a ≡ Argument.Expr e → y ≡ slotAt tree s e → TypeAt tree y
     unfolding typedArg
     slot-type e y q p = rw p (rw q at (head-typed w s is t))

@@ -23,17 +23,16 @@ use Rattle.conversion.specs.Expressions.{TypedArg, Functions, get-type, get-arg
 use Rattle.conversion.specs.Written.{word}
 use Rattle.scope.specs.declared.Scope.{Scope}
 use Rattle.scope.specs.Open.{scopeAt}
-use Rattle.types.specs.Fits.{IsExpr}
 use Rattle.expressions.specs.declared.answers.Outcome.{Outcome}
 use Rattle.expressions.specs.declared.answers.Outcome.the-variants as Outcome
 use Rattle.expressions.specs.declared.answers.ExprType.{ExprType}
 use Rattle.expressions.specs.declared.answers.ExprType.the-variants as ExprType
 use Rattle.expressions.specs.declared.arguments.Argument.{Argument}
 use Rattle.expressions.specs.declared.arguments.Argument.the-variants as Argument
-use Rattle.syntax.specs.Places.{IsKind, TypeAt, ArgsAt, exprAt, argsAt}
+use Rattle.syntax.specs.Places.{IsExpr, IsKind, TypeAt, ArgsAt, exprAt, argsAt}
 use Rattle.keys.specs.Keys.{allKeys}
-use Rattle.expressions.specs.Slots.{slotAt, slotted, Typed, Frame, Slots, typeIn, Ready}
-use Rattle.expressions.specs.Answers.{refusal, typeOf, doneWith, ArgumentIs, TypeMeets, ArgsMeet}
+use Rattle.expressions.specs.Slots.{slotAt, slotted, ArgsTyped, Frame, Slots, typeIn, Ready}
+use Rattle.expressions.specs.Answers.{refusal, typeResult, doneWith, ArgumentIs, TypeMeets, ArgsMeet}
 use Rattle.syntax.proofs.Lists.{Cell, cell-is, args-end}
 use Rattle.expressions.proofs.SlotLaws.{frame-refl, frame-trans, type-later, ready-frame, put-frame, put-here, slots-refl, slots-trans, slot-kept, put-slots}
 use Rattle.expressions.proofs.TypingLaws.{type-ok, type-refused, is-typed, expr-low, place-is, call-list, call-low}
@@ -44,7 +43,7 @@ pub record LeftIn (tree text : List ℕ) (S : Def.Scope) (s₀ : List ℕ) (o : 
   pub done : (s′ : List ℕ) → Slots tree text S s s′
       → get-argument-types (program tree text) (allKeys tree text) (argsAt tree text w) S ≡ ok (slotted tree s′ (argsAt tree text w))
       → get-argument-types (program tree text) (allKeys tree text) (argsAt tree text o) S ≡ ok (slotted tree s′ (argsAt tree text o))
-  pub typed : (s′ : List ℕ) → Slots tree text S s s′ → Typed tree s′ (argsAt tree text w) → Typed tree s′ (argsAt tree text o)
+  pub typed : (s′ : List ℕ) → Slots tree text S s s′ → ArgsTyped tree s′ (argsAt tree text w) → ArgsTyped tree s′ (argsAt tree text o)
   pub refused : (k : ConvertErrorKind) (p : ℕ) → get-argument-types (program tree text) (allKeys tree text) (argsAt tree text w) S ≡ err k p
       → get-argument-types (program tree text) (allKeys tree text) (argsAt tree text o) S ≡ err k p
 
@@ -88,13 +87,13 @@ module _ (tree text : List ℕ) (good : Good tree text) (S : Def.Scope) (s₀ : 
   rest = argsAt tree text (wordOf tree w B)
 
   type-in : (r y : ℕ) → argsAt tree text w ≡ ToType r y rest → LeftIn tree text S s₀ o s (wordOf tree w B)
-  unfolding slotted Typed
+  unfolding slotted ArgsTyped
   type-in r y q = record {
     slots = l .slots;
     done = λ s′ f h. l .done s′ f
         (subst (λ (z : Args). get-argument-types (program tree text) (allKeys tree text) z S ≡ ok (slotted tree s′ z)) (sym q)
         (type-done (program tree text) (allKeys tree text) S r rest y (slotted tree s′ rest) h));
-    typed = λ s′ f h. l .typed s′ f (subst (λ (z : Args). Typed tree s′ z) (sym q) h);
+    typed = λ s′ f h. l .typed s′ f (subst (λ (z : Args). ArgsTyped tree s′ z) (sym q) h);
     refused = λ k n h. l .refused k n
         (subst (λ (z : Args). get-argument-types (program tree text) (allKeys tree text) z S ≡ err k n) (sym q)
         (type-rest (program tree text) (allKeys tree text) S r rest y k n h));
@@ -122,7 +121,7 @@ module _ (tree text : List ℕ) (good : Good tree text) (S : Def.Scope) (s₀ : 
           ∙ slot-kept tree text S s₂ s′ e y f (expr-low tree text good e x) t (put-here tree s₁ s₂ e y (expr-low tree text good e x) room put small)
 
       value-in : LeftIn tree text S s₀ o s₂ (wordOf tree w B)
-      unfolding slotted Typed typeIn
+      unfolding slotted ArgsTyped typeIn
       value-in = record {
         slots = slots-trans tree text S s₀ s s₂ (l .slots) step;
         done = λ s′ f h. l .done s′ (slots-trans tree text S s s₂ s′ step f)
@@ -130,7 +129,7 @@ module _ (tree text : List ℕ) (good : Good tree text) (S : Def.Scope) (s₀ : 
             (value-done (program tree text) (allKeys tree text) S r rest (exprAt tree text e) y (slotted tree s′ rest) t h
             ∙ ap (λ (z : ℕ). ok (record { ty = z; value = some (exprAt tree text e) } ∷ slotted tree s′ rest)) (sym (kept s′ f))));
         typed = λ s′ f h. l .typed s′ (slots-trans tree text S s s₂ s′ step f)
-            (subst (λ (z : Args). Typed tree s′ z) (sym q) (subst (λ (z : ℕ). TypeAt tree z) (sym (kept s′ f)) a, h));
+            (subst (λ (z : Args). ArgsTyped tree s′ z) (sym q) (subst (λ (z : ℕ). TypeAt tree z) (sym (kept s′ f)) a, h));
         refused = λ k n h. l .refused k n
             (subst (λ (z : Args). get-argument-types (program tree text) (allKeys tree text) z S ≡ err k n) (sym q)
             (value-rest (program tree text) (allKeys tree text) S r rest (exprAt tree text e) y k n t h));
@@ -183,12 +182,12 @@ module _ (tree text : List ℕ) (good : Good tree text) (s₀ : List ℕ) (sc : 
     now-ready = ready-frame tree s₀ s (l .frame) text count sc ready
 
     pub loop-end : w ≡ none → ArgsMeet tree text s₀ sc (wordOf tree r C) Outcome.Done s
-    unfolding doneWith slotted Typed get-argument-types
+    unfolding doneWith slotted ArgsTyped get-argument-types
     loop-end e =
         let over : argsAt tree text w ≡ noArgs = ap (argsAt tree text) e ∙ args-end tree text good in
         record {
           frame = l .frame;
-          typed = λ q. l .meets .typed s (slots-refl tree text S s) (subst (λ (z : Args). Typed tree s z) (sym over) tt);
+          typed = λ q. l .meets .typed s (slots-refl tree text S s) (subst (λ (z : Args). ArgsTyped tree s z) (sym over) tt);
           slots = l .meets .slots;
           meets =
               l .meets .done s (slots-refl tree text S s)
@@ -244,7 +243,7 @@ module _ (tree text : List ℕ) (good : Good tree text) (s₀ : List ℕ) (sc : 
 
           module _ (t : ExprType) (s₁ : List ℕ) (m : TypeMeets tree text s sc e t s₁) where
             -- the scope is still the one from the start
-            typed-now : Slots tree text S s s₁ × (typeIn tree text S e ≡ typeOf t)
+            typed-now : Slots tree text S s s₁ × (typeIn tree text S e ≡ typeResult t)
             typed-now = type-later tree text s₀ s sc (l .frame) (ready .scoped .records-are) e t s₁ m
 
             pub turn-stop : (x : ConvertError) → t ≡ ExprType.Refused x → ArgsMeet tree text s₀ sc (wordOf tree r C) (Outcome.Refused x) s₁

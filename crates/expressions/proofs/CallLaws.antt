@@ -33,10 +33,10 @@ use Rattle.expressions.specs.declared.answers.Resolved.{Resolved}
 use Rattle.expressions.specs.declared.answers.Resolved.the-variants as Resolved
 use Rattle.expressions.specs.declared.arguments.Call.{Call}
 use Rattle.syntax.specs.Places.{IsKind, TypeAt, FunctionAt, ArgsAt, functionOf, argsAt}
-use Rattle.keys.specs.Keys.{functionRecords, functionsOf, allKeys, Keyed, functionFound, FunctionFound}
-use Rattle.expressions.specs.Slots.{slotted, Typed}
+use Rattle.keys.specs.Keys.{functionPlaces, functionsOf, allKeys, Keyed, functionFound, FunctionFound}
+use Rattle.expressions.specs.Slots.{slotted, ArgsTyped}
 use Rattle.expressions.specs.Calls.{typedAt, verbOf, CallAt, Called}
-use Rattle.expressions.specs.Answers.{refusal, castOf, numberOf, calleeOf, TypeFound, a-type, no-type, IsCast, CastIs, IsCallee, CalleeIs, CandidatesAre, AreAll, OneFunction, nobody, one, several}
+use Rattle.expressions.specs.Answers.{refusal, castResult, foundNumber, calleeOf, TypeFound, a-type, no-type, IsCast, CastIs, IsCallee, CalleeIs, CandidatesAre, AreAll, OneFunction, nobody, one, several}
 use Rattle.expressions.proofs.answers.Candidates.{the-type}
 use Rattle.keys.proofs.FunctionLaws.{found-function, all-functions}
 use borrow.Author.Tests.{not-true, not-false}
@@ -76,7 +76,7 @@ pub data SoFar (tree text : List ℕ) (all rest : List Function) : Candidates �
 module _ (tree text : List ℕ) (verb : Text) (l : List TypedArg) where
   -- those from the j-th function on
   unfoldable pub literalsFrom : ℕ → List Function
-  literalsFrom j = byLiterals (program tree text) (allKeys tree text) verb l (functionsOf tree text (drop j (functionRecords tree)))
+  literalsFrom j = byLiterals (program tree text) (allKeys tree text) verb l (functionsOf tree text (drop j (functionPlaces tree)))
 
   -- whether the function of record f is one of them
   abbrev pub isOne : ℕ → Bool
@@ -89,11 +89,11 @@ module _ (tree text : List ℕ) (verb : Text) (l : List TypedArg) where
   unfolding find-functions-by-literals literalsFrom
   nobody-first = nobody-yet (ap (byLiterals (program tree text) (allKeys tree text) verb l) (all-functions tree text))
 
-  module _ (j f : ℕ) (h : j < length (functionRecords tree)) (e : f ≡ getD (functionRecords tree) j 0) where
-    listed-from : drop j (functionRecords tree) ≡ f ∷ drop (j + 1) (functionRecords tree)
-    listed-from = drop-cons (functionRecords tree) j 0 h ∙ rw (e, add-one j)
+  module _ (j f : ℕ) (h : j < length (functionPlaces tree)) (e : f ≡ getD (functionPlaces tree) j 0) where
+    listed-from : drop j (functionPlaces tree) ≡ f ∷ drop (j + 1) (functionPlaces tree)
+    listed-from = drop-cons (functionPlaces tree) j 0 h ∙ rw (e, add-one j)
 
-    from-is : literalsFrom j ≡ byLiterals (program tree text) (allKeys tree text) verb l (functionOf tree text f ∷ functionsOf tree text (drop (j + 1) (functionRecords tree)))
+    from-is : literalsFrom j ≡ byLiterals (program tree text) (allKeys tree text) verb l (functionOf tree text f ∷ functionsOf tree text (drop (j + 1) (functionPlaces tree)))
     unfolding literalsFrom functionsOf
     from-is = ap (λ (x : List ℕ). byLiterals (program tree text) (allKeys tree text) verb l (functionsOf tree text x)) listed-from
 
@@ -105,16 +105,16 @@ module _ (tree text : List ℕ) (verb : Text) (l : List TypedArg) where
     unfolding literalsFrom
     from-miss b q t = from-is ∙ by-miss (program tree text) (allKeys tree text) verb l (functionOf tree text f) _ (sym q ∙ t)
 
-  from-end : (j : ℕ) → length (functionRecords tree) ≤ j → literalsFrom j ≡ []
+  from-end : (j : ℕ) → length (functionPlaces tree) ≤ j → literalsFrom j ≡ []
   unfolding literalsFrom functionsOf byLiterals
-  from-end j h = ap (λ (x : List ℕ). byLiterals (program tree text) (allKeys tree text) verb l (functionsOf tree text x)) (drop-of-length-le (functionRecords tree) h)
+  from-end j h = ap (λ (x : List ℕ). byLiterals (program tree text) (allKeys tree text) verb l (functionsOf tree text x)) (drop-of-length-le (functionPlaces tree) h)
 
   -- as the code meets them: f is the j-th listed record
   module _ (s : List ℕ) (count : ℕ) (k : Keyed tree text s count) (j f : ℕ) (h : j < count) (e : f ≡ wordAt s (4 * j)) (b : Bool) (q : b ≡ isOne f) where
-    is-listed : f ≡ getD (functionRecords tree) j 0
+    is-listed : f ≡ getD (functionPlaces tree) j 0
     is-listed = e ∙ k .listed .listed j h
 
-    inside-list : j < length (functionRecords tree)
+    inside-list : j < length (functionPlaces tree)
     inside-list = omega (arith, k .listed .counted)
 
     pub second-one : (found : Candidates) (g : ℕ) → SoFar tree text everyOne (literalsFrom j) found → found ≡ Candidates.One g → b ≡ true
@@ -153,35 +153,35 @@ pub type-inside : (tree text : List ℕ) → Good tree text → (y : ℕ) → Ty
 type-inside tree text good y t = inside tree text good y (t .below)
 
 module _ (tree text : List ℕ) (verb : Text) (l : List TypedArg) (r : ℕ) (b : Bool) (h : b ≡ sameText verb castVerb) where
-  pub cast-not : not b ≡ true → cast-type (program tree text) (allKeys tree text) verb l r ≡ castOf Cast.Not
-  unfolding cast-type pick castOf
+  pub cast-not : not b ≡ true → cast-type (program tree text) (allKeys tree text) verb l r ≡ castResult Cast.Not
+  unfolding cast-type pick castResult
   cast-not q = rw (sym h, not-true b q)
 
-  module _ (q : not b ≡ false) (t : Found) (ht : numberOf t ≡ targetType l) where
-    cast-to : cast-type (program tree text) (allKeys tree text) verb l r ≡ castTo (program tree text) (allKeys tree text) r l (numberOf t)
+  module _ (q : not b ≡ false) (t : Found) (ht : foundNumber t ≡ targetType l) where
+    cast-to : cast-type (program tree text) (allKeys tree text) verb l r ≡ castTo (program tree text) (allKeys tree text) r l (foundNumber t)
     unfolding cast-type pick
     cast-to = rw (sym h, not-false b q, sym ht)
 
-    pub cast-nowhere : t ≡ Found.Nothing → cast-type (program tree text) (allKeys tree text) verb l r ≡ castOf Cast.Not
-    unfolding castTo castOf numberOf
+    pub cast-nowhere : t ≡ Found.Nothing → cast-type (program tree text) (allKeys tree text) verb l r ≡ castResult Cast.Not
+    unfolding castTo castResult foundNumber
     cast-nowhere e = cast-to ∙ rw e
 
-    module _ (to : ℕ) (e : t ≡ Found.At to) (u : Found) (hu : numberOf u ≡ sourceType l) where
-      cast-checked : cast-type (program tree text) (allKeys tree text) verb l r ≡ castChecked (program tree text) (allKeys tree text) r to (numberOf u)
-      unfolding castTo numberOf
+    module _ (to : ℕ) (e : t ≡ Found.At to) (u : Found) (hu : foundNumber u ≡ sourceType l) where
+      cast-checked : cast-type (program tree text) (allKeys tree text) verb l r ≡ castChecked (program tree text) (allKeys tree text) r to (foundNumber u)
+      unfolding castTo foundNumber
       cast-checked = cast-to ∙ rw (e, sym hu)
 
-      pub cast-free : u ≡ Found.Nothing → cast-type (program tree text) (allKeys tree text) verb l r ≡ castOf (Cast.To to)
-      unfolding castChecked castOf numberOf
+      pub cast-free : u ≡ Found.Nothing → cast-type (program tree text) (allKeys tree text) verb l r ≡ castResult (Cast.To to)
+      unfolding castChecked castResult foundNumber
       cast-free p = cast-checked ∙ rw p
 
       module _ (from : ℕ) (p : u ≡ Found.At from) (c : Bool) (hc : c ≡ can-cast (typeAt tree text) from to) where
-        pub cast-fine : c ≡ true → cast-type (program tree text) (allKeys tree text) verb l r ≡ castOf (Cast.To to)
-        unfolding castChecked castOf numberOf pick program
+        pub cast-fine : c ≡ true → cast-type (program tree text) (allKeys tree text) verb l r ≡ castResult (Cast.To to)
+        unfolding castChecked castResult foundNumber pick program
         cast-fine w = cast-checked ∙ rw (p, sym hc, w)
 
-        pub cast-wrong : c ≡ false → cast-type (program tree text) (allKeys tree text) verb l r ≡ castOf (Cast.Refused (record { kind = InvalidCast; place = r }))
-        unfolding castChecked castOf numberOf pick program refusal
+        pub cast-wrong : c ≡ false → cast-type (program tree text) (allKeys tree text) verb l r ≡ castResult (Cast.Refused (record { kind = InvalidCast; place = r }))
+        unfolding castChecked castResult foundNumber pick program refusal
         cast-wrong w = cast-checked ∙ rw (p, sym hc, w)
 
 -- ---- which function
@@ -260,7 +260,7 @@ unfolding typedAt
 counted-at tree text n first w e h s = h s ∙ ap (λ (x : ℕ). length (typedAt tree text s x)) e
 
 module _ (tree text s : List ℕ) (r : ℕ) (c : Call) (o : CallAt tree text r c) where
-  pub is-called : (count : ℕ) → Keyed tree text s count → IsKind tree 11 r → Typed tree s (argsAt tree text (wordOf tree r 2)) → ((i : ℕ) → getD tree i 0 < 256)
+  pub is-called : (count : ℕ) → Keyed tree text s count → IsKind tree 11 r → ArgsTyped tree s (argsAt tree text (wordOf tree r 2)) → ((i : ℕ) → getD tree i 0 < 256)
       → Called tree text s c
   unfolding typedAt
   is-called count k a t b = record {
@@ -282,15 +282,15 @@ module _ (tree text s : List ℕ) (r : ℕ) (c : Call) (o : CallAt tree text r c
 
   module _ (a : Cast) (h : CastIs tree a (cast-type (program tree text) (allKeys tree text) (verbOf tree text s c) (typedAt tree text s (c .first)) r)) where
     pub typed-refused : (e : ConvertError) → a ≡ Cast.Refused e → CalleeIs tree text (Resolved.Refused e) whole
-    unfolding resolveTyped _>>=_ castOf refusal calleeOf
+    unfolding resolveTyped _>>=_ castResult refusal calleeOf
     typed-refused e q = record { is = same-call ∙ rw (h .is, q); callee = IsCallee.no }
 
     pub typed-cast : (y : ℕ) → a ≡ Cast.To y → CalleeIs tree text (Resolved.Cast y) whole
-    unfolding resolveTyped resolveFunction _>>=_ castOf calleeOf
+    unfolding resolveTyped resolveFunction _>>=_ castResult calleeOf
     typed-cast y q = record { is = same-call ∙ rw (h .is, q); callee = IsCallee.a-cast (cast-type-is tree a y (h .type) q) }
 
     pub typed-function : a ≡ Cast.Not → (b : Resolved)
         → CalleeIs tree text b (resolveFunction (program tree text) (allKeys tree text) (verbOf tree text s c) (typedAt tree text s (c .first)) r nothing)
         → CalleeIs tree text b whole
-    unfolding resolveTyped _>>=_ castOf
+    unfolding resolveTyped _>>=_ castResult
     typed-function q b w = record { is = same-call ∙ rw (h .is, q) (w .is); callee = w .callee }

@@ -21,7 +21,7 @@ use Rattle.syntax.specs.Places.{exprAt}
 use Rattle.keys.specs.Keys.{allKeys}
 use Rattle.expressions.specs.Slots.{typeIn, Slots, Ready}
 use Rattle.expressions.specs.Answers as Answers
-use Rattle.expressions.specs.Answers.{typeOf, numberOf, FoundIs, IsCommon, TypeMeets, CommonMeets}
+use Rattle.expressions.specs.Answers.{typeResult, foundNumber, FoundIs, IsCommon, TypeMeets, CommonMeets}
 use Rattle.expressions.proofs.SlotLaws.{frame-trans, type-later, slots-trans}
 use Rattle.expressions.proofs.TypingLaws.{bind-ok, bind-refused, type-ok, type-refused}
 use Rattle.expressions.proofs.OperandLaws.{found-type}
@@ -39,7 +39,7 @@ module _ (tree text s : List ℕ) (sc : Scope) (a b : ℕ) (t : ExprType) (s₁ 
   common-is = refl
 
   pub left-refused : (x : ConvertError) → t ≡ ExprType.Refused x → CommonMeets tree text s sc a b (Common.Refused x) s₁
-  unfolding Answers.commonOf
+  unfolding Answers.commonResult
   left-refused x q = record {
     frame = m .frame;
     common = IsCommon.no;
@@ -50,7 +50,7 @@ module _ (tree text s : List ℕ) (sc : Scope) (a b : ℕ) (t : ExprType) (s₁ 
   }
 
   module _ (count : ℕ) (ready : Ready tree text s count sc) (l : ℕ) (q : t ≡ ExprType.Is l) (u : ExprType) (s₂ : List ℕ) (m₂ : TypeMeets tree text s₁ sc b u s₂) where
-    right : Slots tree text S s₁ s₂ × (typeIn tree text S b ≡ typeOf u)
+    right : Slots tree text S s₁ s₂ × (typeIn tree text S b ≡ typeResult u)
     right = type-later tree text s s₁ sc (m .frame) (ready .scoped .records-are) b u s₂ m₂
 
     both-slots : Slots tree text S s s₂
@@ -61,7 +61,7 @@ module _ (tree text s : List ℕ) (sc : Scope) (a b : ℕ) (t : ExprType) (s₁ 
         (type-ok (typeIn tree text S a) t l (m .meets) q)
 
     pub right-refused : (x : ConvertError) → u ≡ ExprType.Refused x → CommonMeets tree text s sc a b (Common.Refused x) s₂
-    unfolding Answers.commonOf
+    unfolding Answers.commonResult
     right-refused x w = record {
       frame = frame-trans (m .frame) (m₂ .frame);
       common = IsCommon.no;
@@ -72,25 +72,25 @@ module _ (tree text s : List ℕ) (sc : Scope) (a b : ℕ) (t : ExprType) (s₁ 
     }
 
     module _ (r : ℕ) (w : u ≡ ExprType.Is r) (f : Found) (ef : FoundIs tree f (rule l r)) where
-      with-both : common-type (program tree text) (allKeys tree text) (exprAt tree text a) (exprAt tree text b) S ≡ ok (numberOf f)
+      with-both : common-type (program tree text) (allKeys tree text) (exprAt tree text a) (exprAt tree text b) S ≡ ok (foundNumber f)
       with-both = with-left ∙ bind-ok (typeIn tree text S b) r (λ r. ok (rule l r))
           (type-ok (typeIn tree text S b) u r (right .1) w)
           ∙ ap (λ (z : Option ℕ). ok z) (sym (ef .is))
 
       pub takes-one : (y : ℕ) → f ≡ Found.At y → CommonMeets tree text s sc a b (Common.Is y) s₂
-      unfolding Answers.commonOf numberOf
+      unfolding Answers.commonResult foundNumber
       takes-one y z = record {
         frame = frame-trans (m .frame) (m₂ .frame);
         common = IsCommon.is (found-type tree f y (ef .type) z);
         slots = both-slots;
-        meets = with-both ∙ ap (λ (v : Found). ok (numberOf v)) z;
+        meets = with-both ∙ ap (λ (v : Found). ok (foundNumber v)) z;
       }
 
       pub takes-none : f ≡ Found.Nothing → CommonMeets tree text s sc a b Common.Neither s₂
-      unfolding Answers.commonOf numberOf
+      unfolding Answers.commonResult foundNumber
       takes-none z = record {
         frame = frame-trans (m .frame) (m₂ .frame);
         common = IsCommon.neither;
         slots = both-slots;
-        meets = with-both ∙ ap (λ (v : Found). ok (numberOf v)) z;
+        meets = with-both ∙ ap (λ (v : Found). ok (foundNumber v)) z;
       }

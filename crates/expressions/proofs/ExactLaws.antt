@@ -9,6 +9,7 @@ use native.Mathlib.Omega.{arith}
 use lib.Dec.{ltb, leb}
 use lib.ListN.{length, take, getD, length-append}
 use borrow.Author.Tests.{ltb-true, ltb-false, leb-true, le-leb}
+use Rattle.laws.specs.Below.{orElse}
 use Rattle.laws.specs.Fix.{pick}
 use Rattle.laws.proofs.Tests.{and-left, and-right, tested}
 use Rattle.records.specs.Words.{textAt, wordAt, wordOf, A, B}
@@ -16,20 +17,20 @@ use Rattle.records.specs.Good.{Good}
 use Rattle.syntax.specs.Syntax.{Text, Function, Program}
 use Rattle.syntax.specs.Decode.{program, textOf}
 use Rattle.conversion.specs.Ir.{sameText}
-use Rattle.conversion.specs.Expressions.{Functions, is-mangled, takes-args, getFunction, filterOption, orElse, variadicMark, suffixes, joined, mangledFunction, variadicFunction, find-exact-function}
+use Rattle.conversion.specs.Expressions.{Functions, is-mangled, takes-args, getFunction, filterOption, variadicMark, suffixes, joined, mangledFunction, variadicFunction, find-exact-function}
 use Rattle.records.specs.declared.words.Found.{Found}
 use Rattle.records.specs.declared.words.Found.the-variants as Found
-use Rattle.records.proofs.TextLaws.{text-length, other-lengths}
+use Rattle.records.proofs.TextLaws.{same-texts, text-length, other-lengths}
 use Rattle.keys.specs.declared.parts.Part.{Part}
 use Rattle.expressions.specs.declared.arguments.Call.{Call}
 use Rattle.syntax.specs.Places.{FunctionAt, functionOf}
 use Rattle.keys.specs.Parts.{PartIs}
-use Rattle.keys.specs.Keys.{keyOf, keyed, functionRecords, functionsOf, keysBelow, allKeys, Keyed, functionFound, FunctionFound, FunctionIs, a-function, no-function}
+use Rattle.keys.specs.Keys.{functionKey, keyed, functionPlaces, functionsOf, keysBelow, allKeys, Keyed, functionFound, FunctionFound, FunctionIs, a-function, no-function}
 use Rattle.expressions.specs.Calls.{typedAt, suffixesAt, verbOf, nameOf, bytesIn, Called, PrefixIs, VariadicKey, so-many, no-number}
 use Rattle.syntax.proofs.Records.{function-name, function-mangled}
 use Rattle.keys.proofs.FunctionLaws.{found-function}
 use Rattle.keys.proofs.KeyLaws.{find-hit, find-miss, recordAt, from, from-start, from-one, from-end, keys-all, distinct-finds}
-use Rattle.expressions.proofs.NameLaws.{same-is, is-same, same-turned, part-length, part-split, cut-same, name-length, name-pieces, all-taken, number-inside, inside-number, number-least, name-number, key-number}
+use Rattle.expressions.proofs.NameLaws.{same-is, same-turned, part-length, part-split, cut-same, name-length, name-pieces, all-taken, number-inside, inside-number, number-least, name-number, key-number}
 
 -- ---- an answer, and what it stands for
 
@@ -92,24 +93,24 @@ module _ (P : Program) (F : Functions) where
 -- ---- a key that no mangled function has
 
 module _ (tree text : List ℕ) (key : Text) where
-  first-by : (f : Function) (l : Functions) (b : Bool) → sameText key (keyOf f) ≡ b
-      → (keyOf f ≡ key → is-mangled f ≡ true → ⊥) → filterOption is-mangled (getFunction key l) ≡ none
-      → filterOption is-mangled (getFunction key ((keyOf f, f) ∷ l)) ≡ none
+  first-by : (f : Function) (l : Functions) (b : Bool) → sameText key (functionKey f) ≡ b
+      → (functionKey f ≡ key → is-mangled f ≡ true → ⊥) → filterOption is-mangled (getFunction key l) ≡ none
+      → filterOption is-mangled (getFunction key ((functionKey f, f) ∷ l)) ≡ none
   unfolding filterOption pick
   first-by f l true e n r = go (is-mangled f) refl
     where
-      go : (m : Bool) → is-mangled f ≡ m → filterOption is-mangled (getFunction key ((keyOf f, f) ∷ l)) ≡ none
-      go true q = absurd (n (sym (same-is key (keyOf f) e)) q)
-      go false q = ap (filterOption is-mangled) (find-hit key (keyOf f, f) l e) ∙ rw q refl
-  first-by f l false e n r = ap (filterOption is-mangled) (find-miss key (keyOf f, f) l e) ∙ r
+      go : (m : Bool) → is-mangled f ≡ m → filterOption is-mangled (getFunction key ((functionKey f, f) ∷ l)) ≡ none
+      go true q = absurd (n (sym (same-is key (functionKey f) e)) q)
+      go false q = ap (filterOption is-mangled) (find-hit key (functionKey f, f) l e) ∙ rw q refl
+  first-by f l false e n r = ap (filterOption is-mangled) (find-miss key (functionKey f, f) l e) ∙ r
 
   pub none-mangled : (l : List ℕ)
-      → ((i : ℕ) → i < length l → keyOf (functionOf tree text (getD l i 0)) ≡ key → is-mangled (functionOf tree text (getD l i 0)) ≡ true → ⊥)
+      → ((i : ℕ) → i < length l → functionKey (functionOf tree text (getD l i 0)) ≡ key → is-mangled (functionOf tree text (getD l i 0)) ≡ true → ⊥)
       → filterOption is-mangled (getFunction key (keyed (functionsOf tree text l))) ≡ none
   unfolding filterOption getFunction keyed functionsOf
   none-mangled [] h = refl
   none-mangled (r ∷ l) h =
-      first-by (functionOf tree text r) (keyed (functionsOf tree text l)) (sameText key (keyOf (functionOf tree text r))) refl
+      first-by (functionOf tree text r) (keyed (functionsOf tree text l)) (sameText key (functionKey (functionOf tree text r))) refl
       (h 0 (omega arith)) (none-mangled l (λ i m. h (suc i) (omega arith)))
 
 -- ---- a call's names
@@ -168,33 +169,33 @@ module _ (tree text s : List ℕ) (count : ℕ) (K : Keyed tree text s count) wh
   unfolding getFunction keyed
   key-end t j h w = w ∙ ap (λ (l : List Function). getFunction t (keyed l)) (from-end tree text j (omega (arith, K .listed .counted)))
 
-  module _ (t : Text) (j f : ℕ) (p : Part) (below : j < count) (at : f ≡ wordAt s (4 * j)) (is : PartIs text p (keyOf (functionOf tree text f))) (w : KeyLeft tree text t j) where
+  module _ (t : Text) (j f : ℕ) (p : Part) (below : j < count) (at : f ≡ wordAt s (4 * j)) (is : PartIs text p (functionKey (functionOf tree text f))) (w : KeyLeft tree text t j) where
     listed : f ≡ recordAt tree text j
     listed = at ∙ K .listed .listed j below
 
-    here : getFunction t (allKeys tree text) ≡ getFunction t ((keyOf (functionOf tree text f), functionOf tree text f) ∷ keyed (from tree text (j + 1)))
+    here : getFunction t (allKeys tree text) ≡ getFunction t ((functionKey (functionOf tree text f), functionOf tree text f) ∷ keyed (from tree text (j + 1)))
     unfolding keyed
     here =
         w ∙ ap (λ (l : List Function). getFunction t (keyed l)) (from-one tree text j (omega (arith, K .listed .counted)))
-        ∙ ap (λ (r : ℕ). getFunction t ((keyOf (functionOf tree text r), functionOf tree text r) ∷ keyed (from tree text (j + 1)))) (sym listed)
+        ∙ ap (λ (r : ℕ). getFunction t ((functionKey (functionOf tree text r), functionOf tree text r) ∷ keyed (from tree text (j + 1)))) (sym listed)
 
-    pub key-size : length (keyOf (functionOf tree text f)) ≡ p .1
+    pub key-size : length (functionKey (functionOf tree text f)) ≡ p .1
     key-size = sym (ap length (is .is)) ∙ part-length text (p .0) (p .1) (is .inside)
 
-    turned : (b : Bool) → b ≡ sameText (textAt text (p .0) (p .1)) t → sameText t (keyOf (functionOf tree text f)) ≡ b
-    turned b e = same-turned t (keyOf (functionOf tree text f)) ∙ ap (λ (x : Text). sameText x t) (sym (is .is)) ∙ sym e
+    turned : (b : Bool) → b ≡ sameText (textAt text (p .0) (p .1)) t → sameText t (functionKey (functionOf tree text f)) ≡ b
+    turned b e = same-turned t (functionKey (functionOf tree text f)) ∙ ap (λ (x : Text). sameText x t) (sym (is .is)) ∙ sym e
 
     pub key-longer : (n : ℕ) → n ≡ length t → (p .1 ≡ n → ⊥) → KeyLeft tree text t (j + 1)
     key-longer n e d =
         here
-        ∙ find-miss t (keyOf (functionOf tree text f), functionOf tree text f) (keyed (from tree text (j + 1)))
-        (sym (other-lengths t (keyOf (functionOf tree text f)) n (p .1) e (sym key-size) (λ q. d (sym q))))
+        ∙ find-miss t (functionKey (functionOf tree text f), functionOf tree text f) (keyed (from tree text (j + 1)))
+        (sym (other-lengths t (functionKey (functionOf tree text f)) n (p .1) e (sym key-size) (λ q. d (sym q))))
 
     pub key-other : (b : Bool) → b ≡ sameText (textAt text (p .0) (p .1)) t → b ≡ false → KeyLeft tree text t (j + 1)
-    key-other b e q = here ∙ find-miss t (keyOf (functionOf tree text f), functionOf tree text f) (keyed (from tree text (j + 1))) (turned b e ∙ q)
+    key-other b e q = here ∙ find-miss t (functionKey (functionOf tree text f), functionOf tree text f) (keyed (from tree text (j + 1))) (turned b e ∙ q)
 
     pub key-hit : (b : Bool) → b ≡ sameText (textAt text (p .0) (p .1)) t → b ≡ true → getFunction t (allKeys tree text) ≡ some (functionOf tree text f)
-    key-hit b e q = here ∙ find-hit t (keyOf (functionOf tree text f), functionOf tree text f) (keyed (from tree text (j + 1))) (turned b e ∙ q)
+    key-hit b e q = here ∙ find-hit t (functionKey (functionOf tree text f), functionOf tree text f) (keyed (from tree text (j + 1))) (turned b e ∙ q)
 
 -- ---- whether a key is the verb with some suffixes and `$...`
 
@@ -225,7 +226,7 @@ module _ (tree text s : List ℕ) (c : Call) (h : Called tree text s c) (key : T
 
     module _ (b : Bool) (eb : b ≡ sameText (textAt text (p .0 + (p .1 - 4)) 4) variadicMark) where
       pub key-unmarked : b ≡ false → VariadicKey tree text s c key Found.Nothing
-      key-unmarked q = no-number (λ k hk e. false≢true (sym q ∙ eb ∙ is-same (textAt text (p .0 + (p .1 - 4)) 4) variadicMark (pieces k e .1)))
+      key-unmarked q = no-number (λ k hk e. false≢true (sym q ∙ eb ∙ same-texts (textAt text (p .0 + (p .1 - 4)) 4) variadicMark (pieces k e .1)))
 
       module _ (q : b ≡ true) (r : Found) (pre : PrefixIs tree text s (c .first) (p .1 - 4 - c .len) r) where
         pub key-none : r ≡ Found.Nothing → VariadicKey tree text s c key Found.Nothing
@@ -262,13 +263,13 @@ module _ (tree text s : List ℕ) (c : Call) (h : Called tree text s c) (key : T
             pub key-unlike : d ≡ false → VariadicKey tree text s c key Found.Nothing
             key-unlike t = no-number (λ i hi w.
                 let same : i ≡ k = name-number tree text s c i k h hi prefix-number (sym (ap length (pieces i w .0)) ∙ part-length text (p .0) (p .1 - 4) (omega (arith, is .inside)) ∙ prefix-size) in
-                false≢true (sym t ∙ ed ∙ is-same (textAt text (p .0) (p .1 - 4)) (nameOf tree text s c k) (pieces i w .0 ∙ ap (nameOf tree text s c) same)))
+                false≢true (sym t ∙ ed ∙ same-texts (textAt text (p .0) (p .1 - 4)) (nameOf tree text s c k) (pieces i w .0 ∙ ap (nameOf tree text s c) same)))
 
 -- ---- the function with the longest prefix
 
 -- a key is no longer than the text
-key-room : (tree text : List ℕ) (f : ℕ) → Good tree text → FunctionAt tree f → length (keyOf (functionOf tree text f)) ≤ length text
-unfolding keyOf pick textOf
+key-room : (tree text : List ℕ) (f : ℕ) → Good tree text → FunctionAt tree f → length (functionKey (functionOf tree text f)) ≤ length text
+unfolding functionKey pick textOf
 key-room tree text f g a = go (is-mangled (functionOf tree text f))
   where
     go : (b : Bool) → length (pick b (functionOf tree text f .mangledName) (functionOf tree text f .name)) ≤ length text
@@ -281,13 +282,13 @@ key-room tree text f g a = go (is-mangled (functionOf tree text f))
 pub data Chosen (tree text s : List ℕ) (c : Call) (j : ℕ) : Found → ℕ → Type 0 where
   nobody : Chosen tree text s c j Found.Nothing 0
   somebody : {f k : ℕ} (i : ℕ) → i < j → f ≡ wordAt s (4 * i) → FunctionAt tree f → k ≤ c .count
-      → keyOf (functionOf tree text f) ≡ nameOf tree text s c k ++ variadicMark → is-mangled (functionOf tree text f) ≡ true
+      → functionKey (functionOf tree text f) ≡ nameOf tree text s c k ++ variadicMark → is-mangled (functionOf tree text f) ≡ true
       → Chosen tree text s c j (Found.At f) (k + 1)
 
 module _ (tree text s : List ℕ) (c : Call) where
   -- function i is none with so many types or more
   abbrev pub Less : ℕ → ℕ → Type 0
-  Less most i = (k : ℕ) → k ≤ c .count → most ≤ k → keyOf (functionOf tree text (wordAt s (4 * i))) ≡ nameOf tree text s c k ++ variadicMark
+  Less most i = (k : ℕ) → k ≤ c .count → most ≤ k → functionKey (functionOf tree text (wordAt s (4 * i))) ≡ nameOf tree text s c k ++ variadicMark
       → is-mangled (functionOf tree text (wordAt s (4 * i))) ≡ true → ⊥
 
 pub record Best (tree text s : List ℕ) (c : Call) (best : Found) (most j : ℕ) : Type 0 where
@@ -308,36 +309,36 @@ module _ (tree text s : List ℕ) (c : Call) where
       (λ f. let z : i ≡ j = omega (arith, ltb-false i j f) in subst (λ (n : ℕ). Less tree text s c most n) (sym z) l)
 
   module _ (h : Called tree text s c) (best : Found) (most j f : ℕ) (w : Best tree text s c best most j) (at : f ≡ wordAt s (4 * j))
-      (r : Found) (v : VariadicKey tree text s c (keyOf (functionOf tree text f)) r) where
+      (r : Found) (v : VariadicKey tree text s c (functionKey (functionOf tree text f)) r) where
     skip : Less tree text s c most j → Best tree text s c best most (j + 1)
     skip l = record { chosen = chosen-more j (w .chosen); others = others-more most j (w .others) l }
 
     pub best-none : r ≡ Found.Nothing → Best tree text s c best most (j + 1)
     best-none e = skip (go v e)
       where
-        go : {r′ : Found} → VariadicKey tree text s c (keyOf (functionOf tree text f)) r′ → r′ ≡ Found.Nothing → Less tree text s c most j
+        go : {r′ : Found} → VariadicKey tree text s c (functionKey (functionOf tree text f)) r′ → r′ ≡ Found.Nothing → Less tree text s c most j
         go (so-many hk eq) e′ = absurd (let z : _≡_ {A = ℕ} 0 1 = cc in omega arith)
         go (no-number n) e′ = λ k hk m key g. n k hk (rw at key)
 
     module _ (k : ℕ) (e : r ≡ Found.At k) (b : Bool) (eb : b ≡ is-mangled (functionOf tree text f)) where
-      key-has : (k ≤ c .count) × (keyOf (functionOf tree text f) ≡ nameOf tree text s c k ++ variadicMark)
+      key-has : (k ≤ c .count) × (functionKey (functionOf tree text f) ≡ nameOf tree text s c k ++ variadicMark)
       key-has = go v e
         where
-          go : {r′ : Found} → VariadicKey tree text s c (keyOf (functionOf tree text f)) r′ → r′ ≡ Found.At k
-              → (k ≤ c .count) × (keyOf (functionOf tree text f) ≡ nameOf tree text s c k ++ variadicMark)
+          go : {r′ : Found} → VariadicKey tree text s c (functionKey (functionOf tree text f)) r′ → r′ ≡ Found.At k
+              → (k ≤ c .count) × (functionKey (functionOf tree text f) ≡ nameOf tree text s c k ++ variadicMark)
           go (so-many {k = i} hk eq) e′ = let z : k ≡ i = cc in rw z (hk, eq)
           go (no-number n) e′ = absurd (let z : _≡_ {A = ℕ} 0 1 = cc in omega arith)
 
       -- the key lies in the text, and has a byte for each type
       pub number-room : Good tree text → FunctionAt tree f → k + 4 ≤ length text
       number-room g a =
-          let size : length (keyOf (functionOf tree text f)) ≡ c .len + bytesIn (take k (suffixesAt tree text s (c .first))) + 4 =
+          let size : length (functionKey (functionOf tree text f)) ≡ c .len + bytesIn (take k (suffixesAt tree text s (c .first))) + 4 =
           ap length (key-has .1) ∙ length-append (nameOf tree text s c k) variadicMark ∙ ap (λ (n : ℕ). n + 4) (name-length tree text s c k h) in
           omega (arith, key-room tree text f g a, number-least tree text s (c .first) k (number-inside tree text s c k h (key-has .0)))
 
       -- another number for function j is this one
-      only : (i : ℕ) → i ≤ c .count → keyOf (functionOf tree text (wordAt s (4 * j))) ≡ nameOf tree text s c i ++ variadicMark → i ≡ k
-      only i hi key = key-number tree text s c i k (keyOf (functionOf tree text f)) h hi (key-has .0) (rw at key) (key-has .1)
+      only : (i : ℕ) → i ≤ c .count → functionKey (functionOf tree text (wordAt s (4 * j))) ≡ nameOf tree text s c i ++ variadicMark → i ≡ k
+      only i hi key = key-number tree text s c i k (functionKey (functionOf tree text f)) h hi (key-has .0) (rw at key) (key-has .1)
 
       pub best-skip : (leb most k && b) ≡ false → Best tree text s c best most (j + 1)
       best-skip t = skip (λ i hi m key g.
@@ -360,26 +361,26 @@ module _ (tree text s : List ℕ) (count : ℕ) (K : Keyed tree text s count) (c
   abbrev Tried : ℕ → Option Function
   Tried k = mangledFunction (program tree text) (allKeys tree text) (nameOf tree text s c k ++ variadicMark)
 
-  key-all : allKeys tree text ≡ keyed (functionsOf tree text (functionRecords tree))
+  key-all : allKeys tree text ≡ keyed (functionsOf tree text (functionPlaces tree))
   unfolding allKeys
   key-all = ap keyed (from-start tree text)
 
   -- a number of types that no function has
-  never : (j k : ℕ) → count ≤ j → ((i : ℕ) → i < j → keyOf (functionOf tree text (wordAt s (4 * i))) ≡ nameOf tree text s c k ++ variadicMark
+  never : (j k : ℕ) → count ≤ j → ((i : ℕ) → i < j → functionKey (functionOf tree text (wordAt s (4 * i))) ≡ nameOf tree text s c k ++ variadicMark
       → is-mangled (functionOf tree text (wordAt s (4 * i))) ≡ true → ⊥) → Tried k ≡ none
   unfolding mangledFunction
   never j k m n =
       ap (λ (F : Functions). filterOption is-mangled (getFunction (nameOf tree text s c k ++ variadicMark) F)) key-all
-      ∙ none-mangled tree text (nameOf tree text s c k ++ variadicMark) (functionRecords tree)
-      (λ i hi e g. let q : wordAt s (4 * i) ≡ getD (functionRecords tree) i 0 = K .listed .listed i (omega (arith, K .listed .counted)) in
+      ∙ none-mangled tree text (nameOf tree text s c k ++ variadicMark) (functionPlaces tree)
+      (λ i hi e g. let q : wordAt s (4 * i) ≡ getD (functionPlaces tree) i 0 = K .listed .listed i (omega (arith, K .listed .counted)) in
       n i (omega (arith, K .listed .counted)) (rw q e) (rw q g))
 
   -- the number of types of a function that is listed
-  is-tried : (f k i : ℕ) → i < count → f ≡ wordAt s (4 * i) → keyOf (functionOf tree text f) ≡ nameOf tree text s c k ++ variadicMark
+  is-tried : (f k i : ℕ) → i < count → f ≡ wordAt s (4 * i) → functionKey (functionOf tree text f) ≡ nameOf tree text s c k ++ variadicMark
       → is-mangled (functionOf tree text f) ≡ true → Tried k ≡ some (functionOf tree text f)
   unfolding mangledFunction filterOption pick
   is-tried f k i hi e key g =
-      let finds : getFunction (keyOf (functionOf tree text f)) (allKeys tree text) ≡ some (functionOf tree text f) =
+      let finds : getFunction (functionKey (functionOf tree text f)) (allKeys tree text) ≡ some (functionOf tree text f) =
       rw e (distinct-finds tree text s count K i hi) in
       ap (λ (t : Text). filterOption is-mangled (getFunction t (allKeys tree text))) (sym key)
       ∙ ap (filterOption is-mangled) finds ∙ rw g refl

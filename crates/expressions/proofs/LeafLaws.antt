@@ -29,14 +29,13 @@ use Rattle.scope.specs.declared.Scope.{Scope}
 use Rattle.scope.specs.declared.Known.{Known}
 use Rattle.scope.specs.declared.Known.the-variants as Known
 use Rattle.scope.specs.Open.{variableAt, variablesAt, variablesOf, scopeAt, IsFound, FindMeets}
-use Rattle.types.specs.Fits.{IsExpr}
 use Rattle.expressions.specs.declared.answers.ExprType.{ExprType}
 use Rattle.expressions.specs.declared.answers.ExprType.the-variants as ExprType
 use Rattle.expressions.specs.declared.answers.Resolved.{Resolved}
 use Rattle.expressions.specs.declared.answers.Resolved.the-variants as Resolved
-use Rattle.syntax.specs.Places.{IsKind, TypeAt, FunctionAt, functionOf}
+use Rattle.syntax.specs.Places.{IsExpr, IsKind, TypeAt, FunctionAt, functionOf}
 use Rattle.expressions.specs.Slots.{typeIn, Scoped}
-use Rattle.expressions.specs.Answers.{refusal, typeOf, calleeOf, valueOf, IsTyped, IsCallee, TypeIs}
+use Rattle.expressions.specs.Answers.{refusal, typeResult, calleeOf, valueResult, IsTyped, IsCallee, TypeIs}
 use Rattle.expressions.proofs.TypingLaws.{expr-low}
 use Rattle.expressions.proofs.OperandLaws.{refused-at, first-type}
 
@@ -102,7 +101,7 @@ module _ (tree text : List ℕ) (good : Good tree text) (e : ℕ) (x : IsExpr tr
 
 pub literal-leaf : (tree text s : List ℕ) (sc : Scope) (e y : ℕ) → TypeAt tree y × ((S : Def.Scope) → typeIn tree text S e ≡ ok y)
     → TypeIs tree (ExprType.Is y) (typeIn tree text (scopeAt tree text s sc) e)
-unfolding typeOf
+unfolding typeResult
 literal-leaf tree text s sc e y h = record { is = h .1 (scopeAt tree text s sc); type = IsTyped.is (h .0) }
 
 -- ---- names
@@ -142,7 +141,7 @@ module _ (tree text s : List ℕ) (sc : Scope) (e : ℕ) (scoped : Scoped tree s
 
   pub name-known : (v : VarId) (b : Bool) → r ≡ Known.Is v b
       → TypeIs tree (ExprType.Is (v .1)) (typeIn tree text (scopeAt tree text s sc) e)
-  unfolding typeOf
+  unfolding typeResult
   name-known v b q =
       let hit : IsFound (Known.Is v b) (findIn (textAt text a n) (variablesOf text s sc)) =
       subst (λ (z : Known). IsFound z (findIn (textAt text a n) (variablesOf text s sc))) q m in record {
@@ -161,12 +160,12 @@ module _ (tree text s : List ℕ) (sc : Scope) (e : ℕ) (scoped : Scoped tree s
 -- ---- what a call gives back
 
 module _ (tree text : List ℕ) (good : Good tree text) (e : ℕ) (c : Resolved) (is : IsCallee tree c) where
-  pub value-refused : (x : ConvertError) → c ≡ Resolved.Refused x → TypeIs tree (ExprType.Refused x) (valueOf tree text e c)
-  unfolding valueOf calleeOf typeOf refusal _>>=_
+  pub value-refused : (x : ConvertError) → c ≡ Resolved.Refused x → TypeIs tree (ExprType.Refused x) (valueResult tree text e c)
+  unfolding valueResult calleeOf typeResult refusal _>>=_
   value-refused x q = record { is = rw q; type = IsTyped.no }
 
-  pub value-cast : (y : ℕ) → c ≡ Resolved.Cast y → TypeIs tree (ExprType.Is y) (valueOf tree text e c)
-  unfolding valueOf calleeOf typeOf _>>=_ valueType return-type
+  pub value-cast : (y : ℕ) → c ≡ Resolved.Cast y → TypeIs tree (ExprType.Is y) (valueResult tree text e c)
+  unfolding valueResult calleeOf typeResult _>>=_ valueType return-type
   value-cast y q = record { is = rw q; type = IsTyped.is (go (subst (λ (z : Resolved). IsCallee tree z) q is)) }
     where
       go : IsCallee tree (Resolved.Cast y) → TypeAt tree y
@@ -186,13 +185,13 @@ module _ (tree text : List ℕ) (good : Good tree text) (e : ℕ) (c : Resolved)
     returns-type = function-return tree text good f callee-function
 
     module _ (y : ℕ) (ey : y ≡ wordOf tree f D) where
-      pub value-none : y ≡ none → (a : ExprType) → a ≡ ExprType.Refused (record { kind = NoValue; place = e }) → TypeIs tree a (valueOf tree text e c)
-      unfolding valueOf calleeOf _>>=_ valueType return-type reference pick
+      pub value-none : y ≡ none → (a : ExprType) → a ≡ ExprType.Refused (record { kind = NoValue; place = e }) → TypeIs tree a (valueResult tree text e c)
+      unfolding valueResult calleeOf _>>=_ valueType return-type reference pick
       value-none n a w =
-          refused-at tree (valueOf tree text e c) NoValue e a (rw (q, returns-type, eq-eqb (wordOf tree f D) none (sym ey ∙ n))) w
+          refused-at tree (valueResult tree text e c) NoValue e a (rw (q, returns-type, eq-eqb (wordOf tree f D) none (sym ey ∙ n))) w
 
-      pub value-some : (y ≡ none → ⊥) → TypeIs tree (ExprType.Is y) (valueOf tree text e c)
-      unfolding valueOf calleeOf _>>=_ valueType return-type reference pick typeOf
+      pub value-some : (y ≡ none → ⊥) → TypeIs tree (ExprType.Is y) (valueResult tree text e c)
+      unfolding valueResult calleeOf _>>=_ valueType return-type reference pick typeResult
       value-some n = record {
         is = rw (q, returns-type, ne-eqb (wordOf tree f D) none (λ z. n (ey ∙ z))) (ap (λ (z : ℕ). ok z) (sym ey));
         type = IsTyped.is (subst (λ (z : ℕ). TypeAt tree z) (sym ey) (go (return-is tree text good f callee-function)));

@@ -11,6 +11,7 @@ use lib.Seq.{length-take-le, take-add, take-all, drop-drop, drop-cons}
 use borrow.Author.Tests.{eqb-true, ltb-true, ltb-false}
 use Rattle.laws.proofs.Tests.{and-left, and-right, tested}
 use Rattle.records.specs.Words.{textAt}
+use Rattle.records.proofs.TextLaws.{same-texts}
 use Rattle.syntax.specs.Syntax.{Text, Program}
 use Rattle.syntax.specs.Decode.{program}
 use Rattle.conversion.specs.Ir.{sameText}
@@ -18,7 +19,6 @@ use Rattle.conversion.specs.Expressions.{Functions, TypedArg, suffixes, joined,
 use Rattle.expressions.specs.declared.arguments.Call.{Call}
 use Rattle.keys.specs.Keys.{allKeys}
 use Rattle.expressions.specs.Calls.{typedAt, suffixesAt, verbOf, nameOf, bytesIn, Called}
-use Rattle.keys.proofs.KeyLaws.{same-self}
 
 -- ---- texts
 
@@ -30,17 +30,14 @@ same-is (x ∷ a) [] e = absurd (false≢true e)
 same-is (x ∷ a) (y ∷ b) e =
     ap₂ (λ (z : ℕ) (l : Text). z ∷ l) (eqb-true x y (and-left (eqb x y) (sameText a b) e)) (same-is a b (and-right (eqb x y) (sameText a b) e))
 
-pub is-same : (a b : Text) → a ≡ b → sameText a b ≡ true
-is-same a b e = rw e (same-self b)
-
 -- either way round
 pub same-turned : (a b : Text) → sameText a b ≡ sameText b a
 same-turned a b = go (sameText a b) (sameText b a) refl refl
   where
     go : (p q : Bool) → sameText a b ≡ p → sameText b a ≡ q → p ≡ q
-    go true q ep eq = sym (is-same b a (sym (same-is a b ep))) ∙ eq
+    go true q ep eq = sym (same-texts b a (sym (same-is a b ep))) ∙ eq
     go false false ep eq = refl
-    go false true ep eq = absurd (false≢true (sym ep ∙ is-same a b (sym (same-is b a eq))))
+    go false true ep eq = absurd (false≢true (sym ep ∙ same-texts a b (sym (same-is b a eq))))
 
 and-three : (p q r : Bool) → (p && (q && r)) ≡ ((p && q) && r)
 and-three true q r = refl
@@ -71,7 +68,7 @@ part-one t o h = ap (take 1) (drop-cons t o 0 h)
 pub cut-same : (a b c d : Text) → length c ≡ length d → a ++ c ≡ b ++ d → (a ≡ b) × (c ≡ d)
 cut-same a b c d h e =
     let n : length a ≡ length b = omega (arith, length-append a c, length-append b d, ap length e) in
-    let both : (sameText a b && sameText c d) ≡ true = sym (same-append a b c d n) ∙ is-same (a ++ c) (b ++ d) e in
+    let both : (sameText a b && sameText c d) ≡ true = sym (same-append a b c d n) ∙ same-texts (a ++ c) (b ++ d) e in
     (same-is a b (and-left (sameText a b) (sameText c d) both), same-is c d (and-right (sameText a b) (sameText c d) both))
 
 -- ---- a verb and its suffixes

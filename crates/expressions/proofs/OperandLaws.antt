@@ -23,22 +23,22 @@ use Rattle.conversion.specs.Types.{isInt, onInt, is-number, fits, range-error}
 use Rattle.conversion.specs.Expressions.{OperandClass, Bools, Any, Numbers, Integers, operandClass, givesBool, filterOption, commonOf, acceptsUnary, acceptsClass, unaryType, operandsError, accepted, binaryType}
 use Rattle.records.specs.declared.words.Found.{Found}
 use Rattle.records.specs.declared.words.Found.the-variants as Found
-use Rattle.types.specs.Fits.{IsExpr, IsType, fitsAt, rangeErrorAt}
+use Rattle.types.specs.Fits.{IsType, fitsAt, rangeErrorAt}
 use Rattle.types.specs.Operators.{classNumber, resultNumber}
 use Rattle.types.proofs.FromGood.{is-type}
 use Rattle.expressions.specs.declared.answers.ExprType.{ExprType}
 use Rattle.expressions.specs.declared.answers.ExprType.the-variants as ExprType
 use Rattle.expressions.specs.declared.operands.Sides.{Sides}
-use Rattle.syntax.specs.Places.{IsKind, TypeAt, exprAt}
+use Rattle.syntax.specs.Places.{IsExpr, IsKind, TypeAt, exprAt}
 use Rattle.keys.specs.Keys.{allKeys}
-use Rattle.expressions.specs.Answers.{refusal, typeOf, numberOf, TypeFound, IsTyped, TypeIs, FoundIs, Operands, Accepts}
+use Rattle.expressions.specs.Answers.{refusal, typeResult, foundNumber, TypeFound, IsTyped, TypeIs, FoundIs, Operands, Accepts}
 use Rattle.expressions.proofs.TypingLaws.{place-is}
 
 -- a refusal as the answer
 pub refused-at : (tree : List ℕ) (m : Result ℕ) (k : ConvertErrorKind) (p : ℕ) (a : ExprType) → m ≡ err k p → a ≡ ExprType.Refused (record { kind = k; place = p })
     → TypeIs tree a m
-unfolding typeOf refusal
-refused-at tree m k p a e q = record { is = e ∙ sym (ap typeOf q); type = subst (λ (z : ExprType). IsTyped tree z) (sym q) IsTyped.no }
+unfolding typeResult refusal
+refused-at tree m k p a e q = record { is = e ∙ sym (ap typeResult q); type = subst (λ (z : ExprType). IsTyped tree z) (sym q) IsTyped.no }
 
 -- a type that was found
 pub found-type : (tree : List ℕ) (f : Found) (y : ℕ) → TypeFound tree f → f ≡ Found.At y → TypeAt tree y
@@ -146,7 +146,7 @@ module _ (tree text : List ℕ) (y : ℕ) where
 
     pub unary-taken : b ≡ true → TypeAt tree y
         → TypeIs tree (ExprType.Is y) (unaryType (program tree text) (allKeys tree text) e (getD unaryOps (detailOf tree e) Neg) y)
-    unfolding unaryType pick typeOf
+    unfolding unaryType pick typeResult
     unary-taken q t = record { is = rw (tested-by ∙ q); type = IsTyped.is t }
 
     pub unary-refused : b ≡ false → (a : ExprType) → a ≡ ExprType.Refused (record { kind = WrongOperands; place = e })
@@ -173,7 +173,7 @@ module _ (tree text : List ℕ) (good : Good tree text) (s : Sides) (o : Operand
     right-test = sym (eb text)
 
     pub common-left : b ≡ true → FoundIs tree (Found.At (s .«left_type»)) common
-    unfolding commonOf pick numberOf
+    unfolding commonOf pick foundNumber
     common-left q = record { is = rw (right-test ∙ q); type = TypeFound.a-type (o .left-type) }
 
     module _ (q : b ≡ false) (c : Bool) (ec : (text′ : List ℕ) → c ≡ fitsAt tree text′ (s .left) (s .«left_type») (s .«right_type»)) where
@@ -182,11 +182,11 @@ module _ (tree text : List ℕ) (good : Good tree text) (s : Sides) (o : Operand
       left-test = sym (ec text)
 
       pub common-right : c ≡ true → FoundIs tree (Found.At (s .«right_type»)) common
-      unfolding commonOf pick numberOf
+      unfolding commonOf pick foundNumber
       common-right p = record { is = rw (right-test ∙ q, left-test ∙ p); type = TypeFound.a-type (o .right-type) }
 
       pub common-none : c ≡ false → FoundIs tree Found.Nothing common
-      unfolding commonOf pick numberOf
+      unfolding commonOf pick foundNumber
       common-none p = record { is = rw (right-test ∙ q, left-test ∙ p); type = TypeFound.no-type }
 
   -- what is refused
@@ -241,14 +241,14 @@ module _ (tree text : List ℕ) (good : Good tree text) (s : Sides) (o : Operand
 
         -- no common type
         pub none-common : f ≡ Found.Nothing → (a : ExprType) → TypeIs tree a error → TypeIs tree a whole
-        unfolding binaryType accepted filterOption numberOf
-        none-common q a h = record { is = rw (sym (ef .is) ∙ ap numberOf q) (h .is); type = h .type }
+        unfolding binaryType accepted filterOption foundNumber
+        none-common q a h = record { is = rw (sym (ef .is) ∙ ap foundNumber q) (h .is); type = h .type }
 
         module _ (y : ℕ) (q : f ≡ Found.At y) (b : Bool)
             (eb : Accepts tree text cl y b) where
           found : common ≡ some y
-          unfolding numberOf
-          found = sym (ef .is) ∙ ap numberOf q
+          unfolding foundNumber
+          found = sym (ef .is) ∙ ap foundNumber q
 
           taken : acceptsClass (program tree text) (allKeys tree text) (operandClass op) y ≡ b
           taken = sym (eb (operandClass op) class-is)
@@ -267,14 +267,14 @@ module _ (tree text : List ℕ) (good : Good tree text) (s : Sides) (o : Operand
             common-result false h z = refl
 
             pub gives-bool : rs ≡ 1 → TypeIs tree (ExprType.Is 6) whole
-            unfolding binaryType accepted filterOption pick typeOf
+            unfolding binaryType accepted filterOption pick typeResult
             gives-bool z = record {
               is = rw (found, taken ∙ t, bool-result (givesBool op) result-is z);
               type = IsTyped.is (first-type tree text good e (k .below) (λ w. omega (arith, k .kind)) 6 (omega arith));
             }
 
             pub gives-common : (rs ≡ 1 → ⊥) → TypeIs tree (ExprType.Is y) whole
-            unfolding binaryType accepted filterOption pick typeOf
+            unfolding binaryType accepted filterOption pick typeResult
             gives-common z = record {
               is = rw (found, taken ∙ t, common-result (givesBool op) result-is z);
               type = IsTyped.is (found-type tree f y (ef .type) q);

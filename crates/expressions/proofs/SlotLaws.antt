@@ -17,15 +17,14 @@ use Rattle.conversion.specs.ConvertError.{ok}
 use Rattle.conversion.specs.Scope as Def
 use Rattle.conversion.specs.Written.{bytesOf, word}
 use Rattle.scope.specs.declared.Scope.{Scope}
-use Rattle.scope.specs.Open.{scopeAt, Kept}
+use Rattle.scope.specs.Open.{scopeAt}
 use Rattle.records.proofs.Apart.{byte-apart, word-apart, word-there, word-same, word-back}
-use Rattle.scope.proofs.ScopeLaws.{scope-kept}
-use Rattle.types.specs.Fits.{IsExpr}
-use Rattle.syntax.specs.Places.{TypeAt}
+use Rattle.scope.proofs.ScopeLaws.{Kept, scope-kept}
+use Rattle.syntax.specs.Places.{IsExpr, TypeAt}
 use Rattle.keys.specs.Keys.{Listed, Keyed}
 use Rattle.expressions.specs.Slots.{slotAt, Scoped, Frame, typeIn, Slots, Ready}
 use Rattle.expressions.specs.declared.answers.ExprType.{ExprType}
-use Rattle.expressions.specs.Answers.{typeOf, TypeMeets}
+use Rattle.expressions.specs.Answers.{typeResult, TypeMeets}
 use Rattle.keys.proofs.KeySearch.{records-most}
 
 -- ---- a word that is written
@@ -182,5 +181,5 @@ module _ (tree text : List ℕ) (S : Def.Scope) where
 -- typing leaves the scope as it was: what it says after an earlier typing it says of the scope before that
 module _ (tree text s s₁ : List ℕ) (sc : Scope) (f : Frame tree s s₁) (is : sc .records ≡ records tree) where
   pub type-later : (e : ℕ) (a : ExprType) (s₂ : List ℕ) → TypeMeets tree text s₁ sc e a s₂
-      → Slots tree text (scopeAt tree text s sc) s₁ s₂ × (typeIn tree text (scopeAt tree text s sc) e ≡ typeOf a)
+      → Slots tree text (scopeAt tree text s sc) s₁ s₂ × (typeIn tree text (scopeAt tree text s sc) e ≡ typeResult a)
   type-later e a s₂ m = rw (← scope-frame tree s s₁ f text sc is) (m .slots, m .meets)

@@ -24,7 +24,7 @@ use Rattle.keys.specs.declared.parts.Part.{Part}
 use Rattle.syntax.specs.Places.{exprAt, argsAt}
 use Rattle.keys.specs.Parts.{PartIs}
 use Rattle.keys.specs.Keys.{allKeys}
-use Rattle.expressions.specs.Slots.{slotAt, slotted, Typed, FirstType}
+use Rattle.expressions.specs.Slots.{slotAt, slotted, ArgsTyped, FirstType}
 use Rattle.expressions.specs.Calls.{typedAt, suffixesAt, bytesIn, Argued, PrefixIs, so-many, no-number}
 use Rattle.syntax.proofs.Lists.{args-end, left, left-most, next-falls, Cell, cell-is, value-item, type-item}
 use Rattle.expressions.proofs.NameLaws.{same-append, part-length, part-split, part-one, joined-verb, bytes-more}
@@ -67,12 +67,12 @@ module _ (tree text s : List ℕ) where
     rest-falls : left (wordOf tree w B) < left w
     rest-falls = next-falls tree text (a .good) Arguments w (wordOf tree w B) (a .cells) n refl
 
-    rest-argued : Typed tree s (argsAt tree text (wordOf tree w B)) → Argued tree text s (wordOf tree w B)
+    rest-argued : ArgsTyped tree s (argsAt tree text (wordOf tree w B)) → Argued tree text s (wordOf tree w B)
     rest-argued t = record { good = a .good; room = a .room; cells = here .rest; typed = t }
 
     -- by the arguments as they stand
     first-value : (r : ℕ) (e : Expr) → argsAt tree text w ≡ Value r e (argsAt tree text (wordOf tree w B)) → First tree text s w y
-    unfolding suffixesAt suffixes typedAt slotted FirstType Typed program
+    unfolding suffixesAt suffixes typedAt slotted FirstType ArgsTyped program
     first-value r e q =
         let ty : slotAt tree s (place e) ≡ y = rw q at first in
         record {
@@ -83,7 +83,7 @@ module _ (tree text s : List ℕ) where
         }
 
     first-type : (r t : ℕ) → argsAt tree text w ≡ ToType r t (argsAt tree text (wordOf tree w B)) → First tree text s w y
-    unfolding suffixesAt suffixes typedAt slotted FirstType Typed program
+    unfolding suffixesAt suffixes typedAt slotted FirstType ArgsTyped program
     first-type r t q =
         let ty : t ≡ y = rw q at first in
         record {

@@ -21,7 +21,7 @@ use Rattle.expressions.specs.declared.arguments.Argument.{Argument}
 use Rattle.expressions.specs.declared.arguments.Argument.the-variants as Argument
 use Rattle.syntax.specs.Places.{TypeAt, ArgsAt, ParamsAt, exprAt, argsAt, paramsAt}
 use Rattle.keys.specs.Keys.{allKeys}
-use Rattle.expressions.specs.Slots.{slotAt, Typed}
+use Rattle.expressions.specs.Slots.{slotAt, ArgsTyped}
 use Rattle.expressions.specs.Calls.{typedAt, TakesFirst}
 use Rattle.expressions.specs.Answers.{ArgumentIs}
 use Rattle.syntax.proofs.Lists.{cell-is, parameter-item, parameter-type}
@@ -142,5 +142,5 @@ module _ (tree text s : List ℕ) where
           h ∙ rw (ep, ea) (first-yes _ _ _ _ r (rw (ep, ea) at t) q ∙ rw (ev, ex))
 
   pub next-args-typed : Good tree text → (w v : ℕ) → ArgsAt tree w → (w ≡ none → ⊥) → v ≡ wordOf tree w B
-      → Typed tree s (argsAt tree text w) → Typed tree s (argsAt tree text v)
+      → ArgsTyped tree s (argsAt tree text w) → ArgsTyped tree s (argsAt tree text v)
   next-args-typed good w v l n e t = next-typed tree text w s v (some-argument tree text good w l n .is) t e

@@ -23,7 +23,6 @@ use Rattle.conversion.specs.Scope as Def
 use Rattle.conversion.specs.Expressions.{Callee, get-type, get-argument-types, resolve-call, resolveTyped, unaryType, binaryType, valueType, return-type}
 use Rattle.scope.specs.declared.Scope.{Scope}
 use Rattle.scope.specs.Open.{scopeAt}
-use Rattle.types.specs.Fits.{IsExpr}
 use Rattle.types.proofs.FromGood.{is-expr}
 use Rattle.expressions.specs.declared.answers.Outcome.{Outcome}
 use Rattle.expressions.specs.declared.answers.Outcome.the-variants as Outcome
@@ -31,11 +30,11 @@ use Rattle.expressions.specs.declared.answers.ExprType.{ExprType}
 use Rattle.expressions.specs.declared.answers.ExprType.the-variants as ExprType
 use Rattle.expressions.specs.declared.answers.Resolved.{Resolved}
 use Rattle.expressions.specs.declared.answers.Resolved.the-variants as Resolved
-use Rattle.syntax.specs.Places.{IsKind, TypeAt, ArgsAt, exprAt, argsAt}
+use Rattle.syntax.specs.Places.{IsExpr, IsKind, TypeAt, ArgsAt, exprAt, argsAt}
 use Rattle.keys.specs.Keys.{allKeys}
 use Rattle.expressions.specs.Slots.{typeIn, slotted, Slots, Ready}
 use Rattle.expressions.specs.Calls.{typedAt}
-use Rattle.expressions.specs.Answers.{refusal, typeOf, doneWith, calleeOf, valueOf, IsTyped, IsCallee, TypeIs, CalleeIs, TypeMeets, ArgsMeet, CallMeets}
+use Rattle.expressions.specs.Answers.{refusal, typeResult, doneWith, calleeOf, valueResult, IsTyped, IsCallee, TypeIs, CalleeIs, TypeMeets, ArgsMeet, CallMeets}
 use Rattle.syntax.proofs.Lists.{list-lower, list-at}
 use Rattle.syntax.proofs.Records.{expr-unary, expr-binary, expr-call, expr-place}
 use Rattle.expressions.proofs.SlotLaws.{frame-refl, frame-trans, type-later, slots-refl, slots-trans}
@@ -56,12 +55,12 @@ unfolding _>>=_ refusal
 bind-refused m x f e = rw e
 
 -- what an answer says
-pub type-ok : (m : Result ℕ) (a : ExprType) (y : ℕ) → m ≡ typeOf a → a ≡ ExprType.Is y → m ≡ ok y
-unfolding typeOf
+pub type-ok : (m : Result ℕ) (a : ExprType) (y : ℕ) → m ≡ typeResult a → a ≡ ExprType.Is y → m ≡ ok y
+unfolding typeResult
 type-ok m a y e q = e ∙ rw q
 
-pub type-refused : (m : Result ℕ) (a : ExprType) (x : ConvertError) → m ≡ typeOf a → a ≡ ExprType.Refused x → m ≡ refusal x
-unfolding typeOf
+pub type-refused : (m : Result ℕ) (a : ExprType) (x : ConvertError) → m ≡ typeResult a → a ≡ ExprType.Refused x → m ≡ refusal x
+unfolding typeResult
 type-refused m a x e q = e ∙ rw q
 
 pub is-typed : (tree : List ℕ) (a : ExprType) (y : ℕ) → IsTyped tree a → a ≡ ExprType.Is y → TypeAt tree y
@@ -152,11 +151,11 @@ module _ (tree text : List ℕ) (good : Good tree text) where
 
       -- an operator with one operand
       module _ (q : k ≡ 9) (a : ℕ) (ea : a ≡ wordOf tree e A) (t : ExprType) (s₁ : List ℕ) (m : TypeMeets tree text s sc a t s₁) where
-        operand-type : typeIn tree text S (wordOf tree e A) ≡ typeOf t
+        operand-type : typeIn tree text S (wordOf tree e A) ≡ typeResult t
         operand-type = ap (typeIn tree text S) (sym ea) ∙ m .meets
 
         pub unary-stop : (r : ConvertError) → t ≡ ExprType.Refused r → TypeMeets tree text s sc e (ExprType.Refused r) s₁
-        unfolding typeOf
+        unfolding typeResult
         unary-stop r w = record {
           frame = m .frame;
           typed = IsTyped.no;
@@ -185,7 +184,7 @@ module _ (tree text : List ℕ) (good : Good tree text) where
 
       -- an operator with two
       module _ (q : k ≡ 10) (a : ℕ) (ea : a ≡ wordOf tree e A) (t : ExprType) (s₁ : List ℕ) (m : TypeMeets tree text s sc a t s₁) where
-        left-type : typeIn tree text S (wordOf tree e A) ≡ typeOf t
+        left-type : typeIn tree text S (wordOf tree e A) ≡ typeResult t
         left-type = ap (typeIn tree text S) (sym ea) ∙ m .meets
 
         abbrev rule : Def.Scope → ℕ → Result ℕ
@@ -194,7 +193,7 @@ module _ (tree text : List ℕ) (good : Good tree text) where
             (exprAt tree text (wordOf tree e A)) l (exprAt tree text (wordOf tree e B)) y
 
         pub left-stop : (r : ConvertError) → t ≡ ExprType.Refused r → TypeMeets tree text s sc e (ExprType.Refused r) s₁
-        unfolding typeOf
+        unfolding typeResult
         left-stop r w = record {
           frame = m .frame;
           typed = IsTyped.no;
@@ -208,10 +207,10 @@ module _ (tree text : List ℕ) (good : Good tree text) where
         module _ (count : ℕ) (ready : Ready tree text s count sc) (l : ℕ) (w : t ≡ ExprType.Is l)
             (b : ℕ) (eb : b ≡ wordOf tree e B) (u : ExprType) (s₂ : List ℕ) (m₂ : TypeMeets tree text s₁ sc b u s₂) where
           -- the scope is still the one from before
-          later : TypeMeets tree text s₁ sc b u s₂ → Slots tree text S s₁ s₂ × (typeIn tree text S b ≡ typeOf u)
+          later : TypeMeets tree text s₁ sc b u s₂ → Slots tree text S s₁ s₂ × (typeIn tree text S b ≡ typeResult u)
           later n = type-later tree text s s₁ sc (m .frame) (ready .scoped .records-are) b u s₂ n
 
-          right-type : typeIn tree text S (wordOf tree e B) ≡ typeOf u
+          right-type : typeIn tree text S (wordOf tree e B) ≡ typeResult u
           right-type = ap (typeIn tree text S) (sym eb) ∙ later m₂ .1
 
           both-slots : Slots tree text S s s₂
@@ -223,7 +222,7 @@ module _ (tree text : List ℕ) (good : Good tree text) where
               ∙ bind-ok (typeIn tree text S (wordOf tree e A)) l (rule S) (type-ok (typeIn tree text S (wordOf tree e A)) t l left-type w)
 
           pub right-stop : (r : ConvertError) → u ≡ ExprType.Refused r → TypeMeets tree text s sc e (ExprType.Refused r) s₂
-          unfolding typeOf
+          unfolding typeResult
           right-stop r v = record {
             frame = frame-trans (m .frame) (m₂ .frame);
             typed = IsTyped.no;
@@ -254,8 +253,8 @@ module _ (tree text : List ℕ) (good : Good tree text) where
 
       -- a call
       pub call-value : k ≡ 11 → (c : Resolved) (s₁ : List ℕ) → CallMeets tree text s sc e c s₁ → (b : ExprType)
-          → TypeIs tree b (valueOf tree text e c) → TypeMeets tree text s sc e b s₁
-      unfolding valueOf
+          → TypeIs tree b (valueResult tree text e c) → TypeMeets tree text s sc e b s₁
+      unfolding valueResult
       call-value q c s₁ m b u = record {
         frame = m .frame;
         typed = u .type;

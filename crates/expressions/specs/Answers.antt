@@ -16,7 +16,6 @@ use Rattle.records.specs.declared.words.Found.{Found}
 use Rattle.records.specs.declared.words.Found.the-variants as Found
 use Rattle.scope.specs.declared.Scope.{Scope}
 use Rattle.scope.specs.Open.{scopeAt}
-use Rattle.types.specs.Fits.{IsExpr}
 use Rattle.types.specs.Operators.{classNumber}
 use Rattle.expressions.specs.declared.answers.Outcome.{Outcome}
 use Rattle.expressions.specs.declared.answers.Outcome.the-variants as Outcome
@@ -33,9 +32,9 @@ use Rattle.expressions.specs.declared.answers.Candidates.the-variants as
 use Rattle.expressions.specs.declared.operands.Sides.{Sides}
 use Rattle.expressions.specs.declared.arguments.Argument.{Argument}
 use Rattle.expressions.specs.declared.arguments.Argument.the-variants as Argument
-use Rattle.syntax.specs.Places.{TypeAt, FunctionAt, functionOf, exprAt, argsAt}
+use Rattle.syntax.specs.Places.{IsExpr, TypeAt, FunctionAt, functionOf, exprAt, argsAt}
 use Rattle.keys.specs.Keys.{allKeys}
-use Rattle.expressions.specs.Slots.{slotted, Typed, Frame, Slots, typeIn}
+use Rattle.expressions.specs.Slots.{slotted, ArgsTyped, Frame, Slots, typeIn}
 
 -- a refusal
 unfoldable pub refusal : {A : Type 0} → ConvertError → Result A
@@ -53,26 +52,26 @@ unfolding refusal
 doneWith a Outcome.Done = ok a
 doneWith a (Outcome.Refused e) = refusal e
 
-unfoldable pub typeOf : ExprType → Result ℕ
+unfoldable pub typeResult : ExprType → Result ℕ
 unfolding refusal
-typeOf (ExprType.Is y) = ok y
-typeOf (ExprType.Refused e) = refusal e
+typeResult (ExprType.Is y) = ok y
+typeResult (ExprType.Refused e) = refusal e
 
-unfoldable pub castOf : Cast → Result (Option ℕ)
+unfoldable pub castResult : Cast → Result (Option ℕ)
 unfolding refusal
-castOf Cast.Not = ok none
-castOf (Cast.To y) = ok (some y)
-castOf (Cast.Refused e) = refusal e
+castResult Cast.Not = ok none
+castResult (Cast.To y) = ok (some y)
+castResult (Cast.Refused e) = refusal e
 
-unfoldable pub commonOf : Common → Result (Option ℕ)
+unfoldable pub commonResult : Common → Result (Option ℕ)
 unfolding refusal
-commonOf (Common.Is y) = ok (some y)
-commonOf Common.Neither = ok none
-commonOf (Common.Refused e) = refusal e
+commonResult (Common.Is y) = ok (some y)
+commonResult Common.Neither = ok none
+commonResult (Common.Refused e) = refusal e
 
-unfoldable pub numberOf : Found → Option ℕ
-numberOf (Found.At y) = some y
-numberOf Found.Nothing = none
+unfoldable pub foundNumber : Found → Option ℕ
+foundNumber (Found.At y) = some y
+foundNumber Found.Nothing = none
 
 -- a type that was found is one
 pub data TypeFound (tree : List ℕ) : Found → Type 0 where
@@ -102,9 +101,9 @@ module _ (tree text : List ℕ) where
   calleeOf (Resolved.Refused e) = refusal e
 
   -- the type of the call of record r that runs this: 'NoValue' for a function without a return type
-  unfoldable pub valueOf : ℕ → Resolved → Result ℕ
+  unfoldable pub valueResult : ℕ → Resolved → Result ℕ
   unfolding _>>=_ calleeOf valueType return-type
-  valueOf r a = do
+  valueResult r a = do
     c ← calleeOf a
     valueType r (return-type c)
 
@@ -132,16 +131,16 @@ pub data IsCallee (tree : List ℕ) : Resolved → Type 0 where
 
 -- the answer is this type; the same of one that is looked for
 pub record TypeIs (tree : List ℕ) (a : ExprType) (m : Result ℕ) : Type 0 where
-  pub is : m ≡ typeOf a
+  pub is : m ≡ typeResult a
   pub type : IsTyped tree a
 
 pub record FoundIs (tree : List ℕ) (r : Found) (o : Option ℕ) : Type 0 where
-  pub is : numberOf r ≡ o
+  pub is : foundNumber r ≡ o
   pub type : TypeFound tree r
 
 -- the cast is this one
 pub record CastIs (tree : List ℕ) (a : Cast) (m : Result (Option ℕ)) : Type 0 where
-  pub is : m ≡ castOf a
+  pub is : m ≡ castResult a
   pub type : IsCast tree a
 
 -- the callee is this one
@@ -197,13 +196,13 @@ pub record TypeMeets (tree text s : List ℕ) (sc : Scope) (e : ℕ) (a : ExprTy
   pub frame : Frame tree s s′
   pub slots : Slots tree text (scopeAt tree text s sc) s s′
   pub typed : IsTyped tree a
-  pub meets : typeIn tree text (scopeAt tree text s sc) e ≡ typeOf a
+  pub meets : typeIn tree text (scopeAt tree text s sc) e ≡ typeResult a
 
 -- `get_argument_types` of the arguments that word w opens: their types stand in the slots
 pub record ArgsMeet (tree text s : List ℕ) (sc : Scope) (w : ℕ) (a : Outcome) (s′ : List ℕ) : Type 0 where
   pub frame : Frame tree s s′
   pub slots : Slots tree text (scopeAt tree text s sc) s s′
-  pub typed : a ≡ Outcome.Done → Typed tree s′ (argsAt tree text w)
+  pub typed : a ≡ Outcome.Done → ArgsTyped tree s′ (argsAt tree text w)
   pub meets : get-argument-types (program tree text) (allKeys tree text) (argsAt tree text w) (scopeAt tree text s sc)
       ≡ doneWith (slotted tree s′ (argsAt tree text w)) a
 
@@ -220,4 +219,4 @@ pub record CommonMeets (tree text s : List ℕ) (sc : Scope) (l r : ℕ) (a : Co
   pub frame : Frame tree s s′
   pub slots : Slots tree text (scopeAt tree text s sc) s s′
   pub common : IsCommon tree a
-  pub meets : common-type (program tree text) (allKeys tree text) (exprAt tree text l) (exprAt tree text r) (scopeAt tree text s sc) ≡ commonOf a
+  pub meets : common-type (program tree text) (allKeys tree text) (exprAt tree text l) (exprAt tree text r) (scopeAt tree text s sc) ≡ commonResult a

@@ -17,7 +17,7 @@ use Rattle.records.specs.declared.words.Found.the-variants as Found
 use Rattle.expressions.specs.declared.arguments.Call.{Call}
 use Rattle.syntax.specs.Places.{ArgsAt, argsAt, paramsAt}
 use Rattle.keys.specs.Keys.{allKeys}
-use Rattle.expressions.specs.Slots.{slotted, Typed}
+use Rattle.expressions.specs.Slots.{slotted, ArgsTyped}
 
 -- how many bytes some texts have in all
 unfoldable pub bytesIn : List Text → ℕ
@@ -47,7 +47,7 @@ module _ (tree text s : List ℕ) where
     pub good : Good tree text
     pub room : 64 * records tree ≤ length s
     pub cells : ArgsAt tree w
-    pub typed : Typed tree s (argsAt tree text w)
+    pub typed : ArgsTyped tree s (argsAt tree text w)
 
   -- the call's verb, and the text that its first k arguments make of it
   abbrev pub verbOf : Call → Text

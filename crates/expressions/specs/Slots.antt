@@ -13,9 +13,8 @@ use Rattle.conversion.specs.ConvertError.{Result, ok}
 use Rattle.conversion.specs.Scope as Def
 use Rattle.conversion.specs.Expressions.{TypedArg, get-type}
 use Rattle.scope.specs.declared.Scope.{Scope}
-use Rattle.scope.specs.Open.{Room}
-use Rattle.types.specs.Fits.{IsExpr}
-use Rattle.syntax.specs.Places.{TypeAt, exprAt}
+use Rattle.scope.specs.Open.{NamesRoom}
+use Rattle.syntax.specs.Places.{IsExpr, TypeAt, exprAt}
 use Rattle.keys.specs.Keys.{allKeys, Keyed}
 
 -- y is the type of the first of the arguments
@@ -37,16 +36,16 @@ module _ (tree : List ℕ) where
   slotted s (ToType r y l) = record { ty = y; value = none } ∷ slotted s l
 
   -- each argument's slot has a type
-  unfoldable pub Typed : List ℕ → Args → Type 0
+  unfoldable pub ArgsTyped : List ℕ → Args → Type 0
   unfolding slotAt place
-  Typed s noArgs = Unit {0}
-  Typed s (Value r e l) = TypeAt tree (slotAt s (place e)) × Typed s l
-  Typed s (ToType r y l) = Typed s l
+  ArgsTyped s noArgs = Unit {0}
+  ArgsTyped s (Value r e l) = TypeAt tree (slotAt s (place e)) × ArgsTyped s l
+  ArgsTyped s (ToType r y l) = ArgsTyped s l
 
   -- the scope is one of this tree, and the open names' types are types of this tree
   pub record Scoped (s : List ℕ) (sc : Scope) : Type 0 where
     pub records-are : sc .records ≡ records tree
-    pub room : Room sc s
+    pub room : NamesRoom sc s
     pub types : (j : ℕ) → j < sc .names → TypeAt tree (wordAt s (8 * records tree + 16 * j + 12) / 2)
 
   -- only the region of the slots, from byte 4n to byte 8n, may differ

@@ -3,6 +3,7 @@ ghost use mathlib.Core.Path.{_≡_};
 ghost use mathlib.Core.List.{List};
 ghost use Prim.Native.Nat.{ℕ, _+_, _*_, _≤_, _<_};
 ghost use lib.ListN.{length};
+ghost use Rattle.records.specs.Words as Words;
 ghost use Rattle.records.specs.Words.{records, wordOf};
 ghost use Rattle.records.specs.Good.{Good};
 ghost use Rattle.syntax.specs.Decode.{keyAt};
@@ -11,11 +12,14 @@ ghost use Rattle.syntax.specs.Places.{TypeAt, ArgsAt, ParamsAt, paramsAt};
 ghost use Rattle.keys.specs.Parts.{PartIs};
 ghost use Rattle.expressions.specs.Calls.{typedAt, Argued};
 ghost use Rattle.expressions.specs.Slots.{slotAt, FirstType};
-ghost use Rattle.expressions.specs.Answers.{ArgumentIs, numberOf, TypeFound};
+ghost use Rattle.expressions.specs.Answers.{ArgumentIs, foundNumber, TypeFound};
 use keys::parts::Part;
 use keys::parts::text_part;
 use records::numbers::KIND_VALUE;
 use records::words::Found;
+use records::words::WORD_A;
+use records::words::WORD_B;
+use records::words::WORD_D;
 use records::words::kind;
 use records::words::load;
 use records::words::reference;
@@ -44,8 +48,8 @@ pub fn argument_at(tree: &[u8], text: &[u8], cell: usize) -> Argument
     requires { ⌜ (cell ≡ 4294967295 → ⊥) ⌝ }
     ensures { λ r. ⌜ ArgumentIs (now (tree .entry)) (now (text .entry)) cell r ⌝ }
 {
-    let item = reference(tree, cell, 0);
-    let inner = reference(tree, item, 0);
+    let item = reference(tree, cell, WORD_A);
+    let inner = reference(tree, item, WORD_A);
     if kind(tree, item) == KIND_VALUE {
         return Argument::Expr(inner);
     }
@@ -56,9 +60,9 @@ pub fn argument_at(tree: &[u8], text: &[u8], cell: usize) -> Argument
 pub fn next_cell(tree: &[u8], text: &[u8], cell: usize) -> usize
     requires { ⌜ Good (now tree) (now text) ⌝ }
     requires { ⌜ cell < records (now tree) ⌝ }
-    ensures { λ w. ⌜ w ≡ wordOf (now (tree .entry)) cell 1 ⌝ }
+    ensures { λ w. ⌜ w ≡ wordOf (now (tree .entry)) cell Words.B ⌝ }
 {
-    reference(tree, cell, 1)
+    reference(tree, cell, WORD_B)
 }
 
 // The type at an expression's slot.
@@ -88,7 +92,7 @@ pub(crate) fn type_key(tree: &[u8], text: &[u8], y: usize) -> Part
     requires { ⌜ TypeAt (now tree) y ⌝ }
     ensures { λ p. ⌜ PartIs (now (text .entry)) p (keyAt (now (tree .entry)) (now (text .entry)) y) ⌝ }
 {
-    text_part(tree, y, 3)
+    text_part(tree, y, WORD_D)
 }
 
 pub(crate) fn count_arguments(tree: &[u8], text: &[u8], first: usize) -> usize
@@ -123,7 +127,7 @@ pub(crate) fn count_parameters(tree: &[u8], text: &[u8], first: usize) -> usize
 pub(crate) fn target_type(tree: &[u8], text: &[u8], first: usize) -> Found
     requires { ⌜ Good (now tree) (now text) ⌝ }
     requires { ⌜ ArgsAt (now tree) first ⌝ }
-    ensures { λ r. ⌜ ((s : List ℕ) → numberOf r ≡ targetType (typedAt (now (tree .entry)) (now (text .entry)) s first)) × TypeFound (now (tree .entry)) r ⌝ }
+    ensures { λ r. ⌜ ((s : List ℕ) → foundNumber r ≡ targetType (typedAt (now (tree .entry)) (now (text .entry)) s first)) × TypeFound (now (tree .entry)) r ⌝ }
 {
     let mut cell = first;
     while cell != END {
@@ -138,7 +142,7 @@ pub(crate) fn target_type(tree: &[u8], text: &[u8], first: usize) -> Found
 // The type of the first expression among the arguments.
 pub(crate) fn source_type(tree: &[u8], text: &[u8], scratch: &[u8], first: usize) -> Found
     requires { ⌜ Argued (now tree) (now text) (now scratch) first ⌝ }
-    ensures { λ r. ⌜ (numberOf r ≡ sourceType (typedAt (now (tree .entry)) (now (text .entry)) (now (scratch .entry)) first)) × TypeFound (now (tree .entry)) r ⌝ }
+    ensures { λ r. ⌜ (foundNumber r ≡ sourceType (typedAt (now (tree .entry)) (now (text .entry)) (now (scratch .entry)) first)) × TypeFound (now (tree .entry)) r ⌝ }
 {
     let mut cell = first;
     while cell != END {

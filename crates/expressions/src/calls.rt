@@ -1,10 +1,12 @@
 // expressions.rs: what a call runs, once its arguments' types stand in scratch.
 ghost use mathlib.Core.Path.{_≡_};
+ghost use Rattle.records.specs.Words as Words;
 ghost use Rattle.records.specs.Words.{wordOf};
+ghost use Rattle.records.specs.Kinds.{kindCall};
 ghost use Rattle.records.specs.Good.{Good};
 ghost use Rattle.syntax.specs.Places.{FunctionAt, IsKind, functionOf, argsAt};
 ghost use Rattle.keys.specs.Keys.{Keyed};
-ghost use Rattle.expressions.specs.Slots.{Typed};
+ghost use Rattle.expressions.specs.Slots.{ArgsTyped};
 ghost use Rattle.expressions.specs.Calls.{Called, CallAt, isCandidate, literalFits, castTypeOf, functionFor, resolvedAt};
 ghost use Rattle.expressions.specs.Answers.{CandidatesAre, CastIs, CalleeIs};
 use crate::answers::Candidates;
@@ -26,6 +28,8 @@ use keys::parts::text_part;
 use records::convert_error::ConvertError;
 use records::convert_error::ConvertErrorKind;
 use records::words::Found;
+use records::words::WORD_A;
+use records::words::WORD_C;
 use records::words::reference;
 use types::casts::can_cast;
 
@@ -127,11 +131,11 @@ fn resolve_function(
 // The call of record r, for its typed arguments.
 fn call_of(tree: &[u8], text: &[u8], r: usize) -> Call
     requires { ⌜ Good (now tree) (now text) ⌝ }
-    requires { ⌜ IsKind (now tree) 11 r ⌝ }
+    requires { ⌜ IsKind (now tree) kindCall r ⌝ }
     ensures { λ c. ⌜ CallAt (now (tree .entry)) (now (text .entry)) r c ⌝ }
 {
-    let verb = text_part(tree, r, 0);
-    let first = reference(tree, r, 2);
+    let verb = text_part(tree, r, WORD_A);
+    let first = reference(tree, r, WORD_C);
     let count = count_arguments(tree, text, first);
     Call {
         offset: verb.0,
@@ -150,8 +154,8 @@ pub(crate) fn resolve_typed(
     r: usize,
 ) -> Resolved
     requires { ⌜ Keyed (now tree) (now text) (now scratch) functions ⌝ }
-    requires { ⌜ IsKind (now tree) 11 r ⌝ }
-    requires { ⌜ Typed (now tree) (now scratch) (argsAt (now tree) (now text) (wordOf (now tree) r 2)) ⌝ }
+    requires { ⌜ IsKind (now tree) kindCall r ⌝ }
+    requires { ⌜ ArgsTyped (now tree) (now scratch) (argsAt (now tree) (now text) (wordOf (now tree) r Words.C)) ⌝ }
     ensures { λ a. ⌜ CalleeIs (now (tree .entry)) (now (text .entry)) a (resolvedAt (now (tree .entry)) (now (text .entry)) (now (scratch .entry)) r) ⌝ }
 {
     let call = call_of(tree, text, r);

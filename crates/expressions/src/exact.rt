@@ -9,7 +9,7 @@ ghost use Rattle.records.specs.Good.{Good};
 ghost use Rattle.conversion.specs.Ir.{sameText};
 ghost use Rattle.conversion.specs.Expressions.{is-mangled, filterOption};
 ghost use Rattle.syntax.specs.Places.{FunctionAt, functionOf};
-ghost use Rattle.keys.specs.Keys.{keyOf, Keyed, FunctionIs};
+ghost use Rattle.keys.specs.Keys.{functionKey, Keyed, FunctionIs};
 ghost use Rattle.expressions.specs.Calls.{suffixesAt, nameOf, bytesIn, Argued, Called, PrefixIs, VariadicKey, suffixText, byName, byFullName, byPrefix, exactly};
 use crate::arguments::Call;
 use crate::arguments::END;
@@ -181,7 +181,7 @@ fn suffixes_of(tree: &[u8], text: &[u8], scratch: &[u8], first: usize, bytes: us
 fn variadic_key(tree: &[u8], text: &[u8], scratch: &[u8], call: Call, f: usize) -> Found
     requires { ⌜ Called (now tree) (now text) (now scratch) call ⌝ }
     requires { ⌜ FunctionAt (now tree) f ⌝ }
-    ensures { λ r. ⌜ VariadicKey (now (tree .entry)) (now (text .entry)) (now (scratch .entry)) call (keyOf (functionOf (now (tree .entry)) (now (text .entry)) f)) r ⌝ }
+    ensures { λ r. ⌜ VariadicKey (now (tree .entry)) (now (text .entry)) (now (scratch .entry)) call (functionKey (functionOf (now (tree .entry)) (now (text .entry)) f)) r ⌝ }
 {
     let key = key_of(tree, text, f);
     if key.1 < call.len + 4 {

@@ -4,10 +4,11 @@ ghost use mathlib.Core.Path.{_≡_};
 ghost use Prim.Native.Nat.{_+_, _*_, _≤_, _<_};
 ghost use lib.ListN.{length};
 ghost use Rattle.laws.specs.Splice.{splice};
+ghost use Rattle.records.specs.Words as Words;
 ghost use Rattle.records.specs.Words.{wordOf, records};
+ghost use Rattle.records.specs.Kinds.{kindCall};
 ghost use Rattle.conversion.specs.Written.{word};
-ghost use Rattle.types.specs.Fits.{IsExpr};
-ghost use Rattle.syntax.specs.Places.{IsKind};
+ghost use Rattle.syntax.specs.Places.{IsExpr, IsKind};
 ghost use Rattle.expressions.specs.Slots.{Ready};
 ghost use Rattle.expressions.specs.Answers.{TypeMeets, ArgsMeet, CallMeets, CommonMeets};
 use crate::answers::Common;
@@ -29,6 +30,9 @@ use records::numbers::KIND_BINARY;
 use records::numbers::KIND_CALL;
 use records::numbers::KIND_UNARY;
 use records::words::Found;
+use records::words::WORD_A;
+use records::words::WORD_B;
+use records::words::WORD_C;
 use records::words::kind;
 use records::words::put_word;
 use records::words::reference;
@@ -58,15 +62,15 @@ pub fn get_type(
 {
     let k = kind(tree, e);
     if k == KIND_UNARY {
-        let operand = reference(tree, e, 0);
+        let operand = reference(tree, e, WORD_A);
         return match get_type(tree, text, scratch, functions, scope, operand) {
             ExprType::Refused(x) => ExprType::Refused(x),
             ExprType::Is(ty) => unary_type(tree, text, e, ty),
         };
     }
     if k == KIND_BINARY {
-        let left = reference(tree, e, 0);
-        let right = reference(tree, e, 1);
+        let left = reference(tree, e, WORD_A);
+        let right = reference(tree, e, WORD_B);
         return match get_type(tree, text, scratch, functions, scope, left) {
             ExprType::Refused(x) => ExprType::Refused(x),
             ExprType::Is(l) => match get_type(tree, text, scratch, functions, scope, right) {
@@ -100,7 +104,7 @@ pub fn resolve_call(
     r: usize,
 ) -> Resolved
     requires { ⌜ Ready (now tree) (now text) (now scratch) functions scope ⌝ }
-    requires { ⌜ IsKind (now tree) 11 r ⌝ }
+    requires { ⌜ IsKind (now tree) kindCall r ⌝ }
     ensures { λ a. ⌜ CallMeets (now (tree .entry)) (now (text .entry)) (now (scratch .entry)) scope r a (now (scratch .exit)) ⌝ }
 {
     match get_argument_types(tree, text, scratch, functions, scope, r) {
@@ -119,10 +123,10 @@ fn get_argument_types(
     r: usize,
 ) -> Outcome
     requires { ⌜ Ready (now tree) (now text) (now scratch) functions scope ⌝ }
-    requires { ⌜ IsKind (now tree) 11 r ⌝ }
-    ensures { λ a. ⌜ ArgsMeet (now (tree .entry)) (now (text .entry)) (now (scratch .entry)) scope (wordOf (now (tree .entry)) r 2) a (now (scratch .exit)) ⌝ }
+    requires { ⌜ IsKind (now tree) kindCall r ⌝ }
+    ensures { λ a. ⌜ ArgsMeet (now (tree .entry)) (now (text .entry)) (now (scratch .entry)) scope (wordOf (now (tree .entry)) r Words.C) a (now (scratch .exit)) ⌝ }
 {
-    let mut cell = reference(tree, r, 2);
+    let mut cell = reference(tree, r, WORD_C);
     while cell != END {
         if let Argument::Expr(e) = argument_at(tree, text, cell) {
             match get_type(tree, text, scratch, functions, scope, e) {

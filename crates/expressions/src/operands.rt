@@ -3,18 +3,18 @@ ghost use mathlib.Core.Path.{_≡_};
 ghost use Prim.Native.Nat.{_+_, _≤_, _<_};
 ghost use lib.ListN.{getD};
 ghost use Rattle.records.specs.Words.{kindOf, records};
+ghost use Rattle.records.specs.Kinds.{kindName, kindSizeOf, kindUnary, kindBinary};
 ghost use Rattle.records.specs.Good.{Good};
 ghost use Rattle.syntax.specs.Syntax.{unaryOps, Neg};
 ghost use Rattle.syntax.specs.Decode.{program};
 ghost use Rattle.conversion.specs.Scope as Def;
 ghost use Rattle.conversion.specs.Expressions.{acceptsUnary};
 ghost use Rattle.scope.specs.Open.{scopeAt};
-ghost use Rattle.types.specs.Fits.{IsExpr};
-ghost use Rattle.syntax.specs.Places.{TypeAt, IsKind};
+ghost use Rattle.syntax.specs.Places.{IsExpr, TypeAt, IsKind};
 ghost use Rattle.keys.specs.Keys.{allKeys};
 ghost use Rattle.expressions.specs.Slots.{Scoped, typeIn};
 ghost use Rattle.conversion.specs.ConvertError.{ok};
-ghost use Rattle.expressions.specs.Answers.{valueOf, IsCallee, Operands, TypeIs, FoundIs, Accepts, unaryTypeAt, commonAt, operandsErrorAt, binaryTypeAt};
+ghost use Rattle.expressions.specs.Answers.{valueResult, IsCallee, Operands, TypeIs, FoundIs, Accepts, unaryTypeAt, commonAt, operandsErrorAt, binaryTypeAt};
 use crate::answers::ExprType;
 use crate::answers::Resolved;
 use records::convert_error::ConvertError;
@@ -27,6 +27,9 @@ use records::numbers::KIND_NULL;
 use records::numbers::KIND_STR;
 use records::words::Found;
 use records::words::NONE;
+use records::words::WORD_A;
+use records::words::WORD_B;
+use records::words::WORD_D;
 use records::words::detail;
 use records::words::kind;
 use records::words::reference;
@@ -101,7 +104,7 @@ fn accepts_unary(tree: &[u8], text: &[u8], op: u8, ty: usize) -> bool
 // The type of the Unary e, whose operand has type ty.
 pub(crate) fn unary_type(tree: &[u8], text: &[u8], e: usize, ty: usize) -> ExprType
     requires { ⌜ Good (now tree) (now text) ⌝ }
-    requires { ⌜ IsKind (now tree) 9 e ⌝ }
+    requires { ⌜ IsKind (now tree) kindUnary e ⌝ }
     requires { ⌜ TypeAt (now tree) ty ⌝ }
     ensures { λ a. ⌜ TypeIs (now (tree .entry)) a (unaryTypeAt (now (tree .entry)) (now (text .entry)) e ty) ⌝ }
 {
@@ -139,7 +142,7 @@ pub(crate) fn common_of(tree: &[u8], text: &[u8], s: Sides) -> Found
 fn operands_error(tree: &[u8], text: &[u8], e: usize, s: Sides) -> ExprType
     requires { ⌜ Good (now tree) (now text) ⌝ }
     requires { ⌜ Operands (now tree) s ⌝ }
-    requires { ⌜ IsKind (now tree) 10 e ⌝ }
+    requires { ⌜ IsKind (now tree) kindBinary e ⌝ }
     ensures { λ a. ⌜ TypeIs (now (tree .entry)) a (operandsErrorAt (now (tree .entry)) (now (text .entry)) e s) ⌝ }
 {
     if range_error(tree, s.right, s.right_type, s.left_type) {
@@ -155,7 +158,7 @@ fn operands_error(tree: &[u8], text: &[u8], e: usize, s: Sides) -> ExprType
 pub(crate) fn binary_type(tree: &[u8], text: &[u8], e: usize, s: Sides) -> ExprType
     requires { ⌜ Good (now tree) (now text) ⌝ }
     requires { ⌜ Operands (now tree) s ⌝ }
-    requires { ⌜ IsKind (now tree) 10 e ⌝ }
+    requires { ⌜ IsKind (now tree) kindBinary e ⌝ }
     ensures { λ a. ⌜ TypeIs (now (tree .entry)) a (binaryTypeAt (now (tree .entry)) (now (text .entry)) e s) ⌝ }
 {
     let op = operator_of(detail(tree, e) as usize);
@@ -175,13 +178,13 @@ pub(crate) fn value_type(tree: &[u8], text: &[u8], e: usize, callee: Resolved) -
     requires { ⌜ Good (now tree) (now text) ⌝ }
     requires { ⌜ IsCallee (now tree) callee ⌝ }
     requires { ⌜ e < records (now tree) ⌝ }
-    ensures { λ a. ⌜ TypeIs (now (tree .entry)) a (valueOf (now (tree .entry)) (now (text .entry)) e callee) ⌝ }
+    ensures { λ a. ⌜ TypeIs (now (tree .entry)) a (valueResult (now (tree .entry)) (now (text .entry)) e callee) ⌝ }
 {
     match callee {
         Resolved::Refused(x) => ExprType::Refused(x),
         Resolved::Cast(y) => ExprType::Is(y),
         Resolved::Function(f) => {
-            let y = reference(tree, f, 3);
+            let y = reference(tree, f, WORD_D);
             if y == NONE as usize {
                 return refuse(ConvertErrorKind::NoValue, e);
             }
@@ -194,7 +197,7 @@ pub(crate) fn value_type(tree: &[u8], text: &[u8], e: usize, callee: Resolved) -
 fn literal_type(tree: &[u8], text: &[u8], e: usize) -> usize
     requires { ⌜ Good (now tree) (now text) ⌝ }
     requires { ⌜ IsExpr (now tree) e ⌝ }
-    requires { ⌜ (kindOf (now tree) e ≤ 8) × (kindOf (now tree) e ≡ 6 → ⊥) ⌝ }
+    requires { ⌜ (kindOf (now tree) e ≤ kindSizeOf) × (kindOf (now tree) e ≡ kindName → ⊥) ⌝ }
     ensures { λ y. ⌜ TypeAt (now (tree .entry)) y × ((S : Def.Scope) → typeIn (now (tree .entry)) (now (text .entry)) S e ≡ ok y) ⌝ }
 {
     let k = kind(tree, e);
@@ -221,10 +224,10 @@ fn literal_type(tree: &[u8], text: &[u8], e: usize) -> usize
 fn name_type(tree: &[u8], text: &[u8], scratch: &[u8], scope: Scope, e: usize) -> ExprType
     requires { ⌜ Good (now tree) (now text) ⌝ }
     requires { ⌜ Scoped (now tree) (now scratch) scope ⌝ }
-    requires { ⌜ IsKind (now tree) 6 e ⌝ }
+    requires { ⌜ IsKind (now tree) kindName e ⌝ }
     ensures { λ a. ⌜ TypeIs (now (tree .entry)) a (typeIn (now (tree .entry)) (now (text .entry)) (scopeAt (now (tree .entry)) (now (text .entry)) (now (scratch .entry)) scope) e) ⌝ }
 {
-    match scope.find_variable(text, scratch, word(tree, e, 0), word(tree, e, 1)) {
+    match scope.find_variable(text, scratch, word(tree, e, WORD_A), word(tree, e, WORD_B)) {
         Known::Is(v, _) => ExprType::Is(v.1 as usize),
         Known::Unknown => refuse(ConvertErrorKind::UnknownVariable, e),
     }
@@ -241,7 +244,7 @@ pub(crate) fn leaf_type(
     requires { ⌜ Good (now tree) (now text) ⌝ }
     requires { ⌜ Scoped (now tree) (now scratch) scope ⌝ }
     requires { ⌜ IsExpr (now tree) e ⌝ }
-    requires { ⌜ kindOf (now tree) e ≤ 8 ⌝ }
+    requires { ⌜ kindOf (now tree) e ≤ kindSizeOf ⌝ }
     ensures { λ a. ⌜ TypeIs (now (tree .entry)) a (typeIn (now (tree .entry)) (now (text .entry)) (scopeAt (now (tree .entry)) (now (text .entry)) (now (scratch .entry)) scope) e) ⌝ }
 {
     if kind(tree, e) == KIND_NAME {

@@ -14,6 +14,8 @@ use crate::arguments::next_cell;
 use crate::arguments::slot;
 use keys::keys::is_variadic;
 use keys::keys::parameters_of;
+use records::words::WORD_A;
+use records::words::WORD_C;
 use records::words::reference;
 use types::fits::fits;
 
@@ -40,7 +42,7 @@ fn takes_arg(tree: &[u8], text: &[u8], scratch: &[u8], parameter: usize, cell: u
     requires { ⌜ (cell ≡ 4294967295 → ⊥) × (parameter ≡ 4294967295 → ⊥) ⌝ }
     ensures { λ r. ⌜ TakesAt (now (tree .entry)) (now (text .entry)) (now (scratch .entry)) parameter cell r ⌝ }
 {
-    let ty = reference(tree, reference(tree, parameter, 0), 2);
+    let ty = reference(tree, reference(tree, parameter, WORD_A), WORD_C);
     match argument_at(tree, text, cell) {
         Argument::Expr(e) => fits(tree, e, slot(tree, scratch, e), ty),
         Argument::ToType(y) => y == ty,

@@ -33,7 +33,7 @@ use Rattle.conversion.proofs.MonadLaws.{regroup, seq-is, pure-first}
 use Rattle.ir.specs.declared.structs.Counters.{Counters}
 use Rattle.ir.specs.declared.structs.NewVariable.{NewVariable}
 use Rattle.ir.specs.Amounts.{amount, Spent}
-use Rattle.ir.specs.Arena.{Tables, Holds, Room}
+use Rattle.ir.specs.Arena.{TablesSoFar, Holds, Room}
 use Rattle.ir.specs.Steps.{grown, nextFunction, Stands, NextIn, StopsIn, AddsVar, Closes}
 use Rattle.ir.proofs.StepLaws.{next-in, then-in, pure-next, fail-stops, stop-first, then-stop}
 use Rattle.scope.specs.declared.Scope.{Scope}
@@ -211,7 +211,7 @@ module _ {tree text l l′ s s′ : List ℕ} {m : M (Unit {0})} {f : ℕ} {c : 
   }
 
 -- what the step leaves is closed as the function's entry
-entry-stands : (text : List ℕ) (t : Tables) {k k′ : Counters} {l l′ : List ℕ} {f : ℕ} (o : Out (Unit {0})) → Stands o tt text t k l → Closes f true k l k′ l′
+entry-stands : (text : List ℕ) (t : TablesSoFar) {k k′ : Counters} {l l′ : List ℕ} {f : ℕ} (o : Out (Unit {0})) → Stands o tt text t k l → Closes f true k l k′ l′
     → BodyStands o f text t k′ l′
 unfolding Stands BodyStands
 entry-stands text t (made u c s) h p = p .stands text (grown t c s) (h .1) (λ e. absurd (true≢false e))
@@ -395,7 +395,7 @@ module _ (tree text : List ℕ) (f : ℕ) (p : Pool) (eb : functionOf tree text 
       ∙ ap (λ (r : ℕ). blockThen tree text f r S (withTypes (functionOf tree text f .params) first)) er)
 
 -- the tables behind the parameters
-vars-hold : {text l l₁ : List ℕ} {k k₁ : Counters} (ps : List Param) (t : Tables) → VarsAdd ps k l k₁ l₁ → Holds text t k l → Holds text (grown t [] (withTypes ps (t .state))) k₁ l₁
+vars-hold : {text l l₁ : List ℕ} {k k₁ : Counters} (ps : List Param) (t : TablesSoFar) → VarsAdd ps k l k₁ l₁ → Holds text t k l → Holds text (grown t [] (withTypes ps (t .state))) k₁ l₁
 unfolding Stands
 vars-hold {text} {l₁ = l₁} {k₁ = k₁} ps t p h = subst (λ (o : Out (Unit {0})). Stands o tt text t k₁ l₁) (vars-run ps (t .state)) (p .next .stands text t h) .1
 

@@ -30,7 +30,7 @@ use Rattle.expressions.specs.declared.answers.Outcome.the-variants as Outcome
 use Rattle.functions.specs.declared.functions.AllFunctions.the-variants as AllFunctions
 use Rattle.syntax.specs.Places.{TypeAt, FunctionAt, functionOf}
 use Rattle.keys.specs.Parts.{PartIs}
-use Rattle.keys.specs.Keys.{keyOf, keysBelow, functionRecords, Listed, functionFound}
+use Rattle.keys.specs.Keys.{functionKey, keysBelow, functionPlaces, Listed, functionFound}
 use Rattle.functions.specs.Functions.{TurnMeets, listedIn, AllMeet, done, refused}
 use Rattle.expressions.specs.Answers.{refusal, outcomeOf, doneWith}
 use Rattle.syntax.proofs.Records.{function-rec, function-return, return-is}
@@ -66,11 +66,11 @@ module _ (tree text s : List ℕ) (count j f : ℕ) (good : Good tree text) (l :
   unfolding doneWith refusal
   turned-away k r e q = start ∙ e ∙ rw (function-rec tree text good f (is .1), q)
 
-  taken-in : addFunction (functionOf tree text f) (keysBelow tree text j) ≡ ok (keysBelow tree text j ++ ((keyOf (functionOf tree text f), functionOf tree text f) ∷ []))
+  taken-in : addFunction (functionOf tree text f) (keysBelow tree text j) ≡ ok (keysBelow tree text j ++ ((functionKey (functionOf tree text f), functionOf tree text f) ∷ []))
       → Owed Outcome.Done
   unfolding doneWith
   taken-in e =
-      let p : getD (functionRecords tree) j 0 ≡ f = sym (is .0 ∙ l .listed j h) in
+      let p : getD (functionPlaces tree) j 0 ≡ f = sym (is .0 ∙ l .listed j h) in
       start ∙ e ∙ rw (keys-more tree text j (omega (arith, l .counted)), p)
 
   module _ (m a : Bool) (n : Part) (em : m ≡ is-mangled (functionOf tree text f)) (named : PartIs text n (functionOf tree text f .name))
@@ -174,10 +174,10 @@ module _ (tree text : List ℕ) (o : Found) (needs : Bool) (e : functionFound tr
 module _ (tree text s : List ℕ) (count j : ℕ) (l : Listed tree s count) where
   module _ (h : j < count) (f : ℕ) (is : (f ≡ wordAt s (4 * j)) × FunctionAt tree f) (n : Part) (b : Bool) (named : PartIs text n (functionOf tree text f .name))
       (eb : b ≡ sameText (textAt text (n .0) (n .1)) mainName) where
-    this : getD (functionRecords tree) j 0 ≡ f
+    this : getD (functionPlaces tree) j 0 ≡ f
     this = sym (is .0 ∙ l .listed j h)
 
-    same : (q : Bool) → b ≡ q → sameText (functionOf tree text (getD (functionRecords tree) j 0) .name) mainName ≡ q
+    same : (q : Bool) → b ≡ q → sameText (functionOf tree text (getD (functionPlaces tree) j 0) .name) mainName ≡ q
     same q e = rw this (ap (λ (t : Text). sameText t mainName) (sym (named .is)) ∙ sym eb ∙ e)
 
     pub main-here : b ≡ true → MainLeft tree text j → functionFound tree text (Found.At f) ≡ findMain (program tree text .functions)
@@ -194,13 +194,13 @@ module _ (tree text s : List ℕ) (count j : ℕ) (l : Listed tree s count) wher
 -- ---- all turns
 
 module _ (tree text s s′ : List ℕ) (count j : ℕ) (good : Good tree text) (room : 64 * records tree ≤ length s)
-    (made : (s′ ≡ listedIn tree s) × (count ≡ length (functionRecords tree))) where
+    (made : (s′ ≡ listedIn tree s) × (count ≡ length (functionPlaces tree))) where
   pub all-listed : Listed tree s′ count
   all-listed = rw (made .0) (are-listed tree text s good room count (made .1))
 
   module _ (h : j < count) (w : Left tree text j) (o : Outcome)
       (e : addFunction (functionOf tree text (wordAt s′ (4 * j))) (keysBelow tree text j) ≡ doneWith (keysBelow tree text (j + 1)) o) where
-    turn-is : addFunction (functionOf tree text (getD (functionRecords tree) j 0)) (keysBelow tree text j) ≡ doneWith (keysBelow tree text (j + 1)) o
+    turn-is : addFunction (functionOf tree text (getD (functionPlaces tree) j 0)) (keysBelow tree text j) ≡ doneWith (keysBelow tree text (j + 1)) o
     turn-is = rw (all-listed .listed j h) at e
 
     pub all-next : o ≡ Outcome.Done → Left tree text (j + 1)

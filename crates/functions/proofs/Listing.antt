@@ -16,7 +16,7 @@ use Rattle.records.specs.Good.{Good}
 use Rattle.conversion.specs.Written.{bytesOf, word}
 use Rattle.records.proofs.Apart.{word-same}
 use Rattle.ir.proofs.ReadBack.{word-back}
-use Rattle.keys.specs.Keys.{recordsBelow, functionRecords, Listed}
+use Rattle.keys.specs.Keys.{recordsBelow, functionPlaces, Listed}
 use Rattle.functions.specs.Functions.{words, listedIn}
 use Rattle.keys.proofs.FunctionLaws.{listed-kind}
 use Rattle.keys.proofs.KeySearch.{records-most}
@@ -122,7 +122,7 @@ module _ (tree s₀ : List ℕ) where
       }
 
   pub listing-end : (s : List ℕ) (n r count : ℕ) → Listing tree s₀ s n r count → n ≤ r
-      → (s ≡ listedIn tree s₀) × (count ≡ length (functionRecords tree))
+      → (s ≡ listedIn tree s₀) × (count ≡ length (functionPlaces tree))
   unfolding listedIn
   listing-end s n r count w h =
       let e : r ≡ records tree = omega (arith, w .below, w .whole) in (
@@ -133,26 +133,26 @@ module _ (tree s₀ : List ℕ) where
 -- ---- what stands in scratch afterwards
 
 module _ (tree text s : List ℕ) (good : Good tree text) (room : 64 * records tree ≤ length s) where
-  inside-scratch : 0 + length (words (functionRecords tree)) ≤ length s
-  inside-scratch = omega (arith, words-length (functionRecords tree), records-most tree (records tree))
+  inside-scratch : 0 + length (words (functionPlaces tree)) ≤ length s
+  inside-scratch = omega (arith, words-length (functionPlaces tree), records-most tree (records tree))
 
   pub listed-length : length (listedIn tree s) ≡ length s
   unfolding listedIn
-  listed-length = length-splice s 0 (words (functionRecords tree)) inside-scratch
+  listed-length = length-splice s 0 (words (functionPlaces tree)) inside-scratch
 
-  listed-byte : (p : ℕ) → p < length (words (functionRecords tree)) → getD (listedIn tree s) p 0 ≡ getD (words (functionRecords tree)) p 0
+  listed-byte : (p : ℕ) → p < length (words (functionPlaces tree)) → getD (listedIn tree s) p 0 ≡ getD (words (functionPlaces tree)) p 0
   unfolding listedIn splice
-  listed-byte p h = List·getD-append (words (functionRecords tree)) (drop (0 + length (words (functionRecords tree))) s) 0 p h
+  listed-byte p h = List·getD-append (words (functionPlaces tree)) (drop (0 + length (words (functionPlaces tree))) s) 0 p h
 
-  listed-word : (j : ℕ) → j < length (functionRecords tree) → wordAt (listedIn tree s) (4 * j) ≡ getD (functionRecords tree) j 0
+  listed-word : (j : ℕ) → j < length (functionPlaces tree) → wordAt (listedIn tree s) (4 * j) ≡ getD (functionPlaces tree) j 0
   listed-word j h =
-      let n = words-length (functionRecords tree) in
-      word-same (listedIn tree s) (4 * j) (words (functionRecords tree)) (4 * j)
+      let n = words-length (functionPlaces tree) in
+      word-same (listedIn tree s) (4 * j) (words (functionPlaces tree)) (4 * j)
       (listed-byte (4 * j) (omega arith))
       (listed-byte (4 * j + 1) (omega arith))
       (listed-byte (4 * j + 2) (omega arith))
       (listed-byte (4 * j + 3) (omega arith))
-      ∙ words-at (functionRecords tree) j h (λ i k. omega (arith, listed-kind tree (records tree) i k .0, good .few))
+      ∙ words-at (functionPlaces tree) j h (λ i k. omega (arith, listed-kind tree (records tree) i k .0, good .few))
 
-  pub are-listed : (count : ℕ) → count ≡ length (functionRecords tree) → Listed tree (listedIn tree s) count
+  pub are-listed : (count : ℕ) → count ≡ length (functionPlaces tree) → Listed tree (listedIn tree s) count
   are-listed count e = record { room = omega (arith, listed-length); counted = e; listed = λ j h. listed-word j (omega arith) }

@@ -26,7 +26,7 @@ use Rattle.ir.specs.declared.structs.VarId.{VarId}
 use Rattle.scope.specs.declared.Scope.{Scope}
 use Rattle.scope.specs.declared.Declared.{Declared}
 use Rattle.scope.specs.declared.Declared.the-variants as Declared
-use Rattle.scope.specs.Open.{variablesAt, loopNumber, scopeAt, variable, entryOf as declaredEntry, Afforded, Added, Taken, DeclareMeets}
+use Rattle.scope.specs.Open.{variablesAt, loopNumber, scopeAt, variable, nameEntry, NameAfforded, Added, Taken, DeclareMeets}
 use Rattle.records.proofs.Apart.{word-apart}
 use Rattle.scope.proofs.ScopeLaws.{added-entry, added-fits, added-long, added-room, scope-more}
 use Rattle.functions.specs.declared.parameters.Parameters.{Parameters as Answered}
@@ -35,7 +35,7 @@ use Rattle.syntax.specs.Places.{TypeAt, ParamsAt, functionOf, paramsAt}
 use Rattle.keys.specs.Keys.{Keyed}
 use Rattle.expressions.specs.Slots.{Ready}
 use Rattle.expressions.specs.Answers.{refusal}
-use Rattle.functions.specs.Parameters.{parameterOf, withParams, emptyIn, untilTaken, entryOf, entries, OneMore, ParametersMeet}
+use Rattle.functions.specs.Parameters.{parameterOf, withParams, emptyIn, untilTaken, parameterEntry, entries, OneMore, ParametersMeet}
 use Rattle.syntax.proofs.Lists.{left, left-some, cell-is, next-list, next-falls, left-most, params-end, parameter-item, parameter-type}
 use Rattle.keys.proofs.KeySearch.{records-most}
 
@@ -46,20 +46,20 @@ unfolding word bytesOf
 entry-long a b c d = refl
 
 module _ (tree : List ℕ) where
-  param-long : (p : Param) (k : ℕ) → length (entryOf tree p k) ≡ 16
+  param-long : (p : Param) (k : ℕ) → length (parameterEntry tree p k) ≡ 16
   param-long p k = entry-long (wordOf tree (p .recOf) A) (wordOf tree (p .recOf) B) k (2 * p .ty)
 
   pub entries-long : (l : List Param) (k : ℕ) → length (entries tree l k) ≡ 16 * length l
   unfolding entries
   entries-long [] k = refl
-  entries-long (p ∷ l) k = length-append (entryOf tree p k) (entries tree l (suc k)) ∙ omega (arith, param-long p k, entries-long l (suc k))
+  entries-long (p ∷ l) k = length-append (parameterEntry tree p k) (entries tree l (suc k)) ∙ omega (arith, param-long p k, entries-long l (suc k))
 
-  entries-more : (l : List Param) (p : Param) (k m : ℕ) → m ≡ k + length l → entries tree (l ++ (p ∷ [])) k ≡ entries tree l k ++ entryOf tree p m
+  entries-more : (l : List Param) (p : Param) (k m : ℕ) → m ≡ k + length l → entries tree (l ++ (p ∷ [])) k ≡ entries tree l k ++ parameterEntry tree p m
   unfolding entries
-  entries-more [] p k m e = append-nil (entryOf tree p k) ∙ ap (entryOf tree p) (omega (arith, e))
+  entries-more [] p k m e = append-nil (parameterEntry tree p k) ∙ ap (parameterEntry tree p) (omega (arith, e))
   entries-more (q ∷ l) p k m e =
-      ap (λ (x : List ℕ). entryOf tree q k ++ x) (entries-more l p (suc k) m (omega (arith, e)))
-      ∙ sym (append-assoc (entryOf tree q k) (entries tree l (suc k)) (entryOf tree p m))
+      ap (λ (x : List ℕ). parameterEntry tree q k ++ x) (entries-more l p (suc k) m (omega (arith, e)))
+      ∙ sym (append-assoc (parameterEntry tree q k) (entries tree l (suc k)) (parameterEntry tree p m))
 
 splice-none : (l : List ℕ) (i : ℕ) → splice l i [] ≡ l
 unfolding splice
@@ -90,7 +90,7 @@ module _ (tree text s : List ℕ) (functions : ℕ) (sc : Scope) (ready : Ready 
   module _ (o n : ℕ) (v : VarId) (eo : o ≡ wordOf tree item A) (en : n ≡ wordOf tree item B) (e₀ : v .0 ≡ sc .names) (e₁ : v .1 ≡ wordOf tree item C)
       (s′ : List ℕ) where
     -- each parameter has a record
-    pub is-afforded : Afforded sc v
+    pub is-afforded : NameAfforded sc v
     is-afforded = record {
       names = omega (arith, few, ready .scoped .records-are);
       type = omega (arith, e₁, the-type .below, ready .keyed .good .few);
@@ -113,18 +113,18 @@ module _ (tree text s : List ℕ) (functions : ℕ) (sc : Scope) (ready : Ready 
       abbrev place-of : ℕ
       place-of = 8 * sc .records + 16 * sc .names
 
-      fits-in : place-of + length (declaredEntry o n v false) ≤ length s
+      fits-in : place-of + length (nameEntry o n v false) ≤ length s
       fits-in = added-fits tree text o n v false sc s s′ sc′ m (ready .scoped .room) is-afforded
 
       same-long : length s′ ≡ length s
       same-long = added-long tree text o n v false sc s s′ sc′ m (ready .scoped .room) is-afforded
 
-      written-entry : s′ ≡ splice s (8 * records tree + 16 * sc .names) (entryOf tree parameter (sc .names))
+      written-entry : s′ ≡ splice s (8 * records tree + 16 * sc .names) (parameterEntry tree parameter (sc .names))
       unfolding boolNumber
       written-entry = m .written ∙ rw (ready .scoped .records-are, eo, en, e₀, e₁, add-zero (2 * wordOf tree item C)) refl
 
       low-word : (p : ℕ) → p + 4 ≤ place-of → wordAt s′ p ≡ wordAt s p
-      low-word p h = rw (m .written) (word-apart s place-of (declaredEntry o n v false) fits-in p (inl h))
+      low-word p h = rw (m .written) (word-apart s place-of (nameEntry o n v false) fits-in p (inl h))
 
       keyed-more : Keyed tree text s′ functions
       keyed-more = record {
@@ -175,7 +175,7 @@ module _ (tree text s : List ℕ) (functions : ℕ) (sc : Scope) (ready : Ready 
       of-item : (x k : ℕ) → x ≡ wordOf tree p k → x ≡ wordOf tree item k
       of-item x k e = e ∙ ap (λ (i : ℕ). wordOf tree i k) ep
 
-      pub met-room : Afforded sc v
+      pub met-room : NameAfforded sc v
       met-room = is-afforded o n v (of-item o A eo) (of-item n B en) e₀ (e₁ ∙ of-item y C ey) s
 
       module _ (s′ : List ℕ) (r : Declared) (m : DeclareMeets text o n v false sc s s′ r) where
@@ -276,7 +276,7 @@ module _ (tree text : List ℕ) (functions f : ℕ) (s₀ : List ℕ) where
       abbrev place : ℕ
       place = 8 * records tree + 16 * sc .names
 
-      fits : place + length (entryOf tree here (sc .names)) ≤ length s
+      fits : place + length (parameterEntry tree here (sc .names)) ≤ length s
       fits = omega (arith, param-long tree here (sc .names), still-few, t .ready .scoped .room .scratch, t .ready .scoped .records-are)
 
       pub turn-next : (s′ : List ℕ) (sc′ : Scope) (w : ℕ) → w ≡ wordOf tree cell B → OneMore tree text functions sc here s s′ (Answer.Done sc′)
@@ -288,19 +288,19 @@ module _ (tree text : List ℕ) (functions f : ℕ) (s₀ : List ℕ) where
         few = omega (arith, next-number, t .few, next-falls tree text (t .ready .keyed .good) Parameters cell w (t .cells) n e);
         no-loop = ap (λ (x : Scope). x .inner) is ∙ t .no-loop;
         of-function = ap (λ (x : Scope). x .function) is ∙ t .of-function;
-        same-length = rw wrote (length-splice s place (entryOf tree here (sc .names)) fits) ∙ t .same-length;
+        same-length = rw wrote (length-splice s place (parameterEntry tree here (sc .names)) fits) ∙ t .same-length;
         asked = t .asked ∙ rw (split, free, e, adds, next-number) refl;
         before = t .before ++ (here ∷ []);
         so-many = length-append (t .before) (here ∷ []) ∙ omega (arith, t .so-many, next-number);
         all = t .all ∙ rw (split, e) (sym (append-assoc (t .before) (here ∷ []) (paramsAt tree text (wordOf tree cell B))));
         declared = t .declared ∙ rw (split, free, e, adds, next-number) (sym (append-assoc (t .before) (here ∷ []) _));
-        bytes = wrote ∙ ap (λ (x : List ℕ). splice x place (entryOf tree here (sc .names))) (t .bytes) ∙ joined
+        bytes = wrote ∙ ap (λ (x : List ℕ). splice x place (parameterEntry tree here (sc .names))) (t .bytes) ∙ joined
             ∙ ap (splice s₀ (8 * records tree)) (sym (entries-more tree (t .before) here 0 (sc .names) (omega (arith, t .so-many))));
       }
         where
-          joined : splice (splice s₀ (8 * records tree) (entries tree (t .before) 0)) place (entryOf tree here (sc .names))
-              ≡ splice s₀ (8 * records tree) (entries tree (t .before) 0 ++ entryOf tree here (sc .names))
-          joined = splice-splice s₀ (8 * records tree) place (entries tree (t .before) 0) (entryOf tree here (sc .names))
+          joined : splice (splice s₀ (8 * records tree) (entries tree (t .before) 0)) place (parameterEntry tree here (sc .names))
+              ≡ splice s₀ (8 * records tree) (entries tree (t .before) 0 ++ parameterEntry tree here (sc .names))
+          joined = splice-splice s₀ (8 * records tree) place (entries tree (t .before) 0) (parameterEntry tree here (sc .names))
               (omega (arith, entries-long tree (t .before) 0, t .so-many))
               (omega (arith, fits, t .same-length, entries-long tree (t .before) 0, t .so-many))
 

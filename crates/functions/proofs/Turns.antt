@@ -12,7 +12,7 @@ use Rattle.conversion.specs.ConvertError.{ConvertErrorKind, ok, err, _>>=_}
 use Rattle.conversion.specs.Ir.{sameText}
 use Rattle.conversion.specs.Expressions.{mainName}
 use Rattle.conversion.specs.Functions.{addFunction, get-all-functions, findMain}
-use Rattle.keys.specs.Keys.{functionRecords, keysBelow, allKeys}
+use Rattle.keys.specs.Keys.{functionPlaces, keysBelow, allKeys}
 use Rattle.keys.proofs.KeyLaws.{at, from, from-start, from-one, from-end, keys-none, keys-all}
 
 module _ (tree text : List ℕ) where
@@ -23,16 +23,16 @@ module _ (tree text : List ℕ) where
   pub left-start : Left 0
   left-start = rw (from-start tree text, keys-none tree text)
 
-  pub left-more : (j : ℕ) → j < length (functionRecords tree) → addFunction (at tree text j) (keysBelow tree text j) ≡ ok (keysBelow tree text (j + 1)) → Left j → Left (j + 1)
+  pub left-more : (j : ℕ) → j < length (functionPlaces tree) → addFunction (at tree text j) (keysBelow tree text j) ≡ ok (keysBelow tree text (j + 1)) → Left j → Left (j + 1)
   unfolding get-all-functions _>>=_
   left-more j h e w = w ∙ rw (from-one tree text j h, e)
 
-  pub left-stop : (j : ℕ) (k : ConvertErrorKind) (r : ℕ) → j < length (functionRecords tree) → addFunction (at tree text j) (keysBelow tree text j) ≡ err k r → Left j
+  pub left-stop : (j : ℕ) (k : ConvertErrorKind) (r : ℕ) → j < length (functionPlaces tree) → addFunction (at tree text j) (keysBelow tree text j) ≡ err k r → Left j
       → get-all-functions (program tree text .functions) [] ≡ err k r
   unfolding get-all-functions _>>=_
   left-stop j k r h e w = w ∙ rw (from-one tree text j h, e)
 
-  pub left-end : (j : ℕ) → length (functionRecords tree) ≤ j → Left j → get-all-functions (program tree text .functions) [] ≡ ok (allKeys tree text)
+  pub left-end : (j : ℕ) → length (functionPlaces tree) ≤ j → Left j → get-all-functions (program tree text .functions) [] ≡ ok (allKeys tree text)
   unfolding get-all-functions
   left-end j h w = w ∙ rw (from-end tree text j h, keys-all tree text j h)
 
@@ -48,13 +48,13 @@ module _ (tree text : List ℕ) where
   pub main-start : MainLeft 0
   main-start = rw (from-start tree text)
 
-  pub main-more : (j : ℕ) → j < length (functionRecords tree) → sameText (at tree text j .name) mainName ≡ false → MainLeft j → MainLeft (j + 1)
+  pub main-more : (j : ℕ) → j < length (functionPlaces tree) → sameText (at tree text j .name) mainName ≡ false → MainLeft j → MainLeft (j + 1)
   main-more j h e w = w ∙ ap findMain (from-one tree text j h) ∙ main-by (at tree text j) (from tree text (j + 1)) false e
 
-  pub main-hit : (j : ℕ) → j < length (functionRecords tree) → sameText (at tree text j .name) mainName ≡ true → MainLeft j
+  pub main-hit : (j : ℕ) → j < length (functionPlaces tree) → sameText (at tree text j .name) mainName ≡ true → MainLeft j
       → findMain (program tree text .functions) ≡ some (at tree text j)
   main-hit j h e w = w ∙ ap findMain (from-one tree text j h) ∙ main-by (at tree text j) (from tree text (j + 1)) true e
 
-  pub main-end : (j : ℕ) → length (functionRecords tree) ≤ j → MainLeft j → findMain (program tree text .functions) ≡ nothing
+  pub main-end : (j : ℕ) → length (functionPlaces tree) ≤ j → MainLeft j → findMain (program tree text .functions) ≡ nothing
   unfolding findMain
   main-end j h w = w ∙ rw (from-end tree text j h)

@@ -20,7 +20,7 @@ use Rattle.conversion.specs.Statements.{convert-block}
 use Rattle.conversion.specs.Functions.{Pool, always-returns, convert-func}
 use Rattle.ir.specs.declared.structs.Counters.{Counters}
 use Rattle.ir.specs.Amounts.{Affords}
-use Rattle.ir.specs.Arena.{Tables, Holds, Room}
+use Rattle.ir.specs.Arena.{TablesSoFar, Holds, Room}
 use Rattle.ir.specs.Steps.{grown, closed, StopsIn}
 use Rattle.scope.specs.Open.{scopeAt}
 use Rattle.keys.specs.Keys.{allKeys}
@@ -40,7 +40,7 @@ newVars (p ∷ l) = new-var (p .ty) >>= λ x. newVars l
 -- ---- a function
 
 -- the tables where a function begins: the functions before it are done, and there are their strings and floats
-abbrev pub begun : List IrFunction → Pool → Tables
+abbrev pub begun : List IrFunction → Pool → TablesSoFar
 begun before p = record { done = before; code = []; state = record { vars = []; labels = []; strings = p .strings; floats = p .floats } }
 
 -- there is room for functions of n records in all
@@ -87,14 +87,14 @@ bodySteps tree text f sc =
     >>= λ x. pick (isSome (functionOf tree text f .returnType) && not (always-returns (blockAt tree text (wordOf tree f E)))) (fail MissingReturn f) (pure tt)
 
 -- the step gives, and its tables are closed as those of function f
-unfoldable pub BodyStands : Out (Unit {0}) → ℕ → List ℕ → Tables → Counters → List ℕ → Type 0
+unfoldable pub BodyStands : Out (Unit {0}) → ℕ → List ℕ → TablesSoFar → Counters → List ℕ → Type 0
 BodyStands (made u c s) f text t k l = Holds text (closed f true (grown t c s)) k l
 BodyStands (failed e r) f text t k l = ⊥
 
 pub record BodyDone (tree text : List ℕ) (m : M (Unit {0})) (f : ℕ) (k : Counters) (l : List ℕ) (k′ : Counters) (l′ : List ℕ) : Type 0 where
   pub room : Room k′ l′
   pub spent : FunctionSpent k k′ (blockRecords (blockAt tree text (wordOf tree f E)))
-  pub stands : (t : Tables) → Holds text t k l → BodyStands (m (t .state)) f text t k′ l′
+  pub stands : (t : TablesSoFar) → Holds text t k l → BodyStands (m (t .state)) f text t k′ l′
 
 pub record ConvertsBody (tree text : List ℕ) (m : M (Unit {0})) (f : ℕ) (c : Converter) (l s : List ℕ) (a : Finished) (l′ s′ : List ℕ) : Type 0 where
   pub long : length l′ ≡ length l

@@ -9,7 +9,7 @@ use Rattle.syntax.specs.Decode.{program}
 use Rattle.syntax.specs.Places.{functionOf}
 use Rattle.conversion.specs.Functions.{addFunction, get-all-functions}
 use Rattle.conversion.specs.Written.{word}
-use Rattle.keys.specs.Keys.{recordsBelow, functionRecords, keysBelow, Keyed}
+use Rattle.keys.specs.Keys.{recordsBelow, functionPlaces, keysBelow, Keyed}
 use Rattle.expressions.specs.declared.answers.Outcome.{Outcome}
 use Rattle.expressions.specs.Answers.{refusal, doneWith}
 use Rattle.functions.specs.declared.functions.AllFunctions.{AllFunctions}
@@ -24,7 +24,7 @@ words (w ∷ l) = word w ++ words l
 -- the scratch with the functions' records from its first byte on
 unfoldable pub listedIn : List ℕ → List ℕ → List ℕ
 unfolding splice words recordsBelow
-listedIn tree s = splice s 0 (words (functionRecords tree))
+listedIn tree s = splice s 0 (words (functionPlaces tree))
 
 -- one turn of `get_all_functions`: the j-th listed function is added to those before it, or refused
 abbrev pub TurnMeets : List ℕ → List ℕ → List ℕ → ℕ → Outcome → Type 0

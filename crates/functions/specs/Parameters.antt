@@ -53,21 +53,21 @@ untilTaken [] k S = []
 untilTaken (p ∷ l) k S = pick (isSome (find-variable (p .name) S)) [] (p ∷ untilTaken l (suc k) (withVariable (parameterOf p k) S))
 
 -- the entry of a parameter in scratch, as the variable of number k: offset and length of its name, its number, twice its type
-abbrev pub entryOf : List ℕ → Param → ℕ → List ℕ
-entryOf tree p k = word (wordOf tree (p .recOf) A) ++ word (wordOf tree (p .recOf) B) ++ word k ++ word (2 * p .ty)
+abbrev pub parameterEntry : List ℕ → Param → ℕ → List ℕ
+parameterEntry tree p k = word (wordOf tree (p .recOf) A) ++ word (wordOf tree (p .recOf) B) ++ word k ++ word (2 * p .ty)
 
 -- the entries of parameters, numbered from k on, one behind the other
 unfoldable pub entries : List ℕ → List Param → ℕ → List ℕ
 unfolding word wordOf
 entries tree [] k = []
-entries tree (p ∷ l) k = entryOf tree p k ++ entries tree l (suc k)
+entries tree (p ∷ l) k = parameterEntry tree p k ++ entries tree l (suc k)
 
 -- one parameter more, or its name is taken
 pub data OneMore (tree text : List ℕ) (functions : ℕ) (sc : Scope) (p : Param) (s s′ : List ℕ) : Parameters → Type 0 where
   done : {sc′ : Scope} → Ready tree text s′ functions sc′ → sc′ ≡ more sc
       → isSome (find-variable (p .name) (scopeAt tree text s sc)) ≡ false
       → scopeAt tree text s′ sc′ ≡ withVariable (parameterOf p (sc .names)) (scopeAt tree text s sc)
-      → s′ ≡ splice s (8 * records tree + 16 * sc .names) (entryOf tree p (sc .names)) → OneMore tree text functions sc p s s′ (Parameters.Done sc′)
+      → s′ ≡ splice s (8 * records tree + 16 * sc .names) (parameterEntry tree p (sc .names)) → OneMore tree text functions sc p s s′ (Parameters.Done sc′)
   refused : {e : ConvertError} → e ≡ record { kind = AlreadyDeclared; place = p .recOf }
       → isSome (find-variable (p .name) (scopeAt tree text s sc)) ≡ true
       → s′ ≡ s → OneMore tree text functions sc p s s′ (Parameters.Refused e)

@@ -3,6 +3,7 @@ ghost use mathlib.Core.Path.{_≡_};
 ghost use Prim.Native.Nat.{_<_};
 ghost use mathlib.Core.Bool.{not, _&&_};
 ghost use lib.ListN.{length};
+ghost use Rattle.records.specs.Words as Words;
 ghost use Rattle.records.specs.Words.{records, wordOf};
 ghost use Rattle.records.specs.Good.{Good};
 ghost use Rattle.syntax.specs.Count.{functionRecords};
@@ -27,6 +28,10 @@ use keys::keys::parameters_of;
 use records::convert_error::ConvertError;
 use records::convert_error::ConvertErrorKind;
 use records::words::NONE;
+use records::words::WORD_A;
+use records::words::WORD_C;
+use records::words::WORD_D;
+use records::words::WORD_E;
 use records::words::detail;
 use records::words::reference;
 use records::words::word;
@@ -57,7 +62,11 @@ fn parameter_variables(
     let mut next = k;
     let mut cell = parameters_of(tree, text, f);
     while cell != END {
-        let made = new_var(arena, next, word(tree, reference(tree, cell, 0), 2));
+        let made = new_var(
+            arena,
+            next,
+            word(tree, reference(tree, cell, WORD_A), WORD_C),
+        );
         next = made.counters;
         cell = next_cell(tree, text, cell);
     }
@@ -67,12 +76,12 @@ fn parameter_variables(
 // f has a type to return, and a path through its body that returns nothing.
 fn misses_return(tree: &[u8], text: &[u8], f: usize) -> bool
     requires { ⌜ Good (now tree) (now text) × FunctionAt (now tree) f ⌝ }
-    ensures { λ b. ⌜ b ≡ isSome (functionOf (now (tree .entry)) (now (text .entry)) f .returnType) && not (always-returns (blockAt (now (tree .entry)) (now (text .entry)) (wordOf (now (tree .entry)) f 4))) ⌝ }
+    ensures { λ b. ⌜ b ≡ isSome (functionOf (now (tree .entry)) (now (text .entry)) f .returnType) && not (always-returns (blockAt (now (tree .entry)) (now (text .entry)) (wordOf (now (tree .entry)) f Words.E))) ⌝ }
 {
-    if reference(tree, f, 3) == NONE as usize {
+    if reference(tree, f, WORD_D) == NONE as usize {
         return false;
     }
-    !always_returns(tree, text, reference(tree, f, 4))
+    !always_returns(tree, text, reference(tree, f, WORD_E))
 }
 
 // The body of f, in the scope of its parameters; MissingReturn follows the body's own errors.
@@ -84,11 +93,11 @@ fn convert_body(
     c: Converter,
     f: usize,
 ) -> Finished
-    requires { ⌜ Converting (now tree) (now text) (now arena) (now scratch) c × BlockAfforded (now tree) (now text) c (wordOf (now tree) f 4) ⌝ }
+    requires { ⌜ Converting (now tree) (now text) (now arena) (now scratch) c × BlockAfforded (now tree) (now text) c (wordOf (now tree) f Words.E) ⌝ }
     requires { ⌜ FunctionAt (now tree) f × (c .counters .functions < c .counters .records) ⌝ }
     ensures { λ a. ⌜ BodyAs c f (now (tree .entry)) (now (text .entry)) (now (arena .entry)) (now (scratch .entry)) a (now (arena .exit)) (now (scratch .exit)) ⌝ }
 {
-    let body = reference(tree, f, 4);
+    let body = reference(tree, f, WORD_E);
     match convert_block(tree, text, arena, scratch, c, body) {
         Finished::Refused(x) => Finished::Refused(x),
         Finished::Done(k) => {

@@ -7,7 +7,7 @@ ghost use Rattle.records.specs.Good.{Good};
 ghost use Rattle.syntax.specs.Decode.{program, typeAt};
 ghost use Rattle.conversion.specs.Functions.{findMain, returnsInt, check-main};
 ghost use Rattle.syntax.specs.Places.{FunctionAt, functionOf};
-ghost use Rattle.keys.specs.Keys.{Listed, functionRecords, FunctionIs};
+ghost use Rattle.keys.specs.Keys.{Listed, functionPlaces, FunctionIs};
 ghost use Rattle.functions.specs.Functions.{listedIn, TurnMeets, AllMeet};
 ghost use Rattle.expressions.specs.Answers.{outcomeOf};
 use expressions::answers::Outcome;
@@ -23,6 +23,7 @@ use records::convert_error::ConvertErrorKind;
 use records::numbers::KIND_FUNCTION;
 use records::words::Found;
 use records::words::NONE;
+use records::words::WORD_D;
 use records::words::kind;
 use records::words::put_word;
 use records::words::reference;
@@ -45,7 +46,7 @@ fn refuse(kind: ConvertErrorKind, place: u32) -> Outcome
 fn list_functions(tree: &[u8], text: &[u8], scratch: &mut [u8]) -> usize
     requires { ⌜ Good (now tree) (now text) ⌝ }
     requires { ⌜ 64 * records (now tree) ≤ length (now scratch) ⌝ }
-    ensures { λ count. ⌜ (now (scratch .exit) ≡ listedIn (now (tree .entry)) (now (scratch .entry))) × (count ≡ length (functionRecords (now (tree .entry)))) ⌝ }
+    ensures { λ count. ⌜ (now (scratch .exit) ≡ listedIn (now (tree .entry)) (now (scratch .entry))) × (count ≡ length (functionPlaces (now (tree .entry)))) ⌝ }
 {
     let n = tree.len() / 32;
     let mut r = 0;
@@ -129,7 +130,7 @@ fn returns_int(tree: &[u8], text: &[u8], f: usize) -> bool
     requires { ⌜ FunctionAt (now tree) f ⌝ }
     ensures { λ r. ⌜ r ≡ returnsInt (typeAt (now (tree .entry)) (now (text .entry))) (functionOf (now (tree .entry)) (now (text .entry)) f .returnType) ⌝ }
 {
-    let ty = reference(tree, f, 3);
+    let ty = reference(tree, f, WORD_D);
     if ty == NONE as usize {
         return false;
     }

@@ -14,6 +14,9 @@ use keys::keys::parameters_of;
 use records::convert_error::ConvertError;
 use records::convert_error::ConvertErrorKind;
 use records::words::NONE;
+use records::words::WORD_A;
+use records::words::WORD_B;
+use records::words::WORD_C;
 use records::words::reference;
 use records::words::word;
 use scope::Declared;
@@ -49,10 +52,10 @@ fn declare_parameter(
     requires { ⌜ (cell ≡ 4294967295 → ⊥) × (scope .names + cell < records (now tree)) ⌝ }
     ensures { λ a. ⌜ OneMore (now (tree .entry)) (now (text .entry)) functions scope (parameterIn (now (tree .entry)) (now (text .entry)) cell) (now (scratch .entry)) (now (scratch .exit)) a ⌝ }
 {
-    let p = reference(tree, cell, 0);
-    let v = VarId(scope.names as u32, word(tree, p, 2));
-    let offset = word(tree, p, 0);
-    let len = word(tree, p, 1);
+    let p = reference(tree, cell, WORD_A);
+    let v = VarId(scope.names as u32, word(tree, p, WORD_C));
+    let offset = word(tree, p, WORD_A);
+    let len = word(tree, p, WORD_B);
     match scope.declare(text, scratch, offset, len, v, false) {
         Declared::Done(next) => Parameters::Done(next),
         Declared::Taken => taken(p),

@@ -8,6 +8,9 @@ use expressions::arguments::END;
 use expressions::arguments::next_cell;
 use records::numbers::KIND_IF;
 use records::numbers::KIND_RETURN;
+use records::words::WORD_A;
+use records::words::WORD_B;
+use records::words::WORD_C;
 use records::words::detail;
 use records::words::kind;
 use records::words::reference;
@@ -27,8 +30,8 @@ fn statement_returns(tree: &[u8], text: &[u8], r: usize) -> bool
     if detail(tree, r) != 1 {
         return false;
     }
-    if always_returns(tree, text, reference(tree, r, 1)) {
-        return always_returns(tree, text, reference(tree, r, 2));
+    if always_returns(tree, text, reference(tree, r, WORD_B)) {
+        return always_returns(tree, text, reference(tree, r, WORD_C));
     }
     false
 }
@@ -40,7 +43,7 @@ pub fn always_returns(tree: &[u8], text: &[u8], first: usize) -> bool
 {
     let mut cell = first;
     while cell != END {
-        if statement_returns(tree, text, reference(tree, cell, 0)) {
+        if statement_returns(tree, text, reference(tree, cell, WORD_A)) {
             return true;
         }
         cell = next_cell(tree, text, cell);

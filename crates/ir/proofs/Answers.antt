@@ -20,10 +20,10 @@ use Rattle.ir.specs.declared.structs.LabelNumber.{LabelNumber}
 use Rattle.ir.specs.declared.pool.PoolNumber.{PoolNumber}
 use Rattle.ir.specs.Instructions.{varOf, instrOf, fieldBytes}
 use Rattle.ir.specs.Amounts.{Amount, Spent}
-use Rattle.ir.specs.Arena.{Tables, Holds, Room}
+use Rattle.ir.specs.Arena.{TablesSoFar, Holds, Room}
 use Rattle.records.specs.declared.words.Found.{Found}
 use Rattle.records.specs.declared.words.Found.the-variants.{At, Nothing}
-use Rattle.ir.specs.Search.{first, foundOf, pairAt, textOf, fourAt}
+use Rattle.ir.specs.Search.{first, foundOf, pairAt, sameTextAt, fourAt}
 use Rattle.ir.specs.Steps.{grown, Stands, Next, NextIn, moreInstructions, moreVariables, moreLabels, moreStrings, moreFloats, Wrote, Emits, AddsVar, named, NumbersLabel, stringAt, NumbersString, NumbersFloat}
 use Rattle.ir.proofs.Entries.{written-length}
 use Rattle.ir.proofs.Kept.{withLabel, withString, withFloat, no-code, emit-holds, var-holds, label-holds, string-holds, float-holds}
@@ -78,14 +78,14 @@ var-done y r k l l′ room small e₀ e₁ ek e =
 
 -- ---- an entry that is found: nothing changes
 
-found : (text : List ℕ) (t : Tables) (k : Counters) (l : List ℕ) → Room k l → Holds text t k l → (o : Option ℕ) (s : State) (n i x : ℕ)
+found : (text : List ℕ) (t : TablesSoFar) (k : Counters) (l : List ℕ) → Room k l → Holds text t k l → (o : Option ℕ) (s : State) (n i x : ℕ)
     → o ≡ some i → x ≡ i → Stands (numbered o (t .state) s n) x text t k l
 unfolding Stands numbered
 found text t k l room h o s n i x e q =
     subst (λ (p : Option ℕ). Stands (numbered p (t .state) s n) x text t k l) (sym e) (q, no-code text t k l room h (t .state) k l h)
 
 -- one that is not: the next number
-added : (text : List ℕ) (t : Tables) (k′ : Counters) (l′ : List ℕ) (o : Option ℕ) (s : State) (n x : ℕ)
+added : (text : List ℕ) (t : TablesSoFar) (k′ : Counters) (l′ : List ℕ) (o : Option ℕ) (s : State) (n x : ℕ)
     → o ≡ none → x ≡ n → Holds text (grown t [] s) k′ l′ → Stands (numbered o (t .state) s n) x text t k′ l′
 unfolding Stands numbered
 added text t k′ l′ o s n x e q h = subst (λ (p : Option ℕ). Stands (numbered p (t .state) s n) x text t k′ l′) (sym e) (q, h)
@@ -131,7 +131,7 @@ label-new kind opener k l l′ r room small hk ho q en m =
 -- ---- strings
 
 pub string-found : (text : List ℕ) (offset len : ℕ) (k : Counters) (l : List ℕ) (i : ℕ) (r : PoolNumber) → Room k l
-    → first (k .strings) (textOf text l (196 * k .records) (textAt text offset len)) 0 ≡ some i → r .number ≡ i → r .counters ≡ k
+    → first (k .strings) (sameTextAt text l (196 * k .records) (textAt text offset len)) 0 ≡ some i → r .number ≡ i → r .counters ≡ k
     → NumbersString text (stringAt text offset len) k l r l
 unfolding string-id
 string-found text offset len k l i r room q e ek = record {
@@ -146,7 +146,7 @@ string-found text offset len k l i r room q e ek = record {
 }
 
 pub string-new : (text : List ℕ) (offset len : ℕ) (k : Counters) (l l′ : List ℕ) (r : PoolNumber) → Room k l → k .strings < k .records → offset < 2 ^ 32 → len < 2 ^ 32
-    → first (k .strings) (textOf text l (196 * k .records) (textAt text offset len)) 0 ≡ none → r .number ≡ k .strings
+    → first (k .strings) (sameTextAt text l (196 * k .records) (textAt text offset len)) 0 ≡ none → r .number ≡ k .strings
     → Wrote l (196 * k .records + 8 * k .strings) (word offset ++ word len) (moreStrings k) (r .counters) l′ → NumbersString text (stringAt text offset len) k l r l′
 unfolding string-id encodeString word bytesOf
 string-new text offset len k l l′ r room small ho hn q en m =
@@ -229,15 +229,15 @@ module _ (kind opener : ℕ) (k : Counters) (l : List ℕ) (a : Found) (room : R
       label-new kind opener k l l′ r room small hk ho (found-none (first (k .labels - k .«labels_before») (pairAt l (140 * k .records + 8 * k .«labels_before») kind opener) 0) a e q) (m .0) (m .1)
 
 module _ (text : List ℕ) (offset len : ℕ) (k : Counters) (l : List ℕ) (a : Found) (room : Room k l)
-    (e : a ≡ foundOf (first (k .strings) (textOf text l (196 * k .records) (textAt text offset len)) 0)) where
+    (e : a ≡ foundOf (first (k .strings) (sameTextAt text l (196 * k .records) (textAt text offset len)) 0)) where
   pub string-at : (r : PoolNumber) (i : ℕ) → a ≡ At i → r .number ≡ i → r .counters ≡ k → NumbersString text (stringAt text offset len) k l r l
-  string-at r i q ex ek = string-found text offset len k l i r room (found-some (first (k .strings) (textOf text l (196 * k .records) (textAt text offset len)) 0) i a e q) ex ek
+  string-at r i q ex ek = string-found text offset len k l i r room (found-some (first (k .strings) (sameTextAt text l (196 * k .records) (textAt text offset len)) 0) i a e q) ex ek
 
   pub string-nowhere : (l′ : List ℕ) (r : PoolNumber) → k .strings < k .records → offset < 2 ^ 32 → len < 2 ^ 32 → a ≡ Nothing
       → (r .number ≡ k .strings) × Wrote l (196 * k .records + 8 * k .strings) (word offset ++ word len) (moreStrings k) (r .counters) l′
       → NumbersString text (stringAt text offset len) k l r l′
   string-nowhere l′ r small ho hn q m =
-      string-new text offset len k l l′ r room small ho hn (found-none (first (k .strings) (textOf text l (196 * k .records) (textAt text offset len)) 0) a e q) (m .0) (m .1)
+      string-new text offset len k l l′ r room small ho hn (found-none (first (k .strings) (sameTextAt text l (196 * k .records) (textAt text offset len)) 0) a e q) (m .0) (m .1)
 
 module _ (f e : FloatEntry) (same : e ≡ f) (b c d : ℕ) (k : Counters) (l : List ℕ) (a : Found) (room : Room k l)
     (eb : b ≡ e .bits % 4294967296) (ec : (c ≡ e .bits / 4294967296) × (c < 4294967296)) (ed : d ≡ boolNumber (e .short))

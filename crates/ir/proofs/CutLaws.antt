@@ -10,7 +10,7 @@ use Rattle.conversion.specs.Ir.{IrProgram}
 use Rattle.conversion.specs.Written.{encodeAll, encodeInstr, encodeVar, encodeLabel, encodeFunctions, allCode, allVars, allLabels, tablesOf}
 use Rattle.conversion.proofs.Bytes.{functions-length}
 use Rattle.ir.specs.declared.structs.Counters.{Counters}
-use Rattle.ir.specs.Arena.{Table, Tables, Holds}
+use Rattle.ir.specs.Arena.{Table, TablesSoFar, Holds}
 use Rattle.ir.specs.Cut.{alone, part, Cut}
 use Rattle.ir.proofs.Entries.{bytes-length}
 
@@ -83,7 +83,7 @@ table-part : {X : Type 0} {f : X → List ℕ} {w : ℕ} {xs : List X} {at n : �
 table-part {f} {w} {xs} {at} {n} {l} t = ap (part l at) (sym (bytes-length t)) ∙ t .bytes .is
 
 -- no function is at hand: all are done
-pub record Finished (t : Tables) : Type 0 where
+pub record Finished (t : TablesSoFar) : Type 0 where
   pub code : t .code ≡ []
   pub vars : t .state .vars ≡ []
   pub labels : t .state .labels ≡ []
@@ -92,10 +92,10 @@ no-more : {X : Type 0} (xs ys : List X) → ys ≡ [] → xs ++ ys ≡ xs
 no-more xs ys e = ap (λ (r : List _). xs ++ r) e ∙ append-nil xs
 
 -- the program that is written
-abbrev pub written : Tables → IrProgram
+abbrev pub written : TablesSoFar → IrProgram
 written t = record { funcs = t .done; strings = t .state .strings; floats = t .state .floats }
 
-module _ (text : List ℕ) (t : Tables) (k : Counters) (l l′ vs ys fs ss xs : List ℕ) (h : Holds text t k l) (d : Finished t) (c : Cut k l l′ vs ys fs ss xs) where
+module _ (text : List ℕ) (t : TablesSoFar) (k : Counters) (l l′ vs ys fs ss xs : List ℕ) (h : Holds text t k l) (d : Finished t) (c : Cut k l l′ vs ys fs ss xs) where
   pub instructions-are : l′ ≡ alone (tablesOf (written t) .instructions) (length l)
   unfolding tablesOf
   instructions-are =

@@ -16,13 +16,13 @@ use Rattle.conversion.specs.Ir.{FloatEntry, position, numbered, sameFloat, floa
 use Rattle.conversion.specs.Written.{boolNumber}
 use Rattle.ir.specs.declared.structs.Counters.{Counters}
 use Rattle.ir.specs.declared.pool.PoolNumber.{PoolNumber}
-use Rattle.ir.specs.Arena.{Tables, FloatAt, Holds, Room}
-use Rattle.ir.specs.Floats.{bitsOf, entry, entryOf}
+use Rattle.ir.specs.Arena.{TablesSoFar, Holds, Room}
+use Rattle.ir.specs.Floats.{bitsOf, entry, entryOfFloat}
 use Rattle.ir.specs.declared.floats.FloatEntry as Code
 use Rattle.ir.specs.declared.floats.FloatBits.the-variants.{Number, Nan}
 use Rattle.ir.specs.Steps.{grown, Stands, Next, NumbersFloat}
 use Rattle.ir.proofs.Kept.{withFloat, no-code}
-use Rattle.ir.proofs.ReadBack.{no-float, floats-at}
+use Rattle.ir.proofs.ReadBack.{FloatAt, no-float, floats-at}
 use Rattle.ir.proofs.SearchLaws.{position-hit}
 
 -- ---- the bits and the mark, from the words
@@ -45,7 +45,7 @@ past-end (x ∷ l) (suc i) h = past-end l i (omega arith)
 
 -- `floatBits` of an entry that is counted: its first two words; past the last it is 0
 module _ (k : Counters) (l : List ℕ) (i : ℕ) (room : Room k l) where
-  bits-are : (b : ℕ) → ((text : List ℕ) (t : Tables) → Holds text t k l → b ≡ getD (t .state .floats) i no-float .bits) → Next (floatBits i) k l b k l
+  bits-are : (b : ℕ) → ((text : List ℕ) (t : TablesSoFar) → Holds text t k l → b ≡ getD (t .state .floats) i no-float .bits) → Next (floatBits i) k l b k l
   unfolding Stands floatBits
   bits-are b f = record {
     room = room;
@@ -80,7 +80,7 @@ same-entry a b e =
     (sym (eqb-true (a .bits) (b .bits) (and-left (eqb (a .bits) (b .bits)) (Bool·beq (a .short) (b .short)) e)))
     (sym (same-mark (a .short) (b .short) (and-right (eqb (a .bits) (b .bits)) (Bool·beq (a .short) (b .short)) e)))
 
-module _ (e : FloatEntry) (text : List ℕ) (t : Tables) (x : ℕ) (k′ : Counters) (l′ : List ℕ) where
+module _ (e : FloatEntry) (text : List ℕ) (t : TablesSoFar) (x : ℕ) (k′ : Counters) (l′ : List ℕ) where
   abbrev fs : List FloatEntry
   fs = t .state .floats
 
@@ -103,7 +103,7 @@ module _ (e : FloatEntry) (text : List ℕ) (t : Tables) (x : ℕ) (k′ : Count
       (floats-at text (grown t [] (withFloat e (t .state))) k′ l′ (h .1) (length fs) (rw length-append (omega arith))))
 
 -- the entry of the number that it gives is the float that was asked for
-pub float-made : (e : FloatEntry) (text : List ℕ) (t : Tables) (k : Counters) (l : List ℕ) (r : PoolNumber) (l′ : List ℕ) → Holds text t k l
+pub float-made : (e : FloatEntry) (text : List ℕ) (t : TablesSoFar) (k : Counters) (l : List ℕ) (r : PoolNumber) (l′ : List ℕ) → Holds text t k l
     → NumbersFloat e k l r l′ → FloatAt l′ (204 * k .records + 16 * r .number) e
 unfolding float-id
 float-made e text t k l r l′ h m =
@@ -111,12 +111,12 @@ float-made e text t k l r l′ h m =
     (numbered-at e text t (r .number) (r .counters) l′ (position (sameFloat e) (t .state .floats)) refl (m .next .stands text t h))
 
 -- a number: the bits of its f64; a NaN: the bits that it came with
-module _ (text : List ℕ) (t : Tables) (k : Counters) (l : List ℕ) (r : PoolNumber) (l′ : List ℕ) (h : Holds text t k l) where
-  pub number-made : (f : Code.FloatEntry) → NumbersFloat (entryOf (Number f)) k l r l′
+module _ (text : List ℕ) (t : TablesSoFar) (k : Counters) (l : List ℕ) (r : PoolNumber) (l′ : List ℕ) (h : Holds text t k l) where
+  pub number-made : (f : Code.FloatEntry) → NumbersFloat (entryOfFloat (Number f)) k l r l′
       → FloatAt l′ (204 * k .records + 16 * r .number) (entry (bitsOf (f .value)) (f .short))
-  unfolding entryOf
-  number-made f m = float-made (entryOf (Number f)) text t k l r l′ h m
+  unfolding entryOfFloat
+  number-made f m = float-made (entryOfFloat (Number f)) text t k l r l′ h m
 
-  pub nan-made : (b : ℕ) (short : Bool) → NumbersFloat (entryOf (Nan b short)) k l r l′ → FloatAt l′ (204 * k .records + 16 * r .number) (entry b short)
-  unfolding entryOf
-  nan-made b short m = float-made (entryOf (Nan b short)) text t k l r l′ h m
+  pub nan-made : (b : ℕ) (short : Bool) → NumbersFloat (entryOfFloat (Nan b short)) k l r l′ → FloatAt l′ (204 * k .records + 16 * r .number) (entry b short)
+  unfolding entryOfFloat
+  nan-made b short m = float-made (entryOfFloat (Nan b short)) text t k l r l′ h m

@@ -14,7 +14,7 @@ use Rattle.conversion.specs.Ir.{IrFunction, LabelName}
 use Rattle.conversion.specs.Written.{bytesOf, word, boolNumber, encodeInstr, encodeVar, encodeLabel, encodeFunctions, codeOf, bodyMark, allCode, allVars, allLabels}
 use Rattle.conversion.proofs.Bytes.{functions-length}
 use Rattle.ir.specs.declared.structs.Counters.{Counters}
-use Rattle.ir.specs.Arena.{Has, Table, All, Tables, Holds, Room}
+use Rattle.ir.specs.Arena.{Has, Table, TablesSoFar, Holds, Room}
 use Rattle.ir.specs.Steps.{closed, nextFunction, Closes}
 use Rattle.ir.proofs.Entries.{written-length, has-grown, table-before, table-behind}
 
@@ -89,7 +89,7 @@ module _ (r : ℕ) (body : Bool) (b : ℕ) (eb : b ≡ boolNumber body) (k : Cou
     fit : place + length words ≤ length l
     fit = omega (arith, words-length, room .arena)
 
-    module _ (text : List ℕ) (t : Tables) (h : Holds text t k l) (bare : body ≡ false → t .code ≡ []) where
+    module _ (text : List ℕ) (t : TablesSoFar) (h : Holds text t k l) (bare : body ≡ false → t .code ≡ []) where
       abbrev f : IrFunction
       f = record { func = r; body = pick body (some (t .code)) none; vars = t .state .vars; labels = t .state .labels }
 
@@ -119,7 +119,6 @@ module _ (r : ℕ) (body : Bool) (b : ℕ) (eb : b ≡ boolNumber body) (k : Cou
       labels-list = append-nil _ ∙ labels-more (t .done) f
 
       function-holds : Holds text (closed r body t) (nextFunction k) l′
-      unfolding All
       function-holds = record {
         instructions-hold = subst (λ (x : List Ir.Instr). Table encodeInstr 32 x (0 * k .records) (k .instructions) l′) (sym code-list)
             (table-before (h .instructions-hold) place words l′ e fit (omega (arith, room .instructions-in)));

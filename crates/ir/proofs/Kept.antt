@@ -5,19 +5,19 @@ use mathlib.Core.List.{List, [], _∷_, _++_, append-nil, append-assoc}
 use Prim.Native.Nat.{ℕ, _+_, _*_, _≤_, _<_}
 use native.Mathlib.Omega.{arith}
 use lib.ListN.{length, length-append}
+use Rattle.laws.specs.All.{All}
 use Rattle.laws.specs.Splice.{splice}
 use Rattle.conversion.specs.Ir as Ir
 use Rattle.conversion.specs.Ir.{State, LabelName, StringEntry, FloatEntry}
 use Rattle.conversion.specs.Written.{encodeInstr, encodeVar, encodeLabel, encodeFunctions, encodeString, encodeFloat, allCode, allVars, allLabels}
 use Rattle.conversion.proofs.Bytes.{functions-length}
 use Rattle.ir.specs.declared.structs.Counters.{Counters}
-use Rattle.ir.specs.Arena.{Has, Table, All, Tables, LabelFits, StringStands, FloatFits, Holds, Room}
+use Rattle.ir.specs.Arena.{Has, Table, TablesSoFar, LabelFits, StringStands, FloatFits, Holds, Room}
 use Rattle.ir.specs.Steps.{grown, moreInstructions, moreVariables, moreLabels, moreStrings, moreFloats}
 use Rattle.ir.proofs.Entries.{has-before, has-behind, table-before, table-behind, table-grown}
 
 -- a property of every entry, and of one more
 pub all-more : {X : Type 0} (P : X → Type 0) (xs : List X) (x : X) → All P xs → P x → All P (xs ++ (x ∷ []))
-unfolding All
 all-more P [] x a p = (p, tt)
 all-more P (y ∷ xs) x a p = (a .0, all-more P xs x (a .1) p)
 
@@ -34,7 +34,7 @@ withString x s = record { vars = s .vars; labels = s .labels; strings = s .strin
 abbrev pub withFloat : FloatEntry → State → State
 withFloat x s = record { vars = s .vars; labels = s .labels; strings = s .strings; floats = s .floats ++ (x ∷ []) }
 
-module _ (text : List ℕ) (t : Tables) (k : Counters) (l : List ℕ) (room : Room k l) (h : Holds text t k l) where
+module _ (text : List ℕ) (t : TablesSoFar) (k : Counters) (l : List ℕ) (room : Room k l) (h : Holds text t k l) where
   functions-end : length (encodeFunctions 0 0 0 (t .done)) ≡ 32 * k .functions
   functions-end = functions-length 0 0 0 (t .done) ∙ omega (arith, h .before .functions-count)
 

@@ -9,20 +9,26 @@ use lib.Dec.{eqb}
 use lib.ListN.{length, getD, length-append}
 use lib.Seq.{getD-append-add}
 use borrow.Author.Tests.{eqb-true, eq-eqb}
+use Rattle.laws.specs.All.{All}
 use Rattle.laws.proofs.Tests.{and-left, and-right}
 use Rattle.records.specs.Words.{byteAt, wordAt, textAt}
 use Rattle.records.proofs.Apart.{word-back}
 use Rattle.conversion.specs.Ir.{LabelName, StringEntry, FloatEntry, position, sameLabel, sameText, sameFloat}
 use Rattle.conversion.specs.Written.{bytesOf, word, wide, boolNumber, encodeLabel, encodeString, encodeFloat, allLabels}
 use Rattle.ir.specs.declared.structs.Counters.{Counters}
-use Rattle.ir.specs.Arena.{All, Tables, LabelFits, StringStands, FloatFits, FloatAt, Holds}
+use Rattle.ir.specs.Arena.{TablesSoFar, LabelFits, StringStands, FloatFits, Holds}
 use Rattle.ir.specs.Steps.{named}
-use Rattle.ir.specs.Search.{first, pairAt, textOf, fourAt}
+use Rattle.ir.specs.Search.{first, pairAt, sameTextAt, fourAt}
 use Rattle.ir.proofs.Entries.{table-word}
 use Rattle.ir.proofs.SearchLaws.{first-position}
 
+-- the entry at byte p is the float x: its bits, the lower word first, and its mark
+pub record FloatAt (l : List ℕ) (p : ℕ) (x : FloatEntry) : Type 0 where
+  pub low : wordAt l p ≡ x .bits % 4294967296
+  pub high : wordAt l (p + 4) ≡ x .bits / 4294967296
+  pub mark : wordAt l (p + 8) ≡ boolNumber (x .short)
+
 all-at : {X : Type 0} (P : X → Type 0) (xs : List X) (d : X) (j : ℕ) → All P xs → j < length xs → P (getD xs j d)
-unfolding All
 all-at P [] d j a h = absurd (omega arith)
 all-at P (x ∷ xs) d zero a h = a .0
 all-at P (x ∷ xs) d (suc j) a h = all-at P xs d j (a .1) (omega arith)
@@ -103,7 +109,7 @@ no-string = record { offset = 0; len = 0; text = [] }
 abbrev pub no-float : FloatEntry
 no-float = record { bits = 0; short = false }
 
-module _ (text : List ℕ) (t : Tables) (k : Counters) (l : List ℕ) (h : Holds text t k l) where
+module _ (text : List ℕ) (t : TablesSoFar) (k : Counters) (l : List ℕ) (h : Holds text t k l) where
   -- entry j of the labels of the function at hand
   label-entry : (j : ℕ) → getD (allLabels (t .done) ++ t .state .labels) (k .«labels_before» + j) no-label ≡ getD (t .state .labels) j no-label
   label-entry j =
@@ -135,8 +141,8 @@ module _ (text : List ℕ) (t : Tables) (k : Counters) (l : List ℕ) (h : Holds
       (k .labels - k .«labels_before») (omega (arith, labels-count)) (label-same kind opener)
 
   string-same : (u : List ℕ) (j : ℕ) → j < length (t .state .strings)
-      → textOf text l (196 * k .records) u j ≡ sameText u (getD (t .state .strings) j no-string .text)
-  unfolding textOf
+      → sameTextAt text l (196 * k .records) u j ≡ sameText u (getD (t .state .strings) j no-string .text)
+  unfolding sameTextAt
   string-same u j hj =
       let x : StringEntry = getD (t .state .strings) j no-string in
       let f : StringStands text (getD (t .state .strings) j no-string) = all-at (StringStands text) (t .state .strings) no-string j (h .fits .strings-stand) hj in
@@ -147,9 +153,9 @@ module _ (text : List ℕ) (t : Tables) (k : Counters) (l : List ℕ) (h : Holds
       ∙ sym (f .stands))
 
   pub strings-read : (u : List ℕ)
-      → first (k .strings) (textOf text l (196 * k .records) u) 0 ≡ position (λ x. sameText u (x .text)) (t .state .strings)
+      → first (k .strings) (sameTextAt text l (196 * k .records) u) 0 ≡ position (λ x. sameText u (x .text)) (t .state .strings)
   strings-read u =
-      first-position (λ x. sameText u (x .text)) no-string (textOf text l (196 * k .records) u) (t .state .strings)
+      first-position (λ x. sameText u (x .text)) no-string (sameTextAt text l (196 * k .records) u) (t .state .strings)
       (k .strings) (h .strings-hold .count) (string-same u)
 
   -- entry j of the floats

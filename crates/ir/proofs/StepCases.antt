@@ -1,13 +1,13 @@
--- A step put another way: equal at every state, grouped otherwise, or the branch that is taken of a choice. What the one owes the other owes.
+-- A step put another way: equal at every state, or the branch that is taken of a choice. What the one owes the other owes.
 -- By the equation at the tables' state; a choice by cases of its test or of the type. Assumes nothing.
 use mathlib.Core.Path.{_≡_, refl, sym, ap, _∙_, subst}
 use mathlib.Core.Bool.{Bool, true, false, false≢true}
-use mathlib.Core.List.{List, _++_, append-assoc}
+use mathlib.Core.List.{List}
 use Prim.Native.Nat.{ℕ}
 use Rattle.laws.specs.Fix.{pick}
 use Rattle.syntax.specs.Syntax.{Ty, TInt, TFloat, TBool, TChar, TByte, TAddress, TArray, TCustom, TNull}
 use Rattle.conversion.specs.ConvertError.{ConvertErrorKind}
-use Rattle.conversion.specs.Ir.{Instr, State, Out, made, failed, M, after, bind, _>>=_, _>>_}
+use Rattle.conversion.specs.Ir.{State, Out, M}
 use Rattle.conversion.specs.Types.{onInt, onFloat, isInt, isFloat}
 use Rattle.ir.specs.declared.structs.Counters.{Counters}
 use Rattle.ir.specs.Steps.{Stands, NextIn, StopsIn}
@@ -24,39 +24,6 @@ module _ {A : Type 0} {text : List ℕ} {m m′ : M A} {k : Counters} {l : List 
 
   pub stop-by : {e : ConvertErrorKind} {r : ℕ} → ((s : State) → m s ≡ m′ s) → StopsIn text m k l e r → StopsIn text m′ k l e r
   stop-by q n = record { stops = λ t h. sym (q (t .state)) ∙ n .stops t h }
-
--- ---- grouped otherwise
-
-after-after : {A : Type 0} (c d : List Instr) (o : Out A) → after (c ++ d) o ≡ after c (after d o)
-unfolding after
-after-after c d (made a e s) = ap (λ (x : List Instr). made a x s) (append-assoc c d e)
-after-after c d (failed e r) = refl
-
-after-bind : {A B : Type 0} (c : List Instr) (o : Out A) (g : A → M B) → bind (after c o) g ≡ after c (bind o g)
-unfolding bind after
-after-bind c (made a d s) g = after-after c d (g a s)
-after-bind c (failed e r) g = refl
-
-bind-bind : {A B C : Type 0} (o : Out A) (f : A → M B) (g : B → M C) → bind (bind o f) g ≡ bind o (λ a. f a >>= g)
-unfolding bind _>>=_
-bind-bind (made a c s) f g = after-bind c (f a s) g
-bind-bind (failed e r) f g = refl
-
-module _ {A B C : Type 0} (m : M A) (f : A → M B) (g : B → M C) where
-  pub regroup : (s : State) → ((m >>= f) >>= g) s ≡ (m >>= (λ a. f a >>= g)) s
-  unfolding _>>=_
-  regroup s = bind-bind (m s) f g
-
-  pub ungroup : (s : State) → (m >>= (λ a. f a >>= g)) s ≡ ((m >>= f) >>= g) s
-  ungroup s = sym (regroup s)
-
-module _ {A B C : Type 0} (m : M A) (f : M B) (g : M C) where
-  pub regroup-seq : (s : State) → ((m >> f) >> g) s ≡ (m >> (f >> g)) s
-  unfolding _>>=_ _>>_
-  regroup-seq s = bind-bind (m s) (λ a. f) (λ b. g)
-
-  pub ungroup-seq : (s : State) → (m >> (f >> g)) s ≡ ((m >> f) >> g) s
-  ungroup-seq s = sym (regroup-seq s)
 
 -- ---- choices: which branch is taken
 

@@ -7,7 +7,7 @@ use Rattle.conversion.specs.ConvertError.{ConvertErrorKind, Result, ok, err}
 use Rattle.conversion.specs.Ir as Ir
 use Rattle.conversion.specs.Ir.{State, Out, made, failed, M, after, bind, _>>=_, _>>_, pure, fail, lift}
 use Rattle.ir.specs.declared.structs.Counters.{Counters}
-use Rattle.ir.specs.Arena.{Tables, Holds, Room}
+use Rattle.ir.specs.Arena.{TablesSoFar, Holds, Room}
 use Rattle.ir.specs.Steps.{grown, Stands, Next, NextIn, StopsIn}
 use Rattle.ir.proofs.Kept.{no-code}
 
@@ -17,7 +17,7 @@ next-in text n = record { room = n .room; records = n .records; stands = n .stan
 
 -- ---- the second step's code stands behind the first's
 
-after-stands : {B : Type 0} (text : List ℕ) (t : Tables) (c : List Ir.Instr) (s : State) (o : Out B) (b : B) (k : Counters) (l : List ℕ)
+after-stands : {B : Type 0} (text : List ℕ) (t : TablesSoFar) (c : List Ir.Instr) (s : State) (o : Out B) (b : B) (k : Counters) (l : List ℕ)
     → Stands o b text (grown t c s) k l → Stands (after c o) b text t k l
 unfolding Stands after
 after-stands text t c s (made b′ d s′) b k l h = (
@@ -27,7 +27,7 @@ after-stands text t c s (made b′ d s′) b k l h = (
 after-stands text t c s (failed e r) b k l h = h
 
 -- by what the first step gives
-bind-stands : {A B : Type 0} (text : List ℕ) (t : Tables) (o : Out A) (f : A → M B) (a : A) (b : B) (k k′ : Counters) (l l′ : List ℕ)
+bind-stands : {A B : Type 0} (text : List ℕ) (t : TablesSoFar) (o : Out A) (f : A → M B) (a : A) (b : B) (k k′ : Counters) (l l′ : List ℕ)
     → Stands o a text t k l → NextIn text (f a) k l b k′ l′ → Stands (bind o f) b text t k′ l′
 unfolding Stands bind
 bind-stands text t (made a′ c s) f a b k k′ l l′ h n =
@@ -86,7 +86,7 @@ pub fail-stops : {A : Type 0} (text : List ℕ) (k : Counters) (l : List ℕ) (e
 unfolding fail
 fail-stops text k l e r = record { stops = λ t h. refl }
 
-bind-stops : {A B : Type 0} (text : List ℕ) (t : Tables) (o : Out A) (f : A → M B) (a : A) (k : Counters) (l : List ℕ) (e : ConvertErrorKind) (r : ℕ)
+bind-stops : {A B : Type 0} (text : List ℕ) (t : TablesSoFar) (o : Out A) (f : A → M B) (a : A) (k : Counters) (l : List ℕ) (e : ConvertErrorKind) (r : ℕ)
     → Stands o a text t k l → StopsIn text (f a) k l e r → bind o f ≡ failed e r
 unfolding Stands bind after
 bind-stops text t (made a′ c s) f a k l e r h n =

@@ -1,16 +1,17 @@
 -- The arena: one lent buffer that holds all six tables while a tree of n records is converted, each in a region of its own. It is the
 -- instruction buffer (320n bytes), whose first 128n bytes are the instructions' own place. Assumes nothing: these are definitions.
 use mathlib.Core.Path.{_≡_}
-use Prim.Native.Nat.{ℕ, _+_, _*_, _/_, _%_, _^_, _≤_, _<_}
+use Prim.Native.Nat.{ℕ, _+_, _*_, _^_, _≤_, _<_}
 use mathlib.Core.Bool.{Bool, _&&_}
 use mathlib.Core.List.{List, [], _∷_, _++_}
 use lib.Dec.{leb}
 use lib.ListN.{length, take, drop}
+use Rattle.laws.specs.All.{All}
 use Rattle.records.specs.Layout.{Region}
-use Rattle.records.specs.Words.{wordAt, textAt}
+use Rattle.records.specs.Words.{textAt}
 use Rattle.conversion.specs.Ir as Ir
 use Rattle.conversion.specs.Ir.{LabelName, StringEntry, FloatEntry, State, IrFunction}
-use Rattle.conversion.specs.Written.{encodeAll, encodeInstr, encodeVar, encodeLabel, encodeFunctions, encodeString, encodeFloat, boolNumber, allCode, allVars, allLabels}
+use Rattle.conversion.specs.Written.{encodeAll, encodeInstr, encodeVar, encodeLabel, encodeFunctions, encodeString, encodeFloat, allCode, allVars, allLabels}
 use Rattle.ir.specs.declared.structs.Counters.{Counters}
 
 -- ---- regions, each at a multiple of n bytes
@@ -63,12 +64,8 @@ pub record Table {X : Type 0} (f : X → List ℕ) (w : ℕ) (xs : List X) (at n
   pub width : (x : X) → length (f x) ≡ w
   pub count : n ≡ length xs
 
-unfoldable pub All : {X : Type 0} → (X → Type 0) → List X → Type 0
-All P [] = Unit {0}
-All P (x ∷ l) = P x × All P l
-
 -- what is written so far: the functions that are done, the instructions of the function at hand, and the definitions' state
-pub record Tables : Type 0 where
+pub record TablesSoFar : Type 0 where
   pub done : List IrFunction
   pub code : List Ir.Instr
   pub state : State
@@ -87,12 +84,6 @@ pub record StringStands (text : List ℕ) (s : StringEntry) : Type 0 where
 pub record FloatFits (f : FloatEntry) : Type 0 where
   pub bits : f .bits < 2 ^ 64
 
--- the entry at byte p is the float x: its bits, the lower word first, and its mark
-pub record FloatAt (l : List ℕ) (p : ℕ) (x : FloatEntry) : Type 0 where
-  pub low : wordAt l p ≡ x .bits % 4294967296
-  pub high : wordAt l (p + 4) ≡ x .bits / 4294967296
-  pub mark : wordAt l (p + 8) ≡ boolNumber (x .short)
-
 -- how many functions are done, and how many instructions, variables and labels they have
 pub record Before (done : List IrFunction) (functions instructions variables labels : ℕ) : Type 0 where
   pub functions-count : functions ≡ length done
@@ -107,7 +98,7 @@ pub record Fits (text : List ℕ) (labels : List LabelName) (strings : List Stri
   pub floats-fit : All FloatFits floats
 
 -- the arena holds these tables, and the counters count them
-pub record Holds (text : List ℕ) (t : Tables) (k : Counters) (l : List ℕ) : Type 0 where
+pub record Holds (text : List ℕ) (t : TablesSoFar) (k : Counters) (l : List ℕ) : Type 0 where
   pub instructions-hold : Table encodeInstr 32 (allCode (t .done) ++ t .code) (instructions .from * k .records) (k .instructions) l
   pub variables-hold : Table encodeVar 4 (allVars (t .done) ++ t .state .vars) (variables .from * k .records) (k .variables) l
   pub labels-hold : Table encodeLabel 8 (allLabels (t .done) ++ t .state .labels) (labels .from * k .records) (k .labels) l
@@ -116,11 +107,6 @@ pub record Holds (text : List ℕ) (t : Tables) (k : Counters) (l : List ℕ) : 
   pub floats-hold : Table encodeFloat 16 (t .state .floats) (floats .from * k .records) (k .floats) l
   pub before : Before (t .done) (k .functions) (k .«instructions_before») (k .«variables_before») (k .«labels_before»)
   pub fits : Fits text (t .state .labels) (t .state .strings) (t .state .floats)
-
--- some tables stand there
-pub record Held (text : List ℕ) (k : Counters) (l : List ℕ) : Type 0 where
-  pub tables : Tables
-  pub holds : Holds text tables k l
 
 -- the counters stay within the regions, and the arena is as long as document 01 lends it; its offsets fit a word
 pub record Room (k : Counters) (l : List ℕ) : Type 0 where

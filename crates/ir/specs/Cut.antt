@@ -16,7 +16,7 @@ abbrev pub part : List ℕ → ℕ → ℕ → List ℕ
 part l at n = take n (drop at l)
 
 -- the five buffers are as long as document 01 lends them
-pub record Lent (n : ℕ) (variables labels functions strings floats : List ℕ) : Type 0 where
+pub record FiveLong (n : ℕ) (variables labels functions strings floats : List ℕ) : Type 0 where
   pub variables-long : Arena.variables .each * n ≤ length variables
   pub labels-long : Arena.labels .each * n ≤ length labels
   pub functions-long : Arena.functions .each * n ≤ length functions

@@ -13,10 +13,10 @@ unfoldable pub bitsOf : Float → ℕ
 bitsOf x = cond (isNan x) 0x7FF8000000000000 (toBits binary64 x)
 
 -- 'a float entry is its value with its short mark'
-unfoldable pub entryOf : FloatBits → Ir.FloatEntry
+unfoldable pub entryOfFloat : FloatBits → Ir.FloatEntry
 unfolding bitsOf
-entryOf (Number e) = record { bits = bitsOf (e .value); short = e .short }
-entryOf (Nan b short) = record { bits = b; short = short }
+entryOfFloat (Number e) = record { bits = bitsOf (e .value); short = e .short }
+entryOfFloat (Nan b short) = record { bits = b; short = short }
 
 abbrev pub entry : ℕ → Bool → Ir.FloatEntry
 entry bits short = record { bits = bits; short = short }

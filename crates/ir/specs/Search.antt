@@ -26,9 +26,9 @@ unfoldable pub pairAt : List ℕ → ℕ → ℕ → ℕ → ℕ → Bool
 pairAt l at a b j = eqb a (wordAt l (at + 8 * j)) && eqb b (wordAt l (at + 8 * j + 4))
 
 -- its two words are the place of a text that is the same as t
-unfoldable pub textOf : List ℕ → List ℕ → ℕ → List ℕ → ℕ → Bool
+unfoldable pub sameTextAt : List ℕ → List ℕ → ℕ → List ℕ → ℕ → Bool
 unfolding textAt
-textOf text l at t j = sameText t (textAt text (wordAt l (at + 8 * j)) (wordAt l (at + 8 * j + 4)))
+sameTextAt text l at t j = sameText t (textAt text (wordAt l (at + 8 * j)) (wordAt l (at + 8 * j + 4)))
 
 -- its first three words (of four) are a, b and c
 unfoldable pub fourAt : List ℕ → ℕ → ℕ → ℕ → ℕ → ℕ → Bool

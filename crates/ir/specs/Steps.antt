@@ -20,14 +20,14 @@ use Rattle.ir.specs.declared.structs.LabelNumber.{LabelNumber}
 use Rattle.ir.specs.declared.pool.PoolNumber.{PoolNumber}
 use Rattle.ir.specs.Instructions.{varOf, instrOf}
 use Rattle.ir.specs.Amounts.{amount, Spent}
-use Rattle.ir.specs.Arena.{variables, labels, strings, floats, Tables, Holds, Room}
+use Rattle.ir.specs.Arena.{variables, labels, strings, floats, TablesSoFar, Holds, Room}
 
 -- the tables after a step that emits c and leaves the state s
-abbrev pub grown : Tables → List Ir.Instr → State → Tables
+abbrev pub grown : TablesSoFar → List Ir.Instr → State → TablesSoFar
 grown t c s = record { done = t .done; code = t .code ++ c; state = s }
 
 -- the definition's step gives a, and what it emits and leaves stands in the arena
-unfoldable pub Stands : {A : Type 0} → Out A → A → List ℕ → Tables → Counters → List ℕ → Type 0
+unfoldable pub Stands : {A : Type 0} → Out A → A → List ℕ → TablesSoFar → Counters → List ℕ → Type 0
 Stands (made b c s) a text t k l = (a ≡ b) × Holds text (grown t c s) k l
 Stands (failed e r) a text t k l = ⊥
 
@@ -35,7 +35,7 @@ Stands (failed e r) a text t k l = ⊥
 pub record Next {A : Type 0} (m : M A) (k : Counters) (l : List ℕ) (a : A) (k′ : Counters) (l′ : List ℕ) : Type 0 where
   pub room : Room k′ l′
   pub records : k′ .records ≡ k .records
-  pub stands : (text : List ℕ) (t : Tables) → Holds text t k l → Stands (m (t .state)) a text t k′ l′
+  pub stands : (text : List ℕ) (t : TablesSoFar) → Holds text t k l → Stands (m (t .state)) a text t k′ l′
 
 -- the counters with one entry more
 abbrev pub moreInstructions : Counters → Counters
@@ -61,11 +61,11 @@ stringAt text offset len = record { offset = offset; len = len; text = textAt te
 pub record NextIn {A : Type 0} (text : List ℕ) (m : M A) (k : Counters) (l : List ℕ) (a : A) (k′ : Counters) (l′ : List ℕ) : Type 0 where
   pub room : Room k′ l′
   pub records : k′ .records ≡ k .records
-  pub stands : (t : Tables) → Holds text t k l → Stands (m (t .state)) a text t k′ l′
+  pub stands : (t : TablesSoFar) → Holds text t k l → Stands (m (t .state)) a text t k′ l′
 
 -- the definition's step ends in this error, at this record, from any tables that the arena held
 pub record StopsIn {A : Type 0} (text : List ℕ) (m : M A) (k : Counters) (l : List ℕ) (e : ConvertErrorKind) (r : ℕ) : Type 0 where
-  pub stops : (t : Tables) → Holds text t k l → m (t .state) ≡ failed e r
+  pub stops : (t : TablesSoFar) → Holds text t k l → m (t .state) ≡ failed e r
 
 -- the bytes vs were written at i, nothing else changed, and the counters are those asked for
 pub record Wrote (l : List ℕ) (i : ℕ) (vs : List ℕ) (want k′ : Counters) (l′ : List ℕ) : Type 0 where
@@ -73,7 +73,7 @@ pub record Wrote (l : List ℕ) (i : ℕ) (vs : List ℕ) (want k′ : Counters)
   pub wrote : l′ ≡ splice l i vs
 
 -- nothing changed
-pub record Stays (k : Counters) (l : List ℕ) (k′ : Counters) (l′ : List ℕ) : Type 0 where
+pub record TablesStay (k : Counters) (l : List ℕ) (k′ : Counters) (l′ : List ℕ) : Type 0 where
   pub counts : k′ ≡ k
   pub same : l′ ≡ l
 
@@ -97,22 +97,22 @@ named kind opener = record { kind = kind; opener = opener }
 pub record NumbersLabel (kind opener : ℕ) (k : Counters) (l : List ℕ) (r : LabelNumber) (l′ : List ℕ) : Type 0 where
   pub next : Next (Ir.label-id (named kind opener)) k l (r .label .0) (r .counters) l′
   pub spent : Spent k (r .counters) (amount 0 0 1 0 0)
-  pub entry : Wrote l (labels .from * k .records + 8 * k .labels) (encodeLabel (named kind opener)) (moreLabels k) (r .counters) l′ ⊎ Stays k l (r .counters) l′
+  pub entry : Wrote l (labels .from * k .records + 8 * k .labels) (encodeLabel (named kind opener)) (moreLabels k) (r .counters) l′ ⊎ TablesStay k l (r .counters) l′
 
 pub record NumbersString (text : List ℕ) (e : StringEntry) (k : Counters) (l : List ℕ) (r : PoolNumber) (l′ : List ℕ) : Type 0 where
   pub next : NextIn text (Ir.string-id e) k l (r .number) (r .counters) l′
   pub spent : Spent k (r .counters) (amount 0 0 0 1 0)
-  pub entry : Wrote l (strings .from * k .records + 8 * k .strings) (encodeString e) (moreStrings k) (r .counters) l′ ⊎ Stays k l (r .counters) l′
+  pub entry : Wrote l (strings .from * k .records + 8 * k .strings) (encodeString e) (moreStrings k) (r .counters) l′ ⊎ TablesStay k l (r .counters) l′
 
 pub record NumbersFloat (e : FloatEntry) (k : Counters) (l : List ℕ) (r : PoolNumber) (l′ : List ℕ) : Type 0 where
   pub next : Next (Ir.float-id e) k l (r .number) (r .counters) l′
   pub spent : Spent k (r .counters) (amount 0 0 0 0 1)
-  pub entry : Wrote l (floats .from * k .records + 16 * k .floats) (encodeFloat e) (moreFloats k) (r .counters) l′ ⊎ Stays k l (r .counters) l′
+  pub entry : Wrote l (floats .from * k .records + 16 * k .floats) (encodeFloat e) (moreFloats k) (r .counters) l′ ⊎ TablesStay k l (r .counters) l′
 
 -- ---- a function is done
 
 -- the function's entry, with what stands at hand as its body and tables
-abbrev pub closed : ℕ → Bool → Tables → Tables
+abbrev pub closed : ℕ → Bool → TablesSoFar → TablesSoFar
 closed r body t = record {
   done = t .done ++ (record { func = r; body = pick body (some (t .code)) none; vars = t .state .vars; labels = t .state .labels } ∷ []);
   code = [];
@@ -127,4 +127,4 @@ nextFunction k = record { records = k .records; instructions = k .instructions; 
 pub record Closes (r : ℕ) (body : Bool) (k : Counters) (l : List ℕ) (k′ : Counters) (l′ : List ℕ) : Type 0 where
   pub room : Room k′ l′
   pub counts : k′ ≡ nextFunction k
-  pub stands : (text : List ℕ) (t : Tables) → Holds text t k l → (body ≡ false → t .code ≡ []) → Holds text (closed r body t) k′ l′
+  pub stands : (text : List ℕ) (t : TablesSoFar) → Holds text t k l → (body ≡ false → t .code ≡ []) → Holds text (closed r body t) k′ l′

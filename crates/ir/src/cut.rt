@@ -5,7 +5,7 @@ ghost use Prim.Native.Nat.{_+_, _*_, _≤_};
 ghost use lib.ListN.{length, drop};
 ghost use Rattle.ir.specs.Arena as Arena;
 ghost use Rattle.ir.specs.Arena.{Room};
-ghost use Rattle.ir.specs.Cut.{alone, part, Lent, FunctionsCut, PoolCut, Cut};
+ghost use Rattle.ir.specs.Cut.{alone, part, FiveLong, FunctionsCut, PoolCut, Cut};
 use crate::arena::FLOATS;
 use crate::arena::FUNCTIONS;
 use crate::arena::LABELS;
@@ -84,7 +84,7 @@ pub fn cut_tables(
     strings: &mut [u8],
     floats: &mut [u8],
 )
-    requires { ⌜ Room k (now arena) × Lent (k .records) (now variables) (now labels) (now functions) (now strings) (now floats) ⌝ }
+    requires { ⌜ Room k (now arena) × FiveLong (k .records) (now variables) (now labels) (now functions) (now strings) (now floats) ⌝ }
     ensures { λ _. ⌜ Cut k (now (arena .entry)) (now (arena .exit)) (now (variables .exit)) (now (labels .exit)) (now (functions .exit)) (now (strings .exit)) (now (floats .exit)) ⌝ }
 {
     let end = 32 * k.instructions;

@@ -1,6 +1,6 @@
 // A float entry: an f64 with its short mark. A NaN's bits cannot pass through an f64 here, so that they stand beside it.
 ghost use mathlib.Core.Path.{_≡_};
-ghost use Rattle.ir.specs.Floats.{bitsOf, entryOf, entry};
+ghost use Rattle.ir.specs.Floats.{bitsOf, entryOfFloat, entry};
 use records::words::nan_bits;
 
 pub struct FloatEntry {
@@ -21,7 +21,7 @@ pub struct EntryBits {
 
 // The entry with these bits and this mark.
 pub fn float_entry(bits: u64, short: bool) -> FloatBits
-    ensures { λ r. ⌜ entryOf r ≡ entry bits short ⌝ }
+    ensures { λ r. ⌜ entryOfFloat r ≡ entry bits short ⌝ }
 {
     if nan_bits(bits) {
         return FloatBits::Nan(bits, short);
@@ -42,7 +42,7 @@ fn number_bits(x: f64) -> u64
 }
 
 pub fn entry_bits(f: FloatBits) -> EntryBits
-    ensures { λ r. ⌜ entry (r .bits) (r .short) ≡ entryOf f ⌝ }
+    ensures { λ r. ⌜ entry (r .bits) (r .short) ≡ entryOfFloat f ⌝ }
 {
     match f {
         FloatBits::Number(e) => EntryBits {

@@ -7,8 +7,8 @@ ghost use Rattle.records.specs.Words.{textAt};
 ghost use Rattle.conversion.specs.Ir.{floatBits};
 ghost use Rattle.conversion.specs.Written.{word};
 ghost use Rattle.ir.specs.Arena.{strings, floats, Room};
-ghost use Rattle.ir.specs.Floats.{entry, entryOf};
-ghost use Rattle.ir.specs.Search.{first, foundOf, textOf};
+ghost use Rattle.ir.specs.Floats.{entry, entryOfFloat};
+ghost use Rattle.ir.specs.Search.{first, foundOf, sameTextAt};
 ghost use Rattle.ir.specs.Steps.{stringAt, moreStrings, moreFloats, Wrote, NumbersString, NumbersFloat, Next};
 use crate::arena::FLOATS;
 use crate::arena::STRINGS;
@@ -34,7 +34,7 @@ pub struct PoolNumber {
 
 fn is_text(text: &[u8], s: &[u8], at: usize, j: usize, offset: u32, len: u32) -> bool
     requires { ⌜ at + 8 * j + 8 ≤ length (now s) ⌝ }
-    ensures { λ r. ⌜ r ≡ textOf (now (text .entry)) (now (s .entry)) at (textAt (now (text .entry)) offset len) j ⌝ }
+    ensures { λ r. ⌜ r ≡ sameTextAt (now (text .entry)) (now (s .entry)) at (textAt (now (text .entry)) offset len) j ⌝ }
 {
     let x = load(s, at + 8 * j);
     let y = load(s, at + 8 * j + 4);
@@ -44,7 +44,7 @@ fn is_text(text: &[u8], s: &[u8], at: usize, j: usize, offset: u32, len: u32) ->
 // The first of `count` strings that is the text.
 fn find_text(text: &[u8], s: &[u8], at: usize, count: usize, offset: u32, len: u32) -> Found
     requires { ⌜ at + 8 * count ≤ length (now s) ⌝ }
-    ensures { λ r. ⌜ r ≡ foundOf (first count (textOf (now (text .entry)) (now (s .entry)) at (textAt (now (text .entry)) offset len)) 0) ⌝ }
+    ensures { λ r. ⌜ r ≡ foundOf (first count (sameTextAt (now (text .entry)) (now (s .entry)) at (textAt (now (text .entry)) offset len)) 0) ⌝ }
 {
     let mut j = 0;
     while j < count {
@@ -101,7 +101,7 @@ fn add_float(arena: &mut [u8], k: Counters, w: Four) -> PoolNumber
 // The float with these bits and this mark.
 pub fn float_id(arena: &mut [u8], k: Counters, f: FloatBits) -> PoolNumber
     requires { ⌜ Room k (now arena) × (k .floats < 2 * k .records) ⌝ }
-    ensures { λ r. ⌜ NumbersFloat (entryOf f) k (now (arena .entry)) r (now (arena .exit)) ⌝ }
+    ensures { λ r. ⌜ NumbersFloat (entryOfFloat f) k (now (arena .entry)) r (now (arena .exit)) ⌝ }
 {
     let e = entry_bits(f);
     let w = Four(low(e.bits), high(e.bits), mark(e.short), 0);

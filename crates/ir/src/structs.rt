@@ -108,7 +108,7 @@ pub enum Instr {
 }
 
 // An operand as it is written.
-pub struct Part {
+pub struct WrittenOperand {
     pub tag: u8,
     pub value: u64,
 }
@@ -117,8 +117,8 @@ pub struct Part {
 pub struct Fields {
     pub kind: u8,
     pub operator: u8,
-    pub first: Part,
-    pub second: Part,
+    pub first: WrittenOperand,
+    pub second: WrittenOperand,
     pub target: u32,
     pub owner: u32,
 }
@@ -186,10 +186,10 @@ fn value_of(o: Operand) -> u64
     }
 }
 
-fn part_of(o: Operand) -> Part
+fn part_of(o: Operand) -> WrittenOperand
     ensures { λ r. ⌜ (r .tag ≡ tag (operandOf o)) × (r .value ≡ operandValue (operandOf o)) ⌝ }
 {
-    Part {
+    WrittenOperand {
         tag: tag_of(o),
         value: value_of(o),
     }
@@ -209,10 +209,10 @@ fn binary_number(op: u8) -> u8
 }
 
 // Nothing in an operand's place.
-fn no_part() -> Part
+fn no_part() -> WrittenOperand
     ensures { λ r. ⌜ (r .tag ≡ 0) × (r .value ≡ 0) ⌝ }
 {
-    Part {
+    WrittenOperand {
         tag: TAG_NONE,
         value: 0,
     }

@@ -20,7 +20,7 @@ use Rattle.records.specs.declared.words.Found.{Found}
 use Rattle.records.specs.declared.words.Found.the-variants as Found
 use Rattle.keys.specs.declared.parts.Part.{Part}
 use Rattle.keys.specs.Parts.{PartIs}
-use Rattle.keys.specs.Keys.{recordsBelow, functionRecords, functionsOf, FunctionFound, a-function, no-function}
+use Rattle.keys.specs.Keys.{recordsBelow, functionPlaces, functionsOf, FunctionFound, a-function, no-function}
 
 module _ (tree text : List ℕ) where
   -- the functions of the first n records
@@ -40,7 +40,7 @@ module _ (tree text : List ℕ) where
   functions-below (suc r) =
       rw (functions-append (recordsBelow tree r) (pick (eqb (kindOf tree r) 25) (r ∷ []) []), functions-below r, one-function r (eqb (kindOf tree r) 25) refl)
 
-  pub all-functions : program tree text .functions ≡ functionsOf tree text (functionRecords tree)
+  pub all-functions : program tree text .functions ≡ functionsOf tree text (functionPlaces tree)
   unfolding program
   all-functions = functions-below (records tree)
 
@@ -66,7 +66,7 @@ listed-kind tree zero j h = absurd (omega arith)
 listed-kind tree (suc r) j h = one-more tree r (recordsBelow tree r) (eqb (kindOf tree r) 25) refl (listed-kind tree r) j h
 
 -- the j-th of them all
-pub listed-function : (tree : List ℕ) (j : ℕ) → j < length (functionRecords tree) → FunctionAt tree (getD (functionRecords tree) j 0)
+pub listed-function : (tree : List ℕ) (j : ℕ) → j < length (functionPlaces tree) → FunctionAt tree (getD (functionPlaces tree) j 0)
 listed-function tree j h = let w = listed-kind tree (records tree) j h in record { below = w .0; kind = w .1 }
 
 -- ---- the names of a function as parts of the text

@@ -9,9 +9,9 @@ use native.Mathlib.Numerals.{add-one}
 use native.Mathlib.Omega.{arith}
 use lib.ListN.{length, take, drop, getD, drop-of-length-le}
 use lib.Seq.{take-suc, take-all, drop-cons, split-at}
-use borrow.Author.Tests.{eq-eqb}
 use Rattle.laws.specs.Fix.{pick}
 use Rattle.records.specs.Words.{wordAt}
+use Rattle.records.proofs.TextLaws.{same-self}
 use Rattle.syntax.specs.Syntax.{Text, Function}
 use Rattle.syntax.specs.Decode.{program}
 use Rattle.conversion.specs.ConvertError.{ConvertErrorKind, Result, ok, err, _>>=_, SameSignature, SameSymbol, LatinCharInNonLibCFunction, ExternNotLatin}
@@ -20,15 +20,10 @@ use Rattle.conversion.specs.Types.{isSome}
 use Rattle.conversion.specs.Expressions.{Functions, is-mangled, getFunction, mainName}
 use Rattle.conversion.specs.Functions.{is-ascii, contains-key, addFunction, get-all-functions}
 use Rattle.syntax.specs.Places.{functionOf}
-use Rattle.keys.specs.Keys.{keyOf, keyed, functionRecords, functionsOf, keysBelow, allKeys, Keyed}
+use Rattle.keys.specs.Keys.{functionKey, keyed, functionPlaces, functionsOf, keysBelow, allKeys, Keyed}
 use Rattle.keys.proofs.FunctionLaws.{all-functions, functions-append}
 
 -- ---- a key looked for
-
-pub same-self : (t : Text) → sameText t t ≡ true
-unfolding sameText
-same-self [] = refl
-same-self (b ∷ t) = rw (eq-eqb b b refl) (same-self t)
 
 find-by : (k : Text) (e : Text × Function) (l : Functions) (b : Bool) → sameText k (e .0) ≡ b
     → getFunction k (e ∷ l) ≡ elim b [ true ↦ some (e .1) | false ↦ getFunction k l ]
@@ -62,12 +57,12 @@ find-sooner k (e ∷ l) m f n = go (sameText k (e .0)) refl (find-sooner k l m f
 
 -- ---- one turn
 
-pub key-mangled : (f : Function) → is-mangled f ≡ true → keyOf f ≡ f .mangledName
-unfolding keyOf pick
+pub key-mangled : (f : Function) → is-mangled f ≡ true → functionKey f ≡ f .mangledName
+unfolding functionKey pick
 key-mangled f e = rw e
 
-pub key-plain : (f : Function) → is-mangled f ≡ false → keyOf f ≡ f .name
-unfolding keyOf pick
+pub key-plain : (f : Function) → is-mangled f ≡ false → functionKey f ≡ f .name
+unfolding functionKey pick
 key-plain f e = rw e
 
 module _ (f : Function) (F : Functions) where
@@ -119,7 +114,7 @@ module _ (f : Function) (F : Functions) where
   turn-signature m a g e = mangled-turn m ∙ rw (a, e)
 
   pub turn-mangled : is-mangled f ≡ true → is-ascii (f .name) ≡ false → getFunction (f .mangledName) F ≡ nothing
-      → addFunction f F ≡ ok (F ++ ((keyOf f, f) ∷ []))
+      → addFunction f F ≡ ok (F ++ ((functionKey f, f) ∷ []))
   unfolding pick contains-key isSome
   turn-mangled m a e = mangled-turn m ∙ rw (a, e, key-mangled f m)
 
@@ -133,14 +128,14 @@ module _ (f : Function) (F : Functions) where
   turn-symbol m a g e = plain-turn m ∙ rw (a, e)
 
   pub turn-plain : is-mangled f ≡ false → is-ascii (f .name) ≡ true → getFunction (f .name) F ≡ nothing
-      → addFunction f F ≡ ok (F ++ ((keyOf f, f) ∷ []))
+      → addFunction f F ≡ ok (F ++ ((functionKey f, f) ∷ []))
   unfolding pick contains-key isSome
   turn-plain m a e = plain-turn m ∙ rw (a, e, key-plain f m)
 
   -- a turn that goes well adds the function under a key that no function before it has
   pub data Turn : Result Functions → Type 0 where
     refused : {k : ConvertErrorKind} {r : ℕ} → Turn (err k r)
-    added : getFunction (keyOf f) F ≡ nothing → Turn (ok (F ++ ((keyOf f, f) ∷ [])))
+    added : getFunction (functionKey f) F ≡ nothing → Turn (ok (F ++ ((functionKey f, f) ∷ [])))
 
   turn-by : (m a : Bool) (o p : Option Function) → is-mangled f ≡ m → is-ascii (f .name) ≡ a → getFunction (f .mangledName) F ≡ o
       → getFunction (f .name) F ≡ p → Turn (addFunction f F)
@@ -163,12 +158,12 @@ keyed-append (f ∷ l) r = rw (keyed-append l r)
 
 -- the first turn went well, and so did the others
 first-turn : (f : Function) (l : List Function) (F G : Functions) → get-all-functions (f ∷ l) F ≡ ok G
-    → (getFunction (keyOf f) F ≡ nothing) × (get-all-functions l (F ++ ((keyOf f, f) ∷ [])) ≡ ok G)
+    → (getFunction (functionKey f) F ≡ nothing) × (get-all-functions l (F ++ ((functionKey f, f) ∷ [])) ≡ ok G)
 unfolding get-all-functions _>>=_
 first-turn f l F G = go (turn f F)
   where
     go : {R : Result Functions} → Turn f F R → (R >>= λ H. get-all-functions l H) ≡ ok G
-        → (getFunction (keyOf f) F ≡ nothing) × (get-all-functions l (F ++ ((keyOf f, f) ∷ [])) ≡ ok G)
+        → (getFunction (functionKey f) F ≡ nothing) × (get-all-functions l (F ++ ((functionKey f, f) ∷ [])) ≡ ok G)
     go refused e = absurd (let y : _≡_ {A = ℕ} 0 1 = cc in omega arith)
     go (added n) e = (n, e)
 
@@ -177,83 +172,83 @@ pub all-keyed : (l : List Function) (F G : Functions) → get-all-functions l F 
 unfolding get-all-functions keyed
 all-keyed [] F G e = let q : G ≡ F = cc in q ∙ sym (append-nil F)
 all-keyed (f ∷ l) F G e =
-    all-keyed l (F ++ ((keyOf f, f) ∷ [])) G (first-turn f l F G e .1) ∙ append-assoc F ((keyOf f, f) ∷ []) (keyed l)
+    all-keyed l (F ++ ((functionKey f, f) ∷ [])) G (first-turn f l F G e .1) ∙ append-assoc F ((functionKey f, f) ∷ []) (keyed l)
 
 -- no function before it has its key
 new-key : (l : List Function) (f : Function) (r : List Function) (F G : Functions) → get-all-functions (l ++ f ∷ r) F ≡ ok G
-    → getFunction (keyOf f) (F ++ keyed l) ≡ nothing
+    → getFunction (functionKey f) (F ++ keyed l) ≡ nothing
 unfolding keyed
 new-key [] f r F G e = rw (append-nil F) (first-turn f r F G e .0)
 new-key (h ∷ l) f r F G e =
-    rw (append-assoc F ((keyOf h, h) ∷ []) (keyed l)) at (new-key l f r (F ++ ((keyOf h, h) ∷ [])) G (first-turn h (l ++ f ∷ r) F G e .1))
+    rw (append-assoc F ((functionKey h, h) ∷ []) (keyed l)) at (new-key l f r (F ++ ((functionKey h, h) ∷ [])) G (first-turn h (l ++ f ∷ r) F G e .1))
 
 -- so its key finds just that function
 pub key-finds : (l : List Function) (f : Function) (r : List Function) (G : Functions) → get-all-functions (l ++ f ∷ r) [] ≡ ok G
-    → getFunction (keyOf f) (keyed (l ++ f ∷ r)) ≡ some f
+    → getFunction (functionKey f) (keyed (l ++ f ∷ r)) ≡ some f
 unfolding keyed
 key-finds l f r G e =
-    ap (getFunction (keyOf f)) (keyed-append l (f ∷ r))
-    ∙ find-later (keyOf f) (keyed l) (keyed (f ∷ r)) (new-key l f r [] G e)
-    ∙ find-hit (keyOf f) (keyOf f, f) (keyed r) (same-self (keyOf f))
+    ap (getFunction (functionKey f)) (keyed-append l (f ∷ r))
+    ∙ find-later (functionKey f) (keyed l) (keyed (f ∷ r)) (new-key l f r [] G e)
+    ∙ find-hit (functionKey f) (functionKey f, f) (keyed r) (same-self (functionKey f))
 
 -- ---- the functions of a tree
 
 module _ (tree text : List ℕ) where
   -- the record and the function at place j
   abbrev pub recordAt : ℕ → ℕ
-  recordAt j = getD (functionRecords tree) j 0
+  recordAt j = getD (functionPlaces tree) j 0
 
   abbrev pub at : ℕ → Function
   at j = functionOf tree text (recordAt j)
 
   -- the functions from place j on
   abbrev pub from : ℕ → List Function
-  from j = functionsOf tree text (drop j (functionRecords tree))
+  from j = functionsOf tree text (drop j (functionPlaces tree))
 
   pub from-start : program tree text .functions ≡ from 0
   from-start = all-functions tree text
 
-  pub from-one : (j : ℕ) → j < length (functionRecords tree) → from j ≡ at j ∷ from (j + 1)
+  pub from-one : (j : ℕ) → j < length (functionPlaces tree) → from j ≡ at j ∷ from (j + 1)
   unfolding functionsOf
-  from-one j h = rw (drop-cons (functionRecords tree) j 0 h, add-one j)
+  from-one j h = rw (drop-cons (functionPlaces tree) j 0 h, add-one j)
 
-  pub from-end : (j : ℕ) → length (functionRecords tree) ≤ j → from j ≡ []
+  pub from-end : (j : ℕ) → length (functionPlaces tree) ≤ j → from j ≡ []
   unfolding functionsOf
-  from-end j h = rw (drop-of-length-le (functionRecords tree) h)
+  from-end j h = rw (drop-of-length-le (functionPlaces tree) h)
 
   pub keys-none : keysBelow tree text 0 ≡ []
   unfolding keysBelow keyed functionsOf
   keys-none = refl
 
-  pub keys-more : (j : ℕ) → j < length (functionRecords tree) → keysBelow tree text (j + 1) ≡ keysBelow tree text j ++ ((keyOf (at j), at j) ∷ [])
+  pub keys-more : (j : ℕ) → j < length (functionPlaces tree) → keysBelow tree text (j + 1) ≡ keysBelow tree text j ++ ((functionKey (at j), at j) ∷ [])
   unfolding keysBelow keyed functionsOf
   keys-more j h =
-      let t : take (j + 1) (functionRecords tree) ≡ take j (functionRecords tree) ++ (recordAt j ∷ []) = rw (add-one j) (take-suc (functionRecords tree) j 0 h) in
+      let t : take (j + 1) (functionPlaces tree) ≡ take j (functionPlaces tree) ++ (recordAt j ∷ []) = rw (add-one j) (take-suc (functionPlaces tree) j 0 h) in
       ap (λ (l : List ℕ). keyed (functionsOf tree text l)) t
-      ∙ ap keyed (functions-append tree text (take j (functionRecords tree)) (recordAt j ∷ []))
-      ∙ keyed-append (functionsOf tree text (take j (functionRecords tree))) (at j ∷ [])
+      ∙ ap keyed (functions-append tree text (take j (functionPlaces tree)) (recordAt j ∷ []))
+      ∙ keyed-append (functionsOf tree text (take j (functionPlaces tree))) (at j ∷ [])
 
-  pub keys-all : (n : ℕ) → length (functionRecords tree) ≤ n → keysBelow tree text n ≡ allKeys tree text
+  pub keys-all : (n : ℕ) → length (functionPlaces tree) ≤ n → keysBelow tree text n ≡ allKeys tree text
   unfolding keysBelow allKeys
-  keys-all n h = rw (take-all n (functionRecords tree) h, all-functions tree text)
+  keys-all n h = rw (take-all n (functionPlaces tree) h, all-functions tree text)
 
   -- ---- keys are distinct
 
-  pub distinct-at : {G : Functions} → get-all-functions (program tree text .functions) [] ≡ ok G → (j : ℕ) → j < length (functionRecords tree)
-      → getFunction (keyOf (at j)) (allKeys tree text) ≡ some (at j)
+  pub distinct-at : {G : Functions} → get-all-functions (program tree text .functions) [] ≡ ok G → (j : ℕ) → j < length (functionPlaces tree)
+      → getFunction (functionKey (at j)) (allKeys tree text) ≡ some (at j)
   unfolding allKeys functionsOf
   distinct-at {G} e j h =
-      let split : functionsOf tree text (functionRecords tree)
-      ≡ functionsOf tree text (take j (functionRecords tree)) ++ at j ∷ functionsOf tree text (drop (suc j) (functionRecords tree)) =
-      ap (functionsOf tree text) (split-at (functionRecords tree) j 0 h)
-      ∙ functions-append tree text (take j (functionRecords tree)) (recordAt j ∷ drop (suc j) (functionRecords tree)) in
+      let split : functionsOf tree text (functionPlaces tree)
+      ≡ functionsOf tree text (take j (functionPlaces tree)) ++ at j ∷ functionsOf tree text (drop (suc j) (functionPlaces tree)) =
+      ap (functionsOf tree text) (split-at (functionPlaces tree) j 0 h)
+      ∙ functions-append tree text (take j (functionPlaces tree)) (recordAt j ∷ drop (suc j) (functionPlaces tree)) in
       let all = all-functions tree text ∙ split in
-      ap (λ (l : List Function). getFunction (keyOf (at j)) (keyed l)) all
-      ∙ key-finds (functionsOf tree text (take j (functionRecords tree))) (at j) (functionsOf tree text (drop (suc j) (functionRecords tree))) G
+      ap (λ (l : List Function). getFunction (functionKey (at j)) (keyed l)) all
+      ∙ key-finds (functionsOf tree text (take j (functionPlaces tree))) (at j) (functionsOf tree text (drop (suc j) (functionPlaces tree))) G
       (ap (λ (l : List Function). get-all-functions l []) (sym all) ∙ e)
 
 -- the key of a function that is listed in scratch finds just that function
 pub distinct-finds : (tree text s : List ℕ) (count : ℕ) → Keyed tree text s count → (j : ℕ) → j < count
-    → getFunction (keyOf (functionOf tree text (wordAt s (4 * j)))) (allKeys tree text) ≡ some (functionOf tree text (wordAt s (4 * j)))
+    → getFunction (functionKey (functionOf tree text (wordAt s (4 * j)))) (allKeys tree text) ≡ some (functionOf tree text (wordAt s (4 * j)))
 distinct-finds tree text s count k j h =
     rw (k .listed .listed j h) (distinct-at tree text (k .distinct) j (omega (arith, k .listed .counted)))

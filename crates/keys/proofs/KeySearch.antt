@@ -20,7 +20,7 @@ use Rattle.records.specs.declared.words.Found.the-variants.{At, Nothing}
 use Rattle.keys.specs.declared.parts.Part.{Part}
 use Rattle.syntax.specs.Places.{FunctionAt, ParamsAt, functionOf, paramsAt}
 use Rattle.keys.specs.Parts.{PartIs}
-use Rattle.keys.specs.Keys.{keyOf, keyed, recordsBelow, functionRecords, functionsOf, keysBelow, Listed, functionFound}
+use Rattle.keys.specs.Keys.{functionKey, keyed, recordsBelow, functionPlaces, functionsOf, keysBelow, Listed, functionFound}
 use Rattle.syntax.proofs.Records.{function-external, function-variadic, function-params, params-are}
 use Rattle.keys.proofs.FunctionLaws.{listed-function, name-part, mangled-part}
 
@@ -60,12 +60,12 @@ module _ (F : Function) where
   mangled-by-name x m t e l n q = rw (sym e ∙ l) (ap not (q ∙ ap (λ (u : Text). sameText u mainName) n))
 
   module _ (text : List ℕ) (p : Part) (b : Bool) (e : b ≡ is-mangled F) where
-    pub key-mangled : b ≡ true → PartIs text p (F .mangledName) → PartIs text p (keyOf F)
-    unfolding keyOf pick
+    pub key-mangled : b ≡ true → PartIs text p (F .mangledName) → PartIs text p (functionKey F)
+    unfolding functionKey pick
     key-mangled t h = rw (sym e ∙ t) h
 
-    pub key-plain : b ≡ false → PartIs text p (F .name) → PartIs text p (keyOf F)
-    unfolding keyOf pick
+    pub key-plain : b ≡ false → PartIs text p (F .name) → PartIs text p (functionKey F)
+    unfolding functionKey pick
     key-plain t h = rw (sym e ∙ t) h
 
 -- ---- the listed functions
@@ -98,7 +98,7 @@ get-first k t F l r e = ap (λ (z : Bool). elim z [ true ↦ some F | false ↦ 
 module _ (tree text s : List ℕ) (count most : ℕ) (key : Text) where
   -- the functions from the j-th on, with their keys
   abbrev pub left : ℕ → Functions
-  left j = keyed (functionsOf tree text (drop j (take most (functionRecords tree))))
+  left j = keyed (functionsOf tree text (drop j (take most (functionPlaces tree))))
 
   -- what was asked equals what is left
   abbrev pub Left : ℕ → Type 0
@@ -109,22 +109,22 @@ module _ (tree text s : List ℕ) (count most : ℕ) (key : Text) where
   left-start = refl
 
   module _ (listed : Listed tree s count) (le : most ≤ count) where
-    taken-length : length (take most (functionRecords tree)) ≡ most
-    taken-length = length-take-le most (functionRecords tree) (omega (arith, listed .counted))
+    taken-length : length (take most (functionPlaces tree)) ≡ most
+    taken-length = length-take-le most (functionPlaces tree) (omega (arith, listed .counted))
 
-    taken-at : (j f : ℕ) → j < most → f ≡ wordAt s (4 * j) → drop j (take most (functionRecords tree)) ≡ f ∷ drop (j + 1) (take most (functionRecords tree))
+    taken-at : (j f : ℕ) → j < most → f ≡ wordAt s (4 * j) → drop j (take most (functionPlaces tree)) ≡ f ∷ drop (j + 1) (take most (functionPlaces tree))
     taken-at j f h e =
-        let L : List ℕ = take most (functionRecords tree) in
-        let g : getD L j 0 ≡ f = getD-take most (functionRecords tree) j 0 h ∙ sym (e ∙ listed .listed j (omega arith)) in
+        let L : List ℕ = take most (functionPlaces tree) in
+        let g : getD L j 0 ≡ f = getD-take most (functionPlaces tree) j 0 h ∙ sym (e ∙ listed .listed j (omega arith)) in
         let n : suc j ≡ j + 1 = omega arith in
         drop-cons L j 0 (omega (arith, taken-length)) ∙ rw (g, n)
 
-    module _ (j f : ℕ) (h : j < most) (e : f ≡ wordAt s (4 * j)) (p : Part) (is : PartIs text p (keyOf (functionOf tree text f)))
+    module _ (j f : ℕ) (h : j < most) (e : f ≡ wordAt s (4 * j)) (p : Part) (is : PartIs text p (functionKey (functionOf tree text f)))
         (r : Bool) (same : r ≡ sameText key (textAt text (p .0) (p .1))) where
       asked : getFunction key (left j) ≡ elim r [ true ↦ some (functionOf tree text f) | false ↦ getFunction key (left (j + 1)) ]
       unfolding keyed functionsOf
       asked = ap (λ (l : List ℕ). getFunction key (keyed (functionsOf tree text l))) (taken-at j f h e)
-          ∙ get-first key (keyOf (functionOf tree text f)) (functionOf tree text f) (left (j + 1)) r (sym (same ∙ ap (sameText key) (is .is)))
+          ∙ get-first key (functionKey (functionOf tree text f)) (functionOf tree text f) (left (j + 1)) r (sym (same ∙ ap (sameText key) (is .is)))
 
       pub left-hit : r ≡ true → Left j → functionFound tree text (At f) ≡ getFunction key (keysBelow tree text most)
       unfolding functionFound
@@ -136,5 +136,5 @@ module _ (tree text s : List ℕ) (count most : ℕ) (key : Text) where
     pub left-end : (j : ℕ) → most ≤ j → j ≤ most → Left j → functionFound tree text Nothing ≡ getFunction key (keysBelow tree text most)
     unfolding functionFound getFunction keyed functionsOf
     left-end j g h w =
-        let e : j ≡ length (take most (functionRecords tree)) = omega (arith, taken-length) in
-        sym (w ∙ rw (e, drop-length (take most (functionRecords tree))))
+        let e : j ≡ length (take most (functionPlaces tree)) = omega (arith, taken-length) in
+        sym (w ∙ rw (e, drop-length (take most (functionPlaces tree))))

@@ -8,6 +8,7 @@ use lib.Dec.{eqb}
 use lib.ListN.{length, take, getD}
 use Rattle.laws.specs.Fix.{pick}
 use Rattle.records.specs.Words.{kindOf, wordAt, records}
+use Rattle.records.specs.Kinds.{kindFunction}
 use Rattle.records.specs.Good.{Good}
 use Rattle.syntax.specs.Syntax.{Text, Function}
 use Rattle.syntax.specs.Decode.{program}
@@ -19,25 +20,25 @@ use Rattle.records.specs.declared.words.Found.{Found}
 use Rattle.records.specs.declared.words.Found.the-variants as Found
 
 -- a function's key is its name if it is external or `main`, else its mangled name
-unfoldable pub keyOf : Function → Text
+unfoldable pub functionKey : Function → Text
 unfolding pick is-mangled
-keyOf f = pick (is-mangled f) (f .mangledName) (f .name)
+functionKey f = pick (is-mangled f) (f .mangledName) (f .name)
 
 -- functions with their keys
 unfoldable pub keyed : List Function → Functions
-unfolding keyOf
+unfolding functionKey
 keyed [] = []
-keyed (f ∷ l) = (keyOf f, f) ∷ keyed l
+keyed (f ∷ l) = (functionKey f, f) ∷ keyed l
 
--- the records of kind 25 among the first n
+-- the functions' records among the first n
 unfoldable pub recordsBelow : List ℕ → ℕ → List ℕ
 unfolding pick kindOf
 recordsBelow tree zero = []
-recordsBelow tree (suc r) = recordsBelow tree r ++ pick (eqb (kindOf tree r) 25) (r ∷ []) []
+recordsBelow tree (suc r) = recordsBelow tree r ++ pick (eqb (kindOf tree r) kindFunction) (r ∷ []) []
 
 -- 'Functions count in record order'
-abbrev pub functionRecords : List ℕ → List ℕ
-functionRecords tree = recordsBelow tree (records tree)
+abbrev pub functionPlaces : List ℕ → List ℕ
+functionPlaces tree = recordsBelow tree (records tree)
 
 module _ (tree text : List ℕ) where
   -- what some records stand for
@@ -49,7 +50,7 @@ module _ (tree text : List ℕ) where
   -- the first n functions with their keys
   unfoldable pub keysBelow : ℕ → Functions
   unfolding keyed functionsOf recordsBelow
-  keysBelow n = keyed (functionsOf (take n (functionRecords tree)))
+  keysBelow n = keyed (functionsOf (take n (functionPlaces tree)))
 
   -- all functions with their keys: the Rust's map, once it is made
   unfoldable pub allKeys : Functions
@@ -59,8 +60,8 @@ module _ (tree text : List ℕ) where
 -- the scratch has the functions' records, `count` of them
 pub record Listed (tree s : List ℕ) (count : ℕ) : Type 0 where
   pub room : 64 * records tree ≤ length s
-  pub counted : count ≡ length (functionRecords tree)
-  pub listed : (j : ℕ) → j < count → wordAt s (4 * j) ≡ getD (functionRecords tree) j 0
+  pub counted : count ≡ length (functionPlaces tree)
+  pub listed : (j : ℕ) → j < count → wordAt s (4 * j) ≡ getD (functionPlaces tree) j 0
 
 -- `get_all_functions` went well: a good tree whose keys are distinct, its functions listed in scratch
 pub record Keyed (tree text s : List ℕ) (count : ℕ) : Type 0 where

@@ -7,12 +7,15 @@ ghost use Rattle.records.specs.Good.{Good};
 ghost use Rattle.conversion.specs.Expressions.{is-mangled, getFunction};
 ghost use Rattle.syntax.specs.Places.{FunctionAt, functionOf, ParamsAt, paramsAt};
 ghost use Rattle.keys.specs.Parts.{PartIs};
-ghost use Rattle.keys.specs.Keys.{keyOf, keysBelow, Listed, FunctionIs};
+ghost use Rattle.keys.specs.Keys.{functionKey, keysBelow, Listed, FunctionIs};
 use crate::parts::Part;
 use crate::parts::is_main;
 use crate::parts::same_parts;
 use crate::parts::text_part;
 use records::words::Found;
+use records::words::WORD_A;
+use records::words::WORD_B;
+use records::words::WORD_C;
 use records::words::detail;
 use records::words::load;
 use records::words::reference;
@@ -22,7 +25,7 @@ pub fn name_of(tree: &[u8], text: &[u8], f: usize) -> Part
     requires { ⌜ FunctionAt (now tree) f ⌝ }
     ensures { λ p. ⌜ PartIs (now (text .entry)) p (functionOf (now (tree .entry)) (now (text .entry)) f .name) ⌝ }
 {
-    text_part(tree, reference(tree, f, 0), 0)
+    text_part(tree, reference(tree, f, WORD_A), WORD_A)
 }
 
 pub fn mangled_name_of(tree: &[u8], text: &[u8], f: usize) -> Part
@@ -30,7 +33,7 @@ pub fn mangled_name_of(tree: &[u8], text: &[u8], f: usize) -> Part
     requires { ⌜ FunctionAt (now tree) f ⌝ }
     ensures { λ p. ⌜ PartIs (now (text .entry)) p (functionOf (now (tree .entry)) (now (text .entry)) f .mangledName) ⌝ }
 {
-    text_part(tree, reference(tree, f, 1), 0)
+    text_part(tree, reference(tree, f, WORD_B), WORD_A)
 }
 
 fn is_external(tree: &[u8], text: &[u8], f: usize) -> bool
@@ -55,7 +58,7 @@ pub fn parameters_of(tree: &[u8], text: &[u8], f: usize) -> usize
     requires { ⌜ FunctionAt (now tree) f ⌝ }
     ensures { λ w. ⌜ (functionOf (now (tree .entry)) (now (text .entry)) f .params ≡ paramsAt (now (tree .entry)) (now (text .entry)) w) × ParamsAt (now (tree .entry)) w ⌝ }
 {
-    reference(tree, f, 2)
+    reference(tree, f, WORD_C)
 }
 
 // Neither external nor `main`.
@@ -73,7 +76,7 @@ pub fn is_mangled(tree: &[u8], text: &[u8], f: usize) -> bool
 pub fn key_of(tree: &[u8], text: &[u8], f: usize) -> Part
     requires { ⌜ Good (now tree) (now text) ⌝ }
     requires { ⌜ FunctionAt (now tree) f ⌝ }
-    ensures { λ p. ⌜ PartIs (now (text .entry)) p (keyOf (functionOf (now (tree .entry)) (now (text .entry)) f)) ⌝ }
+    ensures { λ p. ⌜ PartIs (now (text .entry)) p (functionKey (functionOf (now (tree .entry)) (now (text .entry)) f)) ⌝ }
 {
     if is_mangled(tree, text, f) {
         return mangled_name_of(tree, text, f);

@@ -19,8 +19,8 @@ unfoldable pub sumBelow : ℕ → (ℕ → ℕ) → ℕ
 sumBelow zero f = 0
 sumBelow (suc n) f = sumBelow n f + f n
 
-unfoldable pub orElse : Option ℕ → Option ℕ → Option ℕ
-orElse (some r) o = some r
+unfoldable pub orElse : {X : Type 0} → Option X → Option X → Option X
+orElse (some x) o = some x
 orElse none o = o
 
 -- the lowest number below n of which f holds

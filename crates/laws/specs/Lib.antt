@@ -1,3 +1,4 @@
+pub mod All
 pub mod Below
 pub mod Chain
 pub mod Fix

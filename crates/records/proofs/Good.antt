@@ -13,7 +13,7 @@ use Rattle.records.specs.Shapes.{rowAt}
 use Rattle.records.specs.Rules.{wordOk, wordsOk, formOk, otherwiseMarked, bodyMarked, isFirstType, typesFirst, typeIsNew, referredOnce, recordOk}
 
 -- each rule for record r
-pub record Good (tree text : List ℕ) (r : ℕ) : Type 0 where
+pub record KeepsRules (tree text : List ℕ) (r : ℕ) : Type 0 where
   pub form : formOk tree (length text) r ≡ true
   pub otherwise : otherwiseMarked tree r ≡ true
   pub body : bodyMarked tree r ≡ true
@@ -47,7 +47,7 @@ and5 a b c d e h =
     (s .0, s .1, s .2, t .1, t .2)
 
 module _ (tree text : List ℕ) (r : ℕ) where
-  pub good-of : recordOk tree text r ≡ true → Good tree text r
+  pub good-of : recordOk tree text r ≡ true → KeepsRules tree text r
   unfolding recordOk
   good-of h =
       let t : ((formOk tree (length text) r && otherwiseMarked tree r && bodyMarked tree r) ≡ true) × (isFirstType tree r ≡ true) × (typesFirst tree r ≡ true) × (typeIsNew tree text r ≡ true) × (referredOnce tree r ≡ true) = and5 (formOk tree (length text) r && otherwiseMarked tree r && bodyMarked tree r) (isFirstType tree r) (typesFirst tree r) (typeIsNew tree text r) (referredOnce tree r) h in

@@ -72,7 +72,7 @@ module _ (tree text : List ℕ) (good : Good tree text) (r : ℕ) (h : r < recor
   inside = omega (arith, good .whole)
 
   -- the rules that the record keeps, and the parts of its form
-  pub keeps : rules.Good tree text r
+  pub keeps : rules.KeepsRules tree text r
   keeps = rules.good-of tree text r (good .ok r h)
 
   formed : rules.Formed tree (length text) r

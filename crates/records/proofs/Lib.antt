@@ -2,6 +2,7 @@ pub mod Apart
 pub mod DigestLaws
 pub mod Good
 pub mod GoodLaws
+pub mod KindsInOrder
 pub mod LayoutFits
 pub mod ListLaws
 pub mod RuleLaws

@@ -18,8 +18,8 @@ use Rattle.conversion.specs.Functions.{get-all-functions}
 use Rattle.conversion.specs.Converter.{convert}
 use Rattle.conversion.proofs.Bodies.{typeOf, rate, x, y, parameter, outside, inside, ask, bound, take, askRate, int, guardBody, eitherBody, loopBody, spinBody, takeX, ratioBody, pauseBody, splitBody, guard, either, loop, spin, ratio, pause, split, program, converted, codeOf, var, v, n}
 use Rattle.runs.specs.TreeRun as Tree
-use Rattle.runs.specs.Rule.{content, literalType, read, readAll, Answer, gives, halt, holds, fails, Typed, Calls, Content, IntContent, FloatContent, BoolContent, StringContent, NullContent, Rule, comes, pending, Answers, asked, Ending, passed, returns, stopped}
-use Rattle.runs.specs.TreeRun.{Out, held, treeRun, parametersKnown, parameterValues, set, runStatement, bindS, bindO, bindT, testO, giveBack, evalExpr, typed, typedO, scopeOf, evalBinary, evalAnd, evalOr, toBool, answered, bindG, test, evalOther, replied, handed, fit, fitLiteral, fitComputed, bare, castFirst, callWith, fitArguments, zeroOf, store, assign, introduce, initialise, newType, turns, forOver, forInt, forLoop, rounds, typeIn, knownAfter, knownInit, withNew, callStatement, callOnly}
+use Rattle.runs.specs.Rule.{content, literalType, read, readAll, ValueOrStop, gives, halt, holds, fails, Typed, Calls, Content, IntContent, FloatContent, BoolContent, StringContent, NullContent, Rule, comes, pending, Answers, asked, Ending, passed, returns, halted}
+use Rattle.runs.specs.TreeRun.{Ran, held, treeRun, parametersKnown, parameterValues, set, runStatement, bindS, bindO, bindT, testO, giveBack, evalExpr, typed, typedO, scopeOf, evalBinary, evalAnd, evalOr, toBool, answered, bindG, test, evalOther, replied, handed, fit, fitLiteral, fitComputed, bare, castFirst, callWith, fitArguments, zeroOf, store, assign, introduce, initialise, newType, turns, forOver, forInt, forLoop, rounds, knownType, knownAfter, knownInit, withNew, callStatement, callOnly}
 use Rattle.runs.specs.BodyRun.{Vars, Spot, waits, lost, bodyRun, steps, step, fetch, execute, putTo, dropTo, putReply, dropReply, jumpTo, branchTo, finishWith, operand, datum, write, oneOn, labelPlace, isLabel}
 use Rattle.runs.specs.Shared.{callsT, endT, callsB, endB}
 use Rattle.runs.proofs.Opens.{bit}
@@ -35,7 +35,7 @@ number (BoolContent b) = bit b
 number (StringContent t) = 0
 number NullContent = 0
 
-unfoldable pub compute : BinaryOp → ℕ → ℕ → Answer ℕ
+unfoldable pub compute : BinaryOp → ℕ → ℕ → ValueOrStop ℕ
 unfolding pick
 compute Gt a b = gives (bit (ltb b a))
 compute Lt a b = gives (bit (ltb a b))
@@ -61,7 +61,7 @@ odd zero = false
 odd (suc zero) = true
 odd (suc (suc i)) = odd i
 
-unfoldable pub answer : List (Typed ℕ) → Answer ℕ
+unfoldable pub answer : List (Typed ℕ) → ValueOrStop ℕ
 unfolding pick odd
 answer [] = gives 2
 answer (a ∷ as') = pick (eqb (a .1) 4) halt (gives (pick (odd (a .1)) 5 0))
@@ -117,8 +117,8 @@ functions (ok F) = F
 functions (err k r) = []
 
 -- f with the body b, called with vs
-unfoldable pub treeOf : {W : Type 0} → Rule W → Answers W → Function → Block → List W → ℕ → Out W
-unfolding typeOf rate x y parameter outside inside ask bound take askRate int guardBody eitherBody loopBody spinBody takeX ratioBody pauseBody splitBody guard either loop spin ratio pause split program functions get-all-functions pick treeRun parametersKnown parameterValues set runStatement bindS bindO giveBack evalExpr typed scopeOf Tree.variables evalBinary evalAnd evalOr toBool answered bindG test evalOther replied handed fit fitLiteral fitComputed read readAll literalType content bare castFirst callWith fitArguments get-type common-type unwrapOr resolve-call parameterType testO bindT typedO zeroOf store assign introduce initialise newType turns forOver forInt forLoop rounds onInt onFloat isFloat typeIn knownAfter knownInit withNew callStatement callOnly asCall
+unfoldable pub treeOf : {W : Type 0} → Rule W → Answers W → Function → Block → List W → ℕ → Ran W
+unfolding typeOf rate x y parameter outside inside ask bound take askRate int guardBody eitherBody loopBody spinBody takeX ratioBody pauseBody splitBody guard either loop spin ratio pause split program functions get-all-functions pick treeRun parametersKnown parameterValues set runStatement bindS bindO giveBack evalExpr typed scopeOf Tree.variables evalBinary evalAnd evalOr toBool answered bindG test evalOther replied handed fit fitLiteral fitComputed read readAll literalType content bare castFirst callWith fitArguments get-type common-type unwrapOr resolve-call parameterType testO bindT typedO zeroOf store assign introduce initialise newType turns forOver forInt forLoop rounds onInt onFloat isFloat knownType knownAfter knownInit withNew callStatement callOnly asCall
 treeOf R A f b vs = treeRun program (functions (get-all-functions (program .functions) [])) f R A b vs
 
 -- f, the i-th function that is made, begun with the variables' contents ρ
@@ -127,7 +127,7 @@ unfolding typeOf rate x y parameter outside inside ask bound take askRate int gu
 madeOf R A i f ρ = bodyRun R A (bodyOf f (codeOf (converted (convert program false) .funcs) i) (converted (convert program false))) ρ
 
 -- the two sides of `ends` in the claim `Shared`, at the end e and the calls h: both hold
-pub record BothEnd {W : Type 0} (tree : ℕ → Out W) (body : ℕ → Spot W) (e : Ending W) (h : Calls W) : Type 0 where
+pub record BothEnd {W : Type 0} (tree : ℕ → Ran W) (body : ℕ → Spot W) (e : Ending W) (h : Calls W) : Type 0 where
   pub ofTree : (i : ℕ) × (endT (tree i) ≡ some e) × (callsT (tree i) ≡ h)
   pub ofBody : (i : ℕ) × (endB (body i) ≡ some e) × (callsB (body i) ≡ h)
 
@@ -137,7 +137,7 @@ unfolding pick
 begin r i = pick (eqb i 0) r 7
 
 -- the rule over numbers answers calls too
-unfoldable pub treeAt : Function → Block → List ℕ → ℕ → Out ℕ
+unfoldable pub treeAt : Function → Block → List ℕ → ℕ → Ran ℕ
 unfolding treeOf rule number compute answer odd asked
 treeAt = treeOf rule (asked rule)
 
@@ -160,7 +160,7 @@ pub guard-2 : BothEnd (treeAt guard guardBody (2 ∷ [])) (madeAt 2 guard (begin
 unfolding treeAt madeAt begin callsT endT callsB endB
 guard-2 = record { ofTree = (1, refl, refl); ofBody = (10, refl, refl) }
 
-pub guard-4 : BothEnd (treeAt guard guardBody (4 ∷ [])) (madeAt 2 guard (begin 4)) stopped ((50, (0, 4) ∷ []) ∷ [])
+pub guard-4 : BothEnd (treeAt guard guardBody (4 ∷ [])) (madeAt 2 guard (begin 4)) halted ((50, (0, 4) ∷ []) ∷ [])
 unfolding treeAt madeAt begin callsT endT callsB endB
 guard-4 = record { ofTree = (1, refl, refl); ofBody = (10, refl, refl) }
 
@@ -204,7 +204,7 @@ spin-lost = refl
 
 -- ---- a stop between two calls: the one before it was made, the one behind it is not
 
-pub pause-3 : BothEnd (treeAt pause pauseBody (3 ∷ [])) (madeAt 8 pause (begin 3)) stopped ((50, (0, 3) ∷ []) ∷ [])
+pub pause-3 : BothEnd (treeAt pause pauseBody (3 ∷ [])) (madeAt 8 pause (begin 3)) halted ((50, (0, 3) ∷ []) ∷ [])
 unfolding treeAt madeAt begin callsT endT callsB endB
 pause-3 = record { ofTree = (1, refl, refl); ofBody = (20, refl, refl) }
 

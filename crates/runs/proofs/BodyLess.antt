@@ -7,12 +7,12 @@ use Prim.Native.Nat.{ℕ, zero, suc, _+_, _-_, _≤_}
 use native.Mathlib.Nat.{zero-add, suc-add}
 use native.Mathlib.Omega.{arith}
 use lib.ListN.{getElem?}
+use Rattle.laws.proofs.Prefixes.{Prefix, prefix-refl, prefix-trans, prefix-append}
 use Rattle.conversion.specs.Ir.{VarId, Instr, Copy, Unary, Binary, Cast, Zero, Arg, Call, Label, Jump, JumpIfNot, Return, Comment}
-use Rattle.runs.specs.Rule.{Answer, gives, halt, Truth, holds, fails, halts, Typed, Calls, Rule, Reply, comes, pending, Answers, Ending}
+use Rattle.runs.specs.Rule.{ValueOrStop, gives, halt, Truth, holds, fails, halts, Typed, Calls, Rule, Reply, comes, pending, Answers, Ending}
 use Rattle.runs.specs.BodyRun.{Body, Vars, Spot, spot, over, waits, lost, putTo, dropTo, putReply, dropReply, jumpTo, branchTo, finishWith, operand, execute, fetch, step, steps, bodyRun}
 use Rattle.runs.specs.Shared.{callsB, endB}
-use Rattle.runs.proofs.Invert.{Prefix, prefix-refl, prefix-trans}
-use Rattle.runs.proofs.Less.{AsReply, Extends, prefix-append, prefix-under}
+use Rattle.runs.proofs.Less.{AsReply, Extends, prefix-under}
 
 -- an instruction of the body calls the function of this record
 pub record CallIn (B : Body) (g : ℕ) : Type 0 where
@@ -35,12 +35,12 @@ self-B (waits h) = prefix-refl
 
 -- ---- the calls behind a step
 
-put-calls : {W : Type 0} (u : Answer W) (d p : ℕ) (q : List (Typed W)) (ρ : Vars W) (h : Calls W) → callsB (putTo u d p q ρ h) ≡ h
+put-calls : {W : Type 0} (u : ValueOrStop W) (d p : ℕ) (q : List (Typed W)) (ρ : Vars W) (h : Calls W) → callsB (putTo u d p q ρ h) ≡ h
 unfolding putTo callsB
 put-calls (gives v) d p q ρ h = refl
 put-calls halt d p q ρ h = refl
 
-drop-calls : {W : Type 0} (u : Answer W) (p : ℕ) (q : List (Typed W)) (ρ : Vars W) (h : Calls W) → callsB (dropTo u p q ρ h) ≡ h
+drop-calls : {W : Type 0} (u : ValueOrStop W) (p : ℕ) (q : List (Typed W)) (ρ : Vars W) (h : Calls W) → callsB (dropTo u p q ρ h) ≡ h
 unfolding dropTo callsB
 drop-calls (gives v) p q ρ h = refl
 drop-calls halt p q ρ h = refl
@@ -66,7 +66,7 @@ branch-calls holds p o q ρ h = refl
 branch-calls fails p o q ρ h = jump-calls o q ρ h
 branch-calls halts p o q ρ h = refl
 
-finish-calls : {W : Type 0} (u : Answer W) (h : Calls W) → callsB (finishWith u h) ≡ h
+finish-calls : {W : Type 0} (u : ValueOrStop W) (h : Calls W) → callsB (finishWith u h) ≡ h
 unfolding finishWith callsB
 finish-calls (gives v) h = refl
 finish-calls halt h = refl

@@ -7,6 +7,7 @@ use mathlib.Core.Bool.{Bool}
 use Prim.Native.Nat.{ℕ, zero, suc, _+_, _≤_}
 use native.Mathlib.Omega.{arith}
 use lib.ListN.{length, length-append, getElem?}
+use Rattle.laws.proofs.Prefixes.{Prefix, prefix-refl, prefix-trans}
 use Rattle.syntax.specs.Syntax.{Block, Function, Program}
 use Rattle.conversion.specs.ConvertError as C
 use Rattle.conversion.specs.ConvertError.{ConvertErrorKind, Result, ok, err}
@@ -16,7 +17,6 @@ use Rattle.conversion.specs.Functions.{Pool, get-all-functions, check-main, con
 use Rattle.conversion.specs.Converter.{convertAll, convert}
 use Rattle.runs.proofs.Opens.{opensB, WellFormed}
 use Rattle.runs.proofs.Agrees.{Agrees, bodyOf}
-use Rattle.runs.proofs.Invert.{Prefix, prefix-refl, prefix-trans}
 use Rattle.runs.proofs.OneFunction.{one-function, body-grows}
 
 -- what a later pool has more

@@ -10,6 +10,7 @@ use native.Mathlib.Omega.{arith}
 use lib.Dec.{eqb}
 use lib.IntN.{ℤ, pos}
 use lib.ListN.{length, getD}
+use Rattle.laws.proofs.Prefixes.{prefix-refl, prefix-trans}
 use Rattle.syntax.specs.Syntax.{Text, Ty, TInt, TFloat, TBool, TChar, TByte, TAddress, TArray, TCustom, TNull, UnaryOp, BinaryOp, Or, And, BitOr, BitXor, BitAnd, Eq, NotEq, Lt, Le, Gt, Ge, Shl, Shr, Add, Sub, Mul, Div, Rem, Expr, EInt, EFloat, EStr, EBool, EName, ENull, ESizeOf, EUnary, EBinary, ECall, Args, noArgs, Value, ToType, Function, Program, place, boolType}
 use Rattle.laws.specs.Fix.{pick}
 use Rattle.conversion.specs.ConvertError as C
@@ -25,11 +26,11 @@ use Rattle.runs.specs.TreeRun as Tree
 use Rattle.runs.specs.BodyRun.{Vars, datum, isLabel, operand}
 use Rattle.runs.proofs.Opens.{bit, opensE, opensA, logicOpens}
 use Rattle.runs.proofs.Machine.{Code, at, count, count-append, goto, placed-drop, exec, step, dat, dats, argsOf, push}
-use Rattle.runs.proofs.Invert.{Grow, grow-refl, grow-trans, inv, inv-then, inv-pure, inv-emit, inv-lift, inv-last, inv-new, inv-label, joinE, joinS, AskedLabel, noFloat, inv-bits, prefix-getD, prefix-refl, prefix-trans, position-holds, found-in, nextVar, withVar, withVar-length, withVar-grow, ask-string, ask-float}
+use Rattle.runs.proofs.Invert.{Grow, grow-refl, grow-trans, inv, inv-then, inv-pure, inv-emit, inv-lift, inv-last, inv-new, inv-label, joinE, joinS, AskedLabel, noFloat, inv-bits, prefix-getD, position-holds, found-in, nextVar, withVar, withVar-length, withVar-grow, ask-string, ask-float}
 use Rattle.runs.proofs.Texts.{kinds-once, float-refl}
 use Rattle.runs.proofs.Names.{known, typing, resolving, commoning, scoped-mono, agree-frame}
 use Rattle.conversion.proofs.Steps.{castSteps-is, refloatSteps-is, fitSteps-is, argSteps-is, unarySteps-is, andSteps-is, orSteps-is, castFirstSteps-is, otherSteps-is, binarySteps-is, unaryExprSteps-is, floatSteps, stringSteps, callSteps-is, valueSteps-is, functionSteps-is, fits-is, callValue-is, castValue-is}
-use Rattle.runs.proofs.Sim.{Ctx, body, Low, Lows, low-mono, lows-mono, Within, within-back, num-same, num-of, nameOf, num-count, float-at, string-at, stay, go1, goes, go-label, holding, holdings, hold-frame, holds-frame, SimE, gets, sim-before, sim-after, sim-bind, sim-put, sim-reply, sim-test, Good, Sound, Sounds, good-as}
+use Rattle.runs.proofs.Sim.{Ctx, body, Low, Lows, low-mono, lows-mono, Within, within-back, num-same, num-of, nameOf, num-count, float-at, string-at, stay, go1, goes, go-label, holding, holdings, hold-frame, holds-frame, SimE, gets, sim-before, sim-after, sim-bind, sim-put, sim-reply, sim-test, GoodE, Sound, Sounds, good-as}
 
 none-emitted : (s : State) (u : Unit {0}) (c : Code) (t : State) → emitArgs [] s ≡ made u c t → (c ≡ []) × (t ≡ s)
 unfolding emitArgs
@@ -96,8 +97,8 @@ binary-bool P F r o a b sc y q g = go (get-type P F a sc) (get-type P F b sc) q
 
 module _ {W : Type 0} (X : Ctx W) where
   unary-made : {vs : List Variable} {z : ℕ → ℕ} {ev : Values W → Calls W → Got W (Datum W)} {s s1 : State} {a : Operand} {c : Code} (o : UnaryOp) (y : ℕ)
-      → Good X Low (holding X) vs z ev s a c s1
-      → Good X Low (holding X) vs z (λ σ h. bindG (ev σ h) λ u h1. answered y (X .rule .unary o y (read (X .rule) u)) h1)
+      → GoodE X Low (holding X) vs z ev s a c s1
+      → GoodE X Low (holding X) vs z (λ σ h. bindG (ev σ h) λ u h1. answered y (X .rule .unary o y (read (X .rule) u)) h1)
       s (OVar (nextVar y s1)) (c ++ (Unary (nextVar y s1) o a ∷ [])) (withVar y s1)
   unfolding nextVar count isLabel step exec operand dat
   unary-made {s = s} {s1 = s1} {c = c} o y G =
@@ -121,9 +122,9 @@ module _ {W : Type 0} (X : Ctx W) where
 
   -- And: the left side is copied and tested; the right one is reached where the test holds
   and-made : {vs : List Variable} {zl zr : ℕ → ℕ} {evl evr : Values W → Calls W → Got W (Datum W)} {s3 s4 s6 s8 t : State} {a b : Operand} {ca cb : Code} {m n : ℕ} (r : ℕ) (s : State)
-      → Grow (withVar boolType s) s3 → Good X Low (holding X) vs zl evl s3 a ca s4 → AskedLabel (logicEnd r) s4 m s6
-      → Good X Low (holding X) vs zr evr s6 b cb s8 → AskedLabel (logicEnd r) s8 n t
-      → Good X Low (holding X) vs (λ x. bit (eqb x r) + (zl x + zr x)) (λ σ h. evalAnd (X .prog) (X .funs) (X .fun) (X .rule) (X .answers) (evl σ) (evr σ) h)
+      → Grow (withVar boolType s) s3 → GoodE X Low (holding X) vs zl evl s3 a ca s4 → AskedLabel (logicEnd r) s4 m s6
+      → GoodE X Low (holding X) vs zr evr s6 b cb s8 → AskedLabel (logicEnd r) s8 n t
+      → GoodE X Low (holding X) vs (λ x. bit (eqb x r) + (zl x + zr x)) (λ σ h. evalAnd (X .prog) (X .funs) (X .fun) (X .rule) (X .answers) (evl σ) (evr σ) h)
       s (OVar (nextVar boolType s)) (ca ++ (Copy (nextVar boolType s) a ∷ JumpIfNot (OVar (nextVar boolType s)) m
       ∷ (cb ++ (Copy (nextVar boolType s) b ∷ Label n ∷ [])))) t
   unfolding nextVar count isLabel step exec operand dat evalAnd toBool
@@ -179,9 +180,9 @@ module _ {W : Type 0} (X : Ctx W) where
 
   -- Or: the right one is reached where the test fails
   or-made : {vs : List Variable} {zl zr : ℕ → ℕ} {evl evr : Values W → Calls W → Got W (Datum W)} {s3 s4 s6 s7 s9 s11 t : State} {a b : Operand} {ca cb : Code} {m n m1 n1 : ℕ} (r : ℕ) (s : State)
-      → Grow (withVar boolType s) s3 → Good X Low (holding X) vs zl evl s3 a ca s4 → AskedLabel (logicRhs r) s4 m s6 → AskedLabel (logicEnd r) s6 n s7 → AskedLabel (logicRhs r) s7 m1 s9
-      → Good X Low (holding X) vs zr evr s9 b cb s11 → AskedLabel (logicEnd r) s11 n1 t
-      → Good X Low (holding X) vs (λ x. bit (eqb x r) + (zl x + zr x)) (λ σ h. evalOr (X .prog) (X .funs) (X .fun) (X .rule) (X .answers) (evl σ) (evr σ) h)
+      → Grow (withVar boolType s) s3 → GoodE X Low (holding X) vs zl evl s3 a ca s4 → AskedLabel (logicRhs r) s4 m s6 → AskedLabel (logicEnd r) s6 n s7 → AskedLabel (logicRhs r) s7 m1 s9
+      → GoodE X Low (holding X) vs zr evr s9 b cb s11 → AskedLabel (logicEnd r) s11 n1 t
+      → GoodE X Low (holding X) vs (λ x. bit (eqb x r) + (zl x + zr x)) (λ σ h. evalOr (X .prog) (X .funs) (X .fun) (X .rule) (X .answers) (evl σ) (evr σ) h)
       s (OVar (nextVar boolType s)) (ca ++ (Copy (nextVar boolType s) a ∷ JumpIfNot (OVar (nextVar boolType s)) m ∷ Jump n ∷ Label m1
       ∷ (cb ++ (Copy (nextVar boolType s) b ∷ Label n1 ∷ [])))) t
   unfolding nextVar count isLabel step exec operand dat evalOr toBool
@@ -395,10 +396,10 @@ module _ {W : Type 0} (X : Ctx W) where
   -- ---- binaries other than And and Or
 
   other-made : {vs : List Variable} {zl zr : ℕ → ℕ} {evl evr : Values W → Calls W → Got W (Datum W)} {s s1 s2 s3 s4 : State} {a b a1 b1 : Operand} {ca cb fa fb : Code} (o : BinaryOp) (y p : ℕ)
-      → Good X Low (holding X) vs zl evl s a ca s1 → Good X Low (holding X) vs zr evr s1 b cb s2
+      → GoodE X Low (holding X) vs zl evl s a ca s1 → GoodE X Low (holding X) vs zr evr s1 b cb s2
       → Fitted (Low s2 a) Low (holding X) (λ ρ h. fit (X .prog) (X .rule) p (holding X ρ a) h) s2 a1 fa s3
       → Fitted (Low s3 b) Low (holding X) (λ ρ h. fit (X .prog) (X .rule) p (holding X ρ b) h) s3 b1 fb s4
-      → Good X Low (holding X) vs (λ x. zl x + zr x) (λ σ h. evalOther (X .prog) (X .funs) (X .fun) (X .rule) (X .answers) o y p (evl σ) (evr σ) h)
+      → GoodE X Low (holding X) vs (λ x. zl x + zr x) (λ σ h. evalOther (X .prog) (X .funs) (X .fun) (X .rule) (X .answers) o y p (evl σ) (evr σ) h)
       s (OVar (nextVar y s4)) (ca ++ (cb ++ (fa ++ (fb ++ (Binary (nextVar y s4) o a1 b1 ∷ []))))) (withVar y s4)
   unfolding nextVar count isLabel step exec operand dat evalOther
   other-made {s = s} {s1} {s2} {s3} {s4} {a} {b} {a1} {b1} {ca} {cb} {fa} {fb} o y p L M A B =
@@ -471,9 +472,9 @@ module _ {W : Type 0} (X : Ctx W) where
   -- ---- calls
 
   ask-made : {vs : List Variable} {z : ℕ → ℕ} {ev : Values W → Calls W → Got W (List (Datum W))} {s s1 t : State} {os us : List Operand} {ca fs : Code} (y : ℕ) (g : Function)
-      → Good X Lows (holdings X) vs z ev s os ca s1
+      → GoodE X Lows (holdings X) vs z ev s os ca s1
       → Fitted (Lows (withVar y s1) os) Lows (holdings X) (λ ρ h. fitArguments (X .prog) (X .rule) 0 (holdings X ρ os) g h) (withVar y s1) us fs t
-      → Good X Low (holding X) vs z (λ σ h. bindG (ev σ h) λ vs h1. callWith (X .prog) (X .funs) (X .fun) (X .rule) (X .answers) y (CallFunction g) vs h1)
+      → GoodE X Low (holding X) vs z (λ σ h. bindG (ev σ h) λ vs h1. callWith (X .prog) (X .funs) (X .fun) (X .rule) (X .answers) y (CallFunction g) vs h1)
       s (OVar (nextVar y s1)) (ca ++ (fs ++ (argsOf us ++ (Call (some (nextVar y s1)) (g .recOf) ∷ [])))) t
   unfolding nextVar count isLabel step exec callWith
   ask-made {s = s} {s1} {t} {os} {us} {ca} {fs} y g G H =
@@ -490,8 +491,8 @@ module _ {W : Type 0} (X : Ctx W) where
       }
 
   cast-made : {vs : List Variable} {z : ℕ → ℕ} {ev : Values W → Calls W → Got W (List (Datum W))} {s s1 : State} {o : Operand} {os : List Operand} {ca : Code} (y u : ℕ)
-      → Good X Lows (holdings X) vs z ev s (o ∷ os) ca s1
-      → Good X Low (holding X) vs z (λ σ h. bindG (ev σ h) λ vs h1. callWith (X .prog) (X .funs) (X .fun) (X .rule) (X .answers) y (CallCast u) vs h1)
+      → GoodE X Lows (holdings X) vs z ev s (o ∷ os) ca s1
+      → GoodE X Low (holding X) vs z (λ σ h. bindG (ev σ h) λ vs h1. callWith (X .prog) (X .funs) (X .fun) (X .rule) (X .answers) y (CallCast u) vs h1)
       s (OVar (nextVar y s1)) (ca ++ (Cast (nextVar y s1) o ∷ [])) (withVar y s1)
   unfolding nextVar count isLabel step exec operand dat dats callWith Tree.castFirst
   cast-made {s = s} {s1} {o} {os} {ca} y u G =
@@ -509,9 +510,9 @@ module _ {W : Type 0} (X : Ctx W) where
   no-cast r d s x c t q = let w : _≡_ {A = ℕ} 0 1 = cc in omega arith
 
   good-call : {vs : List Variable} {z : ℕ → ℕ} {ev : Values W → Calls W → Got W (List (Datum W))} {s s1 : State} {os : List Operand} {ca : Code} (r y : ℕ) (callee : Callee)
-      → Good X Lows (holdings X) vs z ev s os ca s1
+      → GoodE X Lows (holdings X) vs z ev s os ca s1
       → (x : Operand) (c : Code) (t : State) → callValue (X .prog) (X .funs) r (nextVar y s1) os callee (withVar y s1) ≡ made x c t
-      → Good X Low (holding X) vs z (λ σ h. bindG (ev σ h) λ vs h1. callWith (X .prog) (X .funs) (X .fun) (X .rule) (X .answers) y callee vs h1) s x (ca ++ c) t
+      → GoodE X Low (holding X) vs z (λ σ h. bindG (ev σ h) λ vs h1. callWith (X .prog) (X .funs) (X .fun) (X .rule) (X .answers) y callee vs h1) s x (ca ++ c) t
   good-call {s1 = s1} {os = os} {ca = ca} r y (CallFunction g) G x c t q =
       let i = inv-then (sym (callValue-is (X .prog) (X .funs) r (nextVar y s1) os g (withVar y s1)) ∙ q) in
       let k = called (X .prog) (X .funs) (some (nextVar y s1)) g os (withVar y s1) (i .got) (i .c1) (i .st) (i .first) in
@@ -528,14 +529,14 @@ module _ {W : Type 0} (X : Ctx W) where
   -- ---- leaves
 
   good-leaf : {vs : List Variable} {s : State} {x : Operand} {c : Code} {t : State} (o : Operand) (l : Literal) → Low s o → ((ρ : Vars W) → holding X ρ o ≡ constant l) → pure o s ≡ made x c t
-      → Good X Low (holding X) vs (λ n. 0) (λ σ h. value (constant l) h) s x c t
+      → GoodE X Low (holding X) vs (λ n. 0) (λ σ h. value (constant l) h) s x c t
   unfolding count
   good-leaf o l lo e q =
       let i = inv-pure q in
       good-as X (i .got) (i .code) (i .st) (record { grow = grow-refl; low = λ g. lo; once = λ w n. le-refl 0; sim = λ w g k ρ σ h ag pl. gets ρ (stay X) (λ x b. refl) (e ρ) })
 
   good-float : {vs : List Variable} (b : ℕ) (short : Bool) (s : State) (x : Operand) (c : Code) (t : State) → floatSteps b short s ≡ made x c t
-      → Good X Low (holding X) vs (λ n. 0) (λ σ h. value (constant (FloatLiteral b short)) h) s x c t
+      → GoodE X Low (holding X) vs (λ n. 0) (λ σ h. value (constant (FloatLiteral b short)) h) s x c t
   unfolding count dat datum
   good-float b short s x c t q =
       let i = inv q in
@@ -549,7 +550,7 @@ module _ {W : Type 0} (X : Ctx W) where
       })
 
   good-string : {vs : List Variable} (o n : ℕ) (u : Text) (s : State) (x : Operand) (c : Code) (t : State) → stringSteps o n u s ≡ made x c t
-      → Good X Low (holding X) vs (λ n. 0) (λ σ h. value (constant (StringLiteral u)) h) s x c t
+      → GoodE X Low (holding X) vs (λ n. 0) (λ σ h. value (constant (StringLiteral u)) h) s x c t
   unfolding count dat datum
   good-string o n u s x c t q =
       let i = inv q in
@@ -563,19 +564,19 @@ module _ {W : Type 0} (X : Ctx W) where
       })
 
   good-size : {vs : List Variable} (r : ℕ) (u : Option ℕ) (s : State) (x : Operand) (c : Code) (t : State) → sizeOperand r u s ≡ made x c t
-      → Good X Low (holding X) vs (λ n. 0) (λ σ h. sizeDatum u h) s x c t
+      → GoodE X Low (holding X) vs (λ n. 0) (λ σ h. sizeDatum u h) s x c t
   unfolding sizeOperand sizeDatum dat datum
   good-size r none s x c t q = let w : _≡_ {A = ℕ} 0 1 = cc in absurd (omega arith)
   good-size r (some n) s x c t q = good-leaf (OInt (pos n) false false) (IntLiteral (pos n) false false) tt (λ ρ. refl) q
 
   good-name : (sc : Scope) (r : ℕ) (n : Text) (s : State) (x : Operand) (c : Code) (t : State) → nameOperand r (findIn n (sc .variables)) s ≡ made x c t
-      → Good X Low (holding X) (sc .variables) (λ n. 0)
+      → GoodE X Low (holding X) (sc .variables) (λ n. 0)
       (λ σ h. typed (get-type (X .prog) (X .funs) (EName r n) (scopeOf (X .fun) (known (sc .variables)))) h λ y. value (computed y (σ n)) h) s x c t
   unfolding nameOperand count dat datum typed nameType get-type findIn
   good-name sc r n s x c t q = rw (typing (X .prog) (X .funs) (X .fun) sc (EName r n)) (go (findIn n (sc .variables)) refl q)
     where
       go : (o : Option Variable) → findIn n (sc .variables) ≡ o → nameOperand r o s ≡ made x c t
-          → Good X Low (holding X) (sc .variables) (λ n. 0) (λ σ h. typed (nameType r (findIn n (sc .variables))) h λ y. value (computed y (σ n)) h) s x c t
+          → GoodE X Low (holding X) (sc .variables) (λ n. 0) (λ σ h. typed (nameType r (findIn n (sc .variables))) h λ y. value (computed y (σ n)) h) s x c t
       go none e z = let w : _≡_ {A = ℕ} 0 1 = cc in absurd (omega arith)
       go (some v) e z =
           let i = inv-pure z in
@@ -587,13 +588,13 @@ module _ {W : Type 0} (X : Ctx W) where
           }))
 
   good-typed : {vs : List Variable} {z : ℕ → ℕ} {s : State} {x : Operand} {c : Code} {t : State} {Q : Type 0} (u : Result Q) (y : Q) (ev : Q → Values W → Calls W → Got W (Datum W))
-      → u ≡ ok y → Good X Low (holding X) vs z (ev y) s x c t → Good X Low (holding X) vs z (λ σ h. typed u h (λ a. ev a σ h)) s x c t
+      → u ≡ ok y → GoodE X Low (holding X) vs z (ev y) s x c t → GoodE X Low (holding X) vs z (λ σ h. typed u h (λ a. ev a σ h)) s x c t
   unfolding typed
   good-typed u y ev e g = rw e g
 
   more-made : {vs : List Variable} {z zs : ℕ → ℕ} {ev : Values W → Calls W → Got W (Datum W)} {evs : Values W → Calls W → Got W (List (Datum W))} {s s1 t : State} {a : Operand} {b : List Operand} {ca cb : Code}
-      → Good X Low (holding X) vs z ev s a ca s1 → Good X Lows (holdings X) vs zs evs s1 b cb t
-      → Good X Lows (holdings X) vs (λ x. z x + zs x) (λ σ h. bindG (ev σ h) λ u h1. bindG (evs σ h1) λ us h2. value (u ∷ us) h2) s (a ∷ b) (ca ++ cb) t
+      → GoodE X Low (holding X) vs z ev s a ca s1 → GoodE X Lows (holdings X) vs zs evs s1 b cb t
+      → GoodE X Lows (holdings X) vs (λ x. z x + zs x) (λ σ h. bindG (ev σ h) λ u h1. bindG (evs σ h1) λ us h2. value (u ∷ us) h2) s (a ∷ b) (ca ++ cb) t
   unfolding dats
   more-made {s = s} {s1} {t} {a} {b} {ca} {cb} G H = record {
     grow = grow-trans (G .grow) (H .grow);
@@ -605,7 +606,7 @@ module _ {W : Type 0} (X : Ctx W) where
         gets ρ2 (stay X) (λ x b1. refl) (ap (λ u. u ∷ holdings X ρ2 b) (hold-frame X s1 a ρ1 ρ2 (G .low g) f2));
   }
 
-  none-made : {vs : List Variable} (s : State) (x : List Operand) (c : Code) (t : State) → pure [] s ≡ made x c t → Good X Lows (holdings X) vs (λ n. 0) (λ σ h. value [] h) s x c t
+  none-made : {vs : List Variable} (s : State) (x : List Operand) (c : Code) (t : State) → pure [] s ≡ made x c t → GoodE X Lows (holdings X) vs (λ n. 0) (λ σ h. value [] h) s x c t
   unfolding dats count
   none-made s x c t q = let i = inv-pure q in
       good-as X (i .got) (i .code) (i .st) (record { grow = grow-refl; low = λ g. tt; once = λ w n. le-refl 0; sim = λ w g k ρ σ h ag pl. gets ρ (stay X) (λ x b. refl) refl })

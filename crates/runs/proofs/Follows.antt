@@ -1,11 +1,12 @@
 -- What a body shows with one who answers, it shows with one who answers more; who answers is asked about functions of the program alone.
 -- From the tree's run, whose calls only grow and whose end stays, by the claim in both directions.
-use mathlib.Core.Path.{_≡_, subst}
+use mathlib.Core.Path.{_≡_}
 use mathlib.Core.List.{List, []}
 use mathlib.Core.Option.{some}
 use Prim.Native.Nat.{ℕ}
 use native.Mathlib.Nat.{le-refl}
 use lib.ListN.{length, getElem?}
+use Rattle.laws.proofs.Prefixes.{prefix-get}
 use Rattle.syntax.specs.Syntax.{Block, Function, Program}
 use Rattle.conversion.specs.ConvertError.{ok}
 use Rattle.conversion.specs.Ir.{IrProgram}
@@ -14,13 +15,8 @@ use Rattle.conversion.specs.Functions.{get-all-functions}
 use Rattle.runs.specs.Rule.{Typed, Calls, Rule, Answers, Ending}
 use Rattle.runs.specs.BodyRun.{Vars, bodyRun}
 use Rattle.runs.specs.Shared.{callsB, endB, InPlace}
-use Rattle.runs.proofs.Invert.{Prefix}
-use Rattle.runs.proofs.Whole.{get-append}
 use Rattle.runs.proofs.Agrees.{bodyOf, Agrees}
 use Rattle.runs.proofs.Less.{Extends, FunctionOf, tree-calls-grow, tree-end-stays}
-
-prefix-get : {X : Type 0} {a b : List X} (k : ℕ) (q : X) → Prefix a b → getElem? a k ≡ some q → getElem? b k ≡ some q
-prefix-get {a = a} k q p e = subst (λ l. getElem? l k ≡ some q) (p .whole) (get-append a (p .more) k q e)
 
 module _ {W : Type 0} (P : Program) (F : Functions) (ir : IrProgram) (i : ℕ) (f : Function) (b : Block) (found : get-all-functions (P .functions) [] ≡ ok F)
     (agrees : Agrees W P F ir i f b) (R : Rule W) (A C : Answers W) (more : Extends (FunctionOf P) A C)

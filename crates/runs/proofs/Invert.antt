@@ -1,33 +1,21 @@
 -- From 'this converted' back to the conversions that it was made of, and that the tables only grow.
 -- By cases on what the first part came to.
 use mathlib.Core.Path.{_≡_, refl, sym, _∙_, ap}
-use mathlib.Core.List.{List, [], _∷_, _++_, append-assoc, append-nil}
+use mathlib.Core.List.{List, [], _∷_, _++_}
 use mathlib.Core.Option.{Option, none, some}
 use mathlib.Core.Bool.{Bool, true, false}
 use Prim.Native.Nat.{ℕ, suc, _≤_, _<_}
 use native.Mathlib.Nat.{le-refl}
 use native.Mathlib.Omega.{arith}
 use lib.ListN.{length, length-append, getD, List·getD-append}
+use Rattle.laws.proofs.Prefixes.{Prefix, prefix-refl, prefix-trans, prefix-append}
 use Rattle.conversion.specs.ConvertError.{Result, ok, err}
 use Rattle.conversion.specs.Ir.{VarId, Instr, LabelName, StringEntry, FloatEntry, State, Out, made, failed, M, after, bind, _>>=_, _>>_, pure, lift, emit, position, numbered, new-var, sameLabel, label-id, sameText, string-id, sameFloat, float-id, floatBits}
 
 -- ---- the tables grow at their ends
 
-pub record Prefix {X : Type 0} (a b : List X) : Type 0 where
-  pub more : List X
-  pub whole : a ++ more ≡ b
-
-pub prefix-refl : {X : Type 0} {a : List X} → Prefix a a
-prefix-refl = record { more = []; whole = append-nil _ }
-
-pub prefix-trans : {X : Type 0} {a b c : List X} → Prefix a b → Prefix b c → Prefix a c
-prefix-trans {a = a} p q = record { more = p .more ++ q .more; whole = sym (append-assoc a (p .more) (q .more)) ∙ (ap (λ x. x ++ q .more) (p .whole) ∙ q .whole) }
-
 pub prefix-end : {X : Type 0} {a : List X} (x : X) → Prefix a (a ++ (x ∷ []))
-prefix-end x = record { more = x ∷ []; whole = refl }
-
-pub prefix-length : {X : Type 0} {a b : List X} → Prefix a b → length a ≤ length b
-prefix-length {a = a} p = omega (arith, length-append a (p .more), ap length (p .whole))
+prefix-end x = prefix-append _ (x ∷ [])
 
 pub record Grow (s t : State) : Type 0 where
   pub vars : length (s .vars) ≤ length (t .vars)

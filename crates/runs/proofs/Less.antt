@@ -8,6 +8,7 @@ use Prim.Native.Nat.{ℕ, zero, suc, _≤_}
 use native.Mathlib.Omega.{arith}
 use lib.Dec.{eqb}
 use lib.IntN.{pos}
+use Rattle.laws.proofs.Prefixes.{Prefix, prefix-refl, prefix-trans, prefix-append}
 use Rattle.syntax.specs.Syntax.{Text, Ty, TInt, TFloat, TBool, TChar, TByte, TAddress, TArray, TCustom, TNull, BinaryOp, Or, And, BitOr, BitXor, BitAnd, Eq, NotEq, Lt, Le, Gt, Ge, Shl, Shr, Add, Sub, Mul, Div, Rem, Expr, EInt, EFloat, EStr, EBool, EName, ENull, ESizeOf, EUnary, EBinary, ECall, Args, noArgs, Value, ToType, Statement, SDeclare, SInit, SReturn, SCall, SIf, SIfElse, SWhile, SFor, SBreak, SContinue, Block, done, next, Function, Program}
 use Rattle.conversion.specs.ConvertError.{Result, ok, err}
 use Rattle.conversion.specs.Types.{onInt, isFloat, size}
@@ -15,10 +16,9 @@ use Rattle.conversion.specs.Expressions.{Callee, CallFunction, CallCast, Functi
 use Rattle.conversion.specs.Functions.{get-all-functions}
 use Rattle.conversion.specs.Statements.{parameterType, asCall}
 use Rattle.conversion.proofs.Called.{Among, called-among}
-use Rattle.runs.specs.Rule.{Answer, gives, halt, Truth, holds, fails, halts, Typed, Calls, Rule, Reply, comes, pending, Answers, Literal, IntLiteral, Datum, constant, computed, read, readAll, Ending}
-use Rattle.runs.specs.TreeRun.{Known, Values, set, typeIn, scopeOf, Got, value, stop, wait, Out, normal, broke, continued, returned, stopped, held, unfinished, bindG, bindO, bindS, bindT, answered, bare, replied, handed, test, testO, typed, typedO, sizeDatum, fitComputed, fit, fitArguments, toBool, evalAnd, evalOr, evalOther, evalBinary, castFirst, callWith, evalExpr, evalArgs, store, assign, newType, introduce, initialise, giveBack, callOnly, callStatement, turns, rounds, forLoop, forInt, forOver, withNew, knownInit, knownAfter, runStatement, runBlock, treeRun}
+use Rattle.runs.specs.Rule.{ValueOrStop, gives, halt, Truth, holds, fails, halts, Typed, Calls, Rule, Reply, comes, pending, Answers, Literal, IntLiteral, Datum, constant, computed, read, readAll, Ending}
+use Rattle.runs.specs.TreeRun.{KnownName, Values, set, knownType, scopeOf, Got, value, stop, wait, Ran, normal, broke, continued, returned, stopped, held, unfinished, bindG, bindO, bindS, bindT, answered, bare, replied, handed, test, testO, typed, typedO, sizeDatum, fitComputed, fit, fitArguments, toBool, evalAnd, evalOr, evalOther, evalBinary, castFirst, callWith, evalExpr, evalArgs, store, assign, newType, introduce, initialise, giveBack, callOnly, callStatement, turns, rounds, forLoop, forInt, forOver, withNew, knownInit, knownAfter, runStatement, runBlock, treeRun}
 use Rattle.runs.specs.Shared.{callsT, endT}
-use Rattle.runs.proofs.Invert.{Prefix, prefix-refl, prefix-trans}
 
 -- ---- one who answers more: the same reply with the same calls where there is one, and where it is pending the calls only go on
 
@@ -49,7 +49,7 @@ BelowG (value a h) s = s ≡ value a h
 BelowG (stop h) s = s ≡ stop h
 BelowG (wait h) s = Prefix h (callsG s)
 
-abbrev pub BelowO : {W : Type 0} → Out W → Out W → Type 0
+abbrev pub BelowO : {W : Type 0} → Ran W → Ran W → Type 0
 BelowO (normal σ h) s = s ≡ normal σ h
 BelowO (broke σ h) s = s ≡ broke σ h
 BelowO (continued σ h) s = s ≡ continued σ h
@@ -62,7 +62,7 @@ pub record LessG {W X : Type 0} (h : Calls W) (r s : Got W X) : Type 0 where
   pub grows : Prefix h (callsG s)
   pub below : BelowG r s
 
-pub record LessO {W : Type 0} (h : Calls W) (r s : Out W) : Type 0 where
+pub record LessO {W : Type 0} (h : Calls W) (r s : Ran W) : Type 0 where
   pub grows : Prefix h (callsT s)
   pub below : BelowO r s
 
@@ -72,7 +72,7 @@ self-G (value a h) = refl
 self-G (stop h) = refl
 self-G (wait h) = prefix-refl
 
-self-O : {W : Type 0} (s : Out W) → BelowO s s
+self-O : {W : Type 0} (s : Ran W) → BelowO s s
 unfolding callsT
 self-O (normal σ h) = refl
 self-O (broke σ h) = refl
@@ -85,7 +85,7 @@ self-O (unfinished h) = prefix-refl
 later-G : {W X : Type 0} {h : Calls W} {r s : Got W X} → LessG h r s → LessG h s s
 later-G {s = s} l = record { grows = l .grows; below = self-G s }
 
-later-O : {W : Type 0} {h : Calls W} {r s : Out W} → LessO h r s → LessO h s s
+later-O : {W : Type 0} {h : Calls W} {r s : Ran W} → LessO h r s → LessO h s s
 later-O {s = s} l = record { grows = l .grows; below = self-O s }
 
 -- ---- parts that ask nobody
@@ -106,20 +106,17 @@ o-stopped : {W : Type 0} {h : Calls W} → LessO h (stopped h) (stopped h)
 unfolding callsT
 o-stopped = record { grows = prefix-refl; below = refl }
 
-g-answered : {W : Type 0} (y : ℕ) (u : Answer W) (h : Calls W) → LessG h (answered y u h) (answered y u h)
+g-answered : {W : Type 0} (y : ℕ) (u : ValueOrStop W) (h : Calls W) → LessG h (answered y u h) (answered y u h)
 unfolding answered
 g-answered y (gives v) h = g-value (computed y v)
 g-answered y halt h = g-stop
 
-g-bare : {W : Type 0} (u : Answer W) (h : Calls W) → LessG h (bare u h) (bare u h)
+g-bare : {W : Type 0} (u : ValueOrStop W) (h : Calls W) → LessG h (bare u h) (bare u h)
 unfolding bare
 g-bare (gives v) h = g-value v
 g-bare halt h = g-stop
 
 -- ---- a reply
-
-pub prefix-append : {X : Type 0} (a b : List X) → Prefix a (a ++ b)
-prefix-append a b = record { more = b; whole = refl }
 
 pub prefix-under : {X : Type 0} (a b c : List X) → Prefix b c → Prefix (a ++ b) (a ++ c)
 prefix-under a b c p = record { more = p .more; whole = append-assoc a b (p .more) ∙ ap (λ z. a ++ z) (p .whole) }
@@ -173,7 +170,7 @@ module _ {W X Y : Type 0} (f g : X → Calls W → Got W Y) (next : (a : X) (h :
   pub g-bind : {h : Calls W} {r s : Got W X} → LessG h r s → LessG h (bindG r f) (bindG s g)
   g-bind {h} {r} {s} l = record { grows = after-G h s (l .grows); below = below-bindG r s (l .below) }
 
-module _ {W X : Type 0} (f g : X → Calls W → Out W) (next : (a : X) (h : Calls W) → LessO h (f a h) (g a h)) where
+module _ {W X : Type 0} (f g : X → Calls W → Ran W) (next : (a : X) (h : Calls W) → LessO h (f a h) (g a h)) where
   after-O : (h : Calls W) (s : Got W X) → Prefix h (callsG s) → Prefix h (callsT (bindO s g))
   unfolding bindO callsG callsT
   after-O h (value a h1) p = prefix-trans p (next a h1 .grows)
@@ -189,8 +186,8 @@ module _ {W X : Type 0} (f g : X → Calls W → Out W) (next : (a : X) (h : Cal
   pub o-bind : {h : Calls W} {r s : Got W X} → LessG h r s → LessO h (bindO r f) (bindO s g)
   o-bind {h} {r} {s} l = record { grows = after-O h s (l .grows); below = below-bindO r s (l .below) }
 
-module _ {W : Type 0} (f g : Values W → Calls W → Out W) (next : (σ : Values W) (h : Calls W) → LessO h (f σ h) (g σ h)) where
-  after-S : (h : Calls W) (s : Out W) → Prefix h (callsT s) → Prefix h (callsT (bindS s g))
+module _ {W : Type 0} (f g : Values W → Calls W → Ran W) (next : (σ : Values W) (h : Calls W) → LessO h (f σ h) (g σ h)) where
+  after-S : (h : Calls W) (s : Ran W) → Prefix h (callsT s) → Prefix h (callsT (bindS s g))
   unfolding bindS callsT
   after-S h (normal σ h1) p = prefix-trans p (next σ h1 .grows)
   after-S h (broke σ h1) p = p
@@ -200,7 +197,7 @@ module _ {W : Type 0} (f g : Values W → Calls W → Out W) (next : (σ : Value
   after-S h (held h1) p = p
   after-S h (unfinished h1) p = p
 
-  below-bindS : (r s : Out W) → BelowO r s → BelowO (bindS r f) (bindS s g)
+  below-bindS : (r s : Ran W) → BelowO r s → BelowO (bindS r f) (bindS s g)
   unfolding bindS
   below-bindS (normal σ h) s e = rw e (next σ h .below)
   below-bindS (broke σ h) s e = rw e refl
@@ -210,10 +207,10 @@ module _ {W : Type 0} (f g : Values W → Calls W → Out W) (next : (σ : Value
   below-bindS (held h) s e = after-S h s e
   below-bindS (unfinished h) s e = after-S h s e
 
-  pub s-bind : {h : Calls W} {r s : Out W} → LessO h r s → LessO h (bindS r f) (bindS s g)
+  pub s-bind : {h : Calls W} {r s : Ran W} → LessO h r s → LessO h (bindS r f) (bindS s g)
   s-bind {h} {r} {s} l = record { grows = after-S h s (l .grows); below = below-bindS r s (l .below) }
 
-  after-T : (h : Calls W) (s : Out W) → Prefix h (callsT s) → Prefix h (callsT (bindT s g))
+  after-T : (h : Calls W) (s : Ran W) → Prefix h (callsT s) → Prefix h (callsT (bindT s g))
   unfolding bindT callsT
   after-T h (normal σ h1) p = prefix-trans p (next σ h1 .grows)
   after-T h (broke σ h1) p = p
@@ -223,7 +220,7 @@ module _ {W : Type 0} (f g : Values W → Calls W → Out W) (next : (σ : Value
   after-T h (held h1) p = p
   after-T h (unfinished h1) p = p
 
-  below-bindT : (r s : Out W) → BelowO r s → BelowO (bindT r f) (bindT s g)
+  below-bindT : (r s : Ran W) → BelowO r s → BelowO (bindT r f) (bindT s g)
   unfolding bindT
   below-bindT (normal σ h) s e = rw e (next σ h .below)
   below-bindT (broke σ h) s e = rw e refl
@@ -233,7 +230,7 @@ module _ {W : Type 0} (f g : Values W → Calls W → Out W) (next : (σ : Value
   below-bindT (held h) s e = after-T h s e
   below-bindT (unfinished h) s e = after-T h s e
 
-  pub t-bind : {h : Calls W} {r s : Out W} → LessO h r s → LessO h (bindT r f) (bindT s g)
+  pub t-bind : {h : Calls W} {r s : Ran W} → LessO h r s → LessO h (bindT r f) (bindT s g)
   t-bind {h} {r} {s} l = record { grows = after-T h s (l .grows); below = below-bindT r s (l .below) }
 
 g-test : {W X : Type 0} (u : Truth) {h : Calls W} {a b c d : Got W X} → LessG h a c → LessG h b d → LessG h (test u h a b) (test u h c d)
@@ -242,7 +239,7 @@ g-test holds x y = x
 g-test fails x y = y
 g-test halts x y = g-stop
 
-o-test : {W : Type 0} (u : Truth) {h : Calls W} {a b c d : Out W} → LessO h a c → LessO h b d → LessO h (testO u h a b) (testO u h c d)
+o-test : {W : Type 0} (u : Truth) {h : Calls W} {a b c d : Ran W} → LessO h a c → LessO h b d → LessO h (testO u h a b) (testO u h c d)
 unfolding testO
 o-test holds x y = x
 o-test fails x y = y
@@ -253,7 +250,7 @@ unfolding typed
 g-typed (ok a) l = l a refl
 g-typed (err k r) l = g-stop
 
-o-typed : {W Y : Type 0} (u : Result Y) {h : Calls W} {f g : Y → Out W} → ((a : Y) → u ≡ ok a → LessO h (f a) (g a)) → LessO h (typedO u h f) (typedO u h g)
+o-typed : {W Y : Type 0} (u : Result Y) {h : Calls W} {f g : Y → Ran W} → ((a : Y) → u ≡ ok a → LessO h (f a) (g a)) → LessO h (typedO u h f) (typedO u h g)
 unfolding typedO
 o-typed (ok a) l = l a refl
 o-typed (err k r) l = o-stopped
@@ -328,7 +325,7 @@ module _ {W : Type 0} (P : Program) (F : Functions) (f : Function) (R : Rule W) 
   cast-less y (u ∷ us) h = g-answered y _ h
 
   -- the callee is a function of the program
-  callee : (verb : Text) (l : Args) (N : List Known) (r : ℕ) (g : Function) → resolve-call P F verb l (scopeOf f N) r ≡ ok (CallFunction g) → FunctionOf P (g .recOf)
+  callee : (verb : Text) (l : Args) (N : List KnownName) (r : ℕ) (g : Function) → resolve-call P F verb l (scopeOf f N) r ≡ ok (CallFunction g) → FunctionOf P (g .recOf)
   callee verb l N r g e = record { func = g; among = called-among P F verb l (scopeOf f N) r g found e; same = refl }
 
   call-less : (y : ℕ) (c : Callee) (us : List (Datum W)) (h : Calls W) → ((g : Function) → c ≡ CallFunction g → FunctionOf P (g .recOf))
@@ -345,7 +342,7 @@ module _ {W : Type 0} (P : Program) (F : Functions) (f : Function) (R : Rule W) 
   mutual
     unfolding evalExpr
 
-    pub expr-less : (e : Expr) (N : List Known) (σ : Values W) (h : Calls W) → LessG h (evalExpr P F f R A e N σ h) (evalExpr P F f R B e N σ h)
+    pub expr-less : (e : Expr) (N : List KnownName) (σ : Values W) (h : Calls W) → LessG h (evalExpr P F f R A e N σ h) (evalExpr P F f R B e N σ h)
     expr-less (EInt r v a b) N σ h = g-value _
     expr-less (EFloat r b a) N σ h = g-value _
     expr-less (EStr r o n t) N σ h = g-value _
@@ -359,40 +356,40 @@ module _ {W : Type 0} (P : Program) (F : Functions) (f : Function) (R : Rule W) 
     expr-less (ECall r verb l) N σ h = g-typed (get-type P F (ECall r verb l) (scopeOf f N)) λ y e. g-typed (resolve-call P F verb l (scopeOf f N) r) λ c e1.
         g-bind _ _ (λ us h1. call-less y c us h1 (λ g e2. callee verb l N r g (e1 ∙ ap ok e2))) (args-less l N σ h)
 
-    pub args-less : (l : Args) (N : List Known) (σ : Values W) (h : Calls W) → LessG h (evalArgs P F f R A l N σ h) (evalArgs P F f R B l N σ h)
+    pub args-less : (l : Args) (N : List KnownName) (σ : Values W) (h : Calls W) → LessG h (evalArgs P F f R A l N σ h) (evalArgs P F f R B l N σ h)
     args-less noArgs N σ h = g-value []
     args-less (Value r e l) N σ h = g-bind _ _ (λ u h1. g-bind _ _ (λ us h2. g-value (u ∷ us)) (args-less l N σ h1)) (expr-less e N σ h)
     args-less (ToType r y l) N σ h = args-less l N σ h
 
   -- ---- statements
 
-  store-less : (n : Text) (u : Answer W) (σ : Values W) (h : Calls W) → LessO h (store P F f R A n u σ h) (store P F f R B n u σ h)
+  store-less : (n : Text) (u : ValueOrStop W) (σ : Values W) (h : Calls W) → LessO h (store P F f R A n u σ h) (store P F f R B n u σ h)
   unfolding store
   store-less n u σ h = o-bind _ _ (λ v h1. o-normal (set σ n v)) (g-bare u h)
 
-  introduce-less : (n : Text) (e : Expr) (N : List Known) (σ : Values W) (h : Calls W) → LessO h (introduce P F f R A n e N σ h) (introduce P F f R B n e N σ h)
+  introduce-less : (n : Text) (e : Expr) (N : List KnownName) (σ : Values W) (h : Calls W) → LessO h (introduce P F f R A n e N σ h) (introduce P F f R B n e N σ h)
   unfolding introduce newType
   introduce-less n e N σ h = o-typed (get-type P F e (scopeOf f N)) λ y e1. o-bind _ _ (λ u h1. store-less n _ σ h1) (expr-less e N σ h)
 
-  init-less : (b : Bool) (o : Option ℕ) (n : Text) (e : Expr) (N : List Known) (σ : Values W) (h : Calls W) → LessO h (initialise P F f R A b o n e N σ h) (initialise P F f R B b o n e N σ h)
+  init-less : (b : Bool) (o : Option ℕ) (n : Text) (e : Expr) (N : List KnownName) (σ : Values W) (h : Calls W) → LessO h (initialise P F f R A b o n e N σ h) (initialise P F f R B b o n e N σ h)
   unfolding initialise assign
   init-less false (some y) n e N σ h = o-bind _ _ (λ u h1. o-bind _ _ (λ u1 h2. store-less n _ σ h2) (fit-less P R y u h1)) (expr-less e N σ h)
   init-less false none n e N σ h = introduce-less n e N σ h
   init-less true o n e N σ h = introduce-less n e N σ h
 
-  return-less : (o : Option ℕ) (e : Expr) (N : List Known) (σ : Values W) (h : Calls W) → LessO h (giveBack P F f R A o e N σ h) (giveBack P F f R B o e N σ h)
+  return-less : (o : Option ℕ) (e : Expr) (N : List KnownName) (σ : Values W) (h : Calls W) → LessO h (giveBack P F f R A o e N σ h) (giveBack P F f R B o e N σ h)
   unfolding giveBack callsT
   return-less none e N σ h = o-stopped
   return-less (some y) e N σ h = o-bind _ _ (λ u h1. o-bind _ _ (λ u1 h2. o-bind _ _ (λ v h3. record { grows = prefix-refl; below = refl }) (g-bare _ h2)) (fit-less P R y u h1)) (expr-less e N σ h)
 
-  only-less : (c : Callee) (l : Args) (N : List Known) (σ : Values W) (h : Calls W) → ((g : Function) → c ≡ CallFunction g → FunctionOf P (g .recOf))
+  only-less : (c : Callee) (l : Args) (N : List KnownName) (σ : Values W) (h : Calls W) → ((g : Function) → c ≡ CallFunction g → FunctionOf P (g .recOf))
       → LessO h (callOnly P F f R A c l N σ h) (callOnly P F f R B c l N σ h)
   unfolding callOnly
   only-less (CallCast t) l N σ h q = o-stopped
   only-less (CallFunction g) l N σ h q = o-bind _ _ (λ us h1. o-bind _ _ (λ ws h2.
       o-bind _ _ (λ v h3. o-normal σ) (g-handed _ _ _ _ h2 (more h2 (g .recOf) none (readAll R ws) (q g refl)))) (fits-less P R 0 us g h1)) (args-less l N σ h)
 
-  statement-call : (e : Expr) (N : List Known) (σ : Values W) (h : Calls W) → LessO h (callStatement P F f R A e N σ h) (callStatement P F f R B e N σ h)
+  statement-call : (e : Expr) (N : List KnownName) (σ : Values W) (h : Calls W) → LessO h (callStatement P F f R A e N σ h) (callStatement P F f R B e N σ h)
   unfolding callStatement asCall
   statement-call (ECall r verb l) N σ h = o-typed (resolve-call P F verb l (scopeOf f N) r) λ c e1. only-less c l N σ h (λ g e2. callee verb l N r g (e1 ∙ ap ok e2))
   statement-call (EInt r v a b) N σ h = o-normal σ
@@ -407,7 +404,7 @@ module _ {W : Type 0} (P : Program) (F : Functions) (f : Function) (R : Rule W) 
 
   -- ---- loops: n turns, and m or more
 
-  module _ (c c1 : Values W → Calls W → Got W (Datum W)) (b b1 : Values W → Calls W → Out W)
+  module _ (c c1 : Values W → Calls W → Got W (Datum W)) (b b1 : Values W → Calls W → Ran W)
       (Hc : (σ : Values W) (h : Calls W) → LessG h (c σ h) (c1 σ h)) (Hb : (σ : Values W) (h : Calls W) → LessO h (b σ h) (b1 σ h)) where
     turns-self : (m : ℕ) (σ : Values W) (h : Calls W) → LessO h (turns P F f R B m c1 b1 σ h) (turns P F f R B m c1 b1 σ h)
     unfolding turns callsT
@@ -436,13 +433,13 @@ module _ {W : Type 0} (P : Program) (F : Functions) (f : Function) (R : Rule W) 
           (t-bind _ _ (λ σ2 h4. o-bind _ _ (λ v h5. rounds-less n m (omega arith) (set σ2 x v) h5) (g-bare _ h4)) (Hb σ h3)) (o-normal σ)) (g-bare _ h2)) (fit-less P R y d h1)) (Hc σ h)
 
   module _ (n m : ℕ) (i : n ≤ m) where
-    for-less : (x : Text) (y : ℕ) (one : Literal) (from until : Expr) (N : List Known) (b b1 : Values W → Calls W → Out W) → ((σ : Values W) (h : Calls W) → LessO h (b σ h) (b1 σ h))
+    for-less : (x : Text) (y : ℕ) (one : Literal) (from until : Expr) (N : List KnownName) (b b1 : Values W → Calls W → Ran W) → ((σ : Values W) (h : Calls W) → LessO h (b σ h) (b1 σ h))
         → (σ : Values W) (h : Calls W) → LessO h (forLoop P F f R A n x y one from until N b σ h) (forLoop P F f R B m x y one from until N b1 σ h)
     unfolding forLoop
     for-less x y one from until N b b1 Hb σ h = o-bind _ _ (λ d h1. o-bind _ _ (λ d1 h2. o-bind _ _ (λ v h3.
         rounds-less _ _ b b1 (λ σ1 h4. expr-less until N σ1 h4) Hb x y one n m i (set σ x v) h3) (g-bare _ h2)) (fit-less P R y d h1)) (expr-less from N σ h)
 
-    int-less : (t : Ty) (x : Text) (y : ℕ) (from until : Expr) (N : List Known) (b b1 : Values W → Calls W → Out W) → ((σ : Values W) (h : Calls W) → LessO h (b σ h) (b1 σ h))
+    int-less : (t : Ty) (x : Text) (y : ℕ) (from until : Expr) (N : List KnownName) (b b1 : Values W → Calls W → Ran W) → ((σ : Values W) (h : Calls W) → LessO h (b σ h) (b1 σ h))
         → (σ : Values W) (h : Calls W) → LessO h (onInt t (stopped h) λ short unsigned. forLoop P F f R A n x y (IntLiteral (pos 1) short unsigned) from until N b σ h)
         (onInt t (stopped h) λ short unsigned. forLoop P F f R B m x y (IntLiteral (pos 1) short unsigned) from until N b1 σ h)
     unfolding onInt
@@ -456,8 +453,8 @@ module _ {W : Type 0} (P : Program) (F : Functions) (f : Function) (R : Rule W) 
     int-less (TCustom d) x y from until N b b1 Hb σ h = o-stopped
     int-less TNull x y from until N b b1 Hb σ h = o-stopped
 
-    over-less : (x : Text) (o u : Option ℕ) (from until : Expr) (N : List Known) (b b1 : List Known → Values W → Calls W → Out W)
-        → ((M : List Known) (σ : Values W) (h : Calls W) → LessO h (b M σ h) (b1 M σ h))
+    over-less : (x : Text) (o u : Option ℕ) (from until : Expr) (N : List KnownName) (b b1 : List KnownName → Values W → Calls W → Ran W)
+        → ((M : List KnownName) (σ : Values W) (h : Calls W) → LessO h (b M σ h) (b1 M σ h))
         → (σ : Values W) (h : Calls W) → LessO h (forOver P F f R A n x o u from until N b σ h) (forOver P F f R B m x o u from until N b1 σ h)
     unfolding forOver forInt
     over-less x (some y) u from until N b b1 Hb σ h = int-less (P .typeOf y) x y from until N _ _ (Hb (record { name = x; ty = y } ∷ N)) σ h
@@ -465,7 +462,7 @@ module _ {W : Type 0} (P : Program) (F : Functions) (f : Function) (R : Rule W) 
     over-less x none none from until N b b1 Hb σ h = o-stopped
 
     -- the names that are known do not depend on who answers
-    known-same : (t : Statement) (N : List Known) → knownAfter P F f R B t N ≡ knownAfter P F f R A t N
+    known-same : (t : Statement) (N : List KnownName) → knownAfter P F f R B t N ≡ knownAfter P F f R A t N
     unfolding knownAfter knownInit withNew newType
     known-same (SDeclare r x y) N = refl
     known-same (SInit r c x e) N = refl
@@ -481,25 +478,25 @@ module _ {W : Type 0} (P : Program) (F : Functions) (f : Function) (R : Rule W) 
     mutual
       unfolding runStatement callsT
 
-      pub statement-less : (t : Statement) (N : List Known) (σ : Values W) (h : Calls W) → LessO h (runStatement P F f R A t n N σ h) (runStatement P F f R B t m N σ h)
+      pub statement-less : (t : Statement) (N : List KnownName) (σ : Values W) (h : Calls W) → LessO h (runStatement P F f R A t n N σ h) (runStatement P F f R B t m N σ h)
       statement-less (SDeclare r x y) N σ h = store-less x _ σ h
-      statement-less (SInit r c x e) N σ h = init-less c (typeIn x N) x e N σ h
+      statement-less (SInit r c x e) N σ h = init-less c (knownType x N) x e N σ h
       statement-less (SReturn r e) N σ h = return-less (f .returnType) e N σ h
       statement-less (SCall r e) N σ h = statement-call e N σ h
       statement-less (SIf r e a) N σ h = o-bind _ _ (λ v h1. o-test (R .truth (read R v)) (block-less a N σ h1) (o-normal σ)) (expr-less e N σ h)
       statement-less (SIfElse r e a b) N σ h = o-bind _ _ (λ v h1. o-test (R .truth (read R v)) (block-less a N σ h1) (block-less b N σ h1)) (expr-less e N σ h)
       statement-less (SWhile r e a) N σ h = turns-less _ _ _ _ (λ σ1 h1. expr-less e N σ1 h1) (λ σ1 h1. block-less a N σ1 h1) n m i σ h
-      statement-less (SFor r x y from until a) N σ h = over-less x y (typeIn x N) from until N _ _ (λ M σ1 h1. block-less a M σ1 h1) σ h
+      statement-less (SFor r x y from until a) N σ h = over-less x y (knownType x N) from until N _ _ (λ M σ1 h1. block-less a M σ1 h1) σ h
       statement-less (SBreak r) N σ h = record { grows = prefix-refl; below = refl }
       statement-less (SContinue r) N σ h = record { grows = prefix-refl; below = refl }
 
-      pub block-less : (b : Block) (N : List Known) (σ : Values W) (h : Calls W) → LessO h (runBlock P F f R A b n N σ h) (runBlock P F f R B b m N σ h)
+      pub block-less : (b : Block) (N : List KnownName) (σ : Values W) (h : Calls W) → LessO h (runBlock P F f R A b n N σ h) (runBlock P F f R B b m N σ h)
       block-less done N σ h = o-normal σ
       block-less (next t b) N σ h = rw (known-same t N) (s-bind _ _ (λ σ1 h1. block-less b (knownAfter P F f R A t N) σ1 h1) (statement-less t N σ h))
 
 -- ---- whole runs
 
-below-calls : {W : Type 0} (r s : Out W) → BelowO r s → Prefix (callsT r) (callsT s)
+below-calls : {W : Type 0} (r s : Ran W) → BelowO r s → Prefix (callsT r) (callsT s)
 unfolding callsT
 below-calls (normal σ h) s e = rw e prefix-refl
 below-calls (broke σ h) s e = rw e prefix-refl
@@ -509,7 +506,7 @@ below-calls (stopped h) s e = rw e prefix-refl
 below-calls (held h) s e = e
 below-calls (unfinished h) s e = e
 
-below-end : {W : Type 0} (r s : Out W) (x : Ending W) → endT r ≡ some x → BelowO r s → s ≡ r
+below-end : {W : Type 0} (r s : Ran W) (x : Ending W) → endT r ≡ some x → BelowO r s → s ≡ r
 unfolding endT
 below-end (normal σ h) s x q e = e
 below-end (broke σ h) s x q e = e

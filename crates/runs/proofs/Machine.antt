@@ -11,7 +11,7 @@ use native.Mathlib.Omega.{arith}
 use lib.Dec.{eqb, T, eqb→eq, eqb-refl}
 use Rattle.laws.specs.Fix.{pick}
 use Rattle.conversion.specs.Ir.{Operand, Instr, Copy, Unary, Binary, Cast, Zero, Arg, Call, Label, Jump, JumpIfNot, Return, Comment}
-use Rattle.runs.specs.Rule.{Answer, gives, halt, Truth, holds, fails, halts, Typed, Calls, Rule, Reply, comes, pending, Answers, Datum, read, readAll, Ending, passed, returns, stopped}
+use Rattle.runs.specs.Rule.{ValueOrStop, gives, halt, Truth, holds, fails, halts, Typed, Calls, Rule, Reply, comes, pending, Answers, Datum, read, readAll, Ending, passed, returns, halted}
 use Rattle.runs.specs.BodyRun.{Body, Vars, write, datum, isLabel, operand}
 use Rattle.runs.proofs.Opens.{bit}
 
@@ -142,13 +142,13 @@ placed C h = placed-from C [] C refl h
 
 -- ---- the machine
 
-unfoldable pub put : {W : Type 0} → Answer W → ℕ → Code → Queue W → Vars W → Calls W → Cfg W
+unfoldable pub put : {W : Type 0} → ValueOrStop W → ℕ → Code → Queue W → Vars W → Calls W → Cfg W
 put (gives v) d r q ρ h = at r q (write ρ d v) h
-put halt d r q ρ h = ended stopped h
+put halt d r q ρ h = ended halted h
 
-unfoldable pub pass : {W : Type 0} → Answer W → Code → Queue W → Vars W → Calls W → Cfg W
+unfoldable pub pass : {W : Type 0} → ValueOrStop W → Code → Queue W → Vars W → Calls W → Cfg W
 pass (gives v) r q ρ h = at r q ρ h
-pass halt r q ρ h = ended stopped h
+pass halt r q ρ h = ended halted h
 
 unfoldable pub putR : {W : Type 0} → Reply W → ℕ → Code → Queue W → Vars W → Calls W → Cfg W
 putR (comes u) d r q ρ h = put u d r q ρ h
@@ -170,11 +170,11 @@ aim-at o r q ρ h e = rw e refl
 unfoldable pub branch : {W : Type 0} → Truth → Code → Option Code → Queue W → Vars W → Calls W → Cfg W
 branch holds r s q ρ h = at r q ρ h
 branch fails r s q ρ h = aim s q ρ h
-branch halts r s q ρ h = ended stopped h
+branch halts r s q ρ h = ended halted h
 
-unfoldable pub finish : {W : Type 0} → Answer W → Calls W → Cfg W
+unfoldable pub finish : {W : Type 0} → ValueOrStop W → Calls W → Cfg W
 finish (gives v) h = ended (returns v) h
-finish halt h = ended stopped h
+finish halt h = ended halted h
 
 unfoldable pub argsOf : List Operand → Code
 argsOf [] = []

@@ -13,13 +13,13 @@ use Rattle.conversion.specs.Ir.{sameText}
 use Rattle.conversion.specs.Scope.{Variable, Scope, findIn, withVariable, declareNew, declare}
 use Rattle.conversion.specs.Expressions.{Functions, nameType, unaryType, binaryType, commonOf, resolveTyped, valueType, return-type, get-type, get-argument-types, resolve-call, common-type}
 use Rattle.runs.specs.TreeRun as Tree
-use Rattle.runs.specs.TreeRun.{Known, Values, set, typeIn, scopeOf}
+use Rattle.runs.specs.TreeRun.{KnownName, Values, set, knownType, scopeOf}
 use Rattle.runs.specs.BodyRun.{Vars, write}
 use Rattle.runs.proofs.Machine.{write-same, write-other}
 use Rattle.runs.proofs.Texts.{text-refl, SameName, one, two, same-name, set-same, set-other}
 
 -- the names of a scope, with their types
-unfoldable pub known : List Variable → List Known
+unfoldable pub known : List Variable → List KnownName
 known [] = []
 known (v ∷ vs) = record { name = v .name; ty = v .var-id .ty } ∷ known vs
 
@@ -39,13 +39,13 @@ unfoldable pub foundType : Option Variable → Option ℕ
 foundType none = none
 foundType (some v) = some (v .var-id .ty)
 
-pub type-known : (n : Text) (vs : List Variable) → typeIn n (known vs) ≡ foundType (findIn n vs)
-unfolding known typeIn findIn foundType
+pub type-known : (n : Text) (vs : List Variable) → knownType n (known vs) ≡ foundType (findIn n vs)
+unfolding known knownType findIn foundType
 type-known n [] = refl
 type-known n (v ∷ vs) = go (sameText n (v .name)) (type-known n vs)
   where
-    go : (b : Bool) → typeIn n (known vs) ≡ foundType (findIn n vs)
-        → elim b as (λ x. Option ℕ) [ true ↦ some (v .var-id .ty) | false ↦ typeIn n (known vs) ]
+    go : (b : Bool) → knownType n (known vs) ≡ foundType (findIn n vs)
+        → elim b as (λ x. Option ℕ) [ true ↦ some (v .var-id .ty) | false ↦ knownType n (known vs) ]
         ≡ foundType (elim b as (λ x. Option Variable) [ true ↦ some v | false ↦ findIn n vs ])
     go true e = refl
     go false e = e

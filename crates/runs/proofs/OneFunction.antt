@@ -8,6 +8,7 @@ use Prim.Native.Nat.{ℕ, zero, suc, _+_, _≤_}
 use native.Mathlib.Nat.{le-refl}
 use native.Mathlib.Omega.{arith}
 use lib.ListN.{length, getElem?}
+use Rattle.laws.proofs.Prefixes.{Prefix, prefix-refl}
 use Rattle.laws.specs.Fix.{pick}
 use Rattle.syntax.specs.Syntax.{Text, Block, Param, Function, Program, nullType}
 use Rattle.conversion.specs.ConvertError.{ConvertErrorKind, MissingReturn}
@@ -18,12 +19,12 @@ use Rattle.conversion.specs.Expressions.{Functions}
 use Rattle.conversion.specs.Statements.{convert-block}
 use Rattle.conversion.specs.Functions.{declareParams, convertBody, always-returns}
 use Rattle.runs.specs.Rule.{halt, halts, Rule, comes, Answers, NullContent}
-use Rattle.runs.specs.TreeRun.{Known, Values, set, runBlock, parametersKnown, parameterValues, treeRun}
+use Rattle.runs.specs.TreeRun.{KnownName, Values, set, runBlock, parametersKnown, parameterValues, treeRun}
 use Rattle.runs.specs.BodyRun.{Vars, bodyRun}
 use Rattle.runs.specs.Shared.{Shared, InPlace}
 use Rattle.runs.proofs.Opens.{opensB}
 use Rattle.runs.proofs.Machine.{Code, at, Placed, placed}
-use Rattle.runs.proofs.Invert.{Prefix, prefix-refl, Grow, grow-refl, grow-trans, inv, inv-pure, inv-new, nextVar, withVar, withVar-length, withVar-grow}
+use Rattle.runs.proofs.Invert.{Grow, grow-refl, grow-trans, inv, inv-pure, inv-new, nextVar, withVar, withVar-length, withVar-grow}
 use Rattle.runs.proofs.Texts.{SameName, one, two, same-name, set-same, set-other}
 use Rattle.runs.proofs.Names.{known, Scoped, scoped-new, find-same, find-other, sub-refl, Agree}
 use Rattle.conversion.proofs.Steps.{bodySteps-is, param-is}
@@ -121,7 +122,7 @@ module _ {W : Type 0} (X : Ctx W) where
       share X (λ n. runBlock (X .prog) (X .funs) (X .fun) (X .rule) (X .answers) b n N σ []) ρ (X .fun .returnType) sums
       (λ y n e p. not-passed _ (block-returns (X .prog) (X .funs) (X .fun) (X .rule) (X .answers) b n N σ [] (returning y e)) p)
     where
-      N : List Known
+      N : List KnownName
       N = parametersKnown (X .fun .params) []
 
       σ : Values W

@@ -7,7 +7,7 @@ use Prim.Native.Nat.{ℕ, zero, suc}
 use mathlib.Core.Bool.{Bool, true, false}
 use lib.ListN.{getElem?, drop}
 use Rattle.conversion.specs.Ir.{Instr, Copy, Unary, Binary, Cast, Zero, Arg, Call, Label, Jump, JumpIfNot, Return, Comment}
-use Rattle.runs.specs.Rule.{Answer, gives, halt, Truth, holds, fails, halts, Calls, Rule, Reply, comes, pending, Answers}
+use Rattle.runs.specs.Rule.{ValueOrStop, gives, halt, Truth, holds, fails, halts, Calls, Rule, Reply, comes, pending, Answers}
 use Rattle.runs.specs.BodyRun as P
 use Rattle.runs.specs.BodyRun.{Body, Vars, isLabel, oneOn, labelPlace, Spot, spot, over, waits, lost, putTo, dropTo, putReply, dropReply, jumpTo, branchTo, finishWith, execute, fetch}
 use Rattle.runs.proofs.Machine.{Code, Queue, Cfg, at, ended, waiting, astray, goto, put, pass, putR, passR, aim, branch, finish, exec, step, steps}
@@ -55,12 +55,12 @@ view (i ∷ r) (suc p) = go (view r p)
     go (on j e f) = on j e f
 
 module _ {W : Type 0} (R : Rule W) (A : Answers W) (B : Body) where
-  put-seen : (u : Answer W) (d p : ℕ) (q : Queue W) (ρ : Vars W) (h : Calls W) → seen (B .instrs) (putTo u d p q ρ h) ≡ put u d (drop p (B .instrs)) q ρ h
+  put-seen : (u : ValueOrStop W) (d p : ℕ) (q : Queue W) (ρ : Vars W) (h : Calls W) → seen (B .instrs) (putTo u d p q ρ h) ≡ put u d (drop p (B .instrs)) q ρ h
   unfolding seen putTo put
   put-seen (gives v) d p q ρ h = refl
   put-seen halt d p q ρ h = refl
 
-  pass-seen : (u : Answer W) (p : ℕ) (q : Queue W) (ρ : Vars W) (h : Calls W) → seen (B .instrs) (dropTo u p q ρ h) ≡ pass u (drop p (B .instrs)) q ρ h
+  pass-seen : (u : ValueOrStop W) (p : ℕ) (q : Queue W) (ρ : Vars W) (h : Calls W) → seen (B .instrs) (dropTo u p q ρ h) ≡ pass u (drop p (B .instrs)) q ρ h
   unfolding seen dropTo pass
   pass-seen (gives v) p q ρ h = refl
   pass-seen halt p q ρ h = refl
@@ -90,7 +90,7 @@ module _ {W : Type 0} (R : Rule W) (A : Answers W) (B : Body) where
   branch-seen fails p l q ρ h = label-seen l q ρ h
   branch-seen halts p l q ρ h = refl
 
-  finish-seen : (u : Answer W) (h : Calls W) → seen (B .instrs) (finishWith u h) ≡ finish u h
+  finish-seen : (u : ValueOrStop W) (h : Calls W) → seen (B .instrs) (finishWith u h) ≡ finish u h
   unfolding seen finishWith finish
   finish-seen (gives v) h = refl
   finish-seen halt h = refl

@@ -9,16 +9,17 @@ use native.Mathlib.Nat.{le-refl}
 use native.Mathlib.Omega.{arith}
 use lib.Dec.{eqb}
 use lib.ListN.{length, getD}
+use Rattle.laws.proofs.Prefixes.{Prefix, prefix-trans, prefix-length}
 use Rattle.syntax.specs.Syntax.{Function, Program}
 use Rattle.conversion.specs.Ir.{VarId, Operand, OVar, OInt, OFloat, OBool, ODataAddress, ONull, Instr, Label, LabelName, loopStart, StringEntry, texts, FloatEntry, State, made, M, position, sameLabel, sameText, sameFloat}
 use Rattle.conversion.specs.Scope.{Variable}
 use Rattle.conversion.specs.Expressions.{Functions}
-use Rattle.runs.specs.Rule.{Answer, gives, halt, Truth, holds, fails, halts, Calls, Rule, Reply, comes, pending, Answers, Datum, computed, stopped}
+use Rattle.runs.specs.Rule.{ValueOrStop, gives, halt, Truth, holds, fails, halts, Calls, Rule, Reply, comes, pending, Answers, Datum, computed, halted}
 use Rattle.runs.specs.TreeRun.{Values, Got, value, stop, wait, bindG, answered, replied, test}
 use Rattle.runs.specs.BodyRun.{Body, Vars, write, datum}
 use Rattle.runs.proofs.Opens.{bit}
 use Rattle.runs.proofs.Machine.{Code, Queue, Cfg, at, ended, waiting, Same, is, isnt, same, write-same, write-other, count, goto, Placed, put, putR, aim, branch, step, To, here, one, to-trans, to-label, dat, dats}
-use Rattle.runs.proofs.Invert.{Prefix, prefix-trans, prefix-length, Grow, Asked, position-holds, found-in, noFloat}
+use Rattle.runs.proofs.Invert.{Grow, Asked, position-holds, found-in, noFloat}
 use Rattle.runs.proofs.Texts.{label-eq, label-refl, text-eq, text-refl, float-eq, float-refl}
 use Rattle.runs.proofs.Names.{Scoped, Frame, Agree}
 
@@ -150,7 +151,7 @@ module _ {W : Type 0} (X : Ctx W) where
   -- from c the body comes to k, with the variables below t as they were, and get the value; or it stops as the tree does
   pub data SimE {Y : Type 0} (c : Cfg W) (k : Code) (t : ℕ) (ρ : Vars W) (get : Vars W → Y) : Got W Y → Type 0 where
     gets : {v : Y} {h : Calls W} (ρ′ : Vars W) → Goes c (at k [] ρ′ h) → Frame t ρ ρ′ → get ρ′ ≡ v → SimE c k t ρ get (value v h)
-    stops : {h : Calls W} → Goes c (ended stopped h) → SimE c k t ρ get (stop h)
+    stops : {h : Calls W} → Goes c (ended halted h) → SimE c k t ρ get (stop h)
     hangs : {h : Calls W} → Goes c (waiting h) → SimE c k t ρ get (wait h)
 
   pub sim-before : {Y : Type 0} {c d : Cfg W} {k : Code} {t : ℕ} {ρ : Vars W} {get : Vars W → Y} {r : Got W Y}
@@ -181,7 +182,7 @@ module _ {W : Type 0} (X : Ctx W) where
   sim-bind f g (stops q) H = stops q
   sim-bind f g (hangs q) H = hangs q
 
-  pub sim-put : {c : Cfg W} {k : Code} {t : ℕ} {ρ : Vars W} (d : VarId) (a : Answer W) (h : Calls W)
+  pub sim-put : {c : Cfg W} {k : Code} {t : ℕ} {ρ : Vars W} (d : VarId) (a : ValueOrStop W) (h : Calls W)
       → t ≤ d .id → step (X .rule) (X .answers) (body X) c ≡ put a (d .id) k [] ρ h → SimE c k t ρ (λ ρ′. holding ρ′ (OVar d)) (answered (d .ty) a h)
   unfolding answered put dat datum
   sim-put {ρ = ρ} d (gives v) h g e = gets (write ρ (d .id) v) (go1 e) (λ x b. write-other ρ (d .id) x v (omega arith)) (ap (computed (d .ty)) (write-same ρ (d .id) v))
@@ -201,7 +202,7 @@ module _ {W : Type 0} (X : Ctx W) where
   sim-test halts q e x y = stops (go1 e)
 
   -- converting from s came to x, the code c and t, and this does what ev says; z bounds how often c places a label that a record opens
-  pub record Good {Y Z : Type 0} (lows : State → Y → Type 0) (get : Vars W → Y → Z) (vs : List Variable) (z : ℕ → ℕ) (ev : Values W → Calls W → Got W Z)
+  pub record GoodE {Y Z : Type 0} (lows : State → Y → Type 0) (get : Vars W → Y → Z) (vs : List Variable) (z : ℕ → ℕ) (ev : Values W → Calls W → Got W Z)
       (s : State) (x : Y) (c : Code) (t : State) : Type 0 where
     pub grow : Grow s t
     pub low : Scoped vs (length (s .vars)) → lows t x
@@ -210,12 +211,12 @@ module _ {W : Type 0} (X : Ctx W) where
         → SimE (at (c ++ k) [] ρ h) k (length (s .vars)) ρ (λ ρ′. get ρ′ x) (ev σ h)
 
   abbrev pub Sound : List Variable → M Operand → (ℕ → ℕ) → (Values W → Calls W → Got W (Datum W)) → Type 0
-  Sound vs m z ev = (s : State) (o : Operand) (c : Code) (t : State) → m s ≡ made o c t → Good Low holding vs z ev s o c t
+  Sound vs m z ev = (s : State) (o : Operand) (c : Code) (t : State) → m s ≡ made o c t → GoodE Low holding vs z ev s o c t
 
   abbrev pub Sounds : List Variable → M (List Operand) → (ℕ → ℕ) → (Values W → Calls W → Got W (List (Datum W))) → Type 0
-  Sounds vs m z ev = (s : State) (o : List Operand) (c : Code) (t : State) → m s ≡ made o c t → Good Lows holdings vs z ev s o c t
+  Sounds vs m z ev = (s : State) (o : List Operand) (c : Code) (t : State) → m s ≡ made o c t → GoodE Lows holdings vs z ev s o c t
 
   -- the same under other names for what was made
   pub good-as : {Y Z : Type 0} {lows : State → Y → Type 0} {get : Vars W → Y → Z} {vs : List Variable} {z : ℕ → ℕ} {ev : Values W → Calls W → Got W Z} {s : State} {x x₁ : Y} {c c₁ : Code} {t t₁ : State}
-      → x ≡ x₁ → c ≡ c₁ → t ≡ t₁ → Good lows get vs z ev s x₁ c₁ t₁ → Good lows get vs z ev s x c t
+      → x ≡ x₁ → c ≡ c₁ → t ≡ t₁ → GoodE lows get vs z ev s x₁ c₁ t₁ → GoodE lows get vs z ev s x c t
   good-as p q r g = rw (p, q, r) g

@@ -20,14 +20,14 @@ use Rattle.conversion.specs.Expressions.{Callee, CallFunction, CallCast, Functi
 use Rattle.conversion.specs.Statements.{convert-expr, convert-cond, checkFits, zeroValue, convert-declare, assignTo, convert-assign, initNew, initBy, convert-init, returnAs, convert-return, callStatement, convert-call, checkBound}
 use Rattle.runs.specs.Rule.{Calls, Literal, IntLiteral, FloatLiteral, BoolLiteral, NullLiteral, Datum, constant, read, readAll}
 use Rattle.runs.specs.TreeRun as Tree
-use Rattle.runs.specs.TreeRun.{Known, Values, typeIn, scopeOf, Got, bare, handed, Out, normal, returned, bindO, typedO, fit, fitArguments, zeroOf, evalExpr, store, newType, introduce, initialise, giveBack, callOnly, withNew, knownInit}
+use Rattle.runs.specs.TreeRun.{KnownName, Values, knownType, scopeOf, Got, bare, handed, Ran, normal, returned, bindO, typedO, fit, fitArguments, zeroOf, evalExpr, store, newType, introduce, initialise, giveBack, callOnly, withNew, knownInit}
 use Rattle.runs.specs.BodyRun.{Vars, write, datum, isLabel, operand}
 use Rattle.runs.proofs.Opens.{bit, opensE, opensA}
 use Rattle.runs.proofs.Machine.{Code, at, count, count-append, put, exec, step, dat, argsOf, push}
 use Rattle.runs.proofs.Invert.{Grow, grow-refl, grow-trans, inv, inv-then, inv-pure, inv-emit, inv-lift, inv-last, inv-new, quiet, Quiet, joinE, joinS, noFloat, nextVar, withVar, withVar-length, withVar-grow, ask-float}
 use Rattle.runs.proofs.Names.{known, foundType, type-known, typing, resolving, scoped-mono, scoped-new, sub-refl, sub-new, agree-frame, agree-set, agree-new, declared}
 use Rattle.conversion.proofs.Steps.{condSteps-is, declareSteps-is, assignSteps-is, initSteps-is, returnSteps-is, returnTyped-is, callOnlySteps-is, callStatementSteps-is, boundSteps-is, zeroFloat-is}
-use Rattle.runs.proofs.Sim.{Ctx, body, Low, Lows, Within, within-back, float-at, stay, holding, holdings, Good}
+use Rattle.runs.proofs.Sim.{Ctx, body, Low, Lows, Within, within-back, float-at, stay, holding, holdings, GoodE}
 use Rattle.runs.proofs.Exprs.{args-clear, called, Fitted, good-fit, good-fits, goodE, goodA}
 use Rattle.runs.proofs.SimS.{runs, s-before, s-bindO, s-bare, s-pass, s-finish, GoodS, SoundS, goodS-as}
 
@@ -163,7 +163,7 @@ module _ {W : Type 0} (X : Ctx W) where
   -- ---- Init
 
   assign-made : {z : ℕ → ℕ} {ev : Values W → Calls W → Got W (Datum W)} {s s1 t : State} {a a1 : Operand} {ca fa : Code} (sc : Scope) (n : Text) (v : Variable) → findIn n (sc .variables) ≡ some v
-      → Good X Low (holding X) (sc .variables) z ev s a ca s1
+      → GoodE X Low (holding X) (sc .variables) z ev s a ca s1
       → Fitted X (Low s1 a) Low (holding X) (λ ρ h. fit (X .prog) (X .rule) (v .var-id .ty) (holding X ρ a) h) s1 a1 fa t
       → GoodS X sc z (known (sc .variables))
       (λ m σ h. bindO (ev σ h) λ u h1. bindO (fit (X .prog) (X .rule) (v .var-id .ty) u h1) λ u1 h2.
@@ -201,7 +201,7 @@ module _ {W : Type 0} (X : Ctx W) where
       (assign-made sc n v fd (goodE X sc e s (i1 .got) (i1 .c1) (i1 .st) (i1 .first)) (good-fit X (i1 .got) (v .var-id .ty) (i1 .st) _ _ _ (i4 .first)))
 
   init-made : {z : ℕ → ℕ} {ev : Values W → Calls W → Got W (Datum W)} {s s1 : State} {a : Operand} {ca : Code} (sc : Scope) (b : Bool) (n : Text) (y : ℕ) → findIn n (sc .variables) ≡ none
-      → Good X Low (holding X) (sc .variables) z ev s a ca s1
+      → GoodE X Low (holding X) (sc .variables) z ev s a ca s1
       → GoodS X sc z (record { name = n; ty = y } ∷ known (sc .variables))
       (λ m σ h. bindO (ev σ h) λ u h1. store (X .prog) (X .funs) (X .fun) (X .rule) (X .answers) n (X .rule .copy y (read (X .rule) u)) σ h1)
       s (withVariable (record { name = n; constant = b; var-id = nextVar y s1 }) sc) (ca ++ (Copy (nextVar y s1) a ∷ [])) (withVar y s1)
@@ -224,15 +224,15 @@ module _ {W : Type 0} (X : Ctx W) where
       }
 
   -- where typing gives y
-  typedS : {sc : Scope} {z : ℕ → ℕ} {N : List Known} {s : State} {x : Scope} {c : Code} {t : State} {Q : Type 0} (u : Result Q) (y : Q) (ev : Q → ℕ → Values W → Calls W → Out W)
+  typedS : {sc : Scope} {z : ℕ → ℕ} {N : List KnownName} {s : State} {x : Scope} {c : Code} {t : State} {Q : Type 0} (u : Result Q) (y : Q) (ev : Q → ℕ → Values W → Calls W → Ran W)
       → u ≡ ok y → GoodS X sc z N (ev y) s x c t → GoodS X sc z N (λ n σ h. typedO u h (λ a. ev a n σ h)) s x c t
   unfolding typedO
   typedS u y ev e g = rw e g
 
-  named : {sc : Scope} {z : ℕ → ℕ} {N M : List Known} {ev : ℕ → Values W → Calls W → Out W} {s : State} {x : Scope} {c : Code} {t : State} → M ≡ N → GoodS X sc z N ev s x c t → GoodS X sc z M ev s x c t
+  named : {sc : Scope} {z : ℕ → ℕ} {N M : List KnownName} {ev : ℕ → Values W → Calls W → Ran W} {s : State} {x : Scope} {c : Code} {t : State} → M ≡ N → GoodS X sc z N ev s x c t → GoodS X sc z M ev s x c t
   named e g = rw e g
 
-  with-new : (n : Text) (u : Result ℕ) (y : ℕ) (N : List Known) → u ≡ ok y
+  with-new : (n : Text) (u : Result ℕ) (y : ℕ) (N : List KnownName) → u ≡ ok y
       → withNew (X .prog) (X .funs) (X .fun) (X .rule) (X .answers) n u N ≡ record { name = n; ty = pick (eqb y nullType) addressOfNull y } ∷ N
   unfolding withNew newType
   with-new n u y N e = rw e refl
@@ -268,15 +268,15 @@ module _ {W : Type 0} (X : Ctx W) where
 
   pub good-init : (sc : Scope) (r : ℕ) (b : Bool) (n : Text) (e : Expr)
       → SoundS X sc (convert-init (X .prog) (X .funs) r b n e sc) (opensE e)
-      (knownInit (X .prog) (X .funs) (X .fun) (X .rule) (X .answers) b (typeIn n (known (sc .variables))) n (get-type (X .prog) (X .funs) e (scopeOf (X .fun) (known (sc .variables)))) (known (sc .variables)))
-      (λ m σ h. initialise (X .prog) (X .funs) (X .fun) (X .rule) (X .answers) b (typeIn n (known (sc .variables))) n e (known (sc .variables)) σ h)
+      (knownInit (X .prog) (X .funs) (X .fun) (X .rule) (X .answers) b (knownType n (known (sc .variables))) n (get-type (X .prog) (X .funs) e (scopeOf (X .fun) (known (sc .variables)))) (known (sc .variables)))
+      (λ m σ h. initialise (X .prog) (X .funs) (X .fun) (X .rule) (X .answers) b (knownType n (known (sc .variables))) n e (known (sc .variables)) σ h)
   unfolding convert-init
   good-init sc r b n e = rw (type-known n (sc .variables)) (init-by sc r b n e (findIn n (sc .variables)) refl)
 
   -- ---- Return
 
   return-made : {z : ℕ → ℕ} {ev : Values W → Calls W → Got W (Datum W)} {s s1 t : State} {a a1 : Operand} {ca fa : Code} (sc : Scope) (y : ℕ) → X .fun .returnType ≡ some y
-      → Good X Low (holding X) (sc .variables) z ev s a ca s1
+      → GoodE X Low (holding X) (sc .variables) z ev s a ca s1
       → Fitted X (Low s1 a) Low (holding X) (λ ρ h. fit (X .prog) (X .rule) y (holding X ρ a) h) s1 a1 fa t
       → GoodS X sc z (known (sc .variables))
       (λ m σ h. bindO (ev σ h) λ u h1. bindO (fit (X .prog) (X .rule) y u h1) λ u1 h2. bindO (bare (X .rule .return (some y) (read (X .rule) u1)) h2) λ v h3. returned v h3)
@@ -321,7 +321,7 @@ module _ {W : Type 0} (X : Ctx W) where
   -- ---- call statements
 
   invoke-made : {z : ℕ → ℕ} {ev : Values W → Calls W → Got W (List (Datum W))} {s s1 t : State} {os us : List Operand} {ca fs : Code} (sc : Scope) (g : Function)
-      → Good X Lows (holdings X) (sc .variables) z ev s os ca s1
+      → GoodE X Lows (holdings X) (sc .variables) z ev s os ca s1
       → Fitted X (Lows s1 os) Lows (holdings X) (λ ρ h. fitArguments (X .prog) (X .rule) 0 (holdings X ρ os) g h) s1 us fs t
       → GoodS X sc z (known (sc .variables))
       (λ m σ h. bindO (ev σ h) λ vs h1. bindO (fitArguments (X .prog) (X .rule) 0 vs g h1) λ ws h2.

@@ -1,17 +1,18 @@
 -- A simulation of whole runs gives the claim: the same calls, endless runs included, and the same ends.
 -- The tree's run with n turns tells of n steps of the body's run or more, and the body's run is a function: so one direction gives both.
 use mathlib.Core.Path.{_≡_, refl, sym, _∙_, ap, subst}
-use mathlib.Core.List.{List, [], _∷_, _++_}
+use mathlib.Core.List.{List, [], _∷_}
 use mathlib.Core.Option.{Option, none, some}
 use Prim.Native.Nat.{ℕ, zero, suc, _-_, _≤_}
 use native.Mathlib.Decide.{decLe}
 use native.Mathlib.Omega.{arith}
 use mathlib.Core.Bool.{false}
 use lib.ListN.{getElem?}
+use Rattle.laws.proofs.Prefixes.{get-append}
 use Rattle.conversion.specs.Ir.{Instr, Copy, Unary, Binary, Cast, Zero, Arg, Call, Label, Jump, JumpIfNot, Return, Comment}
 use Rattle.conversion.specs.Scope.{Variable}
-use Rattle.runs.specs.Rule.{Answer, gives, halt, Truth, holds, fails, halts, Typed, Calls, Reply, comes, pending, Ending, passed, returns, stopped}
-use Rattle.runs.specs.TreeRun.{Out, held, unfinished}
+use Rattle.runs.specs.Rule.{ValueOrStop, gives, halt, Truth, holds, fails, halts, Typed, Calls, Reply, comes, pending, Ending, passed, returns, halted}
+use Rattle.runs.specs.TreeRun.{Ran, held, unfinished}
 use Rattle.runs.specs.BodyRun.{Vars, Spot, spot, over, waits, lost, bodyRun}
 use Rattle.runs.specs.Shared.{callsT, endT, callsB, endB, Shared, SameRuns}
 use Rattle.runs.proofs.Machine.{Code, Queue, Cfg, at, ended, waiting, astray, put, pass, putR, passR, aim, branch, finish, exec, step, steps, steps-add}
@@ -50,17 +51,12 @@ none-some : {A : Type 0} {a : A} → none ≡ some a → ⊥
 none-some e = let z : _≡_ {A = ℕ} 0 1 = cc in omega arith
 
 -- a call once made stays
-pub get-append : {A : Type 0} (a b : List A) (i : ℕ) (q : A) → getElem? a i ≡ some q → getElem? (a ++ b) i ≡ some q
-get-append [] b i q e = let z : _≡_ {A = ℕ} 0 1 = cc in absurd (omega arith)
-get-append (x ∷ a) b zero q e = e
-get-append (x ∷ a) b (suc i) q e = get-append a b i q e
-
-put-calls : {W : Type 0} (u : Answer W) (d : ℕ) (r : Code) (q : Queue W) (ρ : Vars W) (h : Calls W) → callsM (put u d r q ρ h) ≡ h
+put-calls : {W : Type 0} (u : ValueOrStop W) (d : ℕ) (r : Code) (q : Queue W) (ρ : Vars W) (h : Calls W) → callsM (put u d r q ρ h) ≡ h
 unfolding put callsM
 put-calls (gives v) d r q ρ h = refl
 put-calls halt d r q ρ h = refl
 
-pass-calls : {W : Type 0} (u : Answer W) (r : Code) (q : Queue W) (ρ : Vars W) (h : Calls W) → callsM (pass u r q ρ h) ≡ h
+pass-calls : {W : Type 0} (u : ValueOrStop W) (r : Code) (q : Queue W) (ρ : Vars W) (h : Calls W) → callsM (pass u r q ρ h) ≡ h
 unfolding pass callsM
 pass-calls (gives v) r q ρ h = refl
 pass-calls halt r q ρ h = refl
@@ -86,7 +82,7 @@ branch-calls holds r s q ρ h = refl
 branch-calls fails r s q ρ h = aim-calls s q ρ h
 branch-calls halts r s q ρ h = refl
 
-finish-calls : {W : Type 0} (u : Answer W) (h : Calls W) → callsM (finish u h) ≡ h
+finish-calls : {W : Type 0} (u : ValueOrStop W) (h : Calls W) → callsM (finish u h) ≡ h
 unfolding finish callsM
 finish-calls (gives v) h = refl
 finish-calls halt h = refl
@@ -155,22 +151,22 @@ module _ {W : Type 0} (X : Ctx W) where
   is-ended (waiting h) e q = let z : _≡_ {A = ℕ} 0 1 = cc in absurd (omega arith)
 
   -- what the body's run from c has to do with what the tree's run o with n turns came to
-  pub data Sum (n : ℕ) (c : Cfg W) (o : Out W) : Type 0 where
+  pub data Sum (n : ℕ) (c : Cfg W) (o : Ran W) : Type 0 where
     settled : (e : Ending W) → endT o ≡ some e → Goes X c (ended e (callsT o)) → Sum n c o
     going : (j : Code) (z : Queue W) (ρ : Vars W) → o ≡ unfinished (callsT o) → (p : Goes X c (at j z ρ (callsT o))) → n ≤ p .many → Sum n c o
     hung : o ≡ held (callsT o) → Goes X c (waiting (callsT o)) → Sum n c o
 
-  pub sum : {n ls le : ℕ} {lvs vs : List Variable} {c : Cfg W} {o : Out W} → SimS X n false lvs ls le c [] vs o → Sum n c o
+  pub sum : {n ls le : ℕ} {lvs vs : List Variable} {c : Cfg W} {o : Ran W} → SimS X n false lvs ls le c [] vs o → Sum n c o
   unfolding endT callsT step
   sum (runs ρ p a) = settled passed refl (goes X p (go1 X refl))
   sum (breaks ρ i p a) = absurd i
   sum (continues ρ i p a) = absurd i
   sum (gives-back {v = v} p) = settled (returns v) refl p
-  sum (halting p) = settled stopped refl p
+  sum (halting p) = settled halted refl p
   sum (long j z ρ p u) = going j z ρ refl p u
   sum (hanging p) = hung refl p
 
-  module _ (o : Out W) (c : Cfg W) (n : ℕ) where
+  module _ (o : Ran W) (c : Cfg W) (n : ℕ) where
     calls-there : Sum n c o → (k : ℕ) (q : ℕ × List (Typed W)) → getElem? (callsT o) k ≡ some q → (m : ℕ) × (getElem? (callsM (after m c)) k ≡ some q)
     unfolding callsM
     calls-there (settled x e1 p) k q e = (p .many, rw (p .comes) e)
@@ -264,7 +260,7 @@ module _ {W : Type 0} (X : Ctx W) where
   held-from ρ n h e = sym (from-start ρ n) ∙ ap (seen (X .code)) e
 
   -- the claim, from the simulation and from a tree's run that with a return type does not pass
-  pub share : (tree : ℕ → Out W) (ρ : Vars W) (result : Option ℕ) → ((n : ℕ) → Sum n (at (X .code) [] ρ []) (tree n))
+  pub share : (tree : ℕ → Ran W) (ρ : Vars W) (result : Option ℕ) → ((n : ℕ) → Sum n (at (X .code) [] ρ []) (tree n))
       → ((y n : ℕ) → result ≡ some y → endT (tree n) ≡ some passed → ⊥)
       → Shared tree (bodyRun (X .rule) (X .answers) (body X) ρ) result
   share tree ρ result sums never = record {
@@ -288,7 +284,7 @@ module _ {W : Type 0} (X : Ctx W) where
       c = at (X .code) [] ρ []
 
 -- what is shared contains document 01's claim
-pub same-runs : {W : Type 0} {tree : ℕ → Out W} {body : ℕ → Spot W} {result : Option ℕ} → Shared tree body result → SameRuns tree body result
+pub same-runs : {W : Type 0} {tree : ℕ → Ran W} {body : ℕ → Spot W} {result : Option ℕ} → Shared tree body result → SameRuns tree body result
 same-runs s = record {
   calls = λ k g us. s .calls k (g, us);
   ends = λ e. (

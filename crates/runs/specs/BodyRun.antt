@@ -9,7 +9,7 @@ use lib.ListN.{getElem?, getD}
 use Rattle.laws.specs.Fix.{pick}
 use Rattle.syntax.specs.Syntax.{Text}
 use Rattle.conversion.specs.Ir.{Operand, OVar, OInt, OFloat, OBool, ODataAddress, ONull, Instr, Copy, Unary, Binary, Cast, Zero, Arg, Call, Label, Jump, JumpIfNot, Return, Comment, FloatEntry}
-use Rattle.runs.specs.Rule.{Answer, gives, halt, Truth, holds, fails, halts, Typed, Calls, Rule, Reply, comes, pending, Answers, IntLiteral, FloatLiteral, BoolLiteral, StringLiteral, NullLiteral, Datum, constant, computed, read, Ending, passed, returns, stopped}
+use Rattle.runs.specs.Rule.{ValueOrStop, gives, halt, Truth, holds, fails, halts, Typed, Calls, Rule, Reply, comes, pending, Answers, IntLiteral, FloatLiteral, BoolLiteral, StringLiteral, NullLiteral, Datum, constant, computed, read, Ending, passed, returns, halted}
 
 -- the instructions of a function, each variable with its type from the function's table; its return type; the program's strings and floats
 pub record Body : Type 0 where
@@ -68,13 +68,13 @@ pub data Spot (W : Type 0) : Type 0 where
   lost : Calls W → Spot W
 
 -- the answer u into the variable d, then on at p; 'A stop ends either run'
-unfoldable pub putTo : {W : Type 0} → Answer W → ℕ → ℕ → List (Typed W) → Vars W → Calls W → Spot W
+unfoldable pub putTo : {W : Type 0} → ValueOrStop W → ℕ → ℕ → List (Typed W) → Vars W → Calls W → Spot W
 putTo (gives v) d p q ρ h = spot p q (write ρ d v) h
-putTo halt d p q ρ h = over stopped h
+putTo halt d p q ρ h = over halted h
 
-unfoldable pub dropTo : {W : Type 0} → Answer W → ℕ → List (Typed W) → Vars W → Calls W → Spot W
+unfoldable pub dropTo : {W : Type 0} → ValueOrStop W → ℕ → List (Typed W) → Vars W → Calls W → Spot W
 dropTo (gives v) p q ρ h = spot p q ρ h
-dropTo halt p q ρ h = over stopped h
+dropTo halt p q ρ h = over halted h
 
 -- the same of a reply
 unfoldable pub putReply : {W : Type 0} → Reply W → ℕ → ℕ → List (Typed W) → Vars W → Calls W → Spot W
@@ -93,11 +93,11 @@ jumpTo none q ρ h = lost h
 unfoldable pub branchTo : {W : Type 0} → Truth → ℕ → Option ℕ → List (Typed W) → Vars W → Calls W → Spot W
 branchTo holds p s q ρ h = spot p q ρ h
 branchTo fails p s q ρ h = jumpTo s q ρ h
-branchTo halts p s q ρ h = over stopped h
+branchTo halts p s q ρ h = over halted h
 
-unfoldable pub finishWith : {W : Type 0} → Answer W → Calls W → Spot W
+unfoldable pub finishWith : {W : Type 0} → ValueOrStop W → Calls W → Spot W
 finishWith (gives v) h = over (returns v) h
-finishWith halt h = over stopped h
+finishWith halt h = over halted h
 
 module _ {W : Type 0} (R : Rule W) (A : Answers W) (B : Body) where
   unfoldable pub operand : Vars W → Operand → Typed W

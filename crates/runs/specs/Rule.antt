@@ -8,9 +8,9 @@ use lib.IntN.{ℤ}
 use Rattle.syntax.specs.Syntax.{Text, UnaryOp, BinaryOp, intType, floatType, boolType, nullType, addressOfChar}
 
 -- 'a value or a stop'
-pub data Answer (W : Type 0) : Type 0 where
-  gives : W → Answer W
-  halt : Answer W
+pub data ValueOrStop (W : Type 0) : Type 0 where
+  gives : W → ValueOrStop W
+  halt : ValueOrStop W
 
 pub data Truth : Type 0 where
   holds fails halts : Truth
@@ -34,24 +34,24 @@ pub data Content : Type 0 where
 pub record Rule (W : Type 0) : Type 0 where
   pub literal : Content → ℕ → W
   -- into a type
-  pub copy : ℕ → Typed W → Answer W
+  pub copy : ℕ → Typed W → ValueOrStop W
   -- the Zero of a type
-  pub zero : ℕ → Answer W
+  pub zero : ℕ → ValueOrStop W
   -- the result's type, the operands
-  pub unary : UnaryOp → ℕ → Typed W → Answer W
-  pub binary : BinaryOp → ℕ → Typed W → Typed W → Answer W
-  pub cast : ℕ → Typed W → Answer W
+  pub unary : UnaryOp → ℕ → Typed W → ValueOrStop W
+  pub binary : BinaryOp → ℕ → Typed W → Typed W → ValueOrStop W
+  pub cast : ℕ → Typed W → ValueOrStop W
   pub truth : Typed W → Truth
   -- the function's return type, what it returns
-  pub return : Option ℕ → Typed W → Answer W
+  pub return : Option ℕ → Typed W → ValueOrStop W
   -- the calls before, the function's record, its arguments
-  pub call : Calls W → ℕ → List (Typed W) → Answer W
+  pub call : Calls W → ℕ → List (Typed W) → ValueOrStop W
 
 -- Who answers calls is a parameter of both runs: told the calls before, the function's record, the type of the result's destination (`none` for
 -- a call statement) and the arguments, it gives a reply, and the calls that were made for it. A reply that is still pending holds the run up: it
 -- has not ended and goes no further. (So that a call may be answered by a run that may be endless.)
 pub data Reply (W : Type 0) : Type 0 where
-  comes : Answer W → Reply W
+  comes : ValueOrStop W → Reply W
   pending : Reply W
 
 abbrev pub Answers : Type 0 → Type 0
@@ -101,4 +101,4 @@ readAll R (d ∷ ds) = read R d ∷ readAll R ds
 pub data Ending (W : Type 0) : Type 0 where
   passed : Ending W
   returns : W → Ending W
-  stopped : Ending W
+  halted : Ending W

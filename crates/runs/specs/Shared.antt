@@ -5,14 +5,14 @@ use mathlib.Core.List.{List}
 use mathlib.Core.Option.{Option, none, some}
 use Prim.Native.Nat.{ℕ}
 use lib.ListN.{getElem?}
-use Rattle.runs.specs.Rule.{Typed, Calls, Ending, passed, returns, stopped}
+use Rattle.runs.specs.Rule.{Typed, Calls, Ending, passed, returns, halted}
 use Rattle.runs.specs.TreeRun as Tree
-use Rattle.runs.specs.TreeRun.{Out, normal, broke, continued, returned, held, unfinished}
+use Rattle.runs.specs.TreeRun.{Ran, normal, broke, continued, returned, held, unfinished}
 use Rattle.runs.specs.BodyRun.{Vars, Spot, spot, over, waits, lost}
 
 -- ---- what is seen of a run: the calls so far, and how it ended
 
-unfoldable pub callsT : {W : Type 0} → Out W → Calls W
+unfoldable pub callsT : {W : Type 0} → Ran W → Calls W
 callsT (normal σ h) = h
 callsT (broke σ h) = h
 callsT (continued σ h) = h
@@ -21,12 +21,12 @@ callsT (Tree.stopped h) = h
 callsT (held h) = h
 callsT (unfinished h) = h
 
-unfoldable pub endT : {W : Type 0} → Out W → Option (Ending W)
+unfoldable pub endT : {W : Type 0} → Ran W → Option (Ending W)
 endT (normal σ h) = some passed
 endT (broke σ h) = none
 endT (continued σ h) = none
 endT (returned v h) = some (returns v)
-endT (Tree.stopped h) = some stopped
+endT (Tree.stopped h) = some halted
 endT (held h) = none
 endT (unfinished h) = none
 
@@ -45,7 +45,7 @@ endB (lost h) = none
 -- ---- the claim
 
 -- tree n: the tree's run with n turns of each entry of a loop; body n: the body's run after n steps; result: the function's return type
-pub record Shared {W : Type 0} (tree : ℕ → Out W) (body : ℕ → Spot W) (result : Option ℕ) : Type 0 where
+pub record Shared {W : Type 0} (tree : ℕ → Ran W) (body : ℕ → Spot W) (result : Option ℕ) : Type 0 where
   -- the one run makes a k-th call, of this function with these arguments, exactly when the other does: also where neither ends
   pub calls : (k : ℕ) (q : ℕ × List (Typed W)) →
       ((n : ℕ) × (getElem? (callsT (tree n)) k ≡ some q)) ↔ ((n : ℕ) × (getElem? (callsB (body n)) k ≡ some q))
@@ -60,7 +60,7 @@ pub record Shared {W : Type 0} (tree : ℕ → Out W) (body : ℕ → Spot W) (r
 
 -- the claim in document 01's words, for calls that the rule answers: 'running the tree and running the body show the same calls in the same order
 -- with the same arguments, and end alike'
-pub record SameRuns {W : Type 0} (tree : ℕ → Out W) (body : ℕ → Spot W) (result : Option ℕ) : Type 0 where
+pub record SameRuns {W : Type 0} (tree : ℕ → Ran W) (body : ℕ → Spot W) (result : Option ℕ) : Type 0 where
   -- for every k the one makes a k-th call exactly when the other does, of the same function g with the same arguments us
   pub calls : (k g : ℕ) (us : List (Typed W)) →
       ((n : ℕ) × (getElem? (callsT (tree n)) k ≡ some (g, us))) ↔ ((n : ℕ) × (getElem? (callsB (body n)) k ≡ some (g, us)))

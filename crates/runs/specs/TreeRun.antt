@@ -15,10 +15,10 @@ use Rattle.conversion.specs.Types.{onInt, onFloat, isFloat, size}
 use Rattle.conversion.specs.Scope.{Variable, Scope}
 use Rattle.conversion.specs.Expressions.{Callee, CallFunction, CallCast, Functions, unwrapOr, get-type, resolve-call, common-type}
 use Rattle.conversion.specs.Statements.{parameterType, asCall}
-use Rattle.runs.specs.Rule.{Answer, gives, halt, Truth, holds, fails, halts, Calls, Rule, Reply, comes, pending, Answers, Literal, IntLiteral, FloatLiteral, BoolLiteral, StringLiteral, NullLiteral, NullContent, Datum, constant, computed, read, readAll}
+use Rattle.runs.specs.Rule.{ValueOrStop, gives, halt, Truth, holds, fails, halts, Calls, Rule, Reply, comes, pending, Answers, Literal, IntLiteral, FloatLiteral, BoolLiteral, StringLiteral, NullLiteral, NullContent, Datum, constant, computed, read, readAll}
 
 -- a name that is known, with its type
-pub record Known : Type 0 where
+pub record KnownName : Type 0 where
   pub name : Text
   pub ty : ℕ
 
@@ -29,16 +29,16 @@ Values W = Text → W
 unfoldable pub set : {W : Type 0} → Values W → Text → W → Values W
 set σ n v m = pick (sameText m n) v (σ m)
 
-unfoldable pub typeIn : Text → List Known → Option ℕ
-typeIn n [] = none
-typeIn n (k ∷ l) = elim (sameText n (k .name)) [ true ↦ some (k .ty) | false ↦ typeIn n l ]
+unfoldable pub knownType : Text → List KnownName → Option ℕ
+knownType n [] = none
+knownType n (k ∷ l) = elim (sameText n (k .name)) [ true ↦ some (k .ty) | false ↦ knownType n l ]
 
 -- the known names as the definitions of typing take them; numbers of variables are no part of typing
-unfoldable pub variables : List Known → List Variable
+unfoldable pub variables : List KnownName → List Variable
 variables [] = []
 variables (k ∷ l) = record { name = k .name; constant = false; var-id = record { id = 0; ty = k .ty } } ∷ variables l
 
-unfoldable pub scopeOf : Function → List Known → Scope
+unfoldable pub scopeOf : Function → List KnownName → Scope
 scopeOf f l = record { variables = variables l; inLoop = none; function = f }
 
 -- ---- what a part of the run comes to, each with the calls so far
@@ -50,29 +50,29 @@ pub data Got (W A : Type 0) : Type 0 where
   wait : Calls W → Got W A
 
 -- a statement
-pub data Out (W : Type 0) : Type 0 where
-  normal : Values W → Calls W → Out W
-  broke : Values W → Calls W → Out W
-  continued : Values W → Calls W → Out W
-  returned : W → Calls W → Out W
-  stopped : Calls W → Out W
+pub data Ran (W : Type 0) : Type 0 where
+  normal : Values W → Calls W → Ran W
+  broke : Values W → Calls W → Ran W
+  continued : Values W → Calls W → Ran W
+  returned : W → Calls W → Ran W
+  stopped : Calls W → Ran W
   -- held up by a reply that is pending
-  held : Calls W → Out W
+  held : Calls W → Ran W
   -- out of turns
-  unfinished : Calls W → Out W
+  unfinished : Calls W → Ran W
 
 unfoldable pub bindG : {W A B : Type 0} → Got W A → (A → Calls W → Got W B) → Got W B
 bindG (value a h) f = f a h
 bindG (stop h) f = stop h
 bindG (wait h) f = wait h
 
-unfoldable pub bindO : {W A : Type 0} → Got W A → (A → Calls W → Out W) → Out W
+unfoldable pub bindO : {W A : Type 0} → Got W A → (A → Calls W → Ran W) → Ran W
 bindO (value a h) f = f a h
 bindO (stop h) f = stopped h
 bindO (wait h) f = held h
 
 -- one statement, then the next
-unfoldable pub bindS : {W : Type 0} → Out W → (Values W → Calls W → Out W) → Out W
+unfoldable pub bindS : {W : Type 0} → Ran W → (Values W → Calls W → Ran W) → Ran W
 bindS (normal σ h) f = f σ h
 bindS (broke σ h) f = broke σ h
 bindS (continued σ h) f = continued σ h
@@ -82,7 +82,7 @@ bindS (held h) f = held h
 bindS (unfinished h) f = unfinished h
 
 -- the body of a loop, then the next turn; a break leaves the loop
-unfoldable pub bindT : {W : Type 0} → Out W → (Values W → Calls W → Out W) → Out W
+unfoldable pub bindT : {W : Type 0} → Ran W → (Values W → Calls W → Ran W) → Ran W
 bindT (normal σ h) f = f σ h
 bindT (broke σ h) f = normal σ h
 bindT (continued σ h) f = f σ h
@@ -92,11 +92,11 @@ bindT (held h) f = held h
 bindT (unfinished h) f = unfinished h
 
 -- what the rule answers, of the type y; and the same as a bare value
-unfoldable pub answered : {W : Type 0} → ℕ → Answer W → Calls W → Got W (Datum W)
+unfoldable pub answered : {W : Type 0} → ℕ → ValueOrStop W → Calls W → Got W (Datum W)
 answered y (gives v) h = value (computed y v) h
 answered y halt h = stop h
 
-unfoldable pub bare : {W : Type 0} → Answer W → Calls W → Got W W
+unfoldable pub bare : {W : Type 0} → ValueOrStop W → Calls W → Got W W
 bare (gives v) h = value v h
 bare halt h = stop h
 
@@ -114,7 +114,7 @@ test holds h a b = a
 test fails h a b = b
 test halts h a b = stop h
 
-unfoldable pub testO : {W : Type 0} → Truth → Calls W → Out W → Out W → Out W
+unfoldable pub testO : {W : Type 0} → Truth → Calls W → Ran W → Ran W → Ran W
 testO holds h a b = a
 testO fails h a b = b
 testO halts h a b = stopped h
@@ -123,7 +123,7 @@ unfoldable pub typed : {W A : Type 0} → Result A → Calls W → (A → Got W 
 typed (ok a) h f = f a
 typed (err k r) h f = stop h
 
-unfoldable pub typedO : {W A : Type 0} → Result A → Calls W → (A → Out W) → Out W
+unfoldable pub typedO : {W A : Type 0} → Result A → Calls W → (A → Ran W) → Ran W
 typedO (ok a) h f = f a
 typedO (err k r) h f = stopped h
 
@@ -160,7 +160,7 @@ module _ {W : Type 0} (P : Program) (R : Rule W) where
       bindG (fitArguments (suc k) ds g h1) λ us h2. value (u ∷ us) h2
 
   -- 'Declare writes the zero value that the Rust writes, through the rule's copy or Zero as there'
-  unfoldable pub zeroOf : ℕ → Ty → Answer W
+  unfoldable pub zeroOf : ℕ → Ty → ValueOrStop W
   zeroOf y (TInt short unsigned) = R .copy y (read R (constant (IntLiteral (pos 0) short unsigned)))
   zeroOf y (TFloat short) = R .copy y (read R (constant (FloatLiteral 0 short)))
   zeroOf y TBool = R .copy y (read R (constant (BoolLiteral false)))
@@ -224,7 +224,7 @@ module _ {W : Type 0} (P : Program) (F : Functions) (f : Function) (R : Rule W) 
   callWith y (CallCast t) vs h = castFirst y vs h
 
   unfoldable mutual
-    pub evalExpr : Expr → List Known → Values W → Calls W → Got W (Datum W)
+    pub evalExpr : Expr → List KnownName → Values W → Calls W → Got W (Datum W)
     evalExpr (EInt r v short unsigned) N σ h = value (constant (IntLiteral v short unsigned)) h
     evalExpr (EFloat r b short) N σ h = value (constant (FloatLiteral b short)) h
     evalExpr (EStr r o n t) N σ h = value (constant (StringLiteral t)) h
@@ -241,18 +241,18 @@ module _ {W : Type 0} (P : Program) (F : Functions) (f : Function) (R : Rule W) 
         typed (resolve-call P F verb l (scopeOf f N) r) h λ callee.
         bindG (evalArgs l N σ h) λ vs h1. callWith y callee vs h1
 
-    pub evalArgs : Args → List Known → Values W → Calls W → Got W (List (Datum W))
+    pub evalArgs : Args → List KnownName → Values W → Calls W → Got W (List (Datum W))
     evalArgs noArgs N σ h = value [] h
     evalArgs (Value r e l) N σ h = bindG (evalExpr e N σ h) λ u h1. bindG (evalArgs l N σ h1) λ vs h2. value (u ∷ vs) h2
     evalArgs (ToType r y l) N σ h = evalArgs l N σ h
 
   -- ---- statements
 
-  unfoldable pub store : Text → Answer W → Values W → Calls W → Out W
+  unfoldable pub store : Text → ValueOrStop W → Values W → Calls W → Ran W
   store n u σ h = bindO (bare u h) λ v h1. normal (set σ n v) h1
 
   -- 'Init copies', fitted to the type y of a known name
-  unfoldable pub assign : Text → ℕ → Expr → List Known → Values W → Calls W → Out W
+  unfoldable pub assign : Text → ℕ → Expr → List KnownName → Values W → Calls W → Ran W
   assign n y e N σ h = bindO (evalExpr e N σ h) λ u h1. bindO (fit P R y u h1) λ u1 h2. store n (R .copy y (read R u1)) σ h2
 
   -- the type of a new name: that of its value, Address of Null for Null
@@ -260,40 +260,40 @@ module _ {W : Type 0} (P : Program) (F : Functions) (f : Function) (R : Rule W) 
   newType y = pick (eqb y nullType) addressOfNull y
 
   -- a new name, nothing fitted
-  unfoldable pub introduce : Text → Expr → List Known → Values W → Calls W → Out W
+  unfoldable pub introduce : Text → Expr → List KnownName → Values W → Calls W → Ran W
   introduce n e N σ h = typedO (get-type P F e (scopeOf f N)) h λ y. bindO (evalExpr e N σ h) λ u h1. store n (R .copy (newType y) (read R u)) σ h1
 
   -- 'A plain Init of a known name assigns'
-  unfoldable pub initialise : Bool → Option ℕ → Text → Expr → List Known → Values W → Calls W → Out W
+  unfoldable pub initialise : Bool → Option ℕ → Text → Expr → List KnownName → Values W → Calls W → Ran W
   initialise false (some y) n e N σ h = assign n y e N σ h
   initialise false none n e N σ h = introduce n e N σ h
   initialise true o n e N σ h = introduce n e N σ h
 
   -- 'Return returns, fitted as in the Rust'
-  unfoldable pub giveBack : Option ℕ → Expr → List Known → Values W → Calls W → Out W
+  unfoldable pub giveBack : Option ℕ → Expr → List KnownName → Values W → Calls W → Ran W
   giveBack none e N σ h = stopped h
   giveBack (some y) e N σ h = bindO (evalExpr e N σ h) λ u h1. bindO (fit P R y u h1) λ u1 h2.
       bindO (bare (R .return (some y) (read R u1)) h2) λ v h3. returned v h3
 
   -- a call statement; one that is a cast does not convert
-  unfoldable pub callOnly : Callee → Args → List Known → Values W → Calls W → Out W
+  unfoldable pub callOnly : Callee → Args → List KnownName → Values W → Calls W → Ran W
   callOnly (CallCast t) l N σ h = stopped h
   callOnly (CallFunction g) l N σ h = bindO (evalArgs l N σ h) λ vs h1. bindO (fitArguments P R 0 vs g h1) λ us h2.
       bindO (handed (A h2 (g .recOf) none (readAll R us) .0) (h2 ++ A h2 (g .recOf) none (readAll R us) .1)) λ v h3. normal σ h3
 
   -- 'A call statement whose expression is no call is typed and never run'
-  unfoldable pub callStatement : Expr → List Known → Values W → Calls W → Out W
+  unfoldable pub callStatement : Expr → List KnownName → Values W → Calls W → Ran W
   callStatement e N σ h = asCall e (normal σ h) λ c verb l. typedO (resolve-call P F verb l (scopeOf f N) c) h λ callee. callOnly callee l N σ h
 
   -- 'While tests truth': at most n turns
-  unfoldable pub turns : ℕ → (Values W → Calls W → Got W (Datum W)) → (Values W → Calls W → Out W) → Values W → Calls W → Out W
+  unfoldable pub turns : ℕ → (Values W → Calls W → Got W (Datum W)) → (Values W → Calls W → Ran W) → Values W → Calls W → Ran W
   turns zero cond body σ h = unfinished h
   turns (suc n) cond body σ h = bindO (cond σ h) λ v h1.
       testO (R .truth (read R v)) h1 (bindT (body σ h1) λ σ2 h2. turns n cond body σ2 h2) (normal σ h1)
 
   -- a For over x of type y: 'each turn tests, as a Bool, variable < fitted `until`', here computed and fitted anew each turn as the Rust does;
   -- '`continue` and the body's end add a literal 1 of its type', the sum written straight
-  unfoldable pub rounds : ℕ → Text → ℕ → Literal → (Values W → Calls W → Got W (Datum W)) → (Values W → Calls W → Out W) → Values W → Calls W → Out W
+  unfoldable pub rounds : ℕ → Text → ℕ → Literal → (Values W → Calls W → Got W (Datum W)) → (Values W → Calls W → Ran W) → Values W → Calls W → Ran W
   rounds zero x y one until body σ h = unfinished h
   rounds (suc n) x y one until body σ h = bindO (until σ h) λ d h1. bindO (fit P R y d h1) λ d1 h2.
       bindO (bare (R .binary Lt boolType (y, σ x) (read R d1)) h2) λ c h3.
@@ -302,33 +302,33 @@ module _ {W : Type 0} (P : Program) (F : Functions) (f : Function) (R : Rule W) 
       (normal σ h3)
 
   -- 'For copies the fitted `from` in'
-  unfoldable pub forLoop : ℕ → Text → ℕ → Literal → Expr → Expr → List Known → (Values W → Calls W → Out W) → Values W → Calls W → Out W
+  unfoldable pub forLoop : ℕ → Text → ℕ → Literal → Expr → Expr → List KnownName → (Values W → Calls W → Ran W) → Values W → Calls W → Ran W
   forLoop n x y one from until N body σ h = bindO (evalExpr from N σ h) λ d h1. bindO (fit P R y d h1) λ d1 h2.
       bindO (bare (R .copy y (read R d1)) h2) λ v h3. rounds n x y one (λ σ1 h4. evalExpr until N σ1 h4) body (set σ x v) h3
 
-  unfoldable pub forInt : ℕ → Text → ℕ → Expr → Expr → List Known → (Values W → Calls W → Out W) → Values W → Calls W → Out W
+  unfoldable pub forInt : ℕ → Text → ℕ → Expr → Expr → List KnownName → (Values W → Calls W → Ran W) → Values W → Calls W → Ran W
   forInt n x y from until N body σ h = onInt (P .typeOf y) (stopped h) λ short unsigned.
       forLoop n x y (IntLiteral (pos 1) short unsigned) from until N body σ h
 
   -- a variable of the loop's own, or of the blocks around; the body runs with the names that it is given
-  unfoldable pub forOver : ℕ → Text → Option ℕ → Option ℕ → Expr → Expr → List Known → (List Known → Values W → Calls W → Out W) → Values W → Calls W → Out W
+  unfoldable pub forOver : ℕ → Text → Option ℕ → Option ℕ → Expr → Expr → List KnownName → (List KnownName → Values W → Calls W → Ran W) → Values W → Calls W → Ran W
   forOver n x (some y) o from until N body σ h = forInt n x y from until N (body (record { name = x; ty = y } ∷ N)) σ h
   forOver n x none (some y) from until N body σ h = forInt n x y from until N (body N) σ h
   forOver n x none none from until N body σ h = stopped h
 
   -- the names that are known after a statement
-  unfoldable pub withNew : Text → Result ℕ → List Known → List Known
+  unfoldable pub withNew : Text → Result ℕ → List KnownName → List KnownName
   withNew n (ok y) N = record { name = n; ty = newType y } ∷ N
   withNew n (err k r) N = N
 
-  unfoldable pub knownInit : Bool → Option ℕ → Text → Result ℕ → List Known → List Known
+  unfoldable pub knownInit : Bool → Option ℕ → Text → Result ℕ → List KnownName → List KnownName
   knownInit false (some y) n t N = N
   knownInit false none n t N = withNew n t N
   knownInit true o n t N = withNew n t N
 
-  unfoldable pub knownAfter : Statement → List Known → List Known
+  unfoldable pub knownAfter : Statement → List KnownName → List KnownName
   knownAfter (SDeclare r n y) N = record { name = n; ty = y } ∷ N
-  knownAfter (SInit r c n e) N = knownInit c (typeIn n N) n (get-type P F e (scopeOf f N)) N
+  knownAfter (SInit r c n e) N = knownInit c (knownType n N) n (get-type P F e (scopeOf f N)) N
   knownAfter (SReturn r e) N = N
   knownAfter (SCall r e) N = N
   knownAfter (SIf r e a) N = N
@@ -340,27 +340,27 @@ module _ {W : Type 0} (P : Program) (F : Functions) (f : Function) (R : Rule W) 
 
   -- a statement, a block: with at most n turns of each entry of a loop
   unfoldable mutual
-    pub runStatement : Statement → ℕ → List Known → Values W → Calls W → Out W
+    pub runStatement : Statement → ℕ → List KnownName → Values W → Calls W → Ran W
     runStatement (SDeclare r n y) k N σ h = store n (zeroOf P R y (P .typeOf y)) σ h
-    runStatement (SInit r c n e) k N σ h = initialise c (typeIn n N) n e N σ h
+    runStatement (SInit r c n e) k N σ h = initialise c (knownType n N) n e N σ h
     runStatement (SReturn r e) k N σ h = giveBack (f .returnType) e N σ h
     runStatement (SCall r e) k N σ h = callStatement e N σ h
     runStatement (SIf r e a) k N σ h = bindO (evalExpr e N σ h) λ v h1. testO (R .truth (read R v)) h1 (runBlock a k N σ h1) (normal σ h1)
     runStatement (SIfElse r e a b) k N σ h = bindO (evalExpr e N σ h) λ v h1.
         testO (R .truth (read R v)) h1 (runBlock a k N σ h1) (runBlock b k N σ h1)
     runStatement (SWhile r e a) k N σ h = turns k (λ σ1 h1. evalExpr e N σ1 h1) (λ σ1 h1. runBlock a k N σ1 h1) σ h
-    runStatement (SFor r x y from until a) k N σ h = forOver k x y (typeIn x N) from until N (λ N1 σ1 h1. runBlock a k N1 σ1 h1) σ h
+    runStatement (SFor r x y from until a) k N σ h = forOver k x y (knownType x N) from until N (λ N1 σ1 h1. runBlock a k N1 σ1 h1) σ h
     runStatement (SBreak r) k N σ h = broke σ h
     runStatement (SContinue r) k N σ h = continued σ h
 
-    pub runBlock : Block → ℕ → List Known → Values W → Calls W → Out W
+    pub runBlock : Block → ℕ → List KnownName → Values W → Calls W → Ran W
     runBlock done k N σ h = normal σ h
     runBlock (next t b) k N σ h = bindS (runStatement t k N σ h) λ σ1 h1. runBlock b k (knownAfter t N) σ1 h1
 
 -- ---- the whole run of a function over its parameters' values, vs
 
 -- the parameters' names, the last declared first
-unfoldable pub parametersKnown : List Param → List Known → List Known
+unfoldable pub parametersKnown : List Param → List KnownName → List KnownName
 parametersKnown [] N = N
 parametersKnown (p ∷ l) N = parametersKnown l (record { name = p .name; ty = p .ty } ∷ N)
 
@@ -370,6 +370,6 @@ parameterValues (p ∷ l) [] σ = σ
 parameterValues (p ∷ l) (v ∷ vs) σ = parameterValues l vs (set σ (p .name) v)
 
 -- with at most n turns of each entry of a loop; no other name has a value that is ever read
-unfoldable pub treeRun : {W : Type 0} → Program → Functions → Function → Rule W → Answers W → Block → List W → ℕ → Out W
+unfoldable pub treeRun : {W : Type 0} → Program → Functions → Function → Rule W → Answers W → Block → List W → ℕ → Ran W
 treeRun P F f R A b vs n =
     runBlock P F f R A b n (parametersKnown (f .params) []) (parameterValues (f .params) vs (λ t. R .literal NullContent nullType)) []

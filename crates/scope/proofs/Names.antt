@@ -27,7 +27,7 @@ use Rattle.scope.specs.declared.Scope.{Scope}
 use Rattle.scope.specs.declared.Known.{Known}
 use Rattle.scope.specs.declared.Known.the-variants as Known
 use Rattle.scope.specs.declared.Declared.the-variants as Declared
-use Rattle.scope.specs.Open.{variableAt, variablesAt, variablesOf, Room, nameIs, VariableAt, IsFound, FindMeets, more, variable, entryOf, Afforded, DeclareMeets}
+use Rattle.scope.specs.Open.{variableAt, variablesAt, variablesOf, NamesRoom, nameIs, VariableAt, IsFound, FindMeets, more, variable, nameEntry, NameAfforded, DeclareMeets}
 use Rattle.scope.proofs.ScopeLaws.{kept-above, variables-kept, entry-long}
 
 -- ---- the loop
@@ -115,9 +115,9 @@ unfolding boolNumber
 mark-small y true h = omega arith
 mark-small y false h = omega arith
 
-module _ (text : List ℕ) (offset len : ℕ) (v : VarId) (constant : Bool) (sc : Scope) (s s′ : List ℕ) (room : Room sc s) (afforded : Afforded sc v) where
+module _ (text : List ℕ) (offset len : ℕ) (v : VarId) (constant : Bool) (sc : Scope) (s s′ : List ℕ) (room : NamesRoom sc s) (afforded : NameAfforded sc v) where
   abbrev bytes : List ℕ
-  bytes = entryOf offset len v constant
+  bytes = nameEntry offset len v constant
 
   abbrev place : ℕ
   place = 8 * sc .records + 16 * sc .names
@@ -192,7 +192,7 @@ module _ (text s : List ℕ) (sc : Scope) (offset len : ℕ) (a : Found)
   declare-at v constant j q =
       declare-taken text offset len v constant sc s j (found-some (last (sc .names) (nameIs text s (sc .records) (textAt text offset len))) j a e q)
 
-  pub declare-new : (v : VarId) (constant : Bool) (b : ℕ) (s′ : List ℕ) → Room sc s → Afforded sc v → offset < 2 ^ 32 → len < 2 ^ 32 → v .0 < 2 ^ 32
+  pub declare-new : (v : VarId) (constant : Bool) (b : ℕ) (s′ : List ℕ) → NamesRoom sc s → NameAfforded sc v → offset < 2 ^ 32 → len < 2 ^ 32 → v .0 < 2 ^ 32
       → b ≡ boolNumber constant → a ≡ Nothing
       → s′ ≡ splice s (8 * sc .records + 16 * sc .names) (word offset ++ word len ++ word (v .0) ++ word (2 * v .1 + b))
       → DeclareMeets text offset len v constant sc s s′ (Declared.Done (more sc))

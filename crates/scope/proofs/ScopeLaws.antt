@@ -25,10 +25,15 @@ use Rattle.scope.specs.declared.Scope.{Scope}
 use Rattle.scope.specs.declared.Known.the-variants as Known
 use Rattle.scope.specs.declared.InLoop.{InLoop}
 use Rattle.scope.specs.declared.InLoop.the-variants as InLoop
-use Rattle.scope.specs.Open.{variableAt, variablesAt, variablesOf, loopNumber, scopeAt, Room, IsFound, FindMeets, variable, entryOf, Afforded, Added, Taken, within, loopOf, Kept}
+use Rattle.scope.specs.Open.{variableAt, variablesAt, variablesOf, loopNumber, scopeAt, NamesRoom, IsFound, FindMeets, variable, nameEntry, NameAfforded, Added, Taken, within, loopOf}
 use Rattle.records.proofs.Apart.{byte-apart, word-same}
 
 -- ---- bytes that stay
+
+-- the bytes of the first m open names are what they were, and the scratch is as long
+pub record Kept (n m : ℕ) (s s′ : List ℕ) : Type 0 where
+  pub bytes : (j : ℕ) → 8 * n ≤ j → j < 8 * n + 16 * m → getD s′ j 0 ≡ getD s j 0
+  pub long : length s′ ≡ length s
 
 pub kept-refl : (n m : ℕ) (s : List ℕ) → Kept n m s s
 kept-refl n m s = record { bytes = λ j a b. refl; long = refl }
@@ -51,11 +56,11 @@ module _ (n m : ℕ) (s : List ℕ) (i : ℕ) (vs s′ : List ℕ) (e : s′ ≡
     long = ap length e ∙ length-splice s i vs fit;
   }
 
-pub room-kept : (s s′ : List ℕ) (sc : Scope) → length s′ ≡ length s → Room sc s → Room sc s′
+pub room-kept : (s s′ : List ℕ) (sc : Scope) → length s′ ≡ length s → NamesRoom sc s → NamesRoom sc s′
 room-kept s s′ sc e r = record { scratch = omega (arith, e, r .scratch); names-in = r .names-in }
 
 -- the same of the whole region, as the layout has it: bytes 8n to 24n
-pub region-kept : (s s′ : List ℕ) (sc : Scope) → Room sc s → length s′ ≡ length s
+pub region-kept : (s s′ : List ℕ) (sc : Scope) → NamesRoom sc s → length s′ ≡ length s
     → ((j : ℕ) → 8 * sc .records ≤ j → j < 24 * sc .records → getD s′ j 0 ≡ getD s j 0) → Kept (sc .records) (sc .names) s s′
 region-kept s s′ sc r e f = record { bytes = λ j a b. f j a (omega (arith, r .names-in)); long = e }
 
@@ -86,7 +91,7 @@ scope-kept tree text s s′ sc k = rw (variables-kept text s s′ (sc .records) 
 
 -- ---- one name more
 
-pub entry-long : (offset len : ℕ) (v : VarId) (constant : Bool) → length (entryOf offset len v constant) ≡ 16
+pub entry-long : (offset len : ℕ) (v : VarId) (constant : Bool) → length (nameEntry offset len v constant) ≡ 16
 unfolding word bytesOf
 entry-long offset len v constant = refl
 
@@ -96,22 +101,22 @@ module _ (tree text : List ℕ) (offset len : ℕ) (v : VarId) (constant : Bool)
 
   module _ (sc′ : Scope) (a : Added text offset len v constant sc s s′ sc′) where
     -- what was written lies inside the scratch
-    pub added-fits : Room sc s → Afforded sc v → 8 * sc .records + 16 * sc .names + length (entryOf offset len v constant) ≤ length s
+    pub added-fits : NamesRoom sc s → NameAfforded sc v → 8 * sc .records + 16 * sc .names + length (nameEntry offset len v constant) ≤ length s
     added-fits r f = omega (arith, entry-long offset len v constant, r .scratch, f .names)
 
-    pub added-long : Room sc s → Afforded sc v → length s′ ≡ length s
-    added-long r f = ap length (a .written) ∙ length-splice s (8 * sc .records + 16 * sc .names) (entryOf offset len v constant) (added-fits r f)
+    pub added-long : NamesRoom sc s → NameAfforded sc v → length s′ ≡ length s
+    added-long r f = ap length (a .written) ∙ length-splice s (8 * sc .records + 16 * sc .names) (nameEntry offset len v constant) (added-fits r f)
 
-    pub added-room : Room sc s → Afforded sc v → Room sc′ s′
+    pub added-room : NamesRoom sc s → NameAfforded sc v → NamesRoom sc′ s′
     added-room r f = rw (a .scope) (record { scratch = omega (arith, added-long r f, r .scratch); names-in = omega (arith, f .names) })
 
     -- the names from before stay
-    pub added-keeps : Room sc s → Afforded sc v → Kept (sc .records) (sc .names) s s′
+    pub added-keeps : NamesRoom sc s → NameAfforded sc v → Kept (sc .records) (sc .names) s s′
     added-keeps r f =
-        kept-above (sc .records) (sc .names) s (8 * sc .records + 16 * sc .names) (entryOf offset len v constant) s′ (a .written) (added-fits r f) (omega arith)
+        kept-above (sc .records) (sc .names) s (8 * sc .records + 16 * sc .names) (nameEntry offset len v constant) s′ (a .written) (added-fits r f) (omega arith)
 
     -- a block is left: a name was declared, and then what follows kept it with those before; those before stay
-    pub block-keeps : (s₂ : List ℕ) → Room sc s → Afforded sc v → Kept (sc′ .records) (sc′ .names) s′ s₂ → Kept (sc .records) (sc .names) s s₂
+    pub block-keeps : (s₂ : List ℕ) → NamesRoom sc s → NameAfforded sc v → Kept (sc′ .records) (sc′ .names) s′ s₂ → Kept (sc .records) (sc .names) s s₂
     block-keeps s₂ r f k =
         kept-then (sc .records) (sc .names) (sc .names + 1) s s′ s₂ (omega arith) (added-keeps r f)
         (subst (λ (x : Scope). Kept (x .records) (x .names) s′ s₂) (a .scope) k)

@@ -6,7 +6,7 @@ use mathlib.Core.Bool.{Bool}
 use mathlib.Core.List.{List, [], _∷_, _++_}
 use mathlib.Core.Option.{Option, none, some}
 use lib.Dec.{eqb}
-use lib.ListN.{length, getD}
+use lib.ListN.{length}
 use Rattle.laws.specs.Fix.{pick}
 use Rattle.laws.specs.Splice.{splice}
 use Rattle.records.specs.Words as Words
@@ -59,7 +59,7 @@ unfolding variablesAt loopNumber functionOf
 scopeAt tree text s sc = record { variables = variablesOf text s sc; inLoop = loopNumber (sc .inner); function = functionOf tree text (sc .function) }
 
 -- the open names stay within their region, and the scratch is as long as document 01 lends it
-pub record Room (sc : Scope) (s : List ℕ) : Type 0 where
+pub record NamesRoom (sc : Scope) (s : List ℕ) : Type 0 where
   pub scratch : 64 * sc .records ≤ length s
   pub names-in : sc .names ≤ sc .records
 
@@ -93,11 +93,11 @@ abbrev pub variable : List ℕ → ℕ → ℕ → VarId → Bool → Variable
 variable text offset len v constant = record { name = textAt text offset len; constant = constant; var-id = varOf v }
 
 -- the entry of a variable
-abbrev pub entryOf : ℕ → ℕ → VarId → Bool → List ℕ
-entryOf offset len v constant = word offset ++ word len ++ word (v .0) ++ word (2 * v .1 + boolNumber constant)
+abbrev pub nameEntry : ℕ → ℕ → VarId → Bool → List ℕ
+nameEntry offset len v constant = word offset ++ word len ++ word (v .0) ++ word (2 * v .1 + boolNumber constant)
 
 -- a name more is afforded, and its type has room beside the mark
-pub record Afforded (sc : Scope) (v : VarId) : Type 0 where
+pub record NameAfforded (sc : Scope) (v : VarId) : Type 0 where
   pub names : sc .names < sc .records
   pub type : v .1 < 2147483648
 
@@ -105,7 +105,7 @@ module _ (text : List ℕ) (offset len : ℕ) (v : VarId) (constant : Bool) (sc 
   -- the name was free; its entry stands behind the others, and the variable is the innermost
   pub record Added (sc′ : Scope) : Type 0 where
     pub scope : sc′ ≡ more sc
-    pub written : s′ ≡ splice s (8 * sc .records + 16 * sc .names) (entryOf offset len v constant)
+    pub written : s′ ≡ splice s (8 * sc .records + 16 * sc .names) (nameEntry offset len v constant)
     pub free : findIn (textAt text offset len) (variablesOf text s sc) ≡ none
     pub added : variablesOf text s′ sc′ ≡ variable text offset len v constant ∷ variablesOf text s sc
 
@@ -129,10 +129,3 @@ within r sc = record { records = sc .records; names = sc .names; inner = r; func
 abbrev pub loopOf : InLoop → Option ℕ
 loopOf (InLoop.Of r) = some r
 loopOf InLoop.Outside = none
-
--- ---- what others leave
-
--- the bytes of the first m open names are what they were, and the scratch is as long
-pub record Kept (n m : ℕ) (s s′ : List ℕ) : Type 0 where
-  pub bytes : (j : ℕ) → 8 * n ≤ j → j < 8 * n + 16 * m → getD s′ j 0 ≡ getD s j 0
-  pub long : length s′ ≡ length s

@@ -6,7 +6,7 @@ ghost use lib.ListN.{length};
 ghost use Rattle.records.specs.Words.{textAt};
 ghost use Rattle.ir.specs.Search.{foundOf};
 ghost use Rattle.laws.specs.Below.{last};
-ghost use Rattle.scope.specs.Open.{nameIs, Room, VariableAt, FindMeets, Afforded, DeclareMeets, within, loopNumber, loopOf};
+ghost use Rattle.scope.specs.Open.{nameIs, NamesRoom, VariableAt, FindMeets, NameAfforded, DeclareMeets, within, loopNumber, loopOf};
 use ir::structs::VarId;
 use records::texts::same_text;
 use records::words::Found;
@@ -86,7 +86,7 @@ fn variable_at(scratch: &[u8], records: usize, j: usize) -> Known
 impl Scope {
     // The variable of this name, in this block or those around it.
     pub fn find_variable(self, text: &[u8], scratch: &[u8], offset: u32, len: u32) -> Known
-        requires { ⌜ Room self (now scratch) ⌝ }
+        requires { ⌜ NamesRoom self (now scratch) ⌝ }
         ensures { λ r. ⌜ FindMeets (now (text .entry)) (now (scratch .entry)) self (textAt (now (text .entry)) offset len) r ⌝ }
     {
         let n = self.records;
@@ -108,8 +108,8 @@ impl Scope {
         v: VarId,
         constant: bool,
     ) -> Declared
-        requires { ⌜ Room self (now scratch) ⌝ }
-        requires { ⌜ Afforded self v ⌝ }
+        requires { ⌜ NamesRoom self (now scratch) ⌝ }
+        requires { ⌜ NameAfforded self v ⌝ }
         ensures { λ r. ⌜ DeclareMeets (now (text .entry)) offset len v constant self (now (scratch .entry)) (now (scratch .exit)) r ⌝ }
     {
         let n = self.records;

@@ -3,7 +3,7 @@
 use mathlib.Core.Path.{_≡_, refl, sym, ap, _∙_, subst}
 use mathlib.Core.Logic.{_⊎_, inl, inr}
 use mathlib.Core.List.{List, [], _∷_, _++_, append-assoc, append-nil}
-use Prim.Native.Nat.{ℕ, zero, suc, _+_, _-_, _*_, _≤_, _<_}
+use Prim.Native.Nat.{ℕ, suc, _+_, _-_, _*_, _≤_, _<_}
 use native.Mathlib.Omega.{arith}
 use lib.Dec.{ltb}
 use lib.ListN.{length}
@@ -16,9 +16,9 @@ use Rattle.records.specs.declared.convert_error.ConvertError.{ConvertError}
 use Rattle.records.specs.Words.{wordOf, records, none, A, B, C}
 use Rattle.records.specs.Good.{Good}
 use Rattle.syntax.specs.Syntax.{Args, noArgs, Value, ToType}
-use Rattle.syntax.specs.Count.{under, argsRecords}
+use Rattle.syntax.specs.Count.{under, argsRecords, argsUnder, argsValues}
 use Rattle.syntax.specs.Decode.{program}
-use Rattle.syntax.specs.Places.{IsKind, ArgsAt, exprAt, argsAt}
+use Rattle.syntax.specs.Places.{IsExpr, IsKind, ArgsAt, exprAt, argsAt}
 use Rattle.syntax.proofs.Records.{expr-call}
 use Rattle.syntax.proofs.Lists.{left, left-some, args-end, cell-below, next-list, next-falls}
 use Rattle.conversion.specs.ConvertError.{ConvertErrorKind, ok}
@@ -27,8 +27,6 @@ use Rattle.conversion.specs.Ir.{M, _>>=_, pure}
 use Rattle.conversion.specs.Scope as Def
 use Rattle.conversion.specs.Expressions.{Callee}
 use Rattle.conversion.specs.Statements.{convert-expr, convert-args, convert-call-value}
-use Rattle.conversion.specs.Written.{word, wide, bytesOf}
-use Rattle.types.specs.Fits.{IsExpr}
 use Rattle.ir.specs.declared.structs.Counters.{Counters}
 use Rattle.ir.specs.declared.structs.Operand.{Operand}
 use Rattle.ir.specs.Amounts.{amount, Spent}
@@ -46,7 +44,7 @@ use Rattle.expressions.proofs.answers.Resolved.{the-type}
 use Rattle.expressions.specs.declared.arguments.Argument.{Argument}
 use Rattle.expressions.specs.declared.arguments.Argument.the-variants as Argument
 use Rattle.expressions.specs.Answers.{refusal, calleeOf, ArgumentIs, CallMeets}
-use Rattle.expressions.proofs.SlotLaws.{ready-frame, scope-frame}
+use Rattle.expressions.proofs.SlotLaws.{scope-frame}
 use Rattle.expressions.proofs.ArgumentTurns.{ValueCell, TypeCell}
 use Rattle.expressions.proofs.TypingLaws.{call-list, call-low}
 use Rattle.statements.specs.declared.answers.Converter.{Converter}
@@ -55,12 +53,13 @@ use Rattle.statements.specs.declared.answers.Converted.the-variants as C
 use Rattle.statements.specs.declared.answers.ConvertedArgs.{ConvertedArgs}
 use Rattle.statements.specs.declared.answers.ConvertedArgs.the-variants as ConvertedArgs
 use Rattle.statements.specs.Stack.{entryAt, operandBytes, operandAt, stackAt}
-use Rattle.statements.specs.Converting.{Converting, withCounters, Afforded, ExprAfforded, ArgsAfforded, exprAmount, argsAmount, argsUnder, argsValues, OperandIn, StackIn, Stays, StaysFor, NamesStay}
+use Rattle.statements.specs.Converting.{Converting, withCounters, Afforded, ExprAfforded, ArgsAfforded, exprAmount, argsAmount, OperandIn, StackIn, Stays, StaysFor, NamesStay}
 use Rattle.statements.specs.Meets.{AddsIn}
 use Rattle.statements.specs.Parts.{finishCall}
 use Rattle.statements.specs.Answers.{convertedOf, argsOf, Converts, ConvertsArgs, exprSteps, argsSteps, callSteps}
 use Rattle.statements.proofs.MeetLaws.{meets-gave, meets-refused, meets-most, meets-then, meets-stop, meets-lift, meets-lift-stop}
-use Rattle.statements.proofs.StayLaws.{stays-refl, names-refl, names-then, names-of, frame-names, stays-then, frame-stays, operand-stays, scope-stays, ready-stays, operand-kept, stack-kept, converting-next}
+use Rattle.statements.proofs.StayLaws.{stays-refl, names-refl, names-then, names-of, frame-names, stays-then, frame-stays, operand-stays, scope-stays, ready-stays, operand-kept, stack-kept, converting-next, converting-frame}
+use Rattle.statements.proofs.StackLaws.{operand-long, stack-last}
 use Rattle.statements.proofs.ConvertLaws.{converted-next, converting-after}
 
 module _ (tree text : List ℕ) (S : Def.Scope) where
@@ -100,12 +99,7 @@ module _ {tree text l s : List ℕ} {c : Converter} {e : ℕ} (p : Converting tr
   call-under = ap under (expr-call tree text (p .ready .keyed .good) e (x .below) (x .kind))
 
   pub called-converting : Converting tree text l s₁ c
-  called-converting = record {
-    ready = ready-frame tree s s₁ (m .frame) text (c .functions) (c .scope) (p .ready);
-    function = p .function;
-    records-are = p .records-are;
-    room = p .room;
-  }
+  called-converting = converting-frame p (m .frame)
 
   pub called-afforded : ArgsAfforded tree text c W
   called-afforded = omega (arith, f, call-under, args-count (argsAt tree text W))
@@ -172,17 +166,6 @@ module _ {tree text l s : List ℕ} {c : Converter} {e : ℕ} (p : Converting tr
           }
 
 -- ---- the loop
-
-operand-long : (o : Ir.Operand) → length (operandBytes o) ≡ 16
-unfolding operandBytes word wide bytesOf
-operand-long o = refl
-
--- the last of the entries
-stack-last : (s : List ℕ) (n j count : ℕ) → stackAt s n j (suc count) ≡ stackAt s n j count ++ (operandAt s n (j + count) ∷ [])
-unfolding stackAt
-stack-last s n j zero = ap (λ (i : ℕ). operandAt s n i ∷ []) (omega arith)
-stack-last s n j (suc count) =
-    ap (λ (r : List Ir.Operand). operandAt s n j ∷ r) (stack-last s n (suc j) count ∙ ap (λ (i : ℕ). stackAt s n (suc j) count ++ (operandAt s n i ∷ [])) (omega arith))
 
 -- of the values of the call e those from cell w on are left; the others wait on the stack
 pub record ArgsLeft (tree text l₀ s₀ : List ℕ) (c : Converter) (e : ℕ) (l s : List ℕ) (w : ℕ) (at : Converter) : Type 0 where

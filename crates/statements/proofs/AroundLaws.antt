@@ -15,7 +15,7 @@ use Rattle.records.specs.Rules.{isExpr}
 use Rattle.records.specs.Good.{Good}
 use Rattle.syntax.specs.Syntax.{unaryOps, binaryOps, Neg, Or, Program, Function}
 use Rattle.syntax.specs.Decode.{program}
-use Rattle.syntax.specs.Places.{IsKind, TypeAt, FunctionAt, functionOf, exprAt}
+use Rattle.syntax.specs.Places.{IsExpr, IsKind, TypeAt, FunctionAt, functionOf, exprAt}
 use Rattle.syntax.proofs.Records.{function-rec}
 use Rattle.conversion.specs.ConvertError.{Result, ok, err, WouldPanic}
 use Rattle.conversion.specs.Ir as Ir
@@ -23,7 +23,6 @@ use Rattle.conversion.specs.Ir.{OVar, Unary, Binary, Cast, Call, logicRhs, logi
 use Rattle.conversion.specs.Expressions.{Functions, Callee, CallFunction, CallCast, common-type}
 use Rattle.conversion.specs.Statements.{fit-operand, castFirst, callFunction, callValue}
 use Rattle.conversion.proofs.MonadLaws.{regroup, seq-is}
-use Rattle.types.specs.Fits.{IsExpr}
 use Rattle.types.proofs.FromGood.{is-expr}
 use Rattle.ir.specs.declared.structs.Counters.{Counters}
 use Rattle.ir.specs.declared.structs.VarId.{VarId}
@@ -45,7 +44,7 @@ use Rattle.expressions.specs.declared.answers.Common.{Common}
 use Rattle.expressions.specs.declared.answers.Common.the-variants as Common
 use Rattle.expressions.specs.declared.answers.Resolved.{Resolved}
 use Rattle.expressions.specs.declared.answers.Resolved.the-variants as Resolved
-use Rattle.expressions.specs.Answers.{refusal, typeOf, commonOf, calleeOf, IsTyped, IsCommon, IsCallee, CommonMeets}
+use Rattle.expressions.specs.Answers.{refusal, typeResult, commonResult, calleeOf, IsTyped, IsCommon, IsCallee, CommonMeets}
 use Rattle.expressions.proofs.TypingLaws.{left-expr, right-expr}
 use Rattle.statements.specs.declared.answers.Converter.{Converter}
 use Rattle.statements.specs.declared.answers.Converted.{Converted}
@@ -161,25 +160,25 @@ is-common {tree = tree} {y = y} t q = go (subst (λ (z : Common). IsCommon tree 
 
 module _ {tree text s s′ : List ℕ} (c : Converter) (e y : ℕ) {a b : ℕ} {t : Common} (ea : a ≡ wordOf tree e A) (eb : b ≡ wordOf tree e B)
     (m : CommonMeets tree text s (c .scope) a b t s′) where
-  meets-as : (u : ExprType) → operandType (commonOf t) y ≡ typeOf u
-      → operandType (common-type (program tree text) (allKeys tree text) (exprAt tree text (wordOf tree e A)) (exprAt tree text (wordOf tree e B)) (scopeAt tree text s (c .scope))) y ≡ typeOf u
+  meets-as : (u : ExprType) → operandType (commonResult t) y ≡ typeResult u
+      → operandType (common-type (program tree text) (allKeys tree text) (exprAt tree text (wordOf tree e A)) (exprAt tree text (wordOf tree e B)) (scopeAt tree text s (c .scope))) y ≡ typeResult u
   meets-as u q = rw (← ea, ← eb) (ap (λ (z : Result (Option ℕ)). operandType z y) (m .meets) ∙ q)
 
   pub common-refused : (x : ConvertError) → t ≡ Common.Refused x → OperandTyped tree text s c e y (ExprType.Refused x) s′
-  unfolding operandType commonOf typeOf
-  common-refused x q = record { frame = m .frame; typed = IsTyped.no; meets = meets-as (ExprType.Refused x) (ap (λ (z : Common). operandType (commonOf z) y) q) }
+  unfolding operandType commonResult typeResult
+  common-refused x q = record { frame = m .frame; typed = IsTyped.no; meets = meets-as (ExprType.Refused x) (ap (λ (z : Common). operandType (commonResult z) y) q) }
 
   pub common-is : (z : ℕ) → t ≡ Common.Is z → OperandTyped tree text s c e y (ExprType.Is z) s′
-  unfolding operandType commonOf typeOf
+  unfolding operandType commonResult typeResult
   common-is z q = record {
     frame = m .frame;
     typed = IsTyped.is (is-common (m .common) q);
-    meets = meets-as (ExprType.Is z) (ap (λ (z : Common). operandType (commonOf z) y) q);
+    meets = meets-as (ExprType.Is z) (ap (λ (z : Common). operandType (commonResult z) y) q);
   }
 
   pub common-neither : t ≡ Common.Neither → TypeAt tree y → OperandTyped tree text s c e y (ExprType.Is y) s′
-  unfolding operandType commonOf typeOf
-  common-neither q h = record { frame = m .frame; typed = IsTyped.is h; meets = meets-as (ExprType.Is y) (ap (λ (z : Common). operandType (commonOf z) y) q) }
+  unfolding operandType commonResult typeResult
+  common-neither q h = record { frame = m .frame; typed = IsTyped.is h; meets = meets-as (ExprType.Is y) (ap (λ (z : Common). operandType (commonResult z) y) q) }
 
 -- ---- calls
 

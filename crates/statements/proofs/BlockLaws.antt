@@ -41,7 +41,7 @@ use Rattle.statements.specs.declared.answers.Stated.{Stated}
 use Rattle.statements.specs.declared.answers.Stated.the-variants as Stated
 use Rattle.statements.specs.declared.answers.Finished.{Finished}
 use Rattle.statements.specs.declared.answers.Finished.the-variants as Finished
-use Rattle.statements.specs.Meets.{Answer, gave, refused, Adds, AddsIn, Meets}
+use Rattle.statements.specs.Meets.{StepAnswer, gave, refused, Adds, AddsIn, Meets}
 use Rattle.statements.specs.Converting.{Converting, withCounters, BehindAfforded, StatementAfforded, behindAmount, blockAmount}
 use Rattle.statements.specs.Parts.{loopBack}
 use Rattle.statements.specs.Answers.{statedWith, Leaves, States, Finishes, scopeIn, statementSteps, blockSteps, declareSteps, initSteps, returnSteps, callStatementSteps, breakSteps, continueSteps, plainSteps, jumpSteps, ifSteps, whileSteps, forSteps, StatesAs, FinishesAs, StatementAs, BlockAs}
@@ -205,7 +205,7 @@ module _ {X Y : Type 0} {tree text l s l₁ s₁ : List ℕ} {n₁ : Amount} {c 
   pub block-stop : {n : Amount} {z : ConvertError} → a ≡ Finished.Refused z → Meets text (m >> f) n (c .counters) l l₁ (refused z)
   block-stop q = meets-same text (drop-is m f) (meets-refused text (p .meets .long) (stop-first text (λ (u : Unit {0}). f) (finished-stop p q)))
 
-  pub block-then : {n₂ : Amount} {k : Counters} {l₂ : List ℕ} {b : Answer Y} → a ≡ Finished.Done k → Meets text f n₂ k l₁ l₂ b → Meets text (m >> f) (both n₁ n₂) (c .counters) l l₂ b
+  pub block-then : {n₂ : Amount} {k : Counters} {l₂ : List ℕ} {b : StepAnswer Y} → a ≡ Finished.Done k → Meets text f n₂ k l₁ l₂ b → Meets text (m >> f) (both n₁ n₂) (c .counters) l l₂ b
   block-then q i = meets-drop text m f (p .meets .long) (finished-next p q) i
 
 -- the last step, and the scope as it was

@@ -39,7 +39,7 @@ use Rattle.statements.specs.declared.answers.Stated.the-variants as Stat
 use Rattle.statements.specs.declared.answers.Finished.{Finished}
 use Rattle.statements.specs.declared.answers.Finished.the-variants as Finished
 use Rattle.statements.proofs.answers.Finished.{the-type}
-use Rattle.statements.specs.Meets.{Answer, gave, Adds, AddsIn, Meets}
+use Rattle.statements.specs.Meets.{StepAnswer, gave, Adds, AddsIn, Meets}
 use Rattle.statements.specs.Converting.{Converting, withCounters, RoomFor, BehindAfforded, BlockAfforded, StaysFor, blockAmount, headAmount, forHeadAmount}
 use Rattle.statements.specs.Parts.{placeLabel, ifHead, ifMiddle, loopBack, forHead, forVariable, forTurns, forBounds, forBegin, forTest, knownVariable}
 use Rattle.statements.specs.Answers.{statedOf, blockSteps, ifSteps, whileSteps, forSteps, ifHeadSteps, whileHeadSteps, forHeadSteps, FinishesAs, HeadAs, ForHeadAs, boundsUnder, BlockAs, Finishes}
@@ -321,7 +321,7 @@ module _ {tree text l s : List ℕ} {c : Converter} {r : ℕ} (p : Converting tr
         then-stays = stays-then (omega arith) (omega arith) (h .stays) (g .stays)
 
         -- what follows the head and the first block
-        behind-then : {n : Amount} {k₁ : Counters} {l′ : List ℕ} {y : Answer Def.Scope} → b ≡ Finished.Done k₁ → Meets text (last otherwise) n k₁ l₂ l′ y
+        behind-then : {n : Amount} {k₁ : Counters} {l′ : List ℕ} {y : StepAnswer Def.Scope} → b ≡ Finished.Done k₁ → Meets text (last otherwise) n k₁ l₂ l′ y
             → Meets text (ifSteps tree text s c r) (both (headAmount (under (exprAt tree text (wordOf tree r A)))) (both (blockAmount (bodySize tree text (wordOf tree r B))) n)) (c .counters) l l′ y
         behind-then u i = meets-same text if-rows (seq-then text (then >> last otherwise) (h .meets .long) (finished-next h q) (block-then then first (last otherwise) u i))
 
@@ -365,7 +365,7 @@ module _ {tree text l s : List ℕ} {c : Converter} {r : ℕ} (p : Converting tr
                 other-stays : StaysFor tree c s s₃
                 other-stays = stays-then (omega arith) (omega arith) then-stays (j .stays)
 
-                behind-other : {n : Amount} {l′ : List ℕ} {y : Answer Def.Scope} → Meets text (other >> (placeLabel (conditionEnd r) >> pure Q)) n k₂ l₃ l′ y
+                behind-other : {n : Amount} {l′ : List ℕ} {y : StepAnswer Def.Scope} → Meets text (other >> (placeLabel (conditionEnd r) >> pure Q)) n k₂ l₃ l′ y
                     → Meets text (last otherwise) (both (amount 2 0 2 0 0) n) k₁ l₂ l′ y
                 unfolding pick
                 behind-other {n} {l′} {y} m = subst (λ (w : Bool). Meets text (last w) (both (amount 2 0 2 0 0) n) k₁ l₂ l′ y) (sym some ∙ eh)

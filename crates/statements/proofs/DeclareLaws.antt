@@ -48,7 +48,7 @@ use Rattle.scope.specs.declared.Declared.{Declared}
 use Rattle.scope.specs.declared.Declared.the-variants as Declared
 use Rattle.scope.specs.declared.InLoop.{InLoop}
 use Rattle.scope.specs.declared.InLoop.the-variants as InLoop
-use Rattle.scope.specs.Open.{Room, Afforded as NameAfforded, Added, Taken, DeclareMeets, IsFound, FindMeets, variableAt, variablesAt, variablesOf, loopOf, loopNumber, scopeAt, entryOf}
+use Rattle.scope.specs.Open.{NamesRoom, NameAfforded, Added, Taken, DeclareMeets, IsFound, FindMeets, variableAt, variablesAt, variablesOf, loopOf, loopNumber, scopeAt, nameEntry}
 use Rattle.scope.proofs.ScopeLaws.{entry-long, added-entry, added-room, declare-ok, declare-err, in-loop}
 use Rattle.keys.specs.Keys.{allKeys}
 use Rattle.expressions.specs.Slots.{Ready}
@@ -57,7 +57,7 @@ use Rattle.statements.specs.declared.answers.Converter.{Converter}
 use Rattle.statements.specs.declared.answers.Stated.the-variants as Stated
 use Rattle.statements.specs.declared.answers.Finished.{Finished}
 use Rattle.statements.specs.declared.answers.Finished.the-variants as Finished
-use Rattle.statements.specs.Meets.{Answer, gave, refused, Adds, Meets}
+use Rattle.statements.specs.Meets.{StepAnswer, gave, refused, Adds, Meets}
 use Rattle.statements.specs.Converting.{Converting, RoomFor, BehindAfforded, StaysFor, behindAmount}
 use Rattle.statements.specs.Parts.{jumpTo, zeroFloat}
 use Rattle.statements.specs.Answers.{finishedOf, Leaves, States, StatesAs, declareSteps, breakSteps, continueSteps}
@@ -84,7 +84,7 @@ module _ {tree text l s : List ℕ} {c : Converter} (p : Converting tree text l 
     module _ {sc′ : Scope} (a : Added text (wordOf tree r A) (wordOf tree r B) v constant (c .scope) s s′ sc′) where
       added-stays : StaysFor tree c s s′
       added-stays =
-          name-stays (records tree) (c .scope .names) (c .operands) s s′ (entryOf (wordOf tree r A) (wordOf tree r B) v constant) (8 * c .scope .records + 16 * c .scope .names)
+          name-stays (records tree) (c .scope .names) (c .operands) s s′ (nameEntry (wordOf tree r A) (wordOf tree r B) v constant) (8 * c .scope .records + 16 * c .scope .names)
           (a .written) (entry-long (wordOf tree r A) (wordOf tree r B) v constant) (omega (arith, p .ready .scoped .room .scratch, p .ready .scoped .records-are))
           (omega (arith, p .ready .scoped .records-are)) few
 
@@ -164,7 +164,7 @@ module _ {tree text l s : List ℕ} {c : Converter} (p : Converting tree text l 
 
   module _ (r : ℕ) (constant : Bool) (s′ : List ℕ) {d : Declared} (m : DeclareMeets text (wordOf tree r A) (wordOf tree r B) (made .var) constant (c .scope) s s′ d)
       {X : Type 0} (place : ℕ) (f : Ir.VarId → Def.Scope → M X) where
-    pub variable-then : {sc′ : Scope} {n : Amount} {l′ : List ℕ} {a : Answer X} → d ≡ Declared.Done sc′
+    pub variable-then : {sc′ : Scope} {n : Amount} {l′ : List ℕ} {a : StepAnswer X} → d ≡ Declared.Done sc′
         → Meets text (f (varOf (made .var)) (scopeAt tree text s′ sc′)) n (made .counters) l₁ l′ a
         → Meets text (declaredThen tree text r constant place y (scopeAt tree text s (c .scope)) f) (both (amount 0 1 0 0 0) n) (c .counters) l l′ a
     variable-then q i =
@@ -301,7 +301,7 @@ module _ {tree text l s : List ℕ} {c : Converter} (p : Converting tree text l 
     newly : AddsVar (wordOf tree r C) (c .counters) l made l₁
     newly = subst (λ (z : ℕ). AddsVar z (c .counters) l made l₁) e new
 
-    pub declare-asks : (r * 32 + 32 ≤ length tree) × Room (c .scope) s × NameAfforded (c .scope) (made .var)
+    pub declare-asks : (r * 32 + 32 ≤ length tree) × NamesRoom (c .scope) s × NameAfforded (c .scope) (made .var)
     declare-asks = (inside tree text (p .ready .keyed .good) r (i .below), p .ready .scoped .room, var-afforded p long newly declare-few declare-type)
 
     pub zero-asks : RoomFor (made .counters) l₁ (amount 1 0 0 0 1) × IsType tree (made .var .1) × (r < 4294967296)
@@ -328,7 +328,7 @@ module _ {tree text l s : List ℕ} {c : Converter} (p : Converting tree text l 
             meets-same text (ap (λ (z : ℕ). zeroValue (program tree text) (allKeys tree text) r (varOf (made .var)) (typeAt tree text z)) (newly .typed))
             (zero text (allKeys tree text))
 
-        with-name : {n : Amount} {b : Answer Def.Scope}
+        with-name : {n : Amount} {b : StepAnswer Def.Scope}
             → Meets text (zeroValue (program tree text) (allKeys tree text) r (varOf (made .var)) (typeAt tree text (wordOf tree r C)) >> pure (scopeAt tree text s′ sc′)) n (made .counters) l₁ l₂ b
             → Meets text (declareSteps tree text s c r) (both (amount 0 1 0 0 0) n) (c .counters) l l₂ b
         unfolding convert-declare program

@@ -19,7 +19,7 @@ use Rattle.records.proofs.GoodLaws.{binary-detail}
 use Rattle.syntax.specs.Syntax.{Expr, BinaryOp, Or, And, BitOr, BitXor, BitAnd, Eq, NotEq, Lt, Le, Gt, Ge, Shl, Shr, Add, Sub, Mul, Div, Rem, Neg, Program, unaryOps, binaryOps, binaryNumber}
 use Rattle.syntax.specs.Count.{under}
 use Rattle.syntax.specs.Decode.{program, textOf}
-use Rattle.syntax.specs.Places.{IsKind, exprAt, argsAt}
+use Rattle.syntax.specs.Places.{IsExpr, IsKind, exprAt, argsAt}
 use Rattle.syntax.proofs.Records.{expr-unary, expr-binary, expr-call}
 use Rattle.conversion.specs.ConvertError as E
 use Rattle.conversion.specs.ConvertError.{Result, ok, err, ConvertErrorKind}
@@ -28,7 +28,6 @@ use Rattle.conversion.specs.Ir.{M, _>>=_, _>>_, lift}
 use Rattle.conversion.specs.Scope as Def
 use Rattle.conversion.specs.Expressions.{Functions, common-type, get-type, unwrapOr}
 use Rattle.conversion.specs.Statements.{convert-unary, convertAnd, convertOr, convertOther, convertBinaryBy, convert-binary, convert-call-value, convert-expr, convert-args}
-use Rattle.types.specs.Fits.{IsExpr}
 use Rattle.types.proofs.FromGood.{is-expr}
 use Rattle.ir.specs.declared.structs.Counters.{Counters}
 use Rattle.ir.specs.declared.structs.VarId.{VarId}
@@ -41,8 +40,8 @@ use Rattle.keys.specs.Keys.{allKeys}
 use Rattle.expressions.specs.declared.answers.ExprType.{ExprType}
 use Rattle.expressions.specs.declared.answers.ExprType.the-variants as ExprType
 use Rattle.expressions.specs.Slots.{typeIn}
-use Rattle.expressions.specs.Answers.{refusal, typeOf, TypeMeets}
-use Rattle.expressions.proofs.SlotLaws.{ready-frame, scope-frame}
+use Rattle.expressions.specs.Answers.{refusal, typeResult, TypeMeets}
+use Rattle.expressions.proofs.SlotLaws.{scope-frame}
 use Rattle.expressions.proofs.TypingLaws.{type-ok, type-refused, expr-low, operand-expr}
 use Rattle.statements.specs.declared.answers.Converter.{Converter}
 use Rattle.statements.specs.declared.answers.Converted.{Converted}
@@ -54,7 +53,7 @@ use Rattle.statements.specs.Parts.{operandType, finishUnary, beginLogic,
 use Rattle.statements.specs.Answers.{Converts, FitAdds, OperandTyped, exprSteps, unarySteps, logicSteps, otherSteps, binarySteps, callSteps}
 use Rattle.statements.proofs.PartLaws.{unary-parts, and-parts, or-parts, other-parts}
 use Rattle.statements.proofs.MeetLaws.{meets-lift, meets-lift-stop, adds-in}
-use Rattle.statements.proofs.StayLaws.{stays-refl, stays-then, frame-stays, frame-names, names-then, scope-stays, converting-next}
+use Rattle.statements.proofs.StayLaws.{stays-refl, stays-then, frame-stays, frame-names, names-then, scope-stays, converting-next, converting-frame}
 use Rattle.statements.proofs.ConvertLaws.{converts-same, converts-most, converts-after, converts-seq, converted-next, converting-after, converts-stop, converts-next, converts-fit}
 
 -- ---- steps in a scope
@@ -119,12 +118,7 @@ module _ {tree text l s : List ℕ} {c : Converter} {e : ℕ} (p : Converting tr
   good = p .ready .keyed .good
 
   pub typed-converting : Converting tree text l s₁ c
-  typed-converting = record {
-    ready = ready-frame tree s s₁ (m .frame) text (c .functions) (c .scope) (p .ready);
-    function = p .function;
-    records-are = p .records-are;
-    room = p .room;
-  }
+  typed-converting = converting-frame p (m .frame)
 
   same-scope : scopeAt tree text s₁ (c .scope) ≡ S
   same-scope = scope-frame tree s s₁ (m .frame) text (c .scope) (p .ready .scoped .records-are)
@@ -287,18 +281,13 @@ module _ {tree text l s : List ℕ} {c : Converter} {e y : ℕ} (p : Converting 
       (λ st. exprIn tree text T (wordOf tree e A) st) (λ st. exprIn tree text T (wordOf tree e B) st)
 
   pub fitted-converting : Converting tree text l s₁ c
-  fitted-converting = record {
-    ready = ready-frame tree s s₁ (m .frame) text (c .functions) (c .scope) (p .ready);
-    function = p .function;
-    records-are = p .records-are;
-    room = p .room;
-  }
+  fitted-converting = converting-frame p (m .frame)
 
   pub fitted-stop : {z : ConvertError} → t ≡ ExprType.Refused z
       → Converts tree text (binarySteps tree text s c e y) (exprAmount (under (exprAt tree text e))) c l s (Converted.Refused z) l s₁
-  unfolding convert-binary typeOf refusal
+  unfolding convert-binary typeResult refusal
   fitted-stop {z} w = record {
-    meets = meets-lift-stop text by refl (common-err sides y (z .kind) (z .place) (m .meets ∙ ap typeOf w));
+    meets = meets-lift-stop text by refl (common-err sides y (z .kind) (z .place) (m .meets ∙ ap typeResult w));
     operand = λ o k h. let z : _≡_ {A = ℕ} 0 1 = cc in absurd (omega arith);
     stays = frame-stays (c .scope .names) (c .operands) (m .frame);
     names = frame-names (m .frame);
@@ -308,9 +297,9 @@ module _ {tree text l s : List ℕ} {c : Converter} {e y : ℕ} (p : Converting 
     fitted-by : (g : Def.Scope → M Ir.Operand) → ((o : Option ℕ) → unwrapOr y o ≡ q → g T ≡ by o)
         → Converts tree text (g (scopeAt tree text s₁ (c .scope))) (exprAmount (under (exprAt tree text e))) c l s₁ b l₁ s₂
         → Converts tree text (binarySteps tree text s c e y) (exprAmount (under (exprAt tree text e))) c l s b l₁ s₂
-    unfolding convert-binary typeOf
+    unfolding convert-binary typeResult
     fitted-by g same i =
-        let o = common-ok sides y q (m .meets ∙ ap typeOf w) in
+        let o = common-ok sides y q (m .meets ∙ ap typeResult w) in
         let i′ = converts-same (ap g (scope-frame tree s s₁ (m .frame) text (c .scope) (p .ready .scoped .records-are)) ∙ same (o .common) (o .fitted)) i in
         record {
           meets = meets-lift text by (p .room) (o .is) (i′ .meets);

@@ -17,7 +17,7 @@ use Rattle.records.specs.Words.{detailOf, wordOf, none, A, B, C}
 use Rattle.records.specs.Good.{Good}
 use Rattle.syntax.specs.Syntax.{Text, Ty, TInt, TFloat, TBool, TChar, TByte, TAddress, TArray, TCustom, TNull, floatType}
 use Rattle.syntax.specs.Decode.{program, bit, typeAt, textOf, wideOf}
-use Rattle.syntax.specs.Places.{TypeAt, ParamsAt, exprAt, paramsAt}
+use Rattle.syntax.specs.Places.{IsExpr, TypeAt, ParamsAt, exprAt, paramsAt}
 use Rattle.syntax.proofs.Lists.{cell-is, next-list, params-end, parameter-item}
 use Rattle.conversion.specs.ConvertError.{ConvertErrorKind, LiteralOutOfRange}
 use Rattle.conversion.specs.Ir as Ir
@@ -25,7 +25,7 @@ use Rattle.conversion.specs.Ir.{FloatEntry, OVar, OInt, OFloat, M, pure, fail, 
 use Rattle.conversion.specs.Types.{onFloat, onInt, isFloat, isInt}
 use Rattle.conversion.specs.Expressions.{Functions}
 use Rattle.conversion.specs.Statements.{refloat, castOperand, fit-operand, parameterType, checkFits}
-use Rattle.types.specs.Fits.{IsExpr, fitsAt, rangeErrorAt}
+use Rattle.types.specs.Fits.{fitsAt, rangeErrorAt}
 use Rattle.ir.specs.declared.structs.Counters.{Counters}
 use Rattle.ir.specs.declared.structs.VarId.{VarId}
 use Rattle.ir.specs.declared.structs.NewVariable.{NewVariable}
@@ -36,7 +36,7 @@ use Rattle.ir.specs.declared.pool.PoolNumber.{PoolNumber}
 use Rattle.ir.specs.declared.floats.FloatBits.{FloatBits}
 use Rattle.ir.specs.Amounts.{Amount, amount}
 use Rattle.ir.specs.Arena.{Room}
-use Rattle.ir.specs.Floats.{entry, entryOf}
+use Rattle.ir.specs.Floats.{entry, entryOfFloat}
 use Rattle.ir.specs.Instructions.{varOf, operandOf}
 use Rattle.ir.specs.Steps.{Next, Emits, AddsVar, NumbersFloat}
 use Rattle.ir.proofs.AmountLaws.{both-spent}
@@ -67,7 +67,7 @@ module _ {tree : List ℕ} {k : Counters} {l : List ℕ} where
   -- ---- a float that takes another mark, and a variable that is cast
 
   pub refloat-fits : {l′ : List ℕ} (i b : ℕ) (short : Bool) (f : FloatBits) (p : PoolNumber) → length l′ ≡ length l
-      → Next (floatBits i) k l b k l → entryOf f ≡ entry b short → NumbersFloat (entryOf f) k l p l′
+      → Next (floatBits i) k l b k l → entryOfFloat f ≡ entry b short → NumbersFloat (entryOfFloat f) k l p l′
       → FitAdds tree (refloat i short) (amount 0 0 0 0 1) k l (record { operand = Operand.Float (p .number); counters = p .counters }) l′
   unfolding OperandIn
   refloat-fits {l′} i b short f p long q e n = record {

@@ -13,7 +13,6 @@ use Rattle.syntax.specs.Decode.{program}
 use Rattle.syntax.specs.Places.{ParamsAt, paramsAt}
 use Rattle.conversion.specs.Ir as Ir
 use Rattle.conversion.specs.Ir.{Arg, M, _>>=_, _>>_, pure, emit}
-use Rattle.conversion.specs.Written.{bytesOf, word, wide}
 use Rattle.conversion.specs.Statements.{fit-operand, fitFrom, fit-args, emitArgs, parameterType}
 use Rattle.ir.specs.declared.structs.Counters.{Counters}
 use Rattle.ir.specs.declared.structs.Operand.{Operand}
@@ -30,6 +29,7 @@ use Rattle.statements.specs.Parts.{passArgs}
 use Rattle.statements.specs.Answers.{FitAdds}
 use Rattle.statements.proofs.MeetLaws.{adds-then, adds-seq, adds-pure, adds-most, adds-same}
 use Rattle.statements.proofs.StayLaws.{stays-refl, stays-then, operand-stays, stack-kept}
+use Rattle.statements.proofs.StackLaws.{operand-long, stack-last}
 
 -- ---- the stack from an entry on
 
@@ -53,14 +53,6 @@ whole s n first count =
     let a : first + 0 ≡ first = omega arith in
     let b : count - 0 ≡ count = omega arith in
     ap (λ (x : ℕ). stackAt s n x (count - 0)) a ∙ ap (λ (x : ℕ). stackAt s n first x) b
-
--- one entry more at the end
-more : (s : List ℕ) (n j first : ℕ) → stackAt s n first (suc j) ≡ stackAt s n first j ++ (operandAt s n (first + j) ∷ [])
-unfolding stackAt
-more s n zero first = let a : first ≡ first + 0 = omega arith in ap (λ (x : ℕ). operandAt s n x ∷ []) a
-more s n (suc j) first =
-    let a : suc first + j ≡ first + suc j = omega arith in
-    ap (λ (x : List Ir.Operand). operandAt s n first ∷ x) (more s n j (suc first) ∙ ap (λ (x : ℕ). stackAt s n (suc first) j ++ (operandAt s n x ∷ [])) a)
 
 -- ---- emitting
 
@@ -96,13 +88,9 @@ module _ (s : List ℕ) (n first count : ℕ) (k₀ : Counters) (l₀ : List ℕ
 
 -- ---- an entry is written
 
-bytes-long : (o : Ir.Operand) → length (operandBytes o) ≡ 16
-unfolding operandBytes word wide bytesOf
-bytes-long o = refl
-
 module _ (s s′ : List ℕ) (n i : ℕ) (o : Ir.Operand) (e : s′ ≡ splice s (entryAt n i) (operandBytes o)) (fits : 64 * n ≤ length s) (low : i < n) where
   byte : (q : ℕ) → entryAt n i + 16 ≤ q → getD s′ q 0 ≡ getD s q 0
-  byte q h = ap (λ (x : List ℕ). getD x q 0) e ∙ byte-apart s (entryAt n i) (operandBytes o) (omega (arith, bytes-long o)) q (inr (omega (arith, bytes-long o)))
+  byte q h = ap (λ (x : List ℕ). getD x q 0) e ∙ byte-apart s (entryAt n i) (operandBytes o) (omega (arith, operand-long o)) q (inr (omega (arith, operand-long o)))
 
   word-behind : (p : ℕ) → entryAt n i + 16 ≤ p → wordAt s′ p ≡ wordAt s p
   word-behind p h = word-same s′ p s p (byte p h) (byte (p + 1) (omega arith)) (byte (p + 2) (omega arith)) (byte (p + 3) (omega arith))
@@ -177,7 +165,7 @@ module _ (tree text s₀ : List ℕ) (f : Function) (first count : ℕ) (k₀ : 
 
           written : (names : ℕ) → names ≤ records tree → Stays (records tree) names (first + j) s s₁
           written names h = operand-stays (records tree) names (first + j) s s₁ (operandBytes (operandOf (r .operand))) (entryAt (records tree) (first + j)) put
-              (bytes-long (operandOf (r .operand))) scratch-long (first + j) refl (omega arith) (omega arith) h
+              (operand-long (operandOf (r .operand))) scratch-long (first + j) refl (omega arith) (omega arith) h
 
           -- what is fitted now, with this one
           grown : (os : List Ir.Operand) → stackAt s (records tree) first j ++ (operandOf (r .operand) ∷ os) ≡ stackAt s₁ (records tree) first (j + 1) ++ os
@@ -185,7 +173,7 @@ module _ (tree text s₀ : List ℕ) (f : Function) (first count : ℕ) (k₀ : 
               let z : suc j ≡ j + 1 = omega arith in
               let kept : stackAt s₁ (records tree) first j ≡ stackAt s (records tree) first j = stack-kept tree (written 0 (omega arith)) j first (omega arith) in
               sym (ap (λ (n : ℕ). stackAt s₁ (records tree) first n ++ os) (sym z)
-              ∙ ap (λ (v : List Ir.Operand). v ++ os) (more s₁ (records tree) j first)
+              ∙ ap (λ (v : List Ir.Operand). v ++ os) (stack-last s₁ (records tree) first j)
               ∙ append-assoc (stackAt s₁ (records tree) first j) (operandAt s₁ (records tree) (first + j) ∷ []) os
               ∙ rw (kept, back))
 

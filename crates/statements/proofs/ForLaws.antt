@@ -17,7 +17,7 @@ use Rattle.records.specs.Good.{Good}
 use Rattle.records.proofs.GoodLaws.{ToKind, inside, for-a, variable-c}
 use Rattle.syntax.specs.Syntax.{place}
 use Rattle.syntax.specs.Decode.{program, textOf, typeAt, bit, reference}
-use Rattle.syntax.specs.Places.{IsKind, TypeAt, exprAt, statementAt}
+use Rattle.syntax.specs.Places.{IsExpr, IsKind, TypeAt, exprAt, statementAt}
 use Rattle.syntax.specs.Count.{exprRecords, statementRecords}
 use Rattle.syntax.proofs.Records.{statement-for}
 use Rattle.conversion.specs.ConvertError.{ConvertErrorKind, Result, ok, err, NotInteger, UnknownVariable, AssignToConstant, AlreadyDeclared}
@@ -28,7 +28,7 @@ use Rattle.conversion.specs.Scope.{find-variable}
 use Rattle.conversion.specs.Expressions.{Functions}
 use Rattle.conversion.specs.Statements.{checkFits, checkBound}
 use Rattle.conversion.proofs.MonadLaws.{seq-is, pure-first}
-use Rattle.types.specs.Fits.{IsExpr, IsType}
+use Rattle.types.specs.Fits.{IsType}
 use Rattle.types.proofs.FromGood.{is-type}
 use Rattle.ir.specs.declared.structs.Counters.{Counters}
 use Rattle.ir.specs.declared.structs.NewVariable.{NewVariable}
@@ -43,7 +43,7 @@ use Rattle.scope.specs.declared.Declared.{Declared}
 use Rattle.scope.specs.declared.Declared.the-variants as Declared
 use Rattle.scope.specs.declared.Known.{Known}
 use Rattle.scope.specs.declared.Known.the-variants as Known
-use Rattle.scope.specs.Open.{scopeAt, Room, Afforded as NameAfforded, DeclareMeets, FindMeets}
+use Rattle.scope.specs.Open.{scopeAt, NamesRoom, NameAfforded, DeclareMeets, FindMeets}
 use Rattle.scope.proofs.ScopeLaws.{Finds, find-some, find-unknown}
 use Rattle.keys.specs.Keys.{allKeys}
 use Rattle.expressions.specs.declared.answers.ExprType.{ExprType}
@@ -52,7 +52,7 @@ use Rattle.expressions.specs.declared.answers.Outcome.{Outcome}
 use Rattle.expressions.specs.declared.answers.Outcome.the-variants as Outcome
 use Rattle.expressions.specs.Slots.{Ready, typeIn}
 use Rattle.expressions.specs.Answers.{refusal, outcomeOf, TypeMeets}
-use Rattle.expressions.proofs.SlotLaws.{scope-frame, ready-frame, frame-trans}
+use Rattle.expressions.proofs.SlotLaws.{scope-frame, frame-trans}
 use Rattle.expressions.proofs.TypingLaws.{type-ok, type-refused, is-typed, expr-low, place-is}
 use Rattle.statements.specs.declared.answers.Converter.{Converter}
 use Rattle.statements.specs.declared.answers.Finished.{Finished}
@@ -61,12 +61,12 @@ use Rattle.statements.specs.declared.answers.ForVariable.{ForVariable}
 use Rattle.statements.specs.declared.answers.ForVariable.the-variants as ForVariable
 use Rattle.statements.specs.declared.answers.Stated.{Stated}
 use Rattle.statements.specs.declared.answers.Stated.the-variants as Stated
-use Rattle.statements.specs.Meets.{Answer, gave, AddsIn, Meets}
+use Rattle.statements.specs.Meets.{StepAnswer, gave, AddsIn, Meets}
 use Rattle.statements.specs.Parts.{knownVariable, forVariable, forBounds, forBegin, forTest, forTurns, forHead}
 use Rattle.statements.specs.Converting.{Converting, withCounters, Afforded, BehindAfforded, forHeadAmount, Stays, StaysFor, NamesStay}
 use Rattle.statements.specs.Answers.{variableOf, Leaves, States, Finishes, FindsVariable, Checks, scopeIn, forVariableSteps, forBoundsSteps, forBeginSteps, forTestSteps, forTurnsSteps, forHeadSteps, boundsUnder}
 use Rattle.statements.proofs.MeetLaws.{adds-in, adds-pure, adds-most, adds-same, meets-gave, meets-refused, meets-same, meets-most, meets-then, meets-lift}
-use Rattle.statements.proofs.StayLaws.{stays-refl, stays-then, stays-more, frame-stays, scope-stays, ready-stays, converting-next}
+use Rattle.statements.proofs.StayLaws.{stays-refl, stays-then, stays-more, frame-stays, scope-stays, ready-stays, converting-next, converting-frame}
 use Rattle.statements.proofs.FitLaws.{type-is, forms-are}
 use Rattle.statements.proofs.DeclareLaws.{found-typed, declaredThen, var-typed, var-afforded, variable-then, variable-not, taken-stays, declared-stays, declared-leaves}
 use Rattle.statements.proofs.StatedLaws.{states-stop, states-gave, states-refused, finishes-refused, finished-next, finished-stop, leaves-same, scope-later, seq-then, seq-not, fails-as}
@@ -253,7 +253,7 @@ module _ {tree text l s : List ℕ} {c : Converter} {r v : ℕ} (p : Converting 
     typed : TypeAt tree y
     typed = subst (λ (z : ℕ). TypeAt tree z) (sym ey) t
 
-    pub declare-asks : (v * 32 + 32 ≤ length tree) × Room (c .scope) s × NameAfforded (c .scope) (made .var)
+    pub declare-asks : (v * 32 + 32 ≤ length tree) × NamesRoom (c .scope) s × NameAfforded (c .scope) (made .var)
     declare-asks = (variable-inside (p .ready .keyed .good) is ev, p .ready .scoped .room, var-afforded p long new few typed)
 
     abbrev declared : Ir.VarId → Def.Scope → M (Ir.VarId × Def.Scope)
@@ -288,12 +288,7 @@ module _ {tree text l s : List ℕ} {c : Converter} {r v : ℕ} (p : Converting 
 
 -- what is only checked leaves the tables
 pub checks-converting : {tree text l s s₁ : List ℕ} {c : Converter} {m : M (Unit {0})} {o : Outcome} → Converting tree text l s c → Checks tree m s o s₁ → Converting tree text l s₁ c
-checks-converting {tree = tree} {text = text} {s = s} {s₁ = s₁} {c = c} p b = record {
-  ready = ready-frame tree s s₁ (b .frame) text (c .functions) (c .scope) (p .ready);
-  function = p .function;
-  records-are = p .records-are;
-  room = p .room;
-}
+checks-converting p b = converting-frame p (b .frame)
 
 module _ {tree text l s : List ℕ} {c : Converter} (x : VarId) (r : ℕ) (p : Converting tree text l s c) {f : ℕ} (ef : f ≡ detailOf tree (x .1) % 16) where
   -- with the marks of an Int
@@ -333,7 +328,7 @@ module _ {tree text l s : List ℕ} {c : Converter} (x : VarId) (r : ℕ) (p : C
       begin-scope : scopeIn tree text s₁ c ≡ scopeIn tree text s c
       begin-scope = scope-later p bounds-stay
 
-      from-begin : {n : Amount} {y : Answer (Unit {0})} {l₃ : List ℕ} → Meets text (forBeginSteps tree text s₁ c x r >> forTestSteps tree text s c x r) n (c .counters) l l₃ y
+      from-begin : {n : Amount} {y : StepAnswer (Unit {0})} {l₃ : List ℕ} → Meets text (forBeginSteps tree text s₁ c x r >> forTestSteps tree text s c x r) n (c .counters) l l₃ y
           → Meets text (forTurnsSteps tree text s c x r) n (c .counters) l l₃ y
       unfolding outcomeOf
       from-begin q =
@@ -392,7 +387,7 @@ module _ {tree text l s l₁ s₁ : List ℕ} {c : Converter} (r : ℕ) (p : Con
       head-stays : StaysFor tree c s s₂
       head-stays = stays-then (omega arith) (omega arith) (m .stays) (t .stays)
 
-      head-scope : {y : Answer Def.Scope} → Meets text (forTurnsSteps tree text s₁ (withCounters c k) x r >> pure (scopeAt tree text s₁ inner)) n k l₁ l₂ y
+      head-scope : {y : StepAnswer Def.Scope} → Meets text (forTurnsSteps tree text s₁ (withCounters c k) x r >> pure (scopeAt tree text s₁ inner)) n k l₁ l₂ y
           → Meets text (forHeadSteps tree text s c r) (both (amount 0 1 0 0 0) n) (c .counters) l l₂ y
       unfolding forHead
       head-scope q =

@@ -19,12 +19,11 @@ use Rattle.records.proofs.GoodLaws.{ToExpr, if-detail, if-a, while-a, for-b, fo
 use Rattle.syntax.specs.Syntax.{Program, Add, Lt, boolType}
 use Rattle.syntax.specs.Count.{under, exprRecords, statementRecords}
 use Rattle.syntax.specs.Decode.{program, bit}
-use Rattle.syntax.specs.Places.{IsKind, exprAt, statementAt}
+use Rattle.syntax.specs.Places.{IsExpr, IsKind, exprAt, statementAt}
 use Rattle.syntax.proofs.Records.{statement-if, statement-ifElse, statement-while}
 use Rattle.conversion.specs.Ir as Ir
 use Rattle.conversion.specs.Ir.{OVar, OInt, Binary, loopStart, loopEnd, loopCheck, otherwiseLabel, conditionEnd, M, _>>=_, _>>_, emit}
 use Rattle.conversion.specs.Statements.{fit-operand}
-use Rattle.types.specs.Fits.{IsExpr}
 use Rattle.types.proofs.FromGood.{is-expr}
 use Rattle.ir.specs.declared.structs.Counters.{Counters}
 use Rattle.ir.specs.declared.structs.VarId.{VarId}

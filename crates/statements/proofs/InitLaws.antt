@@ -17,7 +17,7 @@ use Rattle.records.proofs.GoodLaws.{inside, init-detail, init-c}
 use Rattle.syntax.specs.Syntax.{Text, Expr, Program, nullType, addressOfNull}
 use Rattle.syntax.specs.Count.{under, exprRecords, statementRecords}
 use Rattle.syntax.specs.Decode.{program, bit, textOf}
-use Rattle.syntax.specs.Places.{IsKind, TypeAt, exprAt, statementAt}
+use Rattle.syntax.specs.Places.{IsExpr, IsKind, TypeAt, exprAt, statementAt}
 use Rattle.syntax.proofs.Records.{statement-init}
 use Rattle.conversion.specs.ConvertError.{AssignToConstant, WrongAssignType, AlreadyDeclared}
 use Rattle.conversion.specs.Ir as Ir
@@ -27,7 +27,7 @@ use Rattle.conversion.specs.Scope.{Variable, find-variable}
 use Rattle.conversion.specs.Expressions.{Functions, get-type}
 use Rattle.conversion.specs.Statements.{fit-operand, convert-expr, checkFits, assignTo, convert-assign, initNew, initBy, convert-init}
 use Rattle.conversion.proofs.MonadLaws.{regroup, seq-is}
-use Rattle.types.specs.Fits.{IsExpr, IsType}
+use Rattle.types.specs.Fits.{IsType}
 use Rattle.types.proofs.FromGood.{is-expr}
 use Rattle.ir.specs.declared.structs.Counters.{Counters}
 use Rattle.ir.specs.declared.structs.VarId.{VarId}
@@ -42,7 +42,7 @@ use Rattle.scope.specs.declared.Known.{Known}
 use Rattle.scope.specs.declared.Known.the-variants as Known
 use Rattle.scope.specs.declared.Declared.{Declared}
 use Rattle.scope.specs.declared.Declared.the-variants as Declared
-use Rattle.scope.specs.Open.{Room as NameRoom, Afforded as NameAfforded, scopeAt, FindMeets, DeclareMeets}
+use Rattle.scope.specs.Open.{NamesRoom, NameAfforded, scopeAt, FindMeets, DeclareMeets}
 use Rattle.scope.proofs.ScopeLaws.{find-some, find-unknown}
 use Rattle.keys.specs.Keys.{allKeys}
 use Rattle.expressions.specs.declared.answers.ExprType.{ExprType}
@@ -59,7 +59,7 @@ use Rattle.statements.specs.declared.answers.Fitted.{Fitted}
 use Rattle.statements.specs.declared.answers.Stated.{Stated}
 use Rattle.statements.specs.declared.answers.Stated.the-variants as Stated
 use Rattle.statements.specs.Converting.{Converting, withCounters, RoomFor, exprAmount, behindAmount, Afforded, ExprAfforded, BehindAfforded, StaysFor}
-use Rattle.statements.specs.Meets.{Answer, Adds, Meets}
+use Rattle.statements.specs.Meets.{StepAnswer, Adds, Meets}
 use Rattle.statements.specs.Parts.{copyFitted, declareInit}
 use Rattle.statements.specs.Answers.{FitAdds, Converts, StatesAs, DeclaresAs, exprSteps, initSteps, initNewSteps, assignSteps, assignToSteps, declareInitSteps}
 use Rattle.statements.proofs.MeetLaws.{adds-then, adds-seq, adds-pure, adds-most, adds-in, meets-gave, meets-refused, meets-same, meets-most}
@@ -151,7 +151,7 @@ module _ {tree text l s : List ℕ} {c : Converter} {r : ℕ} (p : Converting tr
       both-stay : StaysFor tree c s s₂
       both-stay = stays-then (omega arith) (omega arith) (m .stays) (type-stays further t)
 
-      value-then : {l′ : List ℕ} {b : Answer Def.Scope} → Meets text (typedThen (scopeAt tree text s₁ (c .scope)) (operandOf o)) (amount 2 1 0 0 1) k l₁ l′ b
+      value-then : {l′ : List ℕ} {b : StepAnswer Def.Scope} → Meets text (typedThen (scopeAt tree text s₁ (c .scope)) (operandOf o)) (amount 2 1 0 0 1) k l₁ l′ b
           → Meets text (assignToSteps tree text s c r v) (behindAmount (statementRecords (statementAt tree text r))) (c .counters) l l′ b
       value-then i =
           meets-same text assign-steps (meets-most text (operand-then m (λ src. typedThen (scopeAt tree text s (c .scope)) src) q
@@ -215,7 +215,7 @@ module _ {tree text l s : List ℕ} {c : Converter} {r y : ℕ} (p : Converting 
   declare-steps src ed = ap₂ (λ (b : Bool) (w : ℕ). declaredThen tree text r b r w (scopeAt tree text s (c .scope)) (copied src)) (mark-bit ed (init-detail tree text (p .ready .keyed .good) r (x .below) (x .kind))) ez
 
   module _ {made : NewVariable} {l₁ : List ℕ} (long : length l₁ ≡ length l) (new : AddsVar z (c .counters) l made l₁) where
-    pub new-requires : (r * 32 + 32 ≤ length tree) × NameRoom (c .scope) s × NameAfforded (c .scope) (made .var)
+    pub new-requires : (r * 32 + 32 ≤ length tree) × NamesRoom (c .scope) s × NameAfforded (c .scope) (made .var)
     new-requires = (inside tree text (p .ready .keyed .good) r (x .below), p .ready .scoped .room, var-afforded p long new more-names new-type)
 
     module _ (src : Operand) {d : ℕ} (ed : d ≡ detailOf tree r) {s′ : List ℕ} {g : Declared}
@@ -263,7 +263,7 @@ module _ {tree text l s : List ℕ} {c : Converter} {r : ℕ} (p : Converting tr
     value-stays : StaysFor tree c s s₂
     value-stays = stays-then (omega arith) (omega arith) (type-stays p t) (m .stays)
 
-    typed-value : {n : Amount} {l′ : List ℕ} {b : Answer Def.Scope} → Meets text (valued (scopeAt tree text s₁ (c .scope)) y) n (c .counters) l l′ b
+    typed-value : {n : Amount} {l′ : List ℕ} {b : StepAnswer Def.Scope} → Meets text (valued (scopeAt tree text s₁ (c .scope)) y) n (c .counters) l l′ b
         → Meets text (initNewSteps tree text s c r) n (c .counters) l l′ b
     typed-value i =
         meets-same text new-steps (typed-then p t (λ y. valued (scopeAt tree text s (c .scope)) y) w

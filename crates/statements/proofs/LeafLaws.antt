@@ -19,14 +19,13 @@ use Rattle.records.specs.Words.{kindOf, detailOf, wordOf, textAt, A, B}
 use Rattle.records.specs.Good.{Good}
 use Rattle.records.proofs.GoodLaws.{inside, float-detail, bool-detail, sizeOf-a}
 use Rattle.syntax.specs.Decode.{bit, wideOf, textOf, program}
-use Rattle.syntax.specs.Places.{IsKind, TypeAt}
+use Rattle.syntax.specs.Places.{IsExpr, IsKind, TypeAt}
 use Rattle.syntax.proofs.Records.{expr-int, expr-float, expr-str, expr-bool, expr-name, expr-null, expr-sizeOf}
 use Rattle.conversion.specs.ConvertError.{ConvertErrorKind, UnknownVariable, WouldPanic}
 use Rattle.conversion.specs.Ir as Ir
 use Rattle.conversion.specs.Ir.{OVar, OInt, OFloat, OBool, ODataAddress, M, _>>=_, pure, fail}
 use Rattle.conversion.specs.Scope.{find-variable}
 use Rattle.conversion.specs.Statements.{nameOperand, sizeOperand, convert-expr}
-use Rattle.types.specs.Fits.{IsExpr}
 use Rattle.types.specs.declared.size.Bytes.{Bytes}
 use Rattle.types.specs.declared.size.Bytes.the-variants as Bytes
 use Rattle.types.specs.Sizes.{exactSize, bytesFor, bytesOf, sizeAt}
@@ -38,7 +37,7 @@ use Rattle.ir.specs.declared.floats.FloatBits.{FloatBits}
 use Rattle.ir.specs.declared.pool.PoolNumber.{PoolNumber}
 use Rattle.ir.specs.Arena.{Room}
 use Rattle.ir.specs.Amounts.{Amount, amount}
-use Rattle.ir.specs.Floats.{entry, entryOf}
+use Rattle.ir.specs.Floats.{entry, entryOfFloat}
 use Rattle.ir.specs.Instructions.{operandOf}
 use Rattle.ir.specs.Steps.{stringAt, NumbersString, NumbersFloat}
 use Rattle.ir.proofs.StepCases.{next-of, stop-of}
@@ -57,9 +56,10 @@ use Rattle.statements.specs.declared.answers.Fitted.{Fitted}
 use Rattle.statements.specs.Converting.{Converting, OperandIn, exprAmount}
 use Rattle.statements.specs.Meets.{AddsIn}
 use Rattle.statements.specs.Answers.{Converts, LeafAdds, exprSteps}
-use Rattle.statements.proofs.MeetLaws.{Most, adds-in, adds-in-then, adds-pure, meets-gave, meets-refused, meets-most}
+use Rattle.statements.proofs.MeetLaws.{Most, adds-in, adds-in-then, adds-pure, meets-gave, meets-refused}
 use Rattle.statements.proofs.StayLaws.{stays-refl, names-refl}
 use Rattle.statements.proofs.StatedLaws.{fails-as}
+use Rattle.statements.proofs.ConvertLaws.{converts-most}
 
 -- ---- marks
 
@@ -80,10 +80,6 @@ int-is tree e m b em eb text = let z : detailOf tree e / 1 ≡ detailOf tree e =
 pub adds-of : {A : Type 0} {text : List ℕ} {m m′ : M A} {n : Amount} {k k′ : Counters} {l l′ : List ℕ} {a : A}
     → m′ ≡ m → AddsIn text m n k l a k′ l′ → AddsIn text m′ n k l a k′ l′
 adds-of e p = record { next = next-of e (p .next); spent = p .spent }
-
-pub converts-most : {tree text l s l′ s′ : List ℕ} {m : M Ir.Operand} {n n′ : Amount} {c : Converter} {a : Converted}
-    → Converts tree text m n c l s a l′ s′ → Most n n′ → Converts tree text m n′ c l s a l′ s′
-converts-most {text = text} p q = record { meets = meets-most text (p .meets) q; operand = p .operand; stays = p .stays; names = p .names }
 
 module _ (tree text l s : List ℕ) (c : Converter) (m : M Ir.Operand) where
   -- an operand that is had without a step
@@ -110,12 +106,12 @@ module _ (tree text l s : List ℕ) (c : Converter) (m : M Ir.Operand) where
 
 module _ (tree text : List ℕ) (e : ℕ) (k : Counters) (l l′ : List ℕ) (r : PoolNumber) (long : length l′ ≡ length l) where
   pub float-leaf : Good tree text → IsKind tree 3 e → (b d : ℕ) (f : FloatBits) → b ≡ wordOf tree e 0 + wordOf tree e 1 * 4294967296 → d ≡ detailOf tree e
-      → entryOf f ≡ entry b (eqb d 1) → NumbersFloat (entryOf f) k l r l′
+      → entryOfFloat f ≡ entry b (eqb d 1) → NumbersFloat (entryOfFloat f) k l r l′
       → LeafAdds tree text e (amount 0 0 0 0 1) k l (record { operand = Operand.Float (r .number); counters = r .counters }) l′
   unfolding convert-expr wideOf OperandIn
   float-leaf good is b d f eb ed ef p =
       let mark : eqb d 1 ≡ bit 1 (detailOf tree e) = mark-bit ed (float-detail tree text good e (is .below) (is .kind)) in
-      let is-entry : entry (wideOf tree text e A) (bit 1 (detailOf tree e)) ≡ entryOf f = sym (ef ∙ ap₂ (λ (x : ℕ) (y : Bool). entry x y) eb mark) in
+      let is-entry : entry (wideOf tree text e A) (bit 1 (detailOf tree e)) ≡ entryOfFloat f = sym (ef ∙ ap₂ (λ (x : ℕ) (y : Bool). entry x y) eb mark) in
       record {
         adds = λ S. adds-of
             (rw (expr-float tree text e (is .kind)) (ap (λ (x : Ir.FloatEntry). Ir.float-id x >>= (λ i. pure (OFloat i))) is-entry))
@@ -142,12 +138,12 @@ pub leaf-answers : (tree text s : List ℕ) (c : Converter) (e : ℕ) (l l′ : 
     → LeafAdds tree text e n (c .counters) l f l′ → a ≡ Converted.Is (f .operand) (f .counters) → Most n n′
     → Converts tree text (exprSteps tree text s c e) n′ c l s a l′ s
 leaf-answers tree text s c e l l′ n n′ f a p q h =
-    subst (λ (x : Converted). Converts tree text (exprSteps tree text s c e) n′ c l s x l′ s) (sym q) (converts-most (record {
+    subst (λ (x : Converted). Converts tree text (exprSteps tree text s c e) n′ c l s x l′ s) (sym q) (converts-most h (record {
       meets = meets-gave text (p .long) (p .adds (scopeAt tree text s (c .scope)));
       operand = λ o k z. let w : f .operand ≡ o = cc in subst (λ (x : Operand). OperandIn tree (operandOf x)) w (p .operand);
       stays = stays-refl _ _ _ s;
       names = names-refl _ s;
-    }) h)
+    }))
 
 -- ---- names
 
@@ -231,8 +227,8 @@ module _ (tree text l s : List ℕ) (c : Converter) (e : ℕ) (x : Converting tr
       → Converts tree text (exprSteps tree text s c e) (exprAmount 0) c l s (Converted.Is o (c .counters)) l s
   unfolding convert-expr OperandIn
   leaf-int q o h =
-      converts-most (gives-operand tree text l s c (exprSteps tree text s c e) o (x .room)
-      (rw (expr-int tree text e (sym ek ∙ q)) (ap (λ (z : Ir.Operand). pure z) (sym (h text)))) (rw (h text) tt)) (omega arith)
+      converts-most (omega arith) (gives-operand tree text l s c (exprSteps tree text s c e) o (x .room)
+      (rw (expr-int tree text e (sym ek ∙ q)) (ap (λ (z : Ir.Operand). pure z) (sym (h text)))) (rw (h text) tt))
 
   pub leaf-bool : k ≡ 5 → (d : ℕ) → d ≡ detailOf tree e
       → Converts tree text (exprSteps tree text s c e) (exprAmount 0) c l s (Converted.Is (Operand.Bool (eqb d 1)) (c .counters)) l s
@@ -240,13 +236,13 @@ module _ (tree text l s : List ℕ) (c : Converter) (e : ℕ) (x : Converting tr
   leaf-bool q d ed =
       let good = x .ready .keyed .good in
       let mark : eqb d 1 ≡ bit 1 (detailOf tree e) = mark-bit ed (bool-detail tree text good e (expr-low tree text good e is) (sym ek ∙ q)) in
-      converts-most (gives-operand tree text l s c (exprSteps tree text s c e) (Operand.Bool (eqb d 1)) (x .room)
-      (rw (expr-bool tree text e (sym ek ∙ q)) (ap (λ (z : Bool). pure (OBool z)) (sym mark))) tt) (omega arith)
+      converts-most (omega arith) (gives-operand tree text l s c (exprSteps tree text s c e) (Operand.Bool (eqb d 1)) (x .room)
+      (rw (expr-bool tree text e (sym ek ∙ q)) (ap (λ (z : Bool). pure (OBool z)) (sym mark))) tt)
 
   pub leaf-null : k ≡ 7 → Converts tree text (exprSteps tree text s c e) (exprAmount 0) c l s (Converted.Is Operand.Null (c .counters)) l s
   unfolding convert-expr OperandIn
   leaf-null q =
-      converts-most (gives-operand tree text l s c (exprSteps tree text s c e) Operand.Null (x .room) (rw (expr-null tree text e (sym ek ∙ q))) tt) (omega arith)
+      converts-most (omega arith) (gives-operand tree text l s c (exprSteps tree text s c e) Operand.Null (x .room) (rw (expr-null tree text e (sym ek ∙ q))) tt)
 
   -- what is left is a SizeOf
   pub leaf-size : kindOf tree e ≤ 8 → (k ≡ 2 → ⊥) → (k ≡ 3 → ⊥) → (k ≡ 4 → ⊥) → (k ≡ 5 → ⊥) → (k ≡ 6 → ⊥) → (k ≡ 7 → ⊥) → IsKind tree 8 e

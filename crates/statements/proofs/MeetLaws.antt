@@ -15,7 +15,7 @@ use Rattle.ir.specs.Amounts.{Amount, amount, both, Spent}
 use Rattle.ir.specs.Steps.{Next, NextIn, StopsIn}
 use Rattle.ir.proofs.AmountLaws.{nothing-spent, both-spent}
 use Rattle.ir.proofs.StepLaws.{next-in, then-in, then-next, seq-next, pure-next, lift-next, lift-stops, fail-stops, stop-first, then-stop}
-use Rattle.statements.specs.Meets.{Answer, gave, refused, Adds, AddsIn, Meets}
+use Rattle.statements.specs.Meets.{StepAnswer, gave, refused, Adds, AddsIn, Meets}
 
 -- ---- amounts
 
@@ -74,10 +74,10 @@ module _ {A : Type 0} {m : M A} {n : Amount} {k : Counters} {l l′ : List ℕ} 
     stops = λ e′ q. let d : e ≡ e′ = cc in subst (λ (z : ConvertError). StopsIn text m k l (z .kind) (z .place)) d p;
   }
 
-  pub meets-same : {m′ : M A} {a : Answer A} → m ≡ m′ → Meets text m n k l l′ a → Meets text m′ n k l l′ a
+  pub meets-same : {m′ : M A} {a : StepAnswer A} → m ≡ m′ → Meets text m n k l l′ a → Meets text m′ n k l l′ a
   meets-same {a = a} e p = subst (λ (x : M A). Meets text x n k l l′ a) e p
 
-  pub meets-most : {n′ : Amount} {a : Answer A} → Meets text m n k l l′ a → Most n n′ → Meets text m n′ k l l′ a
+  pub meets-most : {n′ : Amount} {a : StepAnswer A} → Meets text m n k l l′ a → Most n n′ → Meets text m n′ k l l′ a
   meets-most p q = record {
     long = p .long;
     gives = λ x k′ e. record { next = p .gives x k′ e .next; spent = spent-most (p .gives x k′ e .spent) q };
@@ -85,7 +85,7 @@ module _ {A : Type 0} {m : M A} {n : Amount} {k : Counters} {l l′ : List ℕ} 
   }
 
 -- a step that goes on, then the rest
-pub meets-then : {A B : Type 0} {m : M A} {n₁ n₂ : Amount} {k k₁ : Counters} {l l₁ l₂ : List ℕ} {x : A} {a : Answer B} (text : List ℕ) (f : A → M B)
+pub meets-then : {A B : Type 0} {m : M A} {n₁ n₂ : Amount} {k k₁ : Counters} {l l₁ l₂ : List ℕ} {x : A} {a : StepAnswer B} (text : List ℕ) (f : A → M B)
     → length l₁ ≡ length l → AddsIn text m n₁ k l x k₁ l₁ → Meets text (f x) n₂ k₁ l₁ l₂ a → Meets text (m >>= f) (both n₁ n₂) k l l₂ a
 meets-then text f h p q = record {
   long = q .long ∙ h;
@@ -99,7 +99,7 @@ pub meets-stop : {A B : Type 0} {m : M A} {n : Amount} {k : Counters} {l l′ : 
 meets-stop text f h p = meets-refused text h (stop-first text f p)
 
 -- what changes nothing but may fail: typing
-pub meets-lift : {A B : Type 0} {x : Result A} {y : A} {n : Amount} {k : Counters} {l l′ : List ℕ} {a : Answer B} (text : List ℕ) (f : A → M B)
+pub meets-lift : {A B : Type 0} {x : Result A} {y : A} {n : Amount} {k : Counters} {l l′ : List ℕ} {a : StepAnswer B} (text : List ℕ) (f : A → M B)
     → Room k l → x ≡ ok y → Meets text (f y) n k l l′ a → Meets text (lift x >>= f) n k l l′ a
 meets-lift {x = x} {y = y} {k = k} {l = l} text f room e q =
     meets-most text (meets-then text f refl (record { next = next-in text (lift-next x y k l e room); spent = nothing-spent }) q) (omega arith)
@@ -109,6 +109,6 @@ pub meets-lift-stop : {A B : Type 0} {x : Result A} {n : Amount} {k : Counters} 
 meets-lift-stop {x = x} {k = k} {l = l} {e = e} text f h q = meets-stop text f h (lift-stops text x k l (e .kind) (e .place) q)
 
 -- a result that is dropped: `m` and then the rest, where `m` was met without its result
-pub meets-drop : {A B : Type 0} {n₁ n₂ : Amount} {k k₁ : Counters} {l l₁ l₂ : List ℕ} {a : Answer B} (text : List ℕ) (m : M A) (f : M B)
+pub meets-drop : {A B : Type 0} {n₁ n₂ : Amount} {k k₁ : Counters} {l l₁ l₂ : List ℕ} {a : StepAnswer B} (text : List ℕ) (m : M A) (f : M B)
     → length l₁ ≡ length l → AddsIn text (m >> pure (tt {0})) n₁ k l tt k₁ l₁ → Meets text f n₂ k₁ l₁ l₂ a → Meets text (m >> f) (both n₁ n₂) k l l₂ a
 meets-drop text m f h p q = meets-same text (simp (seq-is, regroup, pure-first)) (meets-then text (λ (x : Unit {0}). f) h p q)

@@ -18,9 +18,9 @@ use Rattle.records.specs.Rules.{isExpr}
 use Rattle.records.specs.Good.{Good}
 use Rattle.records.proofs.GoodLaws.{return-a, callStatement-a}
 use Rattle.syntax.specs.Syntax.{Text, Expr, Args, Program, Function, boolType, place}
-use Rattle.syntax.specs.Count.{under, argsRecords, exprRecords, statementRecords}
+use Rattle.syntax.specs.Count.{under, argsRecords, exprRecords, statementRecords, argsUnder, argsValues}
 use Rattle.syntax.specs.Decode.{program, reference, textOf}
-use Rattle.syntax.specs.Places.{IsKind, TypeAt, FunctionAt, functionOf, exprAt, argsAt, statementAt}
+use Rattle.syntax.specs.Places.{IsExpr, IsKind, TypeAt, FunctionAt, functionOf, exprAt, argsAt, statementAt}
 use Rattle.syntax.proofs.Records.{expr-int, expr-float, expr-str, expr-bool, expr-name, expr-null, expr-sizeOf, expr-unary, expr-binary, expr-call, statement-return, statement-call, function-rec, function-return, return-is}
 use Rattle.conversion.specs.ConvertError.{NotBool, ReturnWithoutType, WrongReturnType, WouldPanic}
 use Rattle.conversion.specs.Ir as Ir
@@ -29,7 +29,6 @@ use Rattle.conversion.specs.Scope as Def
 use Rattle.conversion.specs.Expressions.{Functions, Callee, CallFunction, get-type, resolve-call}
 use Rattle.conversion.specs.Statements.{asCall, fit-operand, convert-expr, convert-args, convert-cond, checkFits, returnAs, convert-return, callFunction, callStatement, convert-call}
 use Rattle.conversion.proofs.MonadLaws.{regroup, seq-is}
-use Rattle.types.specs.Fits.{IsExpr}
 use Rattle.types.proofs.FromGood.{is-expr}
 use Rattle.ir.specs.declared.structs.Counters.{Counters}
 use Rattle.ir.specs.declared.structs.Operand.{Operand}
@@ -61,7 +60,7 @@ use Rattle.statements.specs.declared.answers.Fitted.{Fitted}
 use Rattle.statements.specs.Stack.{stackAt}
 use Rattle.statements.specs.Meets.{Adds, AddsIn}
 use Rattle.statements.specs.Parts.{passArgs}
-use Rattle.statements.specs.Converting.{Converting, withCounters, RoomFor, Afforded, ExprAfforded, ArgsAfforded, BehindAfforded, exprAmount, argsAmount, argsUnder, argsValues, behindAmount, StackIn, StaysFor}
+use Rattle.statements.specs.Converting.{Converting, withCounters, RoomFor, Afforded, ExprAfforded, ArgsAfforded, BehindAfforded, exprAmount, argsAmount, behindAmount, StackIn, StaysFor}
 use Rattle.statements.specs.Answers.{argsOf, Converts, ConvertsArgs, States, FitAdds, ConvertsAs, StatesAs, CallOnlyAs, exprSteps, condSteps, argsSteps, returnSteps, returnAsSteps, callStatementSteps, callOnlySteps}
 use Rattle.statements.proofs.MeetLaws.{Most, adds-in, adds-then, adds-seq, adds-pure, adds-same, meets-gave, meets-refused, meets-same, meets-most, meets-then, meets-stop, meets-lift, meets-lift-stop}
 use Rattle.statements.proofs.StayLaws.{names-then, frame-names, stays-refl, stays-then, frame-stays, converting-next}

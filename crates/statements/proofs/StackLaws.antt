@@ -2,7 +2,7 @@
 -- By the cases of operands and of tags; the words of an entry as those of a table of one entry. Assumes nothing.
 use mathlib.Core.Path.{_≡_, refl, sym, ap, _∙_}
 use mathlib.Core.Bool.{Bool, true, false}
-use mathlib.Core.List.{List, [], _++_}
+use mathlib.Core.List.{List, [], _∷_, _++_}
 use Prim.Native.Nat.{ℕ, zero, suc, _+_, _*_, _/_, _%_, _^_, _≤_, _<_}
 use native.Mathlib.Omega.{arith}
 use lib.Dec.{eqb, leb}
@@ -14,7 +14,7 @@ use Rattle.laws.specs.Splice.{splice}
 use Rattle.records.specs.Words.{byteAt, wordAt}
 use Rattle.conversion.specs.Ir as Ir
 use Rattle.conversion.specs.Ir.{OVar, OInt, OFloat, OBool, ODataAddress, ONull}
-use Rattle.conversion.specs.Written.{bytesOf, word, tag, operandValue, boolNumber, encodeAll}
+use Rattle.conversion.specs.Written.{bytesOf, word, wide, tag, operandValue, boolNumber, encodeAll}
 use Rattle.ir.specs.declared.structs.VarId.{VarId}
 use Rattle.ir.specs.declared.structs.Operand.{Operand}
 use Rattle.ir.specs.declared.structs.Operand.the-variants as Operand
@@ -23,7 +23,7 @@ use Rattle.ir.specs.Arena.{Table}
 use Rattle.ir.proofs.Entries.{table-grown, table-word}
 use Rattle.ir.proofs.ReadBack.{word-back}
 use Rattle.records.proofs.WordLaws.{wide-words}
-use Rattle.statements.specs.Stack.{varType, operandBytes, operandFrom, entryAt, operandAt}
+use Rattle.statements.specs.Stack.{varType, operandBytes, operandFrom, entryAt, operandAt, stackAt}
 
 -- ---- an operand in four words
 
@@ -205,3 +205,15 @@ pub entry-read : (s : List ℕ) (n j a b c d : ℕ) (o : Ir.Operand) → a ≡ w
     → c ≡ wordAt s (24 * n + 16 * j + 8) → d ≡ wordAt s (24 * n + 16 * j + 12) → o ≡ operandFrom a b c d → o ≡ operandAt s n j
 unfolding operandAt
 entry-read s n j a b c d o ea eb ec ed e = e ∙ rw (ea, eb, ec, ed)
+
+-- an operand's bytes
+pub operand-long : (o : Ir.Operand) → length (operandBytes o) ≡ 16
+unfolding operandBytes word wide bytesOf
+operand-long o = refl
+
+-- one entry more at the end
+pub stack-last : (s : List ℕ) (n j count : ℕ) → stackAt s n j (suc count) ≡ stackAt s n j count ++ (operandAt s n (j + count) ∷ [])
+unfolding stackAt
+stack-last s n j zero = ap (λ (i : ℕ). operandAt s n i ∷ []) (omega arith)
+stack-last s n j (suc count) =
+    ap (λ (r : List Ir.Operand). operandAt s n j ∷ r) (stack-last s n (suc j) count ∙ ap (λ (i : ℕ). stackAt s n (suc j) count ++ (operandAt s n i ∷ [])) (omega arith))

@@ -30,7 +30,6 @@ use Rattle.expressions.specs.declared.answers.Outcome.{Outcome}
 use Rattle.expressions.specs.declared.answers.Outcome.the-variants as Outcome
 use Rattle.expressions.specs.Slots.{typeIn}
 use Rattle.expressions.specs.Answers.{refusal, outcomeOf, TypeMeets}
-use Rattle.expressions.proofs.SlotLaws.{ready-frame}
 use Rattle.expressions.proofs.TypingLaws.{type-ok, type-refused}
 use Rattle.statements.specs.declared.answers.Converter.{Converter}
 use Rattle.statements.specs.declared.answers.Converted.{Converted}
@@ -39,11 +38,11 @@ use Rattle.statements.specs.declared.answers.Stated.{Stated}
 use Rattle.statements.specs.declared.answers.Stated.the-variants as Stated
 use Rattle.statements.specs.declared.answers.Finished.{Finished}
 use Rattle.statements.specs.declared.answers.Finished.the-variants as Finished
-use Rattle.statements.specs.Meets.{Answer, gave, refused, AddsIn, Meets}
+use Rattle.statements.specs.Meets.{StepAnswer, gave, refused, AddsIn, Meets}
 use Rattle.statements.specs.Converting.{Converting, withCounters, StaysFor}
 use Rattle.statements.specs.Answers.{convertedOf, finishedOf, Converts, Leaves, States, Finishes}
 use Rattle.statements.proofs.MeetLaws.{Most, meets-gave, meets-refused, meets-same, meets-most, meets-then, meets-lift, meets-lift-stop}
-use Rattle.statements.proofs.StayLaws.{frame-stays, scope-stays, ready-stays, converting-next}
+use Rattle.statements.proofs.StayLaws.{frame-stays, scope-stays, ready-stays, converting-next, converting-frame}
 use Rattle.statements.proofs.ConvertLaws.{converted-next}
 
 -- ---- a statement's answer
@@ -135,12 +134,7 @@ module _ {tree text l s s′ : List ℕ} {c : Converter} (p : Converting tree te
 
 module _ {tree text l s : List ℕ} {c : Converter} {e : ℕ} (p : Converting tree text l s c) {ty : ExprType} {s₁ : List ℕ} (t : TypeMeets tree text s (c .scope) e ty s₁) where
   pub type-converting : Converting tree text l s₁ c
-  type-converting = record {
-    ready = ready-frame tree s s₁ (t .frame) text (c .functions) (c .scope) (p .ready);
-    function = p .function;
-    records-are = p .records-are;
-    room = p .room;
-  }
+  type-converting = converting-frame p (t .frame)
 
   pub type-stays : StaysFor tree c s s₁
   type-stays = frame-stays (c .scope .names) (c .operands) (t .frame)
@@ -157,7 +151,7 @@ module _ {tree text l s : List ℕ} {c : Converter} {e : ℕ} (p : Converting tr
   type-error {z = z} w = type-refused (typeIn tree text (scopeAt tree text s (c .scope)) e) ty z (t .meets) w
 
   module _ {X : Type 0} {n : Amount} (f : ℕ → M X) where
-    pub typed-then : {y : ℕ} {l′ : List ℕ} {a : Answer X} → ty ≡ ExprType.Is y → Meets text (f y) n (c .counters) l l′ a
+    pub typed-then : {y : ℕ} {l′ : List ℕ} {a : StepAnswer X} → ty ≡ ExprType.Is y → Meets text (f y) n (c .counters) l l′ a
         → Meets text (lift (get-type (program tree text) (allKeys tree text) (exprAt tree text e) (scopeAt tree text s (c .scope))) >>= f) n (c .counters) l l′ a
     typed-then w i = meets-lift text f (p .room) (type-known w) i
 
@@ -168,7 +162,7 @@ module _ {tree text l s : List ℕ} {c : Converter} {e : ℕ} (p : Converting tr
 -- ---- an operand first
 
 module _ {tree text l l₁ s s₁ : List ℕ} {m : M Ir.Operand} {n₁ : Amount} {c : Converter} {a : Converted} (p : Converts tree text m n₁ c l s a l₁ s₁) {X : Type 0} (f : Ir.Operand → M X) where
-  pub operand-then : {n₂ : Amount} {l₂ : List ℕ} {b : Answer X} {o : Operand} {k : Counters} → a ≡ Converted.Is o k → Meets text (f (operandOf o)) n₂ k l₁ l₂ b
+  pub operand-then : {n₂ : Amount} {l₂ : List ℕ} {b : StepAnswer X} {o : Operand} {k : Counters} → a ≡ Converted.Is o k → Meets text (f (operandOf o)) n₂ k l₁ l₂ b
       → Meets text (m >>= f) (both n₁ n₂) (c .counters) l l₂ b
   operand-then q i = meets-then text f (p .meets .long) (converted-next p q) i
 
@@ -177,7 +171,7 @@ module _ {tree text l l₁ s s₁ : List ℕ} {m : M Ir.Operand} {n₁ : Amount}
 
 -- ---- a step first that is dropped: `m >> f`
 
-module _ {X Y : Type 0} {n₁ n₂ : Amount} {k k₁ : Counters} {l l₁ l₂ : List ℕ} {x : X} {m : M X} {a : Answer Y} (text : List ℕ) (f : M Y) where
+module _ {X Y : Type 0} {n₁ n₂ : Amount} {k k₁ : Counters} {l l₁ l₂ : List ℕ} {x : X} {m : M X} {a : StepAnswer Y} (text : List ℕ) (f : M Y) where
   pub seq-then : length l₁ ≡ length l → AddsIn text m n₁ k l x k₁ l₁ → Meets text f n₂ k₁ l₁ l₂ a → Meets text (m >> f) (both n₁ n₂) k l l₂ a
   seq-then h p q = meets-same text (sym (seq-is m f)) (meets-then text (λ (y : X). f) h p q)
 
@@ -196,7 +190,7 @@ module _ {X : Type 0} {m : M (Unit {0})} (o : Outcome) (q : m ≡ lift (outcomeO
   as-lift : lift (outcomeOf o) >>= (λ (u : Unit {0}). f) ≡ m >> f
   as-lift = sym (seq-is (lift (outcomeOf o)) f) ∙ ap (λ (z : M (Unit {0})). z >> f) (sym q)
 
-  pub checked-then : {n : Amount} {k : Counters} {l l′ : List ℕ} {a : Answer X} (text : List ℕ) → o ≡ Outcome.Done → Room k l → Meets text f n k l l′ a → Meets text (m >> f) n k l l′ a
+  pub checked-then : {n : Amount} {k : Counters} {l l′ : List ℕ} {a : StepAnswer X} (text : List ℕ) → o ≡ Outcome.Done → Room k l → Meets text f n k l l′ a → Meets text (m >> f) n k l l′ a
   unfolding outcomeOf
   checked-then text w room i = meets-same text as-lift (meets-lift text (λ (u : Unit {0}). f) room (ap outcomeOf w) i)
 

@@ -15,11 +15,12 @@ use Rattle.conversion.specs.Ir.{Operand, M}
 use Rattle.ir.specs.declared.structs.Counters.{Counters}
 use Rattle.ir.specs.Steps.{NextIn}
 use Rattle.scope.specs.declared.Scope.{Scope}
-use Rattle.scope.specs.Open.{Kept, scopeAt}
+use Rattle.scope.specs.Open.{scopeAt}
 use Rattle.records.proofs.Apart.{byte-apart, word-same}
-use Rattle.scope.proofs.ScopeLaws.{scope-kept}
+use Rattle.scope.proofs.ScopeLaws.{Kept, scope-kept}
 use Rattle.keys.specs.Keys.{Listed, Keyed}
 use Rattle.expressions.specs.Slots.{Frame, Scoped, Ready}
+use Rattle.expressions.proofs.SlotLaws.{ready-frame}
 use Rattle.keys.proofs.KeySearch.{records-most}
 use Rattle.statements.specs.declared.answers.Converter.{Converter}
 use Rattle.statements.specs.Stack.{entryAt, operandFrom, operandAt, stackAt}
@@ -177,4 +178,13 @@ converting-next {tree = tree} {text = text} {c = c} p q f = record {
   function = p .function;
   records-are = q .records ∙ p .records-are;
   room = q .room;
+}
+
+-- what writes slots of types alone, and no table
+pub converting-frame : {tree text l s s′ : List ℕ} {c : Converter} → Converting tree text l s c → Frame tree s s′ → Converting tree text l s′ c
+converting-frame {tree = tree} {text = text} {s = s} {s′ = s′} {c = c} p f = record {
+  ready = ready-frame tree s s′ f text (c .functions) (c .scope) (p .ready);
+  function = p .function;
+  records-are = p .records-are;
+  room = p .room;
 }

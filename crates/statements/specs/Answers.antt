@@ -32,7 +32,7 @@ use Rattle.expressions.specs.declared.answers.ExprType.{ExprType}
 use Rattle.expressions.specs.Slots.{Frame, Ready}
 use Rattle.expressions.specs.declared.answers.Outcome.{Outcome}
 use Rattle.expressions.specs.declared.answers.Resolved.{Resolved}
-use Rattle.expressions.specs.Answers.{IsTyped, typeOf, outcomeOf, calleeOf}
+use Rattle.expressions.specs.Answers.{IsTyped, typeResult, outcomeOf, calleeOf}
 use Rattle.statements.specs.declared.answers.Converter.{Converter}
 use Rattle.statements.specs.declared.answers.Converted.{Converted}
 use Rattle.statements.specs.declared.answers.Converted.the-variants as Converted
@@ -45,29 +45,29 @@ use Rattle.statements.specs.declared.answers.Stated.{Stated}
 use Rattle.statements.specs.declared.answers.Stated.the-variants as Stated
 use Rattle.statements.specs.declared.answers.Finished.{Finished}
 use Rattle.statements.specs.declared.answers.Finished.the-variants as Finished
-use Rattle.statements.specs.Meets.{Answer, gave, refused, Adds, AddsIn, Meets}
+use Rattle.statements.specs.Meets.{StepAnswer, gave, refused, Adds, AddsIn, Meets}
 use Rattle.statements.specs.Parts.{operandType, ifHead, whileHead, forVariable, forBounds, forBegin, forTest, forTurns, forHead, declareInit, passArgs, finishCall}
 use Rattle.statements.specs.Stack.{stackAt}
-use Rattle.syntax.specs.Count.{under, statementRecords, blockRecords}
-use Rattle.statements.specs.Converting.{OperandIn, StackIn, StaysFor, NamesStay, exprAmount, argsAmount, argsUnder, argsValues, behindAmount, statementAmount, blockAmount, headAmount, turnsAmount, forHeadAmount}
+use Rattle.syntax.specs.Count.{under, statementRecords, blockRecords, argsUnder, argsValues}
+use Rattle.statements.specs.Converting.{OperandIn, StackIn, StaysFor, NamesStay, exprAmount, argsAmount, behindAmount, statementAmount, blockAmount, headAmount, turnsAmount, forHeadAmount}
 
 -- ---- answers
 
-abbrev pub convertedOf : Converted → Answer Ir.Operand
+abbrev pub convertedOf : Converted → StepAnswer Ir.Operand
 convertedOf (Converted.Is o k) = gave (operandOf o) k
 convertedOf (Converted.Refused e) = refused e
 
 -- the values stand on the stack from entry j on, with n records
-abbrev pub argsOf : List ℕ → ℕ → ℕ → ConvertedArgs → Answer (List Ir.Operand)
+abbrev pub argsOf : List ℕ → ℕ → ℕ → ConvertedArgs → StepAnswer (List Ir.Operand)
 argsOf s n j (ConvertedArgs.Done count k) = gave (stackAt s n j count) k
 argsOf s n j (ConvertedArgs.Refused e) = refused e
 
-abbrev pub statedOf : List ℕ → List ℕ → List ℕ → Stated → Answer Def.Scope
+abbrev pub statedOf : List ℕ → List ℕ → List ℕ → Stated → StepAnswer Def.Scope
 statedOf tree text s (Stated.Done sc k) = gave (scopeAt tree text s sc) k
 statedOf tree text s (Stated.Refused e) = refused e
 
 -- success stands for a
-abbrev pub finishedOf : {A : Type 0} → A → Finished → Answer A
+abbrev pub finishedOf : {A : Type 0} → A → Finished → StepAnswer A
 finishedOf a (Finished.Done k) = gave a k
 finishedOf a (Finished.Refused e) = refused e
 
@@ -76,7 +76,7 @@ abbrev pub statedWith : Scope → Finished → Stated
 statedWith sc (Finished.Done k) = Stated.Done sc k
 statedWith sc (Finished.Refused e) = Stated.Refused e
 
-abbrev pub variableOf : List ℕ → List ℕ → List ℕ → ForVariable → Answer (Ir.VarId × Def.Scope)
+abbrev pub variableOf : List ℕ → List ℕ → List ℕ → ForVariable → StepAnswer (Ir.VarId × Def.Scope)
 variableOf tree text s (ForVariable.Is v sc k) = gave (varOf v, scopeAt tree text s sc) k
 variableOf tree text s (ForVariable.Refused e) = refused e
 
@@ -136,7 +136,7 @@ pub record OperandTyped (tree text s : List ℕ) (c : Converter) (e y : ℕ) (a 
   pub typed : IsTyped tree a
   pub meets : operandType
       (common-type (program tree text) (allKeys tree text) (exprAt tree text (wordOf tree e A)) (exprAt tree text (wordOf tree e B)) (scopeAt tree text s (c .scope))) y
-      ≡ typeOf a
+      ≡ typeResult a
 
 -- the variable of a For, with the scope of its body
 pub record FindsVariable (tree text : List ℕ) (m : M (Ir.VarId × Def.Scope)) (c : Converter) (l s : List ℕ) (a : ForVariable) (l′ s′ : List ℕ) : Type 0 where

@@ -1,12 +1,11 @@
 -- What everything that converts needs of tree, tables and scratch, what it may still add, and what it leaves of the scratch.
 -- Assumes nothing: these are definitions.
 use mathlib.Core.Path.{_≡_}
-use Prim.Native.Nat.{ℕ, suc, _+_, _*_, _≤_, _<_}
+use Prim.Native.Nat.{ℕ, _+_, _*_, _≤_, _<_}
 use mathlib.Core.List.{List}
 use lib.ListN.{length}
 use Rattle.records.specs.Words.{byteAt, wordOf, records}
-use Rattle.syntax.specs.Syntax.{Args, noArgs, Value, ToType}
-use Rattle.syntax.specs.Count.{under, statementRecords, blockRecords}
+use Rattle.syntax.specs.Count.{under, argsUnder, argsValues, statementRecords, blockRecords}
 use Rattle.syntax.specs.Places.{exprAt, argsAt, statementAt, blockAt, TypeAt, FunctionAt}
 use Rattle.conversion.specs.Ir as Ir
 use Rattle.conversion.specs.Ir.{OVar, OInt, OFloat, OBool, ODataAddress, ONull}
@@ -53,18 +52,6 @@ pub record RoomFor (k : Counters) (l : List ℕ) (n : Amount) : Type 0 where
 -- by an expression of u records below its own
 abbrev pub exprAmount : ℕ → Amount
 exprAmount u = amount (4 * u + 1) (3 * u + 1) (3 * u) (u + 1) (2 * u + 1)
-
--- the records below their own of a call's values, and how many values there are
-unfoldable pub argsUnder : Args → ℕ
-unfolding under
-argsUnder noArgs = 0
-argsUnder (Value r e l) = under e + argsUnder l
-argsUnder (ToType r y l) = argsUnder l
-
-unfoldable pub argsValues : Args → ℕ
-argsValues noArgs = 0
-argsValues (Value r e l) = suc (argsValues l)
-argsValues (ToType r y l) = argsValues l
 
 -- by the values of a call: v of them, with u records below their own
 abbrev pub argsAmount : ℕ → ℕ → Amount

@@ -61,7 +61,7 @@ pub(crate) fn as_converted(f: Fitted) -> Converted
     Converted::Is(o, k)
 }
 
-pub(crate) fn refusal(kind: ConvertErrorKind, place: usize) -> ConvertError
+pub(crate) fn error_at(kind: ConvertErrorKind, place: usize) -> ConvertError
     requires { ⌜ place < 4294967296 ⌝ }
     ensures { λ r. ⌜ r ≡ record { kind = kind; place = place } ⌝ }
 {

@@ -3,6 +3,7 @@
 ghost use mathlib.Core.Path.{_≡_};
 ghost use Prim.Native.Nat.{_≤_};
 ghost use Rattle.records.specs.Words.{kindOf};
+ghost use Rattle.records.specs.Kinds.{kindCallStatement, kindIf, kindWhile, kindFor, kindBreak};
 ghost use Rattle.syntax.specs.Places.{IsKind, IsStatement, BodyAt};
 ghost use Rattle.statements.specs.Converting.{Converting, BehindAfforded, StatementAfforded, BlockAfforded};
 ghost use Rattle.statements.specs.Answers.{StatesAs, StatementAs, BlockAs, FinishesAs, statedWith, plainSteps, jumpSteps, statementSteps, blockSteps, ifSteps, whileSteps, forSteps};
@@ -33,6 +34,10 @@ use records::numbers::KIND_IF;
 use records::numbers::KIND_INIT;
 use records::numbers::KIND_RETURN;
 use records::numbers::KIND_WHILE;
+use records::words::WORD_A;
+use records::words::WORD_B;
+use records::words::WORD_C;
+use records::words::WORD_D;
 use records::words::kind;
 use records::words::reference;
 use scope::Scope;
@@ -47,7 +52,7 @@ fn convert_plain(
     r: usize,
 ) -> Stated
     requires { ⌜ Converting (now tree) (now text) (now arena) (now scratch) c × BehindAfforded (now tree) (now text) c r ⌝ }
-    requires { ⌜ IsStatement (now tree) r × (kindOf (now tree) r ≤ 18) ⌝ }
+    requires { ⌜ IsStatement (now tree) r × (kindOf (now tree) r ≤ kindCallStatement) ⌝ }
     ensures { λ a. ⌜ StatesAs plainSteps c r (now (tree .entry)) (now (text .entry)) (now (arena .entry)) (now (scratch .entry)) a (now (arena .exit)) (now (scratch .exit)) ⌝ }
 {
     let node = kind(tree, r);
@@ -73,7 +78,7 @@ fn convert_jump(
     r: usize,
 ) -> Stated
     requires { ⌜ Converting (now tree) (now text) (now arena) (now scratch) c × BehindAfforded (now tree) (now text) c r ⌝ }
-    requires { ⌜ IsStatement (now tree) r × (22 ≤ kindOf (now tree) r) ⌝ }
+    requires { ⌜ IsStatement (now tree) r × (kindBreak ≤ kindOf (now tree) r) ⌝ }
     ensures { λ a. ⌜ StatesAs jumpSteps c r (now (tree .entry)) (now (text .entry)) (now (arena .entry)) (now (scratch .entry)) a (now (arena .exit)) (now (scratch .entry)) ⌝ }
 {
     if kind(tree, r) == KIND_BREAK {
@@ -142,7 +147,7 @@ pub fn convert_block(
     let mut cell = first;
     let mut at = c;
     while cell != END {
-        let r = reference(tree, cell, 0);
+        let r = reference(tree, cell, WORD_A);
         match convert_statement(tree, text, arena, scratch, at, r) {
             Stated::Refused(x) => return Finished::Refused(x),
             Stated::Done(scope, k) => {
@@ -166,11 +171,11 @@ fn convert_if(
     r: usize,
 ) -> Finished
     requires { ⌜ Converting (now tree) (now text) (now arena) (now scratch) c × BehindAfforded (now tree) (now text) c r ⌝ }
-    requires { ⌜ IsKind (now tree) 19 r ⌝ }
+    requires { ⌜ IsKind (now tree) kindIf r ⌝ }
     ensures { λ a. ⌜ FinishesAs ifSteps c r (now (tree .entry)) (now (text .entry)) (now (arena .entry)) (now (scratch .entry)) a (now (arena .exit)) (now (scratch .exit)) ⌝ }
 {
-    let then = reference(tree, r, 1);
-    let otherwise = reference(tree, r, 2);
+    let then = reference(tree, r, WORD_B);
+    let otherwise = reference(tree, r, WORD_C);
     let head = if_head(tree, text, arena, scratch, c, r);
     let Finished::Done(k) = head else {
         return head;
@@ -203,12 +208,12 @@ fn convert_while_loop(
     r: usize,
 ) -> Finished
     requires { ⌜ Converting (now tree) (now text) (now arena) (now scratch) c × BehindAfforded (now tree) (now text) c r ⌝ }
-    requires { ⌜ IsKind (now tree) 20 r ⌝ }
+    requires { ⌜ IsKind (now tree) kindWhile r ⌝ }
     ensures { λ a. ⌜ FinishesAs whileSteps c r (now (tree .entry)) (now (text .entry)) (now (arena .entry)) (now (scratch .entry)) a (now (arena .exit)) (now (scratch .exit)) ⌝ }
 {
     let scope = c.scope;
     let inner = scope.with_loop(r as u32);
-    let body = reference(tree, r, 1);
+    let body = reference(tree, r, WORD_B);
     match while_head(tree, text, arena, scratch, c, r) {
         Finished::Refused(x) => Finished::Refused(x),
         Finished::Done(k) => {
@@ -233,10 +238,10 @@ fn convert_for_loop(
     r: usize,
 ) -> Finished
     requires { ⌜ Converting (now tree) (now text) (now arena) (now scratch) c × BehindAfforded (now tree) (now text) c r ⌝ }
-    requires { ⌜ IsKind (now tree) 21 r ⌝ }
+    requires { ⌜ IsKind (now tree) kindFor r ⌝ }
     ensures { λ a. ⌜ FinishesAs forSteps c r (now (tree .entry)) (now (text .entry)) (now (arena .entry)) (now (scratch .entry)) a (now (arena .exit)) (now (scratch .exit)) ⌝ }
 {
-    let body = reference(tree, r, 3);
+    let body = reference(tree, r, WORD_D);
     match for_head(tree, text, arena, scratch, c, r) {
         Stated::Refused(x) => Finished::Refused(x),
         Stated::Done(scope, k) => {

@@ -1,9 +1,10 @@
 // statements.rs: the instructions of an expression. The functions that call each other convert parts of records, whose numbers fall;
 // arguments are walked by a loop.
 ghost use Prim.Native.Nat.{_+_};
+ghost use Rattle.records.specs.Words as Words;
 ghost use Rattle.records.specs.Words.{wordOf};
-ghost use Rattle.syntax.specs.Places.{IsKind, TypeAt};
-ghost use Rattle.types.specs.Fits.{IsExpr};
+ghost use Rattle.records.specs.Kinds.{kindUnary, kindBinary, kindCall};
+ghost use Rattle.syntax.specs.Places.{IsExpr, IsKind, TypeAt};
 ghost use Rattle.statements.specs.Converting.{Converting, ExprAfforded, ArgsAfforded};
 ghost use Rattle.statements.specs.Answers.{exprSteps, unarySteps, logicSteps, otherSteps, binarySteps, callSteps, argsSteps, ConvertsAs, ArgsAs};
 use crate::answers::Converted;
@@ -31,6 +32,9 @@ use records::numbers::AND;
 use records::numbers::KIND_BINARY;
 use records::numbers::KIND_SIZE_OF;
 use records::numbers::KIND_UNARY;
+use records::words::WORD_A;
+use records::words::WORD_B;
+use records::words::WORD_C;
 use records::words::detail;
 use records::words::kind;
 use records::words::reference;
@@ -78,11 +82,11 @@ fn convert_unary(
     y: usize,
 ) -> Converted
     requires { ⌜ Converting (now tree) (now text) (now arena) (now scratch) c × ExprAfforded (now tree) (now text) c e ⌝ }
-    requires { ⌜ IsKind (now tree) 9 e × TypeAt (now tree) y ⌝ }
+    requires { ⌜ IsKind (now tree) kindUnary e × TypeAt (now tree) y ⌝ }
     ensures { λ a. ⌜ ConvertsAs (λ t x s k q. unarySteps t x s k q y) c e (now (tree .entry)) (now (text .entry)) (now (arena .entry)) (now (scratch .entry)) a (now (arena .exit)) (now (scratch .exit)) ⌝ }
 {
     let op = detail(tree, e);
-    let part = reference(tree, e, 0);
+    let part = reference(tree, e, WORD_A);
     match convert_expr(tree, text, arena, scratch, c, part) {
         Converted::Refused(x) => Converted::Refused(x),
         Converted::Is(src, k) => {
@@ -103,7 +107,7 @@ fn convert_binary(
     y: usize,
 ) -> Converted
     requires { ⌜ Converting (now tree) (now text) (now arena) (now scratch) c × ExprAfforded (now tree) (now text) c e ⌝ }
-    requires { ⌜ IsKind (now tree) 10 e × TypeAt (now tree) y ⌝ }
+    requires { ⌜ IsKind (now tree) kindBinary e × TypeAt (now tree) y ⌝ }
     ensures { λ a. ⌜ ConvertsAs (λ t x s k q. binarySteps t x s k q y) c e (now (tree .entry)) (now (text .entry)) (now (arena .entry)) (now (scratch .entry)) a (now (arena .exit)) (now (scratch .exit)) ⌝ }
 {
     match operand_type(tree, text, scratch, c, e, y) {
@@ -128,11 +132,11 @@ fn convert_logic(
     y: usize,
 ) -> Converted
     requires { ⌜ Converting (now tree) (now text) (now arena) (now scratch) c × ExprAfforded (now tree) (now text) c e ⌝ }
-    requires { ⌜ IsKind (now tree) 10 e × TypeAt (now tree) y ⌝ }
+    requires { ⌜ IsKind (now tree) kindBinary e × TypeAt (now tree) y ⌝ }
     ensures { λ a. ⌜ ConvertsAs (λ t x s k q. logicSteps t x s k q y) c e (now (tree .entry)) (now (text .entry)) (now (arena .entry)) (now (scratch .entry)) a (now (arena .exit)) (now (scratch .exit)) ⌝ }
 {
-    let left = reference(tree, e, 0);
-    let right = reference(tree, e, 1);
+    let left = reference(tree, e, WORD_A);
+    let right = reference(tree, e, WORD_B);
     let k = c.counters;
     let begun = begin_logic(arena, k, e, y);
     let dest = begun.var;
@@ -167,12 +171,12 @@ fn convert_other(
     q: usize,
 ) -> Converted
     requires { ⌜ Converting (now tree) (now text) (now arena) (now scratch) c × ExprAfforded (now tree) (now text) c e ⌝ }
-    requires { ⌜ IsKind (now tree) 10 e × TypeAt (now tree) y × TypeAt (now tree) q ⌝ }
+    requires { ⌜ IsKind (now tree) kindBinary e × TypeAt (now tree) y × TypeAt (now tree) q ⌝ }
     ensures { λ a. ⌜ ConvertsAs (λ t x s k r. otherSteps t x s k r y q) c e (now (tree .entry)) (now (text .entry)) (now (arena .entry)) (now (scratch .entry)) a (now (arena .exit)) (now (scratch .exit)) ⌝ }
 {
     let op = detail(tree, e);
-    let left = reference(tree, e, 0);
-    let right = reference(tree, e, 1);
+    let left = reference(tree, e, WORD_A);
+    let right = reference(tree, e, WORD_B);
     match convert_expr(tree, text, arena, scratch, c, left) {
         Converted::Refused(x) => Converted::Refused(x),
         Converted::Is(a, k) => {
@@ -200,7 +204,7 @@ fn convert_call_value(
     y: usize,
 ) -> Converted
     requires { ⌜ Converting (now tree) (now text) (now arena) (now scratch) c × ExprAfforded (now tree) (now text) c e ⌝ }
-    requires { ⌜ IsKind (now tree) 11 e × TypeAt (now tree) y ⌝ }
+    requires { ⌜ IsKind (now tree) kindCall e × TypeAt (now tree) y ⌝ }
     ensures { λ a. ⌜ ConvertsAs (λ t x s k q. callSteps t x s k q y) c e (now (tree .entry)) (now (text .entry)) (now (arena .entry)) (now (scratch .entry)) a (now (arena .exit)) (now (scratch .exit)) ⌝ }
 {
     let scope = c.scope;
@@ -227,13 +231,13 @@ pub(crate) fn convert_args(
     c: Converter,
     e: usize,
 ) -> ConvertedArgs
-    requires { ⌜ Converting (now tree) (now text) (now arena) (now scratch) c × ArgsAfforded (now tree) (now text) c (wordOf (now tree) e 2) ⌝ }
-    requires { ⌜ IsKind (now tree) 11 e ⌝ }
-    ensures { λ a. ⌜ ArgsAs argsSteps c (wordOf (now (tree .entry)) e 2) (now (tree .entry)) (now (text .entry)) (now (arena .entry)) (now (scratch .entry)) a (now (arena .exit)) (now (scratch .exit)) ⌝ }
+    requires { ⌜ Converting (now tree) (now text) (now arena) (now scratch) c × ArgsAfforded (now tree) (now text) c (wordOf (now tree) e Words.C) ⌝ }
+    requires { ⌜ IsKind (now tree) kindCall e ⌝ }
+    ensures { λ a. ⌜ ArgsAs argsSteps c (wordOf (now (tree .entry)) e Words.C) (now (tree .entry)) (now (text .entry)) (now (arena .entry)) (now (scratch .entry)) a (now (arena .exit)) (now (scratch .exit)) ⌝ }
 {
     let n = tree.len() / 32;
     let first = c.operands;
-    let mut cell = reference(tree, e, 2);
+    let mut cell = reference(tree, e, WORD_C);
     let mut at = c;
     while cell != END {
         if let Argument::Expr(value) = argument_at(tree, text, cell) {

@@ -7,11 +7,11 @@ ghost use Prim.Native.Nat.{ℕ, suc, _+_, _*_, _≤_, _<_};
 ghost use Rattle.records.specs.Words.{records};
 ghost use Rattle.records.specs.Good.{Good};
 ghost use Rattle.syntax.specs.Decode.{program};
-ghost use Rattle.syntax.specs.Places.{TypeAt, FunctionAt, ParamsAt, exprAt, paramsAt};
+ghost use Rattle.syntax.specs.Places.{IsExpr, TypeAt, FunctionAt, ParamsAt, exprAt, paramsAt};
 ghost use Rattle.conversion.specs.Ir.{OVar, OFloat, lift};
 ghost use Rattle.conversion.specs.Expressions.{Functions};
 ghost use Rattle.conversion.specs.Statements.{refloat, castOperand, fit-operand, emitArgs, checkFits, parameterType};
-ghost use Rattle.types.specs.Fits.{IsExpr, IsType};
+ghost use Rattle.types.specs.Fits.{IsType};
 ghost use Rattle.ir.specs.Amounts.{amount};
 ghost use Rattle.ir.specs.Arena.{Room};
 ghost use Rattle.ir.specs.Instructions.{operandOf, varOf};
@@ -22,7 +22,7 @@ ghost use Rattle.statements.specs.Meets.{Adds};
 ghost use Rattle.statements.specs.Answers.{FitAdds, FitsAs, PassesAs};
 use crate::answers::Converter;
 use crate::answers::Fitted;
-use crate::answers::refusal;
+use crate::answers::error_at;
 use crate::operands::operand_at;
 use crate::operands::push_operand;
 use expressions::answers::Outcome;
@@ -40,6 +40,8 @@ use ir::structs::new_var;
 use keys::keys::parameters_of;
 use records::convert_error::ConvertErrorKind;
 use records::numbers::FLOAT_LONG;
+use records::words::WORD_A;
+use records::words::WORD_C;
 use records::words::reference;
 use types::fits::fits;
 use types::fits::range_error;
@@ -163,7 +165,7 @@ fn parameter_type(tree: &[u8], text: &[u8], parameter: usize) -> usize
     if parameter == END {
         return FLOAT_LONG;
     }
-    reference(tree, reference(tree, parameter, 0), 2)
+    reference(tree, reference(tree, parameter, WORD_A), WORD_C)
 }
 
 fn next_parameter(tree: &[u8], text: &[u8], parameter: usize) -> usize
@@ -262,7 +264,7 @@ pub(crate) fn check_fits(
         return Outcome::Done;
     }
     if range_error(tree, e, y, expected) {
-        return Outcome::Refused(refusal(ConvertErrorKind::LiteralOutOfRange, e));
+        return Outcome::Refused(error_at(ConvertErrorKind::LiteralOutOfRange, e));
     }
-    Outcome::Refused(refusal(kind, place))
+    Outcome::Refused(error_at(kind, place))
 }

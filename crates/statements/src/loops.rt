@@ -4,11 +4,12 @@ ghost use mathlib.Core.List.{List};
 ghost use Prim.Native.Nat.{ℕ, _+_, _*_, _≤_, _<_};
 ghost use lib.ListN.{length};
 ghost use Rattle.laws.specs.Fix.{pick};
+ghost use Rattle.records.specs.Words as Words;
 ghost use Rattle.records.specs.Words.{detailOf, wordOf};
+ghost use Rattle.records.specs.Kinds.{kindIf, kindWhile, kindFor};
 ghost use Rattle.syntax.specs.Decode.{program, bit};
-ghost use Rattle.syntax.specs.Places.{IsKind, TypeAt};
+ghost use Rattle.syntax.specs.Places.{IsExpr, IsKind, TypeAt};
 ghost use Rattle.conversion.specs.Ir.{conditionEnd};
-ghost use Rattle.types.specs.Fits.{IsExpr};
 ghost use Rattle.ir.specs.Amounts.{amount};
 ghost use Rattle.ir.specs.Instructions.{operandOf, varOf};
 ghost use Rattle.expressions.specs.Slots.{Ready};
@@ -21,7 +22,7 @@ use crate::answers::Converter;
 use crate::answers::Finished;
 use crate::answers::ForVariable;
 use crate::answers::Stated;
-use crate::answers::refusal;
+use crate::answers::error_at;
 use crate::exprs::convert_expr;
 use crate::fits::check_fits;
 use crate::fits::fit_operand;
@@ -51,6 +52,9 @@ use records::numbers::ADD;
 use records::numbers::BOOL_TYPE;
 use records::numbers::LT;
 use records::words::NONE;
+use records::words::WORD_A;
+use records::words::WORD_B;
+use records::words::WORD_C;
 use records::words::detail;
 use records::words::reference;
 use records::words::word;
@@ -92,10 +96,10 @@ pub(crate) fn if_head(
     r: usize,
 ) -> Finished
     requires { ⌜ Converting (now tree) (now text) (now arena) (now scratch) c × BehindAfforded (now tree) (now text) c r ⌝ }
-    requires { ⌜ IsKind (now tree) 19 r ⌝ }
+    requires { ⌜ IsKind (now tree) kindIf r ⌝ }
     ensures { λ a. ⌜ HeadAs ifHeadSteps c r (now (tree .entry)) (now (text .entry)) (now (arena .entry)) (now (scratch .entry)) a (now (arena .exit)) (now (scratch .exit)) ⌝ }
 {
-    let e = reference(tree, r, 0);
+    let e = reference(tree, r, WORD_A);
     let label = if_not_label(tree, r);
     match convert_cond(tree, text, arena, scratch, c, e) {
         Converted::Refused(x) => Finished::Refused(x),
@@ -130,11 +134,11 @@ pub(crate) fn while_head(
     r: usize,
 ) -> Finished
     requires { ⌜ Converting (now tree) (now text) (now arena) (now scratch) c × BehindAfforded (now tree) (now text) c r ⌝ }
-    requires { ⌜ IsKind (now tree) 20 r ⌝ }
+    requires { ⌜ IsKind (now tree) kindWhile r ⌝ }
     ensures { λ a. ⌜ HeadAs whileHeadSteps c r (now (tree .entry)) (now (text .entry)) (now (arena .entry)) (now (scratch .entry)) a (now (arena .exit)) (now (scratch .exit)) ⌝ }
 {
     let k = c.counters;
-    let e = reference(tree, r, 0);
+    let e = reference(tree, r, WORD_A);
     let k1 = place_label(arena, k, LOOP_START, r);
     let mut at = c;
     at.counters = k1;
@@ -164,16 +168,16 @@ fn for_declared(
     v: usize,
 ) -> ForVariable
     requires { ⌜ Converting (now tree) (now text) (now arena) (now scratch) c × BehindAfforded (now tree) (now text) c r ⌝ }
-    requires { ⌜ IsKind (now tree) 21 r × (v ≡ wordOf (now tree) r 0) × TypeAt (now tree) (wordOf (now tree) v 2) ⌝ }
+    requires { ⌜ IsKind (now tree) kindFor r × (v ≡ wordOf (now tree) r Words.A) × TypeAt (now tree) (wordOf (now tree) v Words.C) ⌝ }
     ensures { λ a. ⌜ VariableAs forVariableSteps c r (now (tree .entry)) (now (text .entry)) (now (arena .entry)) (now (scratch .entry)) a (now (arena .exit)) (now (scratch .exit)) ⌝ }
 {
     let scope = c.scope;
     let k = c.counters;
-    let made = new_var(arena, k, word(tree, v, 2));
+    let made = new_var(arena, k, word(tree, v, WORD_C));
     let x = made.var;
     let k1 = made.counters;
     match declare_name(tree, text, scratch, scope, v, x, false) {
-        Declared::Taken => ForVariable::Refused(refusal(ConvertErrorKind::AlreadyDeclared, r)),
+        Declared::Taken => ForVariable::Refused(error_at(ConvertErrorKind::AlreadyDeclared, r)),
         Declared::Done(next) => ForVariable::Is(x, next, k1),
     }
 }
@@ -189,16 +193,16 @@ fn for_known(
     v: usize,
 ) -> ForVariable
     requires { ⌜ Converting (now tree) (now text) (now arena) (now scratch) c × BehindAfforded (now tree) (now text) c r ⌝ }
-    requires { ⌜ IsKind (now tree) 21 r × (v ≡ wordOf (now tree) r 0) × (wordOf (now tree) v 2 ≡ 4294967295) ⌝ }
+    requires { ⌜ IsKind (now tree) kindFor r × (v ≡ wordOf (now tree) r Words.A) × (wordOf (now tree) v Words.C ≡ 4294967295) ⌝ }
     ensures { λ a. ⌜ VariableAs forVariableSteps c r (now (tree .entry)) (now (text .entry)) (now (arena .entry)) (now (scratch .entry)) a (now (arena .entry)) (now (scratch .entry)) ⌝ }
 {
     let scope = c.scope;
     let k = c.counters;
     match find_name(tree, text, scratch, scope, v) {
-        Known::Unknown => ForVariable::Refused(refusal(ConvertErrorKind::UnknownVariable, r)),
+        Known::Unknown => ForVariable::Refused(error_at(ConvertErrorKind::UnknownVariable, r)),
         Known::Is(x, constant) => {
             if constant {
-                return ForVariable::Refused(refusal(ConvertErrorKind::AssignToConstant, r));
+                return ForVariable::Refused(error_at(ConvertErrorKind::AssignToConstant, r));
             }
             ForVariable::Is(x, scope, k)
         }
@@ -215,11 +219,11 @@ fn for_variable(
     r: usize,
 ) -> ForVariable
     requires { ⌜ Converting (now tree) (now text) (now arena) (now scratch) c × BehindAfforded (now tree) (now text) c r ⌝ }
-    requires { ⌜ IsKind (now tree) 21 r ⌝ }
+    requires { ⌜ IsKind (now tree) kindFor r ⌝ }
     ensures { λ a. ⌜ VariableAs forVariableSteps c r (now (tree .entry)) (now (text .entry)) (now (arena .entry)) (now (scratch .entry)) a (now (arena .exit)) (now (scratch .exit)) ⌝ }
 {
-    let v = reference(tree, r, 0);
-    if word(tree, v, 2) == NONE {
+    let v = reference(tree, r, WORD_A);
+    if word(tree, v, WORD_C) == NONE {
         return for_known(tree, text, arena, scratch, c, r, v);
     }
     for_declared(tree, text, arena, scratch, c, r, v)
@@ -253,11 +257,11 @@ fn for_bounds(
     r: usize,
     y: usize,
 ) -> Outcome
-    requires { ⌜ Ready (now tree) (now text) (now scratch) (c .functions) (c .scope) × IsKind (now tree) 21 r × TypeAt (now tree) y ⌝ }
+    requires { ⌜ Ready (now tree) (now text) (now scratch) (c .functions) (c .scope) × IsKind (now tree) kindFor r × TypeAt (now tree) y ⌝ }
     ensures { λ a. ⌜ Checks (now (tree .entry)) (forBoundsSteps (now (tree .entry)) (now (text .entry)) (now (scratch .entry)) c r y) (now (scratch .entry)) a (now (scratch .exit)) ⌝ }
 {
-    let from = reference(tree, r, 1);
-    let until = reference(tree, r, 2);
+    let from = reference(tree, r, WORD_B);
+    let until = reference(tree, r, WORD_C);
     match check_bound(tree, text, scratch, c, from, y) {
         Outcome::Refused(x) => Outcome::Refused(x),
         Outcome::Done => check_bound(tree, text, scratch, c, until, y),
@@ -288,10 +292,10 @@ fn for_begin(
     x: VarId,
 ) -> Finished
     requires { ⌜ Converting (now tree) (now text) (now arena) (now scratch) c × BoundAfforded (now tree) (now text) c r 1 ⌝ }
-    requires { ⌜ IsKind (now tree) 21 r × TypeAt (now tree) (x .1) ⌝ }
+    requires { ⌜ IsKind (now tree) kindFor r × TypeAt (now tree) (x .1) ⌝ }
     ensures { λ a. ⌜ BoundAs (λ t y s k q. forBeginSteps t y s k x q) 1 c r (now (tree .entry)) (now (text .entry)) (now (arena .entry)) (now (scratch .entry)) a (now (arena .exit)) (now (scratch .exit)) ⌝ }
 {
-    let from = reference(tree, r, 1);
+    let from = reference(tree, r, WORD_B);
     match convert_expr(tree, text, arena, scratch, c, from) {
         Converted::Refused(e) => Finished::Refused(e),
         Converted::Is(a, k) => {
@@ -334,10 +338,10 @@ fn for_test(
     x: VarId,
 ) -> Finished
     requires { ⌜ Converting (now tree) (now text) (now arena) (now scratch) c × BoundAfforded (now tree) (now text) c r 2 ⌝ }
-    requires { ⌜ IsKind (now tree) 21 r × TypeAt (now tree) (x .1) ⌝ }
+    requires { ⌜ IsKind (now tree) kindFor r × TypeAt (now tree) (x .1) ⌝ }
     ensures { λ a. ⌜ BoundAs (λ t y s k q. forTestSteps t y s k x q) 2 c r (now (tree .entry)) (now (text .entry)) (now (arena .entry)) (now (scratch .entry)) a (now (arena .exit)) (now (scratch .exit)) ⌝ }
 {
-    let until = reference(tree, r, 2);
+    let until = reference(tree, r, WORD_C);
     match convert_expr(tree, text, arena, scratch, c, until) {
         Converted::Refused(e) => Finished::Refused(e),
         Converted::Is(b, k) => Finished::Done(test_bound(tree, arena, k, r, x, b)),
@@ -355,12 +359,12 @@ fn for_turns(
     x: VarId,
 ) -> Finished
     requires { ⌜ Converting (now tree) (now text) (now arena) (now scratch) c × Afforded (now tree) c (forHeadAmount (boundsUnder (now tree) (now text) r)) (boundsUnder (now tree) (now text) r) 0 ⌝ }
-    requires { ⌜ IsKind (now tree) 21 r × TypeAt (now tree) (x .1) ⌝ }
+    requires { ⌜ IsKind (now tree) kindFor r × TypeAt (now tree) (x .1) ⌝ }
     ensures { λ a. ⌜ TurnsAs (λ t y s k q. forTurnsSteps t y s k x q) c r (now (tree .entry)) (now (text .entry)) (now (arena .entry)) (now (scratch .entry)) a (now (arena .exit)) (now (scratch .exit)) ⌝ }
 {
     let y = x.1 as usize;
     if form(tree, y) != INT {
-        return Finished::Refused(refusal(ConvertErrorKind::NotInteger, r));
+        return Finished::Refused(error_at(ConvertErrorKind::NotInteger, r));
     }
     match for_bounds(tree, text, scratch, c, r, y) {
         Outcome::Refused(e) => Finished::Refused(e),
@@ -385,7 +389,7 @@ pub(crate) fn for_head(
     r: usize,
 ) -> Stated
     requires { ⌜ Converting (now tree) (now text) (now arena) (now scratch) c × BehindAfforded (now tree) (now text) c r ⌝ }
-    requires { ⌜ IsKind (now tree) 21 r ⌝ }
+    requires { ⌜ IsKind (now tree) kindFor r ⌝ }
     ensures { λ a. ⌜ ForHeadAs forHeadSteps c r (now (tree .entry)) (now (text .entry)) (now (arena .entry)) (now (scratch .entry)) a (now (arena .exit)) (now (scratch .exit)) ⌝ }
 {
     match for_variable(tree, text, arena, scratch, c, r) {

@@ -8,12 +8,12 @@ ghost use mir.Syntax.{w64};
 ghost use mir.Val.{toZ};
 ghost use Rattle.laws.specs.Splice.{splice};
 ghost use Rattle.records.specs.Words.{detailOf, kindOf};
+ghost use Rattle.records.specs.Kinds.{kindFloat, kindStr, kindName, kindSizeOf};
 ghost use Rattle.records.specs.Good.{Good};
 ghost use Rattle.syntax.specs.Decode.{bit, wideOf};
-ghost use Rattle.syntax.specs.Places.{IsKind};
+ghost use Rattle.syntax.specs.Places.{IsExpr, IsKind};
 ghost use Rattle.conversion.specs.Ir.{OInt};
 ghost use Rattle.conversion.specs.Written.{word};
-ghost use Rattle.types.specs.Fits.{IsExpr};
 ghost use Rattle.ir.specs.Amounts.{amount, Affords};
 ghost use Rattle.ir.specs.Instructions.{operandOf};
 ghost use Rattle.statements.specs.Stack.{operandBytes, operandFrom, entryAt, operandAt};
@@ -24,7 +24,7 @@ use crate::answers::Converted;
 use crate::answers::Converter;
 use crate::answers::Fitted;
 use crate::answers::as_converted;
-use crate::answers::refusal;
+use crate::answers::error_at;
 use crate::numbers::TAG_BOOL;
 use crate::numbers::TAG_FLOAT;
 use crate::numbers::TAG_INT;
@@ -45,6 +45,8 @@ use records::numbers::KIND_NAME;
 use records::numbers::KIND_NULL;
 use records::numbers::KIND_STR;
 use records::words::Four;
+use records::words::WORD_A;
+use records::words::WORD_B;
 use records::words::detail;
 use records::words::high;
 use records::words::kind;
@@ -133,15 +135,15 @@ fn int_operand(tree: &[u8], e: usize) -> Operand
     ensures { λ r. ⌜ ((text : List ℕ) → operandOf r ≡ OInt (toZ w64 (wideOf (now (tree .entry)) text e 0)) (bit 1 (detailOf (now (tree .entry)) e)) (bit 2 (detailOf (now (tree .entry)) e))) ⌝ }
 {
     let marks = detail(tree, e);
-    let bits = two_words(tree, e, 0);
+    let bits = two_words(tree, e, WORD_A);
     Operand::Int(bits, marks % 2 == 1, marks / 2 % 2 == 1)
 }
 
 fn float_operand(tree: &[u8], text: &[u8], arena: &mut [u8], k: Counters, e: usize) -> Fitted
-    requires { ⌜ RoomFor k (now arena) (amount 0 0 0 0 1) × Good (now tree) (now text) × IsKind (now tree) 3 e ⌝ }
+    requires { ⌜ RoomFor k (now arena) (amount 0 0 0 0 1) × Good (now tree) (now text) × IsKind (now tree) kindFloat e ⌝ }
     ensures { λ r. ⌜ LeafAdds (now (tree .entry)) (now (text .entry)) e (amount 0 0 0 0 1) k (now (arena .entry)) r (now (arena .exit)) ⌝ }
 {
-    let f = float_entry(two_words(tree, e, 0), detail(tree, e) == 1);
+    let f = float_entry(two_words(tree, e, WORD_A), detail(tree, e) == 1);
     let p = float_id(arena, k, f);
     let next = p.counters;
     Fitted {
@@ -151,11 +153,11 @@ fn float_operand(tree: &[u8], text: &[u8], arena: &mut [u8], k: Counters, e: usi
 }
 
 fn string_operand(tree: &[u8], text: &[u8], arena: &mut [u8], k: Counters, e: usize) -> Fitted
-    requires { ⌜ RoomFor k (now arena) (amount 0 0 0 1 0) × Good (now tree) (now text) × IsKind (now tree) 4 e ⌝ }
+    requires { ⌜ RoomFor k (now arena) (amount 0 0 0 1 0) × Good (now tree) (now text) × IsKind (now tree) kindStr e ⌝ }
     ensures { λ r. ⌜ LeafAdds (now (tree .entry)) (now (text .entry)) e (amount 0 0 0 1 0) k (now (arena .entry)) r (now (arena .exit)) ⌝ }
 {
-    let offset = word(tree, e, 0);
-    let len = word(tree, e, 1);
+    let offset = word(tree, e, WORD_A);
+    let len = word(tree, e, WORD_B);
     let p = string_id(text, arena, k, offset, len);
     let next = p.counters;
     Fitted {
@@ -173,16 +175,16 @@ fn name_operand(
     e: usize,
 ) -> Converted
     requires { ⌜ Converting (now tree) (now text) (now arena) (now scratch) c ⌝ }
-    requires { ⌜ IsKind (now tree) 6 e ⌝ }
+    requires { ⌜ IsKind (now tree) kindName e ⌝ }
     ensures { λ a. ⌜ Converts (now (tree .entry)) (now (text .entry)) (exprSteps (now (tree .entry)) (now (text .entry)) (now (scratch .entry)) c e) (amount 0 0 0 0 0) c (now (arena .entry)) (now (scratch .entry)) a (now (arena .entry)) (now (scratch .entry)) ⌝ }
 {
     let scope = c.scope;
     let k = c.counters;
-    let offset = word(tree, e, 0);
-    let len = word(tree, e, 1);
+    let offset = word(tree, e, WORD_A);
+    let len = word(tree, e, WORD_B);
     match scope.find_variable(text, scratch, offset, len) {
         Known::Is(v, _) => Converted::Is(Operand::Var(v), k),
-        Known::Unknown => Converted::Refused(refusal(ConvertErrorKind::UnknownVariable, e)),
+        Known::Unknown => Converted::Refused(error_at(ConvertErrorKind::UnknownVariable, e)),
     }
 }
 
@@ -196,14 +198,14 @@ fn size_operand(
     e: usize,
 ) -> Converted
     requires { ⌜ Converting (now tree) (now text) (now arena) (now scratch) c ⌝ }
-    requires { ⌜ IsKind (now tree) 8 e ⌝ }
+    requires { ⌜ IsKind (now tree) kindSizeOf e ⌝ }
     ensures { λ a. ⌜ Converts (now (tree .entry)) (now (text .entry)) (exprSteps (now (tree .entry)) (now (text .entry)) (now (scratch .entry)) c e) (amount 0 0 0 0 0) c (now (arena .entry)) (now (scratch .entry)) a (now (arena .entry)) (now (scratch .entry)) ⌝ }
 {
     let k = c.counters;
-    match size(tree, reference(tree, e, 0)) {
+    match size(tree, reference(tree, e, WORD_A)) {
         Bytes::Exactly(n) => Converted::Is(Operand::Int(n, false, false), k),
-        Bytes::Over => Converted::Refused(refusal(ConvertErrorKind::WouldPanic, e)),
-        Bytes::Nothing => Converted::Refused(refusal(ConvertErrorKind::WouldPanic, e)),
+        Bytes::Over => Converted::Refused(error_at(ConvertErrorKind::WouldPanic, e)),
+        Bytes::Nothing => Converted::Refused(error_at(ConvertErrorKind::WouldPanic, e)),
     }
 }
 
@@ -218,7 +220,7 @@ pub(crate) fn operand(
 ) -> Converted
     requires { ⌜ Converting (now tree) (now text) (now arena) (now scratch) c ⌝ }
     requires { ⌜ Affords (c .counters) (exprAmount 0) ⌝ }
-    requires { ⌜ IsExpr (now tree) e × (kindOf (now tree) e ≤ 8) ⌝ }
+    requires { ⌜ IsExpr (now tree) e × (kindOf (now tree) e ≤ kindSizeOf) ⌝ }
     ensures { λ a. ⌜ Converts (now (tree .entry)) (now (text .entry)) (exprSteps (now (tree .entry)) (now (text .entry)) (now (scratch .entry)) c e) (exprAmount 0) c (now (arena .entry)) (now (scratch .entry)) a (now (arena .exit)) (now (scratch .entry)) ⌝ }
 {
     let k = c.counters;

@@ -6,6 +6,7 @@ ghost use lib.Dec.{eqb};
 ghost use lib.ListN.{length, getD};
 ghost use Rattle.laws.specs.Fix.{pick};
 ghost use Rattle.records.specs.Words.{detailOf};
+ghost use Rattle.records.specs.Kinds.{kindBinary};
 ghost use Rattle.syntax.specs.Syntax.{unaryOps, binaryOps, Neg, Or};
 ghost use Rattle.syntax.specs.Decode.{program};
 ghost use Rattle.syntax.specs.Places.{IsKind, TypeAt, FunctionAt};
@@ -20,7 +21,7 @@ ghost use Rattle.statements.specs.Answers.{FitAdds, OperandTyped, CastsA
 use crate::answers::Converted;
 use crate::answers::Converter;
 use crate::answers::Fitted;
-use crate::answers::refusal;
+use crate::answers::error_at;
 use crate::fits::fit_operand;
 use crate::fits::pass_args;
 use crate::jumps::jump;
@@ -43,6 +44,8 @@ use ir::structs::label_id;
 use ir::structs::new_var;
 use records::convert_error::ConvertErrorKind;
 use records::numbers::AND;
+use records::words::WORD_A;
+use records::words::WORD_B;
 use records::words::detail;
 use records::words::reference;
 
@@ -157,12 +160,12 @@ pub(crate) fn operand_type(
     y: usize,
 ) -> ExprType
     requires { ⌜ Ready (now tree) (now text) (now scratch) (c .functions) (c .scope) ⌝ }
-    requires { ⌜ IsKind (now tree) 10 e × TypeAt (now tree) y ⌝ }
+    requires { ⌜ IsKind (now tree) kindBinary e × TypeAt (now tree) y ⌝ }
     ensures { λ a. ⌜ OperandTyped (now (tree .entry)) (now (text .entry)) (now (scratch .entry)) c e y a (now (scratch .exit)) ⌝ }
 {
     let scope = c.scope;
-    let left = reference(tree, e, 0);
-    let right = reference(tree, e, 1);
+    let left = reference(tree, e, WORD_A);
+    let right = reference(tree, e, WORD_B);
     match common_type(tree, text, scratch, c.functions, scope, left, right) {
         Common::Refused(x) => ExprType::Refused(x),
         Common::Is(q) => ExprType::Is(q),
@@ -218,7 +221,7 @@ pub(crate) fn cast_first(
     ensures { λ a. ⌜ CastsAs e dest count c (now (tree .entry)) (now (text .entry)) (now (arena .entry)) (now (scratch .entry)) a (now (arena .exit)) ⌝ }
 {
     if count == 0 {
-        return Converted::Refused(refusal(ConvertErrorKind::WouldPanic, e));
+        return Converted::Refused(error_at(ConvertErrorKind::WouldPanic, e));
     }
     let n = tree.len() / 32;
     let k = c.counters;

@@ -6,16 +6,18 @@ ghost use Prim.Native.Nat.{ℕ, _+_, _*_, _≤_, _<_};
 ghost use lib.Dec.{eqb, ltb};
 ghost use lib.ListN.{length};
 ghost use Rattle.laws.specs.Fix.{pick};
+ghost use Rattle.records.specs.Words as Words;
 ghost use Rattle.records.specs.Words.{wordOf};
+ghost use Rattle.records.specs.Kinds.{kindCall, kindDeclare, kindInit, kindReturn, kindCallStatement, kindBreak, kindContinue};
 ghost use Rattle.syntax.specs.Syntax.{nullType, addressOfNull};
 ghost use Rattle.syntax.specs.Decode.{program, typeAt, textOf};
-ghost use Rattle.syntax.specs.Places.{IsKind, TypeAt, FunctionAt};
+ghost use Rattle.syntax.specs.Places.{IsExpr, IsKind, TypeAt, FunctionAt};
 ghost use Rattle.conversion.specs.Expressions.{Functions};
 ghost use Rattle.conversion.specs.Statements.{zeroValue};
-ghost use Rattle.types.specs.Fits.{IsExpr, IsType};
+ghost use Rattle.types.specs.Fits.{IsType};
 ghost use Rattle.ir.specs.Amounts.{amount};
 ghost use Rattle.ir.specs.Instructions.{operandOf, varOf};
-ghost use Rattle.scope.specs.Open.{Room, Afforded as NameAfforded, FindMeets, DeclareMeets};
+ghost use Rattle.scope.specs.Open.{NamesRoom, NameAfforded, FindMeets, DeclareMeets};
 ghost use Rattle.statements.specs.Converting.{Converting, RoomFor, OperandIn, Afforded, ExprAfforded, BehindAfforded};
 ghost use Rattle.statements.specs.Meets.{Adds, Meets};
 ghost use Rattle.statements.specs.Parts.{copyFitted, zeroFloat};
@@ -25,7 +27,7 @@ use crate::answers::ConvertedArgs;
 use crate::answers::Converter;
 use crate::answers::Finished;
 use crate::answers::Stated;
-use crate::answers::refusal;
+use crate::answers::error_at;
 use crate::exprs::convert_args;
 use crate::exprs::convert_expr;
 use crate::fits::check_fits;
@@ -53,6 +55,10 @@ use records::numbers::BOOL_TYPE;
 use records::numbers::KIND_CALL;
 use records::numbers::NULL_TYPE;
 use records::words::NONE;
+use records::words::WORD_A;
+use records::words::WORD_B;
+use records::words::WORD_C;
+use records::words::WORD_D;
 use records::words::detail;
 use records::words::kind;
 use records::words::reference;
@@ -90,7 +96,7 @@ pub(crate) fn convert_cond(
             if y == BOOL_TYPE {
                 return convert_expr(tree, text, arena, scratch, c, e);
             }
-            Converted::Refused(refusal(ConvertErrorKind::NotBool, e))
+            Converted::Refused(error_at(ConvertErrorKind::NotBool, e))
         }
     }
 }
@@ -105,21 +111,21 @@ pub(crate) fn declare_name(
     v: VarId,
     constant: bool,
 ) -> Declared
-    requires { ⌜ (r * 32 + 32 ≤ length (now tree)) × Room scope (now scratch) × NameAfforded scope v ⌝ }
-    ensures { λ a. ⌜ DeclareMeets (now (text .entry)) (wordOf (now (tree .entry)) r 0) (wordOf (now (tree .entry)) r 1) v constant scope (now (scratch .entry)) (now (scratch .exit)) a ⌝ }
+    requires { ⌜ (r * 32 + 32 ≤ length (now tree)) × NamesRoom scope (now scratch) × NameAfforded scope v ⌝ }
+    ensures { λ a. ⌜ DeclareMeets (now (text .entry)) (wordOf (now (tree .entry)) r Words.A) (wordOf (now (tree .entry)) r Words.B) v constant scope (now (scratch .entry)) (now (scratch .exit)) a ⌝ }
 {
-    let offset = word(tree, r, 0);
-    let len = word(tree, r, 1);
+    let offset = word(tree, r, WORD_A);
+    let len = word(tree, r, WORD_B);
     scope.declare(text, scratch, offset, len, v, constant)
 }
 
 // The variable of the name in words A and B of record r.
 pub(crate) fn find_name(tree: &[u8], text: &[u8], scratch: &[u8], scope: Scope, r: usize) -> Known
-    requires { ⌜ (r * 32 + 32 ≤ length (now tree)) × Room scope (now scratch) ⌝ }
+    requires { ⌜ (r * 32 + 32 ≤ length (now tree)) × NamesRoom scope (now scratch) ⌝ }
     ensures { λ a. ⌜ FindMeets (now (text .entry)) (now (scratch .entry)) scope (textOf (now (tree .entry)) (now (text .entry)) r 0) a ⌝ }
 {
-    let offset = word(tree, r, 0);
-    let len = word(tree, r, 1);
+    let offset = word(tree, r, WORD_A);
+    let len = word(tree, r, WORD_B);
     scope.find_variable(text, scratch, offset, len)
 }
 
@@ -161,7 +167,7 @@ fn zero_value(tree: &[u8], arena: &mut [u8], k: Counters, r: usize, v: VarId) ->
         return Finished::Done(emit(arena, k, Instr::Zero(v)));
     }
     if f == CUSTOM {
-        return Finished::Refused(refusal(ConvertErrorKind::WouldPanic, r));
+        return Finished::Refused(error_at(ConvertErrorKind::WouldPanic, r));
     }
     Finished::Done(emit(arena, k, Instr::Copy(v, zero_operand(f))))
 }
@@ -176,16 +182,16 @@ pub(crate) fn convert_declare(
     r: usize,
 ) -> Stated
     requires { ⌜ Converting (now tree) (now text) (now arena) (now scratch) c × BehindAfforded (now tree) (now text) c r ⌝ }
-    requires { ⌜ IsKind (now tree) 15 r ⌝ }
+    requires { ⌜ IsKind (now tree) kindDeclare r ⌝ }
     ensures { λ a. ⌜ StatesAs declareSteps c r (now (tree .entry)) (now (text .entry)) (now (arena .entry)) (now (scratch .entry)) a (now (arena .exit)) (now (scratch .exit)) ⌝ }
 {
     let scope = c.scope;
     let k = c.counters;
-    let made = new_var(arena, k, word(tree, r, 2));
+    let made = new_var(arena, k, word(tree, r, WORD_C));
     let v = made.var;
     let k1 = made.counters;
     match declare_name(tree, text, scratch, scope, r, v, false) {
-        Declared::Taken => Stated::Refused(refusal(ConvertErrorKind::AlreadyDeclared, r)),
+        Declared::Taken => Stated::Refused(error_at(ConvertErrorKind::AlreadyDeclared, r)),
         Declared::Done(next) => match zero_value(tree, arena, k1, r, v) {
             Finished::Refused(x) => Stated::Refused(x),
             Finished::Done(k2) => Stated::Done(next, k2),
@@ -221,11 +227,11 @@ fn assign_to(
     v: VarId,
 ) -> Stated
     requires { ⌜ Converting (now tree) (now text) (now arena) (now scratch) c × BehindAfforded (now tree) (now text) c r ⌝ }
-    requires { ⌜ IsKind (now tree) 16 r × TypeAt (now tree) (v .1) ⌝ }
+    requires { ⌜ IsKind (now tree) kindInit r × TypeAt (now tree) (v .1) ⌝ }
     ensures { λ a. ⌜ StatesAs (λ t x s k q. assignToSteps t x s k q v) c r (now (tree .entry)) (now (text .entry)) (now (arena .entry)) (now (scratch .entry)) a (now (arena .exit)) (now (scratch .exit)) ⌝ }
 {
     let scope = c.scope;
-    let e = reference(tree, r, 2);
+    let e = reference(tree, r, WORD_C);
     match convert_expr(tree, text, arena, scratch, c, e) {
         Converted::Refused(x) => Stated::Refused(x),
         Converted::Is(src, k) => match get_type(tree, text, scratch, c.functions, scope, e) {
@@ -252,11 +258,11 @@ fn convert_assign(
     constant: bool,
 ) -> Stated
     requires { ⌜ Converting (now tree) (now text) (now arena) (now scratch) c × BehindAfforded (now tree) (now text) c r ⌝ }
-    requires { ⌜ IsKind (now tree) 16 r × TypeAt (now tree) (v .1) ⌝ }
+    requires { ⌜ IsKind (now tree) kindInit r × TypeAt (now tree) (v .1) ⌝ }
     ensures { λ a. ⌜ StatesAs (λ t x s k q. assignSteps t x s k q v constant) c r (now (tree .entry)) (now (text .entry)) (now (arena .entry)) (now (scratch .entry)) a (now (arena .exit)) (now (scratch .exit)) ⌝ }
 {
     if constant {
-        return Stated::Refused(refusal(ConvertErrorKind::AssignToConstant, r));
+        return Stated::Refused(error_at(ConvertErrorKind::AssignToConstant, r));
     }
     assign_to(tree, text, arena, scratch, c, r, v)
 }
@@ -283,7 +289,7 @@ fn declare_init(
     src: Operand,
 ) -> Stated
     requires { ⌜ Converting (now tree) (now text) (now arena) (now scratch) c × Afforded (now tree) c (amount 1 1 0 0 0) 0 1 ⌝ }
-    requires { ⌜ IsKind (now tree) 16 r × TypeAt (now tree) y ⌝ }
+    requires { ⌜ IsKind (now tree) kindInit r × TypeAt (now tree) y ⌝ }
     ensures { λ a. ⌜ DeclaresAs (λ t x s k q. declareInitSteps t x s k q y src) c r (now (tree .entry)) (now (text .entry)) (now (arena .entry)) (now (scratch .entry)) a (now (arena .exit)) (now (scratch .exit)) ⌝ }
 {
     let scope = c.scope;
@@ -293,7 +299,7 @@ fn declare_init(
     let v = made.var;
     let k1 = made.counters;
     match declare_name(tree, text, scratch, scope, r, v, constant) {
-        Declared::Taken => Stated::Refused(refusal(ConvertErrorKind::AlreadyDeclared, r)),
+        Declared::Taken => Stated::Refused(error_at(ConvertErrorKind::AlreadyDeclared, r)),
         Declared::Done(next) => Stated::Done(next, emit(arena, k1, Instr::Copy(v, src))),
     }
 }
@@ -308,11 +314,11 @@ fn init_new(
     r: usize,
 ) -> Stated
     requires { ⌜ Converting (now tree) (now text) (now arena) (now scratch) c × BehindAfforded (now tree) (now text) c r ⌝ }
-    requires { ⌜ IsKind (now tree) 16 r ⌝ }
+    requires { ⌜ IsKind (now tree) kindInit r ⌝ }
     ensures { λ a. ⌜ StatesAs initNewSteps c r (now (tree .entry)) (now (text .entry)) (now (arena .entry)) (now (scratch .entry)) a (now (arena .exit)) (now (scratch .exit)) ⌝ }
 {
     let scope = c.scope;
-    let e = reference(tree, r, 2);
+    let e = reference(tree, r, WORD_C);
     match get_type(tree, text, scratch, c.functions, scope, e) {
         ExprType::Refused(x) => Stated::Refused(x),
         ExprType::Is(y) => match convert_expr(tree, text, arena, scratch, c, e) {
@@ -336,7 +342,7 @@ pub(crate) fn convert_init(
     r: usize,
 ) -> Stated
     requires { ⌜ Converting (now tree) (now text) (now arena) (now scratch) c × BehindAfforded (now tree) (now text) c r ⌝ }
-    requires { ⌜ IsKind (now tree) 16 r ⌝ }
+    requires { ⌜ IsKind (now tree) kindInit r ⌝ }
     ensures { λ a. ⌜ StatesAs initSteps c r (now (tree .entry)) (now (text .entry)) (now (arena .entry)) (now (scratch .entry)) a (now (arena .exit)) (now (scratch .exit)) ⌝ }
 {
     let scope = c.scope;
@@ -361,11 +367,11 @@ fn return_as(
     expected: usize,
 ) -> Stated
     requires { ⌜ Converting (now tree) (now text) (now arena) (now scratch) c × BehindAfforded (now tree) (now text) c r ⌝ }
-    requires { ⌜ IsKind (now tree) 17 r × TypeAt (now tree) y × TypeAt (now tree) expected ⌝ }
+    requires { ⌜ IsKind (now tree) kindReturn r × TypeAt (now tree) y × TypeAt (now tree) expected ⌝ }
     ensures { λ a. ⌜ StatesAs (λ t x s k q. returnAsSteps t x s k q y expected) c r (now (tree .entry)) (now (text .entry)) (now (arena .entry)) (now (scratch .entry)) a (now (arena .exit)) (now (scratch .exit)) ⌝ }
 {
     let scope = c.scope;
-    let e = reference(tree, r, 0);
+    let e = reference(tree, r, WORD_A);
     match check_fits(tree, e, y, expected, ConvertErrorKind::WrongReturnType, r) {
         Outcome::Refused(x) => Stated::Refused(x),
         Outcome::Done => match convert_expr(tree, text, arena, scratch, c, e) {
@@ -390,17 +396,17 @@ pub(crate) fn convert_return(
     r: usize,
 ) -> Stated
     requires { ⌜ Converting (now tree) (now text) (now arena) (now scratch) c × BehindAfforded (now tree) (now text) c r ⌝ }
-    requires { ⌜ IsKind (now tree) 17 r ⌝ }
+    requires { ⌜ IsKind (now tree) kindReturn r ⌝ }
     ensures { λ a. ⌜ StatesAs returnSteps c r (now (tree .entry)) (now (text .entry)) (now (arena .entry)) (now (scratch .entry)) a (now (arena .exit)) (now (scratch .exit)) ⌝ }
 {
     let scope = c.scope;
-    let e = reference(tree, r, 0);
-    let expected = reference(tree, scope.function as usize, 3);
+    let e = reference(tree, r, WORD_A);
+    let expected = reference(tree, scope.function as usize, WORD_D);
     match get_type(tree, text, scratch, c.functions, scope, e) {
         ExprType::Refused(x) => Stated::Refused(x),
         ExprType::Is(y) => {
             if expected == NONE as usize {
-                return Stated::Refused(refusal(ConvertErrorKind::ReturnWithoutType, r));
+                return Stated::Refused(error_at(ConvertErrorKind::ReturnWithoutType, r));
             }
             return_as(tree, text, arena, scratch, c, r, y, expected)
         }
@@ -418,7 +424,7 @@ fn call_only(
     f: usize,
 ) -> Stated
     requires { ⌜ Converting (now tree) (now text) (now arena) (now scratch) c × ExprAfforded (now tree) (now text) c e ⌝ }
-    requires { ⌜ IsKind (now tree) 11 e × FunctionAt (now tree) f ⌝ }
+    requires { ⌜ IsKind (now tree) kindCall e × FunctionAt (now tree) f ⌝ }
     ensures { λ a. ⌜ CallOnlyAs (λ t x s k q. callOnlySteps t x s k q f) c e (now (tree .entry)) (now (text .entry)) (now (arena .entry)) (now (scratch .entry)) a (now (arena .exit)) (now (scratch .exit)) ⌝ }
 {
     let scope = c.scope;
@@ -444,13 +450,13 @@ fn call_statement(
     e: usize,
 ) -> Stated
     requires { ⌜ Converting (now tree) (now text) (now arena) (now scratch) c × BehindAfforded (now tree) (now text) c r ⌝ }
-    requires { ⌜ IsKind (now tree) 18 r × IsKind (now tree) 11 e × (e ≡ wordOf (now tree) r 0) ⌝ }
+    requires { ⌜ IsKind (now tree) kindCallStatement r × IsKind (now tree) kindCall e × (e ≡ wordOf (now tree) r Words.A) ⌝ }
     ensures { λ a. ⌜ StatesAs callStatementSteps c r (now (tree .entry)) (now (text .entry)) (now (arena .entry)) (now (scratch .entry)) a (now (arena .exit)) (now (scratch .exit)) ⌝ }
 {
     let scope = c.scope;
     match resolve_call(tree, text, scratch, c.functions, scope, e) {
         Resolved::Refused(x) => Stated::Refused(x),
-        Resolved::Cast(_) => Stated::Refused(refusal(ConvertErrorKind::WouldPanic, r)),
+        Resolved::Cast(_) => Stated::Refused(error_at(ConvertErrorKind::WouldPanic, r)),
         Resolved::Function(f) => call_only(tree, text, arena, scratch, c, e, f),
     }
 }
@@ -465,12 +471,12 @@ pub(crate) fn convert_call(
     r: usize,
 ) -> Stated
     requires { ⌜ Converting (now tree) (now text) (now arena) (now scratch) c × BehindAfforded (now tree) (now text) c r ⌝ }
-    requires { ⌜ IsKind (now tree) 18 r ⌝ }
+    requires { ⌜ IsKind (now tree) kindCallStatement r ⌝ }
     ensures { λ a. ⌜ StatesAs callStatementSteps c r (now (tree .entry)) (now (text .entry)) (now (arena .entry)) (now (scratch .entry)) a (now (arena .exit)) (now (scratch .exit)) ⌝ }
 {
     let scope = c.scope;
     let k = c.counters;
-    let e = reference(tree, r, 0);
+    let e = reference(tree, r, WORD_A);
     if kind(tree, e) == KIND_CALL {
         return call_statement(tree, text, arena, scratch, c, r, e);
     }
@@ -490,13 +496,13 @@ pub(crate) fn convert_break(
     r: usize,
 ) -> Stated
     requires { ⌜ Converting (now tree) (now text) (now arena) (now scratch) c × BehindAfforded (now tree) (now text) c r ⌝ }
-    requires { ⌜ IsKind (now tree) 22 r ⌝ }
+    requires { ⌜ IsKind (now tree) kindBreak r ⌝ }
     ensures { λ a. ⌜ StatesAs breakSteps c r (now (tree .entry)) (now (text .entry)) (now (arena .entry)) (now (scratch .entry)) a (now (arena .exit)) (now (scratch .entry)) ⌝ }
 {
     let scope = c.scope;
     let k = c.counters;
     match scope.in_loop() {
-        InLoop::Outside => Stated::Refused(refusal(ConvertErrorKind::BreakOutOfLoop, r)),
+        InLoop::Outside => Stated::Refused(error_at(ConvertErrorKind::BreakOutOfLoop, r)),
         InLoop::Of(l) => Stated::Done(scope, jump(arena, k, LOOP_END, l as usize)),
     }
 }
@@ -511,13 +517,13 @@ pub(crate) fn convert_continue(
     r: usize,
 ) -> Stated
     requires { ⌜ Converting (now tree) (now text) (now arena) (now scratch) c × BehindAfforded (now tree) (now text) c r ⌝ }
-    requires { ⌜ IsKind (now tree) 23 r ⌝ }
+    requires { ⌜ IsKind (now tree) kindContinue r ⌝ }
     ensures { λ a. ⌜ StatesAs continueSteps c r (now (tree .entry)) (now (text .entry)) (now (arena .entry)) (now (scratch .entry)) a (now (arena .exit)) (now (scratch .entry)) ⌝ }
 {
     let scope = c.scope;
     let k = c.counters;
     match scope.in_loop() {
-        InLoop::Outside => Stated::Refused(refusal(ConvertErrorKind::ContinueOutOfLoop, r)),
+        InLoop::Outside => Stated::Refused(error_at(ConvertErrorKind::ContinueOutOfLoop, r)),
         InLoop::Of(l) => Stated::Done(scope, jump(arena, k, LOOP_START, l as usize)),
     }
 }

@@ -1,6 +1,6 @@
 -- How many records a part of the syntax tree is made of, by document 01's table of kinds; types are not counted, which many may refer to.
 -- Assumes nothing: these are definitions.
-use Prim.Native.Nat.{ℕ, _+_, _*_}
+use Prim.Native.Nat.{ℕ, suc, _+_, _*_}
 use mathlib.Core.List.{List, [], _∷_}
 use mathlib.Core.Option.{Option, none, some}
 use lib.ListN.{length}
@@ -28,6 +28,18 @@ unfoldable mutual
 unfoldable pub exprRecords : Expr → ℕ
 unfolding under
 exprRecords e = 1 + under e
+
+-- the records below their own of a call's values, and how many values there are
+unfoldable pub argsUnder : Args → ℕ
+unfolding under
+argsUnder noArgs = 0
+argsUnder (Value r e l) = under e + argsUnder l
+argsUnder (ToType r y l) = argsUnder l
+
+unfoldable pub argsValues : Args → ℕ
+argsValues noArgs = 0
+argsValues (Value r e l) = suc (argsValues l)
+argsValues (ToType r y l) = argsValues l
 
 -- a statement in a block is its own records and a list cell; a For has its variable's record
 unfoldable mutual

@@ -10,6 +10,7 @@ use mir.Syntax.{w64}
 use mir.Val.{toZ}
 use Rattle.laws.specs.Fix.{pick, below, fix}
 use Rattle.records.specs.Words.{kindOf, detailOf, wordOf, textAt, records, none, A, B, C, D, E}
+use Rattle.records.specs.Kinds.{kindFunction}
 use Rattle.syntax.specs.Syntax.{Text, Ty, TInt, TFloat, TBool, TChar, TByte, TAddress, TArray, TCustom, TNull, Neg, Or, Expr, EInt, EFloat, EStr, EBool, EName, ENull, ESizeOf, EUnary, EBinary, ECall, Args, noArgs, Value, ToType, Statement, SDeclare, SInit, SReturn, SCall, SIf, SIfElse, SWhile, SFor, SBreak, SContinue, Block, done, next, Param, Function, Program, unaryOps, binaryOps}
 
 -- what a record stands for
@@ -351,7 +352,7 @@ module _ (tree text : List ℕ) where
   unfoldable pub functionsBelow : ℕ → List Function
   unfolding pick kindOf node functionsIn
   functionsBelow zero = []
-  functionsBelow (suc r) = functionsBelow r ++ pick (eqb (kindOf tree r) 25) (functionsIn (node r)) []
+  functionsBelow (suc r) = functionsBelow r ++ pick (eqb (kindOf tree r) kindFunction) (functionsIn (node r)) []
 
   unfoldable pub program : Program
   unfolding functionsBelow typeAt keyAt

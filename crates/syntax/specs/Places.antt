@@ -2,14 +2,16 @@
 -- record is of which kind. Assumes nothing: these are definitions.
 use mathlib.Core.Path.{_≡_}
 use mathlib.Core.Logic.{_⊎_}
-use Prim.Native.Nat.{ℕ, _≤_, _<_}
+use Prim.Native.Nat.{ℕ, _+_, _*_, _≤_, _<_}
 use mathlib.Core.Bool.{true, false}
 use mathlib.Core.List.{List, []}
 use mathlib.Core.Option.{none as nothing}
+use lib.ListN.{length}
 use Rattle.records.specs.declared.shape.Role.{Role}
 use Rattle.records.specs.declared.shape.Role.the-variants.{Arguments, Parameters, Body}
 use Rattle.records.specs.Words.{kindOf, records, none}
-use Rattle.records.specs.Rules.{listOk}
+use Rattle.records.specs.Kinds.{kindType, kindDeclare, kindContinue, kindFunction}
+use Rattle.records.specs.Rules.{isExpr, listOk}
 use Rattle.syntax.specs.Syntax.{Expr, Args, Statement, SBreak, Block, Param, Function}
 use Rattle.syntax.specs.Decode.{Node, absent, expr, value, toType, stmt, variable, func, cell, exprOf, argsOf, blockOf, paramsOf, node}
 
@@ -22,16 +24,21 @@ pub record IsKind (tree : List ℕ) (k r : ℕ) : Type 0 where
 
 -- record y is a type; record f is a function
 abbrev pub TypeAt : List ℕ → ℕ → Type 0
-TypeAt tree y = IsKind tree 1 y
+TypeAt tree y = IsKind tree kindType y
 
 abbrev pub FunctionAt : List ℕ → ℕ → Type 0
-FunctionAt tree f = IsKind tree 25 f
+FunctionAt tree f = IsKind tree kindFunction f
 
--- record r is a statement, of kind 15 to 23
+-- record e is an expression of the tree
+pub record IsExpr (tree : List ℕ) (e : ℕ) : Type 0 where
+  pub inside : e * 32 + 32 ≤ length tree
+  pub expression : isExpr (kindOf tree e) ≡ true
+
+-- record r is a statement, from Declare to Continue
 pub record IsStatement (tree : List ℕ) (r : ℕ) : Type 0 where
   pub below : r < records tree
-  pub least : 15 ≤ kindOf tree r
-  pub most : kindOf tree r ≤ 23
+  pub least : kindDeclare ≤ kindOf tree r
+  pub most : kindOf tree r ≤ kindContinue
 
 -- word w opens a list with items of the role: none, or a cell below some record of the tree
 pub record ListAt (tree : List ℕ) (role : Role) (w : ℕ) : Type 0 where

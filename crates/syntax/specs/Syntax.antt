@@ -159,12 +159,6 @@ floatType true = 5
 abbrev pub boolType : ℕ
 boolType = 6
 
-abbrev pub charType : ℕ
-charType = 7
-
-abbrev pub byteType : ℕ
-byteType = 8
-
 abbrev pub nullType : ℕ
 nullType = 9
 

@@ -5,6 +5,8 @@ use mathlib.Core.Path.{_≡_, refl}
 use mathlib.Core.Bool.{Bool, false, not, _&&_}
 use mathlib.Core.List.{List, [], _∷_, _++_}
 use mathlib.Core.Option.{Option, none as nothing, some}
+use Rattle.laws.specs.All.{All}
+use Rattle.laws.proofs.Prefixes.{Prefix, prefix-refl}
 use Rattle.syntax.specs.Syntax.{Text, Block, Param, Function, Program}
 use Rattle.conversion.specs.ConvertError as C
 use Rattle.conversion.specs.ConvertError.{Result, ok, err, AlreadyDeclared, MissingReturn}
@@ -16,11 +18,10 @@ use Rattle.conversion.specs.Functions.{get-all-functions, check-main, always-re
 use Rattle.conversion.specs.Converter.{convertAll, convert}
 use Rattle.conversion.specs.Written.{codeOf, countsOf}
 use Rattle.conversion.proofs.Called.{map-of}
-use Rattle.tables.specs.Bytes.{All}
 use Rattle.tables.proofs.Exists.{Word, InstrIn, StringFits, FloatFits, stateOf, FunctionFits, CountsFit, ProgramFits}
 use Rattle.tables.proofs.SyntaxFits.{OkIs, okIs, errIs, OptIs, noneIs, held, BlockFits, SignatureFits, FunctionFitsIn, KeyedFit, TreeFits}
 use Rattle.tables.proofs.Typing.{ok-bind, signatures}
-use Rattle.tables.proofs.Keeps.{Prefix, prefix-refl, all-append, all-map, instr-up, Always, Post, Keeps, then, from, gives, fails, picks, new-variable}
+use Rattle.tables.proofs.Keeps.{all-append, all-map, instr-up, Always, Post, Keeps, then, from, gives, fails, picks, new-variable}
 use Rattle.tables.proofs.Operands.{Done, Scoped}
 use Rattle.tables.proofs.Blocks.{with-more, block-keeps}
 
@@ -76,8 +77,8 @@ module _ (text : Text) where
       labels = h .labels;
       body = all-map (InstrIn (stateOf (programOf l p) f)) (InstrIn (stateOf (programOf k q) f))
           (instr-up (stateOf (programOf l p) f) (stateOf (programOf k q) f) (record {
-            vars = prefix-refl (f .vars);
-            labels = prefix-refl (f .labels);
+            vars = prefix-refl;
+            labels = prefix-refl;
             strings = e .strings;
             floats = e .floats;
           })) (codeOf (f .body)) (h .body);
@@ -106,7 +107,7 @@ module _ (text : Text) where
     unfolding convertFunction codeOf
     function-fits f nothing p h k i j = okIs (record {
       func = record { func = h .recOf; vars = tt; labels = tt; body = tt };
-      more = record { strings = prefix-refl (p .strings); floats = prefix-refl (p .floats) };
+      more = record { strings = prefix-refl; floats = prefix-refl };
       strings = i;
       floats = j;
     })
@@ -125,7 +126,7 @@ module _ (text : Text) where
               (all-map (FunctionFits (programOf l p)) (FunctionFits (programOf (l ++ (q .0 ∷ [])) (q .1)))
               (λ g k. function-up l (l ++ (q .0 ∷ [])) p (q .1) g (a .more) k) l (m .funcs)) (
                 function-up [] (l ++ (q .0 ∷ [])) (q .1) (q .1) (q .0)
-                    (record { strings = prefix-refl (q .1 .strings); floats = prefix-refl (q .1 .floats) }) (a .func),
+                    (record { strings = prefix-refl; floats = prefix-refl }) (a .func),
                 tt,
               );
           strings = a .strings;

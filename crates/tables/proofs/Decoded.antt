@@ -8,11 +8,12 @@ use native.Mathlib.Omega.{arith}
 use lib.Dec.{eqb, ltb}
 use lib.ListN.{getD}
 use mir.Facts.{sfits-toZ}
+use Rattle.laws.specs.All.{All}
 use Rattle.laws.specs.Fix.{below, fixF, fix}
 use Rattle.records.specs.Words.{kindOf, detailOf, wordOf, records, none, A, B, C, D, E}
 use Rattle.syntax.specs.Syntax.{Args, Block, Param}
 use Rattle.syntax.specs.Decode.{Node, absent, expr, value, toType, stmt, variable, func, cell, exprOf, withArg, argsOf, withStatement, blockOf, orZero, withParam, paramsOf, variableType, functionsIn, bit, reference, textOf, wideOf, child, exprIn, blockIn, nothingAt, intAt, floatAt, strAt, boolAt, nameAt, nullAt, sizeOfAt, unaryAt, binaryAt, callAt, listAt, valueAt, typeArgumentAt, declareAt, initAt, returnAt, callStatementAt, ifAt, whileAt, forAt, breakAt, continueAt, variableAt, functionAt, kinds, nodeStep, node, functionsBelow, program}
-use Rattle.tables.specs.Bytes.{All, Byte}
+use Rattle.tables.specs.Bytes.{Byte}
 use Rattle.tables.proofs.Exists.{Word}
 use Rattle.tables.proofs.Numbers.{word-small}
 use Rattle.tables.proofs.SyntaxFits.{OptIs, noneIs, someIs, ExprFits, ArgsFit, StatementFits, BlockFits, FunctionFitsIn, TreeFits}

@@ -8,9 +8,9 @@ use mathlib.Core.Option.{Option, none as nothing, some}
 use native.Mathlib.Omega.{arith}
 use lib.ListN.{length, drop, getElem?, length-append}
 use lib.Seq.{drop-at, drop-drop}
+use Rattle.laws.specs.All.{All}
 use Rattle.conversion.specs.Written.{encodeAll}
 use Rattle.tables.specs.Read.{_>>=_, entries, part}
-use Rattle.tables.specs.Bytes.{All}
 
 -- ---- lists
 

@@ -6,12 +6,12 @@ use mathlib.Core.Option.{Option, none as nothing, some}
 use lib.ListN.{length, getElem?}
 use mir.Syntax.{w64}
 use mir.Val.{SFits}
+use Rattle.laws.specs.All.{All}
 use Rattle.records.specs.Words.{textAt}
 use Rattle.syntax.specs.Syntax.{Text}
 use Rattle.conversion.specs.Ir.{VarId, Operand, OVar, OInt, OFloat, OBool, ODataAddress, ONull, Instr, Copy, Unary, Binary, Cast, Zero, Arg, Call, Label, Jump, JumpIfNot, Return, Comment, LabelName, StringEntry, texts, FloatEntry, State, IrFunction, IrProgram}
 use Rattle.conversion.specs.Written.{Counts, codeOf, countsOf}
-use Rattle.tables.specs.Bytes.{All}
-use Rattle.tables.specs.Read.{_>>=_, Body}
+use Rattle.tables.specs.Read.{_>>=_, ReadBody}
 
 -- a word of 32 bits holds it
 abbrev pub Word : ℕ → Type 0
@@ -101,7 +101,7 @@ pub record ProgramFits (text : Text) (p : IrProgram) : Type 0 where
 -- ---- what is to be read
 
 -- the body of function i of a program
-unfoldable pub bodyOf : IrProgram → ℕ → Option Body
+unfoldable pub bodyOf : IrProgram → ℕ → Option ReadBody
 unfolding _>>=_ texts
 bodyOf p i = do
   f ← getElem? (p .funcs) i

@@ -1,48 +1,28 @@
 -- Converting keeps: what is named exists and numbers fit, now and in every later state. Laws of the parts that conversion is made of.
 -- A fact that later states keep is an `Up`; a computation is judged by what holds before and what then holds of its result.
 -- By cases on how it ends; the sequence of two adds the first's fact to the second's. Assumes nothing.
-use mathlib.Core.Path.{_≡_, refl, sym, ap, _∙_}
+use mathlib.Core.Path.{_≡_, refl}
 use Prim.Native.Nat.{ℕ, zero, suc, _<_, _^_}
 use mathlib.Core.Bool.{Bool, true, false, _&&_}
-use mathlib.Core.List.{List, [], _∷_, _++_, append-assoc, append-nil}
+use mathlib.Core.List.{List, [], _∷_, _++_}
 use mathlib.Core.Option.{Option, none as nothing, some}
 use native.Mathlib.Omega.{arith}
 use lib.Dec.{T, ltb, ltb→lt}
 use lib.ListN.{length, getD, getElem?, length-append}
 use mir.Facts.{and-yes}
+use Rattle.laws.specs.All.{All}
+use Rattle.laws.proofs.Prefixes.{Prefix, prefix-refl, prefix-trans, prefix-append, prefix-length, prefix-get}
 use Rattle.laws.specs.Fix.{pick}
 use Rattle.syntax.specs.Syntax.{Text}
 use Rattle.conversion.specs.ConvertError.{ConvertErrorKind, Result, ok, err}
 use Rattle.conversion.specs.Ir.{VarId, Operand, OVar, OInt, OFloat, OBool, ODataAddress, ONull, Instr, Copy, Unary, Binary, Cast, Zero, Arg, Call, Label, Jump, JumpIfNot, Return, Comment, LabelName, StringEntry, FloatEntry, State, Out, made, failed, M, after, bind, _>>=_, _>>_, pure, fail, lift, emit, position, new-var, numbered, label-id, string-id, float-id, floatBits, sameLabel, sameText, sameFloat}
 use Rattle.tables.proofs.SyntaxFits.{OkIs, okIs, errIs}
-use Rattle.tables.specs.Bytes.{All}
 use Rattle.tables.proofs.Exists.{Word, VarIn, OperandIn, DestinationIn, LabelIn, InstrIn, LabelFits, StringFits, FloatFits}
 
 -- ---- lists
 
-pub record Prefix {X : Type 0} (a b : List X) : Type 0 where
-  pub rest : List X
-  pub same : b ≡ a ++ rest
-
-pub prefix-refl : {X : Type 0} (a : List X) → Prefix a a
-prefix-refl a = record { rest = []; same = sym (append-nil a) }
-
-pub prefix-trans : {X : Type 0} {a b c : List X} → Prefix a b → Prefix b c → Prefix a c
-prefix-trans {a} p q = record { rest = p .rest ++ q .rest; same = q .same ∙ ap (_++ q .rest) (p .same) ∙ append-assoc a (p .rest) (q .rest) }
-
-pub prefix-append : {X : Type 0} (a b : List X) → Prefix a (a ++ b)
-prefix-append a b = record { rest = b; same = refl }
-
 prefix-below : {X : Type 0} {a b : List X} (n : ℕ) → Prefix a b → n < length a → n < length b
-prefix-below {a} n p h = omega (arith, ap length (p .same), length-append a (p .rest))
-
-found-append : {X : Type 0} (a b : List X) (n : ℕ) (x : X) → getElem? a n ≡ some x → getElem? (a ++ b) n ≡ some x
-found-append [] b n x e = let z : _≡_ {A = ℕ} 0 1 = cc in absurd (omega arith)
-found-append (y ∷ a) b zero x e = e
-found-append (y ∷ a) b (suc n) x e = found-append a b n x e
-
-prefix-found : {X : Type 0} {a b : List X} (n : ℕ) (x : X) → Prefix a b → getElem? a n ≡ some x → getElem? b n ≡ some x
-prefix-found {a} n x p e = rw (p .same) (found-append a (p .rest) n x e)
+prefix-below n p h = omega (arith, prefix-length p)
 
 found-last : {X : Type 0} (a : List X) (x : X) → getElem? (a ++ (x ∷ [])) (length a) ≡ some x
 found-last [] x = refl
@@ -78,10 +58,10 @@ pub record Extends (s t : State) : Type 0 where
 
 pub extends-refl : (s : State) → Extends s s
 extends-refl s = record {
-  vars = prefix-refl (s .vars);
-  labels = prefix-refl (s .labels);
-  strings = prefix-refl (s .strings);
-  floats = prefix-refl (s .floats);
+  vars = prefix-refl;
+  labels = prefix-refl;
+  strings = prefix-refl;
+  floats = prefix-refl;
 }
 
 pub extends-trans : {s t u : State} → Extends s t → Extends t u → Extends s u
@@ -94,7 +74,7 @@ extends-trans e f = record {
 
 module _ (s t : State) (e : Extends s t) where
   pub var-up : (x : VarId) → VarIn s x → VarIn t x
-  var-up x h = record { typed = prefix-found (x .id) (x .ty) (e .vars) (h .typed) }
+  var-up x h = record { typed = prefix-get (x .id) (x .ty) (e .vars) (h .typed) }
 
   pub operand-up : (o : Operand) → OperandIn s o → OperandIn t o
   operand-up (OVar x) h = var-up x h
@@ -242,9 +222,9 @@ module _ (text : Text) where
     runs = λ s g w. (
       record {
         vars = prefix-append (s .vars) (y ∷ []);
-        labels = prefix-refl (s .labels);
-        strings = prefix-refl (s .strings);
-        floats = prefix-refl (s .floats);
+        labels = prefix-refl;
+        strings = prefix-refl;
+        floats = prefix-refl;
       },
       record {
         vars = all-append Word (s .vars) (y ∷ []) (w .vars) (h, tt);
@@ -276,10 +256,10 @@ module _ (text : Text) where
         let t : State = record { vars = s .vars; labels = s .labels ++ (l ∷ []); strings = s .strings; floats = s .floats } in
         numbered-keeps (λ u. u .labels) s t l
         (record {
-          vars = prefix-refl (s .vars);
+          vars = prefix-refl;
           labels = prefix-append (s .labels) (l ∷ []);
-          strings = prefix-refl (s .strings);
-          floats = prefix-refl (s .floats);
+          strings = prefix-refl;
+          floats = prefix-refl;
         }) refl w (record {
           vars = w .vars;
           labels = all-append LabelFits (s .labels) (l ∷ []) (w .labels) (h, tt);
@@ -295,10 +275,10 @@ module _ (text : Text) where
         let t : State = record { vars = s .vars; labels = s .labels; strings = s .strings ++ (e ∷ []); floats = s .floats } in
         numbered-keeps (λ u. u .strings) s t e
         (record {
-          vars = prefix-refl (s .vars);
-          labels = prefix-refl (s .labels);
+          vars = prefix-refl;
+          labels = prefix-refl;
           strings = prefix-append (s .strings) (e ∷ []);
-          floats = prefix-refl (s .floats);
+          floats = prefix-refl;
         }) refl w (record {
           vars = w .vars;
           labels = w .labels;
@@ -315,9 +295,9 @@ module _ (text : Text) where
         let t : State = record { vars = s .vars; labels = s .labels; strings = s .strings; floats = s .floats ++ (e ∷ []) } in
         numbered-keeps (λ u. u .floats) s t e
         (record {
-          vars = prefix-refl (s .vars);
-          labels = prefix-refl (s .labels);
-          strings = prefix-refl (s .strings);
+          vars = prefix-refl;
+          labels = prefix-refl;
+          strings = prefix-refl;
           floats = prefix-append (s .floats) (e ∷ []);
         }) refl w (record {
           vars = w .vars;

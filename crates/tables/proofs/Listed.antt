@@ -6,7 +6,7 @@ use mathlib.Core.List.{List, [], _∷_}
 use mathlib.Core.Option.{Option, none as nothing, some}
 use Rattle.conversion.specs.Ir.{OFloat, OBool, ODataAddress, Instr, Label, Jump, JumpIfNot, Return, loopStart, IrProgram}
 use Rattle.conversion.specs.Written.{tablesOf, countsOf, encodeFunctions, encodeAll, encodeInstr, encodeFields, fieldsOf, encodeVar, encodeLabel, encodeString, encodeFloat, allCode, allVars, allLabels, codeOf, bodyMark, word, wide, bytesOf, boolNumber, tag, operandValue, tagOf, valueOf, destination}
-use Rattle.tables.specs.Read.{Body, bodyAt}
+use Rattle.tables.specs.Read.{ReadBody, bodyAt}
 
 -- one function with this code and one label; one string, of no bytes, and one float
 program : List Instr → IrProgram
@@ -16,7 +16,7 @@ program c = record {
   floats = record { bits = 0; short = false } ∷ [];
 }
 
-isRead : Option Body → Bool
+isRead : Option ReadBody → Bool
 isRead nothing = false
 isRead (some b) = true
 

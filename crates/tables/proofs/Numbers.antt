@@ -8,10 +8,11 @@ use native.Mathlib.Omega.{arith}
 use lib.Dec.{lit<}
 use lib.ListN.{length, take, drop, getD}
 use lib.Seq.{getD-drop, drop-cons}
+use Rattle.laws.specs.All.{All}
 use Rattle.records.specs.Words.{byteAt, wordAt}
 use Rattle.conversion.specs.Written.{bytesOf, word, wide}
 use Rattle.tables.specs.Read.{wideAt}
-use Rattle.tables.specs.Bytes.{All, Byte}
+use Rattle.tables.specs.Bytes.{Byte}
 use Rattle.tables.proofs.Exists.{Word}
 
 step : (w : ℕ) → w / 256 * 256 + w % 256 ≡ w

@@ -8,6 +8,7 @@ use mathlib.Core.Option.{Option, none as nothing, some}
 use lib.Dec.{eqb, ltb}
 use lib.IntN.{pos}
 use borrow.Author.Tests.{ltb-true}
+use Rattle.laws.specs.All.{All}
 use Rattle.laws.specs.Fix.{pick, fix}
 use Rattle.syntax.specs.Syntax.{Text, Ty, TInt, TFloat, TBool, TChar, TByte, TAddress, TArray, TCustom, TNull, UnaryOp, BinaryOp, Or, And, BitOr, BitXor, BitAnd, Eq, NotEq, Lt, Le, Gt, Ge, Shl, Shr, Add, Sub, Mul, Div, Rem, Expr, EInt, EFloat, EStr, EBool, EName, ENull, ESizeOf, EUnary, EBinary, ECall, Args, noArgs, Value, ToType, Param, Function, Program}
 use Rattle.conversion.specs.ConvertError.{WouldPanic, UnknownVariable}
@@ -16,7 +17,6 @@ use Rattle.conversion.specs.Types.{onInt, onFloat, isFloat, within, sizeStep, s
 use Rattle.conversion.specs.Scope.{Variable, Scope, find-variable}
 use Rattle.conversion.specs.Expressions.{Callee, CallFunction, CallCast, Functions, unwrapOr, get-type, resolve-call}
 use Rattle.conversion.specs.Statements.{nameOperand, sizeOperand, castOperand, refloat, fit-operand, parameterType, fitFrom, fit-args, emitArgs, convert-unary, convertAnd, convertOr, castFirst, convertOther, convertBinaryBy, convert-binary, callFunction, callValue, convert-call-value, convert-expr, convert-args}
-use Rattle.tables.specs.Bytes.{All}
 use Rattle.tables.proofs.Exists.{Word, VarIn, OperandIn, DestinationIn, LabelFits}
 use Rattle.tables.proofs.SyntaxFits.{OptIs, noneIs, someIs, held, ExprFits, ArgsFit, SignatureFits, CalleeFits, KeyedFit, TreeFits}
 use Rattle.tables.proofs.Typing.{TypeFits, unwrap-is, float-type-word, find-is, type-word, resolve-fits, common-type-word}

@@ -6,6 +6,7 @@ use mathlib.Core.Bool.{Bool}
 use mathlib.Core.List.{List}
 use native.Mathlib.Omega.{arith}
 use lib.ListN.{length}
+use Rattle.laws.specs.All.{All}
 use Rattle.records.specs.Words.{records}
 use Rattle.syntax.specs.Decode.{program}
 use Rattle.conversion.specs.ConvertError.{Result, ok, err}
@@ -13,7 +14,7 @@ use Rattle.conversion.specs.Ir.{IrProgram}
 use Rattle.conversion.specs.Converter.{convert}
 use Rattle.conversion.specs.Written.{Tables, Counts, Converted, answerOf, conversion, allCode, allVars, allLabels, tablesOf, countsOf}
 use Rattle.tables.specs.Read.{bodyAt, Begin}
-use Rattle.tables.specs.Bytes.{All, Byte}
+use Rattle.tables.specs.Bytes.{Byte}
 use Rattle.tables.proofs.Exists.{Word, CountsFit, ProgramFits, bodyOf}
 use Rattle.tables.proofs.SyntaxFits.{OkIs, okIs}
 use Rattle.tables.proofs.RoundTrip.{read-back}

@@ -10,13 +10,13 @@ use native.Mathlib.Omega.{arith}
 use lib.Dec.{ltb}
 use lib.ListN.{length, drop, getElem?, length-append}
 use borrow.Author.Tests.{lt-ltb, le-ltb}
+use Rattle.laws.specs.All.{All}
 use Rattle.laws.specs.Fix.{pick}
 use Rattle.records.specs.Words.{byteAt, wordAt}
 use Rattle.syntax.specs.Syntax.{Text}
 use Rattle.conversion.specs.Ir.{Operand, OVar, OInt, OFloat, OBool, ODataAddress, ONull, Instr, Copy, Unary, Binary, Cast, Zero, Arg, Call, Label, Jump, JumpIfNot, Return, Comment, LabelName, StringEntry, FloatEntry, State, IrFunction, IrProgram}
 use Rattle.conversion.specs.Written.{bytesOf, word, wide, boolNumber, encodeInstr, encodeVar, encodeLabel, encodeString, encodeFloat, encodeAll, codeOf, bodyMark, encodeFunctions, allCode, allVars, allLabels, Tables, tablesOf, countsOf}
 use Rattle.tables.specs.Read.{_>>=_, check, unused, wideAt, instrAt, variableAt, labelAt, stringAt, floatAt, FunctionEntry, functionAt, part, operandListed, listed, allListed, bodyAt, Begin}
-use Rattle.tables.specs.Bytes.{All}
 use Rattle.tables.proofs.Exists.{Word, OperandIn, InstrIn, LabelFits, StringFits, FloatFits, stateOf, FunctionFits, ProgramFits, bodyOf}
 use Rattle.tables.proofs.Numbers.{word-back, wide-back}
 use Rattle.tables.proofs.Entries.{all-at, Cut, cut, not-found, drop-entries, part-back, entries-back}

@@ -12,13 +12,14 @@ use borrow.Author.Tests.{eqb-true}
 use mir.Syntax.{w64}
 use mir.Val.{toZ}
 use mir.Facts.{ofZ-toZ}
+use Rattle.laws.specs.All.{All}
 use Rattle.laws.specs.Fix.{pick}
 use Rattle.records.specs.Words.{byteAt, wordAt, none}
 use Rattle.syntax.specs.Syntax.{UnaryOp, BinaryOp, unaryOps, binaryOps, unaryNumber, binaryNumber}
 use Rattle.conversion.specs.Ir.{VarId, Operand, OVar, OInt, OFloat, OBool, ODataAddress, ONull, Instr, Copy, Unary, Binary, Cast, Zero, Arg, Call, Label, Jump, JumpIfNot, Return, Comment}
 use Rattle.conversion.specs.Written.{word, wide, boolNumber, tag, operandValue, Fields, tagOf, valueOf, destination, fieldsOf, encodeFields, encodeInstr}
 use Rattle.tables.specs.Read.{_>>=_, unused, wideAt, markOf, variable, noOperand, varOperand, intOperand, floatOperand, boolOperand, stringOperand, nullOperand, badOperand, operandOf, fieldsAt, noInstr, copyOf, unaryOf, binaryOf, castOf, zeroOf, argOf, destinationOf, callOf, labelOf, jumpOf, jumpIfNotOf, returnOf, commentOf, instrOf, instrAt}
-use Rattle.tables.specs.Bytes.{All, Byte}
+use Rattle.tables.specs.Bytes.{Byte}
 use Rattle.tables.proofs.Numbers.{bytesFrom, word-of, wide-of, wide-small, take-bytes}
 
 -- ---- what was read

@@ -5,12 +5,12 @@ use Prim.Native.Nat.{ℕ, _<_, _^_}
 use mathlib.Core.Option.{Option, none as nothing, some}
 use mir.Syntax.{w64}
 use mir.Val.{SFits}
+use Rattle.laws.specs.All.{All}
 use Rattle.records.specs.Words.{textAt}
 use Rattle.syntax.specs.Syntax.{Text, Expr, EInt, EFloat, EStr, EBool, EName, ENull, ESizeOf, EUnary, EBinary, ECall, Args, noArgs, Value, ToType, Statement, SDeclare, SInit, SReturn, SCall, SIf, SIfElse, SWhile, SFor, SBreak, SContinue, Block, done, next, Function, Program}
 use Rattle.conversion.specs.ConvertError.{ConvertErrorKind, Result, ok, err}
 use Rattle.conversion.specs.Expressions.{Functions, Callee, CallFunction, CallCast}
 use Rattle.conversion.proofs.Called.{OfMap}
-use Rattle.tables.specs.Bytes.{All}
 use Rattle.tables.proofs.Exists.{Word}
 
 -- Q holds of what a result holds, of what an option holds

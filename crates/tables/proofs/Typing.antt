@@ -6,6 +6,7 @@ use mathlib.Core.Bool.{Bool, true, false}
 use mathlib.Core.List.{List, [], _∷_}
 use mathlib.Core.Option.{Option, none as nothing, some}
 use native.Mathlib.Omega.{arith}
+use Rattle.laws.specs.All.{All}
 use Rattle.laws.specs.Fix.{pick}
 use Rattle.syntax.specs.Syntax.{Text, BinaryOp, UnaryOp, Expr, EInt, EFloat, EStr, EBool, EName, ENull, ESizeOf, EUnary, EBinary, ECall, Args, noArgs, Value, ToType, Function, Program, place, intType, floatType, boolType, nullType, addressOfChar}
 use Rattle.conversion.specs.ConvertError.{Result, ok, err, _>>=_, LiteralOutOfRange, WrongOperands}
@@ -13,7 +14,6 @@ use Rattle.conversion.specs.Ir.{sameText}
 use Rattle.conversion.specs.Types.{fits, range-error, can-cast}
 use Rattle.conversion.specs.Scope.{Variable, Scope, findIn, find-variable}
 use Rattle.conversion.specs.Expressions.{Callee, CallFunction, CallCast, return-type, TypedArg, castVerb, Functions, filterOption, unwrapOr, operandClass, givesBool, targetType, sourceType, nameType, valueType, commonOf, acceptsClass, acceptsUnary, unaryType, operandsError, accepted, binaryType, castChecked, castTo, cast-type, resolveFunction, resolveTyped, get-type, get-argument-types, resolve-call, common-type}
-use Rattle.tables.specs.Bytes.{All}
 use Rattle.tables.proofs.Exists.{Word}
 use Rattle.conversion.proofs.Called.{OfEach, OfCallee, OfTarget, resolved-function}
 use Rattle.tables.proofs.SyntaxFits.{OkIs, okIs, errIs, OptIs, noneIs, someIs, ExprFits, ArgsFit, SignatureFits, CalleeFits, FunctionFitsIn, KeyedFit, TreeFits}

@@ -317,7 +317,7 @@ allListed ls ss fs (i ∷ l) = listed ls ss fs i && allListed ls ss fs l
 -- ---- bodies
 
 -- a function's body: its record, its instructions, the types of its variables, its labels, and the program's strings and floats
-pub record Body : Type 0 where
+pub record ReadBody : Type 0 where
   pub func : ℕ
   pub instrs : List Instr
   pub vars : List ℕ
@@ -327,7 +327,7 @@ pub record Body : Type 0 where
 
 -- the body of function i, counted in the functions' table; `nothing` where there is no such function, it has no body, or an instruction names what
 -- is not there
-unfoldable pub bodyAt : Counts → Tables → Text → ℕ → Option Body
+unfoldable pub bodyAt : Counts → Tables → Text → ℕ → Option ReadBody
 unfolding _>>=_ check functionAt part variableAt labelAt instrAt stringAt floatAt allListed texts
 bodyAt c t text i = do
   _ ← check (ltb i (c .functions))

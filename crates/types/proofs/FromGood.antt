@@ -14,7 +14,8 @@ use Rattle.records.specs.Shapes.{plainType, typeShape, shapeOf, rowOf, rowAt}
 use Rattle.records.specs.Rules.{isExpr}
 use Rattle.records.specs.Good.{Good}
 use Rattle.records.proofs.GoodLaws.{inside, detail-below}
-use Rattle.types.specs.Fits.{IsExpr, IsType}
+use Rattle.syntax.specs.Places.{IsExpr}
+use Rattle.types.specs.Fits.{IsType}
 use Rattle.types.proofs.Tables.{both, both-left, both-right, upto, passes}
 
 -- a detail below its row's limit has one of the nine forms

@@ -4,5 +4,5 @@ mod FoldCases
 pub mod FromGood
 mod SizeCases
 mod Tables
-mod TypeCases
+pub mod TypeCases
 mod ValueCases

@@ -1,18 +1,11 @@
 -- `fits` and `range_error` at records of a tree. Assumes nothing: these are definitions.
 use Prim.Native.Nat.{ℕ, _+_, _*_, _%_, _≤_}
-use mathlib.Core.Path.{_≡_}
-use mathlib.Core.Bool.{Bool, true}
+use mathlib.Core.Bool.{Bool}
 use mathlib.Core.List.{List}
 use lib.ListN.{length}
-use Rattle.records.specs.Words.{kindOf, detailOf}
-use Rattle.records.specs.Rules.{isExpr}
+use Rattle.records.specs.Words.{detailOf}
 use Rattle.syntax.specs.Decode.{exprOf, node, typeAt}
 use Rattle.conversion.specs.Types.{fitsInto, isLiteral, fits, range-error}
-
--- record e is an expression of the tree
-pub record IsExpr (tree : List ℕ) (e : ℕ) : Type 0 where
-  pub inside : e * 32 + 32 ≤ length tree
-  pub expression : isExpr (kindOf tree e) ≡ true
 
 -- record y is one of the tree, and its detail one of a type's: '1 Int, 2 Float, .. 9 Null', marks aside
 pub record IsType (tree : List ℕ) (y : ℕ) : Type 0 where

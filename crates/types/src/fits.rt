@@ -5,11 +5,13 @@ ghost use mathlib.Core.List.{List};
 ghost use Prim.Native.Nat.{ℕ, _+_, _*_, _≤_};
 ghost use lib.ListN.{length};
 ghost use lib.Dec.{eqb};
+ghost use Rattle.records.specs.Words as Words;
 ghost use Rattle.records.specs.Words.{detailOf, wordOf};
 ghost use Rattle.int128.specs.Ops.{intFits};
+ghost use Rattle.syntax.specs.Places.{IsExpr};
 ghost use Rattle.syntax.specs.Decode.{exprOf, node, bit};
 ghost use Rattle.conversion.specs.Types.{someAnd, isSome, int-value, float-value, float-fits};
-ghost use Rattle.types.specs.Fits.{IsExpr, IsType, fitsAt, intoAt, literalAt, rangeErrorAt};
+ghost use Rattle.types.specs.Fits.{IsType, fitsAt, intoAt, literalAt, rangeErrorAt};
 use crate::float_value::FloatValue;
 use crate::float_value::float_fits;
 use crate::float_value::float_value;
@@ -56,7 +58,7 @@ fn float_constant_fits(tree: &[u8], e: usize, expected: usize) -> bool
 fn to_nothing(tree: &[u8], from: usize, to: usize) -> bool
     requires { ⌜ from * 32 + 32 ≤ length (now tree) ⌝ }
     requires { ⌜ to * 32 + 32 ≤ length (now tree) ⌝ }
-    ensures { λ r. ⌜ r ≡ (eqb (wordOf (now (tree .entry)) from 0) 9 || eqb (wordOf (now (tree .entry)) to 0) 9) ⌝ }
+    ensures { λ r. ⌜ r ≡ (eqb (wordOf (now (tree .entry)) from Words.A) 9 || eqb (wordOf (now (tree .entry)) to Words.A) 9) ⌝ }
 {
     if reference(tree, from, WORD_A) == NULL_TYPE {
         return true;

@@ -5,7 +5,7 @@ use native.Mathlib.Omega.{arith}
 use borrow.Author.Needs.{needs}
 use Rattle.conversion.specs.Expressions.{sourceType}
 use Rattle.syntax.specs.Places.{ArgsAt, argsAt}
-use Rattle.expressions.specs.Slots.{Typed}
+use Rattle.expressions.specs.Slots.{ArgsTyped}
 use Rattle.expressions.specs.Calls.{typedAt}
 use Rattle.expressions.specs.Answers.{a-type, no-type}
 use Rattle.syntax.proofs.Lists.{left, cell-below, next-list, next-falls}
@@ -19,7 +19,7 @@ use Rattle.expressions.proofs.arguments.next_cell.Reads as next-cell-re
 use Rattle.expressions.proofs.arguments.slot.Reads as slot-reads
 
 abbrev Inv-loop : tie.InvT-loop
-Inv-loop tree text scratch first cell₀ cell = ArgsAt tree cell × Typed tree scratch (argsAt tree text cell) × (sourceType (typedAt tree text scratch first) ≡ sourceType (typedAt tree text scratch cell))
+Inv-loop tree text scratch first cell₀ cell = ArgsAt tree cell × ArgsTyped tree scratch (argsAt tree text cell) × (sourceType (typedAt tree text scratch first) ≡ sourceType (typedAt tree text scratch cell))
 
 abbrev μ-loop : tie.MeasureT-loop
 μ-loop tree text scratch first cell₀ cell = left cell

@@ -5,7 +5,7 @@ use Rattle.syntax.specs.Decode.{program}
 use Rattle.conversion.specs.Expressions.{takesAll}
 use Rattle.syntax.specs.Places.{ArgsAt, ParamsAt, argsAt, paramsAt}
 use Rattle.keys.specs.Keys.{allKeys}
-use Rattle.expressions.specs.Slots.{Typed}
+use Rattle.expressions.specs.Slots.{ArgsTyped}
 use Rattle.expressions.specs.Calls.{typedAt}
 use Rattle.syntax.proofs.Lists.{left, cell-below, next-list, next-falls}
 use Rattle.expressions.proofs.TakeLaws.{all-no, all-more, arguments-end, params-end-all, next-args-typed}
@@ -17,7 +17,7 @@ use Rattle.expressions.proofs.arguments.next_cell.Reads as next-cell-re
 use Rattle.expressions.proofs.takes.takes_arg.Reads as takes-arg-reads
 
 abbrev Inv-loop : tie.InvT-loop
-Inv-loop tree text scratch parameters first parameter₀ cell₀ parameter cell = ParamsAt tree parameter × ArgsAt tree cell × Typed tree scratch (argsAt tree text cell) × (takesAll (program tree text) (allKeys tree text) (paramsAt tree text parameters) (typedAt tree text scratch first) ≡ takesAll (program tree text) (allKeys tree text) (paramsAt tree text parameter) (typedAt tree text scratch cell))
+Inv-loop tree text scratch parameters first parameter₀ cell₀ parameter cell = ParamsAt tree parameter × ArgsAt tree cell × ArgsTyped tree scratch (argsAt tree text cell) × (takesAll (program tree text) (allKeys tree text) (paramsAt tree text parameters) (typedAt tree text scratch first) ≡ takesAll (program tree text) (allKeys tree text) (paramsAt tree text parameter) (typedAt tree text scratch cell))
 
 abbrev μ-loop : tie.MeasureT-loop
 μ-loop tree text scratch parameters first parameter₀ cell₀ parameter cell = left parameter

@@ -1,6 +1,6 @@
 -- An entry's bits and mark.
 -- A number's by what its bits are, a NaN's as they stand. Assumes nothing.
-use Rattle.ir.specs.Floats.{entryOf}
+use Rattle.ir.specs.Floats.{entryOfFloat}
 use borrow.Author.Needs.{needs}
 use Rattle.ir.proofs.floats.entry_bits.Statement.{statement}
 use Rattle.ir.proofs.floats.entry_bits.Tie as tie
@@ -22,12 +22,12 @@ enum-known-f-2 c = search needs
 
 -- src/floats.rt:51:1
 returns : tie.Need-returns
-unfolding entryOf
+unfolding entryOfFloat
 returns c = rw (c .before .before .f .given .1, c .number-bits .ensures)
 
 -- src/floats.rt:51:1
 returns-2 : tie.Need-returns-2
-unfolding entryOf
+unfolding entryOfFloat
 returns-2 c = rw (c .before .f2 .given .1)
 
 pub entry-bits-spec : {M : Type 1} → statement M

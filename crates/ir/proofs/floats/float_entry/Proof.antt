@@ -3,7 +3,7 @@
 use mathlib.Core.Path.{refl, sym, ap, _∙_}
 use mathlib.Core.Bool.{not}
 use denote.Floats.{passes}
-use Rattle.ir.specs.Floats.{entryOf}
+use Rattle.ir.specs.Floats.{entryOfFloat}
 use Rattle.ir.proofs.FloatLaws.{bits-back}
 use borrow.Author.Needs.{needs}
 use Rattle.ir.proofs.floats.float_entry.Statement.{statement}
@@ -18,7 +18,7 @@ nan-bits-requires c κs = search needs
 
 -- src/floats.rt:34:9
 returns : tie.Need-returns
-unfolding entryOf
+unfolding entryOfFloat
 returns c = refl
 
 -- src/floats.rt:37:16
@@ -27,7 +27,7 @@ float-from-bits-t4 c = passes _ (ap not (sym (c .before .nan-bits .ensures) ∙ 
 
 -- src/floats.rt:30:1
 returns-2 : tie.Need-returns-2
-unfolding entryOf
+unfolding entryOfFloat
 returns-2 c = bits-back _ _ (c .before .before .fits .bits) (sym (c .before .nan-bits .ensures) ∙ c .if1 .left)
 
 pub float-entry-spec : {M : Type 1} → statement M

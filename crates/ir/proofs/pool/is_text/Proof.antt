@@ -1,6 +1,6 @@
 -- Whether an entry is the text.
 -- By what `load` ensures of its words. Assumes nothing.
-use Rattle.ir.specs.Search.{textOf}
+use Rattle.ir.specs.Search.{sameTextAt}
 use borrow.Author.Needs.{needs}
 use Rattle.ir.proofs.pool.is_text.Statement.{statement}
 use Rattle.ir.proofs.pool.is_text.Tie as tie
@@ -43,7 +43,7 @@ same-text-requires c κs = search needs
 
 -- src/pool.rt:30:1
 returns : tie.Need-returns
-unfolding textOf
+unfolding sameTextAt
 returns c = cc
 
 pub is-text-spec : {M : Type 1} → statement M

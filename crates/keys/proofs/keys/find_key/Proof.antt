@@ -6,7 +6,7 @@ use native.Mathlib.Omega.{arith}
 use lib.ListN.{take, drop}
 use Rattle.records.specs.Words.{textAt}
 use Rattle.conversion.specs.Expressions.{getFunction}
-use Rattle.keys.specs.Keys.{keyed, functionsOf, functionRecords, keysBelow, a-function, no-function}
+use Rattle.keys.specs.Keys.{keyed, functionsOf, functionPlaces, keysBelow, a-function, no-function}
 use Rattle.keys.proofs.KeySearch.{left-start, left-hit, left-more, left-end}
 use Rattle.keys.proofs.keys.find_key.Statement.{statement}
 use Rattle.keys.proofs.keys.find_key.Tie as tie
@@ -17,7 +17,7 @@ use Rattle.keys.proofs.keys.key_of.Reads as key-of-reads
 use Rattle.keys.proofs.parts.same_parts.Reads as same-parts-reads
 
 abbrev Inv-loop : tie.InvT-loop
-Inv-loop tree text scratch count most key j₀ j = (j ≤ most) × (getFunction (textAt text (key .0) (key .1)) (keysBelow tree text most) ≡ getFunction (textAt text (key .0) (key .1)) (keyed (functionsOf tree text (drop j (take most (functionRecords tree))))))
+Inv-loop tree text scratch count most key j₀ j = (j ≤ most) × (getFunction (textAt text (key .0) (key .1)) (keysBelow tree text most) ≡ getFunction (textAt text (key .0) (key .1)) (keyed (functionsOf tree text (drop j (take most (functionPlaces tree))))))
 
 abbrev μ-loop : tie.MeasureT-loop
 μ-loop tree text scratch count most key j₀ j = most - j

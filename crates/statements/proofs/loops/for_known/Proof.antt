@@ -11,20 +11,20 @@ find-name-requires c κs = (variable-inside (c .before .before .before .before .
 enum-told : tie.Need-enum-told
 enum-told c = search needs
 
-refusal-requires : tie.Need-refusal-requires
-refusal-requires c κs = search needs
+error-at-requires : tie.Need-error-at-requires
+error-at-requires c κs = search needs
 
 enum-known-x : tie.Need-enum-known-x
 enum-known-x c = search needs
 
-refusal-requires-2 : tie.Need-refusal-requires-2
-refusal-requires-2 c κs = search needs
+error-at-requires-2 : tie.Need-error-at-requires-2
+error-at-requires-2 c κs = search needs
 
 returns : tie.Need-returns
-returns c = known-fixed _ (c .before .before .before .before .before .before .before .before .before .before .before .before .pre .0 .0) (c .before .before .before .before .before .before .before .before .before .before .before .before .pre .1 .1) (c .before .before .before .before .before .before .before .before .before .before .before .before .pre .1 .2) _ (c .before .before .before .before .before .find-name .ensures) (c .before .before .before .x .given .1) (c .before .if1 .taken) (c .refusal2 .ensures)
+returns c = known-fixed _ (c .before .before .before .before .before .before .before .before .before .before .before .before .pre .0 .0) (c .before .before .before .before .before .before .before .before .before .before .before .before .pre .1 .1) (c .before .before .before .before .before .before .before .before .before .before .before .before .pre .1 .2) _ (c .before .before .before .before .before .find-name .ensures) (c .before .before .before .x .given .1) (c .before .if1 .taken) (c .error-at2 .ensures)
 
 returns-2 : tie.Need-returns-2
-returns-2 c = known-not _ (c .before .before .before .before .before .before .before .before .before .before .pre .0 .0) (c .before .before .before .before .before .before .before .before .before .before .pre .1 .1) (c .before .before .before .before .before .before .before .before .before .before .pre .1 .2) _ (c .before .before .before .find-name .ensures) (c .before .enum-told .given .1) (c .refusal .ensures)
+returns-2 c = known-not _ (c .before .before .before .before .before .before .before .before .before .before .pre .0 .0) (c .before .before .before .before .before .before .before .before .before .before .pre .1 .1) (c .before .before .before .before .before .before .before .before .before .before .pre .1 .2) _ (c .before .before .before .find-name .ensures) (c .before .enum-told .given .1) (c .error-at .ensures)
 
 returns-3 : tie.Need-returns-3
 returns-3 c = known-is _ (c .before .before .before .before .before .before .before .before .before .before .before .pre .0 .0) (c .before .before .before .before .before .before .before .before .before .before .before .pre .1 .1) (c .before .before .before .before .before .before .before .before .before .before .before .pre .1 .2) _ (c .before .before .before .before .find-name .ensures) (c .before .before .x .given .1) (c .if1 .left)
@@ -35,9 +35,9 @@ for-known-spec =
     (tie.spec
     find-name-requires
     enum-told
-    refusal-requires
+    error-at-requires
     enum-known-x
-    refusal-requires-2
+    error-at-requires-2
     returns
     returns-2
     returns-3)

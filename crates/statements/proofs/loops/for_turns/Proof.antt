@@ -14,11 +14,11 @@ cast-y c = search needs
 form-requires : tie.Need-form-requires
 form-requires c κs = search needs
 
-refusal-requires : tie.Need-refusal-requires
-refusal-requires c κs = search needs
+error-at-requires : tie.Need-error-at-requires
+error-at-requires c κs = search needs
 
 returns : tie.Need-returns
-returns c = (turns-not-int _ _ (c .before .before .before .before .before .before .before .before .pre .0 .0) (c .before .before .form .ensures) (c .before .if1 .taken) (c .refusal .ensures), names-refl _ _)
+returns c = (turns-not-int _ _ (c .before .before .before .before .before .before .before .before .pre .0 .0) (c .before .before .form .ensures) (c .before .if1 .taken) (c .error-at .ensures), names-refl _ _)
 
 for-bounds-requires : tie.Need-for-bounds-requires
 for-bounds-requires c κs = search needs
@@ -71,7 +71,7 @@ for-turns-spec =
     (tie.spec
     cast-y
     form-requires
-    refusal-requires
+    error-at-requires
     returns
     for-bounds-requires
     enum-known-e

@@ -8,7 +8,7 @@ use Rattle.statements.proofs.operands.name_operand.Reads as reads
 use Rattle.statements.proofs.operands.name_operand.Lts as lts
 use Rattle.records.proofs.words.word.Reads as word-reads
 use Rattle.scope.proofs.Scope.find_variable.Reads as find-variable-reads
-use Rattle.statements.proofs.answers.refusal.Reads as refusal-reads
+use Rattle.statements.proofs.answers.error_at.Reads as error-at-reads
 
 -- src/operands.rt:180:9
 word-requires : tie.Need-word-requires
@@ -31,8 +31,8 @@ enum-told : tie.Need-enum-told
 enum-told c = search needs
 
 -- src/operands.rt:184:46
-refusal-requires : tie.Need-refusal-requires
-refusal-requires c κs = search needs
+error-at-requires : tie.Need-error-at-requires
+error-at-requires c κs = search needs
 
 -- src/operands.rt:166:1
 returns : tie.Need-returns
@@ -40,7 +40,7 @@ returns c = name-gives _ _ _ _ _ _ (c .before .before .before .before .before .b
 
 -- src/operands.rt:166:1
 returns-2 : tie.Need-returns-2
-returns-2 c = name-refuses _ _ _ _ _ _ (c .before .before .before .before .before .before .before .before .before .before .before .before .pre .0) (c .before .before .before .before .before .before .before .before .before .before .before .before .pre .1) _ _ (c .before .before .before .before .before .word .ensures) (c .before .before .before .before .word2 .ensures) _ (c .before .before .before .find-variable .ensures) (c .before .enum-told .given .1) _ (c .refusal .ensures)
+returns-2 c = name-refuses _ _ _ _ _ _ (c .before .before .before .before .before .before .before .before .before .before .before .before .pre .0) (c .before .before .before .before .before .before .before .before .before .before .before .before .pre .1) _ _ (c .before .before .before .before .before .word .ensures) (c .before .before .before .before .word2 .ensures) _ (c .before .before .before .find-variable .ensures) (c .before .enum-told .given .1) _ (c .error-at .ensures)
 
 pub name-operand-spec : {M : Type 1} → statement M
 name-operand-spec =
@@ -51,6 +51,6 @@ name-operand-spec =
     find-variable-requires
     enum-known-v
     enum-told
-    refusal-requires
+    error-at-requires
     returns
     returns-2)

@@ -1,7 +1,8 @@
 -- The operand of an expression without operands.
 -- By its kind. Assumes nothing.
 use native.Mathlib.Omega.{arith}
-use Rattle.statements.proofs.LeafLaws.{converts-most, leaf-answers, leaf-int, leaf-bool, leaf-null, leaf-size}
+use Rattle.statements.proofs.LeafLaws.{leaf-answers, leaf-int, leaf-bool, leaf-null, leaf-size}
+use Rattle.statements.proofs.ConvertLaws.{converts-most}
 use borrow.Author.Needs.{needs}
 use Rattle.statements.proofs.operands.operand.Statement.{statement}
 use Rattle.statements.proofs.operands.operand.Tie as tie
@@ -78,7 +79,7 @@ same-length-3 c = search needs
 
 -- src/operands.rt:240:9
 returns-5 : tie.Need-returns-5
-returns-5 c = converts-most (c .name-operand .ensures) (omega arith)
+returns-5 c = converts-most (omega arith) (c .name-operand .ensures)
 
 -- src/operands.rt:243:9
 returns-6 : tie.Need-returns-6
@@ -94,7 +95,7 @@ same-length-4 c = search needs
 
 -- src/operands.rt:210:1
 returns-7 : tie.Need-returns-7
-returns-7 c = converts-most (c .size-operand .ensures) (omega arith)
+returns-7 c = converts-most (omega arith) (c .size-operand .ensures)
 
 pub operand-spec : {M : Type 1} → statement M
 operand-spec =

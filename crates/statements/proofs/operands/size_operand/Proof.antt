@@ -6,7 +6,7 @@ use Rattle.statements.proofs.operands.size_operand.Statement.{statement
 use Rattle.statements.proofs.operands.size_operand.Tie as tie
 use Rattle.statements.proofs.operands.size_operand.Reads as reads
 use Rattle.statements.proofs.operands.size_operand.Lts as lts
-use Rattle.statements.proofs.answers.refusal.Reads as refusal-reads
+use Rattle.statements.proofs.answers.error_at.Reads as error-at-reads
 use Rattle.records.proofs.words.reference.Reads as reference-reads
 use Rattle.types.proofs.size.size.Reads as size-reads
 
@@ -27,16 +27,16 @@ enum-told : tie.Need-enum-told
 enum-told c = search needs
 
 -- src/operands.rt:204:43
-refusal-requires : tie.Need-refusal-requires
-refusal-requires c κs = search needs
+error-at-requires : tie.Need-error-at-requires
+error-at-requires c κs = search needs
 
 -- src/operands.rt:205:54
 enum-told-2 : tie.Need-enum-told-2
 enum-told-2 c = search needs
 
 -- src/operands.rt:205:46
-refusal-requires-2 : tie.Need-refusal-requires-2
-refusal-requires-2 c κs = search needs
+error-at-requires-2 : tie.Need-error-at-requires-2
+error-at-requires-2 c κs = search needs
 
 -- src/operands.rt:189:1
 returns : tie.Need-returns
@@ -44,11 +44,11 @@ returns c = size-gives _ _ _ _ _ _ (c .before .before .before .before .before .b
 
 -- src/operands.rt:189:1
 returns-2 : tie.Need-returns-2
-returns-2 c = size-refuses _ _ _ _ _ _ (c .before .before .before .before .before .before .before .before .before .before .pre .0) (c .before .before .before .before .before .before .before .before .before .before .pre .1) _ (c .before .before .before .before .reference .ensures) _ (c .before .before .before .size .ensures .0) (c .before .before .before .size .ensures .1) (over-none _ (c .before .enum-told .given .1)) _ (c .refusal .ensures)
+returns-2 c = size-refuses _ _ _ _ _ _ (c .before .before .before .before .before .before .before .before .before .before .pre .0) (c .before .before .before .before .before .before .before .before .before .before .pre .1) _ (c .before .before .before .before .reference .ensures) _ (c .before .before .before .size .ensures .0) (c .before .before .before .size .ensures .1) (over-none _ (c .before .enum-told .given .1)) _ (c .error-at .ensures)
 
 -- src/operands.rt:189:1
 returns-3 : tie.Need-returns-3
-returns-3 c = size-refuses _ _ _ _ _ _ (c .before .before .before .before .before .before .before .before .before .before .pre .0) (c .before .before .before .before .before .before .before .before .before .before .pre .1) _ (c .before .before .before .before .reference .ensures) _ (c .before .before .before .size .ensures .0) (c .before .before .before .size .ensures .1) (nothing-none _ (c .before .enum-told2 .given .1)) _ (c .refusal2 .ensures)
+returns-3 c = size-refuses _ _ _ _ _ _ (c .before .before .before .before .before .before .before .before .before .before .pre .0) (c .before .before .before .before .before .before .before .before .before .before .pre .1) _ (c .before .before .before .before .reference .ensures) _ (c .before .before .before .size .ensures .0) (c .before .before .before .size .ensures .1) (nothing-none _ (c .before .enum-told2 .given .1)) _ (c .error-at2 .ensures)
 
 pub size-operand-spec : {M : Type 1} → statement M
 size-operand-spec =
@@ -58,9 +58,9 @@ size-operand-spec =
     size-requires
     enum-known-n
     enum-told
-    refusal-requires
+    error-at-requires
     enum-told-2
-    refusal-requires-2
+    error-at-requires-2
     returns
     returns-2
     returns-3)

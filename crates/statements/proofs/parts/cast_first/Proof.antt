@@ -6,11 +6,11 @@ use native.Mathlib.Omega.{arith}
 use Rattle.statements.proofs.parts.cast_first.Statement.{statement}
 use Rattle.statements.proofs.parts.cast_first.Tie as tie
 
-refusal-requires : tie.Need-refusal-requires
-refusal-requires c κs = search needs
+error-at-requires : tie.Need-error-at-requires
+error-at-requires c κs = search needs
 
 returns : tie.Need-returns
-returns c = cast-none _ _ (c .before .if1 .taken) (c .refusal .ensures)
+returns c = cast-none _ _ (c .before .if1 .taken) (c .error-at .ensures)
 
 operand-at-requires : tie.Need-operand-at-requires
 operand-at-requires c κs = search needs
@@ -25,4 +25,4 @@ returns-2 : tie.Need-returns-2
 returns-2 c = cast-some _ _ _ (c .before .before .before .before .before .before .if1 .left) (c .before .before .before .before .operand-at .ensures) (omega arith) (c .before .before .emit .ensures) (c .before .before .before .before .before .before .before .before .before .before .before .pre .1 .1)
 
 pub cast-first-spec : {M : Type 1} → statement M
-cast-first-spec = tie.close (tie.spec refusal-requires returns operand-at-requires emit-requires same-length returns-2)
+cast-first-spec = tie.close (tie.spec error-at-requires returns operand-at-requires emit-requires same-length returns-2)

@@ -5,11 +5,11 @@ use Rattle.statements.proofs.InitLaws.{assign-constant, assign-plain}
 use Rattle.statements.proofs.statements.convert_assign.Statement.{statement}
 use Rattle.statements.proofs.statements.convert_assign.Tie as tie
 
-refusal-requires : tie.Need-refusal-requires
-refusal-requires c κs = search needs
+error-at-requires : tie.Need-error-at-requires
+error-at-requires c κs = search needs
 
 returns : tie.Need-returns
-returns c = assign-constant (c .before .before .before .before .before .before .args .r) (c .before .before .before .before .before .before .args .v) (c .before .if1 .taken) (c .refusal .ensures)
+returns c = assign-constant (c .before .before .before .before .before .before .args .r) (c .before .before .before .before .before .before .args .v) (c .before .if1 .taken) (c .error-at .ensures)
 
 assign-to-requires : tie.Need-assign-to-requires
 assign-to-requires c κs = search needs
@@ -26,4 +26,4 @@ returns-2 c = assign-plain (c .before .before .before .before .before .before .b
 pub convert-assign-spec : {M : Type 1} → statement M
 convert-assign-spec =
     tie.close
-    (tie.spec refusal-requires returns assign-to-requires same-length same-length-2 returns-2)
+    (tie.spec error-at-requires returns assign-to-requires same-length same-length-2 returns-2)

@@ -27,8 +27,8 @@ same-length-2 c = search needs
 returns : tie.Need-returns
 returns c = cond-is (c .before .before .before .before .before .before .before .before .before .before .before .before .before .before .before .before .before .before .before .before .pre .0 .0) (c .before .before .before .before .before .before .before .before .before .before .before .before .before .before .before .before .before .before .before .before .pre .1) (c .before .before .before .before .before .before .before .before .before .before .before .before .before .get-type .ensures) (c .before .before .before .before .before .before .before .before .before .y .given .1) (c .before .before .before .before .before .before .before .if1 .taken) (c .before .before .before .before .convert-expr .ensures)
 
-refusal-requires : tie.Need-refusal-requires
-refusal-requires c κs = search needs
+error-at-requires : tie.Need-error-at-requires
+error-at-requires c κs = search needs
 
 same-length-3 : tie.Need-same-length-3
 same-length-3 c = search needs
@@ -40,7 +40,7 @@ same-length-4 : tie.Need-same-length-4
 same-length-4 c = search needs
 
 returns-3 : tie.Need-returns-3
-returns-3 c = cond-other (c .before .before .before .before .before .before .before .before .before .before .before .before .before .before .pre .0 .0) (c .before .before .before .before .before .before .before .before .before .before .before .before .before .before .pre .1) (c .before .before .before .before .before .before .before .get-type .ensures) (c .before .before .before .y .given .1) (c .before .if1 .left) (c .refusal .ensures)
+returns-3 c = cond-other (c .before .before .before .before .before .before .before .before .before .before .before .before .before .before .pre .0 .0) (c .before .before .before .before .before .before .before .before .before .before .before .before .before .before .pre .1) (c .before .before .before .before .before .before .before .get-type .ensures) (c .before .before .before .y .given .1) (c .before .if1 .left) (c .error-at .ensures)
 
 pub convert-cond-spec : {M : Type 1} → statement M
 convert-cond-spec =
@@ -53,7 +53,7 @@ convert-cond-spec =
     same-length
     same-length-2
     returns
-    refusal-requires
+    error-at-requires
     same-length-3
     returns-2
     same-length-4

@@ -11,8 +11,8 @@ in-loop-requires c κs = search needs
 enum-told : tie.Need-enum-told
 enum-told c = search needs
 
-refusal-requires : tie.Need-refusal-requires
-refusal-requires c κs = search needs
+error-at-requires : tie.Need-error-at-requires
+error-at-requires c κs = search needs
 
 enum-known-l : tie.Need-enum-known-l
 enum-known-l c = search needs
@@ -24,7 +24,7 @@ jump-requires : tie.Need-jump-requires
 jump-requires c κs = search needs
 
 returns : tie.Need-returns
-returns c = continue-outside (c .before .before .before .before .before .before .before .before .before .before .pre .0 .0) _ _ (c .before .before .before .in-loop .ensures) (c .before .enum-told .given .1) (c .refusal .ensures)
+returns c = continue-outside (c .before .before .before .before .before .before .before .before .before .before .pre .0 .0) _ _ (c .before .before .before .in-loop .ensures) (c .before .enum-told .given .1) (c .error-at .ensures)
 
 same-length : tie.Need-same-length
 same-length c = search needs
@@ -38,7 +38,7 @@ convert-continue-spec =
     (tie.spec
     in-loop-requires
     enum-told
-    refusal-requires
+    error-at-requires
     enum-known-l
     cast-jump
     jump-requires

@@ -28,14 +28,14 @@ enum-known-y c = search needs
 cast-if1 : tie.Need-cast-if1
 cast-if1 c = search needs
 
-refusal-requires : tie.Need-refusal-requires
-refusal-requires c κs = search needs
+error-at-requires : tie.Need-error-at-requires
+error-at-requires c κs = search needs
 
 same-length : tie.Need-same-length
 same-length c = search needs
 
 returns : tie.Need-returns
-returns c = return-none (c .before .before .before .before .before .before .before .before .before .before .before .before .before .before .before .before .before .pre .0 .0) (c .before .before .before .before .before .before .before .before .before .before .before .before .before .before .before .before .before .pre .1) (c .before .before .before .before .before .before .before .before .before .before .before .reference .ensures) (c .before .before .before .before .before .before .before .get-type .ensures) (c .before .before .before .before .before .before .before .before .before .reference2 .ensures) (c .before .before .before .y .given .1) (c .before .if1 .taken) (c .refusal .ensures)
+returns c = return-none (c .before .before .before .before .before .before .before .before .before .before .before .before .before .before .before .before .before .pre .0 .0) (c .before .before .before .before .before .before .before .before .before .before .before .before .before .before .before .before .before .pre .1) (c .before .before .before .before .before .before .before .before .before .before .before .reference .ensures) (c .before .before .before .before .before .before .before .get-type .ensures) (c .before .before .before .before .before .before .before .before .before .reference2 .ensures) (c .before .before .before .y .given .1) (c .before .if1 .taken) (c .error-at .ensures)
 
 return-as-requires : tie.Need-return-as-requires
 return-as-requires c κs = ((type-converting (c .before .before .before .before .before .before .before .before .before .before .before .before .before .before .before .before .before .before .pre .0 .0) (c .before .before .before .before .before .before .before .before .get-type .ensures), c .before .before .before .before .before .before .before .before .before .before .before .before .before .before .before .before .before .before .pre .0 .1), (c .before .before .before .before .before .before .before .before .before .before .before .before .before .before .before .before .before .before .pre .1, is-typed _ _ _ (c .before .before .before .before .before .before .before .before .get-type .ensures .typed) (c .before .before .before .before .y .given .1), expected-type (c .before .before .before .before .before .before .before .before .before .before .before .before .before .before .before .before .before .before .pre .0 .0) (c .before .before .before .before .before .before .before .before .before .before .before .before .before .before .before .before .before .before .pre .1) (c .before .before .before .before .before .before .before .before .before .before .before .before .reference .ensures) (c .before .before .before .before .before .before .before .before .get-type .ensures) (c .before .before .before .before .before .before .before .before .before .before .reference2 .ensures) (c .before .before .if1 .left)))
@@ -66,7 +66,7 @@ convert-return-spec =
     enum-known-x
     enum-known-y
     cast-if1
-    refusal-requires
+    error-at-requires
     same-length
     returns
     return-as-requires

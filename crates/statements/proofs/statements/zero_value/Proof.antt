@@ -45,11 +45,11 @@ same-length-3 c = search needs
 returns-3 : tie.Need-returns-3
 returns-3 c = λ text F. zero-array _ text F _ _ _ (c .before .before .before .before .before .before .before .before .form .ensures) (c .before .before .before .before .if3 .taken) (omega arith) (c .before .before .emit2 .ensures)
 
-refusal-requires : tie.Need-refusal-requires
-refusal-requires c κs = search needs
+error-at-requires : tie.Need-error-at-requires
+error-at-requires c κs = search needs
 
 returns-4 : tie.Need-returns-4
-returns-4 c = λ text F. zero-custom _ text F _ _ _ (c .before .before .before .before .before .before .form .ensures) (c .before .if4 .taken) (c .refusal .ensures)
+returns-4 c = λ text F. zero-custom _ text F _ _ _ (c .before .before .before .before .before .before .form .ensures) (c .before .if4 .taken) (c .error-at .ensures)
 
 zero-operand-requires : tie.Need-zero-operand-requires
 zero-operand-requires c κs = search needs
@@ -80,7 +80,7 @@ zero-value-spec =
     emit-requires-2
     same-length-3
     returns-3
-    refusal-requires
+    error-at-requires
     returns-4
     zero-operand-requires
     emit-requires-3
