@@ -252,6 +252,10 @@ fn first_types(cases: &mut Cases) {
         } else {
             cases.at_home(other, at as u32)
         }
+        // An Int whose detail and word A are those of the type.
+        for detail in [1, 2, 3].into_iter().filter(|detail| FIRST_TYPES[at].0 == *detail) {
+            cases.at_home(change(Record::new(INT, detail, [0; 5])), at as u32);
+        }
         for to in (0..at as u32).filter(|_| at >= 10) {
             cases.close(change(ty(6, [to, 0, 0, 0, 0])));
         }

@@ -105,6 +105,8 @@ pub struct Rules {
     /// Details and word A that go at each of the first places; any type where there are none.
     pub first: Vec<Vec<(u8, u32)>>,
     pub first_types: [bool; 12],
+    /// Whether kinds are looked at there.
+    pub first_kinds: bool,
     pub late_types: bool,
     pub same: Same,
     /// Whether a type is compared with an earlier one.
@@ -247,6 +249,7 @@ impl Rules {
             marks: vec![(IF, 1, 2), (FUNCTION, 4, 4)],
             first: first.into_iter().chain([vec![(6, 7)], vec![(6, 9)]]).collect(),
             first_types: [true; 12],
+            first_kinds: true,
             late_types: false,
             same: Rc::new(same_type),
             compared: |_, _| true,
@@ -342,7 +345,7 @@ impl Rules {
     fn order_fault(&self, tree: &Tree, at: u32) -> Option<u32> {
         let record = tree.at(at);
         if let Some(wanted) = self.first.get(at as usize) {
-            let goes = if record.kind == TYPE {
+            let goes = if record.kind == TYPE || !self.first_kinds {
                 wanted.is_empty() || wanted.contains(&(record.detail, record.a()))
             } else {
                 !self.first_types[at as usize]

@@ -20,6 +20,7 @@ pub fn unknown_types(slips: &mut Slips) {
 
 /// An address stands behind what it refers to, so it changes places with few.
 pub fn first_types(slips: &mut Slips) {
+    slips.add("first types by detail and word A".to_string(), |rules| rules.first_kinds = false);
     for at in 0..12usize {
         slips.add(format!("first type {at} any type"), move |rules| rules.first[at].clear());
         slips.add(format!("first type {at} no type"), move |rules| rules.first_types[at] = false);
