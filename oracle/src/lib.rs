@@ -4,10 +4,12 @@
 pub mod ask;
 pub mod ast;
 pub mod convert;
+pub mod forms;
 pub mod generate;
 pub mod judge;
 pub mod program;
 pub mod show;
+pub mod slips;
 pub mod source;
 pub mod stand_ins;
 pub mod tables;

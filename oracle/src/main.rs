@@ -8,12 +8,14 @@ use std::{env, fs};
 use oracle::convert::try_convert;
 use oracle::generate::call_list;
 use oracle::generate::list::{bytes, cases};
+use oracle::slips;
 use oracle::source::source_text;
 use oracle::tree::Tree;
-use oracle::{Answer, classes, generate, judge, needed, show};
+use oracle::{Answer, Case, classes, forms, generate, judge, needed, show};
 
 const USAGE: &str = "oracle judge TREE TEXT | convert TREE TEXT [--main] [--long] | show TREE TEXT [--main] |
-    gen SEED CLASS DIR | count N SEED [CLASS] | list judge SEED N FILE | list convert SEED N FILE VECTORS | classes";
+    gen SEED CLASS DIR | count N SEED [CLASS] | list judge SEED N FILE | list convert SEED N FILE VECTORS |
+    slips FILE | forms N SEED CLASS | forms FILE | classes";
 
 /// What document 01's program takes at most.
 const MOST_TREE_BYTES: usize = 6400;
@@ -125,6 +127,44 @@ fn list_convert(seed: &str, n: &str, file: &str, vectors: &str) -> Result<(), St
     fs::write(file, bytes).map_err(|err| format!("{file}: {err}"))
 }
 
+/// Slips in the rules before conversion and in what is left behind, held against a list for the whole call.
+fn try_slips(file: &str) -> Result<(), String> {
+    let list = read(file)?;
+    let cases = slips::stored(&list);
+    let (left, left_missed) = slips::leaves::unnoticed(&cases);
+    let missed = slips::unnoticed(&cases);
+    missed.iter().chain(&left_missed).for_each(|name| println!("{name}"));
+    let (rules, misread) = (slips::slips().len(), slips::misread(&cases));
+    println!("{} cases, {misread} misread without a slip", cases.len());
+    println!("{rules} slips in the rules, {} not noticed", missed.len());
+    println!("{left} slips in what is left behind, {} not noticed", left_missed.len());
+    Ok(())
+}
+
+/// How many of these cases hold each rare form and convert.
+fn count_forms(cases: impl Iterator<Item = Case>) -> Result<(), String> {
+    let (mut counts, mut converted) = (BTreeMap::new(), 0);
+    for case in cases {
+        let answer = try_convert(&case.tree, &case.text, case.needs_main, case.lens)?;
+        if let Answer::Converted(tables) = answer {
+            converted += 1;
+            for form in forms::forms(&Tree::new(&case.tree, &case.text), &tables) {
+                *counts.entry(form).or_insert(0) += 1;
+            }
+        }
+    }
+    println!("{converted} trees convert");
+    for form in forms::known() {
+        println!("{:6} {form}", counts.get(&form).unwrap_or(&0));
+    }
+    Ok(())
+}
+
+fn forms_of_class(n: &str, seed: &str, class: &str) -> Result<(), String> {
+    let (n, seed) = (number(n)?, number(seed)?);
+    count_forms((0..n).map(|at| generate(seed.wrapping_mul(1_000_003).wrapping_add(at), class)))
+}
+
 fn run(args: &[&str]) -> Result<(), String> {
     match args {
         ["judge", tree, text] => judge_files(tree, text),
@@ -135,6 +175,9 @@ fn run(args: &[&str]) -> Result<(), String> {
         ["count", n, seed, class] => count(n, seed, Some(class)),
         ["list", "judge", seed, n, file] => list(seed, n, file),
         ["list", "convert", seed, n, file, vectors] => list_convert(seed, n, file, vectors),
+        ["forms", n, seed, class] => forms_of_class(n, seed, class),
+        ["forms", file] => count_forms(slips::stored(&read(file)?).iter().map(slips::Stored::case)),
+        ["slips", file] => try_slips(file),
         ["classes"] => {
             println!("{}", classes().join(" "));
             Ok(())

@@ -1,13 +1,17 @@
 //! A list of cases for the whole call: the answer and every byte of the seven buffers of each.
 
-use super::{Case, generate, list};
+use super::{Case, broken, generate, list, misses};
 use crate::convert::{Answer, try_convert};
 use crate::generate::classes;
 use crate::judge::needed;
 use crate::tree::RECORD_BYTES;
 
-/// The most records of a generated tree in the list, so that the list stays small.
+/// The most records of a generated tree in the list, and of one that is made for an error, so that the list stays small.
 const MOST_RECORDS: usize = 90;
+const MOST_RECORDS_MISSED: usize = 150;
+
+/// How many trees the list has for each error at least.
+const MISSES_EACH: usize = 6;
 
 /// A case of the line `number|main needed|tree|text|answer` of a file of vectors, bytes in hexadecimal.
 fn vector(line: &str) -> Result<Case, String> {
@@ -25,22 +29,50 @@ fn vector(line: &str) -> Result<Case, String> {
     Ok(Case { tree, text: bytes(text)?, needs_main: main == "1", lens, label: format!("vector {number}") })
 }
 
-/// The cases: the vectors, those of the judge's list, and `count` generated ones of all classes in turn, with buffers longer than needed for
-/// every third.
+/// Buffers longer than needed by a few bytes, which `at` tells.
+fn lengthen(case: &mut Case, at: usize) {
+    case.lens = std::array::from_fn(|i| case.lens[i] + (at / 3 + i) % 17);
+}
+
+/// Trees for each error in turn, every second with buffers longer than needed.
+fn missed(seed: u64) -> Vec<Case> {
+    let (mut cases, numbers) = (Vec::new(), misses::NUMBERS.len() as u64);
+    for at in 0..numbers {
+        let seeds = (0..).map(|turn| seed.wrapping_mul(numbers).wrapping_add(turn * numbers + at));
+        let trees = seeds.map(|seed| generate(seed, "miss"));
+        let small = trees.filter(|case| case.tree.len() <= MOST_RECORDS_MISSED * RECORD_BYTES);
+        cases.extend(small.take(MISSES_EACH));
+    }
+    let second = cases.iter_mut().enumerate().filter(|(at, _)| at % 2 == 1);
+    second.for_each(|(at, case)| lengthen(case, 3 * at));
+    cases
+}
+
+/// The cases: the vectors, those of the judge's list, each rule broken, each error, and generated ones of all classes in turn until there
+/// are `count`; every third of the broken and the generated ones has buffers longer than needed.
 pub fn cases(seed: u64, count: usize, vectors: &str) -> Result<Vec<Case>, String> {
     let mut cases: Vec<Case> = vectors.lines().map(vector).collect::<Result<_, _>>()?;
     cases.extend(list::cases(seed, 300).into_iter().filter(|case| case.tree.len() <= 70_000));
+    for (at, case) in broken::all().iter().enumerate() {
+        let mut case = case.clone();
+        if at % 3 == 0 && case.lens == needed(case.tree.len()) {
+            lengthen(&mut case, at);
+        }
+        cases.push(case);
+    }
+    cases.extend(missed(seed));
+    let classes: Vec<&str> = classes().iter().copied().filter(|class| *class != "broken").collect();
     let mut at = 0;
     while cases.len() < count {
-        let class = classes()[at as usize % classes().len()];
-        let turn = at / classes().len() as u64;
+        let class = classes[at as usize % classes.len()];
+        let turn = at / classes.len() as u64;
         let mut case = generate(seed.wrapping_mul(1_000_003).wrapping_add(turn), class);
         at += 1;
         if case.tree.len() > MOST_RECORDS * RECORD_BYTES && at % 500 != 0 {
             continue;
         }
         if at % 3 == 0 && class != "buffers" {
-            case.lens = std::array::from_fn(|i| case.lens[i] + (at as usize / 3 + i) % 17);
+            lengthen(&mut case, at as usize);
         }
         cases.push(case);
     }

@@ -1,11 +1,13 @@
 //! Trees from a seed: the same seed and class give the same case on every machine.
 
+pub mod broken;
 pub mod call_list;
 pub mod constants;
 pub mod damage;
 pub mod list;
 pub mod misses;
 pub mod odd;
+pub mod pieces;
 pub mod programs;
 pub mod rare;
 pub mod rng;
@@ -27,7 +29,7 @@ pub struct Case {
     pub label: String,
 }
 
-const CLASSES: [&str; 14] = [
+const CLASSES: [&str; 15] = [
     "program",
     "near",
     "miss",
@@ -42,6 +44,7 @@ const CLASSES: [&str; 14] = [
     "dense",
     "bytes",
     "rare",
+    "broken",
 ];
 
 /// The names of the classes.
@@ -69,6 +72,7 @@ pub fn generate(seed: u64, class: &str) -> Case {
         "deep" => laid_out(&mut rng, &shapes::deep(&mut seeded(seed))),
         "dense" => laid_out(&mut rng, &shapes::dense(&mut seeded(seed), seed as usize % 6)),
         "bytes" => random_bytes(&mut rng),
+        "broken" => broken::all()[seed as usize % broken::all().len()].clone(),
         "rare" => laid_out(&mut rng, &rare::program(&mut seeded(seed), seed as usize)),
         _ => program(&mut rng, 0),
     };

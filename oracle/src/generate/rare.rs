@@ -37,9 +37,11 @@ fn odd_result(rng: &mut Rng) -> Vec<Fun> {
     vec![give, func("쓰다", &[("것", ty)], None, used)]
 }
 
-/// Casts: a short unsigned literal, two type arguments, between addresses and long, of and to scalars.
+/// Casts: a short unsigned literal, two type arguments, between addresses, Null and both long integers.
 fn casts(rng: &mut Rng) -> Vec<Fun> {
     let to = rng.pick(&scalars()).clone();
+    let (unsigned, inner) = (rng.flip(), any_type(rng, 1));
+    let long = if unsigned { ULONG } else { LONG };
     let body = match rng.below(4) {
         0 => vec![init("가", cast(Ex::Int(integer(rng), true, true), to))],
         1 => {
@@ -48,15 +50,18 @@ fn casts(rng: &mut Rng) -> Vec<Fun> {
             vec![init("가", call("바꾸다", args))]
         }
         2 => {
-            let inner = any_type(rng, 1);
-            let there = cast(Ex::Int(integer(rng), false, false), address(inner.clone()));
+            let there = cast(Ex::Int(integer(rng), false, unsigned), address(inner.clone()));
             vec![
                 init("가", there),
-                init("나", cast(name("가"), LONG)),
+                init("나", cast(name("가"), long)),
                 init("다", cast(string("글"), address(inner))),
             ]
         }
-        _ => vec![init("가", cast(Ex::Null, LONG)), init("나", cast(name("가"), address(Ty::Null)))],
+        _ => vec![
+            init("가", cast(Ex::Null, long)),
+            init("나", cast(name("가"), address(Ty::Null))),
+            init("다", cast(Ex::Null, address(inner))),
+        ],
     };
     vec![func("바뀌다", &[], None, body)]
 }
