@@ -1,13 +1,21 @@
 //! The conversion call beside the oracle: the same answers and bytes, and its time beside that of Krc's `convert`.
 
+mod attacks;
 mod compare;
+mod hostile;
 mod makes;
 mod time;
 
-use makes::{MAKES, Make, by_name};
+use std::time::Duration;
+
+use attacks::{ATTACKS, Attack, Knobs};
+use hostile::Measure;
+use makes::{MAKES, Make};
 
 const USAGE: &str = "usage: convert-bench compare [N [SEED [DIR]]]
        convert-bench time [--makes A,B] [--sizes N,N] [--rounds N] [--trees N] [--rows WORD]
+       convert-bench hostile [--attacks A,B] [--limit SECONDS] [--rows WORD]
+       convert-bench alone call|judge|krc ATTACK TEXT SHARE DEPTH
        convert-bench repeat MAKE SIZE TREES ROUNDS
        convert-bench one TREE TEXT";
 
@@ -21,7 +29,11 @@ fn number<T: std::str::FromStr>(word: &str) -> T {
 }
 
 fn make(word: &str) -> &'static Make {
-    by_name(word).unwrap_or_else(|| stop())
+    makes::by_name(word).unwrap_or_else(|| stop())
+}
+
+fn attack(word: &str) -> &'static Attack {
+    attacks::by_name(word).unwrap_or_else(|| stop())
 }
 
 /// The options of `time`, in pairs of a name and a value.
@@ -41,6 +53,20 @@ fn time_options(words: &[&str]) -> time::Options {
     options
 }
 
+fn hostile_options(words: &[&str]) -> hostile::Options {
+    let mut options =
+        hostile::Options { attacks: ATTACKS.iter().collect(), limit: Duration::from_secs(2), rows: None };
+    for pair in words.chunks(2) {
+        match *pair {
+            ["--attacks", names] => options.attacks = names.split(',').map(attack).collect(),
+            ["--limit", seconds] => options.limit = Duration::from_secs(number(seconds)),
+            ["--rows", word] => options.rows = Some(word.to_string()),
+            _ => stop(),
+        }
+    }
+    options
+}
+
 fn main() {
     let words: Vec<String> = std::env::args().skip(1).collect();
     let words: Vec<&str> = words.iter().map(String::as_str).collect();
@@ -52,6 +78,11 @@ fn main() {
             compare::compare(*n, *seed, folder)
         }
         ["time", ref rest @ ..] => time::time(&time_options(rest)),
+        ["hostile", ref rest @ ..] => hostile::hostile(&hostile_options(rest)),
+        ["alone", measure, name, text, share, depth] => {
+            let knobs = Knobs { text: number(text), share: number(share), depth: number(depth) };
+            hostile::alone(Measure::by_name(measure).unwrap_or_else(|| stop()), attack(name), knobs)
+        }
         ["repeat", name, size, trees, rounds] => {
             time::repeat(make(name), number(size), number(trees), number(rounds))
         }
