@@ -16,6 +16,10 @@ const TIMES: usize = 3;
 /// Building a tree, and the program for Krc, is not measured, but must end too.
 const BUILD: Duration = Duration::from_secs(60);
 
+pub const HEAD: &str =
+    "| attack | text | share, depth | records | call (ms) | judge (ms) | Krc's convert (ms) |";
+pub const LINE: &str = "|---|---|---|---|---|---|---|";
+
 pub struct Options {
     pub attacks: Vec<&'static Attack>,
     pub limit: Duration,
@@ -142,8 +146,7 @@ fn worst(attack: &Attack, text: usize, limit: Duration) -> (Taken, Knobs) {
 pub fn hostile(options: &Options) -> u64 {
     let before = options.rows.as_ref().map_or(String::new(), |word| format!("| {word} "));
     if options.rows.is_none() {
-        println!("| attack | text | share, depth | records | call (ms) | judge (ms) | Krc's convert (ms) |");
-        println!("|---|---|---|---|---|---|---|");
+        println!("{HEAD}\n{LINE}");
     }
     for attack in &options.attacks {
         for &text in if attack.texts { &TEXTS[..] } else { &TEXTS[..1] } {

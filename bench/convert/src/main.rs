@@ -1,6 +1,7 @@
 //! The conversion call beside the oracle: the same answers and bytes, and its time beside that of Krc's `convert`.
 
 mod attacks;
+mod beside;
 mod compare;
 mod hostile;
 mod makes;
@@ -15,6 +16,7 @@ use makes::{MAKES, Make};
 const USAGE: &str = "usage: convert-bench compare [N [SEED [DIR]]]
        convert-bench time [--makes A,B] [--sizes N,N] [--rounds N] [--trees N] [--rows WORD]
        convert-bench hostile [--attacks A,B] [--limit SECONDS] [--rows WORD]
+       convert-bench beside PROGRAM PROGRAM time|hostile [OPTIONS]
        convert-bench alone call|judge|krc ATTACK TEXT SHARE DEPTH
        convert-bench repeat MAKE SIZE TREES ROUNDS
        convert-bench one TREE TEXT";
@@ -79,6 +81,12 @@ fn main() {
         }
         ["time", ref rest @ ..] => time::time(&time_options(rest)),
         ["hostile", ref rest @ ..] => hostile::hostile(&hostile_options(rest)),
+        ["beside", before, after, "time", ref rest @ ..] => {
+            beside::time([before, after], &time_options(rest))
+        }
+        ["beside", before, after, "hostile", ref rest @ ..] => {
+            beside::hostile([before, after], &hostile_options(rest))
+        }
         ["alone", measure, name, text, share, depth] => {
             let knobs = Knobs { text: number(text), share: number(share), depth: number(depth) };
             hostile::alone(Measure::by_name(measure).unwrap_or_else(|| stop()), attack(name), knobs)

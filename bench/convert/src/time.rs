@@ -16,6 +16,9 @@ use crate::makes::Make;
 /// The measures take turns, so that what else runs on the machine meets them alike.
 const TURNS: usize = 8;
 
+pub const HEAD: &str = "| records | trees | call (us) | 99 of 100 (us) | worst (us) | ns a record | judge (us) | clearing (us) | Krc's convert (us) | ratio |";
+pub const LINE: &str = "|---|---|---|---|---|---|---|---|---|---|";
+
 pub struct Options {
     pub makes: Vec<&'static Make>,
     /// Sizes in records.
@@ -43,11 +46,12 @@ impl Times {
 
     fn median(&mut self) -> f64 {
         self.0.sort_by(f64::total_cmp);
-        self.0[self.0.len() / 2]
+        self.of_hundred(50)
     }
 
-    fn worst(&self) -> f64 {
-        self.0.iter().copied().fold(0.0, f64::max)
+    /// What so many of a hundred do not exceed, once sorted.
+    fn of_hundred(&self, many: usize) -> f64 {
+        self.0[(self.0.len() - 1) * many / 100]
     }
 }
 
@@ -154,9 +158,10 @@ impl Row {
     fn print(&mut self, before: &str, trees: usize) {
         let (call, krc) = (self.call.median(), self.krc.median());
         println!(
-            "{before}| {} | {trees} | {call:.1} | {:.0} | {:.0} | {:.1} | {:.1} | {krc:.1} | {:.2} |",
+            "{before}| {} | {trees} | {call:.1} | {:.1} | {:.0} | {:.0} | {:.1} | {:.1} | {krc:.1} | {:.2} |",
             self.records,
-            self.call.worst(),
+            self.call.of_hundred(99),
+            self.call.of_hundred(100),
             call * 1e3 / self.records as f64,
             self.judge.median(),
             self.clear.median(),
@@ -165,14 +170,12 @@ impl Row {
     }
 }
 
-const HEAD: &str = "| records | trees | call (us) | worst (us) | ns a record | judge (us) | clearing (us) | Krc's convert (us) | ratio |";
-
 /// Prints a table for each make, with two rows for each size: one tree again and again, and many in turn.
 pub fn time(options: &Options) -> u64 {
     let before = options.rows.as_ref().map_or(String::new(), |word| format!("| {word} "));
     for make in &options.makes {
         if options.rows.is_none() {
-            println!("\n{}: {}\n\n{HEAD}\n|---|---|---|---|---|---|---|---|---|", make.name, make.what);
+            println!("\n{}: {}\n\n{HEAD}\n{LINE}", make.name, make.what);
         }
         for &size in &options.sizes {
             let cases = make.cases(size, options.trees);
