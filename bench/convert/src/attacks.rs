@@ -33,7 +33,7 @@ impl Attack {
 }
 
 const ALL: &[usize] = &[8];
-const SOME: &[usize] = &[1, 2, 4, 6];
+const SOME: &[usize] = &[1, 2, 3, 4, 6];
 const HIGH: &[usize] = &[1, 20, 48];
 
 pub const ATTACKS: [Attack; 21] = [
@@ -510,7 +510,8 @@ fn type_arguments(knobs: Knobs) -> Hostile {
     tree.only(nest)
 }
 
-/// All functions have the verb as name and an unsigned parameter, where a negative constant does not fit; the last takes it.
+/// All functions have the verb as name and an unsigned parameter, where a negative constant does not fit; the last takes it. Of the foldings
+/// division is the slowest.
 fn overloads(knobs: Knobs) -> Hostile {
     let mut tree = Hostile::new();
     let count = tree.room() * knobs.share / 8 / 5;
@@ -522,7 +523,8 @@ fn overloads(knobs: Knobs) -> Hostile {
     }
     let above = 2 * knobs.depth;
     let constants = (tree.room() - above - 20) / 2;
-    let folded = tree.balanced(ADD, constants, |tree| tree.int(-1, 0));
+    let mut value = -1;
+    let folded = tree.balanced(DIV, constants, |tree| tree.int(std::mem::replace(&mut value, 1), 0));
     let arg = tree.value(folded);
     let mut nest = tree.call(verb, &[arg]);
     for _ in 0..knobs.depth {
@@ -641,7 +643,7 @@ fn comparisons(knobs: Knobs) -> Hostile {
 /// The literal on the left is of another type at each level, so what stands on its right is folded to see whether it fits.
 fn folds(knobs: Knobs) -> Hostile {
     let mut tree = Hostile::new();
-    let mut nest = tree.balanced(BIT_AND, (tree.room() - 2 * knobs.depth - 10) / 2, |tree| tree.int(1, 0));
+    let mut nest = tree.balanced(DIV, (tree.room() - 2 * knobs.depth - 10) / 2, |tree| tree.int(1, 0));
     for level in 0..knobs.depth {
         let left = tree.int(1, if level % 2 == 0 { 2 } else { 0 });
         nest = tree.binary(MUL, left, nest);

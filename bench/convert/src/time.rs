@@ -1,7 +1,7 @@
 //! The call's time beside that of Krc's `convert`, on the same programs, in one run.
 
 use std::hint::black_box;
-use std::time::Instant;
+use std::time::{Duration, Instant};
 
 use oracle::Case;
 use oracle::converter::converter::Converter;
@@ -31,16 +31,36 @@ pub struct Options {
     pub rows: Option<String>,
 }
 
+/// How long this thread has run; it waits for a core while others run, which is no time of the call's.
+fn run_time() -> Duration {
+    /// Linux's clock of that, and what it fills: seconds and nanoseconds.
+    const THREAD_CLOCK: i32 = 3;
+    unsafe extern "C" {
+        fn clock_gettime(clock: i32, time: *mut [i64; 2]) -> i32;
+    }
+    let mut time = [0; 2];
+    // SAFETY: it writes two words, which are lent to it, and keeps nothing.
+    unsafe { clock_gettime(THREAD_CLOCK, &mut time) };
+    Duration::new(time[0] as u64, time[1] as u32)
+}
+
+/// A thread that was off its core for longer than this was waiting for it.
+const OFF_CORE: Duration = Duration::from_micros(10);
+
 /// What a measure took, in microseconds, each time.
 #[derive(Default)]
 struct Times(Vec<f64>);
 
 impl Times {
-    /// Times one run; what it hands back is dropped outside its time.
+    /// Times one run, and leaves it out if the thread had to wait for its core; what it hands back is dropped outside its time.
     fn take<T>(&mut self, run: impl FnOnce() -> T) {
+        let before = run_time();
         let start = Instant::now();
         let result = black_box(run());
-        self.0.push(start.elapsed().as_secs_f64() * 1e6);
+        let time = start.elapsed();
+        if time <= run_time() - before + OFF_CORE {
+            self.0.push(time.as_secs_f64() * 1e6);
+        }
         drop(result);
     }
 
