@@ -1,21 +1,20 @@
-//! The call's time on trees that try to stall it, each in a process of its own that ends at a limit.
+//! The call's time on trees that try to stall it, each in a process of its own that ends at a limit. Time is the process's own: what it
+//! waits for a core is not counted.
 
-use std::io::{BufRead, BufReader, Write};
-use std::process::{Command, Stdio};
-use std::sync::mpsc;
+use std::io::Write;
+use std::process::Command;
+use std::sync::Mutex;
 use std::thread;
-use std::time::{Duration, Instant};
+use std::time::Duration;
 
 use crate::attacks::{Attack, Knobs};
+use crate::clock::Clock;
 use crate::time::{Built, Owned};
 
 /// Bytes of text, where their number matters.
 const TEXTS: [usize; 3] = [4 << 10, 18 << 10, 64 << 10];
 /// How often a measure is taken; the best counts.
 const TIMES: usize = 3;
-/// Building a tree, and the program for Krc, is not measured, but must end too.
-const BUILD: Duration = Duration::from_secs(60);
-
 pub const HEAD: &str =
     "| attack | text | share, depth | records | call (ms) | judge (ms) | Krc's convert (ms) |";
 pub const LINE: &str = "|---|---|---|---|---|---|---|";
@@ -67,15 +66,38 @@ impl Taken {
     }
 }
 
-/// Takes one measure of one tree; prints `ready`, then milliseconds each time.
-pub fn alone(measure: Measure, attack: &Attack, knobs: Knobs) -> u64 {
+/// When the measure that is being taken began.
+static BEGAN: Mutex<Option<Duration>> = Mutex::new(None);
+
+fn began() -> Option<Duration> {
+    *BEGAN.lock().expect("nobody panics with the lock")
+}
+
+fn begin() -> Duration {
+    let now = Clock::Process.now();
+    *BEGAN.lock().expect("nobody panics with the lock") = Some(now);
+    now
+}
+
+/// Ends the process once a measure takes longer than the limit.
+fn watch(limit: Duration) {
+    thread::spawn(move || {
+        while began().is_none_or(|start| Clock::Process.now() - start <= limit) {
+            thread::sleep(Duration::from_millis(20));
+        }
+        std::process::exit(0)
+    });
+}
+
+/// Takes one measure of one tree, and prints milliseconds each time.
+pub fn alone(measure: Measure, attack: &Attack, knobs: Knobs, limit: Duration) -> u64 {
     let case = attack.case(knobs);
     let mut owned = Owned::for_cases(std::slice::from_ref(&case));
     let built = matches!(measure, Measure::Krc).then(|| Built::new(&case));
     built.iter().for_each(Built::make_ready);
-    say("ready");
+    watch(limit);
     for _ in 0..TIMES {
-        let start = Instant::now();
+        let start = begin();
         let number = match (measure, &built) {
             (Measure::Krc, Some(program)) => {
                 std::hint::black_box(program.convert());
@@ -84,44 +106,29 @@ pub fn alone(measure: Measure, attack: &Attack, knobs: Knobs) -> u64 {
             (Measure::Judge, _) => owned.judge(&case),
             _ => owned.call(&case),
         };
-        let time = start.elapsed().as_secs_f64() * 1e3;
+        let time = Clock::Process.now() - start;
         if number != 0 {
             eprintln!("{} {knobs:?}: refused with {number}", attack.name);
             return 1;
         }
-        say(&time.to_string());
+        println!("{}", time.as_secs_f64() * 1e3);
+        std::io::stdout().flush().expect("standard output is open");
     }
     0
-}
-
-fn say(line: &str) {
-    println!("{line}");
-    std::io::stdout().flush().expect("standard output is open");
 }
 
 /// The best of a few, each within the limit, from a process of its own.
 fn take(measure: Measure, attack: &Attack, knobs: Knobs, limit: Duration) -> Taken {
     let own = std::env::current_exe().expect("this program has a path");
-    let numbers = [knobs.text, knobs.share, knobs.depth].map(|number| number.to_string());
-    let mut command = Command::new(own);
-    command.args(["alone", measure.name(), attack.name]).args(numbers).stdout(Stdio::piped());
-    let mut child = command.spawn().expect("this program starts");
-    let output = BufReader::new(child.stdout.take().expect("its output is piped"));
-    let (send, lines) = mpsc::channel();
-    let reader =
-        thread::spawn(move || output.lines().map_while(Result::ok).try_for_each(|line| send.send(line)));
-    let mut best = Taken::Over;
-    if lines.recv_timeout(BUILD).is_ok() {
-        while let Ok(line) = lines.recv_timeout(limit) {
-            let time = line.parse().map_or(Taken::Over, Taken::Within);
-            best = if time < best { time } else { best };
-        }
-    }
-    // It may have ended already.
-    _ = child.kill();
-    _ = child.wait();
-    _ = reader.join();
-    best
+    let numbers =
+        [knobs.text, knobs.share, knobs.depth, limit.as_secs() as usize].map(|number| number.to_string());
+    let run = Command::new(own).args(["alone", measure.name(), attack.name]).args(numbers).output();
+    let run = run.expect("this program starts");
+    // What it says of a tree that was refused.
+    std::io::stderr().write_all(&run.stderr).expect("standard error is open");
+    let times =
+        String::from_utf8_lossy(&run.stdout).lines().filter_map(|line| line.parse().ok()).reduce(f64::min);
+    times.map_or(Taken::Over, Taken::Within)
 }
 
 /// The knobs with which the call takes longest; the first that goes over the limit is enough.

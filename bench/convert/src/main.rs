@@ -2,6 +2,7 @@
 
 mod attacks;
 mod beside;
+mod clock;
 mod compare;
 mod hostile;
 mod makes;
@@ -17,7 +18,7 @@ const USAGE: &str = "usage: convert-bench compare [N [SEED [DIR]]]
        convert-bench time [--makes A,B] [--sizes N,N] [--rounds N] [--trees N] [--rows WORD]
        convert-bench hostile [--attacks A,B] [--limit SECONDS] [--rows WORD]
        convert-bench beside PROGRAM PROGRAM time|hostile [OPTIONS]
-       convert-bench alone call|judge|krc ATTACK TEXT SHARE DEPTH
+       convert-bench alone call|judge|krc ATTACK TEXT SHARE DEPTH SECONDS
        convert-bench repeat MAKE SIZE TREES ROUNDS
        convert-bench one TREE TEXT";
 
@@ -87,9 +88,10 @@ fn main() {
         ["beside", before, after, "hostile", ref rest @ ..] => {
             beside::hostile([before, after], &hostile_options(rest))
         }
-        ["alone", measure, name, text, share, depth] => {
+        ["alone", measure, name, text, share, depth, limit] => {
             let knobs = Knobs { text: number(text), share: number(share), depth: number(depth) };
-            hostile::alone(Measure::by_name(measure).unwrap_or_else(|| stop()), attack(name), knobs)
+            let measure = Measure::by_name(measure).unwrap_or_else(|| stop());
+            hostile::alone(measure, attack(name), knobs, Duration::from_secs(number(limit)))
         }
         ["repeat", name, size, trees, rounds] => {
             time::repeat(make(name), number(size), number(trees), number(rounds))

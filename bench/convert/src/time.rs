@@ -11,6 +11,7 @@ use oracle::stand_ins::set_key_texts;
 use oracle::tree::Tree;
 use rudderplum::{ANSWER_BYTES, Buffers, JUDGE_ANSWER_BYTES, RECORD_BYTES, convert_into, judge_into};
 
+use crate::clock::Clock;
 use crate::makes::Make;
 
 /// The measures take turns, so that what else runs on the machine meets them alike.
@@ -31,19 +32,6 @@ pub struct Options {
     pub rows: Option<String>,
 }
 
-/// How long this thread has run; it waits for a core while others run, which is no time of the call's.
-fn run_time() -> Duration {
-    /// Linux's clock of that, and what it fills: seconds and nanoseconds.
-    const THREAD_CLOCK: i32 = 3;
-    unsafe extern "C" {
-        fn clock_gettime(clock: i32, time: *mut [i64; 2]) -> i32;
-    }
-    let mut time = [0; 2];
-    // SAFETY: it writes two words, which are lent to it, and keeps nothing.
-    unsafe { clock_gettime(THREAD_CLOCK, &mut time) };
-    Duration::new(time[0] as u64, time[1] as u32)
-}
-
 /// A thread that was off its core for longer than this was waiting for it.
 const OFF_CORE: Duration = Duration::from_micros(10);
 
@@ -54,11 +42,11 @@ struct Times(Vec<f64>);
 impl Times {
     /// Times one run, and leaves it out if the thread had to wait for its core; what it hands back is dropped outside its time.
     fn take<T>(&mut self, run: impl FnOnce() -> T) {
-        let before = run_time();
+        let before = Clock::Thread.now();
         let start = Instant::now();
         let result = black_box(run());
         let time = start.elapsed();
-        if time <= run_time() - before + OFF_CORE {
+        if time <= Clock::Thread.now() - before + OFF_CORE {
             self.0.push(time.as_secs_f64() * 1e6);
         }
         drop(result);
