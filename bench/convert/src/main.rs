@@ -1,31 +1,102 @@
 //! The conversion call beside the oracle: the same answers and bytes, and its time beside that of Krc's `convert`.
 
+mod attacks;
+mod beside;
+mod clock;
 mod compare;
+mod hostile;
+mod makes;
 mod time;
 
-const USAGE: &str = "usage: convert-bench compare [N [SEED [DIR]]] | time [ROUNDS] | one TREE TEXT";
+use std::time::Duration;
 
-fn number(word: Option<&String>, other: u64) -> u64 {
-    word.map_or(other, |word| word.parse().unwrap_or_else(|_| stop()))
-}
+use attacks::{ATTACKS, Attack, Knobs};
+use hostile::Measure;
+use makes::{MAKES, Make};
+
+const USAGE: &str = "usage: convert-bench compare [N [SEED [DIR]]]
+       convert-bench time [--makes A,B] [--sizes N,N] [--rounds N] [--trees N] [--rows WORD]
+       convert-bench hostile [--attacks A,B] [--limit SECONDS] [--rows WORD]
+       convert-bench beside PROGRAM PROGRAM time|hostile [OPTIONS]
+       convert-bench alone call|judge|krc ATTACK TEXT SHARE DEPTH SECONDS
+       convert-bench repeat MAKE SIZE TREES ROUNDS
+       convert-bench one TREE TEXT";
 
 fn stop() -> ! {
     eprintln!("{USAGE}");
     std::process::exit(2)
 }
 
+fn number<T: std::str::FromStr>(word: &str) -> T {
+    word.parse().unwrap_or_else(|_| stop())
+}
+
+fn make(word: &str) -> &'static Make {
+    makes::by_name(word).unwrap_or_else(|| stop())
+}
+
+fn attack(word: &str) -> &'static Attack {
+    attacks::by_name(word).unwrap_or_else(|| stop())
+}
+
+/// The options of `time`, in pairs of a name and a value.
+fn time_options(words: &[&str]) -> time::Options {
+    let (makes, sizes) = (MAKES.iter().collect(), vec![50, 200, 500, 1000, 2000]);
+    let mut options = time::Options { makes, sizes, rounds: 800, trees: 32, rows: None };
+    for pair in words.chunks(2) {
+        match *pair {
+            ["--makes", names] => options.makes = names.split(',').map(make).collect(),
+            ["--sizes", sizes] => options.sizes = sizes.split(',').map(number).collect(),
+            ["--rounds", rounds] => options.rounds = number(rounds),
+            ["--trees", trees] => options.trees = number(trees),
+            ["--rows", word] => options.rows = Some(word.to_string()),
+            _ => stop(),
+        }
+    }
+    options
+}
+
+fn hostile_options(words: &[&str]) -> hostile::Options {
+    let mut options =
+        hostile::Options { attacks: ATTACKS.iter().collect(), limit: Duration::from_secs(2), rows: None };
+    for pair in words.chunks(2) {
+        match *pair {
+            ["--attacks", names] => options.attacks = names.split(',').map(attack).collect(),
+            ["--limit", seconds] => options.limit = Duration::from_secs(number(seconds)),
+            ["--rows", word] => options.rows = Some(word.to_string()),
+            _ => stop(),
+        }
+    }
+    options
+}
+
 fn main() {
     let words: Vec<String> = std::env::args().skip(1).collect();
-    let differ = match words.first().map(String::as_str) {
-        Some("compare") => {
-            let folder = words.get(3).map_or("target/differ", String::as_str);
-            compare::compare(number(words.get(1), 100_000), number(words.get(2), 1), folder)
+    let words: Vec<&str> = words.iter().map(String::as_str).collect();
+    let differ = match words[..] {
+        ["compare", ref rest @ ..] if rest.len() <= 3 => {
+            let counts: Vec<u64> = rest.iter().take(2).map(|word| number(word)).collect();
+            let folder = rest.get(2).copied().unwrap_or("target/differ");
+            let (n, seed) = (counts.first().unwrap_or(&100_000), counts.get(1).unwrap_or(&1));
+            compare::compare(*n, *seed, folder)
         }
-        Some("time") => time::time(number(words.get(1), 300) as usize),
-        Some("one") => match (words.get(1), words.get(2)) {
-            (Some(tree), Some(text)) => time::one(tree, text),
-            _ => stop(),
-        },
+        ["time", ref rest @ ..] => time::time(&time_options(rest)),
+        ["hostile", ref rest @ ..] => hostile::hostile(&hostile_options(rest)),
+        ["beside", before, after, "time", ref rest @ ..] => {
+            beside::time([before, after], &time_options(rest))
+        }
+        ["beside", before, after, "hostile", ref rest @ ..] => {
+            beside::hostile([before, after], &hostile_options(rest))
+        }
+        ["alone", measure, name, text, share, depth, limit] => {
+            let knobs = Knobs { text: number(text), share: number(share), depth: number(depth) };
+            let measure = Measure::by_name(measure).unwrap_or_else(|| stop());
+            hostile::alone(measure, attack(name), knobs, Duration::from_secs(number(limit)))
+        }
+        ["repeat", name, size, trees, rounds] => {
+            time::repeat(make(name), number(size), number(trees), number(rounds))
+        }
+        ["one", tree, text] => time::one(tree, text),
         _ => stop(),
     };
     std::process::exit(i32::from(differ > 0));

@@ -1,0 +1,50 @@
+//! Two builds of this program, each with a library of its own, run in turn: before and after stand side by side.
+
+use std::process::Command;
+
+use crate::{hostile, time};
+
+/// The words before their rows.
+const WORDS: [&str; 2] = ["before", "after"];
+
+fn run(program: &str, words: &[String]) -> u64 {
+    match Command::new(program).args(words).status() {
+        Ok(status) => u64::from(!status.success()),
+        Err(err) => {
+            eprintln!("{program}: {err}");
+            1
+        }
+    }
+}
+
+/// The rows of both programs for the same options.
+fn rows(programs: [&str; 2], words: &[String]) -> u64 {
+    let both = WORDS.into_iter().zip(programs);
+    both.map(|(word, program)| run(program, &[words, &["--rows".to_string(), word.to_string()]].concat()))
+        .sum()
+}
+
+/// A table for each make of `time`: at each size the rows of both.
+pub fn time(programs: [&str; 2], options: &time::Options) -> u64 {
+    let mut failed = 0;
+    for make in &options.makes {
+        println!("\n{}: {}\n\n| library {}\n|---{}", make.name, make.what, time::HEAD, time::LINE);
+        for size in &options.sizes {
+            let numbers = [*size, options.rounds, options.trees].map(|number| number.to_string());
+            let [size, rounds, trees] = numbers.each_ref().map(String::as_str);
+            let words = ["time", "--makes", make.name, "--sizes", size, "--rounds", rounds, "--trees", trees];
+            failed += rows(programs, &words.map(str::to_string));
+        }
+    }
+    failed
+}
+
+/// The table of `hostile`: for each attack the rows of both, each with the worst tree found for it.
+pub fn hostile(programs: [&str; 2], options: &hostile::Options) -> u64 {
+    println!("| library {}\n|---{}", hostile::HEAD, hostile::LINE);
+    let limit = options.limit.as_secs().to_string();
+    let each = options.attacks.iter().map(|attack| {
+        rows(programs, &["hostile", "--attacks", attack.name, "--limit", &limit].map(str::to_string))
+    });
+    each.sum()
+}

@@ -1,0 +1,402 @@
+//! Programs to measure with: several makes, each at any size, all of which convert.
+
+use oracle::ast::{Ar, Ex, Fun, Layout, St, Ty, mangle};
+use oracle::generate::programs::Maker;
+use oracle::generate::rng::Rng;
+use oracle::generate::whole;
+use oracle::tree::CAST_VERB;
+use oracle::write::*;
+use oracle::{Answer, Case, convert};
+use rudderplum::RECORD_BYTES;
+
+pub struct Make {
+    pub name: &'static str,
+    pub what: &'static str,
+    program: fn(&mut Rng, usize) -> Vec<Fun>,
+}
+
+pub const MAKES: [Make; 6] = [
+    Make { name: "mixed", what: "the generator's programs, with every construct", program: mixed },
+    Make { name: "bodies", what: "one long body with many open names", program: bodies },
+    Make { name: "functions", what: "many short functions that call each other", program: functions },
+    Make { name: "conditions", what: "Ifs, Whiles, Ands and Ors, nested near 60", program: conditions },
+    Make { name: "literals", what: "integers, floats and strings, half of them distinct", program: literals },
+    Make { name: "names", what: "long bodies, with Hangul names of 60 to 200 bytes", program: names },
+];
+
+pub fn by_name(name: &str) -> Option<&'static Make> {
+    MAKES.iter().find(|make| make.name == name)
+}
+
+impl Make {
+    /// So many distinct programs that convert, within a twentieth of the size in records.
+    pub fn cases(&self, size: usize, count: usize) -> Vec<Case> {
+        let mut found: Vec<Case> = Vec::new();
+        for seed in 0.. {
+            let case = whole(Layout::program(&(self.program)(&mut Rng::new(seed), size)));
+            let records = case.tree.len() / RECORD_BYTES;
+            let converts =
+                || matches!(convert(&case.tree, &case.text, false, case.lens), Answer::Converted(_));
+            if records.abs_diff(size) * 20 <= size && found.iter().all(|c| c.tree != case.tree) && converts()
+            {
+                found.push(case);
+            }
+            if found.len() == count {
+                break;
+            }
+        }
+        found
+    }
+}
+
+/// Programs of the generator side by side, each with names of functions of its own.
+fn mixed(rng: &mut Rng, size: usize) -> Vec<Fun> {
+    let (mut made, mut left) = (Vec::new(), beside_types(size));
+    for piece in 0..4 * size {
+        let budget = 8 + rng.below(left.min(250));
+        let mut next = Maker::new(rng, 0, budget).program();
+        next.iter_mut().for_each(|func| renamed_function(func, piece));
+        let records = Layout::program(&next).records.len() - 12;
+        if records <= left && records * 8 > left.min(400) {
+            left -= records;
+            made.extend(next);
+        }
+        if left < 12 {
+            break;
+        }
+    }
+    fill_up(rng, made, size)
+}
+
+/// A function of one piece: its own name and the verbs that it calls end in the piece's number, but for the cast's.
+fn renamed_function(func: &mut Fun, piece: usize) {
+    if func.name == b"main" {
+        func.name = "본".into();
+    }
+    func.name.extend(piece.to_string().bytes());
+    func.mangled =
+        if func.external { func.name.clone() } else { mangle(&func.name, &func.params, func.variadic) };
+    func.body.iter_mut().for_each(|body| renamed_block(body, piece));
+}
+
+fn renamed_block(block: &mut [St], piece: usize) {
+    for statement in block {
+        match statement {
+            St::Init(_, _, value) | St::Return(value) | St::Call(value) => renamed(value, piece),
+            St::If(test, then, otherwise) => {
+                renamed(test, piece);
+                renamed_block(then, piece);
+                otherwise.iter_mut().for_each(|block| renamed_block(block, piece));
+            }
+            St::While(test, body) => {
+                renamed(test, piece);
+                renamed_block(body, piece);
+            }
+            St::For(_, _, from, until, body) => {
+                renamed(from, piece);
+                renamed(until, piece);
+                renamed_block(body, piece);
+            }
+            St::Declare(..) | St::Break | St::Continue => {}
+        }
+    }
+}
+
+fn renamed(expr: &mut Ex, piece: usize) {
+    match expr {
+        Ex::Unary(_, operand) => renamed(operand, piece),
+        Ex::Binary(_, left, right) => {
+            renamed(left, piece);
+            renamed(right, piece);
+        }
+        Ex::Call(verb, args) => {
+            if *verb == b"main" {
+                *verb = "본".into();
+            }
+            if *verb != CAST_VERB {
+                verb.extend(piece.to_string().bytes());
+            }
+            for arg in args {
+                if let Ar::Value(value) = arg {
+                    renamed(value, piece);
+                }
+            }
+        }
+        _ => {}
+    }
+}
+
+/// Statements for one body, as long as records are left.
+struct Body<'r> {
+    rng: &'r mut Rng,
+    /// Lays statements out only to count their records.
+    counted: Layout,
+    left: usize,
+    block: Vec<St>,
+    /// The variables of type long Int.
+    known: Vec<Vec<u8>>,
+    /// A new name, given how many there are.
+    named: fn(&mut Rng, usize) -> Vec<u8>,
+}
+
+/// The records of a function but its body: itself, its two names, and two for each parameter.
+fn around(params: usize) -> usize {
+    3 + 2 * params
+}
+
+impl<'r> Body<'r> {
+    fn new(rng: &'r mut Rng, left: usize, named: fn(&mut Rng, usize) -> Vec<u8>) -> Self {
+        let counted = Layout::program(&[]);
+        Self { rng, counted, left, block: Vec::new(), known: Vec::new(), named }
+    }
+
+    /// Adds a statement, if its records and its list cell are left.
+    fn push(&mut self, statement: St) -> bool {
+        let before = self.counted.records.len();
+        self.counted.statement(&statement);
+        let cost = self.counted.records.len() - before + 1;
+        let fits = cost <= self.left;
+        if fits {
+            self.left -= cost;
+            self.block.push(statement);
+        }
+        fits
+    }
+
+    fn fresh(&mut self) -> Vec<u8> {
+        let at = self.known.len();
+        let name = (self.named)(self.rng, at);
+        self.known.push(name.clone());
+        name
+    }
+
+    fn variable(&mut self) -> Vec<u8> {
+        if self.known.is_empty() { self.fresh() } else { self.rng.pick(&self.known).clone() }
+    }
+
+    fn operand(&mut self) -> Ex {
+        if self.known.is_empty() || self.rng.chance(30) {
+            int(self.rng.below(1000) as i64)
+        } else {
+            Ex::Name(self.variable())
+        }
+    }
+
+    /// A small expression of type long Int.
+    fn value(&mut self, verb: &[u8]) -> Ex {
+        let (left, right) = (self.operand(), self.operand());
+        match self.rng.below(6) {
+            0 => left,
+            1 => Ex::Call(verb.to_vec(), vec![value(left), value(right)]),
+            2 => {
+                let outer = self.operand();
+                binary(binary(left, ADD, right), MUL, outer)
+            }
+            _ => binary(left, [ADD, SUB, MUL, BIT_AND][self.rng.below(4)], right),
+        }
+    }
+
+    fn assign(&mut self, verb: &[u8]) -> St {
+        let target = self.variable();
+        St::Init(false, target, self.value(verb))
+    }
+
+    fn comparison(&mut self) -> Ex {
+        binary(self.operand(), LT + self.rng.below(4) as u8, self.operand())
+    }
+
+    /// A statement as bodies have them; only outermost ones open names.
+    fn statement(&mut self, verb: &[u8]) -> St {
+        match self.rng.below(if self.known.is_empty() { 1 } else { 20 }) {
+            0..=3 => {
+                let first = self.value(verb);
+                St::Init(false, self.fresh(), first)
+            }
+            4 | 5 => St::Declare(self.fresh(), LONG),
+            6..=11 => self.assign(verb),
+            12..=14 => {
+                let (left, right) = (self.operand(), self.operand());
+                St::Call(Ex::Call(verb.to_vec(), vec![value(left), value(right)]))
+            }
+            15 | 16 => {
+                let (test, then) = (self.comparison(), vec![self.assign(verb)]);
+                St::If(test, then, Some(vec![self.assign(verb)]))
+            }
+            17 | 18 => St::While(self.comparison(), vec![self.assign(verb), St::Break]),
+            _ => {
+                let (name, until) = ((self.named)(self.rng, 5_000 + self.left), self.operand());
+                St::For(name, Some(LONG), int(0), until, vec![self.assign(verb)])
+            }
+        }
+    }
+
+    /// The block, with Declares for the records that are left over.
+    fn filled(mut self) -> Vec<St> {
+        for at in 0..self.left / 2 {
+            let name = (self.named)(self.rng, 20_000 + at);
+            self.push(St::Declare(name, LONG));
+        }
+        self.block
+    }
+
+    /// Statements until one does not fit any more.
+    fn long(mut self, verb: &[u8]) -> Vec<St> {
+        loop {
+            let statement = self.statement(verb);
+            if !self.push(statement) {
+                return self.filled();
+            }
+        }
+    }
+}
+
+/// The records left for functions once the twelve types stand.
+fn beside_types(size: usize) -> usize {
+    size.saturating_sub(12)
+}
+
+fn text_of(name: &[u8]) -> &str {
+    std::str::from_utf8(name).expect("names are UTF-8")
+}
+
+/// One function with a long body, beside one that it calls.
+fn long_body(rng: &mut Rng, size: usize, named: fn(&mut Rng, usize) -> Vec<u8>) -> Vec<Fun> {
+    let (verb, own) = (named(rng, 40_000), named(rng, 40_001));
+    let known = declared(text_of(&verb), &[("가", LONG), ("나", LONG)], Some(LONG), false);
+    let left = beside_types(size).saturating_sub(2 * around(0) + 4);
+    let body = Body::new(rng, left, named).long(&verb);
+    vec![known, func(text_of(&own), &[], None, body)]
+}
+
+fn short_name(_: &mut Rng, at: usize) -> Vec<u8> {
+    format!("변{at}").into_bytes()
+}
+
+fn bodies(rng: &mut Rng, size: usize) -> Vec<Fun> {
+    long_body(rng, size, short_name)
+}
+
+/// A Hangul name: one of eight stems, which many names share, and an end of its own.
+fn long_name(rng: &mut Rng, at: usize) -> Vec<u8> {
+    let syllable = |k: usize| char::from_u32(0xAC00 + (k % 11_172) as u32).expect("a syllable");
+    let stem = rng.below(8);
+    let length = 17 + 5 * stem;
+    let mut name: String = (0..length).map(|k| syllable(stem * 977 + k * 131)).collect();
+    name.extend([at / 1000, at / 100 % 10, at / 10 % 10, at % 10].map(|digit| syllable(digit * 588)));
+    name.into_bytes()
+}
+
+fn names(rng: &mut Rng, size: usize) -> Vec<Fun> {
+    long_body(rng, size, long_name)
+}
+
+/// A short function that calls one of the others.
+fn short_function(rng: &mut Rng, at: usize, count: usize) -> Fun {
+    let other = format!("함{}", rng.below(count));
+    let first = binary(name("가"), [ADD, SUB, MUL][rng.below(3)], name("나"));
+    let given = call_of(&other, vec![name("다"), int(rng.below(100) as i64)]);
+    let mut body = vec![init("다", first), St::Return(given)];
+    if rng.flip() {
+        let test = binary(name("가"), LT, int(rng.below(100) as i64));
+        body.insert(1, St::If(test, vec![St::Return(name("나"))], None));
+    }
+    func(&format!("함{at}"), &[("가", LONG), ("나", LONG)], Some(LONG), body)
+}
+
+fn functions(rng: &mut Rng, size: usize) -> Vec<Fun> {
+    let count = (size / 26).max(1);
+    let mut made: Vec<Fun> = Vec::new();
+    for at in 0..count {
+        made.push(short_function(rng, at, count));
+    }
+    fill_up(rng, made, size)
+}
+
+/// Declares at the start of the last function for the records that are left over.
+fn fill_up(rng: &mut Rng, mut made: Vec<Fun>, size: usize) -> Vec<Fun> {
+    let records = Layout::program(&made).records.len();
+    let left = Body::new(rng, size.saturating_sub(records), short_name).filled();
+    if let Some(body) = made.last_mut().and_then(|func| func.body.as_mut()) {
+        body.splice(0..0, left);
+    }
+    made
+}
+
+/// Levels in each other, as many as the records allow, 58 at most.
+fn nest(rng: &mut Rng, left: usize) -> Vec<St> {
+    let compared = |rng: &mut Rng| binary(name("가"), LT + rng.below(4) as u8, int(rng.below(100) as i64));
+    let assigned = |rng: &mut Rng| St::Init(false, "가".into(), int(rng.below(100) as i64));
+    let turns = rng.below(3);
+    if turns == 0 {
+        let levels = (left / 4).clamp(1, 58);
+        let truth = |rng: &mut Rng| if rng.flip() { name("참") } else { compared(rng) };
+        let test = (0..levels).fold(name("참"), |test, _| {
+            let op = [AND, OR][rng.below(2)];
+            if rng.flip() { binary(truth(rng), op, test) } else { binary(test, op, truth(rng)) }
+        });
+        return vec![St::If(test, vec![], None)];
+    }
+    let levels = (left / 6).clamp(1, 58);
+    (0..levels).fold(vec![assigned(rng)], |inner, _| {
+        let test = if rng.flip() { name("참") } else { compared(rng) };
+        if turns == 1 {
+            vec![St::While(test, inner)]
+        } else {
+            vec![St::If(test, inner, rng.chance(30).then(|| vec![assigned(rng)]))]
+        }
+    })
+}
+
+fn conditions(rng: &mut Rng, size: usize) -> Vec<Fun> {
+    let params = [("가", LONG), ("참", Ty::Bool)];
+    let (mut made, mut left) = (Vec::new(), beside_types(size));
+    while made.is_empty() || left > 24 + around(params.len()) {
+        let body = nest(rng, (left - around(params.len())).min(400));
+        let next = func(&format!("함{}", made.len()), &params, None, body);
+        let records = Layout::program(std::slice::from_ref(&next)).records.len() - 12;
+        if records > left {
+            continue;
+        }
+        left -= records;
+        made.push(next);
+    }
+    fill_up(rng, made, size)
+}
+
+/// A literal; every second one is new.
+fn literal(rng: &mut Rng, kind: usize, at: usize) -> Ex {
+    let which = if rng.flip() { at } else { rng.below(at + 1) };
+    match kind {
+        0 => int(which as i64 * 7919),
+        1 => float(which as f64 * 0.37 + 0.5),
+        _ => string(&format!("글 {which}: 값은 %ld\n")),
+    }
+}
+
+fn literals(rng: &mut Rng, size: usize) -> Vec<Fun> {
+    let print = external("printf", &[("꼴", address(Ty::Char))], Some(SHORT), true);
+    let mut body = Body::new(rng, beside_types(size).saturating_sub(2 * around(0) + 2), short_name);
+    let starts = [("수", int(0)), ("실", float(0.25))];
+    starts.into_iter().for_each(|(text, first)| _ = body.push(init(text, first)));
+    for at in 0.. {
+        let statement = match body.rng.below(4) {
+            0 => St::Init(false, body.fresh(), literal(body.rng, at % 3, at)),
+            1 => init(
+                "수",
+                binary(literal(body.rng, 0, at), ADD, binary(name("수"), MUL, literal(body.rng, 0, at))),
+            ),
+            2 => init(
+                "실",
+                binary(literal(body.rng, 1, at), ADD, binary(name("실"), MUL, literal(body.rng, 1, at))),
+            ),
+            _ => {
+                let given = [2, 0, 1].map(|kind| value(literal(body.rng, kind, at)));
+                St::Call(call("printf", given.to_vec()))
+            }
+        };
+        if !body.push(statement) {
+            break;
+        }
+    }
+    vec![print, func("적다", &[], None, body.filled())]
+}
