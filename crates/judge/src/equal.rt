@@ -10,6 +10,7 @@ ghost use Rattle.records.specs.Digest.{typeDigest};
 ghost use Rattle.judge.specs.Inner.{Lowest, TypesLead};
 ghost use Rattle.judge.specs.Equal.{bucketOf, typeBucket, Chained, entered, Room};
 use crate::references::size;
+use crate::types::CUSTOM;
 use crate::types::same_type;
 use records::texts::text_digest;
 use records::texts::word_digest;
@@ -31,7 +32,7 @@ fn type_digest(tree: &[u8], text: &[u8], r: usize) -> u32
     let d = detail(tree, r);
     let a = word(tree, r, WORD_A);
     let b = word(tree, r, WORD_B);
-    if d == 8 {
+    if d == CUSTOM {
         return text_digest(text, a, b);
     }
     word_digest(wide(d), a, b, word(tree, r, WORD_C))

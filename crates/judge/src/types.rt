@@ -6,9 +6,15 @@ ghost use Rattle.records.specs.Rules.{isFirstType, sameType};
 ghost use Rattle.judge.specs.Inner.{TypesLead};
 use records::numbers::KIND_TYPE;
 use records::texts::same_text;
+use records::words::WORD_A;
+use records::words::WORD_B;
+use records::words::WORD_C;
 use records::words::detail;
 use records::words::kind;
 use records::words::word;
+
+// The detail of a Custom.
+pub(crate) const CUSTOM: u8 = 8;
 
 // The details of the twelve types that every tree begins with.
 const TWELVE: [u8; 12] = [1, 17, 33, 49, 2, 18, 3, 4, 5, 9, 6, 6];
@@ -24,7 +30,9 @@ pub(crate) fn is_first_type(tree: &[u8], r: usize) -> bool
     if r >= 12 {
         return true;
     }
-    (kind(tree, r) == KIND_TYPE) & (detail(tree, r) == TWELVE[r]) & (word(tree, r, 0) == INNER[r])
+    (kind(tree, r) == KIND_TYPE)
+        & (detail(tree, r) == TWELVE[r])
+        & (word(tree, r, WORD_A) == INNER[r])
 }
 
 // How many records stand before the first that is no type.
@@ -34,7 +42,7 @@ pub(crate) fn leading_types(tree: &[u8], n: usize) -> usize
 {
     let mut i = 0;
     while i < n {
-        if kind(tree, i) != 1 {
+        if kind(tree, i) != KIND_TYPE {
             return i;
         }
         i += 1;
@@ -51,12 +59,12 @@ pub(crate) fn same_type(tree: &[u8], text: &[u8], j: usize, r: usize) -> bool
     if detail(tree, j) != d {
         return false;
     }
-    let ja = word(tree, j, 0);
-    let jb = word(tree, j, 1);
-    let ra = word(tree, r, 0);
-    let rb = word(tree, r, 1);
-    if d == 8 {
+    let ja = word(tree, j, WORD_A);
+    let jb = word(tree, j, WORD_B);
+    let ra = word(tree, r, WORD_A);
+    let rb = word(tree, r, WORD_B);
+    if d == CUSTOM {
         return same_text(text, ja, jb, ra, rb);
     }
-    (ja == ra) & (jb == rb) & (word(tree, j, 2) == word(tree, r, 2))
+    (ja == ra) & (jb == rb) & (word(tree, j, WORD_C) == word(tree, r, WORD_C))
 }
