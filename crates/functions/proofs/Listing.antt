@@ -14,8 +14,7 @@ use Rattle.laws.proofs.Splices.{length-splice, splice-splice}
 use Rattle.records.specs.Words.{byteAt, wordAt, kindOf, records}
 use Rattle.records.specs.Good.{Good}
 use Rattle.conversion.specs.Written.{bytesOf, word}
-use Rattle.records.proofs.Apart.{word-same}
-use Rattle.ir.proofs.ReadBack.{word-back}
+use Rattle.records.proofs.Apart.{word-same, word-back}
 use Rattle.keys.specs.Keys.{recordsBelow, functionPlaces, Listed}
 use Rattle.functions.specs.Functions.{words, listedIn}
 use Rattle.keys.proofs.FunctionLaws.{listed-kind}

@@ -21,7 +21,7 @@ use Rattle.ir.specs.declared.structs.Operand.the-variants as Operand
 use Rattle.ir.specs.Instructions.{operandOf}
 use Rattle.ir.specs.Arena.{Table}
 use Rattle.ir.proofs.Entries.{table-grown, table-word}
-use Rattle.ir.proofs.ReadBack.{word-back}
+use Rattle.records.proofs.Apart.{word-back}
 use Rattle.records.proofs.WordLaws.{wide-words}
 use Rattle.statements.specs.Stack.{varType, operandBytes, operandFrom, entryAt, operandAt, stackAt}
 
