@@ -1,6 +1,5 @@
 // The rules for types: the twelve first, types before all else, no two equal.
 ghost use mathlib.Core.Path.{_≡_};
-ghost use mathlib.Core.Bool.{not, _||_, _&&_};
 ghost use Prim.Native.Nat.{_+_, _*_, _≤_, _<_};
 ghost use lib.ListN.{length};
 ghost use Rattle.records.specs.Rules.{isFirstType, sameType, typeIsNew};

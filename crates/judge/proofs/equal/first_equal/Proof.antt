@@ -5,7 +5,6 @@ use mathlib.Core.Path.{_≡_, refl, sym}
 use mathlib.Core.Bool.{false, not}
 use native.Mathlib.Omega.{arith}
 use borrow.Author.Count.{below-more}
-use lib.ListN.{length}
 use Rattle.records.specs.Rules.{typeIsNew}
 use Rattle.judge.proofs.equal.first_equal.Statement.{statement}
 use Rattle.judge.proofs.equal.first_equal.Tie as tie
