@@ -1,25 +1,24 @@
 -- Laws of counts that stop at 2: one word's count, counts one after the other, and the counts of all records that were passed.
 -- Each count by itself: a count that stops may be taken in parts. The other bytes stay, since the four of a record are told apart. Assumes nothing.
 use mathlib.Core.Path.{_≡_, refl, sym, ap, _∙_}
-use Prim.Native.Nat.{ℕ, zero, suc, _+_, _*_, _/_, _≤_, _<_}
-use mathlib.Core.Bool.{Bool, true, false, not, _&&_}
+use Prim.Native.Nat.{ℕ, zero, suc, _+_, _*_, _≤_, _<_}
+use mathlib.Core.Bool.{true, false}
 use mathlib.Core.List.{List}
 use native.Mathlib.Omega.{arith}
 use lib.Dec.{eqb, ltb}
 use lib.ListN.{length, getD, set, length-set}
 use lib.Seq.{getD-set-same, getD-set-other}
-use borrow.Author.Tests.{lt-ltb, le-ltb, eq-eqb, ne-eqb, eqb-true, eqb-false, ltb-true, ltb-false}
+use borrow.Author.Tests.{lt-ltb, le-ltb, eq-eqb, ne-eqb, eqb-true, eqb-false}
 use Rattle.laws.specs.Fix.{pick, fix}
 use Rattle.laws.specs.Below.{sumBelow}
 use Rattle.laws.proofs.BelowLaws.{sumBelow-more}
 use Rattle.laws.proofs.FixLaws.{pick-yes, pick-no}
 use Rattle.laws.proofs.Tests.{tested}
 use Rattle.records.specs.declared.shape.Role.{Role}
-use Rattle.records.specs.declared.shape.Role.the-variants.{Unused}
 use Rattle.records.specs.declared.shape.Row.{Row}
 use Rattle.records.specs.Words.{kindOf, detailOf, wordOf, A, B, C, D, E}
 use Rattle.records.specs.Shapes.{refers, shapeOf, rowOf, rowAt}
-use Rattle.records.specs.Rules.{listStep, refersTo, refersFrom, references}
+use Rattle.records.specs.Rules.{listStep, refersTo, refersFrom}
 use Rattle.judge.specs.Inner.{capped, classIn, depthIn, countIn, kindIn, listNumber, shallowDepth, stored, laterRefs, Known, Counting, Counted}
 use Rattle.judge.proofs.CapLaws.{cap-low, cap-high, cap-small, cap-cap}
 

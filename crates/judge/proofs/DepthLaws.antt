@@ -7,11 +7,10 @@ use mathlib.Core.List.{List}
 use native.Mathlib.Omega.{arith}
 use lib.Dec.{eqb, leb, ltb}
 use borrow.Author.Tests.{eq-eqb, ne-eqb, le-ltb, lt-ltb, ltb-true, ltb-false, le-leb}
-use Rattle.laws.specs.Fix.{pick, below, fix}
+use Rattle.laws.specs.Fix.{pick, below}
 use Rattle.laws.proofs.FixLaws.{Agree, Local, fix-step, below-in, below-out, below-cong, pick-yes, pick-no}
 use Rattle.laws.proofs.Tests.{tested}
 use Rattle.records.specs.declared.shape.Role.{Role}
-use Rattle.records.specs.declared.shape.Role.the-variants.{Unused}
 use Rattle.records.specs.declared.shape.Row.{Row}
 use Rattle.records.specs.Words.{kindOf, wordOf, A, B, C, D, E}
 use Rattle.records.specs.Shapes.{rowAt, refers}

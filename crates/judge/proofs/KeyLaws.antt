@@ -2,14 +2,14 @@
 -- By the cases of the role. What is not lower is right only where it is none and the role allows that. Assumes nothing.
 use mathlib.Core.Path.{_≡_, refl, sym, ap, _∙_}
 use Prim.Native.Nat.{ℕ, _+_, _*_, _≤_, _<_}
-use mathlib.Core.Bool.{Bool, true, false, not, _&&_, _||_, false≢true}
+use mathlib.Core.Bool.{Bool, true, false, _&&_, _||_, false≢true}
 use mathlib.Core.List.{List}
 use native.Mathlib.Omega.{arith}
 use lib.Dec.{eqb, leb, ltb}
-use borrow.Author.Tests.{eq-eqb, ne-eqb, eqb-true, eqb-false, lt-ltb, le-ltb, le-leb, lt-leb, leb-true, leb-false}
-use Rattle.laws.specs.Fix.{pick, below}
-use Rattle.laws.proofs.FixLaws.{below-in, below-out, pick-yes, pick-no}
-use Rattle.laws.proofs.Tests.{tested, and-left, and-right}
+use borrow.Author.Tests.{eq-eqb, ne-eqb, eqb-true, eqb-false, lt-ltb, le-ltb, le-leb, leb-true}
+use Rattle.laws.specs.Fix.{pick}
+use Rattle.laws.proofs.FixLaws.{below-in, pick-yes, pick-no}
+use Rattle.laws.proofs.Tests.{tested, and-left}
 use Rattle.records.specs.declared.shape.Role.{Role}
 use Rattle.records.specs.declared.shape.Role.the-variants.{Unused, Number, Text, Length, Expr, TypeRef, TypeOrNone, Name, Variable, Arguments, Parameters, Body, Item, Rest}
 use Rattle.records.specs.Words.{kindOf, none}

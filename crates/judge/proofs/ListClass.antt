@@ -1,20 +1,20 @@
 -- What the items of a list are, by one number a cell: the number of the role for which `listOk` holds.
 -- An item stands in lists of one role alone, so a list has the number of its item where the rest has the same. Assumes nothing.
 use mathlib.Core.Path.{_≡_, refl, sym, ap, _∙_}
-use Prim.Native.Nat.{ℕ, suc, _+_, _≤_, _<_}
-use mathlib.Core.Bool.{Bool, true, false, not, _&&_, _||_, false≢true}
+use Prim.Native.Nat.{ℕ, suc, _≤_, _<_}
+use mathlib.Core.Bool.{Bool, true, false, not, _&&_, _||_}
 use mathlib.Core.List.{List}
 use native.Mathlib.Omega.{arith}
 use lib.Dec.{eqb, leb, ltb}
 use borrow.Author.Tests.{eq-eqb, ne-eqb, eqb-true, eqb-false, ltb-true, ltb-false, le-leb, lt-leb, leb-true, leb-false}
 use Rattle.laws.specs.Fix.{pick, below, fix}
 use Rattle.laws.proofs.FixLaws.{below-in, below-out}
-use Rattle.laws.proofs.Tests.{tested, and-left, and-right}
+use Rattle.laws.proofs.Tests.{tested, and-right}
 use Rattle.records.specs.declared.shape.Role.{Role}
 use Rattle.records.specs.declared.shape.Role.the-variants.{Unused, Number, Text, Length, Expr, TypeRef, TypeOrNone, Name, Variable, Arguments, Parameters, Body, Item, Rest}
 use Rattle.records.specs.Words.{kindOf, wordOf, none, A, B, C}
 use Rattle.records.specs.Rules.{itemOk, listStep, listOk}
-use Rattle.records.proofs.ListLaws.{list-cell, list-end}
+use Rattle.records.proofs.ListLaws.{list-cell}
 use Rattle.judge.specs.Inner.{listNumber, itemClass, cellClass, classAt, classIn, Known}
 
 -- no role has the number 0

@@ -14,10 +14,10 @@ use Rattle.laws.proofs.AllBelow.{all-of, all-stop}
 use Rattle.records.specs.declared.shape.Role.{Role}
 use Rattle.records.specs.declared.shape.Role.the-variants.{Unused}
 use Rattle.records.specs.declared.shape.Row.{Row}
-use Rattle.records.specs.Words.{kindOf, detailOf, padOf, wordOf, none, A, B, C, D, E}
+use Rattle.records.specs.Words.{kindOf, detailOf, padOf, none}
 use Rattle.records.specs.Shapes.{refers, rowAt}
 use Rattle.records.specs.Rules.{wordOk, wordsOk, formOk, otherwiseMarked, bodyMarked, isFirstType, typesFirst, refersTo}
-use Rattle.records.specs.Depth.{larger, depthBelow}
+use Rattle.records.specs.Depth.{larger}
 use Rattle.judge.specs.declared.pass.Words.{Words}
 use Rattle.judge.specs.Inner.{TypesLead, capped, shallowDepth, classIn, depthIn, kindIn, stored, listNumber, classAt, lowKey, highKey, noneOk, Known, Counting, Counted, Took, WordsOf, TookWords, otherRules, TookRecord}
 use Rattle.judge.proofs.CapLaws.{larger-none}

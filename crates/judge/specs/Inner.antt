@@ -11,7 +11,7 @@ use Rattle.laws.specs.Below.{sumBelow}
 use Rattle.records.specs.declared.shape.Role.{Role}
 use Rattle.records.specs.declared.shape.Role.the-variants.{Unused, Number, Text, Length, Expr, TypeRef, TypeOrNone, Name, Variable, Arguments, Parameters, Body, Item, Rest}
 use Rattle.records.specs.Words.{kindOf, wordOf, none, A, B, C, D, E}
-use Rattle.records.specs.Kinds.{kindList, kindValue, kindTypeArgument, kindDeclare, kindContinue, kindVariable}
+use Rattle.records.specs.Kinds.{kindType, kindInt, kindName, kindCall, kindList, kindValue, kindTypeArgument, kindDeclare, kindContinue, kindVariable}
 use Rattle.records.specs.Shapes.{rowAt}
 use Rattle.records.specs.Rules.{listStep, wordOk, wordsOk, formOk, otherwiseMarked, bodyMarked, isFirstType, typesFirst, refersTo, refersFrom, references}
 use Rattle.records.specs.Depth.{depth, depthBelow, deepest}
@@ -99,32 +99,32 @@ lowKey Unused = 0
 lowKey Number = 0
 lowKey Text = 0
 lowKey Length = 0
-lowKey Expr = 8
-lowKey TypeRef = 4
-lowKey TypeOrNone = 4
-lowKey Name = 24
-lowKey Variable = 96
-lowKey Arguments = 49
-lowKey Parameters = 50
-lowKey Body = 51
+lowKey Expr = kindInt * 4
+lowKey TypeRef = kindType * 4
+lowKey TypeOrNone = kindType * 4
+lowKey Name = kindName * 4
+lowKey Variable = kindVariable * 4
+lowKey Arguments = kindList * 4 + 1
+lowKey Parameters = kindList * 4 + 2
+lowKey Body = kindList * 4 + 3
 lowKey Item = 0
-lowKey Rest = 48
+lowKey Rest = kindList * 4
 
 abbrev pub highKey : Role → ℕ
 highKey Unused = 0
 highKey Number = 0
 highKey Text = 0
 highKey Length = 0
-highKey Expr = 47
-highKey TypeRef = 7
-highKey TypeOrNone = 7
-highKey Name = 27
-highKey Variable = 99
-highKey Arguments = 49
-highKey Parameters = 50
-highKey Body = 51
-highKey Item = 1023
-highKey Rest = 51
+highKey Expr = kindCall * 4 + 3
+highKey TypeRef = kindType * 4 + 3
+highKey TypeOrNone = kindType * 4 + 3
+highKey Name = kindName * 4 + 3
+highKey Variable = kindVariable * 4 + 3
+highKey Arguments = kindList * 4 + 1
+highKey Parameters = kindList * 4 + 2
+highKey Body = kindList * 4 + 3
+highKey Item = 255 * 4 + 3
+highKey Rest = kindList * 4 + 3
 
 abbrev pub noneOk : Role → Bool
 noneOk Unused = false
@@ -210,7 +210,7 @@ pub record TookRecord (tree : List ℕ) (bytes r : ℕ) (l l′ : List ℕ) (ok 
   pub counting : Counting tree (r + 1) l′
 
 -- all n records were taken
-pub record Passed (tree : List ℕ) (bytes n : ℕ) (l l′ : List ℕ) (f d : ℕ) : Type 0 where
+pub record TookAll (tree : List ℕ) (bytes n : ℕ) (l l′ : List ℕ) (f d : ℕ) : Type 0 where
   pub fault : Lowest n (λ k. not (otherRules tree bytes k)) f
   pub deep : Lowest n (λ k. ltb 64 (depth tree k)) d
   pub same : length l′ ≡ length l

@@ -10,7 +10,7 @@ ghost use Rattle.records.specs.Words.{mostRecords};
 ghost use Rattle.records.specs.Shapes.{rowAt, refers};
 ghost use Rattle.records.specs.Rules.{wordOk, recordOk};
 ghost use Rattle.records.specs.Depth.{depth as depthOf};
-ghost use Rattle.judge.specs.Inner.{Lowest, TypesLead, Known, Counting, Took, TookWords, WordsOf, TookRecord, Passed, stored};
+ghost use Rattle.judge.specs.Inner.{Lowest, TypesLead, Known, Counting, Took, TookWords, WordsOf, TookRecord, TookAll, stored};
 use crate::equal::first_equal;
 use crate::nesting::depth_over;
 use crate::nesting::max;
@@ -201,7 +201,7 @@ fn next_lowest(found: usize, r: usize, ok: bool) -> usize
 // All records.
 fn pass(tree: &[u8], bytes: usize, n: usize, types: usize, known: &mut [u8]) -> Lowests
     requires { ⌜ (n * 32 ≡ length (now tree)) × (n ≤ mostRecords) × (64 * n ≤ length (now known)) × TypesLead (now tree) n types ⌝ }
-    ensures { λ v. ⌜ Passed (now (tree .entry)) bytes n (now (known .entry)) (now (known .exit)) (v .fault) (v .deep) ⌝ }
+    ensures { λ v. ⌜ TookAll (now (tree .entry)) bytes n (now (known .entry)) (now (known .exit)) (v .fault) (v .deep) ⌝ }
 {
     let mut fault = 0;
     let mut deep = 0;

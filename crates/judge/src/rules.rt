@@ -6,6 +6,7 @@ ghost use lib.Dec.{eqb, leb};
 ghost use lib.ListN.{length};
 ghost use Rattle.laws.specs.Fix.{below};
 ghost use Rattle.records.specs.Words.{none};
+ghost use Rattle.records.specs.Kinds.{kindIf, kindFunction};
 ghost use Rattle.records.specs.declared.shape.Role.the-variants.{Unused};
 ghost use Rattle.judge.specs.Inner.{itemClass, cellClass, classAt, classIn, lowKey, highKey, noneOk};
 use crate::references::size;
@@ -172,7 +173,7 @@ pub(crate) fn is_unused(role: Role) -> bool
 
 // An If without the mark has no otherwise (its word c), a function without the flag no body (its word e).
 pub(crate) fn marks_ok(k: u8, found: u8, c: u32, e: u32) -> bool
-    ensures { λ v. ⌜ v ≡ ((not (eqb k 19) || eqb found 1 || eqb c none) && (not (eqb k 25) || leb 4 found || eqb e none)) ⌝ }
+    ensures { λ v. ⌜ v ≡ ((not (eqb k kindIf) || eqb found 1 || eqb c none) && (not (eqb k kindFunction) || leb 4 found || eqb e none)) ⌝ }
 {
     ((k != KIND_IF) | (found == 1) | (c == NONE))
         & ((k != KIND_FUNCTION) | (4 <= found) | (e == NONE))

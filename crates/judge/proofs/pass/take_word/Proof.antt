@@ -3,7 +3,6 @@
 use borrow.Author.Needs.{needs}
 use mathlib.Core.Path.{sym, _∙_}
 use Rattle.judge.proofs.TakeLaws.{took-plain}
-use native.Mathlib.Omega.{arith}
 use Rattle.judge.proofs.pass.take_word.Statement.{statement}
 use Rattle.judge.proofs.pass.take_word.Tie as tie
 
