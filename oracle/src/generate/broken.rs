@@ -238,7 +238,7 @@ fn marks(cases: &mut Cases) {
 
 /// The first twelve: each another type, no type, or in another's place.
 fn first_types(cases: &mut Cases) {
-    for at in 0..12 {
+    for (at, (known, _)) in FIRST_TYPES.into_iter().enumerate() {
         let change = |record: Record| {
             let mut layout = start(&[]);
             layout.records[at] = record;
@@ -253,7 +253,7 @@ fn first_types(cases: &mut Cases) {
             cases.at_home(other, at as u32)
         }
         // An Int whose detail and word A are those of the type.
-        for detail in [1, 2, 3].into_iter().filter(|detail| FIRST_TYPES[at].0 == *detail) {
+        for detail in [1, 2, 3].into_iter().filter(|detail| *detail == known) {
             cases.at_home(change(Record::new(INT, detail, [0; 5])), at as u32);
         }
         for to in (0..at as u32).filter(|_| at >= 10) {

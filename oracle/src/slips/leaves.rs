@@ -1,6 +1,6 @@
 //! Slips in what is left behind: buffers not cleared, or cleared where nothing may be written, and spans.
 
-use super::Stored;
+use super::{Stored, Ways};
 use crate::judge::needed;
 use crate::tree::NONE;
 
@@ -21,7 +21,7 @@ fn longer(case: &Stored, buffer: usize) -> bool {
 }
 
 /// What can be left behind wrongly, and whether a case shows it in a buffer.
-const LEFT: [(&str, Seen); 4] = [
+const LEFT: Ways<Seen, 4> = [
     ("not cleared", |case, buffer| !untouched(case) && case.lens[buffer] > held(case, buffer)),
     ("cleared as far as is needed", |case, buffer| !untouched(case) && longer(case, buffer)),
     ("cleared though untouched", |case, buffer| untouched(case) && case.lens[buffer] > 0),
@@ -36,7 +36,7 @@ fn span(case: &Stored) -> (u32, u32) {
 }
 
 /// What a refusal can say wrongly of its span.
-const SPANS: [(&str, fn(&Stored) -> bool); 3] = [
+const SPANS: Ways<fn(&Stored) -> bool, 3> = [
     ("without its span", |case| (case.answer[2], case.answer[3]) != (0, 0)),
     ("its span turned round", |case| case.answer[2] != case.answer[3]),
     ("with its record's span", |case| span(case) != (case.answer[2], case.answer[3])),

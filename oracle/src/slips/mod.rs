@@ -90,6 +90,9 @@ pub fn unnoticed(cases: &[Stored]) -> Vec<String> {
     missed.map(|slip| slip.name).collect()
 }
 
+/// Ways to get one thing wrong, by name.
+type Ways<F, const N: usize> = [(&'static str, F); N];
+
 struct Slips(Vec<Slip>);
 
 impl Slips {

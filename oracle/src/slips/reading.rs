@@ -1,6 +1,7 @@
 //! The rules of lengths, buffers, records and nesting a second time, as data, so that a slip is the change of one value.
 
 use std::rc::Rc;
+use std::slice;
 
 use crate::tree::*;
 
@@ -87,6 +88,9 @@ pub enum Row {
     Nesting,
 }
 
+/// Whether a word counts as a reference.
+pub type Counting = fn(&Tree, &Form, &Record, usize) -> bool;
+
 /// Whether two types are equal.
 pub type Same = Rc<dyn Fn(&Tree, &Record, &Record) -> bool>;
 
@@ -113,7 +117,7 @@ pub struct Rules {
     pub compared: fn(u32, u32) -> bool,
     pub later: bool,
     /// Whether a word of a record of a known form counts as a reference, and the bits in which references are counted.
-    pub counting: fn(&Tree, &Form, &Record, usize) -> bool,
+    pub counting: Counting,
     pub counter: u32,
     /// Whether word A of a record of an unknown kind counts.
     pub unknown_counts: bool,
@@ -170,12 +174,12 @@ fn forms() -> Vec<Option<Form>> {
             FLOAT => form(1, &[free.clone(), free.clone()]),
             STR | NAME => form(0, &named(&unused)),
             BOOL => form(1, &[]),
-            SIZE_OF | TYPE_ARGUMENT => form(0, &[ty.clone()]),
-            UNARY => form(2, &[expression.clone()]),
+            SIZE_OF | TYPE_ARGUMENT => form(0, slice::from_ref(&ty)),
+            UNARY => form(2, slice::from_ref(&expression)),
             BINARY => form(17, &[expression.clone(), expression.clone()]),
             CALL => form(0, &named(&list_of(bit(VALUE) | bit(TYPE_ARGUMENT)))),
             LIST => form(0, &[refers(bits(TYPE, FUNCTION)), or_none(refers(bit(LIST)))]),
-            VALUE | RETURN | CALL_STATEMENT => form(0, &[expression.clone()]),
+            VALUE | RETURN | CALL_STATEMENT => form(0, slice::from_ref(&expression)),
             DECLARE => form(0, &named(&ty)),
             INIT => form(1, &named(&expression)),
             IF => form(1, &[expression.clone(), body.clone(), body.clone()]),

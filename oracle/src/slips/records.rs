@@ -1,7 +1,7 @@
 //! Slips in the form of single records: details, words, counts of references, depth.
 
 use super::reading::*;
-use super::{Slips, form_name, letter};
+use super::{Slips, Ways, form_name, letter};
 use crate::tree::*;
 
 pub fn details(slips: &mut Slips, at: usize, form: &Form) {
@@ -33,7 +33,7 @@ pub fn details(slips: &mut Slips, at: usize, form: &Form) {
 /// What a first type's word A holds is looked at twice, so there the slip is made in both places.
 pub fn unused(slips: &mut Slips, rules: &Rules, at: usize, word: usize) {
     let first = rules.first.iter().position(|first| word == 0 && TYPES + usize::from(first[0].0) == at);
-    let ways: [(&str, fn(u32) -> bool); 4] = [
+    let ways: Ways<fn(u32) -> bool, 4> = [
         ("not looked at", |_| true),
         ("may be none", |word| word == 0 || word == NONE),
         ("looked at in its low byte", |word| word & 0xFF == 0),
@@ -51,7 +51,7 @@ pub fn unused(slips: &mut Slips, rules: &Rules, at: usize, word: usize) {
 }
 
 pub fn texts(slips: &mut Slips, at: usize, word: usize) {
-    let ways: [(&str, fn(u64, u64, u64) -> bool); 8] = [
+    let ways: Ways<fn(u64, u64, u64) -> bool, 8> = [
         ("not looked at", |_, _, _| true),
         ("ends before the buffer's end", |from, length, end| from + length < end),
         ("ends one byte past the end", |from, length, end| from + length <= end + 1),
@@ -98,7 +98,7 @@ fn items(slips: &mut Slips, at: usize, word: usize, items: &Items) {
     if !items.untyped {
         slips.items(at, word, "untyped items go", |items| items.untyped = true);
     }
-    let ways: [(&str, fn(usize, bool) -> bool); 5] = [
+    let ways: Ways<fn(usize, bool) -> bool, 5> = [
         ("no item looked at", |_, _| false),
         ("only the first item looked at", |position, _| position == 0),
         ("the first item not looked at", |position, _| position != 0),
@@ -116,7 +116,7 @@ fn items(slips: &mut Slips, at: usize, word: usize, items: &Items) {
 
 /// What counts as a reference.
 pub fn counting(slips: &mut Slips) {
-    let ways: [(&str, fn(&Tree, &Form, &Record, usize) -> bool); 3] = [
+    let ways: Ways<Counting, 3> = [
         ("to a wrong kind", |tree, form, record, index| match &form.words[index] {
             Word::Refers(to) => {
                 let target = tree.records.get(record.words[index] as usize);

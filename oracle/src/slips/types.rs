@@ -3,7 +3,7 @@
 use std::rc::Rc;
 
 use super::reading::*;
-use super::{Slips, letter};
+use super::{Slips, Ways, letter};
 use crate::tree::*;
 
 /// Details below 64 that no type has, each taken for the type of its low bits.
@@ -43,7 +43,7 @@ pub fn first_types(slips: &mut Slips) {
 pub fn equal_types(slips: &mut Slips) {
     slips.add("types behind other kinds".to_string(), |rules| rules.late_types = true);
     slips.add("the earlier of two equal types".to_string(), |rules| rules.later = false);
-    let compared: [(&str, fn(u32, u32) -> bool); 4] = [
+    let compared: Ways<fn(u32, u32) -> bool, 4> = [
         ("none", |_, _| false),
         ("the one before", |before, at| before + 1 == at),
         ("the first twelve", |before, _| before < 12),
@@ -88,9 +88,12 @@ fn equality(slips: &mut Slips) {
     same(slips, "or equal key texts", Rc::new(or));
 }
 
+/// Whether the names of two types are equal: the records, then the texts.
+type SameName = fn(&Record, &Record, &[u8], &[u8]) -> bool;
+
 /// How two names may be compared wrongly.
 fn names(slips: &mut Slips) {
-    let ways: [(&str, fn(&Record, &Record, &[u8], &[u8]) -> bool); 7] = [
+    let ways: Ways<SameName, 7> = [
         ("by offset and length", |l, r, _, _| l.words[..2] == r.words[..2]),
         ("by offset", |l, r, _, _| l.a() == r.a()),
         ("by length", |l, r, _, _| l.b() == r.b()),
