@@ -29,8 +29,8 @@ pub(crate) fn size(x: u32) -> usize
     x as usize
 }
 
-// Word w of record r, which refers: judged, and one more for a lower record that it refers to, up to 2. More than once is all that matters; what is
-// not lower has no bytes yet, and its count never matters: the record that refers to it is lower and at fault.
+// Word w of record r, which refers: judged, and one more for a lower record that it refers to, up to 2. More than once is all that matters. What is
+// not lower has no bytes yet, and its count never matters: record r is at fault then, and it is not the higher of the two.
 pub(crate) fn take_reference(tree: &[u8], r: usize, role: Role, w: u32, known: &mut [u8]) -> Told
     requires { ⌜ (r < mostRecords) × (r * 4 ≤ length (now known)) × Known (now tree) r (now known) × (refers role ≡ true) ⌝ }
     ensures { λ t. ⌜ ((bytes next : ℕ) → Took (now (tree .entry)) bytes r role w next (now (known .entry)) (now (known .exit)) (t .ok) (t .depth)) ⌝ }
