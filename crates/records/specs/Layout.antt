@@ -9,8 +9,8 @@ pub record Region : Type 0 where
   pub from : ℕ
   pub each : ℕ
 
--- what the judge counts: a byte for each record, first how often it is referred to, then how deep it is; once the tree is judged, the functions'
--- records in their order, a word each
+-- what the judge knows: four bytes for each record (what its list holds, how deep it is, how often it is referred to, its kind; before that, twelve for
+-- each type, while equal types are looked for); once the tree is judged, the functions' records in their order, a word each
 abbrev pub judging : Region
 judging = record { from = 0; each = 4 }
 
