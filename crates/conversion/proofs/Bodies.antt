@@ -15,8 +15,8 @@ use Rattle.conversion.specs.Converter.{convert}
 
 -- ---- the program, over the twelve first types
 
-unfoldable pub typeOf : ℕ → Ty
-typeOf y = getD (TInt false false ∷ TInt true false ∷ TInt false true ∷ TInt true true ∷ TFloat false ∷ TFloat true ∷ TBool ∷ TChar ∷ TByte ∷ TNull
+unfoldable pub sampleType : ℕ → Ty
+sampleType y = getD (TInt false false ∷ TInt true false ∷ TInt false true ∷ TInt true true ∷ TFloat false ∷ TFloat true ∷ TBool ∷ TChar ∷ TByte ∷ TNull
     ∷ TAddress 7 ∷ TAddress 9 ∷ []) y TNull
 
 unfoldable pub rate : Text
@@ -132,8 +132,8 @@ unfolding inside splitBody
 split = inside 59 206 none (some 6) splitBody
 
 unfoldable pub program : Program
-unfolding typeOf ask bound take guard loop either spin ratio pause split
-program = record { functions = ask ∷ bound ∷ guard ∷ loop ∷ either ∷ take ∷ spin ∷ ratio ∷ pause ∷ split ∷ []; typeOf = typeOf; keyOf = λ t. [] }
+unfolding sampleType ask bound take guard loop either spin ratio pause split
+program = record { functions = ask ∷ bound ∷ guard ∷ loop ∷ either ∷ take ∷ spin ∷ ratio ∷ pause ∷ split ∷ []; typeOf = sampleType; keyOf = λ t. [] }
 
 -- ---- what it converts to
 

@@ -53,10 +53,10 @@ unfolding tag
 tagOf nothing = 0
 tagOf (some o) = tag o
 
-unfoldable pub valueOf : Option Operand → ℕ
+unfoldable pub operandWord : Option Operand → ℕ
 unfolding operandValue
-valueOf nothing = 0
-valueOf (some o) = operandValue o
+operandWord nothing = 0
+operandWord (some o) = operandValue o
 
 -- 'a Call without destination has FFFFFFFF at 4'
 unfoldable pub destination : Option VarId → ℕ
@@ -80,9 +80,9 @@ fieldsOf (Return o) = record { kind = 11; operator = 0; first = some o; second =
 fieldsOf (Comment r) = record { kind = 12; operator = 0; first = nothing; second = nothing; target = 0; recordWord = r }
 
 unfoldable pub encodeFields : Fields → List ℕ
-unfolding tagOf valueOf word wide
+unfolding tagOf operandWord word wide
 encodeFields f = f .kind ∷ f .operator ∷ tagOf (f .first) ∷ tagOf (f .second) ∷ []
-    ++ word (f .target) ++ wide (valueOf (f .first)) ++ wide (valueOf (f .second)) ++ word (f .recordWord) ++ word 0
+    ++ word (f .target) ++ wide (operandWord (f .first)) ++ wide (operandWord (f .second)) ++ word (f .recordWord) ++ word 0
 
 unfoldable pub encodeInstr : Instr → List ℕ
 unfolding encodeFields fieldsOf

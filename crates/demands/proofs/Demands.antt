@@ -14,7 +14,7 @@ use Rattle.records.specs.declared.convert_error.ConvertErrorKind.{ConvertErrorK
 use Rattle.records.specs.declared.convert_error.ConvertErrorKind.the-variants.{SameSignature, SameSymbol, AlreadyDeclared, UnknownVariable, UnknownFunction, AssignToConstant, ReturnWithoutType, NoValue, MissingReturn, NoMain, MainNotInteger, WrongReturnType, WrongAssignType, WrongOperands, AmbiguousCall, LiteralOutOfRange, InvalidCast, NotBool, NotInteger, BreakOutOfLoop, ContinueOutOfLoop, LatinCharInNonLibCFunction, ExternNotLatin, BadTree, TooDeep, ShortBuffer, WouldPanic}
 use Rattle.records.specs.declared.convert_error.ConvertError.{ConvertError}
 use Rattle.records.specs.declared.convert_error.AnswerWords.{AnswerWords}
-use Rattle.judge.specs.Judge.{lengthsOk, buffersOk, Buffers, lengthsOf, lowestFault, lowestDeep, Row, atLengths, atBuffers, atRecords, atNesting, atConversion, Verdict, RefusedBy, Passed, verdictIn, refusalLeaves}
+use Rattle.judge.specs.Judge.{lengthsOk, buffersOk, Buffers, lengthsOf, lowestFault, lowestDeep, TableRow, atLengths, atBuffers, atRecords, atNesting, atConversion, Verdict, RefusedBy, Passed, verdictIn, refusalLeaves}
 use Rattle.judge.proofs.RowLaws.{Enough, enough}
 use Rattle.syntax.specs.Decode.{program}
 use Rattle.conversion.specs.ConvertError.{Result, ok, err}
@@ -27,7 +27,7 @@ use Rattle.conversion.proofs.Bytes.{Fit}
 use Rattle.tables.specs.Bytes.{Byte}
 use Rattle.tables.specs.Read.{Begin}
 use Rattle.demands.specs.Demand3.{RunsAlike}
-use Rattle.demands.specs.Call.{Outcome, RefusedAt, Success, conversionRow, judgedRows, callOf, Answer, Counted, answerOf, filled, buffersAfter, Calls}
+use Rattle.demands.specs.Call.{CallOutcome, RefusedAt, Success, conversionRow, judgedRows, callOf, Answer, Counted, answerOf, filled, buffersAfter, Calls}
 use Rattle.demands.specs.Demands.{allZero, spanless, PastBuffers, Left, untouched, zeroed, SameLengths, Sound, InLimits, ByRows, AsTheRust, outputsOf, AllRunAlike, OfEveryCall}
 use Rattle.demands.proofs.GoodLaws.{good-fits}
 use Rattle.demands.proofs.Demand3.{good-demand3}
@@ -55,7 +55,7 @@ pub other-rows : (words : AnswerWords) (b : Buffers)
 unfolding buffersAfter refusalLeaves
 other-rows words b = (refl, refl, refl)
 
-refusal-left : (row : Row) (words : AnswerWords) (b : Buffers) → Left b (buffersAfter (RefusedAt row words) b)
+refusal-left : (row : TableRow) (words : AnswerWords) (b : Buffers) → Left b (buffersAfter (RefusedAt row words) b)
 refusal-left atLengths words b = untouched (rows-one-two words b .0)
 refusal-left atBuffers words b = untouched (rows-one-two words b .1)
 refusal-left atRecords words b = zeroed (other-rows words b .0)
@@ -149,7 +149,7 @@ unfolding wordsOf
 words-ranged tree e w h = subst (λ x. Ranged x) h (number-range (e .kind))
 
 module _ (tree text : List ℕ) (needsMain : Bool) (before : Buffers) where
-  refusal-ranged : (row : Row) (w : AnswerWords) → callOf tree text needsMain before ≡ RefusedAt row w → Ranged w
+  refusal-ranged : (row : TableRow) (w : AnswerWords) → callOf tree text needsMain before ≡ RefusedAt row w → Ranged w
   unfolding callOf judgedRows conversionRow conversion Written.answerOf
   refusal-ranged row w e = go (verdictIn tree text before) (convert (program tree text) needsMain) e
     where
@@ -178,7 +178,7 @@ module _ (tree text : List ℕ) (needsMain : Bool) (before : Buffers) where
     unfolding answerOf buffersAfter
     call-sound = go (callOf tree text needsMain before) refl (calls .answers) (calls .leaves)
       where
-        go : (o : Outcome) → callOf tree text needsMain before ≡ o → answer ≡ answerOf o → after ≡ buffersAfter o before → Sound before answer after
+        go : (o : CallOutcome) → callOf tree text needsMain before ≡ o → answer ≡ answerOf o → after ≡ buffersAfter o before → Sound before answer after
         go (RefusedAt row w) e a l =
             let so : Left before after = subst (Left before) (sym l) (refusal-left row w before) in
             record {
@@ -195,7 +195,7 @@ module _ (tree text : List ℕ) (needsMain : Bool) (before : Buffers) where
         }
 
     -- the outcome is known, and so are answer and buffers
-    comes-to : (o : Outcome) → callOf tree text needsMain before ≡ o → (answer ≡ answerOf o) × (after ≡ buffersAfter o before)
+    comes-to : (o : CallOutcome) → callOf tree text needsMain before ≡ o → (answer ≡ answerOf o) × (after ≡ buffersAfter o before)
     comes-to o e = (calls .answers ∙ ap answerOf e, calls .leaves ∙ ap (λ x. buffersAfter x before) e)
 
     pub call-by-rows : ByRows tree text before answer after
@@ -221,7 +221,7 @@ module _ (tree text : List ℕ) (needsMain : Bool) (before : Buffers) where
     unfolding answerOf verdictIn
     call-runs-alike W bytes c h i f b = go (callOf tree text needsMain before) refl (calls .answers) (calls .leaves)
       where
-        go : (o : Outcome) → callOf tree text needsMain before ≡ o → answer ≡ answerOf o → after ≡ buffersAfter o before
+        go : (o : CallOutcome) → callOf tree text needsMain before ≡ o → answer ≡ answerOf o → after ≡ buffersAfter o before
             → getElem? (program tree text .functions) i ≡ some f → f .body ≡ some b → RunsAlike W tree text c (outputsOf after) i f b
         go (RefusedAt row w) e a l = let z : _≡_ {A = ℕ} 0 1 = cc in absurd (omega arith)
         go (Success d t) e a l =
@@ -242,7 +242,7 @@ every-call W tree text needsMain before answer after calls = record {
 -- ---- nothing is lost on the page: what keeps demands 1 and 2 is a run of the call
 
 module _ (tree text : List ℕ) (needsMain : Bool) (before : Buffers) (answer : Answer) (after : Buffers) where
-  pub run-of : (o : Outcome) → callOf tree text needsMain before ≡ o → answer ≡ answerOf o → after ≡ buffersAfter o before → Calls tree text needsMain before answer after
+  pub run-of : (o : CallOutcome) → callOf tree text needsMain before ≡ o → answer ≡ answerOf o → after ≡ buffersAfter o before → Calls tree text needsMain before answer after
   run-of o e a l = record { answers = a ∙ ap answerOf (sym e); leaves = l ∙ ap (λ x. buffersAfter x before) (sym e) }
 
   module _ (rows : ByRows tree text before answer after) (rust : InLimits tree text before → AsTheRust tree text needsMain before answer after) where

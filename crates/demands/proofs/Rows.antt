@@ -14,7 +14,7 @@ use Rattle.records.specs.Answer.{numberOf, hasSpan, spanWord, wordsOf}
 use Rattle.records.specs.declared.convert_error.ConvertErrorKind.{ConvertErrorKind}
 use Rattle.records.specs.declared.convert_error.ConvertErrorKind.the-variants.{BadTree, TooDeep, ShortBuffer}
 use Rattle.records.specs.declared.convert_error.ConvertError.{ConvertError}
-use Rattle.judge.specs.Judge.{lengthsOk, buffersOk, Buffers, lengthsOf, lowestFault, lowestDeep, Row, atLengths, atBuffers, atRecords, atNesting, atConversion, Verdict, RefusedBy, Passed, refusedBy, atLowest, recordsVerdict, verdict, verdictIn}
+use Rattle.judge.specs.Judge.{lengthsOk, buffersOk, Buffers, lengthsOf, lowestFault, lowestDeep, TableRow, atLengths, atBuffers, atRecords, atNesting, atConversion, Verdict, RefusedBy, Passed, refusedBy, atLowest, recordsVerdict, verdict, verdictIn}
 use Rattle.syntax.specs.Decode.{program}
 use Rattle.conversion.specs.ConvertError.{ok, err}
 use Rattle.conversion.specs.Ir.{IrProgram}
@@ -56,7 +56,7 @@ module _ (tree text : List ℕ) (needsMain : Bool) where
   conversion-err kind place e = rw e refl
 
   module _ (b : Buffers) where
-    pub refused-first : (row : Row) (e : ConvertError) → verdictIn tree text b ≡ RefusedBy row e → callOf tree text needsMain b ≡ RefusedAt row (wordsOf tree e)
+    pub refused-first : (row : TableRow) (e : ConvertError) → verdictIn tree text b ≡ RefusedBy row e → callOf tree text needsMain b ≡ RefusedAt row (wordsOf tree e)
     unfolding callOf judgedRows
     refused-first row e v = rw v refl
 

@@ -16,28 +16,28 @@ use lib.ListN.{length, replicate}
 use Rattle.records.specs.Answer.{wordsOf}
 use Rattle.records.specs.declared.convert_error.AnswerWords.{AnswerWords}
 use Rattle.conversion.specs.Written.{Counts, Tables, Conversion, Refused, Converted, conversion}
-use Rattle.judge.specs.Judge.{Buffers, buffers, Row, atConversion, Verdict, RefusedBy, Passed, verdictIn, refusalLeaves, cleared}
+use Rattle.judge.specs.Judge.{Buffers, buffers, TableRow, atConversion, Verdict, RefusedBy, Passed, verdictIn, refusalLeaves, cleared}
 
 -- ---- the answer
 
 -- what a call comes to: the row that refuses, with number, place and span; or six counts, with what the tables hold
-pub data Outcome : Type 0 where
-  RefusedAt : Row → AnswerWords → Outcome
-  Success : Counts → Tables → Outcome
+pub data CallOutcome : Type 0 where
+  RefusedAt : TableRow → AnswerWords → CallOutcome
+  Success : Counts → Tables → CallOutcome
 
 -- 'conversion | 1 to 23', 'conversion | 27': 'in conversion, the first met in the Rust's order'; and no row applies
-unfoldable pub conversionRow : Conversion → Outcome
+unfoldable pub conversionRow : Conversion → CallOutcome
 conversionRow (Refused words) = RefusedAt atConversion words
 conversionRow (Converted counts tables) = Success counts tables
 
 -- rows 'lengths', 'buffers', 'records' and 'nesting'; a tree that passes them comes to the next rows
-unfoldable pub judgedRows : List ℕ → Verdict → Outcome → Outcome
+unfoldable pub judgedRows : List ℕ → Verdict → CallOutcome → CallOutcome
 unfolding wordsOf
 judgedRows tree (RefusedBy row e) next = RefusedAt row (wordsOf tree e)
 judgedRows tree Passed next = next
 
 -- 'The first row that applies wins'
-unfoldable pub callOf : List ℕ → List ℕ → Bool → Buffers → Outcome
+unfoldable pub callOf : List ℕ → List ℕ → Bool → Buffers → CallOutcome
 unfolding judgedRows verdictIn conversionRow conversion
 callOf tree text needsMain before = judgedRows tree (verdictIn tree text before) (conversionRow (conversion tree text needsMain))
 
@@ -46,7 +46,7 @@ pub data Answer : Type 0 where
   Refusal : AnswerWords → Answer
   Counted : Counts → Answer
 
-unfoldable pub answerOf : Outcome → Answer
+unfoldable pub answerOf : CallOutcome → Answer
 answerOf (RefusedAt row words) = Refusal words
 answerOf (Success counts tables) = Counted counts
 
@@ -58,7 +58,7 @@ filled table buffer = table ++ replicate (length buffer - length table) 0
 
 -- 'Rows one and two write nothing. Every other refusal leaves all outputs and scratch zero' (`refusalLeaves`).
 -- 'Success leaves scratch and unused output bytes zero.'
-unfoldable pub buffersAfter : Outcome → Buffers → Buffers
+unfoldable pub buffersAfter : CallOutcome → Buffers → Buffers
 unfolding refusalLeaves filled
 buffersAfter (RefusedAt row words) b =
     buffers

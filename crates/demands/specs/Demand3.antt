@@ -21,11 +21,11 @@ use Rattle.tables.specs.Read as Read
 use Rattle.tables.specs.Read.{Begin, bodyAt}
 use Rattle.runs.specs.Rule.{Rule, Answers, asked}
 use Rattle.runs.specs.TreeRun.{treeRun}
-use Rattle.runs.specs.BodyRun.{Body, Vars, bodyRun}
+use Rattle.runs.specs.BodyRun.{FlatBody, Vars, bodyRun}
 use Rattle.runs.specs.Shared.{Shared, SameRuns, InPlace}
 
 -- what a run takes of a body that was read from bytes; the return type is that of the function in the tree
-unfoldable pub runnable : Function → Read.ReadBody → Body
+unfoldable pub runnable : Function → Read.ReadBody → FlatBody
 runnable f b = record { instrs = b .instrs; result = f .returnType; strings = b .strings; floats = b .floats }
 
 -- what is found and read for f, the i-th function of the tree: the buffers t say a body for it

@@ -24,7 +24,7 @@ use Rattle.records.specs.Digest.{digestOf, digestFour, typeDigest}
 use Rattle.records.proofs.Apart.{word-apart, word-there, word-back}
 use Rattle.records.proofs.DigestLaws.{custom-digest, words-digest, same-digest}
 use Rattle.records.proofs.TypeLaws.{equalType, new-found, new-none}
-use Rattle.judge.specs.Equal.{bucketOf, typeBucket, entryAt, Chained, entered, Room}
+use Rattle.judge.specs.Equal.{bucketOf, typeBucket, entryAt, Chained, entered, ChainRoom}
 
 -- ---- buckets
 
@@ -63,7 +63,7 @@ module _ (tree text : List ℕ) (types : ℕ) where
   head-told l r b h c hb eb eh = eh ∙ c .heads b hb ∙ ap (linkTo (typeBucket tree text types) r) eb
 
 -- type r is entered
-module _ (types : ℕ) (l : List ℕ) (r d b h : ℕ) (room : Room types l) (hr : r < types) (hb : b < types) (hd : d < 4294967296) (hh : h < 4294967296) where
+module _ (types : ℕ) (l : List ℕ) (r d b h : ℕ) (room : ChainRoom types l) (hr : r < types) (hb : b < types) (hd : d < 4294967296) (hh : h < 4294967296) where
   inner : List ℕ
   inner = splice l (entryAt types r) (word d ++ word h)
 

@@ -15,7 +15,7 @@ use Rattle.laws.proofs.Tests.{tested, and-left, and-right}
 use Rattle.records.specs.Words.{kindOf, detailOf, padOf, wordOf, A, B, C, D, E}
 use Rattle.records.specs.Shapes.{rowAt}
 use Rattle.records.specs.Rules.{wordOk, wordsOk, formOk, otherwiseMarked, bodyMarked, isFirstType, typesFirst, typeIsNew, refersFrom, references, referredOnce, recordOk}
-use Rattle.judge.specs.Inner.{Lowest, TypesLead, capped, laterRefs, countIn, Counting, Counts, otherRules}
+use Rattle.judge.specs.Inner.{Lowest, TypesLead, capped, laterRefs, countIn, Counting, ReferenceCounts, otherRules}
 use Rattle.judge.proofs.CapLaws.{cap-one}
 use Rattle.judge.proofs.KeyLaws.{refers-down}
 
@@ -96,7 +96,7 @@ module _ (tree : List ℕ) (bytes n fault : ℕ) (whole : n * 32 ≡ length tree
       ∙ sym (goes-down tree bytes i k up (omega (arith, low .within)) (good i (omega arith))))
 
   -- below the fault the counts are those of all references
-  pub counts-told : (l : List ℕ) → Counting tree n l → Counts tree fault l
+  pub counts-told : (l : List ℕ) → Counting tree n l → ReferenceCounts tree fault l
   unfolding references
   counts-told l c =
       let q : length tree / 32 ≡ n = omega arith in
@@ -182,7 +182,7 @@ module _ (tree : List ℕ) (bytes n fault : ℕ) (whole : n * 32 ≡ length tree
             rw (all once, bad) refl)
 
 -- one record's count, as the code tests it
-pub once-told : (tree : List ℕ) (n r k : ℕ) (l : List ℕ) → Counts tree n l → r < n → k ≡ kindOf tree r
+pub once-told : (tree : List ℕ) (n r k : ℕ) (l : List ℕ) → ReferenceCounts tree n l → r < n → k ≡ kindOf tree r
     → (eqb k 1 || eqb k 25 || eqb (countIn l r) 1) ≡ referredOnce tree r
 unfolding referredOnce
 once-told tree n r k l c h e = rw (e, c .counts r h, cap-one (references tree r)) refl

@@ -31,6 +31,6 @@ abbrev pub entered : ℕ → ℕ → ℕ → ℕ → ℕ → List ℕ → List �
 entered types r d b h l = splice (splice l (entryAt types r) (word d ++ word h)) (4 * b) (word (r + 1))
 
 -- there are few enough types, and room for them
-pub record Room (types : ℕ) (l : List ℕ) : Type 0 where
+pub record ChainRoom (types : ℕ) (l : List ℕ) : Type 0 where
   pub few : types ≤ mostRecords
   pub room : 12 * types ≤ length l

@@ -162,7 +162,7 @@ pub record Counting (tree : List ℕ) (r : ℕ) (l : List ℕ) : Type 0 where
   pub counts : (k : ℕ) → k < r → countIn l k ≡ capped 2 (sumBelow r (laterRefs tree k))
 
 -- of each of the first n records: how often it is referred to, up to 2
-pub record Counts (tree : List ℕ) (n : ℕ) (l : List ℕ) : Type 0 where
+pub record ReferenceCounts (tree : List ℕ) (n : ℕ) (l : List ℕ) : Type 0 where
   pub counts : (k : ℕ) → k < n → countIn l k ≡ capped 2 (references tree k)
 
 -- ---- what a step does

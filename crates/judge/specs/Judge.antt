@@ -86,23 +86,23 @@ lowestDeep tree = lowest (records tree) (λ r. ltb deepestAllowed (depth tree r)
 -- ---- the rows
 
 -- the table's rows, by where they are checked
-pub data Row : Type 0 where
-  atLengths : Row
-  atBuffers : Row
-  atRecords : Row
-  atNesting : Row
-  atConversion : Row
+pub data TableRow : Type 0 where
+  atLengths : TableRow
+  atBuffers : TableRow
+  atRecords : TableRow
+  atNesting : TableRow
+  atConversion : TableRow
 
 -- the row that refuses, with kind and place; or the first four rows are passed
 pub data Verdict : Type 0 where
-  RefusedBy : Row → ConvertError → Verdict
+  RefusedBy : TableRow → ConvertError → Verdict
   Passed : Verdict
 
-unfoldable pub refusedBy : Row → ConvertErrorKind → ℕ → Verdict
+unfoldable pub refusedBy : TableRow → ConvertErrorKind → ℕ → Verdict
 refusedBy row kind place = RefusedBy row (record { kind = kind; place = place })
 
 -- a row whose place is the 'lowest such record'; where there is none, the rows after it
-unfoldable pub atLowest : Row → ConvertErrorKind → Option ℕ → Verdict → Verdict
+unfoldable pub atLowest : TableRow → ConvertErrorKind → Option ℕ → Verdict → Verdict
 unfolding refusedBy
 atLowest row kind (some r) next = refusedBy row kind r
 atLowest row kind nothing next = next
@@ -138,7 +138,7 @@ abbrev pub cleared : List ℕ → List ℕ
 cleared buffer = replicate (length buffer) 0
 
 -- 'Rows one and two write nothing. Every other refusal leaves all outputs and scratch zero'
-unfoldable pub refusalLeaves : Row → List ℕ → List ℕ
+unfoldable pub refusalLeaves : TableRow → List ℕ → List ℕ
 refusalLeaves atLengths buffer = buffer
 refusalLeaves atBuffers buffer = buffer
 refusalLeaves atRecords buffer = cleared buffer

@@ -8,7 +8,7 @@ ghost use Rattle.records.specs.Words.{kindOf, mostRecords};
 ghost use Rattle.records.specs.Rules.{sameType, typeIsNew};
 ghost use Rattle.records.specs.Digest.{typeDigest};
 ghost use Rattle.judge.specs.Inner.{Lowest, TypesLead};
-ghost use Rattle.judge.specs.Equal.{bucketOf, typeBucket, Chained, entered, Room};
+ghost use Rattle.judge.specs.Equal.{bucketOf, typeBucket, Chained, entered, ChainRoom};
 use crate::references::size;
 use crate::types::CUSTOM;
 use crate::types::same_type;
@@ -60,7 +60,7 @@ fn clear_heads(scratch: &mut [u8], n: usize)
 
 // Type r goes before the others of its bucket.
 fn enter(scratch: &mut [u8], types: usize, r: usize, d: u32, b: usize, head: u32)
-    requires { ⌜ Room types (now scratch) × (r < types) × (b < types) ⌝ }
+    requires { ⌜ ChainRoom types (now scratch) × (r < types) × (b < types) ⌝ }
     ensures { λ _. ⌜ now (scratch .exit) ≡ entered types r d b head (now (scratch .entry)) ⌝ }
 {
     let next = (r + 1) as u32;
@@ -91,7 +91,7 @@ fn has_equal(
     head: u32,
 ) -> bool
     requires { ⌜ (types * 32 ≤ length (now tree)) × (r < types) × ((k : ℕ) → k < types → kindOf (now tree) k ≡ 1) ⌝ }
-    requires { ⌜ Room types (now scratch) × Chained (now tree) (now text) types r (now scratch) ⌝ }
+    requires { ⌜ ChainRoom types (now scratch) × Chained (now tree) (now text) types r (now scratch) ⌝ }
     requires { ⌜ (d ≡ typeDigest (now tree) (now text) r) × (head ≡ linkTo (typeBucket (now tree) (now text) types) r (typeBucket (now tree) (now text) types r)) ⌝ }
     ensures { λ v. ⌜ v ≡ not (typeIsNew (now (tree .entry)) (now (text .entry)) r) ⌝ }
 {

@@ -6,7 +6,7 @@ ghost use lib.ListN.{length};
 ghost use Rattle.records.specs.Words.{mostRecords};
 ghost use Rattle.records.specs.Shapes.{refers};
 ghost use Rattle.records.specs.Rules.{referredOnce};
-ghost use Rattle.judge.specs.Inner.{Lowest, Known, Counts, Took};
+ghost use Rattle.judge.specs.Inner.{Lowest, Known, ReferenceCounts, Took};
 use crate::rules::high_key;
 use crate::rules::low_key;
 use crate::rules::none_ok;
@@ -55,7 +55,7 @@ pub(crate) fn take_reference(tree: &[u8], r: usize, role: Role, w: u32, known: &
 
 // The lowest of n records that is neither type nor function and not referred to exactly once, or n.
 pub(crate) fn lowest_miscounted(tree: &[u8], n: usize, known: &[u8]) -> usize
-    requires { ⌜ (n * 32 ≤ length (now tree)) × (n * 4 ≤ length (now known)) × Counts (now tree) n (now known) ⌝ }
+    requires { ⌜ (n * 32 ≤ length (now tree)) × (n * 4 ≤ length (now known)) × ReferenceCounts (now tree) n (now known) ⌝ }
     ensures { λ v. ⌜ Lowest n (λ k. not (referredOnce (now (tree .entry)) k)) v ⌝ }
 {
     let mut r = 0;

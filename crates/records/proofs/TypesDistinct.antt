@@ -16,7 +16,7 @@ use Rattle.records.specs.declared.shape.Row.{Row}
 use Rattle.records.specs.Words.{byteAt, wordAt, kindOf, detailOf, wordOf, textAt, records, A, B, C}
 use Rattle.records.specs.Shapes.{rowOf, rowAt, plainType, typeShape, shapeOf}
 use Rattle.records.specs.Rules.{kindBelow, wordOk, sameType, recordOk}
-use Rattle.records.specs.Types.{KrcType, KInt, KFloat, KBool, KChar, KByte, KAddress, KArray, KCustom, KNull, plainOf, typeStep, typeAt}
+use Rattle.records.specs.Types.{KrcType, KInt, KFloat, KBool, KChar, KByte, KAddress, KArray, KCustom, KNull, plainOf, typeStep, krcTypeAt}
 use Rattle.records.proofs.Good.{Formed, WordsGood, good-of, formed-of, words-of}
 use Rattle.records.proofs.TextLaws.{same-texts}
 use Rattle.records.proofs.TypeLaws.{type-custom, type-words, equal-test, new-found}
@@ -70,8 +70,8 @@ module _ (tree text : List ℕ) where
   unfolding typeStep
   local g h r agree = rw (below-cong g h r (wordOf tree r A) KNull (agree (wordOf tree r A))) refl
 
-  type-step : (r : ℕ) → typeAt tree text r ≡ typeStep tree text (typeAt tree text) r
-  unfolding typeAt
+  type-step : (r : ℕ) → krcTypeAt tree text r ≡ typeStep tree text (krcTypeAt tree text) r
+  unfolding krcTypeAt
   type-step r = fix-step KNull (typeStep tree text) local r
 
   lower : (r w : ℕ) (b : Bool) → b ≡ ltb w r → eqb (kindBelow tree r w) 1 ≡ true → (w < r) × (kindOf tree w ≡ 1)
@@ -106,21 +106,21 @@ module _ (tree text : List ℕ) where
       unfolding rowOf typeShape plainType pick wordOk
       address-c = eqb-true (wordOf tree r C) 0 (words (rowOf 26) (rw d refl) .c)
 
-      at-address : typeAt tree text r ≡ KAddress (typeAt tree text (wordOf tree r A))
+      at-address : krcTypeAt tree text r ≡ KAddress (krcTypeAt tree text (wordOf tree r A))
       unfolding typeStep pick
-      at-address = type-step r ∙ rw (d, below-in (typeAt tree text) r (wordOf tree r A) KNull (address-inner .0)) refl
+      at-address = type-step r ∙ rw (d, below-in (krcTypeAt tree text) r (wordOf tree r A) KNull (address-inner .0)) refl
 
     module _ (d : detailOf tree r ≡ 7) where
       array-inner : (wordOf tree r A < r) × (kindOf tree (wordOf tree r A) ≡ 1)
       unfolding rowOf typeShape plainType pick wordOk
       array-inner = lower r (wordOf tree r A) _ refl (words (rowOf 27) (rw d refl) .a)
 
-      at-array : typeAt tree text r ≡ KArray (typeAt tree text (wordOf tree r A)) (wordOf tree r B + wordOf tree r C * 4294967296)
+      at-array : krcTypeAt tree text r ≡ KArray (krcTypeAt tree text (wordOf tree r A)) (wordOf tree r B + wordOf tree r C * 4294967296)
       unfolding typeStep pick
-      at-array = type-step r ∙ rw (d, below-in (typeAt tree text) r (wordOf tree r A) KNull (array-inner .0)) refl
+      at-array = type-step r ∙ rw (d, below-in (krcTypeAt tree text) r (wordOf tree r A) KNull (array-inner .0)) refl
 
     module _ (d : detailOf tree r ≡ 8) where
-      at-custom : typeAt tree text r ≡ KCustom (textAt text (wordOf tree r A) (wordOf tree r B))
+      at-custom : krcTypeAt tree text r ≡ KCustom (textAt text (wordOf tree r A) (wordOf tree r B))
       unfolding typeStep pick
       at-custom = type-step r ∙ rw d refl
 
@@ -137,19 +137,19 @@ module _ (tree text : List ℕ) where
       unfolding rowOf typeShape pick wordOk
       plain-c = eqb-true (wordOf tree r C) 0 (words (rowOf 1) (rw p refl) .c)
 
-    at-plain : (detailOf tree r ≡ 6 → ⊥) → (detailOf tree r ≡ 7 → ⊥) → (detailOf tree r ≡ 8 → ⊥) → typeAt tree text r ≡ plainOf (detailOf tree r)
+    at-plain : (detailOf tree r ≡ 6 → ⊥) → (detailOf tree r ≡ 7 → ⊥) → (detailOf tree r ≡ 8 → ⊥) → krcTypeAt tree text r ≡ plainOf (detailOf tree r)
     unfolding typeStep pick
     at-plain n₆ n₇ n₈ =
         type-step r ∙ rw (ne-eqb (detailOf tree r) 6 n₆, ne-eqb (detailOf tree r) 7 n₇, ne-eqb (detailOf tree r) 8 n₈) refl
 
-    back-by : Detail (detailOf tree r) → back (typeAt tree text r) ≡ detailOf tree r
+    back-by : Detail (detailOf tree r) → back (krcTypeAt tree text r) ≡ detailOf tree r
     unfolding back
     back-by (isAddress d) = rw (at-address d) (sym d)
     back-by (isArray d) = rw (at-array d) (sym d)
     back-by (isCustom d) = rw (at-custom d) (sym d)
     back-by (isPlain l p n₆ n₇ n₈) = ap back (at-plain n₆ n₇ n₈) ∙ plain-back (detailOf tree r) l p
 
-    back-at : back (typeAt tree text r) ≡ detailOf tree r
+    back-at : back (krcTypeAt tree text r) ≡ detailOf tree r
     back-at = back-by detail
 
 -- ---- equal types
@@ -166,9 +166,9 @@ word-low tree bytes r k =
 module _ (tree text : List ℕ) (n : ℕ) (bytes : Bytes tree) (good : (r : ℕ) → r < n → recordOk tree text r ≡ true) where
   -- below m, equal types are the same record
   Distinct : ℕ → Type 0
-  Distinct m = (i j : ℕ) → i < m → j < m → kindOf tree i ≡ 1 → kindOf tree j ≡ 1 → typeAt tree text i ≡ typeAt tree text j → i ≡ j
+  Distinct m = (i j : ℕ) → i < m → j < m → kindOf tree i ≡ 1 → kindOf tree j ≡ 1 → krcTypeAt tree text i ≡ krcTypeAt tree text j → i ≡ j
 
-  module _ (j r : ℕ) (l : j < r) (h : r < n) (kj : kindOf tree j ≡ 1) (kr : kindOf tree r ≡ 1) (q : typeAt tree text j ≡ typeAt tree text r) where
+  module _ (j r : ℕ) (l : j < r) (h : r < n) (kj : kindOf tree j ≡ 1) (kr : kindOf tree r ≡ 1) (q : krcTypeAt tree text j ≡ krcTypeAt tree text r) where
     good-j : recordOk tree text j ≡ true
     good-j = good j (omega arith)
 
@@ -186,7 +186,7 @@ module _ (tree text : List ℕ) (n : ℕ) (bytes : Bytes tree) (good : (r : ℕ)
         let e : detailOf tree j ≡ 6 = same-detail ∙ d in
         let x : (wordOf tree j A < j) × (kindOf tree (wordOf tree j A) ≡ 1) = address-inner tree text j kj good-j e in
         let y : (wordOf tree r A < r) × (kindOf tree (wordOf tree r A) ≡ 1) = address-inner tree text r kr (good r h) d in
-        let s : KAddress (typeAt tree text (wordOf tree j A)) ≡ KAddress (typeAt tree text (wordOf tree r A)) = sym (at-address tree text j kj good-j e) ∙ q ∙ at-address tree text r kr (good r h) d in
+        let s : KAddress (krcTypeAt tree text (wordOf tree j A)) ≡ KAddress (krcTypeAt tree text (wordOf tree r A)) = sym (at-address tree text j kj good-j e) ∙ q ∙ at-address tree text r kr (good r h) d in
         same-words (λ z. omega arith)
         (ih (wordOf tree j A) (wordOf tree r A) (omega arith) (y .0) (x .1) (y .1) (cc))
         (address-b tree text j kj good-j e ∙ sym (address-b tree text r kr (good r h) d))
@@ -195,7 +195,7 @@ module _ (tree text : List ℕ) (n : ℕ) (bytes : Bytes tree) (good : (r : ℕ)
         let e : detailOf tree j ≡ 7 = same-detail ∙ d in
         let x : (wordOf tree j A < j) × (kindOf tree (wordOf tree j A) ≡ 1) = array-inner tree text j kj good-j e in
         let y : (wordOf tree r A < r) × (kindOf tree (wordOf tree r A) ≡ 1) = array-inner tree text r kr (good r h) d in
-        let s : KArray (typeAt tree text (wordOf tree j A)) (wordOf tree j B + wordOf tree j C * 4294967296) ≡ KArray (typeAt tree text (wordOf tree r A)) (wordOf tree r B + wordOf tree r C * 4294967296) = sym (at-array tree text j kj good-j e) ∙ q ∙ at-array tree text r kr (good r h) d in
+        let s : KArray (krcTypeAt tree text (wordOf tree j A)) (wordOf tree j B + wordOf tree j C * 4294967296) ≡ KArray (krcTypeAt tree text (wordOf tree r A)) (wordOf tree r B + wordOf tree r C * 4294967296) = sym (at-array tree text j kj good-j e) ∙ q ∙ at-array tree text r kr (good r h) d in
         let count : wordOf tree j B + wordOf tree j C * 4294967296 ≡ wordOf tree r B + wordOf tree r C * 4294967296 = cc in
         let lj : wordOf tree j B < 4294967296 = word-low tree bytes j B in
         let lr : wordOf tree r B < 4294967296 = word-low tree bytes r B in
@@ -226,6 +226,6 @@ module _ (tree text : List ℕ) (n : ℕ) (bytes : Bytes tree) (good : (r : ℕ)
       let after : j < i → ⊥ = λ o. clash j i o (omega arith) kj ki (sym q) (λ a b ha hb. distinct m (omega arith) a b (omega arith) (omega arith)) in
       omega arith
 
-pub types-distinct : (tree text : List ℕ) → Bytes tree → ((r : ℕ) → r < records tree → recordOk tree text r ≡ true) → (i j : ℕ) → i < records tree → j < records tree → kindOf tree i ≡ 1 → kindOf tree j ≡ 1 → typeAt tree text i ≡ typeAt tree text j → i ≡ j
+pub types-distinct : (tree text : List ℕ) → Bytes tree → ((r : ℕ) → r < records tree → recordOk tree text r ≡ true) → (i j : ℕ) → i < records tree → j < records tree → kindOf tree i ≡ 1 → kindOf tree j ≡ 1 → krcTypeAt tree text i ≡ krcTypeAt tree text j → i ≡ j
 unfolding Distinct
 types-distinct tree text bytes good = distinct tree text (records tree) bytes good (records tree) (omega arith)

@@ -45,6 +45,6 @@ typeStep tree text g r =
     (plainOf (detailOf tree r))))
 
 -- the type that type record r stands for
-unfoldable pub typeAt : List ℕ → List ℕ → ℕ → KrcType
+unfoldable pub krcTypeAt : List ℕ → List ℕ → ℕ → KrcType
 unfolding fix typeStep
-typeAt tree text r = fix KNull (typeStep tree text) r
+krcTypeAt tree text r = fix KNull (typeStep tree text) r

@@ -10,11 +10,11 @@ use Rattle.conversion.specs.Ir.{Instr, texts, IrFunction, IrProgram}
 use Rattle.conversion.specs.Expressions.{Functions}
 use Rattle.runs.specs.Rule.{Rule, Answers}
 use Rattle.runs.specs.TreeRun.{treeRun}
-use Rattle.runs.specs.BodyRun.{Body, Vars, bodyRun}
+use Rattle.runs.specs.BodyRun.{FlatBody, Vars, bodyRun}
 use Rattle.runs.specs.Shared.{Shared, InPlace}
 
 -- a body's instructions c with the tables of the program that was made
-unfoldable pub bodyOf : Function → List Instr → IrProgram → Body
+unfoldable pub bodyOf : Function → List Instr → IrProgram → FlatBody
 bodyOf f c ir = record { instrs = c; result = f .returnType; strings = texts (ir .strings); floats = ir .floats }
 
 -- demand 3 for f, the i-th function of the program, with the body b: it became the i-th function of ir, and for every rule over W, whoever answers

@@ -16,9 +16,9 @@ use Rattle.conversion.specs.Statements.{parameterType, asCall}
 use Rattle.conversion.specs.Expressions.{Functions, get-type, common-type, unwrapOr, resolve-call}
 use Rattle.conversion.specs.Functions.{get-all-functions}
 use Rattle.conversion.specs.Converter.{convert}
-use Rattle.conversion.proofs.Bodies.{typeOf, rate, x, y, parameter, outside, inside, ask, bound, take, askRate, int, guardBody, eitherBody, loopBody, spinBody, takeX, ratioBody, pauseBody, splitBody, guard, either, loop, spin, ratio, pause, split, program, converted, codeOf, var, v, n}
+use Rattle.conversion.proofs.Bodies.{sampleType, rate, x, y, parameter, outside, inside, ask, bound, take, askRate, int, guardBody, eitherBody, loopBody, spinBody, takeX, ratioBody, pauseBody, splitBody, guard, either, loop, spin, ratio, pause, split, program, converted, codeOf, var, v, n}
 use Rattle.runs.specs.TreeRun as Tree
-use Rattle.runs.specs.Rule.{content, literalType, read, readAll, ValueOrStop, gives, halt, holds, fails, Typed, Calls, Content, IntContent, FloatContent, BoolContent, StringContent, NullContent, Rule, comes, pending, Answers, asked, Ending, passed, returns, halted}
+use Rattle.runs.specs.Rule.{content, literalType, read, readAll, ValueOrStop, gives, halt, holds, fails, Typed, CallsMade, Content, IntContent, FloatContent, BoolContent, StringContent, NullContent, Rule, comes, pending, Answers, asked, Ending, passed, returns, halted}
 use Rattle.runs.specs.TreeRun.{Ran, held, treeRun, parametersKnown, parameterValues, set, runStatement, bindS, bindO, bindT, testO, giveBack, evalExpr, typed, typedO, scopeOf, evalBinary, evalAnd, evalOr, toBool, answered, bindG, test, evalOther, replied, handed, fit, fitLiteral, fitComputed, bare, castFirst, callWith, fitArguments, zeroOf, store, assign, introduce, initialise, newType, turns, forOver, forInt, forLoop, rounds, knownType, knownAfter, knownInit, withNew, callStatement, callOnly}
 use Rattle.runs.specs.BodyRun.{Vars, Spot, waits, lost, bodyRun, steps, step, fetch, execute, putTo, dropTo, putReply, dropReply, jumpTo, branchTo, finishWith, operand, datum, write, oneOn, labelPlace, isLabel}
 use Rattle.runs.specs.Shared.{callsT, endT, callsB, endB}
@@ -118,16 +118,16 @@ functions (err k r) = []
 
 -- f with the body b, called with vs
 unfoldable pub treeOf : {W : Type 0} → Rule W → Answers W → Function → Block → List W → ℕ → Ran W
-unfolding typeOf rate x y parameter outside inside ask bound take askRate int guardBody eitherBody loopBody spinBody takeX ratioBody pauseBody splitBody guard either loop spin ratio pause split program functions get-all-functions pick treeRun parametersKnown parameterValues set runStatement bindS bindO giveBack evalExpr typed scopeOf Tree.variables evalBinary evalAnd evalOr toBool answered bindG test evalOther replied handed fit fitLiteral fitComputed read readAll literalType content bare castFirst callWith fitArguments get-type common-type unwrapOr resolve-call parameterType testO bindT typedO zeroOf store assign introduce initialise newType turns forOver forInt forLoop rounds onInt onFloat isFloat knownType knownAfter knownInit withNew callStatement callOnly asCall
+unfolding sampleType rate x y parameter outside inside ask bound take askRate int guardBody eitherBody loopBody spinBody takeX ratioBody pauseBody splitBody guard either loop spin ratio pause split program functions get-all-functions pick treeRun parametersKnown parameterValues set runStatement bindS bindO giveBack evalExpr typed scopeOf Tree.variables evalBinary evalAnd evalOr toBool answered bindG test evalOther replied handed fit fitLiteral fitComputed read readAll literalType content bare castFirst callWith fitArguments get-type common-type unwrapOr resolve-call parameterType testO bindT typedO zeroOf store assign introduce initialise newType turns forOver forInt forLoop rounds onInt onFloat isFloat knownType knownAfter knownInit withNew callStatement callOnly asCall
 treeOf R A f b vs = treeRun program (functions (get-all-functions (program .functions) [])) f R A b vs
 
 -- f, the i-th function that is made, begun with the variables' contents ρ
 unfoldable pub madeOf : {W : Type 0} → Rule W → Answers W → ℕ → Function → Vars W → ℕ → Spot W
-unfolding typeOf rate x y parameter outside inside ask bound take askRate int guardBody eitherBody loopBody spinBody takeX ratioBody pauseBody splitBody guard either loop spin ratio pause split program pick converted codeOf convert bodyRun steps step fetch execute putTo dropTo putReply dropReply jumpTo branchTo finishWith operand datum read literalType content write oneOn labelPlace isLabel bodyOf texts
+unfolding sampleType rate x y parameter outside inside ask bound take askRate int guardBody eitherBody loopBody spinBody takeX ratioBody pauseBody splitBody guard either loop spin ratio pause split program pick converted codeOf convert bodyRun steps step fetch execute putTo dropTo putReply dropReply jumpTo branchTo finishWith operand datum read literalType content write oneOn labelPlace isLabel bodyOf texts
 madeOf R A i f ρ = bodyRun R A (bodyOf f (codeOf (converted (convert program false) .funcs) i) (converted (convert program false))) ρ
 
 -- the two sides of `ends` in the claim `Shared`, at the end e and the calls h: both hold
-pub record BothEnd {W : Type 0} (tree : ℕ → Ran W) (body : ℕ → Spot W) (e : Ending W) (h : Calls W) : Type 0 where
+pub record BothEnd {W : Type 0} (tree : ℕ → Ran W) (body : ℕ → Spot W) (e : Ending W) (h : CallsMade W) : Type 0 where
   pub ofTree : (i : ℕ) × (endT (tree i) ≡ some e) × (callsT (tree i) ≡ h)
   pub ofBody : (i : ℕ) × (endB (body i) ≡ some e) × (callsB (body i) ≡ h)
 

@@ -9,7 +9,7 @@ use Rattle.syntax.specs.Syntax.{Statement, SDeclare, SInit, SReturn, SCall, SIf
 use Rattle.conversion.specs.Ir.{State, made, M, pure}
 use Rattle.conversion.specs.Scope.{Scope, withLoop}
 use Rattle.conversion.specs.Statements.{convert-statement, convert-block}
-use Rattle.runs.specs.Rule.{Calls}
+use Rattle.runs.specs.Rule.{CallsMade}
 use Rattle.runs.specs.TreeRun.{KnownName, Values, Ran, normal, bindS, runStatement, runBlock, knownAfter}
 use Rattle.runs.proofs.Opens.{opensS, opensB}
 use Rattle.runs.proofs.Machine.{Code, at, count, count-append, placed-drop}
@@ -43,7 +43,7 @@ module _ {W : Type 0} (X : Ctx W) where
         sim = λ w g lvs il sb m k ρ σ h ag pl. runs ρ (stay X) ag;
       })
 
-  next-made : {z zb : ℕ → ℕ} {N M : List KnownName} {ev evb : ℕ → Values W → Calls W → Ran W} {s s1 t : State} {ca cb : Code} {sc2 : Scope} (sc sc1 : Scope)
+  next-made : {z zb : ℕ → ℕ} {N M : List KnownName} {ev evb : ℕ → Values W → CallsMade W → Ran W} {s s1 t : State} {ca cb : Code} {sc2 : Scope} (sc sc1 : Scope)
       → GoodS X sc z N ev s sc1 ca s1 → GoodS X sc1 zb M evb s1 sc2 cb t
       → GoodS X sc (λ x. z x + zb x) M (λ i σ h. bindS (ev i σ h) λ σ1 h1. evb i σ1 h1) s sc2 (ca ++ cb) t
   next-made {s = s} {s1} {t} {ca} {cb} {sc2} sc sc1 G H = record {
@@ -59,7 +59,7 @@ module _ {W : Type 0} (X : Ctx W) where
         H .sim w (G .scoped g) lvs (rw (sym (G .loop)) at il) (sub-trans sb (G .sub)) i k ρ1 σ1 h1 a1 (placed-drop (X .code) ca _ pl);
   }
 
-  block-next : (t : Statement) (b : Block) (sc : Scope) (z zb : ℕ → ℕ) (ev : ℕ → Values W → Calls W → Ran W) (evb : ℕ → List KnownName → Values W → Calls W → Ran W) (N : List KnownName) → sc .function ≡ X .fun
+  block-next : (t : Statement) (b : Block) (sc : Scope) (z zb : ℕ → ℕ) (ev : ℕ → Values W → CallsMade W → Ran W) (evb : ℕ → List KnownName → Values W → CallsMade W → Ran W) (N : List KnownName) → sc .function ≡ X .fun
       → SoundS X sc (λ s. convert-statement (X .prog) (X .funs) t sc s) z N ev
       → ((sc1 : Scope) → sc1 .function ≡ X .fun
       → SoundS X sc1 (λ s. convert-block (X .prog) (X .funs) b sc1 s) zb (knownEnd b (known (sc1 .variables))) (λ i σ h. evb i (known (sc1 .variables)) σ h))

@@ -14,7 +14,7 @@ use Rattle.conversion.specs.Ir.{Operand, Label, Jump, JumpIfNot, Comment, loopS
 use Rattle.conversion.specs.Scope.{Variable, Scope}
 use Rattle.conversion.specs.Expressions.{Functions}
 use Rattle.conversion.specs.Statements.{convert-if, convertIfElse, convert-break, convert-continue}
-use Rattle.runs.specs.Rule.{Calls, Datum, read}
+use Rattle.runs.specs.Rule.{CallsMade, Datum, read}
 use Rattle.runs.specs.TreeRun.{KnownName, Values, Got, Ran, normal, broke, continued, bindO, testO, evalExpr}
 use Rattle.runs.specs.BodyRun.{Vars, isLabel, operand}
 use Rattle.runs.proofs.Opens.{bit, opensE}
@@ -37,7 +37,7 @@ unfolding convert-continue
 no-continue P F r sc s x c t q = let w : _≡_ {A = ℕ} 0 1 = cc in omega arith
 
 module _ {W : Type 0} (X : Ctx W) where
-  if-made : {z za : ℕ → ℕ} {N : List KnownName} {ev : Values W → Calls W → Got W (Datum W)} {eva : ℕ → Values W → Calls W → Ran W} {s s1 s2 s3 t : State} {o : Operand} {co ca : Code} {m n : ℕ} {sa : Scope}
+  if-made : {z za : ℕ → ℕ} {N : List KnownName} {ev : Values W → CallsMade W → Got W (Datum W)} {eva : ℕ → Values W → CallsMade W → Ran W} {s s1 s2 s3 t : State} {o : Operand} {co ca : Code} {m n : ℕ} {sa : Scope}
       (r : ℕ) (sc : Scope) → GoodE X Low (holding X) (sc .variables) z ev s o co s1 → AskedLabel (conditionEnd r) s1 m s2 → GoodS X sc za N eva s2 sa ca s3 → AskedLabel (conditionEnd r) s3 n t
       → GoodS X sc (λ x. bit (eqb x r) + (z x + za x)) (known (sc .variables))
       (λ i σ h. bindO (ev σ h) λ v h1. testO (X .rule .truth (read (X .rule) v)) h1 (eva i σ h1) (normal σ h1))
@@ -72,7 +72,7 @@ module _ {W : Type 0} (X : Ctx W) where
             (runs ρ1 (rw en (go-label X (pe .0))) (agree-frame g f1 ag));
       }
 
-  pub good-if : (sc : Scope) (r : ℕ) (e : Expr) (then : M Scope) (za : ℕ → ℕ) (N : List KnownName) (eva : ℕ → Values W → Calls W → Ran W) → SoundS X sc then za N eva
+  pub good-if : (sc : Scope) (r : ℕ) (e : Expr) (then : M Scope) (za : ℕ → ℕ) (N : List KnownName) (eva : ℕ → Values W → CallsMade W → Ran W) → SoundS X sc then za N eva
       → SoundS X sc (convert-if (X .prog) (X .funs) r e sc then) (λ x. bit (eqb x r) + (opensE e x + za x)) (known (sc .variables))
       (λ i σ h. bindO (evalExpr (X .prog) (X .funs) (X .fun) (X .rule) (X .answers) e (known (sc .variables)) σ h) λ v h1. testO (X .rule .truth (read (X .rule) v)) h1 (eva i σ h1) (normal σ h1))
   good-if sc r e then za N eva H s x c t q =
@@ -87,7 +87,7 @@ module _ {W : Type 0} (X : Ctx W) where
       (if-made r sc (goodE X sc e s (i1 .got) (i1 .c1) (i1 .st) (cond-expr (X .prog) (X .funs) e sc s (i1 .got) (i1 .c1) (i1 .st) (i1 .first))) (i2 .asked)
       (H (i2 .st) (i4 .got) (i4 .c1) (i4 .st) (i4 .first)) (i5 .asked))
 
-  if-else-made : {z za zb : ℕ → ℕ} {N M : List KnownName} {ev : Values W → Calls W → Got W (Datum W)} {eva evb : ℕ → Values W → Calls W → Ran W} {s s1 s2 s3 s4 s5 s6 t : State} {o : Operand} {co ca cb : Code}
+  if-else-made : {z za zb : ℕ → ℕ} {N M : List KnownName} {ev : Values W → CallsMade W → Got W (Datum W)} {eva evb : ℕ → Values W → CallsMade W → Ran W} {s s1 s2 s3 s4 s5 s6 t : State} {o : Operand} {co ca cb : Code}
       {m n m1 n1 : ℕ} {sa sb : Scope}
       (r : ℕ) (sc : Scope) → GoodE X Low (holding X) (sc .variables) z ev s o co s1 → AskedLabel (otherwiseLabel r) s1 m s2 → GoodS X sc za N eva s2 sa ca s3 → AskedLabel (conditionEnd r) s3 n s4
       → AskedLabel (otherwiseLabel r) s4 m1 s5 → GoodS X sc zb M evb s5 sb cb s6 → AskedLabel (conditionEnd r) s6 n1 t
@@ -137,7 +137,7 @@ module _ {W : Type 0} (X : Ctx W) where
             (s-after X (λ ρ2 h2. go1 X refl) (K .sub) (K .sim w6 (scoped-mono n5 g) lvs il sb i _ ρ1 σ h1 (agree-frame g f1 ag) (po .1))));
       }
 
-  pub good-if-else : (sc : Scope) (r : ℕ) (e : Expr) (then otherwise : M Scope) (za zb : ℕ → ℕ) (N M : List KnownName) (eva evb : ℕ → Values W → Calls W → Ran W)
+  pub good-if-else : (sc : Scope) (r : ℕ) (e : Expr) (then otherwise : M Scope) (za zb : ℕ → ℕ) (N M : List KnownName) (eva evb : ℕ → Values W → CallsMade W → Ran W)
       → SoundS X sc then za N eva → SoundS X sc otherwise zb M evb
       → SoundS X sc (convertIfElse (X .prog) (X .funs) r e sc then otherwise) (λ x. bit (eqb x r) + (opensE e x + (za x + zb x))) (known (sc .variables))
       (λ i σ h. bindO (evalExpr (X .prog) (X .funs) (X .fun) (X .rule) (X .answers) e (known (sc .variables)) σ h) λ v h1. testO (X .rule .truth (read (X .rule) v)) h1 (eva i σ h1) (evb i σ h1))
@@ -175,7 +175,7 @@ module _ {W : Type 0} (X : Ctx W) where
   }
     where
       there : {lp : Bool} {ls le : ℕ} {lvs : List Variable} → InLoop X (some l) lp ls le → Num X (loopEnd l) m → Sub lvs (sc .variables)
-          → (i : ℕ) (k : Code) (ρ : Vars W) (σ : Values W) (h : Calls W) → Agree (sc .variables) σ ρ → SimS X i lp lvs ls le (at (Jump m ∷ k) [] ρ h) k (sc .variables) (broke σ h)
+          → (i : ℕ) (k : Code) (ρ : Vars W) (σ : Values W) (h : CallsMade W) → Agree (sc .variables) σ ρ → SimS X i lp lvs ls le (at (Jump m ∷ k) [] ρ h) k (sc .variables) (broke σ h)
       there (inside u v) n sb i k ρ σ h ag = breaks {h = h} ρ tt (rw (num-same X v n) (go1 X refl)) (agree-sub sb ag)
 
   continue-made : {s t : State} {m : ℕ} (sc : Scope) (l : ℕ) → sc .inLoop ≡ some l → AskedLabel (loopStart l) s m t
@@ -193,7 +193,7 @@ module _ {W : Type 0} (X : Ctx W) where
   }
     where
       there : {lp : Bool} {ls le : ℕ} {lvs : List Variable} → InLoop X (some l) lp ls le → Num X (loopStart l) m → Sub lvs (sc .variables)
-          → (i : ℕ) (k : Code) (ρ : Vars W) (σ : Values W) (h : Calls W) → Agree (sc .variables) σ ρ → SimS X i lp lvs ls le (at (Jump m ∷ k) [] ρ h) k (sc .variables) (continued σ h)
+          → (i : ℕ) (k : Code) (ρ : Vars W) (σ : Values W) (h : CallsMade W) → Agree (sc .variables) σ ρ → SimS X i lp lvs ls le (at (Jump m ∷ k) [] ρ h) k (sc .variables) (continued σ h)
       there (inside u v) n sb i k ρ σ h ag = continues {h = h} ρ tt (rw (num-same X u n) (go1 X refl)) (agree-sub sb ag)
 
   pub good-break : (sc : Scope) (r : ℕ) → SoundS X sc (convert-break (X .prog) (X .funs) r (sc .inLoop) sc) (λ x. 0) (known (sc .variables)) (λ i σ h. broke σ h)
@@ -220,7 +220,7 @@ module _ {W : Type 0} (X : Ctx W) where
 
   -- ---- a comment, and then
 
-  comment-made : {z : ℕ → ℕ} {N : List KnownName} {ev : ℕ → Values W → Calls W → Ran W} {s t : State} {c : Code} {sc1 : Scope} (r : ℕ) (sc : Scope)
+  comment-made : {z : ℕ → ℕ} {N : List KnownName} {ev : ℕ → Values W → CallsMade W → Ran W} {s t : State} {c : Code} {sc1 : Scope} (r : ℕ) (sc : Scope)
       → GoodS X sc z N ev s sc1 c t → GoodS X sc z N ev s sc1 (Comment r ∷ c) t
   unfolding count isLabel step exec
   comment-made r sc G = record {
@@ -234,7 +234,7 @@ module _ {W : Type 0} (X : Ctx W) where
     sim = λ w g lvs il sb i k ρ σ h ag pl. s-before X (go1 X refl) (G .sim w g lvs il sb i k ρ σ h ag (pl .1));
   }
 
-  pub good-comment : (sc : Scope) (r : ℕ) (m : M Scope) (z : ℕ → ℕ) (N : List KnownName) (ev : ℕ → Values W → Calls W → Ran W) → SoundS X sc m z N ev
+  pub good-comment : (sc : Scope) (r : ℕ) (m : M Scope) (z : ℕ → ℕ) (N : List KnownName) (ev : ℕ → Values W → CallsMade W → Ran W) → SoundS X sc m z N ev
       → SoundS X sc (emit (Comment r) >> m) z N ev
   good-comment sc r m z N ev H s x c t q =
       let i = inv-emit q in

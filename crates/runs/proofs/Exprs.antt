@@ -20,7 +20,7 @@ use Rattle.conversion.specs.Ir.{pure, VarId, Operand, OVar, OInt, OFloat, OBool
 use Rattle.conversion.specs.Scope.{Variable, Scope, findIn}
 use Rattle.conversion.specs.Expressions.{Callee, CallFunction, CallCast, Functions, givesBool, accepted, operandsError, binaryType, filterOption, acceptsClass, operandClass, commonOf, nameType, unwrapOr, get-type, resolve-call, common-type}
 use Rattle.conversion.specs.Statements.{castOperand, refloat, fit-operand, parameterType, fitFrom, emitArgs, convert-unary, convertAnd, convertOr, castFirst, convertOther, convertBinaryBy, callFunction, callValue, convert-expr, convert-args, nameOperand, sizeOperand}
-use Rattle.runs.specs.Rule.{Calls, Literal, IntLiteral, FloatLiteral, BoolLiteral, StringLiteral, NullLiteral, Datum, constant, computed, read}
+use Rattle.runs.specs.Rule.{CallsMade, Literal, IntLiteral, FloatLiteral, BoolLiteral, StringLiteral, NullLiteral, Datum, constant, computed, read}
 use Rattle.runs.specs.TreeRun.{Values, Got, value, bindG, answered, typed, fitLiteral, fitComputed, fit, fitArguments, toBool, evalAnd, evalOr, evalOther, evalBinary, callWith, evalExpr, evalArgs, scopeOf, sizeDatum}
 use Rattle.runs.specs.TreeRun as Tree
 use Rattle.runs.specs.BodyRun.{Vars, datum, isLabel, operand}
@@ -96,7 +96,7 @@ binary-bool P F r o a b sc y q g = go (get-type P F a sc) (get-type P F b sc) q
     go (err k n) v e = let w : _≡_ {A = ℕ} 0 1 = cc in absurd (omega arith)
 
 module _ {W : Type 0} (X : Ctx W) where
-  unary-made : {vs : List Variable} {z : ℕ → ℕ} {ev : Values W → Calls W → Got W (Datum W)} {s s1 : State} {a : Operand} {c : Code} (o : UnaryOp) (y : ℕ)
+  unary-made : {vs : List Variable} {z : ℕ → ℕ} {ev : Values W → CallsMade W → Got W (Datum W)} {s s1 : State} {a : Operand} {c : Code} (o : UnaryOp) (y : ℕ)
       → GoodE X Low (holding X) vs z ev s a c s1
       → GoodE X Low (holding X) vs z (λ σ h. bindG (ev σ h) λ u h1. answered y (X .rule .unary o y (read (X .rule) u)) h1)
       s (OVar (nextVar y s1)) (c ++ (Unary (nextVar y s1) o a ∷ [])) (withVar y s1)
@@ -111,7 +111,7 @@ module _ {W : Type 0} (X : Ctx W) where
             sim-bind X _ (le-refl _) (G .sim (within-back X gv w) g _ ρ σ h ag pl) λ ρ1 h1 f1. sim-put X (nextVar y s1) _ h1 (G .grow .vars) refl;
       }
 
-  good-unary : (vs : List Variable) (o : UnaryOp) (y : ℕ) (m : M Operand) (z : ℕ → ℕ) (ev : Values W → Calls W → Got W (Datum W)) → Sound X vs m z ev
+  good-unary : (vs : List Variable) (o : UnaryOp) (y : ℕ) (m : M Operand) (z : ℕ → ℕ) (ev : Values W → CallsMade W → Got W (Datum W)) → Sound X vs m z ev
       → Sound X vs (convert-unary o y m) z (λ σ h. bindG (ev σ h) λ u h1. answered y (X .rule .unary o y (read (X .rule) u)) h1)
   good-unary vs o y m z ev H s x c t q =
       let i1 = inv (sym (unarySteps-is o y m s) ∙ q) in
@@ -121,7 +121,7 @@ module _ {W : Type 0} (X : Ctx W) where
       good-as X (i4 .got) (joinS i1 (joinE (i3 .code) (i4 .code))) (i4 .st) (unary-made o y (H _ _ _ _ (i1 .first)))
 
   -- And: the left side is copied and tested; the right one is reached where the test holds
-  and-made : {vs : List Variable} {zl zr : ℕ → ℕ} {evl evr : Values W → Calls W → Got W (Datum W)} {s3 s4 s6 s8 t : State} {a b : Operand} {ca cb : Code} {m n : ℕ} (r : ℕ) (s : State)
+  and-made : {vs : List Variable} {zl zr : ℕ → ℕ} {evl evr : Values W → CallsMade W → Got W (Datum W)} {s3 s4 s6 s8 t : State} {a b : Operand} {ca cb : Code} {m n : ℕ} (r : ℕ) (s : State)
       → Grow (withVar boolType s) s3 → GoodE X Low (holding X) vs zl evl s3 a ca s4 → AskedLabel (logicEnd r) s4 m s6
       → GoodE X Low (holding X) vs zr evr s6 b cb s8 → AskedLabel (logicEnd r) s8 n t
       → GoodE X Low (holding X) vs (λ x. bit (eqb x r) + (zl x + zr x)) (λ σ h. evalAnd (X .prog) (X .funs) (X .fun) (X .rule) (X .answers) (evl σ) (evr σ) h)
@@ -158,7 +158,7 @@ module _ {W : Type 0} (X : Ctx W) where
             (gets ρ2 (rw en (go-label X (placed-drop (X .code) cb _ pr .1 .0))) (λ x b. refl) refl);
       }
 
-  good-and : (vs : List Variable) (r : ℕ) (left right : M Operand) (zl zr : ℕ → ℕ) (evl evr : Values W → Calls W → Got W (Datum W))
+  good-and : (vs : List Variable) (r : ℕ) (left right : M Operand) (zl zr : ℕ → ℕ) (evl evr : Values W → CallsMade W → Got W (Datum W))
       → Sound X vs left zl evl → Sound X vs right zr evr
       → Sound X vs (convertAnd r boolType left right) (λ x. bit (eqb x r) + (zl x + zr x))
       (λ σ h. evalAnd (X .prog) (X .funs) (X .fun) (X .rule) (X .answers) (evl σ) (evr σ) h)
@@ -179,7 +179,7 @@ module _ {W : Type 0} (X : Ctx W) where
       (and-made r s (grow-trans (i2 .asked .grow) (i3 .asked .grow)) (Hl _ _ _ _ (i4 .first)) (i6 .asked) (Hr _ _ _ _ (i8 .first)) (i10 .asked))
 
   -- Or: the right one is reached where the test fails
-  or-made : {vs : List Variable} {zl zr : ℕ → ℕ} {evl evr : Values W → Calls W → Got W (Datum W)} {s3 s4 s6 s7 s9 s11 t : State} {a b : Operand} {ca cb : Code} {m n m1 n1 : ℕ} (r : ℕ) (s : State)
+  or-made : {vs : List Variable} {zl zr : ℕ → ℕ} {evl evr : Values W → CallsMade W → Got W (Datum W)} {s3 s4 s6 s7 s9 s11 t : State} {a b : Operand} {ca cb : Code} {m n m1 n1 : ℕ} (r : ℕ) (s : State)
       → Grow (withVar boolType s) s3 → GoodE X Low (holding X) vs zl evl s3 a ca s4 → AskedLabel (logicRhs r) s4 m s6 → AskedLabel (logicEnd r) s6 n s7 → AskedLabel (logicRhs r) s7 m1 s9
       → GoodE X Low (holding X) vs zr evr s9 b cb s11 → AskedLabel (logicEnd r) s11 n1 t
       → GoodE X Low (holding X) vs (λ x. bit (eqb x r) + (zl x + zr x)) (λ σ h. evalOr (X .prog) (X .funs) (X .fun) (X .rule) (X .answers) (evl σ) (evr σ) h)
@@ -223,7 +223,7 @@ module _ {W : Type 0} (X : Ctx W) where
             sim-after X (λ ρ4 h4. go1 X refl) (sim-put X d _ h3 (le-refl _) refl)));
       }
 
-  good-or : (vs : List Variable) (r : ℕ) (left right : M Operand) (zl zr : ℕ → ℕ) (evl evr : Values W → Calls W → Got W (Datum W))
+  good-or : (vs : List Variable) (r : ℕ) (left right : M Operand) (zl zr : ℕ → ℕ) (evl evr : Values W → CallsMade W → Got W (Datum W))
       → Sound X vs left zl evl → Sound X vs right zr evr
       → Sound X vs (convertOr r boolType left right) (λ x. bit (eqb x r) + (zl x + zr x))
       (λ σ h. evalOr (X .prog) (X .funs) (X .fun) (X .rule) (X .answers) (evl σ) (evr σ) h)
@@ -251,13 +251,13 @@ module _ {W : Type 0} (X : Ctx W) where
   -- ---- fitting
 
   -- from s fitting came to x, the code c, without labels, and t; and, given L, this does what ev says of the variables
-  pub record Fitted {Y Z : Type 0} (L : Type 0) (lows : State → Y → Type 0) (get : Vars W → Y → Z) (ev : Vars W → Calls W → Got W Z) (s : State) (x : Y) (c : Code) (t : State) : Type 0 where
+  pub record Fitted {Y Z : Type 0} (L : Type 0) (lows : State → Y → Type 0) (get : Vars W → Y → Z) (ev : Vars W → CallsMade W → Got W Z) (s : State) (x : Y) (c : Code) (t : State) : Type 0 where
     pub grow : Grow s t
     pub low : L → lows t x
     pub clear : (n : ℕ) → count n c ≡ 0
-    pub sim : L → Within X t → (k : Code) (ρ : Vars W) (h : Calls W) → SimE X (at (c ++ k) [] ρ h) k (length (s .vars)) ρ (λ ρ′. get ρ′ x) (ev ρ h)
+    pub sim : L → Within X t → (k : Code) (ρ : Vars W) (h : CallsMade W) → SimE X (at (c ++ k) [] ρ h) k (length (s .vars)) ρ (λ ρ′. get ρ′ x) (ev ρ h)
 
-  fitted-as : {Y Z : Type 0} {L : Type 0} {lows : State → Y → Type 0} {get : Vars W → Y → Z} {ev : Vars W → Calls W → Got W Z} {s : State} {x x₁ : Y} {c c₁ : Code} {t t₁ : State}
+  fitted-as : {Y Z : Type 0} {L : Type 0} {lows : State → Y → Type 0} {get : Vars W → Y → Z} {ev : Vars W → CallsMade W → Got W Z} {s : State} {x x₁ : Y} {c c₁ : Code} {t t₁ : State}
       → x ≡ x₁ → c ≡ c₁ → t ≡ t₁ → Fitted L lows get ev s x₁ c₁ t₁ → Fitted L lows get ev s x c t
   fitted-as p q r g = rw (p, q, r) g
 
@@ -365,7 +365,7 @@ module _ {W : Type 0} (X : Ctx W) where
       fitted-as (i .got) (i .code) (i .st) (record { grow = grow-refl; low = λ l. tt; clear = λ n. refl; sim = λ l w k ρ h. gets ρ (stay X) (λ x b. refl) refl })
 
   fits-made : {s s1 t : State} {a : Operand} {b : List Operand} {ca cb : Code} (o : Operand) (os : List Operand)
-      (ev : Datum W → Calls W → Got W (Datum W)) (evs : List (Datum W) → Calls W → Got W (List (Datum W)))
+      (ev : Datum W → CallsMade W → Got W (Datum W)) (evs : List (Datum W) → CallsMade W → Got W (List (Datum W)))
       → Fitted (Low s o) Low (holding X) (λ ρ h. ev (holding X ρ o) h) s a ca s1 → Fitted (Lows s1 os) Lows (holdings X) (λ ρ h. evs (holdings X ρ os) h) s1 b cb t
       → Fitted (Low s o × Lows s os) Lows (holdings X)
       (λ ρ h. bindG (ev (holding X ρ o) h) λ u h1. bindG (evs (holdings X ρ os) h1) λ us h2. value (u ∷ us) h2) s (a ∷ b) (ca ++ cb) t
@@ -395,7 +395,7 @@ module _ {W : Type 0} (X : Ctx W) where
 
   -- ---- binaries other than And and Or
 
-  other-made : {vs : List Variable} {zl zr : ℕ → ℕ} {evl evr : Values W → Calls W → Got W (Datum W)} {s s1 s2 s3 s4 : State} {a b a1 b1 : Operand} {ca cb fa fb : Code} (o : BinaryOp) (y p : ℕ)
+  other-made : {vs : List Variable} {zl zr : ℕ → ℕ} {evl evr : Values W → CallsMade W → Got W (Datum W)} {s s1 s2 s3 s4 : State} {a b a1 b1 : Operand} {ca cb fa fb : Code} (o : BinaryOp) (y p : ℕ)
       → GoodE X Low (holding X) vs zl evl s a ca s1 → GoodE X Low (holding X) vs zr evr s1 b cb s2
       → Fitted (Low s2 a) Low (holding X) (λ ρ h. fit (X .prog) (X .rule) p (holding X ρ a) h) s2 a1 fa s3
       → Fitted (Low s3 b) Low (holding X) (λ ρ h. fit (X .prog) (X .rule) p (holding X ρ b) h) s3 b1 fb s4
@@ -427,7 +427,7 @@ module _ {W : Type 0} (X : Ctx W) where
             (sim-put X (nextVar y s4) _ h4 (omega (arith, n3, B .grow .vars)) refl)));
       }
 
-  good-other : (vs : List Variable) (o : BinaryOp) (y p : ℕ) (left right : M Operand) (zl zr : ℕ → ℕ) (evl evr : Values W → Calls W → Got W (Datum W))
+  good-other : (vs : List Variable) (o : BinaryOp) (y p : ℕ) (left right : M Operand) (zl zr : ℕ → ℕ) (evl evr : Values W → CallsMade W → Got W (Datum W))
       → Sound X vs left zl evl → Sound X vs right zr evr
       → Sound X vs (convertOther (X .prog) (X .funs) o y p left right) (λ x. zl x + zr x)
       (λ σ h. evalOther (X .prog) (X .funs) (X .fun) (X .rule) (X .answers) o y p (evl σ) (evr σ) h)
@@ -442,10 +442,10 @@ module _ {W : Type 0} (X : Ctx W) where
       good-as X (i7 .got) (joinS i1 (joinS i2 (joinS i3 (joinS i4 (joinE (i6 .code) (i7 .code)))))) (i7 .st)
       (other-made o y p (Hl _ _ _ _ (i1 .first)) (Hr _ _ _ _ (i2 .first)) (good-fit _ p _ _ _ _ (i3 .first)) (good-fit _ p _ _ _ _ (i4 .first)))
 
-  plus-none : {vs : List Variable} {m : M Operand} {z : ℕ → ℕ} {ev : Values W → Calls W → Got W (Datum W)} → Sound X vs m z ev → Sound X vs m (λ x. 0 + z x) ev
+  plus-none : {vs : List Variable} {m : M Operand} {z : ℕ → ℕ} {ev : Values W → CallsMade W → Got W (Datum W)} → Sound X vs m z ev → Sound X vs m (λ x. 0 + z x) ev
   plus-none H s x c t q = let g = H s x c t q in record { grow = g .grow; low = g .low; once = λ w n. omega (arith, g .once w n); sim = g .sim }
 
-  good-binary : (vs : List Variable) (o : BinaryOp) (r y p : ℕ) (left right : M Operand) (zl zr : ℕ → ℕ) (evl evr : Values W → Calls W → Got W (Datum W))
+  good-binary : (vs : List Variable) (o : BinaryOp) (r y p : ℕ) (left right : M Operand) (zl zr : ℕ → ℕ) (evl evr : Values W → CallsMade W → Got W (Datum W))
       → (givesBool o ≡ true → y ≡ boolType) → Sound X vs left zl evl → Sound X vs right zr evr
       → Sound X vs (convertBinaryBy (X .prog) (X .funs) o r y p left right) (λ x. logicOpens o r x + (zl x + zr x))
       (λ σ h. evalBinary (X .prog) (X .funs) (X .fun) (X .rule) (X .answers) o y p (evl σ) (evr σ) h)
@@ -471,7 +471,7 @@ module _ {W : Type 0} (X : Ctx W) where
 
   -- ---- calls
 
-  ask-made : {vs : List Variable} {z : ℕ → ℕ} {ev : Values W → Calls W → Got W (List (Datum W))} {s s1 t : State} {os us : List Operand} {ca fs : Code} (y : ℕ) (g : Function)
+  ask-made : {vs : List Variable} {z : ℕ → ℕ} {ev : Values W → CallsMade W → Got W (List (Datum W))} {s s1 t : State} {os us : List Operand} {ca fs : Code} (y : ℕ) (g : Function)
       → GoodE X Lows (holdings X) vs z ev s os ca s1
       → Fitted (Lows (withVar y s1) os) Lows (holdings X) (λ ρ h. fitArguments (X .prog) (X .rule) 0 (holdings X ρ os) g h) (withVar y s1) us fs t
       → GoodE X Low (holding X) vs z (λ σ h. bindG (ev σ h) λ vs h1. callWith (X .prog) (X .funs) (X .fun) (X .rule) (X .answers) y (CallFunction g) vs h1)
@@ -490,7 +490,7 @@ module _ {W : Type 0} (X : Ctx W) where
             sim-before X (push (X .rule) (X .answers) (body X) us _ [] ρ2 h2) (sim-reply X (nextVar y s1) _ _ (G .grow .vars) refl);
       }
 
-  cast-made : {vs : List Variable} {z : ℕ → ℕ} {ev : Values W → Calls W → Got W (List (Datum W))} {s s1 : State} {o : Operand} {os : List Operand} {ca : Code} (y u : ℕ)
+  cast-made : {vs : List Variable} {z : ℕ → ℕ} {ev : Values W → CallsMade W → Got W (List (Datum W))} {s s1 : State} {o : Operand} {os : List Operand} {ca : Code} (y u : ℕ)
       → GoodE X Lows (holdings X) vs z ev s (o ∷ os) ca s1
       → GoodE X Low (holding X) vs z (λ σ h. bindG (ev σ h) λ vs h1. callWith (X .prog) (X .funs) (X .fun) (X .rule) (X .answers) y (CallCast u) vs h1)
       s (OVar (nextVar y s1)) (ca ++ (Cast (nextVar y s1) o ∷ [])) (withVar y s1)
@@ -509,7 +509,7 @@ module _ {W : Type 0} (X : Ctx W) where
   unfolding castFirst
   no-cast r d s x c t q = let w : _≡_ {A = ℕ} 0 1 = cc in omega arith
 
-  good-call : {vs : List Variable} {z : ℕ → ℕ} {ev : Values W → Calls W → Got W (List (Datum W))} {s s1 : State} {os : List Operand} {ca : Code} (r y : ℕ) (callee : Callee)
+  good-call : {vs : List Variable} {z : ℕ → ℕ} {ev : Values W → CallsMade W → Got W (List (Datum W))} {s s1 : State} {os : List Operand} {ca : Code} (r y : ℕ) (callee : Callee)
       → GoodE X Lows (holdings X) vs z ev s os ca s1
       → (x : Operand) (c : Code) (t : State) → callValue (X .prog) (X .funs) r (nextVar y s1) os callee (withVar y s1) ≡ made x c t
       → GoodE X Low (holding X) vs z (λ σ h. bindG (ev σ h) λ vs h1. callWith (X .prog) (X .funs) (X .fun) (X .rule) (X .answers) y callee vs h1) s x (ca ++ c) t
@@ -587,12 +587,12 @@ module _ {W : Type 0} (X : Ctx W) where
             sim = λ w g k ρ σ h ag pl. gets ρ (stay X) (λ x b. refl) (ap (computed (v .var-id .ty)) (ag .same n v e));
           }))
 
-  good-typed : {vs : List Variable} {z : ℕ → ℕ} {s : State} {x : Operand} {c : Code} {t : State} {Q : Type 0} (u : Result Q) (y : Q) (ev : Q → Values W → Calls W → Got W (Datum W))
+  good-typed : {vs : List Variable} {z : ℕ → ℕ} {s : State} {x : Operand} {c : Code} {t : State} {Q : Type 0} (u : Result Q) (y : Q) (ev : Q → Values W → CallsMade W → Got W (Datum W))
       → u ≡ ok y → GoodE X Low (holding X) vs z (ev y) s x c t → GoodE X Low (holding X) vs z (λ σ h. typed u h (λ a. ev a σ h)) s x c t
   unfolding typed
   good-typed u y ev e g = rw e g
 
-  more-made : {vs : List Variable} {z zs : ℕ → ℕ} {ev : Values W → Calls W → Got W (Datum W)} {evs : Values W → Calls W → Got W (List (Datum W))} {s s1 t : State} {a : Operand} {b : List Operand} {ca cb : Code}
+  more-made : {vs : List Variable} {z zs : ℕ → ℕ} {ev : Values W → CallsMade W → Got W (Datum W)} {evs : Values W → CallsMade W → Got W (List (Datum W))} {s s1 t : State} {a : Operand} {b : List Operand} {ca cb : Code}
       → GoodE X Low (holding X) vs z ev s a ca s1 → GoodE X Lows (holdings X) vs zs evs s1 b cb t
       → GoodE X Lows (holdings X) vs (λ x. z x + zs x) (λ σ h. bindG (ev σ h) λ u h1. bindG (evs σ h1) λ us h2. value (u ∷ us) h2) s (a ∷ b) (ca ++ cb) t
   unfolding dats
@@ -625,7 +625,7 @@ module _ {W : Type 0} (X : Ctx W) where
 
   module _ (sc : Scope) where
     -- the compound expressions, from what is known of their parts
-    expr-unary : (r : ℕ) (o : UnaryOp) (a : Expr) (z : ℕ → ℕ) (ev : Values W → Calls W → Got W (Datum W))
+    expr-unary : (r : ℕ) (o : UnaryOp) (a : Expr) (z : ℕ → ℕ) (ev : Values W → CallsMade W → Got W (Datum W))
         → Sound X (sc .variables) (λ s. convert-expr (X .prog) (X .funs) a sc s) z ev
         → Sound X (sc .variables) (λ s. convert-expr (X .prog) (X .funs) (EUnary r o a) sc s) z
         (λ σ h. typed (get-type (X .prog) (X .funs) (EUnary r o a) (scopeOf (X .fun) (known (sc .variables)))) h λ y.
@@ -636,7 +636,7 @@ module _ {W : Type 0} (X : Ctx W) where
         (typing (X .prog) (X .funs) (X .fun) sc (EUnary r o a) ∙ i .known)
         (good-unary (sc .variables) o (i .got) (λ s1. convert-expr (X .prog) (X .funs) a sc s1) z ev H s x c t (i .rest))
 
-    expr-binary : (r : ℕ) (o : BinaryOp) (a b : Expr) (zl zr : ℕ → ℕ) (evl evr : Values W → Calls W → Got W (Datum W))
+    expr-binary : (r : ℕ) (o : BinaryOp) (a b : Expr) (zl zr : ℕ → ℕ) (evl evr : Values W → CallsMade W → Got W (Datum W))
         → Sound X (sc .variables) (λ s. convert-expr (X .prog) (X .funs) a sc s) zl evl → Sound X (sc .variables) (λ s. convert-expr (X .prog) (X .funs) b sc s) zr evr
         → Sound X (sc .variables) (λ s. convert-expr (X .prog) (X .funs) (EBinary r o a b) sc s) (λ x. logicOpens o r x + (zl x + zr x))
         (λ σ h. typed (get-type (X .prog) (X .funs) (EBinary r o a b) (scopeOf (X .fun) (known (sc .variables)))) h λ y.
@@ -655,7 +655,7 @@ module _ {W : Type 0} (X : Ctx W) where
         (good-binary (sc .variables) o r (i .got) (unwrapOr (i .got) (j .got)) (λ s1. convert-expr (X .prog) (X .funs) a sc s1) (λ s1. convert-expr (X .prog) (X .funs) b sc s1)
         zl zr evl evr (binary-bool (X .prog) (X .funs) r o a b sc (i .got) (i .known)) Hl Hr s x c t (j .rest)))
 
-    expr-call : (r : ℕ) (verb : Text) (l : Args) (z : ℕ → ℕ) (ev : Values W → Calls W → Got W (List (Datum W)))
+    expr-call : (r : ℕ) (verb : Text) (l : Args) (z : ℕ → ℕ) (ev : Values W → CallsMade W → Got W (List (Datum W)))
         → Sounds X (sc .variables) (λ s. convert-args (X .prog) (X .funs) l sc s) z ev
         → Sound X (sc .variables) (λ s. convert-expr (X .prog) (X .funs) (ECall r verb l) sc s) z
         (λ σ h. typed (get-type (X .prog) (X .funs) (ECall r verb l) (scopeOf (X .fun) (known (sc .variables)))) h λ y.
@@ -674,7 +674,7 @@ module _ {W : Type 0} (X : Ctx W) where
         (resolving (X .prog) (X .funs) (X .fun) sc verb l r ∙ j .known)
         (good-as X refl (k .code) refl (good-call r (i .got) (j .got) (H s (k .got) (k .c1) (k .st) (k .first)) x (k .c2) t (n .rest))))
 
-    args-value : (r : ℕ) (e : Expr) (l : Args) (z zs : ℕ → ℕ) (ev : Values W → Calls W → Got W (Datum W)) (evs : Values W → Calls W → Got W (List (Datum W)))
+    args-value : (r : ℕ) (e : Expr) (l : Args) (z zs : ℕ → ℕ) (ev : Values W → CallsMade W → Got W (Datum W)) (evs : Values W → CallsMade W → Got W (List (Datum W)))
         → Sound X (sc .variables) (λ s. convert-expr (X .prog) (X .funs) e sc s) z ev → Sounds X (sc .variables) (λ s. convert-args (X .prog) (X .funs) l sc s) zs evs
         → Sounds X (sc .variables) (λ s. convert-args (X .prog) (X .funs) (Value r e l) sc s) (λ x. z x + zs x)
         (λ σ h. bindG (ev σ h) λ u h1. bindG (evs σ h1) λ us h2. value (u ∷ us) h2)

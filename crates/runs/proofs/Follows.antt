@@ -12,7 +12,7 @@ use Rattle.conversion.specs.ConvertError.{ok}
 use Rattle.conversion.specs.Ir.{IrProgram}
 use Rattle.conversion.specs.Expressions.{Functions}
 use Rattle.conversion.specs.Functions.{get-all-functions}
-use Rattle.runs.specs.Rule.{Typed, Calls, Rule, Answers, Ending}
+use Rattle.runs.specs.Rule.{Typed, CallsMade, Rule, Answers, Ending}
 use Rattle.runs.specs.BodyRun.{Vars, bodyRun}
 use Rattle.runs.specs.Shared.{callsB, endB, InPlace}
 use Rattle.runs.proofs.Agrees.{bodyOf, Agrees}
@@ -29,7 +29,7 @@ module _ {W : Type 0} (P : Program) (F : Functions) (ir : IrProgram) (i : ℕ) (
       agrees .shared R C vs ρ len place .calls k q .0 (t .0, prefix-get k q (tree-calls-grow P F f R A C found more b vs (t .0) (t .0) (le-refl (t .0))) (t .1))
 
   -- its end, with the calls behind it
-  pub ends-follow : (e : Ending W) (h : Calls W) → (n : ℕ) × (endB (bodyRun R A (bodyOf f (agrees .code) ir) ρ n) ≡ some e) × (callsB (bodyRun R A (bodyOf f (agrees .code) ir) ρ n) ≡ h)
+  pub ends-follow : (e : Ending W) (h : CallsMade W) → (n : ℕ) × (endB (bodyRun R A (bodyOf f (agrees .code) ir) ρ n) ≡ some e) × (callsB (bodyRun R A (bodyOf f (agrees .code) ir) ρ n) ≡ h)
       → (m : ℕ) × (endB (bodyRun R C (bodyOf f (agrees .code) ir) ρ m) ≡ some e) × (callsB (bodyRun R C (bodyOf f (agrees .code) ir) ρ m) ≡ h)
   ends-follow e h d =
       let t = agrees .shared R A vs ρ len place .ends e h .1 d in

@@ -17,7 +17,7 @@ use Rattle.conversion.specs.Types.{onInt}
 use Rattle.conversion.specs.Ir.{Operand, OVar, OInt, Copy, Binary, Label, Jump, JumpIfNot, loopStart, loopEnd, loopCheck, State, made, M, fail}
 use Rattle.conversion.specs.Scope.{Variable, Scope, findIn, withVariable, withLoop}
 use Rattle.conversion.specs.Statements.{convert-while-loop, forLoop, forInt, forKnown, convert-for-loop}
-use Rattle.runs.specs.Rule.{Calls, IntLiteral, Datum, constant, read}
+use Rattle.runs.specs.Rule.{CallsMade, IntLiteral, Datum, constant, read}
 use Rattle.runs.specs.TreeRun as Tree
 use Rattle.runs.specs.TreeRun.{KnownName, Values, set, knownType, Got, Ran, stopped, bare, bindO, fit, evalExpr, turns, rounds, forOver}
 use Rattle.runs.specs.BodyRun.{Vars, write, datum, isLabel, operand}
@@ -44,12 +44,12 @@ not-constant false r m s x c t q = q
 module _ {W : Type 0} (X : Ctx W) where
   -- ---- While: vs are the names, over the variables below t; o the condition's operand; ls, le the labels
 
-  module _ (n : ℕ) (o : Operand) (co cb : Code) {vs us : List Variable} {t ls le : ℕ} {ev : Values W → Calls W → Got W (Datum W)} {evb : Values W → Calls W → Ran W}
+  module _ (n : ℕ) (o : Operand) (co cb : Code) {vs us : List Variable} {t ls le : ℕ} {ev : Values W → CallsMade W → Got W (Datum W)} {evb : Values W → CallsMade W → Ran W}
       (g : Scoped vs t) (sub : Sub vs us)
-      (Hc : (k : Code) (ρ : Vars W) (σ : Values W) (h : Calls W) → Agree vs σ ρ → Placed (X .code) (co ++ k) → SimE X (at (co ++ k) [] ρ h) k t ρ (λ ρ′. holding X ρ′ o) (ev σ h))
-      (Hb : (k : Code) (ρ : Vars W) (σ : Values W) (h : Calls W) → Agree vs σ ρ → Placed (X .code) (cb ++ k) → SimS X n true vs ls le (at (cb ++ k) [] ρ h) k us (evb σ h))
+      (Hc : (k : Code) (ρ : Vars W) (σ : Values W) (h : CallsMade W) → Agree vs σ ρ → Placed (X .code) (co ++ k) → SimE X (at (co ++ k) [] ρ h) k t ρ (λ ρ′. holding X ρ′ o) (ev σ h))
+      (Hb : (k : Code) (ρ : Vars W) (σ : Values W) (h : CallsMade W) → Agree vs σ ρ → Placed (X .code) (cb ++ k) → SimS X n true vs ls le (at (cb ++ k) [] ρ h) k us (evb σ h))
       (k : Code) (pl : Placed (X .code) (Label ls ∷ (co ++ (JumpIfNot o le ∷ (cb ++ (Jump ls ∷ Label le ∷ k)))))) where
-    while-turns : {lp : Bool} {lvs : List Variable} {ls0 le0 : ℕ} (m : ℕ) → m ≤ n → (ρ : Vars W) (σ : Values W) (h : Calls W) → Agree vs σ ρ
+    while-turns : {lp : Bool} {lvs : List Variable} {ls0 le0 : ℕ} (m : ℕ) → m ≤ n → (ρ : Vars W) (σ : Values W) (h : CallsMade W) → Agree vs σ ρ
         → SimS X m lp lvs ls0 le0 (aim (goto (X .code) ls) [] ρ h) k vs (turns (X .prog) (X .funs) (X .fun) (X .rule) (X .answers) m ev evb σ h)
     unfolding turns step exec aim go1 one operand dat
     while-turns zero i ρ σ h ag = rw (pl .0) (long _ [] ρ (stay X) (omega arith))
@@ -64,7 +64,7 @@ module _ {W : Type 0} (X : Ctx W) where
         (λ σ2 ρ2 h2 a2. while-turns m (omega arith) ρ2 σ2 h2 a2))
         (runs ρ1 (go-label X pe) (agree-frame g f1 ag))))
 
-  while-made : {z za : ℕ → ℕ} {N : List KnownName} {ev : Values W → Calls W → Got W (Datum W)} {evb : ℕ → Values W → Calls W → Ran W} {s s1 s2 s3 s4 s5 t : State} {o : Operand} {co cb : Code}
+  while-made : {z za : ℕ → ℕ} {N : List KnownName} {ev : Values W → CallsMade W → Got W (Datum W)} {evb : ℕ → Values W → CallsMade W → Ran W} {s s1 s2 s3 s4 s5 t : State} {o : Operand} {co cb : Code}
       {ls le m1 m2 : ℕ} {sb : Scope} (r : ℕ) (sc : Scope) → AskedLabel (loopStart r) s ls s1 → GoodE X Low (holding X) (sc .variables) z ev s1 o co s2 → AskedLabel (loopEnd r) s2 le s3
       → GoodS X (withLoop r sc) za N evb s3 sb cb s4 → AskedLabel (loopStart r) s4 m1 s5 → AskedLabel (loopEnd r) s5 m2 t
       → GoodS X sc (λ x. bit (eqb x r) + (z x + za x)) (known (sc .variables)) (λ i σ h. turns (X .prog) (X .funs) (X .fun) (X .rule) (X .answers) i ev (evb i) σ h)
@@ -108,7 +108,7 @@ module _ {W : Type 0} (X : Ctx W) where
             (λ k1 ρ1 σ1 h1 a1 p1. H .sim w4 (scoped-mono n3 g) (sc .variables) (inside ns ne) sub-refl i k1 ρ1 σ1 h1 a1 p1) k pl i (le-refl i) ρ σ h ag);
       }
 
-  pub good-while : (sc : Scope) (r : ℕ) (e : Expr) (m : M Scope) (za : ℕ → ℕ) (N : List KnownName) (evb : ℕ → Values W → Calls W → Ran W) → SoundS X (withLoop r sc) m za N evb
+  pub good-while : (sc : Scope) (r : ℕ) (e : Expr) (m : M Scope) (za : ℕ → ℕ) (N : List KnownName) (evb : ℕ → Values W → CallsMade W → Ran W) → SoundS X (withLoop r sc) m za N evb
       → SoundS X sc (convert-while-loop (X .prog) (X .funs) r e sc m) (λ x. bit (eqb x r) + (opensE e x + za x)) (known (sc .variables))
       (λ i σ h. turns (X .prog) (X .funs) (X .fun) (X .rule) (X .answers) i
       (λ σ1 h1. evalExpr (X .prog) (X .funs) (X .fun) (X .rule) (X .answers) e (known (sc .variables)) σ1 h1) (evb i) σ h)
@@ -132,14 +132,14 @@ module _ {W : Type 0} (X : Ctx W) where
   -- fitted u1; the test is written into the variable t3; mk, ls, le are the labels of the check, the start, the end
 
   module _ (n : ℕ) (nm : Text) (v : Variable) (short unsigned : Bool) (u u1 : Operand) (t3 : ℕ) (cu fu cb : Code) {vs ds us : List Variable} {t0 t1 t2 mk ls le : ℕ}
-      {ev : Values W → Calls W → Got W (Datum W)} {evb : Values W → Calls W → Ran W}
+      {ev : Values W → CallsMade W → Got W (Datum W)} {evb : Values W → CallsMade W → Ran W}
       (gd : Scoped ds t0) (n1 : t0 ≤ t1) (n2 : t0 ≤ t2) (n3 : t0 ≤ t3) (sx : findIn nm ds ≡ some v) (sub : Sub vs ds) (inner : Sub ds us)
-      (Hu : (k : Code) (ρ : Vars W) (σ : Values W) (h : Calls W) → Agree vs σ ρ → Placed (X .code) (cu ++ k) → SimE X (at (cu ++ k) [] ρ h) k t1 ρ (λ ρ′. holding X ρ′ u) (ev σ h))
-      (Hf : (k : Code) (ρ : Vars W) (h : Calls W) → SimE X (at (fu ++ k) [] ρ h) k t2 ρ (λ ρ′. holding X ρ′ u1) (fit (X .prog) (X .rule) (v .var-id .ty) (holding X ρ u) h))
-      (Hb : (k : Code) (ρ : Vars W) (σ : Values W) (h : Calls W) → Agree ds σ ρ → Placed (X .code) (cb ++ k) → SimS X n true ds ls le (at (cb ++ k) [] ρ h) k us (evb σ h))
+      (Hu : (k : Code) (ρ : Vars W) (σ : Values W) (h : CallsMade W) → Agree vs σ ρ → Placed (X .code) (cu ++ k) → SimE X (at (cu ++ k) [] ρ h) k t1 ρ (λ ρ′. holding X ρ′ u) (ev σ h))
+      (Hf : (k : Code) (ρ : Vars W) (h : CallsMade W) → SimE X (at (fu ++ k) [] ρ h) k t2 ρ (λ ρ′. holding X ρ′ u1) (fit (X .prog) (X .rule) (v .var-id .ty) (holding X ρ u) h))
+      (Hb : (k : Code) (ρ : Vars W) (σ : Values W) (h : CallsMade W) → Agree ds σ ρ → Placed (X .code) (cb ++ k) → SimS X n true ds ls le (at (cb ++ k) [] ρ h) k us (evb σ h))
       (k : Code) (pl : Placed (X .code) (Label ls ∷ Binary (v .var-id) Add (OVar (v .var-id)) (OInt (pos 1) short unsigned) ∷ Label mk ∷ (cu ++ (fu ++ (Binary (record { id = t3; ty = boolType }) Lt (OVar (v .var-id)) u1
       ∷ JumpIfNot (OVar (record { id = t3; ty = boolType })) le ∷ (cb ++ (Jump ls ∷ Label le ∷ k))))))) where
-    for-rounds : {lp : Bool} {lvs : List Variable} {ls0 le0 : ℕ} (m : ℕ) → m ≤ n → (ρ : Vars W) (σ : Values W) (h : Calls W) → Agree ds σ ρ
+    for-rounds : {lp : Bool} {lvs : List Variable} {ls0 le0 : ℕ} (m : ℕ) → m ≤ n → (ρ : Vars W) (σ : Values W) (h : CallsMade W) → Agree ds σ ρ
         → SimS X m lp lvs ls0 le0 (aim (goto (X .code) mk) [] ρ h) k vs (rounds (X .prog) (X .funs) (X .fun) (X .rule) (X .answers) m nm (v .var-id .ty) (IntLiteral (pos 1) short unsigned) ev evb σ h)
     unfolding rounds step exec aim go1 one operand dat datum read
     for-rounds zero i ρ σ h ag = rw (pl .1 .1 .0) (long _ [] ρ (stay X) (omega arith))
@@ -164,7 +164,7 @@ module _ {W : Type 0} (X : Ctx W) where
         (runs (write ρ2 t3 w) (go-label X pe) (agree-sub sub a3)))))
 
   -- the whole For, in the scope sc from s on; sd is the scope of its body, s0 the state in which its variable is there
-  for-made : {z zu zb : ℕ → ℕ} {N : List KnownName} {ev evu : Values W → Calls W → Got W (Datum W)} {evb : ℕ → Values W → Calls W → Ran W}
+  for-made : {z zu zb : ℕ → ℕ} {N : List KnownName} {ev evu : Values W → CallsMade W → Got W (Datum W)} {evb : ℕ → Values W → CallsMade W → Ran W}
       {s s0 s1 s2 s3 s4 s5 s6 s7 s9 s10 s11 t : State} {a a1 u u1 : Operand} {ca fa cu fu cb : Code} {m1 ls mk le m2 m3 : ℕ} {sb : Scope}
       (r : ℕ) (sc sd : Scope) (nm : Text) (v : Variable) (short unsigned : Bool)
       → Grow s s0 → Sub (sc .variables) (sd .variables) → findIn nm (sd .variables) ≡ some v
@@ -253,8 +253,8 @@ module _ {W : Type 0} (X : Ctx W) where
       }
 
   -- the second half of a For, from the bound on: the parts before it are given
-  for-rest : {z : ℕ → ℕ} {ev : Values W → Calls W → Got W (Datum W)} {s s0 s1 s2 s3 s4 s5 : State} {a a1 : Operand} {ca fa : Code} {m1 ls mk : ℕ}
-      (za : ℕ → ℕ) (N : List KnownName) (evb : ℕ → Values W → Calls W → Ran W) (r : ℕ) (sc sd : Scope) (nm : Text) (v : Variable) (short unsigned : Bool) (until : Expr) (m : M Scope)
+  for-rest : {z : ℕ → ℕ} {ev : Values W → CallsMade W → Got W (Datum W)} {s s0 s1 s2 s3 s4 s5 : State} {a a1 : Operand} {ca fa : Code} {m1 ls mk : ℕ}
+      (za : ℕ → ℕ) (N : List KnownName) (evb : ℕ → Values W → CallsMade W → Ran W) (r : ℕ) (sc sd : Scope) (nm : Text) (v : Variable) (short unsigned : Bool) (until : Expr) (m : M Scope)
       → Grow s s0 → Sub (sc .variables) (sd .variables) → findIn nm (sd .variables) ≡ some v
       → (Scoped (sc .variables) (length (s .vars)) → Scoped (sd .variables) (length (s0 .vars)))
       → (Scoped (sc .variables) (length (s .vars)) → (σ : Values W) (ρ : Vars W) (w : W) → Agree (sc .variables) σ ρ → Agree (sd .variables) (set σ nm w) (write ρ (v .var-id .id) w))
@@ -288,7 +288,7 @@ module _ {W : Type 0} (X : Ctx W) where
       (goodE X sc until s5 (i11 .got) (i11 .c1) (i11 .st) (i11 .first)) (good-fit X (i11 .got) (v .var-id .ty) (i11 .st) (i12 .got) (i12 .c1) (i12 .st) (i12 .first))
       (i15 .asked) (H (i15 .st) (i17 .got) (i17 .c1) (i17 .st) (i17 .first)) (i18 .asked) (i20 .asked))
 
-  for-loop : (za : ℕ → ℕ) (N : List KnownName) (evb : ℕ → Values W → Calls W → Ran W) (s s0 : State) (r : ℕ) (sc sd : Scope) (nm : Text) (v : Variable) (short unsigned : Bool) (from until : Expr) (m : M Scope)
+  for-loop : (za : ℕ → ℕ) (N : List KnownName) (evb : ℕ → Values W → CallsMade W → Ran W) (s s0 : State) (r : ℕ) (sc sd : Scope) (nm : Text) (v : Variable) (short unsigned : Bool) (from until : Expr) (m : M Scope)
       → Grow s s0 → Sub (sc .variables) (sd .variables) → findIn nm (sd .variables) ≡ some v
       → (Scoped (sc .variables) (length (s .vars)) → Scoped (sd .variables) (length (s0 .vars)))
       → (Scoped (sc .variables) (length (s .vars)) → (σ : Values W) (ρ : Vars W) (w : W) → Agree (sc .variables) σ ρ → Agree (sd .variables) (set σ nm w) (write ρ (v .var-id .id) w))
@@ -318,7 +318,7 @@ module _ {W : Type 0} (X : Ctx W) where
       (goodE X sc from s0 (i1 .got) (i1 .c1) (i1 .st) (i1 .first)) (good-fit X (i1 .got) (v .var-id .ty) (i1 .st) (i2 .got) (i2 .c1) (i2 .st) (i2 .first))
       (i4 .asked) (i6 .asked) (i9 .asked) x (i10 .c2) t (i10 .rest))
 
-  for-int : (za : ℕ → ℕ) (N : List KnownName) (evb : ℕ → Values W → Calls W → Ran W) (s s0 : State) (r : ℕ) (sc sd : Scope) (nm : Text) (v : Variable) (from until : Expr) (m : M Scope)
+  for-int : (za : ℕ → ℕ) (N : List KnownName) (evb : ℕ → Values W → CallsMade W → Ran W) (s s0 : State) (r : ℕ) (sc sd : Scope) (nm : Text) (v : Variable) (from until : Expr) (m : M Scope)
       → Grow s s0 → Sub (sc .variables) (sd .variables) → findIn nm (sd .variables) ≡ some v
       → (Scoped (sc .variables) (length (s .vars)) → Scoped (sd .variables) (length (s0 .vars)))
       → (Scoped (sc .variables) (length (s .vars)) → (σ : Values W) (ρ : Vars W) (w : W) → Agree (sc .variables) σ ρ → Agree (sd .variables) (set σ nm w) (write ρ (v .var-id .id) w))
@@ -343,7 +343,7 @@ module _ {W : Type 0} (X : Ctx W) where
       go (TCustom b) z = absurd (no-int r s0 x c t z)
       go TNull z = absurd (no-int r s0 x c t z)
 
-  for-known : (za : ℕ → ℕ) (N : List KnownName) (evb : ℕ → List KnownName → Values W → Calls W → Ran W) (r : ℕ) (sc : Scope) (nm : Text) (from until : Expr) (m : M Scope) (o : Option Variable)
+  for-known : (za : ℕ → ℕ) (N : List KnownName) (evb : ℕ → List KnownName → Values W → CallsMade W → Ran W) (r : ℕ) (sc : Scope) (nm : Text) (from until : Expr) (m : M Scope) (o : Option Variable)
       → findIn nm (sc .variables) ≡ o → SoundS X (withLoop r sc) m za N (λ i. evb i (known (sc .variables)))
       → (s : State) (x : Scope) (c : Code) (t : State) → forKnown (X .prog) (X .funs) r o from until sc m s ≡ made x c t
       → GoodS X sc (λ x. bit (eqb x r) + (opensE from x + (opensE until x + za x))) (known (sc .variables))
@@ -354,7 +354,7 @@ module _ {W : Type 0} (X : Ctx W) where
       for-int za N (λ i. evb i (known (sc .variables))) s s r sc sc nm v from until m grow-refl sub-refl e (λ g. g) (λ g σ ρ w ag. agree-set σ ρ nm v w g e ag) H x c t
       (not-constant (v .constant) r (forInt (X .prog) (X .funs) r (v .var-id) from until sc m) s x c t q)
 
-  for-new : (za : ℕ → ℕ) (NN : List KnownName → List KnownName) (evb : ℕ → List KnownName → Values W → Calls W → Ran W) (r : ℕ) (sc : Scope) (nm : Text) (y : ℕ) (from until : Expr) (m : Scope → M Scope)
+  for-new : (za : ℕ → ℕ) (NN : List KnownName → List KnownName) (evb : ℕ → List KnownName → Values W → CallsMade W → Ran W) (r : ℕ) (sc : Scope) (nm : Text) (y : ℕ) (from until : Expr) (m : Scope → M Scope)
       → ((sd : Scope) → sd .function ≡ sc .function → SoundS X (withLoop r sd) (m sd) za (NN (known (sd .variables))) (λ i. evb i (known (sd .variables))))
       → (s : State) (x : Scope) (c : Code) (t : State) → convert-for-loop (X .prog) (X .funs) r nm (some y) from until sc m s ≡ made x c t
       → GoodS X sc (λ x. bit (eqb x r) + (opensE from x + (opensE until x + za x))) (known (sc .variables))
@@ -372,7 +372,7 @@ module _ {W : Type 0} (X : Ctx W) where
       (λ g σ ρ w ag. agree-new σ ρ v w g (le-refl _) ag) (H sd refl) x c t
       (subst (λ z. forInt (X .prog) (X .funs) r (nextVar y s) from until sc (m z) (withVar y s) ≡ made x c t) (d .scope) (i2 .rest))
 
-  pub good-for : (za : ℕ → ℕ) (NN : List KnownName → List KnownName) (evb : ℕ → List KnownName → Values W → Calls W → Ran W) (r : ℕ) (sc : Scope) (nm : Text) (y : Option ℕ) (from until : Expr) (m : Scope → M Scope)
+  pub good-for : (za : ℕ → ℕ) (NN : List KnownName → List KnownName) (evb : ℕ → List KnownName → Values W → CallsMade W → Ran W) (r : ℕ) (sc : Scope) (nm : Text) (y : Option ℕ) (from until : Expr) (m : Scope → M Scope)
       → ((sd : Scope) → sd .function ≡ sc .function → SoundS X (withLoop r sd) (m sd) za (NN (known (sd .variables))) (λ i. evb i (known (sd .variables))))
       → SoundS X sc (convert-for-loop (X .prog) (X .funs) r nm y from until sc m) (λ x. bit (eqb x r) + (opensE from x + (opensE until x + za x))) (known (sc .variables))
       (λ i σ h. forOver (X .prog) (X .funs) (X .fun) (X .rule) (X .answers) i nm y (knownType nm (known (sc .variables))) from until (known (sc .variables)) (evb i) σ h)

@@ -11,8 +11,8 @@ use native.Mathlib.Omega.{arith}
 use lib.Dec.{eqb, T, eqb→eq, eqb-refl}
 use Rattle.laws.specs.Fix.{pick}
 use Rattle.conversion.specs.Ir.{Operand, Instr, Copy, Unary, Binary, Cast, Zero, Arg, Call, Label, Jump, JumpIfNot, Return, Comment}
-use Rattle.runs.specs.Rule.{ValueOrStop, gives, halt, Truth, holds, fails, halts, Typed, Calls, Rule, Reply, comes, pending, Answers, Datum, read, readAll, Ending, passed, returns, halted}
-use Rattle.runs.specs.BodyRun.{Body, Vars, write, datum, isLabel, operand}
+use Rattle.runs.specs.Rule.{ValueOrStop, gives, halt, Truth, holds, fails, halts, Typed, CallsMade, Rule, Reply, comes, pending, Answers, Datum, read, readAll, Ending, passed, returns, halted}
+use Rattle.runs.specs.BodyRun.{FlatBody, Vars, write, datum, isLabel, operand}
 use Rattle.runs.proofs.Opens.{bit}
 
 abbrev pub Code : Type 0
@@ -22,10 +22,10 @@ abbrev pub Queue : Type 0 → Type 0
 Queue W = List (Typed W)
 
 pub data Cfg (W : Type 0) : Type 0 where
-  at : Code → Queue W → Vars W → Calls W → Cfg W
-  ended : Ending W → Calls W → Cfg W
-  waiting : Calls W → Cfg W
-  astray : Calls W → Cfg W
+  at : Code → Queue W → Vars W → CallsMade W → Cfg W
+  ended : Ending W → CallsMade W → Cfg W
+  waiting : CallsMade W → Cfg W
+  astray : CallsMade W → Cfg W
 
 -- ---- tests on numbers
 
@@ -142,37 +142,37 @@ placed C h = placed-from C [] C refl h
 
 -- ---- the machine
 
-unfoldable pub put : {W : Type 0} → ValueOrStop W → ℕ → Code → Queue W → Vars W → Calls W → Cfg W
+unfoldable pub put : {W : Type 0} → ValueOrStop W → ℕ → Code → Queue W → Vars W → CallsMade W → Cfg W
 put (gives v) d r q ρ h = at r q (write ρ d v) h
 put halt d r q ρ h = ended halted h
 
-unfoldable pub pass : {W : Type 0} → ValueOrStop W → Code → Queue W → Vars W → Calls W → Cfg W
+unfoldable pub pass : {W : Type 0} → ValueOrStop W → Code → Queue W → Vars W → CallsMade W → Cfg W
 pass (gives v) r q ρ h = at r q ρ h
 pass halt r q ρ h = ended halted h
 
-unfoldable pub putR : {W : Type 0} → Reply W → ℕ → Code → Queue W → Vars W → Calls W → Cfg W
+unfoldable pub putR : {W : Type 0} → Reply W → ℕ → Code → Queue W → Vars W → CallsMade W → Cfg W
 putR (comes u) d r q ρ h = put u d r q ρ h
 putR pending d r q ρ h = waiting h
 
-unfoldable pub passR : {W : Type 0} → Reply W → Code → Queue W → Vars W → Calls W → Cfg W
+unfoldable pub passR : {W : Type 0} → Reply W → Code → Queue W → Vars W → CallsMade W → Cfg W
 passR (comes u) r q ρ h = pass u r q ρ h
 passR pending r q ρ h = waiting h
 
 -- a jump to the code from a label on
-unfoldable pub aim : {W : Type 0} → Option Code → Queue W → Vars W → Calls W → Cfg W
+unfoldable pub aim : {W : Type 0} → Option Code → Queue W → Vars W → CallsMade W → Cfg W
 aim (some r) q ρ h = at r q ρ h
 aim none q ρ h = astray h
 
-pub aim-at : {W : Type 0} (o : Option Code) (r : Code) (q : Queue W) (ρ : Vars W) (h : Calls W) → o ≡ some r → aim o q ρ h ≡ at r q ρ h
+pub aim-at : {W : Type 0} (o : Option Code) (r : Code) (q : Queue W) (ρ : Vars W) (h : CallsMade W) → o ≡ some r → aim o q ρ h ≡ at r q ρ h
 unfolding aim
 aim-at o r q ρ h e = rw e refl
 
-unfoldable pub branch : {W : Type 0} → Truth → Code → Option Code → Queue W → Vars W → Calls W → Cfg W
+unfoldable pub branch : {W : Type 0} → Truth → Code → Option Code → Queue W → Vars W → CallsMade W → Cfg W
 branch holds r s q ρ h = at r q ρ h
 branch fails r s q ρ h = aim s q ρ h
 branch halts r s q ρ h = ended halted h
 
-unfoldable pub finish : {W : Type 0} → ValueOrStop W → Calls W → Cfg W
+unfoldable pub finish : {W : Type 0} → ValueOrStop W → CallsMade W → Cfg W
 finish (gives v) h = ended (returns v) h
 finish halt h = ended halted h
 
@@ -180,8 +180,8 @@ unfoldable pub argsOf : List Operand → Code
 argsOf [] = []
 argsOf (o ∷ os) = Arg o ∷ argsOf os
 
-module _ {W : Type 0} (R : Rule W) (A : Answers W) (B : Body) where
-  unfoldable pub exec : Instr → Code → Queue W → Vars W → Calls W → Cfg W
+module _ {W : Type 0} (R : Rule W) (A : Answers W) (B : FlatBody) where
+  unfoldable pub exec : Instr → Code → Queue W → Vars W → CallsMade W → Cfg W
   exec (Copy d a) r q ρ h = put (R .copy (d .ty) (operand R A B ρ a)) (d .id) r q ρ h
   exec (Unary d o a) r q ρ h = put (R .unary o (d .ty) (operand R A B ρ a)) (d .id) r q ρ h
   exec (Binary d o a b) r q ρ h = put (R .binary o (d .ty) (operand R A B ρ a) (operand R A B ρ b)) (d .id) r q ρ h
@@ -231,7 +231,7 @@ module _ {W : Type 0} (R : Rule W) (A : Answers W) (B : Body) where
   unfolding steps
   one p = record { many = 1; comes = p }
 
-  pub to-label : {l : ℕ} {k : Code} {q : Queue W} {ρ : Vars W} {h : Calls W} → goto (B .instrs) l ≡ some (Label l ∷ k) → To (aim (goto (B .instrs) l) q ρ h) (at k q ρ h)
+  pub to-label : {l : ℕ} {k : Code} {q : Queue W} {ρ : Vars W} {h : CallsMade W} → goto (B .instrs) l ≡ some (Label l ∷ k) → To (aim (goto (B .instrs) l) q ρ h) (at k q ρ h)
   unfolding step exec aim
   to-label e = rw e (one refl)
 
@@ -243,7 +243,7 @@ module _ {W : Type 0} (R : Rule W) (A : Answers W) (B : Body) where
   dats ρ [] = []
   dats ρ (o ∷ os) = dat ρ o ∷ dats ρ os
 
-  pub push : (os : List Operand) (k : Code) (q : Queue W) (ρ : Vars W) (h : Calls W)
+  pub push : (os : List Operand) (k : Code) (q : Queue W) (ρ : Vars W) (h : CallsMade W)
       → To (at (argsOf os ++ k) q ρ h) (at k (q ++ readAll R (dats ρ os)) ρ h)
   unfolding argsOf dats dat readAll step exec operand
   push [] k q ρ h = rw append-nil here

@@ -20,9 +20,9 @@ use Rattle.runs.proofs.Alike.{traced, shown}
 -- ---- records of types: 'Both runs read a literal at its tag's or mark's type, null or a string at that of the unfitted expression'
 
 -- the type at a record of a tree that has the twelve first types alone
-unfoldable pub typeAt : ℕ → Ty
+unfoldable pub pinnedType : ℕ → Ty
 unfolding row type types text Decode.program
-typeAt t = Decode.program types text .typeOf t
+pinnedType t = Decode.program types text .typeOf t
 
 pub literals : List Literal
 literals = IntLiteral (pos 1) false false ∷ IntLiteral (pos 1) true false ∷ IntLiteral (pos 1) false true ∷ IntLiteral (pos 1) true true
@@ -32,14 +32,14 @@ pub each : {X Y : Type 0} → (X → Y) → List X → List Y
 each f [] = []
 each f (a ∷ l) = f a ∷ each f l
 
-pub literal-types : each (λ l. typeAt (literalType l)) literals
+pub literal-types : each (λ l. pinnedType (literalType l)) literals
     ≡ TInt false false ∷ TInt true false ∷ TInt false true ∷ TInt true true ∷ TFloat false ∷ TFloat true ∷ TBool ∷ TAddress 7 ∷ TNull ∷ []
-unfolding each literals literalType typeAt intType floatType
+unfolding each literals literalType pinnedType intType floatType
 literal-types = refl
 
 -- Address of Char, of Null, and Bool
-pub type-records : each typeAt (addressOfChar ∷ addressOfNull ∷ 7 ∷ nullType ∷ boolType ∷ []) ≡ TAddress 7 ∷ TAddress 9 ∷ TChar ∷ TNull ∷ TBool ∷ []
-unfolding each typeAt
+pub type-records : each pinnedType (addressOfChar ∷ addressOfNull ∷ 7 ∷ nullType ∷ boolType ∷ []) ≡ TAddress 7 ∷ TAddress 9 ∷ TChar ∷ TNull ∷ TBool ∷ []
+unfolding each pinnedType
 type-records = refl
 
 -- ---- literals and values as they are read
@@ -71,7 +71,7 @@ fits = refl
 -- a Float of another width is cast; one of this width, and an Int, are kept
 pub fits-values : fit program traced 4 (computed 5 (8 ∷ [])) [] ∷ fit program traced 4 (computed 4 (8 ∷ [])) [] ∷ fit program traced 1 (computed 0 (8 ∷ [])) [] ∷ []
     ≡ value (computed 4 (5 ∷ 4 ∷ 5 ∷ 8 ∷ [])) [] ∷ value (computed 4 (8 ∷ [])) [] ∷ value (computed 0 (8 ∷ [])) [] ∷ []
-unfolding fit fitComputed answered isFloat onFloat traced program Bodies.typeOf
+unfolding fit fitComputed answered isFloat onFloat traced program Bodies.sampleType
 fits-values = refl
 
 -- an argument goes to its parameter's type, one behind the parameters to Float

@@ -7,9 +7,9 @@ use Prim.Native.Nat.{ℕ, zero, suc}
 use mathlib.Core.Bool.{Bool, true, false}
 use lib.ListN.{getElem?, drop}
 use Rattle.conversion.specs.Ir.{Instr, Copy, Unary, Binary, Cast, Zero, Arg, Call, Label, Jump, JumpIfNot, Return, Comment}
-use Rattle.runs.specs.Rule.{ValueOrStop, gives, halt, Truth, holds, fails, halts, Calls, Rule, Reply, comes, pending, Answers}
+use Rattle.runs.specs.Rule.{ValueOrStop, gives, halt, Truth, holds, fails, halts, CallsMade, Rule, Reply, comes, pending, Answers}
 use Rattle.runs.specs.BodyRun as P
-use Rattle.runs.specs.BodyRun.{Body, Vars, isLabel, oneOn, labelPlace, Spot, spot, over, waits, lost, putTo, dropTo, putReply, dropReply, jumpTo, branchTo, finishWith, execute, fetch}
+use Rattle.runs.specs.BodyRun.{FlatBody, Vars, isLabel, oneOn, labelPlace, Spot, spot, over, waits, lost, putTo, dropTo, putReply, dropReply, jumpTo, branchTo, finishWith, execute, fetch}
 use Rattle.runs.proofs.Machine.{Code, Queue, Cfg, at, ended, waiting, astray, goto, put, pass, putR, passR, aim, branch, finish, exec, step, steps}
 
 -- a place as the rest from there on
@@ -54,48 +54,48 @@ view (i ∷ r) (suc p) = go (view r p)
     go (off e f) = off e f
     go (on j e f) = on j e f
 
-module _ {W : Type 0} (R : Rule W) (A : Answers W) (B : Body) where
-  put-seen : (u : ValueOrStop W) (d p : ℕ) (q : Queue W) (ρ : Vars W) (h : Calls W) → seen (B .instrs) (putTo u d p q ρ h) ≡ put u d (drop p (B .instrs)) q ρ h
+module _ {W : Type 0} (R : Rule W) (A : Answers W) (B : FlatBody) where
+  put-seen : (u : ValueOrStop W) (d p : ℕ) (q : Queue W) (ρ : Vars W) (h : CallsMade W) → seen (B .instrs) (putTo u d p q ρ h) ≡ put u d (drop p (B .instrs)) q ρ h
   unfolding seen putTo put
   put-seen (gives v) d p q ρ h = refl
   put-seen halt d p q ρ h = refl
 
-  pass-seen : (u : ValueOrStop W) (p : ℕ) (q : Queue W) (ρ : Vars W) (h : Calls W) → seen (B .instrs) (dropTo u p q ρ h) ≡ pass u (drop p (B .instrs)) q ρ h
+  pass-seen : (u : ValueOrStop W) (p : ℕ) (q : Queue W) (ρ : Vars W) (h : CallsMade W) → seen (B .instrs) (dropTo u p q ρ h) ≡ pass u (drop p (B .instrs)) q ρ h
   unfolding seen dropTo pass
   pass-seen (gives v) p q ρ h = refl
   pass-seen halt p q ρ h = refl
 
-  reply-seen : (u : Reply W) (d p : ℕ) (q : Queue W) (ρ : Vars W) (h : Calls W) → seen (B .instrs) (putReply u d p q ρ h) ≡ putR u d (drop p (B .instrs)) q ρ h
+  reply-seen : (u : Reply W) (d p : ℕ) (q : Queue W) (ρ : Vars W) (h : CallsMade W) → seen (B .instrs) (putReply u d p q ρ h) ≡ putR u d (drop p (B .instrs)) q ρ h
   unfolding seen putReply putR
   reply-seen (comes u) d p q ρ h = put-seen u d p q ρ h
   reply-seen pending d p q ρ h = refl
 
-  drop-seen : (u : Reply W) (p : ℕ) (q : Queue W) (ρ : Vars W) (h : Calls W) → seen (B .instrs) (dropReply u p q ρ h) ≡ passR u (drop p (B .instrs)) q ρ h
+  drop-seen : (u : Reply W) (p : ℕ) (q : Queue W) (ρ : Vars W) (h : CallsMade W) → seen (B .instrs) (dropReply u p q ρ h) ≡ passR u (drop p (B .instrs)) q ρ h
   unfolding seen dropReply passR
   drop-seen (comes u) p q ρ h = pass-seen u p q ρ h
   drop-seen pending p q ρ h = refl
 
-  jump-seen : (o : Option ℕ) (q : Queue W) (ρ : Vars W) (h : Calls W) → seen (B .instrs) (jumpTo o q ρ h) ≡ aim (restFrom (B .instrs) o) q ρ h
+  jump-seen : (o : Option ℕ) (q : Queue W) (ρ : Vars W) (h : CallsMade W) → seen (B .instrs) (jumpTo o q ρ h) ≡ aim (restFrom (B .instrs) o) q ρ h
   unfolding seen jumpTo aim restFrom
   jump-seen (some p) q ρ h = refl
   jump-seen none q ρ h = refl
 
-  label-seen : (l : ℕ) (q : Queue W) (ρ : Vars W) (h : Calls W) → seen (B .instrs) (jumpTo (labelPlace (B .instrs) l) q ρ h) ≡ aim (goto (B .instrs) l) q ρ h
+  label-seen : (l : ℕ) (q : Queue W) (ρ : Vars W) (h : CallsMade W) → seen (B .instrs) (jumpTo (labelPlace (B .instrs) l) q ρ h) ≡ aim (goto (B .instrs) l) q ρ h
   label-seen l q ρ h = jump-seen (labelPlace (B .instrs) l) q ρ h ∙ ap (λ o. aim o q ρ h) (label-rest (B .instrs) l)
 
-  branch-seen : (u : Truth) (p l : ℕ) (q : Queue W) (ρ : Vars W) (h : Calls W)
+  branch-seen : (u : Truth) (p l : ℕ) (q : Queue W) (ρ : Vars W) (h : CallsMade W)
       → seen (B .instrs) (branchTo u p (labelPlace (B .instrs) l) q ρ h) ≡ branch u (drop p (B .instrs)) (goto (B .instrs) l) q ρ h
   unfolding seen branchTo branch
   branch-seen holds p l q ρ h = refl
   branch-seen fails p l q ρ h = label-seen l q ρ h
   branch-seen halts p l q ρ h = refl
 
-  finish-seen : (u : ValueOrStop W) (h : Calls W) → seen (B .instrs) (finishWith u h) ≡ finish u h
+  finish-seen : (u : ValueOrStop W) (h : CallsMade W) → seen (B .instrs) (finishWith u h) ≡ finish u h
   unfolding seen finishWith finish
   finish-seen (gives v) h = refl
   finish-seen halt h = refl
 
-  exec-seen : (i : Instr) (p : ℕ) (q : Queue W) (ρ : Vars W) (h : Calls W) → seen (B .instrs) (execute R A B i p q ρ h) ≡ exec R A B i (drop p (B .instrs)) q ρ h
+  exec-seen : (i : Instr) (p : ℕ) (q : Queue W) (ρ : Vars W) (h : CallsMade W) → seen (B .instrs) (execute R A B i p q ρ h) ≡ exec R A B i (drop p (B .instrs)) q ρ h
   unfolding seen execute exec
   exec-seen (Copy d a) p q ρ h = put-seen _ _ p q ρ h
   exec-seen (Unary d o a) p q ρ h = put-seen _ _ p q ρ h

@@ -14,9 +14,9 @@ use Rattle.syntax.specs.Syntax.{Function, Program}
 use Rattle.conversion.specs.Ir.{VarId, Operand, OVar, OInt, OFloat, OBool, ODataAddress, ONull, Instr, Label, LabelName, loopStart, StringEntry, texts, FloatEntry, State, made, M, position, sameLabel, sameText, sameFloat}
 use Rattle.conversion.specs.Scope.{Variable}
 use Rattle.conversion.specs.Expressions.{Functions}
-use Rattle.runs.specs.Rule.{ValueOrStop, gives, halt, Truth, holds, fails, halts, Calls, Rule, Reply, comes, pending, Answers, Datum, computed, halted}
+use Rattle.runs.specs.Rule.{ValueOrStop, gives, halt, Truth, holds, fails, halts, CallsMade, Rule, Reply, comes, pending, Answers, Datum, computed, halted}
 use Rattle.runs.specs.TreeRun.{Values, Got, value, stop, wait, bindG, answered, replied, test}
-use Rattle.runs.specs.BodyRun.{Body, Vars, write, datum}
+use Rattle.runs.specs.BodyRun.{FlatBody, Vars, write, datum}
 use Rattle.runs.proofs.Opens.{bit}
 use Rattle.runs.proofs.Machine.{Code, Queue, Cfg, at, ended, waiting, Same, is, isnt, same, write-same, write-other, count, goto, Placed, put, putR, aim, branch, step, To, here, one, to-trans, to-label, dat, dats}
 use Rattle.runs.proofs.Invert.{Grow, Asked, position-holds, found-in, noFloat}
@@ -35,7 +35,7 @@ pub record Ctx (W : Type 0) : Type 0 where
   pub strings : List StringEntry
   pub floats : List FloatEntry
 
-abbrev pub body : {W : Type 0} → Ctx W → Body
+abbrev pub body : {W : Type 0} → Ctx W → FlatBody
 body X = record { instrs = X .code; result = X .fun .returnType; strings = texts (X .strings); floats = X .floats }
 
 -- an operand's variable and float are there
@@ -125,7 +125,7 @@ module _ {W : Type 0} (X : Ctx W) where
   unfoldable pub goes : {c d e : Cfg W} → Goes c d → Goes d e → Goes c e
   goes p q = to-trans (X .rule) (X .answers) (body X) p q
 
-  pub go-label : {l : ℕ} {k : Code} {q : Queue W} {ρ : Vars W} {h : Calls W} → goto (X .code) l ≡ some (Label l ∷ k) → Goes (aim (goto (X .code) l) q ρ h) (at k q ρ h)
+  pub go-label : {l : ℕ} {k : Code} {q : Queue W} {ρ : Vars W} {h : CallsMade W} → goto (X .code) l ≡ some (Label l ∷ k) → Goes (aim (goto (X .code) l) q ρ h) (at k q ρ h)
   go-label e = to-label (X .rule) (X .answers) (body X) e
 
   abbrev pub holding : Vars W → Operand → Datum W
@@ -150,9 +150,9 @@ module _ {W : Type 0} (X : Ctx W) where
 
   -- from c the body comes to k, with the variables below t as they were, and get the value; or it stops as the tree does
   pub data SimE {Y : Type 0} (c : Cfg W) (k : Code) (t : ℕ) (ρ : Vars W) (get : Vars W → Y) : Got W Y → Type 0 where
-    gets : {v : Y} {h : Calls W} (ρ′ : Vars W) → Goes c (at k [] ρ′ h) → Frame t ρ ρ′ → get ρ′ ≡ v → SimE c k t ρ get (value v h)
-    stops : {h : Calls W} → Goes c (ended halted h) → SimE c k t ρ get (stop h)
-    hangs : {h : Calls W} → Goes c (waiting h) → SimE c k t ρ get (wait h)
+    gets : {v : Y} {h : CallsMade W} (ρ′ : Vars W) → Goes c (at k [] ρ′ h) → Frame t ρ ρ′ → get ρ′ ≡ v → SimE c k t ρ get (value v h)
+    stops : {h : CallsMade W} → Goes c (ended halted h) → SimE c k t ρ get (stop h)
+    hangs : {h : CallsMade W} → Goes c (waiting h) → SimE c k t ρ get (wait h)
 
   pub sim-before : {Y : Type 0} {c d : Cfg W} {k : Code} {t : ℕ} {ρ : Vars W} {get : Vars W → Y} {r : Got W Y}
       → Goes c d → SimE d k t ρ get r → SimE c k t ρ get r
@@ -161,7 +161,7 @@ module _ {W : Type 0} (X : Ctx W) where
   sim-before p (hangs q) = hangs (goes p q)
 
   pub sim-after : {Y : Type 0} {c : Cfg W} {j k : Code} {t : ℕ} {ρ : Vars W} {get : Vars W → Y} {r : Got W Y}
-      → ((ρ′ : Vars W) (h : Calls W) → Goes (at j [] ρ′ h) (at k [] ρ′ h)) → SimE c j t ρ get r → SimE c k t ρ get r
+      → ((ρ′ : Vars W) (h : CallsMade W) → Goes (at j [] ρ′ h) (at k [] ρ′ h)) → SimE c j t ρ get r → SimE c k t ρ get r
   sim-after p (gets {h = h} ρ′ q f e) = gets ρ′ (goes q (p ρ′ h)) f e
   sim-after p (stops q) = stops q
   sim-after p (hangs q) = hangs q
@@ -172,9 +172,9 @@ module _ {W : Type 0} (X : Ctx W) where
   sim-frame g f (stops q) = stops q
   sim-frame g f (hangs q) = hangs q
 
-  pub sim-bind : {Y Z : Type 0} {c : Cfg W} {j k : Code} {s t : ℕ} {ρ : Vars W} {get : Vars W → Y} {get′ : Vars W → Z} {r : Got W Y} (f : Y → Calls W → Got W Z)
+  pub sim-bind : {Y Z : Type 0} {c : Cfg W} {j k : Code} {s t : ℕ} {ρ : Vars W} {get : Vars W → Y} {get′ : Vars W → Z} {r : Got W Y} (f : Y → CallsMade W → Got W Z)
       → s ≤ t → SimE c j t ρ get r
-      → ((ρ₁ : Vars W) (h₁ : Calls W) → Frame t ρ ρ₁ → SimE (at j [] ρ₁ h₁) k s ρ₁ get′ (f (get ρ₁) h₁))
+      → ((ρ₁ : Vars W) (h₁ : CallsMade W) → Frame t ρ ρ₁ → SimE (at j [] ρ₁ h₁) k s ρ₁ get′ (f (get ρ₁) h₁))
       → SimE c k s ρ get′ (bindG r f)
   unfolding bindG
   sim-bind f g (gets {h = h} ρ′ q fr e) H =
@@ -182,19 +182,19 @@ module _ {W : Type 0} (X : Ctx W) where
   sim-bind f g (stops q) H = stops q
   sim-bind f g (hangs q) H = hangs q
 
-  pub sim-put : {c : Cfg W} {k : Code} {t : ℕ} {ρ : Vars W} (d : VarId) (a : ValueOrStop W) (h : Calls W)
+  pub sim-put : {c : Cfg W} {k : Code} {t : ℕ} {ρ : Vars W} (d : VarId) (a : ValueOrStop W) (h : CallsMade W)
       → t ≤ d .id → step (X .rule) (X .answers) (body X) c ≡ put a (d .id) k [] ρ h → SimE c k t ρ (λ ρ′. holding ρ′ (OVar d)) (answered (d .ty) a h)
   unfolding answered put dat datum
   sim-put {ρ = ρ} d (gives v) h g e = gets (write ρ (d .id) v) (go1 e) (λ x b. write-other ρ (d .id) x v (omega arith)) (ap (computed (d .ty)) (write-same ρ (d .id) v))
   sim-put d halt h g e = stops (go1 e)
 
-  pub sim-reply : {c : Cfg W} {k : Code} {t : ℕ} {ρ : Vars W} (d : VarId) (a : Reply W) (h : Calls W)
+  pub sim-reply : {c : Cfg W} {k : Code} {t : ℕ} {ρ : Vars W} (d : VarId) (a : Reply W) (h : CallsMade W)
       → t ≤ d .id → step (X .rule) (X .answers) (body X) c ≡ putR a (d .id) k [] ρ h → SimE c k t ρ (λ ρ′. holding ρ′ (OVar d)) (replied (d .ty) a h)
   unfolding replied putR
   sim-reply d (comes a) h g e = sim-put d a h g e
   sim-reply d pending h g e = hangs (go1 e)
 
-  pub sim-test : {Y : Type 0} {c : Cfg W} {k p : Code} {t : ℕ} {ρ : Vars W} {h : Calls W} {get : Vars W → Y} {a b : Got W Y} (u : Truth) (q : Option Code)
+  pub sim-test : {Y : Type 0} {c : Cfg W} {k p : Code} {t : ℕ} {ρ : Vars W} {h : CallsMade W} {get : Vars W → Y} {a b : Got W Y} (u : Truth) (q : Option Code)
       → step (X .rule) (X .answers) (body X) c ≡ branch u p q [] ρ h → SimE (at p [] ρ h) k t ρ get a → SimE (aim q [] ρ h) k t ρ get b → SimE c k t ρ get (test u h a b)
   unfolding test branch
   sim-test holds q e x y = sim-before (go1 e) x
@@ -202,21 +202,21 @@ module _ {W : Type 0} (X : Ctx W) where
   sim-test halts q e x y = stops (go1 e)
 
   -- converting from s came to x, the code c and t, and this does what ev says; z bounds how often c places a label that a record opens
-  pub record GoodE {Y Z : Type 0} (lows : State → Y → Type 0) (get : Vars W → Y → Z) (vs : List Variable) (z : ℕ → ℕ) (ev : Values W → Calls W → Got W Z)
+  pub record GoodE {Y Z : Type 0} (lows : State → Y → Type 0) (get : Vars W → Y → Z) (vs : List Variable) (z : ℕ → ℕ) (ev : Values W → CallsMade W → Got W Z)
       (s : State) (x : Y) (c : Code) (t : State) : Type 0 where
     pub grow : Grow s t
     pub low : Scoped vs (length (s .vars)) → lows t x
     pub once : Within t → (n : ℕ) → count n c ≤ z (nameOf n .opener)
-    pub sim : Within t → Scoped vs (length (s .vars)) → (k : Code) (ρ : Vars W) (σ : Values W) (h : Calls W) → Agree vs σ ρ → Placed (X .code) (c ++ k)
+    pub sim : Within t → Scoped vs (length (s .vars)) → (k : Code) (ρ : Vars W) (σ : Values W) (h : CallsMade W) → Agree vs σ ρ → Placed (X .code) (c ++ k)
         → SimE (at (c ++ k) [] ρ h) k (length (s .vars)) ρ (λ ρ′. get ρ′ x) (ev σ h)
 
-  abbrev pub Sound : List Variable → M Operand → (ℕ → ℕ) → (Values W → Calls W → Got W (Datum W)) → Type 0
+  abbrev pub Sound : List Variable → M Operand → (ℕ → ℕ) → (Values W → CallsMade W → Got W (Datum W)) → Type 0
   Sound vs m z ev = (s : State) (o : Operand) (c : Code) (t : State) → m s ≡ made o c t → GoodE Low holding vs z ev s o c t
 
-  abbrev pub Sounds : List Variable → M (List Operand) → (ℕ → ℕ) → (Values W → Calls W → Got W (List (Datum W))) → Type 0
+  abbrev pub Sounds : List Variable → M (List Operand) → (ℕ → ℕ) → (Values W → CallsMade W → Got W (List (Datum W))) → Type 0
   Sounds vs m z ev = (s : State) (o : List Operand) (c : Code) (t : State) → m s ≡ made o c t → GoodE Lows holdings vs z ev s o c t
 
   -- the same under other names for what was made
-  pub good-as : {Y Z : Type 0} {lows : State → Y → Type 0} {get : Vars W → Y → Z} {vs : List Variable} {z : ℕ → ℕ} {ev : Values W → Calls W → Got W Z} {s : State} {x x₁ : Y} {c c₁ : Code} {t t₁ : State}
+  pub good-as : {Y Z : Type 0} {lows : State → Y → Type 0} {get : Vars W → Y → Z} {vs : List Variable} {z : ℕ → ℕ} {ev : Values W → CallsMade W → Got W Z} {s : State} {x x₁ : Y} {c c₁ : Code} {t t₁ : State}
       → x ≡ x₁ → c ≡ c₁ → t ≡ t₁ → GoodE lows get vs z ev s x₁ c₁ t₁ → GoodE lows get vs z ev s x c t
   good-as p q r g = rw (p, q, r) g

@@ -18,7 +18,7 @@ use Rattle.conversion.specs.Types.{fits, range-error}
 use Rattle.conversion.specs.Scope.{Variable, Scope, findIn, withVariable}
 use Rattle.conversion.specs.Expressions.{Callee, CallFunction, CallCast, Functions, get-type, resolve-call}
 use Rattle.conversion.specs.Statements.{convert-expr, convert-cond, checkFits, zeroValue, convert-declare, assignTo, convert-assign, initNew, initBy, convert-init, returnAs, convert-return, callStatement, convert-call, checkBound}
-use Rattle.runs.specs.Rule.{Calls, Literal, IntLiteral, FloatLiteral, BoolLiteral, NullLiteral, Datum, constant, read, readAll}
+use Rattle.runs.specs.Rule.{CallsMade, Literal, IntLiteral, FloatLiteral, BoolLiteral, NullLiteral, Datum, constant, read, readAll}
 use Rattle.runs.specs.TreeRun as Tree
 use Rattle.runs.specs.TreeRun.{KnownName, Values, knownType, scopeOf, Got, bare, handed, Ran, normal, returned, bindO, typedO, fit, fitArguments, zeroOf, evalExpr, store, newType, introduce, initialise, giveBack, callOnly, withNew, knownInit}
 use Rattle.runs.specs.BodyRun.{Vars, write, datum, isLabel, operand}
@@ -83,7 +83,7 @@ module _ {W : Type 0} (X : Ctx W) where
     pub code : c ≡ instr ∷ []
     pub grow : Grow s t
     pub clear : (n : ℕ) → isLabel n instr ≡ false
-    pub does : Within X t → (k : Code) (ρ : Vars W) (h : Calls W) → step (X .rule) (X .answers) (body X) (at (instr ∷ k) [] ρ h) ≡ put (zeroOf (X .prog) (X .rule) (x .ty) y) (x .id) k [] ρ h
+    pub does : Within X t → (k : Code) (ρ : Vars W) (h : CallsMade W) → step (X .rule) (X .answers) (body X) (at (instr ∷ k) [] ρ h) ≡ put (zeroOf (X .prog) (X .rule) (x .ty) y) (x .id) k [] ρ h
 
   zero-copy : {s : State} {u : Unit {0}} {c : Code} {t : State} (x : VarId) (y : Ty) (o : Operand) (l : Literal) → ((ρ : Vars W) → holding X ρ o ≡ constant l)
       → zeroOf (X .prog) (X .rule) (x .ty) y ≡ X .rule .copy (x .ty) (read (X .rule) (constant l)) → emit (Copy x o) s ≡ made u c t → Zeroed x y s c t
@@ -162,7 +162,7 @@ module _ {W : Type 0} (X : Ctx W) where
 
   -- ---- Init
 
-  assign-made : {z : ℕ → ℕ} {ev : Values W → Calls W → Got W (Datum W)} {s s1 t : State} {a a1 : Operand} {ca fa : Code} (sc : Scope) (n : Text) (v : Variable) → findIn n (sc .variables) ≡ some v
+  assign-made : {z : ℕ → ℕ} {ev : Values W → CallsMade W → Got W (Datum W)} {s s1 t : State} {a a1 : Operand} {ca fa : Code} (sc : Scope) (n : Text) (v : Variable) → findIn n (sc .variables) ≡ some v
       → GoodE X Low (holding X) (sc .variables) z ev s a ca s1
       → Fitted X (Low s1 a) Low (holding X) (λ ρ h. fit (X .prog) (X .rule) (v .var-id .ty) (holding X ρ a) h) s1 a1 fa t
       → GoodS X sc z (known (sc .variables))
@@ -200,7 +200,7 @@ module _ {W : Type 0} (X : Ctx W) where
       goodS-as X (i6 .got) (joinS i1 (joinS i4 (joinE (i5 .code) (i6 .code)))) (i6 .st)
       (assign-made sc n v fd (goodE X sc e s (i1 .got) (i1 .c1) (i1 .st) (i1 .first)) (good-fit X (i1 .got) (v .var-id .ty) (i1 .st) _ _ _ (i4 .first)))
 
-  init-made : {z : ℕ → ℕ} {ev : Values W → Calls W → Got W (Datum W)} {s s1 : State} {a : Operand} {ca : Code} (sc : Scope) (b : Bool) (n : Text) (y : ℕ) → findIn n (sc .variables) ≡ none
+  init-made : {z : ℕ → ℕ} {ev : Values W → CallsMade W → Got W (Datum W)} {s s1 : State} {a : Operand} {ca : Code} (sc : Scope) (b : Bool) (n : Text) (y : ℕ) → findIn n (sc .variables) ≡ none
       → GoodE X Low (holding X) (sc .variables) z ev s a ca s1
       → GoodS X sc z (record { name = n; ty = y } ∷ known (sc .variables))
       (λ m σ h. bindO (ev σ h) λ u h1. store (X .prog) (X .funs) (X .fun) (X .rule) (X .answers) n (X .rule .copy y (read (X .rule) u)) σ h1)
@@ -224,12 +224,12 @@ module _ {W : Type 0} (X : Ctx W) where
       }
 
   -- where typing gives y
-  typedS : {sc : Scope} {z : ℕ → ℕ} {N : List KnownName} {s : State} {x : Scope} {c : Code} {t : State} {Q : Type 0} (u : Result Q) (y : Q) (ev : Q → ℕ → Values W → Calls W → Ran W)
+  typedS : {sc : Scope} {z : ℕ → ℕ} {N : List KnownName} {s : State} {x : Scope} {c : Code} {t : State} {Q : Type 0} (u : Result Q) (y : Q) (ev : Q → ℕ → Values W → CallsMade W → Ran W)
       → u ≡ ok y → GoodS X sc z N (ev y) s x c t → GoodS X sc z N (λ n σ h. typedO u h (λ a. ev a n σ h)) s x c t
   unfolding typedO
   typedS u y ev e g = rw e g
 
-  named : {sc : Scope} {z : ℕ → ℕ} {N M : List KnownName} {ev : ℕ → Values W → Calls W → Ran W} {s : State} {x : Scope} {c : Code} {t : State} → M ≡ N → GoodS X sc z N ev s x c t → GoodS X sc z M ev s x c t
+  named : {sc : Scope} {z : ℕ → ℕ} {N M : List KnownName} {ev : ℕ → Values W → CallsMade W → Ran W} {s : State} {x : Scope} {c : Code} {t : State} → M ≡ N → GoodS X sc z N ev s x c t → GoodS X sc z M ev s x c t
   named e g = rw e g
 
   with-new : (n : Text) (u : Result ℕ) (y : ℕ) (N : List KnownName) → u ≡ ok y
@@ -275,7 +275,7 @@ module _ {W : Type 0} (X : Ctx W) where
 
   -- ---- Return
 
-  return-made : {z : ℕ → ℕ} {ev : Values W → Calls W → Got W (Datum W)} {s s1 t : State} {a a1 : Operand} {ca fa : Code} (sc : Scope) (y : ℕ) → X .fun .returnType ≡ some y
+  return-made : {z : ℕ → ℕ} {ev : Values W → CallsMade W → Got W (Datum W)} {s s1 t : State} {a a1 : Operand} {ca fa : Code} (sc : Scope) (y : ℕ) → X .fun .returnType ≡ some y
       → GoodE X Low (holding X) (sc .variables) z ev s a ca s1
       → Fitted X (Low s1 a) Low (holding X) (λ ρ h. fit (X .prog) (X .rule) y (holding X ρ a) h) s1 a1 fa t
       → GoodS X sc z (known (sc .variables))
@@ -320,7 +320,7 @@ module _ {W : Type 0} (X : Ctx W) where
 
   -- ---- call statements
 
-  invoke-made : {z : ℕ → ℕ} {ev : Values W → Calls W → Got W (List (Datum W))} {s s1 t : State} {os us : List Operand} {ca fs : Code} (sc : Scope) (g : Function)
+  invoke-made : {z : ℕ → ℕ} {ev : Values W → CallsMade W → Got W (List (Datum W))} {s s1 t : State} {os us : List Operand} {ca fs : Code} (sc : Scope) (g : Function)
       → GoodE X Lows (holdings X) (sc .variables) z ev s os ca s1
       → Fitted X (Lows s1 os) Lows (holdings X) (λ ρ h. fitArguments (X .prog) (X .rule) 0 (holdings X ρ os) g h) s1 us fs t
       → GoodS X sc z (known (sc .variables))

@@ -11,7 +11,7 @@ use lib.ListN.{getElem?}
 use Rattle.laws.proofs.Prefixes.{get-append}
 use Rattle.conversion.specs.Ir.{Instr, Copy, Unary, Binary, Cast, Zero, Arg, Call, Label, Jump, JumpIfNot, Return, Comment}
 use Rattle.conversion.specs.Scope.{Variable}
-use Rattle.runs.specs.Rule.{ValueOrStop, gives, halt, Truth, holds, fails, halts, Typed, Calls, Reply, comes, pending, Ending, passed, returns, halted}
+use Rattle.runs.specs.Rule.{ValueOrStop, gives, halt, Truth, holds, fails, halts, Typed, CallsMade, Reply, comes, pending, Ending, passed, returns, halted}
 use Rattle.runs.specs.TreeRun.{Ran, held, unfinished}
 use Rattle.runs.specs.BodyRun.{Vars, Spot, spot, over, waits, lost, bodyRun}
 use Rattle.runs.specs.Shared.{callsT, endT, callsB, endB, Shared, SameRuns}
@@ -21,7 +21,7 @@ use Rattle.runs.proofs.Sim.{Ctx, body, Goes, go1, goes}
 use Rattle.runs.proofs.SimS.{SimS, runs, breaks, continues, gives-back, halting, hanging, long}
 
 -- what is seen of the machine whose place is the rest of the code
-unfoldable callsM : {W : Type 0} → Cfg W → Calls W
+unfoldable callsM : {W : Type 0} → Cfg W → CallsMade W
 callsM (at r q ρ h) = h
 callsM (ended e h) = h
 callsM (waiting h) = h
@@ -51,44 +51,44 @@ none-some : {A : Type 0} {a : A} → none ≡ some a → ⊥
 none-some e = let z : _≡_ {A = ℕ} 0 1 = cc in omega arith
 
 -- a call once made stays
-put-calls : {W : Type 0} (u : ValueOrStop W) (d : ℕ) (r : Code) (q : Queue W) (ρ : Vars W) (h : Calls W) → callsM (put u d r q ρ h) ≡ h
+put-calls : {W : Type 0} (u : ValueOrStop W) (d : ℕ) (r : Code) (q : Queue W) (ρ : Vars W) (h : CallsMade W) → callsM (put u d r q ρ h) ≡ h
 unfolding put callsM
 put-calls (gives v) d r q ρ h = refl
 put-calls halt d r q ρ h = refl
 
-pass-calls : {W : Type 0} (u : ValueOrStop W) (r : Code) (q : Queue W) (ρ : Vars W) (h : Calls W) → callsM (pass u r q ρ h) ≡ h
+pass-calls : {W : Type 0} (u : ValueOrStop W) (r : Code) (q : Queue W) (ρ : Vars W) (h : CallsMade W) → callsM (pass u r q ρ h) ≡ h
 unfolding pass callsM
 pass-calls (gives v) r q ρ h = refl
 pass-calls halt r q ρ h = refl
 
-putR-calls : {W : Type 0} (u : Reply W) (d : ℕ) (r : Code) (q : Queue W) (ρ : Vars W) (h : Calls W) → callsM (putR u d r q ρ h) ≡ h
+putR-calls : {W : Type 0} (u : Reply W) (d : ℕ) (r : Code) (q : Queue W) (ρ : Vars W) (h : CallsMade W) → callsM (putR u d r q ρ h) ≡ h
 unfolding putR callsM
 putR-calls (comes u) d r q ρ h = put-calls u d r q ρ h
 putR-calls pending d r q ρ h = refl
 
-passR-calls : {W : Type 0} (u : Reply W) (r : Code) (q : Queue W) (ρ : Vars W) (h : Calls W) → callsM (passR u r q ρ h) ≡ h
+passR-calls : {W : Type 0} (u : Reply W) (r : Code) (q : Queue W) (ρ : Vars W) (h : CallsMade W) → callsM (passR u r q ρ h) ≡ h
 unfolding passR callsM
 passR-calls (comes u) r q ρ h = pass-calls u r q ρ h
 passR-calls pending r q ρ h = refl
 
-aim-calls : {W : Type 0} (s : Option Code) (q : Queue W) (ρ : Vars W) (h : Calls W) → callsM (aim s q ρ h) ≡ h
+aim-calls : {W : Type 0} (s : Option Code) (q : Queue W) (ρ : Vars W) (h : CallsMade W) → callsM (aim s q ρ h) ≡ h
 unfolding aim callsM
 aim-calls (some r) q ρ h = refl
 aim-calls none q ρ h = refl
 
-branch-calls : {W : Type 0} (u : Truth) (r : Code) (s : Option Code) (q : Queue W) (ρ : Vars W) (h : Calls W) → callsM (branch u r s q ρ h) ≡ h
+branch-calls : {W : Type 0} (u : Truth) (r : Code) (s : Option Code) (q : Queue W) (ρ : Vars W) (h : CallsMade W) → callsM (branch u r s q ρ h) ≡ h
 unfolding branch callsM
 branch-calls holds r s q ρ h = refl
 branch-calls fails r s q ρ h = aim-calls s q ρ h
 branch-calls halts r s q ρ h = refl
 
-finish-calls : {W : Type 0} (u : ValueOrStop W) (h : Calls W) → callsM (finish u h) ≡ h
+finish-calls : {W : Type 0} (u : ValueOrStop W) (h : CallsMade W) → callsM (finish u h) ≡ h
 unfolding finish callsM
 finish-calls (gives v) h = refl
 finish-calls halt h = refl
 
 module _ {W : Type 0} (X : Ctx W) where
-  exec-keeps : (j : Instr) (r : Code) (z : Queue W) (ρ : Vars W) (h : Calls W) (i : ℕ) (q : ℕ × List (Typed W)) → getElem? h i ≡ some q
+  exec-keeps : (j : Instr) (r : Code) (z : Queue W) (ρ : Vars W) (h : CallsMade W) (i : ℕ) (q : ℕ × List (Typed W)) → getElem? h i ≡ some q
       → getElem? (callsM (exec (X .rule) (X .answers) (body X) j r z ρ h)) i ≡ some q
   unfolding exec callsM
   exec-keeps (Copy d a) r z ρ h i q e = rw put-calls e
@@ -121,12 +121,12 @@ module _ {W : Type 0} (X : Ctx W) where
   steps-keep zero c i q e = e
   steps-keep (suc n) c i q e = steps-keep n (step (X .rule) (X .answers) (body X) c) i q (step-keeps c i q e)
 
-  steps-ended : (n : ℕ) (e : Ending W) (h : Calls W) → after n (ended e h) ≡ ended e h
+  steps-ended : (n : ℕ) (e : Ending W) (h : CallsMade W) → after n (ended e h) ≡ ended e h
   unfolding steps step
   steps-ended zero e h = refl
   steps-ended (suc n) e h = steps-ended n e h
 
-  steps-waiting : (n : ℕ) (h : Calls W) → after n (waiting h) ≡ waiting h
+  steps-waiting : (n : ℕ) (h : CallsMade W) → after n (waiting h) ≡ waiting h
   unfolding steps step
   steps-waiting zero h = refl
   steps-waiting (suc n) h = steps-waiting n h
@@ -136,11 +136,11 @@ module _ {W : Type 0} (X : Ctx W) where
   steps-later m n c g = ap (λ x. after x c) (omega arith) ∙ steps-add (X .rule) (X .answers) (body X) m (n - m) c
 
   -- an ended run stays so
-  past : {c : Cfg W} {e : Ending W} {h : Calls W} (p : Goes X c (ended e h)) (n : ℕ) → p .many ≤ n → after n c ≡ ended e h
+  past : {c : Cfg W} {e : Ending W} {h : CallsMade W} (p : Goes X c (ended e h)) (n : ℕ) → p .many ≤ n → after n c ≡ ended e h
   past {c} {e} {h} p n g = steps-later (p .many) n c g ∙ (ap (after (n - p .many)) (p .comes) ∙ steps-ended (n - p .many) e h)
 
   -- and so does one that is held up
-  past-waiting : {c : Cfg W} {h : Calls W} (p : Goes X c (waiting h)) (n : ℕ) → p .many ≤ n → after n c ≡ waiting h
+  past-waiting : {c : Cfg W} {h : CallsMade W} (p : Goes X c (waiting h)) (n : ℕ) → p .many ≤ n → after n c ≡ waiting h
   past-waiting {c} {h} p n g = steps-later (p .many) n c g ∙ (ap (after (n - p .many)) (p .comes) ∙ steps-waiting (n - p .many) h)
 
   is-ended : (c : Cfg W) (e : Ending W) → endM c ≡ some e → c ≡ ended e (callsM c)
@@ -216,13 +216,13 @@ module _ {W : Type 0} (X : Ctx W) where
             let x : _≡_ {A = ℕ} 0 1 = cc in absurd (omega arith)
         go (no g) = let z : some e ≡ none = sym q ∙ ap endM (past-waiting p n (omega arith)) in let x : _≡_ {A = ℕ} 0 1 = cc in absurd (omega arith)
 
-    holds-there : Sum n c o → (h : Calls W) → o ≡ held h → (m : ℕ) × (after m c ≡ waiting h)
+    holds-there : Sum n c o → (h : CallsMade W) → o ≡ held h → (m : ℕ) × (after m c ≡ waiting h)
     unfolding endT callsT
     holds-there (settled x e1 p) h q = absurd (none-some (sym (ap endT q) ∙ e1))
     holds-there (going j z1 ρ e1 p u) h q = let z : _≡_ {A = ℕ} 0 1 = cc in absurd (omega arith)
     holds-there (hung e1 p) h q = (p .many, p .comes ∙ ap (λ x. waiting (callsT x)) q)
 
-    holds-back : Sum n c o → (h : Calls W) → after n c ≡ waiting h → o ≡ held h
+    holds-back : Sum n c o → (h : CallsMade W) → after n c ≡ waiting h → o ≡ held h
     holds-back (settled x e1 p) h q = absurd (not-both (decLe n (p .many)))
       where
         not-both : Dec (n ≤ p .many) → ⊥
@@ -248,14 +248,14 @@ module _ {W : Type 0} (X : Ctx W) where
   end-from ρ n = sym (end-seen (X .code) _) ∙ ap endM (from-start ρ n)
 
   -- a place that is seen as held up is held up
-  waits-seen : (s : Spot W) (h : Calls W) → seen (X .code) s ≡ waiting h → s ≡ waits h
+  waits-seen : (s : Spot W) (h : CallsMade W) → seen (X .code) s ≡ waiting h → s ≡ waits h
   unfolding seen
   waits-seen (spot p q ρ h1) h e = let z : _≡_ {A = ℕ} 0 1 = cc in absurd (omega arith)
   waits-seen (over x h1) h e = let z : _≡_ {A = ℕ} 0 1 = cc in absurd (omega arith)
   waits-seen (waits h1) h e = cc
   waits-seen (lost h1) h e = let z : _≡_ {A = ℕ} 0 1 = cc in absurd (omega arith)
 
-  held-from : (ρ : Vars W) (n : ℕ) (h : Calls W) → bodyRun (X .rule) (X .answers) (body X) ρ n ≡ waits h → after n (at (X .code) [] ρ []) ≡ waiting h
+  held-from : (ρ : Vars W) (n : ℕ) (h : CallsMade W) → bodyRun (X .rule) (X .answers) (body X) ρ n ≡ waits h → after n (at (X .code) [] ρ []) ≡ waiting h
   unfolding seen
   held-from ρ n h e = sym (from-start ρ n) ∙ ap (seen (X .code)) e
 

@@ -20,8 +20,8 @@ abbrev pub Typed : Type 0 → Type 0
 Typed W = ℕ × W
 
 -- calls so far, in order: the function's record and its arguments
-abbrev pub Calls : Type 0 → Type 0
-Calls W = List (ℕ × List (Typed W))
+abbrev pub CallsMade : Type 0 → Type 0
+CallsMade W = List (ℕ × List (Typed W))
 
 -- what a literal is, without its type; a float by its bits
 pub data Content : Type 0 where
@@ -45,7 +45,7 @@ pub record Rule (W : Type 0) : Type 0 where
   -- the function's return type, what it returns
   pub return : Option ℕ → Typed W → ValueOrStop W
   -- the calls before, the function's record, its arguments
-  pub call : Calls W → ℕ → List (Typed W) → ValueOrStop W
+  pub call : CallsMade W → ℕ → List (Typed W) → ValueOrStop W
 
 -- Who answers calls is a parameter of both runs: told the calls before, the function's record, the type of the result's destination (`none` for
 -- a call statement) and the arguments, it gives a reply, and the calls that were made for it. A reply that is still pending holds the run up: it
@@ -55,7 +55,7 @@ pub data Reply (W : Type 0) : Type 0 where
   pending : Reply W
 
 abbrev pub Answers : Type 0 → Type 0
-Answers W = Calls W → ℕ → Option ℕ → List (Typed W) → Reply W × Calls W
+Answers W = CallsMade W → ℕ → Option ℕ → List (Typed W) → Reply W × CallsMade W
 
 -- answered by the rule, always, with one call: the answers of demand 3
 unfoldable pub asked : {W : Type 0} → Rule W → Answers W

@@ -5,14 +5,14 @@ use mathlib.Core.List.{List}
 use mathlib.Core.Option.{Option, none, some}
 use Prim.Native.Nat.{ℕ}
 use lib.ListN.{getElem?}
-use Rattle.runs.specs.Rule.{Typed, Calls, Ending, passed, returns, halted}
+use Rattle.runs.specs.Rule.{Typed, CallsMade, Ending, passed, returns, halted}
 use Rattle.runs.specs.TreeRun as Tree
 use Rattle.runs.specs.TreeRun.{Ran, normal, broke, continued, returned, held, unfinished}
 use Rattle.runs.specs.BodyRun.{Vars, Spot, spot, over, waits, lost}
 
 -- ---- what is seen of a run: the calls so far, and how it ended
 
-unfoldable pub callsT : {W : Type 0} → Ran W → Calls W
+unfoldable pub callsT : {W : Type 0} → Ran W → CallsMade W
 callsT (normal σ h) = h
 callsT (broke σ h) = h
 callsT (continued σ h) = h
@@ -30,7 +30,7 @@ endT (Tree.stopped h) = some halted
 endT (held h) = none
 endT (unfinished h) = none
 
-unfoldable pub callsB : {W : Type 0} → Spot W → Calls W
+unfoldable pub callsB : {W : Type 0} → Spot W → CallsMade W
 callsB (spot p q ρ h) = h
 callsB (over e h) = h
 callsB (waits h) = h
@@ -50,10 +50,10 @@ pub record Shared {W : Type 0} (tree : ℕ → Ran W) (body : ℕ → Spot W) (r
   pub calls : (k : ℕ) (q : ℕ × List (Typed W)) →
       ((n : ℕ) × (getElem? (callsT (tree n)) k ≡ some q)) ↔ ((n : ℕ) × (getElem? (callsB (body n)) k ≡ some q))
   -- the one run ends so, with these calls behind it, exactly when the other does
-  pub ends : (e : Ending W) (h : Calls W) →
+  pub ends : (e : Ending W) (h : CallsMade W) →
       ((n : ℕ) × (endT (tree n) ≡ some e) × (callsT (tree n) ≡ h)) ↔ ((n : ℕ) × (endB (body n) ≡ some e) × (callsB (body n) ≡ h))
   -- the one run is held up by a pending reply, with these calls behind it, exactly when the other is
-  pub heldUp : (h : Calls W) → ((n : ℕ) × (tree n ≡ held h)) ↔ ((n : ℕ) × (body n ≡ waits h))
+  pub heldUp : (h : CallsMade W) → ((n : ℕ) × (tree n ≡ held h)) ↔ ((n : ℕ) × (body n ≡ waits h))
   -- with a return type neither passes the last line
   pub treeReturns : (y n : ℕ) → result ≡ some y → endT (tree n) ≡ some passed → ⊥
   pub bodyReturns : (y n : ℕ) → result ≡ some y → endB (body n) ≡ some passed → ⊥

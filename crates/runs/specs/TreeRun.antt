@@ -15,7 +15,7 @@ use Rattle.conversion.specs.Types.{onInt, onFloat, isFloat, size}
 use Rattle.conversion.specs.Scope.{Variable, Scope}
 use Rattle.conversion.specs.Expressions.{Callee, CallFunction, CallCast, Functions, unwrapOr, get-type, resolve-call, common-type}
 use Rattle.conversion.specs.Statements.{parameterType, asCall}
-use Rattle.runs.specs.Rule.{ValueOrStop, gives, halt, Truth, holds, fails, halts, Calls, Rule, Reply, comes, pending, Answers, Literal, IntLiteral, FloatLiteral, BoolLiteral, StringLiteral, NullLiteral, NullContent, Datum, constant, computed, read, readAll}
+use Rattle.runs.specs.Rule.{ValueOrStop, gives, halt, Truth, holds, fails, halts, CallsMade, Rule, Reply, comes, pending, Answers, Literal, IntLiteral, FloatLiteral, BoolLiteral, StringLiteral, NullLiteral, NullContent, Datum, constant, computed, read, readAll}
 
 -- a name that is known, with its type
 pub record KnownName : Type 0 where
@@ -45,34 +45,34 @@ scopeOf f l = record { variables = variables l; inLoop = none; function = f }
 
 -- an expression: what it gives, or a stop, or a reply that is pending
 pub data Got (W A : Type 0) : Type 0 where
-  value : A → Calls W → Got W A
-  stop : Calls W → Got W A
-  wait : Calls W → Got W A
+  value : A → CallsMade W → Got W A
+  stop : CallsMade W → Got W A
+  wait : CallsMade W → Got W A
 
 -- a statement
 pub data Ran (W : Type 0) : Type 0 where
-  normal : Values W → Calls W → Ran W
-  broke : Values W → Calls W → Ran W
-  continued : Values W → Calls W → Ran W
-  returned : W → Calls W → Ran W
-  stopped : Calls W → Ran W
+  normal : Values W → CallsMade W → Ran W
+  broke : Values W → CallsMade W → Ran W
+  continued : Values W → CallsMade W → Ran W
+  returned : W → CallsMade W → Ran W
+  stopped : CallsMade W → Ran W
   -- held up by a reply that is pending
-  held : Calls W → Ran W
+  held : CallsMade W → Ran W
   -- out of turns
-  unfinished : Calls W → Ran W
+  unfinished : CallsMade W → Ran W
 
-unfoldable pub bindG : {W A B : Type 0} → Got W A → (A → Calls W → Got W B) → Got W B
+unfoldable pub bindG : {W A B : Type 0} → Got W A → (A → CallsMade W → Got W B) → Got W B
 bindG (value a h) f = f a h
 bindG (stop h) f = stop h
 bindG (wait h) f = wait h
 
-unfoldable pub bindO : {W A : Type 0} → Got W A → (A → Calls W → Ran W) → Ran W
+unfoldable pub bindO : {W A : Type 0} → Got W A → (A → CallsMade W → Ran W) → Ran W
 bindO (value a h) f = f a h
 bindO (stop h) f = stopped h
 bindO (wait h) f = held h
 
 -- one statement, then the next
-unfoldable pub bindS : {W : Type 0} → Ran W → (Values W → Calls W → Ran W) → Ran W
+unfoldable pub bindS : {W : Type 0} → Ran W → (Values W → CallsMade W → Ran W) → Ran W
 bindS (normal σ h) f = f σ h
 bindS (broke σ h) f = broke σ h
 bindS (continued σ h) f = continued σ h
@@ -82,7 +82,7 @@ bindS (held h) f = held h
 bindS (unfinished h) f = unfinished h
 
 -- the body of a loop, then the next turn; a break leaves the loop
-unfoldable pub bindT : {W : Type 0} → Ran W → (Values W → Calls W → Ran W) → Ran W
+unfoldable pub bindT : {W : Type 0} → Ran W → (Values W → CallsMade W → Ran W) → Ran W
 bindT (normal σ h) f = f σ h
 bindT (broke σ h) f = normal σ h
 bindT (continued σ h) f = f σ h
@@ -92,38 +92,38 @@ bindT (held h) f = held h
 bindT (unfinished h) f = unfinished h
 
 -- what the rule answers, of the type y; and the same as a bare value
-unfoldable pub answered : {W : Type 0} → ℕ → ValueOrStop W → Calls W → Got W (Datum W)
+unfoldable pub answered : {W : Type 0} → ℕ → ValueOrStop W → CallsMade W → Got W (Datum W)
 answered y (gives v) h = value (computed y v) h
 answered y halt h = stop h
 
-unfoldable pub bare : {W : Type 0} → ValueOrStop W → Calls W → Got W W
+unfoldable pub bare : {W : Type 0} → ValueOrStop W → CallsMade W → Got W W
 bare (gives v) h = value v h
 bare halt h = stop h
 
 -- the same of a reply
-unfoldable pub replied : {W : Type 0} → ℕ → Reply W → Calls W → Got W (Datum W)
+unfoldable pub replied : {W : Type 0} → ℕ → Reply W → CallsMade W → Got W (Datum W)
 replied y (comes u) h = answered y u h
 replied y pending h = wait h
 
-unfoldable pub handed : {W : Type 0} → Reply W → Calls W → Got W W
+unfoldable pub handed : {W : Type 0} → Reply W → CallsMade W → Got W W
 handed (comes u) h = bare u h
 handed pending h = wait h
 
-unfoldable pub test : {W A : Type 0} → Truth → Calls W → Got W A → Got W A → Got W A
+unfoldable pub test : {W A : Type 0} → Truth → CallsMade W → Got W A → Got W A → Got W A
 test holds h a b = a
 test fails h a b = b
 test halts h a b = stop h
 
-unfoldable pub testO : {W : Type 0} → Truth → Calls W → Ran W → Ran W → Ran W
+unfoldable pub testO : {W : Type 0} → Truth → CallsMade W → Ran W → Ran W → Ran W
 testO holds h a b = a
 testO fails h a b = b
 testO halts h a b = stopped h
 
-unfoldable pub typed : {W A : Type 0} → Result A → Calls W → (A → Got W (Datum W)) → Got W (Datum W)
+unfoldable pub typed : {W A : Type 0} → Result A → CallsMade W → (A → Got W (Datum W)) → Got W (Datum W)
 typed (ok a) h f = f a
 typed (err k r) h f = stop h
 
-unfoldable pub typedO : {W A : Type 0} → Result A → Calls W → (A → Ran W) → Ran W
+unfoldable pub typedO : {W A : Type 0} → Result A → CallsMade W → (A → Ran W) → Ran W
 typedO (ok a) h f = f a
 typedO (err k r) h f = stopped h
 
@@ -138,23 +138,23 @@ fitLiteral t (StringLiteral x) = StringLiteral x
 fitLiteral t NullLiteral = NullLiteral
 
 -- an unfitted SizeOf is 'a signed long literal'
-unfoldable pub sizeDatum : {W : Type 0} → Option ℕ → Calls W → Got W (Datum W)
+unfoldable pub sizeDatum : {W : Type 0} → Option ℕ → CallsMade W → Got W (Datum W)
 sizeDatum none h = stop h
 sizeDatum (some n) h = value (constant (IntLiteral (pos n) false false)) h
 
 module _ {W : Type 0} (P : Program) (R : Rule W) where
   -- 'casts any other float of another width, and keeps the rest'
-  unfoldable pub fitComputed : Bool → ℕ → ℕ → W → Calls W → Got W (Datum W)
+  unfoldable pub fitComputed : Bool → ℕ → ℕ → W → CallsMade W → Got W (Datum W)
   fitComputed true y u v h = answered y (R .cast y (u, v)) h
   fitComputed false y u v h = value (computed u v) h
 
   -- fitted to the type y
-  unfoldable pub fit : ℕ → Datum W → Calls W → Got W (Datum W)
+  unfoldable pub fit : ℕ → Datum W → CallsMade W → Got W (Datum W)
   fit y (constant l) h = value (constant (fitLiteral (P .typeOf y) l)) h
   fit y (computed u v) h = fitComputed (isFloat (P .typeOf y) && (isFloat (P .typeOf u) && not (eqb u y))) y u v h
 
   -- the k-th value and those behind it, each to its parameter of g
-  unfoldable pub fitArguments : ℕ → List (Datum W) → Function → Calls W → Got W (List (Datum W))
+  unfoldable pub fitArguments : ℕ → List (Datum W) → Function → CallsMade W → Got W (List (Datum W))
   fitArguments k [] g h = value [] h
   fitArguments k (d ∷ ds) g h = bindG (fit (parameterType (g .params) k) d h) λ u h1.
       bindG (fitArguments (suc k) ds g h1) λ us h2. value (u ∷ us) h2
@@ -175,24 +175,24 @@ module _ {W : Type 0} (P : Program) (R : Rule W) where
 
 module _ {W : Type 0} (P : Program) (F : Functions) (f : Function) (R : Rule W) (A : Answers W) where
   -- 'And and Or copy each side that they reach into Bool, and the copy of the left is tested'
-  unfoldable pub toBool : Datum W → Calls W → Got W (Datum W)
+  unfoldable pub toBool : Datum W → CallsMade W → Got W (Datum W)
   toBool u h = answered boolType (R .copy boolType (read R u)) h
 
-  unfoldable pub evalAnd : (Calls W → Got W (Datum W)) → (Calls W → Got W (Datum W)) → Calls W → Got W (Datum W)
+  unfoldable pub evalAnd : (CallsMade W → Got W (Datum W)) → (CallsMade W → Got W (Datum W)) → CallsMade W → Got W (Datum W)
   evalAnd left right h = bindG (left h) λ u h1. bindG (toBool u h1) λ c h2.
       test (R .truth (read R c)) h2 (bindG (right h2) toBool) (value c h2)
 
-  unfoldable pub evalOr : (Calls W → Got W (Datum W)) → (Calls W → Got W (Datum W)) → Calls W → Got W (Datum W)
+  unfoldable pub evalOr : (CallsMade W → Got W (Datum W)) → (CallsMade W → Got W (Datum W)) → CallsMade W → Got W (Datum W)
   evalOr left right h = bindG (left h) λ u h1. bindG (toBool u h1) λ c h2.
       test (R .truth (read R c)) h2 (value c h2) (bindG (right h2) toBool)
 
   -- 'A binary other than And and Or computes left, right, then fits both as the Rust does, then applies the operator': y is its type,
   -- q the type that both are fitted to
-  unfoldable pub evalOther : BinaryOp → ℕ → ℕ → (Calls W → Got W (Datum W)) → (Calls W → Got W (Datum W)) → Calls W → Got W (Datum W)
+  unfoldable pub evalOther : BinaryOp → ℕ → ℕ → (CallsMade W → Got W (Datum W)) → (CallsMade W → Got W (Datum W)) → CallsMade W → Got W (Datum W)
   evalOther o y q left right h = bindG (left h) λ u h1. bindG (right h1) λ v h2.
       bindG (fit P R q u h2) λ u1 h3. bindG (fit P R q v h3) λ v1 h4. answered y (R .binary o y (read R u1) (read R v1)) h4
 
-  unfoldable pub evalBinary : BinaryOp → ℕ → ℕ → (Calls W → Got W (Datum W)) → (Calls W → Got W (Datum W)) → Calls W → Got W (Datum W)
+  unfoldable pub evalBinary : BinaryOp → ℕ → ℕ → (CallsMade W → Got W (Datum W)) → (CallsMade W → Got W (Datum W)) → CallsMade W → Got W (Datum W)
   evalBinary And y q left right h = evalAnd left right h
   evalBinary Or y q left right h = evalOr left right h
   evalBinary BitOr y q left right h = evalOther BitOr y q left right h
@@ -213,18 +213,18 @@ module _ {W : Type 0} (P : Program) (F : Functions) (f : Function) (R : Rule W) 
   evalBinary Rem y q left right h = evalOther Rem y q left right h
 
   -- 'a cast computes all and uses the first'
-  unfoldable pub castFirst : ℕ → List (Datum W) → Calls W → Got W (Datum W)
+  unfoldable pub castFirst : ℕ → List (Datum W) → CallsMade W → Got W (Datum W)
   castFirst y [] h = stop h
   castFirst y (u ∷ us) h = answered y (R .cast y (read R u)) h
 
   -- 'A call computes all its arguments, fits them in order, then calls'; y is the type of the variable that the Rust gives the result
-  unfoldable pub callWith : ℕ → Callee → List (Datum W) → Calls W → Got W (Datum W)
+  unfoldable pub callWith : ℕ → Callee → List (Datum W) → CallsMade W → Got W (Datum W)
   callWith y (CallFunction g) vs h = bindG (fitArguments P R 0 vs g h) λ us h1.
       replied y (A h1 (g .recOf) (some y) (readAll R us) .0) (h1 ++ A h1 (g .recOf) (some y) (readAll R us) .1)
   callWith y (CallCast t) vs h = castFirst y vs h
 
   unfoldable mutual
-    pub evalExpr : Expr → List KnownName → Values W → Calls W → Got W (Datum W)
+    pub evalExpr : Expr → List KnownName → Values W → CallsMade W → Got W (Datum W)
     evalExpr (EInt r v short unsigned) N σ h = value (constant (IntLiteral v short unsigned)) h
     evalExpr (EFloat r b short) N σ h = value (constant (FloatLiteral b short)) h
     evalExpr (EStr r o n t) N σ h = value (constant (StringLiteral t)) h
@@ -241,18 +241,18 @@ module _ {W : Type 0} (P : Program) (F : Functions) (f : Function) (R : Rule W) 
         typed (resolve-call P F verb l (scopeOf f N) r) h λ callee.
         bindG (evalArgs l N σ h) λ vs h1. callWith y callee vs h1
 
-    pub evalArgs : Args → List KnownName → Values W → Calls W → Got W (List (Datum W))
+    pub evalArgs : Args → List KnownName → Values W → CallsMade W → Got W (List (Datum W))
     evalArgs noArgs N σ h = value [] h
     evalArgs (Value r e l) N σ h = bindG (evalExpr e N σ h) λ u h1. bindG (evalArgs l N σ h1) λ vs h2. value (u ∷ vs) h2
     evalArgs (ToType r y l) N σ h = evalArgs l N σ h
 
   -- ---- statements
 
-  unfoldable pub store : Text → ValueOrStop W → Values W → Calls W → Ran W
+  unfoldable pub store : Text → ValueOrStop W → Values W → CallsMade W → Ran W
   store n u σ h = bindO (bare u h) λ v h1. normal (set σ n v) h1
 
   -- 'Init copies', fitted to the type y of a known name
-  unfoldable pub assign : Text → ℕ → Expr → List KnownName → Values W → Calls W → Ran W
+  unfoldable pub assign : Text → ℕ → Expr → List KnownName → Values W → CallsMade W → Ran W
   assign n y e N σ h = bindO (evalExpr e N σ h) λ u h1. bindO (fit P R y u h1) λ u1 h2. store n (R .copy y (read R u1)) σ h2
 
   -- the type of a new name: that of its value, Address of Null for Null
@@ -260,40 +260,40 @@ module _ {W : Type 0} (P : Program) (F : Functions) (f : Function) (R : Rule W) 
   newType y = pick (eqb y nullType) addressOfNull y
 
   -- a new name, nothing fitted
-  unfoldable pub introduce : Text → Expr → List KnownName → Values W → Calls W → Ran W
+  unfoldable pub introduce : Text → Expr → List KnownName → Values W → CallsMade W → Ran W
   introduce n e N σ h = typedO (get-type P F e (scopeOf f N)) h λ y. bindO (evalExpr e N σ h) λ u h1. store n (R .copy (newType y) (read R u)) σ h1
 
   -- 'A plain Init of a known name assigns'
-  unfoldable pub initialise : Bool → Option ℕ → Text → Expr → List KnownName → Values W → Calls W → Ran W
+  unfoldable pub initialise : Bool → Option ℕ → Text → Expr → List KnownName → Values W → CallsMade W → Ran W
   initialise false (some y) n e N σ h = assign n y e N σ h
   initialise false none n e N σ h = introduce n e N σ h
   initialise true o n e N σ h = introduce n e N σ h
 
   -- 'Return returns, fitted as in the Rust'
-  unfoldable pub giveBack : Option ℕ → Expr → List KnownName → Values W → Calls W → Ran W
+  unfoldable pub giveBack : Option ℕ → Expr → List KnownName → Values W → CallsMade W → Ran W
   giveBack none e N σ h = stopped h
   giveBack (some y) e N σ h = bindO (evalExpr e N σ h) λ u h1. bindO (fit P R y u h1) λ u1 h2.
       bindO (bare (R .return (some y) (read R u1)) h2) λ v h3. returned v h3
 
   -- a call statement; one that is a cast does not convert
-  unfoldable pub callOnly : Callee → Args → List KnownName → Values W → Calls W → Ran W
+  unfoldable pub callOnly : Callee → Args → List KnownName → Values W → CallsMade W → Ran W
   callOnly (CallCast t) l N σ h = stopped h
   callOnly (CallFunction g) l N σ h = bindO (evalArgs l N σ h) λ vs h1. bindO (fitArguments P R 0 vs g h1) λ us h2.
       bindO (handed (A h2 (g .recOf) none (readAll R us) .0) (h2 ++ A h2 (g .recOf) none (readAll R us) .1)) λ v h3. normal σ h3
 
   -- 'A call statement whose expression is no call is typed and never run'
-  unfoldable pub callStatement : Expr → List KnownName → Values W → Calls W → Ran W
+  unfoldable pub callStatement : Expr → List KnownName → Values W → CallsMade W → Ran W
   callStatement e N σ h = asCall e (normal σ h) λ c verb l. typedO (resolve-call P F verb l (scopeOf f N) c) h λ callee. callOnly callee l N σ h
 
   -- 'While tests truth': at most n turns
-  unfoldable pub turns : ℕ → (Values W → Calls W → Got W (Datum W)) → (Values W → Calls W → Ran W) → Values W → Calls W → Ran W
+  unfoldable pub turns : ℕ → (Values W → CallsMade W → Got W (Datum W)) → (Values W → CallsMade W → Ran W) → Values W → CallsMade W → Ran W
   turns zero cond body σ h = unfinished h
   turns (suc n) cond body σ h = bindO (cond σ h) λ v h1.
       testO (R .truth (read R v)) h1 (bindT (body σ h1) λ σ2 h2. turns n cond body σ2 h2) (normal σ h1)
 
   -- a For over x of type y: 'each turn tests, as a Bool, variable < fitted `until`', here computed and fitted anew each turn as the Rust does;
   -- '`continue` and the body's end add a literal 1 of its type', the sum written straight
-  unfoldable pub rounds : ℕ → Text → ℕ → Literal → (Values W → Calls W → Got W (Datum W)) → (Values W → Calls W → Ran W) → Values W → Calls W → Ran W
+  unfoldable pub rounds : ℕ → Text → ℕ → Literal → (Values W → CallsMade W → Got W (Datum W)) → (Values W → CallsMade W → Ran W) → Values W → CallsMade W → Ran W
   rounds zero x y one until body σ h = unfinished h
   rounds (suc n) x y one until body σ h = bindO (until σ h) λ d h1. bindO (fit P R y d h1) λ d1 h2.
       bindO (bare (R .binary Lt boolType (y, σ x) (read R d1)) h2) λ c h3.
@@ -302,16 +302,16 @@ module _ {W : Type 0} (P : Program) (F : Functions) (f : Function) (R : Rule W) 
       (normal σ h3)
 
   -- 'For copies the fitted `from` in'
-  unfoldable pub forLoop : ℕ → Text → ℕ → Literal → Expr → Expr → List KnownName → (Values W → Calls W → Ran W) → Values W → Calls W → Ran W
+  unfoldable pub forLoop : ℕ → Text → ℕ → Literal → Expr → Expr → List KnownName → (Values W → CallsMade W → Ran W) → Values W → CallsMade W → Ran W
   forLoop n x y one from until N body σ h = bindO (evalExpr from N σ h) λ d h1. bindO (fit P R y d h1) λ d1 h2.
       bindO (bare (R .copy y (read R d1)) h2) λ v h3. rounds n x y one (λ σ1 h4. evalExpr until N σ1 h4) body (set σ x v) h3
 
-  unfoldable pub forInt : ℕ → Text → ℕ → Expr → Expr → List KnownName → (Values W → Calls W → Ran W) → Values W → Calls W → Ran W
+  unfoldable pub forInt : ℕ → Text → ℕ → Expr → Expr → List KnownName → (Values W → CallsMade W → Ran W) → Values W → CallsMade W → Ran W
   forInt n x y from until N body σ h = onInt (P .typeOf y) (stopped h) λ short unsigned.
       forLoop n x y (IntLiteral (pos 1) short unsigned) from until N body σ h
 
   -- a variable of the loop's own, or of the blocks around; the body runs with the names that it is given
-  unfoldable pub forOver : ℕ → Text → Option ℕ → Option ℕ → Expr → Expr → List KnownName → (List KnownName → Values W → Calls W → Ran W) → Values W → Calls W → Ran W
+  unfoldable pub forOver : ℕ → Text → Option ℕ → Option ℕ → Expr → Expr → List KnownName → (List KnownName → Values W → CallsMade W → Ran W) → Values W → CallsMade W → Ran W
   forOver n x (some y) o from until N body σ h = forInt n x y from until N (body (record { name = x; ty = y } ∷ N)) σ h
   forOver n x none (some y) from until N body σ h = forInt n x y from until N (body N) σ h
   forOver n x none none from until N body σ h = stopped h
@@ -340,7 +340,7 @@ module _ {W : Type 0} (P : Program) (F : Functions) (f : Function) (R : Rule W) 
 
   -- a statement, a block: with at most n turns of each entry of a loop
   unfoldable mutual
-    pub runStatement : Statement → ℕ → List KnownName → Values W → Calls W → Ran W
+    pub runStatement : Statement → ℕ → List KnownName → Values W → CallsMade W → Ran W
     runStatement (SDeclare r n y) k N σ h = store n (zeroOf P R y (P .typeOf y)) σ h
     runStatement (SInit r c n e) k N σ h = initialise c (knownType n N) n e N σ h
     runStatement (SReturn r e) k N σ h = giveBack (f .returnType) e N σ h
@@ -353,7 +353,7 @@ module _ {W : Type 0} (P : Program) (F : Functions) (f : Function) (R : Rule W) 
     runStatement (SBreak r) k N σ h = broke σ h
     runStatement (SContinue r) k N σ h = continued σ h
 
-    pub runBlock : Block → ℕ → List KnownName → Values W → Calls W → Ran W
+    pub runBlock : Block → ℕ → List KnownName → Values W → CallsMade W → Ran W
     runBlock done k N σ h = normal σ h
     runBlock (next t b) k N σ h = bindS (runStatement t k N σ h) λ σ1 h1. runBlock b k (knownAfter t N) σ1 h1
 

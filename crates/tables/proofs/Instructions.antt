@@ -18,7 +18,7 @@ use Rattle.laws.proofs.FixLaws.{pick-no}
 use Rattle.records.specs.Words.{byteAt, wordAt, none}
 use Rattle.syntax.specs.Syntax.{UnaryOp, Neg, BitNot, Not, BinaryOp, Or, And, BitOr, BitXor, BitAnd, Eq, NotEq, Lt, Le, Gt, Ge, Shl, Shr, Add, Sub, Mul, Div, Rem, unaryOps, binaryOps, unaryNumber, binaryNumber}
 use Rattle.conversion.specs.Ir.{VarId, Operand, OVar, OInt, OFloat, OBool, ODataAddress, ONull, Instr, Copy, Unary, Binary, Cast, Zero, Arg, Call, Label, Jump, JumpIfNot, Return, Comment, State}
-use Rattle.conversion.specs.Written.{bytesOf, word, wide, boolNumber, tag, operandValue, Fields, tagOf, valueOf, destination, fieldsOf, encodeFields, encodeInstr}
+use Rattle.conversion.specs.Written.{bytesOf, word, wide, boolNumber, tag, operandValue, Fields, tagOf, operandWord, destination, fieldsOf, encodeFields, encodeInstr}
 use Rattle.tables.specs.Read.{_>>=_, unused, wideAt, markOf, variable, noOperand, varOperand, intOperand, floatOperand, boolOperand, stringOperand, nullOperand, operandOf, fieldsAt, copyOf, unaryOf, binaryOf, castOf, zeroOf, argOf, destinationOf, callOf, labelOf, jumpOf, jumpIfNotOf, returnOf, commentOf, instrOf, instrAt}
 use Rattle.tables.proofs.Exists.{Word, VarIn, OperandIn, DestinationIn, InstrIn}
 use Rattle.tables.proofs.Numbers.{word-back, wide-back}
@@ -115,13 +115,13 @@ module _ (s : State) (m : Small s) where
   MaybeIn nothing = Unit {0}
   MaybeIn (some o) = OperandIn s o
 
-  maybe-back : (o : Option Operand) → MaybeIn o → operandOf (s .vars) (tagOf o) (valueOf o) ≡ some o
-  unfolding operandOf tagOf valueOf noOperand pick
+  maybe-back : (o : Option Operand) → MaybeIn o → operandOf (s .vars) (tagOf o) (operandWord o) ≡ some o
+  unfolding operandOf tagOf operandWord noOperand pick
   maybe-back nothing h = refl
   maybe-back (some o) h = operand-back o h
 
-  maybe-fits : (o : Option Operand) → MaybeIn o → valueOf o < 2 ^ 64
-  unfolding valueOf
+  maybe-fits : (o : Option Operand) → MaybeIn o → operandWord o < 2 ^ 64
+  unfolding operandWord
   maybe-fits nothing h = omega arith
   maybe-fits (some o) h = operand-fits o h
 
@@ -136,9 +136,9 @@ module _ (s : State) (m : Small s) where
   unfolding fieldsAt encodeFields wideAt wordAt byteAt word wide bytesOf unused pick _>>=_
   fields-back f rest h =
       rw (
-        wide-back (valueOf (f .first)) [] (maybe-fits (f .first) (h .first)),
+        wide-back (operandWord (f .first)) [] (maybe-fits (f .first) (h .first)),
         maybe-back (f .first) (h .first),
-        wide-back (valueOf (f .second)) [] (maybe-fits (f .second) (h .second)),
+        wide-back (operandWord (f .second)) [] (maybe-fits (f .second) (h .second)),
         maybe-back (f .second) (h .second),
         word-back (f .target) [] (h .target),
         word-back (f .recordWord) [] (h .recordWord),

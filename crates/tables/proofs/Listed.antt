@@ -5,7 +5,7 @@ use mathlib.Core.Bool.{Bool, true, false}
 use mathlib.Core.List.{List, [], _∷_}
 use mathlib.Core.Option.{Option, none as nothing, some}
 use Rattle.conversion.specs.Ir.{OFloat, OBool, ODataAddress, Instr, Label, Jump, JumpIfNot, Return, loopStart, IrProgram}
-use Rattle.conversion.specs.Written.{tablesOf, countsOf, encodeFunctions, encodeAll, encodeInstr, encodeFields, fieldsOf, encodeVar, encodeLabel, encodeString, encodeFloat, allCode, allVars, allLabels, codeOf, bodyMark, word, wide, bytesOf, boolNumber, tag, operandValue, tagOf, valueOf, destination}
+use Rattle.conversion.specs.Written.{tablesOf, countsOf, encodeFunctions, encodeAll, encodeInstr, encodeFields, fieldsOf, encodeVar, encodeLabel, encodeString, encodeFloat, allCode, allVars, allLabels, codeOf, bodyMark, word, wide, bytesOf, boolNumber, tag, operandValue, tagOf, operandWord, destination}
 use Rattle.tables.specs.Read.{ReadBody, bodyAt}
 
 -- one function with this code and one label; one string, of no bytes, and one float
@@ -21,7 +21,7 @@ isRead nothing = false
 isRead (some b) = true
 
 reads : List Instr → Bool
-unfolding program isRead bodyAt tablesOf countsOf encodeFunctions encodeAll encodeInstr encodeFields fieldsOf encodeVar encodeLabel encodeString encodeFloat allCode allVars allLabels codeOf bodyMark word wide bytesOf boolNumber tag operandValue tagOf valueOf destination
+unfolding program isRead bodyAt tablesOf countsOf encodeFunctions encodeAll encodeInstr encodeFields fieldsOf encodeVar encodeLabel encodeString encodeFloat allCode allVars allLabels codeOf bodyMark word wide bytesOf boolNumber tag operandValue tagOf operandWord destination
 reads c = isRead (bodyAt (countsOf (program c)) (tablesOf (program c)) [] 0)
 
 pub said : List Bool

@@ -17,7 +17,7 @@ use Rattle.laws.specs.Fix.{pick}
 use Rattle.records.specs.Words.{byteAt, wordAt, none}
 use Rattle.syntax.specs.Syntax.{UnaryOp, BinaryOp, unaryOps, binaryOps, unaryNumber, binaryNumber}
 use Rattle.conversion.specs.Ir.{VarId, Operand, OVar, OInt, OFloat, OBool, ODataAddress, ONull, Instr, Copy, Unary, Binary, Cast, Zero, Arg, Call, Label, Jump, JumpIfNot, Return, Comment}
-use Rattle.conversion.specs.Written.{word, wide, boolNumber, tag, operandValue, Fields, tagOf, valueOf, destination, fieldsOf, encodeFields, encodeInstr}
+use Rattle.conversion.specs.Written.{word, wide, boolNumber, tag, operandValue, Fields, tagOf, operandWord, destination, fieldsOf, encodeFields, encodeInstr}
 use Rattle.tables.specs.Read.{_>>=_, unused, wideAt, markOf, variable, noOperand, varOperand, intOperand, floatOperand, boolOperand, stringOperand, nullOperand, badOperand, operandOf, fieldsAt, noInstr, copyOf, unaryOf, binaryOf, castOf, zeroOf, argOf, destinationOf, callOf, labelOf, jumpOf, jumpIfNotOf, returnOf, commentOf, instrOf, instrAt}
 use Rattle.tables.specs.Bytes.{Byte}
 use Rattle.tables.proofs.Numbers.{bytesFrom, word-of, wide-of, wide-small, take-bytes}
@@ -75,45 +75,45 @@ module _ (vs : List ℕ) where
 
   -- what a reader of tag k reads has that tag, and the value that was read
   abbrev Reads : ℕ → (ℕ → Option (Option Operand)) → Type 0
-  Reads k read = (n : ℕ) → n < 2 ^ 64 → (o : Option Operand) → read n ≡ some o → (tagOf o ≡ k) × (valueOf o ≡ n)
+  Reads k read = (n : ℕ) → n < 2 ^ 64 → (o : Option Operand) → read n ≡ some o → (tagOf o ≡ k) × (operandWord o ≡ n)
 
   none-reads : Reads 0 noOperand
-  unfolding noOperand tagOf valueOf
+  unfolding noOperand tagOf operandWord
   none-reads n h o e =
       let p = picked (eqb n 0) (some nothing) o e in
       let q : nothing ≡ o = cc (p .1) in
       rw (← q) (refl, sym (eqb-true n 0 (p .0)))
 
   var-reads : Reads 1 (varOperand vs)
-  unfolding varOperand tagOf valueOf tag operandValue
+  unfolding varOperand tagOf operandWord tag operandValue
   var-reads n h o e =
       let b = bound (variable vs n) (λ x. some (some (OVar x))) o e in
       let q : some (OVar (b .it)) ≡ o = cc (b .next) in
       rw (← q) (refl, variable-is n (b .it) (b .first))
 
   int-reads : (s u : Bool) → Reads (2 + boolNumber s + (boolNumber u + boolNumber u)) (intOperand s u)
-  unfolding intOperand tagOf valueOf tag operandValue
+  unfolding intOperand tagOf operandWord tag operandValue
   int-reads s u n h o e =
       let q : some (OInt (toZ w64 n) s u) ≡ o = cc in
       rw (← q) (refl, ofZ-toZ {w = w64} (record { fits = h }))
 
   float-reads : Reads 6 floatOperand
-  unfolding floatOperand tagOf valueOf tag operandValue
+  unfolding floatOperand tagOf operandWord tag operandValue
   float-reads n h o e = let q : some (OFloat n) ≡ o = cc in rw (← q) (refl, refl)
 
   bool-reads : Reads 7 boolOperand
-  unfolding boolOperand tagOf valueOf tag operandValue
+  unfolding boolOperand tagOf operandWord tag operandValue
   bool-reads n h o e =
       let b = bound (markOf n) (λ x. some (some (OBool x))) o e in
       let q : some (OBool (b .it)) ≡ o = cc (b .next) in
       rw (← q) (refl, mark-is n (b .it) (b .first))
 
   string-reads : Reads 8 stringOperand
-  unfolding stringOperand tagOf valueOf tag operandValue
+  unfolding stringOperand tagOf operandWord tag operandValue
   string-reads n h o e = let q : some (ODataAddress n) ≡ o = cc in rw (← q) (refl, refl)
 
   null-reads : Reads 9 nullOperand
-  unfolding nullOperand tagOf valueOf tag operandValue
+  unfolding nullOperand tagOf operandWord tag operandValue
   null-reads n h o e =
       let p = picked (eqb n 0) (some (some ONull)) o e in
       let q : some ONull ≡ o = cc (p .1) in
@@ -123,7 +123,7 @@ module _ (vs : List ℕ) where
   unfolding badOperand
   bad-reads k n h o e = let z : _≡_ {A = ℕ} 0 1 = cc in absurd (omega arith)
 
-  operand-is : (t n : ℕ) (o : Option Operand) → n < 2 ^ 64 → operandOf vs t n ≡ some o → (tagOf o ≡ t) × (valueOf o ≡ n)
+  operand-is : (t n : ℕ) (o : Option Operand) → n < 2 ^ 64 → operandOf vs t n ≡ some o → (tagOf o ≡ t) × (operandWord o ≡ n)
   unfolding operandOf boolNumber
   operand-is t n o h e = from-at Reads badOperand
       (noOperand ∷ varOperand vs ∷ intOperand false false ∷ intOperand true false ∷ intOperand false true ∷ intOperand true true ∷ floatOperand
@@ -157,7 +157,7 @@ module _ (vs : List ℕ) where
   layout k o t u a b c d e = k ∷ o ∷ t ∷ u ∷ [] ++ a ++ b ++ c ++ d ++ e
 
   encoded : (f : Fields) → encodeFields f ≡ layout (f .kind) (f .operator) (tagOf (f .first)) (tagOf (f .second)) (word (f .target))
-      (wide (valueOf (f .first))) (wide (valueOf (f .second))) (word (f .recordWord)) (word 0)
+      (wide (operandWord (f .first))) (wide (operandWord (f .second))) (word (f .recordWord)) (word 0)
   unfolding encodeFields layout
   encoded f = refl
 

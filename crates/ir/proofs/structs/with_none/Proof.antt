@@ -1,6 +1,6 @@
 -- The fields of an instruction are its bytes.
 -- By what each operand's part is. Assumes nothing.
-use Rattle.conversion.specs.Written.{tagOf, valueOf, word, wide, bytesOf, encodeFields}
+use Rattle.conversion.specs.Written.{tagOf, operandWord, word, wide, bytesOf, encodeFields}
 use Rattle.ir.specs.Instructions.{fieldBytes, noneBytes, oneBytes, twoBytes}
 use borrow.Author.Needs.{needs}
 use Rattle.ir.proofs.structs.with_none.Statement.{statement}
@@ -19,7 +19,7 @@ no-part-requires-2 c κs = search needs
 
 -- src/structs.rt:184:1
 returns : tie.Need-returns
-unfolding tagOf valueOf word wide bytesOf fieldBytes encodeFields noneBytes oneBytes twoBytes
+unfolding tagOf operandWord word wide bytesOf fieldBytes encodeFields noneBytes oneBytes twoBytes
 returns c = rw (c .before .no-part .ensures .0, c .before .no-part .ensures .1, c .no-part2 .ensures .0, c .no-part2 .ensures .1)
 
 pub with-none-spec : {M : Type 1} → statement M

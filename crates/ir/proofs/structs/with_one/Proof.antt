@@ -1,6 +1,6 @@
 -- The fields of an instruction are its bytes.
 -- By what each operand's part is. Assumes nothing.
-use Rattle.conversion.specs.Written.{tagOf, valueOf, word, wide, bytesOf, encodeFields}
+use Rattle.conversion.specs.Written.{tagOf, operandWord, word, wide, bytesOf, encodeFields}
 use Rattle.ir.specs.Instructions.{fieldBytes, noneBytes, oneBytes, twoBytes}
 use borrow.Author.Needs.{needs}
 use Rattle.ir.proofs.structs.with_one.Statement.{statement}
@@ -20,7 +20,7 @@ no-part-requires c κs = search needs
 
 -- src/structs.rt:170:1
 returns : tie.Need-returns
-unfolding tagOf valueOf word wide bytesOf fieldBytes encodeFields noneBytes oneBytes twoBytes
+unfolding tagOf operandWord word wide bytesOf fieldBytes encodeFields noneBytes oneBytes twoBytes
 returns c = rw (c .before .part-of .ensures .0, c .before .part-of .ensures .1, c .no-part .ensures .0, c .no-part .ensures .1)
 
 pub with-one-spec : {M : Type 1} → statement M

@@ -8,7 +8,7 @@ use lib.ListN.{length}
 use borrow.Author.Count.{below-more}
 use borrow.Author.Needs.{needs}
 use Rattle.records.specs.Rules.{typeIsNew}
-use Rattle.judge.specs.Equal.{Chained, Room}
+use Rattle.judge.specs.Equal.{Chained, ChainRoom}
 use Rattle.judge.proofs.EqualLaws.{bucket-told, chained-none, head-told, entered-long, chained-more}
 use Rattle.judge.proofs.equal.first_equal.Statement.{statement}
 use Rattle.judge.proofs.equal.first_equal.Tie as tie
@@ -79,7 +79,7 @@ loop-again : tie.Need-loop-again Inv-loop μ-loop
 loop-again c =
     let lead = c .before .before .before .before .before .before .before .before .before .before .before .before .before .before .before .before .before .before .before .before .pre .1 .within in
     let at-loop = c .before .before .before .before .before .before .before .before .before .before .before .before .loop in
-    let room : Room (c .before .before .before .before .before .before .before .before .before .before .before .before .before .before .before .before .before .before .before .before .args .types) (at-loop .scratch) = record { few = omega (arith, lead); room = omega (arith, lead, at-loop .inv .1, c .before .before .before .before .before .before .before .before .before .before .before .before .before .before .before .clear-heads .ensures .1) } in
+    let room : ChainRoom (c .before .before .before .before .before .before .before .before .before .before .before .before .before .before .before .before .before .before .before .before .args .types) (at-loop .scratch) = record { few = omega (arith, lead); room = omega (arith, lead, at-loop .inv .1, c .before .before .before .before .before .before .before .before .before .before .before .before .before .before .before .clear-heads .ensures .1) } in
     let r-below = c .before .before .before .before .before .before .before .before .before .before .before .loop-test .taken in
     let digest = c .before .before .before .before .before .before .before .before .before .before .type-digest .ensures in
     let at-bucket = c .before .before .before .before .before .before .before .before .before .bucket .ensures in
