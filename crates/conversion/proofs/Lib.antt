@@ -9,3 +9,4 @@ pub mod Bytes
 pub mod Steps
 pub mod Bodies
 pub mod Called
+pub mod Shifts

@@ -81,6 +81,8 @@ computed =
     ∷ answerOf (convertTree (assigned 1 2 2147483648 0))
     ∷ answerOf (convertTree (negated 1 2 2147483648 0))
     ∷ folds (int-value (EBinary 0 Shl (int (pos 3)) (int (pos 127))))
+    ∷ folds (int-value (EBinary 0 Shl (int (pos 1)) (int (pos 127))))
+    ∷ folds (int-value leastExpr)
     ∷ folds (int-value (EBinary 0 Shl (int (pos 1)) (int (pos 128))))
     ∷ folds (int-value (EBinary 0 Div leastExpr (int (negsuc 0))))
     ∷ floatsOf (convertTree (assigned 5 3 0 0x3FE00000))
@@ -105,6 +107,8 @@ expected =
     ∷ answers 0 0
     ∷ answers 16 13
     ∷ answers 0 0
+    ∷ folds nothing
+    ∷ folds nothing
     ∷ folds (some least)
     ∷ folds nothing
     ∷ folds nothing

@@ -5,7 +5,7 @@ use mathlib.Core.Bool.{Bool, true, false, not, _&&_, _||_}
 use mathlib.Core.List.{List, [], _∷_}
 use mathlib.Core.Option.{Option, none, some}
 use lib.Dec.{eqb, ltb}
-use lib.IntN.{ℤ}
+use lib.IntN.{ℤ, pos, negsuc}
 use lib.ListN.{getD}
 use lib.Ieee as Ieee
 use lib.Ieee.{Float, nan, inf, fin, binary64}
@@ -64,13 +64,40 @@ is-number t = isInt t || isFloat t
 
 -- ---- `int_value`: 'An integer constant folds in 128 bits; overflow, zero divisor and a count outside 0 to 127 fold to nothing'
 
+-- two whole numbers are the same
+unfoldable pub sameInt : ℤ → ℤ → Bool
+sameInt (pos m) (pos n) = eqb m n
+sameInt (pos m) (negsuc n) = false
+sameInt (negsuc m) (pos n) = false
+sameInt (negsuc m) (negsuc n) = eqb m n
+
 unfoldable pub foldUnary : UnaryOp → Option ℤ → Option ℤ
 foldUnary o none = none
 foldUnary Neg (some v) = negOf v
 foldUnary BitNot (some v) = some (notOf v)
 foldUnary Not (some v) = none
 
+-- document 02, point 6: 'a left shift folds to nothing unless the shifted value, taken back right by the same count, gives the old one'
+
+-- v where its like, taken back, is a again
+unfoldable pub keptIf : ℤ → ℤ → Option ℤ → Option ℤ
+unfolding pick sameInt
+keptIf a v none = none
+keptIf a v (some w) = pick (sameInt w a) (some v) none
+
+-- a shifted value, taken back by b
+unfoldable pub takenBack : ℤ → ℤ → Option ℤ → Option ℤ
+unfolding keptIf
+takenBack a b none = none
+takenBack a b (some v) = keptIf a v (byCount (shrOf v) b)
+
+-- a << b where no bit is lost
+unfoldable pub shlKept : ℤ → ℤ → Option ℤ
+unfolding takenBack
+shlKept a b = takenBack a b (byCount (shlOf a) b)
+
 unfoldable pub foldTwo : BinaryOp → ℤ → ℤ → Option ℤ
+unfolding shlKept
 foldTwo Add a b = addOf a b
 foldTwo Sub a b = subOf a b
 foldTwo Mul a b = mulOf a b
@@ -79,7 +106,7 @@ foldTwo Rem a b = remOf a b
 foldTwo BitAnd a b = some (andOf a b)
 foldTwo BitOr a b = some (orOf a b)
 foldTwo BitXor a b = some (xorOf a b)
-foldTwo Shl a b = byCount (shlOf a) b
+foldTwo Shl a b = shlKept a b
 foldTwo Shr a b = byCount (shrOf a) b
 foldTwo Or a b = none
 foldTwo And a b = none

@@ -1,23 +1,26 @@
 -- Folding of one operator, as the code meets it: the operator is known by its number, the operands by what they were folded to.
 -- A number names its operator; where it names none of those that fold, each operator is tried. Assumes nothing.
-use mathlib.Core.Path.{_≡_, refl, sym, ap, _∙_}
+use mathlib.Core.Path.{_≡_, refl, sym, ap, _∙_, subst}
 use mathlib.Core.Bool.{Bool, true, false}
 use mathlib.Core.List.{List, [], _∷_}
 use mathlib.Core.Option.{Option, none, some}
 use Prim.Native.Nat.{ℕ, zero, suc, _<_, _≤_}
 use native.Mathlib.Omega.{arith}
 use mathlib.Core.Logic.{⊎-elim}
-use lib.IntN.{ℤ}
+use lib.IntN.{ℤ, pos, negsuc}
 use lib.ListN.{getD}
 use lib.Ieee as Ieee
 use lib.Ieee.{Float, nan, inf, fin, binary64}
+use lib.Dec.{T}
+use borrow.Author.Tests.{eq-eqb, ne-eqb}
+use Rattle.laws.specs.Fix.{pick}
 use Rattle.int128.specs.declared.Int128.{Int128}
 use Rattle.int128.specs.declared.Checked.{Checked}
 use Rattle.int128.specs.declared.Checked.the-variants.{Value, Nothing}
 use Rattle.int128.specs.Value.{valueOf, answerOf}
 use Rattle.int128.specs.Ops.{negOf, notOf, addOf, subOf, mulOf, divOf, remOf, andOf, orOf, xorOf, shlOf, shrOf, byCount}
 use Rattle.syntax.specs.Syntax.{UnaryOp, Neg, BinaryOp, Or, unaryOps, binaryOps}
-use Rattle.conversion.specs.Types.{foldUnary, foldTwo, foldBinary, negFloat, floatTwo, floatBinary}
+use Rattle.conversion.specs.Types.{foldUnary, sameInt, keptIf, takenBack, shlKept, foldTwo, foldBinary, negFloat, floatTwo, floatBinary}
 use Rattle.types.specs.declared.float_value.FloatValue.{FloatValue}
 use Rattle.types.specs.declared.float_value.FloatValue.the-variants as F
 use Rattle.types.specs.Floats.{floatOf}
@@ -35,6 +38,50 @@ beyond-13 op h n₁ n₂ n₃ = omega arith
 
 beyond-17 : (op : ℕ) → 14 ≤ op → (op ≡ 14 → ⊥) → (op ≡ 15 → ⊥) → (op ≡ 16 → ⊥) → (op ≡ 17 → ⊥) → 18 ≤ op
 beyond-17 op h n₁ n₂ n₃ n₄ = omega arith
+
+-- ---- a left shift, taken back
+
+pub true-false : true ≡ false → ⊥
+true-false e = subst T e tt
+
+same-yes : (a b : ℤ) → a ≡ b → sameInt a b ≡ true
+unfolding sameInt
+same-yes (pos n) b e = rw (sym e) (eq-eqb n n refl)
+same-yes (negsuc n) b e = rw (sym e) (eq-eqb n n refl)
+
+same-no : (a b : ℤ) → (a ≡ b → ⊥) → sameInt a b ≡ false
+unfolding sameInt
+same-no (pos m) (pos n) d = ne-eqb m n (λ e. d (ap pos e))
+same-no (pos m) (negsuc n) d = refl
+same-no (negsuc m) (pos n) d = refl
+same-no (negsuc m) (negsuc n) d = ne-eqb m n (λ e. d (ap negsuc e))
+
+module _ (a b : ℤ) (x : Checked) (ex : answerOf x ≡ byCount (shlOf a) b) where
+  pub shift-nothing : x ≡ Nothing → answerOf Nothing ≡ shlKept a b
+  unfolding shlKept takenBack
+  shift-nothing e = ap (takenBack a b) (sym (ap answerOf e) ∙ ex)
+
+  module _ (v : Int128) (ev : x ≡ Value v) (y : Checked) (ey : answerOf y ≡ byCount (shrOf (valueOf v)) b) where
+    shifted : keptIf a (valueOf v) (answerOf y) ≡ shlKept a b
+    unfolding shlKept takenBack
+    shifted = ap (keptIf a (valueOf v)) ey ∙ ap (takenBack a b) (sym (ap answerOf ev) ∙ ex)
+
+    pub back-nothing : y ≡ Nothing → answerOf Nothing ≡ shlKept a b
+    unfolding keptIf
+    back-nothing e = ap (λ (z : Checked). keptIf a (valueOf v) (answerOf z)) (sym e) ∙ shifted
+
+    module _ (w : Int128) (ew : y ≡ Value w) where
+      back : pick (sameInt (valueOf w) a) (some (valueOf v)) none ≡ shlKept a b
+      unfolding keptIf
+      back = ap (λ (z : Checked). keptIf a (valueOf v) (answerOf z)) (sym ew) ∙ shifted
+
+      pub back-same : valueOf w ≡ a → answerOf (Value v) ≡ shlKept a b
+      unfolding pick
+      back-same e = ap (λ (t : Bool). pick t (some (valueOf v)) none) (sym (same-yes (valueOf w) a e)) ∙ back
+
+      pub back-other : (valueOf w ≡ a → ⊥) → answerOf Nothing ≡ shlKept a b
+      unfolding pick
+      back-other d = ap (λ (t : Bool). pick t (some (valueOf v)) none) (sym (same-no (valueOf w) a d)) ∙ back
 
 module _ (op : ℕ) where
   -- ---- integers
@@ -72,7 +119,7 @@ module _ (op : ℕ) where
     unfolding foldTwo
     two-past h = rw (past-or h)
 
-    pub two-shl : op ≡ 11 → (r : Checked) → answerOf r ≡ byCount (shlOf a) b → answerOf r ≡ foldTwo (getD binaryOps op Or) a b
+    pub two-shl : op ≡ 11 → (r : Checked) → answerOf r ≡ shlKept a b → answerOf r ≡ foldTwo (getD binaryOps op Or) a b
     unfolding foldTwo
     two-shl e r q = rw e q
 

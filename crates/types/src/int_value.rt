@@ -7,7 +7,7 @@ ghost use lib.ListN.{length, getD};
 ghost use Rattle.int128.specs.Value.{valueOf, answerOf};
 ghost use Rattle.syntax.specs.Syntax.{unaryOps, binaryOps, Neg, Or};
 ghost use Rattle.syntax.specs.Decode.{exprOf, node};
-ghost use Rattle.conversion.specs.Types.{foldUnary, foldTwo, foldBinary, int-value};
+ghost use Rattle.conversion.specs.Types.{foldUnary, shlKept, foldTwo, foldBinary, int-value};
 use crate::form::two_words;
 use int128::Checked;
 use int128::Int128;
@@ -63,13 +63,29 @@ fn fold_bits(op: u8, left: Int128, right: Int128) -> Int128
     left.bitand(right)
 }
 
+// The shifted value, where taken back by the same count it gives the old one: a shift that loses bits folds to nothing.
+fn fold_shl(left: Int128, right: Int128) -> Checked
+    ensures { λ r. ⌜ answerOf r ≡ shlKept (valueOf left) (valueOf right) ⌝ }
+{
+    let Checked::Value(v) = left.checked_shl_by(right) else {
+        return Checked::Nothing;
+    };
+    let Checked::Value(back) = v.checked_shr_by(right) else {
+        return Checked::Nothing;
+    };
+    if back.eq(left) {
+        return Checked::Value(v);
+    }
+    Checked::Nothing
+}
+
 // From Shl on: Shl, Shr, Add, Sub, Mul, Div, Rem.
 fn fold_checked(op: u8, left: Int128, right: Int128) -> Checked
     requires { ⌜ 11 ≤ op ⌝ }
     ensures { λ r. ⌜ answerOf r ≡ foldTwo (getD binaryOps op Or) (valueOf left) (valueOf right) ⌝ }
 {
     if op == SHL {
-        return left.checked_shl_by(right);
+        return fold_shl(left, right);
     }
     if op == SHR {
         return left.checked_shr_by(right);

@@ -9,17 +9,17 @@ use Rattle.int128.proofs.Int128.checked_add.Reads as checked-add-reads
 use Rattle.int128.proofs.Int128.checked_div.Reads as checked-div-reads
 use Rattle.int128.proofs.Int128.checked_mul.Reads as checked-mul-reads
 use Rattle.int128.proofs.Int128.checked_rem.Reads as checked-rem-reads
-use Rattle.int128.proofs.Int128.checked_shl_by.Reads as checked-shl-by-reads
+use Rattle.types.proofs.int_value.fold_shl.Reads as fold-shl-reads
 use Rattle.int128.proofs.Int128.checked_shr_by.Reads as checked-shr-by-reads
 use Rattle.int128.proofs.Int128.checked_sub.Reads as checked-sub-reads
 
 -- src/int_value.rt:56:9
-checked-shl-by-requires : tie.Need-checked-shl-by-requires
-checked-shl-by-requires c κs = search needs
+fold-shl-requires : tie.Need-fold-shl-requires
+fold-shl-requires c κs = search needs
 
 -- src/int_value.rt:56:9
 returns : tie.Need-returns
-returns c = two-shl _ _ _ (c .before .if1 .taken) (c .checked-shl-by .result) (c .checked-shl-by .ensures)
+returns c = two-shl _ _ _ (c .before .if1 .taken) (c .fold-shl .result) (c .fold-shl .ensures)
 
 -- src/int_value.rt:59:9
 checked-shr-by-requires : tie.Need-checked-shr-by-requires
@@ -77,7 +77,7 @@ pub fold-checked-spec : {M : Type 1} → statement M
 fold-checked-spec =
     tie.close
     (tie.spec
-    checked-shl-by-requires
+    fold-shl-requires
     returns
     checked-shr-by-requires
     returns-2
