@@ -10,3 +10,4 @@ pub mod Steps
 pub mod Bodies
 pub mod Called
 pub mod Shifts
+pub mod ShiftTrees

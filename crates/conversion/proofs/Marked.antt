@@ -1,4 +1,4 @@
--- Document 01's marked cases 1 to 10, as one table: what the definitions compute is what the document says.
+-- Document 01's marked cases 1 to 10 as one table, case 6 as document 02's point 6 amends it, with that point's other two: what is computed is what they say.
 -- By computing: each tree is written out as bytes, decoded and converted. Assumes nothing.
 use mathlib.Core.Path.{_≡_, refl}
 use Prim.Native.Nat.{ℕ, _-_, _^_}
