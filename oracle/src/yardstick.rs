@@ -79,6 +79,10 @@ impl Tally {
             None => &mut self.before,
         } += 1;
     }
+
+    pub fn total(&self) -> u64 {
+        self.rust + self.amended + self.before
+    }
 }
 
 impl fmt::Display for Tally {
