@@ -182,7 +182,8 @@ struct Found {
     /// Trees by their first call, and calls.
     trees: Tally,
     calls: Tally,
-    differ: u64,
+    /// Calls that differ.
+    differ: Tally,
     /// The length of the smallest tree that differs.
     smallest: usize,
 }
@@ -194,7 +195,7 @@ impl Found {
         *self.numbers.entry(answer.number()).or_default() += 1;
         self.calls.add(by);
         if let Some(what) = differs(fill, case, &answer) {
-            self.differ += 1;
+            self.differ.add(by);
             if case.tree.len() < self.smallest {
                 self.smallest = case.tree.len();
                 println!("{}: {what}", case.label);
@@ -205,9 +206,13 @@ impl Found {
     }
 
     fn print(&self) {
-        println!("{} trees, {} calls, {} differ", self.trees.total(), self.calls.total(), self.differ);
+        let (trees, calls, differ) = (self.trees.total(), self.calls.total(), self.differ.total());
+        println!("{trees} trees, {calls} calls, {differ} differ");
         println!("trees: {}", self.trees);
         println!("calls: {}", self.calls);
+        if differ > 0 {
+            println!("differ: {}", self.differ);
+        }
         for (number, count) in &self.numbers {
             println!("{number:2} {count}");
         }
@@ -227,5 +232,5 @@ pub fn compare(options: &Options) -> u64 {
         }
     }
     found.print();
-    found.differ
+    found.differ.total()
 }
