@@ -97,7 +97,7 @@ fn gen_files(seed: &str, class: &str, dir: &str) -> Result<(), String> {
     Ok(())
 }
 
-/// What came of generated trees: by number how many were held to which yardstick, and by pairs of numbers where the Rust answers otherwise.
+/// What came of trees: by number how many were held to which yardstick, and by pairs of numbers where the Rust answers otherwise.
 #[derive(Default)]
 struct Counts {
     all: Tally,
@@ -106,7 +106,7 @@ struct Counts {
 }
 
 impl Counts {
-    fn add(&mut self, case: &Case) -> Result<(), String> {
+    fn add(&mut self, case: &Case) -> Result<Answer, String> {
         let Held { answer, by } = held(&case.tree, &case.text, case.needs_main, case.lens)?;
         self.all.add(by);
         self.numbers.entry(answer.number()).or_default().add(by);
@@ -117,7 +117,7 @@ impl Counts {
                 *self.otherwise.entry((rust.number(), answer.number())).or_default() += 1;
             }
         }
-        Ok(())
+        Ok(answer)
     }
 
     fn print(&self) {
@@ -183,22 +183,20 @@ fn list_convert(seed: &str, n: &str, file: &str, vectors: &str) -> Result<(), St
     fs::write(file, bytes).map_err(|err| format!("{file}: {err}"))
 }
 
-/// Prints the cases of a list for the whole call, counted from 0, in which the oracle does not say what is stored.
+/// Prints the cases of a list for the whole call, counted from 0, in which the oracle does not say what is stored, and what came of all.
 fn check(file: &str) -> Result<(), String> {
     let list = read(file)?;
-    let cases = slips::stored(&list);
-    let (mut tally, mut differ) = (Tally::default(), 0);
-    for (at, stored) in cases.iter().enumerate() {
+    let (mut counts, mut differ) = (Counts::default(), 0);
+    for (at, stored) in slips::stored(&list).iter().enumerate() {
         let case = stored.case();
-        let held = held(&case.tree, &case.text, case.needs_main, case.lens)?;
-        tally.add(held.by);
-        if call_list::entry(at, &case, &held.answer) != stored.bytes {
+        let answer = counts.add(&case)?;
+        if call_list::entry(at, &case, &answer) != stored.bytes {
             differ += 1;
-            println!("{at}: {} stored, the oracle says {}", stored.line(), held.answer.line());
+            println!("{at}: {} stored, the oracle says {}", stored.line(), answer.line());
         }
     }
-    println!("{} cases: {tally}", cases.len());
-    println!("{differ} are not what the oracle says");
+    println!("{differ} cases are not what the oracle says");
+    counts.print();
     Ok(())
 }
 

@@ -78,21 +78,26 @@ fn constant_of(rng: &mut Rng, lose: bool) -> Ex {
     expr
 }
 
-/// Functions to call: overloads of one verb, of another with two parameters, and an external one.
-fn callees(rng: &mut Rng) -> Vec<Fun> {
+/// The functions that one of these places calls: overloads of one verb, of another with two parameters, or an external one.
+fn callees(rng: &mut Rng, places: &[Place]) -> Vec<Fun> {
     let mut made: Vec<Fun> = Vec::new();
-    for at in 0..1 + rng.below(3) {
-        let ty = INTEGERS[(at + rng.below(2)) % 4].clone();
-        let next = declared("쓰다", &[("값", ty.clone())], Some(ty), false);
-        if made.iter().all(|other| other.mangled != next.mangled) {
-            made.push(next);
+    if places.contains(&Place::Overloads) {
+        for at in 0..1 + rng.below(3) {
+            let ty = INTEGERS[(at + rng.below(2)) % 4].clone();
+            let next = declared("쓰다", &[("값", ty.clone())], Some(ty), false);
+            if made.iter().all(|other| other.mangled != next.mangled) {
+                made.push(next);
+            }
         }
     }
-    for ty in [SHORT, ULONG] {
-        made.push(declared("섞다", &[("값", LONG), ("수", ty)], Some(LONG), false));
+    if places.contains(&Place::FirstOfTwo) {
+        let with = |ty: Ty| declared("섞다", &[("값", LONG), ("수", ty)], Some(LONG), false);
+        made.extend([SHORT, ULONG].map(with));
     }
-    let ty = rng.pick(&INTEGERS).clone();
-    made.push(external("put", &[("값", ty)], Some(SHORT), rng.flip()));
+    if places.contains(&Place::External) {
+        let ty = rng.pick(&INTEGERS).clone();
+        made.push(external("put", &[("값", ty)], Some(SHORT), rng.flip()));
+    }
     made
 }
 
@@ -106,47 +111,93 @@ fn beside(rng: &mut Rng, expr: Ex, ops: &[u8]) -> Ex {
     if rng.flip() { binary(other, op, expr) } else { binary(expr, op, other) }
 }
 
-/// Statements that put a constant into a place of a type; `at` numbers what they declare.
-fn place(rng: &mut Rng, at: usize, lose: bool) -> Vec<St> {
-    let (expr, ty, new) = (constant_of(rng, lose), rng.pick(&INTEGERS).clone(), format!("수{at}"));
-    match rng.below(14) {
-        0..=2 => vec![declare(&new, ty), init(&new, expr)],
-        3 => vec![constant(&new, expr)],
-        4 => vec![for_loop(&new, Some(ty), expr, int(9), vec![])],
-        5 => vec![for_loop(&new, Some(ty), int(0), expr, vec![])],
-        6 => vec![for_loop(PARAMETERS[rng.below(3)].0, None, int(0), expr, vec![])],
-        7 => vec![init(&new, call_of("쓰다", vec![expr]))],
-        8 => {
+/// Where a constant stands.
+#[derive(Clone, Copy, PartialEq)]
+enum Place {
+    Assigned,
+    Constant,
+    From,
+    Until,
+    UntilOfVariable,
+    Overloads,
+    FirstOfTwo,
+    External,
+    Operand,
+    Condition,
+    TypedOnly,
+    Cast,
+    Returned,
+}
+
+const PLACES: [Place; 14] = [
+    Place::Assigned,
+    Place::Assigned,
+    Place::Assigned,
+    Place::Constant,
+    Place::From,
+    Place::Until,
+    Place::UntilOfVariable,
+    Place::Overloads,
+    Place::FirstOfTwo,
+    Place::External,
+    Place::Operand,
+    Place::Condition,
+    Place::TypedOnly,
+    Place::Cast,
+];
+
+/// Statements that put a constant into its place; `at` numbers what they declare.
+fn statements(rng: &mut Rng, at: usize, place: Place, expr: Ex) -> Vec<St> {
+    let (ty, new) = (rng.pick(&INTEGERS).clone(), format!("수{at}"));
+    match place {
+        Place::Assigned => vec![declare(&new, ty), init(&new, expr)],
+        Place::Constant => vec![constant(&new, expr)],
+        Place::From => vec![for_loop(&new, Some(ty), expr, int(9), vec![])],
+        Place::Until => vec![for_loop(&new, Some(ty), int(0), expr, vec![])],
+        Place::UntilOfVariable => {
+            vec![for_loop(PARAMETERS[rng.below(3)].0, None, int(0), expr, vec![])]
+        }
+        Place::Overloads => vec![init(&new, call_of("쓰다", vec![expr]))],
+        Place::FirstOfTwo => {
             let second = if rng.chance(40) { literal(rng, 1) } else { variable(rng) };
             vec![init(&new, call_of("섞다", vec![expr, second]))]
         }
-        9 => vec![St::Call(call_of("put", vec![expr]))],
-        10 => vec![init(&new, beside(rng, expr, &[ADD, MUL, SHL, SHR, BIT_AND]))],
-        11 => vec![St::If(beside(rng, expr, &[LT, GE, EQ, NE]), vec![], None)],
-        12 => vec![St::Call(expr), init(&new, cast(variable(rng), ty))],
-        _ => vec![init(&new, cast(expr, ty))],
+        Place::External => vec![St::Call(call_of("put", vec![expr]))],
+        Place::Operand => vec![init(&new, beside(rng, expr, &[ADD, MUL, SHL, SHR, BIT_AND]))],
+        Place::Condition => vec![St::If(beside(rng, expr, &[LT, GE, EQ, NE]), vec![], None)],
+        Place::TypedOnly => vec![St::Call(expr)],
+        Place::Cast => vec![init(&new, cast(expr, ty))],
+        Place::Returned => vec![St::Return(expr)],
     }
 }
 
-/// A function with a constant for each of `lost`, which loses bits or not; it may return the last.
-fn function(rng: &mut Rng, verb: &str, lost: &[bool]) -> Fun {
-    let returns = !lost.is_empty() && rng.flip();
-    let (placed, returned) = lost.split_at(lost.len() - usize::from(returns));
-    let places = placed.iter().enumerate();
-    let mut body: Vec<St> = places.flat_map(|(at, lose)| place(rng, at, *lose)).collect();
-    body.extend(returned.iter().map(|lose| St::Return(constant_of(rng, *lose))));
+/// A function with these constants, each of which loses bits or not.
+fn function(rng: &mut Rng, verb: &str, constants: &[(Place, bool)]) -> Fun {
+    let mut body = Vec::new();
+    for (at, (place, lose)) in constants.iter().enumerate() {
+        let expr = constant_of(rng, *lose);
+        body.extend(statements(rng, at, *place, expr));
+    }
+    let returns = constants.iter().any(|(place, _)| *place == Place::Returned);
     let ret = returns.then(|| rng.pick(&INTEGERS).clone());
     func(verb, &PARAMETERS, ret, body)
 }
 
-/// A program of up to four constants; with `lose` at least one of them loses bits.
+/// A program of up to four constants in one function or two; with `lose` at least one of them loses bits.
 pub fn program(rng: &mut Rng, lose: bool) -> Vec<Fun> {
     let count = 1 + rng.below(4);
-    let sure = rng.below(count);
-    let lost: Vec<bool> = (0..count).map(|at| lose && (at == sure || rng.chance(30))).collect();
-    let (first, second) = lost.split_at(rng.below(count + 1));
-    let mut functions = callees(rng);
+    let (sure, cut) = (rng.below(count), 1 + rng.below(count));
+    let mut constants: Vec<(Place, bool)> = Vec::new();
+    for at in 0..count {
+        // What a function returns comes last in it.
+        let last = at + 1 == cut || at + 1 == count;
+        let place = if last && rng.flip() { Place::Returned } else { *rng.pick(&PLACES) };
+        constants.push((place, lose && (at == sure || rng.chance(30))));
+    }
+    let places: Vec<Place> = constants.iter().map(|constant| constant.0).collect();
+    let mut functions = callees(rng, &places);
+    let (first, second) = constants.split_at(cut);
     functions.push(function(rng, "하다", first));
-    functions.push(function(rng, "다하다", second));
+    functions.extend((!second.is_empty()).then(|| function(rng, "다하다", second)));
     functions
 }
