@@ -7,6 +7,7 @@ use common::answer_line;
 use oracle::ask::{Questions, judged};
 use oracle::ast::{Ex, Fun, Layout, St, Ty};
 use oracle::convert::{answer_by, held};
+use oracle::generate::shifts;
 use oracle::program::Build;
 use oracle::tree::{CALL_STATEMENT, Tree};
 use oracle::write::*;
@@ -211,6 +212,19 @@ fn the_class_has_each_answer_twice() {
         for lost in [false, true] {
             let count = counts.get(&(number, lost)).copied().unwrap_or(0);
             assert!(count >= 10, "{number}, {lost}: {counts:?}");
+        }
+    }
+}
+
+/// At the limits one shift more loses bits, except with 0 and -1, and the answer tells.
+#[test]
+fn limits_tell() {
+    let programs = shifts::limits();
+    for (at, pair) in programs.chunks(2).enumerate() {
+        let lost = at % 2 == 1 && at >= 4;
+        for functions in pair {
+            let (rust, amended, count) = both(functions);
+            assert_eq!((count > 0, rust != amended), (lost, lost), "{functions:?}");
         }
     }
 }

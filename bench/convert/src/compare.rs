@@ -148,23 +148,24 @@ pub struct Options<'o> {
 }
 
 impl Options<'_> {
-    fn case(&self, at: u64) -> Case {
+    /// Tree number `at` with the buffers of each call: every fourth is lent longer ones than it needs, and every fifth is converted again with
+    /// each one byte short. These are told by the turn as well, so that every class has its share whatever their number.
+    fn calls(&self, fill: &mut Fill, at: u64) -> Vec<Case> {
         let all = classes().len() as u64;
-        let (class, turn) = match self.class {
-            Some(class) => (class, at),
-            None => (classes()[(at % all) as usize], at / all),
-        };
-        generate(self.seed.wrapping_mul(1_000_003).wrapping_add(turn), class)
+        let (turn, which) = if self.class.is_some() { (at, 0) } else { (at / all, at % all) };
+        let class = self.class.unwrap_or(classes()[which as usize]);
+        let case = generate(self.seed.wrapping_mul(1_000_003).wrapping_add(turn), class);
+        lend(fill, case, (turn + which) % 4 == 0, (turn + which) % 5 == 0)
     }
 }
 
-/// A tree with the buffers of each call: every fourth is lent longer ones than it needs, and every fifth is converted again with each one byte short.
-fn calls(fill: &mut Fill, mut case: Case, at: u64) -> Vec<Case> {
-    if at % 4 == 0 {
+/// A case with the buffers of each call.
+fn lend(fill: &mut Fill, mut case: Case, longer: bool, again: bool) -> Vec<Case> {
+    if longer {
         case.lens = case.lens.map(|len| len + fill.below(40));
     }
     let mut cases = vec![case];
-    if at % 5 == 0 {
+    if again {
         for which in 0..7 {
             let mut short = cases[0].clone();
             short.lens = oracle::needed(short.tree.len());
@@ -224,7 +225,7 @@ pub fn compare(options: &Options) -> u64 {
     let mut fill = Fill::new(options.seed.wrapping_mul(0x9E37_79B9_7F4A_7C15));
     let mut found = Found { smallest: usize::MAX, ..Found::default() };
     for at in 0..options.trees {
-        for (turn, case) in calls(&mut fill, options.case(at), at).iter().enumerate() {
+        for (turn, case) in options.calls(&mut fill, at).iter().enumerate() {
             let by = found.call(&mut fill, case, options.folder);
             if turn == 0 {
                 found.trees.add(by);

@@ -7,7 +7,7 @@ use crate::write::*;
 
 /// 0 and -1 lose bits by no shift.
 const KEPT_VALUES: [i64; 2] = [0, -1];
-const VALUES: [i64; 12] = [1, 1, 3, -3, 5, 64, 1 << 30, 1 << 31, 1 << 62, (1 << 62) + 1, i64::MAX, i64::MIN];
+const VALUES: [i64; 11] = [1, 3, -3, 5, 64, 1 << 30, 1 << 31, 1 << 62, (1 << 62) + 1, i64::MAX, i64::MIN];
 const COUNTS: [i64; 14] = [0, 1, 2, 30, 31, 32, 62, 63, 64, 65, 124, 125, 126, 127];
 /// Counts with which no shift folds.
 const NO_COUNTS: [i64; 5] = [128, 129, -1, 1 << 32, i64::MIN];
@@ -200,4 +200,21 @@ pub fn program(rng: &mut Rng, lose: bool) -> Vec<Fun> {
     functions.push(function(rng, "하다", first));
     functions.extend((!second.is_empty()).then(|| function(rng, "다하다", second)));
     functions
+}
+
+/// For each value the last shift that keeps all bits and the next one: into a short variable, and taken back right beside a short literal, where it
+/// converts either way and tells by the type.
+pub fn limits() -> Vec<Vec<Fun>> {
+    let mut programs = Vec::new();
+    for value in KEPT_VALUES.into_iter().chain(VALUES) {
+        let wide = i128::from(value);
+        let last = (0..128).rev().find(|count| wide << count >> count == wide).unwrap_or(0);
+        for count in [last, last + 1] {
+            let shift = || binary(int(value), SHL, int(count));
+            let back = binary(Ex::Int(5, true, false), ADD, binary(shift(), SHR, int(127)));
+            let bodies = [vec![declare("수", SHORT), init("수", shift())], vec![init("수", back)]];
+            programs.extend(bodies.map(|body| vec![func("하다", &[], None, body)]));
+        }
+    }
+    programs
 }
