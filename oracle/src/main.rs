@@ -183,7 +183,8 @@ fn list_convert(seed: &str, n: &str, file: &str, vectors: &str) -> Result<(), St
     fs::write(file, bytes).map_err(|err| format!("{file}: {err}"))
 }
 
-/// Prints the cases of a list for the whole call, counted from 0, in which the oracle does not say what is stored, and what came of all.
+/// Prints the cases of a list for the whole call, counted from 0, in which the oracle does not say what is stored, and what came of all;
+/// any such case is an error.
 fn check(file: &str) -> Result<(), String> {
     let list = read(file)?;
     let (mut counts, mut differ) = (Counts::default(), 0);
@@ -195,9 +196,8 @@ fn check(file: &str) -> Result<(), String> {
             println!("{at}: {} stored, the oracle says {}", stored.line(), answer.line());
         }
     }
-    println!("{differ} cases are not what the oracle says");
     counts.print();
-    Ok(())
+    if differ > 0 { Err(format!("{differ} cases are not what the oracle says")) } else { Ok(()) }
 }
 
 /// Slips in the rules before conversion and in what is left behind, held against a list for the whole call.

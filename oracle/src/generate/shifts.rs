@@ -17,7 +17,7 @@ const INTEGERS: [Ty; 4] = [LONG, SHORT, ULONG, USHORT];
 /// What every function takes, so that constants stand beside variables.
 const PARAMETERS: [(&str, Ty); 3] = [("짧", SHORT), ("긴", LONG), ("양", ULONG)];
 
-/// A constant and its value in 128 bits, lost ones left out.
+/// A constant and its value in 128 bits, without the bits that it loses.
 type Known = (Ex, i128);
 
 fn literal(rng: &mut Rng, value: i64) -> Ex {
