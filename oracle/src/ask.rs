@@ -1,14 +1,13 @@
-//! Single questions over a judged tree: the folds, and types and calls over a scope.
+//! Single questions over a judged tree: the folds, and types and calls over a scope. The yardstick that the tree is held to answers.
 
 use crate::convert::{error_place, quietly};
 use crate::converter::convert_error::ConvertError;
-use crate::converter::open_types;
-use crate::converter::probe::{self, Called};
 use crate::judge::{Refusal, judge, needed};
 use crate::parser::postparser::structs::{Expr, Function, Program, Type};
 use crate::program::Build;
 use crate::stand_ins::set_key_texts;
 use crate::tree::*;
+use crate::yardstick::{Called, Krc, Yardstick};
 
 /// The answer to a question over a scope.
 #[derive(Clone, Copy, Debug, PartialEq, Eq)]
@@ -32,6 +31,7 @@ pub struct Questions<'t> {
     build: Build<'t>,
     program: Program,
     functions: Vec<u32>,
+    krc: &'static Krc,
 }
 
 /// Judges a tree with buffers that suffice.
@@ -43,41 +43,41 @@ pub fn judged<'t>(tree: &[u8], text: &'t [u8]) -> Result<Tree<'t>, Refusal> {
 impl<'t> Questions<'t> {
     pub fn new(tree: &'t Tree<'t>) -> Self {
         let build = Build::new(tree);
-        let program = build.program();
-        Self { program, functions: tree.of_kind(FUNCTION).collect(), build }
+        let (program, krc) = (build.program(), Yardstick::of(&build).krc());
+        Self { program, functions: tree.of_kind(FUNCTION).collect(), build, krc }
     }
 
     pub fn int_value(&self, expr: u32) -> Option<i128> {
-        open_types::fold_int(&self.build.expr(expr))
+        (self.krc.int_value)(&self.build.expr(expr))
     }
 
     pub fn float_value(&self, expr: u32) -> Option<f64> {
-        open_types::fold_float(&self.build.expr(expr))
+        (self.krc.float_value)(&self.build.expr(expr))
     }
 
     /// Whether `expr`, of type `ty`, goes where `expected` goes.
     pub fn fits(&self, expr: u32, ty: u32, expected: u32) -> bool {
         let build = &self.build;
-        open_types::fit(&build.expr(expr), &build.ty(ty), &build.ty(expected))
+        (self.krc.fits)(&build.expr(expr), &build.ty(ty), &build.ty(expected))
     }
 
     /// Whether `expr`, of type `ty`, is out of the range of `expected` (number 16, at `expr`).
     pub fn range_error(&self, expr: u32, ty: u32, expected: u32) -> bool {
         let build = &self.build;
-        open_types::out_of_range(&build.expr(expr), &build.ty(ty), &build.ty(expected))
+        (self.krc.range_error)(&build.expr(expr), &build.ty(ty), &build.ty(expected))
     }
 
     /// The type of `expr` over the parameters of function record `scope`.
     pub fn get_type(&self, scope: u32, expr: u32) -> Reply {
         self.ask(scope, expr, |func, expr| {
-            probe::get_type(&self.program, func, expr).map(|ty| Reply::Type(self.type_record(&ty)))
+            (self.krc.get_type)(&self.program, func, expr).map(|ty| Reply::Type(self.type_record(&ty)))
         })
     }
 
     /// What the call `expr` runs, over the parameters of function record `scope`.
     pub fn resolve_call(&self, scope: u32, expr: u32) -> Reply {
         self.ask(scope, expr, |func, expr| {
-            let called = probe::resolve_call(&self.program, func, expr)?;
+            let called = (self.krc.resolve_call)(&self.program, func, expr)?;
             Ok(match called.expect("a call is asked for") {
                 Called::Function(func) => Reply::Function((func.span.start >> 32) as u32),
                 Called::Cast(ty) => Reply::Cast(self.type_record(&ty)),
@@ -88,7 +88,7 @@ impl<'t> Questions<'t> {
     /// Whether the program has the `main` that it needs.
     pub fn check_main(&self, needs_main: bool) -> Reply {
         set_key_texts(self.build.key_texts());
-        reply(quietly(|| probe::check_main(&self.program, needs_main).map(|()| Reply::Fine)))
+        reply(quietly(|| (self.krc.check_main)(&self.program, needs_main).map(|()| Reply::Fine)))
     }
 
     fn type_record(&self, ty: &Type) -> u32 {

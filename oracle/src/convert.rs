@@ -1,17 +1,18 @@
-//! The conversion call: judge, convert with Krc, and answer as document 01 says.
+//! The conversion call: judge, convert with Krc, and answer as document 01 says. Where a request decides a tree, the amended copy of Krc's
+//! converter is asked.
 
 use std::cell::RefCell;
 use std::panic::{self, AssertUnwindSafe};
 use std::sync::Once;
 
 use crate::converter::convert_error::{ConvertError, ConvertErrorKind};
-use crate::converter::converter::Converter;
 use crate::judge::{Refusal, judge};
 use crate::program::Build;
 use crate::stand_ins::set_key_texts;
 use crate::tables::{Tables, tables};
 use crate::tree::*;
 use crate::walk::{Stop, Walk};
+use crate::yardstick::Yardstick;
 
 #[derive(Clone, Debug, PartialEq, Eq)]
 pub enum Answer {
@@ -51,20 +52,37 @@ pub fn convert(tree: &[u8], text: &[u8], needs_main: bool, lens: [usize; 7]) -> 
 
 /// `convert`, with an internal error handed back.
 pub fn try_convert(tree: &[u8], text: &[u8], needs_main: bool, lens: [usize; 7]) -> Result<Answer, String> {
+    Ok(held(tree, text, needs_main, lens)?.answer)
+}
+
+/// An answer, and the yardstick that it is: none where the tree is refused before conversion.
+pub struct Held {
+    pub answer: Answer,
+    pub by: Option<Yardstick>,
+}
+
+/// `try_convert`, with the yardstick that the tree is held to.
+pub fn held(tree: &[u8], text: &[u8], needs_main: bool, lens: [usize; 7]) -> Result<Held, String> {
     if let Err(refusal) = judge(tree, text, lens) {
-        return Ok(Answer::Refused(refusal));
+        return Ok(Held { answer: Answer::Refused(refusal), by: None });
     }
     let tree = Tree::new(tree, text);
     let build = Build::new(&tree);
+    let by = Yardstick::of(&build);
+    Ok(Held { answer: answer_by(by, &build, needs_main, lens)?, by: Some(by) })
+}
+
+/// The answer of one yardstick to a judged tree, whether or not the tree is held to it.
+pub fn answer_by(by: Yardstick, build: &Build, needs_main: bool, lens: [usize; 7]) -> Result<Answer, String> {
     set_key_texts(build.key_texts());
     let program = build.program();
-    match quietly(|| Converter::new(&program, needs_main).convert()) {
-        Ok(Ok(ir)) => within(tables(&build, &ir)?, lens),
+    match quietly(|| (by.krc().convert)(&program, needs_main)) {
+        Ok(Ok(ir)) => within(tables(build, &ir)?, lens),
         Ok(Err(error)) => {
             let (number, place) = error_place(&error);
-            Ok(Answer::Refused(refusal_at(&tree, number, place)))
+            Ok(Answer::Refused(refusal_at(build.tree, number, place)))
         }
-        Err(panic) => Ok(Answer::Refused(refusal_at(&tree, 27, stop_place(&tree, &panic)?))),
+        Err(panic) => Ok(Answer::Refused(refusal_at(build.tree, 27, stop_place(build.tree, &panic)?))),
     }
 }
 

@@ -1,5 +1,5 @@
-//! The reference: Krc's own converter, unmodified, driven by record trees; with a generator of
-//! trees and a printer for people.
+//! The reference: Krc's own converter, unmodified, driven by record trees, and an amended copy of it for
+//! trees that a request decides; with a generator of trees and a printer for people.
 
 pub mod ask;
 pub mod ast;
@@ -16,6 +16,7 @@ pub mod tables;
 pub mod tree;
 pub mod walk;
 pub mod write;
+pub mod yardstick;
 
 /// Stand-in for Krc's module of that name.
 pub mod elf {
@@ -28,3 +29,4 @@ pub use convert::{Answer, convert};
 pub use generate::{Case, classes, generate};
 pub use judge::{Refusal, judge, needed};
 pub use tables::Tables;
+pub use yardstick::Yardstick;

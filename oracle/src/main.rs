@@ -5,17 +5,19 @@ use std::path::Path;
 use std::process::ExitCode;
 use std::{env, fs};
 
-use oracle::convert::try_convert;
+use oracle::convert::{Held, answer_by, held, try_convert};
 use oracle::generate::call_list;
 use oracle::generate::list::{bytes, cases};
+use oracle::program::Build;
 use oracle::slips;
 use oracle::source::source_text;
 use oracle::tree::Tree;
-use oracle::{Answer, Case, classes, forms, generate, judge, needed, show};
+use oracle::yardstick::{Tally, lost_shifts};
+use oracle::{Answer, Case, Yardstick, classes, forms, generate, judge, needed, show};
 
 const USAGE: &str = "oracle judge TREE TEXT | convert TREE TEXT [--main] [--long] | show TREE TEXT [--main] |
-    gen SEED CLASS DIR | count N SEED [CLASS] | list judge SEED N FILE | list convert SEED N FILE VECTORS |
-    slips FILE | forms N SEED CLASS | forms FILE | classes";
+    yardstick TREE TEXT | gen SEED CLASS DIR | count N SEED [CLASS] | list judge SEED N FILE |
+    list convert SEED N FILE VECTORS | check FILE | slips FILE | forms N SEED CLASS | forms FILE | classes";
 
 /// What document 01's program takes at most.
 const MOST_TREE_BYTES: usize = 6400;
@@ -53,11 +55,30 @@ fn show_files(tree: &str, text: &str, options: &[&str]) -> Result<(), String> {
     if judge(&bytes, &text, needed(bytes.len())).is_ok() {
         print!("\n{}\n", source_text(&tree));
     }
+    println!("{}", yardstick_line(&bytes, &text));
     match try_convert(&bytes, &text, options.contains(&"--main"), needed(bytes.len()))? {
         Answer::Converted(tables) => print!("{}", show::tables_text(&tables, &|at| format!("#{at}"))),
         Answer::Refused(refusal) => print!("{}", show::refusal_text(&tree, &refusal)),
     }
     Ok(())
+}
+
+/// Prints what a tree is held to, and with the amended definition the shifts that lose bits.
+fn yardstick_of_files(tree: &str, text: &str) -> Result<(), String> {
+    let (bytes, text) = (read(tree)?, read(text)?);
+    println!("{}", yardstick_line(&bytes, &text));
+    Ok(())
+}
+
+fn yardstick_line(bytes: &[u8], text: &[u8]) -> String {
+    if judge(bytes, text, needed(bytes.len())).is_err() {
+        return "refused before conversion".to_string();
+    }
+    let tree = Tree::new(bytes, text);
+    match lost_shifts(&Build::new(&tree))[..] {
+        [] => "held to the Rust".to_string(),
+        ref lost => format!("held to the amended definition, for the shifts {lost:?}"),
+    }
 }
 
 fn number(text: &str) -> Result<u64, String> {
@@ -76,22 +97,57 @@ fn gen_files(seed: &str, class: &str, dir: &str) -> Result<(), String> {
     Ok(())
 }
 
-/// Converts `n` generated trees, and prints how many gave each number.
+/// What came of trees: by number how many were held to which yardstick, and by pairs of numbers where the Rust answers otherwise.
+#[derive(Default)]
+struct Counts {
+    all: Tally,
+    numbers: BTreeMap<u32, Tally>,
+    otherwise: BTreeMap<(u32, u32), u64>,
+}
+
+impl Counts {
+    fn add(&mut self, case: &Case) -> Result<Answer, String> {
+        let Held { answer, by } = held(&case.tree, &case.text, case.needs_main, case.lens)?;
+        self.all.add(by);
+        self.numbers.entry(answer.number()).or_default().add(by);
+        if by == Some(Yardstick::Amended) {
+            let tree = Tree::new(&case.tree, &case.text);
+            let rust = answer_by(Yardstick::Rust, &Build::new(&tree), case.needs_main, case.lens)?;
+            if rust != answer {
+                *self.otherwise.entry((rust.number(), answer.number())).or_default() += 1;
+            }
+        }
+        Ok(answer)
+    }
+
+    fn print(&self) {
+        println!("{} trees: {}", self.all.total(), self.all);
+        for (number, tally) in &self.numbers {
+            let amended = tally.amended;
+            let split = if amended > 0 { format!(", {amended} of them amended") } else { String::new() };
+            println!("{number:2} {}{split}", tally.total());
+        }
+        if self.all.amended > 0 {
+            println!("the Rust answers otherwise: {}", self.otherwise.values().sum::<u64>());
+        }
+        for ((rust, amended), count) in &self.otherwise {
+            println!("{rust:2} -> {amended:2} {count}");
+        }
+    }
+}
+
+/// Converts `n` generated trees, and prints what came of them.
 fn count(n: &str, seed: &str, class: Option<&str>) -> Result<(), String> {
     let (n, seed) = (number(n)?, number(seed)?);
-    let mut numbers: BTreeMap<u32, u64> = BTreeMap::new();
+    let mut counts = Counts::default();
     for at in 0..n {
         // Each class takes the seeds one by one, so that what a class does in turn comes up whole.
         let turn = if class.is_some() { at } else { at / classes().len() as u64 };
         let class = class.unwrap_or(classes()[at as usize % classes().len()]);
         let case = generate(seed.wrapping_mul(1_000_003).wrapping_add(turn), class);
-        let answer = try_convert(&case.tree, &case.text, case.needs_main, case.lens)
-            .map_err(|message| format!("internal error: {}: {message}", case.label))?;
-        *numbers.entry(answer.number()).or_default() += 1;
+        counts.add(&case).map_err(|message| format!("internal error: {}: {message}", case.label))?;
     }
-    for (number, count) in numbers {
-        println!("{number:2} {count}");
-    }
+    counts.print();
     Ok(())
 }
 
@@ -125,6 +181,23 @@ fn list_convert(seed: &str, n: &str, file: &str, vectors: &str) -> Result<(), St
         println!("{number:2} {count}");
     }
     fs::write(file, bytes).map_err(|err| format!("{file}: {err}"))
+}
+
+/// Prints the cases of a list for the whole call, counted from 0, in which the oracle does not say what is stored, and what came of all;
+/// any such case is an error.
+fn check(file: &str) -> Result<(), String> {
+    let list = read(file)?;
+    let (mut counts, mut differ) = (Counts::default(), 0);
+    for (at, stored) in slips::stored(&list).iter().enumerate() {
+        let case = stored.case();
+        let answer = counts.add(&case)?;
+        if call_list::entry(at, &case, &answer) != stored.bytes {
+            differ += 1;
+            println!("{at}: {} stored, the oracle says {}", stored.line(), answer.line());
+        }
+    }
+    counts.print();
+    if differ > 0 { Err(format!("{differ} cases are not what the oracle says")) } else { Ok(()) }
 }
 
 /// Slips in the rules before conversion and in what is left behind, held against a list for the whole call.
@@ -170,6 +243,7 @@ fn run(args: &[&str]) -> Result<(), String> {
         ["judge", tree, text] => judge_files(tree, text),
         ["convert", tree, text, options @ ..] => convert_files(tree, text, options),
         ["show", tree, text, options @ ..] => show_files(tree, text, options),
+        ["yardstick", tree, text] => yardstick_of_files(tree, text),
         ["gen", seed, class, dir] => gen_files(seed, class, dir),
         ["count", n, seed] => count(n, seed, None),
         ["count", n, seed, class] => count(n, seed, Some(class)),
@@ -177,6 +251,7 @@ fn run(args: &[&str]) -> Result<(), String> {
         ["list", "convert", seed, n, file, vectors] => list_convert(seed, n, file, vectors),
         ["forms", n, seed, class] => forms_of_class(n, seed, class),
         ["forms", file] => count_forms(slips::stored(&read(file)?).iter().map(slips::Stored::case)),
+        ["check", file] => check(file),
         ["slips", file] => try_slips(file),
         ["classes"] => {
             println!("{}", classes().join(" "));

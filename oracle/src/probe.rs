@@ -1,18 +1,29 @@
 //! Questions that only Krc's own converter module can ask: a type or a call over a scope made of a
-//! function's parameters. This file is built as a child of that module.
+//! function's parameters. This file is built as a child of that module, and of the amended one.
 
 use crate::parser::postparser::structs::{Expr, ExprKind, Function, Program, Type};
+use crate::yardstick::{Called, Krc};
 
 use super::convert_error::{ConvertError, ConvertErrorKind};
 use super::converter::Converter;
 use super::expressions::Callee;
-use super::ir::structs::VarId;
+use super::ir::structs::{self as ir, VarId};
+use super::open_types;
 use super::scope::{BlockKind, Scope, Variable};
 
-/// What a call runs.
-pub enum Called<'a> {
-    Function(&'a Function),
-    Cast(Type),
+pub static KRC: Krc = Krc {
+    convert,
+    int_value: open_types::fold_int,
+    float_value: open_types::fold_float,
+    fits: open_types::fit,
+    range_error: open_types::out_of_range,
+    get_type,
+    resolve_call,
+    check_main,
+};
+
+fn convert(program: &Program, needs_main: bool) -> Result<ir::Program, ConvertError> {
+    Converter::new(program, needs_main).convert()
 }
 
 /// The scope of `func`'s parameters, as its conversion would start.
@@ -30,14 +41,14 @@ fn parameters(func: &Function) -> Result<Scope<'_>, ConvertError> {
     Ok(scope)
 }
 
-pub fn get_type(program: &Program, func: &Function, expr: &Expr) -> Result<Type, ConvertError> {
+fn get_type(program: &Program, func: &Function, expr: &Expr) -> Result<Type, ConvertError> {
     let mut converter = Converter::new(program, false);
     converter.get_all_functions()?;
     converter.get_type(expr, &parameters(func)?)
 }
 
 /// What the call `expr` runs; `None` if it is no call.
-pub fn resolve_call<'a>(
+fn resolve_call<'a>(
     program: &'a Program,
     func: &'a Function,
     expr: &Expr,
@@ -55,7 +66,7 @@ pub fn resolve_call<'a>(
 }
 
 /// Whether the program has the `main` that it needs, once its functions are known.
-pub fn check_main(program: &Program, needs_main: bool) -> Result<(), ConvertError> {
+fn check_main(program: &Program, needs_main: bool) -> Result<(), ConvertError> {
     let mut converter = Converter::new(program, needs_main);
     converter.get_all_functions()?;
     converter.check_main()

@@ -47,9 +47,12 @@ fn cases_3_to_5_short_integers() {
     assert_eq!(short_gets(unary(NEG, int(2147483648))), negated);
 }
 
+/// Case 6 as amended: it was -2^127 before a shift that loses bits folded to nothing, which -1 << 127 still is.
 #[test]
 fn cases_6_to_8_folds() {
-    let least = || binary(int(3), SHL, int(127));
+    let least = || binary(unary(NEG, int(1)), SHL, int(127));
+    assert_eq!(fold(binary(int(3), SHL, int(127))), None);
+    assert_eq!(fold(binary(int(1), SHL, int(127))), None);
     assert_eq!(fold(least()), Some(i128::MIN));
     assert_eq!(fold(binary(int(1), SHL, int(128))), None);
     assert_eq!(fold(binary(least(), DIV, unary(NEG, int(1)))), None);

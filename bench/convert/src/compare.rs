@@ -3,7 +3,9 @@
 use std::collections::BTreeMap;
 use std::{fs, path::Path};
 
-use oracle::{Answer, Case, classes, generate};
+use oracle::convert::{Held, held};
+use oracle::yardstick::Tally;
+use oracle::{Answer, Case, Yardstick, classes, generate};
 use rudderplum::{ANSWER_BYTES, Buffers, convert_into, read_conversion};
 
 /// Bytes behind each lent buffer, which no call may touch.
@@ -135,45 +137,101 @@ fn keep(folder: &str, case: &Case, what: &str) -> std::io::Result<()> {
     fs::write(folder.join("case.txt"), format!("{}\nbuffers {:?}\n{what}\n", case.label, case.lens))
 }
 
-/// Compares `n` generated trees of all classes in turn; the smallest that differs goes into `folder`. Every fourth tree is lent longer buffers than it
-/// needs, and every fifth is converted again with each buffer one byte short.
-pub fn compare(n: u64, seed: u64, folder: &str) -> u64 {
-    let mut fill = Fill::new(seed.wrapping_mul(0x9E37_79B9_7F4A_7C15));
-    let mut numbers: BTreeMap<u32, u64> = BTreeMap::new();
-    let (mut differ, mut smallest, mut calls) = (0, usize::MAX, 0u64);
-    for at in 0..n {
-        let class = classes()[at as usize % classes().len()];
-        let mut case =
-            generate(seed.wrapping_mul(1_000_003).wrapping_add(at / classes().len() as u64), class);
-        if at % 4 == 0 {
-            case.lens = case.lens.map(|len| len + fill.below(40));
+/// What is compared.
+pub struct Options<'o> {
+    pub trees: u64,
+    pub seed: u64,
+    /// All classes in turn where none is named.
+    pub class: Option<&'o str>,
+    /// Where the smallest tree that differs goes.
+    pub folder: &'o str,
+}
+
+impl Options<'_> {
+    /// Tree number `at` with the buffers of each call: every fourth is lent longer ones than it needs, and every fifth is converted again with
+    /// each one byte short. These are told by the turn as well, so that every class has its share whatever their number.
+    fn calls(&self, fill: &mut Fill, at: u64) -> Vec<Case> {
+        let all = classes().len() as u64;
+        let (turn, which) = if self.class.is_some() { (at, 0) } else { (at / all, at % all) };
+        let class = self.class.unwrap_or(classes()[which as usize]);
+        let case = generate(self.seed.wrapping_mul(1_000_003).wrapping_add(turn), class);
+        lend(fill, case, (turn + which) % 4 == 0, (turn + which) % 5 == 0)
+    }
+}
+
+/// A case with the buffers of each call.
+fn lend(fill: &mut Fill, mut case: Case, longer: bool, again: bool) -> Vec<Case> {
+    if longer {
+        case.lens = case.lens.map(|len| len + fill.below(40));
+    }
+    let mut cases = vec![case];
+    if again {
+        for which in 0..7 {
+            let mut short = cases[0].clone();
+            short.lens = oracle::needed(short.tree.len());
+            short.lens[which] = short.lens[which].saturating_sub(1);
+            cases.push(short);
         }
-        let mut cases = vec![case];
-        if at % 5 == 0 {
-            for which in 0..7 {
-                let mut short = cases[0].clone();
-                short.lens = oracle::needed(short.tree.len());
-                short.lens[which] = short.lens[which].saturating_sub(1);
-                cases.push(short);
+    }
+    cases
+}
+
+/// What came of the calls so far.
+#[derive(Default)]
+struct Found {
+    numbers: BTreeMap<u32, u64>,
+    /// Trees by their first call, and calls.
+    trees: Tally,
+    calls: Tally,
+    /// Calls that differ.
+    differ: Tally,
+    /// The length of the smallest tree that differs.
+    smallest: usize,
+}
+
+impl Found {
+    fn call(&mut self, fill: &mut Fill, case: &Case, folder: &str) -> Option<Yardstick> {
+        let Held { answer, by } = held(&case.tree, &case.text, case.needs_main, case.lens)
+            .unwrap_or_else(|message| panic!("oracle: internal error: {}: {message}", case.label));
+        *self.numbers.entry(answer.number()).or_default() += 1;
+        self.calls.add(by);
+        if let Some(what) = differs(fill, case, &answer) {
+            self.differ.add(by);
+            if case.tree.len() < self.smallest {
+                self.smallest = case.tree.len();
+                println!("{}: {what}", case.label);
+                keep(folder, case, &what).unwrap_or_else(|err| eprintln!("{folder}: {err}"));
             }
         }
-        for case in cases {
-            let expected = oracle::convert(&case.tree, &case.text, case.needs_main, case.lens);
-            *numbers.entry(expected.number()).or_default() += 1;
-            calls += 1;
-            if let Some(what) = differs(&mut fill, &case, &expected) {
-                differ += 1;
-                if case.tree.len() < smallest {
-                    smallest = case.tree.len();
-                    println!("{}: {what}", case.label);
-                    keep(folder, &case, &what).unwrap_or_else(|err| eprintln!("{folder}: {err}"));
-                }
+        by
+    }
+
+    fn print(&self) {
+        let (trees, calls, differ) = (self.trees.total(), self.calls.total(), self.differ.total());
+        println!("{trees} trees, {calls} calls, {differ} differ");
+        println!("trees: {}", self.trees);
+        println!("calls: {}", self.calls);
+        if differ > 0 {
+            println!("differ: {}", self.differ);
+        }
+        for (number, count) in &self.numbers {
+            println!("{number:2} {count}");
+        }
+    }
+}
+
+/// Compares generated trees; how many calls differ.
+pub fn compare(options: &Options) -> u64 {
+    let mut fill = Fill::new(options.seed.wrapping_mul(0x9E37_79B9_7F4A_7C15));
+    let mut found = Found { smallest: usize::MAX, ..Found::default() };
+    for at in 0..options.trees {
+        for (turn, case) in options.calls(&mut fill, at).iter().enumerate() {
+            let by = found.call(&mut fill, case, options.folder);
+            if turn == 0 {
+                found.trees.add(by);
             }
         }
     }
-    println!("{n} trees, {calls} calls, {differ} differ");
-    for (number, count) in numbers {
-        println!("{number:2} {count}");
-    }
-    differ
+    found.print();
+    found.differ.total()
 }

@@ -13,8 +13,9 @@ use std::time::Duration;
 use attacks::{ATTACKS, Attack, Knobs};
 use hostile::Measure;
 use makes::{MAKES, Make};
+use oracle::classes;
 
-const USAGE: &str = "usage: convert-bench compare [N [SEED [DIR]]]
+const USAGE: &str = "usage: convert-bench compare [N [SEED [DIR]]] [--class CLASS]
        convert-bench time [--makes A,B] [--sizes N,N] [--rounds N] [--trees N] [--rows WORD]
        convert-bench hostile [--attacks A,B] [--limit SECONDS] [--rows WORD]
        convert-bench beside PROGRAM PROGRAM time|hostile [OPTIONS]
@@ -37,6 +38,25 @@ fn make(word: &str) -> &'static Make {
 
 fn attack(word: &str) -> &'static Attack {
     attacks::by_name(word).unwrap_or_else(|| stop())
+}
+
+/// The options of `compare`: up to three words in a fixed order, then maybe a class.
+fn compare_options<'o>(words: &[&'o str]) -> compare::Options<'o> {
+    let (words, class) = match *words {
+        [ref before @ .., "--class", class] if classes().contains(&class) => (before, Some(class)),
+        _ => (words, None),
+    };
+    let mut options = compare::Options { trees: 100_000, seed: 1, class, folder: "target/differ" };
+    match *words {
+        [] => {}
+        [trees] => options.trees = number(trees),
+        [trees, seed] => (options.trees, options.seed) = (number(trees), number(seed)),
+        [trees, seed, folder] => {
+            (options.trees, options.seed, options.folder) = (number(trees), number(seed), folder);
+        }
+        _ => stop(),
+    }
+    options
 }
 
 /// The options of `time`, in pairs of a name and a value.
@@ -74,12 +94,7 @@ fn main() {
     let words: Vec<String> = std::env::args().skip(1).collect();
     let words: Vec<&str> = words.iter().map(String::as_str).collect();
     let differ = match words[..] {
-        ["compare", ref rest @ ..] if rest.len() <= 3 => {
-            let counts: Vec<u64> = rest.iter().take(2).map(|word| number(word)).collect();
-            let folder = rest.get(2).copied().unwrap_or("target/differ");
-            let (n, seed) = (counts.first().unwrap_or(&100_000), counts.get(1).unwrap_or(&1));
-            compare::compare(*n, *seed, folder)
-        }
+        ["compare", ref rest @ ..] => compare::compare(&compare_options(rest)),
         ["time", ref rest @ ..] => time::time(&time_options(rest)),
         ["hostile", ref rest @ ..] => hostile::hostile(&hostile_options(rest)),
         ["beside", before, after, "time", ref rest @ ..] => {

@@ -1,6 +1,7 @@
 //! A list of cases for the whole call: the answer and every byte of the seven buffers of each.
 
-use super::{Case, broken, generate, list, misses};
+use super::{Case, broken, generate, list, misses, shifts, whole};
+use crate::ast::Layout;
 use crate::convert::{Answer, try_convert};
 use crate::generate::classes;
 use crate::judge::needed;
@@ -9,6 +10,9 @@ use crate::tree::RECORD_BYTES;
 /// The most records of a generated tree in the list, and of one that is made for an error, so that the list stays small.
 const MOST_RECORDS: usize = 90;
 const MOST_RECORDS_MISSED: usize = 150;
+
+/// One generated tree in so many may be larger; a prime, so that every class has its turn.
+const LARGE_EACH: usize = 499;
 
 /// How many trees the list has for each error at least.
 const MISSES_EACH: usize = 6;
@@ -48,7 +52,7 @@ fn missed(seed: u64) -> Vec<Case> {
     cases
 }
 
-/// The cases: the vectors, those of the judge's list, each rule broken, each error, and generated ones of all classes in turn until there
+/// The cases: the vectors, those of the judge's list, each rule broken, each error, shifts at the limits, and generated ones of all classes in turn until there
 /// are `count`; every third of the broken and the generated ones has buffers longer than needed.
 pub fn cases(seed: u64, count: usize, vectors: &str) -> Result<Vec<Case>, String> {
     let mut cases: Vec<Case> = vectors.lines().map(vector).collect::<Result<_, _>>()?;
@@ -61,61 +65,68 @@ pub fn cases(seed: u64, count: usize, vectors: &str) -> Result<Vec<Case>, String
         cases.push(case);
     }
     cases.extend(missed(seed));
+    cases.extend(shifts::limits().iter().map(|functions| whole(Layout::program(functions))));
     let classes: Vec<&str> = classes().iter().copied().filter(|class| *class != "broken").collect();
-    let mut at = 0;
-    while cases.len() < count {
-        let class = classes[at as usize % classes.len()];
-        let turn = at / classes.len() as u64;
-        let mut case = generate(seed.wrapping_mul(1_000_003).wrapping_add(turn), class);
-        at += 1;
-        if case.tree.len() > MOST_RECORDS * RECORD_BYTES && at % 500 != 0 {
+    for at in 0.. {
+        if cases.len() >= count {
+            break;
+        }
+        let (turn, which) = (at / classes.len(), at % classes.len());
+        let mut case = generate(seed.wrapping_mul(1_000_003).wrapping_add(turn as u64), classes[which]);
+        if case.tree.len() > MOST_RECORDS * RECORD_BYTES && at % LARGE_EACH != 0 {
             continue;
         }
-        if at % 3 == 0 && class != "buffers" {
-            lengthen(&mut case, at as usize);
+        // By the turn as well, so that every class has its share whatever their number.
+        if (turn + which) % 3 == 0 && classes[which] != "buffers" {
+            lengthen(&mut case, at);
         }
         cases.push(case);
     }
     Ok(cases)
 }
 
-/// The list as bytes: 26 words (tree length, text length, main needed; the seven lengths; the byte that fills the buffers, the byte behind the tables
-/// afterwards; the eight words of the answer; the lengths of the six tables), then tree, text and tables. The tables stand in the order of the
-/// buffers: instructions, variables, labels, functions, strings, floats.
+/// The list as bytes, case by case.
 pub fn bytes(cases: &[Case]) -> Result<Vec<u8>, String> {
     let mut list = Vec::new();
     for (at, case) in cases.iter().enumerate() {
-        let fill = 1 + (at * 37 % 255) as u32;
         let answer = try_convert(&case.tree, &case.text, case.needs_main, case.lens)
             .map_err(|message| format!("internal error: {}: {message}", case.label))?;
-        let mut words = vec![case.tree.len() as u32, case.text.len() as u32, u32::from(case.needs_main)];
-        words.extend(case.lens.iter().map(|len| *len as u32));
-        let mut tables: [&[u8]; 6] = [&[]; 6];
-        match &answer {
-            Answer::Converted(made) => {
-                words.extend([fill, 0, 0]);
-                words.extend(made.counts());
-                words.push(0);
-                tables = [
-                    &made.instructions,
-                    &made.variables,
-                    &made.labels,
-                    &made.functions,
-                    &made.strings,
-                    &made.floats,
-                ];
-            }
-            Answer::Refused(r) => {
-                let untouched = r.place == u32::MAX && r.number != 10;
-                words.extend([fill, if untouched { fill } else { 0 }]);
-                words.extend([r.number, r.place, r.start, r.end, 0, 0, 0, 0]);
-            }
-        }
-        words.extend(tables.iter().map(|table| table.len() as u32));
-        list.extend(words.iter().flat_map(|word| word.to_le_bytes()));
-        list.extend(&case.tree);
-        list.extend(&case.text);
-        tables.iter().for_each(|table| list.extend(*table));
+        list.extend(entry(at, case, &answer));
     }
     Ok(list)
+}
+
+/// Case number `at` as bytes: 26 words (tree length, text length, main needed; the seven lengths; the byte that fills the buffers, the byte
+/// behind the tables afterwards; the eight words of the answer; the lengths of the six tables), then tree, text and tables. The tables stand in
+/// the order of the buffers: instructions, variables, labels, functions, strings, floats.
+pub fn entry(at: usize, case: &Case, answer: &Answer) -> Vec<u8> {
+    let fill = 1 + (at * 37 % 255) as u32;
+    let mut words = vec![case.tree.len() as u32, case.text.len() as u32, u32::from(case.needs_main)];
+    words.extend(case.lens.iter().map(|len| *len as u32));
+    let mut tables: [&[u8]; 6] = [&[]; 6];
+    match answer {
+        Answer::Converted(made) => {
+            words.extend([fill, 0, 0]);
+            words.extend(made.counts());
+            words.push(0);
+            tables = [
+                &made.instructions,
+                &made.variables,
+                &made.labels,
+                &made.functions,
+                &made.strings,
+                &made.floats,
+            ];
+        }
+        Answer::Refused(r) => {
+            let untouched = r.place == u32::MAX && r.number != 10;
+            words.extend([fill, if untouched { fill } else { 0 }]);
+            words.extend([r.number, r.place, r.start, r.end, 0, 0, 0, 0]);
+        }
+    }
+    words.extend(tables.iter().map(|table| table.len() as u32));
+    let head = words.iter().flat_map(|word| word.to_le_bytes());
+    let mut bytes: Vec<u8> = head.chain(case.tree.iter().copied()).chain(case.text.iter().copied()).collect();
+    tables.iter().for_each(|table| bytes.extend(*table));
+    bytes
 }

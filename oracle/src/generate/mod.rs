@@ -12,6 +12,7 @@ pub mod programs;
 pub mod rare;
 pub mod rng;
 pub mod shapes;
+pub mod shifts;
 pub mod soup;
 
 use crate::ast::{Fun, Layout};
@@ -29,13 +30,14 @@ pub struct Case {
     pub label: String,
 }
 
-const CLASSES: [&str; 15] = [
+const CLASSES: [&str; 16] = [
     "program",
     "near",
     "miss",
     "soup",
     "integers",
     "floats",
+    "shifts",
     "damage",
     "damage-each",
     "lengths",
@@ -65,6 +67,7 @@ pub fn generate(seed: u64, class: &str) -> Case {
         "soup" => whole(soup::layout(&mut rng)),
         "integers" => laid_out(&mut rng, &constants::program(&mut seeded(seed), false)),
         "floats" => laid_out(&mut rng, &constants::program(&mut seeded(seed), true)),
+        "shifts" => laid_out(&mut rng, &shifts::program(&mut seeded(seed), seed % 2 == 1)),
         "damage" => damaged(&mut rng),
         "damage-each" => damaged_each(seed),
         "lengths" => lengths(&mut rng),

@@ -18,6 +18,8 @@ pub struct Slip {
 
 /// A case of a list for the whole call, taken apart.
 pub struct Stored<'l> {
+    /// All of it, as it stands in the list.
+    pub bytes: &'l [u8],
     pub tree: Tree<'l>,
     pub tree_len: usize,
     pub needs_main: bool,
@@ -42,7 +44,10 @@ pub fn stored(mut list: &[u8]) -> Vec<Stored<'_>> {
         let tree = Tree::new(&body[..tree_len], &body[tree_len..tree_len + text_len]);
         let (lens, answer) = (std::array::from_fn(|k| size(3 + k)), std::array::from_fn(|k| word(12 + k)));
         let needs_main = word(2) == 1;
+        let (bytes, rest) =
+            list.split_at(4 * HEAD_WORDS + tree_len + text_len + tables.iter().sum::<usize>());
         cases.push(Stored {
+            bytes,
             tree,
             tree_len,
             needs_main,
@@ -52,17 +57,23 @@ pub fn stored(mut list: &[u8]) -> Vec<Stored<'_>> {
             answer,
             tables,
         });
-        list = &body[tree_len + text_len + tables.iter().sum::<usize>()..];
+        list = rest;
     }
     cases
 }
 
 impl Stored<'_> {
-    /// The case as the generator would hand it out; a tree of a broken length loses its last bytes.
+    /// The case as the generator would hand it out.
     pub fn case(&self) -> Case {
-        let tree = self.tree.records.iter().flat_map(|record| record.bytes()).collect();
+        let tree = self.bytes[4 * HEAD_WORDS..][..self.tree_len].to_vec();
         let (text, needs_main, lens) = (self.tree.text.to_vec(), self.needs_main, self.lens);
         Case { tree, text, needs_main, lens, label: "stored".to_string() }
+    }
+
+    /// The stored answer as document 01's program prints it.
+    pub fn line(&self) -> String {
+        let words = if self.answer[0] == 0 { &self.answer[..7] } else { &self.answer[..4] };
+        words.iter().map(u32::to_string).collect::<Vec<_>>().join(" ")
     }
 
     /// Number and place of a refusal before conversion, else (0, 0).

@@ -55,10 +55,14 @@ pub fn line(functions: &[Fun]) -> String {
 pub fn line_with(functions: &[Fun], needs_main: bool) -> String {
     let layout = Layout::program(functions);
     let (bytes, text) = (layout.tree(), &layout.text);
-    let tree = Tree::new(&bytes, text);
-    match convert(&bytes, text, needs_main, needed(bytes.len())) {
-        Answer::Converted(tables) => tables_line(&tree, &tables),
+    let answer = convert(&bytes, text, needs_main, needed(bytes.len()));
+    answer_line(&Tree::new(&bytes, text), answer)
+}
+
+pub fn answer_line(tree: &Tree, answer: Answer) -> String {
+    match answer {
+        Answer::Converted(tables) => tables_line(tree, &tables),
         Answer::Refused(refusal) if refusal.place == u32::MAX => format!("{} none", refusal.number),
-        Answer::Refused(refusal) => format!("{} {}", refusal.number, by_span(&tree, refusal.place)),
+        Answer::Refused(refusal) => format!("{} {}", refusal.number, by_span(tree, refusal.place)),
     }
 }
