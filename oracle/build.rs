@@ -23,12 +23,36 @@ struct Amendment {
     put: &'static str,
 }
 
-const AMENDMENTS: [Amendment; 1] = [
+const AMENDMENTS: [Amendment; 5] = [
     // A left shift folds to nothing unless the shifted value, taken back right by the same count, gives the old one.
     Amendment {
         file: "types",
         find: "left.checked_shl(r)",
         put: "left.checked_shl(r).filter(|shifted| shifted >> r == left)",
+    },
+    // A value is fitted to the parameter at its position among all arguments: both kinds of call hand their arguments over, ..
+    Amendment {
+        file: "statements",
+        find: "self.fit_args(operands, func,",
+        put: "self.fit_args(args, operands, func,",
+    },
+    Amendment {
+        file: "statements",
+        find: "self.fit_args(operands, f,",
+        put: "self.fit_args(args, operands, f,",
+    },
+    // .. and the fits go by the positions of the values.
+    Amendment {
+        file: "statements",
+        find: "operands: Vec<IrOperand>,\n        func: &Function,",
+        put: "given: &[Argument],\n        operands: Vec<IrOperand>,\n        func: &Function,",
+    },
+    Amendment {
+        file: "statements",
+        find: "for (i, op) in operands.into_iter().enumerate() {",
+        put: "let mut positions = (0..given.len()).filter(|at| !matches!(given[*at], Argument::ToType(_)));
+        for op in operands {
+            let i = positions.next().expect(\"a position for each value\");",
     },
 ];
 

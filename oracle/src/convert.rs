@@ -1,5 +1,5 @@
-//! The conversion call: judge, convert with Krc, and answer as document 01 says. Where a request decides a tree, the amended copy of Krc's
-//! converter is asked.
+//! The conversion call: judge, convert with Krc and with the amended copy of it, and answer as document 01 says. Where a request decides a
+//! tree, the copy's answer counts; where none does, the two must be the same.
 
 use std::cell::RefCell;
 use std::panic::{self, AssertUnwindSafe};
@@ -12,7 +12,7 @@ use crate::stand_ins::set_key_texts;
 use crate::tables::{Tables, tables};
 use crate::tree::*;
 use crate::walk::{Stop, Walk};
-use crate::yardstick::Yardstick;
+use crate::yardstick::{AMENDED, Krc, RUST, Reason, Yardstick};
 
 #[derive(Clone, Debug, PartialEq, Eq)]
 pub enum Answer {
@@ -41,8 +41,8 @@ impl Answer {
     }
 }
 
-/// The whole call. An answer of Krc's that the records do not explain is an internal error and
-/// panics, with what was found.
+/// The whole call. An answer of Krc's that the records do not explain, or one of the amended copy that no request does, is an internal error
+/// and panics, with what was found.
 pub fn convert(tree: &[u8], text: &[u8], needs_main: bool, lens: [usize; 7]) -> Answer {
     match try_convert(tree, text, needs_main, lens) {
         Ok(answer) => answer,
@@ -55,28 +55,50 @@ pub fn try_convert(tree: &[u8], text: &[u8], needs_main: bool, lens: [usize; 7])
     Ok(held(tree, text, needs_main, lens)?.answer)
 }
 
-/// An answer, and the yardstick that it is: none where the tree is refused before conversion.
+/// An answer, the yardstick that it is (none where the tree is refused before conversion), and the Rust's own answer where that is another.
 pub struct Held {
     pub answer: Answer,
     pub by: Option<Yardstick>,
+    pub otherwise: Option<Answer>,
 }
 
 /// `try_convert`, with the yardstick that the tree is held to.
 pub fn held(tree: &[u8], text: &[u8], needs_main: bool, lens: [usize; 7]) -> Result<Held, String> {
     if let Err(refusal) = judge(tree, text, lens) {
-        return Ok(Held { answer: Answer::Refused(refusal), by: None });
+        return Ok(Held { answer: Answer::Refused(refusal), by: None, otherwise: None });
     }
     let tree = Tree::new(tree, text);
     let build = Build::new(&tree);
     let by = Yardstick::of(&build);
-    Ok(Held { answer: answer_by(by, &build, needs_main, lens)?, by: Some(by) })
+    let ask = |krc| answer_by(krc, &build, needs_main, lens);
+    let (rust, amended) = (ask(&RUST)?, ask(&AMENDED)?);
+    if rust == amended {
+        return Ok(Held { answer: rust, by: Some(by), otherwise: None });
+    }
+    if !may_differ(by, &rust, &amended) {
+        return Err(format!("{by:?}: Krc answers {}, the amended copy {}", rust.line(), amended.line()));
+    }
+    Ok(Held { answer: amended, by: Some(by), otherwise: Some(rust) })
 }
 
-/// The answer of one yardstick to a judged tree, whether or not the tree is held to it.
-pub fn answer_by(by: Yardstick, build: &Build, needs_main: bool, lens: [usize; 7]) -> Result<Answer, String> {
+/// Whether the two answers may be different ones: not without a reason; by type arguments alone, since 'overloads are chosen as before', only
+/// where both convert, with the same labels and strings.
+fn may_differ(by: Yardstick, rust: &Answer, amended: &Answer) -> bool {
+    match (by, rust, amended) {
+        (Yardstick::Rust, ..) => false,
+        (Yardstick::Amended(Reason::TypeArguments), Answer::Converted(rust), Answer::Converted(amended)) => {
+            rust.labels == amended.labels && rust.strings == amended.strings
+        }
+        (Yardstick::Amended(Reason::TypeArguments), ..) => false,
+        (Yardstick::Amended(Reason::LostBits | Reason::Both), ..) => true,
+    }
+}
+
+/// The answer of the unmodified or of the amended converter to a judged tree, whether or not the tree is held to it.
+pub fn answer_by(krc: &Krc, build: &Build, needs_main: bool, lens: [usize; 7]) -> Result<Answer, String> {
     set_key_texts(build.key_texts());
     let program = build.program();
-    match quietly(|| (by.krc().convert)(&program, needs_main)) {
+    match quietly(|| (krc.convert)(&program, needs_main)) {
         Ok(Ok(ir)) => within(tables(build, &ir)?, lens),
         Ok(Err(error)) => {
             let (number, place) = error_place(&error);

@@ -13,6 +13,7 @@ pub mod slips;
 pub mod source;
 pub mod stand_ins;
 pub mod tables;
+pub mod tally;
 pub mod tree;
 pub mod walk;
 pub mod write;

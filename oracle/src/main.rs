@@ -5,15 +5,16 @@ use std::path::Path;
 use std::process::ExitCode;
 use std::{env, fs};
 
-use oracle::convert::{Held, answer_by, held, try_convert};
+use oracle::convert::{held, try_convert};
 use oracle::generate::call_list;
 use oracle::generate::list::{bytes, cases};
 use oracle::program::Build;
 use oracle::slips;
 use oracle::source::source_text;
+use oracle::tally::Tally;
 use oracle::tree::Tree;
-use oracle::yardstick::{Tally, lost_shifts};
-use oracle::{Answer, Case, Yardstick, classes, forms, generate, judge, needed, show};
+use oracle::yardstick::{lost_shifts, typed_calls};
+use oracle::{Answer, Case, classes, forms, generate, judge, needed, show};
 
 const USAGE: &str = "oracle judge TREE TEXT | convert TREE TEXT [--main] [--long] | show TREE TEXT [--main] |
     yardstick TREE TEXT | gen SEED CLASS DIR | count N SEED [CLASS] | list judge SEED N FILE |
@@ -63,7 +64,7 @@ fn show_files(tree: &str, text: &str, options: &[&str]) -> Result<(), String> {
     Ok(())
 }
 
-/// Prints what a tree is held to, and with the amended definition the shifts that lose bits.
+/// Prints what a tree is held to, and with the amended definition the shifts and calls that are the reason.
 fn yardstick_of_files(tree: &str, text: &str) -> Result<(), String> {
     let (bytes, text) = (read(tree)?, read(text)?);
     println!("{}", yardstick_line(&bytes, &text));
@@ -75,9 +76,13 @@ fn yardstick_line(bytes: &[u8], text: &[u8]) -> String {
         return "refused before conversion".to_string();
     }
     let tree = Tree::new(bytes, text);
-    match lost_shifts(&Build::new(&tree))[..] {
-        [] => "held to the Rust".to_string(),
-        ref lost => format!("held to the amended definition, for the shifts {lost:?}"),
+    match (&lost_shifts(&Build::new(&tree))[..], &typed_calls(&tree)[..]) {
+        ([], []) => "held to the Rust".to_string(),
+        (lost, []) => format!("held to the amended definition, for the shifts {lost:?}"),
+        ([], typed) => format!("held to the amended definition, for the calls {typed:?}"),
+        (lost, typed) => {
+            format!("held to the amended definition, for the shifts {lost:?} and the calls {typed:?}")
+        }
     }
 }
 
@@ -107,28 +112,25 @@ struct Counts {
 
 impl Counts {
     fn add(&mut self, case: &Case) -> Result<Answer, String> {
-        let Held { answer, by } = held(&case.tree, &case.text, case.needs_main, case.lens)?;
-        self.all.add(by);
-        self.numbers.entry(answer.number()).or_default().add(by);
-        if by == Some(Yardstick::Amended) {
-            let tree = Tree::new(&case.tree, &case.text);
-            let rust = answer_by(Yardstick::Rust, &Build::new(&tree), case.needs_main, case.lens)?;
-            if rust != answer {
-                *self.otherwise.entry((rust.number(), answer.number())).or_default() += 1;
-            }
+        let held = held(&case.tree, &case.text, case.needs_main, case.lens)?;
+        let number = held.answer.number();
+        self.all.add(&held);
+        self.numbers.entry(number).or_default().add(&held);
+        if let Some(rust) = &held.otherwise {
+            *self.otherwise.entry((rust.number(), number)).or_default() += 1;
         }
-        Ok(answer)
+        Ok(held.answer)
     }
 
     fn print(&self) {
         println!("{} trees: {}", self.all.total(), self.all);
         for (number, tally) in &self.numbers {
-            let amended = tally.amended;
+            let amended = tally.all_amended();
             let split = if amended > 0 { format!(", {amended} of them amended") } else { String::new() };
             println!("{number:2} {}{split}", tally.total());
         }
-        if self.all.amended > 0 {
-            println!("the Rust answers otherwise: {}", self.otherwise.values().sum::<u64>());
+        if !self.otherwise.is_empty() {
+            println!("where the Rust answers otherwise:");
         }
         for ((rust, amended), count) in &self.otherwise {
             println!("{rust:2} -> {amended:2} {count}");
@@ -171,15 +173,12 @@ fn list_convert(seed: &str, n: &str, file: &str, vectors: &str) -> Result<(), St
     let vectors = fs::read_to_string(vectors).map_err(|err| format!("{vectors}: {err}"))?;
     let cases = call_list::cases(number(seed)?, number(n)? as usize, &vectors)?;
     let bytes = call_list::bytes(&cases)?;
-    let mut numbers: BTreeMap<u32, u32> = BTreeMap::new();
+    let mut counts = Counts::default();
     for case in &cases {
-        let answer = try_convert(&case.tree, &case.text, case.needs_main, case.lens)?;
-        *numbers.entry(answer.number()).or_default() += 1;
+        counts.add(case)?;
     }
     println!("{} cases, {} bytes", cases.len(), bytes.len());
-    for (number, count) in numbers {
-        println!("{number:2} {count}");
-    }
+    counts.print();
     fs::write(file, bytes).map_err(|err| format!("{file}: {err}"))
 }
 

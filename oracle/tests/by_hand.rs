@@ -214,13 +214,14 @@ fn labels_of_nested_blocks() {
     assert_eq!(one(&[("가", B)], None, body), want);
 }
 
+/// The value is at position 1, where there is no parameter: it stays long.
 #[test]
-fn type_argument_takes_no_parameter() {
+fn type_argument_takes_a_place() {
     let mangled = "재다$float$float".into();
     let measure = Fun { mangled, ..declared("재다", &[("가", SINGLE)], Some(B), false) };
     let args = vec![Ar::Type(DOUBLE), value(float(1.5))];
     let user = func("하다", &[], None, vec![init("나", call("재다", args))]);
-    let want = "!g0 () []  | g1 (6 6) [] Comment s0; Arg f1; Call v0 g0; Copy v1 v0 | 1.5 | 1.5s";
+    let want = "!g0 () []  | g1 (6 6) [] Comment s0; Arg f0; Call v0 g0; Copy v1 v0 | 1.5";
     assert_eq!(line(&[measure, user]), want);
 }
 

@@ -11,7 +11,7 @@ use oracle::generate::shifts;
 use oracle::program::Build;
 use oracle::tree::{CALL_STATEMENT, Tree};
 use oracle::write::*;
-use oracle::yardstick::{Yardstick, lost_shifts};
+use oracle::yardstick::{AMENDED, RUST, Reason, Yardstick, lost_shifts};
 use oracle::{Case, convert, generate, needed};
 
 /// The line of the Rust, that of the amended definition, and how many shifts lose bits; the oracle says the one that the tree is held to.
@@ -20,8 +20,8 @@ fn both(functions: &[Fun]) -> (String, String, usize) {
     let bytes = layout.tree();
     let tree = judged(&bytes, &layout.text).unwrap();
     let (build, lens) = (Build::new(&tree), needed(bytes.len()));
-    let by = |yardstick| answer_line(&tree, answer_by(yardstick, &build, false, lens).unwrap());
-    let (rust, amended, lost) = (by(Yardstick::Rust), by(Yardstick::Amended), lost_shifts(&build).len());
+    let by = |krc| answer_line(&tree, answer_by(krc, &build, false, lens).unwrap());
+    let (rust, amended, lost) = (by(&RUST), by(&AMENDED), lost_shifts(&build).len());
     let said = answer_line(&tree, convert(&bytes, &layout.text, false, lens));
     assert_eq!(said, if lost > 0 { &amended } else { &rust }[..]);
     (rust, amended, lost)
@@ -143,8 +143,7 @@ fn questions_answer_as_amended() {
     let out = asked.iter().map(|expr| questions.range_error(*expr, 0, 1)).collect::<Vec<_>>();
     assert_eq!(out, [false, true, false]);
     assert!(questions.fits(asked[0], 0, 0));
-    let rust = Yardstick::Rust.krc();
-    assert_eq!((rust.int_value)(&Build::new(&tree).expr(asked[0])), Some(0));
+    assert_eq!((RUST.int_value)(&Build::new(&tree).expr(asked[0])), Some(0));
 }
 
 /// The amended fold, written from the request's sentence with arithmetic of its own: value times 2 to the count, in 128 bits.
@@ -161,11 +160,7 @@ fn a_shift_folds_where_the_product_does() {
             let tree = judged(&bytes, &layout.text).unwrap();
             let expr = tree.at(tree.of_kind(CALL_STATEMENT).next().unwrap()).a();
             let expr = Build::new(&tree).expr(expr);
-            assert_eq!(
-                (Yardstick::Amended.krc().int_value)(&expr),
-                folds(value, count),
-                "{value} << {count}"
-            );
+            assert_eq!((AMENDED.int_value)(&expr), folds(value, count), "{value} << {count}");
         }
     }
 }
@@ -173,7 +168,7 @@ fn a_shift_folds_where_the_product_does() {
 fn rust_and_amended(case: &Case) -> [oracle::Answer; 2] {
     let tree = Tree::new(&case.tree, &case.text);
     let build = Build::new(&tree);
-    [Yardstick::Rust, Yardstick::Amended].map(|by| answer_by(by, &build, case.needs_main, case.lens).unwrap())
+    [&RUST, &AMENDED].map(|krc| answer_by(krc, &build, case.needs_main, case.lens).unwrap())
 }
 
 /// Where no shift loses bits the amended copy has nothing to say of its own; where one does, it often has.
@@ -186,7 +181,7 @@ fn the_walk_finds_every_tree_that_differs() {
         let [rust, amended] = rust_and_amended(&case);
         match held.by {
             Some(Yardstick::Rust) => assert!(rust == amended && held.answer == rust, "{}", case.label),
-            Some(Yardstick::Amended) => {
+            Some(Yardstick::Amended(_)) => {
                 assert!(held.answer == amended, "{}", case.label);
                 otherwise += u32::from(rust != amended);
             }
@@ -204,8 +199,9 @@ fn the_class_has_each_answer_twice() {
     for seed in 0..2000 {
         let case = generate(seed, "shifts");
         let held = held(&case.tree, &case.text, case.needs_main, case.lens).unwrap();
-        *counts.entry((held.answer.number(), held.by == Some(Yardstick::Amended))).or_insert(0) += 1;
-        amended += u32::from(held.by == Some(Yardstick::Amended));
+        let lost = held.by == Some(Yardstick::Amended(Reason::LostBits));
+        *counts.entry((held.answer.number(), lost)).or_insert(0) += 1;
+        amended += u32::from(lost);
     }
     assert!((900..1100).contains(&amended), "{amended}");
     for number in [0, 5, 12, 13, 14, 15, 16, 19] {

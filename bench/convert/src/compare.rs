@@ -4,8 +4,8 @@ use std::collections::BTreeMap;
 use std::{fs, path::Path};
 
 use oracle::convert::{Held, held};
-use oracle::yardstick::Tally;
-use oracle::{Answer, Case, Yardstick, classes, generate};
+use oracle::tally::Tally;
+use oracle::{Answer, Case, classes, generate};
 use rudderplum::{ANSWER_BYTES, Buffers, convert_into, read_conversion};
 
 /// Bytes behind each lent buffer, which no call may touch.
@@ -190,20 +190,20 @@ struct Found {
 }
 
 impl Found {
-    fn call(&mut self, fill: &mut Fill, case: &Case, folder: &str) -> Option<Yardstick> {
-        let Held { answer, by } = held(&case.tree, &case.text, case.needs_main, case.lens)
+    fn call(&mut self, fill: &mut Fill, case: &Case, folder: &str) -> Held {
+        let held = held(&case.tree, &case.text, case.needs_main, case.lens)
             .unwrap_or_else(|message| panic!("oracle: internal error: {}: {message}", case.label));
-        *self.numbers.entry(answer.number()).or_default() += 1;
-        self.calls.add(by);
-        if let Some(what) = differs(fill, case, &answer) {
-            self.differ.add(by);
+        *self.numbers.entry(held.answer.number()).or_default() += 1;
+        self.calls.add(&held);
+        if let Some(what) = differs(fill, case, &held.answer) {
+            self.differ.add(&held);
             if case.tree.len() < self.smallest {
                 self.smallest = case.tree.len();
                 println!("{}: {what}", case.label);
                 keep(folder, case, &what).unwrap_or_else(|err| eprintln!("{folder}: {err}"));
             }
         }
-        by
+        held
     }
 
     fn print(&self) {
@@ -226,9 +226,9 @@ pub fn compare(options: &Options) -> u64 {
     let mut found = Found { smallest: usize::MAX, ..Found::default() };
     for at in 0..options.trees {
         for (turn, case) in options.calls(&mut fill, at).iter().enumerate() {
-            let by = found.call(&mut fill, case, options.folder);
+            let held = found.call(&mut fill, case, options.folder);
             if turn == 0 {
-                found.trees.add(by);
+                found.trees.add(&held);
             }
         }
     }

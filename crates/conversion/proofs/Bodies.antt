@@ -54,6 +54,23 @@ bound = outside 51 98 (some 0) none
 unfoldable pub take : Function
 take = record { recOf = 55; name = 99 ∷ []; mangledName = 99 ∷ []; returnType = none; params = []; variadic = true; body = none; external = true }
 
+-- `d` of an Int and a short Float, an Int; `e` of an Int and any number of arguments; `f` of a Float and a short Float
+unfoldable pub several : List ℕ → List Param
+several [] = []
+several (t ∷ l) = record { recOf = 40; name = []; ty = t } ∷ several l
+
+unfoldable pub put : Function
+unfolding several
+put = record { recOf = 60; name = 100 ∷ []; mangledName = 100 ∷ []; returnType = some 0; params = several (0 ∷ 5 ∷ []); variadic = false; body = none; external = true }
+
+unfoldable pub feed : Function
+unfolding several
+feed = record { recOf = 61; name = 101 ∷ []; mangledName = 101 ∷ []; returnType = none; params = several (0 ∷ []); variadic = true; body = none; external = true }
+
+unfoldable pub mix : Function
+unfolding several
+mix = record { recOf = 62; name = 102 ∷ []; mangledName = 102 ∷ []; returnType = none; params = several (4 ∷ 5 ∷ []); variadic = false; body = none; external = true }
+
 unfoldable pub askRate : ℕ → Expr
 unfolding rate
 askRate r = ECall r (97 ∷ []) (Value 25 (EName 26 rate) noArgs)
@@ -103,6 +120,21 @@ unfoldable pub splitBody : Block
 unfolding rate x
 splitBody = next (SIfElse 94 (EName 95 rate) (next (SCall 96 (ECall 97 (98 ∷ []) noArgs)) done) (next (SInit 98 false x (ECall 99 (98 ∷ []) noArgs)) done)) done
 
+-- declare x, a short Float; put(Int, 0.5); y = put(Int, 0.5); mix(Float, x); feed(Int, x); mix(0.5, short Float)
+unfoldable pub half : Expr
+half = EFloat 114 0x3FE0000000000000 false
+
+unfoldable pub putHalf : ℕ → Expr
+unfolding half
+putHalf r = ECall r (100 ∷ []) (ToType 112 0 (Value 113 half noArgs))
+
+unfoldable pub fillBody : Block
+unfolding x y half putHalf
+fillBody = next (SDeclare 110 x 5) (next (SCall 111 (putHalf 115)) (next (SInit 116 false y (putHalf 117))
+    (next (SCall 118 (ECall 119 (102 ∷ []) (ToType 120 4 (Value 121 (EName 122 x) noArgs))))
+    (next (SCall 123 (ECall 124 (101 ∷ []) (ToType 125 0 (Value 126 (EName 127 x) noArgs))))
+    (next (SCall 128 (ECall 129 (102 ∷ []) (Value 130 half (ToType 131 5 noArgs)))) done)))))
+
 unfoldable pub guard : Function
 unfolding inside guardBody
 guard = inside 52 200 (some 6) (some 0) guardBody
@@ -131,9 +163,13 @@ unfoldable pub split : Function
 unfolding inside splitBody
 split = inside 59 206 none (some 6) splitBody
 
+unfoldable pub fill : Function
+unfolding inside fillBody
+fill = inside 63 207 none none fillBody
+
 unfoldable pub program : Program
-unfolding sampleType ask bound take guard loop either spin ratio pause split
-program = record { functions = ask ∷ bound ∷ guard ∷ loop ∷ either ∷ take ∷ spin ∷ ratio ∷ pause ∷ split ∷ []; typeOf = sampleType; keyOf = λ t. [] }
+unfolding sampleType ask bound take guard loop either spin ratio pause split put feed mix fill
+program = record { functions = ask ∷ bound ∷ guard ∷ loop ∷ either ∷ take ∷ spin ∷ ratio ∷ pause ∷ split ∷ put ∷ feed ∷ mix ∷ fill ∷ []; typeOf = sampleType; keyOf = λ t. [] }
 
 -- ---- what it converts to
 
@@ -201,6 +237,14 @@ pub split-code : code 9 ≡ Comment 94 ∷ JumpIfNot (v 0 6) 0 ∷ Comment 96 �
     ∷ Label 0 ∷ Comment 98 ∷ Call (some (var 1 0)) 51 ∷ Copy (var 2 0) (v 1 0) ∷ Label 1 ∷ []
 unfolding code var v n
 split-code = refl
+
+-- a type stands before the value: 0.5 goes to the short Float, x to its own type and behind the parameters to Float. Behind the value it changes
+-- nothing: 0.5 goes to the Float
+pub fill-code : code 13 ≡ Comment 110 ∷ Copy (var 0 5) (OFloat 0) ∷ Comment 111 ∷ Arg (OFloat 2) ∷ Call none 60
+    ∷ Comment 116 ∷ Arg (OFloat 2) ∷ Call (some (var 1 0)) 60 ∷ Copy (var 2 0) (v 1 0) ∷ Comment 118 ∷ Arg (v 0 5) ∷ Call none 62
+    ∷ Comment 123 ∷ Cast (var 3 4) (v 0 5) ∷ Arg (v 3 4) ∷ Call none 61 ∷ Comment 128 ∷ Arg (OFloat 1) ∷ Call none 62 ∷ []
+unfolding code var v n
+fill-code = refl
 
 pub float-entries : converted (convert program false) .floats
     ≡ record { bits = 0; short = true } ∷ record { bits = 0x3FE0000000000000; short = false } ∷ record { bits = 0x3FE0000000000000; short = true } ∷ []

@@ -8,6 +8,7 @@ pub mod Sizes
 pub mod Bytes
 pub mod Steps
 pub mod Bodies
+pub mod Positions
 pub mod Called
 pub mod Shifts
 pub mod ShiftTrees

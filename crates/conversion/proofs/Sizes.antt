@@ -76,18 +76,18 @@ module _ (P : Program) where
   fit-within (ODataAddress i) y = kept (ODataAddress i)
   fit-within ONull y = kept ONull
 
-  fitFrom-within : (k : ℕ) (os : List Operand) (f : Function)
-      → Within (λ l. length l ≡ length os) (length os) (length os) 0 0 (length os) (fitFrom P k os f)
+  fitFrom-within : (k : ℕ) (os : List Operand) (l : Args) (f : Function)
+      → Within (λ us. length us ≡ length os) (length os) (length os) 0 0 (length os) (fitFrom P k os l f)
   unfolding fitFrom
-  fitFrom-within k [] f = pure-within _ [] refl
-  fitFrom-within k (o ∷ os) f = widen
-      (then-within (fit-within o _) (λ a. then-using (fitFrom-within (suc k) os f) (λ l e. pure-within _ (a ∷ l) (ap suc e))))
+  fitFrom-within k [] l f = pure-within _ [] refl
+  fitFrom-within k (o ∷ os) l f = widen
+      (then-within (fit-within o _) (λ a. then-using (fitFrom-within (suc k) os l f) (λ us e. pure-within _ (a ∷ us) (ap suc e))))
       (omega arith)
 
-  fit-args-within : (os : List Operand) (f : Function)
-      → Within (λ l. length l ≡ length os) (length os) (length os) 0 0 (length os) (fit-args P os f)
+  fit-args-within : (os : List Operand) (l : Args) (f : Function)
+      → Within (λ us. length us ≡ length os) (length os) (length os) 0 0 (length os) (fit-args P os l f)
   unfolding fit-args
-  fit-args-within os f = fitFrom-within 0 os f
+  fit-args-within os l f = fitFrom-within 0 os l f
 
 emitArgs-within : (os : List Operand) → Within Any (length os) 0 0 0 0 (emitArgs os)
 unfolding emitArgs
@@ -167,19 +167,19 @@ module _ (P : Program) (F : Functions) where
   binary-within r o a b y sc u w m k f g =
       widen (then-within (lift-within (common-type P F a b sc)) (λ c. by-within o r y (unwrapOr y c) u w m k f g)) (omega arith)
 
-  function-call-within : (d : Option VarId) (f : Function) (os : List Operand)
-      → Within Any (2 * length os + 1) (length os) 0 0 (length os) (callFunction P F d f os)
+  function-call-within : (d : Option VarId) (f : Function) (l : Args) (os : List Operand)
+      → Within Any (2 * length os + 1) (length os) 0 0 (length os) (callFunction P F d f l os)
   unfolding callFunction
-  function-call-within d f os = widen
-      (then-using {R = Any} (fit-args-within P os f) (λ l e. widen {i′ = length os + 1} {v′ = 0} {l′ = 0} {s′ = 0} {f′ = 0}
-      (seq-within (emitArgs-within l) (emit-within (Call d (f .recOf)))) (omega (arith, e))))
+  function-call-within d f l os = widen
+      (then-using {R = Any} (fit-args-within P os l f) (λ us e. widen {i′ = length os + 1} {v′ = 0} {l′ = 0} {s′ = 0} {f′ = 0}
+      (seq-within (emitArgs-within us) (emit-within (Call d (f .recOf)))) (omega (arith, e))))
       (omega arith)
 
-  callValue-within : (r : ℕ) (d : VarId) (os : List Operand) (c : Callee)
-      → Within Any (2 * length os + 1) (length os) 0 0 (length os) (callValue P F r d os c)
+  callValue-within : (r : ℕ) (d : VarId) (l : Args) (os : List Operand) (c : Callee)
+      → Within Any (2 * length os + 1) (length os) 0 0 (length os) (callValue P F r d l os c)
   unfolding callValue
-  callValue-within r d os (CallFunction f) = widen (seq-within (function-call-within (some d) f os) (done-within (OVar d))) (omega arith)
-  callValue-within r d os (CallCast y) = widen (castFirst-within r d os) (omega arith)
+  callValue-within r d l os (CallFunction f) = widen (seq-within (function-call-within (some d) f l os) (done-within (OVar d))) (omega arith)
+  callValue-within r d l os (CallCast y) = widen (castFirst-within r d os) (omega arith)
 
   -- arguments of k values with u records below theirs
   abbrev FitsArgs : Args → M (List Operand) → Type 0
@@ -191,7 +191,7 @@ module _ (P : Program) (F : Functions) where
   unfolding convert-call-value
   call-within r verb l y sc m w = widen
       (then-within (lift-within (resolve-call P F verb l sc r)) (λ c. then-using {R = Any} w (λ os e. then-within (new-var-within y) (λ d.
-      widen {i′ = 2 * argsValues l + 1} {v′ = argsValues l} {l′ = 0} {s′ = 0} {f′ = argsValues l} (callValue-within r d os c) (omega (arith, e))))))
+      widen {i′ = 2 * argsValues l + 1} {v′ = argsValues l} {l′ = 0} {s′ = 0} {f′ = argsValues l} (callValue-within r d l os c) (omega (arith, e))))))
       (omega (arith, args-count l))
 
   mutual
@@ -302,7 +302,7 @@ module _ (P : Program) (F : Functions) where
   unfolding callStatement
   callStatement-within r l sc (CallFunction f) = widen
       (then-using {R = Any} (args-within l sc) (λ os e.
-      widen {i′ = 2 * argsValues l + 1} {v′ = argsValues l} {l′ = 0} {s′ = 0} {f′ = argsValues l} (function-call-within none f os) (omega (arith, e))))
+      widen {i′ = 2 * argsValues l + 1} {v′ = argsValues l} {l′ = 0} {s′ = 0} {f′ = argsValues l} (function-call-within none f l os) (omega (arith, e))))
       (omega (arith, args-count l))
   callStatement-within r l sc (CallCast y) = fail-within Any _ _ _ _ _ WouldPanic r
 

@@ -15,7 +15,7 @@ use Rattle.conversion.specs.Scope.{Variable, Scope, find-variable, withV
 use Rattle.conversion.specs.Expressions.{CallFunction, CallCast, Functions, unwrapOr, get-type, resolve-call, common-type}
 use Rattle.conversion.specs.Types.{isSome}
 use Rattle.conversion.specs.Functions.{declareParams, convertBody, always-returns}
-use Rattle.conversion.specs.Statements.{castOperand, refloat, fit-operand, parameterType, fitFrom, fit-args, emitArgs, convert-unary, convertAnd, convertOr, castFirst, convertOther, convertBinaryBy, callFunction, callValue, convert-expr, convert-args, convert-cond, checkFits, zeroValue, convert-declare, assignTo, convert-init, initNew, returnAs, convert-return, callStatement, convert-call, convert-if, convertIfElse, convert-while-loop, checkBound, forLoop, forInt, convert-for-loop, convert-break, convert-continue, convert-statement, convert-block}
+use Rattle.conversion.specs.Statements.{castOperand, refloat, fit-operand, expectedType, fitFrom, fit-args, emitArgs, convert-unary, convertAnd, convertOr, castFirst, convertOther, convertBinaryBy, callFunction, callValue, convert-expr, convert-args, convert-cond, checkFits, zeroValue, convert-declare, assignTo, convert-init, initNew, returnAs, convert-return, callStatement, convert-call, convert-if, convertIfElse, convert-while-loop, checkBound, forLoop, forInt, convert-for-loop, convert-break, convert-continue, convert-statement, convert-block}
 
 abbrev pub castSteps : VarId → ℕ → M Operand
 castSteps x y = do
@@ -37,15 +37,16 @@ pub refloatSteps-is : (i : ℕ) (short : Bool) (s : State) → refloat i short s
 unfolding refloat
 refloatSteps-is i short s = refl
 
-abbrev pub fitSteps : Program → ℕ → Operand → List Operand → Function → M (List Operand)
-fitSteps P k o l f = do
-  a ← fit-operand P o (parameterType (f .params) k)
-  as' ← fitFrom P (suc k) l f
+abbrev pub fitSteps : Program → ℕ → Operand → List Operand → Args → Function → M (List Operand)
+fitSteps P k o os l f = do
+  a ← fit-operand P o (expectedType (f .params) l k)
+  as' ← fitFrom P (suc k) os l f
   pure (a ∷ as')
 
-pub fitSteps-is : (P : Program) (k : ℕ) (o : Operand) (l : List Operand) (f : Function) (s : State) → fitFrom P k (o ∷ l) f s ≡ fitSteps P k o l f s
+pub fitSteps-is : (P : Program) (k : ℕ) (o : Operand) (os : List Operand) (l : Args) (f : Function) (s : State)
+    → fitFrom P k (o ∷ os) l f s ≡ fitSteps P k o os l f s
 unfolding fitFrom
-fitSteps-is P k o l f s = refl
+fitSteps-is P k o os l f s = refl
 
 abbrev pub argSteps : Operand → List Operand → M (Unit {0})
 argSteps o l = do
@@ -175,7 +176,7 @@ callSteps P F r verb l sc = do
   callee ← lift (resolve-call P F verb l sc r)
   operands ← (λ s. convert-args P F l sc s)
   dest ← new-var y
-  callValue P F r dest operands callee
+  callValue P F r dest l operands callee
 
 pub callSteps-is : (P : Program) (F : Functions) (r : ℕ) (verb : Text) (l : Args) (sc : Scope) (s : State) → convert-expr P F (ECall r verb l) sc s ≡ callSteps P F r verb l sc s
 unfolding convert-expr
@@ -191,15 +192,16 @@ pub valueSteps-is : (P : Program) (F : Functions) (r : ℕ) (e : Expr) (l : Args
 unfolding convert-expr
 valueSteps-is P F r e l sc s = refl
 
-abbrev pub functionSteps : Program → Option VarId → Function → List Operand → M (Unit {0})
-functionSteps P dest f operands = do
-  l ← fit-args P operands f
-  emitArgs l
+abbrev pub functionSteps : Program → Option VarId → Function → Args → List Operand → M (Unit {0})
+functionSteps P dest f l operands = do
+  os ← fit-args P operands l f
+  emitArgs os
   emit (Call dest (f .recOf))
 
-pub functionSteps-is : (P : Program) (F : Functions) (dest : Option VarId) (f : Function) (operands : List Operand) (s : State) → callFunction P F dest f operands s ≡ functionSteps P dest f operands s
+pub functionSteps-is : (P : Program) (F : Functions) (dest : Option VarId) (f : Function) (l : Args) (operands : List Operand) (s : State)
+    → callFunction P F dest f l operands s ≡ functionSteps P dest f l operands s
 unfolding callFunction
-functionSteps-is P F dest f operands s = refl
+functionSteps-is P F dest f l operands s = refl
 
 abbrev pub condSteps : Program → Functions → Expr → Scope → M Operand
 condSteps P F e sc = do
@@ -271,7 +273,7 @@ returnTyped-is P F r e sc s = refl
 abbrev pub callOnlySteps : Program → Functions → Args → Scope → Function → M (Unit {0})
 callOnlySteps P F l sc f = do
   operands ← convert-args P F l sc
-  callFunction P F none f operands
+  callFunction P F none f l operands
 
 pub callOnlySteps-is : (P : Program) (F : Functions) (r : ℕ) (l : Args) (sc : Scope) (f : Function) (s : State) → callStatement P F r l sc (CallFunction f) s ≡ callOnlySteps P F l sc f s
 unfolding callStatement
@@ -462,19 +464,19 @@ pub continueStatement-is : (P : Program) (F : Functions) (r : ℕ) (sc : Scope) 
 unfolding convert-statement
 continueStatement-is P F r sc s = refl
 
-pub fits-is : (P : Program) (l : List Operand) (f : Function) (s : State) → fit-args P l f s ≡ fitFrom P 0 l f s
+pub fits-is : (P : Program) (os : List Operand) (l : Args) (f : Function) (s : State) → fit-args P os l f s ≡ fitFrom P 0 os l f s
 unfolding fit-args
-fits-is P l f s = refl
+fits-is P os l f s = refl
 
-pub callValue-is : (P : Program) (F : Functions) (r : ℕ) (dest : VarId) (l : List Operand) (f : Function) (s : State)
-    → callValue P F r dest l (CallFunction f) s ≡ (callFunction P F (some dest) f l >> pure (OVar dest)) s
+pub callValue-is : (P : Program) (F : Functions) (r : ℕ) (dest : VarId) (l : Args) (os : List Operand) (f : Function) (s : State)
+    → callValue P F r dest l os (CallFunction f) s ≡ (callFunction P F (some dest) f l os >> pure (OVar dest)) s
 unfolding callValue
-callValue-is P F r dest l f s = refl
+callValue-is P F r dest l os f s = refl
 
-pub castValue-is : (P : Program) (F : Functions) (r : ℕ) (dest : VarId) (l : List Operand) (y : ℕ) (s : State)
-    → callValue P F r dest l (CallCast y) s ≡ castFirst r dest l s
+pub castValue-is : (P : Program) (F : Functions) (r : ℕ) (dest : VarId) (l : Args) (os : List Operand) (y : ℕ) (s : State)
+    → callValue P F r dest l os (CallCast y) s ≡ castFirst r dest os s
 unfolding callValue
-castValue-is P F r dest l y s = refl
+castValue-is P F r dest l os y s = refl
 
 pub zeroFloat-is : (P : Program) (F : Functions) (r : ℕ) (x : VarId) (short : Bool) (s : State)
     → zeroValue P F r x (TFloat short) s ≡ (float-id (record { bits = 0; short = short }) >>= λ i. emit (Copy x (OFloat i))) s

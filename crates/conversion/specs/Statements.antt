@@ -45,13 +45,25 @@ refloat i short = do
   j ← float-id (record { bits = b; short = short })
   pure (OFloat j)
 
--- the type that the k-th value of a call is fitted to: 'The k-th value argument is fitted to the k-th parameter, type arguments not
--- counted; beyond the parameters to long Float'
+-- the type of the parameter at a position, from 0; 'beyond the parameters' long Float
 unfoldable pub parameterType : List Param → ℕ → ℕ
 unfolding floatType
 parameterType [] k = floatType false
 parameterType (p ∷ l) zero = p .ty
 parameterType (p ∷ l) (suc k) = parameterType l k
+
+-- the position of the k-th value among all arguments, type arguments counted
+unfoldable pub position : Args → ℕ → ℕ
+position noArgs k = k
+position (Value r e l) zero = zero
+position (Value r e l) (suc k) = suc (position l k)
+position (ToType r y l) k = suc (position l k)
+
+-- the type that the k-th value of a call is fitted to: 'A value is now fitted to the parameter at its position among all arguments.' The
+-- Rust's `fit_args` has k itself for the position
+unfoldable pub expectedType : List Param → Args → ℕ → ℕ
+unfolding parameterType position
+expectedType ps l k = parameterType ps (position l k)
 
 module _ (P : Program) where
   -- `fit_operand` for a place of type y
@@ -65,18 +77,18 @@ module _ (P : Program) where
   fit-operand (ODataAddress i) y = pure (ODataAddress i)
   fit-operand ONull y = pure ONull
 
-  -- `fit_args`, from the k-th value on
-  unfoldable pub fitFrom : ℕ → List Operand → Function → M (List Operand)
-  unfolding _>>=_ pure fit-operand parameterType
-  fitFrom k [] f = pure []
-  fitFrom k (o ∷ l) f = do
-    a ← fit-operand o (parameterType (f .params) k)
-    rest ← fitFrom (suc k) l f
+  -- `fit_args`, from the k-th value of the arguments l on
+  unfoldable pub fitFrom : ℕ → List Operand → Args → Function → M (List Operand)
+  unfolding _>>=_ pure fit-operand expectedType
+  fitFrom k [] l f = pure []
+  fitFrom k (o ∷ os) l f = do
+    a ← fit-operand o (expectedType (f .params) l k)
+    rest ← fitFrom (suc k) os l f
     pure (a ∷ rest)
 
-  unfoldable pub fit-args : List Operand → Function → M (List Operand)
+  unfoldable pub fit-args : List Operand → Args → Function → M (List Operand)
   unfolding fitFrom
-  fit-args l f = fitFrom 0 l f
+  fit-args os l f = fitFrom 0 os l f
 
 -- 'Each call's arguments stand directly before it as Arg'
 unfoldable pub emitArgs : List Operand → M (Unit {0})
@@ -195,20 +207,20 @@ module _ (P : Program) (F : Functions) where
     c ← lift (common-type P F a b sc)
     convertBinaryBy o r y (unwrapOr y c) left right
 
-  -- the call itself, `dest` being where its result goes
-  unfoldable pub callFunction : Option VarId → Function → List Operand → M (Unit {0})
+  -- the call itself, by the arguments l; `dest` is where its result goes
+  unfoldable pub callFunction : Option VarId → Function → Args → List Operand → M (Unit {0})
   unfolding _>>=_ _>>_ emit fit-args emitArgs
-  callFunction dest f operands = do
-    l ← fit-args P operands f
-    emitArgs l
+  callFunction dest f l operands = do
+    os ← fit-args P operands l f
+    emitArgs os
     emit (Call dest (f .recOf))
 
-  unfoldable pub callValue : ℕ → VarId → List Operand → Callee → M Operand
+  unfoldable pub callValue : ℕ → VarId → Args → List Operand → Callee → M Operand
   unfolding _>>_ pure callFunction castFirst
-  callValue r dest operands (CallFunction f) = do
-    callFunction (some dest) f operands
+  callValue r dest l operands (CallFunction f) = do
+    callFunction (some dest) f l operands
     pure (OVar dest)
-  callValue r dest operands (CallCast y) = castFirst r dest operands
+  callValue r dest l operands (CallCast y) = castFirst r dest operands
 
   -- `convert_call_value`
   unfoldable pub convert-call-value : ℕ → Text → Args → ℕ → Scope → M (List Operand) → M Operand
@@ -217,7 +229,7 @@ module _ (P : Program) (F : Functions) where
     callee ← lift (resolve-call P F verb l sc r)
     operands ← values
     dest ← new-var y
-    callValue r dest operands callee
+    callValue r dest l operands callee
 
   unfoldable mutual
     unfolding _>>=_ pure lift float-id string-id find-variable nameOperand sizeOperand size get-type convert-unary convert-binary convert-call-value
@@ -353,7 +365,7 @@ module _ (P : Program) (F : Functions) where
   unfolding _>>=_ fail convert-args callFunction
   callStatement r l sc (CallFunction f) = do
     operands ← convert-args l sc
-    callFunction none f operands
+    callFunction none f l operands
   callStatement r l sc (CallCast y) = fail WouldPanic r
 
   -- `convert_call`: 'A call statement whose expression is no call is typed and never run'

@@ -91,7 +91,7 @@ pub record Sound (before : Buffers) (answer : Answer) (after : Buffers) : Type 0
 
 -- ---- DEMAND 2: 'Within the stated limits Krc's Rust decides which trees convert, to which bodies, else which error at which place.'
 
--- `convert` is the Rust's `Converter::convert`, of the program that the tree stands for
+-- `convert` is the Rust's `Converter::convert`, of the program that the tree stands for; where requests amend it docs/DIFFERENCES.md says how
 pub record AsTheRust (tree text : List ℕ) (needsMain : Bool) (before : Buffers) (answer : Answer) (after : Buffers) : Type 0 where
   pub bodies : (p : IrProgram) → convert (program tree text) needsMain ≡ ok p → (answer ≡ Counted (countsOf p))
       × (after ≡ buffers

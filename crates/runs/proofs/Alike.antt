@@ -12,11 +12,11 @@ use Rattle.syntax.specs.Syntax.{BinaryOp, Or, And, BitOr, BitXor, BitAnd, Eq, N
 use Rattle.conversion.specs.ConvertError.{Result, ok, err}
 use Rattle.conversion.specs.Ir.{Copy, Binary, Arg, Call, Label, Jump, JumpIfNot, Comment, texts}
 use Rattle.conversion.specs.Types.{onInt, onFloat, isFloat}
-use Rattle.conversion.specs.Statements.{parameterType, asCall}
+use Rattle.conversion.specs.Statements.{expectedType, asCall}
 use Rattle.conversion.specs.Expressions.{Functions, get-type, common-type, unwrapOr, resolve-call}
 use Rattle.conversion.specs.Functions.{get-all-functions}
 use Rattle.conversion.specs.Converter.{convert}
-use Rattle.conversion.proofs.Bodies.{sampleType, rate, x, y, parameter, outside, inside, ask, bound, take, askRate, int, guardBody, eitherBody, loopBody, spinBody, takeX, ratioBody, pauseBody, splitBody, guard, either, loop, spin, ratio, pause, split, program, converted, codeOf, var, v, n}
+use Rattle.conversion.proofs.Bodies.{sampleType, rate, x, y, parameter, outside, inside, ask, bound, take, askRate, int, guardBody, eitherBody, loopBody, spinBody, takeX, ratioBody, pauseBody, splitBody, guard, either, loop, spin, ratio, pause, split, several, put, feed, mix, half, putHalf, fillBody, fill, program, converted, codeOf, var, v, n}
 use Rattle.runs.specs.TreeRun as Tree
 use Rattle.runs.specs.Rule.{content, literalType, read, readAll, ValueOrStop, gives, halt, holds, fails, Typed, CallsMade, Content, IntContent, FloatContent, BoolContent, StringContent, NullContent, Rule, comes, pending, Answers, asked, Ending, passed, returns, halted}
 use Rattle.runs.specs.TreeRun.{Ran, held, treeRun, parametersKnown, parameterValues, set, runStatement, bindS, bindO, bindT, testO, giveBack, evalExpr, typed, typedO, scopeOf, evalBinary, evalAnd, evalOr, toBool, answered, bindG, test, evalOther, replied, handed, fit, fitLiteral, fitComputed, bare, castFirst, callWith, fitArguments, zeroOf, store, assign, introduce, initialise, newType, turns, forOver, forInt, forLoop, rounds, knownType, knownAfter, knownInit, withNew, callStatement, callOnly}
@@ -118,12 +118,12 @@ functions (err k r) = []
 
 -- f with the body b, called with vs
 unfoldable pub treeOf : {W : Type 0} → Rule W → Answers W → Function → Block → List W → ℕ → Ran W
-unfolding sampleType rate x y parameter outside inside ask bound take askRate int guardBody eitherBody loopBody spinBody takeX ratioBody pauseBody splitBody guard either loop spin ratio pause split program functions get-all-functions pick treeRun parametersKnown parameterValues set runStatement bindS bindO giveBack evalExpr typed scopeOf Tree.variables evalBinary evalAnd evalOr toBool answered bindG test evalOther replied handed fit fitLiteral fitComputed read readAll literalType content bare castFirst callWith fitArguments get-type common-type unwrapOr resolve-call parameterType testO bindT typedO zeroOf store assign introduce initialise newType turns forOver forInt forLoop rounds onInt onFloat isFloat knownType knownAfter knownInit withNew callStatement callOnly asCall
+unfolding sampleType rate x y parameter outside inside ask bound take askRate int guardBody eitherBody loopBody spinBody takeX ratioBody pauseBody splitBody guard either loop spin ratio pause split several put feed mix half putHalf fillBody fill program functions get-all-functions pick treeRun parametersKnown parameterValues set runStatement bindS bindO giveBack evalExpr typed scopeOf Tree.variables evalBinary evalAnd evalOr toBool answered bindG test evalOther replied handed fit fitLiteral fitComputed read readAll literalType content bare castFirst callWith fitArguments get-type common-type unwrapOr resolve-call expectedType testO bindT typedO zeroOf store assign introduce initialise newType turns forOver forInt forLoop rounds onInt onFloat isFloat knownType knownAfter knownInit withNew callStatement callOnly asCall
 treeOf R A f b vs = treeRun program (functions (get-all-functions (program .functions) [])) f R A b vs
 
 -- f, the i-th function that is made, begun with the variables' contents ρ
 unfoldable pub madeOf : {W : Type 0} → Rule W → Answers W → ℕ → Function → Vars W → ℕ → Spot W
-unfolding sampleType rate x y parameter outside inside ask bound take askRate int guardBody eitherBody loopBody spinBody takeX ratioBody pauseBody splitBody guard either loop spin ratio pause split program pick converted codeOf convert bodyRun steps step fetch execute putTo dropTo putReply dropReply jumpTo branchTo finishWith operand datum read literalType content write oneOn labelPlace isLabel bodyOf texts
+unfolding sampleType rate x y parameter outside inside ask bound take askRate int guardBody eitherBody loopBody spinBody takeX ratioBody pauseBody splitBody guard either loop spin ratio pause split several put feed mix half putHalf fillBody fill program pick converted codeOf convert bodyRun steps step fetch execute putTo dropTo putReply dropReply jumpTo branchTo finishWith operand datum read literalType content write oneOn labelPlace isLabel bodyOf texts
 madeOf R A i f ρ = bodyRun R A (bodyOf f (codeOf (converted (convert program false) .funcs) i) (converted (convert program false))) ρ
 
 -- the two sides of `ends` in the claim `Shared`, at the end e and the calls h: both hold
@@ -221,6 +221,15 @@ pub ratio-calls : BothEnd (treeOf traced (asked traced) ratio ratioBody []) (mad
     ((55, (4, 5 ∷ 4 ∷ 5 ∷ zeroX) ∷ []) ∷ (55, (4, 5 ∷ 4 ∷ 5 ∷ halfX) ∷ []) ∷ (50, (0, 1 ∷ 0 ∷ 0 ∷ 5 ∷ 0 ∷ 5 ∷ halfX) ∷ []) ∷ [])
 unfolding treeOf madeOf traced shown asked zeroX halfX callsT endT callsB endB
 ratio-calls = record { ofTree = (1, refl, refl); ofBody = (30, refl, refl) }
+
+-- ---- a type before the value counts for its place: 0.5 is a short Float's in both calls of `put`, x keeps its type for `mix`, and is cast behind the
+-- parameters of `feed`; behind the value a type changes nothing. By the Rust's way 0.5 would go to an Int and stay long, x would be cast for `mix` and not for `feed`
+
+pub fill-calls : BothEnd (treeOf traced (asked traced) fill fillBody []) (madeOf traced (asked traced) 13 fill (λ i. [])) passed
+    ((60, (5, 0 ∷ 5 ∷ 0x3FE0000000000000 ∷ []) ∷ []) ∷ (60, (5, 0 ∷ 5 ∷ 0x3FE0000000000000 ∷ []) ∷ []) ∷ (62, (5, zeroX) ∷ [])
+    ∷ (61, (4, 5 ∷ 4 ∷ 5 ∷ zeroX) ∷ []) ∷ (62, (4, 0 ∷ 4 ∷ 0x3FE0000000000000 ∷ []) ∷ []) ∷ [])
+unfolding treeOf madeOf traced shown asked zeroX callsT endT callsB endB
+fill-calls = record { ofTree = (1, refl, refl); ofBody = (30, refl, refl) }
 
 -- ---- who answers is told the destination: where the parameter holds there is none; where it fails it is x, an Int, and both runs are held up
 

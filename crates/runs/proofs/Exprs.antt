@@ -19,7 +19,7 @@ use Rattle.conversion.specs.Types.{onInt, onFloat, isFloat, range-error, size}
 use Rattle.conversion.specs.Ir.{pure, VarId, Operand, OVar, OInt, OFloat, OBool, ODataAddress, ONull, Copy, Unary, Binary, Cast, Call, Label, Jump, JumpIfNot, logicRhs, logicEnd, FloatEntry, State, made, M}
 use Rattle.conversion.specs.Scope.{Variable, Scope, findIn}
 use Rattle.conversion.specs.Expressions.{Callee, CallFunction, CallCast, Functions, givesBool, accepted, operandsError, binaryType, filterOption, acceptsClass, operandClass, commonOf, nameType, unwrapOr, get-type, resolve-call, common-type}
-use Rattle.conversion.specs.Statements.{castOperand, refloat, fit-operand, parameterType, fitFrom, emitArgs, convert-unary, convertAnd, convertOr, castFirst, convertOther, convertBinaryBy, callFunction, callValue, convert-expr, convert-args, nameOperand, sizeOperand}
+use Rattle.conversion.specs.Statements.{castOperand, refloat, fit-operand, expectedType, fitFrom, emitArgs, convert-unary, convertAnd, convertOr, castFirst, convertOther, convertBinaryBy, callFunction, callValue, convert-expr, convert-args, nameOperand, sizeOperand}
 use Rattle.runs.specs.Rule.{CallsMade, Literal, IntLiteral, FloatLiteral, BoolLiteral, StringLiteral, NullLiteral, Datum, constant, computed, read}
 use Rattle.runs.specs.TreeRun.{Values, Got, value, bindG, answered, typed, fitLiteral, fitComputed, fit, fitArguments, toBool, evalAnd, evalOr, evalOther, evalBinary, callWith, evalExpr, evalArgs, scopeOf, sizeDatum}
 use Rattle.runs.specs.TreeRun as Tree
@@ -51,23 +51,23 @@ args-clear n [] = refl
 args-clear n (o ∷ os) = omega (arith, args-clear n os)
 
 -- the call itself, taken apart
-pub record Called (P : Program) (dest : Option VarId) (g : Function) (os : List Operand) (s : State) (c : Code) (t : State) : Type 0 where
+pub record Called (P : Program) (dest : Option VarId) (g : Function) (l : Args) (os : List Operand) (s : State) (c : Code) (t : State) : Type 0 where
   pub args : List Operand
   pub fits : Code
-  pub fitted : fitFrom P 0 os g s ≡ made args fits t
+  pub fitted : fitFrom P 0 os l g s ≡ made args fits t
   pub code : c ≡ fits ++ (argsOf args ++ (Call dest (g .recOf) ∷ []))
 
-pub called : (P : Program) (F : Functions) (dest : Option VarId) (g : Function) (os : List Operand) (s : State) (u : Unit {0}) (c : Code) (t : State)
-    → callFunction P F dest g os s ≡ made u c t → Called P dest g os s c t
-called P F dest g os s u c t q =
-    let i1 = inv (sym (functionSteps-is P F dest g os s) ∙ q) in
+pub called : (P : Program) (F : Functions) (dest : Option VarId) (g : Function) (l : Args) (os : List Operand) (s : State) (u : Unit {0}) (c : Code) (t : State)
+    → callFunction P F dest g l os s ≡ made u c t → Called P dest g l os s c t
+called P F dest g l os s u c t q =
+    let i1 = inv (sym (functionSteps-is P F dest g l os s) ∙ q) in
     let i2 = inv-then (i1 .rest) in
     let i3 = inv-last (i2 .rest) in
     let a = args-code (i1 .got) (i1 .st) (i2 .got) (i2 .c1) (i2 .st) (i2 .first) in
     record {
       args = i1 .got;
       fits = i1 .c1;
-      fitted = subst (λ x. fitFrom P 0 os g s ≡ made (i1 .got) (i1 .c1) x) (sym (i3 .st ∙ a .1)) (sym (fits-is P os g s) ∙ i1 .first);
+      fitted = subst (λ x. fitFrom P 0 os l g s ≡ made (i1 .got) (i1 .c1) x) (sym (i3 .st ∙ a .1)) (sym (fits-is P os l g s) ∙ i1 .first);
       code = joinS i1 (i2 .code ∙ (ap (λ x. x ++ i2 .c2) (a .0) ∙ ap (λ x. argsOf (i1 .got) ++ x) (i3 .code)));
     }
 
@@ -358,10 +358,10 @@ module _ {W : Type 0} (X : Ctx W) where
       go (TCustom d) z = fitted-pure (OVar v) (λ l. l) z
       go TNull z = fitted-pure (OVar v) (λ l. l) z
 
-  fits-none : (k : ℕ) (g : Function) (s : State) (x : List Operand) (c : Code) (t : State) → fitFrom (X .prog) k [] g s ≡ made x c t
+  fits-none : (k : ℕ) (l : Args) (g : Function) (s : State) (x : List Operand) (c : Code) (t : State) → fitFrom (X .prog) k [] l g s ≡ made x c t
       → Fitted (Unit {0}) Lows (holdings X) (λ ρ h. value [] h) s x c t
   unfolding fitFrom dats count
-  fits-none k g s x c t q = let i = inv-pure q in
+  fits-none k l g s x c t q = let i = inv-pure q in
       fitted-as (i .got) (i .code) (i .st) (record { grow = grow-refl; low = λ l. tt; clear = λ n. refl; sim = λ l w k ρ h. gets ρ (stay X) (λ x b. refl) refl })
 
   fits-made : {s s1 t : State} {a : Operand} {b : List Operand} {ca cb : Code} (o : Operand) (os : List Operand)
@@ -381,17 +381,17 @@ module _ {W : Type 0} (X : Ctx W) where
         gets ρ2 (stay X) (λ x z. refl) (ap (λ u. u ∷ holdings X ρ2 b) (hold-frame X s1 a ρ1 ρ2 (G .low (l .0)) f2))));
   }
 
-  pub good-fits : (k : ℕ) (os : List Operand) (g : Function) (s : State) (x : List Operand) (c : Code) (t : State) → fitFrom (X .prog) k os g s ≡ made x c t
-      → Fitted (Lows s os) Lows (holdings X) (λ ρ h. fitArguments (X .prog) (X .rule) k (holdings X ρ os) g h) s x c t
+  pub good-fits : (k : ℕ) (os : List Operand) (l : Args) (g : Function) (s : State) (x : List Operand) (c : Code) (t : State) → fitFrom (X .prog) k os l g s ≡ made x c t
+      → Fitted (Lows s os) Lows (holdings X) (λ ρ h. fitArguments (X .prog) (X .rule) k (holdings X ρ os) l g h) s x c t
   unfolding dats fitArguments
-  good-fits k [] g s x c t q = fits-none k g s x c t q
-  good-fits k (o ∷ os) g s x c t q =
-      let i1 = inv (sym (fitSteps-is (X .prog) k o os g s) ∙ q) in
+  good-fits k [] l g s x c t q = fits-none k l g s x c t q
+  good-fits k (o ∷ os) l g s x c t q =
+      let i1 = inv (sym (fitSteps-is (X .prog) k o os l g s) ∙ q) in
       let i2 = inv (i1 .rest) in
       let i3 = inv-pure (i2 .rest) in
       fitted-as (i3 .got) (joinS i1 (i2 .code ∙ (ap (λ z. i2 .c1 ++ z) (i3 .code) ∙ append-nil (i2 .c1)))) (i3 .st)
-      (fits-made o os (λ d h. fit (X .prog) (X .rule) (parameterType (g .params) k) d h) (λ ds h. fitArguments (X .prog) (X .rule) (suc k) ds g h)
-      (good-fit o _ s _ _ _ (i1 .first)) (good-fits (suc k) os g _ _ _ _ (i2 .first)))
+      (fits-made o os (λ d h. fit (X .prog) (X .rule) (expectedType (g .params) l k) d h) (λ ds h. fitArguments (X .prog) (X .rule) (suc k) ds l g h)
+      (good-fit o _ s _ _ _ (i1 .first)) (good-fits (suc k) os l g _ _ _ _ (i2 .first)))
 
   -- ---- binaries other than And and Or
 
@@ -471,13 +471,13 @@ module _ {W : Type 0} (X : Ctx W) where
 
   -- ---- calls
 
-  ask-made : {vs : List Variable} {z : ℕ → ℕ} {ev : Values W → CallsMade W → Got W (List (Datum W))} {s s1 t : State} {os us : List Operand} {ca fs : Code} (y : ℕ) (g : Function)
+  ask-made : {vs : List Variable} {z : ℕ → ℕ} {ev : Values W → CallsMade W → Got W (List (Datum W))} {s s1 t : State} {os us : List Operand} {ca fs : Code} (y : ℕ) (l : Args) (g : Function)
       → GoodE X Lows (holdings X) vs z ev s os ca s1
-      → Fitted (Lows (withVar y s1) os) Lows (holdings X) (λ ρ h. fitArguments (X .prog) (X .rule) 0 (holdings X ρ os) g h) (withVar y s1) us fs t
-      → GoodE X Low (holding X) vs z (λ σ h. bindG (ev σ h) λ vs h1. callWith (X .prog) (X .funs) (X .fun) (X .rule) (X .answers) y (CallFunction g) vs h1)
+      → Fitted (Lows (withVar y s1) os) Lows (holdings X) (λ ρ h. fitArguments (X .prog) (X .rule) 0 (holdings X ρ os) l g h) (withVar y s1) us fs t
+      → GoodE X Low (holding X) vs z (λ σ h. bindG (ev σ h) λ vs h1. callWith (X .prog) (X .funs) (X .fun) (X .rule) (X .answers) y (CallFunction g) l vs h1)
       s (OVar (nextVar y s1)) (ca ++ (fs ++ (argsOf us ++ (Call (some (nextVar y s1)) (g .recOf) ∷ [])))) t
   unfolding nextVar count isLabel step exec callWith
-  ask-made {s = s} {s1} {t} {os} {us} {ca} {fs} y g G H =
+  ask-made {s = s} {s1} {t} {os} {us} {ca} {fs} y l g G H =
       let gv = withVar-grow y s1 in
       let n1 : length (s .vars) ≤ length (withVar y s1 .vars) = omega (arith, G .grow .vars, gv .vars) in
       record {
@@ -490,12 +490,12 @@ module _ {W : Type 0} (X : Ctx W) where
             sim-before X (push (X .rule) (X .answers) (body X) us _ [] ρ2 h2) (sim-reply X (nextVar y s1) _ _ (G .grow .vars) refl);
       }
 
-  cast-made : {vs : List Variable} {z : ℕ → ℕ} {ev : Values W → CallsMade W → Got W (List (Datum W))} {s s1 : State} {o : Operand} {os : List Operand} {ca : Code} (y u : ℕ)
+  cast-made : {vs : List Variable} {z : ℕ → ℕ} {ev : Values W → CallsMade W → Got W (List (Datum W))} {s s1 : State} {o : Operand} {os : List Operand} {ca : Code} (y u : ℕ) (l : Args)
       → GoodE X Lows (holdings X) vs z ev s (o ∷ os) ca s1
-      → GoodE X Low (holding X) vs z (λ σ h. bindG (ev σ h) λ vs h1. callWith (X .prog) (X .funs) (X .fun) (X .rule) (X .answers) y (CallCast u) vs h1)
+      → GoodE X Low (holding X) vs z (λ σ h. bindG (ev σ h) λ vs h1. callWith (X .prog) (X .funs) (X .fun) (X .rule) (X .answers) y (CallCast u) l vs h1)
       s (OVar (nextVar y s1)) (ca ++ (Cast (nextVar y s1) o ∷ [])) (withVar y s1)
   unfolding nextVar count isLabel step exec operand dat dats callWith Tree.castFirst
-  cast-made {s = s} {s1} {o} {os} {ca} y u G =
+  cast-made {s = s} {s1} {o} {os} {ca} y u l G =
       let gv = withVar-grow y s1 in
       record {
         grow = grow-trans (G .grow) gv;
@@ -509,22 +509,22 @@ module _ {W : Type 0} (X : Ctx W) where
   unfolding castFirst
   no-cast r d s x c t q = let w : _≡_ {A = ℕ} 0 1 = cc in omega arith
 
-  good-call : {vs : List Variable} {z : ℕ → ℕ} {ev : Values W → CallsMade W → Got W (List (Datum W))} {s s1 : State} {os : List Operand} {ca : Code} (r y : ℕ) (callee : Callee)
+  good-call : {vs : List Variable} {z : ℕ → ℕ} {ev : Values W → CallsMade W → Got W (List (Datum W))} {s s1 : State} {os : List Operand} {ca : Code} (r y : ℕ) (l : Args) (callee : Callee)
       → GoodE X Lows (holdings X) vs z ev s os ca s1
-      → (x : Operand) (c : Code) (t : State) → callValue (X .prog) (X .funs) r (nextVar y s1) os callee (withVar y s1) ≡ made x c t
-      → GoodE X Low (holding X) vs z (λ σ h. bindG (ev σ h) λ vs h1. callWith (X .prog) (X .funs) (X .fun) (X .rule) (X .answers) y callee vs h1) s x (ca ++ c) t
-  good-call {s1 = s1} {os = os} {ca = ca} r y (CallFunction g) G x c t q =
-      let i = inv-then (sym (callValue-is (X .prog) (X .funs) r (nextVar y s1) os g (withVar y s1)) ∙ q) in
-      let k = called (X .prog) (X .funs) (some (nextVar y s1)) g os (withVar y s1) (i .got) (i .c1) (i .st) (i .first) in
+      → (x : Operand) (c : Code) (t : State) → callValue (X .prog) (X .funs) r (nextVar y s1) l os callee (withVar y s1) ≡ made x c t
+      → GoodE X Low (holding X) vs z (λ σ h. bindG (ev σ h) λ vs h1. callWith (X .prog) (X .funs) (X .fun) (X .rule) (X .answers) y callee l vs h1) s x (ca ++ c) t
+  good-call {s1 = s1} {os = os} {ca = ca} r y l (CallFunction g) G x c t q =
+      let i = inv-then (sym (callValue-is (X .prog) (X .funs) r (nextVar y s1) l os g (withVar y s1)) ∙ q) in
+      let k = called (X .prog) (X .funs) (some (nextVar y s1)) g l os (withVar y s1) (i .got) (i .c1) (i .st) (i .first) in
       let p = inv-pure (i .rest) in
       good-as X (p .got) (ap (λ z. ca ++ z) (i .code ∙ (ap (λ z. i .c1 ++ z) (p .code) ∙ (append-nil (i .c1) ∙ k .code)))) (p .st)
-      (ask-made y g G (good-fits 0 os g (withVar y s1) _ _ _ (k .fitted)))
-  good-call {s1 = s1} {os = []} r y (CallCast u) G x c t q =
-      absurd (no-cast r (nextVar y s1) (withVar y s1) x c t (sym (castValue-is (X .prog) (X .funs) r (nextVar y s1) [] u (withVar y s1)) ∙ q))
-  good-call {s1 = s1} {os = o ∷ os} {ca = ca} r y (CallCast u) G x c t q =
-      let i = inv-emit (sym (castFirstSteps-is r (nextVar y s1) o os (withVar y s1)) ∙ (sym (castValue-is (X .prog) (X .funs) r (nextVar y s1) (o ∷ os) u (withVar y s1)) ∙ q)) in
+      (ask-made y l g G (good-fits 0 os l g (withVar y s1) _ _ _ (k .fitted)))
+  good-call {s1 = s1} {os = []} r y l (CallCast u) G x c t q =
+      absurd (no-cast r (nextVar y s1) (withVar y s1) x c t (sym (castValue-is (X .prog) (X .funs) r (nextVar y s1) l [] u (withVar y s1)) ∙ q))
+  good-call {s1 = s1} {os = o ∷ os} {ca = ca} r y l (CallCast u) G x c t q =
+      let i = inv-emit (sym (castFirstSteps-is r (nextVar y s1) o os (withVar y s1)) ∙ (sym (castValue-is (X .prog) (X .funs) r (nextVar y s1) l (o ∷ os) u (withVar y s1)) ∙ q)) in
       let p = inv-pure (i .rest) in
-      good-as X (p .got) (ap (λ z. ca ++ z) (joinE (i .code) (p .code))) (p .st) (cast-made y u G)
+      good-as X (p .got) (ap (λ z. ca ++ z) (joinE (i .code) (p .code))) (p .st) (cast-made y u l G)
 
   -- ---- leaves
 
@@ -660,7 +660,7 @@ module _ {W : Type 0} (X : Ctx W) where
         → Sound X (sc .variables) (λ s. convert-expr (X .prog) (X .funs) (ECall r verb l) sc s) z
         (λ σ h. typed (get-type (X .prog) (X .funs) (ECall r verb l) (scopeOf (X .fun) (known (sc .variables)))) h λ y.
         typed (resolve-call (X .prog) (X .funs) verb l (scopeOf (X .fun) (known (sc .variables))) r) h λ u.
-        bindG (ev σ h) λ vs h1. callWith (X .prog) (X .funs) (X .fun) (X .rule) (X .answers) y u vs h1)
+        bindG (ev σ h) λ vs h1. callWith (X .prog) (X .funs) (X .fun) (X .rule) (X .answers) y u l vs h1)
     expr-call r verb l z ev H s x c t q =
         let i = inv-lift (sym (callSteps-is (X .prog) (X .funs) r verb l sc s) ∙ q) in
         let j = inv-lift (i .rest) in
@@ -668,11 +668,11 @@ module _ {W : Type 0} (X : Ctx W) where
         let n = inv-new (k .rest) in
         good-typed _ (i .got)
         (λ y σ h. typed (resolve-call (X .prog) (X .funs) verb l (scopeOf (X .fun) (known (sc .variables))) r) h λ u.
-        bindG (ev σ h) λ vs h1. callWith (X .prog) (X .funs) (X .fun) (X .rule) (X .answers) y u vs h1)
+        bindG (ev σ h) λ vs h1. callWith (X .prog) (X .funs) (X .fun) (X .rule) (X .answers) y u l vs h1)
         (typing (X .prog) (X .funs) (X .fun) sc (ECall r verb l) ∙ i .known)
-        (good-typed _ (j .got) (λ u σ h. bindG (ev σ h) λ vs h1. callWith (X .prog) (X .funs) (X .fun) (X .rule) (X .answers) (i .got) u vs h1)
+        (good-typed _ (j .got) (λ u σ h. bindG (ev σ h) λ vs h1. callWith (X .prog) (X .funs) (X .fun) (X .rule) (X .answers) (i .got) u l vs h1)
         (resolving (X .prog) (X .funs) (X .fun) sc verb l r ∙ j .known)
-        (good-as X refl (k .code) refl (good-call r (i .got) (j .got) (H s (k .got) (k .c1) (k .st) (k .first)) x (k .c2) t (n .rest))))
+        (good-as X refl (k .code) refl (good-call r (i .got) l (j .got) (H s (k .got) (k .c1) (k .st) (k .first)) x (k .c2) t (n .rest))))
 
     args-value : (r : ℕ) (e : Expr) (l : Args) (z zs : ℕ → ℕ) (ev : Values W → CallsMade W → Got W (Datum W)) (evs : Values W → CallsMade W → Got W (List (Datum W)))
         → Sound X (sc .variables) (λ s. convert-expr (X .prog) (X .funs) e sc s) z ev → Sounds X (sc .variables) (λ s. convert-args (X .prog) (X .funs) l sc s) zs evs

@@ -20,7 +20,7 @@ use Rattle.runs.specs.BodyRun.{Vars, bodyRun}
 use Rattle.runs.specs.Shared.{Shared, InPlace}
 use Rattle.runs.proofs.Opens.{bit, logicOpens, opensE, opensB, WellFormed}
 use Rattle.runs.proofs.Agrees.{bodyOf}
-use Rattle.conversion.proofs.Bodies.{parameter, outside, inside, ask, bound, take, askRate, int, guardBody, eitherBody, loopBody, spinBody, takeX, ratioBody, pauseBody, splitBody, guard, either, loop, spin, ratio, pause, split, program, converted, codeOf}
+use Rattle.conversion.proofs.Bodies.{parameter, outside, inside, ask, bound, take, askRate, int, guardBody, eitherBody, loopBody, spinBody, takeX, ratioBody, pauseBody, splitBody, guard, either, loop, spin, ratio, pause, split, several, put, feed, mix, half, putHalf, fillBody, fill, program, converted, codeOf}
 use Rattle.runs.proofs.Alike.{rule, functions, treeOf, madeOf, begin, treeAt, madeAt}
 use Rattle.runs.proofs.Machine.{Same, is, isnt, same}
 use Rattle.runs.proofs.Demand3.{demand3}
@@ -69,8 +69,12 @@ split-once : (i : ℕ) → opensB splitBody i ≤ 1
 unfolding splitBody opensB opensE logicOpens
 split-once i = omega (arith, bit-small (eqb i 94))
 
+fill-once : (i : ℕ) → opensB fillBody i ≤ 1
+unfolding fillBody half putHalf opensB opensE logicOpens
+fill-once i = omega arith
+
 well-formed : WellFormed program
-unfolding program outside inside ask bound take guard either loop spin ratio pause split
+unfolding program outside inside ask bound take guard either loop spin ratio pause split several put feed mix fill
 well-formed = record { once = once }
   where
     once : (i : ℕ) (f : Function) (b : Block) → getElem? (program .functions) i ≡ some f → f .body ≡ some b → (j : ℕ) → opensB b j ≤ 1
@@ -84,7 +88,11 @@ well-formed = record { once = once }
     once (suc (suc (suc (suc (suc (suc (suc zero))))))) f b e k j = subst (λ c. opensB c j ≤ 1) (body-is e refl k) (ratio-once j)
     once (suc (suc (suc (suc (suc (suc (suc (suc zero)))))))) f b e k j = subst (λ c. opensB c j ≤ 1) (body-is e refl k) (pause-once j)
     once (suc (suc (suc (suc (suc (suc (suc (suc (suc zero))))))))) f b e k j = subst (λ c. opensB c j ≤ 1) (body-is e refl k) (split-once j)
-    once (suc (suc (suc (suc (suc (suc (suc (suc (suc (suc i)))))))))) f b e k j = let z : _≡_ {A = ℕ} 0 1 = cc in absurd (omega arith)
+    once (suc (suc (suc (suc (suc (suc (suc (suc (suc (suc zero)))))))))) f b e k j = absurd (without-body e refl k)
+    once (suc (suc (suc (suc (suc (suc (suc (suc (suc (suc (suc zero))))))))))) f b e k j = absurd (without-body e refl k)
+    once (suc (suc (suc (suc (suc (suc (suc (suc (suc (suc (suc (suc zero)))))))))))) f b e k j = absurd (without-body e refl k)
+    once (suc (suc (suc (suc (suc (suc (suc (suc (suc (suc (suc (suc (suc zero))))))))))))) f b e k j = subst (λ c. opensB c j ≤ 1) (body-is e refl k) (fill-once j)
+    once (suc (suc (suc (suc (suc (suc (suc (suc (suc (suc (suc (suc (suc (suc i)))))))))))))) f b e k j = let z : _≡_ {A = ℕ} 0 1 = cc in absurd (omega arith)
 
 -- ---- the theorem at this program
 
@@ -99,7 +107,7 @@ unfolding converted convert program
 converts = refl
 
 found : get-all-functions (program .functions) [] ≡ ok funs
-unfolding functions get-all-functions program outside inside ask bound take guard either loop spin ratio pause split
+unfolding functions get-all-functions program outside inside ask bound take guard either loop spin ratio pause split several put feed mix fill
 found = refl
 
 code-is : (l : List IrFunction) (i : ℕ) (g : IrFunction) (c : List Instr) → getElem? l i ≡ some g → g .body ≡ some c → c ≡ codeOf l i
@@ -129,3 +137,8 @@ in-place r (suc i) a e = let z : _≡_ {A = ℕ} 0 1 = cc in absurd (omega arith
 pub guard-shared : (r : ℕ) → Shared (treeAt guard guardBody (r ∷ [])) (madeAt 2 guard (begin r)) (guard .returnType)
 unfolding program inside guard parameter treeAt madeAt
 guard-shared r = instance rule (asked rule) 2 guard guardBody (r ∷ []) (begin r) refl refl refl (in-place r)
+
+-- types before values, under every rule
+pub fill-shared : {W : Type 0} (R : Rule W) (A : Answers W) (ρ : Vars W) → Shared (treeOf R A fill fillBody []) (madeOf R A 13 fill ρ) (fill .returnType)
+unfolding program inside fill parameter
+fill-shared R A ρ = instance R A 13 fill fillBody [] ρ refl refl refl (λ i a e. let z : _≡_ {A = ℕ} 0 1 = cc in absurd (omega arith))

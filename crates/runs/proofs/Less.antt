@@ -14,7 +14,7 @@ use Rattle.conversion.specs.ConvertError.{Result, ok, err}
 use Rattle.conversion.specs.Types.{onInt, isFloat, size}
 use Rattle.conversion.specs.Expressions.{Callee, CallFunction, CallCast, Functions, unwrapOr, get-type, resolve-call, common-type}
 use Rattle.conversion.specs.Functions.{get-all-functions}
-use Rattle.conversion.specs.Statements.{parameterType, asCall}
+use Rattle.conversion.specs.Statements.{expectedType, asCall}
 use Rattle.conversion.proofs.Called.{Among, called-among}
 use Rattle.runs.specs.Rule.{ValueOrStop, gives, halt, Truth, holds, fails, halts, Typed, CallsMade, Rule, Reply, comes, pending, Answers, Literal, IntLiteral, Datum, constant, computed, read, readAll, Ending}
 use Rattle.runs.specs.TreeRun.{KnownName, Values, set, knownType, scopeOf, Got, value, stop, wait, Ran, normal, broke, continued, returned, stopped, held, unfinished, bindG, bindO, bindS, bindT, answered, bare, replied, handed, test, testO, typed, typedO, sizeDatum, fitComputed, fit, fitArguments, toBool, evalAnd, evalOr, evalOther, evalBinary, castFirst, callWith, evalExpr, evalArgs, store, assign, newType, introduce, initialise, giveBack, callOnly, callStatement, turns, rounds, forLoop, forInt, forOver, withNew, knownInit, knownAfter, runStatement, runBlock, treeRun}
@@ -268,10 +268,10 @@ module _ {W : Type 0} (P : Program) (R : Rule W) where
   fit-less y (constant l) h = g-value _
   fit-less y (computed u v) h = fit-computed (isFloat (P .typeOf y) && (isFloat (P .typeOf u) && not (eqb u y))) y u v h
 
-  fits-less : (k : ℕ) (ds : List (Datum W)) (g : Function) (h : CallsMade W) → LessG h (fitArguments P R k ds g h) (fitArguments P R k ds g h)
+  fits-less : (k : ℕ) (ds : List (Datum W)) (l : Args) (g : Function) (h : CallsMade W) → LessG h (fitArguments P R k ds l g h) (fitArguments P R k ds l g h)
   unfolding fitArguments
-  fits-less k [] g h = g-value []
-  fits-less k (d ∷ ds) g h = g-bind _ _ (λ u h1. g-bind _ _ (λ us h2. g-value (u ∷ us)) (fits-less (suc k) ds g h1)) (fit-less (parameterType (g .params) k) d h)
+  fits-less k [] l g h = g-value []
+  fits-less k (d ∷ ds) l g h = g-bind _ _ (λ u h1. g-bind _ _ (λ us h2. g-value (u ∷ us)) (fits-less (suc k) ds l g h1)) (fit-less (expectedType (g .params) l k) d h)
 
 -- ---- the tree
 
@@ -328,11 +328,11 @@ module _ {W : Type 0} (P : Program) (F : Functions) (f : Function) (R : Rule W) 
   callee : (verb : Text) (l : Args) (N : List KnownName) (r : ℕ) (g : Function) → resolve-call P F verb l (scopeOf f N) r ≡ ok (CallFunction g) → FunctionOf P (g .recOf)
   callee verb l N r g e = record { func = g; among = called-among P F verb l (scopeOf f N) r g found e; same = refl }
 
-  call-less : (y : ℕ) (c : Callee) (us : List (Datum W)) (h : CallsMade W) → ((g : Function) → c ≡ CallFunction g → FunctionOf P (g .recOf))
-      → LessG h (callWith P F f R A y c us h) (callWith P F f R B y c us h)
+  call-less : (y : ℕ) (c : Callee) (l : Args) (us : List (Datum W)) (h : CallsMade W) → ((g : Function) → c ≡ CallFunction g → FunctionOf P (g .recOf))
+      → LessG h (callWith P F f R A y c l us h) (callWith P F f R B y c l us h)
   unfolding callWith
-  call-less y (CallFunction g) us h q = g-bind _ _ (λ ws h1. g-replied y _ _ _ _ h1 (more h1 (g .recOf) (some y) (readAll R ws) (q g refl))) (fits-less P R 0 us g h)
-  call-less y (CallCast t) us h q = cast-less y us h
+  call-less y (CallFunction g) l us h q = g-bind _ _ (λ ws h1. g-replied y _ _ _ _ h1 (more h1 (g .recOf) (some y) (readAll R ws) (q g refl))) (fits-less P R 0 us l g h)
+  call-less y (CallCast t) l us h q = cast-less y us h
 
   size-less : (o : Option ℕ) (h : CallsMade W) → LessG h (sizeDatum {W = W} o h) (sizeDatum o h)
   unfolding sizeDatum
@@ -354,7 +354,7 @@ module _ {W : Type 0} (P : Program) (F : Functions) (f : Function) (R : Rule W) 
     expr-less (EBinary r o a b) N σ h = g-typed (get-type P F (EBinary r o a b) (scopeOf f N)) λ y e. g-typed (common-type P F a b (scopeOf f N)) λ c e1.
         binary-less o y (unwrapOr y c) _ _ _ _ (λ h1. expr-less a N σ h1) (λ h1. expr-less b N σ h1) h
     expr-less (ECall r verb l) N σ h = g-typed (get-type P F (ECall r verb l) (scopeOf f N)) λ y e. g-typed (resolve-call P F verb l (scopeOf f N) r) λ c e1.
-        g-bind _ _ (λ us h1. call-less y c us h1 (λ g e2. callee verb l N r g (e1 ∙ ap ok e2))) (args-less l N σ h)
+        g-bind _ _ (λ us h1. call-less y c l us h1 (λ g e2. callee verb l N r g (e1 ∙ ap ok e2))) (args-less l N σ h)
 
     pub args-less : (l : Args) (N : List KnownName) (σ : Values W) (h : CallsMade W) → LessG h (evalArgs P F f R A l N σ h) (evalArgs P F f R B l N σ h)
     args-less noArgs N σ h = g-value []
@@ -387,7 +387,7 @@ module _ {W : Type 0} (P : Program) (F : Functions) (f : Function) (R : Rule W) 
   unfolding callOnly
   only-less (CallCast t) l N σ h q = o-stopped
   only-less (CallFunction g) l N σ h q = o-bind _ _ (λ us h1. o-bind _ _ (λ ws h2.
-      o-bind _ _ (λ v h3. o-normal σ) (g-handed _ _ _ _ h2 (more h2 (g .recOf) none (readAll R ws) (q g refl)))) (fits-less P R 0 us g h1)) (args-less l N σ h)
+      o-bind _ _ (λ v h3. o-normal σ) (g-handed _ _ _ _ h2 (more h2 (g .recOf) none (readAll R ws) (q g refl)))) (fits-less P R 0 us l g h1)) (args-less l N σ h)
 
   statement-call : (e : Expr) (N : List KnownName) (σ : Values W) (h : CallsMade W) → LessO h (callStatement P F f R A e N σ h) (callStatement P F f R B e N σ h)
   unfolding callStatement asCall

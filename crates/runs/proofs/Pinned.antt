@@ -6,9 +6,9 @@ use mathlib.Core.Bool.{true, false}
 use mathlib.Core.List.{List, [], _∷_}
 use mathlib.Core.Option.{some}
 use lib.IntN.{pos}
-use Rattle.syntax.specs.Syntax.{Ty, TInt, TFloat, TBool, TChar, TByte, TAddress, TArray, TNull, EInt, ECall, noArgs, intType, floatType, boolType, nullType, addressOfChar, addressOfNull}
+use Rattle.syntax.specs.Syntax.{Ty, TInt, TFloat, TBool, TChar, TByte, TAddress, TArray, TNull, EInt, EBool, ECall, noArgs, Value, ToType, intType, floatType, boolType, nullType, addressOfChar, addressOfNull}
 use Rattle.syntax.specs.Decode as Decode
-use Rattle.conversion.specs.Statements.{parameterType, asCall}
+use Rattle.conversion.specs.Statements.{expectedType, asCall}
 use Rattle.conversion.specs.Types.{onInt, onFloat, isFloat}
 use Rattle.conversion.proofs.Trees.{row, type, types, text}
 use Rattle.conversion.proofs.Bodies as Bodies
@@ -74,11 +74,18 @@ pub fits-values : fit program traced 4 (computed 5 (8 ∷ [])) [] ∷ fit progra
 unfolding fit fitComputed answered isFloat onFloat traced program Bodies.sampleType
 fits-values = refl
 
--- an argument goes to its parameter's type, one behind the parameters to Float
-pub parameter-types : parameterType (record { recOf = 40; name = []; ty = 1 } ∷ record { recOf = 41; name = []; ty = 6 } ∷ []) 1
-    ∷ parameterType (record { recOf = 40; name = []; ty = 1 } ∷ []) 1 ∷ [] ≡ 6 ∷ 4 ∷ []
-unfolding parameterType floatType
-parameter-types = refl
+-- a value goes to the type of the parameter at its position, one behind the parameters to Float: the first, second and third value of
+-- (value, type, value, value), then the first of (type, value), (value, type) and (value, value)
+pub expected-types : each (expectedType (Bodies.several (1 ∷ 6 ∷ 5 ∷ [])) (Value 30 (EBool 31 true) (ToType 32 0 (Value 33 (EBool 34 true) (Value 35 (EBool 36 true) noArgs))))) (0 ∷ 1 ∷ 2 ∷ [])
+    ≡ 1 ∷ 5 ∷ 4 ∷ []
+unfolding each expectedType Bodies.several floatType
+expected-types = refl
+
+pub first-types : each (λ l. expectedType (Bodies.several (1 ∷ 6 ∷ [])) l 0) (ToType 32 0 (Value 33 (EBool 34 true) noArgs)
+    ∷ Value 33 (EBool 34 true) (ToType 32 0 noArgs) ∷ Value 30 (EBool 31 true) (Value 33 (EBool 34 true) noArgs) ∷ [])
+    ≡ 6 ∷ 1 ∷ 1 ∷ []
+unfolding each expectedType Bodies.several floatType
+first-types = refl
 
 -- ---- statements
 

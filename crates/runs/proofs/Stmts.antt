@@ -320,15 +320,15 @@ module _ {W : Type 0} (X : Ctx W) where
 
   -- ---- call statements
 
-  invoke-made : {z : ℕ → ℕ} {ev : Values W → CallsMade W → Got W (List (Datum W))} {s s1 t : State} {os us : List Operand} {ca fs : Code} (sc : Scope) (g : Function)
+  invoke-made : {z : ℕ → ℕ} {ev : Values W → CallsMade W → Got W (List (Datum W))} {s s1 t : State} {os us : List Operand} {ca fs : Code} (sc : Scope) (l : Args) (g : Function)
       → GoodE X Lows (holdings X) (sc .variables) z ev s os ca s1
-      → Fitted X (Lows s1 os) Lows (holdings X) (λ ρ h. fitArguments (X .prog) (X .rule) 0 (holdings X ρ os) g h) s1 us fs t
+      → Fitted X (Lows s1 os) Lows (holdings X) (λ ρ h. fitArguments (X .prog) (X .rule) 0 (holdings X ρ os) l g h) s1 us fs t
       → GoodS X sc z (known (sc .variables))
-      (λ m σ h. bindO (ev σ h) λ vs h1. bindO (fitArguments (X .prog) (X .rule) 0 vs g h1) λ ws h2.
+      (λ m σ h. bindO (ev σ h) λ vs h1. bindO (fitArguments (X .prog) (X .rule) 0 vs l g h1) λ ws h2.
       bindO (handed (X .answers h2 (g .recOf) none (readAll (X .rule) ws) .0) (h2 ++ X .answers h2 (g .recOf) none (readAll (X .rule) ws) .1)) λ v h3. normal σ h3)
       s sc (ca ++ (fs ++ (argsOf us ++ (Call none (g .recOf) ∷ [])))) t
   unfolding count isLabel step exec
-  invoke-made {ev = ev} {s} {s1} {t} {os} {us} {ca} {fs} sc g G H = record {
+  invoke-made {ev = ev} {s} {s1} {t} {os} {us} {ca} {fs} sc l g G H = record {
     grow = grow-trans (G .grow) (H .grow);
     sub = sub-refl;
     loop = refl;
@@ -349,9 +349,9 @@ module _ {W : Type 0} (X : Ctx W) where
   call-by sc r l (CallCast y) s u c t q = absurd (no-cast-statement (X .prog) (X .funs) r l sc y s u c t q)
   call-by sc r l (CallFunction g) s u c t q =
       let i1 = inv (sym (callOnlySteps-is (X .prog) (X .funs) r l sc g s) ∙ q) in
-      let k = called (X .prog) (X .funs) none g (i1 .got) (i1 .st) u (i1 .c2) t (i1 .rest) in
+      let k = called (X .prog) (X .funs) none g l (i1 .got) (i1 .st) u (i1 .c2) t (i1 .rest) in
       goodS-as X refl (joinS i1 (k .code)) refl
-      (invoke-made sc g (goodA X sc l s (i1 .got) (i1 .c1) (i1 .st) (i1 .first)) (good-fits X 0 (i1 .got) g (i1 .st) _ _ _ (k .fitted)))
+      (invoke-made sc l g (goodA X sc l s (i1 .got) (i1 .c1) (i1 .st) (i1 .first)) (good-fits X 0 (i1 .got) l g (i1 .st) _ _ _ (k .fitted)))
 
   call-made : (sc : Scope) (r d : ℕ) (verb : Text) (l : Args)
       → SoundS X sc (convert-call (X .prog) (X .funs) r (ECall d verb l) sc) (opensA l) (known (sc .variables))

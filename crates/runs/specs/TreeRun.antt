@@ -14,7 +14,7 @@ use Rattle.conversion.specs.Ir.{sameText}
 use Rattle.conversion.specs.Types.{onInt, onFloat, isFloat, size}
 use Rattle.conversion.specs.Scope.{Variable, Scope}
 use Rattle.conversion.specs.Expressions.{Callee, CallFunction, CallCast, Functions, unwrapOr, get-type, resolve-call, common-type}
-use Rattle.conversion.specs.Statements.{parameterType, asCall}
+use Rattle.conversion.specs.Statements.{expectedType, asCall}
 use Rattle.runs.specs.Rule.{ValueOrStop, gives, halt, Truth, holds, fails, halts, CallsMade, Rule, Reply, comes, pending, Answers, Literal, IntLiteral, FloatLiteral, BoolLiteral, StringLiteral, NullLiteral, NullContent, Datum, constant, computed, read, readAll}
 
 -- a name that is known, with its type
@@ -153,11 +153,11 @@ module _ {W : Type 0} (P : Program) (R : Rule W) where
   fit y (constant l) h = value (constant (fitLiteral (P .typeOf y) l)) h
   fit y (computed u v) h = fitComputed (isFloat (P .typeOf y) && (isFloat (P .typeOf u) && not (eqb u y))) y u v h
 
-  -- the k-th value and those behind it, each to its parameter of g
-  unfoldable pub fitArguments : ℕ → List (Datum W) → Function → CallsMade W → Got W (List (Datum W))
-  fitArguments k [] g h = value [] h
-  fitArguments k (d ∷ ds) g h = bindG (fit (parameterType (g .params) k) d h) λ u h1.
-      bindG (fitArguments (suc k) ds g h1) λ us h2. value (u ∷ us) h2
+  -- the k-th value of the arguments l and those behind it, each to the parameter of g at its position among all arguments
+  unfoldable pub fitArguments : ℕ → List (Datum W) → Args → Function → CallsMade W → Got W (List (Datum W))
+  fitArguments k [] l g h = value [] h
+  fitArguments k (d ∷ ds) l g h = bindG (fit (expectedType (g .params) l k) d h) λ u h1.
+      bindG (fitArguments (suc k) ds l g h1) λ us h2. value (u ∷ us) h2
 
   -- 'Declare writes the zero value that the Rust writes, through the rule's copy or Zero as there'
   unfoldable pub zeroOf : ℕ → Ty → ValueOrStop W
@@ -218,10 +218,10 @@ module _ {W : Type 0} (P : Program) (F : Functions) (f : Function) (R : Rule W) 
   castFirst y (u ∷ us) h = answered y (R .cast y (read R u)) h
 
   -- 'A call computes all its arguments, fits them in order, then calls'; y is the type of the variable that the Rust gives the result
-  unfoldable pub callWith : ℕ → Callee → List (Datum W) → CallsMade W → Got W (Datum W)
-  callWith y (CallFunction g) vs h = bindG (fitArguments P R 0 vs g h) λ us h1.
+  unfoldable pub callWith : ℕ → Callee → Args → List (Datum W) → CallsMade W → Got W (Datum W)
+  callWith y (CallFunction g) l vs h = bindG (fitArguments P R 0 vs l g h) λ us h1.
       replied y (A h1 (g .recOf) (some y) (readAll R us) .0) (h1 ++ A h1 (g .recOf) (some y) (readAll R us) .1)
-  callWith y (CallCast t) vs h = castFirst y vs h
+  callWith y (CallCast t) l vs h = castFirst y vs h
 
   unfoldable mutual
     pub evalExpr : Expr → List KnownName → Values W → CallsMade W → Got W (Datum W)
@@ -239,7 +239,7 @@ module _ {W : Type 0} (P : Program) (F : Functions) (f : Function) (R : Rule W) 
         evalBinary o y (unwrapOr y c) (λ h1. evalExpr a N σ h1) (λ h1. evalExpr b N σ h1) h
     evalExpr (ECall r verb l) N σ h = typed (get-type P F (ECall r verb l) (scopeOf f N)) h λ y.
         typed (resolve-call P F verb l (scopeOf f N) r) h λ callee.
-        bindG (evalArgs l N σ h) λ vs h1. callWith y callee vs h1
+        bindG (evalArgs l N σ h) λ vs h1. callWith y callee l vs h1
 
     pub evalArgs : Args → List KnownName → Values W → CallsMade W → Got W (List (Datum W))
     evalArgs noArgs N σ h = value [] h
@@ -278,7 +278,7 @@ module _ {W : Type 0} (P : Program) (F : Functions) (f : Function) (R : Rule W) 
   -- a call statement; one that is a cast does not convert
   unfoldable pub callOnly : Callee → Args → List KnownName → Values W → CallsMade W → Ran W
   callOnly (CallCast t) l N σ h = stopped h
-  callOnly (CallFunction g) l N σ h = bindO (evalArgs l N σ h) λ vs h1. bindO (fitArguments P R 0 vs g h1) λ us h2.
+  callOnly (CallFunction g) l N σ h = bindO (evalArgs l N σ h) λ vs h1. bindO (fitArguments P R 0 vs l g h1) λ us h2.
       bindO (handed (A h2 (g .recOf) none (readAll R us) .0) (h2 ++ A h2 (g .recOf) none (readAll R us) .1)) λ v h3. normal σ h3
 
   -- 'A call statement whose expression is no call is typed and never run'

@@ -108,7 +108,7 @@ module _ {tree text l s : List ℕ} {c : Converter} {e : ℕ} (p : Converting tr
   called-stays = frame-stays (c .scope .names) (c .operands) (m .frame)
 
   abbrev rest : ℕ → Callee → M Ir.Operand
-  rest y to = argsIn tree text S W >>= (λ os. finishCall (program tree text) (allKeys tree text) e y os to)
+  rest y to = argsIn tree text S W >>= (λ os. finishCall (program tree text) (allKeys tree text) e y (argsAt tree text W) os to)
 
   pub called-stop : (y : ℕ) {z : ConvertError} → callee ≡ Resolved.Refused z
       → Converts tree text (callSteps tree text s c e y) (exprAmount (under (exprAt tree text e))) c l s (Converted.Refused z) l s₁
@@ -130,7 +130,7 @@ module _ {tree text l s : List ℕ} {c : Converter} {e : ℕ} (p : Converting tr
     unfolding convert-call-value finishCall
     args-stop y {z} not w =
         let to = callee-is tree text callee not in record {
-          meets = meets-lift text (rest y) (p .room) (m .meets ∙ to .is) (meets-stop text (λ os. finishCall (program tree text) (allKeys tree text) e y os (to .to)) (n .meets .long)
+          meets = meets-lift text (rest y) (p .room) (m .meets ∙ to .is) (meets-stop text (λ os. finishCall (program tree text) (allKeys tree text) e y (argsAt tree text W) os (to .to)) (n .meets .long)
               (subst (λ (q : M (List Ir.Operand)). StopsIn text q (c .counters) l (z .kind) (z .place)) same-args (n .meets .stops z (ap (argsOf s₂ (records tree) (c .operands)) w))));
           operand = λ o k h. let z : _≡_ {A = ℕ} 0 1 = cc in absurd (omega arith);
           stays = stays-then (omega arith) (omega arith) called-stays (n .stays);
@@ -149,7 +149,7 @@ module _ {tree text l s : List ℕ} {c : Converter} {e : ℕ} (p : Converting tr
 
       pub called-next : (y : ℕ) {b : Converted} {l₂ s₃ : List ℕ} → OneOf (0 ∷ 1 ∷ []) (tagOf the-type callee)
           → ((to : Callee) → calleeOf tree text callee ≡ ok to
-          → Converts tree text (finishCall (program tree text) (allKeys tree text) e y (stackAt s₂ (records tree) (c .operands) count) to) (amount (2 * count + 1) (count + 1) 0 0 count) (withCounters c k) l₁ s₂ b l₂ s₃)
+          → Converts tree text (finishCall (program tree text) (allKeys tree text) e y (argsAt tree text W) (stackAt s₂ (records tree) (c .operands) count) to) (amount (2 * count + 1) (count + 1) 0 0 count) (withCounters c k) l₁ s₂ b l₂ s₃)
           → Converts tree text (callSteps tree text s c e y) (exprAmount (under (exprAt tree text e))) c l s b l₂ s₃
       unfolding convert-call-value finishCall
       called-next y not i =
@@ -158,7 +158,7 @@ module _ {tree text l s : List ℕ} {c : Converter} {e : ℕ} (p : Converting tr
           let g = subst (λ (q : M (List Ir.Operand)). AddsIn text q (argsAmount (argsUnder (argsAt tree text W)) (argsValues (argsAt tree text W))) (c .counters) l (stackAt s₂ (records tree) (c .operands) count) k l₁) same-args gives in
           record {
             meets = meets-most text (meets-lift text (rest y) (p .room) (m .meets ∙ to .is)
-                (meets-then text (λ os. finishCall (program tree text) (allKeys tree text) e y os (to .to)) (n .meets .long) g (j .meets)))
+                (meets-then text (λ os. finishCall (program tree text) (allKeys tree text) e y (argsAt tree text W) os (to .to)) (n .meets .long) g (j .meets)))
                 (omega (arith, call-under, args-count (argsAt tree text W), n .operands count k w .0));
             operand = j .operand;
             stays = stays-then (omega arith) (omega arith) called-stays (stays-then (omega arith) (omega arith) (n .stays) (j .stays));

@@ -13,7 +13,7 @@ use Rattle.records.specs.Words.{detailOf, wordOf, records, A, B}
 use Rattle.records.specs.declared.convert_error.ConvertError.{ConvertError}
 use Rattle.records.specs.Rules.{isExpr}
 use Rattle.records.specs.Good.{Good}
-use Rattle.syntax.specs.Syntax.{unaryOps, binaryOps, Neg, Or, Program, Function}
+use Rattle.syntax.specs.Syntax.{unaryOps, binaryOps, Neg, Or, Args, Program, Function}
 use Rattle.syntax.specs.Decode.{program}
 use Rattle.syntax.specs.Places.{IsExpr, IsKind, TypeAt, FunctionAt, functionOf, exprAt}
 use Rattle.syntax.proofs.Records.{function-rec}
@@ -202,23 +202,23 @@ module _ {tree text l s : List ℕ} {c : Converter} (e : ℕ) (dest : VarId) whe
       (subst (λ (o : Ir.Operand). Adds (emit (Cast (varOf dest) o)) (amount 1 0 0 0 0) (c .counters) l tt k l′) q (emit-adds h p))
       (adds-pure (OVar (varOf dest)) k l′ (p .next .room))) (omega arith))) t (stays-refl (records tree) (c .scope .names) (c .operands) s) (names-refl tree s)
 
-call-parts : (P : Program) (F : Functions) (r : ℕ) (dest : Ir.VarId) (f : Function) (operands : List Ir.Operand)
-    → (passArgs P f operands >> emit (Call (some dest) (f .recOf))) >> pure (OVar dest) ≡ callValue P F r dest operands (CallFunction f)
+call-parts : (P : Program) (F : Functions) (r : ℕ) (dest : Ir.VarId) (f : Function) (given : Args) (operands : List Ir.Operand)
+    → (passArgs P f given operands >> emit (Call (some dest) (f .recOf))) >> pure (OVar dest) ≡ callValue P F r dest given operands (CallFunction f)
 unfolding passArgs callFunction callValue
-call-parts P F r dest f operands = simp (seq-is, regroup)
+call-parts P F r dest f given operands = simp (seq-is, regroup)
 
 -- a call, whose values are passed
-pub call-adds : {tree text l l₁ l₂ s s′ : List ℕ} {c : Converter} (F : Functions) (e : ℕ) {f count : ℕ} {dest : VarId} (operands : List Ir.Operand) {k₁ k₂ : Counters}
+pub call-adds : {tree text l l₁ l₂ s s′ : List ℕ} {c : Converter} (F : Functions) (e : ℕ) {f count : ℕ} {dest : VarId} (given : Args) (operands : List Ir.Operand) {k₁ k₂ : Counters}
     → Good tree text → FunctionAt tree f → TypeAt tree (dest .1)
-    → Adds (passArgs (program tree text) (functionOf tree text f) operands) (amount (2 * count) count 0 0 count) (c .counters) l tt k₁ l₁ → StaysFor tree c s s′ → NamesStay tree s s′
+    → Adds (passArgs (program tree text) (functionOf tree text f) given operands) (amount (2 * count) count 0 0 count) (c .counters) l tt k₁ l₁ → StaysFor tree c s s′ → NamesStay tree s s′
     → length l₂ ≡ length l₁ → Emits (call dest f) k₁ l₁ k₂ l₂
-    → Converts tree text (callValue (program tree text) F e (varOf dest) operands (CallFunction (functionOf tree text f))) (amount (2 * count + 1) count 0 0 count) c l s (Converted.Is (var dest) k₂) l₂ s′
+    → Converts tree text (callValue (program tree text) F e (varOf dest) given operands (CallFunction (functionOf tree text f))) (amount (2 * count + 1) count 0 0 count) c l s (Converted.Is (var dest) k₂) l₂ s′
 unfolding OperandIn
-call-adds {tree = tree} {text = text} {l₁ = l₁} {l₂ = l₂} F e {f = f} {dest = dest} operands {k₁ = k₁} {k₂ = k₂} good at t p stays names h q =
+call-adds {tree = tree} {text = text} {l₁ = l₁} {l₂ = l₂} F e {f = f} {dest = dest} given operands {k₁ = k₁} {k₂ = k₂} good at t p stays names h q =
     let i : Adds (emit (Call (some (varOf dest)) (functionOf tree text f .recOf))) (amount 1 0 0 0 0) k₁ l₁ tt k₂ l₂ =
     subst (λ (x : ℕ). Adds (emit (Call (some (varOf dest)) x)) (amount 1 0 0 0 0) k₁ l₁ tt k₂ l₂) (sym (function-rec tree text good f at)) (emit-adds h q) in
     converts-gave (h ∙ p .long)
-    (adds-in text (adds-most (adds-same (call-parts (program tree text) F e (varOf dest) (functionOf tree text f) operands)
+    (adds-in text (adds-most (adds-same (call-parts (program tree text) F e (varOf dest) (functionOf tree text f) given operands)
     (adds-seq (pure (OVar (varOf dest))) (adds-seq (emit (Call (some (varOf dest)) (functionOf tree text f .recOf))) p i) (adds-pure (OVar (varOf dest)) k₂ l₂ (q .next .room)))) (omega arith))) t stays names
 
 -- the call behind its values, by what it runs
@@ -241,20 +241,20 @@ function-callee {tree = tree} {f = f} t q = go (subst (λ (z : Resolved). IsCall
     go : IsCallee tree (Resolved.Function f) → FunctionAt tree f
     go (IsCallee.a-function h) = h
 
-module _ {tree text l l₁ l₂ s s′ : List ℕ} {c : Converter} (e : ℕ) {y count : ℕ} {r : NewVariable} (operands : List Ir.Operand) {to : Callee} {a : Converted}
+module _ {tree text l l₁ l₂ s s′ : List ℕ} {c : Converter} (e : ℕ) {y count : ℕ} {r : NewVariable} (given : Args) (operands : List Ir.Operand) {to : Callee} {a : Converted}
     (h : length l₁ ≡ length l) (p : AddsVar y (c .counters) l r l₁) where
   pub finish-function : (f : ℕ) → CallFunction (functionOf tree text f) ≡ to
-      → Converts tree text (callValue (program tree text) (allKeys tree text) e (varOf (r .var)) operands (CallFunction (functionOf tree text f))) (amount (2 * count + 1) count 0 0 count) (withCounters c (r .counters)) l₁ s a l₂ s′
-      → Converts tree text (finishCall (program tree text) (allKeys tree text) e y operands to) (amount (2 * count + 1) (count + 1) 0 0 count) c l s a l₂ s′
+      → Converts tree text (callValue (program tree text) (allKeys tree text) e (varOf (r .var)) given operands (CallFunction (functionOf tree text f))) (amount (2 * count + 1) count 0 0 count) (withCounters c (r .counters)) l₁ s a l₂ s′
+      → Converts tree text (finishCall (program tree text) (allKeys tree text) e y given operands to) (amount (2 * count + 1) (count + 1) 0 0 count) c l s a l₂ s′
   unfolding finishCall
   finish-function f q i =
-      converts-most (omega arith) (converts-after (λ (dest : Ir.VarId). callValue (program tree text) (allKeys tree text) e dest operands to) (var-adds h p)
-      (converts-same (ap (callValue (program tree text) (allKeys tree text) e (varOf (r .var)) operands) q) i))
+      converts-most (omega arith) (converts-after (λ (dest : Ir.VarId). callValue (program tree text) (allKeys tree text) e dest given operands to) (var-adds h p)
+      (converts-same (ap (callValue (program tree text) (allKeys tree text) e (varOf (r .var)) given operands) q) i))
 
   pub finish-cast : {z : ℕ} → CallCast z ≡ to
       → Converts tree text (castFirst e (varOf (r .var)) operands) (amount 1 0 0 0 0) (withCounters c (r .counters)) l₁ s a l₂ s′
-      → Converts tree text (finishCall (program tree text) (allKeys tree text) e y operands to) (amount (2 * count + 1) (count + 1) 0 0 count) c l s a l₂ s′
+      → Converts tree text (finishCall (program tree text) (allKeys tree text) e y given operands to) (amount (2 * count + 1) (count + 1) 0 0 count) c l s a l₂ s′
   unfolding finishCall callValue
   finish-cast q i =
-      converts-most (omega arith) (converts-after (λ (dest : Ir.VarId). callValue (program tree text) (allKeys tree text) e dest operands to) (var-adds h p)
-      (converts-same (ap (callValue (program tree text) (allKeys tree text) e (varOf (r .var)) operands) q) i))
+      converts-most (omega arith) (converts-after (λ (dest : Ir.VarId). callValue (program tree text) (allKeys tree text) e dest given operands to) (var-adds h p)
+      (converts-same (ap (callValue (program tree text) (allKeys tree text) e (varOf (r .var)) given operands) q) i))

@@ -6,6 +6,7 @@ pub mod JumpLaws
 pub mod StackLaws
 pub mod LeafLaws
 pub mod FitLaws
+pub mod PositionLaws
 pub mod FitTurns
 pub mod EmitLaws
 pub mod ConvertLaws

@@ -260,10 +260,10 @@ module _ {tree text l s : List ℕ} {c : Converter} {r e : ℕ} (p : Converting 
 
 -- ---- a call alone
 
-call-parts : (P : Program) (F : Functions) (f : Function) (os : List Ir.Operand) (S : Def.Scope)
-    → (passArgs P f os >> emit (Call nothing (f .recOf))) >> pure S ≡ callFunction P F nothing f os >> pure S
+call-parts : (P : Program) (F : Functions) (f : Function) (given : Args) (os : List Ir.Operand) (S : Def.Scope)
+    → (passArgs P f given os >> emit (Call nothing (f .recOf))) >> pure S ≡ callFunction P F nothing f given os >> pure S
 unfolding passArgs callFunction
-call-parts P F f os S = simp (seq-is, regroup)
+call-parts P F f given os S = simp (seq-is, regroup)
 
 module _ {tree text l s : List ℕ} {c : Converter} {e : ℕ} (p : Converting tree text l s c) (f : ExprAfforded tree text c e) (x : IsKind tree 11 e) where
   abbrev values : Args
@@ -280,7 +280,7 @@ module _ {tree text l s : List ℕ} {c : Converter} {e : ℕ} (p : Converting tr
       (m : ConvertsArgs tree text (argsSteps tree text s c (wordOf tree e C)) (argsAmount (argsUnder values) (argsValues values)) (argsValues values) c l s a l₁ s₁) where
     module _ (g : ℕ) where
       abbrev passed : List Ir.Operand → M Def.Scope
-      passed os = callFunction (program tree text) (allKeys tree text) nothing (functionOf tree text g) os >> pure (scopeAt tree text s (c .scope))
+      passed os = callFunction (program tree text) (allKeys tree text) nothing (functionOf tree text g) values os >> pure (scopeAt tree text s (c .scope))
 
       pub values-stop : {z : ConvertError} → a ≡ ConvertedArgs.Refused z → CallOnlyAs (λ t x s k q. callOnlySteps t x s k q g) c e tree text l s (Stated.Refused z) l₁ s₁
       values-stop {z = z} w = states-stop (meets-stop text passed (m .meets .long) (m .meets .stops z (ap (argsOf s₁ (records tree) (c .operands)) w))) (m .stays)
@@ -303,7 +303,7 @@ module _ {tree text l s : List ℕ} {c : Converter} {e : ℕ} (p : Converting tr
         passed-room = (i .next .room, omega (arith, f .tables, values-under, args-count values, computed .spent, m .operands count k w .0, i .spent))
 
       pub values-called : (g : ℕ) {k₁ k₂ : Counters} {l₂ l₃ s₂ : List ℕ} → FunctionAt tree g
-          → Adds (passArgs (program tree text) (functionOf tree text g) (stackAt s₁ (records tree) (c .operands) count)) (amount (2 * count) count 0 0 count) k l₁ tt k₁ l₂
+          → Adds (passArgs (program tree text) (functionOf tree text g) values (stackAt s₁ (records tree) (c .operands) count)) (amount (2 * count) count 0 0 count) k l₁ tt k₁ l₂
           → StaysFor tree c s₁ s₂ → length l₃ ≡ length l₂ → Emits (callOnly g) k₁ l₂ k₂ l₃
           → CallOnlyAs (λ t x s k q. callOnlySteps t x s k q g) c e tree text l s (Stated.Done (c .scope) k₂) l₃ s₂
       values-called g {k₁ = k₁} {k₂ = k₂} {l₂ = l₂} {l₃ = l₃} at i st h j =
@@ -312,7 +312,7 @@ module _ {tree text l s : List ℕ} {c : Converter} {e : ℕ} (p : Converting tr
           let os = stackAt s₁ (records tree) (c .operands) count in
           let j′ : Adds (emit (Call nothing (F .recOf))) (amount 1 0 0 0 0) k₁ l₂ tt k₂ l₃ =
           subst (λ (z : ℕ). Adds (emit (Call nothing z)) (amount 1 0 0 0 0) k₁ l₂ tt k₂ l₃) (sym (function-rec tree text (p .ready .keyed .good) g at)) (emit-adds h j) in
-          let last = adds-same (call-parts (program tree text) (allKeys tree text) F os S)
+          let last = adds-same (call-parts (program tree text) (allKeys tree text) F values os S)
           (adds-seq (pure S) (adds-seq (emit (Call nothing (F .recOf))) i j′) (adds-pure S k₂ l₃ (j .next .room))) in
           states-kept p (stays-then (omega arith) (omega arith) (m .stays) st)
           (meets-most text (meets-then text (passed g) (m .meets .long) computed (meets-gave text (last .long) (adds-in text last)))
@@ -335,7 +335,7 @@ module _ {tree text l s : List ℕ} {c : Converter} {r e : ℕ} (p : Converting 
 
     abbrev only : Def.Scope → ℕ → M Def.Scope
     only S g = convert-args (program tree text) (allKeys tree text) (argsAt tree text (wordOf tree e C)) S
-        >>= (λ os. callFunction (program tree text) (allKeys tree text) nothing (functionOf tree text g) os >> pure S)
+        >>= (λ os. callFunction (program tree text) (allKeys tree text) nothing (functionOf tree text g) (argsAt tree text (wordOf tree e C)) os >> pure S)
 
     is-called : lift (resolve-call (program tree text) (allKeys tree text) (textOf tree text e A) (argsAt tree text (wordOf tree e C)) (scopeAt tree text s (c .scope)) e)
         >>= called (scopeAt tree text s (c .scope)) ≡ callStatementSteps tree text s c r

@@ -1,7 +1,7 @@
 -- What each answer says, as the definitions of conversion say it: a result with how far the tables are written, or a refusal's kind and place;
 -- and which definition each function of statements.rs equals. Assumes nothing: these are definitions.
 use mathlib.Core.Path.{_≡_}
-use Prim.Native.Nat.{ℕ, _+_, _*_, _≤_}
+use Prim.Native.Nat.{ℕ, suc, _+_, _*_, _≤_}
 use mathlib.Core.Bool.{Bool, false}
 use mathlib.Core.Option.{none, some}
 use mathlib.Core.List.{List}
@@ -12,14 +12,14 @@ use Rattle.records.specs.Words.{kindOf, detailOf, wordOf, records, A, B, C, D}
 use Rattle.records.specs.declared.convert_error.ConvertError.{ConvertError}
 use Rattle.syntax.specs.Syntax.{unaryOps, binaryOps, UnaryOp, BinaryOp, Neg, Or}
 use Rattle.syntax.specs.Decode.{program, textOf, bit, reference}
-use Rattle.syntax.specs.Places.{exprAt, argsAt, statementAt, blockAt, functionOf, TypeAt}
+use Rattle.syntax.specs.Places.{exprAt, argsAt, paramsAt, statementAt, blockAt, functionOf, TypeAt, ArgsAt, ParamsAt}
 use Rattle.conversion.specs.ConvertError.{Result, ok, err}
 use Rattle.conversion.specs.Ir as Ir
 use Rattle.conversion.specs.Ir.{M, _>>=_, _>>_, pure, lift}
 use Rattle.conversion.specs.Scope as Def
 use Rattle.conversion.specs.Scope.{withLoop}
 use Rattle.conversion.specs.Expressions.{Callee, CallFunction, common-type}
-use Rattle.conversion.specs.Statements.{checkBound, fit-args, castFirst, callValue, convert-unary, convertAnd, convertOr, convertOther, convert-binary, convert-call-value, convert-expr, convert-args, convert-cond, callFunction, convert-declare, convert-init, initNew, convert-assign, assignTo, convert-return, returnAs, convert-call, convert-break, convert-continue, convert-if, convertIfElse, convert-while-loop, convert-for-loop, convert-statement, convert-block}
+use Rattle.conversion.specs.Statements.{checkBound, parameterType, position, expectedType, fit-args, castFirst, callValue, convert-unary, convertAnd, convertOr, convertOther, convert-binary, convert-call-value, convert-expr, convert-args, convert-cond, callFunction, convert-declare, convert-init, initNew, convert-assign, assignTo, convert-return, returnAs, convert-call, convert-break, convert-continue, convert-if, convertIfElse, convert-while-loop, convert-for-loop, convert-statement, convert-block}
 use Rattle.ir.specs.declared.structs.Counters.{Counters}
 use Rattle.ir.specs.declared.structs.VarId.{VarId}
 use Rattle.ir.specs.declared.structs.Operand.{Operand}
@@ -37,6 +37,7 @@ use Rattle.statements.specs.declared.answers.Converter.{Converter}
 use Rattle.statements.specs.declared.answers.Converted.{Converted}
 use Rattle.statements.specs.declared.answers.Converted.the-variants as Converted
 use Rattle.statements.specs.declared.answers.Fitted.{Fitted}
+use Rattle.statements.specs.declared.answers.AtValue.{AtValue}
 use Rattle.statements.specs.declared.answers.ConvertedArgs.{ConvertedArgs}
 use Rattle.statements.specs.declared.answers.ConvertedArgs.the-variants as ConvertedArgs
 use Rattle.statements.specs.declared.answers.ForVariable.{ForVariable}
@@ -229,7 +230,7 @@ module _ (tree text s : List ℕ) (c : Converter) where
   -- of the function f by the call e, whose result is not used
   abbrev pub callOnlySteps : ℕ → ℕ → M Def.Scope
   callOnlySteps e f = argsSteps (wordOf tree e C)
-      >>= (λ os. callFunction (program tree text) (allKeys tree text) none (functionOf tree text f) os >> pure scopeIn)
+      >>= (λ os. callFunction (program tree text) (allKeys tree text) none (functionOf tree text f) (argsAt tree text (wordOf tree e C)) os >> pure scopeIn)
 
   abbrev pub breakSteps : ℕ → M Def.Scope
   breakSteps r = convert-break (program tree text) (allKeys tree text) r (scopeIn .inLoop) scopeIn
@@ -364,32 +365,42 @@ abbrev pub ArgsAs : StepsAt (List Ir.Operand) → Converter → ℕ → List ℕ
 ArgsAs steps c w tree text l s a l′ s′ =
     ConvertsArgs tree text (steps tree text s c w) (argsAmount (argsUnder (argsAt tree text w)) (argsValues (argsAt tree text w))) (argsValues (argsAt tree text w)) c l s a l′ s′
 
--- ---- what is done with the values of a call: the `count` operands that wait on the stack
+-- ---- what is done with the values of the call e: the `count` operands that wait on the stack
+
+-- the first value of the list that `argument` opens goes to the parameter that r has, and those behind it stand in the list that r has: the
+-- types are those that the values of the whole list take in the list that `parameter` opens
+pub record FirstValue (tree text : List ℕ) (argument parameter : ℕ) (r : AtValue) : Type 0 where
+  pub args : ArgsAt tree (r .rest)
+  pub params : ParamsAt tree (r .parameter)
+  pub first : parameterType (paramsAt tree text (r .parameter)) 0 ≡ expectedType (paramsAt tree text parameter) (argsAt tree text argument) 0
+  pub behind : (k : ℕ) → parameterType (paramsAt tree text (r .parameter)) (suc (position (argsAt tree text (r .rest)) k))
+      ≡ expectedType (paramsAt tree text parameter) (argsAt tree text argument) (suc k)
 
 abbrev pub waiting : List ℕ → List ℕ → Converter → ℕ → List Ir.Operand
 waiting tree s c count = stackAt s (records tree) (c .operands) count
 
 -- they are fitted to the parameters of the function f
-abbrev pub FitsAs : ℕ → ℕ → Converter → List ℕ → List ℕ → List ℕ → List ℕ → Counters → List ℕ → List ℕ → Type 0
-FitsAs f count c tree text l s k l′ s′ = FitsArgs tree (fit-args (program tree text) (waiting tree s c count) (functionOf tree text f)) count c l s k l′ s′
+abbrev pub FitsAs : ℕ → ℕ → ℕ → Converter → List ℕ → List ℕ → List ℕ → List ℕ → Counters → List ℕ → List ℕ → Type 0
+FitsAs e f count c tree text l s k l′ s′ =
+    FitsArgs tree (fit-args (program tree text) (waiting tree s c count) (argsAt tree text (wordOf tree e C)) (functionOf tree text f)) count c l s k l′ s′
 
 -- they are passed to the function f: fitted, then an Arg for each
-abbrev pub PassesAs : ℕ → ℕ → Converter → List ℕ → List ℕ → List ℕ → List ℕ → Counters → List ℕ → Type 0
-PassesAs f count c tree text l s k l′ =
-    Adds (passArgs (program tree text) (functionOf tree text f) (waiting tree s c count)) (amount (2 * count) count 0 0 count) (c .counters) l tt k l′
+abbrev pub PassesAs : ℕ → ℕ → ℕ → Converter → List ℕ → List ℕ → List ℕ → List ℕ → Counters → List ℕ → Type 0
+PassesAs e f count c tree text l s k l′ =
+    Adds (passArgs (program tree text) (functionOf tree text f) (argsAt tree text (wordOf tree e C)) (waiting tree s c count)) (amount (2 * count) count 0 0 count) (c .counters) l tt k l′
 
--- the first of them is cast to dest, by the call e; the scratch stays as it is
+-- the first of them is cast to dest; the scratch stays as it is
 abbrev pub CastsAs : ℕ → VarId → ℕ → Converter → List ℕ → List ℕ → List ℕ → List ℕ → Converted → List ℕ → Type 0
 CastsAs e dest count c tree text l s a l′ = Converts tree text (castFirst e (varOf dest) (waiting tree s c count)) (amount 1 0 0 0 0) c l s a l′ s
 
--- the function f is called with them, its result in dest, whichever the call's record is
-abbrev pub CallsAs : ℕ → VarId → ℕ → Converter → List ℕ → List ℕ → List ℕ → List ℕ → Converted → List ℕ → List ℕ → Type 0
-CallsAs f dest count c tree text l s a l′ s′ =
-    (e : ℕ) → Converts tree text (callValue (program tree text) (allKeys tree text) e (varOf dest) (waiting tree s c count) (CallFunction (functionOf tree text f)))
+-- the function f is called with them, its result in dest
+abbrev pub CallsAs : ℕ → ℕ → VarId → ℕ → Converter → List ℕ → List ℕ → List ℕ → List ℕ → Converted → List ℕ → List ℕ → Type 0
+CallsAs e f dest count c tree text l s a l′ s′ =
+    Converts tree text (callValue (program tree text) (allKeys tree text) e (varOf dest) (argsAt tree text (wordOf tree e C)) (waiting tree s c count) (CallFunction (functionOf tree text f)))
     (amount (2 * count + 1) count 0 0 count) c l s a l′ s′
 
--- the call e, of type y, is ended with them, where its callee was found
+-- the call, of type y, is ended with them, where its callee was found
 abbrev pub CallEndsAs : ℕ → ℕ → Resolved → ℕ → Converter → List ℕ → List ℕ → List ℕ → List ℕ → Converted → List ℕ → List ℕ → Type 0
 CallEndsAs e y callee count c tree text l s a l′ s′ =
     (to : Callee) → calleeOf tree text callee ≡ ok to
-    → Converts tree text (finishCall (program tree text) (allKeys tree text) e y (waiting tree s c count) to) (amount (2 * count + 1) (count + 1) 0 0 count) c l s a l′ s′
+    → Converts tree text (finishCall (program tree text) (allKeys tree text) e y (argsAt tree text (wordOf tree e C)) (waiting tree s c count) to) (amount (2 * count + 1) (count + 1) 0 0 count) c l s a l′ s′

@@ -8,7 +8,7 @@ use mathlib.Core.List.{List}
 use lib.Dec.{eqb}
 use lib.IntN.{pos}
 use Rattle.laws.specs.Fix.{pick}
-use Rattle.syntax.specs.Syntax.{Text, UnaryOp, BinaryOp, Lt, Add, Expr, Function, Program, boolType, nullType, addressOfNull}
+use Rattle.syntax.specs.Syntax.{Text, UnaryOp, BinaryOp, Lt, Add, Expr, Args, Function, Program, boolType, nullType, addressOfNull}
 use Rattle.conversion.specs.ConvertError as C
 use Rattle.conversion.specs.ConvertError.{Result, ok, UnknownVariable, AssignToConstant, NotInteger}
 use Rattle.conversion.specs.Ir.{VarId, Operand, OVar, OInt, OFloat, Copy, Unary, Binary, Label, Jump, JumpIfNot, Call, LabelName, loopStart, loopEnd, loopCheck, otherwiseLabel, conditionEnd, logicRhs, logicEnd, M, _>>=_, _>>_, pure, fail, lift, emit, new-var, label-id, float-id}
@@ -101,12 +101,12 @@ module _ (P : Program) where
     emit (Binary dest o a1 b1)
     pure (OVar dest)
 
-  -- the values of a call, fitted to the parameters of f, 'directly before it as Arg'
-  unfoldable pub passArgs : Function → List Operand → M (Unit {0})
+  -- the values of a call by the arguments l, fitted to the parameters of f, 'directly before it as Arg'
+  unfoldable pub passArgs : Function → Args → List Operand → M (Unit {0})
   unfolding _>>=_ fit-args emitArgs
-  passArgs f operands = do
-    l ← fit-args P operands f
-    emitArgs l
+  passArgs f l operands = do
+    os ← fit-args P operands l f
+    emitArgs os
 
   -- the variable's copy of an operand that is fitted to its type
   unfoldable pub copyFitted : VarId → Operand → M (Unit {0})
@@ -134,12 +134,12 @@ countOn r x short unsigned = do
   placeLabel (loopCheck r)
 
 module _ (P : Program) (F : Functions) where
-  -- a call whose arguments are computed, its result in a new variable of type y
-  unfoldable pub finishCall : ℕ → ℕ → List Operand → Callee → M Operand
+  -- a call whose arguments l are computed, its result in a new variable of type y
+  unfoldable pub finishCall : ℕ → ℕ → Args → List Operand → Callee → M Operand
   unfolding _>>=_ new-var callValue
-  finishCall r y operands callee = do
+  finishCall r y l operands callee = do
     dest ← new-var y
-    callValue P F r dest operands callee
+    callValue P F r dest l operands callee
 
   -- ---- conditions and loops
 

@@ -53,6 +53,12 @@ pub(crate) struct Fitted {
     pub counters: Counters,
 }
 
+// A value of a call: the parameter at its position, and the arguments behind it. Each is a cell, or END.
+pub(crate) struct AtValue {
+    pub parameter: usize,
+    pub rest: usize,
+}
+
 pub(crate) fn as_converted(f: Fitted) -> Converted
     ensures { λ r. ⌜ r ≡ Converted.Is (f .operand) (f .counters) ⌝ }
 {

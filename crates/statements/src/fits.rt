@@ -5,9 +5,10 @@ ghost use lib.ListN.{length};
 ghost use mathlib.Core.List.{List};
 ghost use Prim.Native.Nat.{ℕ, suc, _+_, _*_, _≤_, _<_};
 ghost use Rattle.records.specs.Words.{records};
+ghost use Rattle.records.specs.Kinds.{kindCall};
 ghost use Rattle.records.specs.Good.{Good};
 ghost use Rattle.syntax.specs.Decode.{program};
-ghost use Rattle.syntax.specs.Places.{IsExpr, TypeAt, FunctionAt, ParamsAt, exprAt, paramsAt};
+ghost use Rattle.syntax.specs.Places.{IsExpr, IsKind, TypeAt, FunctionAt, ArgsAt, ParamsAt, exprAt, paramsAt};
 ghost use Rattle.conversion.specs.Ir.{OVar, OFloat, lift};
 ghost use Rattle.conversion.specs.Expressions.{Functions};
 ghost use Rattle.conversion.specs.Statements.{refloat, castOperand, fit-operand, emitArgs, checkFits, parameterType};
@@ -19,14 +20,17 @@ ghost use Rattle.expressions.specs.Answers.{outcomeOf};
 ghost use Rattle.statements.specs.Stack.{stackAt};
 ghost use Rattle.statements.specs.Converting.{Converting, Afforded, RoomFor, OperandIn, StackIn, StaysFor, NamesStay};
 ghost use Rattle.statements.specs.Meets.{Adds};
-ghost use Rattle.statements.specs.Answers.{FitAdds, FitsAs, PassesAs};
+ghost use Rattle.statements.specs.Answers.{FitAdds, FirstValue, FitsAs, PassesAs};
+use crate::answers::AtValue;
 use crate::answers::Converter;
 use crate::answers::Fitted;
 use crate::answers::error_at;
 use crate::operands::operand_at;
 use crate::operands::push_operand;
 use expressions::answers::Outcome;
+use expressions::arguments::Argument;
 use expressions::arguments::END;
+use expressions::arguments::argument_at;
 use expressions::arguments::next_cell;
 use ir::floats::float_entry;
 use ir::pool::float_bits;
@@ -178,32 +182,60 @@ fn next_parameter(tree: &[u8], text: &[u8], parameter: usize) -> usize
     next_cell(tree, text, parameter)
 }
 
-// Fits the last `count` operands of the stack to the parameters of f, in place.
+// The first value from this argument on, beside the parameters from this one on. A type gives no Arg, and takes a parameter's place.
+fn first_value(tree: &[u8], text: &[u8], argument: usize, parameter: usize) -> AtValue
+    requires { ⌜ Good (now tree) (now text) × ArgsAt (now tree) argument × ParamsAt (now tree) parameter ⌝ }
+    ensures { λ r. ⌜ FirstValue (now (tree .entry)) (now (text .entry)) argument parameter r ⌝ }
+{
+    let mut cell = argument;
+    let mut beside = parameter;
+    while cell != END {
+        let next = next_cell(tree, text, cell);
+        if let Argument::Expr(_) = argument_at(tree, text, cell) {
+            return AtValue {
+                parameter: beside,
+                rest: next,
+            };
+        }
+        beside = next_parameter(tree, text, beside);
+        cell = next;
+    }
+    AtValue {
+        parameter: beside,
+        rest: END,
+    }
+}
+
+// Fits the last `count` operands of the stack, the values of the call e, to the parameters of f, in place.
 fn fit_args(
     tree: &[u8],
     text: &[u8],
     arena: &mut [u8],
     scratch: &mut [u8],
     c: Converter,
+    e: usize,
     f: usize,
     count: usize,
 ) -> Counters
-    requires { ⌜ Converting (now tree) (now text) (now arena) (now scratch) c × FunctionAt (now tree) f ⌝ }
+    requires { ⌜ Converting (now tree) (now text) (now arena) (now scratch) c × FunctionAt (now tree) f × IsKind (now tree) kindCall e ⌝ }
     requires { ⌜ Afforded (now tree) c (amount count count 0 0 count) count 0 × StackIn (now tree) (now scratch) (c .operands) count ⌝ }
-    ensures { λ r. ⌜ FitsAs f count c (now (tree .entry)) (now (text .entry)) (now (arena .entry)) (now (scratch .entry)) r (now (arena .exit)) (now (scratch .exit)) ⌝ }
+    ensures { λ r. ⌜ FitsAs e f count c (now (tree .entry)) (now (text .entry)) (now (arena .entry)) (now (scratch .entry)) r (now (arena .exit)) (now (scratch .exit)) ⌝ }
 {
     let first = c.operands;
     let n = tree.len() / 32;
     let mut k = c.counters;
+    let mut argument = reference(tree, e, WORD_C);
     let mut parameter = parameters_of(tree, text, f);
     let mut j = 0;
     while j < count {
+        let at = first_value(tree, text, argument, parameter);
         let o = operand_at(scratch, n, first + j);
-        let a = fit_operand(tree, arena, k, o, parameter_type(tree, text, parameter));
+        let a = fit_operand(tree, arena, k, o, parameter_type(tree, text, at.parameter));
         let fitted = a.operand;
         k = a.counters;
         push_operand(scratch, n, first + j, fitted);
-        parameter = next_parameter(tree, text, parameter);
+        argument = at.rest;
+        parameter = next_parameter(tree, text, at.parameter);
         j += 1;
     }
     k
@@ -227,22 +259,23 @@ fn emit_args(tree: &[u8], arena: &mut [u8], scratch: &[u8], c: Converter, count:
     k
 }
 
-// What stands directly before a call of f: the casts of its values, then an Arg for each.
+// What stands directly before the call e of f: the casts of its values, then an Arg for each.
 pub(crate) fn pass_args(
     tree: &[u8],
     text: &[u8],
     arena: &mut [u8],
     scratch: &mut [u8],
     c: Converter,
+    e: usize,
     f: usize,
     count: usize,
 ) -> Counters
-    requires { ⌜ Converting (now tree) (now text) (now arena) (now scratch) c × FunctionAt (now tree) f ⌝ }
+    requires { ⌜ Converting (now tree) (now text) (now arena) (now scratch) c × FunctionAt (now tree) f × IsKind (now tree) kindCall e ⌝ }
     requires { ⌜ Afforded (now tree) c (amount (2 * count) count 0 0 count) count 0 × StackIn (now tree) (now scratch) (c .operands) count ⌝ }
-    ensures adds { λ r. ⌜ PassesAs f count c (now (tree .entry)) (now (text .entry)) (now (arena .entry)) (now (scratch .entry)) r (now (arena .exit)) ⌝ }
+    ensures adds { λ r. ⌜ PassesAs e f count c (now (tree .entry)) (now (text .entry)) (now (arena .entry)) (now (scratch .entry)) r (now (arena .exit)) ⌝ }
     ensures stays { λ _. ⌜ StaysFor (now (tree .entry)) c (now (scratch .entry)) (now (scratch .exit)) × NamesStay (now (tree .entry)) (now (scratch .entry)) (now (scratch .exit)) ⌝ }
 {
-    let k = fit_args(tree, text, arena, scratch, c, f, count);
+    let k = fit_args(tree, text, arena, scratch, c, e, f, count);
     let mut at = c;
     at.counters = k;
     emit_args(tree, arena, scratch, at, count)

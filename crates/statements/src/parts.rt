@@ -6,7 +6,7 @@ ghost use lib.Dec.{eqb};
 ghost use lib.ListN.{length, getD};
 ghost use Rattle.laws.specs.Fix.{pick};
 ghost use Rattle.records.specs.Words.{detailOf};
-ghost use Rattle.records.specs.Kinds.{kindBinary};
+ghost use Rattle.records.specs.Kinds.{kindBinary, kindCall};
 ghost use Rattle.syntax.specs.Syntax.{unaryOps, binaryOps, Neg, Or};
 ghost use Rattle.syntax.specs.Decode.{program};
 ghost use Rattle.syntax.specs.Places.{IsKind, TypeAt, FunctionAt};
@@ -230,22 +230,23 @@ pub(crate) fn cast_first(
     Converted::Is(Operand::Var(dest), next)
 }
 
-// A call of f whose result goes to dest.
+// The call e of f, whose result goes to dest.
 pub(crate) fn call_function(
     tree: &[u8],
     text: &[u8],
     arena: &mut [u8],
     scratch: &mut [u8],
     c: Converter,
+    e: usize,
     f: usize,
     dest: VarId,
     count: usize,
 ) -> Converted
     requires { ⌜ Converting (now tree) (now text) (now arena) (now scratch) c × Afforded (now tree) c (amount (2 * count + 1) count 0 0 count) count 0 ⌝ }
-    requires { ⌜ FunctionAt (now tree) f × TypeAt (now tree) (dest .1) × StackIn (now tree) (now scratch) (c .operands) count ⌝ }
-    ensures { λ a. ⌜ CallsAs f dest count c (now (tree .entry)) (now (text .entry)) (now (arena .entry)) (now (scratch .entry)) a (now (arena .exit)) (now (scratch .exit)) ⌝ }
+    requires { ⌜ FunctionAt (now tree) f × IsKind (now tree) kindCall e × TypeAt (now tree) (dest .1) × StackIn (now tree) (now scratch) (c .operands) count ⌝ }
+    ensures { λ a. ⌜ CallsAs e f dest count c (now (tree .entry)) (now (text .entry)) (now (arena .entry)) (now (scratch .entry)) a (now (arena .exit)) (now (scratch .exit)) ⌝ }
 {
-    let k = pass_args(tree, text, arena, scratch, c, f, count);
+    let k = pass_args(tree, text, arena, scratch, c, e, f, count);
     let next = emit(arena, k, Instr::Call(dest, f as u32));
     Converted::Is(Operand::Var(dest), next)
 }
@@ -263,7 +264,7 @@ pub(crate) fn finish_call(
     count: usize,
 ) -> Converted
     requires { ⌜ Converting (now tree) (now text) (now arena) (now scratch) c × Afforded (now tree) c (amount (2 * count + 1) (count + 1) 0 0 count) count 0 ⌝ }
-    requires { ⌜ (e < 4294967296) × TypeAt (now tree) y × IsCallee (now tree) callee × StackIn (now tree) (now scratch) (c .operands) count ⌝ }
+    requires { ⌜ IsKind (now tree) kindCall e × TypeAt (now tree) y × IsCallee (now tree) callee × StackIn (now tree) (now scratch) (c .operands) count ⌝ }
     ensures { λ a. ⌜ CallEndsAs e y callee count c (now (tree .entry)) (now (text .entry)) (now (arena .entry)) (now (scratch .entry)) a (now (arena .exit)) (now (scratch .exit)) ⌝ }
 {
     let k = c.counters;
@@ -275,6 +276,8 @@ pub(crate) fn finish_call(
     match callee {
         Resolved::Refused(x) => Converted::Refused(x),
         Resolved::Cast(_) => cast_first(tree, text, arena, scratch, at, e, dest, count),
-        Resolved::Function(f) => { call_function(tree, text, arena, scratch, at, f, dest, count) }
+        Resolved::Function(f) => {
+            call_function(tree, text, arena, scratch, at, e, f, dest, count)
+        }
     }
 }

@@ -433,7 +433,7 @@ fn call_only(
         ConvertedArgs::Done(count, k) => {
             let mut at = c;
             at.counters = k;
-            let k1 = pass_args(tree, text, arena, scratch, at, f, count);
+            let k1 = pass_args(tree, text, arena, scratch, at, e, f, count);
             Stated::Done(scope, emit(arena, k1, Instr::CallOnly(f as u32)))
         }
     }

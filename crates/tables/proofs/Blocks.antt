@@ -154,7 +154,7 @@ module _ (text : Text) where
         → Keeps text (Scoped text sc) Done (callStatement P F r l sc c)
     unfolding callStatement
     call-statement r l sc (CallFunction f) h k = then text (args-keeps text P F treeFits functionsFit l sc h) λ operands.
-        call-keeps text P F nothing f operands k (λ s g. tt) (λ s g. g .1)
+        call-keeps text P F nothing f l operands k (λ s g. tt) (λ s g. g .1)
     call-statement r l sc (CallCast y) h k = fails text WouldPanic r
 
     as-call : {A : Type 0} {G : Up} {Q : A → Up} {d : M A} {f : ℕ → Text → Args → M A} (e : Expr) → ExprFits text e → Keeps text G Q d

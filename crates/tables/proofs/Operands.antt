@@ -16,7 +16,7 @@ use Rattle.conversion.specs.Ir.{VarId, Operand, OVar, OInt, OFloat, OBool, ODat
 use Rattle.conversion.specs.Types.{onInt, onFloat, isFloat, within, sizeStep, size}
 use Rattle.conversion.specs.Scope.{Variable, Scope, find-variable}
 use Rattle.conversion.specs.Expressions.{Callee, CallFunction, CallCast, Functions, unwrapOr, get-type, resolve-call}
-use Rattle.conversion.specs.Statements.{nameOperand, sizeOperand, castOperand, refloat, fit-operand, parameterType, fitFrom, fit-args, emitArgs, convert-unary, convertAnd, convertOr, castFirst, convertOther, convertBinaryBy, convert-binary, callFunction, callValue, convert-call-value, convert-expr, convert-args}
+use Rattle.conversion.specs.Statements.{nameOperand, sizeOperand, castOperand, refloat, fit-operand, parameterType, position, expectedType, fitFrom, fit-args, emitArgs, convert-unary, convertAnd, convertOr, castFirst, convertOther, convertBinaryBy, convert-binary, callFunction, callValue, convert-call-value, convert-expr, convert-args}
 use Rattle.tables.proofs.Exists.{Word, VarIn, OperandIn, DestinationIn, LabelFits}
 use Rattle.tables.proofs.SyntaxFits.{OptIs, noneIs, someIs, held, ExprFits, ArgsFit, SignatureFits, CalleeFits, KeyedFit, TreeFits}
 use Rattle.tables.proofs.Typing.{TypeFits, unwrap-is, float-type-word, find-is, type-word, resolve-fits, common-type-word}
@@ -111,12 +111,12 @@ module _ (text : Text) where
   parameter-word P (p ∷ l) zero h = h .0
   parameter-word P (p ∷ l) (suc k) h = parameter-word P l k (h .1)
 
-  fit-from : {G : Up} (P : Program) (k : ℕ) (l : List Operand) (f : Function) → SignatureFits text f
-      → ((s : State) → G .holds s → All (OperandIn s) l) → Keeps text G NamedAll (fitFrom P k l f)
-  unfolding fitFrom
-  fit-from P k [] f h n = gives text [] (λ s g. tt)
-  fit-from P k (o ∷ l) f h n = then text (fit-keeps P o (parameterType (f .params) k) (parameter-word P (f .params) k (h .params)) (λ s g. (n s g) .0)) λ a.
-      then text (fit-from P (suc k) l f h (λ s g. (n s (g .0)) .1)) λ b.
+  fit-from : {G : Up} (P : Program) (k : ℕ) (os : List Operand) (l : Args) (f : Function) → SignatureFits text f
+      → ((s : State) → G .holds s → All (OperandIn s) os) → Keeps text G NamedAll (fitFrom P k os l f)
+  unfolding fitFrom expectedType
+  fit-from P k [] l f h n = gives text [] (λ s g. tt)
+  fit-from P k (o ∷ os) l f h n = then text (fit-keeps P o (expectedType (f .params) l k) (parameter-word P (f .params) (position l k) (h .params)) (λ s g. (n s g) .0)) λ a.
+      then text (fit-from P (suc k) os l f h (λ s g. (n s (g .0)) .1)) λ b.
       gives text (a ∷ b) (λ s g. (g .0 .1, g .1))
 
   emit-args : {G : Up} (l : List Operand) → ((s : State) → G .holds s → All (OperandIn s) l) → Keeps text G Done (emitArgs l)
@@ -211,11 +211,11 @@ module _ (text : Text) where
 
     -- ---- calls
 
-    pub call-keeps : {G : Up} (dest : Option VarId) (f : Function) (l : List Operand) → SignatureFits text f
-        → ((s : State) → G .holds s → DestinationIn s dest) → ((s : State) → G .holds s → All (OperandIn s) l)
-        → Keeps text G Done (callFunction P F dest f l)
+    pub call-keeps : {G : Up} (dest : Option VarId) (f : Function) (l : Args) (os : List Operand) → SignatureFits text f
+        → ((s : State) → G .holds s → DestinationIn s dest) → ((s : State) → G .holds s → All (OperandIn s) os)
+        → Keeps text G Done (callFunction P F dest f l os)
     unfolding callFunction fit-args
-    call-keeps dest f l h d n = then text (fit-from P 0 l f h n) λ a.
+    call-keeps dest f l os h d n = then text (fit-from P 0 os l f h n) λ a.
         and-then text (emit-args a (λ s g. g .1))
         (emits text (Call dest (f .recOf)) (λ s g. (d s (g .0), h .recOf)))
 
@@ -225,12 +225,12 @@ module _ (text : Text) where
     cast-first r dest [] d n = fails text WouldPanic r
     cast-first r dest (o ∷ l) d n = and-then text (emits text (Cast dest o) (λ s g. (d s g, (n s g) .0))) (gives text (OVar dest) d)
 
-    call-value : {G : Up} (r : ℕ) (dest : VarId) (l : List Operand) (c : Callee) → CalleeFits text c
-        → ((s : State) → G .holds s → VarIn s dest) → ((s : State) → G .holds s → All (OperandIn s) l)
-        → Keeps text G Named (callValue P F r dest l c)
+    call-value : {G : Up} (r : ℕ) (dest : VarId) (l : Args) (os : List Operand) (c : Callee) → CalleeFits text c
+        → ((s : State) → G .holds s → VarIn s dest) → ((s : State) → G .holds s → All (OperandIn s) os)
+        → Keeps text G Named (callValue P F r dest l os c)
     unfolding callValue
-    call-value r dest l (CallFunction f) h d n = and-then text (call-keeps (some dest) f l h d n) (gives text (OVar dest) d)
-    call-value r dest l (CallCast y) h d n = cast-first r dest l d n
+    call-value r dest l os (CallFunction f) h d n = and-then text (call-keeps (some dest) f l os h d n) (gives text (OVar dest) d)
+    call-value r dest l os (CallCast y) h d n = cast-first r dest os d n
 
     -- ---- leaves
 
@@ -288,7 +288,7 @@ module _ (text : Text) where
       call-value-keeps r verb l y sc h k values = resolve-then verb l sc r (λ s g. g) k λ c j.
           then text values λ operands.
           then text (new-variable text h) λ dest.
-          call-value r dest operands c j (λ s g. g .1 .0) (λ s g. g .0 .1)
+          call-value r dest l operands c j (λ s g. g .1 .0) (λ s g. g .0 .1)
 
       mutual
         unfolding convert-expr

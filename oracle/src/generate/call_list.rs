@@ -5,17 +5,23 @@ use crate::ast::Layout;
 use crate::convert::{Answer, try_convert};
 use crate::generate::classes;
 use crate::judge::needed;
-use crate::tree::RECORD_BYTES;
+use crate::tree::{RECORD_BYTES, Tree};
+use crate::yardstick::typed_calls;
 
-/// The most records of a generated tree in the list, and of one that is made for an error, so that the list stays small.
+/// The most records of a generated tree in the list, of one that is made for an error, and of one with a type argument before a value
+/// beside those that come in turn, so that the list stays small.
 const MOST_RECORDS: usize = 90;
 const MOST_RECORDS_MISSED: usize = 150;
+const MOST_RECORDS_TYPED: usize = 75;
 
 /// One generated tree in so many may be larger; a prime, so that every class has its turn.
-const LARGE_EACH: usize = 499;
+const LARGE_EACH: usize = 509;
 
 /// How many trees the list has for each error at least.
 const MISSES_EACH: usize = 6;
+
+/// How many small trees with a type argument before a value the list has beside those that come in turn.
+const TYPED: usize = 150;
 
 /// A case of the line `number|main needed|tree|text|answer` of a file of vectors, bytes in hexadecimal.
 fn vector(line: &str) -> Result<Case, String> {
@@ -52,8 +58,15 @@ fn missed(seed: u64) -> Vec<Case> {
     cases
 }
 
-/// The cases: the vectors, those of the judge's list, each rule broken, each error, shifts at the limits, and generated ones of all classes in turn until there
-/// are `count`; every third of the broken and the generated ones has buffers longer than needed.
+/// Small trees with a type argument before a value.
+fn typed(seed: u64) -> impl Iterator<Item = Case> {
+    let trees = (0..).map(move |turn| generate(seed.wrapping_mul(2_000_003).wrapping_add(turn), "typed"));
+    let small = trees.filter(|case| case.tree.len() <= MOST_RECORDS_TYPED * RECORD_BYTES);
+    small.filter(|case| !typed_calls(&Tree::new(&case.tree, &case.text)).is_empty()).take(TYPED)
+}
+
+/// The cases: the vectors, those of the judge's list, each rule broken, each error, shifts at the limits, calls with type arguments, and generated ones of all
+/// classes in turn until there are `count`; every third of the broken and the generated ones has buffers longer than needed.
 pub fn cases(seed: u64, count: usize, vectors: &str) -> Result<Vec<Case>, String> {
     let mut cases: Vec<Case> = vectors.lines().map(vector).collect::<Result<_, _>>()?;
     cases.extend(list::cases(seed, 300).into_iter().filter(|case| case.tree.len() <= 70_000));
@@ -66,6 +79,7 @@ pub fn cases(seed: u64, count: usize, vectors: &str) -> Result<Vec<Case>, String
     }
     cases.extend(missed(seed));
     cases.extend(shifts::limits().iter().map(|functions| whole(Layout::program(functions))));
+    cases.extend(typed(seed));
     let classes: Vec<&str> = classes().iter().copied().filter(|class| *class != "broken").collect();
     for at in 0.. {
         if cases.len() >= count {

@@ -14,6 +14,7 @@ pub mod rng;
 pub mod shapes;
 pub mod shifts;
 pub mod soup;
+pub mod typed;
 
 use crate::ast::{Fun, Layout};
 use crate::judge::{MOST_RECORDS, needed};
@@ -30,7 +31,7 @@ pub struct Case {
     pub label: String,
 }
 
-const CLASSES: [&str; 16] = [
+const CLASSES: [&str; 17] = [
     "program",
     "near",
     "miss",
@@ -47,6 +48,7 @@ const CLASSES: [&str; 16] = [
     "bytes",
     "rare",
     "broken",
+    "typed",
 ];
 
 /// The names of the classes.
@@ -76,6 +78,7 @@ pub fn generate(seed: u64, class: &str) -> Case {
         "dense" => laid_out(&mut rng, &shapes::dense(&mut seeded(seed), seed as usize % 6)),
         "bytes" => random_bytes(&mut rng),
         "broken" => broken::all()[seed as usize % broken::all().len()].clone(),
+        "typed" => laid_out(&mut rng, &typed::program(&mut seeded(seed), seed % 4 == 3)),
         "rare" => laid_out(&mut rng, &rare::program(&mut seeded(seed), seed as usize)),
         _ => program(&mut rng, 0),
     };

@@ -67,7 +67,7 @@ fn around(rng: &mut Rng, shift: Ex) -> Ex {
 }
 
 /// A constant; with `lose` a shift in it loses bits, else hardly ever.
-fn constant_of(rng: &mut Rng, lose: bool) -> Ex {
+pub fn constant_of(rng: &mut Rng, lose: bool) -> Ex {
     let mut expr = shifts(rng, lose);
     if !lose && rng.chance(25) {
         expr = binary(expr, SHL, int(*rng.pick(&NO_COUNTS)));

@@ -710,7 +710,7 @@ convert-call-value-finish-call-requires :
       finish-call-reads.Asked,
       finish-call-reads.Learnt,
     ) (convert-call-value-at t) convert-call-value.Post
-convert-call-value-finish-call-requires t c κs = ((finish-converting (c .before .before .before .before .before .before .before .before .before .before .before .before .before .before .before .before .before .before .before .before .before .before .pre .1 .0 .0) (c .before .before .before .before .before .before .before .before .before .before .before .before .before .before .before .before .before .before .before .before .before .before .pre .1 .0 .1) (c .before .before .before .before .before .before .before .before .before .before .before .before .before .before .before .before .before .before .before .before .before .before .pre .1 .1 .0) (c .before .before .before .before .before .before .before .before .before .before .before .before .before .before .before .resolve-call .ensures) (c .before .before .before .before .before .before .before .before .before .convert-args .ensures) (c .before .before .before .count .given .1), finish-afforded (c .before .before .before .before .before .before .before .before .before .before .before .before .before .before .before .before .before .before .before .before .before .before .pre .1 .0 .0) (c .before .before .before .before .before .before .before .before .before .before .before .before .before .before .before .before .before .before .before .before .before .before .pre .1 .0 .1) (c .before .before .before .before .before .before .before .before .before .before .before .before .before .before .before .before .before .before .before .before .before .before .pre .1 .1 .0) (c .before .before .before .before .before .before .before .before .before .before .before .before .before .before .before .resolve-call .ensures) (c .before .before .before .before .before .before .before .before .before .convert-args .ensures) (c .before .before .before .count .given .1)), (omega (arith, (c .before .before .before .before .before .before .before .before .before .before .before .before .before .before .before .before .before .before .before .before .before .before .pre .1 .1 .0) .below, (c .before .before .before .before .before .before .before .before .before .before .before .before .before .before .before .before .before .before .before .before .before .before .pre .1 .0 .0 .ready .keyed .good) .few), (c .before .before .before .before .before .before .before .before .before .before .before .before .before .before .before .before .before .before .before .before .before .before .pre .1 .1 .1), (c .before .before .before .before .before .before .before .before .before .before .before .before .before .before .before .resolve-call .ensures) .callee, (c .before .before .before .before .before .before .before .before .before .convert-args .ensures) .operands _ _ (c .before .before .before .count .given .1) .1))
+convert-call-value-finish-call-requires t c κs = ((finish-converting (c .before .before .before .before .before .before .before .before .before .before .before .before .before .before .before .before .before .before .before .before .before .before .pre .1 .0 .0) (c .before .before .before .before .before .before .before .before .before .before .before .before .before .before .before .before .before .before .before .before .before .before .pre .1 .0 .1) (c .before .before .before .before .before .before .before .before .before .before .before .before .before .before .before .before .before .before .before .before .before .before .pre .1 .1 .0) (c .before .before .before .before .before .before .before .before .before .before .before .before .before .before .before .resolve-call .ensures) (c .before .before .before .before .before .before .before .before .before .convert-args .ensures) (c .before .before .before .count .given .1), finish-afforded (c .before .before .before .before .before .before .before .before .before .before .before .before .before .before .before .before .before .before .before .before .before .before .pre .1 .0 .0) (c .before .before .before .before .before .before .before .before .before .before .before .before .before .before .before .before .before .before .before .before .before .before .pre .1 .0 .1) (c .before .before .before .before .before .before .before .before .before .before .before .before .before .before .before .before .before .before .before .before .before .before .pre .1 .1 .0) (c .before .before .before .before .before .before .before .before .before .before .before .before .before .before .before .resolve-call .ensures) (c .before .before .before .before .before .before .before .before .before .convert-args .ensures) (c .before .before .before .count .given .1)), (c .before .before .before .before .before .before .before .before .before .before .before .before .before .before .before .before .before .before .before .before .before .before .pre .1 .1 .0, (c .before .before .before .before .before .before .before .before .before .before .before .before .before .before .before .before .before .before .before .before .before .before .pre .1 .1 .1), (c .before .before .before .before .before .before .before .before .before .before .before .before .before .before .before .resolve-call .ensures) .callee, (c .before .before .before .before .before .before .before .before .before .convert-args .ensures) .operands _ _ (c .before .before .before .count .given .1) .1))
 
 convert-call-value-same-length-2 : (t : ℕ) → convert-call-value-lts.Need-same-length-2 (
   resolve-call-reads.Asked,

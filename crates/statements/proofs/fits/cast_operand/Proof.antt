@@ -10,23 +10,23 @@ use Rattle.statements.proofs.fits.cast_operand.Lts as lts
 use Rattle.ir.proofs.structs.emit.Reads as emit-reads
 use Rattle.ir.proofs.structs.new_var.Reads as new-var-reads
 
--- src/fits.rt:72:34
+-- src/fits.rt:77:34
 cast-new-var : tie.Need-cast-new-var
 cast-new-var c = search needs
 
--- src/fits.rt:72:9
+-- src/fits.rt:77:9
 new-var-requires : tie.Need-new-var-requires
 new-var-requires c κs = search needs
 
--- src/fits.rt:75:9
+-- src/fits.rt:80:9
 emit-requires : tie.Need-emit-requires
 emit-requires c κs = search needs
 
--- src/fits.rt:68:1
+-- src/fits.rt:73:1
 same-length : tie.Need-same-length
 same-length c = search needs
 
--- src/fits.rt:68:1
+-- src/fits.rt:73:1
 returns : tie.Need-returns
 returns c = λ tree t. cast-fits _ _ _ (omega arith) (c .before .before .before .before .before .before .before .before .new-var .ensures) (c .before .before .emit .ensures) (c .before .before .before .before .before .before .before .before .new-var .ensures .typed) t
 

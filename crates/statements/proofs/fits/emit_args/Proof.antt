@@ -17,39 +17,39 @@ Inv-loop tree arena₀ scratch count first n k₀ j₀ arena k j = EmitLeft scra
 abbrev μ-loop : tie.MeasureT-loop
 μ-loop tree arena₀ scratch count first n k₀ j₀ arena k j = count - j
 
--- src/fits.rt:221:5
+-- src/fits.rt:254:5
 loop-holds : tie.Need-loop-holds Inv-loop μ-loop
 loop-holds c = emit-start _ _ _ _ _ _ (c .before .before .before .before .pre .0)
 
--- src/fits.rt:222:40
+-- src/fits.rt:255:40
 add-operand-at : tie.Need-add-operand-at Inv-loop μ-loop
 add-operand-at c = omega (arith, c .before .before .before .before .before .before .pre .1 .0, c .before .before .before .before .before .before .pre .1 .1)
 
--- src/fits.rt:222:13
+-- src/fits.rt:255:13
 operand-at-requires : tie.Need-operand-at-requires Inv-loop μ-loop
 operand-at-requires c κs = omega (arith, c .before .before .before .before .before .before .pre .1 .0, c .before .before .before .before .before .before .pre .1 .1)
 
--- src/fits.rt:223:9
+-- src/fits.rt:256:9
 emit-requires : tie.Need-emit-requires Inv-loop μ-loop
 emit-requires c κs = (c .before .before .before .loop .inv .room .room, omega (arith, c .before .before .before .loop .inv .room .affords))
 
--- src/fits.rt:224:9
+-- src/fits.rt:257:9
 add-j : tie.Need-add-j Inv-loop μ-loop
 add-j c = omega (arith, c .before .before .before .before .before .before .before .before .before .before .before .pre .1 .0, c .before .before .before .before .before .before .before .before .before .before .before .pre .1 .1)
 
--- src/fits.rt:221:5
+-- src/fits.rt:254:5
 loop-less : tie.Need-loop-less Inv-loop μ-loop
 loop-less c = omega arith
 
--- src/fits.rt:221:5
+-- src/fits.rt:254:5
 loop-again : tie.Need-loop-again Inv-loop μ-loop
 loop-again c = emit-turn _ _ _ _ _ _ _ _ _ (c .before .before .before .before .before .before .loop .inv) (c .before .before .before .before .before .loop-test .taken) _ (c .before .before .before .before .operand-at .ensures) _ _ (omega arith) (c .before .before .emit .ensures)
 
--- src/fits.rt:212:1
+-- src/fits.rt:245:1
 same-length : tie.Need-same-length Inv-loop μ-loop
 same-length c = emit-end _ _ _ _ _ _ _ _ _ (c .before .loop .inv) (omega arith) .long
 
--- src/fits.rt:212:1
+-- src/fits.rt:245:1
 returns : tie.Need-returns Inv-loop μ-loop
 returns c = emit-end _ _ _ _ _ _ _ _ _ (c .before .loop .inv) (omega arith)
 

@@ -13,71 +13,71 @@ use Rattle.statements.proofs.fits.fit_float.Reads as fit-float-reads
 use Rattle.statements.proofs.fits.fit_int.Reads as fit-int-reads
 use Rattle.statements.proofs.fits.fit_variable.Reads as fit-variable-reads
 
--- src/fits.rt:141:22
+-- src/fits.rt:146:22
 enum-known-o : tie.Need-enum-known-o
 enum-known-o c = search needs
 
--- src/fits.rt:141:28
+-- src/fits.rt:146:28
 fit-variable-requires : tie.Need-fit-variable-requires
 fit-variable-requires c κs = (record { room = c .before .before .before .before .before .before .pre .0 .0 .room; affords = less (c .before .before .before .before .before .before .pre .0 .0 .affords) (omega arith) }, c .before .before .before .before .before .before .pre .0 .1, c .before .before .before .before .before .before .pre .1 .0, variable-in _ _ _ (c .before .before .o .given .1) (c .before .before .before .before .before .before .pre .1 .1))
 
--- src/fits.rt:142:24
+-- src/fits.rt:147:24
 enum-known-o-2 : tie.Need-enum-known-o-2
 enum-known-o-2 c = search needs
 
--- src/fits.rt:142:30
+-- src/fits.rt:147:30
 fit-float-requires : tie.Need-fit-float-requires
 fit-float-requires c κs = search needs
 
--- src/fits.rt:143:22
+-- src/fits.rt:148:22
 enum-known-o-3 : tie.Need-enum-known-o-3
 enum-known-o-3 c = search needs
 
--- src/fits.rt:143:37
+-- src/fits.rt:148:37
 fit-int-requires : tie.Need-fit-int-requires
 fit-int-requires c κs = search needs
 
--- src/fits.rt:144:29
+-- src/fits.rt:149:29
 enum-told : tie.Need-enum-told
 enum-told c = search needs
 
--- src/fits.rt:148:36
+-- src/fits.rt:153:36
 enum-told-2 : tie.Need-enum-told-2
 enum-told-2 c = search needs
 
--- src/fits.rt:152:26
+-- src/fits.rt:157:26
 enum-told-3 : tie.Need-enum-told-3
 enum-told-3 c = search needs
 
--- src/fits.rt:129:1
+-- src/fits.rt:134:1
 same-length : tie.Need-same-length
 same-length c = search needs
 
--- src/fits.rt:129:1
+-- src/fits.rt:134:1
 returns : tie.Need-returns
 returns c = λ text. fitted-as text _ _ _ (c .before .before .before .before .before .o .given .1) (omega arith) (c .before .before .fit-variable .ensures text)
 
--- src/fits.rt:129:1
+-- src/fits.rt:134:1
 same-length-2 : tie.Need-same-length-2
 same-length-2 c = search needs
 
--- src/fits.rt:129:1
+-- src/fits.rt:134:1
 returns-2 : tie.Need-returns-2
 returns-2 c = λ text. fitted-as text _ _ _ (c .before .before .before .before .before .o2 .given .1) (omega arith) (c .before .before .fit-float .ensures text)
 
--- src/fits.rt:129:1
+-- src/fits.rt:134:1
 returns-3 : tie.Need-returns-3
 returns-3 c = λ text. fitted-as text _ _ _ (c .before .before .o3 .given .1) (omega arith) (c .fit-int .ensures text _ (c .before .before .o3 .given .0 .1 .0) (c .before .before .o3 .given .0 .1 .1 .0) refl (c .before .before .before .before .before .before .pre .0 .0 .room))
 
--- src/fits.rt:129:1
+-- src/fits.rt:134:1
 returns-4 : tie.Need-returns-4
 returns-4 c = λ text. bool-fits text _ _ (c .before .before .before .before .pre .0 .0 .room) _ (c .enum-told .given .1)
 
--- src/fits.rt:129:1
+-- src/fits.rt:134:1
 returns-5 : tie.Need-returns-5
 returns-5 c = λ text. string-fits text _ _ (c .before .before .before .before .pre .0 .0 .room) _ (c .enum-told2 .given .1)
 
--- src/fits.rt:129:1
+-- src/fits.rt:134:1
 returns-6 : tie.Need-returns-6
 returns-6 c = λ text. null-fits text _ _ (c .before .before .before .before .pre .0 .0 .room) (c .enum-told3 .given .1)
 

@@ -11,25 +11,25 @@ use Rattle.statements.proofs.fits.pass_args.Lts as lts
 use Rattle.statements.proofs.fits.emit_args.Reads as emit-args-reads
 use Rattle.statements.proofs.fits.fit_args.Reads as fit-args-reads
 
--- src/fits.rt:244:9
+-- src/fits.rt:278:9
 fit-args-requires : tie.Need-fit-args-requires
 fit-args-requires c κs = (c .before .before .before .before .before .before .pre .0, (record { tables = less (c .before .before .before .before .before .before .pre .1 .0 .tables) (omega arith); stack = c .before .before .before .before .before .before .pre .1 .0 .stack; names = c .before .before .before .before .before .before .pre .1 .0 .names }, c .before .before .before .before .before .before .pre .1 .1))
 
--- src/fits.rt:247:5
+-- src/fits.rt:281:5
 emit-args-requires : tie.Need-emit-args-requires
 emit-args-requires c κs = (record { room = c .before .before .before .before .before .before .fit-args .ensures .adds .next .room; affords = omega (arith, c .before .before .before .before .before .before .before .before .before .before .before .before .before .pre .1 .0 .tables, c .before .before .before .before .before .before .fit-args .ensures .adds .spent) }, (omega (arith, c .before .before .before .before .before .before .before .before .before .before .before .before .before .pre .1 .0 .stack), omega (arith, c .before .before .before .before .before .before .fit-args .ensures .stays .long, c .before .before .before .before .before .before .before .before .before .before .before .before .before .pre .0 .0 .ready .scoped .room .scratch, c .before .before .before .before .before .before .before .before .before .before .before .before .before .pre .0 .0 .ready .scoped .records-are)))
 
--- src/fits.rt:230:1
+-- src/fits.rt:263:1
 same-length : tie.Need-same-length
 same-length c = search needs
 
--- src/fits.rt:230:1
+-- src/fits.rt:263:1
 same-length-2 : tie.Need-same-length-2
 same-length-2 c = search needs
 
--- src/fits.rt:230:1
+-- src/fits.rt:263:1
 returns : tie.Need-returns
-returns c = (pass-both _ _ _ _ _ (c .before .before .before .before .before .before .before .before .before .fit-args .ensures .adds) (c .before .before .emit-args .ensures), (c .before .before .before .before .before .before .before .before .before .fit-args .ensures .stays, c .before .before .before .before .before .before .before .before .before .fit-args .ensures .names))
+returns c = (pass-both _ _ _ _ _ _ (c .before .before .before .before .before .before .before .before .before .fit-args .ensures .adds) (c .before .before .emit-args .ensures), (c .before .before .before .before .before .before .before .before .before .fit-args .ensures .stays, c .before .before .before .before .before .before .before .before .before .fit-args .ensures .names))
 
 pub pass-args-spec : {M : Type 1} → statement M
 pass-args-spec =

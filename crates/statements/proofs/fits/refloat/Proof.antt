@@ -11,23 +11,23 @@ use Rattle.ir.proofs.floats.float_entry.Reads as float-entry-reads
 use Rattle.ir.proofs.pool.float_bits.Reads as float-bits-reads
 use Rattle.ir.proofs.pool.float_id.Reads as float-id-reads
 
--- src/fits.rt:58:25
+-- src/fits.rt:63:25
 float-bits-requires : tie.Need-float-bits-requires
 float-bits-requires c κs = search needs
 
--- src/fits.rt:58:9
+-- src/fits.rt:63:9
 float-entry-requires : tie.Need-float-entry-requires
 float-entry-requires c κs = search needs
 
--- src/fits.rt:59:9
+-- src/fits.rt:64:9
 float-id-requires : tie.Need-float-id-requires
 float-id-requires c κs = search needs
 
--- src/fits.rt:54:1
+-- src/fits.rt:59:1
 same-length : tie.Need-same-length
 same-length c = search needs
 
--- src/fits.rt:54:1
+-- src/fits.rt:59:1
 returns : tie.Need-returns
 returns c = λ tree. refloat-fits _ _ _ _ _ (omega arith) (c .before .before .before .before .before .before .float-bits .ensures) (c .before .before .before .before .before .float-entry .ensures) (c .before .before .before .float-id .ensures)
 

@@ -21,13 +21,13 @@ enum-told : tie.Need-enum-told
 enum-told c = search needs
 
 cast-first-requires : tie.Need-cast-first-requires
-cast-first-requires c κs = ((converting-next (c .before .before .before .before .before .before .before .before .before .before .before .before .before .before .before .pre .0 .0) (next-in _ (c .before .before .before .before .before .before .before .before .new-var .ensures .next)) (stays-refl _ _ _ _), omega (arith, c .before .before .before .before .before .before .before .before .before .before .before .before .before .before .before .pre .0 .1, c .before .before .before .before .before .before .before .before .new-var .ensures .spent)), (c .before .before .before .before .before .before .before .before .before .before .before .before .before .before .before .pre .1 .0, variable-type (c .before .before .before .before .before .before .before .before .new-var .ensures .typed) (c .before .before .before .before .before .before .before .before .before .before .before .before .before .before .before .pre .1 .1)))
+cast-first-requires c κs = ((converting-next (c .before .before .before .before .before .before .before .before .before .before .before .before .before .before .before .pre .0 .0) (next-in _ (c .before .before .before .before .before .before .before .before .new-var .ensures .next)) (stays-refl _ _ _ _), omega (arith, c .before .before .before .before .before .before .before .before .before .before .before .before .before .before .before .pre .0 .1, c .before .before .before .before .before .before .before .before .new-var .ensures .spent)), (omega (arith, c .before .before .before .before .before .before .before .before .before .before .before .before .before .before .before .pre .1 .0 .below, c .before .before .before .before .before .before .before .before .before .before .before .before .before .before .before .pre .0 .0 .ready .keyed .good .few), variable-type (c .before .before .before .before .before .before .before .before .new-var .ensures .typed) (c .before .before .before .before .before .before .before .before .before .before .before .before .before .before .before .pre .1 .1)))
 
 enum-known-callee-2 : tie.Need-enum-known-callee-2
 enum-known-callee-2 c = search needs
 
 call-function-requires : tie.Need-call-function-requires
-call-function-requires c κs = ((converting-next (c .before .before .before .before .before .before .before .before .before .before .before .before .before .before .before .before .pre .0 .0) (next-in _ (c .before .before .before .before .before .before .before .before .before .new-var .ensures .next)) (stays-refl _ _ _ _), omega (arith, c .before .before .before .before .before .before .before .before .before .before .before .before .before .before .before .before .pre .0 .1, c .before .before .before .before .before .before .before .before .before .new-var .ensures .spent)), (function-callee (c .before .before .before .before .before .before .before .before .before .before .before .before .before .before .before .before .pre .1 .2) (c .before .before .before .callee2 .given .1), variable-type (c .before .before .before .before .before .before .before .before .before .new-var .ensures .typed) (c .before .before .before .before .before .before .before .before .before .before .before .before .before .before .before .before .pre .1 .1), c .before .before .before .before .before .before .before .before .before .before .before .before .before .before .before .before .pre .1 .3))
+call-function-requires c κs = ((converting-next (c .before .before .before .before .before .before .before .before .before .before .before .before .before .before .before .before .pre .0 .0) (next-in _ (c .before .before .before .before .before .before .before .before .before .new-var .ensures .next)) (stays-refl _ _ _ _), omega (arith, c .before .before .before .before .before .before .before .before .before .before .before .before .before .before .before .before .pre .0 .1, c .before .before .before .before .before .before .before .before .before .new-var .ensures .spent)), (function-callee (c .before .before .before .before .before .before .before .before .before .before .before .before .before .before .before .before .pre .1 .2) (c .before .before .before .callee2 .given .1), c .before .before .before .before .before .before .before .before .before .before .before .before .before .before .before .before .pre .1 .0, variable-type (c .before .before .before .before .before .before .before .before .before .new-var .ensures .typed) (c .before .before .before .before .before .before .before .before .before .before .before .before .before .before .before .before .pre .1 .1), c .before .before .before .before .before .before .before .before .before .before .before .before .before .before .before .before .pre .1 .3))
 
 same-length : tie.Need-same-length
 same-length c = search needs
@@ -42,7 +42,7 @@ same-length-3 : tie.Need-same-length-3
 same-length-3 c = search needs
 
 returns-2 : tie.Need-returns-2
-returns-2 c = λ to m. finish-cast _ _ (omega arith) (c .before .before .before .before .before .before .before .before .before .before .before .new-var .ensures) (callee-cast _ _ m (c .before .before .before .before .before .enum-told .given .1)) (c .before .before .cast-first .ensures)
+returns-2 c = λ to m. finish-cast _ _ _ (omega arith) (c .before .before .before .before .before .before .before .before .before .before .before .new-var .ensures) (callee-cast _ _ m (c .before .before .before .before .before .enum-told .given .1)) (c .before .before .cast-first .ensures)
 
 same-length-4 : tie.Need-same-length-4
 same-length-4 c = search needs
@@ -51,7 +51,7 @@ same-length-5 : tie.Need-same-length-5
 same-length-5 c = search needs
 
 returns-3 : tie.Need-returns-3
-returns-3 c = λ to m. finish-function _ _ (omega arith) (c .before .before .before .before .before .before .before .before .before .before .before .before .before .before .new-var .ensures) _ (callee-function _ _ m (c .before .before .before .before .before .before .before .before .callee2 .given .1)) (c .before .before .before .before .call-function .ensures _)
+returns-3 c = λ to m. finish-function _ _ _ (omega arith) (c .before .before .before .before .before .before .before .before .before .before .before .before .before .before .new-var .ensures) _ (callee-function _ _ m (c .before .before .before .before .before .before .before .before .callee2 .given .1)) (c .before .before .before .before .call-function .ensures)
 
 pub finish-call-spec : {M : Type 1} → statement M
 finish-call-spec = tie.close (tie.spec cast-new-var new-var-requires enum-known-callee enum-told cast-first-requires enum-known-callee-2 call-function-requires same-length returns same-length-2 same-length-3 returns-2 same-length-4 same-length-5 returns-3)
