@@ -1,5 +1,6 @@
 pub mod Apart
 pub mod DigestLaws
+pub mod EightLaws
 pub mod Good
 pub mod GoodLaws
 pub mod KindsInOrder

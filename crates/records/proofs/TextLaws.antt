@@ -1,13 +1,14 @@
 -- Texts: how long a text in the buffer is, and what a loop over two texts of one length shows of `sameText`.
--- By the laws of `take` and `drop`, one byte at a time. Assumes nothing.
+-- By the laws of `take` and `drop`, one byte or one part at a time. Assumes nothing.
 use mathlib.Core.Path.{_≡_, refl, sym, ap, ap₂, _∙_}
 use mathlib.Core.Bool.{Bool, true, false, _&&_}
 use mathlib.Core.List.{List, [], _∷_}
 use Prim.Native.Nat.{ℕ, zero, suc, _+_, _-_, _≤_, _<_, min}
+use native.Mathlib.Nat.{zero-add, suc-add}
 use native.Mathlib.Omega.{arith}
 use lib.Dec.{eqb}
 use lib.ListN.{length, take, drop, getD, length-take, length-drop}
-use lib.Seq.{drop-cons, take-all}
+use lib.Seq.{drop-cons, take-all, take-nil, drop-drop}
 use borrow.Author.Tests.{eq-eqb, ne-eqb}
 use Rattle.laws.proofs.Tests.{and-right}
 use Rattle.records.specs.Words.{textAt, sameText}
@@ -99,29 +100,78 @@ pub text-whole : (t : List ℕ) (n : ℕ) → n ≡ length t → textAt t 0 n �
 unfolding textAt
 text-whole t n e = take-all n t (omega (arith, e))
 
-module _ (t u : List ℕ) (a b n : ℕ) (ha : a + n ≤ length t) (hb : b + n ≤ length u) where
-  -- what was asked equals what is left from i on
+-- ---- two texts, part by part
+
+and-and : (p q r : Bool) → (p && (q && r)) ≡ ((p && q) && r)
+and-and true q r = refl
+and-and false q r = refl
+
+same-takes : (k m : ℕ) (x y : List ℕ)
+    → sameText (take (k + m) x) (take (k + m) y) ≡ (sameText (take k x) (take k y) && sameText (take m (drop k x)) (take m (drop k y)))
+unfolding sameText
+same-takes zero m x y = rw (zero-add m) refl
+same-takes (suc k) m [] [] = rw (take-nil m, take-nil (suc k + m)) refl
+same-takes (suc k) m [] (y ∷ ys) = rw (suc-add k m) refl
+same-takes (suc k) m (x ∷ xs) [] = rw (suc-add k m) refl
+same-takes (suc k) m (x ∷ xs) (y ∷ ys) = rw (suc-add k m) (rw (same-takes k m xs ys) (and-and (eqb x y) _ _))
+
+-- the first k bytes, and m behind them
+pub same-split : (t u : List ℕ) (a b k m : ℕ)
+    → sameText (textAt t a (k + m)) (textAt u b (k + m)) ≡ (sameText (textAt t a k) (textAt u b k) && sameText (textAt t (a + k) m) (textAt u (b + k) m))
+unfolding textAt
+same-split t u a b k m = same-takes k m (drop a t) (drop b u) ∙ rw (drop-drop k a t, drop-drop k b u) refl
+
+-- two parts of one size
+pub same-joined : (t u : List ℕ) (i j k : ℕ) (p q : Bool) → p ≡ sameText (textAt t i k) (textAt u j k)
+    → q ≡ sameText (textAt t (i + k) k) (textAt u (j + k) k) → (p && q) ≡ sameText (textAt t i (k + k)) (textAt u j (k + k))
+same-joined t u i j k p q ep eq = ap₂ _&&_ ep eq ∙ sym (same-split t u i j k k)
+
+-- what was asked of n bytes from a and from b on is what is left, m bytes from i and from j on
+abbrev pub Left : List ℕ → ℕ → List ℕ → ℕ → ℕ → ℕ → ℕ → ℕ → Type 0
+Left t a u b n i j m = (i + m ≤ length t) × (j + m ≤ length u) × (sameText (textAt t a n) (textAt u b n) ≡ sameText (textAt t i m) (textAt u j m))
+
+-- where x is what is left of n bytes: k bytes more are the same, or not
+module _ (t u : List ℕ) (i j n k : ℕ) (x r : Bool) (fit : k ≤ n) (e : r ≡ sameText (textAt t i k) (textAt u j k))
+    (w : x ≡ sameText (textAt t i n) (textAt u j n)) where
+  part : x ≡ (r && sameText (textAt t (i + k) (n - k)) (textAt u (j + k) (n - k)))
+  part =
+      let z : n ≡ k + (n - k) = omega arith in
+      (rw z at w) ∙ same-split t u i j k (n - k) ∙ ap (λ (b : Bool). b && sameText (textAt t (i + k) (n - k)) (textAt u (j + k) (n - k))) (sym e)
+
+  pub part-more : r ≡ true → x ≡ sameText (textAt t (i + k) (n - k)) (textAt u (j + k) (n - k))
+  part-more y = part ∙ rw y refl
+
+  pub part-other : r ≡ false → false ≡ x
+  part-other y = sym (part ∙ rw y refl)
+
+-- ---- two texts, byte by byte: what was asked equals what is left after k bytes, as far as there are so many
+
+module _ (t u : List ℕ) (a b n : ℕ) where
   abbrev pub Same : ℕ → Type 0
   Same i = sameText (textAt t a n) (textAt u b n) ≡ sameText (textAt t (a + i) (n - i)) (textAt u (b + i) (n - i))
 
-  pub same-start : Same 0
-  same-start =
-      let za : a ≡ a + 0 = omega arith in
-      let zb : b ≡ b + 0 = omega arith in
-      let zn : n ≡ n - 0 = omega arith in
+  pub byte-none : Same (min 0 n)
+  byte-none =
+      let za : a ≡ a + min 0 n = omega arith in
+      let zb : b ≡ b + min 0 n = omega arith in
+      let zn : n ≡ n - min 0 n = omega arith in
       ap₂ sameText (ap₂ (textAt t) za zn) (ap₂ (textAt u) zb zn)
 
-  step : (i : ℕ) → i < n → sameText (textAt t (a + i) (n - i)) (textAt u (b + i) (n - i))
-      ≡ (eqb (getD t (a + i) 0) (getD u (b + i) 0) && sameText (textAt t (a + (i + 1)) (n - (i + 1))) (textAt u (b + (i + 1)) (n - (i + 1))))
-  unfolding sameText
-  step i h = rw (first-byte t a n i h ha, first-byte u b n i h hb) refl
+  pub byte-past : (k : ℕ) → n ≤ k → Same (min k n) → Same (min (k + 1) n)
+  byte-past k h w = let z : min (k + 1) n ≡ min k n = omega arith in rw z w
 
-  pub same-more : (i : ℕ) → i < n → getD t (a + i) 0 ≡ getD u (b + i) 0 → Same i → Same (i + 1)
-  same-more i h e w = w ∙ step i h ∙ rw (eq-eqb (getD t (a + i) 0) (getD u (b + i) 0) e) refl
-
-  pub same-other : (i : ℕ) → i < n → (getD t (a + i) 0 ≡ getD u (b + i) 0 → ⊥) → Same i → false ≡ sameText (textAt t a n) (textAt u b n)
-  same-other i h e w = sym (w ∙ step i h ∙ rw (ne-eqb (getD t (a + i) 0) (getD u (b + i) 0) e) refl)
-
-  pub same-end : (i : ℕ) → n ≤ i → Same i → true ≡ sameText (textAt t a n) (textAt u b n)
+  pub byte-last : (k : ℕ) → n ≤ k → Same (min k n) → true ≡ sameText (textAt t a n) (textAt u b n)
   unfolding sameText textAt
-  same-end i h w = let z : n - i ≡ 0 = omega arith in sym (w ∙ rw z refl)
+  byte-last k h w = let z : n - min k n ≡ 0 = omega arith in sym (w ∙ rw z refl)
+
+module _ (t u : List ℕ) (a b n k : ℕ) (ha : a + n ≤ length t) (hb : b + n ≤ length u) (h : k < n) (w : Same t u a b n (min k n)) where
+  byte : sameText (textAt t a n) (textAt u b n)
+      ≡ (eqb (getD t (a + k) 0) (getD u (b + k) 0) && sameText (textAt t (a + (k + 1)) (n - (k + 1))) (textAt u (b + (k + 1)) (n - (k + 1))))
+  unfolding sameText
+  byte = let z : min k n ≡ k = omega arith in (rw z at w) ∙ rw (first-byte t a n k h ha, first-byte u b n k h hb) refl
+
+  pub byte-more : getD t (a + k) 0 ≡ getD u (b + k) 0 → Same t u a b n (min (k + 1) n)
+  byte-more e = let z : min (k + 1) n ≡ k + 1 = omega arith in rw z (byte ∙ rw (eq-eqb (getD t (a + k) 0) (getD u (b + k) 0) e) refl)
+
+  pub byte-other : (getD t (a + k) 0 ≡ getD u (b + k) 0 → ⊥) → false ≡ sameText (textAt t a n) (textAt u b n)
+  byte-other e = sym (byte ∙ rw (ne-eqb (getD t (a + k) 0) (getD u (b + k) 0) e) refl)

@@ -21,19 +21,123 @@ fn reach(text: &[u8], offset: usize, len: usize) -> usize
     all - offset
 }
 
-// Whether n bytes of s from a on and of t from b on are the same: the one place where bytes are compared.
+// Whether eight bytes of s from i on and of t from j on are the same. The compiler makes one load of 64 bits of the two words, and of the
+// functions below wider ones; so nothing here may branch.
+fn same_eight(s: &[u8], i: usize, t: &[u8], j: usize) -> bool
+    requires { ⌜ (i + 8 ≤ length (now s)) × (j + 8 ≤ length (now t)) ⌝ }
+    ensures { λ r. ⌜ r ≡ sameText (textAt (now (s .entry)) i 8) (textAt (now (t .entry)) j 8) ⌝ }
+{
+    (load(s, i) == load(t, j)) & (load(s, i + 4) == load(t, j + 4))
+}
+
+// Two eights.
+fn same_sixteen(s: &[u8], i: usize, t: &[u8], j: usize) -> bool
+    requires { ⌜ (i + 16 ≤ length (now s)) × (j + 16 ≤ length (now t)) ⌝ }
+    ensures { λ r. ⌜ r ≡ sameText (textAt (now (s .entry)) i 16) (textAt (now (t .entry)) j 16) ⌝ }
+{
+    same_eight(s, i, t, j) & same_eight(s, i + 8, t, j + 8)
+}
+
+// Four eights.
+fn same_thirty_two(s: &[u8], i: usize, t: &[u8], j: usize) -> bool
+    requires { ⌜ (i + 32 ≤ length (now s)) × (j + 32 ≤ length (now t)) ⌝ }
+    ensures { λ r. ⌜ r ≡ sameText (textAt (now (s .entry)) i 32) (textAt (now (t .entry)) j 32) ⌝ }
+{
+    same_sixteen(s, i, t, j) & same_sixteen(s, i + 16, t, j + 16)
+}
+
+// Eight eights.
+fn same_sixty_four(s: &[u8], i: usize, t: &[u8], j: usize) -> bool
+    requires { ⌜ (i + 64 ≤ length (now s)) × (j + 64 ≤ length (now t)) ⌝ }
+    ensures { λ r. ⌜ r ≡ sameText (textAt (now (s .entry)) i 64) (textAt (now (t .entry)) j 64) ⌝ }
+{
+    same_thirty_two(s, i, t, j) & same_thirty_two(s, i + 32, t, j + 32)
+}
+
+// The rest, seven bytes at most, singly. The number of turns is fixed, so that the compiler lays them one behind the other.
+fn same_singly(s: &[u8], a: usize, t: &[u8], b: usize, n: usize) -> bool
+    requires { ⌜ (a + n ≤ length (now s)) × (b + n ≤ length (now t)) × (n < 8) ⌝ }
+    ensures { λ r. ⌜ r ≡ sameText (textAt (now (s .entry)) a n) (textAt (now (t .entry)) b n) ⌝ }
+{
+    let mut k = 0;
+    while k < 7 {
+        if k < n {
+            if s[a + k] != t[b + k] {
+                return false;
+            }
+        }
+        k += 1;
+    }
+    true
+}
+
+// Eights by two and by one, while there are eight bytes left, and the rest.
+fn same_short(s: &[u8], a: usize, t: &[u8], b: usize, n: usize) -> bool
+    requires { ⌜ (a + n ≤ length (now s)) × (b + n ≤ length (now t)) ⌝ }
+    ensures { λ r. ⌜ r ≡ sameText (textAt (now (s .entry)) a n) (textAt (now (t .entry)) b n) ⌝ }
+{
+    let mut i = a;
+    let mut j = b;
+    let mut left = n;
+    while left >= 16 {
+        if !same_sixteen(s, i, t, j) {
+            return false;
+        }
+        i += 16;
+        j += 16;
+        left -= 16;
+    }
+    while left >= 8 {
+        if !same_eight(s, i, t, j) {
+            return false;
+        }
+        i += 8;
+        j += 8;
+        left -= 8;
+    }
+    same_singly(s, i, t, j, left)
+}
+
+// Eights by eight, by four, by two and by one, while there are eight bytes left, and the rest.
+fn same_long(s: &[u8], a: usize, t: &[u8], b: usize, n: usize) -> bool
+    requires { ⌜ (a + n ≤ length (now s)) × (b + n ≤ length (now t)) ⌝ }
+    ensures { λ r. ⌜ r ≡ sameText (textAt (now (s .entry)) a n) (textAt (now (t .entry)) b n) ⌝ }
+{
+    let mut i = a;
+    let mut j = b;
+    let mut left = n;
+    while left >= 64 {
+        if !same_sixty_four(s, i, t, j) {
+            return false;
+        }
+        i += 64;
+        j += 64;
+        left -= 64;
+    }
+    while left >= 32 {
+        if !same_thirty_two(s, i, t, j) {
+            return false;
+        }
+        i += 32;
+        j += 32;
+        left -= 32;
+    }
+    same_short(s, i, t, j, left)
+}
+
+// Whether n bytes of s from a on and of t from b on are the same: the one place where bytes are compared, eight at a time and the rest
+// singly. The first eight stand alone: texts that differ mostly differ there.
 pub fn same_run(s: &[u8], a: usize, t: &[u8], b: usize, n: usize) -> bool
     requires { ⌜ (a + n ≤ length (now s)) × (b + n ≤ length (now t)) ⌝ }
     ensures { λ r. ⌜ r ≡ sameText (textAt (now (s .entry)) a n) (textAt (now (t .entry)) b n) ⌝ }
 {
-    let mut i = 0;
-    while i < n {
-        if s[a + i] != t[b + i] {
-            return false;
-        }
-        i += 1;
+    if n < 8 {
+        return same_singly(s, a, t, b, n);
     }
-    true
+    if !same_eight(s, a, t, b) {
+        return false;
+    }
+    same_long(s, a + 8, t, b + 8, n - 8)
 }
 
 // The same within one text.

@@ -1,64 +1,51 @@
--- The loop says what `sameText` says of two texts of one length: what was asked equals what is left from the byte at hand on.
--- The laws of texts at each turn, at bytes that differ and at the end. Assumes nothing.
-use mathlib.Core.Path.{_≡_}
-use Prim.Native.Nat.{_≤_, _+_, _-_}
+-- Fewer than eight bytes singly; else the first eight, and what is behind them.
+-- From what the three functions ensure, by the law of texts part by part. Assumes nothing.
+use mathlib.Core.Path.{refl, sym, _∙_}
 use native.Mathlib.Omega.{arith}
-use Rattle.records.specs.Words.{textAt, sameText}
-use Rattle.records.proofs.TextLaws.{same-start, same-more, same-other, same-end}
+use borrow.Author.Tests.{not-true, not-false}
+use Rattle.records.proofs.TextLaws.{part-more, part-other}
+use borrow.Author.Needs.{needs}
 use Rattle.records.proofs.texts.same_run.Statement.{statement}
 use Rattle.records.proofs.texts.same_run.Tie as tie
 use Rattle.records.proofs.texts.same_run.Reads as reads
 use Rattle.records.proofs.texts.same_run.Lts as lts
+use Rattle.records.proofs.texts.same_eight.Reads as same-eight-reads
+use Rattle.records.proofs.texts.same_long.Reads as same-long-reads
+use Rattle.records.proofs.texts.same_singly.Reads as same-singly-reads
 
-abbrev Inv-loop : tie.InvT-loop
-Inv-loop s a t b n i₀ i = (i ≤ n) × (sameText (textAt s a n) (textAt t b n) ≡ sameText (textAt s (a + i) (n - i)) (textAt t (b + i) (n - i)))
+same-singly-requires : tie.Need-same-singly-requires
+same-singly-requires c κs = search needs
 
-abbrev μ-loop : tie.MeasureT-loop
-μ-loop s a t b n i₀ i = n - i
+returns : tie.Need-returns
+returns c = search needs
 
-loop-holds : tie.Need-loop-holds Inv-loop μ-loop
-loop-holds c = (omega arith, same-start _ _ _ _ _ (c .pre .0) (c .pre .1))
+same-eight-requires : tie.Need-same-eight-requires
+same-eight-requires c κs = search needs
 
-add-if1 : tie.Need-add-if1 Inv-loop μ-loop
-add-if1 c = omega arith
+returns-2 : tie.Need-returns-2
+returns-2 c = part-other _ _ _ _ _ 8 _ _ (omega arith) (c .before .same-eight .ensures) refl (not-true _ (c .if2 .taken))
 
-shared-slice-read-if1 : tie.Need-shared-slice-read-if1 Inv-loop μ-loop
-shared-slice-read-if1 c = omega arith
+add-same-long : tie.Need-add-same-long
+add-same-long c = search needs
 
-add-if1-2 : tie.Need-add-if1-2 Inv-loop μ-loop
-add-if1-2 c = omega arith
+add-same-long-2 : tie.Need-add-same-long-2
+add-same-long-2 c = search needs
 
-shared-slice-read-if1-2 : tie.Need-shared-slice-read-if1-2 Inv-loop μ-loop
-shared-slice-read-if1-2 c = omega arith
+same-long-requires : tie.Need-same-long-requires
+same-long-requires c κs = search needs
 
-returns : tie.Need-returns Inv-loop μ-loop
-returns c = search same-other
-
-add-i : tie.Need-add-i Inv-loop μ-loop
-add-i c = omega arith
-
-loop-less : tie.Need-loop-less Inv-loop μ-loop
-loop-less c = omega arith
-
-loop-again : tie.Need-loop-again Inv-loop μ-loop
-loop-again c = (omega arith, search same-more)
-
-returns-2 : tie.Need-returns-2 Inv-loop μ-loop
-returns-2 c = search same-end
+returns-3 : tie.Need-returns-3
+returns-3 c = c .same-long .ensures ∙ sym (part-more _ _ _ _ _ 8 _ _ (omega arith) (c .before .before .same-eight .ensures) refl (not-false _ (c .before .if2 .left)))
 
 pub same-run-spec : {M : Type 1} → statement M
 same-run-spec =
     tie.close
     (tie.spec
-    Inv-loop
-    μ-loop
-    loop-holds
-    add-if1
-    shared-slice-read-if1
-    add-if1-2
-    shared-slice-read-if1-2
+    same-singly-requires
     returns
-    add-i
-    loop-less
-    loop-again
-    returns-2)
+    same-eight-requires
+    returns-2
+    add-same-long
+    add-same-long-2
+    same-long-requires
+    returns-3)
