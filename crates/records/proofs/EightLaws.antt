@@ -1,7 +1,7 @@
--- Eight bytes compared as two words: two words of 32 bits are the same exactly if their four bytes are.
+-- Eight bytes compared as two words: two words of 32 bits are the same exactly if their four bytes are. Four bytes of the rest, each by itself.
 -- A word's bytes are its digits, each below 256. Assumes nothing.
 use mathlib.Core.Path.{_≡_, refl, sym, ap, ap₂, _∙_}
-use mathlib.Core.Bool.{_&&_}
+use mathlib.Core.Bool.{Bool, true, false, _&&_}
 use mathlib.Core.List.{List, [], _∷_}
 use Prim.Native.Nat.{ℕ, _+_, _≤_, _<_}
 use native.Mathlib.Omega.{arith}
@@ -20,6 +20,20 @@ four-bytes t i h =
     let z : i + 0 ≡ i = omega arith in
     rw z at (first-byte t i 4 0 (omega arith) h)
     ∙ rw (first-byte t i 4 1 (omega arith) h, first-byte t i 4 2 (omega arith) h, first-byte t i 4 3 (omega arith) h) refl
+
+all-four : (p q r s : Bool) → (((p && q) && r) && s) ≡ (p && (q && (r && (s && true))))
+all-four false q r s = refl
+all-four true false r s = refl
+all-four true true false s = refl
+all-four true true true false = refl
+all-four true true true true = refl
+
+pub four-singly : (t u : List ℕ) (i j : ℕ) → i + 4 ≤ length t → j + 4 ≤ length u
+    → (((eqb (byteAt t i) (byteAt u j) && eqb (byteAt t (i + 1)) (byteAt u (j + 1))) && eqb (byteAt t (i + 2)) (byteAt u (j + 2)))
+    && eqb (byteAt t (i + 3)) (byteAt u (j + 3)))
+    ≡ sameText (textAt t i 4) (textAt u j 4)
+unfolding sameText
+four-singly t u i j ht hu = rw (four-bytes t i ht, four-bytes u j hu) (all-four (eqb (byteAt t i) (byteAt u j)) (eqb (byteAt t (i + 1)) (byteAt u (j + 1))) (eqb (byteAt t (i + 2)) (byteAt u (j + 2))) (eqb (byteAt t (i + 3)) (byteAt u (j + 3))))
 
 text-word : (t : List ℕ) (i : ℕ) → i + 4 ≤ length t → ((k : ℕ) → byteAt t k < 256) → textAt t i 4 ≡ word (wordAt t i)
 unfolding wordAt

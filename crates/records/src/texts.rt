@@ -54,13 +54,21 @@ fn same_sixty_four(s: &[u8], i: usize, t: &[u8], j: usize) -> bool
     same_thirty_two(s, i, t, j) & same_thirty_two(s, i + 32, t, j + 32)
 }
 
-// The rest, seven bytes at most, singly. The number of turns is fixed, so that the compiler lays them one behind the other.
+// Four bytes of the rest, each by itself. Nothing branches between them, so that the compiler compares them at once.
+fn same_four(s: &[u8], i: usize, t: &[u8], j: usize) -> bool
+    requires { ⌜ (i + 4 ≤ length (now s)) × (j + 4 ≤ length (now t)) ⌝ }
+    ensures { λ r. ⌜ r ≡ sameText (textAt (now (s .entry)) i 4) (textAt (now (t .entry)) j 4) ⌝ }
+{
+    (s[i] == t[j]) & (s[i + 1] == t[j + 1]) & (s[i + 2] == t[j + 2]) & (s[i + 3] == t[j + 3])
+}
+
+// Three bytes at most. The number of turns is fixed, so that the compiler lays them one behind the other.
 fn same_singly(s: &[u8], a: usize, t: &[u8], b: usize, n: usize) -> bool
-    requires { ⌜ (a + n ≤ length (now s)) × (b + n ≤ length (now t)) × (n < 8) ⌝ }
+    requires { ⌜ (a + n ≤ length (now s)) × (b + n ≤ length (now t)) × (n < 4) ⌝ }
     ensures { λ r. ⌜ r ≡ sameText (textAt (now (s .entry)) a n) (textAt (now (t .entry)) b n) ⌝ }
 {
     let mut k = 0;
-    while k < 7 {
+    while k < 3 {
         if k < n {
             if s[a + k] != t[b + k] {
                 return false;
@@ -69,6 +77,20 @@ fn same_singly(s: &[u8], a: usize, t: &[u8], b: usize, n: usize) -> bool
         k += 1;
     }
     true
+}
+
+// The rest, seven bytes at most, singly.
+fn same_rest(s: &[u8], a: usize, t: &[u8], b: usize, n: usize) -> bool
+    requires { ⌜ (a + n ≤ length (now s)) × (b + n ≤ length (now t)) × (n < 8) ⌝ }
+    ensures { λ r. ⌜ r ≡ sameText (textAt (now (s .entry)) a n) (textAt (now (t .entry)) b n) ⌝ }
+{
+    if n < 4 {
+        return same_singly(s, a, t, b, n);
+    }
+    if !same_four(s, a, t, b) {
+        return false;
+    }
+    same_singly(s, a + 4, t, b + 4, n - 4)
 }
 
 // Eights by two and by one, while there are eight bytes left, and the rest.
@@ -95,7 +117,7 @@ fn same_short(s: &[u8], a: usize, t: &[u8], b: usize, n: usize) -> bool
         j += 8;
         left -= 8;
     }
-    same_singly(s, i, t, j, left)
+    same_rest(s, i, t, j, left)
 }
 
 // Eights by eight, by four, by two and by one, while there are eight bytes left, and the rest.
@@ -132,7 +154,7 @@ pub fn same_run(s: &[u8], a: usize, t: &[u8], b: usize, n: usize) -> bool
     ensures { λ r. ⌜ r ≡ sameText (textAt (now (s .entry)) a n) (textAt (now (t .entry)) b n) ⌝ }
 {
     if n < 8 {
-        return same_singly(s, a, t, b, n);
+        return same_rest(s, a, t, b, n);
     }
     if !same_eight(s, a, t, b) {
         return false;

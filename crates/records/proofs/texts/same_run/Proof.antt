@@ -11,10 +11,10 @@ use Rattle.records.proofs.texts.same_run.Reads as reads
 use Rattle.records.proofs.texts.same_run.Lts as lts
 use Rattle.records.proofs.texts.same_eight.Reads as same-eight-reads
 use Rattle.records.proofs.texts.same_long.Reads as same-long-reads
-use Rattle.records.proofs.texts.same_singly.Reads as same-singly-reads
+use Rattle.records.proofs.texts.same_rest.Reads as same-rest-reads
 
-same-singly-requires : tie.Need-same-singly-requires
-same-singly-requires c κs = search needs
+same-rest-requires : tie.Need-same-rest-requires
+same-rest-requires c κs = search needs
 
 returns : tie.Need-returns
 returns c = search needs
@@ -41,7 +41,7 @@ pub same-run-spec : {M : Type 1} → statement M
 same-run-spec =
     tie.close
     (tie.spec
-    same-singly-requires
+    same-rest-requires
     returns
     same-eight-requires
     returns-2

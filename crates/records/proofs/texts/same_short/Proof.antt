@@ -9,7 +9,7 @@ use Rattle.records.proofs.texts.same_short.Tie as tie
 use Rattle.records.proofs.texts.same_short.Reads as reads
 use Rattle.records.proofs.texts.same_short.Lts as lts
 use Rattle.records.proofs.texts.same_eight.Reads as same-eight-reads
-use Rattle.records.proofs.texts.same_singly.Reads as same-singly-reads
+use Rattle.records.proofs.texts.same_rest.Reads as same-rest-reads
 use Rattle.records.proofs.texts.same_sixteen.Reads as same-sixteen-reads
 
 abbrev Inv-loop : tie.InvT-loop
@@ -66,11 +66,11 @@ loop2-less c = omega arith
 loop2-again : tie.Need-loop2-again Inv-loop μ-loop Inv-loop2 μ-loop2
 loop2-again c = (omega arith, omega arith, part-more _ _ _ _ _ 8 _ _ (omega arith) (c .before .same-eight .ensures) (c .before .before .before .loop2 .inv .2) (not-false _ (c .if2 .left)))
 
-same-singly-requires : tie.Need-same-singly-requires Inv-loop μ-loop Inv-loop2 μ-loop2
-same-singly-requires c κs = (omega arith, omega arith, omega arith)
+same-rest-requires : tie.Need-same-rest-requires Inv-loop μ-loop Inv-loop2 μ-loop2
+same-rest-requires c κs = (omega arith, omega arith, omega arith)
 
 returns-3 : tie.Need-returns-3 Inv-loop μ-loop Inv-loop2 μ-loop2
-returns-3 c = c .same-singly .ensures ∙ sym (c .before .before .loop2 .inv .2)
+returns-3 c = c .same-rest .ensures ∙ sym (c .before .before .loop2 .inv .2)
 
 pub same-short-spec : {M : Type 1} → statement M
 same-short-spec =
@@ -94,5 +94,5 @@ same-short-spec =
     add-j-2
     loop2-less
     loop2-again
-    same-singly-requires
+    same-rest-requires
     returns-3)

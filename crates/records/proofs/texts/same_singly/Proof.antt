@@ -10,10 +10,10 @@ use Rattle.records.proofs.texts.same_singly.Reads as reads
 use Rattle.records.proofs.texts.same_singly.Lts as lts
 
 abbrev Inv-loop : tie.InvT-loop
-Inv-loop s a t b n k₀ k = (k ≤ 7) × Same s t a b n (min k n)
+Inv-loop s a t b n k₀ k = (k ≤ 3) × Same s t a b n (min k n)
 
 abbrev μ-loop : tie.MeasureT-loop
-μ-loop s a t b n k₀ k = 7 - k
+μ-loop s a t b n k₀ k = 3 - k
 
 loop-holds : tie.Need-loop-holds Inv-loop μ-loop
 loop-holds c = (omega arith, byte-none _ _ _ _ _)
