@@ -36,7 +36,7 @@ const ALL: &[usize] = &[8];
 const SOME: &[usize] = &[1, 2, 3, 4, 6];
 const HIGH: &[usize] = &[1, 20, 48];
 
-pub const ATTACKS: [Attack; 21] = [
+pub const ATTACKS: [Attack; 22] = [
     Attack {
         name: "customs",
         what: "Customs with overlapping names",
@@ -60,6 +60,14 @@ pub const ATTACKS: [Attack; 21] = [
         shares: ALL,
         depths: &[1],
         tree: functions,
+    },
+    Attack {
+        name: "collisions",
+        what: "functions whose names and mangled names share their digest and a long beginning",
+        texts: true,
+        shares: ALL,
+        depths: &[1],
+        tree: collisions,
     },
     Attack {
         name: "calls",
@@ -426,6 +434,63 @@ fn functions(knobs: Knobs) -> Hostile {
     let count = tree.room() / 3;
     let windows = tree.windows(knobs.text, count);
     (0..count).for_each(|at| tree.function(windows.at(at), windows.at(at), &[], NONE, None));
+    tree
+}
+
+/// What the library's digest makes of two words more (`records/src/texts.rt`: `step`).
+fn digest_step(state: u64, low: u64, high: u64) -> u64 {
+    folded(state * 663_608_941 + low + high * 1_013_904_223)
+}
+
+fn folded(sum: u64) -> u64 {
+    (sum & 0xFFFF_FFFF) + (sum >> 32)
+}
+
+/// What the steps leave of a text of whole eights.
+fn digest_state(text: &[u8]) -> u64 {
+    text.chunks_exact(8).fold(1, |state, eight| {
+        let [low, high] =
+            [0, 4].map(|at| (0..4).rev().fold(0, |word, k| word << 8 | u64::from(eight[at + k])));
+        digest_step(state, low, high)
+    })
+}
+
+fn digest_end(state: u64) -> u32 {
+    folded(state * 1_481_765_933) as u32
+}
+
+/// The eight bytes that bring a digest back to `wanted`: the steps add modulo 2^32 - 1, so that nearly every upper word has its lower.
+fn ending(state: u64, wanted: u64) -> [u8; 8] {
+    const MODULUS: u64 = 0xFFFF_FFFF;
+    let lower = |high: u64| (wanted % MODULUS + MODULUS - digest_step(state, 0, high) % MODULUS) % MODULUS;
+    let reached = |high: &u64| digest_end(digest_step(state, lower(*high), *high)) == digest_end(wanted);
+    let high = (1..).find(reached).expect("one of the first few");
+    (lower(high) | high << 32).to_le_bytes()
+}
+
+impl Hostile {
+    /// So many texts of one length and digest, each eight bytes further than the one before.
+    fn colliding(&mut self, bytes: usize, count: usize) -> (u32, u32) {
+        let text = &mut self.layout.text;
+        let base = text.len();
+        let long = (bytes - base - 8 * count) / 8 * 8;
+        text.resize(base + long, MARK);
+        let wanted = digest_state(&text[base..]);
+        for at in 1..count {
+            let state = digest_state(&text[base + 8 * at..]);
+            text.extend(ending(state, wanted));
+        }
+        (base as u32, long as u32)
+    }
+}
+
+/// Who knows the digest ends each name so that all have one: each is then compared with every earlier one, nearly to its end.
+fn collisions(knobs: Knobs) -> Hostile {
+    let mut tree = Hostile::new();
+    let count = (tree.room() / 3).min(knobs.text / 48);
+    let (base, long) = tree.colliding(knobs.text, 2 * count);
+    let text = |at: usize| (base + 8 * at as u32, long);
+    (0..count).for_each(|at| tree.function(text(2 * at), text(2 * at + 1), &[], NONE, None));
     tree
 }
 

@@ -79,7 +79,7 @@ foldUnary Not (some v) = none
 
 -- document 02, point 6: 'a left shift folds to nothing unless the shifted value, taken back right by the same count, gives the old one'
 
--- v where its like, taken back, is a again
+-- v, where what it was taken back to is a
 unfoldable pub keptIf : ℤ → ℤ → Option ℤ → Option ℤ
 unfolding pick sameInt
 keptIf a v none = none

@@ -15,6 +15,7 @@ use Rattle.syntax.specs.Count.{functionRecords, allRecords}
 use Rattle.syntax.specs.Places.{functionOf}
 use Rattle.syntax.proofs.Held.{functions-records}
 use Rattle.syntax.proofs.Judged.{judged-complete, judged-once}
+use Rattle.conversion.specs.Ir.{IrProgram}
 use Rattle.conversion.specs.ConvertError.{Result, ok, err, _>>=_}
 use Rattle.conversion.specs.Ir.{IrFunction}
 use Rattle.conversion.specs.Functions.{Pool, get-all-functions, check-main, convert-func}
@@ -25,17 +26,16 @@ use Rattle.ir.specs.Arena.{Table, Holds, Room}
 use Rattle.keys.specs.Keys.{allKeys, Keyed}
 use Rattle.keys.proofs.KeyLaws.{from, from-start, from-one, from-end}
 use Rattle.keys.proofs.KeySearch.{records-most}
+use Rattle.texts.specs.Texts.{Kept}
 use Rattle.expressions.specs.declared.answers.Outcome.{Outcome}
 use Rattle.expressions.specs.declared.answers.Outcome.the-variants as Outcome
 use Rattle.expressions.specs.Answers.{refusal, outcomeOf}
 use Rattle.statements.specs.declared.answers.Finished.{Finished}
 use Rattle.statements.specs.declared.answers.Finished.the-variants as Finished
-use Rattle.statements.specs.Converting.{Stays}
-use Rattle.statements.proofs.StayLaws.{listed-word}
+use Rattle.statements.proofs.StayLaws.{keyed-stays}
 use Rattle.functions.specs.declared.functions.AllFunctions.{AllFunctions}
 use Rattle.functions.specs.declared.functions.AllFunctions.the-variants as AllFunctions
 use Rattle.functions.specs.Functions.{AllMeet, done, refused}
-use Rattle.functions.proofs.Listing.{listed-length}
 use Rattle.functions.specs.Bodies.{begun, FunctionsAfforded, FunctionSpent, FunctionStands, FunctionDone, ConvertsFunction}
 use Rattle.converter.specs.Convert.{emptyPool, ProgramStands, ConvertsTo, allFunctions, emptyCounters}
 
@@ -56,19 +56,6 @@ nothing-held text n l = record {
   floats-hold = no-entries encodeFloat 16 (204 * n) l (λ x. refl);
   before = record { functions-count = refl; instructions-before = refl; variables-before = refl; labels-before = refl };
   fits = record { labels-fit = tt; strings-stand = tt; floats-fit = tt };
-}
-
--- ---- the functions by key stay
-
-pub keyed-stays : {tree text s s′ : List ℕ} {count names operands : ℕ} → Stays (records tree) names operands s s′ → Keyed tree text s count → Keyed tree text s′ count
-keyed-stays {tree = tree} f k = record {
-  good = k .good;
-  distinct = k .distinct;
-  listed = record {
-    room = omega (arith, k .listed .room, f .long);
-    counted = k .listed .counted;
-    listed = λ j h. listed-word tree f (4 * j) (omega (arith, k .listed .counted, records-most tree (records tree))) ∙ k .listed .listed j h;
-  };
 }
 
 -- ---- the loop
@@ -151,7 +138,7 @@ module _ (tree text l₀ s₀ : List ℕ) (count : ℕ) (k : Counters) (j : ℕ)
       next-by k′ d (ok q) e stands = record {
         converted = w .converted ++ (q .0 ∷ []);
         pool = q .1;
-        keyed = keyed-stays (m .stays) (w .keyed);
+        keyed = keyed-stays tree (m .stays) text count (w .keyed);
         below = omega arith;
         records-are = d .spent .records ∙ w .records-are;
         room = d .room;
@@ -207,22 +194,22 @@ module _ (tree text s s₁ : List ℕ) (r : AllFunctions) (m : AllMeet tree text
     where
       go : (x : AllFunctions) → AllMeet tree text s s₁ x → x ≡ AllFunctions.Refused e → get-all-functions (program tree text .functions) [] ≡ refusal e
       go x (done p k) z = absurd (let y : _≡_ {A = ℕ} 0 1 = cc in omega arith)
-      go x (refused {e = f} p g) z = let y : f ≡ e = cc in g ∙ ap refusal y
+      go x (refused {e = f} p l g) z = let y : f ≡ e = cc in g ∙ ap refusal y
 
   pub keys-done : (count : ℕ) → r ≡ AllFunctions.Done count → Keyed tree text s₁ count
   keys-done count q = go r m q
     where
       go : (x : AllFunctions) → AllMeet tree text s s₁ x → x ≡ AllFunctions.Done count → Keyed tree text s₁ count
       go x (done {count = n} p k) z = let y : n ≡ count = cc in subst (Keyed tree text s₁) y k
-      go x (refused p g) z = absurd (let y : _≡_ {A = ℕ} 0 1 = cc in omega arith)
+      go x (refused p l g) z = absurd (let y : _≡_ {A = ℕ} 0 1 = cc in omega arith)
 
   module _ (good : Good tree text) (room : 64 * records tree ≤ length s) where
     pub listed-long : length s₁ ≡ length s
     listed-long = go r m
       where
         go : (x : AllFunctions) → AllMeet tree text s s₁ x → length s₁ ≡ length s
-        go x (done p k) = ap length p ∙ listed-length tree text s good room
-        go x (refused p g) = ap length p ∙ listed-length tree text s good room
+        go x (done p k) = p .long
+        go x (refused p l g) = p .long
 
     module _ (needsMain : Bool) where
       pub tree-unkeyed : (l : List ℕ) (e : ConvertError) → r ≡ AllFunctions.Refused e → ConvertsTo tree text (convert (program tree text) needsMain) l s (Finished.Refused e) l s₁
@@ -251,3 +238,10 @@ module _ (tree text s s₁ : List ℕ) (r : AllFunctions) (m : AllMeet tree text
         pub tree-all : o ≡ Outcome.Done → (l l′ s′ : List ℕ) (a : Finished) → ConvertsTo tree text (allFunctions tree text) l s₁ a l′ s′
             → ConvertsTo tree text (convert (program tree text) needsMain) l s a l′ s′
         tree-all p l l′ s′ a m = rw (all-asked p) (record { long = m .long; scratch-long = m .scratch-long ∙ listed-long; gives = m .gives; stops = m .stops })
+
+-- the texts are numbered first, which leaves the scratch as long as it was
+pub room-numbered : {n : ℕ} {s₀ s : List ℕ} → Kept n s₀ s → 64 * n ≤ length s₀ → 64 * n ≤ length s
+room-numbered k h = omega (arith, k .long, h)
+
+pub tree-numbered : {tree text s s₀ l l′ s′ : List ℕ} {x : Result IrProgram} {a : Finished} → Kept (records tree) s₀ s → ConvertsTo tree text x l s a l′ s′ → ConvertsTo tree text x l s₀ a l′ s′
+tree-numbered k m = record { long = m .long; scratch-long = m .scratch-long ∙ k .long; gives = m .gives; stops = m .stops }

@@ -26,6 +26,7 @@ use judge::judge_rows;
 use keys::keys::function_at;
 use records::convert_error::ConvertError;
 use statements::answers::Finished;
+use texts::number_texts;
 
 // How many entries each table has.
 pub struct Counts {
@@ -97,7 +98,7 @@ fn convert_all(
     Finished::Done(k)
 }
 
-// A good tree, whose tables stand in the arena afterwards.
+// A good tree, whose tables stand in the arena afterwards. Its texts are numbered first, so that names are told apart without them.
 fn convert_tree(
     tree: &[u8],
     text: &[u8],
@@ -108,6 +109,7 @@ fn convert_tree(
     requires { ⌜ Good (now tree) (now text) × (320 * records (now tree) ≤ length (now arena)) × (64 * records (now tree) ≤ length (now scratch)) ⌝ }
     ensures { λ a. ⌜ ConvertsTo (now (tree .entry)) (now (text .entry)) (Krc.convert (program (now (tree .entry)) (now (text .entry))) «needs_main») (now (arena .entry)) (now (scratch .entry)) a (now (arena .exit)) (now (scratch .exit)) ⌝ }
 {
+    number_texts(tree, text, scratch);
     match get_all_functions(tree, text, scratch) {
         AllFunctions::Refused(e) => Finished::Refused(e),
         AllFunctions::Done(count) => {

@@ -8,13 +8,15 @@ use mathlib.Core.Option.{none as nothing}
 use Prim.Native.Nat.{ℕ, _+_, _*_, _^_, _<_, _≤_}
 use native.Mathlib.Numerals.{add-one}
 use native.Mathlib.Omega.{arith}
+use lib.Dec.{eqb}
 use lib.ListN.{length, drop, getD, drop-of-length-le}
 use lib.Seq.{drop-cons}
 use types.Run.{OneOf}
 use denote.Enum.Declared.{tagOf}
 use Rattle.laws.specs.Fix.{pick}
 use Rattle.records.specs.declared.convert_error.ConvertError.{ConvertError}
-use Rattle.records.specs.Words.{byteAt, wordAt, wordOf, textAt, A}
+use Rattle.records.specs.Words.{byteAt, wordAt, wordOf, textAt, records, A}
+use Rattle.records.specs.Kinds.{kindName, kindCall}
 use Rattle.records.specs.Good.{Good}
 use Rattle.records.proofs.GoodLaws.{inside, call-a, call-c}
 use Rattle.syntax.specs.Syntax.{Text, Function, Program}
@@ -36,26 +38,49 @@ use Rattle.syntax.specs.Places.{IsKind, TypeAt, FunctionAt, ArgsAt, functionOf,
 use Rattle.keys.specs.Keys.{functionPlaces, functionsOf, allKeys, Keyed, functionFound, FunctionFound}
 use Rattle.expressions.specs.Slots.{slotted, ArgsTyped}
 use Rattle.expressions.specs.Calls.{typedAt, verbOf, CallAt, Called}
+use Rattle.expressions.proofs.OriginalLaws.{kind-has}
+use Rattle.syntax.proofs.Records.{name-record, function-name}
+use Rattle.texts.specs.Texts.{hasText, hasOwn, original, originalAt, Numbered}
+use Rattle.texts.proofs.TextLaws.{same-numbers}
 use Rattle.expressions.specs.Answers.{refusal, castResult, foundNumber, calleeOf, TypeFound, a-type, no-type, IsCast, CastIs, IsCallee, CalleeIs, CandidatesAre, AreAll, OneFunction, nobody, one, several}
 use Rattle.expressions.proofs.answers.Candidates.{the-type}
 use Rattle.keys.proofs.FunctionLaws.{found-function, all-functions}
-use borrow.Author.Tests.{not-true, not-false}
+use borrow.Author.Tests.{not-true, not-false, eq-eqb, ne-eqb}
 
 -- ---- three tests, one after the other
 
-module _ (a b c r : Bool) (h : r ≡ a) where
-  pub first-fails : not r ≡ true → false ≡ (a && b && c)
-  first-fails q = rw (sym h, not-true r q)
+-- the first says whether two numbers are the same
+module _ (a b c : Bool) (o v : ℕ) (h : a ≡ eqb o v) where
+  pub first-fails : (o ≡ v → ⊥) → false ≡ (a && b && c)
+  first-fails n = rw (h, ne-eqb o v n)
 
-  module _ (q : not r ≡ false) (m : Bool) (g : m ≡ b) where
+  module _ (q : o ≡ v) (m : Bool) (g : m ≡ b) where
     pub second-fails : not m ≡ true → false ≡ (a && b && c)
-    second-fails p = rw (sym h, not-false r q, sym g, not-true m p)
+    second-fails p = rw (h, eq-eqb o v q, sym g, not-true m p)
 
     pub third-tells : not m ≡ false → (t : Bool) → t ≡ c → t ≡ (a && b && c)
-    third-tells p t e = rw (sym h, not-false r q, sym g, not-false m p) e
+    third-tells p t e = rw (h, eq-eqb o v q, sym g, not-false m p) e
 
-pub same-name : (r : Bool) (t n v : Text) → r ≡ sameText t v → t ≡ n → r ≡ sameText n v
-same-name r t n v e q = rw (sym q) e
+-- the numbers of the function's name and of the verb tell whether the texts are the same
+module _ (tree text s : List ℕ) (c : Call) (h : Called tree text s c) (numbered : Numbered tree text s) (f : ℕ) (at : FunctionAt tree f) where
+  pub name-inside : f * 32 + 32 ≤ length tree
+  name-inside = inside tree text (h .argued .good) f (at .below)
+
+  name-has : hasOwn tree (wordOf tree f A) ≡ true
+  unfolding hasText
+  name-has = kind-has tree kindName (wordOf tree f A) refl (name-record tree text (h .argued .good) f at .kind)
+
+  module _ (r : ℕ) (er : r ≡ wordOf tree f A) where
+    pub number-inside : originalAt (records tree) r + 4 ≤ length s
+    number-inside = omega (arith, er, name-record tree text (h .argued .good) f at .below, h .argued .room)
+
+    pub same-name : (o : ℕ) → o ≡ wordAt s (originalAt (records tree) r) → sameText (functionOf tree text f .name) (verbOf tree text s c) ≡ eqb o (c .verb)
+    unfolding textOf
+    same-name o eo =
+        let q = h .numbered in
+        let n = name-record tree text (h .argued .good) f at in
+        rw (function-name tree text (h .argued .good) f at, ← q .text-is, eo ∙ ap (λ (x : ℕ). wordAt s (originalAt (records tree) x)) er ∙ numbered (wordOf tree f A) (n .below) name-has, q .number)
+        (same-numbers tree text (wordOf tree f A) (q .of) (n .below) (q .below) name-has (q .has-text))
 
 -- ---- the functions that literals fit
 
@@ -259,14 +284,30 @@ pub counted-at : (tree text : List ℕ) (n first w : ℕ) → first ≡ w → ((
 unfolding typedAt
 counted-at tree text n first w e h s = h s ∙ ap (λ (x : ℕ). length (typedAt tree text s x)) e
 
+-- the verb's number, as it is read from the scratch
+module _ (tree text s : List ℕ) (r : ℕ) (k : IsKind tree 11 r) where
+  pub verb-inside : 64 * records tree ≤ length s → originalAt (records tree) r + 4 ≤ length s
+  verb-inside room = omega (arith, k .below)
+
+  pub verb-number : Numbered tree text s → (o : ℕ) → o ≡ wordAt s (originalAt (records tree) r) → o ≡ original tree text r
+  unfolding hasText
+  verb-number numbered o e = e ∙ numbered r (k .below) (kind-has tree kindCall r refl (k .kind))
+
 module _ (tree text s : List ℕ) (r : ℕ) (c : Call) (o : CallAt tree text r c) where
   pub is-called : (count : ℕ) → Keyed tree text s count → IsKind tree 11 r → ArgsTyped tree s (argsAt tree text (wordOf tree r 2)) → ((i : ℕ) → getD tree i 0 < 256)
       → Called tree text s c
-  unfolding typedAt
+  unfolding typedAt hasText
   is-called count k a t b = record {
     argued = record { good = k .good; room = k .listed .room; cells = arguments-at tree text (k .good) r a (c .first) (o .first); typed = rw (o .first) t };
     inside = omega (arith, o .offset, o .len, call-a tree text (k .good) r (a .below) (a .kind));
     short = rw (o .len) (word-short tree r 1 b);
+    numbered = record {
+      of = r;
+      below = a .below;
+      has-text = kind-has tree kindCall r refl (a .kind);
+      text-is = sym (ap₂ (textAt text) (o .offset) (o .len));
+      number = o .verb;
+    };
     counted = rw (o .first) (o .count s);
   }
 

@@ -12,7 +12,7 @@ use borrow.Author.Tests.{ltb-true, ltb-false, leb-true, le-leb}
 use Rattle.laws.specs.Below.{orElse}
 use Rattle.laws.specs.Fix.{pick}
 use Rattle.laws.proofs.Tests.{and-left, and-right, tested}
-use Rattle.records.specs.Words.{textAt, wordAt, wordOf, A, B}
+use Rattle.records.specs.Words.{textAt, wordAt, wordOf, records, A, B}
 use Rattle.records.specs.Good.{Good}
 use Rattle.syntax.specs.Syntax.{Text, Function, Program}
 use Rattle.syntax.specs.Decode.{program, textOf}
@@ -25,11 +25,12 @@ use Rattle.keys.specs.declared.parts.Part.{Part}
 use Rattle.expressions.specs.declared.arguments.Call.{Call}
 use Rattle.syntax.specs.Places.{FunctionAt, functionOf}
 use Rattle.keys.specs.Parts.{PartIs}
-use Rattle.keys.specs.Keys.{functionKey, keyed, functionPlaces, functionsOf, keysBelow, allKeys, Keyed, functionFound, FunctionFound, FunctionIs, a-function, no-function}
+use Rattle.texts.proofs.TextLaws.{original-below}
+use Rattle.keys.specs.Keys.{functionKey, keyed, functionPlaces, functionsOf, allKeys, Keyed, FindsKey, functionFound, FunctionFound, FunctionIs, a-function, no-function}
 use Rattle.expressions.specs.Calls.{typedAt, suffixesAt, verbOf, nameOf, bytesIn, Called, PrefixIs, VariadicKey, so-many, no-number}
 use Rattle.syntax.proofs.Records.{function-name, function-mangled}
 use Rattle.keys.proofs.FunctionLaws.{found-function}
-use Rattle.keys.proofs.KeyLaws.{find-hit, find-miss, recordAt, from, from-start, from-one, from-end, keys-all, distinct-finds}
+use Rattle.keys.proofs.KeyLaws.{find-hit, find-miss, recordAt, from, from-start, from-one, from-end, distinct-finds}
 use Rattle.expressions.proofs.NameLaws.{same-is, same-turned, part-length, part-split, cut-same, name-length, name-pieces, all-taken, number-inside, inside-number, number-least, name-number, key-number}
 
 -- ---- an answer, and what it stands for
@@ -161,10 +162,33 @@ module _ (tree text : List ℕ) (t : Text) where
   unfolding mangledFunction filterOption functionFound
   name-nowhere e = record { is = ap (filterOption is-mangled) (sym e); function = no-function }
 
-module _ (tree text s : List ℕ) (count : ℕ) (K : Keyed tree text s count) where
-  pub all-below : keysBelow tree text count ≡ allKeys tree text
-  all-below = keys-all tree text count (omega (arith, K .listed .counted))
+-- what the slot of the verb's number says
+module _ (tree text s : List ℕ) (c : Call) (h : Called tree text s c) where
+  pub verb-below : c .verb < records tree
+  verb-below = rw (h .numbered .number) (original-below tree text (h .numbered .of) (h .numbered .below) (h .numbered .has-text))
 
+  pub verb-found : (count : ℕ) → Keyed tree text s count → (v : Found) → FindsKey tree text s (c .verb) v → FunctionIs tree text v (getFunction (verbOf tree text s c) (allKeys tree text))
+  verb-found count K v finds =
+      let q = h .numbered in
+      rw (q .text-is) at (finds (allKeys tree text) (K .slots) (q .of) (q .below) (q .has-text) (q .number))
+
+  -- without arguments the whole name is the verb
+  module _ (bare : c .count ≡ 0) (count : ℕ) (K : Keyed tree text s count) (v : Found) (finds : FindsKey tree text s (c .verb) v) where
+    whole-is : getFunction (nameOf tree text s c (c .count)) (allKeys tree text) ≡ functionFound tree text v
+    unfolding nameOf joined
+    whole-is = rw bare (sym (verb-found count K v finds .is))
+
+    pub verb-alone : (f : ℕ) → v ≡ Found.At f → (r : Found) → FunctionIs tree text r (filterOption is-mangled (some (functionOf tree text f)))
+        → FunctionIs tree text r (mangledFunction (program tree text) (allKeys tree text) (nameOf tree text s c (c .count)))
+    unfolding functionFound
+    verb-alone f e r h =
+        name-found tree text (nameOf tree text s c (c .count)) r (functionOf tree text f) (whole-is ∙ ap (functionFound tree text) e) h
+
+    pub verb-missing : v ≡ Found.Nothing → FunctionIs tree text Found.Nothing (mangledFunction (program tree text) (allKeys tree text) (nameOf tree text s c (c .count)))
+    unfolding functionFound
+    verb-missing e = name-nowhere tree text (nameOf tree text s c (c .count)) (whole-is ∙ ap (functionFound tree text) e)
+
+module _ (tree text s : List ℕ) (count : ℕ) (K : Keyed tree text s count) where
   pub key-end : (t : Text) (j : ℕ) → count ≤ j → KeyLeft tree text t j → getFunction t (allKeys tree text) ≡ none
   unfolding getFunction keyed
   key-end t j h w = w ∙ ap (λ (l : List Function). getFunction t (keyed l)) (from-end tree text j (omega (arith, K .listed .counted)))

@@ -130,23 +130,19 @@ missing-name e (some x) h = absurd h
 missing-name e nothing h = refl
 
 module _ (tree text s : List ℕ) (sc : Scope) (e : ℕ) (scoped : Scoped tree s sc) (k : IsKind tree 6 e)
-    (a n : ℕ) (ea : a ≡ wordOf tree e A) (en : n ≡ wordOf tree e B) (r : Known) (m : FindMeets text s sc (textAt text a n) r) where
-  name-text : textAt text a n ≡ textOf tree text e A
-  unfolding textOf
-  name-text = rw (ea, en)
-
-  type-name : typeIn tree text (scopeAt tree text s sc) e ≡ nameType e (findIn (textAt text a n) (variablesOf text s sc))
+    (r : Known) (m : FindMeets text s sc (textOf tree text e A) r) where
+  type-name : typeIn tree text (scopeAt tree text s sc) e ≡ nameType e (findIn (textOf tree text e A) (variablesOf text s sc))
   unfolding typeIn get-type find-variable scopeAt
-  type-name = rw (expr-name tree text e (k .kind), name-text)
+  type-name = rw (expr-name tree text e (k .kind))
 
   pub name-known : (v : VarId) (b : Bool) → r ≡ Known.Is v b
       → TypeIs tree (ExprType.Is (v .1)) (typeIn tree text (scopeAt tree text s sc) e)
   unfolding typeResult
   name-known v b q =
-      let hit : IsFound (Known.Is v b) (findIn (textAt text a n) (variablesOf text s sc)) =
-      subst (λ (z : Known). IsFound z (findIn (textAt text a n) (variablesOf text s sc))) q m in record {
-        is = type-name ∙ found-name v b e (findIn (textAt text a n) (variablesOf text s sc)) hit;
-        type = IsTyped.is (found-typed v b tree text s (sc .records) (textAt text a n) (sc .names)
+      let hit : IsFound (Known.Is v b) (findIn (textOf tree text e A) (variablesOf text s sc)) =
+      subst (λ (z : Known). IsFound z (findIn (textOf tree text e A) (variablesOf text s sc))) q m in record {
+        is = type-name ∙ found-name v b e (findIn (textOf tree text e A) (variablesOf text s sc)) hit;
+        type = IsTyped.is (found-typed v b tree text s (sc .records) (textOf tree text e A) (sc .names)
             (λ j h. subst (λ (z : ℕ). TypeAt tree (wordAt s (8 * z + 16 * j + 12) / 2)) (sym (scoped .records-are)) (scoped .types j h)) hit);
       }
 
@@ -154,8 +150,8 @@ module _ (tree text s : List ℕ) (sc : Scope) (e : ℕ) (scoped : Scoped tree s
       → TypeIs tree z (typeIn tree text (scopeAt tree text s sc) e)
   name-unknown q z w =
       refused-at tree (typeIn tree text (scopeAt tree text s sc) e) UnknownVariable e z
-      (type-name ∙ missing-name e (findIn (textAt text a n) (variablesOf text s sc))
-      (subst (λ (y : Known). IsFound y (findIn (textAt text a n) (variablesOf text s sc))) q m)) w
+      (type-name ∙ missing-name e (findIn (textOf tree text e A) (variablesOf text s sc))
+      (subst (λ (y : Known). IsFound y (findIn (textOf tree text e A) (variablesOf text s sc))) q m)) w
 
 -- ---- what a call gives back
 

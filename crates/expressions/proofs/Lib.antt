@@ -6,6 +6,7 @@ pub mod ExactLaws
 pub mod LeafLaws
 pub mod NameLaws
 pub mod OperandLaws
+pub mod OriginalLaws
 pub mod SlotLaws
 pub mod SuffixLaws
 pub mod TakeLaws

@@ -21,7 +21,10 @@ use Rattle.scope.specs.Open.{scopeAt}
 use Rattle.records.proofs.Apart.{byte-apart, word-apart, word-there, word-same, word-back}
 use Rattle.scope.proofs.ScopeLaws.{Kept, scope-kept}
 use Rattle.syntax.specs.Places.{IsExpr, TypeAt}
-use Rattle.keys.specs.Keys.{Listed, Keyed}
+use Rattle.keys.specs.Keys.{Listed, keySlotAt, Keyed}
+use Rattle.keys.proofs.SlotLaws.{slots-stay}
+use Rattle.texts.specs.Texts.{originalAt}
+use Rattle.expressions.proofs.OriginalLaws.{original-stays, numbers-stay}
 use Rattle.expressions.specs.Slots.{slotAt, Scoped, Frame, typeIn, Slots, Ready}
 use Rattle.expressions.specs.declared.answers.ExprType.{ExprType}
 use Rattle.expressions.specs.Answers.{typeResult, TypeMeets}
@@ -69,11 +72,15 @@ module _ (tree s s′ : List ℕ) (f : Frame tree s s′) where
   pub scope-frame : (text : List ℕ) (sc : Scope) → sc .records ≡ records tree → scopeAt tree text s′ sc ≡ scopeAt tree text s sc
   scope-frame text sc e = scope-kept tree text s s′ sc (names-frame sc e)
 
+  number-frame : (r : ℕ) → r < records tree → wordAt s′ (originalAt (records tree) r) ≡ wordAt s (originalAt (records tree) r)
+  number-frame r h = frame-word (originalAt (records tree) r) (inr (omega arith))
+
   pub scoped-frame : (sc : Scope) → Scoped tree s sc → Scoped tree s′ sc
   scoped-frame sc k = record {
     records-are = k .records-are;
     room = record { scratch = omega (arith, k .room .scratch, f .same-length); names-in = k .room .names-in };
     types = λ j h. subst (λ (w : ℕ). TypeAt tree (w / 2)) (sym (frame-word (8 * records tree + 16 * j + 12) (inr (omega arith)))) (k .types j h);
+    named = λ j h. original-stays tree s s′ number-frame _ (frame-word (8 * records tree + 16 * j) (inr (omega arith))) (frame-word (8 * records tree + 16 * j + 4) (inr (omega arith))) (k .named j h);
   }
 
   listed-frame : (count : ℕ) → Listed tree s count → Listed tree s′ count
@@ -84,7 +91,13 @@ module _ (tree s s′ : List ℕ) (f : Frame tree s s′) where
   }
 
   pub keyed-frame : (text : List ℕ) (count : ℕ) → Keyed tree text s count → Keyed tree text s′ count
-  keyed-frame text count k = record { good = k .good; distinct = k .distinct; listed = listed-frame count (k .listed) }
+  keyed-frame text count k = record {
+    good = k .good;
+    numbered = numbers-stay tree s s′ number-frame text (k .numbered);
+    distinct = k .distinct;
+    listed = listed-frame count (k .listed);
+    slots = slots-stay tree text s s′ (λ o h. frame-word (keySlotAt (records tree) o) (inr (omega arith))) _ (k .slots);
+  }
 
   pub ready-frame : (text : List ℕ) (count : ℕ) (sc : Scope) → Ready tree text s count sc → Ready tree text s′ count sc
   ready-frame text count sc k = record { keyed = keyed-frame text count (k .keyed); scoped = scoped-frame sc (k .scoped) }

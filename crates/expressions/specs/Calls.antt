@@ -1,7 +1,7 @@
 -- A call as the code holds it: its verb and its arguments, with their types in scratch. Assumes nothing: these are definitions.
 use mathlib.Core.Path.{_≡_}
 use Prim.Native.Nat.{ℕ, _+_, _*_, _≤_, _<_, _^_}
-use mathlib.Core.Bool.{Bool, _&&_}
+use mathlib.Core.Bool.{Bool, true, _&&_}
 use mathlib.Core.Option.{Option, none}
 use mathlib.Core.List.{List, [], _∷_, _++_}
 use lib.ListN.{length, take}
@@ -16,6 +16,7 @@ use Rattle.records.specs.declared.words.Found.{Found}
 use Rattle.records.specs.declared.words.Found.the-variants as Found
 use Rattle.expressions.specs.declared.arguments.Call.{Call}
 use Rattle.syntax.specs.Places.{ArgsAt, argsAt, paramsAt}
+use Rattle.texts.specs.Texts.{hasOwn, ownText, original}
 use Rattle.keys.specs.Keys.{allKeys}
 use Rattle.expressions.specs.Slots.{slotted, ArgsTyped}
 
@@ -24,8 +25,17 @@ unfoldable pub bytesIn : List Text → ℕ
 bytesIn [] = 0
 bytesIn (t ∷ l) = length t + bytesIn l
 
--- the call of record r: its verb's place, its first cell, and how many arguments it has
+-- o is the number of the text t, which some record has
+pub record NumberOf (tree text : List ℕ) (o : ℕ) (t : Text) : Type 0 where
+  pub of : ℕ
+  pub below : of < records tree
+  pub has-text : hasOwn tree of ≡ true
+  pub text-is : ownText tree text of ≡ t
+  pub number : o ≡ original tree text of
+
+-- the call of record r: its verb's number and place, its first cell, and how many arguments it has
 pub record CallAt (tree text : List ℕ) (r : ℕ) (c : Call) : Type 0 where
+  pub verb : c .verb ≡ original tree text r
   pub offset : c .offset ≡ wordOf tree r A
   pub len : c .len ≡ wordOf tree r B
   pub first : c .first ≡ wordOf tree r C
@@ -57,11 +67,12 @@ module _ (tree text s : List ℕ) where
   unfolding joined suffixesAt
   nameOf c k = joined (program tree text) (allKeys tree text) (verbOf c) (take k (suffixesAt (c .first)))
 
-  -- a call of this tree, its arguments typed and counted
+  -- a call of this tree, its verb numbered, its arguments typed and counted
   pub record Called (c : Call) : Type 0 where
     pub argued : Argued (c .first)
     pub inside : c .offset + c .len ≤ length text
     pub short : c .len < 2 ^ 32
+    pub numbered : NumberOf tree text (c .verb) (verbOf c)
     pub counted : c .count ≡ length (typedAt (c .first))
 
   -- whether the first argument goes into the first parameter

@@ -3,10 +3,12 @@
 use mathlib.Core.Path.{_≡_}
 use mathlib.Core.Logic.{_⊎_}
 use Prim.Native.Nat.{ℕ, _+_, _*_, _/_, _≤_, _<_}
+use mathlib.Core.Bool.{true}
 use mathlib.Core.List.{List, [], _∷_}
 use mathlib.Core.Option.{none, some}
 use lib.ListN.{length}
-use Rattle.records.specs.Words.{byteAt, wordAt, records}
+use Rattle.records.specs.Words.{byteAt, wordAt, wordOf, records, A, B}
+use Rattle.records.specs.Good.{Good}
 use Rattle.syntax.specs.Syntax.{Args, noArgs, Value, ToType, place}
 use Rattle.syntax.specs.Decode.{program}
 use Rattle.conversion.specs.ConvertError.{Result, ok}
@@ -15,6 +17,7 @@ use Rattle.conversion.specs.Expressions.{TypedArg, get-type}
 use Rattle.scope.specs.declared.Scope.{Scope}
 use Rattle.scope.specs.Open.{NamesRoom}
 use Rattle.syntax.specs.Places.{IsExpr, TypeAt, exprAt}
+use Rattle.texts.specs.Texts.{hasOwn, originalAt, Numbered}
 use Rattle.keys.specs.Keys.{allKeys, Keyed}
 
 -- y is the type of the first of the arguments
@@ -42,11 +45,24 @@ module _ (tree : List ℕ) where
   ArgsTyped s (Value r e l) = TypeAt tree (slotAt s (place e)) × ArgsTyped s l
   ArgsTyped s (ToType r y l) = ArgsTyped s l
 
-  -- the scope is one of this tree, and the open names' types are types of this tree
+  -- word k of the lowest record with the text of record r, whose number the scratch has
+  abbrev pub originalWord : List ℕ → ℕ → ℕ → ℕ
+  originalWord s r k = wordOf tree (wordAt s (originalAt (records tree) r)) k
+
+  -- the two words at byte p are words A and B of such a record
+  pub record Original (s : List ℕ) (p : ℕ) : Type 0 where
+    pub of : ℕ
+    pub below : of < records tree
+    pub has-text : hasOwn tree of ≡ true
+    pub offset : wordAt s p ≡ originalWord s of A
+    pub len : wordAt s (p + 4) ≡ originalWord s of B
+
+  -- the scope is one of this tree, the open names' types are types of this tree, and their words say texts by the lowest record that has them
   pub record Scoped (s : List ℕ) (sc : Scope) : Type 0 where
     pub records-are : sc .records ≡ records tree
     pub room : NamesRoom sc s
     pub types : (j : ℕ) → j < sc .names → TypeAt tree (wordAt s (8 * records tree + 16 * j + 12) / 2)
+    pub named : (j : ℕ) → j < sc .names → Original s (8 * records tree + 16 * j)
 
   -- only the region of the slots, from byte 4n to byte 8n, may differ
   pub record Frame (s s′ : List ℕ) : Type 0 where
@@ -64,6 +80,14 @@ module _ (tree : List ℕ) where
     unfolding slotAt typeIn
     Slots S s s′ = (e : ℕ) → e < records tree
         → (slotAt s′ e ≡ slotAt s e) ⊎ (IsExpr tree e × (typeIn S e ≡ ok (slotAt s′ e)) × TypeAt tree (slotAt s′ e))
+
+-- the text of record r is a name that can be looked for: the texts have their numbers, and the scope is the tree's
+pub record Asked (tree text s : List ℕ) (sc : Scope) (r : ℕ) : Type 0 where
+  pub good : Good tree text
+  pub numbered : Numbered tree text s
+  pub scoped : Scoped tree s sc
+  pub below : r < records tree
+  pub has-text : hasOwn tree r ≡ true
 
 -- what typing needs: the functions by key, and the scope
 pub record Ready (tree text s : List ℕ) (count : ℕ) (sc : Scope) : Type 0 where

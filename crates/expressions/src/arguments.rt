@@ -15,6 +15,8 @@ ghost use Rattle.expressions.specs.Slots.{slotAt, FirstType};
 ghost use Rattle.expressions.specs.Answers.{ArgumentIs, foundNumber, TypeFound};
 use keys::parts::Part;
 use keys::parts::text_part;
+use records::layout::ARGUMENT_TYPE_BYTES;
+use records::layout::ARGUMENT_TYPES;
 use records::numbers::KIND_VALUE;
 use records::words::Found;
 use records::words::WORD_A;
@@ -33,8 +35,9 @@ pub enum Argument {
     ToType(usize),
 }
 
-// A call: where its verb stands, its first cell (or END), and how many arguments it has.
+// A call: its verb's number and where the verb stands, its first cell (or END), and how many arguments it has.
 pub struct Call {
+    pub verb: usize,
     pub offset: usize,
     pub len: usize,
     pub first: usize,
@@ -71,7 +74,7 @@ pub(crate) fn slot(tree: &[u8], scratch: &[u8], e: usize) -> usize
     ensures { λ y. ⌜ y ≡ slotAt (now (tree .entry)) (now (scratch .entry)) e ⌝ }
 {
     let n = tree.len() / 32;
-    load(scratch, 4 * n + 4 * e) as usize
+    load(scratch, ARGUMENT_TYPES * n + ARGUMENT_TYPE_BYTES * e) as usize
 }
 
 // The type of the argument in a cell.

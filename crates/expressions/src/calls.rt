@@ -1,10 +1,13 @@
 // expressions.rs: what a call runs, once its arguments' types stand in scratch.
 ghost use mathlib.Core.Path.{_≡_};
+ghost use Prim.Native.Nat.{_*_, _≤_};
+ghost use lib.ListN.{length};
 ghost use Rattle.records.specs.Words as Words;
-ghost use Rattle.records.specs.Words.{wordOf};
+ghost use Rattle.records.specs.Words.{records, wordOf};
 ghost use Rattle.records.specs.Kinds.{kindCall};
 ghost use Rattle.records.specs.Good.{Good};
 ghost use Rattle.syntax.specs.Places.{FunctionAt, IsKind, functionOf, argsAt};
+ghost use Rattle.texts.specs.Texts.{Numbered};
 ghost use Rattle.keys.specs.Keys.{Keyed};
 ghost use Rattle.expressions.specs.Slots.{ArgsTyped};
 ghost use Rattle.expressions.specs.Calls.{Called, CallAt, isCandidate, literalFits, castTypeOf, functionFor, resolvedAt};
@@ -20,10 +23,8 @@ use crate::exact::find_exact_function;
 use crate::takes::takes_args;
 use keys::keys::function_at;
 use keys::keys::is_mangled;
-use keys::keys::name_of;
 use keys::parts::Part;
 use keys::parts::is_cast_verb;
-use keys::parts::same_parts;
 use keys::parts::text_part;
 use records::convert_error::ConvertError;
 use records::convert_error::ConvertErrorKind;
@@ -31,16 +32,17 @@ use records::words::Found;
 use records::words::WORD_A;
 use records::words::WORD_C;
 use records::words::reference;
+use texts::original;
 use types::casts::can_cast;
 
-// A mangled function of the verb's name whose parameters take the arguments.
+// A mangled function of the verb's name whose parameters take the arguments. Names are told by their numbers.
 fn is_candidate(tree: &[u8], text: &[u8], scratch: &[u8], call: Call, f: usize) -> bool
-    requires { ⌜ Called (now tree) (now text) (now scratch) call ⌝ }
+    requires { ⌜ Called (now tree) (now text) (now scratch) call × Numbered (now tree) (now text) (now scratch) ⌝ }
     requires { ⌜ FunctionAt (now tree) f ⌝ }
     ensures { λ r. ⌜ r ≡ isCandidate (now (tree .entry)) (now (text .entry)) (now (scratch .entry)) call (functionOf (now (tree .entry)) (now (text .entry)) f) ⌝ }
 {
-    let verb = Part(call.offset, call.len);
-    if !same_parts(text, name_of(tree, text, f), verb) {
+    let verb = call.verb;
+    if original(scratch, tree.len() / 32, reference(tree, f, WORD_A)) != verb {
         return false;
     }
     if !is_mangled(tree, text, f) {
@@ -129,15 +131,17 @@ fn resolve_function(
 }
 
 // The call of record r, for its typed arguments.
-fn call_of(tree: &[u8], text: &[u8], r: usize) -> Call
-    requires { ⌜ Good (now tree) (now text) ⌝ }
+fn call_of(tree: &[u8], text: &[u8], scratch: &[u8], r: usize) -> Call
+    requires { ⌜ Good (now tree) (now text) × Numbered (now tree) (now text) (now scratch) × (64 * records (now tree) ≤ length (now scratch)) ⌝ }
     requires { ⌜ IsKind (now tree) kindCall r ⌝ }
     ensures { λ c. ⌜ CallAt (now (tree .entry)) (now (text .entry)) r c ⌝ }
 {
+    let number = original(scratch, tree.len() / 32, r);
     let verb = text_part(tree, r, WORD_A);
     let first = reference(tree, r, WORD_C);
     let count = count_arguments(tree, text, first);
     Call {
+        verb: number,
         offset: verb.0,
         len: verb.1,
         first,
@@ -158,7 +162,7 @@ pub(crate) fn resolve_typed(
     requires { ⌜ ArgsTyped (now tree) (now scratch) (argsAt (now tree) (now text) (wordOf (now tree) r Words.C)) ⌝ }
     ensures { λ a. ⌜ CalleeIs (now (tree .entry)) (now (text .entry)) a (resolvedAt (now (tree .entry)) (now (text .entry)) (now (scratch .entry)) r) ⌝ }
 {
-    let call = call_of(tree, text, r);
+    let call = call_of(tree, text, scratch, r);
     let place = r as u32;
     match cast_type(tree, text, scratch, call, place) {
         Cast::Refused(e) => Resolved::Refused(e),

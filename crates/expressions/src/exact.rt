@@ -111,8 +111,7 @@ fn by_name(tree: &[u8], text: &[u8], scratch: &[u8], functions: usize, call: Cal
     requires { ⌜ Called (now tree) (now text) (now scratch) call ⌝ }
     ensures { λ r. ⌜ FunctionIs (now (tree .entry)) (now (text .entry)) r (byName (now (tree .entry)) (now (text .entry)) (now (scratch .entry)) call) ⌝ }
 {
-    let verb = Part(call.offset, call.len);
-    if let Found::At(f) = find_key(tree, text, scratch, functions, functions, verb) {
+    if let Found::At(f) = find_key(tree, text, scratch, call.verb) {
         if takes_args(tree, text, scratch, f, call) {
             return Found::At(f);
         }
@@ -152,6 +151,30 @@ fn by_full_name(tree: &[u8], text: &[u8], scratch: &[u8], functions: usize, call
         j += 1;
     }
     Found::Nothing
+}
+
+// The same where there are no arguments: the whole name is the verb.
+fn by_verb(tree: &[u8], text: &[u8], scratch: &[u8], functions: usize, call: Call) -> Found
+    requires { ⌜ Keyed (now tree) (now text) (now scratch) functions ⌝ }
+    requires { ⌜ Called (now tree) (now text) (now scratch) call × (call .count ≡ 0) ⌝ }
+    ensures { λ r. ⌜ FunctionIs (now (tree .entry)) (now (text .entry)) r (byFullName (now (tree .entry)) (now (text .entry)) (now (scratch .entry)) call) ⌝ }
+{
+    if let Found::At(f) = find_key(tree, text, scratch, call.verb) {
+        return mangled_only(tree, text, f);
+    }
+    Found::Nothing
+}
+
+// The verb with its types, which are looked at only where there are any.
+fn by_whole_name(tree: &[u8], text: &[u8], scratch: &[u8], functions: usize, call: Call) -> Found
+    requires { ⌜ Keyed (now tree) (now text) (now scratch) functions ⌝ }
+    requires { ⌜ Called (now tree) (now text) (now scratch) call ⌝ }
+    ensures { λ r. ⌜ FunctionIs (now (tree .entry)) (now (text .entry)) r (byFullName (now (tree .entry)) (now (text .entry)) (now (scratch .entry)) call) ⌝ }
+{
+    if call.count == 0 {
+        return by_verb(tree, text, scratch, functions, call);
+    }
+    by_full_name(tree, text, scratch, functions, call)
 }
 
 // How many of the arguments' suffixes have `bytes` bytes in all.
@@ -236,7 +259,7 @@ pub(crate) fn find_exact_function(
     if let Found::At(f) = by_name(tree, text, scratch, functions, call) {
         return Found::At(f);
     }
-    if let Found::At(f) = by_full_name(tree, text, scratch, functions, call) {
+    if let Found::At(f) = by_whole_name(tree, text, scratch, functions, call) {
         return Found::At(f);
     }
     by_prefix(tree, text, scratch, functions, call)

@@ -26,6 +26,8 @@ use crate::operands::common_of;
 use crate::operands::leaf_type;
 use crate::operands::unary_type;
 use crate::operands::value_type;
+use records::layout::ARGUMENT_TYPE_BYTES;
+use records::layout::ARGUMENT_TYPES;
 use records::numbers::KIND_BINARY;
 use records::numbers::KIND_CALL;
 use records::numbers::KIND_UNARY;
@@ -44,7 +46,11 @@ fn put_slot(tree: &[u8], scratch: &mut [u8], e: usize, y: usize)
     ensures { λ _. ⌜ now (scratch .exit) ≡ splice (now (scratch .entry)) (4 * records (now (tree .entry)) + 4 * e) (word y) ⌝ }
 {
     let n = tree.len() / 32;
-    put_word(scratch, 4 * n + 4 * e, y as u32);
+    put_word(
+        scratch,
+        ARGUMENT_TYPES * n + ARGUMENT_TYPE_BYTES * e,
+        y as u32,
+    );
 }
 
 // The type of the expression e, once its names and calls are checked.

@@ -11,6 +11,7 @@ ghost use Rattle.conversion.specs.Scope as Def;
 ghost use Rattle.conversion.specs.Expressions.{acceptsUnary};
 ghost use Rattle.scope.specs.Open.{scopeAt};
 ghost use Rattle.syntax.specs.Places.{IsExpr, TypeAt, IsKind};
+ghost use Rattle.texts.specs.Texts.{Numbered};
 ghost use Rattle.keys.specs.Keys.{allKeys};
 ghost use Rattle.expressions.specs.Slots.{Scoped, typeIn};
 ghost use Rattle.conversion.specs.ConvertError.{ok};
@@ -36,6 +37,7 @@ use records::words::reference;
 use records::words::word;
 use scope::Known;
 use scope::Scope;
+use texts::original;
 use types::fits::fits;
 use types::fits::range_error;
 use types::form::INT;
@@ -220,14 +222,17 @@ fn literal_type(tree: &[u8], text: &[u8], e: usize) -> usize
     UNSIGNED
 }
 
-// The type of the Name e.
+// The type of the Name e, which is looked for by the lowest record with its text.
 fn name_type(tree: &[u8], text: &[u8], scratch: &[u8], scope: Scope, e: usize) -> ExprType
-    requires { ⌜ Good (now tree) (now text) ⌝ }
+    requires { ⌜ Good (now tree) (now text) × Numbered (now tree) (now text) (now scratch) ⌝ }
     requires { ⌜ Scoped (now tree) (now scratch) scope ⌝ }
     requires { ⌜ IsKind (now tree) kindName e ⌝ }
     ensures { λ a. ⌜ TypeIs (now (tree .entry)) a (typeIn (now (tree .entry)) (now (text .entry)) (scopeAt (now (tree .entry)) (now (text .entry)) (now (scratch .entry)) scope) e) ⌝ }
 {
-    match scope.find_variable(text, scratch, word(tree, e, WORD_A), word(tree, e, WORD_B)) {
+    let o = original(scratch, scope.records, e);
+    let offset = word(tree, o, WORD_A);
+    let len = word(tree, o, WORD_B);
+    match scope.find_variable(scratch, offset, len) {
         Known::Is(v, _) => ExprType::Is(v.1 as usize),
         Known::Unknown => refuse(ConvertErrorKind::UnknownVariable, e),
     }
@@ -241,7 +246,7 @@ pub(crate) fn leaf_type(
     scope: Scope,
     e: usize,
 ) -> ExprType
-    requires { ⌜ Good (now tree) (now text) ⌝ }
+    requires { ⌜ Good (now tree) (now text) × Numbered (now tree) (now text) (now scratch) ⌝ }
     requires { ⌜ Scoped (now tree) (now scratch) scope ⌝ }
     requires { ⌜ IsExpr (now tree) e ⌝ }
     requires { ⌜ kindOf (now tree) e ≤ kindSizeOf ⌝ }

@@ -1,6 +1,6 @@
 -- The functions by key and `main`, case by case as the code meets them: what a turn, a search and a check answer, and what the definitions say there.
 -- Each is the definition, its tests replaced by what the callees ensure. Assumes nothing.
-use mathlib.Core.Path.{_≡_, sym, ap, _∙_}
+use mathlib.Core.Path.{_≡_, refl, sym, ap, _∙_}
 use mathlib.Core.Logic.{_⊎_, inl, inr}
 use mathlib.Core.Bool.{Bool, true, false}
 use mathlib.Core.List.{List, [], _∷_, _++_}
@@ -15,6 +15,8 @@ use Rattle.records.specs.declared.convert_error.ConvertError.{ConvertError}
 use Rattle.records.specs.declared.convert_error.ConvertErrorKind.{ConvertErrorKind}
 use Rattle.records.specs.Words.{wordAt, wordOf, textAt, detailOf, records, none, D}
 use Rattle.records.specs.Good.{Good}
+use Rattle.records.specs.Chains.{Cleared}
+use Rattle.records.proofs.Apart.{word-same}
 use Rattle.records.proofs.GoodLaws.{inside}
 use Rattle.syntax.specs.Syntax.{Text, Function}
 use Rattle.syntax.specs.Decode.{program, typeAt, reference}
@@ -30,14 +32,18 @@ use Rattle.expressions.specs.declared.answers.Outcome.the-variants as Outcome
 use Rattle.functions.specs.declared.functions.AllFunctions.the-variants as AllFunctions
 use Rattle.syntax.specs.Places.{TypeAt, FunctionAt, functionOf}
 use Rattle.keys.specs.Parts.{PartIs}
-use Rattle.keys.specs.Keys.{functionKey, keysBelow, functionPlaces, Listed, functionFound}
-use Rattle.functions.specs.Functions.{TurnMeets, listedIn, AllMeet, done, refused}
+use Rattle.keys.specs.Keys.{functionKey, keysBelow, functionPlaces, Listed, KeySlots, keyEntered, functionFound}
+use Rattle.texts.specs.Texts.{originalAt, Numbered}
+use Rattle.functions.specs.Functions.{TurnMeets, listedIn, ListKeeps, AllMeet, done, refused}
 use Rattle.expressions.specs.Answers.{refusal, outcomeOf, doneWith}
 use Rattle.syntax.proofs.Records.{function-rec, function-return, return-is}
-use Rattle.functions.proofs.Listing.{are-listed}
+use Rattle.functions.proofs.Listing.{listed-length, are-listed, listed-behind, still-numbered}
+use Rattle.expressions.proofs.OriginalLaws.{numbers-stay}
 use Rattle.expressions.proofs.OperandLaws.{int-form}
-use Rattle.functions.proofs.Turns.{Left, left-more, left-stop, left-end, MainLeft, main-more, main-hit, main-end}
-use Rattle.keys.proofs.KeyLaws.{keys-more, turn-latin, turn-signature, turn-mangled, turn-foreign, turn-symbol, turn-plain}
+use Rattle.functions.proofs.Turns.{Left, left-start, left-more, left-stop, left-end, MainLeft, main-more, main-hit, main-end}
+use Rattle.keys.proofs.KeySearch.{records-most}
+use Rattle.keys.proofs.SlotLaws.{slots-none, entered-long, entered-byte, slots-more}
+use Rattle.keys.proofs.KeyLaws.{key-mangled, key-plain, keys-none, keys-more, keys-all, turn-new, turn-latin, turn-signature, turn-mangled, turn-foreign, turn-symbol, turn-plain}
 
 -- ---- what a search answered
 
@@ -87,42 +93,41 @@ module _ (tree text s : List ℕ) (count j f : ℕ) (good : Good tree text) (l :
     pub is-foreign : m ≡ false → a ≡ false → (r : Outcome) → r ≡ Outcome.Refused (record { kind = ExternNotLatin; place = f }) → Owed r
     is-foreign q w r e = turned-away ExternNotLatin r (turn-foreign (functionOf tree text f) (keysBelow tree text j) (mangled false q) (ascii false w)) e
 
-    -- by its mangled name
-    module _ (p : Part) (long : PartIs text p (functionOf tree text f .mangledName)) (o : Found)
-        (eo : functionFound tree text o ≡ getFunction (textAt text (p .0) (p .1)) (keysBelow tree text j)) where
-      long-is : functionFound tree text o ≡ getFunction (functionOf tree text f .mangledName) (keysBelow tree text j)
-      long-is = eo ∙ ap (λ (t : Text). getFunction t (keysBelow tree text j)) (long .is)
+    -- the function that is entered with its key
+    module _ (o : Found) (eo : functionFound tree text o ≡ getFunction (functionKey (functionOf tree text f)) (keysBelow tree text j)) where
+      -- by its mangled name
+      long-is : m ≡ true → functionFound tree text o ≡ getFunction (functionOf tree text f .mangledName) (keysBelow tree text j)
+      long-is q = eo ∙ ap (λ (t : Text). getFunction t (keysBelow tree text j)) (key-mangled (functionOf tree text f) (mangled true q))
 
       pub signature-taken : m ≡ true → a ≡ false → (g : ℕ) → o ≡ Found.At g → (r : Outcome)
           → r ≡ Outcome.Refused (record { kind = SameSignature; place = f }) → Owed r
       signature-taken q w g t r e =
           turned-away SameSignature r
           (turn-signature (functionOf tree text f) (keysBelow tree text j) (mangled true q) (ascii false w) (functionOf tree text g)
-          (found-at tree text o (getFunction (functionOf tree text f .mangledName) (keysBelow tree text j)) long-is g t)) e
+          (found-at tree text o (getFunction (functionOf tree text f .mangledName) (keysBelow tree text j)) (long-is q) g t)) e
 
       pub signature-new : m ≡ true → a ≡ false → o ≡ Found.Nothing → Owed Outcome.Done
       signature-new q w t =
           taken-in
           (turn-mangled (functionOf tree text f) (keysBelow tree text j) (mangled true q) (ascii false w)
-          (found-nothing tree text o (getFunction (functionOf tree text f .mangledName) (keysBelow tree text j)) long-is t))
+          (found-nothing tree text o (getFunction (functionOf tree text f .mangledName) (keysBelow tree text j)) (long-is q) t))
 
-    -- by its name
-    module _ (o : Found) (eo : functionFound tree text o ≡ getFunction (textAt text (n .0) (n .1)) (keysBelow tree text j)) where
-      short-is : functionFound tree text o ≡ getFunction (functionOf tree text f .name) (keysBelow tree text j)
-      short-is = eo ∙ ap (λ (t : Text). getFunction t (keysBelow tree text j)) (named .is)
+      -- by its name
+      short-is : m ≡ false → functionFound tree text o ≡ getFunction (functionOf tree text f .name) (keysBelow tree text j)
+      short-is q = eo ∙ ap (λ (t : Text). getFunction t (keysBelow tree text j)) (key-plain (functionOf tree text f) (mangled false q))
 
       pub symbol-taken : m ≡ false → a ≡ true → (g : ℕ) → o ≡ Found.At g → (r : Outcome)
           → r ≡ Outcome.Refused (record { kind = SameSymbol; place = f }) → Owed r
       symbol-taken q w g t r e =
           turned-away SameSymbol r
           (turn-symbol (functionOf tree text f) (keysBelow tree text j) (mangled false q) (ascii true w) (functionOf tree text g)
-          (found-at tree text o (getFunction (functionOf tree text f .name) (keysBelow tree text j)) short-is g t)) e
+          (found-at tree text o (getFunction (functionOf tree text f .name) (keysBelow tree text j)) (short-is q) g t)) e
 
       pub symbol-new : m ≡ false → a ≡ true → o ≡ Found.Nothing → Owed Outcome.Done
       symbol-new q w t =
           taken-in
           (turn-plain (functionOf tree text f) (keysBelow tree text j) (mangled false q) (ascii true w)
-          (found-nothing tree text o (getFunction (functionOf tree text f .name) (keysBelow tree text j)) short-is t))
+          (found-nothing tree text o (getFunction (functionOf tree text f .name) (keysBelow tree text j)) (short-is q) t))
 
 -- ---- `main`
 
@@ -193,26 +198,112 @@ module _ (tree text s : List ℕ) (count j : ℕ) (l : Listed tree s count) wher
 
 -- ---- all turns
 
-module _ (tree text s s′ : List ℕ) (count j : ℕ) (good : Good tree text) (room : 64 * records tree ≤ length s)
-    (made : (s′ ≡ listedIn tree s) × (count ≡ length (functionPlaces tree))) where
-  pub all-listed : Listed tree s′ count
-  all-listed = rw (made .0) (are-listed tree text s good room count (made .1))
+-- the first j functions are entered by their keys, and what was asked equals what is left; s₀ is the scratch where the turns begin
+pub record Entered (tree text s₀ s : List ℕ) (count j : ℕ) : Type 0 where
+  pub below : j ≤ count
+  pub left : Left tree text j
+  pub numbered : Numbered tree text s
+  pub listed : Listed tree s count
+  pub slots : KeySlots tree text s (keysBelow tree text j)
+  pub keeps : ListKeeps tree s₀ s
 
-  module _ (h : j < count) (w : Left tree text j) (o : Outcome)
-      (e : addFunction (functionOf tree text (wordAt s′ (4 * j))) (keysBelow tree text j) ≡ doneWith (keysBelow tree text (j + 1)) o) where
+-- what stands before the slots stays, so the list and the texts' numbers do
+module _ (tree s s′ : List ℕ) (long : length s′ ≡ length s) (same : (i : ℕ) → i < 44 * records tree → getD s′ i 0 ≡ getD s i 0) where
+  word-before : (p : ℕ) → p + 4 ≤ 44 * records tree → wordAt s′ p ≡ wordAt s p
+  word-before p h =
+      word-same s′ p s p (same p (omega arith)) (same (p + 1) (omega arith)) (same (p + 2) (omega arith)) (same (p + 3) (omega arith))
+
+  list-stays : (count : ℕ) → Listed tree s count → Listed tree s′ count
+  list-stays count l = record {
+    room = omega (arith, l .room, long);
+    counted = l .counted;
+    listed = λ j h. word-before (4 * j) (omega (arith, l .counted, records-most tree (records tree))) ∙ l .listed j h;
+  }
+
+  texts-stay : (text : List ℕ) → Numbered tree text s → Numbered tree text s′
+  texts-stay = numbers-stay tree s s′ (λ r h. word-before (originalAt (records tree) r) (omega arith))
+
+-- the functions are listed, and no slot is taken
+module _ (tree text s₀ : List ℕ) (count : ℕ) (good : Good tree text) (room : 64 * records tree ≤ length s₀) (s₁ s : List ℕ)
+    (made : (s₁ ≡ listedIn tree s₀) × (count ≡ length (functionPlaces tree))) (c : Cleared (44 * records tree) (48 * records tree) s₁ s) where
+  pub start-keeps : ListKeeps tree s₀ s
+  start-keeps =
+      record {
+        long = c .long ∙ ap length (made .0) ∙ listed-length tree text s₀ good room;
+        between = λ i a b. c .before i b ∙ ap (λ (x : List ℕ). getD x i 0) (made .0) ∙ listed-behind tree text s₀ good room i a;
+        behind = λ i a. c .behind i a ∙ ap (λ (x : List ℕ). getD x i 0) (made .0) ∙ listed-behind tree text s₀ good room i (omega (arith, records-most tree (records tree)));
+      }
+
+  pub entered-start : Numbered tree text s₀ → Entered tree text s s count 0
+  entered-start numbered =
+      record {
+        below = omega arith;
+        left = left-start tree text;
+        numbered = texts-stay tree s₁ s (c .long) (c .before) text (rw (made .0) (still-numbered tree text s₀ good room numbered));
+        listed = list-stays tree s₁ s (c .long) (c .before) count (rw (made .0) (are-listed tree text s₀ good room count (made .1)));
+        slots = rw (keys-none tree text) (slots-none tree text s₁ s c);
+        keeps = record { long = refl; between = λ i a b. refl; behind = λ i a. refl };
+      }
+
+keeps-on : {tree s s₁ s₂ : List ℕ} → ListKeeps tree s s₁ → ListKeeps tree s₁ s₂ → ListKeeps tree s s₂
+keeps-on a b = record { long = b .long ∙ a .long; between = λ i h k. b .between i h k ∙ a .between i h k; behind = λ i h. b .behind i h ∙ a .behind i h }
+
+module _ (tree text s₀ : List ℕ) (count : ℕ) (good : Good tree text) where
+  module _ (s : List ℕ) (j : ℕ) (w : Entered tree text s₀ s count j) (h : j < count) (o : Outcome) (e : TurnMeets tree text s j o) where
+    inside-list : j < length (functionPlaces tree)
+    inside-list = omega (arith, w .listed .counted)
+
     turn-is : addFunction (functionOf tree text (getD (functionPlaces tree) j 0)) (keysBelow tree text j) ≡ doneWith (keysBelow tree text (j + 1)) o
-    turn-is = rw (all-listed .listed j h) at e
+    turn-is = rw (w .listed .listed j h) at e
 
-    pub all-next : o ≡ Outcome.Done → Left tree text (j + 1)
-    unfolding doneWith
-    all-next q = left-more tree text j (omega (arith, made .1)) (turn-is ∙ ap (doneWith (keysBelow tree text (j + 1))) q) w
-
-    pub all-refused : (x : ConvertError) → o ≡ Outcome.Refused x → AllMeet tree text s s′ (AllFunctions.Refused x)
+    pub entered-refused : (t : List ℕ) → ListKeeps tree t s₀ → (x : ConvertError) → o ≡ Outcome.Refused x → AllMeet tree text t s (AllFunctions.Refused x)
     unfolding doneWith refusal
-    all-refused x q =
-        refused (made .0)
-        (left-stop tree text j (x .kind) (x .place) (omega (arith, made .1)) (turn-is ∙ ap (doneWith (keysBelow tree text (j + 1))) q) w)
+    entered-refused t first x q =
+        refused (keeps-on first (w .keeps)) (w .listed)
+        (left-stop tree text j (x .kind) (x .place) inside-list (turn-is ∙ ap (doneWith (keysBelow tree text (j + 1))) q) (w .left))
 
-  pub all-done : count ≤ j → Left tree text j → AllMeet tree text s s′ (AllFunctions.Done count)
-  all-done h w =
-      done (made .0) (record { good = good; distinct = left-end tree text j (omega (arith, made .1)) w; listed = all-listed })
+    module _ (q : o ≡ Outcome.Done) (f : ℕ) (is : (f ≡ wordAt s (4 * j)) × FunctionAt tree f) (s′ : List ℕ) (put : s′ ≡ keyEntered tree text f s) where
+      turn-done : addFunction (functionOf tree text (getD (functionPlaces tree) j 0)) (keysBelow tree text j) ≡ ok (keysBelow tree text (j + 1))
+      unfolding doneWith
+      turn-done = turn-is ∙ ap (doneWith (keysBelow tree text (j + 1))) q
+
+      listed-there : getD (functionPlaces tree) j 0 ≡ f
+      listed-there = sym (is .0 ∙ w .listed .listed j h)
+
+      new : getFunction (functionKey (functionOf tree text f)) (keysBelow tree text j) ≡ nothing
+      new = turn-new (functionOf tree text f) (keysBelow tree text j) (keysBelow tree text (j + 1)) (rw listed-there at turn-done)
+
+      one-more : keysBelow tree text (j + 1) ≡ keysBelow tree text j ++ ((functionKey (functionOf tree text f), functionOf tree text f) ∷ [])
+      one-more = rw listed-there at (keys-more tree text j inside-list)
+
+      long : length s′ ≡ length s
+      long = entered-long tree text s good (w .listed .room) f (is .1) s′ put
+
+      stays : (i : ℕ) → i < 44 * records tree → getD s′ i 0 ≡ getD s i 0
+      stays i a = entered-byte tree text s good (w .listed .room) f (is .1) s′ put i (inl a)
+
+      pub entered-next : Entered tree text s₀ s′ count (j + 1)
+      entered-next =
+          record {
+            below = omega arith;
+            left = left-more tree text j inside-list turn-done (w .left);
+            numbered = texts-stay tree s s′ long stays text (w .numbered);
+            listed = list-stays tree s s′ long stays count (w .listed);
+            slots = rw one-more (slots-more tree text s good (w .listed .room) f (is .1) s′ put (keysBelow tree text j) (w .slots) new);
+            keeps = record {
+              long = long ∙ w .keeps .long;
+              between = λ i a b. stays i b ∙ w .keeps .between i a b;
+              behind = λ i a. entered-byte tree text s good (w .listed .room) f (is .1) s′ put i (inr a) ∙ w .keeps .behind i a;
+            };
+          }
+
+  pub entered-done : (t : List ℕ) → ListKeeps tree t s₀ → (s : List ℕ) (j : ℕ) → Entered tree text s₀ s count j → count ≤ j → AllMeet tree text t s (AllFunctions.Done count)
+  entered-done t first s j w h =
+      let all : length (functionPlaces tree) ≤ j = omega (arith, w .listed .counted) in
+      done (keeps-on first (w .keeps)) (record {
+        good = good;
+        numbered = w .numbered;
+        distinct = left-end tree text j all (w .left);
+        listed = w .listed;
+        slots = rw (keys-all tree text j all) at (w .slots);
+      })

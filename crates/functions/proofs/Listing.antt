@@ -1,6 +1,7 @@
 -- The functions' records listed in scratch, as `list_functions` makes the list; and that each then stands at its place.
 -- By the laws of `splice`, one record at a time, and by the four bytes of a word. Assumes nothing.
 use mathlib.Core.Path.{_≡_, refl, sym, ap, _∙_}
+use mathlib.Core.Logic.{inr}
 use mathlib.Core.List.{List, [], _∷_, _++_, append-assoc, append-nil}
 use Prim.Native.Nat.{ℕ, zero, suc, _+_, _*_, _^_, _≤_, _<_}
 use native.Mathlib.Numerals.{add-one}
@@ -14,11 +15,13 @@ use Rattle.laws.proofs.Splices.{length-splice, splice-splice}
 use Rattle.records.specs.Words.{byteAt, wordAt, kindOf, records}
 use Rattle.records.specs.Good.{Good}
 use Rattle.conversion.specs.Written.{bytesOf, word}
-use Rattle.records.proofs.Apart.{word-same, word-back}
+use Rattle.records.proofs.Apart.{word-same, byte-apart, word-apart, word-back}
+use Rattle.texts.specs.Texts.{originalAt, Numbered}
 use Rattle.keys.specs.Keys.{recordsBelow, functionPlaces, Listed}
 use Rattle.functions.specs.Functions.{words, listedIn}
 use Rattle.keys.proofs.FunctionLaws.{listed-kind}
 use Rattle.keys.proofs.KeySearch.{records-most}
+use Rattle.expressions.proofs.OriginalLaws.{numbers-stay}
 
 -- ---- the records of the first n, one more at a time
 
@@ -155,3 +158,17 @@ module _ (tree text s : List ℕ) (good : Good tree text) (room : 64 * records t
 
   pub are-listed : (count : ℕ) → count ≡ length (functionPlaces tree) → Listed tree (listedIn tree s) count
   are-listed count e = record { room = omega (arith, listed-length); counted = e; listed = λ j h. listed-word j (omega arith) }
+
+  -- the bytes behind the list
+  pub listed-behind : (i : ℕ) → 4 * length (functionPlaces tree) ≤ i → getD (listedIn tree s) i 0 ≡ getD s i 0
+  unfolding listedIn
+  listed-behind i h = byte-apart s 0 (words (functionPlaces tree)) inside-scratch i (inr (omega (arith, words-length (functionPlaces tree))))
+
+  -- the list ends before the texts' numbers
+  pub still-numbered : Numbered tree text s → Numbered tree text (listedIn tree s)
+  unfolding listedIn
+  still-numbered =
+      numbers-stay tree s (splice s 0 (words (functionPlaces tree)))
+      (λ r h. word-apart s 0 (words (functionPlaces tree)) inside-scratch (originalAt (records tree) r)
+      (inr (omega (arith, words-length (functionPlaces tree), records-most tree (records tree)))))
+      text

@@ -67,19 +67,19 @@ module _ (tree text : List ℕ) (good : Good tree text) where
       (params-are tree text good f at))
 
 module _ (tree s : List ℕ) (room : 64 * records tree ≤ length s) (l : List Param) (few : length l ≤ records tree) where
-  entries-in : (s′ : List ℕ) → s′ ≡ splice s (8 * records tree) (entries tree l 0) → NamesOnly tree s s′
+  entries-in : (s′ : List ℕ) → s′ ≡ splice s (8 * records tree) (entries tree s l 0) → NamesOnly tree s s′
   unfolding byteAt
   entries-in s′ e = record {
-    same-length = rw e (length-splice s (8 * records tree) (entries tree l 0) fits);
-    outside = λ i h. rw e (byte-apart s (8 * records tree) (entries tree l 0) fits i (apart i h));
+    same-length = rw e (length-splice s (8 * records tree) (entries tree s l 0) fits);
+    outside = λ i h. rw e (byte-apart s (8 * records tree) (entries tree s l 0) fits i (apart i h));
   }
     where
-      fits : 8 * records tree + length (entries tree l 0) ≤ length s
-      fits = omega (arith, room, few, entries-long tree l 0)
+      fits : 8 * records tree + length (entries tree s l 0) ≤ length s
+      fits = omega (arith, room, few, entries-long tree s l 0)
 
-      apart : (i : ℕ) → (i < 8 * records tree) ⊎ (24 * records tree ≤ i) → (i < 8 * records tree) ⊎ (8 * records tree + length (entries tree l 0) ≤ i)
+      apart : (i : ℕ) → (i < 8 * records tree) ⊎ (24 * records tree ≤ i) → (i < 8 * records tree) ⊎ (8 * records tree + length (entries tree s l 0) ≤ i)
       apart i (inl h) = inl (omega (arith, h))
-      apart i (inr h) = inr (omega (arith, h, few, entries-long tree l 0))
+      apart i (inr h) = inr (omega (arith, h, few, entries-long tree s l 0))
 
 module _ (tree text : List ℕ) (functions f : ℕ) (s s′ : List ℕ) (keyed : Keyed tree text s functions) (at : FunctionAt tree f) where
   pub names-only : (r : Answered) → ParametersMeet tree text functions f s s′ r → NamesOnly tree s s′

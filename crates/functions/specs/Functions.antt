@@ -1,15 +1,16 @@
 -- What `get_all_functions` owes: its list of the functions' records in scratch, and the keys. Assumes nothing: these are definitions.
 use mathlib.Core.Path.{_≡_}
-use Prim.Native.Nat.{ℕ, _+_, _*_}
+use Prim.Native.Nat.{ℕ, _+_, _*_, _≤_, _<_}
 use mathlib.Core.List.{List, [], _∷_, _++_}
+use lib.ListN.{length, getD}
 use Rattle.laws.specs.Splice.{splice}
 use Rattle.records.specs.declared.convert_error.ConvertError.{ConvertError}
-use Rattle.records.specs.Words.{wordAt}
+use Rattle.records.specs.Words.{wordAt, records}
 use Rattle.syntax.specs.Decode.{program}
 use Rattle.syntax.specs.Places.{functionOf}
 use Rattle.conversion.specs.Functions.{addFunction, get-all-functions}
 use Rattle.conversion.specs.Written.{word}
-use Rattle.keys.specs.Keys.{recordsBelow, functionPlaces, keysBelow, Keyed}
+use Rattle.keys.specs.Keys.{recordsBelow, functionPlaces, keysBelow, Listed, Keyed}
 use Rattle.expressions.specs.declared.answers.Outcome.{Outcome}
 use Rattle.expressions.specs.Answers.{refusal, doneWith}
 use Rattle.functions.specs.declared.functions.AllFunctions.{AllFunctions}
@@ -31,8 +32,14 @@ abbrev pub TurnMeets : List ℕ → List ℕ → List ℕ → ℕ → Outcome �
 TurnMeets tree text s j r =
     addFunction (functionOf tree text (wordAt s (4 * j))) (keysBelow tree text j) ≡ doneWith (keysBelow tree text (j + 1)) r
 
+-- the list and the slots of the keys are written, and all other bytes are as they were
+pub record ListKeeps (tree s s′ : List ℕ) : Type 0 where
+  pub long : length s′ ≡ length s
+  pub between : (i : ℕ) → 4 * length (functionPlaces tree) ≤ i → i < 44 * records tree → getD s′ i 0 ≡ getD s i 0
+  pub behind : (i : ℕ) → 48 * records tree ≤ i → getD s′ i 0 ≡ getD s i 0
+
 -- `get_all_functions`: the functions' records are listed, and their keys are distinct or the first function that is not fine is refused
 pub data AllMeet (tree text s s′ : List ℕ) : AllFunctions → Type 0 where
-  done : {count : ℕ} → s′ ≡ listedIn tree s → Keyed tree text s′ count → AllMeet tree text s s′ (AllFunctions.Done count)
-  refused : {e : ConvertError} → s′ ≡ listedIn tree s → get-all-functions (program tree text .functions) [] ≡ refusal e
+  done : {count : ℕ} → ListKeeps tree s s′ → Keyed tree text s′ count → AllMeet tree text s s′ (AllFunctions.Done count)
+  refused : {e : ConvertError} {count : ℕ} → ListKeeps tree s s′ → Listed tree s′ count → get-all-functions (program tree text .functions) [] ≡ refusal e
       → AllMeet tree text s s′ (AllFunctions.Refused e)

@@ -7,7 +7,7 @@ use mathlib.Core.Option.{none}
 use Rattle.laws.specs.Fix.{pick}
 use Rattle.laws.specs.Splice.{splice}
 use Rattle.records.specs.Words as Words
-use Rattle.records.specs.Words.{wordOf, records, A, B, C}
+use Rattle.records.specs.Words.{wordAt, wordOf, records, A, B, C}
 use Rattle.records.specs.declared.convert_error.ConvertError.{ConvertError}
 use Rattle.syntax.specs.Syntax.{Param}
 use Rattle.syntax.specs.Decode.{textOf}
@@ -21,7 +21,7 @@ use Rattle.scope.specs.Open.{more, scopeAt}
 use Rattle.functions.specs.declared.parameters.Parameters.{Parameters}
 use Rattle.functions.specs.declared.parameters.Parameters.the-variants as Parameters
 use Rattle.syntax.specs.Places.{functionOf}
-use Rattle.expressions.specs.Slots.{Ready}
+use Rattle.expressions.specs.Slots.{originalWord, Ready}
 use Rattle.expressions.specs.Answers.{refusal}
 
 -- the parameter in a cell
@@ -52,22 +52,22 @@ unfolding pick isSome find-variable withVariable
 untilTaken [] k S = []
 untilTaken (p ∷ l) k S = pick (isSome (find-variable (p .name) S)) [] (p ∷ untilTaken l (suc k) (withVariable (parameterOf p k) S))
 
--- the entry of a parameter in scratch, as the variable of number k: offset and length of its name, its number, twice its type
-abbrev pub parameterEntry : List ℕ → Param → ℕ → List ℕ
-parameterEntry tree p k = word (wordOf tree (p .recOf) A) ++ word (wordOf tree (p .recOf) B) ++ word k ++ word (2 * p .ty)
+-- the entry of a parameter in the scratch s, as the variable of number k: offset and length of its name in the lowest record with the text, its number, twice its type
+abbrev pub parameterEntry : List ℕ → List ℕ → Param → ℕ → List ℕ
+parameterEntry tree s p k = word (originalWord tree s (p .recOf) A) ++ word (originalWord tree s (p .recOf) B) ++ word k ++ word (2 * p .ty)
 
 -- the entries of parameters, numbered from k on, one behind the other
-unfoldable pub entries : List ℕ → List Param → ℕ → List ℕ
-unfolding word wordOf
-entries tree [] k = []
-entries tree (p ∷ l) k = parameterEntry tree p k ++ entries tree l (suc k)
+unfoldable pub entries : List ℕ → List ℕ → List Param → ℕ → List ℕ
+unfolding word wordOf wordAt
+entries tree s [] k = []
+entries tree s (p ∷ l) k = parameterEntry tree s p k ++ entries tree s l (suc k)
 
 -- one parameter more, or its name is taken
 pub data OneMore (tree text : List ℕ) (functions : ℕ) (sc : Scope) (p : Param) (s s′ : List ℕ) : Parameters → Type 0 where
   done : {sc′ : Scope} → Ready tree text s′ functions sc′ → sc′ ≡ more sc
       → isSome (find-variable (p .name) (scopeAt tree text s sc)) ≡ false
       → scopeAt tree text s′ sc′ ≡ withVariable (parameterOf p (sc .names)) (scopeAt tree text s sc)
-      → s′ ≡ splice s (8 * records tree + 16 * sc .names) (parameterEntry tree p (sc .names)) → OneMore tree text functions sc p s s′ (Parameters.Done sc′)
+      → s′ ≡ splice s (8 * records tree + 16 * sc .names) (parameterEntry tree s p (sc .names)) → OneMore tree text functions sc p s s′ (Parameters.Done sc′)
   refused : {e : ConvertError} → e ≡ record { kind = AlreadyDeclared; place = p .recOf }
       → isSome (find-variable (p .name) (scopeAt tree text s sc)) ≡ true
       → s′ ≡ s → OneMore tree text functions sc p s s′ (Parameters.Refused e)
@@ -77,7 +77,7 @@ pub data OneMore (tree text : List ℕ) (functions : ℕ) (sc : Scope) (p : Para
 pub data ParametersMeet (tree text : List ℕ) (functions f : ℕ) (s s′ : List ℕ) : Parameters → Type 0 where
   done : {sc : Scope} → withParams (functionOf tree text f .params) 0 (emptyIn tree text f) ≡ ok (scopeAt tree text s′ sc)
       → Ready tree text s′ functions sc → sc .inner ≡ Words.none → sc .function ≡ f
-      → s′ ≡ splice s (8 * records tree) (entries tree (functionOf tree text f .params) 0) → ParametersMeet tree text functions f s s′ (Parameters.Done sc)
+      → s′ ≡ splice s (8 * records tree) (entries tree s (functionOf tree text f .params) 0) → ParametersMeet tree text functions f s s′ (Parameters.Done sc)
   refused : {e : ConvertError} → withParams (functionOf tree text f .params) 0 (emptyIn tree text f) ≡ refusal e
-      → s′ ≡ splice s (8 * records tree) (entries tree (untilTaken (functionOf tree text f .params) 0 (emptyIn tree text f)) 0)
+      → s′ ≡ splice s (8 * records tree) (entries tree s (untilTaken (functionOf tree text f .params) 0 (emptyIn tree text f)) 0)
       → ParametersMeet tree text functions f s s′ (Parameters.Refused e)

@@ -1,4 +1,5 @@
-// functions.rs: all functions by their keys, and `main`. The Rust's map is a search over the functions, whose records are listed in scratch.
+// functions.rs: all functions by their keys, and `main`. The Rust's map is a slot in scratch for the number of each key; the functions' records
+// are listed besides.
 ghost use mathlib.Core.Path.{_≡_};
 ghost use Prim.Native.Nat.{_+_, _*_, _≤_, _<_};
 ghost use lib.ListN.{length};
@@ -7,14 +8,16 @@ ghost use Rattle.records.specs.Good.{Good};
 ghost use Rattle.syntax.specs.Decode.{program, typeAt};
 ghost use Rattle.conversion.specs.Functions.{findMain, returnsInt, check-main};
 ghost use Rattle.syntax.specs.Places.{FunctionAt, functionOf};
-ghost use Rattle.keys.specs.Keys.{Listed, functionPlaces, FunctionIs};
+ghost use Rattle.texts.specs.Texts.{Numbered};
+ghost use Rattle.keys.specs.Keys.{Listed, functionPlaces, keysBelow, KeySlots, FunctionIs};
 ghost use Rattle.functions.specs.Functions.{listedIn, TurnMeets, AllMeet};
 ghost use Rattle.expressions.specs.Answers.{outcomeOf};
 use expressions::answers::Outcome;
-use keys::keys::find_key;
+use keys::keys::clear_keys;
+use keys::keys::enter_key;
+use keys::keys::find_own_key;
 use keys::keys::function_at;
 use keys::keys::is_mangled;
-use keys::keys::mangled_name_of;
 use keys::keys::name_of;
 use keys::parts::is_ascii;
 use keys::parts::is_main;
@@ -61,11 +64,11 @@ fn list_functions(tree: &[u8], text: &[u8], scratch: &mut [u8]) -> usize
     count
 }
 
-// One turn of get_all_functions: the j-th function against those before it.
+// One turn of get_all_functions: the j-th function against those before it, which are entered by their keys.
 fn add_function(tree: &[u8], text: &[u8], scratch: &[u8], count: usize, j: usize) -> Outcome
-    requires { ⌜ Good (now tree) (now text) ⌝ }
+    requires { ⌜ Good (now tree) (now text) × Numbered (now tree) (now text) (now scratch) ⌝ }
     requires { ⌜ Listed (now tree) (now scratch) count ⌝ }
-    requires { ⌜ j < count ⌝ }
+    requires { ⌜ (j < count) × KeySlots (now tree) (now text) (now scratch) (keysBelow (now tree) (now text) j) ⌝ }
     ensures { λ r. ⌜ TurnMeets (now (tree .entry)) (now (text .entry)) (now (scratch .entry)) j r ⌝ }
 {
     let f = function_at(tree, scratch, count, j);
@@ -74,8 +77,7 @@ fn add_function(tree: &[u8], text: &[u8], scratch: &[u8], count: usize, j: usize
         if is_ascii(text, name) {
             return refuse(ConvertErrorKind::LatinCharInNonLibCFunction, f as u32);
         }
-        let mangled = mangled_name_of(tree, text, f);
-        if let Found::At(_) = find_key(tree, text, scratch, count, j, mangled) {
+        if let Found::At(_) = find_own_key(tree, text, scratch, f) {
             return refuse(ConvertErrorKind::SameSignature, f as u32);
         }
         return Outcome::Done;
@@ -83,26 +85,29 @@ fn add_function(tree: &[u8], text: &[u8], scratch: &[u8], count: usize, j: usize
     if !is_ascii(text, name) {
         return refuse(ConvertErrorKind::ExternNotLatin, f as u32);
     }
-    if let Found::At(_) = find_key(tree, text, scratch, count, j, name) {
+    if let Found::At(_) = find_own_key(tree, text, scratch, f) {
         return refuse(ConvertErrorKind::SameSymbol, f as u32);
     }
     Outcome::Done
 }
 
-// Lists the functions' records in scratch and says how many there are, or refuses the first function whose key is taken or whose name has the
+// Lists the functions' records in scratch, enters each by its key and says how many there are, or refuses the first function whose key is taken or whose name has the
 // wrong letters.
 pub fn get_all_functions(tree: &[u8], text: &[u8], scratch: &mut [u8]) -> AllFunctions
-    requires { ⌜ Good (now tree) (now text) ⌝ }
+    requires { ⌜ Good (now tree) (now text) × Numbered (now tree) (now text) (now scratch) ⌝ }
     requires { ⌜ 64 * records (now tree) ≤ length (now scratch) ⌝ }
     ensures { λ r. ⌜ AllMeet (now (tree .entry)) (now (text .entry)) (now (scratch .entry)) (now (scratch .exit)) r ⌝ }
 {
     let count = list_functions(tree, text, scratch);
+    clear_keys(scratch, tree.len() / 32);
     let mut j = 0;
     while j < count {
         match add_function(tree, text, scratch, count, j) {
             Outcome::Refused(e) => return AllFunctions::Refused(e),
             Outcome::Done => {}
         }
+        let added = function_at(tree, scratch, count, j);
+        enter_key(tree, text, scratch, added);
         j += 1;
     }
     AllFunctions::Done(count)

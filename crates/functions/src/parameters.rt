@@ -21,6 +21,7 @@ use records::words::reference;
 use records::words::word;
 use scope::Declared;
 use scope::Scope;
+use texts::original;
 
 // The scope with the parameters, or AlreadyDeclared at the one whose name is taken.
 pub enum Parameters {
@@ -38,7 +39,8 @@ fn taken(place: usize) -> Parameters
     })
 }
 
-// The scope with the parameter of one cell more; its variable's number is how many stood before. There is room: each parameter has a record.
+// The scope with the parameter of one cell more; its variable's number is how many stood before, and its name is that of the lowest record with
+// the text. There is room: each parameter has a record.
 fn declare_parameter(
     tree: &[u8],
     text: &[u8],
@@ -54,9 +56,10 @@ fn declare_parameter(
 {
     let p = reference(tree, cell, WORD_A);
     let v = VarId(scope.names as u32, word(tree, p, WORD_C));
-    let offset = word(tree, p, WORD_A);
-    let len = word(tree, p, WORD_B);
-    match scope.declare(text, scratch, offset, len, v, false) {
+    let o = original(scratch, scope.records, p);
+    let offset = word(tree, o, WORD_A);
+    let len = word(tree, o, WORD_B);
+    match scope.declare(scratch, offset, len, v, false) {
         Declared::Done(next) => Parameters::Done(next),
         Declared::Taken => taken(p),
     }

@@ -2,25 +2,27 @@
 ghost use mathlib.Core.Path.{_≡_};
 ghost use mathlib.Core.Bool.{not};
 ghost use Prim.Native.Nat.{ℕ, _+_, _*_, _≤_, _<_};
-ghost use lib.ListN.{length, getD};
+ghost use lib.ListN.{length};
 ghost use Rattle.laws.specs.Chain.{linkTo};
 ghost use Rattle.records.specs.Words.{kindOf, mostRecords};
 ghost use Rattle.records.specs.Rules.{sameType, typeIsNew};
 ghost use Rattle.records.specs.Digest.{typeDigest};
+ghost use Rattle.records.specs.Chains.{ChainRoom};
 ghost use Rattle.judge.specs.Inner.{Lowest, TypesLead};
-ghost use Rattle.judge.specs.Equal.{bucketOf, typeBucket, Chained, entered, ChainRoom};
-use crate::references::size;
+ghost use Rattle.judge.specs.Equal.{typeBucket, TypesChained};
 use crate::types::CUSTOM;
 use crate::types::same_type;
+use records::chains::bucket;
+use records::chains::clear_heads;
+use records::chains::enter;
 use records::texts::text_digest;
 use records::texts::word_digest;
 use records::words::WORD_A;
 use records::words::WORD_B;
 use records::words::WORD_C;
 use records::words::detail;
+use records::words::index;
 use records::words::load;
-use records::words::put_pair;
-use records::words::put_word;
 use records::words::wide;
 use records::words::word;
 
@@ -36,36 +38,6 @@ fn type_digest(tree: &[u8], text: &[u8], r: usize) -> u32
         return text_digest(text, a, b);
     }
     word_digest(wide(d), a, b, word(tree, r, WORD_C))
-}
-
-// The bucket of a digest: a product and its upper half cost less than a remainder.
-fn bucket(d: u32, types: usize) -> usize
-    requires { ⌜ (0 < types) × (types ≤ mostRecords) ⌝ }
-    ensures { λ v. ⌜ (v ≡ bucketOf types d) × (v < types) ⌝ }
-{
-    ((d as usize) * types) / 4294967296
-}
-
-// Zero in the first n bytes: no bucket has a type yet.
-fn clear_heads(scratch: &mut [u8], n: usize)
-    requires { ⌜ n ≤ length (now scratch) ⌝ }
-    ensures { λ _. ⌜ ((i : ℕ) → i < n → getD (now (scratch .exit)) i 0 ≡ 0) × (length (now (scratch .exit)) ≡ length (now (scratch .entry))) ⌝ }
-{
-    let mut i = 0;
-    while i < n {
-        scratch[i] = 0;
-        i += 1;
-    }
-}
-
-// Type r goes before the others of its bucket.
-fn enter(scratch: &mut [u8], types: usize, r: usize, d: u32, b: usize, head: u32)
-    requires { ⌜ ChainRoom types (now scratch) × (r < types) × (b < types) ⌝ }
-    ensures { λ _. ⌜ now (scratch .exit) ≡ entered types r d b head (now (scratch .entry)) ⌝ }
-{
-    let next = (r + 1) as u32;
-    put_pair(scratch, 4 * types + 8 * r, d, head);
-    put_word(scratch, 4 * b, next);
 }
 
 // Types k and r are equal, by their digests first. Few texts of one digest differ, so few are compared in vain.
@@ -91,11 +63,11 @@ fn has_equal(
     head: u32,
 ) -> bool
     requires { ⌜ (types * 32 ≤ length (now tree)) × (r < types) × ((k : ℕ) → k < types → kindOf (now tree) k ≡ 1) ⌝ }
-    requires { ⌜ ChainRoom types (now scratch) × Chained (now tree) (now text) types r (now scratch) ⌝ }
+    requires { ⌜ ChainRoom types (now scratch) × TypesChained (now tree) (now text) types r (now scratch) ⌝ }
     requires { ⌜ (d ≡ typeDigest (now tree) (now text) r) × (head ≡ linkTo (typeBucket (now tree) (now text) types) r (typeBucket (now tree) (now text) types r)) ⌝ }
     ensures { λ v. ⌜ v ≡ not (typeIsNew (now (tree .entry)) (now (text .entry)) r) ⌝ }
 {
-    let mut at = size(head);
+    let mut at = index(head);
     while at > 0 {
         let k = at - 1;
         let e = 4 * types + 8 * k;
@@ -103,7 +75,7 @@ fn has_equal(
         if equals(tree, text, k, r, digest, d) {
             return true;
         }
-        at = size(load(scratch, e + 4));
+        at = index(load(scratch, e + 4));
     }
     false
 }

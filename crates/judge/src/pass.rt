@@ -16,7 +16,6 @@ use crate::nesting::depth_over;
 use crate::nesting::max;
 use crate::references::Told;
 use crate::references::lowest_miscounted;
-use crate::references::size;
 use crate::references::take_reference;
 use crate::rules::class_at;
 use crate::rules::is_unused;
@@ -35,6 +34,7 @@ use records::words::WORD_C;
 use records::words::WORD_D;
 use records::words::WORD_E;
 use records::words::detail;
+use records::words::index;
 use records::words::kind;
 use records::words::pad;
 use records::words::word;
@@ -63,7 +63,7 @@ fn plain_ok(role: Role, w: u32, next: u32, bytes: usize) -> bool
 {
     match role {
         Role::Unused => w == 0,
-        Role::Text => size(w) + size(next) <= bytes,
+        Role::Text => index(w) + index(next) <= bytes,
         _ => true,
     }
 }

@@ -14,6 +14,7 @@ use records::numbers::KIND_FUNCTION;
 use records::numbers::KIND_TYPE;
 use records::shape::Role;
 use records::words::NONE;
+use records::words::index;
 use records::words::kind;
 use records::words::wide;
 
@@ -23,19 +24,13 @@ pub struct Told {
     pub depth: u8,
 }
 
-pub(crate) fn size(x: u32) -> usize
-    ensures { λ r. ⌜ r ≡ x ⌝ }
-{
-    x as usize
-}
-
 // Word w of record r, which refers: judged, and one more for a lower record that it refers to, up to 2. More than once is all that matters. What is
 // not lower has no bytes yet, and its count never matters: record r is at fault then, and it is not the higher of the two.
 pub(crate) fn take_reference(tree: &[u8], r: usize, role: Role, w: u32, known: &mut [u8]) -> Told
     requires { ⌜ (r < mostRecords) × (r * 4 ≤ length (now known)) × Known (now tree) r (now known) × (refers role ≡ true) ⌝ }
     ensures { λ t. ⌜ ((bytes next : ℕ) → Took (now (tree .entry)) bytes r role w next (now (known .entry)) (now (known .exit)) (t .ok) (t .depth)) ⌝ }
 {
-    let i = size(w);
+    let i = index(w);
     if i >= r {
         return Told {
             ok: (w == NONE) & none_ok(role),

@@ -9,7 +9,6 @@ ghost use Rattle.records.specs.Words.{none};
 ghost use Rattle.records.specs.Kinds.{kindIf, kindFunction};
 ghost use Rattle.records.specs.declared.shape.Role.the-variants.{Unused};
 ghost use Rattle.judge.specs.Inner.{itemClass, cellClass, classAt, classIn, lowKey, highKey, noneOk};
-use crate::references::size;
 use records::numbers::KIND_CONTINUE;
 use records::numbers::KIND_DECLARE;
 use records::numbers::KIND_FUNCTION;
@@ -21,6 +20,7 @@ use records::numbers::KIND_VARIABLE;
 use records::shape::Role;
 use records::words::NONE;
 use records::words::WORD_C;
+use records::words::index;
 use records::words::kind;
 use records::words::word;
 
@@ -38,7 +38,7 @@ fn class_below(known: &[u8], r: usize, w: u32) -> u8
     requires { ⌜ r * 4 ≤ length (now known) ⌝ }
     ensures { λ v. ⌜ v ≡ below (classIn (now (known .entry))) r w 0 ⌝ }
 {
-    let i = size(w);
+    let i = index(w);
     if i < r {
         return known[i * 4];
     }
@@ -71,7 +71,7 @@ fn cell_class(tree: &[u8], r: usize, a: u32, b: u32, known: &[u8]) -> u8
     requires { ⌜ (r * 32 ≤ length (now tree)) × (r * 4 ≤ length (now known)) ⌝ }
     ensures { λ v. ⌜ v ≡ cellClass (now (tree .entry)) (classIn (now (known .entry))) r a b ⌝ }
 {
-    let item = size(a);
+    let item = index(a);
     if item >= r {
         return MIXED;
     }

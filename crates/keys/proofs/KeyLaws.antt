@@ -167,6 +167,13 @@ first-turn f l F G = go (turn f F)
     go refused e = absurd (let y : _≡_ {A = ℕ} 0 1 = cc in omega arith)
     go (added n) e = (n, e)
 
+pub turn-new : (f : Function) (F G : Functions) → addFunction f F ≡ ok G → getFunction (functionKey f) F ≡ nothing
+turn-new f F G = go (turn f F)
+  where
+    go : {R : Result Functions} → Turn f F R → R ≡ ok G → getFunction (functionKey f) F ≡ nothing
+    go refused e = absurd (let y : _≡_ {A = ℕ} 0 1 = cc in omega arith)
+    go (added n) e = n
+
 -- what comes out is the functions with their keys
 pub all-keyed : (l : List Function) (F G : Functions) → get-all-functions l F ≡ ok G → G ≡ F ++ keyed l
 unfolding get-all-functions keyed

@@ -1,4 +1,4 @@
--- Parts of the text against each other and against bytes, and whether a part is Latin: what a loop over its bytes shows of `is-ascii`.
+-- Parts of the text against bytes, and whether a part is Latin: what a loop over its bytes shows of `is-ascii`.
 -- By the laws of texts, one byte at a time. Assumes nothing.
 use mathlib.Core.Path.{_≡_, refl, sym, ap, ap₂, _∙_}
 use mathlib.Core.Bool.{Bool, true, false, _&&_}
@@ -12,17 +12,6 @@ use Rattle.records.specs.Words.{textAt}
 use Rattle.conversion.specs.Ir.{sameText}
 use Rattle.conversion.specs.Functions.{is-ascii}
 use Rattle.records.proofs.TextLaws.{reach-whole, text-whole, other-lengths, first-byte}
-
--- ---- two parts of the text
-
-module _ (t : List ℕ) (a n b m : ℕ) (ha : a + n ≤ length t) (hb : b + m ≤ length t) where
-  pub other-parts : (n ≡ m → ⊥) → false ≡ sameText (textAt t a n) (textAt t b m)
-  other-parts h =
-      other-lengths (textAt t a n) (textAt t b m) n m (reach-whole t a n (omega arith)) (reach-whole t b m (omega arith)) h
-
-pub same-parts-of : (t : List ℕ) (a n b m : ℕ) (r : Bool) → n ≡ m → r ≡ sameText (textAt t a n) (textAt t b n)
-    → r ≡ sameText (textAt t a n) (textAt t b m)
-same-parts-of t a n b m r e h = h ∙ ap (λ (k : ℕ). sameText (textAt t a n) (textAt t b k)) e
 
 -- ---- a part of the text, and bytes
 

@@ -2,20 +2,24 @@
 -- among them. Assumes nothing: these are definitions.
 use mathlib.Core.Path.{_≡_}
 use Prim.Native.Nat.{ℕ, zero, suc, _+_, _*_, _≤_, _<_}
+use mathlib.Core.Bool.{true}
 use mathlib.Core.List.{List, [], _∷_, _++_}
 use mathlib.Core.Option.{Option, none, some}
 use lib.Dec.{eqb}
 use lib.ListN.{length, take, getD}
 use Rattle.laws.specs.Fix.{pick}
-use Rattle.records.specs.Words.{kindOf, wordAt, records}
+use Rattle.laws.specs.Splice.{splice}
+use Rattle.records.specs.Words.{kindOf, wordAt, wordOf, word, records, A, B}
+use Rattle.records.specs.Layout.{keySlots}
 use Rattle.records.specs.Kinds.{kindFunction}
 use Rattle.records.specs.Good.{Good}
 use Rattle.syntax.specs.Syntax.{Text, Function}
 use Rattle.syntax.specs.Decode.{program}
 use Rattle.conversion.specs.ConvertError.{ok}
-use Rattle.conversion.specs.Expressions.{Functions, is-mangled}
+use Rattle.conversion.specs.Expressions.{Functions, is-mangled, getFunction}
 use Rattle.conversion.specs.Functions.{get-all-functions}
 use Rattle.syntax.specs.Places.{FunctionAt, functionOf}
+use Rattle.texts.specs.Texts.{hasOwn, ownText, original, Numbered}
 use Rattle.records.specs.declared.words.Found.{Found}
 use Rattle.records.specs.declared.words.Found.the-variants as Found
 
@@ -63,11 +67,38 @@ pub record Listed (tree s : List ℕ) (count : ℕ) : Type 0 where
   pub counted : count ≡ length (functionPlaces tree)
   pub listed : (j : ℕ) → j < count → wordAt s (4 * j) ≡ getD (functionPlaces tree) j 0
 
--- `get_all_functions` went well: a good tree whose keys are distinct, its functions listed in scratch
+-- ---- the functions by the numbers of their keys
+
+-- the record whose text is the key of function f
+unfoldable pub keyRecord : List ℕ → List ℕ → ℕ → ℕ
+unfolding pick is-mangled functionOf
+keyRecord tree text f = pick (is-mangled (functionOf tree text f)) (wordOf tree f B) (wordOf tree f A)
+
+-- where the slot of a text's number stands in the scratch of n records
+abbrev pub keySlotAt : ℕ → ℕ → ℕ
+keySlotAt n o = keySlots .from * n + keySlots .each * o
+
+-- a slot's word says which function it is: one more than its record, or 0 where there is none
+pub record SlotSays (tree text : List ℕ) (w : ℕ) (o : Option Function) : Type 0 where
+  pub free : w ≡ 0 → o ≡ none
+  pub taken : (f : ℕ) → w ≡ f + 1 → (o ≡ some (functionOf tree text f)) × FunctionAt tree f
+
+-- the slots have these functions: that of a text says which of them has the text as its key
+abbrev pub KeySlots : List ℕ → List ℕ → List ℕ → Functions → Type 0
+KeySlots tree text s F = (r : ℕ) → r < records tree → hasOwn tree r ≡ true
+    → SlotSays tree text (wordAt s (keySlotAt (records tree) (original tree text r))) (getFunction (ownText tree text r) F)
+
+-- function f is entered at the slot of its key
+abbrev pub keyEntered : List ℕ → List ℕ → ℕ → List ℕ → List ℕ
+keyEntered tree text f s = splice s (keySlotAt (records tree) (original tree text (keyRecord tree text f))) (word (f + 1))
+
+-- `get_all_functions` went well: a good tree whose keys are distinct, its texts numbered, its functions listed in scratch and entered by their keys
 pub record Keyed (tree text s : List ℕ) (count : ℕ) : Type 0 where
   pub good : Good tree text
+  pub numbered : Numbered tree text s
   pub distinct : get-all-functions (program tree text .functions) [] ≡ ok (allKeys tree text)
   pub listed : Listed tree s count
+  pub slots : KeySlots tree text s (allKeys tree text)
 
 -- ---- what a search answers
 
@@ -86,3 +117,12 @@ pub data FunctionFound (tree : List ℕ) : Found → Type 0 where
 pub record FunctionIs (tree text : List ℕ) (r : Found) (o : Option Function) : Type 0 where
   pub is : functionFound tree text r ≡ o
   pub function : FunctionFound tree r
+
+-- the answer to a text's number: whatever functions the slots have, the one whose key is a text of this number
+abbrev pub FindsKey : List ℕ → List ℕ → List ℕ → ℕ → Found → Type 0
+FindsKey tree text s number v = (F : Functions) → KeySlots tree text s F → (r : ℕ) → r < records tree → hasOwn tree r ≡ true → number ≡ original tree text r
+    → FunctionIs tree text v (getFunction (ownText tree text r) F)
+
+-- the same of the key of function f
+abbrev pub FindsOwnKey : List ℕ → List ℕ → List ℕ → ℕ → Found → Type 0
+FindsOwnKey tree text s f v = (F : Functions) → KeySlots tree text s F → FunctionIs tree text v (getFunction (functionKey (functionOf tree text f)) F)

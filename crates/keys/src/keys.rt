@@ -2,23 +2,30 @@
 ghost use mathlib.Core.Path.{_≡_};
 ghost use Prim.Native.Nat.{_+_, _*_, _≤_, _<_};
 ghost use lib.ListN.{length};
-ghost use Rattle.records.specs.Words.{textAt, wordAt};
+ghost use Rattle.records.specs.Words.{wordAt, records, mostRecords};
+ghost use Rattle.records.specs.Chains.{Cleared};
 ghost use Rattle.records.specs.Good.{Good};
-ghost use Rattle.conversion.specs.Expressions.{is-mangled, getFunction};
+ghost use Rattle.conversion.specs.Expressions.{is-mangled};
 ghost use Rattle.syntax.specs.Places.{FunctionAt, functionOf, ParamsAt, paramsAt};
 ghost use Rattle.keys.specs.Parts.{PartIs};
-ghost use Rattle.keys.specs.Keys.{functionKey, keysBelow, Listed, FunctionIs};
+ghost use Rattle.texts.specs.Texts.{original as originalOf, Numbered};
+ghost use Rattle.keys.specs.Keys.{functionKey, Listed, keyRecord, keyEntered, FindsKey, FindsOwnKey};
 use crate::parts::Part;
 use crate::parts::is_main;
-use crate::parts::same_parts;
 use crate::parts::text_part;
+use records::chains::clear_run;
+use records::layout::KEY_SLOT_BYTES;
+use records::layout::KEY_SLOTS;
 use records::words::Found;
 use records::words::WORD_A;
 use records::words::WORD_B;
 use records::words::WORD_C;
 use records::words::detail;
+use records::words::index;
 use records::words::load;
+use records::words::put_word;
 use records::words::reference;
+use texts::original;
 
 pub fn name_of(tree: &[u8], text: &[u8], f: usize) -> Part
     requires { ⌜ Good (now tree) (now text) ⌝ }
@@ -93,28 +100,67 @@ pub fn function_at(tree: &[u8], scratch: &[u8], count: usize, j: usize) -> usize
     load(scratch, 4 * j) as usize
 }
 
-// Of the first `most` listed functions the one with this key.
-pub fn find_key(
-    tree: &[u8],
-    text: &[u8],
-    scratch: &[u8],
-    count: usize,
-    most: usize,
-    key: Part,
-) -> Found
+// The record whose text is a function's key.
+fn key_record(tree: &[u8], text: &[u8], f: usize) -> usize
     requires { ⌜ Good (now tree) (now text) ⌝ }
-    requires { ⌜ Listed (now tree) (now scratch) count ⌝ }
-    requires { ⌜ most ≤ count ⌝ }
-    requires { ⌜ key .0 + key .1 ≤ length (now text) ⌝ }
-    ensures { λ r. ⌜ FunctionIs (now (tree .entry)) (now (text .entry)) r (getFunction (textAt (now (text .entry)) (key .0) (key .1)) (keysBelow (now (tree .entry)) (now (text .entry)) most)) ⌝ }
+    requires { ⌜ FunctionAt (now tree) f ⌝ }
+    ensures { λ r. ⌜ r ≡ keyRecord (now (tree .entry)) (now (text .entry)) f ⌝ }
 {
-    let mut j = 0;
-    while j < most {
-        let f = function_at(tree, scratch, count, j);
-        if same_parts(text, key, key_of(tree, text, f)) {
-            return Found::At(f);
-        }
-        j += 1;
+    if is_mangled(tree, text, f) {
+        return reference(tree, f, WORD_B);
     }
-    Found::Nothing
+    reference(tree, f, WORD_A)
+}
+
+// The number of a function's key.
+fn key_number(tree: &[u8], text: &[u8], scratch: &[u8], f: usize) -> usize
+    requires { ⌜ Good (now tree) (now text) × Numbered (now tree) (now text) (now scratch) × (64 * records (now tree) ≤ length (now scratch)) ⌝ }
+    requires { ⌜ FunctionAt (now tree) f ⌝ }
+    ensures { λ o. ⌜ (o ≡ originalOf (now (tree .entry)) (now (text .entry)) (keyRecord (now (tree .entry)) (now (text .entry)) f)) × (o < records (now (tree .entry))) ⌝ }
+{
+    let n = tree.len() / 32;
+    original(scratch, n, key_record(tree, text, f))
+}
+
+// No function is entered by its key yet.
+pub fn clear_keys(scratch: &mut [u8], n: usize)
+    requires { ⌜ (n ≤ mostRecords) × (64 * n ≤ length (now scratch)) ⌝ }
+    ensures { λ _. ⌜ Cleared (44 * n) (48 * n) (now (scratch .entry)) (now (scratch .exit)) ⌝ }
+{
+    let from = KEY_SLOTS * n;
+    clear_run(scratch, from, from + KEY_SLOT_BYTES * n);
+}
+
+// A function is entered at the slot of its key's number.
+pub fn enter_key(tree: &[u8], text: &[u8], scratch: &mut [u8], f: usize)
+    requires { ⌜ Good (now tree) (now text) × Numbered (now tree) (now text) (now scratch) × (64 * records (now tree) ≤ length (now scratch)) ⌝ }
+    requires { ⌜ FunctionAt (now tree) f ⌝ }
+    ensures { λ _. ⌜ now (scratch .exit) ≡ keyEntered (now (tree .entry)) (now (text .entry)) f (now (scratch .entry)) ⌝ }
+{
+    let n = tree.len() / 32;
+    let number = key_number(tree, text, scratch, f);
+    let next = (f + 1) as u32;
+    put_word(scratch, KEY_SLOTS * n + KEY_SLOT_BYTES * number, next);
+}
+
+// The function whose key is the text of this number: one load, whatever the functions are.
+pub fn find_key(tree: &[u8], text: &[u8], scratch: &[u8], number: usize) -> Found
+    requires { ⌜ Good (now tree) (now text) × (64 * records (now tree) ≤ length (now scratch)) × (number < records (now tree)) ⌝ }
+    ensures { λ r. ⌜ FindsKey (now (tree .entry)) (now (text .entry)) (now (scratch .entry)) number r ⌝ }
+{
+    let n = tree.len() / 32;
+    let w = index(load(scratch, KEY_SLOTS * n + KEY_SLOT_BYTES * number));
+    if w == 0 {
+        return Found::Nothing;
+    }
+    Found::At(w - 1)
+}
+
+// The function that is entered with the key of function f.
+pub fn find_own_key(tree: &[u8], text: &[u8], scratch: &[u8], f: usize) -> Found
+    requires { ⌜ Good (now tree) (now text) × Numbered (now tree) (now text) (now scratch) × (64 * records (now tree) ≤ length (now scratch)) ⌝ }
+    requires { ⌜ FunctionAt (now tree) f ⌝ }
+    ensures { λ r. ⌜ FindsOwnKey (now (tree .entry)) (now (text .entry)) (now (scratch .entry)) f r ⌝ }
+{
+    find_key(tree, text, scratch, key_number(tree, text, scratch, f))
 }

@@ -6,7 +6,6 @@ ghost use Rattle.records.specs.Words.{textAt, wordOf};
 ghost use Rattle.conversion.specs.Ir.{sameText};
 ghost use Rattle.conversion.specs.Expressions.{castVerb, mainName, variadicMark};
 ghost use Rattle.conversion.specs.Functions.{is-ascii};
-use records::texts::same_part;
 use records::texts::same_run;
 use records::words::reference;
 
@@ -72,19 +71,4 @@ pub fn is_ascii(text: &[u8], p: Part) -> bool
         i += 1;
     }
     true
-}
-
-// Whether two parts are the same text; the bytes are looked at only where the lengths agree.
-pub fn same_parts(text: &[u8], p: Part, q: Part) -> bool
-    requires { ⌜ p .0 + p .1 ≤ length (now text) ⌝ }
-    requires { ⌜ q .0 + q .1 ≤ length (now text) ⌝ }
-    ensures { λ r. ⌜ r ≡ sameText (textAt (now (text .entry)) (p .0) (p .1)) (textAt (now (text .entry)) (q .0) (q .1)) ⌝ }
-{
-    let a = p.0;
-    let b = q.0;
-    let n = p.1;
-    if n != q.1 {
-        return false;
-    }
-    same_part(text, a, b, n)
 }

@@ -27,7 +27,7 @@ module _ (t : List ℕ) (at n : ℕ) (fit : at + n ≤ length t) where
   unfolding textAt byteAt
   part-byte i h = getD-take n (drop at t) i 0 h ∙ getD-drop at t i 0
 
-  part-word : (i : ℕ) → i + 4 ≤ n → wordAt (textAt t at n) i ≡ wordAt t (at + i)
+  pub part-word : (i : ℕ) → i + 4 ≤ n → wordAt (textAt t at n) i ≡ wordAt t (at + i)
   unfolding wordAt
   part-word i h =
       rw (part-byte i (omega arith), part-byte (i + 1) (omega arith), part-byte (i + 2) (omega arith), part-byte (i + 3) (omega arith))

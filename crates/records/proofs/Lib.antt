@@ -1,4 +1,5 @@
 pub mod Apart
+pub mod ChainedLaws
 pub mod DigestLaws
 pub mod EightLaws
 pub mod Good

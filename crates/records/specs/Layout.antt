@@ -10,7 +10,8 @@ pub record Region : Type 0 where
   pub each : ℕ
 
 -- what the judge knows: four bytes for each record (what its list holds, how deep it is, how often it is referred to, its kind; before that, twelve for
--- each type, while equal types are looked for); once the tree is judged, the functions' records in their order, a word each
+-- each type, while equal types are looked for); once the tree is judged, twelve for each record, while equal texts are looked for (`specs/Chains.antt`); then
+-- the functions' records in their order, a word each
 abbrev pub judging : Region
 judging = record { from = 0; each = 4 }
 
@@ -26,16 +27,24 @@ openNames = record { from = 8; each = 16 }
 abbrev pub operands : Region
 operands = record { from = 24; each = 16 }
 
+-- the numbers of the texts: for each record that has a text the lowest record with the same one, a word at the record's slot
+abbrev pub originals : Region
+originals = record { from = 40; each = 4 }
+
+-- the functions by key: at the slot of a text's number one more than the record of the function whose key the text is, or 0, a word
+abbrev pub keySlots : Region
+keySlots = record { from = 44; each = 4 }
+
 -- left for later
 abbrev pub unused : Region
-unused = record { from = 40; each = 16 }
+unused = record { from = 48; each = 8 }
 
 -- for a later mark at each expression (whether it was typed, and its type)
 abbrev pub typedOnce : Region
 typedOnce = record { from = 56; each = 8 }
 
 abbrev pub layout : List Region
-layout = judging ∷ argumentTypes ∷ openNames ∷ operands ∷ unused ∷ typedOnce ∷ []
+layout = judging ∷ argumentTypes ∷ openNames ∷ operands ∷ originals ∷ keySlots ∷ unused ∷ typedOnce ∷ []
 
 -- 'scratch 64n'
 abbrev pub scratchEach : ℕ

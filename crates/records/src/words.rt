@@ -74,7 +74,8 @@ pub fn pad(tree: &[u8], r: usize) -> u32
     wide(tree[r * 32 + 2]) + wide(tree[r * 32 + 3]) * 256
 }
 
-fn index(x: u32) -> usize
+// A word as a record's number.
+pub fn index(x: u32) -> usize
     ensures { λ r. ⌜ r ≡ x ⌝ }
 {
     x as usize

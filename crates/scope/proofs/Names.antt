@@ -27,7 +27,7 @@ use Rattle.scope.specs.declared.Scope.{Scope}
 use Rattle.scope.specs.declared.Known.{Known}
 use Rattle.scope.specs.declared.Known.the-variants as Known
 use Rattle.scope.specs.declared.Declared.the-variants as Declared
-use Rattle.scope.specs.Open.{variableAt, variablesAt, variablesOf, NamesRoom, nameIs, VariableAt, IsFound, FindMeets, more, variable, nameEntry, NameAfforded, DeclareMeets}
+use Rattle.scope.specs.Open.{variableAt, variablesAt, variablesOf, NamesRoom, nameIs, wordsAre, Told, VariableAt, IsFound, FindMeets, more, variable, nameEntry, NameAfforded, DeclareMeets}
 use Rattle.scope.proofs.ScopeLaws.{kept-above, variables-kept, entry-long}
 
 -- ---- the loop
@@ -157,7 +157,14 @@ module _ (text : List ℕ) (offset len : ℕ) (v : VarId) (constant : Bool) (sc 
     pub declare-done : last (sc .names) (nameIs text s (sc .records) (textAt text offset len)) ≡ none
         → DeclareMeets text offset len v constant sc s s′ (Declared.Done (more sc))
     unfolding DeclareMeets
-    declare-done q = record { scope = refl; written = e; free = looked text s sc (textAt text offset len) none q; added = added-is }
+    declare-done q = record {
+      scope = refl;
+      written = e;
+      free = looked text s sc (textAt text offset len) none q;
+      offset-is = word₀;
+      length-is = word₁;
+      added = added-is;
+    }
 
 pub declare-taken : (text : List ℕ) (offset len : ℕ) (v : VarId) (constant : Bool) (sc : Scope) (s : List ℕ) (j : ℕ)
     → last (sc .names) (nameIs text s (sc .records) (textAt text offset len)) ≡ some j
@@ -176,27 +183,38 @@ mark-one b false e = omega arith
 
 -- ---- as the code meets them: what the search answered
 
-module _ (text s : List ℕ) (sc : Scope) (offset len : ℕ) (a : Found)
-    (e : a ≡ foundOf (last (sc .names) (nameIs text s (sc .records) (textAt text offset len)))) where
-  pub find-at : (r : Known) (j : ℕ) → a ≡ At j → VariableAt s (8 * sc .records + 16 * j) r → FindMeets text s sc (textAt text offset len) r
-  find-at r j q w = find-hit text s sc (textAt text offset len) r j (found-some (last (sc .names) (nameIs text s (sc .records) (textAt text offset len))) j a e q) w
+-- tests that agree below a number have the same last hit below it
+last-same : (n : ℕ) (f g : ℕ → Bool) → ((j : ℕ) → j < n → f j ≡ g j) → last n f ≡ last n g
+unfolding last
+last-same zero f g e = refl
+last-same (suc n) f g e = rw (e n (omega arith), last-same n f g (λ j h. e j (omega arith)))
 
-  pub find-nowhere : a ≡ Nothing → FindMeets text s sc (textAt text offset len) Known.Unknown
-  find-nowhere q = find-none text s sc (textAt text offset len) (found-none (last (sc .names) (nameIs text s (sc .records) (textAt text offset len))) a e q)
-
+module _ (s : List ℕ) (sc : Scope) (offset len : ℕ) (a : Found) (e : a ≡ foundOf (last (sc .names) (wordsAre s (sc .records) offset len))) where
   pub found-below : (j : ℕ) → a ≡ At j → j < sc .names
-  found-below j q = last-below (sc .names) (nameIs text s (sc .records) (textAt text offset len)) j
-      (found-some (last (sc .names) (nameIs text s (sc .records) (textAt text offset len))) j a e q)
+  found-below j q =
+      last-below (sc .names) (wordsAre s (sc .records) offset len) j (found-some (last (sc .names) (wordsAre s (sc .records) offset len)) j a e q)
 
-  pub declare-at : (v : VarId) (constant : Bool) (j : ℕ) → a ≡ At j → DeclareMeets text offset len v constant sc s s Declared.Taken
-  declare-at v constant j q =
-      declare-taken text offset len v constant sc s j (found-some (last (sc .names) (nameIs text s (sc .records) (textAt text offset len))) j a e q)
+  module _ (text : List ℕ) (told : Told text s sc offset len) where
+    abbrev search-of : Option ℕ
+    search-of = last (sc .names) (nameIs text s (sc .records) (textAt text offset len))
 
-  pub declare-new : (v : VarId) (constant : Bool) (b : ℕ) (s′ : List ℕ) → NamesRoom sc s → NameAfforded sc v → offset < 2 ^ 32 → len < 2 ^ 32 → v .0 < 2 ^ 32
-      → b ≡ boolNumber constant → a ≡ Nothing
-      → s′ ≡ splice s (8 * sc .records + 16 * sc .names) (word offset ++ word len ++ word (v .0) ++ word (2 * v .1 + b))
-      → DeclareMeets text offset len v constant sc s s′ (Declared.Done (more sc))
-  declare-new v constant b s′ room afforded ho hn hv eb q w =
-      declare-done text offset len v constant sc s s′ room afforded ho hn hv
-      (w ∙ ap (λ (x : ℕ). splice s (8 * sc .records + 16 * sc .names) (word offset ++ word len ++ word (v .0) ++ word (2 * v .1 + x))) eb)
-      (found-none (last (sc .names) (nameIs text s (sc .records) (textAt text offset len))) a e q)
+    told-search : a ≡ foundOf search-of
+    told-search = e ∙ ap foundOf (sym (last-same (sc .names) (nameIs text s (sc .records) (textAt text offset len)) (wordsAre s (sc .records) offset len) told))
+
+    pub find-at : (r : Known) (j : ℕ) → a ≡ At j → VariableAt s (8 * sc .records + 16 * j) r → FindMeets text s sc (textAt text offset len) r
+    find-at r j q w = find-hit text s sc (textAt text offset len) r j (found-some search-of j a told-search q) w
+
+    pub find-nowhere : a ≡ Nothing → FindMeets text s sc (textAt text offset len) Known.Unknown
+    find-nowhere q = find-none text s sc (textAt text offset len) (found-none search-of a told-search q)
+
+    pub declare-at : (v : VarId) (constant : Bool) (j : ℕ) → a ≡ At j → DeclareMeets text offset len v constant sc s s Declared.Taken
+    declare-at v constant j q = declare-taken text offset len v constant sc s j (found-some search-of j a told-search q)
+
+    pub declare-new : (v : VarId) (constant : Bool) (b : ℕ) (s′ : List ℕ) → NamesRoom sc s → NameAfforded sc v → offset < 2 ^ 32 → len < 2 ^ 32 → v .0 < 2 ^ 32
+        → b ≡ boolNumber constant → a ≡ Nothing
+        → s′ ≡ splice s (8 * sc .records + 16 * sc .names) (word offset ++ word len ++ word (v .0) ++ word (2 * v .1 + b))
+        → DeclareMeets text offset len v constant sc s s′ (Declared.Done (more sc))
+    declare-new v constant b s′ room afforded ho hn hv eb q w =
+        declare-done text offset len v constant sc s s′ room afforded ho hn hv
+        (w ∙ ap (λ (x : ℕ). splice s (8 * sc .records + 16 * sc .names) (word offset ++ word len ++ word (v .0) ++ word (2 * v .1 + x))) eb)
+        (found-none search-of a told-search q)

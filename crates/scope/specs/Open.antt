@@ -2,7 +2,7 @@
 -- nothing: these are definitions.
 use mathlib.Core.Path.{_≡_}
 use Prim.Native.Nat.{ℕ, zero, suc, _+_, _*_, _/_, _%_, _≤_, _<_}
-use mathlib.Core.Bool.{Bool}
+use mathlib.Core.Bool.{Bool, _&&_}
 use mathlib.Core.List.{List, [], _∷_, _++_}
 use mathlib.Core.Option.{Option, none, some}
 use lib.Dec.{eqb}
@@ -69,6 +69,14 @@ pub record NamesRoom (sc : Scope) (s : List ℕ) : Type 0 where
 unfoldable pub nameIs : List ℕ → List ℕ → ℕ → List ℕ → ℕ → Bool
 nameIs text s n u j = sameText u (textAt text (wordAt s (8 * n + 16 * j)) (wordAt s (8 * n + 16 * j + 4)))
 
+-- offset and length of entry j are these two words
+unfoldable pub wordsAre : List ℕ → ℕ → ℕ → ℕ → ℕ → Bool
+wordsAre s n offset len j = eqb offset (wordAt s (8 * n + 16 * j)) && eqb len (wordAt s (8 * n + 16 * j + 4))
+
+-- the two words tell the text that they say from those of the open names: an entry has the text exactly where it has the words
+abbrev pub Told : List ℕ → List ℕ → Scope → ℕ → ℕ → Type 0
+Told text s sc offset len = (j : ℕ) → j < sc .names → nameIs text s (sc .records) (textAt text offset len) j ≡ wordsAre s (sc .records) offset len j
+
 unfoldable pub VariableAt : List ℕ → ℕ → Known → Type 0
 VariableAt s p (Known.Is v c) = (varOf v ≡ varAt s p) × (c ≡ constantAt s p)
 VariableAt s p Known.Unknown = ⊥
@@ -83,6 +91,10 @@ IsFound Known.Unknown none = Unit {0}
 -- `find_variable` of the name u
 abbrev pub FindMeets : List ℕ → List ℕ → Scope → List ℕ → Known → Type 0
 FindMeets text s sc u r = IsFound r (findIn u (variablesOf text s sc))
+
+-- the same of two words, in every text where they tell the name
+abbrev pub FindsTold : List ℕ → Scope → ℕ → ℕ → Known → Type 0
+FindsTold s sc offset len r = (text : List ℕ) → Told text s sc offset len → FindMeets text s sc (textAt text offset len) r
 
 -- ---- one name more
 
@@ -102,11 +114,13 @@ pub record NameAfforded (sc : Scope) (v : VarId) : Type 0 where
   pub type : v .1 < 2147483648
 
 module _ (text : List ℕ) (offset len : ℕ) (v : VarId) (constant : Bool) (sc : Scope) (s s′ : List ℕ) where
-  -- the name was free; its entry stands behind the others, and the variable is the innermost
+  -- the name was free; its entry stands behind the others, with the two words, and the variable is the innermost
   pub record Added (sc′ : Scope) : Type 0 where
     pub scope : sc′ ≡ more sc
     pub written : s′ ≡ splice s (8 * sc .records + 16 * sc .names) (nameEntry offset len v constant)
     pub free : findIn (textAt text offset len) (variablesOf text s sc) ≡ none
+    pub offset-is : wordAt s′ (8 * sc .records + 16 * sc .names) ≡ offset
+    pub length-is : wordAt s′ (8 * sc .records + 16 * sc .names + 4) ≡ len
     pub added : variablesOf text s′ sc′ ≡ variable text offset len v constant ∷ variablesOf text s sc
 
   -- some variable has the name, and nothing is written
@@ -118,6 +132,10 @@ module _ (text : List ℕ) (offset len : ℕ) (v : VarId) (constant : Bool) (sc 
   unfoldable pub DeclareMeets : Declared → Type 0
   DeclareMeets (Declared.Done sc′) = Added sc′
   DeclareMeets Declared.Taken = Taken
+
+-- `declare` of two words, in every text where they tell the name
+abbrev pub DeclaresTold : ℕ → ℕ → VarId → Bool → Scope → List ℕ → List ℕ → Declared → Type 0
+DeclaresTold offset len v constant sc s s′ r = (text : List ℕ) → Told text s sc offset len → DeclareMeets text offset len v constant sc s s′ r
 
 -- ---- loops
 

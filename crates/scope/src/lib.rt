@@ -1,14 +1,15 @@
 // scope.rs: the names that are known at a place. They stand in scratch, the innermost last; the scope is a cursor by value that says how
-// many are open. Leaving a block is going on with the scope from before it.
+// many are open. Leaving a block is going on with the scope from before it. Names are told apart by two words, offset and length: callers take
+// those of the lowest record with the text, so no text is compared.
 ghost use mathlib.Core.Path.{_≡_};
 ghost use Prim.Native.Nat.{_+_, _*_, _≤_};
 ghost use lib.ListN.{length};
-ghost use Rattle.records.specs.Words.{textAt};
 ghost use Rattle.ir.specs.Search.{foundOf};
 ghost use Rattle.laws.specs.Below.{last};
-ghost use Rattle.scope.specs.Open.{nameIs, NamesRoom, VariableAt, FindMeets, NameAfforded, DeclareMeets, within, loopNumber, loopOf};
+ghost use Rattle.scope.specs.Open.{wordsAre, NamesRoom, VariableAt, FindsTold, NameAfforded, DeclaresTold, within, loopNumber, loopOf};
 use ir::structs::VarId;
-use records::texts::same_text;
+use records::layout::OPEN_NAME_BYTES;
+use records::layout::OPEN_NAMES;
 use records::words::Found;
 use records::words::Four;
 use records::words::NONE;
@@ -42,31 +43,25 @@ pub enum InLoop {
     Outside,
 }
 
-fn is_name(text: &[u8], scratch: &[u8], records: usize, j: usize, offset: u32, len: u32) -> bool
+// Whether the name of entry j is said by these two words.
+fn is_name(scratch: &[u8], records: usize, j: usize, offset: u32, len: u32) -> bool
     requires { ⌜ 8 * records + 16 * j + 16 ≤ length (now scratch) ⌝ }
-    ensures { λ r. ⌜ r ≡ nameIs (now (text .entry)) (now (scratch .entry)) records (textAt (now (text .entry)) offset len) j ⌝ }
+    ensures { λ r. ⌜ r ≡ wordsAre (now (scratch .entry)) records offset len j ⌝ }
 {
-    let a = load(scratch, 8 * records + 16 * j);
-    let n = load(scratch, 8 * records + 16 * j + 4);
-    same_text(text, offset, len, a, n)
+    let a = load(scratch, OPEN_NAMES * records + OPEN_NAME_BYTES * j);
+    let n = load(scratch, OPEN_NAMES * records + OPEN_NAME_BYTES * j + 4);
+    (offset == a) & (len == n)
 }
 
-// The last of `count` open names that is the text.
-fn find_name(
-    text: &[u8],
-    scratch: &[u8],
-    records: usize,
-    count: usize,
-    offset: u32,
-    len: u32,
-) -> Found
+// The last of `count` open names that these two words say.
+fn find_name(scratch: &[u8], records: usize, count: usize, offset: u32, len: u32) -> Found
     requires { ⌜ 8 * records + 16 * count ≤ length (now scratch) ⌝ }
-    ensures { λ r. ⌜ r ≡ foundOf (last count (nameIs (now (text .entry)) (now (scratch .entry)) records (textAt (now (text .entry)) offset len))) ⌝ }
+    ensures { λ r. ⌜ r ≡ foundOf (last count (wordsAre (now (scratch .entry)) records offset len)) ⌝ }
 {
     let mut j = count;
     while 0 < j {
         let i = j - 1;
-        if is_name(text, scratch, records, i, offset, len) {
+        if is_name(scratch, records, i, offset, len) {
             return Found::At(i);
         }
         j = i;
@@ -78,30 +73,29 @@ fn variable_at(scratch: &[u8], records: usize, j: usize) -> Known
     requires { ⌜ 8 * records + 16 * j + 16 ≤ length (now scratch) ⌝ }
     ensures { λ r. ⌜ VariableAt (now (scratch .entry)) (8 * records + 16 * j) r ⌝ }
 {
-    let id = load(scratch, 8 * records + 16 * j + 8);
-    let w = load(scratch, 8 * records + 16 * j + 12);
+    let id = load(scratch, OPEN_NAMES * records + OPEN_NAME_BYTES * j + 8);
+    let w = load(scratch, OPEN_NAMES * records + OPEN_NAME_BYTES * j + 12);
     Known::Is(VarId(id, w / 2), w % 2 == 1)
 }
 
 impl Scope {
-    // The variable of this name, in this block or those around it.
-    pub fn find_variable(self, text: &[u8], scratch: &[u8], offset: u32, len: u32) -> Known
+    // The variable of this name, in this block or those around it, in any text where the two words tell it from the open ones.
+    pub fn find_variable(self, scratch: &[u8], offset: u32, len: u32) -> Known
         requires { ⌜ NamesRoom self (now scratch) ⌝ }
-        ensures { λ r. ⌜ FindMeets (now (text .entry)) (now (scratch .entry)) self (textAt (now (text .entry)) offset len) r ⌝ }
+        ensures { λ r. ⌜ FindsTold (now (scratch .entry)) self offset len r ⌝ }
     {
         let n = self.records;
         let count = self.names;
-        match find_name(text, scratch, n, count, offset, len) {
+        match find_name(scratch, n, count, offset, len) {
             Found::At(j) => variable_at(scratch, n, j),
             Found::Nothing => Known::Unknown,
         }
     }
 
-    // The scope with one name more, where no variable of this block or those around it has the name. Room for it is afforded: each name has
-    // a record of its own.
+    // The scope with one name more, where no variable of this block or those around it has the name, in any text as above. Room for it is
+    // afforded: each name has a record of its own.
     pub fn declare(
         self,
-        text: &[u8],
         scratch: &mut [u8],
         offset: u32,
         len: u32,
@@ -110,18 +104,18 @@ impl Scope {
     ) -> Declared
         requires { ⌜ NamesRoom self (now scratch) ⌝ }
         requires { ⌜ NameAfforded self v ⌝ }
-        ensures { λ r. ⌜ DeclareMeets (now (text .entry)) offset len v constant self (now (scratch .entry)) (now (scratch .exit)) r ⌝ }
+        ensures { λ r. ⌜ DeclaresTold offset len v constant self (now (scratch .entry)) (now (scratch .exit)) r ⌝ }
     {
         let n = self.records;
         let count = self.names;
         let ty = v.1;
-        if let Found::At(_) = find_name(text, scratch, n, count, offset, len) {
+        if let Found::At(_) = find_name(scratch, n, count, offset, len) {
             return Declared::Taken;
         }
         let w = Four(offset, len, v.0, 2 * ty + mark(constant));
         let mut next = self;
         next.names = count + 1;
-        put_four(scratch, 8 * n + 16 * count, w);
+        put_four(scratch, OPEN_NAMES * n + OPEN_NAME_BYTES * count, w);
         Declared::Done(next)
     }
 

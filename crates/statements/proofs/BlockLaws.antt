@@ -239,6 +239,7 @@ module _ {tree text l s : List ℕ} (c : Converter) {r : ℕ} {sc inner : Scope}
         records-are = p .ready .scoped .records-are;
         room = record { scratch = p .ready .scoped .room .scratch; names-in = p .ready .scoped .room .names-in };
         types = p .ready .scoped .types;
+        named = p .ready .scoped .named;
       };
     };
     function = p .function;

@@ -48,10 +48,12 @@ use Rattle.scope.specs.declared.Declared.{Declared}
 use Rattle.scope.specs.declared.Declared.the-variants as Declared
 use Rattle.scope.specs.declared.InLoop.{InLoop}
 use Rattle.scope.specs.declared.InLoop.the-variants as InLoop
-use Rattle.scope.specs.Open.{NamesRoom, NameAfforded, Added, Taken, DeclareMeets, IsFound, FindMeets, variableAt, variablesAt, variablesOf, loopOf, loopNumber, scopeAt, nameEntry}
+use Rattle.scope.specs.Open.{variable, NameAfforded, Added, Taken, DeclareMeets, IsFound, FindMeets, variableAt, variablesAt, variablesOf, loopOf, loopNumber, scopeAt, nameEntry}
 use Rattle.scope.proofs.ScopeLaws.{entry-long, added-entry, added-room, declare-ok, declare-err, in-loop}
 use Rattle.keys.specs.Keys.{allKeys}
-use Rattle.expressions.specs.Slots.{Ready}
+use Rattle.texts.specs.Texts.{hasText}
+use Rattle.expressions.specs.Slots.{originalWord, Original, Asked, Ready}
+use Rattle.expressions.proofs.OriginalLaws.{origin-text, kind-asked}
 use Rattle.expressions.proofs.TakeLaws.{as-type}
 use Rattle.statements.specs.declared.answers.Converter.{Converter}
 use Rattle.statements.specs.declared.answers.Stated.the-variants as Stated
@@ -62,7 +64,7 @@ use Rattle.statements.specs.Converting.{Converting, RoomFor, BehindAffor
 use Rattle.statements.specs.Parts.{jumpTo, zeroFloat}
 use Rattle.statements.specs.Answers.{finishedOf, Leaves, States, StatesAs, declareSteps, breakSteps, continueSteps}
 use Rattle.statements.proofs.MeetLaws.{adds-in, adds-then, adds-seq, adds-pure, adds-most, adds-same, meets-gave, meets-refused, meets-same, meets-then, meets-lift}
-use Rattle.statements.proofs.StayLaws.{stays-refl, name-stays, ready-stays}
+use Rattle.statements.proofs.StayLaws.{stays-refl, name-stays, original-word, ready-stays}
 use Rattle.statements.proofs.FitLaws.{forms, type-is}
 use Rattle.statements.proofs.EmitLaws.{emit-adds, var-adds}
 use Rattle.statements.proofs.StatedLaws.{states-gave, states-refused, states-same, states-most, seq-then, seq-not, leaves-same}
@@ -80,23 +82,41 @@ module _ {tree text l s : List ℕ} {c : Converter} (p : Converting tree text l 
     type = omega (arith, typed .below, p .ready .keyed .good .few);
   }
 
-  module _ (r : ℕ) (constant : Bool) (s′ : List ℕ) where
-    module _ {sc′ : Scope} (a : Added text (wordOf tree r A) (wordOf tree r B) v constant (c .scope) s s′ sc′) where
+  module _ (r : ℕ) (asked : Asked tree text s (c .scope) r) (constant : Bool) (s′ : List ℕ) where
+    -- the variable by the words that are written is the variable by its name
+    by-name : variable text (originalWord tree s r A) (originalWord tree s r B) v constant ≡ namedBy tree text r v constant
+    by-name = rw (origin-text asked)
+
+    module _ {sc′ : Scope} (a : Added text (originalWord tree s r A) (originalWord tree s r B) v constant (c .scope) s s′ sc′) where
       added-stays : StaysFor tree c s s′
       added-stays =
-          name-stays (records tree) (c .scope .names) (c .operands) s s′ (nameEntry (wordOf tree r A) (wordOf tree r B) v constant) (8 * c .scope .records + 16 * c .scope .names)
-          (a .written) (entry-long (wordOf tree r A) (wordOf tree r B) v constant) (omega (arith, p .ready .scoped .room .scratch, p .ready .scoped .records-are))
+          name-stays (records tree) (c .scope .names) (c .operands) s s′ (nameEntry (originalWord tree s r A) (originalWord tree s r B) v constant) (8 * c .scope .records + 16 * c .scope .names)
+          (a .written) (entry-long (originalWord tree s r A) (originalWord tree s r B) v constant) (omega (arith, p .ready .scoped .room .scratch, p .ready .scoped .records-are))
           (omega (arith, p .ready .scoped .records-are)) few
 
       kept : Ready tree text s′ (c .functions) (c .scope)
       kept = ready-stays tree added-stays text (c .functions) (c .scope) (omega arith) (p .ready)
 
       last-type : wordAt s′ (8 * records tree + 16 * c .scope .names + 12) / 2 ≡ v .1
-      last-type = rw (← p .ready .scoped .records-are) (ap (λ (x : Variable). x .var-id .ty) (added-entry tree text (wordOf tree r A) (wordOf tree r B) v constant (c .scope) s s′ sc′ a))
+      last-type = rw (← p .ready .scoped .records-are) (ap (λ (x : Variable). x .var-id .ty) (added-entry tree text (originalWord tree s r A) (originalWord tree s r B) v constant (c .scope) s s′ sc′ a))
 
       types-more : (j : ℕ) → j < c .scope .names + 1 → Dec (j < c .scope .names) → TypeAt tree (wordAt s′ (8 * records tree + 16 * j + 12) / 2)
       types-more j h (yes i) = kept .scoped .types j i
       types-more j h (no i) = let z : j ≡ c .scope .names = omega (arith, h, i) in rw (z, last-type) typed
+
+      -- the innermost's words are those of the lowest record with its text
+      last-named : Original tree s′ (8 * records tree + 16 * c .scope .names)
+      last-named = record {
+        of = r;
+        below = asked .below;
+        has-text = asked .has-text;
+        offset = ap (λ (z : ℕ). wordAt s′ (8 * z + 16 * c .scope .names)) (sym (p .ready .scoped .records-are)) ∙ a .offset-is ∙ sym (original-word tree added-stays r A (asked .below));
+        len = ap (λ (z : ℕ). wordAt s′ (8 * z + 16 * c .scope .names + 4)) (sym (p .ready .scoped .records-are)) ∙ a .length-is ∙ sym (original-word tree added-stays r B (asked .below));
+      }
+
+      named-more : (j : ℕ) → j < c .scope .names + 1 → Dec (j < c .scope .names) → Original tree s′ (8 * records tree + 16 * j)
+      named-more j h (yes i) = kept .scoped .named j i
+      named-more j h (no i) = let z : j ≡ c .scope .names = omega (arith, h, i) in subst (λ (m : ℕ). Original tree s′ (8 * records tree + 16 * m)) (sym z) last-named
 
       added-leaves : Leaves tree text 1 c s′ sc′
       added-leaves = record {
@@ -104,8 +124,9 @@ module _ {tree text l s : List ℕ} {c : Converter} (p : Converting tree text l 
           keyed = kept .keyed;
           scoped = record {
             records-are = rw (a .scope) (p .ready .scoped .records-are);
-            room = added-room tree text (wordOf tree r A) (wordOf tree r B) v constant (c .scope) s s′ sc′ a (p .ready .scoped .room) name-afforded;
+            room = added-room tree text (originalWord tree s r A) (originalWord tree s r B) v constant (c .scope) s s′ sc′ a (p .ready .scoped .room) name-afforded;
             types = λ j h. types-more j (rw (a .scope) at h) (decLt j (c .scope .names));
+            named = λ j h. named-more j (rw (a .scope) at h) (decLt j (c .scope .names));
           };
         };
         function = rw (a .scope);
@@ -113,14 +134,14 @@ module _ {tree text l s : List ℕ} {c : Converter} (p : Converting tree text l 
         most = rw (a .scope) (omega arith);
       }
 
-    module _ {d : Declared} (m : DeclareMeets text (wordOf tree r A) (wordOf tree r B) v constant (c .scope) s s′ d) where
-      was-added : {sc′ : Scope} → d ≡ Declared.Done sc′ → Added text (wordOf tree r A) (wordOf tree r B) v constant (c .scope) s s′ sc′
+    module _ {d : Declared} (m : DeclareMeets text (originalWord tree s r A) (originalWord tree s r B) v constant (c .scope) s s′ d) where
+      was-added : {sc′ : Scope} → d ≡ Declared.Done sc′ → Added text (originalWord tree s r A) (originalWord tree s r B) v constant (c .scope) s s′ sc′
       unfolding DeclareMeets
-      was-added q = subst (λ (x : Declared). DeclareMeets text (wordOf tree r A) (wordOf tree r B) v constant (c .scope) s s′ x) q m
+      was-added q = subst (λ (x : Declared). DeclareMeets text (originalWord tree s r A) (originalWord tree s r B) v constant (c .scope) s s′ x) q m
 
-      was-taken : d ≡ Declared.Taken → Taken text (wordOf tree r A) (wordOf tree r B) v constant (c .scope) s s′
+      was-taken : d ≡ Declared.Taken → Taken text (originalWord tree s r A) (originalWord tree s r B) v constant (c .scope) s s′
       unfolding DeclareMeets
-      was-taken q = subst (λ (x : Declared). DeclareMeets text (wordOf tree r A) (wordOf tree r B) v constant (c .scope) s s′ x) q m
+      was-taken q = subst (λ (x : Declared). DeclareMeets text (originalWord tree s r A) (originalWord tree s r B) v constant (c .scope) s s′ x) q m
 
       -- done: what stays, the scope that is left, and the definition's scope
       pub declared-stays : {sc′ : Scope} → d ≡ Declared.Done sc′ → StaysFor tree c s s′
@@ -131,8 +152,7 @@ module _ {tree text l s : List ℕ} {c : Converter} (p : Converting tree text l 
 
       pub declared-ok : {sc′ : Scope} → d ≡ Declared.Done sc′ → (place : ℕ)
           → declare (namedBy tree text r v constant) place (scopeAt tree text s (c .scope)) ≡ ok (scopeAt tree text s′ sc′)
-      unfolding textOf
-      declared-ok {sc′ = sc′} q place = declare-ok tree text (wordOf tree r A) (wordOf tree r B) v constant (c .scope) s s′ sc′ (was-added q) place
+      declared-ok {sc′ = sc′} q place = ap (λ (x : Variable). declare x place (scopeAt tree text s (c .scope))) (sym by-name) ∙ declare-ok tree text (originalWord tree s r A) (originalWord tree s r B) v constant (c .scope) s s′ sc′ (was-added q) place
 
       -- taken: nothing is written, and the definition's error
       pub taken-same : d ≡ Declared.Taken → s′ ≡ s
@@ -143,8 +163,7 @@ module _ {tree text l s : List ℕ} {c : Converter} (p : Converting tree text l 
 
       pub declared-err : d ≡ Declared.Taken → (place : ℕ)
           → declare (namedBy tree text r v constant) place (scopeAt tree text s (c .scope)) ≡ err AlreadyDeclared place
-      unfolding textOf
-      declared-err q place = declare-err tree text (wordOf tree r A) (wordOf tree r B) v constant (c .scope) s s′ (was-taken q) place
+      declared-err q place = ap (λ (x : Variable). declare x place (scopeAt tree text s (c .scope))) (sym by-name) ∙ declare-err tree text (originalWord tree s r A) (originalWord tree s r B) v constant (c .scope) s s′ (was-taken q) place
 
 -- ---- a new variable of type y, and its name: with what follows, and refused
 
@@ -162,7 +181,7 @@ module _ {tree text l s : List ℕ} {c : Converter} (p : Converting tree text l 
   pub var-afforded : NameAfforded (c .scope) (made .var)
   var-afforded = name-afforded p (made .var) few var-typed
 
-  module _ (r : ℕ) (constant : Bool) (s′ : List ℕ) {d : Declared} (m : DeclareMeets text (wordOf tree r A) (wordOf tree r B) (made .var) constant (c .scope) s s′ d)
+  module _ (r : ℕ) (asked : Asked tree text s (c .scope) r) (constant : Bool) (s′ : List ℕ) {d : Declared} (m : DeclareMeets text (originalWord tree s r A) (originalWord tree s r B) (made .var) constant (c .scope) s s′ d)
       {X : Type 0} (place : ℕ) (f : Ir.VarId → Def.Scope → M X) where
     pub variable-then : {sc′ : Scope} {n : Amount} {l′ : List ℕ} {a : StepAnswer X} → d ≡ Declared.Done sc′
         → Meets text (f (varOf (made .var)) (scopeAt tree text s′ sc′)) n (made .counters) l₁ l′ a
@@ -170,7 +189,7 @@ module _ {tree text l s : List ℕ} {c : Converter} (p : Converting tree text l 
     variable-then q i =
         meets-then text (λ (x : Ir.VarId). lift (declare (record { name = textOf tree text r A; constant = constant; var-id = x }) place (scopeAt tree text s (c .scope))) >>= (λ (sc1 : Def.Scope). f x sc1))
         long (adds-in text (var-adds long new))
-        (meets-lift text (λ (sc1 : Def.Scope). f (varOf (made .var)) sc1) (new .next .room) (declared-ok p (made .var) few var-typed r constant s′ m q place) i)
+        (meets-lift text (λ (sc1 : Def.Scope). f (varOf (made .var)) sc1) (new .next .room) (declared-ok p (made .var) few var-typed r asked constant s′ m q place) i)
 
     pub variable-not : {n : Amount} {e : ConvertError} → d ≡ Declared.Taken → e ≡ record { kind = AlreadyDeclared; place = place }
         → Meets text (declaredThen tree text r constant place y (scopeAt tree text s (c .scope)) f) n (c .counters) l l₁ (refused e)
@@ -180,19 +199,7 @@ module _ {tree text l s : List ℕ} {c : Converter} (p : Converting tree text l 
         (next-in text (new .next))
         (stop-first text (λ (sc1 : Def.Scope). f (varOf (made .var)) sc1)
         (lift-stops text (declare (namedBy tree text r (made .var) constant) place (scopeAt tree text s (c .scope))) (made .counters) l₁ (e .kind) (e .place)
-        (rw w (declared-err p (made .var) few var-typed r constant s′ m q place)))))
-
--- ---- a name by its words, as the code hands it on
-
-module _ (text : List ℕ) (sc : Scope) (s : List ℕ) where
-  pub declared-named : {o n o′ n′ : ℕ} (v : VarId) (constant : Bool) (s′ : List ℕ) (d : Declared) → o ≡ o′ → n ≡ n′ → DeclareMeets text o n v constant sc s s′ d
-      → DeclareMeets text o′ n′ v constant sc s s′ d
-  declared-named v constant s′ d e q m = rw (← e, ← q) m
-
-  pub found-named : (tree : List ℕ) (r : ℕ) {o n : ℕ} (a : Known) → o ≡ wordOf tree r A → n ≡ wordOf tree r B → FindMeets text s sc (textAt text o n) a
-      → FindMeets text s sc (textOf tree text r A) a
-  unfolding textOf
-  found-named tree r a e q m = subst (λ (u : List ℕ). IsFound a (findIn u (variablesOf text s sc))) (rw (e, q)) m
+        (rw w (declared-err p (made .var) few var-typed r asked constant s′ m q place)))))
 
 -- the type of a variable that is found is one of the tree's, where those of the open names are
 found-among : (v : VarId) (b : Bool) (tree text s : List ℕ) (n : ℕ) (u : List ℕ) (m : ℕ) → ((j : ℕ) → j < m → TypeAt tree (wordAt s (8 * n + 16 * j + 12) / 2))
@@ -291,6 +298,10 @@ module _ {tree text l s : List ℕ} {c : Converter} (p : Converting tree text l 
   unfolding statementRecords
   declare-one = rw (statement-declare tree text r (i .kind))
 
+  declare-asked : Asked tree text s (c .scope) r
+  unfolding hasText
+  declare-asked = kind-asked 15 refl (p .ready) i
+
   declare-few : c .scope .names < records tree
   declare-few = omega (arith, declare-one, h .names)
 
@@ -301,8 +312,8 @@ module _ {tree text l s : List ℕ} {c : Converter} (p : Converting tree text l 
     newly : AddsVar (wordOf tree r C) (c .counters) l made l₁
     newly = subst (λ (z : ℕ). AddsVar z (c .counters) l made l₁) e new
 
-    pub declare-asks : (r * 32 + 32 ≤ length tree) × NamesRoom (c .scope) s × NameAfforded (c .scope) (made .var)
-    declare-asks = (inside tree text (p .ready .keyed .good) r (i .below), p .ready .scoped .room, var-afforded p long newly declare-few declare-type)
+    pub declare-asks : Asked tree text s (c .scope) r × NameAfforded (c .scope) (made .var)
+    declare-asks = (declare-asked, var-afforded p long newly declare-few declare-type)
 
     pub zero-asks : RoomFor (made .counters) l₁ (amount 1 0 0 0 1) × IsType tree (made .var .1) × (r < 4294967296)
     zero-asks = (
@@ -311,15 +322,15 @@ module _ {tree text l s : List ℕ} {c : Converter} (p : Converting tree text l 
       omega (arith, i .below, p .ready .keyed .good .few),
     )
 
-    module _ (s′ : List ℕ) {d : Declared} (m : DeclareMeets text (wordOf tree r A) (wordOf tree r B) (made .var) false (c .scope) s s′ d) where
+    module _ (s′ : List ℕ) {d : Declared} (m : DeclareMeets text (originalWord tree s r A) (originalWord tree s r B) (made .var) false (c .scope) s s′ d) where
       pub declare-taken : {z : ConvertError} → d ≡ Declared.Taken → z ≡ record { kind = AlreadyDeclared; place = r }
           → StatesAs declareSteps c r tree text l s (Stated.Refused z) l₁ s′
       unfolding convert-declare program
       declare-taken {z = z} q w =
           let n : Meets text (declareSteps tree text s c r) (amount 0 0 0 0 0) (c .counters) l l₁ (refused z) =
-          variable-not p long newly declare-few declare-type r false s′ m r
+          variable-not p long newly declare-few declare-type r declare-asked false s′ m r
           (λ (x : Ir.VarId) (S : Def.Scope). zeroValue (program tree text) (allKeys tree text) r x (typeAt tree text (wordOf tree r C)) >> pure S) q w in
-          states-refused long (n .stops z refl) (taken-stays p (made .var) declare-few (var-typed p long newly declare-few declare-type) r false s′ m q)
+          states-refused long (n .stops z refl) (taken-stays p (made .var) declare-few (var-typed p long newly declare-few declare-type) r declare-asked false s′ m q)
 
       module _ {sc′ : Scope} (q : d ≡ Declared.Done sc′) {l₂ : List ℕ} (a : Finished)
           (zero : (t : List ℕ) (F : Functions) → Meets t (zeroValue (program tree t) F r (varOf (made .var)) (typeAt tree t (made .var .1))) (amount 1 0 0 0 1) (made .counters) l₁ l₂ (finishedOf tt a)) where
@@ -333,11 +344,11 @@ module _ {tree text l s : List ℕ} {c : Converter} (p : Converting tree text l 
             → Meets text (declareSteps tree text s c r) (both (amount 0 1 0 0 0) n) (c .counters) l l₂ b
         unfolding convert-declare program
         with-name z =
-            variable-then p long newly declare-few declare-type r false s′ m r
+            variable-then p long newly declare-few declare-type r declare-asked false s′ m r
             (λ (x : Ir.VarId) (S : Def.Scope). zeroValue (program tree text) (allKeys tree text) r x (typeAt tree text (wordOf tree r C)) >> pure S) q z
 
         name-stayed : StaysFor tree c s s′
-        name-stayed = declared-stays p (made .var) declare-few (var-typed p long newly declare-few declare-type) r false s′ m q
+        name-stayed = declared-stays p (made .var) declare-few (var-typed p long newly declare-few declare-type) r declare-asked false s′ m q
 
         pub declare-refused : {z : ConvertError} → a ≡ Finished.Refused z → StatesAs declareSteps c r tree text l s (Stated.Refused z) l₂ s′
         declare-refused {z = z} w =
@@ -351,7 +362,7 @@ module _ {tree text l s : List ℕ} {c : Converter} (p : Converting tree text l 
             (meets-gave text refl (adds-in text (adds-pure (scopeAt tree text s′ sc′) k l₂ (z .next .room))))) in
             states-most (omega arith) (omega (arith, declare-one))
             (states-gave (n .long) (n .gives (scopeAt tree text s′ sc′) k refl)
-            (declared-leaves p (made .var) declare-few (var-typed p long newly declare-few declare-type) r false s′ m q) name-stayed)
+            (declared-leaves p (made .var) declare-few (var-typed p long newly declare-few declare-type) r declare-asked false s′ m q) name-stayed)
 
 -- ---- the Break or Continue r
 

@@ -43,14 +43,16 @@ use Rattle.scope.specs.declared.Declared.{Declared}
 use Rattle.scope.specs.declared.Declared.the-variants as Declared
 use Rattle.scope.specs.declared.Known.{Known}
 use Rattle.scope.specs.declared.Known.the-variants as Known
-use Rattle.scope.specs.Open.{scopeAt, NamesRoom, NameAfforded, DeclareMeets, FindMeets}
+use Rattle.scope.specs.Open.{scopeAt, NameAfforded, DeclareMeets, FindMeets}
 use Rattle.scope.proofs.ScopeLaws.{Finds, find-some, find-unknown}
 use Rattle.keys.specs.Keys.{allKeys}
 use Rattle.expressions.specs.declared.answers.ExprType.{ExprType}
 use Rattle.expressions.specs.declared.answers.ExprType.the-variants as ExprType
 use Rattle.expressions.specs.declared.answers.Outcome.{Outcome}
 use Rattle.expressions.specs.declared.answers.Outcome.the-variants as Outcome
-use Rattle.expressions.specs.Slots.{Ready, typeIn}
+use Rattle.texts.specs.Texts.{hasText}
+use Rattle.expressions.specs.Slots.{originalWord, Asked, Ready, typeIn}
+use Rattle.expressions.proofs.OriginalLaws.{kind-asked}
 use Rattle.expressions.specs.Answers.{refusal, outcomeOf, TypeMeets}
 use Rattle.expressions.proofs.SlotLaws.{scope-frame, frame-trans}
 use Rattle.expressions.proofs.TypingLaws.{type-ok, type-refused, is-typed, expr-low, place-is}
@@ -197,6 +199,11 @@ module _ {tree text l l′ s s′ : List ℕ} {m : M (Ir.VarId × Def.Scope)} {c
     stays = stays;
   }
 
+-- the name of the variable can be looked for
+pub variable-asked : {tree text s : List ℕ} {count : ℕ} {sc : Scope} {r v : ℕ} → Ready tree text s count sc → IsKind tree 21 r → v ≡ wordOf tree r A → Asked tree text s sc v
+unfolding hasText
+variable-asked h i e = kind-asked 24 refl h (variable-is (h .keyed .good) i e)
+
 -- ---- a variable of the blocks around
 
 module _ {tree text l s : List ℕ} {c : Converter} (r : ℕ) {v : ℕ} (p : Converting tree text l s c) (ev : v ≡ wordOf tree r A) (free : wordOf tree v C ≡ none)
@@ -246,6 +253,9 @@ module _ {tree text l s : List ℕ} {c : Converter} (r : ℕ) {v : ℕ} (p : Con
 
 module _ {tree text l s : List ℕ} {c : Converter} {r v : ℕ} (p : Converting tree text l s c) (afforded : BehindAfforded tree text c r) (is : IsKind tree 21 r) (ev : v ≡ wordOf tree r A)
     (t : TypeAt tree (wordOf tree v C)) where
+  asked : Asked tree text s (c .scope) v
+  asked = variable-asked (p .ready) is ev
+
   few : c .scope .names < records tree
   few = omega (arith, for-records (p .ready .keyed .good) is, afforded .names)
 
@@ -253,8 +263,8 @@ module _ {tree text l s : List ℕ} {c : Converter} {r v : ℕ} (p : Converting 
     typed : TypeAt tree y
     typed = subst (λ (z : ℕ). TypeAt tree z) (sym ey) t
 
-    pub declare-asks : (v * 32 + 32 ≤ length tree) × NamesRoom (c .scope) s × NameAfforded (c .scope) (made .var)
-    declare-asks = (variable-inside (p .ready .keyed .good) is ev, p .ready .scoped .room, var-afforded p long new few typed)
+    pub declare-asks : Asked tree text s (c .scope) v × NameAfforded (c .scope) (made .var)
+    declare-asks = (asked, var-afforded p long new few typed)
 
     abbrev declared : Ir.VarId → Def.Scope → M (Ir.VarId × Def.Scope)
     declared x sc = pure (x, sc)
@@ -266,23 +276,23 @@ module _ {tree text l s : List ℕ} {c : Converter} {r v : ℕ} (p : Converting 
         ∙ rw (skipped (eqb (wordOf tree v C) none) nothing (some (wordOf tree v C)) (ne-eqb (wordOf tree v C) none (λ e. omega (arith, t .below, p .ready .keyed .good .few))))
         (ap (λ (z : ℕ). declaredThen tree text v false r z (scopeIn tree text s c) declared) (sym ey)))
 
-    module _ (s′ : List ℕ) {d : Declared} (m : DeclareMeets text (wordOf tree v A) (wordOf tree v B) (made .var) false (c .scope) s s′ d) where
+    module _ (s′ : List ℕ) {d : Declared} (m : DeclareMeets text (originalWord tree s v A) (originalWord tree s v B) (made .var) false (c .scope) s s′ d) where
       pub for-taken : {e : ConvertError} → d ≡ Declared.Taken → e ≡ record { kind = AlreadyDeclared; place = r }
           → FindsVariable tree text (forVariableSteps tree text s c r) c l s (ForVariable.Refused e) l₁ s′
       for-taken q w = record {
-        meets = meets-same text declared-steps (variable-not p long new few typed v false s′ m r declared q w);
+        meets = meets-same text declared-steps (variable-not p long new few typed v asked false s′ m r declared q w);
         variable = λ x sc k e. let z : _≡_ {A = ℕ} 0 1 = cc in absurd (omega arith);
-        stays = taken-stays p (made .var) few (var-typed p long new few typed) v false s′ m q;
+        stays = taken-stays p (made .var) few (var-typed p long new few typed) v asked false s′ m q;
       }
 
       pub for-done : {sc : Scope} → d ≡ Declared.Done sc
           → FindsVariable tree text (forVariableSteps tree text s c r) c l s (ForVariable.Is (made .var) sc (made .counters)) l₁ s′
       for-done {sc} q = variable-gave long
-          (meets-same text declared-steps (variable-then p long new few typed v false s′ m r declared q
+          (meets-same text declared-steps (variable-then p long new few typed v asked false s′ m r declared q
           (meets-gave text refl (adds-in text (adds-pure (varOf (made .var), scopeAt tree text s′ sc) (made .counters) l₁ (new .next .room)))))
           .gives (varOf (made .var), scopeAt tree text s′ sc) (made .counters) refl)
-          (var-typed p long new few typed) (declared-leaves p (made .var) few (var-typed p long new few typed) v false s′ m q)
-          (declared-stays p (made .var) few (var-typed p long new few typed) v false s′ m q)
+          (var-typed p long new few typed) (declared-leaves p (made .var) few (var-typed p long new few typed) v asked false s′ m q)
+          (declared-stays p (made .var) few (var-typed p long new few typed) v asked false s′ m q)
 
 -- ---- the turns: x is the variable
 

@@ -38,11 +38,14 @@ use Rattle.ir.specs.Amounts.{Amount, amount}
 use Rattle.ir.specs.Instructions.{operandOf, varOf}
 use Rattle.ir.specs.Steps.{Emits, AddsVar}
 use Rattle.scope.specs.declared.Scope.{Scope}
+use Rattle.texts.specs.Texts.{hasText}
+use Rattle.expressions.specs.Slots.{originalWord, Asked, Ready}
+use Rattle.expressions.proofs.OriginalLaws.{kind-asked}
 use Rattle.scope.specs.declared.Known.{Known}
 use Rattle.scope.specs.declared.Known.the-variants as Known
 use Rattle.scope.specs.declared.Declared.{Declared}
 use Rattle.scope.specs.declared.Declared.the-variants as Declared
-use Rattle.scope.specs.Open.{NamesRoom, NameAfforded, scopeAt, FindMeets, DeclareMeets}
+use Rattle.scope.specs.Open.{NameAfforded, scopeAt, FindMeets, DeclareMeets}
 use Rattle.scope.proofs.ScopeLaws.{find-some, find-unknown}
 use Rattle.keys.specs.Keys.{allKeys}
 use Rattle.expressions.specs.declared.answers.ExprType.{ExprType}
@@ -192,6 +195,11 @@ module _ {tree text l s : List ℕ} {c : Converter} (r : ℕ) (v : VarId) {const
 
 -- ---- a new name, behind its value
 
+-- an Init's name can be looked for
+pub init-asked : {tree text s : List ℕ} {count : ℕ} {sc : Scope} {r : ℕ} → Ready tree text s count sc → IsKind tree 16 r → Asked tree text s sc r
+unfolding hasText
+init-asked h i = kind-asked 16 refl h i
+
 -- the copy of the value, behind the name
 abbrev copied : Operand → Ir.VarId → Def.Scope → M Def.Scope
 copied src v sc = emit (Copy v (operandOf src)) >> pure sc
@@ -215,26 +223,26 @@ module _ {tree text l s : List ℕ} {c : Converter} {r y : ℕ} (p : Converting 
   declare-steps src ed = ap₂ (λ (b : Bool) (w : ℕ). declaredThen tree text r b r w (scopeAt tree text s (c .scope)) (copied src)) (mark-bit ed (init-detail tree text (p .ready .keyed .good) r (x .below) (x .kind))) ez
 
   module _ {made : NewVariable} {l₁ : List ℕ} (long : length l₁ ≡ length l) (new : AddsVar z (c .counters) l made l₁) where
-    pub new-requires : (r * 32 + 32 ≤ length tree) × NamesRoom (c .scope) s × NameAfforded (c .scope) (made .var)
-    new-requires = (inside tree text (p .ready .keyed .good) r (x .below), p .ready .scoped .room, var-afforded p long new more-names new-type)
+    pub new-requires : Asked tree text s (c .scope) r × NameAfforded (c .scope) (made .var)
+    new-requires = (init-asked (p .ready) x, var-afforded p long new more-names new-type)
 
     module _ (src : Operand) {d : ℕ} (ed : d ≡ detailOf tree r) {s′ : List ℕ} {g : Declared}
-        (m : DeclareMeets text (wordOf tree r A) (wordOf tree r B) (made .var) (eqb d 1) (c .scope) s s′ g) where
+        (m : DeclareMeets text (originalWord tree s r A) (originalWord tree s r B) (made .var) (eqb d 1) (c .scope) s s′ g) where
       pub new-taken : {e : ConvertError} → g ≡ Declared.Taken → e ≡ record { kind = AlreadyDeclared; place = r }
           → DeclaresAs (λ t u i k j. declareInitSteps t u i k j y src) c r tree text l s (Stated.Refused e) l₁ s′
       new-taken q w =
-          states-stop (meets-same text (declare-steps src ed) (variable-not p long new more-names new-type r (eqb d 1) s′ m r (copied src) q w))
-          (taken-stays p (made .var) more-names (var-typed p long new more-names new-type) r (eqb d 1) s′ m q)
+          states-stop (meets-same text (declare-steps src ed) (variable-not p long new more-names new-type r (init-asked (p .ready) x) (eqb d 1) s′ m r (copied src) q w))
+          (taken-stays p (made .var) more-names (var-typed p long new more-names new-type) r (init-asked (p .ready) x) (eqb d 1) s′ m q)
 
       pub new-declared : {sc : Scope} {k₂ : Counters} {l₂ : List ℕ} → g ≡ Declared.Done sc → length l₂ ≡ length l₁ → Emits (copy (made .var) src) (made .counters) l₁ k₂ l₂
           → DeclaresAs (λ t u i k j. declareInitSteps t u i k j y src) c r tree text l s (Stated.Done sc k₂) l₂ s′
       new-declared {sc} {k₂} {l₂} q h i =
           let at : TypeAt tree (made .var .1) = var-typed p long new more-names new-type in
           let S : Def.Scope = scopeAt tree text s′ sc in
-          states-done (meets-same text (declare-steps src ed) (meets-most text (variable-then p long new more-names new-type r (eqb d 1) s′ m r (copied src) q
+          states-done (meets-same text (declare-steps src ed) (meets-most text (variable-then p long new more-names new-type r (init-asked (p .ready) x) (eqb d 1) s′ m r (copied src) q
           (meets-gave text h (adds-in text (adds-seq (pure S) (emit-adds h i) (adds-pure S k₂ l₂ (i .next .room)))))) (omega arith)))
-          (declared-leaves p (made .var) more-names at r (eqb d 1) s′ m q)
-          (declared-stays p (made .var) more-names at r (eqb d 1) s′ m q)
+          (declared-leaves p (made .var) more-names at r (init-asked (p .ready) x) (eqb d 1) s′ m q)
+          (declared-stays p (made .var) more-names at r (init-asked (p .ready) x) (eqb d 1) s′ m q)
 
 -- ---- a new name, from its value on
 

@@ -47,7 +47,9 @@ use Rattle.scope.specs.Open.{scopeAt, FindMeets}
 use Rattle.scope.proofs.ScopeLaws.{find-some, find-unknown}
 use Rattle.expressions.specs.Answers.{IsTyped}
 use Rattle.expressions.specs.declared.answers.ExprType.the-variants as ExprType
+use Rattle.expressions.specs.Slots.{Asked}
 use Rattle.expressions.proofs.LeafLaws as Typing
+use Rattle.expressions.proofs.OriginalLaws.{name-asked}
 use Rattle.expressions.proofs.TypingLaws.{expr-low}
 use Rattle.statements.specs.declared.answers.Converter.{Converter}
 use Rattle.statements.specs.declared.answers.Converted.{Converted}
@@ -147,14 +149,17 @@ leaf-answers tree text s c e l l′ n n′ f a p q h =
 
 -- ---- names
 
-module _ (tree text l s : List ℕ) (c : Converter) (e : ℕ) (x : Converting tree text l s c) (is : IsKind tree 6 e)
-    (a n : ℕ) (ea : a ≡ wordOf tree e A) (en : n ≡ wordOf tree e B) (r : Known) (m : FindMeets text s (c .scope) (textAt text a n) r) where
-  name-steps : exprSteps tree text s c e ≡ nameOperand e (find-variable (textAt text a n) (scopeAt tree text s (c .scope)))
-  unfolding convert-expr textOf
-  name-steps = rw (expr-name tree text e (is .kind), ea, en)
+pub name-ready : {tree text l s : List ℕ} {c : Converter} {e : ℕ} → Converting tree text l s c → IsKind tree 6 e → Asked tree text s (c .scope) e
+name-ready x is = name-asked (x .ready .keyed .good, x .ready .keyed .numbered) (x .ready .scoped) is
 
-  met : (k : Known) → r ≡ k → FindMeets text s (c .scope) (textAt text a n) k
-  met k q = subst (λ (z : Known). FindMeets text s (c .scope) (textAt text a n) z) q m
+module _ (tree text l s : List ℕ) (c : Converter) (e : ℕ) (x : Converting tree text l s c) (is : IsKind tree 6 e)
+    (r : Known) (m : FindMeets text s (c .scope) (textOf tree text e A) r) where
+  name-steps : exprSteps tree text s c e ≡ nameOperand e (find-variable (textOf tree text e A) (scopeAt tree text s (c .scope)))
+  unfolding convert-expr
+  name-steps = rw (expr-name tree text e (is .kind))
+
+  met : (k : Known) → r ≡ k → FindMeets text s (c .scope) (textOf tree text e A) k
+  met k q = subst (λ (z : Known). FindMeets text s (c .scope) (textOf tree text e A) z) q m
 
   typed : {y : ℕ} → IsTyped tree (ExprType.Is y) → TypeAt tree y
   typed (IsTyped.is t) = t
@@ -163,17 +168,17 @@ module _ (tree text l s : List ℕ) (c : Converter) (e : ℕ) (x : Converting tr
       → Converts tree text (exprSteps tree text s c e) (amount 0 0 0 0 0) c l s (Converted.Is (Operand.Var v) (c .counters)) l s
   unfolding nameOperand OperandIn
   name-gives v b q =
-      let f = find-some tree text s (c .scope) (textAt text a n) v b (met (Known.Is v b) q) in
+      let f = find-some tree text s (c .scope) (textOf tree text e A) v b (met (Known.Is v b) q) in
       gives-operand tree text l s c (exprSteps tree text s c e) (Operand.Var v) (x .room)
       (name-steps ∙ rw (f .found) (ap (λ (z : Ir.VarId). pure (OVar z)) (f .var)))
-      (typed (Typing.name-known tree text s (c .scope) e (x .ready .scoped) is a n ea en r m v b q .type))
+      (typed (Typing.name-known tree text s (c .scope) e (x .ready .scoped) is r m v b q .type))
 
   pub name-refuses : r ≡ Known.Unknown → (z : ConvertError) → z ≡ record { kind = UnknownVariable; place = e }
       → Converts tree text (exprSteps tree text s c e) (amount 0 0 0 0 0) c l s (Converted.Refused z) l s
   unfolding nameOperand
   name-refuses q z w =
       refuses-operand tree text l s c (exprSteps tree text s c e) UnknownVariable e z w
-      (name-steps ∙ rw (find-unknown tree text s (c .scope) (textAt text a n) (met Known.Unknown q)))
+      (name-steps ∙ rw (find-unknown tree text s (c .scope) (textOf tree text e A) (met Known.Unknown q)))
 
 -- ---- sizes
 

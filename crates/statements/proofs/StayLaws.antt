@@ -18,8 +18,11 @@ use Rattle.scope.specs.declared.Scope.{Scope}
 use Rattle.scope.specs.Open.{scopeAt}
 use Rattle.records.proofs.Apart.{byte-apart, word-same}
 use Rattle.scope.proofs.ScopeLaws.{Kept, scope-kept}
-use Rattle.keys.specs.Keys.{Listed, Keyed}
-use Rattle.expressions.specs.Slots.{Frame, Scoped, Ready}
+use Rattle.keys.specs.Keys.{Listed, keySlotAt, Keyed}
+use Rattle.keys.proofs.SlotLaws.{slots-stay}
+use Rattle.texts.specs.Texts.{originalAt}
+use Rattle.expressions.specs.Slots.{originalWord, Frame, Scoped, Ready}
+use Rattle.expressions.proofs.OriginalLaws.{numbers-stay, word-stays, original-stays}
 use Rattle.expressions.proofs.SlotLaws.{ready-frame}
 use Rattle.keys.proofs.KeySearch.{records-most}
 use Rattle.statements.specs.declared.answers.Converter.{Converter}
@@ -138,23 +141,35 @@ module _ (tree : List ℕ) {s s′ : List ℕ} {names operands : ℕ} (f : Stays
   pub scope-stays : (text : List ℕ) (sc : Scope) → sc .records ≡ records tree → sc .names ≤ names → scopeAt tree text s′ sc ≡ scopeAt tree text s sc
   scope-stays text sc e h = scope-kept tree text s s′ sc (names-kept sc e h)
 
+  number-word : (r : ℕ) → r < records tree → wordAt s′ (originalAt (records tree) r) ≡ wordAt s (originalAt (records tree) r)
+  number-word r h = byte-word (originalAt (records tree) r) (λ j q e k. f .behind q (omega arith))
+
+  -- words A and B of the lowest record with a text
+  pub original-word : (r k : ℕ) → r < records tree → originalWord tree s′ r k ≡ originalWord tree s r k
+  original-word = word-stays tree s s′ number-word
+
+  pub keyed-stays : (text : List ℕ) (count : ℕ) → Keyed tree text s count → Keyed tree text s′ count
+  keyed-stays text count r = record {
+    good = r .good;
+    numbered = numbers-stay tree s s′ number-word text (r .numbered);
+    distinct = r .distinct;
+    listed = record {
+      room = omega (arith, r .listed .room, f .long);
+      counted = r .listed .counted;
+      listed = λ j q. listed-word (4 * j) (omega (arith, r .listed .counted, records-most tree (records tree))) ∙ r .listed .listed j q;
+    };
+    slots = slots-stay tree text s s′ (λ o h. byte-word (keySlotAt (records tree) o) (λ j q e k. f .behind q (omega arith))) _ (r .slots);
+  }
+
   pub ready-stays : (text : List ℕ) (count : ℕ) (sc : Scope) → sc .names ≤ names → Ready tree text s count sc → Ready tree text s′ count sc
   ready-stays text count sc h r =
-      let k = r .keyed .listed in
       record {
-        keyed = record {
-          good = r .keyed .good;
-          distinct = r .keyed .distinct;
-          listed = record {
-            room = omega (arith, k .room, f .long);
-            counted = k .counted;
-            listed = λ j q. listed-word (4 * j) (omega (arith, k .counted, records-most tree (records tree))) ∙ k .listed j q;
-          };
-        };
+        keyed = keyed-stays text count (r .keyed);
         scoped = record {
           records-are = r .scoped .records-are;
           room = record { scratch = omega (arith, r .scoped .room .scratch, f .long); names-in = r .scoped .room .names-in };
           types = λ j q. subst (λ (w : ℕ). TypeAt tree (w / 2)) (sym (name-word (8 * records tree + 16 * j + 12) (omega arith) (omega arith))) (r .scoped .types j q);
+          named = λ j q. original-stays tree s s′ number-word _ (name-word (8 * records tree + 16 * j) (omega arith) (omega arith)) (name-word (8 * records tree + 16 * j + 4) (omega arith) (omega arith)) (r .scoped .named j q);
         };
       }
 

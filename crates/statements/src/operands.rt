@@ -38,6 +38,8 @@ use ir::structs::Counters;
 use ir::structs::Operand;
 use ir::structs::VarId;
 use records::convert_error::ConvertErrorKind;
+use records::layout::OPERAND_BYTES;
+use records::layout::OPERANDS;
 use records::numbers::KIND_BOOL;
 use records::numbers::KIND_FLOAT;
 use records::numbers::KIND_INT;
@@ -57,6 +59,7 @@ use records::words::put_four;
 use records::words::reference;
 use records::words::word;
 use scope::Known;
+use texts::original;
 use types::form::two_words;
 use types::size::Bytes;
 use types::size::size;
@@ -113,7 +116,7 @@ pub(crate) fn push_operand(scratch: &mut [u8], records: usize, j: usize, o: Oper
     ensures back { λ _. ⌜ operandAt (now (scratch .exit)) records j ≡ operandOf o ⌝ }
 {
     let w = operand_words(o);
-    put_four(scratch, 24 * records + 16 * j, w);
+    put_four(scratch, OPERANDS * records + OPERAND_BYTES * j, w);
 }
 
 // The operand at place j of the stack.
@@ -121,7 +124,7 @@ pub(crate) fn operand_at(scratch: &[u8], records: usize, j: usize) -> Operand
     requires { ⌜ 24 * records + 16 * j + 16 ≤ length (now scratch) ⌝ }
     ensures { λ r. ⌜ operandOf r ≡ operandAt (now (scratch .entry)) records j ⌝ }
 {
-    let at = 24 * records + 16 * j;
+    let at = OPERANDS * records + OPERAND_BYTES * j;
     let a = load(scratch, at);
     let b = load(scratch, at + 4);
     let c = load(scratch, at + 8);
@@ -166,6 +169,7 @@ fn string_operand(tree: &[u8], text: &[u8], arena: &mut [u8], k: Counters, e: us
     }
 }
 
+// The variable of the Name e, looked for by the lowest record with the text.
 fn name_operand(
     tree: &[u8],
     text: &[u8],
@@ -180,9 +184,10 @@ fn name_operand(
 {
     let scope = c.scope;
     let k = c.counters;
-    let offset = word(tree, e, WORD_A);
-    let len = word(tree, e, WORD_B);
-    match scope.find_variable(text, scratch, offset, len) {
+    let o = original(scratch, scope.records, e);
+    let offset = word(tree, o, WORD_A);
+    let len = word(tree, o, WORD_B);
+    match scope.find_variable(scratch, offset, len) {
         Known::Is(v, _) => Converted::Is(Operand::Var(v), k),
         Known::Unknown => Converted::Refused(error_at(ConvertErrorKind::UnknownVariable, e)),
     }

@@ -17,7 +17,8 @@ ghost use Rattle.conversion.specs.Statements.{zeroValue};
 ghost use Rattle.types.specs.Fits.{IsType};
 ghost use Rattle.ir.specs.Amounts.{amount};
 ghost use Rattle.ir.specs.Instructions.{operandOf, varOf};
-ghost use Rattle.scope.specs.Open.{NamesRoom, NameAfforded, FindMeets, DeclareMeets};
+ghost use Rattle.scope.specs.Open.{NameAfforded, FindMeets, DeclareMeets};
+ghost use Rattle.expressions.specs.Slots.{originalWord, Asked};
 ghost use Rattle.statements.specs.Converting.{Converting, RoomFor, OperandIn, Afforded, ExprAfforded, BehindAfforded};
 ghost use Rattle.statements.specs.Meets.{Adds, Meets};
 ghost use Rattle.statements.specs.Parts.{copyFitted, zeroFloat};
@@ -67,6 +68,7 @@ use scope::Declared;
 use scope::InLoop;
 use scope::Known;
 use scope::Scope;
+use texts::original;
 use types::form::ADDRESS;
 use types::form::ARRAY;
 use types::form::CUSTOM;
@@ -101,7 +103,7 @@ pub(crate) fn convert_cond(
     }
 }
 
-// The name in words A and B of record r, declared.
+// The name in words A and B of record r, declared by those of the lowest record with the text.
 pub(crate) fn declare_name(
     tree: &[u8],
     text: &[u8],
@@ -111,22 +113,24 @@ pub(crate) fn declare_name(
     v: VarId,
     constant: bool,
 ) -> Declared
-    requires { ⌜ (r * 32 + 32 ≤ length (now tree)) × NamesRoom scope (now scratch) × NameAfforded scope v ⌝ }
-    ensures { λ a. ⌜ DeclareMeets (now (text .entry)) (wordOf (now (tree .entry)) r Words.A) (wordOf (now (tree .entry)) r Words.B) v constant scope (now (scratch .entry)) (now (scratch .exit)) a ⌝ }
+    requires { ⌜ Asked (now tree) (now text) (now scratch) scope r × NameAfforded scope v ⌝ }
+    ensures { λ a. ⌜ DeclareMeets (now (text .entry)) (originalWord (now (tree .entry)) (now (scratch .entry)) r Words.A) (originalWord (now (tree .entry)) (now (scratch .entry)) r Words.B) v constant scope (now (scratch .entry)) (now (scratch .exit)) a ⌝ }
 {
-    let offset = word(tree, r, WORD_A);
-    let len = word(tree, r, WORD_B);
-    scope.declare(text, scratch, offset, len, v, constant)
+    let o = original(scratch, scope.records, r);
+    let offset = word(tree, o, WORD_A);
+    let len = word(tree, o, WORD_B);
+    scope.declare(scratch, offset, len, v, constant)
 }
 
-// The variable of the name in words A and B of record r.
+// The variable of the name in words A and B of record r, looked for by those of the lowest record with the text.
 pub(crate) fn find_name(tree: &[u8], text: &[u8], scratch: &[u8], scope: Scope, r: usize) -> Known
-    requires { ⌜ (r * 32 + 32 ≤ length (now tree)) × NamesRoom scope (now scratch) ⌝ }
+    requires { ⌜ Asked (now tree) (now text) (now scratch) scope r ⌝ }
     ensures { λ a. ⌜ FindMeets (now (text .entry)) (now (scratch .entry)) scope (textOf (now (tree .entry)) (now (text .entry)) r 0) a ⌝ }
 {
-    let offset = word(tree, r, WORD_A);
-    let len = word(tree, r, WORD_B);
-    scope.find_variable(text, scratch, offset, len)
+    let o = original(scratch, scope.records, r);
+    let offset = word(tree, o, WORD_A);
+    let len = word(tree, o, WORD_B);
+    scope.find_variable(scratch, offset, len)
 }
 
 fn zero_float(arena: &mut [u8], k: Counters, v: VarId, short: bool) -> Counters

@@ -1,12 +1,18 @@
 -- A good tree is converted as the definition converts its program: the functions by key, `main`, then each function.
 -- The laws of the three steps; a refusal of one is the definition's. Assumes nothing.
 use borrow.Author.Needs.{needs}
-use Rattle.converter.proofs.AllLaws.{keys-done, tree-unkeyed, tree-mainless, tree-all}
+use Rattle.converter.proofs.AllLaws.{keys-done, tree-unkeyed, tree-mainless, tree-all, room-numbered, tree-numbered}
 use Rattle.converter.proofs.convert_tree.Statement.{statement}
 use Rattle.converter.proofs.convert_tree.Tie as tie
 
+number-texts-requires : tie.Need-number-texts-requires
+number-texts-requires c κs = (c .before .before .before .before .before .pre .0, c .before .before .before .before .before .pre .2)
+
 get-all-functions-requires : tie.Need-get-all-functions-requires
-get-all-functions-requires c κs = search needs
+get-all-functions-requires c κs =
+    let number = c .before .before .before in
+    let first = number .before .before .before .before .before .before in
+    ((first .pre .0, number .number-texts .ensures .0), room-numbered (number .number-texts .ensures .1) (first .pre .2))
 
 enum-known-e : tie.Need-enum-known-e
 enum-known-e c = search needs
@@ -17,7 +23,7 @@ enum-known-count c = search needs
 check-main-requires : tie.Need-check-main-requires
 check-main-requires c κs =
     let all = c .before .before .before .before .before .before in
-    (all .before .before .before .before .before .before .pre .0, keys-done _ _ _ _ _ (all .get-all-functions .ensures) _ (c .before .before .count .given .1) .listed)
+    (all .before .before .before .before .before .before .before .before .before .before .pre .0, keys-done _ _ _ _ _ (all .get-all-functions .ensures) _ (c .before .before .count .given .1) .listed)
 
 enum-known-e-2 : tie.Need-enum-known-e-2
 enum-known-e-2 c = search needs
@@ -28,7 +34,7 @@ enum-told c = search needs
 convert-all-requires : tie.Need-convert-all-requires
 convert-all-requires c κs =
     let all = c .before .before .before .before .before .before .before .before .before .before .before in
-    (keys-done _ _ _ _ _ (all .get-all-functions .ensures) _ (c .before .before .before .before .before .before .before .count .given .1), all .before .before .before .before .before .before .pre .1)
+    (keys-done _ _ _ _ _ (all .get-all-functions .ensures) _ (c .before .before .before .before .before .before .before .count .given .1), all .before .before .before .before .before .before .before .before .before .before .pre .1)
 
 same-length : tie.Need-same-length
 same-length c = search needs
@@ -36,8 +42,9 @@ same-length c = search needs
 returns : tie.Need-returns
 returns c =
     let all = c .before .before .before .before .before in
-    let first = all .before .before .before .before .before .before in
-    tree-unkeyed _ _ _ _ _ (all .get-all-functions .ensures) (first .pre .0) (first .pre .2) _ _ _ (c .before .e .given .1)
+    let number = all .before .before .before .before .number-texts .ensures .1 in
+    let first = all .before .before .before .before .before .before .before .before .before .before in
+    tree-numbered number (tree-unkeyed _ _ _ _ _ (all .get-all-functions .ensures) (first .pre .0) (room-numbered number (first .pre .2)) _ _ _ (c .before .e .given .1))
 
 same-length-2 : tie.Need-same-length-2
 same-length-2 c = search needs
@@ -47,8 +54,9 @@ returns-2 c =
     let main = c .before .before .before in
     let known = main .before .before .before in
     let all = known .before .before .before .before in
-    let first = all .before .before .before .before .before .before in
-    tree-mainless _ _ _ _ _ (all .get-all-functions .ensures) (first .pre .0) (first .pre .2) _ _ (known .count .given .1) _ (main .check-main .ensures) _ _ (c .before .e2 .given .1)
+    let number = all .before .before .before .before .number-texts .ensures .1 in
+    let first = all .before .before .before .before .before .before .before .before .before .before in
+    tree-numbered number (tree-mainless _ _ _ _ _ (all .get-all-functions .ensures) (first .pre .0) (room-numbered number (first .pre .2)) _ _ (known .count .given .1) _ (main .check-main .ensures) _ _ (c .before .e2 .given .1))
 
 same-length-3 : tie.Need-same-length-3
 same-length-3 c = search needs
@@ -63,14 +71,16 @@ returns-3 c =
     let main = told .before .before in
     let known = main .before .before .before in
     let all = known .before .before .before .before in
-    let first = all .before .before .before .before .before .before in
-    tree-all _ _ _ _ _ (all .get-all-functions .ensures) (first .pre .0) (first .pre .2) _ _ (known .count .given .1) _ (main .check-main .ensures) (told .enum-told .given .1) _ _ _ _
-    (made .convert-all .ensures)
+    let number = all .before .before .before .before .number-texts .ensures .1 in
+    let first = all .before .before .before .before .before .before .before .before .before .before in
+    tree-numbered number (tree-all _ _ _ _ _ (all .get-all-functions .ensures) (first .pre .0) (room-numbered number (first .pre .2)) _ _ (known .count .given .1) _ (main .check-main .ensures) (told .enum-told .given .1) _ _ _ _
+    (made .convert-all .ensures))
 
 pub convert-tree-spec : {M : Type 1} → statement M
 convert-tree-spec =
     tie.close
     (tie.spec
+    number-texts-requires
     get-all-functions-requires
     enum-known-e
     enum-known-count

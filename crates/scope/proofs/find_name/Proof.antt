@@ -3,9 +3,8 @@
 use mathlib.Core.Path.{_≡_, refl, sym, _∙_}
 use Prim.Native.Nat.{_≤_}
 use native.Mathlib.Omega.{arith}
-use Rattle.records.specs.Words.{textAt}
 use Rattle.laws.specs.Below.{last}
-use Rattle.scope.specs.Open.{nameIs}
+use Rattle.scope.specs.Open.{wordsAre}
 use Rattle.scope.proofs.Names.{last-more, last-hit, last-end}
 use Rattle.scope.proofs.find_name.Statement.{statement}
 use Rattle.scope.proofs.find_name.Tie as tie
@@ -14,10 +13,10 @@ use Rattle.scope.proofs.find_name.Lts as lts
 use Rattle.scope.proofs.is_name.Reads as is-name-reads
 
 abbrev Inv-loop : tie.InvT-loop
-Inv-loop text scratch records count offset len j₀ j = (j ≤ count) × (last count (nameIs text scratch records (textAt text offset len)) ≡ last j (nameIs text scratch records (textAt text offset len)))
+Inv-loop scratch records count offset len j₀ j = (j ≤ count) × (last count (wordsAre scratch records offset len) ≡ last j (wordsAre scratch records offset len))
 
 abbrev μ-loop : tie.MeasureT-loop
-μ-loop text scratch records count offset len j₀ j = j
+μ-loop scratch records count offset len j₀ j = j
 
 -- src/lib.rt:68:5
 loop-holds : tie.Need-loop-holds Inv-loop μ-loop

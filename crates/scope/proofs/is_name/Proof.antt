@@ -1,12 +1,11 @@
--- Whether an open name is the text.
+-- Whether an open name is said by two words.
 -- By what `load` ensures of its words. Assumes nothing.
-use Rattle.scope.specs.Open.{nameIs}
+use Rattle.scope.specs.Open.{wordsAre}
 use borrow.Author.Needs.{needs}
 use Rattle.scope.proofs.is_name.Statement.{statement}
 use Rattle.scope.proofs.is_name.Tie as tie
 use Rattle.scope.proofs.is_name.Reads as reads
 use Rattle.scope.proofs.is_name.Lts as lts
-use Rattle.records.proofs.texts.same_text.Reads as same-text-reads
 use Rattle.records.proofs.words.load.Reads as load-reads
 
 -- src/lib.rt:50:27
@@ -45,13 +44,9 @@ add-load-3 c = search needs
 load-requires-2 : tie.Need-load-requires-2
 load-requires-2 c κs = search needs
 
--- src/lib.rt:52:5
-same-text-requires : tie.Need-same-text-requires
-same-text-requires c κs = search needs
-
 -- src/lib.rt:46:1
 returns : tie.Need-returns
-unfolding nameIs
+unfolding wordsAre
 returns c = cc
 
 pub is-name-spec : {M : Type 1} → statement M
@@ -67,5 +62,4 @@ is-name-spec =
     add-load-2
     add-load-3
     load-requires-2
-    same-text-requires
     returns)

@@ -29,7 +29,9 @@ function-at-requires c κs = (c .before .before .before .before .before .pre .0 
 
 -- src/calls.rt:71:12
 is-candidate-requires : tie.Need-is-candidate-requires Inv-loop μ-loop
-is-candidate-requires c κs = (c .before .before .before .before .before .before .pre .1, c .function-at .ensures .1)
+is-candidate-requires c κs =
+    let first = c .before .before .before .before .before .before in
+    ((first .pre .1, first .pre .0 .numbered), c .function-at .ensures .1)
 
 -- src/calls.rt:73:17
 enum-told : tie.Need-enum-told Inv-loop μ-loop

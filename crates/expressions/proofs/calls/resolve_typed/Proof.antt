@@ -13,7 +13,9 @@ use Rattle.expressions.proofs.calls.resolve_function.Reads as resolve-f
 
 -- src/calls.rt:188:9
 call-of-requires : tie.Need-call-of-requires
-call-of-requires c κs = search needs
+call-of-requires c κs =
+    let first = c .before .before .before in
+    ((first .pre .0 .good, first .pre .0 .numbered, first .pre .0 .listed .room), first .pre .1 .0)
 
 -- src/calls.rt:189:17
 cast-place : tie.Need-cast-place

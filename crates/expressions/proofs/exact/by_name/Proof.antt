@@ -1,11 +1,8 @@
 -- The function whose key is the verb, where it takes the arguments.
--- What `find_key` found is what the map has, since all functions are listed. Assumes nothing.
-use mathlib.Core.Path.{ap, _∙_}
-use native.Mathlib.Omega.{arith}
+-- What `find_key` found is what the map has, since all functions are entered. Assumes nothing.
 use borrow.Author.Needs.{needs}
-use Rattle.conversion.specs.Expressions.{getFunction}
 use Rattle.keys.proofs.FunctionLaws.{found-function}
-use Rattle.expressions.proofs.ExactLaws.{filter-hit, filter-left, filter-none, all-below}
+use Rattle.expressions.proofs.ExactLaws.{filter-hit, filter-left, filter-none, verb-below, verb-found}
 use Rattle.expressions.proofs.exact.by_name.Statement.{statement}
 use Rattle.expressions.proofs.exact.by_name.Tie as tie
 use Rattle.expressions.proofs.exact.by_name.Reads as reads
@@ -14,28 +11,30 @@ use Rattle.keys.proofs.keys.find_key.Reads as find-key-reads
 use Rattle.expressions.proofs.takes.takes_args.Reads as takes-args-reads
 
 find-key-requires : tie.Need-find-key-requires
-find-key-requires c κs = (c .before .before .before .pre .0 .good, (c .before .before .before .pre .0 .listed, (omega arith, c .before .before .before .pre .1 .inside)))
+find-key-requires c κs =
+    let first = c .before .before .before in
+    (first .pre .0 .good, first .pre .0 .listed .room, verb-below _ _ _ _ (first .pre .1))
 
 enum-known-f : tie.Need-enum-known-f
 enum-known-f c = search needs
 
 takes-args-requires : tie.Need-takes-args-requires
-takes-args-requires c κs = (c .before .before .before .before .before .before .before .pre .1, found-function _ _ _ (c .before .before .before .find-key .ensures .function) (c .before .f .given .1))
+takes-args-requires c κs = (c .before .before .before .before .before .before .before .pre .1, found-function _ _ _ (verb-found _ _ _ _ (c .before .before .before .before .before .before .before .pre .1) _ (c .before .before .before .before .before .before .before .pre .0) _ (c .before .before .before .find-key .ensures) .function) (c .before .f .given .1))
 
 returns : tie.Need-returns
 returns c =
-    filter-hit _ _ _ _ _ (c .before .before .before .before .before .find-key .ensures .is ∙ ap (getFunction _) (all-below _ _ _ _ (c .before .before .before .before .before .before .before .before .before .pre .0))) _ _ (c .before .before .before .before .before .find-key .ensures .function) (c .before .before .before .f .given .1) (c .before .takes-args .ensures) (c .if1 .taken)
+    filter-hit _ _ _ _ _ (verb-found _ _ _ _ (c .before .before .before .before .before .before .before .before .before .pre .1) _ (c .before .before .before .before .before .before .before .before .before .pre .0) _ (c .before .before .before .before .before .find-key .ensures) .is) _ _ (verb-found _ _ _ _ (c .before .before .before .before .before .before .before .before .before .pre .1) _ (c .before .before .before .before .before .before .before .before .before .pre .0) _ (c .before .before .before .before .before .find-key .ensures) .function) (c .before .before .before .f .given .1) (c .before .takes-args .ensures) (c .if1 .taken)
 
 enum-told : tie.Need-enum-told
 enum-told c = search needs
 
 returns-2 : tie.Need-returns-2
 returns-2 c =
-    filter-left _ _ _ _ _ (c .before .before .before .before .before .find-key .ensures .is ∙ ap (getFunction _) (all-below _ _ _ _ (c .before .before .before .before .before .before .before .before .before .pre .0))) _ _ (c .before .before .before .f .given .1) (c .before .takes-args .ensures) (c .if1 .left)
+    filter-left _ _ _ _ _ (verb-found _ _ _ _ (c .before .before .before .before .before .before .before .before .before .pre .1) _ (c .before .before .before .before .before .before .before .before .before .pre .0) _ (c .before .before .before .before .before .find-key .ensures) .is) _ _ (c .before .before .before .f .given .1) (c .before .takes-args .ensures) (c .if1 .left)
 
 returns-3 : tie.Need-returns-3
 returns-3 c =
-    filter-none _ _ _ _ _ (c .before .before .find-key .ensures .is ∙ ap (getFunction _) (all-below _ _ _ _ (c .before .before .before .before .before .before .pre .0))) (c .enum-told .given .1)
+    filter-none _ _ _ _ _ (verb-found _ _ _ _ (c .before .before .before .before .before .before .pre .1) _ (c .before .before .before .before .before .before .pre .0) _ (c .before .before .find-key .ensures) .is) (c .enum-told .given .1)
 
 pub by-name-spec : {M : Type 1} → statement M
 by-name-spec =

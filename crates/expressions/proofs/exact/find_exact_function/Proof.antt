@@ -6,7 +6,7 @@ use Rattle.expressions.proofs.exact.find_exact_function.Statement.{stat
 use Rattle.expressions.proofs.exact.find_exact_function.Tie as tie
 use Rattle.expressions.proofs.exact.find_exact_function.Reads as reads
 use Rattle.expressions.proofs.exact.find_exact_function.Lts as lts
-use Rattle.expressions.proofs.exact.by_full_name.Reads as by-full-name-reads
+use Rattle.expressions.proofs.exact.by_whole_name.Reads as by-whole-name-reads
 use Rattle.expressions.proofs.exact.by_name.Reads as by-name-reads
 use Rattle.expressions.proofs.exact.by_prefix.Reads as by-prefix-reads
 
@@ -23,15 +23,15 @@ returns c =
 enum-told : tie.Need-enum-told
 enum-told c = search needs
 
-by-full-name-requires : tie.Need-by-full-name-requires
-by-full-name-requires c κs = (c .before .before .before .before .before .before .pre .0, c .before .before .before .before .before .before .pre .1)
+by-whole-name-requires : tie.Need-by-whole-name-requires
+by-whole-name-requires c κs = (c .before .before .before .before .before .before .pre .0, c .before .before .before .before .before .before .pre .1)
 
 enum-known-f-2 : tie.Need-enum-known-f-2
 enum-known-f-2 c = search needs
 
 returns-2 : tie.Need-returns-2
 returns-2 c =
-    exact-name _ _ _ _ (c .before .before .before .before .before .before .before .before .before .before .pre .0) _ (c .before .before .before .before .before .before .before .before .before .before .pre .1) _ (c .before .before .before .before .before .before .by-name .ensures .is) (c .before .before .before .before .enum-told .given .1) _ (c .before .before .before .by-full-name .ensures .is) _ (c .before .before .before .by-full-name .ensures .function) (c .before .f2 .given .1)
+    exact-name _ _ _ _ (c .before .before .before .before .before .before .before .before .before .before .pre .0) _ (c .before .before .before .before .before .before .before .before .before .before .pre .1) _ (c .before .before .before .before .before .before .by-name .ensures .is) (c .before .before .before .before .enum-told .given .1) _ (c .before .before .before .by-whole-name .ensures .is) _ (c .before .before .before .by-whole-name .ensures .function) (c .before .f2 .given .1)
 
 enum-told-2 : tie.Need-enum-told-2
 enum-told-2 c = search needs
@@ -41,7 +41,7 @@ by-prefix-requires c κs = (c .before .before .before .before .before .before .b
 
 returns-3 : tie.Need-returns-3
 returns-3 c = record {
-  is = exact-prefix _ _ _ _ (c .before .before .before .before .before .before .before .before .before .before .pre .0) _ (c .before .before .before .before .before .before .before .before .before .before .pre .1) _ (c .before .before .before .before .before .before .by-name .ensures .is) (c .before .before .before .before .enum-told .given .1) _ (c .before .before .before .by-full-name .ensures .is) (c .before .enum-told2 .given .1) _ (c .by-prefix .ensures .is);
+  is = exact-prefix _ _ _ _ (c .before .before .before .before .before .before .before .before .before .before .pre .0) _ (c .before .before .before .before .before .before .before .before .before .before .pre .1) _ (c .before .before .before .before .before .before .by-name .ensures .is) (c .before .before .before .before .enum-told .given .1) _ (c .before .before .before .by-whole-name .ensures .is) (c .before .enum-told2 .given .1) _ (c .by-prefix .ensures .is);
   function = c .by-prefix .ensures .function;
 }
 
@@ -53,7 +53,7 @@ find-exact-function-spec =
     enum-known-f
     returns
     enum-told
-    by-full-name-requires
+    by-whole-name-requires
     enum-known-f-2
     returns-2
     enum-told-2

@@ -1011,7 +1011,7 @@ get-type-leaf-type-requires : (t : ℕ) → get-type-lts.Need-leaf-type-requires
   leaf-type-reads.Learnt,
 ) (get-type-at t) get-type.Post
 get-type-leaf-type-requires t c κs = (
-  c .before .before .before .before .before .before .before .before .pre .1 .0 .keyed .good,
+  (c .before .before .before .before .before .before .before .before .pre .1 .0 .keyed .good, c .before .before .before .before .before .before .before .before .pre .1 .0 .keyed .numbered),
   (
     c .before .before .before .before .before .before .before .before .pre .1 .0 .scoped,
     (

@@ -10,13 +10,13 @@ kind-requires : tie.Need-kind-requires
 kind-requires c κs = c .before .before .before .pre .1 .1 .0 .inside
 
 name-type-requires : tie.Need-name-type-requires
-name-type-requires c κs = (c .before .before .before .before .before .pre .0, (c .before .before .before .before .before .pre .1 .0, is-kind _ _ (c .before .before .before .before .before .pre .0) _ _ (c .before .before .before .before .before .pre .1 .1 .0) (c .before .kind .ensures) 6 (c .if1 .taken)))
+name-type-requires c κs = (c .before .before .before .before .before .pre .0, (c .before .before .before .before .before .pre .1 .0, is-kind _ _ (c .before .before .before .before .before .pre .0 .0) _ _ (c .before .before .before .before .before .pre .1 .1 .0) (c .before .kind .ensures) 6 (c .if1 .taken)))
 
 returns : tie.Need-returns
 returns c = c .name-type .ensures
 
 literal-type-requires : tie.Need-literal-type-requires
-literal-type-requires c κs = (c .before .before .before .before .before .pre .0, (c .before .before .before .before .before .pre .1 .1 .0, (c .before .before .before .before .before .pre .1 .1 .1, λ q. c .if1 .left (c .before .kind .ensures ∙ q))))
+literal-type-requires c κs = (c .before .before .before .before .before .pre .0 .0, (c .before .before .before .before .before .pre .1 .1 .0, (c .before .before .before .before .before .pre .1 .1 .1, λ q. c .if1 .left (c .before .kind .ensures ∙ q))))
 
 returns-2 : tie.Need-returns-2
 returns-2 c = literal-leaf _ _ _ (c .before .before .before .before .before .before .args .scope) _ _ (c .literal-type .ensures)

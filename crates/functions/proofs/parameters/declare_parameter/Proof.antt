@@ -3,7 +3,8 @@
 use native.Mathlib.Omega.{arith}
 use mathlib.Core.Path.{refl}
 use borrow.Author.Needs.{needs}
-use Rattle.functions.proofs.ParameterLaws.{place-inside, place-word, met-room, met-done, met-taken}
+use Rattle.expressions.proofs.OriginalLaws.{number-inside, origin-inside, origin-declared}
+use Rattle.functions.proofs.ParameterLaws.{place-inside, place-word, place-asked, met-room, met-done, met-taken}
 use Rattle.functions.proofs.parameters.declare_parameter.Statement.{statement}
 use Rattle.functions.proofs.parameters.declare_parameter.Tie as tie
 use Rattle.functions.proofs.parameters.declare_parameter.Reads as reads
@@ -13,88 +14,84 @@ use Rattle.records.proofs.words.word.Reads as word-reads
 use Rattle.scope.proofs.Scope.declare.Reads as declare-reads
 use Rattle.records.proofs.words.reference.Reads as reference-reads
 
--- src/parameters.rt:53:9
 reference-requires : tie.Need-reference-requires
 reference-requires c κs = search needs
 
--- src/parameters.rt:54:19
-cast-t12 : tie.Need-cast-t12
-cast-t12 c = search needs
+cast-t13 : tie.Need-cast-t13
+cast-t13 c = search needs
 
--- src/parameters.rt:54:39
 word-requires : tie.Need-word-requires
 word-requires c κs =
     let first = c .before .before .before .before .before in
     (place-inside _ _ _ _ _ (first .pre .0) _ (first .pre .1 .0) (first .pre .1 .1 .0) (first .pre .1 .1 .1) _ (c .before .reference .ensures), omega arith)
 
--- src/parameters.rt:55:9
+original-requires : tie.Need-original-requires
+original-requires c κs =
+    let first = c .before .before .before .before .before .before .before in
+    number-inside (place-asked _ _ _ _ _ (first .pre .0) _ (first .pre .1 .0) (first .pre .1 .1 .0) (first .pre .1 .1 .1) _ (c .before .before .before .reference .ensures))
+
 word-requires-2 : tie.Need-word-requires-2
 word-requires-2 c κs =
-    let first = c .before .before .before .before .before .before in
-    (place-inside _ _ _ _ _ (first .pre .0) _ (first .pre .1 .0) (first .pre .1 .1 .0) (first .pre .1 .1 .1) _ (c .before .before .reference .ensures), omega arith)
+    let first = c .before .before .before .before .before .before .before .before in
+    (origin-inside (place-asked _ _ _ _ _ (first .pre .0) _ (first .pre .1 .0) (first .pre .1 .1 .0) (first .pre .1 .1 .1) _ (c .before .before .before .before .reference .ensures)) (c .original .ensures), omega arith)
 
--- src/parameters.rt:56:9
 word-requires-3 : tie.Need-word-requires-3
 word-requires-3 c κs =
-    let first = c .before .before .before .before .before .before .before in
-    (place-inside _ _ _ _ _ (first .pre .0) _ (first .pre .1 .0) (first .pre .1 .1 .0) (first .pre .1 .1 .1) _ (c .before .before .before .reference .ensures), omega arith)
+    let first = c .before .before .before .before .before .before .before .before .before in
+    (origin-inside (place-asked _ _ _ _ _ (first .pre .0) _ (first .pre .1 .0) (first .pre .1 .1 .0) (first .pre .1 .1 .1) _ (c .before .before .before .before .before .reference .ensures)) (c .before .original .ensures), omega arith)
 
--- src/parameters.rt:57:11
 declare-requires : tie.Need-declare-requires
 declare-requires c κs =
-    let first = c .before .before .before .before .before .before .before .before .before in (
+    let first = c .before .before .before .before .before .before .before .before .before .before .before in (
       first .pre .0 .scoped .room,
-      met-room _ _ _ _ _ (first .pre .0) _ (first .pre .1 .0) (first .pre .1 .1 .0) (first .pre .1 .1 .1) _ (c .before .before .before .before .before .reference .ensures) _ _ _ (c .before .before .before .word .ensures)
-          (c .before .before .word2 .ensures) (c .before .word3 .ensures) _ refl refl,
+      met-room _ _ _ _ _ (first .pre .0) _ (first .pre .1 .0) (first .pre .1 .1 .0) (first .pre .1 .1 .1) _ (c .before .before .before .before .before .before .before .reference .ensures) _ (c .before .before .before .before .before .word .ensures) _ refl refl,
     )
 
--- src/parameters.rt:58:24
 enum-known-next : tie.Need-enum-known-next
 enum-known-next c = search needs
 
--- src/parameters.rt:59:28
 enum-told : tie.Need-enum-told
 enum-told c = search needs
 
--- src/parameters.rt:59:28
 taken-requires : tie.Need-taken-requires
 taken-requires c κs =
-    let first = c .before .before .before .before .before .before .before .before .before .before .before .before .before .before in
-    place-word _ _ _ _ _ (first .pre .0) _ (first .pre .1 .0) (first .pre .1 .1 .0) (first .pre .1 .1 .1) _ (c .before .before .before .before .before .before .before .before .before .before .reference .ensures)
+    let first = c .before .before .before .before .before .before .before .before .before .before .before .before .before .before .before .before in
+    place-word _ _ _ _ _ (first .pre .0) _ (first .pre .1 .0) (first .pre .1 .1 .0) (first .pre .1 .1 .1) _ (c .before .before .before .before .before .before .before .before .before .before .before .before .reference .ensures)
 
--- src/parameters.rt:40:1
 same-length : tie.Need-same-length
 same-length c = search needs
 
--- src/parameters.rt:40:1
 returns : tie.Need-returns
 returns c =
-    let first = c .before .before .before .before .before .before .before .before .before .before .before .before .before .before .before in
     let got = c .before .before .before .before .before in
-    let words = c .before .before .before .before .before .before .before in
-    met-done _ _ _ _ _ (first .pre .0) _ (first .pre .1 .0) (first .pre .1 .1 .0) (first .pre .1 .1 .1) _ (words .before .before .before .before .reference .ensures) _ _ _ (words .before .before .word .ensures)
-    (words .before .word2 .ensures) (words .word3 .ensures) _ refl refl _ _ (got .declare .ensures) _ (c .before .next .given .1)
+    let words = got .before .before in
+    let read = words .before .before .before .before .before .before in
+    let first = read .before .before .before .before in
+    let asked = place-asked _ _ _ _ _ (first .pre .0) _ (first .pre .1 .0) (first .pre .1 .1 .0) (first .pre .1 .1 .1) _ (read .reference .ensures) in
+    met-done _ _ _ _ _ (first .pre .0) _ (first .pre .1 .0) (first .pre .1 .1 .0) (first .pre .1 .1 .1) _ (read .reference .ensures) _ (words .before .before .before .before .word .ensures) _ refl refl _ _
+    (origin-declared asked (words .before .before .original .ensures) (words .before .word2 .ensures) (words .word3 .ensures) _ _ _ _ (got .declare .ensures)) _ (c .before .next .given .1)
 
--- src/parameters.rt:40:1
 same-length-2 : tie.Need-same-length-2
 same-length-2 c = search needs
 
--- src/parameters.rt:40:1
 returns-2 : tie.Need-returns-2
 returns-2 c =
-    let first = c .before .before .before .before .before .before .before .before .before .before .before .before .before .before .before in
     let got = c .before .before .before .before .before in
-    let words = c .before .before .before .before .before .before .before in
-    met-taken _ _ _ _ _ (first .pre .0) _ (first .pre .1 .0) (first .pre .1 .1 .0) (first .pre .1 .1 .1) _ (words .before .before .before .before .reference .ensures) _ _ _ (words .before .before .word .ensures)
-    (words .before .word2 .ensures) (words .word3 .ensures) _ refl refl _ _ (got .declare .ensures) (c .before .enum-told .given .1) _ (c .taken .ensures)
+    let words = got .before .before in
+    let read = words .before .before .before .before .before .before in
+    let first = read .before .before .before .before in
+    let asked = place-asked _ _ _ _ _ (first .pre .0) _ (first .pre .1 .0) (first .pre .1 .1 .0) (first .pre .1 .1 .1) _ (read .reference .ensures) in
+    met-taken _ _ _ _ _ (first .pre .0) _ (first .pre .1 .0) (first .pre .1 .1 .0) (first .pre .1 .1 .1) _ (read .reference .ensures) _ (words .before .before .before .before .word .ensures) _ refl refl _ _
+    (origin-declared asked (words .before .before .original .ensures) (words .before .word2 .ensures) (words .word3 .ensures) _ _ _ _ (got .declare .ensures)) (c .before .enum-told .given .1) _ (c .taken .ensures)
 
 pub declare-parameter-spec : {M : Type 1} → statement M
 declare-parameter-spec =
     tie.close
     (tie.spec
     reference-requires
-    cast-t12
+    cast-t13
     word-requires
+    original-requires
     word-requires-2
     word-requires-3
     declare-requires

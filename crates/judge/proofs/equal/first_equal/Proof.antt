@@ -8,21 +8,22 @@ use lib.ListN.{length}
 use borrow.Author.Count.{below-more}
 use borrow.Author.Needs.{needs}
 use Rattle.records.specs.Rules.{typeIsNew}
-use Rattle.judge.specs.Equal.{Chained, ChainRoom}
-use Rattle.judge.proofs.EqualLaws.{bucket-told, chained-none, head-told, entered-long, chained-more}
+use Rattle.records.specs.Chains.{ChainRoom}
+use Rattle.records.proofs.ChainedLaws.{bucket-told, chained-none, head-told, entered-long, chained-more}
+use Rattle.judge.specs.Equal.{TypesChained}
 use Rattle.judge.proofs.equal.first_equal.Statement.{statement}
 use Rattle.judge.proofs.equal.first_equal.Tie as tie
 use Rattle.judge.proofs.equal.first_equal.Reads as reads
 use Rattle.judge.proofs.equal.first_equal.Lts as lts
-use Rattle.judge.proofs.equal.bucket.Reads as bucket-reads
-use Rattle.judge.proofs.equal.clear_heads.Reads as clear-heads-reads
-use Rattle.judge.proofs.equal.enter.Reads as enter-reads
 use Rattle.judge.proofs.equal.has_equal.Reads as has-equal-reads
 use Rattle.judge.proofs.equal.type_digest.Reads as type-digest-reads
+use Rattle.records.proofs.chains.bucket.Reads as bucket-reads
+use Rattle.records.proofs.chains.clear_heads.Reads as clear-heads-reads
+use Rattle.records.proofs.chains.enter.Reads as enter-reads
 use Rattle.records.proofs.words.load.Reads as load-reads
 
 abbrev Inv-loop : tie.InvT-loop
-Inv-loop tree text n types scratch₀ r₀ scratch r = (r ≤ types) × (length scratch ≡ length scratch₀) × Chained tree text types r scratch × ((k : ℕ) → k < r → not (typeIsNew tree text k) ≡ false)
+Inv-loop tree text n types scratch₀ r₀ scratch r = (r ≤ types) × (length scratch ≡ length scratch₀) × TypesChained tree text types r scratch × ((k : ℕ) → k < r → not (typeIsNew tree text k) ≡ false)
 
 abbrev μ-loop : tie.MeasureT-loop
 μ-loop tree text n types scratch₀ r₀ scratch r = types - r
@@ -35,7 +36,7 @@ clear-heads-requires c κs = omega arith
 
 loop-holds : tie.Need-loop-holds Inv-loop μ-loop
 loop-holds c =
-    (omega arith, refl, chained-none _ _ _ _ (c .before .before .clear-heads .ensures .0), λ k h. absurd (omega arith))
+    (omega arith, refl, chained-none _ _ _ _ (c .before .before .clear-heads .ensures .heads), λ k h. absurd (omega arith))
 
 type-digest-requires : tie.Need-type-digest-requires Inv-loop μ-loop
 type-digest-requires c κs =
@@ -51,23 +52,23 @@ mul-load c =
 
 load-requires : tie.Need-load-requires Inv-loop μ-loop
 load-requires c κs =
-    omega (arith, c .before .before .before .before .before .before .before .before .before .before .before .before .pre .1 .within, c .before .bucket .ensures .1, c .before .before .before .before .loop .inv .1, c .before .before .before .before .before .before .before .clear-heads .ensures .1)
+    omega (arith, c .before .before .before .before .before .before .before .before .before .before .before .before .pre .1 .within, c .before .bucket .ensures .1, c .before .before .before .before .loop .inv .1, c .before .before .before .before .before .before .before .clear-heads .ensures .long)
 
 has-equal-requires : tie.Need-has-equal-requires Inv-loop μ-loop
 has-equal-requires c κs =
-    ((omega (arith, c .before .before .before .before .before .before .before .before .before .before .before .before .before .before .pre .1 .within), c .before .before .before .before .before .loop-test .taken, c .before .before .before .before .before .before .before .before .before .before .before .before .before .before .pre .1 .types), ((record { few = omega (arith, c .before .before .before .before .before .before .before .before .before .before .before .before .before .before .pre .1 .within); room = omega (arith, c .before .before .before .before .before .before .before .before .before .before .before .before .before .before .pre .1 .within, c .before .before .before .before .before .before .loop .inv .1, c .before .before .before .before .before .before .before .before .before .clear-heads .ensures .1) }, c .before .before .before .before .before .before .loop .inv .2), (c .before .before .before .before .type-digest .ensures, head-told _ _ _ _ _ _ _ (c .before .before .before .before .before .before .loop .inv .2) (c .before .before .before .bucket .ensures .1) (bucket-told _ _ _ _ _ _ (c .before .before .before .before .type-digest .ensures) (c .before .before .before .bucket .ensures .0)) (c .before .load .ensures))))
+    ((omega (arith, c .before .before .before .before .before .before .before .before .before .before .before .before .before .before .pre .1 .within), c .before .before .before .before .before .loop-test .taken, c .before .before .before .before .before .before .before .before .before .before .before .before .before .before .pre .1 .types), ((record { few = omega (arith, c .before .before .before .before .before .before .before .before .before .before .before .before .before .before .pre .1 .within); room = omega (arith, c .before .before .before .before .before .before .before .before .before .before .before .before .before .before .pre .1 .within, c .before .before .before .before .before .before .loop .inv .1, c .before .before .before .before .before .before .before .before .before .clear-heads .ensures .long) }, c .before .before .before .before .before .before .loop .inv .2), (c .before .before .before .before .type-digest .ensures, head-told _ _ _ _ _ _ _ (c .before .before .before .before .before .before .loop .inv .2) (c .before .before .before .bucket .ensures .1) (bucket-told _ _ _ _ _ _ refl (c .before .before .before .before .type-digest .ensures) (c .before .before .before .bucket .ensures .0)) (c .before .load .ensures))))
 
 same-length : tie.Need-same-length Inv-loop μ-loop
 same-length c =
-    c .before .before .before .before .before .before .before .before .loop .inv .1 ∙ c .before .before .before .before .before .before .before .before .before .before .before .clear-heads .ensures .1
+    c .before .before .before .before .before .before .before .before .loop .inv .1 ∙ c .before .before .before .before .before .before .before .before .before .before .before .clear-heads .ensures .long
 
 returns : tie.Need-returns Inv-loop μ-loop
 returns c =
-    (record { within = c .before .before .before .before .before .before .before .before .loop .inv .0; before = c .before .before .before .before .before .before .before .before .loop .inv .3; found = λ h. sym (c .before .has-equal .ensures) ∙ c .if1 .taken }, c .before .before .before .before .before .before .before .before .loop .inv .1 ∙ c .before .before .before .before .before .before .before .before .before .before .before .clear-heads .ensures .1)
+    (record { within = c .before .before .before .before .before .before .before .before .loop .inv .0; before = c .before .before .before .before .before .before .before .before .loop .inv .3; found = λ h. sym (c .before .has-equal .ensures) ∙ c .if1 .taken }, c .before .before .before .before .before .before .before .before .loop .inv .1 ∙ c .before .before .before .before .before .before .before .before .before .before .before .clear-heads .ensures .long)
 
 enter-requires : tie.Need-enter-requires Inv-loop μ-loop
 enter-requires c κs =
-    (record { few = omega (arith, c .before .before .before .before .before .before .before .before .before .before .before .before .before .before .before .before .before .pre .1 .within); room = omega (arith, c .before .before .before .before .before .before .before .before .before .before .before .before .before .before .before .before .before .pre .1 .within, c .before .before .before .before .before .before .before .before .before .loop .inv .1, c .before .before .before .before .before .before .before .before .before .before .before .before .clear-heads .ensures .1) }, c .before .before .before .before .before .before .before .before .loop-test .taken, c .before .before .before .before .before .before .bucket .ensures .1)
+    (record { few = omega (arith, c .before .before .before .before .before .before .before .before .before .before .before .before .before .before .before .before .before .pre .1 .within); room = omega (arith, c .before .before .before .before .before .before .before .before .before .before .before .before .before .before .before .before .before .pre .1 .within, c .before .before .before .before .before .before .before .before .before .loop .inv .1, c .before .before .before .before .before .before .before .before .before .before .before .before .clear-heads .ensures .long) }, c .before .before .before .before .before .before .before .before .loop-test .taken, c .before .before .before .before .before .before .bucket .ensures .1)
 
 add-r : tie.Need-add-r Inv-loop μ-loop
 add-r c = omega arith
@@ -79,24 +80,24 @@ loop-again : tie.Need-loop-again Inv-loop μ-loop
 loop-again c =
     let lead = c .before .before .before .before .before .before .before .before .before .before .before .before .before .before .before .before .before .before .before .before .pre .1 .within in
     let at-loop = c .before .before .before .before .before .before .before .before .before .before .before .before .loop in
-    let room : ChainRoom (c .before .before .before .before .before .before .before .before .before .before .before .before .before .before .before .before .before .before .before .before .args .types) (at-loop .scratch) = record { few = omega (arith, lead); room = omega (arith, lead, at-loop .inv .1, c .before .before .before .before .before .before .before .before .before .before .before .before .before .before .before .clear-heads .ensures .1) } in
+    let room : ChainRoom (c .before .before .before .before .before .before .before .before .before .before .before .before .before .before .before .before .before .before .before .before .args .types) (at-loop .scratch) = record { few = omega (arith, lead); room = omega (arith, lead, at-loop .inv .1, c .before .before .before .before .before .before .before .before .before .before .before .before .before .before .before .clear-heads .ensures .long) } in
     let r-below = c .before .before .before .before .before .before .before .before .before .before .before .loop-test .taken in
     let digest = c .before .before .before .before .before .before .before .before .before .before .type-digest .ensures in
     let at-bucket = c .before .before .before .before .before .before .before .before .before .bucket .ensures in
     let is-entered = c .before .before .enter .ensures in (
       omega arith,
       entered-long _ _ _ _ _ _ room r-below (at-bucket .1) (search needs) (search needs) _ is-entered ∙ at-loop .inv .1,
-      chained-more _ _ _ _ _ _ room r-below (at-bucket .1) (search needs) (search needs) _ _ _ is-entered (at-loop .inv .2) digest (bucket-told _ _ _ _ _ _ digest (at-bucket .0)) (c .before .before .before .before .before .before .before .load .ensures),
+      chained-more _ _ _ _ _ _ room r-below (at-bucket .1) (search needs) (search needs) _ _ _ is-entered (at-loop .inv .2) digest (bucket-told _ _ _ _ _ _ refl digest (at-bucket .0)) (c .before .before .before .before .before .before .before .load .ensures),
       below-more _ _ (at-loop .inv .3) (sym (c .before .before .before .before .before .has-equal .ensures) ∙ c .before .before .before .before .if1 .left),
     )
 
 same-length-2 : tie.Need-same-length-2 Inv-loop μ-loop
 same-length-2 c =
-    c .before .loop .inv .1 ∙ c .before .before .before .before .clear-heads .ensures .1
+    c .before .loop .inv .1 ∙ c .before .before .before .before .clear-heads .ensures .long
 
 returns-2 : tie.Need-returns-2 Inv-loop μ-loop
 returns-2 c =
-    (record { within = omega arith; before = λ k h. c .before .loop .inv .3 k (omega arith); found = λ h. absurd (omega arith) }, c .before .loop .inv .1 ∙ c .before .before .before .before .clear-heads .ensures .1)
+    (record { within = omega arith; before = λ k h. c .before .loop .inv .3 k (omega arith); found = λ h. absurd (omega arith) }, c .before .loop .inv .1 ∙ c .before .before .before .before .clear-heads .ensures .long)
 
 pub first-equal-spec : {M : Type 1} → statement M
 first-equal-spec =

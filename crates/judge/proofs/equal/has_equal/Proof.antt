@@ -1,6 +1,6 @@
 -- A walk along the chain of type r's bucket. The invariant: no type from the place at hand on equals type r.
 -- By the laws of chains at the head, at each link and at the end; the measure is the place. Assumes nothing.
-use mathlib.Core.Path.{sym, _∙_}
+use mathlib.Core.Path.{refl, sym, _∙_}
 use Prim.Native.Nat.{_-_}
 use native.Mathlib.Omega.{arith}
 use borrow.Author.Needs.{needs}
@@ -14,7 +14,7 @@ use Rattle.judge.proofs.equal.has_equal.Tie as tie
 use Rattle.judge.proofs.equal.has_equal.Reads as reads
 use Rattle.judge.proofs.equal.has_equal.Lts as lts
 use Rattle.judge.proofs.equal.equals.Reads as equals-reads
-use Rattle.judge.proofs.references.size.Reads as size-reads
+use Rattle.records.proofs.words.index.Reads as index-reads
 use Rattle.records.proofs.words.load.Reads as load-reads
 
 abbrev Inv-loop : tie.InvT-loop
@@ -23,11 +23,11 @@ Inv-loop tree text types scratch r d head at₀ at = Met (sameType tree text) (t
 abbrev μ-loop : tie.MeasureT-loop
 μ-loop tree text types scratch r d head at₀ at = at
 
-size-requires : tie.Need-size-requires Inv-loop μ-loop
-size-requires c κs = search needs
+index-requires : tie.Need-index-requires Inv-loop μ-loop
+index-requires c κs = search needs
 
 loop-holds : tie.Need-loop-holds Inv-loop μ-loop
-loop-holds c = walk-start _ _ (together _ _ _) _ _ (c .size .ensures ∙ c .before .before .before .before .pre .1 .1 .1)
+loop-holds c = walk-start _ _ (together _ _ _) _ _ (c .index .ensures ∙ c .before .before .before .before .pre .1 .1 .1)
 
 sub-k : tie.Need-sub-k Inv-loop μ-loop
 sub-k c = omega arith
@@ -45,7 +45,7 @@ load-requires : tie.Need-load-requires Inv-loop μ-loop
 load-requires c κs = omega (arith, c .before .loop .inv .within)
 
 equals-requires : tie.Need-equals-requires Inv-loop μ-loop
-equals-requires c κs = ((omega (arith, c .before .before .loop .inv .within), omega arith), (c .load .ensures ∙ c .before .before .before .before .before .before .before .pre .1 .0 .1 .digests (c .before .before .loop .at - 1) (omega (arith, c .before .before .loop .inv .within)), c .before .before .before .before .before .before .before .pre .1 .1 .0))
+equals-requires c κs = ((omega (arith, c .before .before .loop .inv .within), omega arith), (c .load .ensures ∙ c .before .before .before .before .before .before .before .pre .1 .0 .1 .digests (c .before .before .loop .at - 1) (omega (arith, c .before .before .loop .inv .within)) refl, c .before .before .before .before .before .before .before .pre .1 .1 .0))
 
 returns : tie.Need-returns Inv-loop μ-loop
 returns c = equal-found _ _ _ _ (c .before .before .before .before .before .before .before .before .before .pre .0 .2) (c .before .before .before .before .before .before .before .before .before .pre .0 .1) (c .before .before .before .before .loop .at - 1) (omega (arith, c .before .before .before .before .loop .inv .within)) (sym (c .before .equals .ensures) ∙ c .if1 .taken)
@@ -56,14 +56,14 @@ add-load c = omega (arith, c .before .before .before .before .loop .inv .within)
 load-requires-2 : tie.Need-load-requires-2 Inv-loop μ-loop
 load-requires-2 c κs = omega (arith, c .before .before .before .before .loop .inv .within)
 
-size-requires-2 : tie.Need-size-requires-2 Inv-loop μ-loop
-size-requires-2 c κs = search needs
+index-requires-2 : tie.Need-index-requires-2 Inv-loop μ-loop
+index-requires-2 c κs = search needs
 
 loop-less : tie.Need-loop-less Inv-loop μ-loop
-loop-less c = omega (arith, link-falls (typeBucket _ _ _) (c .before .before .before .before .before .before .loop .at - 1) _ (c .size2 .ensures ∙ c .before .load2 .ensures ∙ c .before .before .before .before .before .before .before .before .before .before .before .pre .1 .0 .1 .links (c .before .before .before .before .before .before .loop .at - 1) (omega (arith, c .before .before .before .before .before .before .loop .inv .within))))
+loop-less c = omega (arith, link-falls (typeBucket _ _ _) (c .before .before .before .before .before .before .loop .at - 1) _ (c .index2 .ensures ∙ c .before .load2 .ensures ∙ c .before .before .before .before .before .before .before .before .before .before .before .pre .1 .0 .1 .links (c .before .before .before .before .before .before .loop .at - 1) (omega (arith, c .before .before .before .before .before .before .loop .inv .within)) refl))
 
 loop-again : tie.Need-loop-again Inv-loop μ-loop
-loop-again c = walk-on _ _ (together _ _ _) _ (c .before .before .before .before .before .before .loop .at) (c .before .before .before .before .before .before .loop .at - 1) _ (c .before .before .before .before .before .before .loop .inv) (omega arith) (sym (c .before .before .before .equals .ensures) ∙ c .before .before .if1 .left) (c .size2 .ensures ∙ c .before .load2 .ensures ∙ c .before .before .before .before .before .before .before .before .before .before .before .pre .1 .0 .1 .links (c .before .before .before .before .before .before .loop .at - 1) (omega (arith, c .before .before .before .before .before .before .loop .inv .within)))
+loop-again c = walk-on _ _ (together _ _ _) _ (c .before .before .before .before .before .before .loop .at) (c .before .before .before .before .before .before .loop .at - 1) _ (c .before .before .before .before .before .before .loop .inv) (omega arith) (sym (c .before .before .before .equals .ensures) ∙ c .before .before .if1 .left) (c .index2 .ensures ∙ c .before .load2 .ensures ∙ c .before .before .before .before .before .before .before .before .before .before .before .pre .1 .0 .1 .links (c .before .before .before .before .before .before .loop .at - 1) (omega (arith, c .before .before .before .before .before .before .loop .inv .within)) refl)
 
 returns-2 : tie.Need-returns-2 Inv-loop μ-loop
 returns-2 c = equal-none _ _ _ _ (c .before .before .before .before .before .before .pre .0 .2) (c .before .before .before .before .before .before .pre .0 .1) (c .before .loop .at) (c .loop-test .left) (c .before .loop .inv)
@@ -74,7 +74,7 @@ has-equal-spec =
     (tie.spec
     Inv-loop
     μ-loop
-    size-requires
+    index-requires
     loop-holds
     sub-k
     mul-e
@@ -85,7 +85,7 @@ has-equal-spec =
     returns
     add-load
     load-requires-2
-    size-requires-2
+    index-requires-2
     loop-less
     loop-again
     returns-2)

@@ -12,11 +12,11 @@ enum-told c = search needs
 enum-told-2 : tie.Need-enum-told-2
 enum-told-2 c = search needs
 
-size-requires : tie.Need-size-requires
-size-requires c κs = search needs
+index-requires : tie.Need-index-requires
+index-requires c κs = search needs
 
-size-requires-2 : tie.Need-size-requires-2
-size-requires-2 c κs = search needs
+index-requires-2 : tie.Need-index-requires-2
+index-requires-2 c κs = search needs
 
 add-result : tie.Need-add-result
 add-result c = search needs
@@ -29,7 +29,7 @@ returns c =
 returns-2 : tie.Need-returns-2
 unfolding wordOk
 returns-2 c =
-    λ e tree r. rw (c .before .before .enum-told2 .given .1, c .before .size .ensures, c .size2 .ensures)
+    λ e tree r. rw (c .before .before .enum-told2 .given .1, c .before .index .ensures, c .index2 .ensures)
 
 returns-3 : tie.Need-returns-3
 returns-3 c =
@@ -41,8 +41,8 @@ plain-ok-spec =
     (tie.spec
     enum-told
     enum-told-2
-    size-requires
-    size-requires-2
+    index-requires
+    index-requires-2
     add-result
     returns
     returns-2

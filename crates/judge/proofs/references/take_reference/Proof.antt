@@ -7,15 +7,15 @@ use native.Mathlib.Omega.{arith}
 use Rattle.judge.proofs.references.take_reference.Statement.{statement}
 use Rattle.judge.proofs.references.take_reference.Tie as tie
 
-size-requires : tie.Need-size-requires
-size-requires c κs = search needs
+index-requires : tie.Need-index-requires
+index-requires c κs = search needs
 
 none-ok-requires : tie.Need-none-ok-requires
 none-ok-requires c κs = search needs
 
 returns : tie.Need-returns
 returns c =
-    λ bytes next. took-out _ _ _ _ _ _ _ (c .before .before .before .before .before .pre .3) _ (c .before .before .size .ensures) (c .before .if1 .taken) _ (c .none-ok .ensures)
+    λ bytes next. took-out _ _ _ _ _ _ _ (c .before .before .before .before .before .pre .3) _ (c .before .before .index .ensures) (c .before .if1 .taken) _ (c .none-ok .ensures)
 
 mul-wide : tie.Need-mul-wide
 mul-wide c = search needs
@@ -70,7 +70,7 @@ slice-read-count c = search needs
 
 returns-2 : tie.Need-returns-2
 returns-2 c =
-    λ bytes next. took-in _ _ _ _ _ _ _ (c .before .before .before .before .before .before .before .before .before .before .before .before .before .pre .3) _ (c .before .before .before .before .before .before .before .before .before .before .size .ensures) (c .before .before .before .before .before .before .before .before .before .before .before .before .before .pre .2) (c .before .before .before .before .before .before .before .before .before .before .before .before .before .pre .0) (c .before .before .before .before .before .before .before .before .before .if1 .left) _ _ _ _ (c .before .before .before .before .before .before .before .wide .ensures) (c .before .before .before .before .before .wide2 .ensures .0) (c .before .before .before .before .low-key .ensures) (c .before .before .before .high-key .ensures) _ (word-full _ _ _ _ _ (c .before .before .before .before .before .before .before .before .before .before .size .ensures) (c .before .before .before .before .before .before .before .before .before .before .before .before .before .pre .3) (c .if2 .taken))
+    λ bytes next. took-in _ _ _ _ _ _ _ (c .before .before .before .before .before .before .before .before .before .before .before .before .before .pre .3) _ (c .before .before .before .before .before .before .before .before .before .before .index .ensures) (c .before .before .before .before .before .before .before .before .before .before .before .before .before .pre .2) (c .before .before .before .before .before .before .before .before .before .before .before .before .before .pre .0) (c .before .before .before .before .before .before .before .before .before .if1 .left) _ _ _ _ (c .before .before .before .before .before .before .before .wide .ensures) (c .before .before .before .before .before .wide2 .ensures .0) (c .before .before .before .before .low-key .ensures) (c .before .before .before .high-key .ensures) _ (word-full _ _ _ _ _ (c .before .before .before .before .before .before .before .before .before .before .index .ensures) (c .before .before .before .before .before .before .before .before .before .before .before .before .before .pre .3) (c .if2 .taken))
 
 add-known : tie.Need-add-known
 add-known c = search needs
@@ -89,13 +89,13 @@ same-length c = search needs
 
 returns-3 : tie.Need-returns-3
 returns-3 c =
-    λ bytes next. took-in _ _ _ _ _ _ _ (c .before .before .before .before .before .before .before .before .before .before .before .before .before .pre .3) _ (c .before .before .before .before .before .before .before .before .before .before .size .ensures) (c .before .before .before .before .before .before .before .before .before .before .before .before .before .pre .2) (c .before .before .before .before .before .before .before .before .before .before .before .before .before .pre .0) (c .before .before .before .before .before .before .before .before .before .if1 .left) _ _ _ _ (c .before .before .before .before .before .before .before .wide .ensures) (c .before .before .before .before .before .wide2 .ensures .0) (c .before .before .before .before .low-key .ensures) (c .before .before .before .high-key .ensures) _ (word-more _ _ _ _ _ (c .before .before .before .before .before .before .before .before .before .before .size .ensures) (c .before .before .before .before .before .before .before .before .before .before .before .before .before .pre .3) (omega arith) (c .if2 .left))
+    λ bytes next. took-in _ _ _ _ _ _ _ (c .before .before .before .before .before .before .before .before .before .before .before .before .before .pre .3) _ (c .before .before .before .before .before .before .before .before .before .before .index .ensures) (c .before .before .before .before .before .before .before .before .before .before .before .before .before .pre .2) (c .before .before .before .before .before .before .before .before .before .before .before .before .before .pre .0) (c .before .before .before .before .before .before .before .before .before .if1 .left) _ _ _ _ (c .before .before .before .before .before .before .before .wide .ensures) (c .before .before .before .before .before .wide2 .ensures .0) (c .before .before .before .before .low-key .ensures) (c .before .before .before .high-key .ensures) _ (word-more _ _ _ _ _ (c .before .before .before .before .before .before .before .before .before .before .index .ensures) (c .before .before .before .before .before .before .before .before .before .before .before .before .before .pre .3) (omega arith) (c .if2 .left))
 
 pub take-reference-spec : {M : Type 1} → statement M
 take-reference-spec =
     tie.close
     (tie.spec
-    size-requires
+    index-requires
     none-ok-requires
     returns
     mul-wide

@@ -5,36 +5,36 @@ use Rattle.judge.proofs.ListClass.{cell-out, cell-last, cell-mixed, cel
 use Rattle.judge.proofs.rules.cell_class.Statement.{statement}
 use Rattle.judge.proofs.rules.cell_class.Tie as tie
 
-size-requires : tie.Need-size-requires
-size-requires c κs = search needs
+index-requires : tie.Need-index-requires
+index-requires c κs = search needs
 
 returns : tie.Need-returns
 returns c =
-    cell-out _ _ _ _ _ _ (c .before .size .ensures) (c .if1 .taken)
+    cell-out _ _ _ _ _ _ (c .before .index .ensures) (c .if1 .taken)
 
 item-class-requires : tie.Need-item-class-requires
 item-class-requires c κs = search needs
 
 returns-2 : tie.Need-returns-2
 returns-2 c =
-    cell-last _ _ _ _ _ _ (c .before .before .before .size .ensures) (c .before .before .if1 .left) _ (c .before .item-class .ensures) (c .if2 .taken)
+    cell-last _ _ _ _ _ _ (c .before .before .before .index .ensures) (c .before .before .if1 .left) _ (c .before .item-class .ensures) (c .if2 .taken)
 
 class-below-requires : tie.Need-class-below-requires
 class-below-requires c κs = search needs
 
 returns-3 : tie.Need-returns-3
 returns-3 c =
-    cell-mixed _ _ _ _ _ _ (c .before .before .before .before .before .size .ensures) (c .before .before .before .before .if1 .left) _ (c .before .before .before .item-class .ensures) (c .before .before .if2 .left) _ (c .before .class-below .ensures) (c .if3 .taken)
+    cell-mixed _ _ _ _ _ _ (c .before .before .before .before .before .index .ensures) (c .before .before .before .before .if1 .left) _ (c .before .before .before .item-class .ensures) (c .before .before .if2 .left) _ (c .before .class-below .ensures) (c .if3 .taken)
 
 returns-4 : tie.Need-returns-4
 returns-4 c =
-    cell-same _ _ _ _ _ _ (c .before .before .before .before .before .size .ensures) (c .before .before .before .before .if1 .left) _ (c .before .before .before .item-class .ensures) (c .before .before .if2 .left) _ (c .before .class-below .ensures) (c .if3 .left)
+    cell-same _ _ _ _ _ _ (c .before .before .before .before .before .index .ensures) (c .before .before .before .before .if1 .left) _ (c .before .before .before .item-class .ensures) (c .before .before .if2 .left) _ (c .before .class-below .ensures) (c .if3 .left)
 
 pub cell-class-spec : {M : Type 1} → statement M
 cell-class-spec =
     tie.close
     (tie.spec
-    size-requires
+    index-requires
     returns
     item-class-requires
     returns-2

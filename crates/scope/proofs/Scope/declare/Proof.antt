@@ -25,22 +25,22 @@ same-length c = search needs
 
 -- src/lib.rt:118:13
 returns : tie.Need-returns
-returns c = search declare-at
+returns c = λ text told. search declare-at
 
 enum-told-2 : tie.Need-enum-told-2
 enum-told-2 c = search needs
 
 -- src/lib.rt:120:40
-mul-t16 : tie.Need-mul-t16
-mul-t16 c = search needs
+mul-t15 : tie.Need-mul-t15
+mul-t15 c = search needs
 
 -- src/lib.rt:120:49
 mark-requires : tie.Need-mark-requires
 mark-requires c κs = search needs
 
 -- src/lib.rt:120:40
-add-t18 : tie.Need-add-t18
-add-t18 c = omega (arith, mark-one _ _ (c .mark .ensures))
+add-t17 : tie.Need-add-t17
+add-t17 c = omega (arith, mark-one _ _ (c .mark .ensures))
 
 -- src/lib.rt:122:22
 add-next : tie.Need-add-next
@@ -68,7 +68,7 @@ same-length-2 c = search needs
 
 -- src/lib.rt:101:5
 returns-2 : tie.Need-returns-2
-returns-2 c = search declare-new
+returns-2 c = λ text told. search declare-new
 
 pub declare-spec : {M : Type 1} → statement M
 declare-spec =
@@ -79,9 +79,9 @@ declare-spec =
     same-length
     returns
     enum-told-2
-    mul-t16
+    mul-t15
     mark-requires
-    add-t18
+    add-t17
     add-next
     mul-put-four
     mul-put-four-2

@@ -20,7 +20,7 @@ enum-known-j c = search needs
 
 -- src/lib.rt:96:29
 variable-at-requires : tie.Need-variable-at-requires
-variable-at-requires c κs = omega (arith, found-below _ _ (c .before .before .before .before .before .before .args .self) _ _ _ (c .before .before .before .find-name .ensures) _ (c .before .j .given .1), c .before .before .before .before .before .before .pre .scratch, c .before .before .before .before .before .before .pre .names-in)
+variable-at-requires c κs = omega (arith, found-below _ (c .before .before .before .before .before .args .self) _ _ _ (c .before .before .before .find-name .ensures) _ (c .before .j .given .1), c .before .before .before .before .before .pre .scratch, c .before .before .before .before .before .pre .names-in)
 
 -- src/lib.rt:97:31
 enum-told : tie.Need-enum-told
@@ -28,11 +28,11 @@ enum-told c = search needs
 
 -- src/lib.rt:89:5
 returns : tie.Need-returns
-returns c = find-at _ _ (c .before .before .before .before .before .before .before .args .self) _ _ _ (c .before .before .before .before .find-name .ensures) _ _ (c .before .before .j .given .1) (c .variable-at .ensures)
+returns c = λ text told. find-at _ (c .before .before .before .before .before .before .args .self) _ _ _ (c .before .before .before .before .find-name .ensures) text told _ _ (c .before .before .j .given .1) (c .variable-at .ensures)
 
 -- src/lib.rt:89:5
 returns-2 : tie.Need-returns-2
-returns-2 c = find-nowhere _ _ (c .before .before .before .before .before .args .self) _ _ _ (c .before .before .find-name .ensures) (c .enum-told .given .1)
+returns-2 c = λ text told. find-nowhere _ (c .before .before .before .before .args .self) _ _ _ (c .before .before .find-name .ensures) text told (c .enum-told .given .1)
 
 pub find-variable-spec : {M : Type 1} → statement M
 find-variable-spec =

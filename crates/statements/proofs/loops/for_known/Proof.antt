@@ -1,12 +1,12 @@
 -- The variable that a For changes: one of the blocks around, which may not be constant.
 -- By what the search finds. Assumes nothing.
-use Rattle.statements.proofs.ForLaws.{variable-inside, known-not, known-fixed, known-is}
+use Rattle.statements.proofs.ForLaws.{variable-asked, known-not, known-fixed, known-is}
 use borrow.Author.Needs.{needs}
 use Rattle.statements.proofs.loops.for_known.Statement.{statement}
 use Rattle.statements.proofs.loops.for_known.Tie as tie
 
 find-name-requires : tie.Need-find-name-requires
-find-name-requires c κs = (variable-inside (c .before .before .before .before .before .before .pre .0 .0 .ready .keyed .good) (c .before .before .before .before .before .before .pre .1 .0) (c .before .before .before .before .before .before .pre .1 .1), c .before .before .before .before .before .before .pre .0 .0 .ready .scoped .room)
+find-name-requires c κs = variable-asked (c .before .before .before .before .before .before .pre .0 .0 .ready) (c .before .before .before .before .before .before .pre .1 .0) (c .before .before .before .before .before .before .pre .1 .1)
 
 enum-told : tie.Need-enum-told
 enum-told c = search needs

@@ -1,7 +1,7 @@
 -- An Init: of a new name, or of a known one, which a plain Init assigns to.
 -- By the mark of the record and what is found. Assumes nothing.
 use borrow.Author.Needs.{needs}
-use Rattle.statements.proofs.InitLaws.{known-typed, init-constant, init-unknown, init-known}
+use Rattle.statements.proofs.InitLaws.{init-asked, known-typed, init-constant, init-unknown, init-known}
 use Rattle.statements.proofs.statements.convert_init.Statement.{statement}
 use Rattle.statements.proofs.statements.convert_init.Tie as tie
 
@@ -21,7 +21,7 @@ returns : tie.Need-returns
 returns c = init-constant (c .before .before .before .before .before .before .before .before .before .before .before .before .before .before .pre .0 .0) (c .before .before .before .before .before .before .before .before .before .before .before .before .before .before .pre .1) (c .before .before .before .before .before .before .before .before .detail .ensures) (c .before .before .before .before .before .before .before .if1 .taken) (c .before .before .before .before .init-new .ensures)
 
 find-name-requires : tie.Need-find-name-requires
-find-name-requires c κs = search needs
+find-name-requires c κs = init-asked (c .before .before .before .before .before .before .before .before .pre .0 .0 .ready) (c .before .before .before .before .before .before .before .before .pre .1)
 
 enum-known-v : tie.Need-enum-known-v
 enum-known-v c = search needs

@@ -1,25 +1,38 @@
 -- The name of a record declared.
--- By what `declare` owes of the words. Assumes nothing.
-use Rattle.statements.proofs.DeclareLaws.{declared-named}
+-- By what `declare` owes of the words of the lowest record with the text. Assumes nothing.
+use native.Mathlib.Omega.{arith}
+use Rattle.expressions.proofs.OriginalLaws.{number-inside, origin-inside, origin-declared}
 use borrow.Author.Needs.{needs}
 use Rattle.statements.proofs.statements.declare_name.Statement.{statement}
 use Rattle.statements.proofs.statements.declare_name.Tie as tie
 
+original-requires : tie.Need-original-requires
+original-requires c κs = number-inside (c .before .before .before .before .pre .0)
+
 word-requires : tie.Need-word-requires
-word-requires c κs = search needs
+word-requires c κs = (origin-inside (c .before .before .before .before .before .pre .0) (c .original .ensures), omega arith)
 
 word-requires-2 : tie.Need-word-requires-2
-word-requires-2 c κs = search needs
+word-requires-2 c κs = (origin-inside (c .before .before .before .before .before .before .pre .0) (c .before .original .ensures), omega arith)
 
 declare-requires : tie.Need-declare-requires
-declare-requires c κs = search needs
+declare-requires c κs = (c .before .before .before .before .before .before .before .before .pre .0 .scoped .room, c .before .before .before .before .before .before .before .before .pre .1)
 
 same-length : tie.Need-same-length
 same-length c = search needs
 
 returns : tie.Need-returns
-returns c = declared-named _ _ _ _ _ _ _ (c .before .before .before .before .before .word .ensures) (c .before .before .before .before .word2 .ensures) (c .before .before .declare .ensures)
+returns c =
+    let words = c .before .before .before .before in
+    origin-declared (words .before .before .before .before .before .before .before .pre .0) (words .before .before .original .ensures) (words .before .word .ensures) (words .word2 .ensures) _ _ _ _ (c .before .before .declare .ensures)
 
 pub declare-name-spec : {M : Type 1} → statement M
 declare-name-spec =
-    tie.close (tie.spec word-requires word-requires-2 declare-requires same-length returns)
+    tie.close
+    (tie.spec
+    original-requires
+    word-requires
+    word-requires-2
+    declare-requires
+    same-length
+    returns)

@@ -2,11 +2,11 @@
 -- By the laws of products and quotients. Assumes nothing.
 use mathlib.Core.Path.{refl}
 use borrow.Author.Needs.{needs}
-use Rattle.judge.proofs.EqualLaws.{product-fits, bucket-small}
-use Rattle.judge.proofs.equal.bucket.Statement.{statement}
-use Rattle.judge.proofs.equal.bucket.Tie as tie
-use Rattle.judge.proofs.equal.bucket.Reads as reads
-use Rattle.judge.proofs.equal.bucket.Lts as lts
+use Rattle.records.proofs.ChainedLaws.{product-fits, bucket-small}
+use Rattle.records.proofs.chains.bucket.Statement.{statement}
+use Rattle.records.proofs.chains.bucket.Tie as tie
+use Rattle.records.proofs.chains.bucket.Reads as reads
+use Rattle.records.proofs.chains.bucket.Lts as lts
 
 mul-result : tie.Need-mul-result
 mul-result c = record { fits = product-fits _ _ (search needs) (search needs) }

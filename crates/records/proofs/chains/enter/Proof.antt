@@ -1,13 +1,13 @@
--- Type r's entry and then the head of its bucket are written.
+-- Number r's entry and then the head of its bucket are written.
 -- From what the two writes ensure. Assumes nothing.
-use Rattle.judge.proofs.EqualLaws.{two-writes}
+use Rattle.records.proofs.ChainedLaws.{two-writes}
 use borrow.Author.Needs.{needs}
-use Rattle.judge.proofs.equal.enter.Statement.{statement}
-use Rattle.judge.proofs.equal.enter.Tie as tie
-use Rattle.judge.proofs.equal.enter.Reads as reads
-use Rattle.judge.proofs.equal.enter.Lts as lts
+use Rattle.records.proofs.chains.enter.Statement.{statement}
+use Rattle.records.proofs.chains.enter.Tie as tie
+use Rattle.records.proofs.chains.enter.Reads as reads
+use Rattle.records.proofs.chains.enter.Lts as lts
 use Rattle.records.proofs.words.put_pair.Reads as put-pair-reads
 use Rattle.records.proofs.words.put_word.Reads as put-word-reads
 
 add-next : tie.Need-add-next
 add-next c = search needs

@@ -1,0 +1,107 @@
+-- Names by the lowest record with the text: its words A and B say the name's text, and tell it from the open names; so what a search for the words finds, or declaring
+-- them leaves, is that of the name. By the laws of the texts' numbers. Assumes nothing.
+use mathlib.Core.Path.{_≡_, refl, sym, ap, _∙_, subst}
+use mathlib.Core.Bool.{Bool, true, _&&_}
+use mathlib.Core.List.{List}
+use Prim.Native.Nat.{ℕ, _+_, _*_, _≤_, _<_}
+use native.Mathlib.Omega.{arith}
+use lib.Dec.{eqb}
+use lib.ListN.{length}
+use Rattle.records.specs.Words.{kindOf, wordAt, wordOf, textAt, sameText, records, A, B}
+use Rattle.records.specs.Kinds.{kindName}
+use Rattle.records.specs.Good.{Good}
+use Rattle.records.proofs.GoodLaws.{inside}
+use Rattle.syntax.specs.Decode.{textOf}
+use Rattle.syntax.specs.Places.{IsKind}
+use Rattle.texts.specs.Texts.{hasOwn, hasText, ownText, original, originalAt, Numbered}
+use Rattle.texts.proofs.TextLaws.{original-below, original-text, words-tell}
+use Rattle.ir.specs.declared.structs.VarId.{VarId}
+use Rattle.scope.specs.declared.Scope.{Scope}
+use Rattle.scope.specs.declared.Known.{Known}
+use Rattle.scope.specs.declared.Declared.{Declared}
+use Rattle.scope.specs.Open.{nameIs, wordsAre, Told, FindMeets, FindsTold, DeclareMeets, DeclaresTold}
+use Rattle.expressions.specs.Slots.{originalWord, Original, Scoped, Asked, Ready}
+
+-- ---- numbers that stay
+
+module _ (tree s s′ : List ℕ) (same : (r : ℕ) → r < records tree → wordAt s′ (originalAt (records tree) r) ≡ wordAt s (originalAt (records tree) r)) where
+  pub numbers-stay : (text : List ℕ) → Numbered tree text s → Numbered tree text s′
+  numbers-stay text numbered r h t = same r h ∙ numbered r h t
+
+  pub word-stays : (r k : ℕ) → r < records tree → originalWord tree s′ r k ≡ originalWord tree s r k
+  word-stays r k h = ap (λ (z : ℕ). wordOf tree z k) (same r h)
+
+  pub original-stays : (p : ℕ) → wordAt s′ p ≡ wordAt s p → wordAt s′ (p + 4) ≡ wordAt s (p + 4) → Original tree s p → Original tree s′ p
+  original-stays p a b x = record {
+    of = x .of;
+    below = x .below;
+    has-text = x .has-text;
+    offset = a ∙ x .offset ∙ sym (word-stays (x .of) A (x .below));
+    len = b ∙ x .len ∙ sym (word-stays (x .of) B (x .below));
+  }
+
+-- ---- the words of a record's text
+
+-- words A and B of the lowest record with the text say the text
+origin-says : (tree text s : List ℕ) → Numbered tree text s → (r : ℕ) → r < records tree → hasOwn tree r ≡ true
+    → textAt text (originalWord tree s r A) (originalWord tree s r B) ≡ ownText tree text r
+origin-says tree text s numbered r h t = rw (numbered r h t) (original-text tree text r h t)
+
+-- a record of a kind that has a text
+pub kind-has : (tree : List ℕ) (k r : ℕ) → hasText k ≡ true → kindOf tree r ≡ k → hasOwn tree r ≡ true
+kind-has tree k r t e = rw e t
+
+pub name-asked : {tree text s : List ℕ} {sc : Scope} {r : ℕ} → Good tree text × Numbered tree text s → Scoped tree s sc → IsKind tree kindName r → Asked tree text s sc r
+unfolding hasText
+name-asked {tree = tree} {r = r} g k i = record { good = g .0; numbered = g .1; scoped = k; below = i .below; has-text = kind-has tree kindName r refl (i .kind) }
+
+pub kind-asked : (k : ℕ) → hasText k ≡ true → {tree text s : List ℕ} {count : ℕ} {sc : Scope} {r : ℕ} → Ready tree text s count sc → IsKind tree k r → Asked tree text s sc r
+kind-asked k t {tree = tree} {r = r} h i = record {
+  good = h .keyed .good;
+  numbered = h .keyed .numbered;
+  scoped = h .scoped;
+  below = i .below;
+  has-text = kind-has tree k r t (i .kind);
+}
+
+module _ {tree text s : List ℕ} {sc : Scope} {r : ℕ} (q : Asked tree text s sc r) where
+  pub number-inside : originalAt (sc .records) r + 4 ≤ length s
+  number-inside = omega (arith, q .below, q .scoped .records-are, q .scoped .room .scratch)
+
+  -- words A and B of the lowest record say the name
+  pub origin-text : textAt text (originalWord tree s r A) (originalWord tree s r B) ≡ textOf tree text r A
+  unfolding textOf
+  origin-text = origin-says tree text s (q .numbered) r (q .below) (q .has-text)
+
+  told-words : Told text s sc (originalWord tree s r A) (originalWord tree s r B)
+  unfolding nameIs wordsAre
+  told-words j h =
+      let x = q .scoped .named j h in
+      rw (q .scoped .records-are, x .offset, x .len, origin-says tree text s (q .numbered) r (q .below) (q .has-text), origin-says tree text s (q .numbered) (x .of) (x .below) (x .has-text))
+      (words-tell tree text r (x .of) (q .below) (x .below) (q .has-text) (x .has-text) s (q .numbered) _ _ refl refl)
+
+  module _ {o : ℕ} (eo : o ≡ wordAt s (originalAt (sc .records) r)) where
+    number-is : o ≡ wordAt s (originalAt (records tree) r)
+    number-is = eo ∙ ap (λ (n : ℕ). wordAt s (originalAt n r)) (q .scoped .records-are)
+
+    pub number-below : o < records tree
+    number-below = rw (number-is ∙ q .numbered r (q .below) (q .has-text)) (original-below tree text r (q .below) (q .has-text))
+
+    pub origin-inside : o * 32 + 32 ≤ length tree
+    origin-inside = inside tree text (q .good) o number-below
+
+    module _ {a n : ℕ} (ea : a ≡ wordOf tree o A) (en : n ≡ wordOf tree o B) where
+      is-offset : a ≡ originalWord tree s r A
+      is-offset = ea ∙ ap (λ (z : ℕ). wordOf tree z A) number-is
+
+      is-length : n ≡ originalWord tree s r B
+      is-length = en ∙ ap (λ (z : ℕ). wordOf tree z B) number-is
+
+      pub origin-found : (k : Known) → FindsTold s sc a n k → FindMeets text s sc (textOf tree text r A) k
+      origin-found k m =
+          subst (λ (u : List ℕ). FindMeets text s sc u k) origin-text
+          ((rw (is-offset, is-length) at m) text told-words)
+
+      pub origin-declared : (v : VarId) (constant : Bool) (s′ : List ℕ) (d : Declared) → DeclaresTold a n v constant sc s s′ d
+          → DeclareMeets text (originalWord tree s r A) (originalWord tree s r B) v constant sc s s′ d
+      origin-declared v constant s′ d m = (rw (is-offset, is-length) at m) text told-words
