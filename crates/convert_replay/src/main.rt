@@ -347,7 +347,7 @@ fn replay(file: i32) -> Tally {
     let mut functions = [0u8; 65700];
     let mut strings = [0u8; 16500];
     let mut floats = [0u8; 65700];
-    let mut scratch = [0u8; 131300];
+    let mut scratch = [0u8; 147700];
     let mut cases: usize = 0;
     let mut differ: usize = 0;
     let mut whole = false;

@@ -18,6 +18,7 @@ use Rattle.conversion.specs.Types.{isSome}
 use Rattle.conversion.specs.Scope as Def
 use Rattle.conversion.specs.Statements.{convert-block}
 use Rattle.conversion.specs.Functions.{Pool, always-returns, convert-func}
+use Rattle.conversion.specs.Visits.{bodyVisits}
 use Rattle.ir.specs.declared.structs.Counters.{Counters}
 use Rattle.ir.specs.Amounts.{Affords}
 use Rattle.ir.specs.Arena.{TablesSoFar, Holds, Room}
@@ -28,6 +29,7 @@ use Rattle.statements.specs.declared.answers.Finished.{Finished}
 use Rattle.statements.specs.declared.answers.Finished.the-variants as Finished
 use Rattle.statements.specs.declared.answers.Converter.{Converter}
 use Rattle.statements.specs.Converting.{blockAmount, Stays, StaysFor}
+use Rattle.statements.specs.Turns.{Visited}
 
 -- ---- the parameters
 
@@ -76,6 +78,10 @@ pub record ConvertsFunction (tree text : List ℕ) (f : ℕ) (k : Counters) (l s
   pub gives : (k′ : Counters) → a ≡ Finished.Done k′ → FunctionDone tree text f k l k′ l′
   pub stops : (e : ConvertError) → a ≡ Finished.Refused e → (before : List IrFunction) (p : Pool) → Holds text (begun before p) k l
       → convert-func (program tree text) (allKeys tree text) (functionOf tree text f) p ≡ err (e .kind) (e .place)
+
+-- where it refuses nothing: the visits of its body
+abbrev pub FunctionVisited : ℕ → List ℕ → List ℕ → List ℕ → Finished → List ℕ → Type 0
+FunctionVisited f tree text s a s′ = (k : Counters) → a ≡ Finished.Done k → Visited tree s (bodyVisits (records tree) (functionOf tree text f .body)) k s′
 
 -- ---- a function's body, in the scope of its parameters
 

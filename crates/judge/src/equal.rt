@@ -88,7 +88,7 @@ pub(crate) fn first_equal(
     types: usize,
     scratch: &mut [u8],
 ) -> usize
-    requires { ⌜ (n * 32 ≡ length (now tree)) × (64 * n ≤ length (now scratch)) × (n ≤ mostRecords) ⌝ }
+    requires { ⌜ (n * 32 ≡ length (now tree)) × (72 * n ≤ length (now scratch)) × (n ≤ mostRecords) ⌝ }
     requires { ⌜ TypesLead (now tree) n types ⌝ }
     ensures { λ v. ⌜ Lowest types (λ k. not (typeIsNew (now (tree .entry)) (now (text .entry)) k)) v × (length (now (scratch .exit)) ≡ length (now (scratch .entry))) ⌝ }
 {

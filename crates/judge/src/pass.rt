@@ -162,7 +162,7 @@ fn take_record(
     types: usize,
     known: &mut [u8],
 ) -> Told
-    requires { ⌜ (n * 32 ≡ length (now tree)) × (r < n) × (n ≤ mostRecords) × (64 * n ≤ length (now known)) × TypesLead (now tree) n types ⌝ }
+    requires { ⌜ (n * 32 ≡ length (now tree)) × (r < n) × (n ≤ mostRecords) × (72 * n ≤ length (now known)) × TypesLead (now tree) n types ⌝ }
     requires { ⌜ Known (now tree) r (now known) × Counting (now tree) r (now known) ⌝ }
     ensures { λ t. ⌜ TookRecord (now (tree .entry)) bytes r (now (known .entry)) (now (known .exit)) (t .ok) (t .depth) ⌝ }
 {
@@ -200,7 +200,7 @@ fn next_lowest(found: usize, r: usize, ok: bool) -> usize
 
 // All records.
 fn pass(tree: &[u8], bytes: usize, n: usize, types: usize, known: &mut [u8]) -> Lowests
-    requires { ⌜ (n * 32 ≡ length (now tree)) × (n ≤ mostRecords) × (64 * n ≤ length (now known)) × TypesLead (now tree) n types ⌝ }
+    requires { ⌜ (n * 32 ≡ length (now tree)) × (n ≤ mostRecords) × (72 * n ≤ length (now known)) × TypesLead (now tree) n types ⌝ }
     ensures { λ v. ⌜ TookAll (now (tree .entry)) bytes n (now (known .entry)) (now (known .exit)) (v .fault) (v .deep) ⌝ }
 {
     let mut fault = 0;
@@ -219,7 +219,7 @@ fn pass(tree: &[u8], bytes: usize, n: usize, types: usize, known: &mut [u8]) -> 
 
 // The lowest record that breaks a rule, and the lowest that is too deep, each n where there is none.
 pub(crate) fn lowest_records(tree: &[u8], text: &[u8], n: usize, scratch: &mut [u8]) -> Lowests
-    requires { ⌜ (n * 32 ≡ length (now tree)) × (n ≤ mostRecords) × (64 * n ≤ length (now scratch)) ⌝ }
+    requires { ⌜ (n * 32 ≡ length (now tree)) × (n ≤ mostRecords) × (72 * n ≤ length (now scratch)) ⌝ }
     ensures { λ v. ⌜ Lowest n (λ k. not (recordOk (now (tree .entry)) (now (text .entry)) k)) (v .fault) × Lowest n (λ k. ltb 64 (depthOf (now (tree .entry)) k)) (v .deep) × (length (now (scratch .exit)) ≡ length (now (scratch .entry))) ⌝ }
 {
     let types = leading_types(tree, n);

@@ -63,7 +63,7 @@ module _ (tree text : List ℕ) where
 
 -- the scratch has the functions' records, `count` of them
 pub record Listed (tree s : List ℕ) (count : ℕ) : Type 0 where
-  pub room : 64 * records tree ≤ length s
+  pub room : 72 * records tree ≤ length s
   pub counted : count ≡ length (functionPlaces tree)
   pub listed : (j : ℕ) → j < count → wordAt s (4 * j) ≡ getD (functionPlaces tree) j 0
 

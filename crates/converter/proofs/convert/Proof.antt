@@ -1,7 +1,7 @@
 -- THE CALL keeps its promise: it judges, and converts what the judge accepts.
 -- A refusal is the judge's row; an accepted tree is good, its buffers suffice, and its conversion is the definition's. Assumes nothing.
 use borrow.Author.Needs.{needs}
-use Rattle.converter.proofs.CallLaws.{judge-refuses, judged-good, judged-lent, promise-kept}
+use Rattle.converter.proofs.CallLaws.{judge-refuses, judged-good, judged-some, judged-lent, promise-kept}
 use Rattle.converter.proofs.convert.Statement.{statement}
 use Rattle.converter.proofs.convert.Tie as tie
 
@@ -44,7 +44,7 @@ convert-good-requires : tie.Need-convert-good-requires
 convert-good-requires c κs =
     let told = c .before .before .before .before .before .before .before in
     let e = told .before .before .before .before .before .before .before .before .before .before .before .before .before .before .before .before .judge-first .ensures in
-    (judged-good _ _ _ _ _ e (told .enum-told .given .1), judged-lent _ _ _ _ _ e (told .enum-told .given .1))
+    ((judged-good _ _ _ _ _ e (told .enum-told .given .1), judged-some _ _ _ _ _ e (told .enum-told .given .1)), judged-lent _ _ _ _ _ e (told .enum-told .given .1))
 
 same-length-8 : tie.Need-same-length-8
 same-length-8 c = search needs

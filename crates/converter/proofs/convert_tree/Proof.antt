@@ -1,7 +1,7 @@
--- A good tree is converted as the definition converts its program: the functions by key, `main`, then each function.
+-- A good tree is converted as the definition converts its program: the functions by key, `main`, then each function, once all types are forgotten.
 -- The laws of the three steps; a refusal of one is the definition's. Assumes nothing.
 use borrow.Author.Needs.{needs}
-use Rattle.converter.proofs.AllLaws.{keys-done, tree-unkeyed, tree-mainless, tree-all, room-numbered, tree-numbered}
+use Rattle.converter.proofs.AllLaws.{forgets-keyed, forgets-turns, keys-done, listed-room, tree-unkeyed, tree-mainless, tree-all, room-numbered, tree-numbered}
 use Rattle.converter.proofs.convert_tree.Statement.{statement}
 use Rattle.converter.proofs.convert_tree.Tie as tie
 
@@ -31,10 +31,21 @@ enum-known-e-2 c = search needs
 enum-told : tie.Need-enum-told
 enum-told c = search needs
 
+forget-requires : tie.Need-forget-requires
+forget-requires c κs =
+    let all = c .before .before .before .before .before .before .before .before .before .before in
+    let number = all .before .before .before .before .number-texts .ensures .1 in
+    let first = all .before .before .before .before .before .before .before .before .before .before in
+    listed-room _ _ _ _ _ (all .get-all-functions .ensures) (first .pre .0) (room-numbered number (first .pre .2))
+
 convert-all-requires : tie.Need-convert-all-requires
 convert-all-requires c κs =
-    let all = c .before .before .before .before .before .before .before .before .before .before .before in
-    (keys-done _ _ _ _ _ (all .get-all-functions .ensures) _ (c .before .before .before .before .before .before .before .count .given .1), all .before .before .before .before .before .before .before .before .before .before .pre .1)
+    let forgot = c .before .before .before .before in
+    let known = forgot .before .before .before .before .before .before .before in
+    let all = known .before .before .before .before in
+    let first = all .before .before .before .before .before .before .before .before .before .before in
+    let keyed = keys-done _ _ _ _ _ (all .get-all-functions .ensures) _ (known .count .given .1) in
+    ((forgets-keyed _ _ _ (forgot .forget .ensures) _ _ keyed, first .pre .1), forgets-turns _ _ _ (forgot .forget .ensures) (first .pre .3))
 
 same-length : tie.Need-same-length
 same-length c = search needs
@@ -67,14 +78,15 @@ same-length-4 c = search needs
 returns-3 : tie.Need-returns-3
 returns-3 c =
     let made = c .before .before .before .before in
-    let told = made .before .before .before in
+    let forgot = made .before .before .before .before .before in
+    let told = forgot .before .before in
     let main = told .before .before in
     let known = main .before .before .before in
     let all = known .before .before .before .before in
     let number = all .before .before .before .before .number-texts .ensures .1 in
     let first = all .before .before .before .before .before .before .before .before .before .before in
-    tree-numbered number (tree-all _ _ _ _ _ (all .get-all-functions .ensures) (first .pre .0) (room-numbered number (first .pre .2)) _ _ (known .count .given .1) _ (main .check-main .ensures) (told .enum-told .given .1) _ _ _ _
-    (made .convert-all .ensures))
+    tree-numbered number (tree-all _ _ _ _ _ (all .get-all-functions .ensures) (first .pre .0) (room-numbered number (first .pre .2)) _ _ (known .count .given .1) _ (main .check-main .ensures) (told .enum-told .given .1)
+    _ (forgot .forget .ensures) _ _ _ _ (made .convert-all .ensures))
 
 pub convert-tree-spec : {M : Type 1} → statement M
 convert-tree-spec =
@@ -87,6 +99,7 @@ convert-tree-spec =
     check-main-requires
     enum-known-e-2
     enum-told
+    forget-requires
     convert-all-requires
     same-length
     returns

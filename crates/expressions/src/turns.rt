@@ -1,0 +1,59 @@
+// What is remembered of types, as document 02 has it: an expression's type stands at its slot, and beside it the turn in which it was worked out. A turn
+// is a statement, so that a type is only used in the scope that it was worked out in.
+ghost use mathlib.Core.Path.{_≡_};
+ghost use Prim.Native.Nat.{_+_, _*_, _≤_, _<_};
+ghost use lib.ListN.{length};
+ghost use Rattle.records.specs.Words.{records};
+ghost use Rattle.expressions.specs.Slots.{inTurn, visitsAt, visited, Forgets};
+use records::layout::EXPR_TYPE_BYTES;
+use records::layout::EXPR_TYPES;
+use records::layout::SCRATCH;
+use records::layout::TURN_BYTES;
+use records::layout::TURNS;
+use records::layout::VISITS;
+use records::words::load;
+use records::words::put_word;
+
+// Whether the type of e was worked out in this turn.
+pub(crate) fn is_typed(tree: &[u8], scratch: &[u8], turn: u32, e: usize) -> bool
+    requires { ⌜ (e < records (now tree)) × (72 * records (now tree) ≤ length (now scratch)) ⌝ }
+    ensures { λ b. ⌜ b ≡ inTurn (now (tree .entry)) turn (now (scratch .entry)) e ⌝ }
+{
+    let n = tree.len() / 32;
+    load(scratch, TURNS * n + TURN_BYTES * e) == turn
+}
+
+// A visit: the type y of e was worked out in this turn.
+pub(crate) fn visit(tree: &[u8], scratch: &mut [u8], turn: u32, e: usize, y: usize)
+    requires { ⌜ (e < records (now tree)) × (72 * records (now tree) ≤ length (now scratch)) × (y < 4294967296) ⌝ }
+    requires { ⌜ visitsAt (now tree) (now scratch) + 1 < 4294967296 ⌝ }
+    ensures { λ _. ⌜ now (scratch .exit) ≡ visited (now (tree .entry)) turn e y (now (scratch .entry)) ⌝ }
+{
+    let n = tree.len() / 32;
+    let visits = load(scratch, VISITS * n);
+    put_word(scratch, EXPR_TYPES * n + EXPR_TYPE_BYTES * e, y as u32);
+    put_word(scratch, TURNS * n + TURN_BYTES * e, turn);
+    put_word(scratch, VISITS * n, visits + 1);
+}
+
+// No type is known and no visit made, whatever the scratch held.
+pub fn forget(tree: &[u8], scratch: &mut [u8])
+    requires { ⌜ 72 * records (now tree) ≤ length (now scratch) ⌝ }
+    ensures { λ _. ⌜ Forgets (now (tree .entry)) (now (scratch .entry)) (now (scratch .exit)) ⌝ }
+{
+    let n = tree.len() / 32;
+    let mut i = TURNS * n;
+    while i < SCRATCH * n {
+        scratch[i] = 0;
+        i += 1;
+    }
+}
+
+// How many visits were made.
+pub fn visits(tree: &[u8], scratch: &[u8]) -> usize
+    requires { ⌜ (0 < records (now tree)) × (72 * records (now tree) ≤ length (now scratch)) ⌝ }
+    ensures { λ v. ⌜ v ≡ visitsAt (now (tree .entry)) (now (scratch .entry)) ⌝ }
+{
+    let n = tree.len() / 32;
+    load(scratch, VISITS * n) as usize
+}
