@@ -128,7 +128,8 @@ AllRunAlike W tree text counts after = (i : ℕ) (f : Function) (b : Block) → 
     → RunsAlike W tree text counts (outputsOf after) i f b
 
 -- ---- VISITS, document 02, point 9: 'For a function whose tree holds e such records, the visits shall be at most e; their total, a seventh count in the
--- answer, unprinted, is the number of those that the Rust, as amended, types at least once.' On a refusal there is no count.
+-- answer, unprinted, is the number of those that the Rust, as amended, types at least once.' On a refusal there is no count. `bodyVisits` are those that
+-- `convert_func` makes, which its contract says (`FunctionVisited` in functions/specs/Bodies.antt); `visits` speaks of no code.
 
 pub record Visited (tree text : List ℕ) (seventh : ℕ) : Type 0 where
   pub atMost : All (λ f. bodyVisits (records tree) (f .body) ≤ expressionRecords (records tree) f) (program tree text .functions)

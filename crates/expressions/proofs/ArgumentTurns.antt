@@ -10,6 +10,7 @@ use lib.Dec.{eqb}
 use borrow.Author.Tests.{eq-eqb, ne-eqb}
 use Rattle.laws.specs.Fix.{pick}
 use Rattle.laws.specs.Different.{has}
+use Rattle.laws.proofs.DifferentLaws.{has-append}
 use Rattle.records.specs.declared.shape.Role.the-variants.{Arguments}
 use Rattle.records.specs.declared.convert_error.ConvertError.{ConvertError}
 use Rattle.records.specs.Words.{wordOf, records, none, B, C}
@@ -34,7 +35,7 @@ use Rattle.expressions.specs.Slots.{slotAt, slotted, ArgsTyped, Frame, t
 use Rattle.expressions.specs.Answers.{refusal, typeResult, doneWith, ArgumentIs, TypeMeets, ArgsMeet}
 use Rattle.syntax.proofs.Lists.{Cell, cell-is, args-end}
 use Rattle.expressions.proofs.SlotLaws.{frame-refl, frame-trans}
-use Rattle.expressions.proofs.PartLaws.{has-append, own-exprs, expr-low, place-is, call-list, call-low}
+use Rattle.expressions.proofs.PartLaws.{own-exprs, expr-low, place-is, call-list, call-low}
 use Rattle.expressions.proofs.TurnLaws.{typed-none, typed-both, typed-right, same-scope, typing-next, later-type, later-adds}
 use Rattle.expressions.proofs.TypingLaws.{type-ok, type-refused}
 

@@ -2,7 +2,7 @@
 -- By the cases of nodes, and by induction on a bound of the numbers. Assumes nothing.
 use mathlib.Core.Path.{_≡_, refl, ap, _∙_}
 use mathlib.Core.Logic.{_⊎_, inl, inr}
-use mathlib.Core.Bool.{Bool, true, false, _||_}
+use mathlib.Core.Bool.{true, false}
 use mathlib.Core.List.{List, [], _∷_, _++_}
 use Prim.Native.Nat.{ℕ, zero, suc, _≤_, _<_}
 use native.Mathlib.Omega.{arith}
@@ -10,6 +10,7 @@ use lib.Dec.{eqb, leb, ltb}
 use borrow.Author.Tests.{leb-true, ltb-true, ltb-false, eqb-true, eqb-false, ne-eqb}
 use Rattle.laws.specs.Different.{has}
 use Rattle.laws.proofs.Tests.{tested, and-left, and-right}
+use Rattle.laws.proofs.DifferentLaws.{has-append}
 use Rattle.records.specs.declared.shape.Role.the-variants.{Arguments}
 use Rattle.records.specs.Words.{kindOf, wordOf, records, none, A, B, C}
 use Rattle.records.specs.Good.{Good}
@@ -20,15 +21,6 @@ use Rattle.syntax.specs.Places.{IsExpr, IsKind, ArgsAt, exprAt, argsAt}
 use Rattle.syntax.proofs.Lists.{Cell, cell-is, args-end, list-lower, list-at, value-item, value-lower, value-inside, value-kind, type-item}
 use Rattle.syntax.proofs.Records.{expr-int, expr-float, expr-str, expr-bool, expr-name, expr-null, expr-sizeOf, expr-unary, expr-binary, expr-call, expr-place}
 use Rattle.types.proofs.FromGood.{is-expr}
-
-pub has-append : (q : ℕ) (a b : List ℕ) → has q (a ++ b) ≡ (has q a || has q b)
-unfolding has
-has-append q [] b = refl
-has-append q (x ∷ a) b = rw (has-append q a b) (or-assoc (eqb q x) (has q a) (has q b))
-  where
-    or-assoc : (x y z : Bool) → (x || (y || z)) ≡ ((x || y) || z)
-    or-assoc true y z = refl
-    or-assoc false y z = refl
 
 -- its own record, and its parts'
 pub exprs-parts : (x : Expr) → exprs x ≡ place x ∷ partsExprs x

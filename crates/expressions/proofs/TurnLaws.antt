@@ -14,6 +14,8 @@ use Rattle.laws.specs.Below.{sumBelow}
 use Rattle.laws.specs.Splice.{splice}
 use Rattle.laws.specs.Different.{has}
 use Rattle.laws.proofs.Tests.{tested}
+use Rattle.laws.proofs.Sums.{sum-le, sum-same, sum-one}
+use Rattle.laws.proofs.DifferentLaws.{or-assoc, has-append}
 use Rattle.records.specs.Words.{wordAt, records}
 use Rattle.records.specs.Good.{Good}
 use Rattle.conversion.specs.ConvertError.{ok}
@@ -28,7 +30,7 @@ use Rattle.expressions.specs.declared.answers.ExprType.{ExprType}
 use Rattle.expressions.specs.declared.answers.ExprType.the-variants as ExprType
 use Rattle.expressions.specs.Answers.{typeResult, TypeMeets}
 use Rattle.expressions.proofs.SlotLaws.{put-long, put-byte, put-other, put-here, scope-frame, ready-frame}
-use Rattle.expressions.proofs.PartLaws.{has-append, expr-low, own-exprs, own-apart}
+use Rattle.expressions.proofs.PartLaws.{expr-low, own-exprs, own-apart}
 
 -- ---- tests and sums
 
@@ -40,18 +42,12 @@ or-false : (b : Bool) → (b || false) ≡ b
 or-false true = refl
 or-false false = refl
 
-or-assoc : (x y z : Bool) → ((x || y) || z) ≡ (x || (y || z))
-or-assoc true y z = refl
-or-assoc false y z = refl
-
 abbrev count : (ℕ → Bool) → ℕ → ℕ
 count f i = pick (f i) 1 0
 
 -- numbers that pass no test of f other than g's are counted alike
 count-same : (n : ℕ) (f g : ℕ → Bool) → ((r : ℕ) → r < n → f r ≡ g r) → sumBelow n (count f) ≡ sumBelow n (count g)
-unfolding sumBelow
-count-same zero f g h = refl
-count-same (suc n) f g h = rw (count-same n f g (λ r l. h r (omega arith)), h n (omega arith))
+count-same n f g h = sum-same n (count f) (count g) (λ r l. ap (λ (b : Bool). pick b 1 0) (h r l))
 
 -- where g passes one number more than f, it counts one more
 count-more : (n e : ℕ) (f g : ℕ → Bool) → e < n → f e ≡ false → g e ≡ true → ((r : ℕ) → r < n → (r ≡ e → ⊥) → g r ≡ f r)
@@ -76,9 +72,7 @@ one-most true = omega arith
 one-most false = omega arith
 
 count-most : (n : ℕ) (f : ℕ → Bool) → sumBelow n (count f) ≤ n
-unfolding sumBelow
-count-most zero f = omega arith
-count-most (suc n) f = omega (arith, count-most n f, one-most (f n))
+count-most n f = omega (arith, sum-le n (count f) (λ i. 1) (λ i l. one-most (f i)), sum-one n)
 
 -- where one number is not counted, there is room for one more
 count-room : (n e : ℕ) (f : ℕ → Bool) → e < n → f e ≡ false → sumBelow n (count f) + 1 ≤ n
@@ -202,7 +196,7 @@ module _ (tree text : List ℕ) (S : Def.Scope) (turn : ℕ) where
   pub typed-both : (s s₁ s₂ a b : List ℕ) → Typed tree text S turn s a s₁ → Typed tree text S turn s₁ b s₂ → Typed tree text S turn s (a ++ b) s₂
   typed-both s s₁ s₂ a b f g = record {
     remembers = g .remembers;
-    adds = λ r h. g .adds r h ∙ rw (f .adds r h, has-append r a b) (or-assoc (inTurn tree turn s r) (has r a) (has r b));
+    adds = λ r h. g .adds r h ∙ rw (f .adds r h, has-append r a b) (sym (or-assoc (inTurn tree turn s r) (has r a) (has r b)));
     counts = omega (arith, f .counts, g .counts);
   }
 

@@ -12,7 +12,7 @@ use Rattle.laws.proofs.Sums.{sum-le, sum-same, sum-add, sum-one, sum-ze
 
 -- ---- over ++
 
-or-assoc : (a b c : Bool) → (a || (b || c)) ≡ ((a || b) || c)
+pub or-assoc : (a b c : Bool) → (a || (b || c)) ≡ ((a || b) || c)
 or-assoc true b c = refl
 or-assoc false b c = refl
 
