@@ -31,10 +31,10 @@ use Rattle.expressions.specs.declared.answers.Resolved.{Resolved}
 use Rattle.expressions.specs.declared.answers.Resolved.the-variants as Resolved
 use Rattle.syntax.specs.Places.{IsExpr, IsKind, TypeAt, exprAt, argsAt}
 use Rattle.keys.specs.Keys.{allKeys}
-use Rattle.expressions.specs.Slots.{slotAt, visitsAt, inTurn, visited, slotted, typeIn, Typed, Typing}
+use Rattle.expressions.specs.Slots.{slotAt, inTurn, visited, slotted, typeIn, Typed, Typing}
 use Rattle.expressions.specs.Calls.{typedAt}
 use Rattle.expressions.specs.declared.operands.Sides.{Sides}
-use Rattle.expressions.specs.Answers.{refusal, typeResult, doneWith, calleeOf, valueResult, IsTyped, IsCallee, TypeIs, CalleeIs, binaryTypeAt, WorksOut, TypeMeets, ArgsMeet, CallMeets}
+use Rattle.expressions.specs.Answers.{refusal, typeResult, doneWith, calleeOf, valueResult, IsTyped, IsCallee, TypeIs, CalleeIs, binaryTypeAt, WorksOut, Keepable, Keeps, TypeMeets, ArgsMeet, CallMeets}
 use Rattle.syntax.proofs.Records.{expr-unary, expr-binary, expr-call}
 use Rattle.expressions.proofs.SlotLaws.{frame-refl, frame-trans}
 pub use Rattle.expressions.proofs.PartLaws.{expr-low, place-is, call-list, call-low}
@@ -77,6 +77,21 @@ err-ok k p x e = let z : _≡_ {A = ℕ} 0 1 = cc in omega arith
 
 refused-is : (r : ConvertError) (y : ℕ) → ExprType.Refused r ≡ ExprType.Is y → ⊥
 refused-is r y e = let z : _≡_ {A = ℕ} 0 1 = cc in omega arith
+
+-- what is kept of a refusal, and of a type
+pub keeps-refusal : (tree : List ℕ) (turn e : ℕ) (a : ExprType) (s : List ℕ) (r : ConvertError) → a ≡ ExprType.Refused r → Keeps tree turn e a s (ExprType.Refused r) s
+keeps-refusal tree turn e a s r q = record { same = sym q; type = λ y w. absurd (refused-is r y (sym q ∙ w)); refused = λ x w. refl }
+
+type-same : (y z : ℕ) → ExprType.Is y ≡ ExprType.Is z → y ≡ z
+type-same y z e = cc
+
+pub keeps-type : (tree : List ℕ) (turn e : ℕ) (a : ExprType) (s : List ℕ) (y : ℕ) → a ≡ ExprType.Is y → (s′ : List ℕ) → s′ ≡ visited tree turn e y s
+    → Keeps tree turn e a s (ExprType.Is y) s′
+keeps-type tree turn e a s y q s′ w = record {
+  same = sym q;
+  type = λ z v. w ∙ ap (λ (x : ℕ). visited tree turn e x s) (type-same y z (sym q ∙ v));
+  refused = λ r v. absurd (refused-is r y (sym v ∙ q));
+}
 
 -- what succeeds after a callee has one
 callee-ok : {P : Type 0} (m : Result Callee) (f : Callee → Result ℕ) (y : ℕ) → (m >>= f) ≡ ok y → ((c : Callee) → m ≡ ok c → P) → P
@@ -156,7 +171,7 @@ module _ (tree text : List ℕ) (good : Good tree text) where
         operand-type : typeIn tree text S (wordOf tree e A) ≡ typeResult t
         operand-type = ap (typeIn tree text S) (sym ea) ∙ m .meets
 
-        pub unary-stop : (r : ConvertError) → t ≡ ExprType.Refused r → WorksOut tree text s sc turn e (ExprType.Refused r) s₁
+        pub unary-stop : (r : ConvertError) → t ≡ ExprType.Refused r → TypeMeets tree text s sc turn e (ExprType.Refused r) s₁
         unfolding typeResult
         unary-stop r w = record {
           frame = m .frame;
@@ -194,7 +209,7 @@ module _ (tree text : List ℕ) (good : Good tree text) where
             >>= λ y. binaryType (program tree text) (allKeys tree text) e (getD binaryOps (detailOf tree e) Or)
             (exprAt tree text (wordOf tree e A)) l (exprAt tree text (wordOf tree e B)) y
 
-        pub left-stop : (r : ConvertError) → t ≡ ExprType.Refused r → WorksOut tree text s sc turn e (ExprType.Refused r) s₁
+        pub left-stop : (r : ConvertError) → t ≡ ExprType.Refused r → TypeMeets tree text s sc turn e (ExprType.Refused r) s₁
         unfolding typeResult
         left-stop r w = record {
           frame = m .frame;
@@ -224,7 +239,7 @@ module _ (tree text : List ℕ) (good : Good tree text) where
               type-binary S e (expr-low tree text good e x) (kind-at 10 q)
               ∙ bind-ok (typeIn tree text S (wordOf tree e A)) l (rule S) (type-ok (typeIn tree text S (wordOf tree e A)) t l left-type w)
 
-          pub right-stop : (r : ConvertError) → u ≡ ExprType.Refused r → WorksOut tree text s sc turn e (ExprType.Refused r) s₂
+          pub right-stop : (r : ConvertError) → u ≡ ExprType.Refused r → TypeMeets tree text s sc turn e (ExprType.Refused r) s₂
           unfolding typeResult
           right-stop r v = record {
             frame = frame-trans (m .frame) (m₂ .frame);
@@ -283,14 +298,13 @@ module _ (tree text : List ℕ) (good : Good tree text) where
       → (e < records tree) × (72 * records tree ≤ length s)
   look-ready e x s count sc turn typing = (expr-low tree text good e x, typing .ready .keyed .listed .room)
 
-  module _ (e : ℕ) (x : IsExpr tree e) (s : List ℕ) (count : ℕ) (sc : Scope) (turn : ℕ) (typing : Typing tree text s count sc turn)
-      (b : Bool) (eb : b ≡ inTurn tree turn s e) where
+  module _ (e : ℕ) (x : IsExpr tree e) (s : List ℕ) (count : ℕ) (sc : Scope) (turn : ℕ) (typing : Typing tree text s count sc turn) where
     abbrev U : Def.Scope
     U = scopeAt tree text s sc
 
-    pub type-known : b ≡ true → (y : ℕ) → y ≡ slotAt tree s e → TypeMeets tree text s sc turn e (ExprType.Is y) s
+    pub type-known : (b : Bool) → b ≡ inTurn tree turn s e → b ≡ true → (y : ℕ) → y ≡ slotAt tree s e → TypeMeets tree text s sc turn e (ExprType.Is y) s
     unfolding typeResult
-    type-known q y ey =
+    type-known b eb q y ey =
         let right = hit-right tree text U turn s (typing .remembers) e (expr-low tree text good e x) (sym eb ∙ q) in record {
           frame = frame-refl tree s;
           typed = IsTyped.is (subst (λ (z : ℕ). TypeAt tree z) (sym ey) (right .type));
@@ -298,37 +312,44 @@ module _ (tree text : List ℕ) (good : Good tree text) where
           adds = λ z v. hit-typed tree text U turn s (typing .remembers) e (expr-low tree text good e x) (sym eb ∙ q);
         }
 
-    module _ (a : ExprType) (s₁ : List ℕ) (m : WorksOut tree text s sc turn e a s₁) where
-      pub type-stop : (r : ConvertError) → a ≡ ExprType.Refused r → TypeMeets tree text s sc turn e (ExprType.Refused r) s₁
+    -- it is worked out where the turn has none, and kept
+    module _ (new : inTurn tree turn s e ≡ false) (a : ExprType) (s₁ : List ℕ) (m : WorksOut tree text s sc turn e a s₁) where
+      room : 72 * records tree ≤ length s₁
+      room = omega (arith, m .frame .same-length, typing .ready .keyed .listed .room)
+
+      pub keep-ready : Keepable tree e a s₁
+      keep-ready = record {
+        fits = λ y q. (
+          (expr-low tree text good e x, room, omega (arith, is-typed tree a y (m .typed) q .below, good .few)),
+          visit-fits tree text U turn good s s₁ e x room new (m .adds y q),
+        );
+      }
+
+      kept-type : turn < 4294967296 → (y : ℕ) → a ≡ ExprType.Is y → TypeMeets tree text s sc turn e (ExprType.Is y) (visited tree turn e y s₁)
       unfolding typeResult
-      type-stop r q = record {
+      kept-type fit y q = record {
+        frame = frame-trans (m .frame) (visited-frame tree s₁ turn e y (expr-low tree text good e x) room);
+        typed = IsTyped.is (is-typed tree a y (m .typed) q);
+        meets = m .meets ∙ ap typeResult q;
+        adds = λ z v. visit-typed tree text U turn good s s₁ e x room new (m .adds y q) y fit (type-ok (typeIn tree text U e) a y (m .meets) q)
+            (is-typed tree a y (m .typed) q);
+      }
+
+      kept-refusal : (r : ConvertError) → a ≡ ExprType.Refused r → TypeMeets tree text s sc turn e (ExprType.Refused r) s₁
+      unfolding typeResult
+      kept-refusal r q = record {
         frame = m .frame;
         typed = IsTyped.no;
         meets = m .meets ∙ ap typeResult q;
         adds = λ y v. absurd (refused-is r y v);
       }
 
-      module _ (new : b ≡ false) (y : ℕ) (q : a ≡ ExprType.Is y) where
-        room : 72 * records tree ≤ length s₁
-        room = omega (arith, m .frame .same-length, typing .ready .keyed .listed .room)
-
-        at : TypeAt tree y
-        at = is-typed tree a y (m .typed) q
-
-        pub visit-ready : ((e < records tree) × (72 * records tree ≤ length s₁) × (y < 4294967296)) × (visitsAt tree s₁ + 1 < 4294967296)
-        visit-ready = (
-          (expr-low tree text good e x, room, omega (arith, at .below, good .few)),
-          visit-fits tree text U turn good s s₁ e x room (sym eb ∙ new) (m .adds y q),
-        )
-
-        pub type-visit : turn < 4294967296 → (s₂ : List ℕ) → s₂ ≡ visited tree turn e y s₁ → TypeMeets tree text s sc turn e (ExprType.Is y) s₂
-        unfolding typeResult
-        type-visit fit s₂ w = rw w (record {
-          frame = frame-trans (m .frame) (visited-frame tree s₁ turn e y (expr-low tree text good e x) room);
-          typed = IsTyped.is at;
-          meets = m .meets ∙ ap typeResult q;
-          adds = λ z v. visit-typed tree text U turn good s s₁ e x room (sym eb ∙ new) (m .adds y q) y fit (type-ok (typeIn tree text U e) a y (m .meets) q) at;
-        })
+      pub keep-meets : turn < 4294967296 → (b : ExprType) (s₂ : List ℕ) → Keeps tree turn e a s₁ b s₂ → TypeMeets tree text s sc turn e b s₂
+      keep-meets fit b s₂ k = go a refl
+        where
+          go : (z : ExprType) → a ≡ z → TypeMeets tree text s sc turn e b s₂
+          go (ExprType.Is y) q = rw (k .same, q, k .type y q) (kept-type fit y q)
+          go (ExprType.Refused r) q = rw (k .same, q, k .refused r q) (kept-refusal r q)
 
   -- ---- what a call runs
 

@@ -1,11 +1,11 @@
 -- What each answer says, as the definitions say it: a result, or a refusal's kind and place. Assumes nothing: these are definitions.
 use mathlib.Core.Path.{_≡_}
-use Prim.Native.Nat.{ℕ, _<_}
+use Prim.Native.Nat.{ℕ, _+_, _*_, _≤_, _<_}
 use mathlib.Core.Bool.{Bool}
 use mathlib.Core.List.{List, [], _∷_, _++_}
 use mathlib.Core.Option.{Option, none, some}
-use lib.ListN.{getD}
-use Rattle.records.specs.Words.{detailOf, wordOf, A, B, C}
+use lib.ListN.{length, getD}
+use Rattle.records.specs.Words.{detailOf, wordOf, records, A, B, C}
 use Rattle.records.specs.declared.convert_error.ConvertError.{ConvertError}
 use Rattle.syntax.specs.Syntax.{Value, ToType, Function, Neg, Or, unaryOps, binaryOps}
 use Rattle.syntax.specs.Decode.{program, textOf}
@@ -35,7 +35,7 @@ use Rattle.expressions.specs.declared.arguments.Argument.{Argument}
 use Rattle.expressions.specs.declared.arguments.Argument.the-variants as Argument
 use Rattle.syntax.specs.Places.{IsExpr, TypeAt, FunctionAt, functionOf, exprAt, argsAt}
 use Rattle.keys.specs.Keys.{allKeys}
-use Rattle.expressions.specs.Slots.{slotted, ArgsTyped, Frame, Typed, typeIn}
+use Rattle.expressions.specs.Slots.{visitsAt, visited, slotted, ArgsTyped, Frame, Typed, typeIn}
 
 -- a refusal
 unfoldable pub refusal : {A : Type 0} → ConvertError → Result A
@@ -193,12 +193,22 @@ module _ (tree text : List ℕ) where
 -- ---- what typing owes, of the answer and of the scratch before and after, in the scope that the open names stand for. Where nothing is refused it says
 -- which expressions were typed
 
--- the type of the expression at record e, worked out from its parts
+-- the type of the expression at record e, worked out from its parts, before it is kept
 pub record WorksOut (tree text s : List ℕ) (sc : Scope) (turn e : ℕ) (a : ExprType) (s′ : List ℕ) : Type 0 where
   pub frame : Frame tree s s′
   pub typed : IsTyped tree a
   pub meets : typeIn tree text (scopeAt tree text s sc) e ≡ typeResult a
   pub adds : (y : ℕ) → a ≡ ExprType.Is y → Typed tree text (scopeAt tree text s sc) turn s (partsExprs (exprAt tree text e)) s′
+
+-- what that came to can be kept, and is: a type by a visit, and a refusal leaves the scratch as it was
+pub record Keepable (tree : List ℕ) (e : ℕ) (a : ExprType) (s : List ℕ) : Type 0 where
+  pub fits : (y : ℕ) → a ≡ ExprType.Is y
+      → ((e < records tree) × (72 * records tree ≤ length s) × (y < 4294967296)) × (visitsAt tree s + 1 < 4294967296)
+
+pub record Keeps (tree : List ℕ) (turn e : ℕ) (a : ExprType) (s : List ℕ) (r : ExprType) (s′ : List ℕ) : Type 0 where
+  pub same : r ≡ a
+  pub type : (y : ℕ) → a ≡ ExprType.Is y → s′ ≡ visited tree turn e y s
+  pub refused : (x : ConvertError) → a ≡ ExprType.Refused x → s′ ≡ s
 
 -- `get_type` of the expression at record e
 pub record TypeMeets (tree text s : List ℕ) (sc : Scope) (turn e : ℕ) (a : ExprType) (s′ : List ℕ) : Type 0 where

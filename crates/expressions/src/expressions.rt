@@ -1,12 +1,14 @@
 // expressions.rs: the type of an expression and what a call runs. Typing an expression, resolving a call and typing its arguments call each
 // other; the record's number falls. Lists are walked by a loop, and recursion goes only into items. Document 02, point 9: a type is worked out once in a
 // turn.
+ghost use mathlib.Core.Path.{_≡_};
+ghost use mathlib.Core.Bool.{false};
 ghost use Rattle.records.specs.Words as Words;
 ghost use Rattle.records.specs.Words.{wordOf};
 ghost use Rattle.records.specs.Kinds.{kindCall};
 ghost use Rattle.syntax.specs.Places.{IsExpr, IsKind};
-ghost use Rattle.expressions.specs.Slots.{Typing};
-ghost use Rattle.expressions.specs.Answers.{WorksOut, TypeMeets, ArgsMeet, CallMeets, CommonMeets};
+ghost use Rattle.expressions.specs.Slots.{inTurn, Typing};
+ghost use Rattle.expressions.specs.Answers.{TypeMeets, ArgsMeet, CallMeets, CommonMeets};
 use crate::answers::Common;
 use crate::answers::ExprType;
 use crate::answers::Outcome;
@@ -24,7 +26,7 @@ use crate::operands::leaf_type;
 use crate::operands::unary_type;
 use crate::operands::value_type;
 use crate::turns::is_typed;
-use crate::turns::visit;
+use crate::turns::keep;
 use records::numbers::KIND_BINARY;
 use records::numbers::KIND_CALL;
 use records::numbers::KIND_UNARY;
@@ -53,16 +55,10 @@ pub fn get_type(
     if is_typed(tree, scratch, turn, e) {
         return ExprType::Is(slot(tree, scratch, e));
     }
-    match work_out(tree, text, scratch, functions, scope, turn, e) {
-        ExprType::Refused(x) => ExprType::Refused(x),
-        ExprType::Is(y) => {
-            visit(tree, scratch, turn, e, y);
-            ExprType::Is(y)
-        }
-    }
+    work_out(tree, text, scratch, functions, scope, turn, e)
 }
 
-// The type of the expression e from those of its parts.
+// The type of the expression e from those of its parts, kept at its slot: a visit. It may be made only where none was in this turn.
 fn work_out(
     tree: &[u8],
     text: &[u8],
@@ -73,15 +69,15 @@ fn work_out(
     e: usize,
 ) -> ExprType
     requires { ⌜ Typing (now tree) (now text) (now scratch) functions scope turn ⌝ }
-    requires { ⌜ IsExpr (now tree) e ⌝ }
-    ensures { λ a. ⌜ WorksOut (now (tree .entry)) (now (text .entry)) (now (scratch .entry)) scope turn e a (now (scratch .exit)) ⌝ }
+    requires { ⌜ IsExpr (now tree) e × (inTurn (now tree) turn (now scratch) e ≡ false) ⌝ }
+    ensures { λ a. ⌜ TypeMeets (now (tree .entry)) (now (text .entry)) (now (scratch .entry)) scope turn e a (now (scratch .exit)) ⌝ }
 {
     let k = kind(tree, e);
     let left = reference(tree, e, WORD_A);
     if k == KIND_UNARY {
         return match get_type(tree, text, scratch, functions, scope, turn, left) {
             ExprType::Refused(x) => ExprType::Refused(x),
-            ExprType::Is(ty) => unary_type(tree, text, e, ty),
+            ExprType::Is(ty) => keep(tree, scratch, turn, e, unary_type(tree, text, e, ty)),
         };
     }
     if k == KIND_BINARY {
@@ -90,15 +86,19 @@ fn work_out(
             ExprType::Refused(x) => ExprType::Refused(x),
             ExprType::Is(l) => match get_type(tree, text, scratch, functions, scope, turn, right) {
                 ExprType::Refused(x) => ExprType::Refused(x),
-                ExprType::Is(r) => binary_type(tree, text, e, both_sides(left, l, right, r)),
+                ExprType::Is(r) => {
+                    let a = binary_type(tree, text, e, both_sides(left, l, right, r));
+                    keep(tree, scratch, turn, e, a)
+                }
             },
         };
     }
     if k == KIND_CALL {
         let callee = resolve_call(tree, text, scratch, functions, scope, turn, e);
-        return value_type(tree, text, e, callee);
+        return keep(tree, scratch, turn, e, value_type(tree, text, e, callee));
     }
-    leaf_type(tree, text, scratch, scope, e)
+    let a = leaf_type(tree, text, scratch, scope, e);
+    keep(tree, scratch, turn, e, a)
 }
 
 // What the call of record r runs, once its arguments are checked.

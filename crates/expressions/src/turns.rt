@@ -5,6 +5,8 @@ ghost use Prim.Native.Nat.{_+_, _*_, _≤_, _<_};
 ghost use lib.ListN.{length};
 ghost use Rattle.records.specs.Words.{records};
 ghost use Rattle.expressions.specs.Slots.{inTurn, visitsAt, visited, Forgets};
+ghost use Rattle.expressions.specs.Answers.{Keepable, Keeps};
+use crate::answers::ExprType;
 use records::layout::EXPR_TYPE_BYTES;
 use records::layout::EXPR_TYPES;
 use records::layout::SCRATCH;
@@ -24,7 +26,7 @@ pub(crate) fn is_typed(tree: &[u8], scratch: &[u8], turn: u32, e: usize) -> bool
 }
 
 // A visit: the type y of e was worked out in this turn.
-pub(crate) fn visit(tree: &[u8], scratch: &mut [u8], turn: u32, e: usize, y: usize)
+fn visit(tree: &[u8], scratch: &mut [u8], turn: u32, e: usize, y: usize)
     requires { ⌜ (e < records (now tree)) × (72 * records (now tree) ≤ length (now scratch)) × (y < 4294967296) ⌝ }
     requires { ⌜ visitsAt (now tree) (now scratch) + 1 < 4294967296 ⌝ }
     ensures { λ _. ⌜ now (scratch .exit) ≡ visited (now (tree .entry)) turn e y (now (scratch .entry)) ⌝ }
@@ -34,6 +36,20 @@ pub(crate) fn visit(tree: &[u8], scratch: &mut [u8], turn: u32, e: usize, y: usi
     put_word(scratch, EXPR_TYPES * n + EXPR_TYPE_BYTES * e, y as u32);
     put_word(scratch, TURNS * n + TURN_BYTES * e, turn);
     put_word(scratch, VISITS * n, visits + 1);
+}
+
+// What working out the type of e came to: a type is kept, and the visit counted.
+pub(crate) fn keep(tree: &[u8], scratch: &mut [u8], turn: u32, e: usize, a: ExprType) -> ExprType
+    requires { ⌜ Keepable (now tree) e a (now scratch) ⌝ }
+    ensures { λ r. ⌜ Keeps (now (tree .entry)) turn e a (now (scratch .entry)) r (now (scratch .exit)) ⌝ }
+{
+    match a {
+        ExprType::Refused(x) => ExprType::Refused(x),
+        ExprType::Is(y) => {
+            visit(tree, scratch, turn, e, y);
+            ExprType::Is(y)
+        }
+    }
 }
 
 // No type is known and no visit made, whatever the scratch held.

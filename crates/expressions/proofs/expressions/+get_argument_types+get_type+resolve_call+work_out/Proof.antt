@@ -1,5 +1,6 @@
 -- `get_type`, `work_out`, `resolve_call` and `get_argument_types` meet their contracts. Their measures are 4e + 3, 4e + 2, 4r + 1 and 4r: a call goes to a lower record, or
 -- down this order. Each need is a law of TypingLaws or of ArgumentTurns; the loop's invariant is `Left`, its measure the cell's number. Assumes nothing.
+use mathlib.Core.Path.{sym, _∙_}
 use Prim.Native.Nat.{ℕ, suc, _+_, _*_, _<_}
 use lib.Dec.{eqb}
 use Rattle.laws.specs.Fix.{pick}
@@ -9,7 +10,7 @@ use borrow.Author.Needs.{needs}
 use Rattle.expressions.proofs.SlotLaws.{keyed-frame}
 use Rattle.expressions.proofs.OperandLaws.{operands-are}
 use Rattle.expressions.proofs.TurnLaws.{typing-next}
-use Rattle.expressions.proofs.TypingLaws.{is-typed, is-kind, expr-low, operand-expr, left-expr, right-expr, leaf-kind, unary-stop, unary-next, left-stop, right-stop, right-next, call-value, leaf-meets, look-ready, type-known, type-stop, visit-ready, type-visit, call-stop, call-next}
+use Rattle.expressions.proofs.TypingLaws.{is-typed, is-kind, expr-low, operand-expr, left-expr, right-expr, leaf-kind, unary-stop, unary-next, left-stop, right-stop, right-next, call-value, leaf-meets, look-ready, type-known, keep-ready, keep-meets, call-stop, call-next}
 use Rattle.expressions.proofs.ArgumentTurns.{Left, loop-start, loop-end, cell-inside, cell-falls, turn-type, value-low, turn-stop, turn-value}
 use borrow.Fn.Kinds.{In}
 use borrow.Fn.PlainCycle.{Measures, is, falls, and}
@@ -35,7 +36,7 @@ use Rattle.expressions.proofs.operands.leaf_type.Reads as leaf-type-rea
 use Rattle.expressions.proofs.operands.unary_type.Reads as unary-type-reads
 use Rattle.expressions.proofs.operands.value_type.Reads as value-type-reads
 use Rattle.expressions.proofs.turns.is_typed.Reads as is-typed-reads
-use Rattle.expressions.proofs.turns.visit.Reads as visit-reads
+use Rattle.expressions.proofs.turns.keep.Reads as keep-reads
 use Rattle.records.proofs.words.kind.Reads as kind-reads
 use Rattle.records.proofs.words.reference.Reads as reference-reads
 use Rattle.expressions.proofs.expressions.+get_argument_types+get_type+resolve_call+work_out.{
@@ -363,7 +364,7 @@ get-argument-types-returns-2 : (t : ℕ) → get-argument-types-lts.Need-returns
     get-argument-types-μ-loop
 get-argument-types-returns-2 t c = loop-end _ _ (c .before .before .before .before .before .before .pre .1 .0 .ready .keyed .good) _ _ _ _ _ (c .before .before .before .before .before .before .pre .1 .0) _ _ (c .before .loop .inv) (c .loop-test .left)
 
--- src/expressions.rt:53:8
+-- src/expressions.rt:55:8
 get-type-is-typed-requires : (t : ℕ) → get-type-lts.Need-is-typed-requires (
   is-typed-reads.Asked,
   is-typed-reads.Learnt,
@@ -371,12 +372,10 @@ get-type-is-typed-requires : (t : ℕ) → get-type-lts.Need-is-typed-requires (
   slot-reads.Learnt,
   work-out-below t,
   work-out.Post,
-  visit-reads.Asked,
-  visit-reads.Learnt,
 ) (get-type-at t) get-type.Post
 get-type-is-typed-requires t c κs = look-ready _ _ (c .before .before .before .before .pre .1 .0 .ready .keyed .good) _ (c .before .before .before .before .pre .1 .1) _ _ _ _ (c .before .before .before .before .pre .1 .0)
 
--- src/expressions.rt:54:29
+-- src/expressions.rt:56:29
 get-type-slot-requires : (t : ℕ) → get-type-lts.Need-slot-requires (
   is-typed-reads.Asked,
   is-typed-reads.Learnt,
@@ -384,12 +383,10 @@ get-type-slot-requires : (t : ℕ) → get-type-lts.Need-slot-requires (
   slot-reads.Learnt,
   work-out-below t,
   work-out.Post,
-  visit-reads.Asked,
-  visit-reads.Learnt,
 ) (get-type-at t) get-type.Post
 get-type-slot-requires t c κs = look-ready _ _ (c .before .before .before .before .before .before .before .pre .1 .0 .ready .keyed .good) _ (c .before .before .before .before .before .before .before .pre .1 .1) _ _ _ _ (c .before .before .before .before .before .before .before .pre .1 .0)
 
--- src/expressions.rt:54:9
+-- src/expressions.rt:56:9
 get-type-same-length : (t : ℕ) → get-type-lts.Need-same-length (
   is-typed-reads.Asked,
   is-typed-reads.Learnt,
@@ -397,12 +394,10 @@ get-type-same-length : (t : ℕ) → get-type-lts.Need-same-length (
   slot-reads.Learnt,
   work-out-below t,
   work-out.Post,
-  visit-reads.Asked,
-  visit-reads.Learnt,
 ) (get-type-at t) get-type.Post
 get-type-same-length t c = search needs
 
--- src/expressions.rt:54:9
+-- src/expressions.rt:56:9
 get-type-returns : (t : ℕ) → get-type-lts.Need-returns (
   is-typed-reads.Asked,
   is-typed-reads.Learnt,
@@ -410,12 +405,10 @@ get-type-returns : (t : ℕ) → get-type-lts.Need-returns (
   slot-reads.Learnt,
   work-out-below t,
   work-out.Post,
-  visit-reads.Asked,
-  visit-reads.Learnt,
 ) (get-type-at t) get-type.Post
 get-type-returns t c = type-known _ _ (c .before .before .before .before .before .before .before .before .pre .1 .0 .ready .keyed .good) _ (c .before .before .before .before .before .before .before .before .pre .1 .1) _ _ _ _ (c .before .before .before .before .before .before .before .before .pre .1 .0) _ (c .before .before .before .is-typed .ensures) (c .before .before .if1 .taken) _ (c .slot .ensures)
 
--- src/expressions.rt:56:11
+-- src/expressions.rt:58:5
 get-type-work-out-requires : (t : ℕ) → get-type-lts.Need-work-out-requires (
   is-typed-reads.Asked,
   is-typed-reads.Learnt,
@@ -423,51 +416,10 @@ get-type-work-out-requires : (t : ℕ) → get-type-lts.Need-work-out-requires (
   slot-reads.Learnt,
   work-out-below t,
   work-out.Post,
-  visit-reads.Asked,
-  visit-reads.Learnt,
 ) (get-type-at t) get-type.Post
-get-type-work-out-requires t c κs = (omega (arith, c .before .before .before .before .before .before .before .pre .0), (c .before .before .before .before .before .before .before .pre .1 .0, c .before .before .before .before .before .before .before .pre .1 .1))
+get-type-work-out-requires t c κs = (omega (arith, c .before .before .before .before .before .before .before .pre .0), (c .before .before .before .before .before .before .before .pre .1 .0, (c .before .before .before .before .before .before .before .pre .1 .1, sym (c .before .before .is-typed .ensures) ∙ c .before .if1 .left)))
 
--- src/expressions.rt:57:27
-get-type-enum-known-x : (t : ℕ) → get-type-lts.Need-enum-known-x (
-  is-typed-reads.Asked,
-  is-typed-reads.Learnt,
-  slot-reads.Asked,
-  slot-reads.Learnt,
-  work-out-below t,
-  work-out.Post,
-  visit-reads.Asked,
-  visit-reads.Learnt,
-) (get-type-at t) get-type.Post
-get-type-enum-known-x t c = search needs
-
--- src/expressions.rt:58:22
-get-type-enum-known-y : (t : ℕ) → get-type-lts.Need-enum-known-y (
-  is-typed-reads.Asked,
-  is-typed-reads.Learnt,
-  slot-reads.Asked,
-  slot-reads.Learnt,
-  work-out-below t,
-  work-out.Post,
-  visit-reads.Asked,
-  visit-reads.Learnt,
-) (get-type-at t) get-type.Post
-get-type-enum-known-y t c = search needs
-
--- src/expressions.rt:59:13
-get-type-visit-requires : (t : ℕ) → get-type-lts.Need-visit-requires (
-  is-typed-reads.Asked,
-  is-typed-reads.Learnt,
-  slot-reads.Asked,
-  slot-reads.Learnt,
-  work-out-below t,
-  work-out.Post,
-  visit-reads.Asked,
-  visit-reads.Learnt,
-) (get-type-at t) get-type.Post
-get-type-visit-requires t c κs = visit-ready _ _ (c .before .before .before .before .before .before .before .before .before .before .before .before .before .before .pre .1 .0 .ready .keyed .good) _ (c .before .before .before .before .before .before .before .before .before .before .before .before .before .before .pre .1 .1) _ _ _ _ (c .before .before .before .before .before .before .before .before .before .before .before .before .before .before .pre .1 .0) _ (c .before .before .before .before .before .before .before .before .before .is-typed .ensures) _ _ (c .before .before .before .before .before .before .work-out .ensures) (c .before .before .before .before .before .before .before .before .if1 .left) _ (c .before .before .y .given .1)
-
--- src/expressions.rt:40:1
+-- src/expressions.rt:42:1
 get-type-same-length-2 : (t : ℕ) → get-type-lts.Need-same-length-2 (
   is-typed-reads.Asked,
   is-typed-reads.Learnt,
@@ -475,12 +427,10 @@ get-type-same-length-2 : (t : ℕ) → get-type-lts.Need-same-length-2 (
   slot-reads.Learnt,
   work-out-below t,
   work-out.Post,
-  visit-reads.Asked,
-  visit-reads.Learnt,
 ) (get-type-at t) get-type.Post
 get-type-same-length-2 t c = search needs
 
--- src/expressions.rt:40:1
+-- src/expressions.rt:42:1
 get-type-returns-2 : (t : ℕ) → get-type-lts.Need-returns-2 (
   is-typed-reads.Asked,
   is-typed-reads.Learnt,
@@ -488,36 +438,8 @@ get-type-returns-2 : (t : ℕ) → get-type-lts.Need-returns-2 (
   slot-reads.Learnt,
   work-out-below t,
   work-out.Post,
-  visit-reads.Asked,
-  visit-reads.Learnt,
 ) (get-type-at t) get-type.Post
-get-type-returns-2 t c = type-stop _ _ (c .before .before .before .before .before .before .before .before .before .before .before .before .before .pre .1 .0 .ready .keyed .good) _ (c .before .before .before .before .before .before .before .before .before .before .before .before .before .pre .1 .1) _ _ _ _ (c .before .before .before .before .before .before .before .before .before .before .before .before .before .pre .1 .0) _ (c .before .before .before .before .before .before .before .before .is-typed .ensures) _ _ (c .before .before .before .before .before .work-out .ensures) _ (c .before .x .given .1)
-
--- src/expressions.rt:40:1
-get-type-same-length-3 : (t : ℕ) → get-type-lts.Need-same-length-3 (
-  is-typed-reads.Asked,
-  is-typed-reads.Learnt,
-  slot-reads.Asked,
-  slot-reads.Learnt,
-  work-out-below t,
-  work-out.Post,
-  visit-reads.Asked,
-  visit-reads.Learnt,
-) (get-type-at t) get-type.Post
-get-type-same-length-3 t c = search needs
-
--- src/expressions.rt:40:1
-get-type-returns-3 : (t : ℕ) → get-type-lts.Need-returns-3 (
-  is-typed-reads.Asked,
-  is-typed-reads.Learnt,
-  slot-reads.Asked,
-  slot-reads.Learnt,
-  work-out-below t,
-  work-out.Post,
-  visit-reads.Asked,
-  visit-reads.Learnt,
-) (get-type-at t) get-type.Post
-get-type-returns-3 t c = type-visit _ _ (c .before .before .before .before .before .before .before .before .before .before .before .before .before .before .before .before .before .pre .1 .0 .ready .keyed .good) _ (c .before .before .before .before .before .before .before .before .before .before .before .before .before .before .before .before .before .pre .1 .1) _ _ _ _ (c .before .before .before .before .before .before .before .before .before .before .before .before .before .before .before .before .before .pre .1 .0) _ (c .before .before .before .before .before .before .before .before .before .before .before .before .is-typed .ensures) _ _ (c .before .before .before .before .before .before .before .before .before .work-out .ensures) (c .before .before .before .before .before .before .before .before .before .before .before .if1 .left) _ (c .before .before .before .before .before .y .given .1) (c .before .before .before .before .before .before .before .before .before .before .before .before .before .before .before .before .before .fits .turn .fits) _ (c .before .before .visit .ensures)
+get-type-returns-2 t c = c .before .before .work-out .ensures
 
 -- src/expressions.rt:118:11
 resolve-call-get-argument-types-requires :
@@ -592,7 +514,7 @@ resolve-call-returns-2 : (t : ℕ) → resolve-call-lts.Need-returns-2 (
 ) (resolve-call-at t) resolve-call.Post
 resolve-call-returns-2 t c = call-next _ _ (c .before .before .before .before .before .before .before .before .before .before .before .pre .1 .0 .ready .keyed .good) _ _ _ _ _ _ (c .before .before .before .before .before .before .get-argument-types .ensures) (c .before .before .enum-told .given .1) _ (c .resolve-typed .ensures)
 
--- src/expressions.rt:79:9
+-- src/expressions.rt:75:9
 work-out-kind-requires : (t : ℕ) → work-out-lts.Need-kind-requires (
   kind-reads.Asked,
   kind-reads.Learnt,
@@ -602,6 +524,8 @@ work-out-kind-requires : (t : ℕ) → work-out-lts.Need-kind-requires (
   get-type.Post,
   unary-type-reads.Asked,
   unary-type-reads.Learnt,
+  keep-reads.Asked,
+  keep-reads.Learnt,
   both-sides-reads.Asked,
   both-sides-reads.Learnt,
   binary-type-reads.Asked,
@@ -613,9 +537,9 @@ work-out-kind-requires : (t : ℕ) → work-out-lts.Need-kind-requires (
   leaf-type-reads.Asked,
   leaf-type-reads.Learnt,
 ) (work-out-at t) work-out.Post
-work-out-kind-requires t c κs = c .before .before .before .pre .1 .1 .inside
+work-out-kind-requires t c κs = c .before .before .before .pre .1 .1 .0 .inside
 
--- src/expressions.rt:80:9
+-- src/expressions.rt:76:9
 work-out-reference-requires : (t : ℕ) → work-out-lts.Need-reference-requires (
   kind-reads.Asked,
   kind-reads.Learnt,
@@ -625,6 +549,8 @@ work-out-reference-requires : (t : ℕ) → work-out-lts.Need-reference-requires
   get-type.Post,
   unary-type-reads.Asked,
   unary-type-reads.Learnt,
+  keep-reads.Asked,
+  keep-reads.Learnt,
   both-sides-reads.Asked,
   both-sides-reads.Learnt,
   binary-type-reads.Asked,
@@ -636,9 +562,9 @@ work-out-reference-requires : (t : ℕ) → work-out-lts.Need-reference-requires
   leaf-type-reads.Asked,
   leaf-type-reads.Learnt,
 ) (work-out-at t) work-out.Post
-work-out-reference-requires t c κs = (c .before .before .before .before .pre .1 .1 .inside, omega arith)
+work-out-reference-requires t c κs = (c .before .before .before .before .pre .1 .1 .0 .inside, omega arith)
 
--- src/expressions.rt:82:22
+-- src/expressions.rt:78:22
 work-out-get-type-requires : (t : ℕ) → work-out-lts.Need-get-type-requires (
   kind-reads.Asked,
   kind-reads.Learnt,
@@ -648,6 +574,8 @@ work-out-get-type-requires : (t : ℕ) → work-out-lts.Need-get-type-requires (
   get-type.Post,
   unary-type-reads.Asked,
   unary-type-reads.Learnt,
+  keep-reads.Asked,
+  keep-reads.Learnt,
   both-sides-reads.Asked,
   both-sides-reads.Learnt,
   binary-type-reads.Asked,
@@ -659,10 +587,10 @@ work-out-get-type-requires : (t : ℕ) → work-out-lts.Need-get-type-requires (
   leaf-type-reads.Asked,
   leaf-type-reads.Learnt,
 ) (work-out-at t) work-out.Post
-work-out-get-type-requires t c κs = let h = operand-expr _ _ (c .before .before .before .before .before .before .before .pre .1 .0 .ready .keyed .good) _ _ (c .before .before .before .before .before .before .before .pre .1 .1) (c .before .before .before .kind .ensures) (c .before .if1 .taken) _ (c .before .before .reference .ensures) in
+work-out-get-type-requires t c κs = let h = operand-expr _ _ (c .before .before .before .before .before .before .before .pre .1 .0 .ready .keyed .good) _ _ (c .before .before .before .before .before .before .before .pre .1 .1 .0) (c .before .before .before .kind .ensures) (c .before .if1 .taken) _ (c .before .before .reference .ensures) in
     (omega (arith, h .0, c .before .before .before .before .before .before .before .pre .0), (c .before .before .before .before .before .before .before .pre .1 .0, h .1))
 
--- src/expressions.rt:83:31
+-- src/expressions.rt:79:31
 work-out-enum-known-x : (t : ℕ) → work-out-lts.Need-enum-known-x (
   kind-reads.Asked,
   kind-reads.Learnt,
@@ -672,6 +600,8 @@ work-out-enum-known-x : (t : ℕ) → work-out-lts.Need-enum-known-x (
   get-type.Post,
   unary-type-reads.Asked,
   unary-type-reads.Learnt,
+  keep-reads.Asked,
+  keep-reads.Learnt,
   both-sides-reads.Asked,
   both-sides-reads.Learnt,
   binary-type-reads.Asked,
@@ -685,7 +615,7 @@ work-out-enum-known-x : (t : ℕ) → work-out-lts.Need-enum-known-x (
 ) (work-out-at t) work-out.Post
 work-out-enum-known-x t c = search needs
 
--- src/expressions.rt:84:26
+-- src/expressions.rt:80:26
 work-out-enum-known-ty : (t : ℕ) → work-out-lts.Need-enum-known-ty (
   kind-reads.Asked,
   kind-reads.Learnt,
@@ -695,6 +625,8 @@ work-out-enum-known-ty : (t : ℕ) → work-out-lts.Need-enum-known-ty (
   get-type.Post,
   unary-type-reads.Asked,
   unary-type-reads.Learnt,
+  keep-reads.Asked,
+  keep-reads.Learnt,
   both-sides-reads.Asked,
   both-sides-reads.Learnt,
   binary-type-reads.Asked,
@@ -708,7 +640,7 @@ work-out-enum-known-ty : (t : ℕ) → work-out-lts.Need-enum-known-ty (
 ) (work-out-at t) work-out.Post
 work-out-enum-known-ty t c = search needs
 
--- src/expressions.rt:84:33
+-- src/expressions.rt:80:62
 work-out-unary-type-requires : (t : ℕ) → work-out-lts.Need-unary-type-requires (
   kind-reads.Asked,
   kind-reads.Learnt,
@@ -718,6 +650,8 @@ work-out-unary-type-requires : (t : ℕ) → work-out-lts.Need-unary-type-requir
   get-type.Post,
   unary-type-reads.Asked,
   unary-type-reads.Learnt,
+  keep-reads.Asked,
+  keep-reads.Learnt,
   both-sides-reads.Asked,
   both-sides-reads.Learnt,
   binary-type-reads.Asked,
@@ -729,9 +663,34 @@ work-out-unary-type-requires : (t : ℕ) → work-out-lts.Need-unary-type-requir
   leaf-type-reads.Asked,
   leaf-type-reads.Learnt,
 ) (work-out-at t) work-out.Post
-work-out-unary-type-requires t c κs = (c .before .before .before .before .before .before .before .before .before .before .before .before .before .pre .1 .0 .ready .keyed .good, (is-kind _ _ (c .before .before .before .before .before .before .before .before .before .before .before .before .before .pre .1 .0 .ready .keyed .good) _ _ (c .before .before .before .before .before .before .before .before .before .before .before .before .before .pre .1 .1) (c .before .before .before .before .before .before .before .before .before .kind .ensures) 9 (c .before .before .before .before .before .before .before .if1 .taken), is-typed _ _ _ (c .before .before .before .before .before .get-type .ensures .typed) (c .before .ty .given .1)))
+work-out-unary-type-requires t c κs = (c .before .before .before .before .before .before .before .before .before .before .before .before .before .before .pre .1 .0 .ready .keyed .good, (is-kind _ _ (c .before .before .before .before .before .before .before .before .before .before .before .before .before .before .pre .1 .0 .ready .keyed .good) _ _ (c .before .before .before .before .before .before .before .before .before .before .before .before .before .before .pre .1 .1 .0) (c .before .before .before .before .before .before .before .before .before .before .kind .ensures) 9 (c .before .before .before .before .before .before .before .before .if1 .taken), is-typed _ _ _ (c .before .before .before .before .before .before .get-type .ensures .typed) (c .before .before .ty .given .1)))
 
--- src/expressions.rt:82:9
+-- src/expressions.rt:80:33
+work-out-keep-requires : (t : ℕ) → work-out-lts.Need-keep-requires (
+  kind-reads.Asked,
+  kind-reads.Learnt,
+  reference-reads.Asked,
+  reference-reads.Learnt,
+  get-type-below t,
+  get-type.Post,
+  unary-type-reads.Asked,
+  unary-type-reads.Learnt,
+  keep-reads.Asked,
+  keep-reads.Learnt,
+  both-sides-reads.Asked,
+  both-sides-reads.Learnt,
+  binary-type-reads.Asked,
+  binary-type-reads.Learnt,
+  resolve-call-below t,
+  resolve-call.Post,
+  value-type-reads.Asked,
+  value-type-reads.Learnt,
+  leaf-type-reads.Asked,
+  leaf-type-reads.Learnt,
+) (work-out-at t) work-out.Post
+work-out-keep-requires t c κs = keep-ready _ _ (c .before .before .before .before .before .before .before .before .before .before .before .before .before .before .before .pre .1 .0 .ready .keyed .good) _ (c .before .before .before .before .before .before .before .before .before .before .before .before .before .before .before .pre .1 .1 .0) _ _ _ _ (c .before .before .before .before .before .before .before .before .before .before .before .before .before .before .before .pre .1 .0) (c .before .before .before .before .before .before .before .before .before .before .before .before .before .before .before .pre .1 .1 .1) _ _ (unary-next _ _ (c .before .before .before .before .before .before .before .before .before .before .before .before .before .before .before .pre .1 .0 .ready .keyed .good) _ _ (c .before .before .before .before .before .before .before .before .before .before .before .before .before .before .before .pre .1 .1 .0) (c .before .before .before .before .before .before .before .before .before .before .before .kind .ensures) _ _ _ (c .before .before .before .before .before .before .before .before .before .if1 .taken) _ (c .before .before .before .before .before .before .before .before .before .before .reference .ensures) _ _ (c .before .before .before .before .before .before .before .get-type .ensures) _ (c .before .before .before .ty .given .1) _ (c .unary-type .ensures))
+
+-- src/expressions.rt:78:9
 work-out-same-length : (t : ℕ) → work-out-lts.Need-same-length (
   kind-reads.Asked,
   kind-reads.Learnt,
@@ -741,6 +700,8 @@ work-out-same-length : (t : ℕ) → work-out-lts.Need-same-length (
   get-type.Post,
   unary-type-reads.Asked,
   unary-type-reads.Learnt,
+  keep-reads.Asked,
+  keep-reads.Learnt,
   both-sides-reads.Asked,
   both-sides-reads.Learnt,
   binary-type-reads.Asked,
@@ -754,7 +715,7 @@ work-out-same-length : (t : ℕ) → work-out-lts.Need-same-length (
 ) (work-out-at t) work-out.Post
 work-out-same-length t c = search needs
 
--- src/expressions.rt:82:9
+-- src/expressions.rt:78:9
 work-out-returns : (t : ℕ) → work-out-lts.Need-returns (
   kind-reads.Asked,
   kind-reads.Learnt,
@@ -764,6 +725,8 @@ work-out-returns : (t : ℕ) → work-out-lts.Need-returns (
   get-type.Post,
   unary-type-reads.Asked,
   unary-type-reads.Learnt,
+  keep-reads.Asked,
+  keep-reads.Learnt,
   both-sides-reads.Asked,
   both-sides-reads.Learnt,
   binary-type-reads.Asked,
@@ -775,9 +738,9 @@ work-out-returns : (t : ℕ) → work-out-lts.Need-returns (
   leaf-type-reads.Asked,
   leaf-type-reads.Learnt,
 ) (work-out-at t) work-out.Post
-work-out-returns t c = unary-stop _ _ (c .before .before .before .before .before .before .before .before .before .before .before .before .before .pre .1 .0 .ready .keyed .good) _ _ (c .before .before .before .before .before .before .before .before .before .before .before .before .before .pre .1 .1) (c .before .before .before .before .before .before .before .before .before .kind .ensures) _ _ _ (c .before .before .before .before .before .before .before .if1 .taken) _ (c .before .before .before .before .before .before .before .before .reference .ensures) _ _ (c .before .before .before .before .before .get-type .ensures) _ (c .before .x .given .1)
+work-out-returns t c = unary-stop _ _ (c .before .before .before .before .before .before .before .before .before .before .before .before .before .pre .1 .0 .ready .keyed .good) _ _ (c .before .before .before .before .before .before .before .before .before .before .before .before .before .pre .1 .1 .0) (c .before .before .before .before .before .before .before .before .before .kind .ensures) _ _ _ (c .before .before .before .before .before .before .before .if1 .taken) _ (c .before .before .before .before .before .before .before .before .reference .ensures) _ _ (c .before .before .before .before .before .get-type .ensures) _ (c .before .x .given .1)
 
--- src/expressions.rt:82:9
+-- src/expressions.rt:78:9
 work-out-same-length-2 : (t : ℕ) → work-out-lts.Need-same-length-2 (
   kind-reads.Asked,
   kind-reads.Learnt,
@@ -787,6 +750,8 @@ work-out-same-length-2 : (t : ℕ) → work-out-lts.Need-same-length-2 (
   get-type.Post,
   unary-type-reads.Asked,
   unary-type-reads.Learnt,
+  keep-reads.Asked,
+  keep-reads.Learnt,
   both-sides-reads.Asked,
   both-sides-reads.Learnt,
   binary-type-reads.Asked,
@@ -800,7 +765,7 @@ work-out-same-length-2 : (t : ℕ) → work-out-lts.Need-same-length-2 (
 ) (work-out-at t) work-out.Post
 work-out-same-length-2 t c = search needs
 
--- src/expressions.rt:82:9
+-- src/expressions.rt:78:9
 work-out-returns-2 : (t : ℕ) → work-out-lts.Need-returns-2 (
   kind-reads.Asked,
   kind-reads.Learnt,
@@ -810,6 +775,8 @@ work-out-returns-2 : (t : ℕ) → work-out-lts.Need-returns-2 (
   get-type.Post,
   unary-type-reads.Asked,
   unary-type-reads.Learnt,
+  keep-reads.Asked,
+  keep-reads.Learnt,
   both-sides-reads.Asked,
   both-sides-reads.Learnt,
   binary-type-reads.Asked,
@@ -821,9 +788,9 @@ work-out-returns-2 : (t : ℕ) → work-out-lts.Need-returns-2 (
   leaf-type-reads.Asked,
   leaf-type-reads.Learnt,
 ) (work-out-at t) work-out.Post
-work-out-returns-2 t c = unary-next _ _ (c .before .before .before .before .before .before .before .before .before .before .before .before .before .before .pre .1 .0 .ready .keyed .good) _ _ (c .before .before .before .before .before .before .before .before .before .before .before .before .before .before .pre .1 .1) (c .before .before .before .before .before .before .before .before .before .before .kind .ensures) _ _ _ (c .before .before .before .before .before .before .before .before .if1 .taken) _ (c .before .before .before .before .before .before .before .before .before .reference .ensures) _ _ (c .before .before .before .before .before .before .get-type .ensures) _ (c .before .before .ty .given .1) _ (c .unary-type .ensures)
+work-out-returns-2 t c = keep-meets _ _ (c .before .before .before .before .before .before .before .before .before .before .before .before .before .before .before .before .before .before .pre .1 .0 .ready .keyed .good) _ (c .before .before .before .before .before .before .before .before .before .before .before .before .before .before .before .before .before .before .pre .1 .1 .0) _ _ _ _ (c .before .before .before .before .before .before .before .before .before .before .before .before .before .before .before .before .before .before .pre .1 .0) (c .before .before .before .before .before .before .before .before .before .before .before .before .before .before .before .before .before .before .pre .1 .1 .1) _ _ (unary-next _ _ (c .before .before .before .before .before .before .before .before .before .before .before .before .before .before .before .before .before .before .pre .1 .0 .ready .keyed .good) _ _ (c .before .before .before .before .before .before .before .before .before .before .before .before .before .before .before .before .before .before .pre .1 .1 .0) (c .before .before .before .before .before .before .before .before .before .before .before .before .before .before .kind .ensures) _ _ _ (c .before .before .before .before .before .before .before .before .before .before .before .before .if1 .taken) _ (c .before .before .before .before .before .before .before .before .before .before .before .before .before .reference .ensures) _ _ (c .before .before .before .before .before .before .before .before .before .before .get-type .ensures) _ (c .before .before .before .before .before .before .ty .given .1) _ (c .before .before .before .unary-type .ensures)) (c .before .before .before .before .before .before .before .before .before .before .before .before .before .before .before .before .before .before .fits .turn .fits) _ _ (c .before .before .keep .ensures)
 
--- src/expressions.rt:88:13
+-- src/expressions.rt:84:13
 work-out-reference-requires-2 : (t : ℕ) → work-out-lts.Need-reference-requires-2 (
   kind-reads.Asked,
   kind-reads.Learnt,
@@ -833,6 +800,8 @@ work-out-reference-requires-2 : (t : ℕ) → work-out-lts.Need-reference-requir
   get-type.Post,
   unary-type-reads.Asked,
   unary-type-reads.Learnt,
+  keep-reads.Asked,
+  keep-reads.Learnt,
   both-sides-reads.Asked,
   both-sides-reads.Learnt,
   binary-type-reads.Asked,
@@ -844,9 +813,9 @@ work-out-reference-requires-2 : (t : ℕ) → work-out-lts.Need-reference-requir
   leaf-type-reads.Asked,
   leaf-type-reads.Learnt,
 ) (work-out-at t) work-out.Post
-work-out-reference-requires-2 t c κs = (c .before .before .before .before .before .before .before .pre .1 .1 .inside, omega arith)
+work-out-reference-requires-2 t c κs = (c .before .before .before .before .before .before .before .pre .1 .1 .0 .inside, omega arith)
 
--- src/expressions.rt:89:22
+-- src/expressions.rt:85:22
 work-out-get-type-requires-2 : (t : ℕ) → work-out-lts.Need-get-type-requires-2 (
   kind-reads.Asked,
   kind-reads.Learnt,
@@ -856,6 +825,8 @@ work-out-get-type-requires-2 : (t : ℕ) → work-out-lts.Need-get-type-requires
   get-type.Post,
   unary-type-reads.Asked,
   unary-type-reads.Learnt,
+  keep-reads.Asked,
+  keep-reads.Learnt,
   both-sides-reads.Asked,
   both-sides-reads.Learnt,
   binary-type-reads.Asked,
@@ -867,10 +838,10 @@ work-out-get-type-requires-2 : (t : ℕ) → work-out-lts.Need-get-type-requires
   leaf-type-reads.Asked,
   leaf-type-reads.Learnt,
 ) (work-out-at t) work-out.Post
-work-out-get-type-requires-2 t c κs = let h = left-expr _ _ (c .before .before .before .before .before .before .before .before .before .pre .1 .0 .ready .keyed .good) _ _ (c .before .before .before .before .before .before .before .before .before .pre .1 .1) (c .before .before .before .before .before .kind .ensures) (c .before .before .if2 .taken) _ (c .before .before .before .before .reference .ensures) in
+work-out-get-type-requires-2 t c κs = let h = left-expr _ _ (c .before .before .before .before .before .before .before .before .before .pre .1 .0 .ready .keyed .good) _ _ (c .before .before .before .before .before .before .before .before .before .pre .1 .1 .0) (c .before .before .before .before .before .kind .ensures) (c .before .before .if2 .taken) _ (c .before .before .before .before .reference .ensures) in
     (omega (arith, h .0, c .before .before .before .before .before .before .before .before .before .pre .0), (c .before .before .before .before .before .before .before .before .before .pre .1 .0, h .1))
 
--- src/expressions.rt:90:31
+-- src/expressions.rt:86:31
 work-out-enum-known-x-2 : (t : ℕ) → work-out-lts.Need-enum-known-x-2 (
   kind-reads.Asked,
   kind-reads.Learnt,
@@ -880,6 +851,8 @@ work-out-enum-known-x-2 : (t : ℕ) → work-out-lts.Need-enum-known-x-2 (
   get-type.Post,
   unary-type-reads.Asked,
   unary-type-reads.Learnt,
+  keep-reads.Asked,
+  keep-reads.Learnt,
   both-sides-reads.Asked,
   both-sides-reads.Learnt,
   binary-type-reads.Asked,
@@ -893,7 +866,7 @@ work-out-enum-known-x-2 : (t : ℕ) → work-out-lts.Need-enum-known-x-2 (
 ) (work-out-at t) work-out.Post
 work-out-enum-known-x-2 t c = search needs
 
--- src/expressions.rt:91:26
+-- src/expressions.rt:87:26
 work-out-enum-known-l : (t : ℕ) → work-out-lts.Need-enum-known-l (
   kind-reads.Asked,
   kind-reads.Learnt,
@@ -903,6 +876,8 @@ work-out-enum-known-l : (t : ℕ) → work-out-lts.Need-enum-known-l (
   get-type.Post,
   unary-type-reads.Asked,
   unary-type-reads.Learnt,
+  keep-reads.Asked,
+  keep-reads.Learnt,
   both-sides-reads.Asked,
   both-sides-reads.Learnt,
   binary-type-reads.Asked,
@@ -916,7 +891,7 @@ work-out-enum-known-l : (t : ℕ) → work-out-lts.Need-enum-known-l (
 ) (work-out-at t) work-out.Post
 work-out-enum-known-l t c = search needs
 
--- src/expressions.rt:91:38
+-- src/expressions.rt:87:38
 work-out-get-type-requires-3 : (t : ℕ) → work-out-lts.Need-get-type-requires-3 (
   kind-reads.Asked,
   kind-reads.Learnt,
@@ -926,6 +901,8 @@ work-out-get-type-requires-3 : (t : ℕ) → work-out-lts.Need-get-type-requires
   get-type.Post,
   unary-type-reads.Asked,
   unary-type-reads.Learnt,
+  keep-reads.Asked,
+  keep-reads.Learnt,
   both-sides-reads.Asked,
   both-sides-reads.Learnt,
   binary-type-reads.Asked,
@@ -937,10 +914,10 @@ work-out-get-type-requires-3 : (t : ℕ) → work-out-lts.Need-get-type-requires
   leaf-type-reads.Asked,
   leaf-type-reads.Learnt,
 ) (work-out-at t) work-out.Post
-work-out-get-type-requires-3 t c κs = let h = right-expr _ _ (c .before .before .before .before .before .before .before .before .before .before .before .before .before .before .before .before .pre .1 .0 .ready .keyed .good) _ _ (c .before .before .before .before .before .before .before .before .before .before .before .before .before .before .before .before .pre .1 .1) (c .before .before .before .before .before .before .before .before .before .before .before .before .kind .ensures) (c .before .before .before .before .before .before .before .before .before .if2 .taken) _ (c .before .before .before .before .before .before .before .before .reference2 .ensures) in
+work-out-get-type-requires-3 t c κs = let h = right-expr _ _ (c .before .before .before .before .before .before .before .before .before .before .before .before .before .before .before .before .pre .1 .0 .ready .keyed .good) _ _ (c .before .before .before .before .before .before .before .before .before .before .before .before .before .before .before .before .pre .1 .1 .0) (c .before .before .before .before .before .before .before .before .before .before .before .before .kind .ensures) (c .before .before .before .before .before .before .before .before .before .if2 .taken) _ (c .before .before .before .before .before .before .before .before .reference2 .ensures) in
     (omega (arith, h .0, c .before .before .before .before .before .before .before .before .before .before .before .before .before .before .before .before .pre .0), (typing-next _ _ _ _ _ _ (c .before .before .before .before .before .before .before .before .before .before .before .before .before .before .before .before .pre .1 .0) _ (c .before .before .before .before .before .before .get-type2 .ensures .frame) _ (c .before .before .before .before .before .before .get-type2 .ensures .adds _ (c .before .before .l .given .1)), h .1))
 
--- src/expressions.rt:92:35
+-- src/expressions.rt:88:35
 work-out-enum-known-x-3 : (t : ℕ) → work-out-lts.Need-enum-known-x-3 (
   kind-reads.Asked,
   kind-reads.Learnt,
@@ -950,6 +927,8 @@ work-out-enum-known-x-3 : (t : ℕ) → work-out-lts.Need-enum-known-x-3 (
   get-type.Post,
   unary-type-reads.Asked,
   unary-type-reads.Learnt,
+  keep-reads.Asked,
+  keep-reads.Learnt,
   both-sides-reads.Asked,
   both-sides-reads.Learnt,
   binary-type-reads.Asked,
@@ -963,7 +942,7 @@ work-out-enum-known-x-3 : (t : ℕ) → work-out-lts.Need-enum-known-x-3 (
 ) (work-out-at t) work-out.Post
 work-out-enum-known-x-3 t c = search needs
 
--- src/expressions.rt:93:30
+-- src/expressions.rt:89:30
 work-out-enum-known-r : (t : ℕ) → work-out-lts.Need-enum-known-r (
   kind-reads.Asked,
   kind-reads.Learnt,
@@ -973,6 +952,8 @@ work-out-enum-known-r : (t : ℕ) → work-out-lts.Need-enum-known-r (
   get-type.Post,
   unary-type-reads.Asked,
   unary-type-reads.Learnt,
+  keep-reads.Asked,
+  keep-reads.Learnt,
   both-sides-reads.Asked,
   both-sides-reads.Learnt,
   binary-type-reads.Asked,
@@ -986,7 +967,7 @@ work-out-enum-known-r : (t : ℕ) → work-out-lts.Need-enum-known-r (
 ) (work-out-at t) work-out.Post
 work-out-enum-known-r t c = search needs
 
--- src/expressions.rt:93:63
+-- src/expressions.rt:90:56
 work-out-both-sides-requires : (t : ℕ) → work-out-lts.Need-both-sides-requires (
   kind-reads.Asked,
   kind-reads.Learnt,
@@ -996,6 +977,8 @@ work-out-both-sides-requires : (t : ℕ) → work-out-lts.Need-both-sides-requir
   get-type.Post,
   unary-type-reads.Asked,
   unary-type-reads.Learnt,
+  keep-reads.Asked,
+  keep-reads.Learnt,
   both-sides-reads.Asked,
   both-sides-reads.Learnt,
   binary-type-reads.Asked,
@@ -1009,7 +992,7 @@ work-out-both-sides-requires : (t : ℕ) → work-out-lts.Need-both-sides-requir
 ) (work-out-at t) work-out.Post
 work-out-both-sides-requires t c κs = search needs
 
--- src/expressions.rt:93:36
+-- src/expressions.rt:90:25
 work-out-binary-type-requires : (t : ℕ) → work-out-lts.Need-binary-type-requires (
   kind-reads.Asked,
   kind-reads.Learnt,
@@ -1019,6 +1002,8 @@ work-out-binary-type-requires : (t : ℕ) → work-out-lts.Need-binary-type-requ
   get-type.Post,
   unary-type-reads.Asked,
   unary-type-reads.Learnt,
+  keep-reads.Asked,
+  keep-reads.Learnt,
   both-sides-reads.Asked,
   both-sides-reads.Learnt,
   binary-type-reads.Asked,
@@ -1034,15 +1019,40 @@ work-out-binary-type-requires t c κs = (
   c .before .before .before .before .before .before .before .before .before .before .before .before .before .before .before .before .before .before .before .before .before .before .before .pre .1 .0 .ready .keyed .good,
   (
     operands-are _ _ _ _ _ _ (c .both-sides .ensures)
-        (left-expr _ _ (c .before .before .before .before .before .before .before .before .before .before .before .before .before .before .before .before .before .before .before .before .before .before .before .pre .1 .0 .ready .keyed .good) _ _ (c .before .before .before .before .before .before .before .before .before .before .before .before .before .before .before .before .before .before .before .before .before .before .before .pre .1 .1) (c .before .before .before .before .before .before .before .before .before .before .before .before .before .before .before .before .before .before .before .kind .ensures) (c .before .before .before .before .before .before .before .before .before .before .before .before .before .before .before .before .if2 .taken) _ (c .before .before .before .before .before .before .before .before .before .before .before .before .before .before .before .before .before .before .reference .ensures) .1)
+        (left-expr _ _ (c .before .before .before .before .before .before .before .before .before .before .before .before .before .before .before .before .before .before .before .before .before .before .before .pre .1 .0 .ready .keyed .good) _ _ (c .before .before .before .before .before .before .before .before .before .before .before .before .before .before .before .before .before .before .before .before .before .before .before .pre .1 .1 .0) (c .before .before .before .before .before .before .before .before .before .before .before .before .before .before .before .before .before .before .before .kind .ensures) (c .before .before .before .before .before .before .before .before .before .before .before .before .before .before .before .before .if2 .taken) _ (c .before .before .before .before .before .before .before .before .before .before .before .before .before .before .before .before .before .before .reference .ensures) .1)
         (is-typed _ _ _ (c .before .before .before .before .before .before .before .before .before .before .before .before .before .get-type2 .ensures .typed) (c .before .before .before .before .before .before .before .before .before .l .given .1))
-        (right-expr _ _ (c .before .before .before .before .before .before .before .before .before .before .before .before .before .before .before .before .before .before .before .before .before .before .before .pre .1 .0 .ready .keyed .good) _ _ (c .before .before .before .before .before .before .before .before .before .before .before .before .before .before .before .before .before .before .before .before .before .before .before .pre .1 .1) (c .before .before .before .before .before .before .before .before .before .before .before .before .before .before .before .before .before .before .before .kind .ensures) (c .before .before .before .before .before .before .before .before .before .before .before .before .before .before .before .before .if2 .taken) _ (c .before .before .before .before .before .before .before .before .before .before .before .before .before .before .before .reference2 .ensures) .1)
+        (right-expr _ _ (c .before .before .before .before .before .before .before .before .before .before .before .before .before .before .before .before .before .before .before .before .before .before .before .pre .1 .0 .ready .keyed .good) _ _ (c .before .before .before .before .before .before .before .before .before .before .before .before .before .before .before .before .before .before .before .before .before .before .before .pre .1 .1 .0) (c .before .before .before .before .before .before .before .before .before .before .before .before .before .before .before .before .before .before .before .kind .ensures) (c .before .before .before .before .before .before .before .before .before .before .before .before .before .before .before .before .if2 .taken) _ (c .before .before .before .before .before .before .before .before .before .before .before .before .before .before .before .reference2 .ensures) .1)
         (is-typed _ _ _ (c .before .before .before .before .before .before .get-type3 .ensures .typed) (c .before .before .r .given .1)),
-    is-kind _ _ (c .before .before .before .before .before .before .before .before .before .before .before .before .before .before .before .before .before .before .before .before .before .before .before .pre .1 .0 .ready .keyed .good) _ _ (c .before .before .before .before .before .before .before .before .before .before .before .before .before .before .before .before .before .before .before .before .before .before .before .pre .1 .1) (c .before .before .before .before .before .before .before .before .before .before .before .before .before .before .before .before .before .before .before .kind .ensures) 10 (c .before .before .before .before .before .before .before .before .before .before .before .before .before .before .before .before .if2 .taken),
+    is-kind _ _ (c .before .before .before .before .before .before .before .before .before .before .before .before .before .before .before .before .before .before .before .before .before .before .before .pre .1 .0 .ready .keyed .good) _ _ (c .before .before .before .before .before .before .before .before .before .before .before .before .before .before .before .before .before .before .before .before .before .before .before .pre .1 .1 .0) (c .before .before .before .before .before .before .before .before .before .before .before .before .before .before .before .before .before .before .before .kind .ensures) 10 (c .before .before .before .before .before .before .before .before .before .before .before .before .before .before .before .before .if2 .taken),
   ),
 )
 
--- src/expressions.rt:89:9
+-- src/expressions.rt:91:21
+work-out-keep-requires-2 : (t : ℕ) → work-out-lts.Need-keep-requires-2 (
+  kind-reads.Asked,
+  kind-reads.Learnt,
+  reference-reads.Asked,
+  reference-reads.Learnt,
+  get-type-below t,
+  get-type.Post,
+  unary-type-reads.Asked,
+  unary-type-reads.Learnt,
+  keep-reads.Asked,
+  keep-reads.Learnt,
+  both-sides-reads.Asked,
+  both-sides-reads.Learnt,
+  binary-type-reads.Asked,
+  binary-type-reads.Learnt,
+  resolve-call-below t,
+  resolve-call.Post,
+  value-type-reads.Asked,
+  value-type-reads.Learnt,
+  leaf-type-reads.Asked,
+  leaf-type-reads.Learnt,
+) (work-out-at t) work-out.Post
+work-out-keep-requires-2 t c κs = keep-ready _ _ (c .before .before .before .before .before .before .before .before .before .before .before .before .before .before .before .before .before .before .before .before .before .before .before .before .before .pre .1 .0 .ready .keyed .good) _ (c .before .before .before .before .before .before .before .before .before .before .before .before .before .before .before .before .before .before .before .before .before .before .before .before .before .pre .1 .1 .0) _ _ _ _ (c .before .before .before .before .before .before .before .before .before .before .before .before .before .before .before .before .before .before .before .before .before .before .before .before .before .pre .1 .0) (c .before .before .before .before .before .before .before .before .before .before .before .before .before .before .before .before .before .before .before .before .before .before .before .before .before .pre .1 .1 .1) _ _ (right-next _ _ (c .before .before .before .before .before .before .before .before .before .before .before .before .before .before .before .before .before .before .before .before .before .before .before .before .before .pre .1 .0 .ready .keyed .good) _ _ (c .before .before .before .before .before .before .before .before .before .before .before .before .before .before .before .before .before .before .before .before .before .before .before .before .before .pre .1 .1 .0) (c .before .before .before .before .before .before .before .before .before .before .before .before .before .before .before .before .before .before .before .before .before .kind .ensures) _ _ _ (c .before .before .before .before .before .before .before .before .before .before .before .before .before .before .before .before .before .before .if2 .taken) _ (c .before .before .before .before .before .before .before .before .before .before .before .before .before .before .before .before .before .before .before .before .reference .ensures) _ _ (c .before .before .before .before .before .before .before .before .before .before .before .before .before .before .before .get-type2 .ensures) _ (c .before .before .before .before .before .before .before .before .before .before .before .before .before .before .before .before .before .before .before .before .before .before .before .before .before .pre .1 .0) _ (c .before .before .before .before .before .before .before .before .before .before .before .l .given .1) _ (c .before .before .before .before .before .before .before .before .before .before .before .before .before .before .before .before .before .reference2 .ensures) _ _ (c .before .before .before .before .before .before .before .before .get-type3 .ensures) _ (c .before .before .before .before .r .given .1) _ (c .before .before .both-sides .ensures) _ (c .before .binary-type .ensures))
+
+-- src/expressions.rt:85:9
 work-out-same-length-3 : (t : ℕ) → work-out-lts.Need-same-length-3 (
   kind-reads.Asked,
   kind-reads.Learnt,
@@ -1052,6 +1062,8 @@ work-out-same-length-3 : (t : ℕ) → work-out-lts.Need-same-length-3 (
   get-type.Post,
   unary-type-reads.Asked,
   unary-type-reads.Learnt,
+  keep-reads.Asked,
+  keep-reads.Learnt,
   both-sides-reads.Asked,
   both-sides-reads.Learnt,
   binary-type-reads.Asked,
@@ -1065,7 +1077,7 @@ work-out-same-length-3 : (t : ℕ) → work-out-lts.Need-same-length-3 (
 ) (work-out-at t) work-out.Post
 work-out-same-length-3 t c = search needs
 
--- src/expressions.rt:89:9
+-- src/expressions.rt:85:9
 work-out-returns-3 : (t : ℕ) → work-out-lts.Need-returns-3 (
   kind-reads.Asked,
   kind-reads.Learnt,
@@ -1075,6 +1087,8 @@ work-out-returns-3 : (t : ℕ) → work-out-lts.Need-returns-3 (
   get-type.Post,
   unary-type-reads.Asked,
   unary-type-reads.Learnt,
+  keep-reads.Asked,
+  keep-reads.Learnt,
   both-sides-reads.Asked,
   both-sides-reads.Learnt,
   binary-type-reads.Asked,
@@ -1086,9 +1100,9 @@ work-out-returns-3 : (t : ℕ) → work-out-lts.Need-returns-3 (
   leaf-type-reads.Asked,
   leaf-type-reads.Learnt,
 ) (work-out-at t) work-out.Post
-work-out-returns-3 t c = left-stop _ _ (c .before .before .before .before .before .before .before .before .before .before .before .before .before .before .before .pre .1 .0 .ready .keyed .good) _ _ (c .before .before .before .before .before .before .before .before .before .before .before .before .before .before .before .pre .1 .1) (c .before .before .before .before .before .before .before .before .before .before .before .kind .ensures) _ _ _ (c .before .before .before .before .before .before .before .before .if2 .taken) _ (c .before .before .before .before .before .before .before .before .before .before .reference .ensures) _ _ (c .before .before .before .before .before .get-type2 .ensures) _ (c .before .x2 .given .1)
+work-out-returns-3 t c = left-stop _ _ (c .before .before .before .before .before .before .before .before .before .before .before .before .before .before .before .pre .1 .0 .ready .keyed .good) _ _ (c .before .before .before .before .before .before .before .before .before .before .before .before .before .before .before .pre .1 .1 .0) (c .before .before .before .before .before .before .before .before .before .before .before .kind .ensures) _ _ _ (c .before .before .before .before .before .before .before .before .if2 .taken) _ (c .before .before .before .before .before .before .before .before .before .before .reference .ensures) _ _ (c .before .before .before .before .before .get-type2 .ensures) _ (c .before .x2 .given .1)
 
--- src/expressions.rt:89:9
+-- src/expressions.rt:85:9
 work-out-same-length-4 : (t : ℕ) → work-out-lts.Need-same-length-4 (
   kind-reads.Asked,
   kind-reads.Learnt,
@@ -1098,6 +1112,8 @@ work-out-same-length-4 : (t : ℕ) → work-out-lts.Need-same-length-4 (
   get-type.Post,
   unary-type-reads.Asked,
   unary-type-reads.Learnt,
+  keep-reads.Asked,
+  keep-reads.Learnt,
   both-sides-reads.Asked,
   both-sides-reads.Learnt,
   binary-type-reads.Asked,
@@ -1111,7 +1127,7 @@ work-out-same-length-4 : (t : ℕ) → work-out-lts.Need-same-length-4 (
 ) (work-out-at t) work-out.Post
 work-out-same-length-4 t c = search needs
 
--- src/expressions.rt:89:9
+-- src/expressions.rt:85:9
 work-out-returns-4 : (t : ℕ) → work-out-lts.Need-returns-4 (
   kind-reads.Asked,
   kind-reads.Learnt,
@@ -1121,6 +1137,8 @@ work-out-returns-4 : (t : ℕ) → work-out-lts.Need-returns-4 (
   get-type.Post,
   unary-type-reads.Asked,
   unary-type-reads.Learnt,
+  keep-reads.Asked,
+  keep-reads.Learnt,
   both-sides-reads.Asked,
   both-sides-reads.Learnt,
   binary-type-reads.Asked,
@@ -1132,9 +1150,9 @@ work-out-returns-4 : (t : ℕ) → work-out-lts.Need-returns-4 (
   leaf-type-reads.Asked,
   leaf-type-reads.Learnt,
 ) (work-out-at t) work-out.Post
-work-out-returns-4 t c = right-stop _ _ (c .before .before .before .before .before .before .before .before .before .before .before .before .before .before .before .before .before .before .before .before .before .before .pre .1 .0 .ready .keyed .good) _ _ (c .before .before .before .before .before .before .before .before .before .before .before .before .before .before .before .before .before .before .before .before .before .before .pre .1 .1) (c .before .before .before .before .before .before .before .before .before .before .before .before .before .before .before .before .before .before .kind .ensures) _ _ _ (c .before .before .before .before .before .before .before .before .before .before .before .before .before .before .before .if2 .taken) _ (c .before .before .before .before .before .before .before .before .before .before .before .before .before .before .before .before .before .reference .ensures) _ _ (c .before .before .before .before .before .before .before .before .before .before .before .before .get-type2 .ensures) _ (c .before .before .before .before .before .before .before .before .before .before .before .before .before .before .before .before .before .before .before .before .before .before .pre .1 .0) _ (c .before .before .before .before .before .before .before .before .l .given .1) _ (c .before .before .before .before .before .before .before .before .before .before .before .before .before .before .reference2 .ensures) _ _ (c .before .before .before .before .before .get-type3 .ensures) _ (c .before .x3 .given .1)
+work-out-returns-4 t c = right-stop _ _ (c .before .before .before .before .before .before .before .before .before .before .before .before .before .before .before .before .before .before .before .before .before .before .pre .1 .0 .ready .keyed .good) _ _ (c .before .before .before .before .before .before .before .before .before .before .before .before .before .before .before .before .before .before .before .before .before .before .pre .1 .1 .0) (c .before .before .before .before .before .before .before .before .before .before .before .before .before .before .before .before .before .before .kind .ensures) _ _ _ (c .before .before .before .before .before .before .before .before .before .before .before .before .before .before .before .if2 .taken) _ (c .before .before .before .before .before .before .before .before .before .before .before .before .before .before .before .before .before .reference .ensures) _ _ (c .before .before .before .before .before .before .before .before .before .before .before .before .get-type2 .ensures) _ (c .before .before .before .before .before .before .before .before .before .before .before .before .before .before .before .before .before .before .before .before .before .before .pre .1 .0) _ (c .before .before .before .before .before .before .before .before .l .given .1) _ (c .before .before .before .before .before .before .before .before .before .before .before .before .before .before .reference2 .ensures) _ _ (c .before .before .before .before .before .get-type3 .ensures) _ (c .before .x3 .given .1)
 
--- src/expressions.rt:89:9
+-- src/expressions.rt:85:9
 work-out-same-length-5 : (t : ℕ) → work-out-lts.Need-same-length-5 (
   kind-reads.Asked,
   kind-reads.Learnt,
@@ -1144,6 +1162,8 @@ work-out-same-length-5 : (t : ℕ) → work-out-lts.Need-same-length-5 (
   get-type.Post,
   unary-type-reads.Asked,
   unary-type-reads.Learnt,
+  keep-reads.Asked,
+  keep-reads.Learnt,
   both-sides-reads.Asked,
   both-sides-reads.Learnt,
   binary-type-reads.Asked,
@@ -1157,7 +1177,7 @@ work-out-same-length-5 : (t : ℕ) → work-out-lts.Need-same-length-5 (
 ) (work-out-at t) work-out.Post
 work-out-same-length-5 t c = search needs
 
--- src/expressions.rt:89:9
+-- src/expressions.rt:85:9
 work-out-returns-5 : (t : ℕ) → work-out-lts.Need-returns-5 (
   kind-reads.Asked,
   kind-reads.Learnt,
@@ -1167,6 +1187,8 @@ work-out-returns-5 : (t : ℕ) → work-out-lts.Need-returns-5 (
   get-type.Post,
   unary-type-reads.Asked,
   unary-type-reads.Learnt,
+  keep-reads.Asked,
+  keep-reads.Learnt,
   both-sides-reads.Asked,
   both-sides-reads.Learnt,
   binary-type-reads.Asked,
@@ -1178,9 +1200,9 @@ work-out-returns-5 : (t : ℕ) → work-out-lts.Need-returns-5 (
   leaf-type-reads.Asked,
   leaf-type-reads.Learnt,
 ) (work-out-at t) work-out.Post
-work-out-returns-5 t c = right-next _ _ (c .before .before .before .before .before .before .before .before .before .before .before .before .before .before .before .before .before .before .before .before .before .before .before .before .pre .1 .0 .ready .keyed .good) _ _ (c .before .before .before .before .before .before .before .before .before .before .before .before .before .before .before .before .before .before .before .before .before .before .before .before .pre .1 .1) (c .before .before .before .before .before .before .before .before .before .before .before .before .before .before .before .before .before .before .before .before .kind .ensures) _ _ _ (c .before .before .before .before .before .before .before .before .before .before .before .before .before .before .before .before .before .if2 .taken) _ (c .before .before .before .before .before .before .before .before .before .before .before .before .before .before .before .before .before .before .before .reference .ensures) _ _ (c .before .before .before .before .before .before .before .before .before .before .before .before .before .before .get-type2 .ensures) _ (c .before .before .before .before .before .before .before .before .before .before .before .before .before .before .before .before .before .before .before .before .before .before .before .before .pre .1 .0) _ (c .before .before .before .before .before .before .before .before .before .before .l .given .1) _ (c .before .before .before .before .before .before .before .before .before .before .before .before .before .before .before .before .reference2 .ensures) _ _ (c .before .before .before .before .before .before .before .get-type3 .ensures) _ (c .before .before .before .r .given .1) _ (c .before .both-sides .ensures) _ (c .binary-type .ensures)
+work-out-returns-5 t c = keep-meets _ _ (c .before .before .before .before .before .before .before .before .before .before .before .before .before .before .before .before .before .before .before .before .before .before .before .before .before .before .before .before .pre .1 .0 .ready .keyed .good) _ (c .before .before .before .before .before .before .before .before .before .before .before .before .before .before .before .before .before .before .before .before .before .before .before .before .before .before .before .before .pre .1 .1 .0) _ _ _ _ (c .before .before .before .before .before .before .before .before .before .before .before .before .before .before .before .before .before .before .before .before .before .before .before .before .before .before .before .before .pre .1 .0) (c .before .before .before .before .before .before .before .before .before .before .before .before .before .before .before .before .before .before .before .before .before .before .before .before .before .before .before .before .pre .1 .1 .1) _ _ (right-next _ _ (c .before .before .before .before .before .before .before .before .before .before .before .before .before .before .before .before .before .before .before .before .before .before .before .before .before .before .before .before .pre .1 .0 .ready .keyed .good) _ _ (c .before .before .before .before .before .before .before .before .before .before .before .before .before .before .before .before .before .before .before .before .before .before .before .before .before .before .before .before .pre .1 .1 .0) (c .before .before .before .before .before .before .before .before .before .before .before .before .before .before .before .before .before .before .before .before .before .before .before .before .kind .ensures) _ _ _ (c .before .before .before .before .before .before .before .before .before .before .before .before .before .before .before .before .before .before .before .before .before .if2 .taken) _ (c .before .before .before .before .before .before .before .before .before .before .before .before .before .before .before .before .before .before .before .before .before .before .before .reference .ensures) _ _ (c .before .before .before .before .before .before .before .before .before .before .before .before .before .before .before .before .before .before .get-type2 .ensures) _ (c .before .before .before .before .before .before .before .before .before .before .before .before .before .before .before .before .before .before .before .before .before .before .before .before .before .before .before .before .pre .1 .0) _ (c .before .before .before .before .before .before .before .before .before .before .before .before .before .before .l .given .1) _ (c .before .before .before .before .before .before .before .before .before .before .before .before .before .before .before .before .before .before .before .before .reference2 .ensures) _ _ (c .before .before .before .before .before .before .before .before .before .before .before .get-type3 .ensures) _ (c .before .before .before .before .before .before .before .r .given .1) _ (c .before .before .before .before .before .both-sides .ensures) _ (c .before .before .before .before .binary-type .ensures)) (c .before .before .before .before .before .before .before .before .before .before .before .before .before .before .before .before .before .before .before .before .before .before .before .before .before .before .before .before .fits .turn .fits) _ _ (c .before .before .keep2 .ensures)
 
--- src/expressions.rt:98:13
+-- src/expressions.rt:97:13
 work-out-resolve-call-requires : (t : ℕ) → work-out-lts.Need-resolve-call-requires (
   kind-reads.Asked,
   kind-reads.Learnt,
@@ -1190,6 +1212,8 @@ work-out-resolve-call-requires : (t : ℕ) → work-out-lts.Need-resolve-call-re
   get-type.Post,
   unary-type-reads.Asked,
   unary-type-reads.Learnt,
+  keep-reads.Asked,
+  keep-reads.Learnt,
   both-sides-reads.Asked,
   both-sides-reads.Learnt,
   binary-type-reads.Asked,
@@ -1201,9 +1225,9 @@ work-out-resolve-call-requires : (t : ℕ) → work-out-lts.Need-resolve-call-re
   leaf-type-reads.Asked,
   leaf-type-reads.Learnt,
 ) (work-out-at t) work-out.Post
-work-out-resolve-call-requires t c κs = (omega (arith, c .before .before .before .before .before .before .before .before .before .pre .0), (c .before .before .before .before .before .before .before .before .before .pre .1 .0, is-kind _ _ (c .before .before .before .before .before .before .before .before .before .pre .1 .0 .ready .keyed .good) _ _ (c .before .before .before .before .before .before .before .before .before .pre .1 .1) (c .before .before .before .before .before .kind .ensures) 11 (c .before .if3 .taken)))
+work-out-resolve-call-requires t c κs = (omega (arith, c .before .before .before .before .before .before .before .before .before .pre .0), (c .before .before .before .before .before .before .before .before .before .pre .1 .0, is-kind _ _ (c .before .before .before .before .before .before .before .before .before .pre .1 .0 .ready .keyed .good) _ _ (c .before .before .before .before .before .before .before .before .before .pre .1 .1 .0) (c .before .before .before .before .before .kind .ensures) 11 (c .before .if3 .taken)))
 
--- src/expressions.rt:99:9
+-- src/expressions.rt:98:45
 work-out-value-type-requires : (t : ℕ) → work-out-lts.Need-value-type-requires (
   kind-reads.Asked,
   kind-reads.Learnt,
@@ -1213,6 +1237,8 @@ work-out-value-type-requires : (t : ℕ) → work-out-lts.Need-value-type-requir
   get-type.Post,
   unary-type-reads.Asked,
   unary-type-reads.Learnt,
+  keep-reads.Asked,
+  keep-reads.Learnt,
   both-sides-reads.Asked,
   both-sides-reads.Learnt,
   binary-type-reads.Asked,
@@ -1224,9 +1250,34 @@ work-out-value-type-requires : (t : ℕ) → work-out-lts.Need-value-type-requir
   leaf-type-reads.Asked,
   leaf-type-reads.Learnt,
 ) (work-out-at t) work-out.Post
-work-out-value-type-requires t c κs = (c .before .before .before .before .before .before .before .before .before .before .before .before .pre .1 .0 .ready .keyed .good, (c .before .before .resolve-call .ensures .callee, expr-low _ _ (c .before .before .before .before .before .before .before .before .before .before .before .before .pre .1 .0 .ready .keyed .good) _ (c .before .before .before .before .before .before .before .before .before .before .before .before .pre .1 .1)))
+work-out-value-type-requires t c κs = (c .before .before .before .before .before .before .before .before .before .before .before .before .before .pre .1 .0 .ready .keyed .good, (c .before .before .before .resolve-call .ensures .callee, expr-low _ _ (c .before .before .before .before .before .before .before .before .before .before .before .before .before .pre .1 .0 .ready .keyed .good) _ (c .before .before .before .before .before .before .before .before .before .before .before .before .before .pre .1 .1 .0)))
 
--- src/expressions.rt:99:9
+-- src/expressions.rt:98:9
+work-out-keep-requires-3 : (t : ℕ) → work-out-lts.Need-keep-requires-3 (
+  kind-reads.Asked,
+  kind-reads.Learnt,
+  reference-reads.Asked,
+  reference-reads.Learnt,
+  get-type-below t,
+  get-type.Post,
+  unary-type-reads.Asked,
+  unary-type-reads.Learnt,
+  keep-reads.Asked,
+  keep-reads.Learnt,
+  both-sides-reads.Asked,
+  both-sides-reads.Learnt,
+  binary-type-reads.Asked,
+  binary-type-reads.Learnt,
+  resolve-call-below t,
+  resolve-call.Post,
+  value-type-reads.Asked,
+  value-type-reads.Learnt,
+  leaf-type-reads.Asked,
+  leaf-type-reads.Learnt,
+) (work-out-at t) work-out.Post
+work-out-keep-requires-3 t c κs = keep-ready _ _ (c .before .before .before .before .before .before .before .before .before .before .before .before .before .before .pre .1 .0 .ready .keyed .good) _ (c .before .before .before .before .before .before .before .before .before .before .before .before .before .before .pre .1 .1 .0) _ _ _ _ (c .before .before .before .before .before .before .before .before .before .before .before .before .before .before .pre .1 .0) (c .before .before .before .before .before .before .before .before .before .before .before .before .before .before .pre .1 .1 .1) _ _ (call-value _ _ (c .before .before .before .before .before .before .before .before .before .before .before .before .before .before .pre .1 .0 .ready .keyed .good) _ _ (c .before .before .before .before .before .before .before .before .before .before .before .before .before .before .pre .1 .1 .0) (c .before .before .before .before .before .before .before .before .before .before .kind .ensures) _ _ _ (c .before .before .before .before .before .before .if3 .taken) _ _ (c .before .before .before .before .resolve-call .ensures) _ (c .value-type .ensures))
+
+-- src/expressions.rt:98:9
 work-out-same-length-6 : (t : ℕ) → work-out-lts.Need-same-length-6 (
   kind-reads.Asked,
   kind-reads.Learnt,
@@ -1236,6 +1287,8 @@ work-out-same-length-6 : (t : ℕ) → work-out-lts.Need-same-length-6 (
   get-type.Post,
   unary-type-reads.Asked,
   unary-type-reads.Learnt,
+  keep-reads.Asked,
+  keep-reads.Learnt,
   both-sides-reads.Asked,
   both-sides-reads.Learnt,
   binary-type-reads.Asked,
@@ -1249,7 +1302,7 @@ work-out-same-length-6 : (t : ℕ) → work-out-lts.Need-same-length-6 (
 ) (work-out-at t) work-out.Post
 work-out-same-length-6 t c = search needs
 
--- src/expressions.rt:99:9
+-- src/expressions.rt:98:9
 work-out-returns-6 : (t : ℕ) → work-out-lts.Need-returns-6 (
   kind-reads.Asked,
   kind-reads.Learnt,
@@ -1259,6 +1312,8 @@ work-out-returns-6 : (t : ℕ) → work-out-lts.Need-returns-6 (
   get-type.Post,
   unary-type-reads.Asked,
   unary-type-reads.Learnt,
+  keep-reads.Asked,
+  keep-reads.Learnt,
   both-sides-reads.Asked,
   both-sides-reads.Learnt,
   binary-type-reads.Asked,
@@ -1270,9 +1325,9 @@ work-out-returns-6 : (t : ℕ) → work-out-lts.Need-returns-6 (
   leaf-type-reads.Asked,
   leaf-type-reads.Learnt,
 ) (work-out-at t) work-out.Post
-work-out-returns-6 t c = call-value _ _ (c .before .before .before .before .before .before .before .before .before .before .before .before .before .pre .1 .0 .ready .keyed .good) _ _ (c .before .before .before .before .before .before .before .before .before .before .before .before .before .pre .1 .1) (c .before .before .before .before .before .before .before .before .before .kind .ensures) _ _ _ (c .before .before .before .before .before .if3 .taken) _ _ (c .before .before .before .resolve-call .ensures) _ (c .value-type .ensures)
+work-out-returns-6 t c = keep-meets _ _ (c .before .before .before .before .before .before .before .before .before .before .before .before .before .before .before .before .before .pre .1 .0 .ready .keyed .good) _ (c .before .before .before .before .before .before .before .before .before .before .before .before .before .before .before .before .before .pre .1 .1 .0) _ _ _ _ (c .before .before .before .before .before .before .before .before .before .before .before .before .before .before .before .before .before .pre .1 .0) (c .before .before .before .before .before .before .before .before .before .before .before .before .before .before .before .before .before .pre .1 .1 .1) _ _ (call-value _ _ (c .before .before .before .before .before .before .before .before .before .before .before .before .before .before .before .before .before .pre .1 .0 .ready .keyed .good) _ _ (c .before .before .before .before .before .before .before .before .before .before .before .before .before .before .before .before .before .pre .1 .1 .0) (c .before .before .before .before .before .before .before .before .before .before .before .before .before .kind .ensures) _ _ _ (c .before .before .before .before .before .before .before .before .before .if3 .taken) _ _ (c .before .before .before .before .before .before .before .resolve-call .ensures) _ (c .before .before .before .value-type .ensures)) (c .before .before .before .before .before .before .before .before .before .before .before .before .before .before .before .before .before .fits .turn .fits) _ _ (c .before .before .keep3 .ensures)
 
--- src/expressions.rt:101:5
+-- src/expressions.rt:100:9
 work-out-leaf-type-requires : (t : ℕ) → work-out-lts.Need-leaf-type-requires (
   kind-reads.Asked,
   kind-reads.Learnt,
@@ -1282,6 +1337,8 @@ work-out-leaf-type-requires : (t : ℕ) → work-out-lts.Need-leaf-type-requires
   get-type.Post,
   unary-type-reads.Asked,
   unary-type-reads.Learnt,
+  keep-reads.Asked,
+  keep-reads.Learnt,
   both-sides-reads.Asked,
   both-sides-reads.Learnt,
   binary-type-reads.Asked,
@@ -1295,10 +1352,35 @@ work-out-leaf-type-requires : (t : ℕ) → work-out-lts.Need-leaf-type-requires
 ) (work-out-at t) work-out.Post
 work-out-leaf-type-requires t c κs = (
   (c .before .before .before .before .before .before .before .before .before .pre .1 .0 .ready .keyed .good, c .before .before .before .before .before .before .before .before .before .pre .1 .0 .ready .keyed .numbered),
-  (c .before .before .before .before .before .before .before .before .before .pre .1 .0 .ready .scoped, (c .before .before .before .before .before .before .before .before .before .pre .1 .1, leaf-kind _ _ (c .before .before .before .before .before .before .before .before .before .pre .1 .0 .ready .keyed .good) _ _ (c .before .before .before .before .before .before .before .before .before .pre .1 .1) (c .before .before .before .before .before .kind .ensures) (c .before .before .before .if1 .left) (c .before .before .if2 .left) (c .before .if3 .left))),
+  (c .before .before .before .before .before .before .before .before .before .pre .1 .0 .ready .scoped, (c .before .before .before .before .before .before .before .before .before .pre .1 .1 .0, leaf-kind _ _ (c .before .before .before .before .before .before .before .before .before .pre .1 .0 .ready .keyed .good) _ _ (c .before .before .before .before .before .before .before .before .before .pre .1 .1 .0) (c .before .before .before .before .before .kind .ensures) (c .before .before .before .if1 .left) (c .before .before .if2 .left) (c .before .if3 .left))),
 )
 
--- src/expressions.rt:66:1
+-- src/expressions.rt:101:5
+work-out-keep-requires-4 : (t : ℕ) → work-out-lts.Need-keep-requires-4 (
+  kind-reads.Asked,
+  kind-reads.Learnt,
+  reference-reads.Asked,
+  reference-reads.Learnt,
+  get-type-below t,
+  get-type.Post,
+  unary-type-reads.Asked,
+  unary-type-reads.Learnt,
+  keep-reads.Asked,
+  keep-reads.Learnt,
+  both-sides-reads.Asked,
+  both-sides-reads.Learnt,
+  binary-type-reads.Asked,
+  binary-type-reads.Learnt,
+  resolve-call-below t,
+  resolve-call.Post,
+  value-type-reads.Asked,
+  value-type-reads.Learnt,
+  leaf-type-reads.Asked,
+  leaf-type-reads.Learnt,
+) (work-out-at t) work-out.Post
+work-out-keep-requires-4 t c κs = keep-ready _ _ (c .before .before .before .before .before .before .before .before .before .before .before .pre .1 .0 .ready .keyed .good) _ (c .before .before .before .before .before .before .before .before .before .before .before .pre .1 .1 .0) _ _ _ _ (c .before .before .before .before .before .before .before .before .before .before .before .pre .1 .0) (c .before .before .before .before .before .before .before .before .before .before .before .pre .1 .1 .1) _ _ (leaf-meets _ _ (c .before .before .before .before .before .before .before .before .before .before .before .pre .1 .0 .ready .keyed .good) _ _ (c .before .before .before .before .before .before .before .before .before .before .before .pre .1 .1 .0) (c .before .before .before .before .before .before .before .kind .ensures) _ _ _ _ (c .before .before .before .before .before .before .before .before .before .before .before .pre .1 .0) (c .before .before .before .before .before .if1 .left) (c .before .before .before .before .if2 .left) (c .before .before .before .if3 .left) _ (c .before .leaf-type .ensures))
+
+-- src/expressions.rt:62:1
 work-out-same-length-7 : (t : ℕ) → work-out-lts.Need-same-length-7 (
   kind-reads.Asked,
   kind-reads.Learnt,
@@ -1308,6 +1390,8 @@ work-out-same-length-7 : (t : ℕ) → work-out-lts.Need-same-length-7 (
   get-type.Post,
   unary-type-reads.Asked,
   unary-type-reads.Learnt,
+  keep-reads.Asked,
+  keep-reads.Learnt,
   both-sides-reads.Asked,
   both-sides-reads.Learnt,
   binary-type-reads.Asked,
@@ -1321,7 +1405,7 @@ work-out-same-length-7 : (t : ℕ) → work-out-lts.Need-same-length-7 (
 ) (work-out-at t) work-out.Post
 work-out-same-length-7 t c = search needs
 
--- src/expressions.rt:66:1
+-- src/expressions.rt:62:1
 work-out-returns-7 : (t : ℕ) → work-out-lts.Need-returns-7 (
   kind-reads.Asked,
   kind-reads.Learnt,
@@ -1331,6 +1415,8 @@ work-out-returns-7 : (t : ℕ) → work-out-lts.Need-returns-7 (
   get-type.Post,
   unary-type-reads.Asked,
   unary-type-reads.Learnt,
+  keep-reads.Asked,
+  keep-reads.Learnt,
   both-sides-reads.Asked,
   both-sides-reads.Learnt,
   binary-type-reads.Asked,
@@ -1342,7 +1428,7 @@ work-out-returns-7 : (t : ℕ) → work-out-lts.Need-returns-7 (
   leaf-type-reads.Asked,
   leaf-type-reads.Learnt,
 ) (work-out-at t) work-out.Post
-work-out-returns-7 t c = leaf-meets _ _ (c .before .before .before .before .before .before .before .before .before .before .pre .1 .0 .ready .keyed .good) _ _ (c .before .before .before .before .before .before .before .before .before .before .pre .1 .1) (c .before .before .before .before .before .before .kind .ensures) _ _ _ _ (c .before .before .before .before .before .before .before .before .before .before .pre .1 .0) (c .before .before .before .before .if1 .left) (c .before .before .before .if2 .left) (c .before .before .if3 .left) _ (c .leaf-type .ensures)
+work-out-returns-7 t c = keep-meets _ _ (c .before .before .before .before .before .before .before .before .before .before .before .before .before .before .pre .1 .0 .ready .keyed .good) _ (c .before .before .before .before .before .before .before .before .before .before .before .before .before .before .pre .1 .1 .0) _ _ _ _ (c .before .before .before .before .before .before .before .before .before .before .before .before .before .before .pre .1 .0) (c .before .before .before .before .before .before .before .before .before .before .before .before .before .before .pre .1 .1 .1) _ _ (leaf-meets _ _ (c .before .before .before .before .before .before .before .before .before .before .before .before .before .before .pre .1 .0 .ready .keyed .good) _ _ (c .before .before .before .before .before .before .before .before .before .before .before .before .before .before .pre .1 .1 .0) (c .before .before .before .before .before .before .before .before .before .before .kind .ensures) _ _ _ _ (c .before .before .before .before .before .before .before .before .before .before .before .before .before .before .pre .1 .0) (c .before .before .before .before .before .before .before .before .if1 .left) (c .before .before .before .before .before .before .before .if2 .left) (c .before .before .before .before .before .before .if3 .left) _ (c .before .before .before .before .leaf-type .ensures)) (c .before .before .before .before .before .before .before .before .before .before .before .before .before .before .fits .turn .fits) _ _ (c .before .before .keep4 .ensures)
 
 pub +get-argument-types+get-type+resolve-call+work-out-spec : {M : Type 1} → statement M
 +get-argument-types+get-type+resolve-call+work-out-spec =
@@ -1387,8 +1473,6 @@ pub +get-argument-types+get-type+resolve-call+work-out-spec : {M : Type 1} → s
       slot-reads.Learnt,
       work-out-below t,
       work-out.Post,
-      visit-reads.Asked,
-      visit-reads.Learnt,
     )
     (get-type-at t)
     get-type.Post
@@ -1397,13 +1481,8 @@ pub +get-argument-types+get-type+resolve-call+work-out-spec : {M : Type 1} → s
     (get-type-same-length t)
     (get-type-returns t)
     (get-type-work-out-requires t)
-    (get-type-enum-known-x t)
-    (get-type-enum-known-y t)
-    (get-type-visit-requires t)
     (get-type-same-length-2 t)
-    (get-type-returns-2 t)
-    (get-type-same-length-3 t)
-    (get-type-returns-3 t))
+    (get-type-returns-2 t))
     (λ t. resolve-call-lts.spec (
       get-argument-types-below t,
       get-argument-types.Post,
@@ -1429,6 +1508,8 @@ pub +get-argument-types+get-type+resolve-call+work-out-spec : {M : Type 1} → s
       get-type.Post,
       unary-type-reads.Asked,
       unary-type-reads.Learnt,
+      keep-reads.Asked,
+      keep-reads.Learnt,
       both-sides-reads.Asked,
       both-sides-reads.Learnt,
       binary-type-reads.Asked,
@@ -1448,6 +1529,7 @@ pub +get-argument-types+get-type+resolve-call+work-out-spec : {M : Type 1} → s
     (work-out-enum-known-x t)
     (work-out-enum-known-ty t)
     (work-out-unary-type-requires t)
+    (work-out-keep-requires t)
     (work-out-same-length t)
     (work-out-returns t)
     (work-out-same-length-2 t)
@@ -1461,6 +1543,7 @@ pub +get-argument-types+get-type+resolve-call+work-out-spec : {M : Type 1} → s
     (work-out-enum-known-r t)
     (work-out-both-sides-requires t)
     (work-out-binary-type-requires t)
+    (work-out-keep-requires-2 t)
     (work-out-same-length-3 t)
     (work-out-returns-3 t)
     (work-out-same-length-4 t)
@@ -1469,8 +1552,10 @@ pub +get-argument-types+get-type+resolve-call+work-out-spec : {M : Type 1} → s
     (work-out-returns-5 t)
     (work-out-resolve-call-requires t)
     (work-out-value-type-requires t)
+    (work-out-keep-requires-3 t)
     (work-out-same-length-6 t)
     (work-out-returns-6 t)
     (work-out-leaf-type-requires t)
+    (work-out-keep-requires-4 t)
     (work-out-same-length-7 t)
     (work-out-returns-7 t)
