@@ -1,5 +1,5 @@
--- The functions by key, as `get_all_functions` has them in its map: their records stand in scratch, in their order, and a key is looked for
--- among them. Assumes nothing: these are definitions.
+-- The functions by key, as `get_all_functions` has them in its map: their records stand in scratch, in their order, and each besides at the slot of its
+-- key's number, where the key is looked for. Assumes nothing: these are definitions.
 use mathlib.Core.Path.{_≡_}
 use Prim.Native.Nat.{ℕ, zero, suc, _+_, _*_, _≤_, _<_}
 use mathlib.Core.Bool.{true}

@@ -19,7 +19,7 @@ judging = record { from = 0; each = 4 }
 abbrev pub argumentTypes : Region
 argumentTypes = record { from = 4; each = 4 }
 
--- the open names, the innermost last: four words each (offset and length of the name, variable, twice its type and 1 if constant)
+-- the open names, the innermost last: four words each (offset and length of the lowest record with the name, variable, twice its type and 1 if constant)
 abbrev pub openNames : Region
 openNames = record { from = 8; each = 16 }
 
