@@ -22,7 +22,7 @@ use Rattle.conversion.specs.Functions.{Pool, get-all-functions, check-main, con
 use Rattle.conversion.specs.Converter.{convertAll, convert}
 use Rattle.conversion.specs.Written.{bytesOf, word, wide, encodeAll, encodeFields, encodeInstr, encodeVar, encodeLabel, encodeFunctions, encodeString, encodeFloat, allCode, allVars, allLabels}
 use Rattle.ir.specs.declared.structs.Counters.{Counters}
-use Rattle.ir.specs.Arena.{Table, Holds, Room}
+use Rattle.ir.specs.Arena.{Table, encodeDigest, Holds, Room}
 use Rattle.keys.specs.Keys.{allKeys, Keyed}
 use Rattle.keys.proofs.KeyLaws.{from, from-start, from-one, from-end}
 use Rattle.keys.proofs.KeySearch.{records-most}
@@ -46,7 +46,7 @@ unfolding encodeAll
 no-entries f w at l h = record { bytes = record { is = refl }; width = h; count = refl }
 
 pub nothing-held : (text : List ℕ) (n : ℕ) (l : List ℕ) → Holds text (begun [] emptyPool) (emptyCounters n) l
-unfolding allCode allVars allLabels encodeFunctions encodeInstr encodeFields encodeVar encodeLabel encodeString encodeFloat word wide bytesOf
+unfolding allCode allVars allLabels encodeFunctions encodeInstr encodeFields encodeVar encodeLabel encodeString encodeFloat encodeDigest word wide bytesOf
 nothing-held text n l = record {
   instructions-hold = no-entries encodeInstr 32 (0 * n) l (λ x. refl);
   variables-hold = no-entries encodeVar 4 (128 * n) l (λ x. refl);
@@ -54,6 +54,7 @@ nothing-held text n l = record {
   functions-hold = record { is = refl };
   strings-hold = no-entries encodeString 8 (196 * n) l (λ x. refl);
   floats-hold = no-entries encodeFloat 16 (204 * n) l (λ x. refl);
+  digests-hold = no-entries encodeDigest 4 (236 * n) l (λ x. refl);
   before = record { functions-count = refl; instructions-before = refl; variables-before = refl; labels-before = refl };
   fits = record { labels-fit = tt; strings-stand = tt; floats-fit = tt };
 }
