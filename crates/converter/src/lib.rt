@@ -23,6 +23,7 @@ use judge::clear;
 use judge::clear_outputs;
 use judge::has_place;
 use judge::judge_rows;
+use keys::keys::digest_keys;
 use keys::keys::function_at;
 use records::convert_error::ConvertError;
 use statements::answers::Finished;
@@ -115,7 +116,10 @@ fn convert_tree(
         AllFunctions::Done(count) => {
             match check_main(tree, text, scratch, count, needs_main) {
                 Outcome::Refused(e) => Finished::Refused(e),
-                Outcome::Done => convert_all(tree, text, arena, scratch, count),
+                Outcome::Done => {
+                    digest_keys(tree, text, scratch, count);
+                    convert_all(tree, text, arena, scratch, count)
+                }
             }
         }
     }

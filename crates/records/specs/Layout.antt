@@ -35,16 +35,20 @@ originals = record { from = 40; each = 4 }
 abbrev pub keySlots : Region
 keySlots = record { from = 44; each = 4 }
 
+-- the digests of the functions' keys, in the functions' order, a word each (`rollOf` in `specs/Digest.antt`)
+abbrev pub keyDigests : Region
+keyDigests = record { from = 48; each = 4 }
+
 -- left for later
 abbrev pub unused : Region
-unused = record { from = 48; each = 8 }
+unused = record { from = 52; each = 4 }
 
 -- for a later mark at each expression (whether it was typed, and its type)
 abbrev pub typedOnce : Region
 typedOnce = record { from = 56; each = 8 }
 
 abbrev pub layout : List Region
-layout = judging ∷ argumentTypes ∷ openNames ∷ operands ∷ originals ∷ keySlots ∷ unused ∷ typedOnce ∷ []
+layout = judging ∷ argumentTypes ∷ openNames ∷ operands ∷ originals ∷ keySlots ∷ keyDigests ∷ unused ∷ typedOnce ∷ []
 
 -- 'scratch 64n'
 abbrev pub scratchEach : ℕ

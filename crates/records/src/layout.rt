@@ -24,3 +24,8 @@ pub const ORIGINAL_BYTES: usize = 4;
 pub const KEY_SLOTS: usize = 44;
 
 pub const KEY_SLOT_BYTES: usize = 4;
+
+// The digests of the functions' keys.
+pub const KEY_DIGESTS: usize = 48;
+
+pub const KEY_DIGEST_BYTES: usize = 4;
