@@ -23,7 +23,7 @@ use Rattle.conversion.specs.Converter.{convertAll, convert}
 use Rattle.conversion.specs.Written.{bytesOf, word, wide, encodeAll, encodeFields, encodeInstr, encodeVar, encodeLabel, encodeFunctions, encodeString, encodeFloat, allCode, allVars, allLabels}
 use Rattle.ir.specs.declared.structs.Counters.{Counters}
 use Rattle.ir.specs.Arena.{Table, encodeDigest, Holds, Room}
-use Rattle.keys.specs.Keys.{allKeys, Keyed}
+use Rattle.keys.specs.Keys.{allKeys, Mapped, Keyed}
 use Rattle.keys.proofs.KeyLaws.{from, from-start, from-one, from-end}
 use Rattle.keys.proofs.KeySearch.{records-most}
 use Rattle.texts.specs.Texts.{Kept}
@@ -197,11 +197,11 @@ module _ (tree text s s₁ : List ℕ) (r : AllFunctions) (m : AllMeet tree text
       go x (done p k) z = absurd (let y : _≡_ {A = ℕ} 0 1 = cc in omega arith)
       go x (refused {e = f} p l g) z = let y : f ≡ e = cc in g ∙ ap refusal y
 
-  pub keys-done : (count : ℕ) → r ≡ AllFunctions.Done count → Keyed tree text s₁ count
+  pub keys-done : (count : ℕ) → r ≡ AllFunctions.Done count → Mapped tree text s₁ count
   keys-done count q = go r m q
     where
-      go : (x : AllFunctions) → AllMeet tree text s s₁ x → x ≡ AllFunctions.Done count → Keyed tree text s₁ count
-      go x (done {count = n} p k) z = let y : n ≡ count = cc in subst (Keyed tree text s₁) y k
+      go : (x : AllFunctions) → AllMeet tree text s s₁ x → x ≡ AllFunctions.Done count → Mapped tree text s₁ count
+      go x (done {count = n} p k) z = let y : n ≡ count = cc in subst (Mapped tree text s₁) y k
       go x (refused p l g) z = absurd (let y : _≡_ {A = ℕ} 0 1 = cc in omega arith)
 
   module _ (good : Good tree text) (room : 64 * records tree ≤ length s) where

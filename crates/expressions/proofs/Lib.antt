@@ -4,6 +4,7 @@ pub mod CallLaws
 pub mod CommonLaws
 pub mod ExactLaws
 pub mod LeafLaws
+pub mod NameDigest
 pub mod NameLaws
 pub mod OperandLaws
 pub mod OriginalLaws

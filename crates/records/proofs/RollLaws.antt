@@ -99,7 +99,6 @@ abbrev pub RollLeft : List ℕ → ℕ → ℕ → ℕ → ℕ → ℕ → Type 
 RollLeft t d at n x i = (i ≤ n) × (x < 8589934592) × (rollFrom d (textAt t at n) ≡ rollFrom (x % 4294967291) (textAt t (at + i) (n - i)))
 
 module _ (t : List ℕ) (d at n : ℕ) (fit : at + n ≤ length t) where
-
   pub roll-start : (x : ℕ) → x ≡ d → d < 4294967291 → RollLeft t d at n x 0
   roll-start x e h =
       let z : at ≡ at + 0 = omega arith in
@@ -110,16 +109,15 @@ module _ (t : List ℕ) (d at n : ℕ) (fit : at + n ≤ length t) where
   pub roll-on : (x r i : ℕ) → RollLeft t d at n x i → 16 ≤ n - i → (r % 4294967291 ≡ rollFrom (x % 4294967291) (textAt t (at + i) 16)) × (r < 8589934592) → RollLeft t d at n r (i + 16)
   roll-on x r i w h e =
       let z : n - i ≡ 16 + (n - (i + 16)) = omega arith in
-      let y : at + i + 16 ≡ at + (i + 16) = omega arith in
-      (
+      let y : at + i + 16 ≡ at + (i + 16) = omega arith in (
         omega arith,
         e .1,
         w .2
-        ∙ ap (λ (m : ℕ). rollFrom (x % 4294967291) (textAt t (at + i) m)) z
-        ∙ ap (rollFrom (x % 4294967291)) (text-split t (at + i) 16 (n - (i + 16)))
-        ∙ roll-append (x % 4294967291) (textAt t (at + i) 16) (textAt t (at + i + 16) (n - (i + 16)))
-        ∙ ap (λ (v : ℕ). rollFrom v (textAt t (at + i + 16) (n - (i + 16)))) (sym (e .0))
-        ∙ ap (λ (o : ℕ). rollFrom (r % 4294967291) (textAt t o (n - (i + 16)))) y,
+            ∙ ap (λ (m : ℕ). rollFrom (x % 4294967291) (textAt t (at + i) m)) z
+            ∙ ap (rollFrom (x % 4294967291)) (text-split t (at + i) 16 (n - (i + 16)))
+            ∙ roll-append (x % 4294967291) (textAt t (at + i) 16) (textAt t (at + i + 16) (n - (i + 16)))
+            ∙ ap (λ (v : ℕ). rollFrom v (textAt t (at + i + 16) (n - (i + 16)))) (sym (e .0))
+            ∙ ap (λ (o : ℕ). rollFrom (r % 4294967291) (textAt t o (n - (i + 16)))) y,
       )
 
   pub roll-one : (x r i b : ℕ) → RollLeft t d at n x i → i < n → b ≡ getD t (at + i) 0 → (r % 4294967291 ≡ (x * 256 + b) % 4294967291) × (r < 8589934592) → RollLeft t d at n r (i + 1)
@@ -128,8 +126,8 @@ module _ (t : List ℕ) (d at n : ℕ) (fit : at + n ≤ length t) where
     omega arith,
     e .1,
     w .2
-    ∙ ap (rollFrom (x % 4294967291)) (first-byte t at n i h fit)
-    ∙ ap (λ (v : ℕ). rollFrom v (textAt t (at + (i + 1)) (n - (i + 1)))) (step-exact x (getD t (at + i) 0) ∙ ap (λ (y : ℕ). (x * 256 + y) % 4294967291) (sym eb) ∙ sym (e .0)),
+        ∙ ap (rollFrom (x % 4294967291)) (first-byte t at n i h fit)
+        ∙ ap (λ (v : ℕ). rollFrom v (textAt t (at + (i + 1)) (n - (i + 1)))) (step-exact x (getD t (at + i) 0) ∙ ap (λ (y : ℕ). (x * 256 + y) % 4294967291) (sym eb) ∙ sym (e .0)),
   )
 
   pub roll-end : (x i : ℕ) → RollLeft t d at n x i → n ≤ i → (x % 4294967291 ≡ rollFrom d (textAt t at n)) × (x % 4294967291 < 4294967291)
