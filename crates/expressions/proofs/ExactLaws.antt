@@ -21,6 +21,7 @@ use Rattle.conversion.specs.Ir.{sameText}
 use Rattle.conversion.specs.Expressions.{Functions, is-mangled, takes-args, getFunction, filterOption, variadicMark, suffixes, joined, mangledFunction, variadicFunction, find-exact-function}
 use Rattle.records.specs.declared.words.Found.{Found}
 use Rattle.records.specs.declared.words.Found.the-variants as Found
+use Rattle.records.proofs.RollLaws.{text-split}
 use Rattle.records.proofs.TextLaws.{same-texts, text-length, other-lengths}
 use Rattle.keys.specs.declared.parts.Part.{Part}
 use Rattle.expressions.specs.declared.arguments.Call.{Call}
@@ -31,8 +32,9 @@ use Rattle.keys.specs.Keys.{functionKey, keyed, functionPlaces, functionsOf, al
 use Rattle.expressions.specs.Calls.{typedAt, suffixesAt, verbOf, nameOf, bytesIn, Called, PrefixIs, VariadicKey, so-many, no-number}
 use Rattle.syntax.proofs.Records.{function-name, function-mangled}
 use Rattle.keys.proofs.FunctionLaws.{found-function}
+use Rattle.keys.proofs.KeySearch.{records-most}
 use Rattle.keys.proofs.KeyLaws.{find-hit, find-miss, recordAt, from, from-start, from-one, from-end, distinct-finds}
-use Rattle.expressions.proofs.NameLaws.{same-is, same-turned, part-length, part-split, cut-same, name-length, name-pieces, all-taken, number-inside, inside-number, number-least, name-number, key-number}
+use Rattle.expressions.proofs.NameLaws.{same-is, same-turned, part-length, cut-same, name-length, name-pieces, all-taken, number-inside, inside-number, number-least, name-number, key-number}
 
 -- ---- an answer, and what it stands for
 
@@ -194,6 +196,10 @@ module _ (tree text s : List ℕ) (count : ℕ) (K : Keyed tree text s count) wh
   unfolding getFunction keyed
   key-end t j h w = w ∙ ap (λ (l : List Function). getFunction t (keyed l)) (from-end tree text j (omega (arith, K .listed .counted)))
 
+  -- the digest of the key of function j lies in the scratch
+  pub digest-room : (j : ℕ) → j < count → keyDigestAt (records tree) j + 4 ≤ length s
+  digest-room j h = omega (arith, K .listed .room, K .listed .counted, records-most tree (records tree))
+
   module _ (t : Text) (j f : ℕ) (below : j < count) (at : f ≡ wordAt s (4 * j)) (w : KeyLeft tree text t j) where
     listed : f ≡ recordAt tree text j
     listed = at ∙ K .listed .listed j below
@@ -256,7 +262,7 @@ module _ (tree text s : List ℕ) (c : Call) (h : Called tree text s c) (key : T
     two-pieces : textAt text (p .0) (p .1 - 4) ++ textAt text (p .0 + (p .1 - 4)) 4 ≡ key
     two-pieces =
         let z : p .1 ≡ (p .1 - 4) + 4 = omega arith in
-        sym (part-split text (p .0) (p .1 - 4) 4) ∙ ap (textAt text (p .0)) (sym z) ∙ is .is
+        sym (text-split text (p .0) (p .1 - 4) 4) ∙ ap (textAt text (p .0)) (sym z) ∙ is .is
 
     -- the pieces of such a key
     pieces : (k : ℕ) → key ≡ nameOf tree text s c k ++ variadicMark

@@ -18,29 +18,24 @@ use Rattle.expressions.specs.Calls.{suffixesAt, verbOf, nameOf, Argued, 
 use Rattle.expressions.proofs.NameLaws.{joined-verb, name-is, all-taken}
 use Rattle.expressions.proofs.SuffixLaws.{First, no-suffixes}
 
--- d is the digest of the verb with the suffixes before cell w
-pub record Rolled (tree text s : List ℕ) (c : Call) (d w : ℕ) : Type 0 where
-  pub argued : Argued tree text s w
-  pub small : d < 4294967291
-  pub asked : rollOf (nameOf tree text s c (c .count)) ≡ rollFrom d (joined (program tree text) (allKeys tree text) [] (suffixesAt tree text s w))
-
-module _ (tree text s : List ℕ) (c : Call) where
+module _ (tree text s : List ℕ) where
+  -- some suffixes, one after the other
   abbrev Behind : List Text → Text
   Behind l = joined (program tree text) (allKeys tree text) [] l
 
-  pub rolled-start : Called tree text s c → (d : ℕ) → (d ≡ rollFrom 1 (verbOf tree text s c)) × (d < 4294967291) → Rolled tree text s c d (c .first)
-  rolled-start h d e = record {
-    argued = h .argued;
-    small = e .1;
-    asked =
-        ap rollOf (name-is tree text s c (c .count))
-        ∙ roll-append 1 (verbOf tree text s c) (Behind (take (c .count) (suffixesAt tree text s (c .first))))
-        ∙ ap₂ (λ (x : ℕ) (l : List Text). rollFrom x (Behind l)) (sym (e .0)) (all-taken tree text s c h);
-  }
+-- from digest d₀ at the first cell on the digest came to d at cell w
+pub record Rolled (tree text s : List ℕ) (d₀ first d w : ℕ) : Type 0 where
+  pub argued : Argued tree text s w
+  pub small : d < 4294967291
+  pub asked : rollFrom d₀ (Behind tree text s (suffixesAt tree text s first)) ≡ rollFrom d (Behind tree text s (suffixesAt tree text s w))
 
-  module _ (d w : ℕ) (h : Rolled tree text s c d w) where
+module _ (tree text s : List ℕ) where
+  pub rolled-start : (d₀ first : ℕ) → Argued tree text s first → d₀ < 4294967291 → Rolled tree text s d₀ first d₀ first
+  rolled-start d₀ first a h = record { argued = a; small = h; asked = refl }
+
+  module _ (d₀ first d w : ℕ) (h : Rolled tree text s d₀ first d w) where
     pub rolled-more : (y : ℕ) (p : Part) → First tree text s w y → PartIs text p (keyAt tree text y) → (x : ℕ) → x ≡ rollStep d 36 → (r : ℕ)
-        → (r ≡ rollFrom x (textAt text (p .0) (p .1))) × (r < 4294967291) → Rolled tree text s c r (wordOf tree w B)
+        → (r ≡ rollFrom x (textAt text (p .0) (p .1))) × (r < 4294967291) → Rolled tree text s d₀ first r (wordOf tree w B)
     unfolding rollFrom joined
     rolled-more y p f is x ex r er =
         let rest : List Text = suffixesAt tree text s (wordOf tree w B) in
@@ -49,13 +44,18 @@ module _ (tree text s : List ℕ) (c : Call) where
           small = er .1;
           asked =
               h .asked
-              ∙ ap (λ (l : List Text). rollFrom d (Behind l)) (f .is)
+              ∙ ap (λ (l : List Text). rollFrom d (Behind tree text s l)) (f .is)
               ∙ ap (rollFrom d) (joined-verb (program tree text) (allKeys tree text) (dollar ∷ keyAt tree text y) rest)
-              ∙ roll-append (rollStep d dollar) (keyAt tree text y) (Behind rest)
-              ∙ ap₂ (λ (z : ℕ) (t : Text). rollFrom (rollFrom z t) (Behind rest)) (sym ex) (sym (is .is))
-              ∙ ap (λ (z : ℕ). rollFrom z (Behind rest)) (sym (er .0));
+              ∙ roll-append (rollStep d dollar) (keyAt tree text y) (Behind tree text s rest)
+              ∙ ap₂ (λ (z : ℕ) (t : Text). rollFrom (rollFrom z t) (Behind tree text s rest)) (sym ex) (sym (is .is))
+              ∙ ap (λ (z : ℕ). rollFrom z (Behind tree text s rest)) (sym (er .0));
         }
 
-    pub rolled-end : w ≡ none → d ≡ rollOf (nameOf tree text s c (c .count))
+    -- at the end, where it began with the verb's
+    pub rolled-end : w ≡ none → (c : Call) → Called tree text s c → first ≡ c .first → d₀ ≡ rollFrom 1 (verbOf tree text s c) → d ≡ rollOf (nameOf tree text s c (c .count))
     unfolding rollFrom joined
-    rolled-end e = sym (h .asked ∙ ap (λ (l : List Text). rollFrom d (Behind l)) (no-suffixes tree text s w (h .argued .good) e))
+    rolled-end e c called ef ed =
+        sym (h .asked ∙ ap (λ (l : List Text). rollFrom d (Behind tree text s l)) (no-suffixes tree text s w (h .argued .good) e))
+        ∙ ap₂ (λ (x : ℕ) (l : List Text). rollFrom x (Behind tree text s l)) ed (ap (suffixesAt tree text s) ef ∙ sym (all-taken tree text s c called))
+        ∙ sym (roll-append 1 (verbOf tree text s c) (Behind tree text s (take (c .count) (suffixesAt tree text s (c .first)))))
+        ∙ ap rollOf (sym (name-is tree text s c (c .count)))
