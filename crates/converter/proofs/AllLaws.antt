@@ -244,5 +244,9 @@ module _ (tree text s s₁ : List ℕ) (r : AllFunctions) (m : AllMeet tree text
 pub room-numbered : {n : ℕ} {s₀ s : List ℕ} → Kept n s₀ s → 64 * n ≤ length s₀ → 64 * n ≤ length s
 room-numbered k h = omega (arith, k .long, h)
 
+-- scratch may have been another of one length
+pub tree-longer : {tree text s s₀ l l′ s′ : List ℕ} {x : Result IrProgram} {a : Finished} → length s ≡ length s₀ → ConvertsTo tree text x l s a l′ s′ → ConvertsTo tree text x l s₀ a l′ s′
+tree-longer e m = record { long = m .long; scratch-long = m .scratch-long ∙ e; gives = m .gives; stops = m .stops }
+
 pub tree-numbered : {tree text s s₀ l l′ s′ : List ℕ} {x : Result IrProgram} {a : Finished} → Kept (records tree) s₀ s → ConvertsTo tree text x l s a l′ s′ → ConvertsTo tree text x l s₀ a l′ s′
-tree-numbered k m = record { long = m .long; scratch-long = m .scratch-long ∙ k .long; gives = m .gives; stops = m .stops }
+tree-numbered k m = tree-longer (k .long) m

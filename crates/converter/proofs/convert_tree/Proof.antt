@@ -1,80 +1,84 @@
--- A good tree is converted as the definition converts its program: the functions by key, `main`, then each function.
--- The laws of the three steps; a refusal of one is the definition's. Assumes nothing.
+-- A good tree: its texts are numbered, its functions listed, `main` looked for, the keys' digests written, and all functions converted.
+-- The first that is refused ends it; by the laws of each step. Assumes nothing.
+use Rattle.converter.proofs.AllLaws.{keys-done, tree-unkeyed, tree-mainless, tree-all, room-numbered, tree-longer, tree-numbered}
 use borrow.Author.Needs.{needs}
-use Rattle.converter.proofs.AllLaws.{keys-done, tree-unkeyed, tree-mainless, tree-all, room-numbered, tree-numbered}
 use Rattle.converter.proofs.convert_tree.Statement.{statement}
 use Rattle.converter.proofs.convert_tree.Tie as tie
+use Rattle.converter.proofs.convert_tree.Reads as reads
+use Rattle.converter.proofs.convert_tree.Lts as lts
+use Rattle.converter.proofs.convert_all.Reads as convert-all-reads
+use Rattle.functions.proofs.functions.check_main.Reads as check-main-reads
+use Rattle.functions.proofs.functions.get_all_functions.Reads as get-all-functions-reads
+use Rattle.keys.proofs.keys.digest_keys.Reads as digest-keys-reads
+use Rattle.texts.proofs.number_texts.Reads as number-texts-reads
 
+-- src/lib.rt:113:5
 number-texts-requires : tie.Need-number-texts-requires
-number-texts-requires c κs = (c .before .before .before .before .before .pre .0, c .before .before .before .before .before .pre .2)
+number-texts-requires c κs = search needs
 
+-- src/lib.rt:114:11
 get-all-functions-requires : tie.Need-get-all-functions-requires
-get-all-functions-requires c κs =
-    let number = c .before .before .before in
-    let first = number .before .before .before .before .before .before in
-    ((first .pre .0, number .number-texts .ensures .0), room-numbered (number .number-texts .ensures .1) (first .pre .2))
+get-all-functions-requires c κs = search needs
 
+-- src/lib.rt:115:31
 enum-known-e : tie.Need-enum-known-e
 enum-known-e c = search needs
 
+-- src/lib.rt:116:28
 enum-known-count : tie.Need-enum-known-count
 enum-known-count c = search needs
 
+-- src/lib.rt:117:19
 check-main-requires : tie.Need-check-main-requires
-check-main-requires c κs =
-    let all = c .before .before .before .before .before .before in
-    (all .before .before .before .before .before .before .before .before .before .before .pre .0, keys-done _ _ _ _ _ (all .get-all-functions .ensures) _ (c .before .before .count .given .1) .listed)
+check-main-requires c κs = (c .before .before .before .before .before .before .before .before .before .before .before .before .before .before .before .before .pre .0, keys-done _ _ _ _ _ (c .before .before .before .before .before .before .get-all-functions .ensures) _ (c .before .before .count .given .1) .listed)
 
+-- src/lib.rt:118:34
 enum-known-e-2 : tie.Need-enum-known-e-2
 enum-known-e-2 c = search needs
 
+-- src/lib.rt:120:45
 enum-told : tie.Need-enum-told
 enum-told c = search needs
 
-convert-all-requires : tie.Need-convert-all-requires
-convert-all-requires c κs =
-    let all = c .before .before .before .before .before .before .before .before .before .before .before in
-    (keys-done _ _ _ _ _ (all .get-all-functions .ensures) _ (c .before .before .before .before .before .before .before .count .given .1), all .before .before .before .before .before .before .before .before .before .before .pre .1)
+-- src/lib.rt:120:21
+digest-keys-requires : tie.Need-digest-keys-requires
+digest-keys-requires c κs = keys-done _ _ _ _ _ (c .before .before .before .before .before .before .before .before .before .before .get-all-functions .ensures) _ (c .before .before .before .before .before .before .count .given .1)
 
+-- src/lib.rt:121:21
+convert-all-requires : tie.Need-convert-all-requires
+convert-all-requires c κs = search needs
+
+-- src/lib.rt:103:1
 same-length : tie.Need-same-length
 same-length c = search needs
 
+-- src/lib.rt:103:1
 returns : tie.Need-returns
 returns c =
-    let all = c .before .before .before .before .before in
-    let number = all .before .before .before .before .number-texts .ensures .1 in
-    let first = all .before .before .before .before .before .before .before .before .before .before in
-    tree-numbered number (tree-unkeyed _ _ _ _ _ (all .get-all-functions .ensures) (first .pre .0) (room-numbered number (first .pre .2)) _ _ _ (c .before .e .given .1))
+    tree-numbered (c .before .before .before .before .before .before .before .before .before .number-texts .ensures .1) (tree-unkeyed _ _ _ _ _ (c .before .before .before .before .before .get-all-functions .ensures) (c .before .before .before .before .before .before .before .before .before .before .before .before .before .before .before .pre .0) (room-numbered (c .before .before .before .before .before .before .before .before .before .number-texts .ensures .1) (c .before .before .before .before .before .before .before .before .before .before .before .before .before .before .before .pre .2)) _ _ _ (c .before .e .given .1))
 
+-- src/lib.rt:103:1
 same-length-2 : tie.Need-same-length-2
 same-length-2 c = search needs
 
+-- src/lib.rt:103:1
 returns-2 : tie.Need-returns-2
 returns-2 c =
-    let main = c .before .before .before in
-    let known = main .before .before .before in
-    let all = known .before .before .before .before in
-    let number = all .before .before .before .before .number-texts .ensures .1 in
-    let first = all .before .before .before .before .before .before .before .before .before .before in
-    tree-numbered number (tree-mainless _ _ _ _ _ (all .get-all-functions .ensures) (first .pre .0) (room-numbered number (first .pre .2)) _ _ (known .count .given .1) _ (main .check-main .ensures) _ _ (c .before .e2 .given .1))
+    tree-numbered (c .before .before .before .before .before .before .before .before .before .before .before .before .before .before .number-texts .ensures .1) (tree-mainless _ _ _ _ _ (c .before .before .before .before .before .before .before .before .before .before .get-all-functions .ensures) (c .before .before .before .before .before .before .before .before .before .before .before .before .before .before .before .before .before .before .before .before .pre .0) (room-numbered (c .before .before .before .before .before .before .before .before .before .before .before .before .before .before .number-texts .ensures .1) (c .before .before .before .before .before .before .before .before .before .before .before .before .before .before .before .before .before .before .before .before .pre .2)) _ _ (c .before .before .before .before .before .before .count .given .1) _ (c .before .before .before .check-main .ensures) _ _ (c .before .e2 .given .1))
 
+-- src/lib.rt:103:1
 same-length-3 : tie.Need-same-length-3
 same-length-3 c = search needs
 
+-- src/lib.rt:103:1
 same-length-4 : tie.Need-same-length-4
 same-length-4 c = search needs
 
+-- src/lib.rt:103:1
 returns-3 : tie.Need-returns-3
 returns-3 c =
-    let made = c .before .before .before .before in
-    let told = made .before .before .before in
-    let main = told .before .before in
-    let known = main .before .before .before in
-    let all = known .before .before .before .before in
-    let number = all .before .before .before .before .number-texts .ensures .1 in
-    let first = all .before .before .before .before .before .before .before .before .before .before in
-    tree-numbered number (tree-all _ _ _ _ _ (all .get-all-functions .ensures) (first .pre .0) (room-numbered number (first .pre .2)) _ _ (known .count .given .1) _ (main .check-main .ensures) (told .enum-told .given .1) _ _ _ _
-    (made .convert-all .ensures))
+    tree-numbered (c .before .before .before .before .before .before .before .before .before .before .before .before .before .before .before .before .before .before .before .before .before .before .before .before .number-texts .ensures .1) (tree-all _ _ _ _ _ (c .before .before .before .before .before .before .before .before .before .before .before .before .before .before .before .before .before .before .before .before .get-all-functions .ensures) (c .before .before .before .before .before .before .before .before .before .before .before .before .before .before .before .before .before .before .before .before .before .before .before .before .before .before .before .before .before .before .pre .0) (room-numbered (c .before .before .before .before .before .before .before .before .before .before .before .before .before .before .before .before .before .before .before .before .before .before .before .before .number-texts .ensures .1) (c .before .before .before .before .before .before .before .before .before .before .before .before .before .before .before .before .before .before .before .before .before .before .before .before .before .before .before .before .before .before .pre .2)) _ _ (c .before .before .before .before .before .before .before .before .before .before .before .before .before .before .before .before .count .given .1) _ (c .before .before .before .before .before .before .before .before .before .before .before .before .before .check-main .ensures) (c .before .before .before .before .before .before .before .before .before .before .before .enum-told .given .1) _ _ _ _
+    (tree-longer (c .before .before .before .before .before .before .before .before .scratch3 .given) (c .before .before .before .before .convert-all .ensures)))
 
 pub convert-tree-spec : {M : Type 1} → statement M
 convert-tree-spec =
@@ -87,6 +91,7 @@ convert-tree-spec =
     check-main-requires
     enum-known-e-2
     enum-told
+    digest-keys-requires
     convert-all-requires
     same-length
     returns
