@@ -23,8 +23,8 @@ use Rattle.conversion.specs.Converter.{convertAll, convert}
 use Rattle.conversion.specs.Visits.{bodyVisits, functionsVisits}
 use Rattle.conversion.specs.Written.{bytesOf, word, wide, encodeAll, encodeFields, encodeInstr, encodeVar, encodeLabel, encodeFunctions, encodeString, encodeFloat, allCode, allVars, allLabels}
 use Rattle.ir.specs.declared.structs.Counters.{Counters}
-use Rattle.ir.specs.Arena.{Table, Holds, Room}
-use Rattle.keys.specs.Keys.{allKeys, Keyed}
+use Rattle.ir.specs.Arena.{Table, encodeDigest, Holds, Room}
+use Rattle.keys.specs.Keys.{allKeys, Mapped, Keyed}
 use Rattle.keys.proofs.KeyLaws.{from, from-start, from-one, from-end}
 use Rattle.keys.proofs.KeySearch.{records-most}
 use Rattle.texts.specs.Texts.{Kept}
@@ -50,7 +50,7 @@ unfolding encodeAll
 no-entries f w at l h = record { bytes = record { is = refl }; width = h; count = refl }
 
 pub nothing-held : (text : List ℕ) (n : ℕ) (l : List ℕ) → Holds text (begun [] emptyPool) (emptyCounters n) l
-unfolding allCode allVars allLabels encodeFunctions encodeInstr encodeFields encodeVar encodeLabel encodeString encodeFloat word wide bytesOf
+unfolding allCode allVars allLabels encodeFunctions encodeInstr encodeFields encodeVar encodeLabel encodeString encodeFloat encodeDigest word wide bytesOf
 nothing-held text n l = record {
   instructions-hold = no-entries encodeInstr 32 (0 * n) l (λ x. refl);
   variables-hold = no-entries encodeVar 4 (128 * n) l (λ x. refl);
@@ -58,6 +58,7 @@ nothing-held text n l = record {
   functions-hold = record { is = refl };
   strings-hold = no-entries encodeString 8 (196 * n) l (λ x. refl);
   floats-hold = no-entries encodeFloat 16 (204 * n) l (λ x. refl);
+  digests-hold = no-entries encodeDigest 4 (236 * n) l (λ x. refl);
   before = record { functions-count = refl; instructions-before = refl; variables-before = refl; labels-before = refl };
   fits = record { labels-fit = tt; strings-stand = tt; floats-fit = tt };
 }
@@ -241,11 +242,11 @@ module _ (tree text s s₁ : List ℕ) (r : AllFunctions) (m : AllMeet tree text
       go x (done p k) z = absurd (let y : _≡_ {A = ℕ} 0 1 = cc in omega arith)
       go x (refused {e = f} p l g) z = let y : f ≡ e = cc in g ∙ ap refusal y
 
-  pub keys-done : (count : ℕ) → r ≡ AllFunctions.Done count → Keyed tree text s₁ count
+  pub keys-done : (count : ℕ) → r ≡ AllFunctions.Done count → Mapped tree text s₁ count
   keys-done count q = go r m q
     where
-      go : (x : AllFunctions) → AllMeet tree text s s₁ x → x ≡ AllFunctions.Done count → Keyed tree text s₁ count
-      go x (done {count = n} p k) z = let y : n ≡ count = cc in subst (Keyed tree text s₁) y k
+      go : (x : AllFunctions) → AllMeet tree text s s₁ x → x ≡ AllFunctions.Done count → Mapped tree text s₁ count
+      go x (done {count = n} p k) z = let y : n ≡ count = cc in subst (Mapped tree text s₁) y k
       go x (refused p l g) z = absurd (let y : _≡_ {A = ℕ} 0 1 = cc in omega arith)
 
   module _ (good : Good tree text) (room : 72 * records tree ≤ length s) where
@@ -285,14 +286,18 @@ module _ (tree text s s₁ : List ℕ) (r : AllFunctions) (m : AllMeet tree text
         unfolding convert _>>=_ outcomeOf
         all-asked p = rw (keys-done count q .distinct, c ∙ ap outcomeOf p)
 
-        -- s₂ is what forgetting leaves of scratch
-        pub tree-all : o ≡ Outcome.Done → (s₂ : List ℕ) → Forgets tree s₁ s₂ → (l l′ s′ : List ℕ) (a : Finished) → ConvertsTo tree text (allFunctions tree text) l s₂ a l′ s′
+        -- s₂ is what writing the keys' digests and forgetting leave of scratch
+        pub tree-all : o ≡ Outcome.Done → (s₂ : List ℕ) → length s₂ ≡ length s₁ → (l l′ s′ : List ℕ) (a : Finished) → ConvertsTo tree text (allFunctions tree text) l s₂ a l′ s′
             → ConvertsTo tree text (convert (program tree text) needsMain) l s a l′ s′
-        tree-all p s₂ g l l′ s′ a m = rw (all-asked p) (record { long = m .long; scratch-long = m .scratch-long ∙ g .same-length ∙ listed-long; gives = m .gives; visits = m .visits; stops = m .stops })
+        tree-all p s₂ same l l′ s′ a m = rw (all-asked p) (record { long = m .long; scratch-long = m .scratch-long ∙ same ∙ listed-long; gives = m .gives; visits = m .visits; stops = m .stops })
 
 -- the texts are numbered first, which leaves the scratch as long as it was
 pub room-numbered : {n : ℕ} {s₀ s : List ℕ} → Kept n s₀ s → 72 * n ≤ length s₀ → 72 * n ≤ length s
 room-numbered k h = omega (arith, k .long, h)
 
+-- scratch may have been another of one length
+pub tree-longer : {tree text s s₀ l l′ s′ : List ℕ} {x : Result IrProgram} {a : Finished} → length s ≡ length s₀ → ConvertsTo tree text x l s a l′ s′ → ConvertsTo tree text x l s₀ a l′ s′
+tree-longer e m = record { long = m .long; scratch-long = m .scratch-long ∙ e; gives = m .gives; visits = m .visits; stops = m .stops }
+
 pub tree-numbered : {tree text s s₀ l l′ s′ : List ℕ} {x : Result IrProgram} {a : Finished} → Kept (records tree) s₀ s → ConvertsTo tree text x l s a l′ s′ → ConvertsTo tree text x l s₀ a l′ s′
-tree-numbered k m = record { long = m .long; scratch-long = m .scratch-long ∙ k .long; gives = m .gives; visits = m .visits; stops = m .stops }
+tree-numbered k m = tree-longer (k .long) m

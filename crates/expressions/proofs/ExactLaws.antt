@@ -12,6 +12,7 @@ use borrow.Author.Tests.{ltb-true, ltb-false, leb-true, le-leb}
 use Rattle.laws.specs.Below.{orElse}
 use Rattle.laws.specs.Fix.{pick}
 use Rattle.laws.proofs.Tests.{and-left, and-right, tested}
+use Rattle.records.specs.Digest.{rollOf}
 use Rattle.records.specs.Words.{textAt, wordAt, wordOf, records, A, B}
 use Rattle.records.specs.Good.{Good}
 use Rattle.syntax.specs.Syntax.{Text, Function, Program}
@@ -20,18 +21,20 @@ use Rattle.conversion.specs.Ir.{sameText}
 use Rattle.conversion.specs.Expressions.{Functions, is-mangled, takes-args, getFunction, filterOption, variadicMark, suffixes, joined, mangledFunction, variadicFunction, find-exact-function}
 use Rattle.records.specs.declared.words.Found.{Found}
 use Rattle.records.specs.declared.words.Found.the-variants as Found
+use Rattle.records.proofs.RollLaws.{text-split}
 use Rattle.records.proofs.TextLaws.{same-texts, text-length, other-lengths}
 use Rattle.keys.specs.declared.parts.Part.{Part}
 use Rattle.expressions.specs.declared.arguments.Call.{Call}
 use Rattle.syntax.specs.Places.{FunctionAt, functionOf}
 use Rattle.keys.specs.Parts.{PartIs}
 use Rattle.texts.proofs.TextLaws.{original-below}
-use Rattle.keys.specs.Keys.{functionKey, keyed, functionPlaces, functionsOf, allKeys, Keyed, FindsKey, functionFound, FunctionFound, FunctionIs, a-function, no-function}
+use Rattle.keys.specs.Keys.{functionKey, keyed, functionPlaces, functionsOf, allKeys, Keyed, keyDigestAt, FindsKey, functionFound, FunctionFound, FunctionIs, a-function, no-function}
 use Rattle.expressions.specs.Calls.{typedAt, suffixesAt, verbOf, nameOf, bytesIn, Called, PrefixIs, VariadicKey, so-many, no-number}
 use Rattle.syntax.proofs.Records.{function-name, function-mangled}
 use Rattle.keys.proofs.FunctionLaws.{found-function}
+use Rattle.keys.proofs.KeySearch.{records-most}
 use Rattle.keys.proofs.KeyLaws.{find-hit, find-miss, recordAt, from, from-start, from-one, from-end, distinct-finds}
-use Rattle.expressions.proofs.NameLaws.{same-is, same-turned, part-length, part-split, cut-same, name-length, name-pieces, all-taken, number-inside, inside-number, number-least, name-number, key-number}
+use Rattle.expressions.proofs.NameLaws.{same-is, same-turned, part-length, cut-same, name-length, name-pieces, all-taken, number-inside, inside-number, number-least, name-number, key-number}
 
 -- ---- an answer, and what it stands for
 
@@ -193,7 +196,11 @@ module _ (tree text s : List ℕ) (count : ℕ) (K : Keyed tree text s count) wh
   unfolding getFunction keyed
   key-end t j h w = w ∙ ap (λ (l : List Function). getFunction t (keyed l)) (from-end tree text j (omega (arith, K .listed .counted)))
 
-  module _ (t : Text) (j f : ℕ) (p : Part) (below : j < count) (at : f ≡ wordAt s (4 * j)) (is : PartIs text p (functionKey (functionOf tree text f))) (w : KeyLeft tree text t j) where
+  -- the digest of the key of function j lies in the scratch
+  pub digest-room : (j : ℕ) → j < count → keyDigestAt (records tree) j + 4 ≤ length s
+  digest-room j h = omega (arith, K .listed .room, K .listed .counted, records-most tree (records tree))
+
+  module _ (t : Text) (j f : ℕ) (below : j < count) (at : f ≡ wordAt s (4 * j)) (w : KeyLeft tree text t j) where
     listed : f ≡ recordAt tree text j
     listed = at ∙ K .listed .listed j below
 
@@ -203,6 +210,22 @@ module _ (tree text s : List ℕ) (count : ℕ) (K : Keyed tree text s count) wh
         w ∙ ap (λ (l : List Function). getFunction t (keyed l)) (from-one tree text j (omega (arith, K .listed .counted)))
         ∙ ap (λ (r : ℕ). getFunction t ((functionKey (functionOf tree text r), functionOf tree text r) ∷ keyed (from tree text (j + 1)))) (sym listed)
 
+    -- a key with another digest is another
+    pub key-skip : (x d : ℕ) → x ≡ wordAt s (keyDigestAt (records tree) j) → d ≡ rollOf t → (x ≡ d → ⊥) → KeyLeft tree text t (j + 1)
+    key-skip x d ex ed n =
+        here
+        ∙ find-miss t (functionKey (functionOf tree text f), functionOf tree text f) (keyed (from tree text (j + 1)))
+        (tested (sameText t (functionKey (functionOf tree text f)))
+        (λ y.
+        absurd
+        (n
+        (ex ∙ K .digests j below ∙ ap (λ (r : ℕ). rollOf (functionKey (functionOf tree text r))) (sym at) ∙ ap rollOf (sym (same-is t (functionKey (functionOf tree text f)) y)) ∙ sym ed)))
+        (λ y. y))
+
+  module _ (t : Text) (j f : ℕ) (p : Part) (below : j < count) (at : f ≡ wordAt s (4 * j)) (is : PartIs text p (functionKey (functionOf tree text f))) (w : KeyLeft tree text t j) where
+    this : getFunction t (allKeys tree text) ≡ getFunction t ((functionKey (functionOf tree text f), functionOf tree text f) ∷ keyed (from tree text (j + 1)))
+    this = here t j f below at w
+
     pub key-size : length (functionKey (functionOf tree text f)) ≡ p .1
     key-size = sym (ap length (is .is)) ∙ part-length text (p .0) (p .1) (is .inside)
 
@@ -211,15 +234,15 @@ module _ (tree text s : List ℕ) (count : ℕ) (K : Keyed tree text s count) wh
 
     pub key-longer : (n : ℕ) → n ≡ length t → (p .1 ≡ n → ⊥) → KeyLeft tree text t (j + 1)
     key-longer n e d =
-        here
+        this
         ∙ find-miss t (functionKey (functionOf tree text f), functionOf tree text f) (keyed (from tree text (j + 1)))
         (sym (other-lengths t (functionKey (functionOf tree text f)) n (p .1) e (sym key-size) (λ q. d (sym q))))
 
     pub key-other : (b : Bool) → b ≡ sameText (textAt text (p .0) (p .1)) t → b ≡ false → KeyLeft tree text t (j + 1)
-    key-other b e q = here ∙ find-miss t (functionKey (functionOf tree text f), functionOf tree text f) (keyed (from tree text (j + 1))) (turned b e ∙ q)
+    key-other b e q = this ∙ find-miss t (functionKey (functionOf tree text f), functionOf tree text f) (keyed (from tree text (j + 1))) (turned b e ∙ q)
 
     pub key-hit : (b : Bool) → b ≡ sameText (textAt text (p .0) (p .1)) t → b ≡ true → getFunction t (allKeys tree text) ≡ some (functionOf tree text f)
-    key-hit b e q = here ∙ find-hit t (functionKey (functionOf tree text f), functionOf tree text f) (keyed (from tree text (j + 1))) (turned b e ∙ q)
+    key-hit b e q = this ∙ find-hit t (functionKey (functionOf tree text f), functionOf tree text f) (keyed (from tree text (j + 1))) (turned b e ∙ q)
 
 -- ---- whether a key is the verb with some suffixes and `$...`
 
@@ -239,7 +262,7 @@ module _ (tree text s : List ℕ) (c : Call) (h : Called tree text s c) (key : T
     two-pieces : textAt text (p .0) (p .1 - 4) ++ textAt text (p .0 + (p .1 - 4)) 4 ≡ key
     two-pieces =
         let z : p .1 ≡ (p .1 - 4) + 4 = omega arith in
-        sym (part-split text (p .0) (p .1 - 4) 4) ∙ ap (textAt text (p .0)) (sym z) ∙ is .is
+        sym (text-split text (p .0) (p .1 - 4) 4) ∙ ap (textAt text (p .0)) (sym z) ∙ is .is
 
     -- the pieces of such a key
     pieces : (k : ℕ) → key ≡ nameOf tree text s c k ++ variadicMark

@@ -5,6 +5,7 @@ pub mod CommonLaws
 pub mod ExactLaws
 pub mod ForgetLaws
 pub mod LeafLaws
+pub mod NameDigest
 pub mod NameLaws
 pub mod OperandLaws
 pub mod OriginalLaws

@@ -7,10 +7,11 @@ use Prim.Native.Nat.{ℕ, zero, suc, _+_, _-_, _≤_, _<_}
 use native.Mathlib.Omega.{arith}
 use lib.Dec.{eqb, ltb}
 use lib.ListN.{length, take, drop, getD, length-append, length-drop}
-use lib.Seq.{length-take-le, take-add, take-all, drop-drop, drop-cons}
+use lib.Seq.{length-take-le, take-all, drop-cons}
 use borrow.Author.Tests.{eqb-true, ltb-true, ltb-false}
 use Rattle.laws.proofs.Tests.{and-left, and-right, tested}
 use Rattle.records.specs.Words.{textAt}
+use Rattle.records.proofs.RollLaws.{text-split}
 use Rattle.records.proofs.TextLaws.{same-texts}
 use Rattle.syntax.specs.Syntax.{Text, Program}
 use Rattle.syntax.specs.Decode.{program}
@@ -55,10 +56,6 @@ same-append (x ∷ a) (y ∷ b) c d e =
 pub part-length : (t : Text) (o n : ℕ) → o + n ≤ length t → length (textAt t o n) ≡ n
 unfolding textAt
 part-length t o n h = length-take-le n (drop o t) (omega (arith, length-drop o t))
-
-pub part-split : (t : Text) (o n m : ℕ) → textAt t o (n + m) ≡ textAt t o n ++ textAt t (o + n) m
-unfolding textAt
-part-split t o n m = take-add n m (drop o t) ∙ ap (λ (l : List ℕ). take n (drop o t) ++ take m l) (drop-drop n o t)
 
 pub part-one : (t : Text) (o : ℕ) → o < length t → textAt t o 1 ≡ getD t o 0 ∷ []
 unfolding textAt
@@ -181,6 +178,6 @@ module _ (tree text s : List ℕ) where
     name-pieces k at n h e room =
         let R = joined (program tree text) (allKeys tree text) [] (take k (suffixesAt tree text s (c .first))) in
         let m : n ≡ c .len + (n - c .len) = omega (arith, name-length k h) in
-        ap₂ sameText (ap (textAt text at) m ∙ part-split text at (c .len) (n - c .len)) (name-is k)
+        ap₂ sameText (ap (textAt text at) m ∙ text-split text at (c .len) (n - c .len)) (name-is k)
         ∙ same-append (textAt text at (c .len)) (verbOf tree text s c) (textAt text (at + c .len) (n - c .len)) R
         (part-length text at (c .len) (omega (arith, name-length k h)) ∙ sym (part-length text (c .offset) (c .len) (h .inside)))

@@ -15,7 +15,8 @@ use Rattle.scope.specs.Open.{scopeAt}
 use Rattle.records.proofs.Apart.{byte-apart, word-apart, word-there, word-same, word-back}
 use Rattle.scope.proofs.ScopeLaws.{Kept, scope-kept}
 use Rattle.syntax.specs.Places.{TypeAt}
-use Rattle.keys.specs.Keys.{Listed, keySlotAt, Keyed}
+use Rattle.keys.specs.Keys.{Listed, keySlotAt, keyDigestAt, Keyed}
+use Rattle.keys.proofs.KeyDigestLaws.{digests-stay}
 use Rattle.keys.proofs.SlotLaws.{slots-stay}
 use Rattle.texts.specs.Texts.{originalAt}
 use Rattle.expressions.proofs.OriginalLaws.{original-stays, numbers-stay}
@@ -113,6 +114,9 @@ module _ (tree s s′ : List ℕ) (f : Frame tree s s′) where
     distinct = k .distinct;
     listed = listed-frame count (k .listed);
     slots = slots-stay tree text s s′ (λ o h. frame-word (keySlotAt (records tree) o) (inr (omega arith, omega arith))) _ (k .slots);
+    digests =
+        digests-stay tree text s s′ count (λ j h. frame-word (4 * j) (inl (omega (arith, k .listed .counted, records-most tree (records tree)))))
+        (λ j h. frame-word (keyDigestAt (records tree) j) (inr (omega arith, omega arith))) (k .digests);
   }
 
   pub ready-frame : (text : List ℕ) (count : ℕ) (sc : Scope) → Ready tree text s count sc → Ready tree text s′ count sc

@@ -19,6 +19,7 @@ use Rattle.conversion.specs.Ir.{sameText}
 use Rattle.conversion.specs.Expressions.{dollar, suffixes, joined}
 use Rattle.records.specs.declared.words.Found.{Found}
 use Rattle.records.specs.declared.words.Found.the-variants as Found
+use Rattle.records.proofs.RollLaws.{text-split}
 use Rattle.records.proofs.TextLaws.{text-length}
 use Rattle.keys.specs.declared.parts.Part.{Part}
 use Rattle.syntax.specs.Places.{exprAt, argsAt}
@@ -27,7 +28,7 @@ use Rattle.keys.specs.Keys.{allKeys}
 use Rattle.expressions.specs.Slots.{slotAt, slotted, ArgsTyped, FirstType}
 use Rattle.expressions.specs.Calls.{typedAt, suffixesAt, bytesIn, Argued, PrefixIs, so-many, no-number}
 use Rattle.syntax.proofs.Lists.{args-end, left, left-most, next-falls, Cell, cell-is, value-item, type-item}
-use Rattle.expressions.proofs.NameLaws.{same-append, part-length, part-split, part-one, joined-verb, bytes-more}
+use Rattle.expressions.proofs.NameLaws.{same-append, part-length, part-one, joined-verb, bytes-more}
 
 -- ---- words and key texts are short
 
@@ -264,8 +265,8 @@ module _ (tree text s : List ℕ) (first k at n : ℕ) where
           ≡ (getD text here 0 ∷ []) ++ (textAt text (here + 1) (p .1) ++ textAt text (here + 1 + p .1) size)
       text-present =
           ap (textAt text here) present-bytes
-          ∙ part-split text here 1 (p .1 + size)
-          ∙ ap₂ (λ (a b : List ℕ). a ++ b) (part-one text here (omega (arith, match-room))) (part-split text (here + 1) (p .1) size)
+          ∙ text-split text here 1 (p .1 + size)
+          ∙ ap₂ (λ (a b : List ℕ). a ++ b) (part-one text here (omega (arith, match-room))) (text-split text (here + 1) (p .1) size)
 
       -- whether the present suffix stands here, and the rest behind it
       match-by : Asked ≡ (eqb (getD text here 0) dollar

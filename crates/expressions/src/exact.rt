@@ -4,6 +4,7 @@ ghost use mathlib.Core.Path.{_≡_};
 ghost use Prim.Native.Nat.{_+_, _≤_, _<_, _^_};
 ghost use lib.ListN.{length, take};
 ghost use mathlib.Core.Option.{some};
+ghost use Rattle.records.specs.Digest.{rollOf};
 ghost use Rattle.records.specs.Words.{textAt};
 ghost use Rattle.records.specs.Good.{Good};
 ghost use Rattle.conversion.specs.Ir.{sameText};
@@ -20,9 +21,12 @@ use crate::takes::takes_args;
 use keys::keys::find_key;
 use keys::keys::function_at;
 use keys::keys::is_mangled;
+use keys::keys::key_digest;
 use keys::keys::key_of;
 use keys::parts::Part;
 use keys::parts::is_variadic_mark;
+use records::texts::roll;
+use records::texts::roll_byte;
 use records::texts::same_part;
 use records::words::Found;
 
@@ -131,21 +135,40 @@ fn mangled_only(tree: &[u8], text: &[u8], f: usize) -> Found
     Found::Nothing
 }
 
-// The verb with `$` and the key text of each type.
+// The digest of the verb with all suffixes, which goes on from the verb's.
+fn full_digest(tree: &[u8], text: &[u8], scratch: &[u8], call: Call) -> u32
+    requires { ⌜ Called (now tree) (now text) (now scratch) call ⌝ }
+    ensures { λ d. ⌜ d ≡ rollOf (nameOf (now (tree .entry)) (now (text .entry)) (now (scratch .entry)) call (call .count)) ⌝ }
+{
+    let mut d = roll(text, 1, call.offset, call.len);
+    let mut cell = call.first;
+    while cell != END {
+        let key = type_key(tree, text, argument_type(tree, text, scratch, cell));
+        d = roll(text, roll_byte(d, DOLLAR), key.0, key.1);
+        cell = next_cell(tree, text, cell);
+    }
+    d
+}
+
+// The verb with `$` and the key text of each type. Keys that differ mostly differ in their digests, so few are compared.
 fn by_full_name(tree: &[u8], text: &[u8], scratch: &[u8], functions: usize, call: Call) -> Found
     requires { ⌜ Keyed (now tree) (now text) (now scratch) functions ⌝ }
     requires { ⌜ Called (now tree) (now text) (now scratch) call ⌝ }
     ensures { λ r. ⌜ FunctionIs (now (tree .entry)) (now (text .entry)) r (byFullName (now (tree .entry)) (now (text .entry)) (now (scratch .entry)) call) ⌝ }
 {
+    let n = tree.len() / 32;
     let length = full_length(tree, text, scratch, call);
+    let digest = full_digest(tree, text, scratch, call);
     let count = call.count;
     let mut j = 0;
     while j < functions {
-        let f = function_at(tree, scratch, functions, j);
-        let key = key_of(tree, text, f);
-        if key.1 == length {
-            if is_name(tree, text, scratch, call, count, key) {
-                return mangled_only(tree, text, f);
+        if key_digest(scratch, n, j) == digest {
+            let f = function_at(tree, scratch, functions, j);
+            let key = key_of(tree, text, f);
+            if key.1 == length {
+                if is_name(tree, text, scratch, call, count, key) {
+                    return mangled_only(tree, text, f);
+                }
             }
         }
         j += 1;

@@ -8,6 +8,7 @@ use Prim.Native.Nat.{ℕ, _+_, _-_, _*_, _/_, _%_, _^_, _<_}
 use native.Mathlib.Omega.{arith}
 use lib.ListN.{length, length-append}
 use Rattle.laws.specs.Splice.{splice}
+use Rattle.records.specs.Digest.{digestOf}
 use Rattle.records.specs.Words.{textAt}
 use Rattle.conversion.specs.Ir as Ir
 use Rattle.conversion.specs.Ir.{State, FloatEntry, emit, new-var, label-id, string-id, float-id, numbered, position, sameLabel, sameText, sameFloat}
@@ -20,11 +21,11 @@ use Rattle.ir.specs.declared.structs.LabelNumber.{LabelNumber}
 use Rattle.ir.specs.declared.pool.PoolNumber.{PoolNumber}
 use Rattle.ir.specs.Instructions.{varOf, instrOf, fieldBytes}
 use Rattle.ir.specs.Amounts.{Amount, Spent}
-use Rattle.ir.specs.Arena.{TablesSoFar, Holds, Room}
+use Rattle.ir.specs.Arena.{encodeDigest, TablesSoFar, Holds, Room}
 use Rattle.records.specs.declared.words.Found.{Found}
 use Rattle.records.specs.declared.words.Found.the-variants.{At, Nothing}
-use Rattle.ir.specs.Search.{first, foundOf, pairAt, sameTextAt, fourAt}
-use Rattle.ir.specs.Steps.{grown, Stands, Next, NextIn, moreInstructions, moreVariables, moreLabels, moreStrings, moreFloats, Wrote, Emits, AddsVar, named, NumbersLabel, stringAt, NumbersString, NumbersFloat}
+use Rattle.ir.specs.Search.{first, foundOf, pairAt, stringIs, fourAt}
+use Rattle.ir.specs.Steps.{grown, Stands, Next, NextIn, moreInstructions, moreVariables, moreLabels, moreStrings, moreFloats, Wrote, WroteTwo, Emits, AddsVar, named, NumbersLabel, stringAt, NumbersString, NumbersFloat}
 use Rattle.ir.proofs.Entries.{written-length}
 use Rattle.ir.proofs.Kept.{withLabel, withString, withFloat, no-code, emit-holds, var-holds, label-holds, string-holds, float-holds}
 use Rattle.ir.proofs.ReadBack.{labels-read, strings-read, floats-read}
@@ -130,40 +131,46 @@ label-new kind opener k l l′ r room small hk ho q en m =
 
 -- ---- strings
 
-pub string-found : (text : List ℕ) (offset len : ℕ) (k : Counters) (l : List ℕ) (i : ℕ) (r : PoolNumber) → Room k l
-    → first (k .strings) (sameTextAt text l (196 * k .records) (textAt text offset len)) 0 ≡ some i → r .number ≡ i → r .counters ≡ k
-    → NumbersString text (stringAt text offset len) k l r l
-unfolding string-id
-string-found text offset len k l i r room q e ek = record {
-  next = subst (λ (k′ : Counters). NextIn text (string-id (stringAt text offset len)) k l (r .number) k′ l) (sym ek) (record {
-    room = room;
-    records = refl;
-    stands = λ t h. found text t k l room h (position (λ y. sameText (textAt text offset len) (y .text)) (t .state .strings))
-        (withString (stringAt text offset len) (t .state)) (length (t .state .strings)) i (r .number) (sym (strings-read text t k l h (textAt text offset len)) ∙ q) e;
-  });
-  spent = same-spent (omega arith) ek;
-  entry = inr (record { counts = ek; same = refl });
-}
+module _ (text : List ℕ) (offset len d : ℕ) (ed : d ≡ digestOf (textAt text offset len)) (k : Counters) (l : List ℕ) (r : PoolNumber) (room : Room k l) where
+  pub string-found : (i : ℕ) → first (k .strings) (stringIs text l (k .records) d (textAt text offset len)) 0 ≡ some i → r .number ≡ i → r .counters ≡ k
+      → NumbersString text (stringAt text offset len) k l r l
+  unfolding string-id
+  string-found i q e ek = record {
+    next = subst (λ (k′ : Counters). NextIn text (string-id (stringAt text offset len)) k l (r .number) k′ l) (sym ek) (record {
+      room = room;
+      records = refl;
+      stands = λ t h. found text t k l room h (position (λ y. sameText (textAt text offset len) (y .text)) (t .state .strings))
+          (withString (stringAt text offset len) (t .state)) (length (t .state .strings)) i (r .number) (sym (strings-read text t k l h (textAt text offset len) d ed) ∙ q) e;
+    });
+    spent = same-spent (omega arith) ek;
+    entry = inr (record { counts = ek; same = refl });
+  }
 
-pub string-new : (text : List ℕ) (offset len : ℕ) (k : Counters) (l l′ : List ℕ) (r : PoolNumber) → Room k l → k .strings < k .records → offset < 2 ^ 32 → len < 2 ^ 32
-    → first (k .strings) (sameTextAt text l (196 * k .records) (textAt text offset len)) 0 ≡ none → r .number ≡ k .strings
-    → Wrote l (196 * k .records + 8 * k .strings) (word offset ++ word len) (moreStrings k) (r .counters) l′ → NumbersString text (stringAt text offset len) k l r l′
-unfolding string-id encodeString word bytesOf
-string-new text offset len k l l′ r room small ho hn q en m =
-    let e : l′ ≡ splice l (196 * k .records + 8 * k .strings) (encodeString (stringAt text offset len)) = m .wrote in
-    let same : length l′ ≡ length l = written-length l (196 * k .records + 8 * k .strings) (encodeString (stringAt text offset len)) l′ e (omega (arith, room .arena)) in record {
-      next = subst (λ (k′ : Counters). NextIn text (string-id (stringAt text offset len)) k l (r .number) k′ l′) (sym (m .counts)) (record {
-        room = omega (arith, room, same);
-        records = refl;
-        stands = λ t h.
-            added text t (moreStrings k) l′ (position (λ y. sameText (textAt text offset len) (y .text)) (t .state .strings))
-            (withString (stringAt text offset len) (t .state)) (length (t .state .strings)) (r .number) (sym (strings-read text t k l h (textAt text offset len)) ∙ q)
-            (en ∙ h .strings-hold .count)
-            (string-holds text t k l room h (stringAt text offset len) l′ (record { offset = ho; len = hn; stands = refl }) small e);
-      });
-      spent = same-spent (omega arith) (m .counts);
-      entry = inl m;
-    }
+  pub string-new : (l′ : List ℕ) → k .strings < k .records → offset < 2 ^ 32 → len < 2 ^ 32
+      → first (k .strings) (stringIs text l (k .records) d (textAt text offset len)) 0 ≡ none → r .number ≡ k .strings
+      → WroteTwo l (196 * k .records + 8 * k .strings) (word offset ++ word len) (236 * k .records + 4 * k .strings) (word d) (moreStrings k) (r .counters) l′
+      → NumbersString text (stringAt text offset len) k l r l′
+  unfolding string-id encodeString encodeDigest word bytesOf
+  string-new l′ small ho hn q en m =
+      let at : ℕ = 196 * k .records + 8 * k .strings in
+      let vs : List ℕ = encodeString (stringAt text offset len) in
+      let at₂ : ℕ = 236 * k .records + 4 * k .strings in
+      let ds : List ℕ = encodeDigest (stringAt text offset len) in
+      let e : l′ ≡ splice (splice l at vs) at₂ ds = m .wrote ∙ ap (λ (x : ℕ). splice (splice l at vs) at₂ (word x)) ed in
+      let first-long : length (splice l at vs) ≡ length l = written-length l at vs (splice l at vs) refl (omega (arith, room .arena)) in
+      let same : length l′ ≡ length l = written-length (splice l at vs) at₂ ds l′ e (omega (arith, room .arena, first-long)) ∙ first-long in record {
+        next = subst (λ (k′ : Counters). NextIn text (string-id (stringAt text offset len)) k l (r .number) k′ l′) (sym (m .counts)) (record {
+          room = omega (arith, room, same);
+          records = refl;
+          stands = λ t h.
+              added text t (moreStrings k) l′ (position (λ y. sameText (textAt text offset len) (y .text)) (t .state .strings))
+              (withString (stringAt text offset len) (t .state)) (length (t .state .strings)) (r .number) (sym (strings-read text t k l h (textAt text offset len) d ed) ∙ q)
+              (en ∙ h .strings-hold .count)
+              (string-holds text t k l room h (stringAt text offset len) (splice l at vs) l′ (record { offset = ho; len = hn; stands = refl }) small refl e);
+        });
+        spent = same-spent (omega arith) (m .counts);
+        entry = inl (record { counts = m .counts; wrote = e });
+      }
 
 -- ---- floats
 
@@ -228,16 +235,18 @@ module _ (kind opener : ℕ) (k : Counters) (l : List ℕ) (a : Found) (room : R
   label-nowhere l′ r small hk ho q m =
       label-new kind opener k l l′ r room small hk ho (found-none (first (k .labels - k .«labels_before») (pairAt l (140 * k .records + 8 * k .«labels_before») kind opener) 0) a e q) (m .0) (m .1)
 
-module _ (text : List ℕ) (offset len : ℕ) (k : Counters) (l : List ℕ) (a : Found) (room : Room k l)
-    (e : a ≡ foundOf (first (k .strings) (sameTextAt text l (196 * k .records) (textAt text offset len)) 0)) where
+module _ (text : List ℕ) (offset len d : ℕ) (k : Counters) (l : List ℕ) (a : Found) (room : Room k l) (ed : d ≡ digestOf (textAt text offset len))
+    (e : a ≡ foundOf (first (k .strings) (stringIs text l (k .records) d (textAt text offset len)) 0)) where
   pub string-at : (r : PoolNumber) (i : ℕ) → a ≡ At i → r .number ≡ i → r .counters ≡ k → NumbersString text (stringAt text offset len) k l r l
-  string-at r i q ex ek = string-found text offset len k l i r room (found-some (first (k .strings) (sameTextAt text l (196 * k .records) (textAt text offset len)) 0) i a e q) ex ek
+  string-at r i q ex ek =
+      string-found text offset len d ed k l r room i (found-some (first (k .strings) (stringIs text l (k .records) d (textAt text offset len)) 0) i a e q) ex ek
 
   pub string-nowhere : (l′ : List ℕ) (r : PoolNumber) → k .strings < k .records → offset < 2 ^ 32 → len < 2 ^ 32 → a ≡ Nothing
-      → (r .number ≡ k .strings) × Wrote l (196 * k .records + 8 * k .strings) (word offset ++ word len) (moreStrings k) (r .counters) l′
+      → (r .number ≡ k .strings)
+      × WroteTwo l (196 * k .records + 8 * k .strings) (word offset ++ word len) (236 * k .records + 4 * k .strings) (word d) (moreStrings k) (r .counters) l′
       → NumbersString text (stringAt text offset len) k l r l′
   string-nowhere l′ r small ho hn q m =
-      string-new text offset len k l l′ r room small ho hn (found-none (first (k .strings) (sameTextAt text l (196 * k .records) (textAt text offset len)) 0) a e q) (m .0) (m .1)
+      string-new text offset len d ed k l r room l′ small ho hn (found-none (first (k .strings) (stringIs text l (k .records) d (textAt text offset len)) 0) a e q) (m .0) (m .1)
 
 module _ (f e : FloatEntry) (same : e ≡ f) (b c d : ℕ) (k : Counters) (l : List ℕ) (a : Found) (room : Room k l)
     (eb : b ≡ e .bits % 4294967296) (ec : (c ≡ e .bits / 4294967296) × (c < 4294967296)) (ed : d ≡ boolNumber (e .short))

@@ -132,6 +132,7 @@ module _ (r : ℕ) (body : Bool) (b : ℕ) (eb : b ≡ boolNumber body) (k : Cou
             (omega (arith, functions-length 0 0 0 (t .done), h .before .functions-count)) (h .functions-hold));
         strings-hold = table-behind (h .strings-hold) place words l′ e fit (omega (arith, words-length));
         floats-hold = table-behind (h .floats-hold) place words l′ e fit (omega (arith, words-length));
+        digests-hold = table-behind (h .digests-hold) place words l′ e fit (omega (arith, words-length));
         before = record {
           functions-count = simp length-append (omega (arith, h .before .functions-count));
           instructions-before = h .instructions-hold .count ∙ ap length (sym code-list ∙ append-nil (allCode (t .done ++ (f ∷ []))));

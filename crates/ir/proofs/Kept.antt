@@ -12,9 +12,9 @@ use Rattle.conversion.specs.Ir.{State, LabelName, StringEntry, FloatEntry}
 use Rattle.conversion.specs.Written.{encodeInstr, encodeVar, encodeLabel, encodeFunctions, encodeString, encodeFloat, allCode, allVars, allLabels}
 use Rattle.conversion.proofs.Bytes.{functions-length}
 use Rattle.ir.specs.declared.structs.Counters.{Counters}
-use Rattle.ir.specs.Arena.{Has, Table, TablesSoFar, LabelFits, StringStands, FloatFits, Holds, Room}
+use Rattle.ir.specs.Arena.{Has, Table, encodeDigest, TablesSoFar, LabelFits, StringStands, FloatFits, Holds, Room}
 use Rattle.ir.specs.Steps.{grown, moreInstructions, moreVariables, moreLabels, moreStrings, moreFloats}
-use Rattle.ir.proofs.Entries.{has-before, has-behind, table-before, table-behind, table-grown}
+use Rattle.ir.proofs.Entries.{written-length, has-before, has-behind, table-before, table-behind, table-grown}
 
 -- a property of every entry, and of one more
 pub all-more : {X : Type 0} (P : X → Type 0) (xs : List X) (x : X) → All P xs → P x → All P (xs ++ (x ∷ []))
@@ -56,10 +56,12 @@ module _ (text : List ℕ) (t : TablesSoFar) (k : Counters) (l : List ℕ) (room
         → Has l′ (164 * k .records) (encodeFunctions 0 0 0 (t .done))
         × Table encodeString 8 (t .state .strings) (196 * k .records) (k .strings) l′
         × Table encodeFloat 16 (t .state .floats) (204 * k .records) (k .floats) l′
+        × Table encodeDigest 4 (t .state .strings) (236 * k .records) (k .strings) l′
     back b = (
       has-behind l i vs l′ e fit (164 * k .records) (encodeFunctions 0 0 0 (t .done)) b (h .functions-hold),
       table-behind (h .strings-hold) i vs l′ e fit (omega arith),
       table-behind (h .floats-hold) i vs l′ e fit (omega arith),
+      table-behind (h .digests-hold) i vs l′ e fit (omega arith),
     )
 
   -- nothing emitted
@@ -85,6 +87,7 @@ module _ (text : List ℕ) (t : TablesSoFar) (k : Counters) (l : List ℕ) (room
         functions-hold = rest .0;
         strings-hold = rest .1;
         floats-hold = rest .2;
+        digests-hold = rest .3;
         before = h .before;
         fits = h .fits;
       }
@@ -108,6 +111,7 @@ module _ (text : List ℕ) (t : TablesSoFar) (k : Counters) (l : List ℕ) (room
         functions-hold = rest .0;
         strings-hold = rest .1;
         floats-hold = rest .2;
+        digests-hold = rest .3;
         before = h .before;
         fits = h .fits;
       })
@@ -131,26 +135,35 @@ module _ (text : List ℕ) (t : TablesSoFar) (k : Counters) (l : List ℕ) (room
         functions-hold = rest .0;
         strings-hold = rest .1;
         floats-hold = rest .2;
+        digests-hold = rest .3;
         before = h .before;
         fits = record { labels-fit = all-more LabelFits (t .state .labels) x (h .fits .labels-fit) fits; strings-stand = h .fits .strings-stand; floats-fit = h .fits .floats-fit };
       })
 
-  pub string-holds : (x : StringEntry) (l′ : List ℕ) → StringStands text x → k .strings < k .records
-      → l′ ≡ splice l (196 * k .records + 8 * k .strings) (encodeString x) → Holds text (grown t [] (withString x (t .state))) (moreStrings k) l′
-  string-holds x l′ fits small e =
+  -- a string, and its digest
+  pub string-holds : (x : StringEntry) (l₁ l′ : List ℕ) → StringStands text x → k .strings < k .records
+      → l₁ ≡ splice l (196 * k .records + 8 * k .strings) (encodeString x) → l′ ≡ splice l₁ (236 * k .records + 4 * k .strings) (encodeDigest x)
+      → Holds text (grown t [] (withString x (t .state))) (moreStrings k) l′
+  string-holds x l₁ l′ fits small e₁ e₂ =
       let at : ℕ = 196 * k .records + 8 * k .strings in
       let vs : List ℕ = encodeString x in
       let w : length (encodeString x) ≡ 8 = h .strings-hold .width x in
       let fit : at + length vs ≤ length l = omega (arith, w, room .arena) in
-      let rest = front at vs l′ e fit (omega arith) in
+      let rest = front at vs l₁ e₁ fit (omega arith) in
       let end : at + length vs ≤ 204 * k .records = omega (arith, w) in
+      let long : length l₁ ≡ length l = written-length l at vs l₁ e₁ fit in
+      let at₂ : ℕ = 236 * k .records + 4 * k .strings in
+      let ds : List ℕ = encodeDigest x in
+      let w₂ : length (encodeDigest x) ≡ 4 = h .digests-hold .width x in
+      let fit₂ : at₂ + length ds ≤ length l₁ = omega (arith, w₂, long, room .arena) in
       no-code (withString x (t .state)) (moreStrings k) l′ (record {
-        instructions-hold = rest .0;
-        variables-hold = rest .1;
-        labels-hold = rest .2;
-        functions-hold = rest .3;
-        strings-hold = table-grown (h .strings-hold) x at l′ e fit (omega arith);
-        floats-hold = table-behind (h .floats-hold) at vs l′ e fit end;
+        instructions-hold = table-before (rest .0) at₂ ds l′ e₂ fit₂ (omega (arith, room .instructions-in));
+        variables-hold = table-before (rest .1) at₂ ds l′ e₂ fit₂ (omega (arith, room .variables-in));
+        labels-hold = table-before (rest .2) at₂ ds l′ e₂ fit₂ (omega (arith, room .labels-in));
+        functions-hold = has-before l₁ at₂ ds l′ e₂ fit₂ (164 * k .records) (encodeFunctions 0 0 0 (t .done)) (omega (arith, functions-end, room .functions-in)) (rest .3);
+        strings-hold = table-before (table-grown (h .strings-hold) x at l₁ e₁ fit (omega arith)) at₂ ds l′ e₂ fit₂ (omega arith);
+        floats-hold = table-before (table-behind (h .floats-hold) at vs l₁ e₁ fit end) at₂ ds l′ e₂ fit₂ (omega (arith, room .floats-in));
+        digests-hold = table-grown (table-behind (h .digests-hold) at vs l₁ e₁ fit (omega (arith, end))) x at₂ l′ e₂ fit₂ (omega arith);
         before = h .before;
         fits = record { labels-fit = h .fits .labels-fit; strings-stand = all-more (StringStands text) (t .state .strings) x (h .fits .strings-stand) fits; floats-fit = h .fits .floats-fit };
       })
@@ -170,6 +183,7 @@ module _ (text : List ℕ) (t : TablesSoFar) (k : Counters) (l : List ℕ) (room
         functions-hold = rest .3;
         strings-hold = table-before (h .strings-hold) at vs l′ e fit (omega (arith, room .strings-in));
         floats-hold = table-grown (h .floats-hold) x at l′ e fit (omega arith);
+        digests-hold = table-behind (h .digests-hold) at vs l′ e fit (omega (arith, w));
         before = h .before;
         fits = record { labels-fit = h .fits .labels-fit; strings-stand = h .fits .strings-stand; floats-fit = all-more FloatFits (t .state .floats) x (h .fits .floats-fit) fits };
       })

@@ -10,15 +10,17 @@ use lib.ListN.{length, getD, length-append}
 use lib.Seq.{getD-append-add}
 use borrow.Author.Tests.{eqb-true, eq-eqb}
 use Rattle.laws.specs.All.{All}
-use Rattle.laws.proofs.Tests.{and-left, and-right}
+use Rattle.laws.proofs.Tests.{tested, and-left, and-right}
 use Rattle.records.specs.Words.{byteAt, wordAt, textAt}
+use Rattle.records.specs.Digest.{digestOf}
 use Rattle.records.proofs.Apart.{word-back}
+use Rattle.records.proofs.DigestLaws.{digest-small, same-equal}
 use Rattle.conversion.specs.Ir.{LabelName, StringEntry, FloatEntry, position, sameLabel, sameText, sameFloat}
 use Rattle.conversion.specs.Written.{bytesOf, word, wide, boolNumber, encodeLabel, encodeString, encodeFloat, allLabels}
 use Rattle.ir.specs.declared.structs.Counters.{Counters}
-use Rattle.ir.specs.Arena.{TablesSoFar, LabelFits, StringStands, FloatFits, Holds}
+use Rattle.ir.specs.Arena.{encodeDigest, TablesSoFar, LabelFits, StringStands, FloatFits, Holds}
 use Rattle.ir.specs.Steps.{named}
-use Rattle.ir.specs.Search.{first, pairAt, sameTextAt, fourAt}
+use Rattle.ir.specs.Search.{first, pairAt, sameTextAt, stringIs, fourAt}
 use Rattle.ir.proofs.Entries.{table-word}
 use Rattle.ir.proofs.SearchLaws.{first-position}
 
@@ -51,6 +53,10 @@ string-len : (text : List ℕ) (x : StringEntry) → StringStands text x → wor
 unfolding encodeString word bytesOf wordAt byteAt
 string-len text x f = word-back (x .len) (f .len)
 
+string-digest : (x : StringEntry) → wordAt (encodeDigest x) 0 ≡ digestOf (x .text)
+unfolding encodeDigest word bytesOf wordAt byteAt
+string-digest x = word-back (digestOf (x .text)) (digest-small (x .text))
+
 float-low : (x : FloatEntry) → wordAt (encodeFloat x) 0 ≡ x .bits % 4294967296
 unfolding encodeFloat word wide bytesOf wordAt byteAt
 float-low x = omega arith
@@ -77,6 +83,17 @@ same-bool false false f g = refl
 
 and-both : (a b : Bool) → a ≡ true → b ≡ true → (a && b) ≡ true
 and-both a b e q = rw (e, q)
+
+and-no : (a : Bool) → (a && false) ≡ false
+and-no true = refl
+and-no false = refl
+
+-- texts that are the same have one digest, so that asking for the digest first changes nothing
+digests-first : (u v : List ℕ) (d : ℕ) → d ≡ digestOf u → (eqb d (digestOf v) && sameText u v) ≡ sameText u v
+digests-first u v d ed =
+    tested (sameText u v)
+    (λ e. and-both (eqb d (digestOf v)) (sameText u v) (eq-eqb d (digestOf v) (ed ∙ ap digestOf (same-equal u v e))) e ∙ sym e)
+    (λ e. ap (λ (b : Bool). eqb d (digestOf v) && b) e ∙ and-no (eqb d (digestOf v)) ∙ sym e)
 
 -- two numbers are equal if their halves are
 glue : (a b : ℕ) → a % 4294967296 ≡ b % 4294967296 → a / 4294967296 ≡ b / 4294967296 → a ≡ b
@@ -152,11 +169,22 @@ module _ (text : List ℕ) (t : TablesSoFar) (k : Counters) (l : List ℕ) (h : 
       (table-word (h .strings-hold) no-string j 4 (196 * k .records + 8 * j + 4) (omega (arith, h .strings-hold .count)) (omega arith) (omega arith) ∙ string-len text x f)
       ∙ sym (f .stands))
 
-  pub strings-read : (u : List ℕ)
-      → first (k .strings) (sameTextAt text l (196 * k .records) u) 0 ≡ position (λ x. sameText u (x .text)) (t .state .strings)
-  strings-read u =
-      first-position (λ x. sameText u (x .text)) no-string (sameTextAt text l (196 * k .records) u) (t .state .strings)
-      (k .strings) (h .strings-hold .count) (string-same u)
+  -- its digest is that of its text: where texts are the same, digests are
+  string-told : (u : List ℕ) (d : ℕ) → d ≡ digestOf u → (j : ℕ) → j < length (t .state .strings)
+      → stringIs text l (k .records) d u j ≡ sameText u (getD (t .state .strings) j no-string .text)
+  unfolding stringIs
+  string-told u d ed j hj =
+      let x : StringEntry = getD (t .state .strings) j no-string in
+      ap₂ (λ (w : ℕ) (b : Bool). eqb d w && b)
+      (table-word (h .digests-hold) no-string j 0 (236 * k .records + 4 * j) (omega (arith, h .digests-hold .count)) (omega arith) (omega arith) ∙ string-digest x)
+      (string-same u j hj)
+      ∙ digests-first u (x .text) d ed
+
+  pub strings-read : (u : List ℕ) (d : ℕ) → d ≡ digestOf u
+      → first (k .strings) (stringIs text l (k .records) d u) 0 ≡ position (λ x. sameText u (x .text)) (t .state .strings)
+  strings-read u d ed =
+      first-position (λ x. sameText u (x .text)) no-string (stringIs text l (k .records) d u) (t .state .strings)
+      (k .strings) (h .strings-hold .count) (string-told u d ed)
 
   -- entry j of the floats
   pub floats-at : (j : ℕ) → j < length (t .state .floats) → FloatAt l (204 * k .records + 16 * j) (getD (t .state .floats) j no-float)

@@ -1,18 +1,20 @@
 -- Laws of `first`: what a loop over an index shows of it, and that it is the position in the list that the table holds.
 -- By recursion over the numbers that are left. Assumes nothing.
-use mathlib.Core.Path.{_≡_, refl, sym, ap, _∙_, subst}
-use mathlib.Core.Bool.{Bool, true, false}
+use mathlib.Core.Path.{_≡_, refl, sym, ap, ap₂, _∙_, subst}
+use mathlib.Core.Bool.{Bool, true, false, _&&_}
 use mathlib.Core.List.{List, [], _∷_}
 use mathlib.Core.Option.{Option, none, some}
-use Prim.Native.Nat.{ℕ, zero, suc, _+_, _-_, _≤_, _<_}
+use Prim.Native.Nat.{ℕ, zero, suc, _+_, _-_, _*_, _≤_, _<_}
 use native.Mathlib.Numerals.{add-one}
 use native.Mathlib.Omega.{arith}
 use lib.ListN.{length, getD}
+use borrow.Author.Tests.{eq-eqb, ne-eqb}
 use Rattle.laws.specs.Fix.{pick}
-use Rattle.conversion.specs.Ir.{position}
+use Rattle.records.specs.Words.{wordAt, textAt}
+use Rattle.conversion.specs.Ir.{position, sameText}
 use Rattle.records.specs.declared.words.Found.{Found}
 use Rattle.records.specs.declared.words.Found.the-variants.{At, Nothing}
-use Rattle.ir.specs.Search.{first, foundOf}
+use Rattle.ir.specs.Search.{first, foundOf, sameTextAt, stringIs}
 
 module _ (n : ℕ) (f : ℕ → Bool) where
   -- what was asked equals what is left from i on
@@ -124,3 +126,18 @@ found-none (some j) a e q = absurd (let z : _≡_ {A = ℕ} 0 1 = cc in omega ar
 
 pub found-small : (n : ℕ) (f : ℕ → Bool) (r : ℕ) (a : Found) → a ≡ foundOf (first n f 0) → a ≡ At r → r < n
 found-small n f r a e q = omega (arith, first-below n f 0 r (found-some (first n f 0) r a e q))
+
+-- ---- a string by its digest and its text
+
+module _ (text l : List ℕ) (n d : ℕ) (t : List ℕ) (j w : ℕ) (ew : w ≡ wordAt l (236 * n + 4 * j)) where
+  pub string-other : (d ≡ w → ⊥) → false ≡ stringIs text l n d t j
+  unfolding stringIs
+  string-other h = ap (λ (b : Bool). b && sameTextAt text l (196 * n) t j) (sym (ne-eqb d (wordAt l (236 * n + 4 * j)) (λ q. h (q ∙ sym ew))))
+
+  pub string-this : d ≡ w → (x y : ℕ) → x ≡ wordAt l (196 * n + 8 * j) → y ≡ wordAt l (196 * n + 8 * j + 4) → (v : Bool) → v ≡ sameText t (textAt text x y)
+      → v ≡ stringIs text l n d t j
+  unfolding stringIs sameTextAt
+  string-this h x y ex ey v ev =
+      ev
+      ∙ ap₂ (λ (a b : ℕ). sameText t (textAt text a b)) ex ey
+      ∙ ap (λ (b : Bool). b && sameTextAt text l (196 * n) t j) (sym (eq-eqb d (wordAt l (236 * n + 4 * j)) (h ∙ ew)))

@@ -1,4 +1,4 @@
--- The arena: one lent buffer that holds all six tables while a tree of n records is converted, each in a region of its own. It is the
+-- The arena: one lent buffer that holds all six tables while a tree of n records is converted, each in a region of its own, and behind them what they are searched by. It is the
 -- instruction buffer (320n bytes), whose first 128n bytes are the instructions' own place. Assumes nothing: these are definitions.
 use mathlib.Core.Path.{_≡_}
 use Prim.Native.Nat.{ℕ, _+_, _*_, _^_, _≤_, _<_}
@@ -7,11 +7,12 @@ use mathlib.Core.List.{List, [], _∷_, _++_}
 use lib.Dec.{leb}
 use lib.ListN.{length, take, drop}
 use Rattle.laws.specs.All.{All}
+use Rattle.records.specs.Digest.{digestOf}
 use Rattle.records.specs.Layout.{Region}
 use Rattle.records.specs.Words.{textAt}
 use Rattle.conversion.specs.Ir as Ir
 use Rattle.conversion.specs.Ir.{LabelName, StringEntry, FloatEntry, State, IrFunction}
-use Rattle.conversion.specs.Written.{encodeAll, encodeInstr, encodeVar, encodeLabel, encodeFunctions, encodeString, encodeFloat, allCode, allVars, allLabels}
+use Rattle.conversion.specs.Written.{word, encodeAll, encodeInstr, encodeVar, encodeLabel, encodeFunctions, encodeString, encodeFloat, allCode, allVars, allLabels}
 use Rattle.ir.specs.declared.structs.Counters.{Counters}
 
 -- ---- regions, each at a multiple of n bytes
@@ -40,12 +41,16 @@ strings = record { from = 196; each = 8 }
 abbrev pub floats : Region
 floats = record { from = 204; each = 32 }
 
+-- n digests of 4, of the strings' texts, by which a string is looked for: they are in no table
+abbrev pub stringDigests : Region
+stringDigests = record { from = 236; each = 4 }
+
 -- 'instructions 320n bytes'
 abbrev pub arenaEach : ℕ
 arenaEach = 320
 
 abbrev pub arena : List Region
-arena = instructions ∷ variables ∷ labels ∷ functions ∷ strings ∷ floats ∷ []
+arena = instructions ∷ variables ∷ labels ∷ functions ∷ strings ∷ floats ∷ stringDigests ∷ []
 
 -- each region starts behind the one before, and the last ends within so many bytes a record
 unfoldable pub fitsWithin : ℕ → ℕ → List Region → Bool
@@ -63,6 +68,11 @@ pub record Table {X : Type 0} (f : X → List ℕ) (w : ℕ) (xs : List X) (at n
   pub bytes : Has l at (encodeAll f xs)
   pub width : (x : X) → length (f x) ≡ w
   pub count : n ≡ length xs
+
+-- a string's digest
+unfoldable pub encodeDigest : StringEntry → List ℕ
+unfolding word digestOf
+encodeDigest s = word (digestOf (s .text))
 
 -- what is written so far: the functions that are done, the instructions of the function at hand, and the definitions' state
 pub record TablesSoFar : Type 0 where
@@ -105,6 +115,7 @@ pub record Holds (text : List ℕ) (t : TablesSoFar) (k : Counters) (l : List �
   pub functions-hold : Has l (functions .from * k .records) (encodeFunctions 0 0 0 (t .done))
   pub strings-hold : Table encodeString 8 (t .state .strings) (strings .from * k .records) (k .strings) l
   pub floats-hold : Table encodeFloat 16 (t .state .floats) (floats .from * k .records) (k .floats) l
+  pub digests-hold : Table encodeDigest 4 (t .state .strings) (stringDigests .from * k .records) (k .strings) l
   pub before : Before (t .done) (k .functions) (k .«instructions_before») (k .«variables_before») (k .«labels_before»)
   pub fits : Fits text (t .state .labels) (t .state .strings) (t .state .floats)
 

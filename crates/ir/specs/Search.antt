@@ -8,6 +8,7 @@ use lib.Dec.{eqb}
 use Rattle.laws.specs.Fix.{pick}
 use Rattle.records.specs.Words.{wordAt, textAt}
 use Rattle.conversion.specs.Ir.{sameText}
+use Rattle.ir.specs.Arena.{strings, stringDigests}
 use Rattle.records.specs.declared.words.Found.{Found}
 use Rattle.records.specs.declared.words.Found.the-variants.{At, Nothing}
 
@@ -29,6 +30,11 @@ pairAt l at a b j = eqb a (wordAt l (at + 8 * j)) && eqb b (wordAt l (at + 8 * j
 unfoldable pub sameTextAt : List ℕ → List ℕ → ℕ → List ℕ → ℕ → Bool
 unfolding textAt
 sameTextAt text l at t j = sameText t (textAt text (wordAt l (at + 8 * j)) (wordAt l (at + 8 * j + 4)))
+
+-- string j, of the tables of n records, has this digest and the text t
+unfoldable pub stringIs : List ℕ → List ℕ → ℕ → ℕ → List ℕ → ℕ → Bool
+unfolding sameTextAt
+stringIs text l n digest t j = eqb digest (wordAt l (stringDigests .from * n + stringDigests .each * j)) && sameTextAt text l (strings .from * n) t j
 
 -- its first three words (of four) are a, b and c
 unfoldable pub fourAt : List ℕ → ℕ → ℕ → ℕ → ℕ → ℕ → Bool

@@ -20,7 +20,7 @@ use Rattle.ir.specs.declared.structs.LabelNumber.{LabelNumber}
 use Rattle.ir.specs.declared.pool.PoolNumber.{PoolNumber}
 use Rattle.ir.specs.Instructions.{varOf, instrOf}
 use Rattle.ir.specs.Amounts.{amount, Spent}
-use Rattle.ir.specs.Arena.{variables, labels, strings, floats, TablesSoFar, Holds, Room}
+use Rattle.ir.specs.Arena.{variables, labels, strings, floats, stringDigests, encodeDigest, TablesSoFar, Holds, Room}
 
 -- the tables after a step that emits c and leaves the state s
 abbrev pub grown : TablesSoFar → List Ir.Instr → State → TablesSoFar
@@ -72,6 +72,11 @@ pub record Wrote (l : List ℕ) (i : ℕ) (vs : List ℕ) (want k′ : Counters)
   pub counts : k′ ≡ want
   pub wrote : l′ ≡ splice l i vs
 
+-- the same of two runs of bytes
+pub record WroteTwo (l : List ℕ) (i : ℕ) (vs : List ℕ) (j : ℕ) (ws : List ℕ) (want k′ : Counters) (l′ : List ℕ) : Type 0 where
+  pub counts : k′ ≡ want
+  pub wrote : l′ ≡ splice (splice l i vs) j ws
+
 -- nothing changed
 pub record TablesStay (k : Counters) (l : List ℕ) (k′ : Counters) (l′ : List ℕ) : Type 0 where
   pub counts : k′ ≡ k
@@ -102,7 +107,8 @@ pub record NumbersLabel (kind opener : ℕ) (k : Counters) (l : List ℕ) (r : L
 pub record NumbersString (text : List ℕ) (e : StringEntry) (k : Counters) (l : List ℕ) (r : PoolNumber) (l′ : List ℕ) : Type 0 where
   pub next : NextIn text (Ir.string-id e) k l (r .number) (r .counters) l′
   pub spent : Spent k (r .counters) (amount 0 0 0 1 0)
-  pub entry : Wrote l (strings .from * k .records + 8 * k .strings) (encodeString e) (moreStrings k) (r .counters) l′ ⊎ TablesStay k l (r .counters) l′
+  pub entry : WroteTwo l (strings .from * k .records + 8 * k .strings) (encodeString e) (stringDigests .from * k .records + 4 * k .strings) (encodeDigest e) (moreStrings k) (r .counters) l′
+      ⊎ TablesStay k l (r .counters) l′
 
 pub record NumbersFloat (e : FloatEntry) (k : Counters) (l : List ℕ) (r : PoolNumber) (l′ : List ℕ) : Type 0 where
   pub next : Next (Ir.float-id e) k l (r .number) (r .counters) l′

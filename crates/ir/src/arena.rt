@@ -8,3 +8,6 @@ pub const FUNCTIONS: usize = 164;
 pub const STRINGS: usize = 196;
 
 pub const FLOATS: usize = 204;
+
+// Behind the tables: the digests of the strings' texts.
+pub const STRING_DIGESTS: usize = 236;

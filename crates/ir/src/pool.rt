@@ -3,20 +3,23 @@ ghost use mathlib.Core.Path.{_≡_};
 ghost use mathlib.Core.List.{_++_};
 ghost use Prim.Native.Nat.{_+_, _*_, _≤_, _<_};
 ghost use lib.ListN.{length};
+ghost use Rattle.records.specs.Digest.{digestOf};
 ghost use Rattle.records.specs.Words.{textAt};
 ghost use Rattle.conversion.specs.Ir.{floatBits};
 ghost use Rattle.conversion.specs.Written.{word};
-ghost use Rattle.ir.specs.Arena.{strings, floats, Room};
+ghost use Rattle.ir.specs.Arena.{strings, floats, stringDigests, Room};
 ghost use Rattle.ir.specs.Floats.{entry, entryOfFloat};
-ghost use Rattle.ir.specs.Search.{first, foundOf, sameTextAt};
-ghost use Rattle.ir.specs.Steps.{stringAt, moreStrings, moreFloats, Wrote, NumbersString, NumbersFloat, Next};
+ghost use Rattle.ir.specs.Search.{first, foundOf, stringIs};
+ghost use Rattle.ir.specs.Steps.{stringAt, moreStrings, moreFloats, Wrote, WroteTwo, NumbersString, NumbersFloat, Next};
 use crate::arena::FLOATS;
+use crate::arena::STRING_DIGESTS;
 use crate::arena::STRINGS;
 use crate::floats::FloatBits;
 use crate::floats::entry_bits;
 use crate::search::find_four;
 use crate::structs::Counters;
 use records::texts::same_text;
+use records::texts::text_digest;
 use records::words::Found;
 use records::words::Four;
 use records::words::high;
@@ -25,6 +28,7 @@ use records::words::low;
 use records::words::mark;
 use records::words::put_four;
 use records::words::put_pair;
+use records::words::put_word;
 
 // An entry's number, and the counters that count it.
 pub struct PoolNumber {
@@ -32,23 +36,28 @@ pub struct PoolNumber {
     pub counters: Counters,
 }
 
-fn is_text(text: &[u8], s: &[u8], at: usize, j: usize, offset: u32, len: u32) -> bool
-    requires { ⌜ at + 8 * j + 8 ≤ length (now s) ⌝ }
-    ensures { λ r. ⌜ r ≡ sameTextAt (now (text .entry)) (now (s .entry)) at (textAt (now (text .entry)) offset len) j ⌝ }
+// Whether string j, of the tables of n records, has this digest and this text. Texts that differ mostly differ in their digests, so few are compared.
+fn is_text(text: &[u8], s: &[u8], n: usize, j: usize, d: u32, offset: u32, len: u32) -> bool
+    requires { ⌜ (j < n) × (240 * n ≤ length (now s)) ⌝ }
+    ensures { λ r. ⌜ r ≡ stringIs (now (text .entry)) (now (s .entry)) n d (textAt (now (text .entry)) offset len) j ⌝ }
 {
-    let x = load(s, at + 8 * j);
-    let y = load(s, at + 8 * j + 4);
+    if d != load(s, STRING_DIGESTS * n + 4 * j) {
+        return false;
+    }
+    let at = STRINGS * n + 8 * j;
+    let x = load(s, at);
+    let y = load(s, at + 4);
     same_text(text, offset, len, x, y)
 }
 
-// The first of `count` strings that is the text.
-fn find_text(text: &[u8], s: &[u8], at: usize, count: usize, offset: u32, len: u32) -> Found
-    requires { ⌜ at + 8 * count ≤ length (now s) ⌝ }
-    ensures { λ r. ⌜ r ≡ foundOf (first count (sameTextAt (now (text .entry)) (now (s .entry)) at (textAt (now (text .entry)) offset len)) 0) ⌝ }
+// The first of `count` strings that has the digest and the text.
+fn find_text(text: &[u8], s: &[u8], n: usize, count: usize, d: u32, offset: u32, len: u32) -> Found
+    requires { ⌜ (count ≤ n) × (240 * n ≤ length (now s)) ⌝ }
+    ensures { λ r. ⌜ r ≡ foundOf (first count (stringIs (now (text .entry)) (now (s .entry)) n d (textAt (now (text .entry)) offset len)) 0) ⌝ }
 {
     let mut j = 0;
     while j < count {
-        if is_text(text, s, at, j, offset, len) {
+        if is_text(text, s, n, j, d, offset, len) {
             return Found::At(j);
         }
         j += 1;
@@ -56,31 +65,34 @@ fn find_text(text: &[u8], s: &[u8], at: usize, count: usize, offset: u32, len: u
     Found::Nothing
 }
 
-fn add_string(arena: &mut [u8], k: Counters, offset: u32, len: u32) -> PoolNumber
+fn add_string(arena: &mut [u8], k: Counters, d: u32, offset: u32, len: u32) -> PoolNumber
     requires { ⌜ Room k (now arena) × (k .strings < k .records) ⌝ }
-    ensures { λ r. ⌜ (r .number ≡ k .strings) × Wrote (now (arena .entry)) (strings .from * k .records + 8 * k .strings) (word offset ++ word len) (moreStrings k) (r .counters) (now (arena .exit)) ⌝ }
+    ensures { λ r. ⌜ (r .number ≡ k .strings) × WroteTwo (now (arena .entry)) (strings .from * k .records + 8 * k .strings) (word offset ++ word len) (stringDigests .from * k .records + 4 * k .strings) (word d) (moreStrings k) (r .counters) (now (arena .exit)) ⌝ }
 {
     let v = k.strings;
     let mut next = k;
     next.strings = v + 1;
     put_pair(arena, STRINGS * k.records + 8 * v, offset, len);
+    put_word(arena, STRING_DIGESTS * k.records + 4 * v, d);
     PoolNumber {
         number: v as u32,
         counters: next,
     }
 }
 
-// The string with this text, its entry the place of its first use.
+// The string with this text, its entry the place of its first use. It is looked for by the digest of the text, so that long strings that share
+// most of their bytes are not compared with each other.
 pub fn string_id(text: &[u8], arena: &mut [u8], k: Counters, offset: u32, len: u32) -> PoolNumber
     requires { ⌜ Room k (now arena) × (k .strings < k .records) ⌝ }
     ensures { λ r. ⌜ NumbersString (now (text .entry)) (stringAt (now (text .entry)) offset len) k (now (arena .entry)) r (now (arena .exit)) ⌝ }
 {
-    match find_text(text, arena, STRINGS * k.records, k.strings, offset, len) {
+    let d = text_digest(text, offset, len);
+    match find_text(text, arena, k.records, k.strings, d, offset, len) {
         Found::At(i) => PoolNumber {
             number: i as u32,
             counters: k,
         },
-        Found::Nothing => add_string(arena, k, offset, len),
+        Found::Nothing => add_string(arena, k, d, offset, len),
     }
 }
 

@@ -1,4 +1,5 @@
 pub mod FunctionLaws
+pub mod KeyDigestLaws
 pub mod KeyLaws
 pub mod KeySearch
 pub mod PartLaws

@@ -10,7 +10,8 @@ use lib.ListN.{length, take, getD}
 use Rattle.laws.specs.Fix.{pick}
 use Rattle.laws.specs.Splice.{splice}
 use Rattle.records.specs.Words.{kindOf, wordAt, wordOf, word, records, A, B}
-use Rattle.records.specs.Layout.{keySlots}
+use Rattle.records.specs.Digest.{rollOf}
+use Rattle.records.specs.Layout.{keySlots, keyDigests}
 use Rattle.records.specs.Kinds.{kindFunction}
 use Rattle.records.specs.Good.{Good}
 use Rattle.syntax.specs.Syntax.{Text, Function}
@@ -93,12 +94,29 @@ abbrev pub keyEntered : List ℕ → List ℕ → ℕ → List ℕ → List ℕ
 keyEntered tree text f s = splice s (keySlotAt (records tree) (original tree text (keyRecord tree text f))) (word (f + 1))
 
 -- `get_all_functions` went well: a good tree whose keys are distinct, its texts numbered, its functions listed in scratch and entered by their keys
+pub record Mapped (tree text s : List ℕ) (count : ℕ) : Type 0 where
+  pub good : Good tree text
+  pub numbered : Numbered tree text s
+  pub distinct : get-all-functions (program tree text .functions) [] ≡ ok (allKeys tree text)
+  pub listed : Listed tree s count
+  pub slots : KeySlots tree text s (allKeys tree text)
+
+-- where the digest of the key of function j of the list stands in the scratch of n records
+abbrev pub keyDigestAt : ℕ → ℕ → ℕ
+keyDigestAt n j = keyDigests .from * n + keyDigests .each * j
+
+-- each of the first `count` functions of the list has the digest of its key there
+abbrev pub KeyDigests : List ℕ → List ℕ → List ℕ → ℕ → Type 0
+KeyDigests tree text s count = (j : ℕ) → j < count → wordAt s (keyDigestAt (records tree) j) ≡ rollOf (functionKey (functionOf tree text (wordAt s (4 * j))))
+
+-- and their keys' digests stand there too
 pub record Keyed (tree text s : List ℕ) (count : ℕ) : Type 0 where
   pub good : Good tree text
   pub numbered : Numbered tree text s
   pub distinct : get-all-functions (program tree text .functions) [] ≡ ok (allKeys tree text)
   pub listed : Listed tree s count
   pub slots : KeySlots tree text s (allKeys tree text)
+  pub digests : KeyDigests tree text s count
 
 -- ---- what a search answers
 

@@ -9,13 +9,16 @@ ghost use Rattle.conversion.specs.Expressions.{is-mangled};
 ghost use Rattle.syntax.specs.Places.{FunctionAt, functionOf, ParamsAt, paramsAt};
 ghost use Rattle.keys.specs.Parts.{PartIs};
 ghost use Rattle.texts.specs.Texts.{original as originalOf, Numbered};
-ghost use Rattle.keys.specs.Keys.{functionKey, Listed, keyRecord, keyEntered, FindsKey, FindsOwnKey};
+ghost use Rattle.keys.specs.Keys.{functionKey, Listed, Mapped, Keyed, keyRecord, keyEntered, keyDigestAt, FindsKey, FindsOwnKey};
 use crate::parts::Part;
 use crate::parts::is_main;
 use crate::parts::text_part;
 use records::chains::clear_run;
+use records::layout::KEY_DIGEST_BYTES;
+use records::layout::KEY_DIGESTS;
 use records::layout::KEY_SLOT_BYTES;
 use records::layout::KEY_SLOTS;
+use records::texts::roll;
 use records::words::Found;
 use records::words::WORD_A;
 use records::words::WORD_B;
@@ -163,4 +166,28 @@ pub fn find_own_key(tree: &[u8], text: &[u8], scratch: &[u8], f: usize) -> Found
     ensures { λ r. ⌜ FindsOwnKey (now (tree .entry)) (now (text .entry)) (now (scratch .entry)) f r ⌝ }
 {
     find_key(tree, text, scratch, key_number(tree, text, scratch, f))
+}
+
+// The digest of each function's key goes to the function's place, so that a key that is looked for by its digest is compared with few.
+pub fn digest_keys(tree: &[u8], text: &[u8], scratch: &mut [u8], count: usize)
+    requires { ⌜ Mapped (now tree) (now text) (now scratch) count ⌝ }
+    ensures { λ _. ⌜ Keyed (now (tree .entry)) (now (text .entry)) (now (scratch .exit)) count ⌝ }
+{
+    let n = tree.len() / 32;
+    let mut j = 0;
+    while j < count {
+        let f = function_at(tree, scratch, count, j);
+        let key = key_of(tree, text, f);
+        let d = roll(text, 1, key.0, key.1);
+        put_word(scratch, KEY_DIGESTS * n + KEY_DIGEST_BYTES * j, d);
+        j += 1;
+    }
+}
+
+// The digest of the key of the j-th of the listed functions, as it stands in the scratch of n records.
+pub fn key_digest(scratch: &[u8], n: usize, j: usize) -> u32
+    requires { ⌜ keyDigestAt n j + 4 ≤ length (now scratch) ⌝ }
+    ensures { λ d. ⌜ d ≡ wordAt (now (scratch .entry)) (keyDigestAt n j) ⌝ }
+{
+    load(scratch, KEY_DIGESTS * n + KEY_DIGEST_BYTES * j)
 }

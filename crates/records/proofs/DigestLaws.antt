@@ -74,6 +74,11 @@ digest-none t o n x r e z d = d ∙ ap digestOf (empty (textAt t o n) (sym z ∙
 pub digest-taken : (t : List ℕ) (o n x r : ℕ) → x ≡ length (textAt t o n) → r ≡ digestOf (textAt t o x) → r ≡ digestOf (textAt t o n)
 digest-taken t o n x r e d = d ∙ ap digestOf (text-taken t o n x e)
 
+-- a digest has 32 bits
+pub digest-small : (t : List ℕ) → digestOf t < 4294967296
+unfolding digestOf digestEnd
+digest-small t = omega arith
+
 pub four-done : (a b c d x y r : ℕ) → x ≡ digestStep 1 a b → y ≡ digestStep x c d → r ≡ digestEnd y → r ≡ digestFour a b c d
 unfolding digestFour
 four-done a b c d x y r ex ey er = er ∙ ap digestEnd (ey ∙ ap (λ (h : ℕ). digestStep h c d) ex)

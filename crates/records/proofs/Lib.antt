@@ -7,6 +7,7 @@ pub mod GoodLaws
 pub mod KindsInOrder
 pub mod LayoutFits
 pub mod ListLaws
+pub mod RollLaws
 pub mod RuleLaws
 pub mod ShapeCases
 pub mod ShapeTable

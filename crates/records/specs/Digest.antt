@@ -1,7 +1,7 @@
 -- Digests of texts and of types: 32 bits by which texts that differ are mostly told apart before they are compared. Only that equal
 -- texts have equal digests is relied on. Assumes nothing: these are definitions.
 use Prim.Native.Nat.{ℕ, zero, suc, _+_, _*_, _/_, _%_}
-use mathlib.Core.List.{List}
+use mathlib.Core.List.{List, [], _∷_}
 use lib.Dec.{eqb}
 use lib.ListN.{length}
 use Rattle.laws.specs.Fix.{pick}
@@ -35,6 +35,29 @@ digestBytes t k (suc j) = digestStep (digestBytes t k j) (byteAt t (8 * k + j)) 
 unfoldable pub digestOf : List ℕ → ℕ
 unfolding digestEnd digestBytes
 digestOf t = digestEnd (digestBytes t (length t / 8) (length t % 8))
+
+-- ---- a digest that goes on: that of a text with another behind it is found from that of the first
+
+-- a byte more: a text is a number to the base 256, modulo 2^32 - 5, which is prime; 2 has the order 2^32 - 6 there, so that a byte counts otherwise at each place
+unfoldable pub rollStep : ℕ → ℕ → ℕ
+rollStep h b = (h * 256 + b) % 4294967291
+
+-- from h on, over the bytes of a text
+unfoldable pub rollFrom : ℕ → List ℕ → ℕ
+unfolding rollStep
+rollFrom h [] = h
+rollFrom h (b ∷ t) = rollFrom (rollStep h b) t
+
+-- of a text from its first byte on
+abbrev pub rollOf : List ℕ → ℕ
+rollOf t = rollFrom 1 t
+
+-- four bytes as a number, the first the highest
+unfoldable pub highFirst : List ℕ → ℕ → ℕ
+unfolding byteAt
+highFirst l i = byteAt l i * 16777216 + byteAt l (i + 1) * 65536 + byteAt l (i + 2) * 256 + byteAt l (i + 3)
+
+-- ---- four words, and types
 
 -- the digest of four words
 unfoldable pub digestFour : ℕ → ℕ → ℕ → ℕ → ℕ

@@ -35,9 +35,13 @@ originals = record { from = 40; each = 4 }
 abbrev pub keySlots : Region
 keySlots = record { from = 44; each = 4 }
 
+-- the digests of the functions' keys, in the functions' order, a word each (`rollOf` in `specs/Digest.antt`)
+abbrev pub keyDigests : Region
+keyDigests = record { from = 48; each = 4 }
+
 -- left for later
 abbrev pub unused : Region
-unused = record { from = 48; each = 16 }
+unused = record { from = 52; each = 12 }
 
 -- for each expression the turn in which its type was worked out: a word at the slot of its record
 abbrev pub turns : Region
@@ -48,7 +52,7 @@ abbrev pub visited : Region
 visited = record { from = 68; each = 4 }
 
 abbrev pub layout : List Region
-layout = judging ∷ exprTypes ∷ openNames ∷ operands ∷ originals ∷ keySlots ∷ unused ∷ turns ∷ visited ∷ []
+layout = judging ∷ exprTypes ∷ openNames ∷ operands ∷ originals ∷ keySlots ∷ keyDigests ∷ unused ∷ turns ∷ visited ∷ []
 
 -- document 02, point 9: 'Scratch grows to 72n bytes'
 abbrev pub scratchEach : ℕ

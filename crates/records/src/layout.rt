@@ -25,6 +25,11 @@ pub const KEY_SLOTS: usize = 44;
 
 pub const KEY_SLOT_BYTES: usize = 4;
 
+// The digests of the functions' keys.
+pub const KEY_DIGESTS: usize = 48;
+
+pub const KEY_DIGEST_BYTES: usize = 4;
+
 // The turns in which the types of expressions were worked out, a word each.
 pub const TURNS: usize = 64;
 

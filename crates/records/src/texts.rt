@@ -1,9 +1,9 @@
 // Texts compared, by their places in the text buffer.
 ghost use mathlib.Core.Path.{_≡_};
-ghost use Prim.Native.Nat.{_+_, _≤_, _<_};
+ghost use Prim.Native.Nat.{_+_, _*_, _%_, _≤_, _<_};
 ghost use lib.ListN.{length};
 ghost use Rattle.records.specs.Words.{textAt, sameText};
-ghost use Rattle.records.specs.Digest.{digestStep, digestEnd, digestOf, digestFour};
+ghost use Rattle.records.specs.Digest.{digestStep, digestEnd, digestOf, digestFour, highFirst, rollStep, rollFrom};
 use crate::words::load;
 use crate::words::wide;
 
@@ -253,4 +253,64 @@ pub fn word_digest(a: u32, b: u32, c: u32, d: u32) -> u32
     ensures { λ r. ⌜ r ≡ digestFour a b c d ⌝ }
 {
     finish(step(step(1, a, b), c, d))
+}
+
+// Four bytes as a number, the first the highest: one load, and its bytes turned round.
+fn high_first(text: &[u8], i: usize) -> u64
+    requires { ⌜ i + 4 ≤ length (now text) ⌝ }
+    ensures { λ r. ⌜ (r ≡ highFirst (now (text .entry)) i) × (r < 4294967296) ⌝ }
+{
+    let a = wide(text[i]) * 16777216 + wide(text[i + 1]) * 65536;
+    let b = wide(text[i + 2]) * 256 + wide(text[i + 3]);
+    (a + b) as u64
+}
+
+// Eight bytes as such a number, short of a multiple of 2^32 - 5: modulo that 2^32 is 5, and 2^64 is 25.
+fn eight_digits(text: &[u8], i: usize) -> u64
+    requires { ⌜ i + 8 ≤ length (now text) ⌝ }
+    ensures { λ r. ⌜ (r ≡ highFirst (now (text .entry)) i * 5 + highFirst (now (text .entry)) (i + 4)) × (r < 25769803776) ⌝ }
+{
+    high_first(text, i) * 5 + high_first(text, i + 4)
+}
+
+// The upper half is added to the lower five times, which keeps the remainder by 2^32 - 5.
+fn turned(x: u64) -> u64
+    requires { ⌜ x < 17592186044416 ⌝ }
+    ensures { λ r. ⌜ (r % 4294967291 ≡ x % 4294967291) × (r < 8589934592) ⌝ }
+{
+    x % 4294967296 + x / 4294967296 * 5
+}
+
+// From x on, over sixteen bytes, in one product that waits for the one before.
+fn roll_sixteen(text: &[u8], x: u64, i: usize) -> u64
+    requires { ⌜ (i + 16 ≤ length (now text)) × (x < 8589934592) ⌝ }
+    ensures { λ r. ⌜ (r % 4294967291 ≡ rollFrom (x % 4294967291) (textAt (now (text .entry)) i 16)) × (r < 8589934592) ⌝ }
+{
+    turned(x * 625 + eight_digits(text, i) * 25 + eight_digits(text, i + 8))
+}
+
+// A byte more.
+pub fn roll_byte(d: u32, b: u8) -> u32
+    requires { ⌜ d < 4294967291 ⌝ }
+    ensures { λ r. ⌜ (r ≡ rollStep d b) × (r < 4294967291) ⌝ }
+{
+    (((d as u64) * 256 + (b as u64)) % 4294967291) as u32
+}
+
+// From digest d on, over the n bytes from `at` on: by sixteens, and the rest singly.
+pub fn roll(text: &[u8], d: u32, at: usize, n: usize) -> u32
+    requires { ⌜ (at + n ≤ length (now text)) × (d < 4294967291) ⌝ }
+    ensures { λ r. ⌜ (r ≡ rollFrom d (textAt (now (text .entry)) at n)) × (r < 4294967291) ⌝ }
+{
+    let mut x = d as u64;
+    let mut i = 0;
+    while n - i >= 16 {
+        x = roll_sixteen(text, x, at + i);
+        i += 16;
+    }
+    while i < n {
+        x = turned(x * 256 + wide(text[at + i]) as u64);
+        i += 1;
+    }
+    (x % 4294967291) as u32
 }

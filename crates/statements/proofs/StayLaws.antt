@@ -18,7 +18,8 @@ use Rattle.scope.specs.declared.Scope.{Scope}
 use Rattle.scope.specs.Open.{scopeAt}
 use Rattle.records.proofs.Apart.{byte-apart, word-same}
 use Rattle.scope.proofs.ScopeLaws.{Kept, scope-kept}
-use Rattle.keys.specs.Keys.{Listed, keySlotAt, Keyed}
+use Rattle.keys.specs.Keys.{Listed, keySlotAt, keyDigestAt, Keyed}
+use Rattle.keys.proofs.KeyDigestLaws.{digests-stay}
 use Rattle.keys.proofs.SlotLaws.{slots-stay}
 use Rattle.texts.specs.Texts.{originalAt}
 use Rattle.expressions.specs.Slots.{originalWord, Frame, Scoped, Ready}
@@ -159,6 +160,9 @@ module _ (tree : List ℕ) {s s′ : List ℕ} {names operands : ℕ} (f : Stays
       listed = λ j q. listed-word (4 * j) (omega (arith, r .listed .counted, records-most tree (records tree))) ∙ r .listed .listed j q;
     };
     slots = slots-stay tree text s s′ (λ o h. byte-word (keySlotAt (records tree) o) (λ j q e k. f .behind q (omega arith) (omega arith))) _ (r .slots);
+    digests =
+        digests-stay tree text s s′ count (λ j q. listed-word (4 * j) (omega (arith, r .listed .counted, records-most tree (records tree))))
+        (λ j h. byte-word (keyDigestAt (records tree) j) (λ i q e k. f .behind q (omega arith) (omega arith))) (r .digests);
   }
 
   pub ready-stays : (text : List ℕ) (count : ℕ) (sc : Scope) → sc .names ≤ names → Ready tree text s count sc → Ready tree text s′ count sc

@@ -4,15 +4,19 @@ use borrow.Author.Needs.{needs}
 use Rattle.converter.proofs.AllLaws.{forgets-keyed, forgets-turns, keys-done, listed-room, tree-unkeyed, tree-mainless, tree-all, room-numbered, tree-numbered}
 use Rattle.converter.proofs.convert_tree.Statement.{statement}
 use Rattle.converter.proofs.convert_tree.Tie as tie
+use Rattle.converter.proofs.convert_tree.Reads as reads
+use Rattle.converter.proofs.convert_tree.Lts as lts
+use Rattle.converter.proofs.convert_all.Reads as convert-all-reads
+use Rattle.functions.proofs.functions.check_main.Reads as check-main-reads
+use Rattle.functions.proofs.functions.get_all_functions.Reads as get-all-functions-reads
+use Rattle.keys.proofs.keys.digest_keys.Reads as digest-keys-reads
+use Rattle.texts.proofs.number_texts.Reads as number-texts-reads
 
 number-texts-requires : tie.Need-number-texts-requires
-number-texts-requires c κs = (c .before .before .before .before .before .pre .0, c .before .before .before .before .before .pre .2)
+number-texts-requires c κs = search needs
 
 get-all-functions-requires : tie.Need-get-all-functions-requires
-get-all-functions-requires c κs =
-    let number = c .before .before .before in
-    let first = number .before .before .before .before .before .before in
-    ((first .pre .0, number .number-texts .ensures .0), room-numbered (number .number-texts .ensures .1) (first .pre .2))
+get-all-functions-requires c κs = search needs
 
 enum-known-e : tie.Need-enum-known-e
 enum-known-e c = search needs
@@ -21,15 +25,16 @@ enum-known-count : tie.Need-enum-known-count
 enum-known-count c = search needs
 
 check-main-requires : tie.Need-check-main-requires
-check-main-requires c κs =
-    let all = c .before .before .before .before .before .before in
-    (all .before .before .before .before .before .before .before .before .before .before .pre .0, keys-done _ _ _ _ _ (all .get-all-functions .ensures) _ (c .before .before .count .given .1) .listed)
+check-main-requires c κs = (c .before .before .before .before .before .before .before .before .before .before .before .before .before .before .before .before .pre .0, keys-done _ _ _ _ _ (c .before .before .before .before .before .before .get-all-functions .ensures) _ (c .before .before .count .given .1) .listed)
 
 enum-known-e-2 : tie.Need-enum-known-e-2
 enum-known-e-2 c = search needs
 
 enum-told : tie.Need-enum-told
 enum-told c = search needs
+
+digest-keys-requires : tie.Need-digest-keys-requires
+digest-keys-requires c κs = keys-done _ _ _ _ _ (c .before .before .before .before .before .before .before .before .before .before .get-all-functions .ensures) _ (c .before .before .before .before .before .before .count .given .1)
 
 forget-requires : tie.Need-forget-requires
 forget-requires c κs =
@@ -52,22 +57,14 @@ same-length c = search needs
 
 returns : tie.Need-returns
 returns c =
-    let all = c .before .before .before .before .before in
-    let number = all .before .before .before .before .number-texts .ensures .1 in
-    let first = all .before .before .before .before .before .before .before .before .before .before in
-    tree-numbered number (tree-unkeyed _ _ _ _ _ (all .get-all-functions .ensures) (first .pre .0) (room-numbered number (first .pre .2)) _ _ _ (c .before .e .given .1))
+    tree-numbered (c .before .before .before .before .before .before .before .before .before .number-texts .ensures .1) (tree-unkeyed _ _ _ _ _ (c .before .before .before .before .before .get-all-functions .ensures) (c .before .before .before .before .before .before .before .before .before .before .before .before .before .before .before .pre .0) (room-numbered (c .before .before .before .before .before .before .before .before .before .number-texts .ensures .1) (c .before .before .before .before .before .before .before .before .before .before .before .before .before .before .before .pre .2)) _ _ _ (c .before .e .given .1))
 
 same-length-2 : tie.Need-same-length-2
 same-length-2 c = search needs
 
 returns-2 : tie.Need-returns-2
 returns-2 c =
-    let main = c .before .before .before in
-    let known = main .before .before .before in
-    let all = known .before .before .before .before in
-    let number = all .before .before .before .before .number-texts .ensures .1 in
-    let first = all .before .before .before .before .before .before .before .before .before .before in
-    tree-numbered number (tree-mainless _ _ _ _ _ (all .get-all-functions .ensures) (first .pre .0) (room-numbered number (first .pre .2)) _ _ (known .count .given .1) _ (main .check-main .ensures) _ _ (c .before .e2 .given .1))
+    tree-numbered (c .before .before .before .before .before .before .before .before .before .before .before .before .before .before .number-texts .ensures .1) (tree-mainless _ _ _ _ _ (c .before .before .before .before .before .before .before .before .before .before .get-all-functions .ensures) (c .before .before .before .before .before .before .before .before .before .before .before .before .before .before .before .before .before .before .before .before .pre .0) (room-numbered (c .before .before .before .before .before .before .before .before .before .before .before .before .before .before .number-texts .ensures .1) (c .before .before .before .before .before .before .before .before .before .before .before .before .before .before .before .before .before .before .before .before .pre .2)) _ _ (c .before .before .before .before .before .before .count .given .1) _ (c .before .before .before .check-main .ensures) _ _ (c .before .e2 .given .1))
 
 same-length-3 : tie.Need-same-length-3
 same-length-3 c = search needs
@@ -99,6 +96,7 @@ convert-tree-spec =
     check-main-requires
     enum-known-e-2
     enum-told
+    digest-keys-requires
     forget-requires
     convert-all-requires
     same-length

@@ -4,7 +4,7 @@ use mathlib.Core.Path.{_≡_, sym, _∙_}
 use Prim.Native.Nat.{_≤_, _-_}
 use native.Mathlib.Omega.{arith}
 use borrow.Author.Needs.{needs}
-use Rattle.ir.specs.Search.{first, sameTextAt}
+use Rattle.ir.specs.Search.{stringIs}
 use Rattle.ir.proofs.SearchLaws.{Left, left-start, left-more, left-hit, left-end}
 use Rattle.records.specs.Words.{textAt}
 use Rattle.ir.proofs.pool.find_text.Statement.{statement}
@@ -14,10 +14,10 @@ use Rattle.ir.proofs.pool.find_text.Lts as lts
 use Rattle.ir.proofs.pool.is_text.Reads as is-text-reads
 
 abbrev Inv-loop : tie.InvT-loop
-Inv-loop text s at count offset len j₀ j = (j ≤ count) × Left count (sameTextAt text s at (textAt text offset len)) j
+Inv-loop text s n count d offset len j₀ j = (j ≤ count) × Left count (stringIs text s n d (textAt text offset len)) j
 
 abbrev μ-loop : tie.MeasureT-loop
-μ-loop text s at count offset len j₀ j = count - j
+μ-loop text s n count d offset len j₀ j = count - j
 
 -- src/pool.rt:45:5
 loop-holds : tie.Need-loop-holds Inv-loop μ-loop
