@@ -36,7 +36,7 @@ const ALL: &[usize] = &[8];
 const SOME: &[usize] = &[1, 2, 3, 4, 6];
 const HIGH: &[usize] = &[1, 20, 48];
 
-pub const ATTACKS: [Attack; 22] = [
+pub const ATTACKS: [Attack; 23] = [
     Attack {
         name: "customs",
         what: "Customs with overlapping names",
@@ -92,6 +92,14 @@ pub const ATTACKS: [Attack; 22] = [
         shares: SOME,
         depths: HIGH,
         tree: joined_keys,
+    },
+    Attack {
+        name: "prefixes",
+        what: "functions whose keys are nearly the verb with `$...`, and calls without arguments, typed again at each level above them",
+        texts: true,
+        shares: SOME,
+        depths: HIGH,
+        tree: prefixes,
     },
     Attack {
         name: "nested-calls",
@@ -273,6 +281,16 @@ impl Hostile {
         text.push(MARK);
         text.resize(base + before + 1 + behind, b'a');
         Windows { base: base as u32, before: before as u32 }
+    }
+
+    /// Text up to `bytes` in all, for so many windows of `$...$...` with a mark, four bytes further each; the first of them.
+    fn marked(&mut self, bytes: usize, count: usize) -> Text {
+        let text = &mut self.layout.text;
+        let base = text.len();
+        let long = (bytes.saturating_sub(base + 4 * count) / 4 * 4).max(4 * count + 16);
+        text.extend(b"$...".iter().cycle().take(long + 4 * count));
+        text[base + long - 6] = MARK;
+        (base as u32, long as u32)
     }
 
     /// A short text of its own.
@@ -534,6 +552,18 @@ fn joined_keys(knobs: Knobs) -> Hostile {
         let arg = tree.push(TYPE_ARGUMENT, 0, &[ty]);
         tree.call(windows.at(0), &[arg])
     })
+}
+
+/// Each window is a key, and the verb is the first without its last four bytes.
+fn prefixes(knobs: Knobs) -> Hostile {
+    let mut tree = Hostile::new();
+    let count = tree.room() * knobs.share / 8 / 3;
+    let (base, long) = tree.marked(knobs.text, count + 1);
+    called(&mut tree, count, &[], |at| {
+        let start = base + 4 * at as u32;
+        ((start, long - 4), (start, long))
+    });
+    tree.tower((knobs.depth, ADD), 1, move |tree| tree.call((base, long - 4), &[]))
 }
 
 fn nested_calls(knobs: Knobs) -> Hostile {

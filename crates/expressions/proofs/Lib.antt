@@ -8,6 +8,7 @@ pub mod NameDigest
 pub mod NameLaws
 pub mod OperandLaws
 pub mod OriginalLaws
+pub mod PrefixLaws
 pub mod SlotLaws
 pub mod SuffixLaws
 pub mod TakeLaws
