@@ -39,16 +39,16 @@ keySlots = record { from = 44; each = 4 }
 abbrev pub keyDigests : Region
 keyDigests = record { from = 48; each = 4 }
 
--- left for later
-abbrev pub unused : Region
-unused = record { from = 52; each = 4 }
+-- the digests of the texts: for each record that has a text `rollOf` of it, a word at the record's slot
+abbrev pub textDigests : Region
+textDigests = record { from = 52; each = 4 }
 
 -- for a later mark at each expression (whether it was typed, and its type)
 abbrev pub typedOnce : Region
 typedOnce = record { from = 56; each = 8 }
 
 abbrev pub layout : List Region
-layout = judging ∷ argumentTypes ∷ openNames ∷ operands ∷ originals ∷ keySlots ∷ keyDigests ∷ unused ∷ typedOnce ∷ []
+layout = judging ∷ argumentTypes ∷ openNames ∷ operands ∷ originals ∷ keySlots ∷ keyDigests ∷ textDigests ∷ typedOnce ∷ []
 
 -- 'scratch 64n'
 abbrev pub scratchEach : ℕ

@@ -29,3 +29,8 @@ pub const KEY_SLOT_BYTES: usize = 4;
 pub const KEY_DIGESTS: usize = 48;
 
 pub const KEY_DIGEST_BYTES: usize = 4;
+
+// The digests of the texts.
+pub const TEXT_DIGESTS: usize = 52;
+
+pub const TEXT_DIGEST_BYTES: usize = 4;

@@ -1,4 +1,4 @@
--- The records are taken in rising order. The invariant: those passed are entered and have their numbers, and the bytes that the contract names stay.
+-- The records are taken in rising order. The invariant: those passed are entered and have their numbers and digests, and the bytes that the contract names stay.
 -- By the laws of the pass at each turn; the measure is what is left of the records. Assumes nothing.
 use Prim.Native.Nat.{_≤_, _-_}
 use native.Mathlib.Omega.{arith}
@@ -52,7 +52,7 @@ same-length c = c .before .loop .inv .2 .long ∙ c .before .before .before .bef
 returns : tie.Need-returns Inv-loop μ-loop
 returns c =
     let inv = c .before .loop .inv in
-    (λ k h t. inv .1 .numbered k (omega arith) t, kept-on _ _ _ _ (kept-heads _ _ _ (c .before .before .before .before .clear-heads .ensures)) (inv .2))
+    (record { number = λ k h t. inv .1 .numbered k (omega arith) t; digest = λ k h t. inv .1 .rolled k (omega arith) t }, kept-on _ _ _ _ (kept-heads _ _ _ (c .before .before .before .before .clear-heads .ensures)) (inv .2))
 
 pub number-texts-spec : {M : Type 1} → statement M
 number-texts-spec =
