@@ -1,6 +1,7 @@
--- A record is passed over, or entered with its text's number written.
+-- A record is passed over, or entered with its text's number and digest written.
 -- By the laws of the pass, over what the calls ensure. Assumes nothing.
-use Rattle.texts.proofs.PassLaws.{passed-over, taken, kept-all, own-told, digest-told, bucket-told, head-told}
+use Rattle.texts.proofs.PassLaws.{passed-over, taken, kept-all, own-told, roll-told, digest-told, bucket-told, head-told}
+use native.Mathlib.Omega.{arith}
 use borrow.Author.Needs.{needs}
 use borrow.Author.Tests.{not-true, not-false}
 use Rattle.texts.proofs.take_record.Statement.{statement}
@@ -9,7 +10,8 @@ use Rattle.texts.proofs.take_record.Reads as reads
 use Rattle.texts.proofs.take_record.Lts as lts
 use Rattle.records.proofs.chains.bucket.Reads as bucket-reads
 use Rattle.records.proofs.chains.enter.Reads as enter-reads
-use Rattle.records.proofs.texts.text_digest.Reads as text-digest-reads
+use Rattle.records.proofs.texts.roll_digest.Reads as roll-digest-reads
+use Rattle.records.proofs.texts.text_roll.Reads as text-roll-reads
 use Rattle.records.proofs.words.kind.Reads as kind-reads
 use Rattle.records.proofs.words.load.Reads as load-reads
 use Rattle.records.proofs.words.put_word.Reads as put-word-reads
@@ -33,8 +35,11 @@ word-requires c κs = search needs
 word-requires-2 : tie.Need-word-requires-2
 word-requires-2 c κs = search needs
 
-text-digest-requires : tie.Need-text-digest-requires
-text-digest-requires c κs = search needs
+text-roll-requires : tie.Need-text-roll-requires
+text-roll-requires c κs = search needs
+
+roll-digest-requires : tie.Need-roll-digest-requires
+roll-digest-requires c κs = search needs
 
 bucket-requires : tie.Need-bucket-requires
 bucket-requires c κs = search needs
@@ -47,9 +52,10 @@ load-requires c κs = search needs
 
 find-original-requires : tie.Need-find-original-requires
 find-original-requires c κs =
-    let start = c .before .before .before .before .before .before .before .before .before .before .before .before .before in
-    let has = own-told _ _ _ _ _ (c .before .before .before .before .before .before .before .before .before .kind .ensures) (c .before .before .before .before .before .before .before .before .has-text .ensures) (not-false _ (c .before .before .before .before .before .before .before .if1 .left)) in
-    let digest = digest-told _ _ _ _ _ _ (c .before .before .before .before .before .before .word .ensures) (c .before .before .before .before .before .word2 .ensures) (c .before .before .before .before .text-digest .ensures) in
+    let start = c .before .before .before .before .before .before .before .before .before .before .before .before .before .before in
+    let has = own-told _ _ _ _ _ (c .before .before .before .before .before .before .before .before .before .before .kind .ensures) (c .before .before .before .before .before .before .before .before .before .has-text .ensures) (not-false _ (c .before .before .before .before .before .before .before .before .if1 .left)) in
+    let rolled = roll-told _ _ _ _ _ _ (c .before .before .before .before .before .before .before .word .ensures) (c .before .before .before .before .before .before .word2 .ensures) (c .before .before .before .before .before .text-roll .ensures .0) in
+    let digest = digest-told _ _ _ _ _ rolled (c .before .before .before .before .roll-digest .ensures) in
     let bucket = c .before .before .before .bucket .ensures in
     let head = c .before .load .ensures in
     (start .pre .0, ((start .pre .1 .0, has, start .pre .1 .1), (digest, head-told _ _ _ _ _ has digest (bucket .0) _ _ (start .pre .1 .1) (bucket .1) head)))
@@ -69,20 +75,31 @@ add-put-word c = search needs
 put-word-requires : tie.Need-put-word-requires
 put-word-requires c κs = search needs
 
+mul-put-word-3 : tie.Need-mul-put-word-3
+mul-put-word-3 c = omega (arith, c .before .before .before .before .before .before .before .before .before .before .before .before .before .before .before .before .before .before .before .before .before .before .before .before .pre .0 .0 .few)
+
+mul-put-word-4 : tie.Need-mul-put-word-4
+mul-put-word-4 c = omega (arith, c .before .before .before .before .before .before .before .before .before .before .before .before .before .before .before .before .before .before .before .before .before .before .before .before .pre .0 .0 .few, c .before .before .before .before .before .before .before .before .before .before .before .before .before .before .before .before .before .before .before .before .before .before .before .before .pre .1 .0)
+
+add-put-word-2 : tie.Need-add-put-word-2
+add-put-word-2 c = omega (arith, c .before .before .before .before .before .before .before .before .before .before .before .before .before .before .before .before .before .before .before .before .before .before .before .before .pre .0 .0 .few, c .before .before .before .before .before .before .before .before .before .before .before .before .before .before .before .before .before .before .before .before .before .before .before .before .pre .1 .0)
+
+put-word-requires-2 : tie.Need-put-word-requires-2
+put-word-requires-2 c κs = omega (arith, c .before .before .before .before .before .before .scratch .given, c .before .before .scratch2 .given, c .before .before .before .before .before .before .before .before .before .before .before .before .before .before .before .before .before .before .before .before .before .before .before .before .pre .0 .1, c .before .before .before .before .before .before .before .before .before .before .before .before .before .before .before .before .before .before .before .before .before .before .before .before .pre .1 .0)
+
 same-length : tie.Need-same-length
 same-length c = search needs
 
 returns-2 : tie.Need-returns-2
 returns-2 c =
-    let start = c .before .before .before .before .before .before .before .before .before .before .before .before .before .before .before .before .before .before .before .before .before .before in
-    let has = own-told _ _ _ _ _ (c .before .before .before .before .before .before .before .before .before .before .before .before .before .before .before .before .before .before .kind .ensures) (c .before .before .before .before .before .before .before .before .before .before .before .before .before .before .before .before .before .has-text .ensures) (not-false _ (c .before .before .before .before .before .before .before .before .before .before .before .before .before .before .before .before .if1 .left)) in
-    let digest = digest-told _ _ _ _ _ _ (c .before .before .before .before .before .before .before .before .before .before .before .before .before .before .before .word .ensures) (c .before .before .before .before .before .before .before .before .before .before .before .before .before .before .word2 .ensures) (c .before .before .before .before .before .before .before .before .before .before .before .before .before .text-digest .ensures) in
-    let bucket = c .before .before .before .before .before .before .before .before .before .before .before .before .bucket .ensures in
-    let head = c .before .before .before .before .before .before .before .before .before .before .load .ensures in
-    let number = c .before .before .before .before .before .before .before .before .find-original .ensures in
-    let is-entered = c .before .before .before .before .before .before .enter .ensures in
-    let is-written = c .before .before .put-word .ensures in
-    taken _ _ _ _ _ _ _ _ (start .pre .0 .0 .few) (start .pre .0 .1) (start .pre .1 .0) (bucket .1) (search needs) (search needs) _ _ is-entered is-written (start .pre .1 .1) has digest (bucket-told _ _ _ _ _ has digest (bucket .0)) head number
+    let start = c .before .before .before .before .before .before .before .before .before .before .before .before .before .before .before .before .before .before .before .before .before .before .before .before .before .before .before in
+    let has = own-told _ _ _ _ _ (c .before .before .before .before .before .before .before .before .before .before .before .before .before .before .before .before .before .before .before .before .before .before .before .kind .ensures) (c .before .before .before .before .before .before .before .before .before .before .before .before .before .before .before .before .before .before .before .before .before .before .has-text .ensures) (not-false _ (c .before .before .before .before .before .before .before .before .before .before .before .before .before .before .before .before .before .before .before .before .before .if1 .left)) in
+    let rolled = roll-told _ _ _ _ _ _ (c .before .before .before .before .before .before .before .before .before .before .before .before .before .before .before .before .before .before .before .before .word .ensures) (c .before .before .before .before .before .before .before .before .before .before .before .before .before .before .before .before .before .before .before .word2 .ensures) (c .before .before .before .before .before .before .before .before .before .before .before .before .before .before .before .before .before .before .text-roll .ensures .0) in
+    let digest = digest-told _ _ _ _ _ rolled (c .before .before .before .before .before .before .before .before .before .before .before .before .before .before .before .before .before .roll-digest .ensures) in
+    let bucket = c .before .before .before .before .before .before .before .before .before .before .before .before .before .before .before .before .bucket .ensures in
+    let head = c .before .before .before .before .before .before .before .before .before .before .before .before .before .before .load .ensures in
+    let number = c .before .before .before .before .before .before .before .before .before .before .before .before .find-original .ensures in
+    taken _ _ _ _ _ _ _ _ _ (start .pre .0 .0 .few) (start .pre .0 .1) (start .pre .1 .0) (bucket .1) (search needs) (search needs) _ _ _ (c .before .before .before .before .before .before .before .before .before .before .enter .ensures) (c .before .before .before .before .before .before .put-word .ensures) (c .before .before .put-word2 .ensures) (start .pre .1 .1) has rolled (search needs) digest (bucket-told _ _ _ _ _ has digest (bucket .0)) head number
 
 pub take-record-spec : {M : Type 1} → statement M
 take-record-spec =
@@ -93,7 +110,8 @@ take-record-spec =
     returns
     word-requires
     word-requires-2
-    text-digest-requires
+    text-roll-requires
+    roll-digest-requires
     bucket-requires
     mul-load
     load-requires
@@ -103,5 +121,9 @@ take-record-spec =
     mul-put-word-2
     add-put-word
     put-word-requires
+    mul-put-word-3
+    mul-put-word-4
+    add-put-word-2
+    put-word-requires-2
     same-length
     returns-2)
