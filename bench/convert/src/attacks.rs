@@ -455,35 +455,19 @@ fn functions(knobs: Knobs) -> Hostile {
     tree
 }
 
-/// What the library's digest makes of two words more (`records/src/texts.rt`: `step`).
-fn digest_step(state: u64, low: u64, high: u64) -> u64 {
-    folded(state * 663_608_941 + low + high * 1_013_904_223)
+/// The prime by which the library's digest takes a text's remainder (`records/specs/Digest.antt`: `rollStep`).
+const DIGEST_PRIME: u64 = 4_294_967_291;
+
+/// From a digest on, over the bytes of a text.
+fn digest_from(digest: u64, text: &[u8]) -> u64 {
+    text.iter().fold(digest, |digest, byte| (digest * 256 + u64::from(*byte)) % DIGEST_PRIME)
 }
 
-fn folded(sum: u64) -> u64 {
-    (sum & 0xFFFF_FFFF) + (sum >> 32)
-}
-
-/// What the steps leave of a text of whole eights.
-fn digest_state(text: &[u8]) -> u64 {
-    text.chunks_exact(8).fold(1, |state, eight| {
-        let [low, high] =
-            [0, 4].map(|at| (0..4).rev().fold(0, |word, k| word << 8 | u64::from(eight[at + k])));
-        digest_step(state, low, high)
-    })
-}
-
-fn digest_end(state: u64) -> u32 {
-    folded(state * 1_481_765_933) as u32
-}
-
-/// The eight bytes that bring a digest back to `wanted`: the steps add modulo 2^32 - 1, so that nearly every upper word has its lower.
-fn ending(state: u64, wanted: u64) -> [u8; 8] {
-    const MODULUS: u64 = 0xFFFF_FFFF;
-    let lower = |high: u64| (wanted % MODULUS + MODULUS - digest_step(state, 0, high) % MODULUS) % MODULUS;
-    let reached = |high: &u64| digest_end(digest_step(state, lower(*high), *high)) == digest_end(wanted);
-    let high = (1..).find(reached).expect("one of the first few");
-    (lower(high) | high << 32).to_le_bytes()
+/// The eight bytes that bring a digest back to `wanted`: the upper four are 1, the lower four what is missing.
+fn ending(digest: u64, wanted: u64) -> [u8; 8] {
+    let upper = 1 << 32;
+    let missing = wanted + DIGEST_PRIME - digest_from(digest, &u64::to_be_bytes(upper));
+    (upper + missing % DIGEST_PRIME).to_be_bytes()
 }
 
 impl Hostile {
@@ -493,10 +477,10 @@ impl Hostile {
         let base = text.len();
         let long = (bytes - base - 8 * count) / 8 * 8;
         text.resize(base + long, MARK);
-        let wanted = digest_state(&text[base..]);
+        let wanted = digest_from(1, &text[base..]);
         for at in 1..count {
-            let state = digest_state(&text[base + 8 * at..]);
-            text.extend(ending(state, wanted));
+            let digest = digest_from(1, &text[base + 8 * at..]);
+            text.extend(ending(digest, wanted));
         }
         (base as u32, long as u32)
     }

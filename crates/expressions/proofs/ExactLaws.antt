@@ -18,12 +18,14 @@ use Rattle.conversion.specs.Ir.{sameText}
 use Rattle.conversion.specs.Expressions.{is-mangled, takes-args, getFunction, filterOption, suffixes, joined, mangledFunction, variadicFunction, find-exact-function}
 use Rattle.records.specs.declared.words.Found.{Found}
 use Rattle.records.specs.declared.words.Found.the-variants as Found
+use Rattle.records.proofs.RollLaws.{roll-small}
 use Rattle.records.proofs.TextLaws.{other-lengths}
 use Rattle.keys.specs.declared.parts.Part.{Part}
 use Rattle.expressions.specs.declared.arguments.Call.{Call}
 use Rattle.syntax.specs.Places.{FunctionAt, functionOf}
 use Rattle.keys.specs.Parts.{PartIs}
-use Rattle.texts.proofs.TextLaws.{original-below}
+use Rattle.texts.specs.Texts.{textDigestAt, Numbered}
+use Rattle.texts.proofs.TextLaws.{original-below, original-digest}
 use Rattle.keys.specs.Keys.{functionKey, keyed, allKeys, Keyed, keyDigestAt, FindsKey, functionFound, FunctionFound, FunctionIs, a-function, no-function}
 use Rattle.expressions.specs.Calls.{typedAt, suffixesAt, verbOf, nameOf, bytesIn, Called}
 use Rattle.keys.proofs.FunctionLaws.{found-function}
@@ -116,6 +118,16 @@ module _ (tree text : List ℕ) (t : Text) where
 module _ (tree text s : List ℕ) (c : Call) (h : Called tree text s c) where
   pub verb-below : c .verb < records tree
   verb-below = rw (h .numbered .number) (original-below tree text (h .numbered .of) (h .numbered .below) (h .numbered .has-text))
+
+  pub verb-inside : textDigestAt (records tree) (c .verb) + 4 ≤ length s
+  verb-inside = omega (arith, verb-below, h .argued .room)
+
+  pub verb-digest : Numbered tree text s → (d : ℕ) → d ≡ wordAt s (textDigestAt (records tree) (c .verb)) → (d ≡ rollOf (verbOf tree text s c)) × (d < 4294967291)
+  verb-digest numbered d e =
+      let q = h .numbered in
+      let z : d ≡ rollOf (verbOf tree text s c) =
+      e ∙ ap (λ (o : ℕ). wordAt s (textDigestAt (records tree) o)) (q .number) ∙ original-digest tree text s numbered (q .of) (q .below) (q .has-text) ∙ ap rollOf (q .text-is) in
+      (z, rw z (roll-small 1 (verbOf tree text s c) (omega arith)))
 
   pub verb-found : (count : ℕ) → Keyed tree text s count → (v : Found) → FindsKey tree text s (c .verb) v → FunctionIs tree text v (getFunction (verbOf tree text s c) (allKeys tree text))
   verb-found count K v finds =

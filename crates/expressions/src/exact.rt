@@ -11,8 +11,9 @@ ghost use Rattle.records.specs.Good.{Good};
 ghost use Rattle.conversion.specs.Ir.{sameText};
 ghost use Rattle.conversion.specs.Expressions.{is-mangled, filterOption, variadicMark};
 ghost use Rattle.syntax.specs.Places.{FunctionAt, functionOf};
+ghost use Rattle.texts.specs.Texts.{Numbered};
 ghost use Rattle.keys.specs.Keys.{Keyed, FunctionIs};
-ghost use Rattle.expressions.specs.Calls.{suffixesAt, nameOf, bytesIn, Argued, Called, suffixText, byName, byFullName, byMarked, laterOf, byPrefix, exactly};
+ghost use Rattle.expressions.specs.Calls.{suffixesAt, verbOf, nameOf, bytesIn, Argued, Called, suffixText, byName, byFullName, byMarked, laterOf, byPrefix, exactly};
 use crate::arguments::Call;
 use crate::arguments::END;
 use crate::arguments::argument_type;
@@ -30,6 +31,7 @@ use records::texts::roll;
 use records::texts::roll_byte;
 use records::texts::same_part;
 use records::words::Found;
+use texts::kept_digest;
 
 const DOLLAR: u8 = 36;
 
@@ -138,12 +140,20 @@ fn mangled_only(tree: &[u8], text: &[u8], f: usize) -> Found
     Found::Nothing
 }
 
+// The verb's digest, which stands in scratch at the slot of its number.
+fn verb_digest(tree: &[u8], text: &[u8], scratch: &[u8], call: Call) -> u32
+    requires { ⌜ Called (now tree) (now text) (now scratch) call × Numbered (now tree) (now text) (now scratch) ⌝ }
+    ensures { λ d. ⌜ (d ≡ rollOf (verbOf (now (tree .entry)) (now (text .entry)) (now (scratch .entry)) call)) × (d < 4294967291) ⌝ }
+{
+    kept_digest(scratch, tree.len() / 32, call.verb)
+}
+
 // The digest of the verb with all suffixes, which goes on from the verb's.
 fn full_digest(tree: &[u8], text: &[u8], scratch: &[u8], call: Call) -> u32
-    requires { ⌜ Called (now tree) (now text) (now scratch) call ⌝ }
+    requires { ⌜ Called (now tree) (now text) (now scratch) call × Numbered (now tree) (now text) (now scratch) ⌝ }
     ensures { λ d. ⌜ d ≡ rollOf (nameOf (now (tree .entry)) (now (text .entry)) (now (scratch .entry)) call (call .count)) ⌝ }
 {
-    let mut d = roll(text, 1, call.offset, call.len);
+    let mut d = verb_digest(tree, text, scratch, call);
     let mut cell = call.first;
     while cell != END {
         let key = type_key(tree, text, argument_type(tree, text, scratch, cell));
@@ -286,7 +296,7 @@ fn by_prefix(tree: &[u8], text: &[u8], scratch: &[u8], functions: usize, call: C
     ensures { λ r. ⌜ FunctionIs (now (tree .entry)) (now (text .entry)) r (byPrefix (now (tree .entry)) (now (text .entry)) (now (scratch .entry)) call) ⌝ }
 {
     let mut best = Found::Nothing;
-    let mut digest = roll(text, 1, call.offset, call.len);
+    let mut digest = verb_digest(tree, text, scratch, call);
     let mut size = call.len;
     let mut cell = call.first;
     let mut k = 0;

@@ -15,6 +15,7 @@ use Rattle.expressions.proofs.arguments.type_key.Reads as type-key-read
 use Rattle.expressions.proofs.exact.by_marked.Reads as by-marked-reads
 use Rattle.expressions.proofs.exact.later.Reads as later-reads
 use Rattle.expressions.proofs.exact.marked_digest.Reads as marked-digest-reads
+use Rattle.expressions.proofs.exact.verb_digest.Reads as verb-digest-reads
 use Rattle.records.proofs.texts.roll.Reads as roll-reads
 use Rattle.records.proofs.texts.roll_byte.Reads as roll-byte-reads
 
@@ -24,84 +25,65 @@ Inv-loop tree text scratch functions call best₀ digest₀ size₀ cell₀ k₀
 abbrev μ-loop : tie.MeasureT-loop
 μ-loop tree text scratch functions call best₀ digest₀ size₀ cell₀ k₀ best digest size cell k = left cell
 
--- src/exact.rt:289:9
-roll-requires : tie.Need-roll-requires Inv-loop μ-loop
-roll-requires c κs = (c .before .before .before .pre .1 .inside, omega arith)
+verb-digest-requires : tie.Need-verb-digest-requires Inv-loop μ-loop
+verb-digest-requires c κs = (@Start .pre .1, @Start .pre .0 .numbered)
 
--- src/exact.rt:293:5
 loop-holds : tie.Need-loop-holds Inv-loop μ-loop
-loop-holds c = prefix-start _ _ _ _ (c .before .before .before .before .pre .1) _ (c .roll .ensures)
+loop-holds c = prefix-start _ _ _ _ (c .before .before .before .before .pre .1) _ (@verb-digest .ensures)
 
--- src/exact.rt:294:13
 marked-digest-requires : tie.Need-marked-digest-requires Inv-loop μ-loop
 marked-digest-requires c κs = c .before .loop .inv .small
 
--- src/exact.rt:295:13
 by-marked-requires : tie.Need-by-marked-requires Inv-loop μ-loop
 by-marked-requires c κs = (c .before .before .before .before .before .before .before .pre .0, (c .before .before .before .before .before .before .before .pre .1, (c .before .before .loop .inv .number, c .before .before .loop .inv .sized, prefix-marked _ _ _ _ (c .before .before .before .before .before .before .before .pre .1) _ _ _ _ _ (c .before .before .loop .inv) _ (c .marked-digest .ensures))))
 
--- src/exact.rt:296:9
 later-requires : tie.Need-later-requires Inv-loop μ-loop
 later-requires c κs = search needs
 
--- src/exact.rt:297:40
 argument-type-requires : tie.Need-argument-type-requires Inv-loop μ-loop
 argument-type-requires c κs = (c .before .before .before .before .loop .inv .argued, c .before .before .before .loop-test .taken)
 
--- src/exact.rt:297:13
 type-key-requires : tie.Need-type-key-requires Inv-loop μ-loop
 type-key-requires c κs = (c .before .before .before .before .before .loop .inv .argued .good, c .argument-type .ensures .1)
 
--- src/exact.rt:298:29
 roll-byte-requires : tie.Need-roll-byte-requires Inv-loop μ-loop
 roll-byte-requires c κs = c .before .before .before .before .before .before .loop .inv .small
 
--- src/exact.rt:298:9
-roll-requires-2 : tie.Need-roll-requires-2 Inv-loop μ-loop
-roll-requires-2 c κs = (c .before .type-key .ensures .inside, c .roll-byte .ensures .1)
+roll-requires : tie.Need-roll-requires Inv-loop μ-loop
+roll-requires c κs = (c .before .type-key .ensures .inside, c .roll-byte .ensures .1)
 
--- src/exact.rt:299:16
 add-size : tie.Need-add-size Inv-loop μ-loop
 add-size c = omega (arith, c .before .before .before .before .before .before .before .before .loop .inv .short)
 
--- src/exact.rt:299:16
 add-size-2 : tie.Need-add-size-2 Inv-loop μ-loop
 add-size-2 c = omega (arith, c .before .before .before .before .before .before .before .before .before .loop .inv .short, key-short _ _ _ _ (c .before .before .before .type-key .ensures) (λ i. omega (arith, c .before .before .before .before .before .before .before .before .before .before .before .before .before .shared-slice-known .given i)))
 
--- src/exact.rt:300:9
 next-cell-requires : tie.Need-next-cell-requires Inv-loop μ-loop
 next-cell-requires c κs =
     (c .before .before .before .before .before .before .before .before .before .loop .inv .argued .good, first-cell _ _ _ _ _ (c .before .before .before .before .before .before .before .before .before .loop .inv .argued) (c .before .before .before .before .before .before .before .before .loop-test .taken) (c .before .before .before .before .argument-type .ensures .0) .inside)
 
--- src/exact.rt:301:9
 add-k : tie.Need-add-k Inv-loop μ-loop
 add-k c = omega (arith, c .before .before .before .before .before .before .before .before .before .before .loop .inv .few, c .before .before .before .before .before .before .before .before .before .before .loop .inv .short)
 
--- src/exact.rt:293:5
 loop-less : tie.Need-loop-less Inv-loop μ-loop
 loop-less c =
     rw (c .next-cell .ensures) (first-cell _ _ _ _ _ (c .before .before .before .before .before .before .before .before .before .before .loop .inv .argued) (c .before .before .before .before .before .before .before .before .before .loop-test .taken) (c .before .before .before .before .before .argument-type .ensures .0) .falls)
 
--- src/exact.rt:293:5
 loop-again : tie.Need-loop-again Inv-loop μ-loop
 loop-again c =
     rw (c .next-cell .ensures, c .before .before .before .before .before .before .later .ensures)
     (prefix-more _ _ _ _ (c .before .before .before .before .before .before .before .before .before .before .before .before .before .before .before .pre .1) _ _ _ _ _ (c .before .before .before .before .before .before .before .before .before .before .loop .inv) _ (c .before .before .before .before .before .before .before .by-marked .ensures) _ _ (first-cell _ _ _ _ _ (c .before .before .before .before .before .before .before .before .before .before .loop .inv .argued) (c .before .before .before .before .before .before .before .before .before .loop-test .taken) (c .before .before .before .before .before .argument-type .ensures .0)) (c .before .before .before .before .type-key .ensures)
-    (key-short _ _ _ _ (c .before .before .before .before .type-key .ensures) (λ i. omega (arith, c .before .before .before .before .before .before .before .before .before .before .before .before .before .before .shared-slice-known .given i))) _ _ (c .before .before .before .roll-byte .ensures .0) (c .before .before .roll2 .ensures))
+    (key-short _ _ _ _ (c .before .before .before .before .type-key .ensures) (λ i. omega (arith, c .before .before .before .before .before .before .before .before .before .before .before .before .before .before .shared-slice-known .given i))) _ _ (c .before .before .before .roll-byte .ensures .0) (c .before .before .roll .ensures))
 
--- src/exact.rt:303:9
 marked-digest-requires-2 : tie.Need-marked-digest-requires-2 Inv-loop μ-loop
 marked-digest-requires-2 c κs = c .before .loop .inv .small
 
--- src/exact.rt:304:17
 by-marked-requires-2 : tie.Need-by-marked-requires-2 Inv-loop μ-loop
 by-marked-requires-2 c κs = (c .before .before .before .before .before .before .before .pre .0, (c .before .before .before .before .before .before .before .pre .1, (c .before .before .loop .inv .number, c .before .before .loop .inv .sized, prefix-marked _ _ _ _ (c .before .before .before .before .before .before .before .pre .1) _ _ _ _ _ (c .before .before .loop .inv) _ (c .marked-digest2 .ensures))))
 
--- src/exact.rt:304:5
 later-requires-2 : tie.Need-later-requires-2 Inv-loop μ-loop
 later-requires-2 c κs = search needs
 
--- src/exact.rt:283:1
 returns : tie.Need-returns Inv-loop μ-loop
 returns c = rw (c .later2 .ensures) (prefix-end _ _ _ _ (c .before .before .before .before .before .before .before .before .before .pre .1) _ _ _ _ _ (c .before .before .before .before .loop .inv) _ (c .before .by-marked2 .ensures) (c .before .before .before .loop-test .left))
 
@@ -111,7 +93,7 @@ by-prefix-spec =
     (tie.spec
     Inv-loop
     μ-loop
-    roll-requires
+    verb-digest-requires
     loop-holds
     marked-digest-requires
     by-marked-requires
@@ -119,7 +101,7 @@ by-prefix-spec =
     argument-type-requires
     type-key-requires
     roll-byte-requires
-    roll-requires-2
+    roll-requires
     add-size
     add-size-2
     next-cell-requires
