@@ -119,8 +119,8 @@ module _ (tree text s : List ℕ) (c : Call) (h : Called tree text s c) where
   pub verb-below : c .verb < records tree
   verb-below = rw (h .numbered .number) (original-below tree text (h .numbered .of) (h .numbered .below) (h .numbered .has-text))
 
-  pub verb-inside : textDigestAt (records tree) (c .verb) + 4 ≤ length s
-  verb-inside = omega (arith, verb-below, h .argued .room)
+  pub verb-slot-inside : textDigestAt (records tree) (c .verb) + 4 ≤ length s
+  verb-slot-inside = omega (arith, verb-below, h .argued .room)
 
   pub verb-digest : Numbered tree text s → (d : ℕ) → d ≡ wordAt s (textDigestAt (records tree) (c .verb)) → (d ≡ rollOf (verbOf tree text s c)) × (d < 4294967291)
   verb-digest numbered d e =

@@ -145,7 +145,8 @@ fn verb_digest(tree: &[u8], text: &[u8], scratch: &[u8], call: Call) -> u32
     requires { ⌜ Called (now tree) (now text) (now scratch) call × Numbered (now tree) (now text) (now scratch) ⌝ }
     ensures { λ d. ⌜ (d ≡ rollOf (verbOf (now (tree .entry)) (now (text .entry)) (now (scratch .entry)) call)) × (d < 4294967291) ⌝ }
 {
-    kept_digest(scratch, tree.len() / 32, call.verb)
+    let n = tree.len() / 32;
+    kept_digest(scratch, n, call.verb)
 }
 
 // The digest of the verb with all suffixes, which goes on from the verb's.

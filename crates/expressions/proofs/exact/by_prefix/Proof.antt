@@ -26,10 +26,10 @@ abbrev μ-loop : tie.MeasureT-loop
 μ-loop tree text scratch functions call best₀ digest₀ size₀ cell₀ k₀ best digest size cell k = left cell
 
 verb-digest-requires : tie.Need-verb-digest-requires Inv-loop μ-loop
-verb-digest-requires c κs = (@Start .pre .1, @Start .pre .0 .numbered)
+verb-digest-requires c κs = (c .before .before .before .pre .1, c .before .before .before .pre .0 .numbered)
 
 loop-holds : tie.Need-loop-holds Inv-loop μ-loop
-loop-holds c = prefix-start _ _ _ _ (c .before .before .before .before .pre .1) _ (@verb-digest .ensures)
+loop-holds c = prefix-start _ _ _ _ (c .before .before .before .before .pre .1) _ (c .verb-digest .ensures)
 
 marked-digest-requires : tie.Need-marked-digest-requires Inv-loop μ-loop
 marked-digest-requires c κs = c .before .loop .inv .small

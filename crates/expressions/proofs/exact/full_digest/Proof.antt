@@ -22,10 +22,10 @@ abbrev μ-loop : tie.MeasureT-loop
 μ-loop tree text scratch d₀ cell₀ d cell = left cell
 
 verb-digest-requires : tie.Need-verb-digest-requires Inv-loop μ-loop
-verb-digest-requires c κs = @Start .pre
+verb-digest-requires c κs = c .before .before .before .pre
 
 loop-holds : tie.Need-loop-holds Inv-loop μ-loop
-loop-holds c = rolled-start _ _ _ _ _ (@Start .pre .0 .argued) (@verb-digest .ensures .1)
+loop-holds c = rolled-start _ _ _ _ _ (c .before .before .before .before .pre .0 .argued) (c .verb-digest .ensures .1)
 
 argument-type-requires : tie.Need-argument-type-requires Inv-loop μ-loop
 argument-type-requires c κs = (c .before .loop .inv .argued, c .loop-test .taken)
@@ -53,7 +53,7 @@ loop-again c =
     (rolled-more _ _ _ _ _ _ _ (c .before .before .before .before .before .before .loop .inv) _ _ (first-cell _ _ _ _ _ (c .before .before .before .before .before .before .loop .inv .argued) (c .before .before .before .before .before .loop-test .taken) (c .before .before .before .before .argument-type .ensures .0)) (c .before .before .before .type-key .ensures) _ (c .before .before .roll-byte .ensures .0) _ (c .before .roll .ensures))
 
 returns : tie.Need-returns Inv-loop μ-loop
-returns c = rolled-end _ _ _ _ _ _ _ (@loop .inv) (@loop-test .left) _ (@Start .pre .0) refl (@verb-digest .ensures .0)
+returns c = rolled-end _ _ _ _ _ _ _ (c .before .loop .inv) (c .loop-test .left) _ (c .before .before .before .before .before .before .pre .0) refl (c .before .before .verb-digest .ensures .0)
 
 pub full-digest-spec : {M : Type 1} → statement M
 full-digest-spec =
