@@ -12,73 +12,79 @@ use Rattle.functions.proofs.functions.get_all_functions.Reads as get-all-functi
 use Rattle.keys.proofs.keys.digest_keys.Reads as digest-keys-reads
 use Rattle.texts.proofs.number_texts.Reads as number-texts-reads
 
--- src/lib.rt:113:5
 number-texts-requires : tie.Need-number-texts-requires
 number-texts-requires c κs = search needs
 
--- src/lib.rt:114:11
 get-all-functions-requires : tie.Need-get-all-functions-requires
 get-all-functions-requires c κs = search needs
 
--- src/lib.rt:115:31
 enum-known-e : tie.Need-enum-known-e
 enum-known-e c = search needs
 
--- src/lib.rt:116:28
 enum-known-count : tie.Need-enum-known-count
 enum-known-count c = search needs
 
--- src/lib.rt:117:19
 check-main-requires : tie.Need-check-main-requires
-check-main-requires c κs = (c .before .before .before .before .before .before .before .before .before .before .before .before .before .before .before .before .pre .0, keys-done _ _ _ _ _ (c .before .before .before .before .before .before .get-all-functions .ensures) _ (c .before .before .count .given .1) .listed)
+check-main-requires c κs =
+    let start = c .before .before .before .before .before .before .before .before .before .before .before .before .before .before .before .before in
+    let listing = c .before .before .before .before .before .before in
+    (start .pre .0, keys-done _ _ _ _ _ (listing .get-all-functions .ensures) _ (c .before .before .count .given .1) .listed)
 
--- src/lib.rt:118:34
 enum-known-e-2 : tie.Need-enum-known-e-2
 enum-known-e-2 c = search needs
 
--- src/lib.rt:120:45
 enum-told : tie.Need-enum-told
 enum-told c = search needs
 
--- src/lib.rt:120:21
 digest-keys-requires : tie.Need-digest-keys-requires
-digest-keys-requires c κs = keys-done _ _ _ _ _ (c .before .before .before .before .before .before .before .before .before .before .get-all-functions .ensures) _ (c .before .before .before .before .before .before .count .given .1)
+digest-keys-requires c κs =
+    let listing = c .before .before .before .before .before .before .before .before .before .before in
+    keys-done _ _ _ _ _ (listing .get-all-functions .ensures) _ (c .before .before .before .before .before .before .count .given .1)
 
--- src/lib.rt:121:21
 convert-all-requires : tie.Need-convert-all-requires
 convert-all-requires c κs = search needs
 
--- src/lib.rt:103:1
 same-length : tie.Need-same-length
 same-length c = search needs
 
--- src/lib.rt:103:1
 returns : tie.Need-returns
 returns c =
-    tree-numbered (c .before .before .before .before .before .before .before .before .before .number-texts .ensures .1) (tree-unkeyed _ _ _ _ _ (c .before .before .before .before .before .get-all-functions .ensures) (c .before .before .before .before .before .before .before .before .before .before .before .before .before .before .before .pre .0) (room-numbered (c .before .before .before .before .before .before .before .before .before .number-texts .ensures .1) (c .before .before .before .before .before .before .before .before .before .before .before .before .before .before .before .pre .2)) _ _ _ (c .before .e .given .1))
+    let start = c .before .before .before .before .before .before .before .before .before .before .before .before .before .before .before in
+    let numbered = c .before .before .before .before .before .before .before .before .before .number-texts .ensures .1 in
+    let listing = c .before .before .before .before .before in
+    tree-numbered numbered
+    (tree-unkeyed _ _ _ _ _ (listing .get-all-functions .ensures) (start .pre .0) (room-numbered numbered (start .pre .2)) _ _ _ (c .before .e .given .1))
 
--- src/lib.rt:103:1
 same-length-2 : tie.Need-same-length-2
 same-length-2 c = search needs
 
--- src/lib.rt:103:1
 returns-2 : tie.Need-returns-2
 returns-2 c =
-    tree-numbered (c .before .before .before .before .before .before .before .before .before .before .before .before .before .before .number-texts .ensures .1) (tree-mainless _ _ _ _ _ (c .before .before .before .before .before .before .before .before .before .before .get-all-functions .ensures) (c .before .before .before .before .before .before .before .before .before .before .before .before .before .before .before .before .before .before .before .before .pre .0) (room-numbered (c .before .before .before .before .before .before .before .before .before .before .before .before .before .before .number-texts .ensures .1) (c .before .before .before .before .before .before .before .before .before .before .before .before .before .before .before .before .before .before .before .before .pre .2)) _ _ (c .before .before .before .before .before .before .count .given .1) _ (c .before .before .before .check-main .ensures) _ _ (c .before .e2 .given .1))
+    let start = c .before .before .before .before .before .before .before .before .before .before .before .before .before .before .before .before .before .before .before .before in
+    let numbered = c .before .before .before .before .before .before .before .before .before .before .before .before .before .before .number-texts .ensures .1 in
+    let listing = c .before .before .before .before .before .before .before .before .before .before in
+    let checking = c .before .before .before in
+    tree-numbered numbered
+    (tree-mainless _ _ _ _ _ (listing .get-all-functions .ensures) (start .pre .0) (room-numbered numbered (start .pre .2)) _ _ (c .before .before .before .before .before .before .count .given .1) _ (checking .check-main .ensures) _ _ (c .before .e2 .given .1))
 
--- src/lib.rt:103:1
 same-length-3 : tie.Need-same-length-3
 same-length-3 c = search needs
 
--- src/lib.rt:103:1
 same-length-4 : tie.Need-same-length-4
 same-length-4 c = search needs
 
--- src/lib.rt:103:1
 returns-3 : tie.Need-returns-3
 returns-3 c =
-    tree-numbered (c .before .before .before .before .before .before .before .before .before .before .before .before .before .before .before .before .before .before .before .before .before .before .before .before .number-texts .ensures .1) (tree-all _ _ _ _ _ (c .before .before .before .before .before .before .before .before .before .before .before .before .before .before .before .before .before .before .before .before .get-all-functions .ensures) (c .before .before .before .before .before .before .before .before .before .before .before .before .before .before .before .before .before .before .before .before .before .before .before .before .before .before .before .before .before .before .pre .0) (room-numbered (c .before .before .before .before .before .before .before .before .before .before .before .before .before .before .before .before .before .before .before .before .before .before .before .before .number-texts .ensures .1) (c .before .before .before .before .before .before .before .before .before .before .before .before .before .before .before .before .before .before .before .before .before .before .before .before .before .before .before .before .before .before .pre .2)) _ _ (c .before .before .before .before .before .before .before .before .before .before .before .before .before .before .before .before .count .given .1) _ (c .before .before .before .before .before .before .before .before .before .before .before .before .before .check-main .ensures) (c .before .before .before .before .before .before .before .before .before .before .before .enum-told .given .1) _ _ _ _
-    (tree-longer (c .before .before .before .before .before .before .before .before .scratch3 .given) (c .before .before .before .before .convert-all .ensures)))
+    let start = c .before .before .before .before .before .before .before .before .before .before .before .before .before .before .before .before .before .before .before .before .before .before .before .before .before .before .before .before .before .before in
+    let numbered = c .before .before .before .before .before .before .before .before .before .before .before .before .before .before .before .before .before .before .before .before .before .before .before .before .number-texts .ensures .1 in
+    let listing = c .before .before .before .before .before .before .before .before .before .before .before .before .before .before .before .before .before .before .before .before in
+    let checking = c .before .before .before .before .before .before .before .before .before .before .before .before .before in
+    let told = c .before .before .before .before .before .before .before .before .before .before .before in
+    let digests = c .before .before .before .before .before .before .before .before in
+    let converting = c .before .before .before .before in
+    tree-numbered numbered
+    (tree-all _ _ _ _ _ (listing .get-all-functions .ensures) (start .pre .0) (room-numbered numbered (start .pre .2)) _ _ (c .before .before .before .before .before .before .before .before .before .before .before .before .before .before .before .before .count .given .1) _ (checking .check-main .ensures) (told .enum-told .given .1) _ _ _ _
+    (tree-longer (digests .scratch3 .given) (converting .convert-all .ensures)))
 
 pub convert-tree-spec : {M : Type 1} → statement M
 convert-tree-spec =
