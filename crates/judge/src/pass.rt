@@ -6,11 +6,11 @@ ghost use mathlib.Core.List.{List};
 ghost use Prim.Native.Nat.{ℕ, _+_, _*_, _≤_, _<_};
 ghost use lib.Dec.{ltb};
 ghost use lib.ListN.{length};
-ghost use Rattle.records.specs.Words.{mostRecords};
+ghost use Rattle.records.specs.Words.{records, mostRecords};
 ghost use Rattle.records.specs.Shapes.{rowAt, refers};
 ghost use Rattle.records.specs.Rules.{wordOk, recordOk};
 ghost use Rattle.records.specs.Depth.{depth as depthOf};
-ghost use Rattle.judge.specs.Inner.{Lowest, TypesLead, Known, Counting, Took, TookWords, WordsOf, TookRecord, TookAll, stored};
+ghost use Rattle.judge.specs.Inner.{Lowest, Passing, Known, Counting, Took, TookWords, WordsOf, TookRecord, TookAll, stored};
 use crate::equal::first_equal;
 use crate::nesting::depth_over;
 use crate::nesting::max;
@@ -154,15 +154,8 @@ fn put_known(known: &mut [u8], r: usize, class: u8, depth: u8, k: u8)
 }
 
 // Record r against every rule but two: that no two types are equal, and that it is referred to once.
-fn take_record(
-    tree: &[u8],
-    bytes: usize,
-    r: usize,
-    n: usize,
-    types: usize,
-    known: &mut [u8],
-) -> Told
-    requires { ⌜ (n * 32 ≡ length (now tree)) × (r < n) × (n ≤ mostRecords) × (64 * n ≤ length (now known)) × TypesLead (now tree) n types ⌝ }
+fn take_record(tree: &[u8], bytes: usize, r: usize, types: usize, known: &mut [u8]) -> Told
+    requires { ⌜ (r < records (now tree)) × Passing (now tree) (records (now tree)) types (now known) ⌝ }
     requires { ⌜ Known (now tree) r (now known) × Counting (now tree) r (now known) ⌝ }
     ensures { λ t. ⌜ TookRecord (now (tree .entry)) bytes r (now (known .entry)) (now (known .exit)) (t .ok) (t .depth) ⌝ }
 {
@@ -200,14 +193,14 @@ fn next_lowest(found: usize, r: usize, ok: bool) -> usize
 
 // All records.
 fn pass(tree: &[u8], bytes: usize, n: usize, types: usize, known: &mut [u8]) -> Lowests
-    requires { ⌜ (n * 32 ≡ length (now tree)) × (n ≤ mostRecords) × (64 * n ≤ length (now known)) × TypesLead (now tree) n types ⌝ }
+    requires { ⌜ Passing (now tree) n types (now known) ⌝ }
     ensures { λ v. ⌜ TookAll (now (tree .entry)) bytes n (now (known .entry)) (now (known .exit)) (v .fault) (v .deep) ⌝ }
 {
     let mut fault = 0;
     let mut deep = 0;
     let mut r = 0;
     while r < n {
-        let told = take_record(tree, bytes, r, n, types, known);
+        let told = take_record(tree, bytes, r, types, known);
         let ok = told.ok;
         let low = told.depth <= DEEPEST;
         fault = next_lowest(fault, r, ok);

@@ -16,7 +16,7 @@ first-equal-requires c κs =
 
 pass-requires : tie.Need-pass-requires
 pass-requires c κs =
-    (c .before .before .before .before .before .before .before .before .before .pre .0, c .before .before .before .before .before .before .before .before .before .pre .1, omega (arith, c .before .before .before .first-equal .ensures .1, c .before .before .before .before .before .before .before .before .before .pre .2), c .before .before .before .before .before .leading-types .ensures)
+    record { whole = c .before .before .before .before .before .before .before .before .before .pre .0; few = c .before .before .before .before .before .before .before .before .before .pre .1; room = omega (arith, c .before .before .before .first-equal .ensures .1, c .before .before .before .before .before .before .before .before .before .pre .2); lead = c .before .before .before .before .before .leading-types .ensures }
 
 lowest-miscounted-requires : tie.Need-lowest-miscounted-requires
 lowest-miscounted-requires c κs =
