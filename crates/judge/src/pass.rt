@@ -216,7 +216,7 @@ pub(crate) fn lowest_records(tree: &[u8], text: &[u8], n: usize, scratch: &mut [
     ensures { λ v. ⌜ Lowest n (λ k. not (recordOk (now (tree .entry)) (now (text .entry)) k)) (v .fault) × Lowest n (λ k. ltb 64 (depthOf (now (tree .entry)) k)) (v .deep) × (length (now (scratch .exit)) ≡ length (now (scratch .entry))) ⌝ }
 {
     let types = leading_types(tree, n);
-    let equal = first_equal(tree, text, n, types, scratch);
+    let equal = first_equal(tree, text, types, scratch);
     let passed = pass(tree, text.len(), n, types, scratch);
     let fault = passed.fault;
     let deep = passed.deep;

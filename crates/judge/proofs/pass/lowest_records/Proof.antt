@@ -4,6 +4,7 @@ use borrow.Author.Needs.{needs}
 use mathlib.Core.Path.{refl, _∙_}
 use native.Mathlib.Omega.{arith}
 use Rattle.judge.proofs.FaultLaws.{counts-told, lowest-equal, lowest-other, both-below, not-both}
+use Rattle.judge.proofs.RowLaws.{records-told}
 use Rattle.judge.proofs.pass.lowest_records.Statement.{statement}
 use Rattle.judge.proofs.pass.lowest_records.Tie as tie
 
@@ -12,7 +13,8 @@ leading-types-requires c κs = search needs
 
 first-equal-requires : tie.Need-first-equal-requires
 first-equal-requires c κs =
-    ((c .before .before .before .before .before .pre .0, c .before .before .before .before .before .pre .2, c .before .before .before .before .before .pre .1), c .before .leading-types .ensures)
+    let start = c .before .before .before .before .before in
+    rw (records-told (start .args .tree .now) (start .args .n) (start .pre .0)) (record { whole = start .pre .0; few = start .pre .1; room = start .pre .2; lead = c .before .leading-types .ensures })
 
 pass-requires : tie.Need-pass-requires
 pass-requires c κs =
