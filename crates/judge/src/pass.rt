@@ -128,7 +128,7 @@ fn take_words(tree: &[u8], bytes: usize, r: usize, row: Row, words: Words, known
     }
 }
 
-fn words_of(tree: &[u8], r: usize) -> Words
+fn five_words(tree: &[u8], r: usize) -> Words
     requires { ⌜ r * 32 + 32 ≤ length (now tree) ⌝ }
     ensures { λ v. ⌜ WordsOf (now (tree .entry)) r v ⌝ }
 {
@@ -162,7 +162,7 @@ fn take_record(tree: &[u8], bytes: usize, r: usize, types: usize, known: &mut [u
     let k = kind(tree, r);
     let found = detail(tree, r);
     let row = row_of(shape_of(k, found));
-    let words = words_of(tree, r);
+    let words = five_words(tree, r);
     let told = take_words(tree, bytes, r, row, words, known);
     let form = (pad(tree, r) == 0) & (found < row.limit) & told.ok;
     let marks = marks_ok(k, found, words.c, words.e);
@@ -213,7 +213,9 @@ fn pass(tree: &[u8], bytes: usize, n: usize, types: usize, known: &mut [u8]) -> 
 // The lowest record that breaks a rule, and the lowest that is too deep, each n where there is none.
 pub(crate) fn lowest_records(tree: &[u8], text: &[u8], n: usize, scratch: &mut [u8]) -> Lowests
     requires { ⌜ (n * 32 ≡ length (now tree)) × (n ≤ mostRecords) × (64 * n ≤ length (now scratch)) ⌝ }
-    ensures { λ v. ⌜ Lowest n (λ k. not (recordOk (now (tree .entry)) (now (text .entry)) k)) (v .fault) × Lowest n (λ k. ltb 64 (depthOf (now (tree .entry)) k)) (v .deep) × (length (now (scratch .exit)) ≡ length (now (scratch .entry))) ⌝ }
+    ensures { λ v. ⌜ Lowest n (λ k. not (recordOk (now (tree .entry)) (now (text .entry)) k)) (v .fault) ⌝ }
+    ensures { λ v. ⌜ Lowest n (λ k. ltb 64 (depthOf (now (tree .entry)) k)) (v .deep) ⌝ }
+    ensures { λ _. ⌜ length (now (scratch .exit)) ≡ length (now (scratch .entry)) ⌝ }
 {
     let types = leading_types(tree, n);
     let equal = first_equal(tree, text, types, scratch);

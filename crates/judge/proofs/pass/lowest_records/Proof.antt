@@ -31,7 +31,7 @@ same-length c =
 returns : tie.Need-returns
 returns c =
     let below = both-below (c .before .before .before .before .before .before .before .before .before .first-equal .result) (c .before .before .before .before .before .before .before .before .before .before .before .leading-types .result) (c .before .lowest-miscounted .result) (c .if1 .taken) in
-    (lowest-equal _ _ _ _ (c .before .before .before .before .before .before .before .before .before .before .before .before .before .before .before .pre .0) (c .before .before .before .before .before .before .before .before .before .before .before .before .before .before .before .pre .1) (c .before .before .before .before .before .pass .ensures .fault) (c .before .before .before .before .before .before .before .before .before .before .before .before .before .before .before .args .text .now) refl _ (c .before .before .before .before .before .before .before .before .before .before .before .leading-types .ensures) _ _ (c .before .lowest-miscounted .ensures) (c .before .before .before .before .before .before .before .before .before .first-equal .ensures .0) (below .0) (below .1), c .before .before .before .before .before .pass .ensures .deep, c .before .before .before .before .before .pass .ensures .same ∙ c .before .before .before .before .before .before .before .before .before .first-equal .ensures .1)
+    (lowest-equal _ _ _ _ (c .before .before .before .before .before .before .before .before .before .before .before .before .before .before .before .pre .0) (c .before .before .before .before .before .before .before .before .before .before .before .before .before .before .before .pre .1) (c .before .before .before .before .before .pass .ensures .fault) (c .before .before .before .before .before .before .before .before .before .before .before .before .before .before .before .args .text .now) refl _ (c .before .before .before .before .before .before .before .before .before .before .before .leading-types .ensures) _ _ (c .before .lowest-miscounted .ensures) (c .before .before .before .before .before .before .before .before .before .first-equal .ensures .0) (below .0) (below .1), (c .before .before .before .before .before .pass .ensures .deep, c .before .before .before .before .before .pass .ensures .same ∙ c .before .before .before .before .before .before .before .before .before .first-equal .ensures .1))
 
 same-length-2 : tie.Need-same-length-2
 same-length-2 c =
@@ -39,7 +39,7 @@ same-length-2 c =
 
 returns-2 : tie.Need-returns-2
 returns-2 c =
-    (lowest-other _ _ _ _ (c .before .before .before .before .before .before .before .before .before .before .before .before .before .before .before .pre .0) (c .before .before .before .before .before .before .before .before .before .before .before .before .before .before .before .pre .1) (c .before .before .before .before .before .pass .ensures .fault) (c .before .before .before .before .before .before .before .before .before .before .before .before .before .before .before .args .text .now) refl _ (c .before .before .before .before .before .before .before .before .before .before .before .leading-types .ensures) _ _ (c .before .lowest-miscounted .ensures) (c .before .before .before .before .before .before .before .before .before .first-equal .ensures .0) (not-both (c .before .before .before .before .before .before .before .before .before .first-equal .result) (c .before .before .before .before .before .before .before .before .before .before .before .leading-types .result) (c .before .lowest-miscounted .result) (c .if1 .left)), c .before .before .before .before .before .pass .ensures .deep, c .before .before .before .before .before .pass .ensures .same ∙ c .before .before .before .before .before .before .before .before .before .first-equal .ensures .1)
+    (lowest-other _ _ _ _ (c .before .before .before .before .before .before .before .before .before .before .before .before .before .before .before .pre .0) (c .before .before .before .before .before .before .before .before .before .before .before .before .before .before .before .pre .1) (c .before .before .before .before .before .pass .ensures .fault) (c .before .before .before .before .before .before .before .before .before .before .before .before .before .before .before .args .text .now) refl _ (c .before .before .before .before .before .before .before .before .before .before .before .leading-types .ensures) _ _ (c .before .lowest-miscounted .ensures) (c .before .before .before .before .before .before .before .before .before .first-equal .ensures .0) (not-both (c .before .before .before .before .before .before .before .before .before .first-equal .result) (c .before .before .before .before .before .before .before .before .before .before .before .leading-types .result) (c .before .lowest-miscounted .result) (c .if1 .left)), (c .before .before .before .before .before .pass .ensures .deep, c .before .before .before .before .before .pass .ensures .same ∙ c .before .before .before .before .before .before .before .before .before .first-equal .ensures .1))
 
 pub lowest-records-spec : {M : Type 1} → statement M
 lowest-records-spec =
