@@ -3,10 +3,10 @@
 use Rattle.texts.proofs.PassLaws.{passed-over, taken, kept-all, own-told, digest-told, bucket-told, head-told}
 use borrow.Author.Needs.{needs}
 use borrow.Author.Tests.{not-true, not-false}
-use Rattle.texts.proofs.take_record.Statement.{statement}
-use Rattle.texts.proofs.take_record.Tie as tie
-use Rattle.texts.proofs.take_record.Reads as reads
-use Rattle.texts.proofs.take_record.Lts as lts
+use Rattle.texts.proofs.number_record.Statement.{statement}
+use Rattle.texts.proofs.number_record.Tie as tie
+use Rattle.texts.proofs.number_record.Reads as reads
+use Rattle.texts.proofs.number_record.Lts as lts
 use Rattle.records.proofs.chains.bucket.Reads as bucket-reads
 use Rattle.records.proofs.chains.enter.Reads as enter-reads
 use Rattle.records.proofs.texts.text_digest.Reads as text-digest-reads
@@ -84,8 +84,8 @@ returns-2 c =
     let is-written = c .before .before .put-word .ensures in
     taken _ _ _ _ _ _ _ _ (start .pre .0 .0 .few) (start .pre .0 .1) (start .pre .1 .0) (bucket .1) (search needs) (search needs) _ _ is-entered is-written (start .pre .1 .1) has digest (bucket-told _ _ _ _ _ has digest (bucket .0)) head number
 
-pub take-record-spec : {M : Type 1} → statement M
-take-record-spec =
+pub number-record-spec : {M : Type 1} → statement M
+number-record-spec =
     tie.close
     (tie.spec
     kind-requires
