@@ -3,7 +3,7 @@
 use Prim.Native.Nat.{ℕ, _<_}
 use mathlib.Core.Path.{_≡_, sym}
 use native.Mathlib.Omega.{arith}
-use lib.ListN.{length, replicate, length-replicate}
+use lib.ListN.{length, getD, replicate, length-replicate}
 use lib.Seq.{length-take-le}
 use borrow.Author.Needs.{needs}
 use Rattle.convert_replay.proofs.replay_case.Statement.{statement}
@@ -37,43 +37,43 @@ shared-slice-read-byte : tie.Need-shared-slice-read-byte
 shared-slice-read-byte c = search needs
 
 slice-aggregate-lent-of : tie.Need-slice-aggregate-lent-of
-slice-aggregate-lent-of c = filled 655800 _
+slice-aggregate-lent-of c = filled 655800 (getD (c .before .before .before .before .before .before .args .head .now) 40 0)
 
 lent-of-requires : tie.Need-lent-of-requires
 lent-of-requires c κs = (c .before .before .before .before .before .before .pre, below-0)
 
 slice-aggregate-lent-of-2 : tie.Need-slice-aggregate-lent-of-2
-slice-aggregate-lent-of-2 c = filled 24700 _
+slice-aggregate-lent-of-2 c = filled 24700 (getD (c .before .before .before .before .before .before .before .before .args .head .now) 40 0)
 
 lent-of-requires-2 : tie.Need-lent-of-requires-2
 lent-of-requires-2 c κs = (c .before .before .before .before .before .before .before .before .pre, below-1)
 
 slice-aggregate-lent-of-3 : tie.Need-slice-aggregate-lent-of-3
-slice-aggregate-lent-of-3 c = filled 49300 _
+slice-aggregate-lent-of-3 c = filled 49300 (getD (c .before .before .before .before .before .before .before .before .before .before .args .head .now) 40 0)
 
 lent-of-requires-3 : tie.Need-lent-of-requires-3
 lent-of-requires-3 c κs = (c .before .before .before .before .before .before .before .before .before .before .pre, below-2)
 
 slice-aggregate-lent-of-4 : tie.Need-slice-aggregate-lent-of-4
-slice-aggregate-lent-of-4 c = filled 65700 _
+slice-aggregate-lent-of-4 c = filled 65700 (getD (c .before .before .before .before .before .before .before .before .before .before .before .before .args .head .now) 40 0)
 
 lent-of-requires-4 : tie.Need-lent-of-requires-4
 lent-of-requires-4 c κs = (c .before .before .before .before .before .before .before .before .before .before .before .before .pre, below-3)
 
 slice-aggregate-lent-of-5 : tie.Need-slice-aggregate-lent-of-5
-slice-aggregate-lent-of-5 c = filled 16500 _
+slice-aggregate-lent-of-5 c = filled 16500 (getD (c .before .before .before .before .before .before .before .before .before .before .before .before .before .before .args .head .now) 40 0)
 
 lent-of-requires-5 : tie.Need-lent-of-requires-5
 lent-of-requires-5 c κs = (c .before .before .before .before .before .before .before .before .before .before .before .before .before .before .pre, below-4)
 
 slice-aggregate-lent-of-6 : tie.Need-slice-aggregate-lent-of-6
-slice-aggregate-lent-of-6 c = filled 65700 _
+slice-aggregate-lent-of-6 c = filled 65700 (getD (c .before .before .before .before .before .before .before .before .before .before .before .before .before .before .before .before .args .head .now) 40 0)
 
 lent-of-requires-6 : tie.Need-lent-of-requires-6
 lent-of-requires-6 c κs = (c .before .before .before .before .before .before .before .before .before .before .before .before .before .before .before .before .pre, below-5)
 
 slice-aggregate-lent-of-7 : tie.Need-slice-aggregate-lent-of-7
-slice-aggregate-lent-of-7 c = filled 131300 _
+slice-aggregate-lent-of-7 c = filled 131300 (getD (c .before .before .before .before .before .before .before .before .before .before .before .before .before .before .before .before .before .before .args .head .now) 40 0)
 
 lent-of-requires-7 : tie.Need-lent-of-requires-7
 lent-of-requires-7 c κs = (c .before .before .before .before .before .before .before .before .before .before .before .before .before .before .before .before .before .before .pre, below-6)
