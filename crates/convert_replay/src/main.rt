@@ -30,7 +30,7 @@ const BODY_ROOM: usize = 400000;
 // No list has as many cases.
 const MOST_CASES: usize = 1000000;
 
-// What came of a step: whether it read a whole case, or else that the list ended, and whether the case came out the same.
+// What came of the next case: whether it was read whole, or else that the list ended, and whether it came out the same.
 struct Came {
     read: bool,
     ended: bool,
