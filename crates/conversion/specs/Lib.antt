@@ -8,3 +8,4 @@ pub mod Statements
 pub mod Functions
 pub mod Converter
 pub mod Written
+pub mod Fits

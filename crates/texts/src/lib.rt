@@ -81,7 +81,7 @@ fn find_original(tree: &[u8], text: &[u8], scratch: &[u8], r: usize, d: u32, hea
 
 // Record r: where it has a text, the text's number is found, the record goes before the others of its bucket, and the number is written, with the digest
 // that goes on, so that the text need not be read for a digest again.
-fn take_record(tree: &[u8], text: &[u8], r: usize, scratch: &mut [u8])
+fn number_record(tree: &[u8], text: &[u8], r: usize, scratch: &mut [u8])
     requires { ⌜ Good (now tree) (now text) × (64 * records (now tree) ≤ length (now scratch)) ⌝ }
     requires { ⌜ (r < records (now tree)) × Passed (now tree) (now text) r (now scratch) ⌝ }
     ensures { λ _. ⌜ Passed (now (tree .entry)) (now (text .entry)) (r + 1) (now (scratch .exit)) × Kept (records (now (tree .entry))) (now (scratch .entry)) (now (scratch .exit)) ⌝ }
@@ -109,7 +109,7 @@ pub fn number_texts(tree: &[u8], text: &[u8], scratch: &mut [u8])
     clear_heads(scratch, 4 * n);
     let mut r = 0;
     while r < n {
-        take_record(tree, text, r, scratch);
+        number_record(tree, text, r, scratch);
         r += 1;
     }
 }

@@ -4,10 +4,10 @@ use Rattle.texts.proofs.PassLaws.{passed-over, taken, kept-all, own-tol
 use native.Mathlib.Omega.{arith}
 use borrow.Author.Needs.{needs}
 use borrow.Author.Tests.{not-true, not-false}
-use Rattle.texts.proofs.take_record.Statement.{statement}
-use Rattle.texts.proofs.take_record.Tie as tie
-use Rattle.texts.proofs.take_record.Reads as reads
-use Rattle.texts.proofs.take_record.Lts as lts
+use Rattle.texts.proofs.number_record.Statement.{statement}
+use Rattle.texts.proofs.number_record.Tie as tie
+use Rattle.texts.proofs.number_record.Reads as reads
+use Rattle.texts.proofs.number_record.Lts as lts
 use Rattle.records.proofs.chains.bucket.Reads as bucket-reads
 use Rattle.records.proofs.chains.enter.Reads as enter-reads
 use Rattle.records.proofs.texts.roll_digest.Reads as roll-digest-reads
@@ -101,8 +101,8 @@ returns-2 c =
     let number = c .before .before .before .before .before .before .before .before .before .before .before .before .find-original .ensures in
     taken _ _ _ _ _ _ _ _ _ (start .pre .0 .0 .few) (start .pre .0 .1) (start .pre .1 .0) (bucket .1) (search needs) (search needs) _ _ _ (c .before .before .before .before .before .before .before .before .before .before .enter .ensures) (c .before .before .before .before .before .before .put-word .ensures) (c .before .before .put-word2 .ensures) (start .pre .1 .1) has rolled (search needs) digest (bucket-told _ _ _ _ _ has digest (bucket .0)) head number
 
-pub take-record-spec : {M : Type 1} → statement M
-take-record-spec =
+pub number-record-spec : {M : Type 1} → statement M
+number-record-spec =
     tie.close
     (tie.spec
     kind-requires
