@@ -36,7 +36,7 @@ const ALL: &[usize] = &[8];
 const SOME: &[usize] = &[1, 2, 3, 4, 6];
 const HIGH: &[usize] = &[1, 20, 48];
 
-pub const ATTACKS: [Attack; 22] = [
+pub const ATTACKS: [Attack; 23] = [
     Attack {
         name: "customs",
         what: "Customs with overlapping names",
@@ -92,6 +92,14 @@ pub const ATTACKS: [Attack; 22] = [
         shares: SOME,
         depths: HIGH,
         tree: joined_keys,
+    },
+    Attack {
+        name: "prefixes",
+        what: "functions whose keys are nearly the verb with `$...`, and calls without arguments, typed again at each level above them",
+        texts: true,
+        shares: SOME,
+        depths: HIGH,
+        tree: prefixes,
     },
     Attack {
         name: "nested-calls",
@@ -275,6 +283,16 @@ impl Hostile {
         Windows { base: base as u32, before: before as u32 }
     }
 
+    /// Text up to `bytes` in all, for so many windows of `$...$...` with a mark, four bytes further each; the first of them.
+    fn marked(&mut self, bytes: usize, count: usize) -> Text {
+        let text = &mut self.layout.text;
+        let base = text.len();
+        let long = (bytes.saturating_sub(base + 4 * count) / 4 * 4).max(4 * count + 16);
+        text.extend(b"$...".iter().cycle().take(long + 4 * count));
+        text[base + long - 6] = MARK;
+        (base as u32, long as u32)
+    }
+
     /// A short text of its own.
     fn short(&mut self, text: &str) -> Text {
         self.layout.text(text.as_bytes())
@@ -437,35 +455,19 @@ fn functions(knobs: Knobs) -> Hostile {
     tree
 }
 
-/// What the library's digest makes of two words more (`records/src/texts.rt`: `step`).
-fn digest_step(state: u64, low: u64, high: u64) -> u64 {
-    folded(state * 663_608_941 + low + high * 1_013_904_223)
+/// The prime by which the library's digest takes a text's remainder (`records/specs/Digest.antt`: `rollStep`).
+const DIGEST_PRIME: u64 = 4_294_967_291;
+
+/// From a digest on, over the bytes of a text.
+fn digest_from(digest: u64, text: &[u8]) -> u64 {
+    text.iter().fold(digest, |digest, byte| (digest * 256 + u64::from(*byte)) % DIGEST_PRIME)
 }
 
-fn folded(sum: u64) -> u64 {
-    (sum & 0xFFFF_FFFF) + (sum >> 32)
-}
-
-/// What the steps leave of a text of whole eights.
-fn digest_state(text: &[u8]) -> u64 {
-    text.chunks_exact(8).fold(1, |state, eight| {
-        let [low, high] =
-            [0, 4].map(|at| (0..4).rev().fold(0, |word, k| word << 8 | u64::from(eight[at + k])));
-        digest_step(state, low, high)
-    })
-}
-
-fn digest_end(state: u64) -> u32 {
-    folded(state * 1_481_765_933) as u32
-}
-
-/// The eight bytes that bring a digest back to `wanted`: the steps add modulo 2^32 - 1, so that nearly every upper word has its lower.
-fn ending(state: u64, wanted: u64) -> [u8; 8] {
-    const MODULUS: u64 = 0xFFFF_FFFF;
-    let lower = |high: u64| (wanted % MODULUS + MODULUS - digest_step(state, 0, high) % MODULUS) % MODULUS;
-    let reached = |high: &u64| digest_end(digest_step(state, lower(*high), *high)) == digest_end(wanted);
-    let high = (1..).find(reached).expect("one of the first few");
-    (lower(high) | high << 32).to_le_bytes()
+/// The eight bytes that bring a digest back to `wanted`: the upper four are 1, the lower four what is missing.
+fn ending(digest: u64, wanted: u64) -> [u8; 8] {
+    let upper = 1 << 32;
+    let missing = wanted + DIGEST_PRIME - digest_from(digest, &u64::to_be_bytes(upper));
+    (upper + missing % DIGEST_PRIME).to_be_bytes()
 }
 
 impl Hostile {
@@ -475,10 +477,10 @@ impl Hostile {
         let base = text.len();
         let long = (bytes - base - 8 * count) / 8 * 8;
         text.resize(base + long, MARK);
-        let wanted = digest_state(&text[base..]);
+        let wanted = digest_from(1, &text[base..]);
         for at in 1..count {
-            let state = digest_state(&text[base + 8 * at..]);
-            text.extend(ending(state, wanted));
+            let digest = digest_from(1, &text[base + 8 * at..]);
+            text.extend(ending(digest, wanted));
         }
         (base as u32, long as u32)
     }
@@ -534,6 +536,18 @@ fn joined_keys(knobs: Knobs) -> Hostile {
         let arg = tree.push(TYPE_ARGUMENT, 0, &[ty]);
         tree.call(windows.at(0), &[arg])
     })
+}
+
+/// Each window is a key, and the verb is the first without its last four bytes.
+fn prefixes(knobs: Knobs) -> Hostile {
+    let mut tree = Hostile::new();
+    let count = tree.room() * knobs.share / 8 / 3;
+    let (base, long) = tree.marked(knobs.text, count + 1);
+    called(&mut tree, count, &[], |at| {
+        let start = base + 4 * at as u32;
+        ((start, long - 4), (start, long))
+    });
+    tree.tower((knobs.depth, ADD), 1, move |tree| tree.call((base, long - 4), &[]))
 }
 
 fn nested_calls(knobs: Knobs) -> Hostile {

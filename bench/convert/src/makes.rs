@@ -22,8 +22,8 @@ pub struct Make {
 enum Program {
     /// Nested as it comes.
     Any(fn(&mut Rng, usize) -> Vec<Fun>),
-    /// Of statements that make the function around them just so deep, an even number.
-    Nested(fn(&mut Rng, usize) -> St),
+    /// Of groups of statements, the first of which makes the function around them just so deep, an even number.
+    Nested(fn(&mut Rng, usize) -> Vec<St>),
 }
 
 /// The shallowest and the deepest nesting of a make that takes it, and those taken unless said otherwise.
@@ -49,7 +49,7 @@ pub const MAKES: [Make; 8] = [
     Make { name: "names", what: "long bodies, with Hangul names of 60 to 200 bytes", program: Any(names) },
     Make {
         name: "deep-conditions",
-        what: "Ifs whose conditions are Ands and Ors in each other, nested as said",
+        what: "Ifs whose conditions are Ands and Ors in each other, nested as said, four of them an If",
         program: Nested(deep_condition),
     },
     Make {
@@ -79,7 +79,7 @@ impl Make {
     fn program(&self, rng: &mut Rng, size: usize, nesting: Option<usize>) -> Vec<Fun> {
         match (&self.program, nesting) {
             (Any(program), _) => program(rng, size),
-            (Nested(statement), nesting) => nested(rng, size, nesting.unwrap_or(DEEPEST), *statement),
+            (Nested(group), nesting) => nested(rng, size, nesting.unwrap_or(DEEPEST), *group),
         }
     }
 
@@ -421,19 +421,19 @@ fn conditions(rng: &mut Rng, size: usize) -> Vec<Fun> {
     fill_up(rng, made, size)
 }
 
-/// Functions of such statements, as many as there is room for, none with much more than 170 records: so what a function costs is much the same at
+/// Functions of such groups, as many as there is room for, none with much more than 230 records: so what a function costs is much the same at
 /// each nesting. What is left over goes to a few that are less deep.
-fn nested(rng: &mut Rng, size: usize, nesting: usize, statement: fn(&mut Rng, usize) -> St) -> Vec<Fun> {
+fn nested(rng: &mut Rng, size: usize, nesting: usize, group: fn(&mut Rng, usize) -> Vec<St>) -> Vec<Fun> {
     let params = [("가", LONG), ("참", Ty::Bool)];
     let one = declared("하나", &[("가", LONG)], Some(LONG), false);
     let two = declared("둘", &[("가", LONG), ("나", LONG)], Some(LONG), false);
     let (mut made, mut deep) = (vec![one, two], nesting);
     while deep >= SHALLOWEST {
         let left = size.saturating_sub(Layout::program(&made).records.len() + around(params.len()));
-        let mut body = Body::new(rng, left.min(170), short_name);
-        let mut next = statement(body.rng, deep);
-        while body.push(next) {
-            next = statement(body.rng, deep);
+        let mut body = Body::new(rng, left.min(230), short_name);
+        let mut next = group(body.rng, deep);
+        while next.into_iter().all(|statement| body.push(statement)) {
+            next = group(body.rng, deep);
         }
         if body.block.is_empty() {
             deep -= 2;
@@ -444,19 +444,22 @@ fn nested(rng: &mut Rng, size: usize, nesting: usize, statement: fn(&mut Rng, us
     fill_up(rng, made, size)
 }
 
-/// An If whose condition is an And or Or of a comparison or name and of such a condition, on either side.
-fn deep_condition(rng: &mut Rng, nesting: usize) -> St {
+/// An If whose condition is an And or Or of a comparison or name and of such a condition, on either side; then Ifs with a comparison alone, so many that
+/// there are four Ands and Ors and two comparisons for each If at every nesting: only how deep they stand is another.
+fn deep_condition(rng: &mut Rng, nesting: usize) -> Vec<St> {
     let compared = |rng: &mut Rng| binary(name("가"), LT + rng.below(4) as u8, int(rng.below(100) as i64));
     // The function and the If are one deeper each, the innermost comparison is 2 deep.
-    let test = (0..nesting - 4).fold(compared(rng), |test, level| {
+    let levels = nesting - 4;
+    let test = (0..levels).fold(compared(rng), |test, level| {
         let (op, leaf) = ([AND, OR][rng.below(2)], if level % 4 == 3 { compared(rng) } else { name("참") });
         if rng.flip() { binary(leaf, op, test) } else { binary(test, op, leaf) }
     });
-    St::If(test, vec![], None)
+    let alone = (1..levels / 4).map(|_| compared(rng));
+    std::iter::once(test).chain(alone.collect::<Vec<_>>()).map(|test| St::If(test, vec![], None)).collect()
 }
 
 /// A call of a call, and so on, every second with one argument and every second with two; as a statement or as a value that is kept.
-fn deep_calls(rng: &mut Rng, nesting: usize) -> St {
+fn deep_calls(rng: &mut Rng, nesting: usize) -> Vec<St> {
     // The function and the statement are one deeper each, a call and its value too, the innermost sum is 2 deep.
     let sum = binary(name("가"), ADD, int(rng.below(100) as i64));
     let calls = (0..(nesting - 4) / 2).fold(sum, |inner, level| match (level % 2, rng.flip()) {
@@ -464,7 +467,7 @@ fn deep_calls(rng: &mut Rng, nesting: usize) -> St {
         (_, true) => call_of("둘", vec![inner, name("가")]),
         (_, false) => call_of("둘", vec![name("가"), inner]),
     });
-    if rng.flip() { St::Call(calls) } else { St::Init(false, "가".into(), calls) }
+    vec![if rng.flip() { St::Call(calls) } else { St::Init(false, "가".into(), calls) }]
 }
 
 /// A literal; every second one is new.

@@ -9,3 +9,4 @@ pub mod Visits
 pub mod Functions
 pub mod Converter
 pub mod Written
+pub mod Fits

@@ -30,7 +30,7 @@ const BODY_ROOM: usize = 400000;
 // No list has as many cases.
 const MOST_CASES: usize = 1000000;
 
-// What came of a step: whether it read a whole case, or else that the list ended, and whether the case came out the same.
+// What came of the next case: whether it was read whole, or else that the list ended, and whether it came out the same.
 struct Came {
     read: bool,
     ended: bool,
@@ -41,14 +41,6 @@ struct Tally {
     cases: usize,
     differ: usize,
     whole: bool,
-}
-
-fn fill(buffer: &mut [u8], byte: u8) {
-    let mut i = 0;
-    while i < buffer.len() {
-        buffer[i] = byte;
-        i += 1;
-    }
 }
 
 // The buffer holds `len` bytes of the tables, from byte `from` on, and `rest` everywhere behind them.
@@ -80,68 +72,53 @@ fn lent(head: &[u8], k: usize) -> usize
     load(head, LENT + 4 * k) as usize
 }
 
-// How many bytes table k has.
+// How many bytes table k has. Scratch, buffer 6, holds no table.
 fn table(head: &[u8], k: usize) -> usize
-    requires { ⌜ (length (now head) ≡ 104) × (k < 6) ⌝ }
+    requires { ⌜ (length (now head) ≡ 104) × (k < 7) ⌝ }
     ensures { λ r. ⌜ r < 4294967296 ⌝ }
 {
+    if 5 < k {
+        return 0;
+    }
     load(head, TABLES + 4 * k) as usize
 }
 
-// The tables of the functions, and of the program, stand at the start of their buffers, and nothing of any in scratch.
-fn tables_left(
-    head: &[u8],
-    tables: &[u8],
-    instructions: &[u8],
-    variables: &[u8],
-    labels: &[u8],
-    functions: &[u8],
-    strings: &[u8],
-    floats: &[u8],
-    scratch: &[u8],
-) -> bool
-    requires { ⌜ length (now head) ≡ 104 ⌝ }
+// Where table k begins: the tables before it stand one behind the other.
+fn table_from(head: &[u8], k: usize) -> usize
+    requires { ⌜ (length (now head) ≡ 104) × (k < 7) ⌝ }
+    ensures { λ r. ⌜ r ≤ k * 4294967296 ⌝ }
 {
-    let rest = head[REST];
-    let a = table(head, 0);
-    let b = table(head, 1);
-    let c = table(head, 2);
-    let d = table(head, 3);
-    let e = table(head, 4);
-    let f = table(head, 5);
-    left(instructions, tables, 0, a, rest)
-        & left(variables, tables, a, b, rest)
-        & left(labels, tables, a + b, c, rest)
-        & left(functions, tables, a + b + c, d, rest)
-        & left(strings, tables, a + b + c + d, e, rest)
-        & left(floats, tables, a + b + c + d + e, f, rest)
-        & left(scratch, tables, 0, 0, rest)
+    let mut from = 0;
+    let mut j = 0;
+    while j < k {
+        from += table(head, j);
+        j += 1;
+    }
+    from
 }
 
-fn fill_all(
-    byte: u8,
-    instructions: &mut [u8],
-    variables: &mut [u8],
-    labels: &mut [u8],
-    functions: &mut [u8],
-    strings: &mut [u8],
-    floats: &mut [u8],
-    scratch: &mut [u8],
-) {
-    fill(instructions, byte);
-    fill(variables, byte);
-    fill(labels, byte);
-    fill(functions, byte);
-    fill(strings, byte);
-    fill(floats, byte);
-    fill(scratch, byte);
+// Buffer k is as long as it was to be lent, and table k stands at its start, with the byte for what is behind everywhere else.
+fn buffer_left(head: &[u8], tables: &[u8], k: usize, buffer: &[u8]) -> bool
+    requires { ⌜ (length (now head) ≡ 104) × (k < 7) ⌝ }
+{
+    if buffer.len() != lent(head, k) {
+        return false;
+    }
+    left(
+        buffer,
+        tables,
+        table_from(head, k),
+        table(head, k),
+        head[REST],
+    )
 }
 
-// One call over buffers of the lent lengths: true if the answer is the stored one.
+// One call over buffers of the lent lengths: true if the answer and every byte of the buffers are the stored ones.
 fn replay_lent(
     head: &[u8],
     tree: &[u8],
     text: &[u8],
+    tables: &[u8],
     instructions: &mut [u8],
     variables: &mut [u8],
     labels: &mut [u8],
@@ -152,16 +129,6 @@ fn replay_lent(
 ) -> bool
     requires { ⌜ length (now head) ≡ 104 ⌝ }
 {
-    fill_all(
-        head[FILL],
-        instructions,
-        variables,
-        labels,
-        functions,
-        strings,
-        floats,
-        scratch,
-    );
     let mut answer = [255u8; 32];
     let done = rudderplum_convert(
         tree,
@@ -176,99 +143,53 @@ fn replay_lent(
         scratch,
         &mut answer,
     );
-    (done == 1) & left(&answer, head, ANSWER, 32, 0)
+    (done == 1)
+        & left(&answer, head, ANSWER, 32, 0)
+        & buffer_left(head, tables, 0, instructions)
+        & buffer_left(head, tables, 1, variables)
+        & buffer_left(head, tables, 2, labels)
+        & buffer_left(head, tables, 3, functions)
+        & buffer_left(head, tables, 4, strings)
+        & buffer_left(head, tables, 5, floats)
+        & buffer_left(head, tables, 6, scratch)
 }
 
-// One case over buffers of the lent lengths: true if nothing differs.
-fn replay_body(
-    head: &[u8],
-    body: &[u8],
-    instructions: &mut [u8],
-    variables: &mut [u8],
-    labels: &mut [u8],
-    functions: &mut [u8],
-    strings: &mut [u8],
-    floats: &mut [u8],
-    scratch: &mut [u8],
-) -> bool
-    requires { ⌜ length (now head) ≡ 104 ⌝ }
+// How much of a buffer is lent as buffer k: as many bytes as the head says, or all of a shorter one, which then differs.
+fn lent_of(head: &[u8], k: usize, buffer: &[u8]) -> usize
+    requires { ⌜ (length (now head) ≡ 104) × (k < 7) ⌝ }
+    ensures { λ r. ⌜ r ≤ length (now (buffer .entry)) ⌝ }
 {
-    let a = load(head, 0) as usize;
-    let t = a + load(head, 4) as usize;
-    if body.len() < t {
-        return false;
+    let bytes = lent(head, k);
+    if bytes < buffer.len() {
+        return bytes;
     }
-    let answered = replay_lent(
-        head,
-        &body[..a],
-        &body[a..t],
-        instructions,
-        variables,
-        labels,
-        functions,
-        strings,
-        floats,
-        scratch,
-    );
-    answered
-        & tables_left(
-            head,
-            &body[t..],
-            instructions,
-            variables,
-            labels,
-            functions,
-            strings,
-            floats,
-            scratch,
-        )
+    buffer.len()
 }
 
-// One case: true if nothing differs.
-fn replay_case(
-    head: &[u8],
-    body: &[u8],
-    instructions: &mut [u8],
-    variables: &mut [u8],
-    labels: &mut [u8],
-    functions: &mut [u8],
-    strings: &mut [u8],
-    floats: &mut [u8],
-    scratch: &mut [u8],
-) -> bool
+// One case, over buffers with room for 2,048 records and a little more: true if nothing differs.
+fn replay_case(head: &[u8], tree: &[u8], text: &[u8], tables: &[u8]) -> bool
     requires { ⌜ length (now head) ≡ 104 ⌝ }
 {
-    let a = lent(head, 0);
-    let b = lent(head, 1);
-    let c = lent(head, 2);
-    let d = lent(head, 3);
-    let e = lent(head, 4);
-    let f = lent(head, 5);
-    let g = lent(head, 6);
-    if instructions.len() < a {
-        return false;
-    }
-    if variables.len() < b {
-        return false;
-    }
-    if labels.len() < c {
-        return false;
-    }
-    if functions.len() < d {
-        return false;
-    }
-    if strings.len() < e {
-        return false;
-    }
-    if floats.len() < f {
-        return false;
-    }
-    if scratch.len() < g {
-        return false;
-    }
-    replay_body(
+    let byte = head[FILL];
+    let mut instructions = [byte; 655800];
+    let mut variables = [byte; 24700];
+    let mut labels = [byte; 49300];
+    let mut functions = [byte; 65700];
+    let mut strings = [byte; 16500];
+    let mut floats = [byte; 65700];
+    let mut scratch = [byte; 131300];
+    let a = lent_of(head, 0, &instructions);
+    let b = lent_of(head, 1, &variables);
+    let c = lent_of(head, 2, &labels);
+    let d = lent_of(head, 3, &functions);
+    let e = lent_of(head, 4, &strings);
+    let f = lent_of(head, 5, &floats);
+    let g = lent_of(head, 6, &scratch);
+    replay_lent(
         head,
-        body,
+        tree,
+        text,
+        tables,
         &mut instructions[..a],
         &mut variables[..b],
         &mut labels[..c],
@@ -279,27 +200,27 @@ fn replay_case(
     )
 }
 
+// One case, from its bytes behind the head: the tree, the text and the tables.
+fn replay_body(head: &[u8], body: &[u8]) -> bool
+    requires { ⌜ length (now head) ≡ 104 ⌝ }
+{
+    let a = load(head, 0) as usize;
+    let t = a + load(head, 4) as usize;
+    if body.len() < t {
+        return false;
+    }
+    replay_case(head, &body[..a], &body[a..t], &body[t..])
+}
+
 // How many bytes follow a case's head.
 fn body_len(head: &[u8]) -> usize
     requires { ⌜ length (now head) ≡ 104 ⌝ }
 {
-    let first = load(head, 0) as usize + load(head, 4) as usize + table(head, 0);
-    first + table(head, 1) + table(head, 2) + table(head, 3) + table(head, 4) + table(head, 5)
+    load(head, 0) as usize + load(head, 4) as usize + table_from(head, 6)
 }
 
 // Reads the next case and replays it.
-fn step(
-    file: i32,
-    head: &mut [u8],
-    body: &mut [u8],
-    instructions: &mut [u8],
-    variables: &mut [u8],
-    labels: &mut [u8],
-    functions: &mut [u8],
-    strings: &mut [u8],
-    floats: &mut [u8],
-    scratch: &mut [u8],
-) -> Came
+fn next_case(file: i32, head: &mut [u8], body: &mut [u8]) -> Came
     requires { ⌜ length (now head) ≡ 104 ⌝ }
 {
     let n = io::read_full(file, head);
@@ -319,51 +240,22 @@ fn step(
     if m < len {
         return unread;
     }
-    let same = replay_case(
-        head,
-        &body[..len],
-        instructions,
-        variables,
-        labels,
-        functions,
-        strings,
-        floats,
-        scratch,
-    );
     Came {
         read: true,
         ended: false,
-        same,
+        same: replay_body(head, &body[..len]),
     }
 }
 
-// Replays each case of the list, over buffers with room for 2,048 records and a little more.
+// Replays each case of the list.
 fn replay(file: i32) -> Tally {
     let mut head = [0u8; HEAD];
     let mut body = [0u8; BODY_ROOM];
-    let mut instructions = [0u8; 655800];
-    let mut variables = [0u8; 24700];
-    let mut labels = [0u8; 49300];
-    let mut functions = [0u8; 65700];
-    let mut strings = [0u8; 16500];
-    let mut floats = [0u8; 65700];
-    let mut scratch = [0u8; 147700];
     let mut cases: usize = 0;
     let mut differ: usize = 0;
     let mut whole = false;
     while cases < MOST_CASES {
-        let s = step(
-            file,
-            &mut head,
-            &mut body,
-            &mut instructions,
-            &mut variables,
-            &mut labels,
-            &mut functions,
-            &mut strings,
-            &mut floats,
-            &mut scratch,
-        );
+        let s = next_case(file, &mut head, &mut body);
         if !s.read {
             whole = s.ended;
             break;

@@ -11,28 +11,28 @@ const TREE_ROOM: usize = 6401;
 const TEXT_ROOM: usize = 4097;
 
 // Writes a number and one byte after it.
-fn print(n: u64, after: u8) {
+fn print_number(n: u64, after: u8) {
     io::print_decimal(STDOUT_FILENO, n);
     io::write_all(STDOUT_FILENO, &[after]);
 }
 
 // Writes 0 and the six counts; the visits are not printed.
 fn print_counts(c: Counts) {
-    print(0, b' ');
-    print(c.functions as u64, b' ');
-    print(c.instructions as u64, b' ');
-    print(c.variables as u64, b' ');
-    print(c.labels as u64, b' ');
-    print(c.strings as u64, b' ');
-    print(c.floats as u64, b'\n');
+    print_number(0, b' ');
+    print_number(c.functions as u64, b' ');
+    print_number(c.instructions as u64, b' ');
+    print_number(c.variables as u64, b' ');
+    print_number(c.labels as u64, b' ');
+    print_number(c.strings as u64, b' ');
+    print_number(c.floats as u64, b'\n');
 }
 
 // Writes number, place, span start and span end.
 fn print_refusal(a: AnswerWords) {
-    print(a.number as u64, b' ');
-    print(a.place as u64, b' ');
-    print(a.start as u64, b' ');
-    print(a.end as u64, b'\n');
+    print_number(a.number as u64, b' ');
+    print_number(a.place as u64, b' ');
+    print_number(a.start as u64, b' ');
+    print_number(a.end as u64, b'\n');
 }
 
 // Converts with buffers that suffice for 200 records, which is as many as the program takes.

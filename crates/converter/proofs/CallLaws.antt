@@ -28,6 +28,7 @@ use Rattle.ir.proofs.CutLaws as CutLaws
 use Rattle.ir.proofs.CutLaws.{instructions-are, variables-are, labels-are, functions-are, strings-are, floats-are}
 use Rattle.judge.specs.Judge.{Buffers, buffers, lengthsOf, verdict, judged, cleared, judgedIn, judgeLeaves}
 use Rattle.judge.specs.Keeps.{JudgeKeeps, placed, unplaced}
+use Rattle.judge.specs.declared.Lengths.{Lengths}
 use Rattle.judge.specs.declared.Judged.{Judged}
 use Rattle.judge.specs.declared.Judged.the-variants as Judged
 use Rattle.judge.proofs.RowLaws.{cleared-length, core-kept, core-cleared, answer-in, outputs-cleared, outputs-kept}
@@ -43,7 +44,7 @@ use Rattle.demands.proofs.Demands.{every-call}
 use Rattle.converter.specs.declared.Counts.{Counts}
 use Rattle.converter.specs.declared.Answer.{Answer}
 use Rattle.converter.specs.declared.Answer.the-variants as Answer
-use Rattle.converter.specs.Convert.{poolOf, ConvertsTo, countsIn, outputs, CutAfforded, SameTableLengths, FinishesIn, SevenLong, countsFrom, answerFrom, JudgedFirst, Promised}
+use Rattle.converter.specs.Convert.{poolOf, ConvertsTo, countsIn, outputs, CutAfforded, SameTableLengths, FinishesIn, SevenLong, countsFrom, answerFrom, Promised}
 
 -- ---- one component after the other
 
@@ -217,9 +218,24 @@ accepted-unplaced : (r : Judged) → r ≡ Judged.Accepted → placed r ≡ fals
 unfolding placed
 accepted-unplaced r q = ap placed q
 
--- r is the rows' answer, u what they leave of scratch, and p the code's test whether r has a place
+-- r is the judge's answer. A refusal leaves the buffers as the judge does; an accepted tree leaves the outputs as found, and of scratch only its length: its
+-- bytes are the judge's own, and the end of the conversion clears them
+pub record JudgedFirst (tree text : List ℕ) (b : Buffers) (r : Judged) (b₁ : Buffers) : Type 0 where
+  pub is : r ≡ judgedIn tree text b
+  pub refused : (e : ConvertError) → r ≡ Judged.Refused e → b₁ ≡ judgeLeaves tree text b
+  pub accepted : r ≡ Judged.Accepted
+      → (b₁ ≡ buffers (b .instructions) (b .variables) (b .labels) (b .functions) (b .strings) (b .floats) (b₁ .scratch)) × (length (b₁ .scratch) ≡ length (b .scratch))
+
+-- r is the rows' answer, given how long the outputs are, and u what they leave of scratch
+abbrev Rows : List ℕ → List ℕ → Lengths → List ℕ → Judged → List ℕ → Type 0
+Rows tree text l s r u = (r ≡ judged tree text l (length s)) × JudgeKeeps (verdict tree text l (length s)) s u
+
+pub rows-told : (tree text : List ℕ) (l m : Lengths) (s : List ℕ) (r : Judged) (u : List ℕ) → l ≡ m → Rows tree text l s r u → Rows tree text m s r u
+rows-told tree text l m s r u e h = subst (λ (x : Lengths). Rows tree text x s r u) e h
+
+-- p is the code's test whether r has a place
 module _ (tree text : List ℕ) (b : Buffers) (r : Judged) (u : List ℕ)
-    (rows : (r ≡ judged tree text (lengthsOf b) (length (b .scratch))) × JudgeKeeps (verdict tree text (lengthsOf b) (length (b .scratch))) (b .scratch) u)
+    (rows : Rows tree text (lengthsOf b) (b .scratch) r u)
     (p : Bool) (placed-is : p ≡ placed r) where
   pub first-cleared : p ≡ true → (i v l f s x t : List ℕ)
       → (i ≡ cleared (b .instructions)) × (v ≡ cleared (b .variables)) × (l ≡ cleared (b .labels)) × (f ≡ cleared (b .functions)) × (s ≡ cleared (b .strings)) × (x ≡ cleared (b .floats))
@@ -242,6 +258,10 @@ module _ (tree text : List ℕ) (b : Buffers) (r : Judged) (u : List ℕ)
             (core-kept tree text (lengthsOf b) (b .scratch) u r rows true (sym (refused-unplaced r e q at-none)) refl) lacks;
         accepted = λ q. (refl, rows .1 .same);
       }
+
+pub first-accepted : (tree text : List ℕ) (b : Buffers) (r : Judged) (u : List ℕ) → Rows tree text (lengthsOf b) (b .scratch) r u → r ≡ Judged.Accepted
+    → JudgedFirst tree text b r (buffers (b .instructions) (b .variables) (b .labels) (b .functions) (b .strings) (b .floats) u)
+first-accepted tree text b r u rows q = first-kept tree text b r u rows false (sym (accepted-unplaced r q)) refl
 
 -- r is the judge's answer, and b₁ the buffers that it leaves
 module _ (tree text : List ℕ) (b : Buffers) (r : Judged) (b₁ : Buffers) (first : JudgedFirst tree text b r b₁) where

@@ -20,9 +20,7 @@ use Rattle.ir.specs.declared.structs.Counters.{Counters}
 use Rattle.ir.specs.Arena.{Holds, Room}
 use Rattle.ir.specs.Cut as Cut
 use Rattle.keys.specs.Keys.{allKeys}
-use Rattle.judge.specs.Judge.{Buffers, buffers, cleared, judgedIn, judgeLeaves}
-use Rattle.judge.specs.declared.Judged.{Judged}
-use Rattle.judge.specs.declared.Judged.the-variants as Judged
+use Rattle.judge.specs.Judge.{Buffers, cleared}
 use Rattle.expressions.specs.Slots.{visitsAt}
 use Rattle.statements.specs.declared.answers.Finished.{Finished}
 use Rattle.statements.specs.declared.answers.Finished.the-variants as Finished
@@ -119,16 +117,6 @@ pub record SevenLong (n : ℕ) (b : Buffers) : Type 0 where
   pub arena : 320 * n ≤ length (b .instructions)
   pub tables : Cut.FiveLong n (b .variables) (b .labels) (b .functions) (b .strings) (b .floats)
   pub scratch : 72 * n ≤ length (b .scratch)
-
--- ---- judging, before anything is converted
-
--- r is the judge's answer. A refusal leaves the buffers as the judge does; an accepted tree leaves the outputs as found, and of scratch only its length: its
--- bytes are the judge's own, and the end of the conversion clears them
-pub record JudgedFirst (tree text : List ℕ) (b : Buffers) (r : Judged) (b₁ : Buffers) : Type 0 where
-  pub is : r ≡ judgedIn tree text b
-  pub refused : (e : ConvertError) → r ≡ Judged.Refused e → b₁ ≡ judgeLeaves tree text b
-  pub accepted : r ≡ Judged.Accepted
-      → (b₁ ≡ buffers (b .instructions) (b .variables) (b .labels) (b .functions) (b .strings) (b .floats) (b₁ .scratch)) × (length (b₁ .scratch) ≡ length (b .scratch))
 
 -- ---- the answer
 

@@ -1,6 +1,7 @@
 // The call: a tree of any bytes is judged, and a good one is converted. Krc's converter/converter.rs.
 ghost use mathlib.Core.Path.{_≡_};
 ghost use Prim.Native.Nat.{_*_, _≤_, _<_};
+ghost use mathlib.Core.List.{[]};
 ghost use lib.ListN.{length};
 ghost use Rattle.records.specs.Words.{records};
 ghost use Rattle.records.specs.Good.{Good};
@@ -8,9 +9,9 @@ ghost use Rattle.syntax.specs.Decode.{program};
 ghost use Rattle.conversion.specs.Converter as Krc;
 ghost use Rattle.keys.specs.Keys.{Keyed};
 ghost use Rattle.statements.specs.Turns.{Turns};
-ghost use Rattle.judge.specs.Judge.{buffers};
+ghost use Rattle.judge.specs.Judge.{buffers, lengthsOf};
 ghost use Rattle.demands.specs.Demands.{AsTheRust};
-ghost use Rattle.converter.specs.Convert.{ConvertsTo, allFunctions, emptyCounters, countsIn, answerFrom, outputs, SevenLong, CutAfforded, FinishesIn, JudgedFirst, Promised};
+ghost use Rattle.converter.specs.Convert.{ConvertsTo, allFunctions, emptyCounters, countsIn, answerFrom, outputs, SevenLong, CutAfforded, FinishesIn, Promised};
 use expressions::answers::Outcome;
 use functions::bodies::convert_func;
 use functions::functions::AllFunctions;
@@ -197,40 +198,30 @@ fn convert_good(
     )
 }
 
-// Judges the tree. A refusal leaves the buffers as its row says. An accepted tree's outputs are as found, and scratch is not cleared yet: the
-// conversion writes it before it reads it, and clears it at the end.
-fn judge_first(
-    tree: &[u8],
-    text: &[u8],
-    instructions: &mut [u8],
-    variables: &mut [u8],
-    labels: &mut [u8],
-    functions: &mut [u8],
-    strings: &mut [u8],
-    floats: &mut [u8],
-    scratch: &mut [u8],
-) -> Judged
-    ensures { λ r. ⌜ JudgedFirst (now (tree .entry)) (now (text .entry)) (buffers (now (instructions .entry)) (now (variables .entry)) (now (labels .entry)) (now (functions .entry)) (now (strings .entry)) (now (floats .entry)) (now (scratch .entry))) r (buffers (now (instructions .exit)) (now (variables .exit)) (now (labels .exit)) (now (functions .exit)) (now (strings .exit)) (now (floats .exit)) (now (scratch .exit))) ⌝ }
+// How long the six outputs are.
+fn lengths_of(
+    instructions: &[u8],
+    variables: &[u8],
+    labels: &[u8],
+    functions: &[u8],
+    strings: &[u8],
+    floats: &[u8],
+) -> Lengths
+    ensures { λ l. ⌜ l ≡ lengthsOf (buffers (now (instructions .entry)) (now (variables .entry)) (now (labels .entry)) (now (functions .entry)) (now (strings .entry)) (now (floats .entry)) []) ⌝ }
 {
-    let l = Lengths {
+    Lengths {
         instructions: instructions.len(),
         variables: variables.len(),
         labels: labels.len(),
         functions: functions.len(),
         strings: strings.len(),
         floats: floats.len(),
-    };
-    let answer = judge_rows(tree, text, l, scratch);
-    if has_place(answer) {
-        clear_outputs(instructions, variables, labels, functions, strings, floats);
-        clear(scratch);
-        return answer;
     }
-    answer
 }
 
 // Converts a tree. A refusal by lengths or buffers writes nothing, any other leaves every buffer zero; a converted tree leaves each table
-// at the start of its buffer and zero everywhere else.
+// at the start of its buffer and zero everywhere else. An accepted tree leaves the judge's own bytes in scratch: the conversion writes it before it
+// reads it, and clears it at the end.
 pub fn convert(
     tree: &[u8],
     text: &[u8],
@@ -245,18 +236,14 @@ pub fn convert(
 ) -> Answer
     ensures { λ a. ⌜ Promised (now (tree .entry)) (now (text .entry)) «needs_main» (buffers (now (instructions .entry)) (now (variables .entry)) (now (labels .entry)) (now (functions .entry)) (now (strings .entry)) (now (floats .entry)) (now (scratch .entry))) a (buffers (now (instructions .exit)) (now (variables .exit)) (now (labels .exit)) (now (functions .exit)) (now (strings .exit)) (now (floats .exit)) (now (scratch .exit))) ⌝ }
 {
-    let judged = judge_first(
-        tree,
-        text,
-        instructions,
-        variables,
-        labels,
-        functions,
-        strings,
-        floats,
-        scratch,
-    );
+    let l = lengths_of(instructions, variables, labels, functions, strings, floats);
+    let judged = judge_rows(tree, text, l, scratch);
     if let Judged::Refused(e) = judged {
+        if has_place(judged) {
+            clear_outputs(instructions, variables, labels, functions, strings, floats);
+            clear(scratch);
+            return Answer::Refused(e);
+        }
         return Answer::Refused(e);
     }
     convert_good(

@@ -79,7 +79,7 @@ module _ (tree text s : List ℕ) (c : Call) (h : Called tree text s c) (numbere
     same-name o eo =
         let q = h .numbered in
         let n = name-record tree text (h .argued .good) f at in
-        rw (function-name tree text (h .argued .good) f at, ← q .text-is, eo ∙ ap (λ (x : ℕ). wordAt s (originalAt (records tree) x)) er ∙ numbered (wordOf tree f A) (n .below) name-has, q .number)
+        rw (function-name tree text (h .argued .good) f at, ← q .text-is, eo ∙ ap (λ (x : ℕ). wordAt s (originalAt (records tree) x)) er ∙ numbered .number (wordOf tree f A) (n .below) name-has, q .number)
         (same-numbers tree text (wordOf tree f A) (q .of) (n .below) (q .below) name-has (q .has-text))
 
 -- ---- the functions that literals fit
@@ -291,7 +291,7 @@ module _ (tree text s : List ℕ) (r : ℕ) (k : IsKind tree 11 r) where
 
   pub verb-number : Numbered tree text s → (o : ℕ) → o ≡ wordAt s (originalAt (records tree) r) → o ≡ original tree text r
   unfolding hasText
-  verb-number numbered o e = e ∙ numbered r (k .below) (kind-has tree kindCall r refl (k .kind))
+  verb-number numbered o e = e ∙ numbered .number r (k .below) (kind-has tree kindCall r refl (k .kind))
 
 module _ (tree text s : List ℕ) (r : ℕ) (c : Call) (o : CallAt tree text r c) where
   pub is-called : (count : ℕ) → Keyed tree text s count → IsKind tree 11 r → ArgsTyped tree s (argsAt tree text (wordOf tree r 2)) → ((i : ℕ) → getD tree i 0 < 256)

@@ -10,6 +10,7 @@ pub mod NameLaws
 pub mod OperandLaws
 pub mod OriginalLaws
 pub mod PartLaws
+pub mod PrefixLaws
 pub mod SlotLaws
 pub mod SuffixLaws
 pub mod TakeLaws

@@ -1,7 +1,7 @@
 -- The digest of a verb with its suffixes goes on from the verb's: what was asked is the digest at hand, gone on over the suffixes that are left.
 -- By the law of texts one behind the other, cell by cell. Assumes nothing.
 use mathlib.Core.Path.{_≡_, refl, sym, ap, ap₂, _∙_}
-use mathlib.Core.List.{List, [], _∷_, _++_}
+use mathlib.Core.List.{List, [], _∷_}
 use Prim.Native.Nat.{ℕ, _<_}
 use lib.ListN.{take}
 use Rattle.records.specs.Digest.{rollStep, rollFrom, rollOf}

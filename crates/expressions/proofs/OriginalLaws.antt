@@ -25,9 +25,6 @@ use Rattle.expressions.specs.Slots.{originalWord, Original, Scoped, Aske
 -- ---- numbers that stay
 
 module _ (tree s s′ : List ℕ) (same : (r : ℕ) → r < records tree → wordAt s′ (originalAt (records tree) r) ≡ wordAt s (originalAt (records tree) r)) where
-  pub numbers-stay : (text : List ℕ) → Numbered tree text s → Numbered tree text s′
-  numbers-stay text numbered r h t = same r h ∙ numbered r h t
-
   pub word-stays : (r k : ℕ) → r < records tree → originalWord tree s′ r k ≡ originalWord tree s r k
   word-stays r k h = ap (λ (z : ℕ). wordOf tree z k) (same r h)
 
@@ -45,7 +42,7 @@ module _ (tree s s′ : List ℕ) (same : (r : ℕ) → r < records tree → wor
 -- words A and B of the lowest record with the text say the text
 origin-says : (tree text s : List ℕ) → Numbered tree text s → (r : ℕ) → r < records tree → hasOwn tree r ≡ true
     → textAt text (originalWord tree s r A) (originalWord tree s r B) ≡ ownText tree text r
-origin-says tree text s numbered r h t = rw (numbered r h t) (original-text tree text r h t)
+origin-says tree text s numbered r h t = rw (numbered .number r h t) (original-text tree text r h t)
 
 -- a record of a kind that has a text
 pub kind-has : (tree : List ℕ) (k r : ℕ) → hasText k ≡ true → kindOf tree r ≡ k → hasOwn tree r ≡ true
@@ -85,7 +82,7 @@ module _ {tree text s : List ℕ} {sc : Scope} {r : ℕ} (q : Asked tree text s 
     number-is = eo ∙ ap (λ (n : ℕ). wordAt s (originalAt n r)) (q .scoped .records-are)
 
     pub number-below : o < records tree
-    number-below = rw (number-is ∙ q .numbered r (q .below) (q .has-text)) (original-below tree text r (q .below) (q .has-text))
+    number-below = rw (number-is ∙ q .numbered .number r (q .below) (q .has-text)) (original-below tree text r (q .below) (q .has-text))
 
     pub origin-inside : o * 32 + 32 ≤ length tree
     origin-inside = inside tree text (q .good) o number-below

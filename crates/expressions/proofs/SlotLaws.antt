@@ -18,8 +18,9 @@ use Rattle.syntax.specs.Places.{TypeAt}
 use Rattle.keys.specs.Keys.{Listed, keySlotAt, keyDigestAt, Keyed}
 use Rattle.keys.proofs.KeyDigestLaws.{digests-stay}
 use Rattle.keys.proofs.SlotLaws.{slots-stay}
-use Rattle.texts.specs.Texts.{originalAt}
-use Rattle.expressions.proofs.OriginalLaws.{original-stays, numbers-stay}
+use Rattle.texts.specs.Texts.{originalAt, textDigestAt}
+use Rattle.texts.proofs.TextLaws.{numbered-stays}
+use Rattle.expressions.proofs.OriginalLaws.{original-stays}
 use Rattle.expressions.specs.Slots.{Scoped, Frame, Ready}
 use Rattle.keys.proofs.KeySearch.{records-most}
 
@@ -110,13 +111,13 @@ module _ (tree s s′ : List ℕ) (f : Frame tree s s′) where
   pub keyed-frame : (text : List ℕ) (count : ℕ) → Keyed tree text s count → Keyed tree text s′ count
   keyed-frame text count k = record {
     good = k .good;
-    numbered = numbers-stay tree s s′ number-frame text (k .numbered);
+    numbered = numbered-stays tree text s s′ number-frame (λ r h. frame-word (textDigestAt (records tree) r) (inr (omega arith))) (k .numbered);
     distinct = k .distinct;
     listed = listed-frame count (k .listed);
     slots = slots-stay tree text s s′ (λ o h. frame-word (keySlotAt (records tree) o) (inr (omega arith, omega arith))) _ (k .slots);
     digests =
         digests-stay tree text s s′ count (λ j h. frame-word (4 * j) (inl (omega (arith, k .listed .counted, records-most tree (records tree)))))
-        (λ j h. frame-word (keyDigestAt (records tree) j) (inr (omega arith, omega arith))) (k .digests);
+        (λ j h. frame-word (keyDigestAt (records tree) j) (inr (omega arith, omega (arith, k .listed .counted, records-most tree (records tree))))) (k .digests);
   }
 
   pub ready-frame : (text : List ℕ) (count : ℕ) (sc : Scope) → Ready tree text s count sc → Ready tree text s′ count sc

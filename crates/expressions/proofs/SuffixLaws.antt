@@ -1,14 +1,13 @@
--- What the first cell of typed arguments adds to their suffixes, and what the three loops over cells keep: what was asked equals what is left.
+-- What the first cell of typed arguments adds to their suffixes, and what the loops over cells keep: what was asked equals what is left.
 -- By what a cell is, and by the pieces of the text. Assumes nothing.
 use mathlib.Core.Path.{_≡_, refl, sym, ap, ap₂, _∙_}
 use mathlib.Core.Bool.{Bool, true, false, _&&_}
 use mathlib.Core.List.{List, [], _∷_, _++_}
 use Prim.Native.Nat.{ℕ, zero, suc, _+_, _-_, _*_, _^_, _≤_, _<_}
-use native.Mathlib.Numerals.{add-one}
 use native.Mathlib.Omega.{arith}
-use lib.Dec.{eqb, leb}
-use lib.ListN.{length, take, drop, getD, length-drop}
-use borrow.Author.Tests.{eqb-true, eqb-false, eq-eqb, ne-eqb, leb-true, leb-false}
+use lib.Dec.{eqb}
+use lib.ListN.{length, take, drop, getD}
+use borrow.Author.Tests.{eqb-true, eqb-false, eq-eqb, ne-eqb}
 use Rattle.laws.proofs.Tests.{tested}
 use Rattle.records.specs.declared.shape.Role.the-variants.{Arguments}
 use Rattle.records.specs.Words.{byteAt, wordAt, wordOf, kindOf, textAt, records, none, A, B}
@@ -17,7 +16,6 @@ use Rattle.syntax.specs.Syntax.{Text, Expr, Args, Value, ToType, place}
 use Rattle.syntax.specs.Decode.{program, textOf, keyAt}
 use Rattle.conversion.specs.Ir.{sameText}
 use Rattle.conversion.specs.Expressions.{dollar, suffixes, joined}
-use Rattle.records.specs.declared.words.Found.{Found}
 use Rattle.records.specs.declared.words.Found.the-variants as Found
 use Rattle.records.proofs.RollLaws.{text-split}
 use Rattle.records.proofs.TextLaws.{text-length}
@@ -26,9 +24,9 @@ use Rattle.syntax.specs.Places.{exprAt, argsAt}
 use Rattle.keys.specs.Parts.{PartIs}
 use Rattle.keys.specs.Keys.{allKeys}
 use Rattle.expressions.specs.Slots.{slotAt, slotted, ArgsTyped, FirstType}
-use Rattle.expressions.specs.Calls.{typedAt, suffixesAt, bytesIn, Argued, PrefixIs, so-many, no-number}
+use Rattle.expressions.specs.Calls.{typedAt, suffixesAt, bytesIn, Argued}
 use Rattle.syntax.proofs.Lists.{args-end, left, left-most, next-falls, Cell, cell-is, value-item, type-item}
-use Rattle.expressions.proofs.NameLaws.{same-append, part-length, part-one, joined-verb, bytes-more}
+use Rattle.expressions.proofs.NameLaws.{same-append, part-length, part-one, joined-verb}
 
 -- ---- words and key texts are short
 
@@ -134,16 +132,16 @@ module _ (tree text s : List ℕ) where
       let z : bytesIn (suffixesAt tree text s w) ≡ 0 = ap bytesIn (no-suffixes tree text s w (h .argued .good) e) in
       (omega (arith, h .sum), omega (arith, h .small))
 
--- ---- as many suffixes as have so many bytes
+-- ---- one suffix after the other
 
 -- the element at k and what stands behind it
-record Next (tree text s : List ℕ) (l : List Text) (k : ℕ) (x : Text) (r : List Text) : Type 0 where
+pub record Next (tree text s : List ℕ) (l : List Text) (k : ℕ) (x : Text) (r : List Text) : Type 0 where
   pub after : drop (suc k) l ≡ r
   pub inside : k < length l
   pub more : bytesIn (take (suc k) l) ≡ bytesIn (take k l) + length x
 
 module _ (tree text s : List ℕ) where
-  next-is : (l : List Text) (k : ℕ) (x : Text) (r : List Text) → drop k l ≡ x ∷ r → Next tree text s l k x r
+  pub next-is : (l : List Text) (k : ℕ) (x : Text) (r : List Text) → drop k l ≡ x ∷ r → Next tree text s l k x r
   unfolding bytesIn
   next-is [] zero x r e = absurd (let z : _≡_ {A = ℕ} 0 1 = cc in omega arith)
   next-is [] (suc k) x r e = absurd (let z : _≡_ {A = ℕ} 0 1 = cc in omega arith)
@@ -153,58 +151,6 @@ module _ (tree text s : List ℕ) where
   next-is (a ∷ l) (suc k) x r e =
       let h = next-is l k x r e in
       record { after = h .after; inside = omega (arith, h .inside); more = omega (arith, h .more) }
-
--- k suffixes were passed, up to cell w, and `rem` bytes are rem
-pub record Passed (tree text s : List ℕ) (first bytes rem w k : ℕ) : Type 0 where
-  pub argued : Argued tree text s w
-  pub here : drop k (suffixesAt tree text s first) ≡ suffixesAt tree text s w
-  pub inside : k ≤ length (suffixesAt tree text s first)
-  pub sum : bytes ≡ bytesIn (take k (suffixesAt tree text s first)) + rem
-  pub few : k + rem ≤ bytes
-
-module _ (tree text s : List ℕ) (first bytes : ℕ) where
-  pub pass-start : Argued tree text s first → Passed tree text s first bytes bytes first 0
-  unfolding bytesIn
-  pass-start a = record { argued = a; here = refl; inside = omega arith; sum = omega arith; few = omega arith }
-
-  module _ (rem w k : ℕ) (h : Passed tree text s first bytes rem w k) where
-    -- the present suffix
-    at-cell : (y : ℕ) → First tree text s w y
-        → Next tree text s (suffixesAt tree text s first) k (dollar ∷ keyAt tree text y) (suffixesAt tree text s (wordOf tree w B))
-    at-cell y f = next-is tree text s (suffixesAt tree text s first) k (dollar ∷ keyAt tree text y) (suffixesAt tree text s (wordOf tree w B)) (h .here ∙ f .is)
-
-    pub pass-more : (y : ℕ) (p : Part) → First tree text s w y → PartIs text p (keyAt tree text y) → p .1 < rem
-        → Passed tree text s first bytes (rem - p .1 - 1) (wordOf tree w B) (k + 1)
-    pass-more y p f i m =
-        let x = at-cell y f in
-        let z : k + 1 ≡ suc k = add-one k in
-        record {
-          argued = f .rest;
-          here = rw z (x .after);
-          inside = omega (arith, x .inside);
-          sum = rw z (omega (arith, x .more, h .sum, key-size tree text y p i));
-          few = omega (arith, h .few);
-        }
-
-    pub pass-hit : rem ≤ 0 → PrefixIs tree text s first bytes (Found.At k)
-    pass-hit z = so-many (h .inside) (omega (arith, h .sum))
-
-    -- all suffixes have fewer bytes
-    pub pass-end : 0 < rem → w ≡ none → PrefixIs tree text s first bytes Found.Nothing
-    pass-end m e = no-number (λ j hj q. omega (arith, q, h .sum, bytes-more tree text s (suffixesAt tree text s first) j k (below j hj)))
-      where
-        below : (j : ℕ) → j ≤ length (suffixesAt tree text s first) → j ≤ k
-        below j hj = omega (arith, simple)
-          where
-            simple : length (suffixesAt tree text s first) - k ≡ 0
-            simple = sym (length-drop k (suffixesAt tree text s first)) ∙ ap length (h .here ∙ no-suffixes tree text s w (h .argued .good) e)
-
-    -- so many have fewer, and one more has more
-    pub pass-over : (y : ℕ) (p : Part) → First tree text s w y → PartIs text p (keyAt tree text y) → 0 < rem → rem ≤ p .1
-        → PrefixIs tree text s first bytes Found.Nothing
-    pass-over y p f i m o = no-number (λ j hj q. tested (leb j k)
-        (λ t. omega (arith, q, h .sum, bytes-more tree text s (suffixesAt tree text s first) j k (leb-true j k t)))
-        (λ g. omega (arith, q, h .sum, at-cell y f .more, key-size tree text y p i, bytes-more tree text s (suffixesAt tree text s first) (suc k) j (leb-false j k g))))
 
 -- ---- the suffixes in the text, piece by piece
 

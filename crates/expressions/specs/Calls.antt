@@ -41,6 +41,11 @@ pub record CallAt (tree text : List ℕ) (r : ℕ) (c : Call) : Type 0 where
   pub first : c .first ≡ wordOf tree r C
   pub count : (s : List ℕ) → c .count ≡ length (slotted tree s (argsAt tree text (wordOf tree r C)))
 
+-- what was found last
+abbrev pub laterOf : Found → Found → Found
+laterOf first (Found.At f) = Found.At f
+laterOf first Found.Nothing = first
+
 module _ (tree text s : List ℕ) where
   -- the arguments from cell w on, each with the type that its slot has
   unfoldable pub typedAt : ℕ → List TypedArg
@@ -82,16 +87,6 @@ module _ (tree text s : List ℕ) where
   TakesFirst (p ∷ ps) [] b = ⊥
   TakesFirst (p ∷ ps) (a ∷ l) b = b ≡ takesArg (program tree text) (allKeys tree text) p a
 
-  -- the number of suffixes that have `left` bytes in all, if any
-  pub data PrefixIs (w left : ℕ) : Found → Type 0 where
-    so-many : {k : ℕ} → k ≤ length (suffixesAt w) → bytesIn (take k (suffixesAt w)) ≡ left → PrefixIs w left (Found.At k)
-    no-number : ((k : ℕ) → k ≤ length (suffixesAt w) → bytesIn (take k (suffixesAt w)) ≡ left → ⊥) → PrefixIs w left Found.Nothing
-
-  -- the number of arguments whose types a key has before its `$...`, if it is such a key of the verb
-  pub data VariadicKey (c : Call) (key : Text) : Found → Type 0 where
-    so-many : {k : ℕ} → k ≤ c .count → key ≡ nameOf c k ++ variadicMark → VariadicKey c key (Found.At k)
-    no-number : ((k : ℕ) → k ≤ c .count → key ≡ nameOf c k ++ variadicMark → ⊥) → VariadicKey c key Found.Nothing
-
   -- ---- the definitions' functions at a call, its arguments' types in scratch
 
   abbrev pub takesAllAt : ℕ → ℕ → Bool
@@ -114,6 +109,10 @@ module _ (tree text s : List ℕ) where
 
   abbrev pub byFullName : Call → Option Function
   byFullName c = mangledFunction (program tree text) (allKeys tree text) (nameOf c (c .count))
+
+  -- the verb with the first k suffixes and `$...`
+  abbrev pub byMarked : Call → ℕ → Option Function
+  byMarked c k = mangledFunction (program tree text) (allKeys tree text) (nameOf c k ++ variadicMark)
 
   abbrev pub byPrefix : Call → Option Function
   byPrefix c = variadicFunction (program tree text) (allKeys tree text) (verbOf c) (suffixesAt (c .first))

@@ -3,15 +3,17 @@
 ghost use mathlib.Core.Path.{_≡_};
 ghost use Prim.Native.Nat.{_+_, _≤_, _<_, _^_};
 ghost use lib.ListN.{length, take};
+ghost use mathlib.Core.List.{_++_};
 ghost use mathlib.Core.Option.{some};
-ghost use Rattle.records.specs.Digest.{rollOf};
+ghost use Rattle.records.specs.Digest.{rollFrom, rollOf};
 ghost use Rattle.records.specs.Words.{textAt};
 ghost use Rattle.records.specs.Good.{Good};
 ghost use Rattle.conversion.specs.Ir.{sameText};
-ghost use Rattle.conversion.specs.Expressions.{is-mangled, filterOption};
+ghost use Rattle.conversion.specs.Expressions.{is-mangled, filterOption, variadicMark};
 ghost use Rattle.syntax.specs.Places.{FunctionAt, functionOf};
-ghost use Rattle.keys.specs.Keys.{functionKey, Keyed, FunctionIs};
-ghost use Rattle.expressions.specs.Calls.{suffixesAt, nameOf, bytesIn, Argued, Called, PrefixIs, VariadicKey, suffixText, byName, byFullName, byPrefix, exactly};
+ghost use Rattle.texts.specs.Texts.{Numbered};
+ghost use Rattle.keys.specs.Keys.{Keyed, FunctionIs};
+ghost use Rattle.expressions.specs.Calls.{suffixesAt, verbOf, nameOf, bytesIn, Argued, Called, suffixText, byName, byFullName, byMarked, laterOf, byPrefix, exactly};
 use crate::arguments::Call;
 use crate::arguments::END;
 use crate::arguments::argument_type;
@@ -29,8 +31,11 @@ use records::texts::roll;
 use records::texts::roll_byte;
 use records::texts::same_part;
 use records::words::Found;
+use texts::kept_digest;
 
 const DOLLAR: u8 = 36;
+
+const DOT: u8 = 46;
 
 // How many bytes `$` and the key text of each argument's type have.
 fn suffix_bytes(tree: &[u8], text: &[u8], scratch: &[u8], first: usize) -> usize
@@ -135,12 +140,21 @@ fn mangled_only(tree: &[u8], text: &[u8], f: usize) -> Found
     Found::Nothing
 }
 
+// The verb's digest, which stands in scratch at the slot of its number.
+fn verb_digest(tree: &[u8], text: &[u8], scratch: &[u8], call: Call) -> u32
+    requires { ⌜ Called (now tree) (now text) (now scratch) call × Numbered (now tree) (now text) (now scratch) ⌝ }
+    ensures { λ d. ⌜ (d ≡ rollOf (verbOf (now (tree .entry)) (now (text .entry)) (now (scratch .entry)) call)) × (d < 4294967291) ⌝ }
+{
+    let n = tree.len() / 32;
+    kept_digest(scratch, n, call.verb)
+}
+
 // The digest of the verb with all suffixes, which goes on from the verb's.
 fn full_digest(tree: &[u8], text: &[u8], scratch: &[u8], call: Call) -> u32
-    requires { ⌜ Called (now tree) (now text) (now scratch) call ⌝ }
+    requires { ⌜ Called (now tree) (now text) (now scratch) call × Numbered (now tree) (now text) (now scratch) ⌝ }
     ensures { λ d. ⌜ d ≡ rollOf (nameOf (now (tree .entry)) (now (text .entry)) (now (scratch .entry)) call (call .count)) ⌝ }
 {
-    let mut d = roll(text, 1, call.offset, call.len);
+    let mut d = verb_digest(tree, text, scratch, call);
     let mut cell = call.first;
     while cell != END {
         let key = type_key(tree, text, argument_type(tree, text, scratch, cell));
@@ -200,72 +214,108 @@ fn by_whole_name(tree: &[u8], text: &[u8], scratch: &[u8], functions: usize, cal
     by_full_name(tree, text, scratch, functions, call)
 }
 
-// How many of the arguments' suffixes have `bytes` bytes in all.
-fn suffixes_of(tree: &[u8], text: &[u8], scratch: &[u8], first: usize, bytes: usize) -> Found
-    requires { ⌜ Argued (now tree) (now text) (now scratch) first ⌝ }
-    ensures { λ r. ⌜ PrefixIs (now (tree .entry)) (now (text .entry)) (now (scratch .entry)) first bytes r ⌝ }
+// The digest of a text with `$...` behind it, from the text's.
+fn marked_digest(d: u32) -> u32
+    requires { ⌜ d < 4294967291 ⌝ }
+    ensures { λ r. ⌜ r ≡ rollFrom d variadicMark ⌝ }
 {
-    let mut left = bytes;
-    let mut cell = first;
-    let mut k = 0;
-    while 0 < left {
-        if cell == END {
-            return Found::Nothing;
-        }
-        let key = type_key(tree, text, argument_type(tree, text, scratch, cell));
-        if left <= key.1 {
-            return Found::Nothing;
-        }
-        left = left - key.1 - 1;
-        cell = next_cell(tree, text, cell);
-        k += 1;
-    }
-    Found::At(k)
+    roll_byte(roll_byte(roll_byte(roll_byte(d, DOLLAR), DOT), DOT), DOT)
 }
 
-// Of how many arguments a function's key has the types before its `$...`, if it is such a key of the verb.
-fn variadic_key(tree: &[u8], text: &[u8], scratch: &[u8], call: Call, f: usize) -> Found
+// Whether a key is the verb with the first k suffixes, `size` bytes, and `$...`.
+fn is_marked(
+    tree: &[u8],
+    text: &[u8],
+    scratch: &[u8],
+    call: Call,
+    k: usize,
+    size: usize,
+    key: Part,
+) -> bool
     requires { ⌜ Called (now tree) (now text) (now scratch) call ⌝ }
-    requires { ⌜ FunctionAt (now tree) f ⌝ }
-    ensures { λ r. ⌜ VariadicKey (now (tree .entry)) (now (text .entry)) (now (scratch .entry)) call (functionKey (functionOf (now (tree .entry)) (now (text .entry)) f)) r ⌝ }
+    requires { ⌜ (k ≤ call .count) × (size ≡ length (nameOf (now tree) (now text) (now scratch) call k)) × (key .0 + key .1 ≤ length (now text)) ⌝ }
+    ensures { λ r. ⌜ r ≡ sameText (textAt (now (text .entry)) (key .0) (key .1)) (nameOf (now (tree .entry)) (now (text .entry)) (now (scratch .entry)) call k ++ variadicMark) ⌝ }
 {
-    let key = key_of(tree, text, f);
-    if key.1 < call.len + 4 {
-        return Found::Nothing;
+    let at = key.0;
+    if key.1 < 4 {
+        return false;
     }
-    let before = key.1 - 4;
-    if !is_variadic_mark(text, Part(key.0 + before, 4)) {
-        return Found::Nothing;
+    if key.1 - 4 != size {
+        return false;
     }
-    let left = before - call.len;
-    if let Found::At(k) = suffixes_of(tree, text, scratch, call.first, left) {
-        if is_name(tree, text, scratch, call, k, Part(key.0, before)) {
-            return Found::At(k);
+    if !is_variadic_mark(text, Part(at + size, 4)) {
+        return false;
+    }
+    is_name(tree, text, scratch, call, k, Part(at, size))
+}
+
+// The verb with the first k suffixes, `size` bytes, and `$...` as a key.
+fn by_marked(
+    tree: &[u8],
+    text: &[u8],
+    scratch: &[u8],
+    functions: usize,
+    call: Call,
+    k: usize,
+    size: usize,
+    digest: u32,
+) -> Found
+    requires { ⌜ Keyed (now tree) (now text) (now scratch) functions ⌝ }
+    requires { ⌜ Called (now tree) (now text) (now scratch) call ⌝ }
+    requires { ⌜ (k ≤ call .count) × (size ≡ length (nameOf (now tree) (now text) (now scratch) call k)) × (digest ≡ rollOf (nameOf (now tree) (now text) (now scratch) call k ++ variadicMark)) ⌝ }
+    ensures { λ r. ⌜ FunctionIs (now (tree .entry)) (now (text .entry)) r (byMarked (now (tree .entry)) (now (text .entry)) (now (scratch .entry)) call k) ⌝ }
+{
+    let n = tree.len() / 32;
+    let mut j = 0;
+    while j < functions {
+        if key_digest(scratch, n, j) == digest {
+            let f = function_at(tree, scratch, functions, j);
+            let key = key_of(tree, text, f);
+            if is_marked(tree, text, scratch, call, k, size, key) {
+                return mangled_only(tree, text, f);
+            }
         }
+        j += 1;
     }
     Found::Nothing
 }
 
-// The Rust's `variadic`, the longest prefix with `$...`: each function is looked at once, and the one with the most types is kept.
+// What was found last.
+fn later(first: Found, then: Found) -> Found
+    ensures { λ r. ⌜ r ≡ laterOf first then ⌝ }
+{
+    match then {
+        Found::At(f) => Found::At(f),
+        Found::Nothing => first,
+    }
+}
+
+// The Rust's `variadic`, the longest prefix with `$...`: each prefix is looked for by its digest, from the shortest on, and the last that is found is kept.
 fn by_prefix(tree: &[u8], text: &[u8], scratch: &[u8], functions: usize, call: Call) -> Found
     requires { ⌜ Keyed (now tree) (now text) (now scratch) functions ⌝ }
     requires { ⌜ Called (now tree) (now text) (now scratch) call ⌝ }
     ensures { λ r. ⌜ FunctionIs (now (tree .entry)) (now (text .entry)) r (byPrefix (now (tree .entry)) (now (text .entry)) (now (scratch .entry)) call) ⌝ }
 {
     let mut best = Found::Nothing;
-    let mut most = 0;
-    let mut j = 0;
-    while j < functions {
-        let f = function_at(tree, scratch, functions, j);
-        if let Found::At(k) = variadic_key(tree, text, scratch, call, f) {
-            if (most <= k) & is_mangled(tree, text, f) {
-                best = Found::At(f);
-                most = k + 1;
-            }
-        }
-        j += 1;
+    let mut digest = verb_digest(tree, text, scratch, call);
+    let mut size = call.len;
+    let mut cell = call.first;
+    let mut k = 0;
+    while cell != END {
+        let marked = marked_digest(digest);
+        let found = by_marked(tree, text, scratch, functions, call, k, size, marked);
+        best = later(best, found);
+        let key = type_key(tree, text, argument_type(tree, text, scratch, cell));
+        digest = roll(text, roll_byte(digest, DOLLAR), key.0, key.1);
+        size = size + 1 + key.1;
+        cell = next_cell(tree, text, cell);
+        k += 1;
     }
-    best
+    let marked = marked_digest(digest);
+    later(
+        best,
+        by_marked(tree, text, scratch, functions, call, k, size, marked),
+    )
 }
 
 pub(crate) fn find_exact_function(

@@ -33,12 +33,12 @@ use Rattle.functions.specs.declared.functions.AllFunctions.the-variants 
 use Rattle.syntax.specs.Places.{TypeAt, FunctionAt, functionOf}
 use Rattle.keys.specs.Parts.{PartIs}
 use Rattle.keys.specs.Keys.{functionKey, keysBelow, functionPlaces, Listed, KeySlots, keyEntered, functionFound}
-use Rattle.texts.specs.Texts.{originalAt, Numbered}
+use Rattle.texts.specs.Texts.{originalAt, textDigestAt, Numbered}
 use Rattle.functions.specs.Functions.{TurnMeets, listedIn, ListKeeps, AllMeet, done, refused}
 use Rattle.expressions.specs.Answers.{refusal, outcomeOf, doneWith}
 use Rattle.syntax.proofs.Records.{function-rec, function-return, return-is}
 use Rattle.functions.proofs.Listing.{listed-length, are-listed, listed-behind, still-numbered}
-use Rattle.expressions.proofs.OriginalLaws.{numbers-stay}
+use Rattle.texts.proofs.TextLaws.{numbered-stays}
 use Rattle.expressions.proofs.OperandLaws.{int-form}
 use Rattle.functions.proofs.Turns.{Left, left-start, left-more, left-stop, left-end, MainLeft, main-more, main-hit, main-end}
 use Rattle.keys.proofs.KeySearch.{records-most}
@@ -207,7 +207,7 @@ pub record Entered (tree text s₀ s : List ℕ) (count j : ℕ) : Type 0 where
   pub slots : KeySlots tree text s (keysBelow tree text j)
   pub keeps : ListKeeps tree s₀ s
 
--- what stands before the slots stays, so the list and the texts' numbers do
+-- what stands before the slots stays, so the list and the texts' numbers do; and what stands behind them, the texts' digests
 module _ (tree s s′ : List ℕ) (long : length s′ ≡ length s) (same : (i : ℕ) → i < 44 * records tree → getD s′ i 0 ≡ getD s i 0) where
   word-before : (p : ℕ) → p + 4 ≤ 44 * records tree → wordAt s′ p ≡ wordAt s p
   word-before p h =
@@ -220,8 +220,14 @@ module _ (tree s s′ : List ℕ) (long : length s′ ≡ length s) (same : (i :
     listed = λ j h. word-before (4 * j) (omega (arith, l .counted, records-most tree (records tree))) ∙ l .listed j h;
   }
 
-  texts-stay : (text : List ℕ) → Numbered tree text s → Numbered tree text s′
-  texts-stay = numbers-stay tree s s′ (λ r h. word-before (originalAt (records tree) r) (omega arith))
+  module _ (rest : (i : ℕ) → 48 * records tree ≤ i → getD s′ i 0 ≡ getD s i 0) where
+    word-behind : (p : ℕ) → 48 * records tree ≤ p → wordAt s′ p ≡ wordAt s p
+    word-behind p h =
+        word-same s′ p s p (rest p (omega arith)) (rest (p + 1) (omega arith)) (rest (p + 2) (omega arith)) (rest (p + 3) (omega arith))
+
+    texts-stay : (text : List ℕ) → Numbered tree text s → Numbered tree text s′
+    texts-stay text =
+        numbered-stays tree text s s′ (λ r h. word-before (originalAt (records tree) r) (omega arith)) (λ r h. word-behind (textDigestAt (records tree) r) (omega arith))
 
 -- the functions are listed, and no slot is taken
 module _ (tree text s₀ : List ℕ) (count : ℕ) (good : Good tree text) (room : 72 * records tree ≤ length s₀) (s₁ s : List ℕ)
@@ -239,7 +245,7 @@ module _ (tree text s₀ : List ℕ) (count : ℕ) (good : Good tree text) (room
       record {
         below = omega arith;
         left = left-start tree text;
-        numbered = texts-stay tree s₁ s (c .long) (c .before) text (rw (made .0) (still-numbered tree text s₀ good room numbered));
+        numbered = texts-stay tree s₁ s (c .long) (c .before) (c .behind) text (rw (made .0) (still-numbered tree text s₀ good room numbered));
         listed = list-stays tree s₁ s (c .long) (c .before) count (rw (made .0) (are-listed tree text s₀ good room count (made .1)));
         slots = rw (keys-none tree text) (slots-none tree text s₁ s c);
         keeps = record { long = refl; between = λ i a b. refl; behind = λ i a. refl };
@@ -287,7 +293,7 @@ module _ (tree text s₀ : List ℕ) (count : ℕ) (good : Good tree text) where
           record {
             below = omega arith;
             left = left-more tree text j inside-list turn-done (w .left);
-            numbered = texts-stay tree s s′ long stays text (w .numbered);
+            numbered = texts-stay tree s s′ long stays (λ i a. entered-byte tree text s good (w .listed .room) f (is .1) s′ put i (inr a)) text (w .numbered);
             listed = list-stays tree s s′ long stays count (w .listed);
             slots = rw one-more (slots-more tree text s good (w .listed .room) f (is .1) s′ put (keysBelow tree text j) (w .slots) new);
             keeps = record {

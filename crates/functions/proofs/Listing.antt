@@ -16,12 +16,12 @@ use Rattle.records.specs.Words.{byteAt, wordAt, kindOf, records}
 use Rattle.records.specs.Good.{Good}
 use Rattle.conversion.specs.Written.{bytesOf, word}
 use Rattle.records.proofs.Apart.{word-same, byte-apart, word-apart, word-back}
-use Rattle.texts.specs.Texts.{originalAt, Numbered}
+use Rattle.texts.specs.Texts.{originalAt, textDigestAt, Numbered}
 use Rattle.keys.specs.Keys.{recordsBelow, functionPlaces, Listed}
 use Rattle.functions.specs.Functions.{words, listedIn}
 use Rattle.keys.proofs.FunctionLaws.{listed-kind}
 use Rattle.keys.proofs.KeySearch.{records-most}
-use Rattle.expressions.proofs.OriginalLaws.{numbers-stay}
+use Rattle.texts.proofs.TextLaws.{numbered-stays}
 
 -- ---- the records of the first n, one more at a time
 
@@ -164,11 +164,12 @@ module _ (tree text s : List ℕ) (good : Good tree text) (room : 72 * records t
   unfolding listedIn
   listed-behind i h = byte-apart s 0 (words (functionPlaces tree)) inside-scratch i (inr (omega (arith, words-length (functionPlaces tree))))
 
-  -- the list ends before the texts' numbers
+  -- the list ends before the texts' numbers and digests
   pub still-numbered : Numbered tree text s → Numbered tree text (listedIn tree s)
   unfolding listedIn
   still-numbered =
-      numbers-stay tree s (splice s 0 (words (functionPlaces tree)))
+      numbered-stays tree text s (splice s 0 (words (functionPlaces tree)))
       (λ r h. word-apart s 0 (words (functionPlaces tree)) inside-scratch (originalAt (records tree) r)
       (inr (omega (arith, words-length (functionPlaces tree), records-most tree (records tree)))))
-      text
+      (λ r h. word-apart s 0 (words (functionPlaces tree)) inside-scratch (textDigestAt (records tree) r)
+      (inr (omega (arith, words-length (functionPlaces tree), records-most tree (records tree)))))

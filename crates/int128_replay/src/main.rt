@@ -6,7 +6,7 @@ use int128::Int128;
 use libc::STDIN_FILENO;
 use libc::STDOUT_FILENO;
 
-fn digit(b: u8) -> u64
+fn hex_digit(b: u8) -> u64
     ensures { λ r. ⌜ r < 16 ⌝ }
 {
     if b >= 48 {
@@ -23,13 +23,13 @@ fn digit(b: u8) -> u64
 }
 
 // The number that 16 digits spell, from an index on.
-fn word(line: &[u8; 66], from: usize) -> u64
+fn hex_word(line: &[u8; 66], from: usize) -> u64
     requires { ⌜ from + 16 ≤ 66 ⌝ }
 {
     let mut value: u64 = 0;
     let mut i: usize = 0;
     while i < 16 {
-        value = value % 0x1000_0000_0000_0000 * 16 + digit(line[from + i]);
+        value = value % 0x1000_0000_0000_0000 * 16 + hex_digit(line[from + i]);
         i += 1;
     }
     value
@@ -71,7 +71,7 @@ fn apply_other(op: u8, a: Int128, b: Int128) -> Checked {
     }
 }
 
-fn print(answer: Checked) {
+fn print_checked(answer: Checked) {
     match answer {
         Checked::Value(x) => {
             io::write_all(STDOUT_FILENO, b"1 ");
@@ -89,18 +89,18 @@ fn print(answer: Checked) {
 fn run(line: &[u8; 66]) {
     let op = line[0];
     let a = Int128 {
-        hi: word(line, 1),
-        lo: word(line, 17),
+        hi: hex_word(line, 1),
+        lo: hex_word(line, 17),
     };
     let b = Int128 {
-        hi: word(line, 33),
-        lo: word(line, 49),
+        hi: hex_word(line, 33),
+        lo: hex_word(line, 49),
     };
-    print(apply(op, a, b));
+    print_checked(apply(op, a, b));
 }
 
 // One case; false where none is left.
-fn step() -> bool {
+fn next_line() -> bool {
     let mut line = [0u8; 66];
     let n = io::read_full(STDIN_FILENO, &mut line);
     if n < 66 {
@@ -113,7 +113,7 @@ fn step() -> bool {
 fn main() {
     let mut left: u32 = 100_000;
     while 0 < left {
-        if !step() {
+        if !next_line() {
             return;
         }
         left -= 1;

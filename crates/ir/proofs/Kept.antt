@@ -12,7 +12,8 @@ use Rattle.conversion.specs.Ir.{State, LabelName, StringEntry, FloatEntry}
 use Rattle.conversion.specs.Written.{encodeInstr, encodeVar, encodeLabel, encodeFunctions, encodeString, encodeFloat, allCode, allVars, allLabels}
 use Rattle.conversion.proofs.Bytes.{functions-length}
 use Rattle.ir.specs.declared.structs.Counters.{Counters}
-use Rattle.ir.specs.Arena.{Has, Table, encodeDigest, TablesSoFar, LabelFits, StringStands, FloatFits, Holds, Room}
+use Rattle.conversion.specs.Fits.{StringStands, FloatFits}
+use Rattle.ir.specs.Arena.{Has, Table, encodeDigest, TablesSoFar, LabelFits, Holds, Room}
 use Rattle.ir.specs.Steps.{grown, moreInstructions, moreVariables, moreLabels, moreStrings, moreFloats}
 use Rattle.ir.proofs.Entries.{written-length, has-before, has-behind, table-before, table-behind, table-grown}
 

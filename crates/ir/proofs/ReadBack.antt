@@ -18,7 +18,8 @@ use Rattle.records.proofs.DigestLaws.{digest-small, same-equal}
 use Rattle.conversion.specs.Ir.{LabelName, StringEntry, FloatEntry, position, sameLabel, sameText, sameFloat}
 use Rattle.conversion.specs.Written.{bytesOf, word, wide, boolNumber, encodeLabel, encodeString, encodeFloat, allLabels}
 use Rattle.ir.specs.declared.structs.Counters.{Counters}
-use Rattle.ir.specs.Arena.{encodeDigest, TablesSoFar, LabelFits, StringStands, FloatFits, Holds}
+use Rattle.conversion.specs.Fits.{StringStands, FloatFits}
+use Rattle.ir.specs.Arena.{encodeDigest, TablesSoFar, LabelFits, Holds}
 use Rattle.ir.specs.Steps.{named}
 use Rattle.ir.specs.Search.{first, pairAt, sameTextAt, stringIs, fourAt}
 use Rattle.ir.proofs.Entries.{table-word}

@@ -9,9 +9,9 @@ use lib.ListN.{length, take, drop}
 use Rattle.laws.specs.All.{All}
 use Rattle.records.specs.Digest.{digestOf}
 use Rattle.records.specs.Layout.{Region}
-use Rattle.records.specs.Words.{textAt}
 use Rattle.conversion.specs.Ir as Ir
 use Rattle.conversion.specs.Ir.{LabelName, StringEntry, FloatEntry, State, IrFunction}
+use Rattle.conversion.specs.Fits.{StringStands, FloatFits}
 use Rattle.conversion.specs.Written.{word, encodeAll, encodeInstr, encodeVar, encodeLabel, encodeFunctions, encodeString, encodeFloat, allCode, allVars, allLabels}
 use Rattle.ir.specs.declared.structs.Counters.{Counters}
 
@@ -84,15 +84,6 @@ pub record TablesSoFar : Type 0 where
 pub record LabelFits (l : LabelName) : Type 0 where
   pub kind : l .kind < 2 ^ 32
   pub opener : l .opener < 2 ^ 32
-
--- a string's place fits its words, and its text stands there
-pub record StringStands (text : List ℕ) (s : StringEntry) : Type 0 where
-  pub offset : s .offset < 2 ^ 32
-  pub len : s .len < 2 ^ 32
-  pub stands : s .text ≡ textAt text (s .offset) (s .len)
-
-pub record FloatFits (f : FloatEntry) : Type 0 where
-  pub bits : f .bits < 2 ^ 64
 
 -- how many functions are done, and how many instructions, variables and labels they have
 pub record Before (done : List IrFunction) (functions instructions variables labels : ℕ) : Type 0 where

@@ -10,7 +10,7 @@ use Rattle.laws.specs.Fix.{pick, below, fix}
 use Rattle.laws.specs.Below.{sumBelow}
 use Rattle.records.specs.declared.shape.Role.{Role}
 use Rattle.records.specs.declared.shape.Role.the-variants.{Unused, Number, Text, Length, Expr, TypeRef, TypeOrNone, Name, Variable, Arguments, Parameters, Body, Item, Rest}
-use Rattle.records.specs.Words.{kindOf, wordOf, none, A, B, C, D, E}
+use Rattle.records.specs.Words.{mostRecords, kindOf, wordOf, none, A, B, C, D, E}
 use Rattle.records.specs.Kinds.{kindType, kindInt, kindName, kindCall, kindList, kindValue, kindTypeArgument, kindDeclare, kindContinue, kindVariable}
 use Rattle.records.specs.Shapes.{rowAt}
 use Rattle.records.specs.Rules.{listStep, wordOk, wordsOk, formOk, otherwiseMarked, bodyMarked, isFirstType, typesFirst, refersTo, refersFrom, references}
@@ -28,6 +28,13 @@ pub record TypesLead (tree : List ℕ) (n count : ℕ) : Type 0 where
   pub within : count ≤ n
   pub types : (k : ℕ) → k < count → kindOf tree k ≡ 1
   pub other : count < n → kindOf tree count ≡ 1 → ⊥
+
+-- a tree of n whole records, no more than may be judged, whose first `count` records are its types, and room for what is known of each
+pub record Passing (tree : List ℕ) (n count : ℕ) (known : List ℕ) : Type 0 where
+  pub whole : n * 32 ≡ length tree
+  pub few : n ≤ mostRecords
+  pub room : 72 * n ≤ length known
+  pub lead : TypesLead tree n count
 
 -- a number that stops at `most`: a count at 2, a depth at 65
 unfoldable pub capped : ℕ → ℕ → ℕ

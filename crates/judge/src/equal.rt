@@ -4,11 +4,11 @@ ghost use mathlib.Core.Bool.{not};
 ghost use Prim.Native.Nat.{ℕ, _+_, _*_, _≤_, _<_};
 ghost use lib.ListN.{length};
 ghost use Rattle.laws.specs.Chain.{linkTo};
-ghost use Rattle.records.specs.Words.{kindOf, mostRecords};
+ghost use Rattle.records.specs.Words.{records, kindOf};
 ghost use Rattle.records.specs.Rules.{sameType, typeIsNew};
 ghost use Rattle.records.specs.Digest.{typeDigest};
 ghost use Rattle.records.specs.Chains.{ChainRoom};
-ghost use Rattle.judge.specs.Inner.{Lowest, TypesLead};
+ghost use Rattle.judge.specs.Inner.{Lowest, Passing};
 ghost use Rattle.judge.specs.Equal.{typeBucket, TypesChained};
 use crate::types::CUSTOM;
 use crate::types::same_type;
@@ -81,15 +81,8 @@ fn has_equal(
 }
 
 // The lowest of the leading types that equals an earlier one, or their count.
-pub(crate) fn first_equal(
-    tree: &[u8],
-    text: &[u8],
-    n: usize,
-    types: usize,
-    scratch: &mut [u8],
-) -> usize
-    requires { ⌜ (n * 32 ≡ length (now tree)) × (72 * n ≤ length (now scratch)) × (n ≤ mostRecords) ⌝ }
-    requires { ⌜ TypesLead (now tree) n types ⌝ }
+pub(crate) fn first_equal(tree: &[u8], text: &[u8], types: usize, scratch: &mut [u8]) -> usize
+    requires { ⌜ Passing (now tree) (records (now tree)) types (now scratch) ⌝ }
     ensures { λ v. ⌜ Lowest types (λ k. not (typeIsNew (now (tree .entry)) (now (text .entry)) k)) v × (length (now (scratch .exit)) ≡ length (now (scratch .entry))) ⌝ }
 {
     clear_heads(scratch, 4 * types);

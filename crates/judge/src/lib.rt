@@ -32,7 +32,7 @@ pub enum Judged {
     Refused(ConvertError),
 }
 
-pub(crate) fn refuse(kind: ConvertErrorKind, place: u32) -> Judged
+pub(crate) fn refuse_tree(kind: ConvertErrorKind, place: u32) -> Judged
     ensures { λ r. ⌜ r ≡ Judged.Refused (record { kind = kind; place = place }) ⌝ }
 {
     Judged::Refused(ConvertError { kind, place })
@@ -78,26 +78,27 @@ fn judge_records(tree: &[u8], text: &[u8], n: usize, scratch: &mut [u8]) -> Judg
     let fault = lowest.fault;
     let deep = lowest.deep;
     if fault < n {
-        return refuse(ConvertErrorKind::BadTree, fault as u32);
+        return refuse_tree(ConvertErrorKind::BadTree, fault as u32);
     }
     if deep < n {
-        return refuse(ConvertErrorKind::TooDeep, deep as u32);
+        return refuse_tree(ConvertErrorKind::TooDeep, deep as u32);
     }
     Judged::Accepted
 }
 
 // Judges a tree, given how long the outputs are. Rows one and two leave scratch as found; past them its bytes are the judge's own.
 pub fn judge_rows(tree: &[u8], text: &[u8], l: Lengths, scratch: &mut [u8]) -> Judged
-    ensures { λ r. ⌜ (r ≡ judged (now (tree .entry)) (now (text .entry)) l (length (now (scratch .entry)))) × JudgeKeeps (verdict (now (tree .entry)) (now (text .entry)) l (length (now (scratch .entry)))) (now (scratch .entry)) (now (scratch .exit)) ⌝ }
+    ensures { λ r. ⌜ r ≡ judged (now (tree .entry)) (now (text .entry)) l (length (now (scratch .entry))) ⌝ }
+    ensures { λ _. ⌜ JudgeKeeps (verdict (now (tree .entry)) (now (text .entry)) l (length (now (scratch .entry)))) (now (scratch .entry)) (now (scratch .exit)) ⌝ }
 {
     let n = tree.len() / 32;
     let lengths = lengths_ok(tree.len());
     let buffers = buffers_ok(n, l, scratch.len());
     if !lengths {
-        return refuse(ConvertErrorKind::BadTree, NONE);
+        return refuse_tree(ConvertErrorKind::BadTree, NONE);
     }
     if !buffers {
-        return refuse(ConvertErrorKind::ShortBuffer, NONE);
+        return refuse_tree(ConvertErrorKind::ShortBuffer, NONE);
     }
     judge_records(tree, text, n, scratch)
 }
@@ -130,7 +131,8 @@ fn has_no_place(answer: Judged) -> bool
 
 // The core: judges a tree, given how long the outputs are. Rows one and two leave scratch as found, the others leave it zero.
 pub fn judge_tree(tree: &[u8], text: &[u8], l: Lengths, scratch: &mut [u8]) -> Judged
-    ensures { λ r. ⌜ (r ≡ judged (now (tree .entry)) (now (text .entry)) l (length (now (scratch .entry)))) × (now (scratch .exit) ≡ scratchAfter (verdict (now (tree .entry)) (now (text .entry)) l (length (now (scratch .entry)))) (now (scratch .entry))) ⌝ }
+    ensures { λ r. ⌜ r ≡ judged (now (tree .entry)) (now (text .entry)) l (length (now (scratch .entry))) ⌝ }
+    ensures { λ _. ⌜ now (scratch .exit) ≡ scratchAfter (verdict (now (tree .entry)) (now (text .entry)) l (length (now (scratch .entry)))) (now (scratch .entry)) ⌝ }
 {
     let answer = judge_rows(tree, text, l, scratch);
     if has_no_place(answer) {

@@ -6,11 +6,11 @@ ghost use mathlib.Core.List.{List};
 ghost use Prim.Native.Nat.{ℕ, _+_, _*_, _≤_, _<_};
 ghost use lib.Dec.{ltb};
 ghost use lib.ListN.{length};
-ghost use Rattle.records.specs.Words.{mostRecords};
+ghost use Rattle.records.specs.Words.{records, mostRecords};
 ghost use Rattle.records.specs.Shapes.{rowAt, refers};
 ghost use Rattle.records.specs.Rules.{wordOk, recordOk};
 ghost use Rattle.records.specs.Depth.{depth as depthOf};
-ghost use Rattle.judge.specs.Inner.{Lowest, TypesLead, Known, Counting, Took, TookWords, WordsOf, TookRecord, TookAll, stored};
+ghost use Rattle.judge.specs.Inner.{Lowest, Passing, Known, Counting, Took, TookWords, WordsOf, TookRecord, TookAll, stored};
 use crate::equal::first_equal;
 use crate::nesting::depth_over;
 use crate::nesting::max;
@@ -128,7 +128,7 @@ fn take_words(tree: &[u8], bytes: usize, r: usize, row: Row, words: Words, known
     }
 }
 
-fn words_of(tree: &[u8], r: usize) -> Words
+fn five_words(tree: &[u8], r: usize) -> Words
     requires { ⌜ r * 32 + 32 ≤ length (now tree) ⌝ }
     ensures { λ v. ⌜ WordsOf (now (tree .entry)) r v ⌝ }
 {
@@ -154,22 +154,15 @@ fn put_known(known: &mut [u8], r: usize, class: u8, depth: u8, k: u8)
 }
 
 // Record r against every rule but two: that no two types are equal, and that it is referred to once.
-fn take_record(
-    tree: &[u8],
-    bytes: usize,
-    r: usize,
-    n: usize,
-    types: usize,
-    known: &mut [u8],
-) -> Told
-    requires { ⌜ (n * 32 ≡ length (now tree)) × (r < n) × (n ≤ mostRecords) × (72 * n ≤ length (now known)) × TypesLead (now tree) n types ⌝ }
+fn take_record(tree: &[u8], bytes: usize, r: usize, types: usize, known: &mut [u8]) -> Told
+    requires { ⌜ (r < records (now tree)) × Passing (now tree) (records (now tree)) types (now known) ⌝ }
     requires { ⌜ Known (now tree) r (now known) × Counting (now tree) r (now known) ⌝ }
     ensures { λ t. ⌜ TookRecord (now (tree .entry)) bytes r (now (known .entry)) (now (known .exit)) (t .ok) (t .depth) ⌝ }
 {
     let k = kind(tree, r);
     let found = detail(tree, r);
     let row = row_of(shape_of(k, found));
-    let words = words_of(tree, r);
+    let words = five_words(tree, r);
     let told = take_words(tree, bytes, r, row, words, known);
     let form = (pad(tree, r) == 0) & (found < row.limit) & told.ok;
     let marks = marks_ok(k, found, words.c, words.e);
@@ -200,14 +193,14 @@ fn next_lowest(found: usize, r: usize, ok: bool) -> usize
 
 // All records.
 fn pass(tree: &[u8], bytes: usize, n: usize, types: usize, known: &mut [u8]) -> Lowests
-    requires { ⌜ (n * 32 ≡ length (now tree)) × (n ≤ mostRecords) × (72 * n ≤ length (now known)) × TypesLead (now tree) n types ⌝ }
+    requires { ⌜ Passing (now tree) n types (now known) ⌝ }
     ensures { λ v. ⌜ TookAll (now (tree .entry)) bytes n (now (known .entry)) (now (known .exit)) (v .fault) (v .deep) ⌝ }
 {
     let mut fault = 0;
     let mut deep = 0;
     let mut r = 0;
     while r < n {
-        let told = take_record(tree, bytes, r, n, types, known);
+        let told = take_record(tree, bytes, r, types, known);
         let ok = told.ok;
         let low = told.depth <= DEEPEST;
         fault = next_lowest(fault, r, ok);
@@ -220,10 +213,12 @@ fn pass(tree: &[u8], bytes: usize, n: usize, types: usize, known: &mut [u8]) -> 
 // The lowest record that breaks a rule, and the lowest that is too deep, each n where there is none.
 pub(crate) fn lowest_records(tree: &[u8], text: &[u8], n: usize, scratch: &mut [u8]) -> Lowests
     requires { ⌜ (n * 32 ≡ length (now tree)) × (n ≤ mostRecords) × (72 * n ≤ length (now scratch)) ⌝ }
-    ensures { λ v. ⌜ Lowest n (λ k. not (recordOk (now (tree .entry)) (now (text .entry)) k)) (v .fault) × Lowest n (λ k. ltb 64 (depthOf (now (tree .entry)) k)) (v .deep) × (length (now (scratch .exit)) ≡ length (now (scratch .entry))) ⌝ }
+    ensures { λ v. ⌜ Lowest n (λ k. not (recordOk (now (tree .entry)) (now (text .entry)) k)) (v .fault) ⌝ }
+    ensures { λ v. ⌜ Lowest n (λ k. ltb 64 (depthOf (now (tree .entry)) k)) (v .deep) ⌝ }
+    ensures { λ _. ⌜ length (now (scratch .exit)) ≡ length (now (scratch .entry)) ⌝ }
 {
     let types = leading_types(tree, n);
-    let equal = first_equal(tree, text, n, types, scratch);
+    let equal = first_equal(tree, text, types, scratch);
     let passed = pass(tree, text.len(), n, types, scratch);
     let fault = passed.fault;
     let deep = passed.deep;

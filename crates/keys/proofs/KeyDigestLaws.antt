@@ -1,7 +1,7 @@
 -- The digests of the functions' keys: one more is written, and the functions stay listed, numbered and entered; and once all are written they stay where their bytes do.
--- The word is written behind all that was there. Assumes nothing.
+-- The word is written apart from all that was there. Assumes nothing.
 use mathlib.Core.Path.{_≡_, sym, ap, _∙_}
-use mathlib.Core.Logic.{inl}
+use mathlib.Core.Logic.{inl, inr}
 use mathlib.Core.List.{List}
 use Prim.Native.Nat.{ℕ, _+_, _*_, _≤_, _<_}
 use native.Mathlib.Omega.{arith}
@@ -13,7 +13,8 @@ use Rattle.records.specs.Digest.{rollOf}
 use Rattle.records.specs.Words.{byteAt, wordAt, bytesOf, word, records}
 use Rattle.records.proofs.Apart.{word-apart, word-there, word-back}
 use Rattle.syntax.specs.Places.{functionOf}
-use Rattle.texts.specs.Texts.{originalAt}
+use Rattle.texts.specs.Texts.{originalAt, textDigestAt}
+use Rattle.texts.proofs.TextLaws.{numbered-stays}
 use Rattle.keys.specs.Keys.{functionKey, keySlotAt, Mapped, Keyed, keyDigestAt, KeyDigests}
 use Rattle.keys.proofs.KeySearch.{records-most}
 use Rattle.keys.proofs.SlotLaws.{slots-stay}
@@ -33,6 +34,10 @@ module _ (tree text s : List ℕ) (count : ℕ) (m : Mapped tree text s count) (
   before : (p : ℕ) → p + 4 ≤ keyDigestAt (records tree) j → wordAt s′ p ≡ wordAt s p
   before p h = ap (λ (x : List ℕ). wordAt x p) e ∙ word-apart s (keyDigestAt (records tree) j) (word d) fit p (inl h)
 
+  behind : (p : ℕ) → keyDigestAt (records tree) j + 4 ≤ p → wordAt s′ p ≡ wordAt s p
+  unfolding word bytesOf
+  behind p h = ap (λ (x : List ℕ). wordAt x p) e ∙ word-apart s (keyDigestAt (records tree) j) (word d) fit p (inr h)
+
   written : d < 4294967296 → wordAt s′ (keyDigestAt (records tree) j) ≡ d
   unfolding word bytesOf wordAt byteAt
   written h =
@@ -47,7 +52,9 @@ module _ (tree text s : List ℕ) (count : ℕ) (m : Mapped tree text s count) (
   mapped-still =
       record {
         good = m .good;
-        numbered = λ r h t. before (originalAt (records tree) r) (omega arith) ∙ m .numbered r h t;
+        numbered =
+            numbered-stays tree text s s′ (λ r h. before (originalAt (records tree) r) (omega arith))
+            (λ r h. behind (textDigestAt (records tree) r) (omega (arith, count-most tree text s count m))) (m .numbered);
         distinct = m .distinct;
         listed =
             record {

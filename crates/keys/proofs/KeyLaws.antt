@@ -1,26 +1,24 @@
--- Keys of functions: one turn of `get_all_functions`, its turns one after the other, and that a listed function's key finds just that function.
+-- Keys of functions: one turn of `get_all_functions`, and its turns one after the other.
 -- By the cases of a turn, and by the functions one after the other. Assumes nothing.
 use mathlib.Core.Path.{_≡_, refl, sym, ap, _∙_}
 use mathlib.Core.Bool.{Bool, true, false, not, _&&_, _||_, false≢true}
-use mathlib.Core.List.{List, [], _∷_, _++_, append-assoc, append-nil}
+use mathlib.Core.List.{List, [], _∷_, _++_}
 use mathlib.Core.Option.{Option, none as nothing, some}
-use Prim.Native.Nat.{ℕ, suc, _+_, _*_, _≤_, _<_}
+use Prim.Native.Nat.{ℕ, _+_, _≤_, _<_}
 use native.Mathlib.Numerals.{add-one}
 use native.Mathlib.Omega.{arith}
 use lib.ListN.{length, take, drop, getD, drop-of-length-le}
-use lib.Seq.{take-suc, take-all, drop-cons, split-at}
+use lib.Seq.{take-suc, take-all, drop-cons}
 use Rattle.laws.specs.Fix.{pick}
-use Rattle.records.specs.Words.{wordAt}
-use Rattle.records.proofs.TextLaws.{same-self}
 use Rattle.syntax.specs.Syntax.{Text, Function}
 use Rattle.syntax.specs.Decode.{program}
-use Rattle.conversion.specs.ConvertError.{ConvertErrorKind, Result, ok, err, _>>=_, SameSignature, SameSymbol, LatinCharInNonLibCFunction, ExternNotLatin}
+use Rattle.conversion.specs.ConvertError.{ConvertErrorKind, Result, ok, err, SameSignature, SameSymbol, LatinCharInNonLibCFunction, ExternNotLatin}
 use Rattle.conversion.specs.Ir.{sameText}
 use Rattle.conversion.specs.Types.{isSome}
 use Rattle.conversion.specs.Expressions.{Functions, is-mangled, getFunction, mainName}
-use Rattle.conversion.specs.Functions.{is-ascii, contains-key, addFunction, get-all-functions}
+use Rattle.conversion.specs.Functions.{is-ascii, contains-key, addFunction}
 use Rattle.syntax.specs.Places.{functionOf}
-use Rattle.keys.specs.Keys.{functionKey, keyed, functionPlaces, functionsOf, keysBelow, allKeys, Keyed}
+use Rattle.keys.specs.Keys.{functionKey, keyed, functionPlaces, functionsOf, keysBelow, allKeys}
 use Rattle.keys.proofs.FunctionLaws.{all-functions, functions-append}
 
 -- ---- a key looked for
@@ -156,47 +154,12 @@ unfolding keyed
 keyed-append [] r = refl
 keyed-append (f ∷ l) r = rw (keyed-append l r)
 
--- the first turn went well, and so did the others
-first-turn : (f : Function) (l : List Function) (F G : Functions) → get-all-functions (f ∷ l) F ≡ ok G
-    → (getFunction (functionKey f) F ≡ nothing) × (get-all-functions l (F ++ ((functionKey f, f) ∷ [])) ≡ ok G)
-unfolding get-all-functions _>>=_
-first-turn f l F G = go (turn f F)
-  where
-    go : {R : Result Functions} → Turn f F R → (R >>= λ H. get-all-functions l H) ≡ ok G
-        → (getFunction (functionKey f) F ≡ nothing) × (get-all-functions l (F ++ ((functionKey f, f) ∷ [])) ≡ ok G)
-    go refused e = absurd (let y : _≡_ {A = ℕ} 0 1 = cc in omega arith)
-    go (added n) e = (n, e)
-
 pub turn-new : (f : Function) (F G : Functions) → addFunction f F ≡ ok G → getFunction (functionKey f) F ≡ nothing
 turn-new f F G = go (turn f F)
   where
     go : {R : Result Functions} → Turn f F R → R ≡ ok G → getFunction (functionKey f) F ≡ nothing
     go refused e = absurd (let y : _≡_ {A = ℕ} 0 1 = cc in omega arith)
     go (added n) e = n
-
--- what comes out is the functions with their keys
-pub all-keyed : (l : List Function) (F G : Functions) → get-all-functions l F ≡ ok G → G ≡ F ++ keyed l
-unfolding get-all-functions keyed
-all-keyed [] F G e = let q : G ≡ F = cc in q ∙ sym (append-nil F)
-all-keyed (f ∷ l) F G e =
-    all-keyed l (F ++ ((functionKey f, f) ∷ [])) G (first-turn f l F G e .1) ∙ append-assoc F ((functionKey f, f) ∷ []) (keyed l)
-
--- no function before it has its key
-new-key : (l : List Function) (f : Function) (r : List Function) (F G : Functions) → get-all-functions (l ++ f ∷ r) F ≡ ok G
-    → getFunction (functionKey f) (F ++ keyed l) ≡ nothing
-unfolding keyed
-new-key [] f r F G e = rw (append-nil F) (first-turn f r F G e .0)
-new-key (h ∷ l) f r F G e =
-    rw (append-assoc F ((functionKey h, h) ∷ []) (keyed l)) at (new-key l f r (F ++ ((functionKey h, h) ∷ [])) G (first-turn h (l ++ f ∷ r) F G e .1))
-
--- so its key finds just that function
-pub key-finds : (l : List Function) (f : Function) (r : List Function) (G : Functions) → get-all-functions (l ++ f ∷ r) [] ≡ ok G
-    → getFunction (functionKey f) (keyed (l ++ f ∷ r)) ≡ some f
-unfolding keyed
-key-finds l f r G e =
-    ap (getFunction (functionKey f)) (keyed-append l (f ∷ r))
-    ∙ find-later (functionKey f) (keyed l) (keyed (f ∷ r)) (new-key l f r [] G e)
-    ∙ find-hit (functionKey f) (functionKey f, f) (keyed r) (same-self (functionKey f))
 
 -- ---- the functions of a tree
 
@@ -238,24 +201,3 @@ module _ (tree text : List ℕ) where
   pub keys-all : (n : ℕ) → length (functionPlaces tree) ≤ n → keysBelow tree text n ≡ allKeys tree text
   unfolding keysBelow allKeys
   keys-all n h = rw (take-all n (functionPlaces tree) h, all-functions tree text)
-
-  -- ---- keys are distinct
-
-  pub distinct-at : {G : Functions} → get-all-functions (program tree text .functions) [] ≡ ok G → (j : ℕ) → j < length (functionPlaces tree)
-      → getFunction (functionKey (at j)) (allKeys tree text) ≡ some (at j)
-  unfolding allKeys functionsOf
-  distinct-at {G} e j h =
-      let split : functionsOf tree text (functionPlaces tree)
-      ≡ functionsOf tree text (take j (functionPlaces tree)) ++ at j ∷ functionsOf tree text (drop (suc j) (functionPlaces tree)) =
-      ap (functionsOf tree text) (split-at (functionPlaces tree) j 0 h)
-      ∙ functions-append tree text (take j (functionPlaces tree)) (recordAt j ∷ drop (suc j) (functionPlaces tree)) in
-      let all = all-functions tree text ∙ split in
-      ap (λ (l : List Function). getFunction (functionKey (at j)) (keyed l)) all
-      ∙ key-finds (functionsOf tree text (take j (functionPlaces tree))) (at j) (functionsOf tree text (drop (suc j) (functionPlaces tree))) G
-      (ap (λ (l : List Function). get-all-functions l []) (sym all) ∙ e)
-
--- the key of a function that is listed in scratch finds just that function
-pub distinct-finds : (tree text s : List ℕ) (count : ℕ) → Keyed tree text s count → (j : ℕ) → j < count
-    → getFunction (functionKey (functionOf tree text (wordAt s (4 * j)))) (allKeys tree text) ≡ some (functionOf tree text (wordAt s (4 * j)))
-distinct-finds tree text s count k j h =
-    rw (k .listed .listed j h) (distinct-at tree text (k .distinct) j (omega (arith, k .listed .counted)))

@@ -14,6 +14,8 @@ use Rattle.laws.specs.Fix.{pick}
 use Rattle.laws.specs.Splice.{splice}
 use Rattle.laws.proofs.Splices.{length-splice}
 use Rattle.laws.proofs.Tests.{tested}
+use Rattle.records.specs.Digest.{rollOf}
+use Rattle.records.proofs.RollLaws.{roll-small}
 use Rattle.records.specs.Words.{byteAt, wordAt, kindOf, wordOf, textAt, bytesOf, word, records, mostRecords, A, B}
 use Rattle.records.specs.Kinds.{kindName}
 use Rattle.records.specs.Chains.{Cleared}
@@ -26,7 +28,7 @@ use Rattle.conversion.specs.Ir.{sameText}
 use Rattle.conversion.specs.Expressions.{Functions, is-mangled, getFunction}
 use Rattle.syntax.specs.Places.{IsKind, FunctionAt, functionOf}
 use Rattle.syntax.proofs.Records.{name-record, mangled-record, function-name, function-mangled}
-use Rattle.texts.specs.Texts.{hasText, hasOwn, ownText, original, originalAt, Numbered}
+use Rattle.texts.specs.Texts.{hasText, hasOwn, ownText, original, originalAt, textDigestAt, Numbered}
 use Rattle.texts.proofs.TextLaws.{original-below, original-text, same-numbers}
 use Rattle.records.specs.declared.words.Found.{Found}
 use Rattle.records.specs.declared.words.Found.the-variants as Found
@@ -79,10 +81,20 @@ module _ (tree text : List ℕ) (good : Good tree text) (f : ℕ) (at : Function
     pub number-inside : 72 * records tree ≤ length s → originalAt (records tree) r + 4 ≤ length s
     number-inside room = omega (arith, e, key-is .below)
 
+    pub digest-inside : 72 * records tree ≤ length s → textDigestAt (records tree) r + 4 ≤ length s
+    digest-inside room = omega (arith, e, key-is .below)
+
+    -- and its digest
+    pub digest-read : Numbered tree text s → (d : ℕ) → d ≡ wordAt s (textDigestAt (records tree) r) → (d ≡ rollOf (functionKey (functionOf tree text f))) × (d < 4294967291)
+    digest-read numbered d w =
+        let z : d ≡ rollOf (functionKey (functionOf tree text f)) =
+        w ∙ ap (λ (x : ℕ). wordAt s (textDigestAt (records tree) x)) e ∙ numbered .digest (keyRecord tree text f) (key-is .below) key-has ∙ ap rollOf key-text in
+        (z, rw z (roll-small 1 (functionKey (functionOf tree text f)) (omega arith)))
+
     pub number-read : Numbered tree text s → (o : ℕ) → o ≡ wordAt s (originalAt (records tree) r) → (o ≡ original tree text (keyRecord tree text f)) × (o < records tree)
     number-read numbered o w =
         let z : o ≡ original tree text (keyRecord tree text f) =
-        w ∙ ap (λ (x : ℕ). wordAt s (originalAt (records tree) x)) e ∙ numbered (keyRecord tree text f) (key-is .below) key-has in
+        w ∙ ap (λ (x : ℕ). wordAt s (originalAt (records tree) x)) e ∙ numbered .number (keyRecord tree text f) (key-is .below) key-has in
         (z, rw z key-below)
 
 -- ---- the slots stay

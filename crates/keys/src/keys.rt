@@ -18,7 +18,6 @@ use records::layout::KEY_DIGEST_BYTES;
 use records::layout::KEY_DIGESTS;
 use records::layout::KEY_SLOT_BYTES;
 use records::layout::KEY_SLOTS;
-use records::texts::roll;
 use records::words::Found;
 use records::words::WORD_A;
 use records::words::WORD_B;
@@ -28,6 +27,7 @@ use records::words::index;
 use records::words::load;
 use records::words::put_word;
 use records::words::reference;
+use texts::kept_digest;
 use texts::original;
 
 pub fn name_of(tree: &[u8], text: &[u8], f: usize) -> Part
@@ -177,8 +177,7 @@ pub fn digest_keys(tree: &[u8], text: &[u8], scratch: &mut [u8], count: usize)
     let mut j = 0;
     while j < count {
         let f = function_at(tree, scratch, count, j);
-        let key = key_of(tree, text, f);
-        let d = roll(text, 1, key.0, key.1);
+        let d = kept_digest(scratch, n, key_record(tree, text, f));
         put_word(scratch, KEY_DIGESTS * n + KEY_DIGEST_BYTES * j, d);
         j += 1;
     }

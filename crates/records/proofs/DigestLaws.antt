@@ -1,78 +1,36 @@
--- Digests: what each turn of the loops over a text's bytes adds, the digest of a text that is cut off or empty, and equal types have equal digests.
--- A text's bytes and words are the buffer's, further on; equal types have the same texts or the same words. Assumes nothing.
+-- Digests: that of a text that is cut off or empty, and equal types have equal digests.
+-- A text is as many bytes as it has; equal types have the same texts or the same words. Assumes nothing.
 use mathlib.Core.Path.{_≡_, refl, sym, ap, ap₂, _∙_}
 use mathlib.Core.Bool.{Bool, true, _&&_, false≢true}
 use mathlib.Core.List.{List, [], _∷_}
-use Prim.Native.Nat.{ℕ, _+_, _-_, _*_, _/_, _%_, _≤_, _<_}
-use native.Mathlib.Numerals.{add-one}
-use native.Mathlib.Nat.{add-assoc}
+use Prim.Native.Nat.{ℕ, _<_}
 use native.Mathlib.Omega.{arith}
 use lib.Dec.{eqb}
-use lib.ListN.{length, drop, getD}
-use lib.Seq.{getD-take, getD-drop}
+use lib.ListN.{length}
 use borrow.Author.Tests.{eq-eqb, ne-eqb, eqb-true, eqb-false}
 use Rattle.laws.specs.Fix.{pick}
 use Rattle.laws.proofs.Tests.{tested, and-left, and-right}
-use Rattle.records.specs.Words.{byteAt, wordAt, detailOf, wordOf, textAt, sameText, A, B, C}
+use Rattle.records.specs.Words.{detailOf, wordOf, textAt, sameText, A, B, C}
 use Rattle.records.specs.Rules.{sameType}
-use Rattle.records.specs.Digest.{digestStep, digestEnd, digestEights, digestBytes, digestOf, digestFour, typeDigest}
-use Rattle.records.proofs.TextLaws.{text-length, text-taken}
+use Rattle.records.specs.Digest.{digestStep, digestEnd, digestOf, rollFrom, rollOf, digestFour, typeDigest}
+use Rattle.records.proofs.TextLaws.{text-taken}
 use Rattle.records.proofs.TypeLaws.{type-custom, type-words}
-
-module _ (t : List ℕ) (at n : ℕ) (fit : at + n ≤ length t) where
-  whole : length (textAt t at n) ≡ n
-  whole = omega (arith, text-length t at n)
-
-  part-byte : (i : ℕ) → i < n → byteAt (textAt t at n) i ≡ byteAt t (at + i)
-  unfolding textAt byteAt
-  part-byte i h = getD-take n (drop at t) i 0 h ∙ getD-drop at t i 0
-
-  pub part-word : (i : ℕ) → i + 4 ≤ n → wordAt (textAt t at n) i ≡ wordAt t (at + i)
-  unfolding wordAt
-  part-word i h =
-      rw (part-byte i (omega arith), part-byte (i + 1) (omega arith), part-byte (i + 2) (omega arith), part-byte (i + 3) (omega arith))
-      (simp (add-assoc))
-
-  -- eight bytes more
-  pub eights-more : (k h x y r : ℕ) → k < n / 8 → h ≡ digestEights (textAt t at n) k → x ≡ wordAt t (at + 8 * k) → y ≡ wordAt t (at + 8 * k + 4)
-      → r ≡ digestStep h x y → r ≡ digestEights (textAt t at n) (k + 1)
-  unfolding digestEights
-  eights-more k h x y r l eh ex ey er =
-      let a : x ≡ wordAt (textAt t at n) (8 * k) = ex ∙ sym (part-word (8 * k) (omega arith)) in
-      let z : at + 8 * k + 4 ≡ at + (8 * k + 4) = omega arith in
-      let b : y ≡ wordAt (textAt t at n) (8 * k + 4) = ey ∙ ap (wordAt t) z ∙ sym (part-word (8 * k + 4) (omega arith)) in
-      er ∙ rw (eh, a, b) (rw (add-one k) refl)
-
-  pub bytes-start : (k h : ℕ) → k ≤ n / 8 → n / 8 ≤ k → h ≡ digestEights (textAt t at n) k → h ≡ digestBytes (textAt t at n) (n / 8) 0
-  unfolding digestBytes
-  bytes-start k h a b e = let z : k ≡ n / 8 = omega arith in e ∙ ap (digestEights (textAt t at n)) z
-
-  -- one byte more
-  pub bytes-more : (j h x r : ℕ) → j < n % 8 → h ≡ digestBytes (textAt t at n) (n / 8) j → x ≡ getD t (at + 8 * (n / 8) + j) 0
-      → r ≡ digestStep h x 0 → r ≡ digestBytes (textAt t at n) (n / 8) (j + 1)
-  unfolding digestBytes byteAt
-  bytes-more j h x r l eh ex er =
-      let z : at + 8 * (n / 8) + j ≡ at + (8 * (n / 8) + j) = omega arith in
-      let a : x ≡ byteAt (textAt t at n) (8 * (n / 8) + j) = ex ∙ ap (λ (i : ℕ). getD t i 0) z ∙ sym (part-byte (8 * (n / 8) + j) (omega arith)) in
-      er ∙ rw (eh, a) (rw (add-one j) refl)
-
-  pub digest-done : (j h r : ℕ) → j ≤ n % 8 → n % 8 ≤ j → h ≡ digestBytes (textAt t at n) (n / 8) j → r ≡ digestEnd h → r ≡ digestOf (textAt t at n)
-  unfolding digestOf
-  digest-done j h r a b eh er =
-      let z : j ≡ n % 8 = omega arith in
-      er ∙ ap digestEnd (eh ∙ rw (z, whole) refl)
 
 -- a text that is empty, and one that is as many bytes as it has
 empty : (l : List ℕ) → 0 ≡ length l → [] ≡ l
 empty [] e = refl
 empty (x ∷ l) e = absurd (omega arith)
 
-pub digest-none : (t : List ℕ) (o n x r : ℕ) → x ≡ length (textAt t o n) → x ≡ 0 → r ≡ digestOf (textAt t 0 0) → r ≡ digestOf (textAt t o n)
-unfolding textAt
-digest-none t o n x r e z d = d ∙ ap digestOf (empty (textAt t o n) (sym z ∙ e))
+pub roll-none : (t : List ℕ) (o n x : ℕ) → x ≡ length (textAt t o n) → x ≡ 0 → 1 ≡ rollOf (textAt t o n)
+unfolding rollFrom
+roll-none t o n x e z = ap rollOf (empty (textAt t o n) (sym z ∙ e))
 
-pub digest-taken : (t : List ℕ) (o n x r : ℕ) → x ≡ length (textAt t o n) → r ≡ digestOf (textAt t o x) → r ≡ digestOf (textAt t o n)
-digest-taken t o n x r e d = d ∙ ap digestOf (text-taken t o n x e)
+pub roll-taken : (t : List ℕ) (o n x r : ℕ) → x ≡ length (textAt t o n) → r ≡ rollOf (textAt t o x) → r ≡ rollOf (textAt t o n)
+roll-taken t o n x r e d = d ∙ ap rollOf (text-taken t o n x e)
+
+pub digest-is : (t : List ℕ) (x r : ℕ) → x ≡ rollOf t → r ≡ digestEnd x → r ≡ digestOf t
+unfolding digestOf
+digest-is t x r ex er = er ∙ ap digestEnd ex
 
 -- a digest has 32 bits
 pub digest-small : (t : List ℕ) → digestOf t < 4294967296

@@ -17,6 +17,12 @@ unfolding rollFrom
 roll-append h [] b = refl
 roll-append h (x ∷ a) b = roll-append (rollStep h x) a b
 
+-- it stays below 2^32 - 5
+pub roll-small : (h : ℕ) (t : List ℕ) → h < 4294967291 → rollFrom h t < 4294967291
+unfolding rollFrom rollStep
+roll-small h [] e = e
+roll-small h (b ∷ t) e = roll-small (rollStep h b) t (omega arith)
+
 -- the first n bytes from `at` on, and m behind them
 pub text-split : (t : List ℕ) (o n m : ℕ) → textAt t o (n + m) ≡ textAt t o n ++ textAt t (o + n) m
 unfolding textAt

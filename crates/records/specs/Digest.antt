@@ -1,11 +1,10 @@
 -- Digests of texts and of types: 32 bits by which texts that differ are mostly told apart before they are compared. Only that equal
 -- texts have equal digests is relied on. Assumes nothing: these are definitions.
-use Prim.Native.Nat.{ℕ, zero, suc, _+_, _*_, _/_, _%_}
+use Prim.Native.Nat.{ℕ, _+_, _*_, _/_, _%_}
 use mathlib.Core.List.{List, [], _∷_}
 use lib.Dec.{eqb}
-use lib.ListN.{length}
 use Rattle.laws.specs.Fix.{pick}
-use Rattle.records.specs.Words.{byteAt, wordAt, detailOf, wordOf, textAt, A, B, C}
+use Rattle.records.specs.Words.{byteAt, detailOf, wordOf, textAt, A, B, C}
 
 -- the upper half is added to the lower, so that every bit of a product counts and nothing is lost upwards
 abbrev pub folded : ℕ → ℕ
@@ -19,24 +18,7 @@ digestStep h w v = folded (h * 663608941 + w + v * 1013904223)
 unfoldable pub digestEnd : ℕ → ℕ
 digestEnd h = folded (h * 1481765933) % 4294967296
 
--- after the first k eights of bytes
-unfoldable pub digestEights : List ℕ → ℕ → ℕ
-unfolding digestStep wordAt
-digestEights t zero = 1
-digestEights t (suc k) = digestStep (digestEights t k) (wordAt t (8 * k)) (wordAt t (8 * k + 4))
-
--- and after j bytes more
-unfoldable pub digestBytes : List ℕ → ℕ → ℕ → ℕ
-unfolding digestStep byteAt digestEights
-digestBytes t k zero = digestEights t k
-digestBytes t k (suc j) = digestStep (digestBytes t k j) (byteAt t (8 * k + j)) 0
-
--- the digest of a text
-unfoldable pub digestOf : List ℕ → ℕ
-unfolding digestEnd digestBytes
-digestOf t = digestEnd (digestBytes t (length t / 8) (length t % 8))
-
--- ---- a digest that goes on: that of a text with another behind it is found from that of the first
+-- ---- texts: a digest that goes on: that of a text with another behind it is found from that of the first
 
 -- a byte more: a text is a number to the base 256, modulo 2^32 - 5, which is prime; 2 has the order 2^32 - 6 there, so that a byte counts otherwise at each place
 unfoldable pub rollStep : ℕ → ℕ → ℕ
@@ -56,6 +38,11 @@ rollOf t = rollFrom 1 t
 unfoldable pub highFirst : List ℕ → ℕ → ℕ
 unfolding byteAt
 highFirst l i = byteAt l i * 16777216 + byteAt l (i + 1) * 65536 + byteAt l (i + 2) * 256 + byteAt l (i + 3)
+
+-- the same, spread over all 32 bits: by this one texts are put into buckets
+unfoldable pub digestOf : List ℕ → ℕ
+unfolding digestEnd rollFrom
+digestOf t = digestEnd (rollOf t)
 
 -- ---- four words, and types
 

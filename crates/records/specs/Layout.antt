@@ -39,9 +39,13 @@ keySlots = record { from = 44; each = 4 }
 abbrev pub keyDigests : Region
 keyDigests = record { from = 48; each = 4 }
 
+-- the digests of the texts: for each record that has a text `rollOf` of it, a word at the record's slot
+abbrev pub textDigests : Region
+textDigests = record { from = 52; each = 4 }
+
 -- left for later
 abbrev pub unused : Region
-unused = record { from = 52; each = 12 }
+unused = record { from = 56; each = 8 }
 
 -- for each expression the turn in which its type was worked out: a word at the slot of its record
 abbrev pub turns : Region
@@ -52,7 +56,7 @@ abbrev pub visited : Region
 visited = record { from = 68; each = 4 }
 
 abbrev pub layout : List Region
-layout = judging ∷ exprTypes ∷ openNames ∷ operands ∷ originals ∷ keySlots ∷ keyDigests ∷ unused ∷ turns ∷ visited ∷ []
+layout = judging ∷ exprTypes ∷ openNames ∷ operands ∷ originals ∷ keySlots ∷ keyDigests ∷ textDigests ∷ unused ∷ turns ∷ visited ∷ []
 
 -- document 02, point 9: 'Scratch grows to 72n bytes'
 abbrev pub scratchEach : ℕ

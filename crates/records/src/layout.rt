@@ -30,6 +30,11 @@ pub const KEY_DIGESTS: usize = 48;
 
 pub const KEY_DIGEST_BYTES: usize = 4;
 
+// The digests of the texts.
+pub const TEXT_DIGESTS: usize = 52;
+
+pub const TEXT_DIGEST_BYTES: usize = 4;
+
 // The turns in which the types of expressions were worked out, a word each.
 pub const TURNS: usize = 64;
 

@@ -3,7 +3,7 @@ ghost use mathlib.Core.Path.{_≡_};
 ghost use Prim.Native.Nat.{_+_, _*_, _%_, _≤_, _<_};
 ghost use lib.ListN.{length};
 ghost use Rattle.records.specs.Words.{textAt, sameText};
-ghost use Rattle.records.specs.Digest.{digestStep, digestEnd, digestOf, digestFour, highFirst, rollStep, rollFrom};
+ghost use Rattle.records.specs.Digest.{digestStep, digestEnd, digestOf, digestFour, highFirst, rollStep, rollFrom, rollOf};
 use crate::words::load;
 use crate::words::wide;
 
@@ -212,42 +212,6 @@ fn finish(h: u64) -> u32
     (y % 4294967296) as u32
 }
 
-// The digest of n bytes from `at` on. A polynomial over words is chosen since eight bytes cost one product that waits for the one before,
-// so that long names, which may overlap, are read about as quickly as memory gives them.
-pub fn digest(text: &[u8], at: usize, n: usize) -> u32
-    requires { ⌜ at + n ≤ length (now text) ⌝ }
-    ensures { λ r. ⌜ r ≡ digestOf (textAt (now (text .entry)) at n) ⌝ }
-{
-    let eights = n / 8;
-    let rest = n % 8;
-    let mut h = 1;
-    let mut k = 0;
-    while k < eights {
-        let i = at + 8 * k;
-        h = step(h, load(text, i), load(text, i + 4));
-        k += 1;
-    }
-    let from = at + 8 * eights;
-    let mut j = 0;
-    while j < rest {
-        h = step(h, wide(text[from + j]), 0);
-        j += 1;
-    }
-    finish(h)
-}
-
-// The digest of a text, as far as it lies within the buffer.
-pub fn text_digest(text: &[u8], offset: u32, len: u32) -> u32
-    ensures { λ r. ⌜ r ≡ digestOf (textAt (now (text .entry)) offset len) ⌝ }
-{
-    let i = offset as usize;
-    let x = reach(text, i, len as usize);
-    if x == 0 {
-        return digest(text, 0, 0);
-    }
-    digest(text, i, x)
-}
-
 // The digest of four words.
 pub fn word_digest(a: u32, b: u32, c: u32, d: u32) -> u32
     ensures { λ r. ⌜ r ≡ digestFour a b c d ⌝ }
@@ -273,7 +237,7 @@ fn eight_digits(text: &[u8], i: usize) -> u64
     high_first(text, i) * 5 + high_first(text, i + 4)
 }
 
-// The upper half is added to the lower five times, which keeps the remainder by 2^32 - 5.
+// Five times the upper half is added to the lower, which keeps the remainder by 2^32 - 5.
 fn turned(x: u64) -> u64
     requires { ⌜ x < 17592186044416 ⌝ }
     ensures { λ r. ⌜ (r % 4294967291 ≡ x % 4294967291) × (r < 8589934592) ⌝ }
@@ -313,4 +277,30 @@ pub fn roll(text: &[u8], d: u32, at: usize, n: usize) -> u32
         i += 1;
     }
     (x % 4294967291) as u32
+}
+
+// The digest of a text that goes on, as far as the text lies within the buffer.
+pub fn text_roll(text: &[u8], offset: u32, len: u32) -> u32
+    ensures { λ r. ⌜ (r ≡ rollOf (textAt (now (text .entry)) offset len)) × (r < 4294967291) ⌝ }
+{
+    let i = offset as usize;
+    let x = reach(text, i, len as usize);
+    if x == 0 {
+        return 1;
+    }
+    roll(text, 1, i, x)
+}
+
+// What is made of it to find a text's bucket: texts that differ in their last bytes alone come far apart.
+pub fn roll_digest(d: u32) -> u32
+    ensures { λ r. ⌜ r ≡ digestEnd d ⌝ }
+{
+    finish(d as u64)
+}
+
+// The digest of a text, as far as it lies within the buffer.
+pub fn text_digest(text: &[u8], offset: u32, len: u32) -> u32
+    ensures { λ r. ⌜ r ≡ digestOf (textAt (now (text .entry)) offset len) ⌝ }
+{
+    roll_digest(text_roll(text, offset, len))
 }

@@ -44,7 +44,7 @@ pub enum InLoop {
 }
 
 // Whether the name of entry j is said by these two words.
-fn is_name(scratch: &[u8], records: usize, j: usize, offset: u32, len: u32) -> bool
+fn entry_is(scratch: &[u8], records: usize, j: usize, offset: u32, len: u32) -> bool
     requires { ⌜ 8 * records + 16 * j + 16 ≤ length (now scratch) ⌝ }
     ensures { λ r. ⌜ r ≡ wordsAre (now (scratch .entry)) records offset len j ⌝ }
 {
@@ -54,14 +54,14 @@ fn is_name(scratch: &[u8], records: usize, j: usize, offset: u32, len: u32) -> b
 }
 
 // The last of `count` open names that these two words say.
-fn find_name(scratch: &[u8], records: usize, count: usize, offset: u32, len: u32) -> Found
+fn last_open(scratch: &[u8], records: usize, count: usize, offset: u32, len: u32) -> Found
     requires { ⌜ 8 * records + 16 * count ≤ length (now scratch) ⌝ }
     ensures { λ r. ⌜ r ≡ foundOf (last count (wordsAre (now (scratch .entry)) records offset len)) ⌝ }
 {
     let mut j = count;
     while 0 < j {
         let i = j - 1;
-        if is_name(scratch, records, i, offset, len) {
+        if entry_is(scratch, records, i, offset, len) {
             return Found::At(i);
         }
         j = i;
@@ -86,7 +86,7 @@ impl Scope {
     {
         let n = self.records;
         let count = self.names;
-        match find_name(scratch, n, count, offset, len) {
+        match last_open(scratch, n, count, offset, len) {
             Found::At(j) => variable_at(scratch, n, j),
             Found::Nothing => Known::Unknown,
         }
@@ -109,7 +109,7 @@ impl Scope {
         let n = self.records;
         let count = self.names;
         let ty = v.1;
-        if let Found::At(_) = find_name(scratch, n, count, offset, len) {
+        if let Found::At(_) = last_open(scratch, n, count, offset, len) {
             return Declared::Taken;
         }
         let w = Four(offset, len, v.0, 2 * ty + mark(constant));

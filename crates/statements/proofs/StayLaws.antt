@@ -21,9 +21,10 @@ use Rattle.scope.proofs.ScopeLaws.{Kept, scope-kept}
 use Rattle.keys.specs.Keys.{Listed, keySlotAt, keyDigestAt, Keyed}
 use Rattle.keys.proofs.KeyDigestLaws.{digests-stay}
 use Rattle.keys.proofs.SlotLaws.{slots-stay}
-use Rattle.texts.specs.Texts.{originalAt}
+use Rattle.texts.specs.Texts.{originalAt, textDigestAt}
+use Rattle.texts.proofs.TextLaws.{numbered-stays}
 use Rattle.expressions.specs.Slots.{originalWord, Frame, Scoped, Ready}
-use Rattle.expressions.proofs.OriginalLaws.{numbers-stay, word-stays, original-stays}
+use Rattle.expressions.proofs.OriginalLaws.{word-stays, original-stays}
 use Rattle.expressions.proofs.SlotLaws.{ready-frame}
 use Rattle.keys.proofs.KeySearch.{records-most}
 use Rattle.statements.specs.declared.answers.Converter.{Converter}
@@ -152,7 +153,7 @@ module _ (tree : List ℕ) {s s′ : List ℕ} {names operands : ℕ} (f : Stays
   pub keyed-stays : (text : List ℕ) (count : ℕ) → Keyed tree text s count → Keyed tree text s′ count
   keyed-stays text count r = record {
     good = r .good;
-    numbered = numbers-stay tree s s′ number-word text (r .numbered);
+    numbered = numbered-stays tree text s s′ number-word (λ t h. byte-word (textDigestAt (records tree) t) (λ j q e k. f .behind q (omega arith))) (r .numbered);
     distinct = r .distinct;
     listed = record {
       room = omega (arith, r .listed .room, f .long);

@@ -15,25 +15,25 @@ use Rattle.conversion.specs.Types.{fits, range-error}
 use Rattle.conversion.specs.Scope.{Variable, Scope, find-variable, withVariable, withLoop, declareNew, declare}
 use Rattle.conversion.specs.Expressions.{Callee, CallFunction, CallCast, Functions, get-type}
 use Rattle.conversion.specs.Statements.{asCall, convert-expr, convert-cond, checkFits, zeroValue, convert-declare, assignTo, convert-assign, initNew, initBy, convert-init, returnAs, convert-return, callStatement, convert-call, convert-if, convertIfElse, convert-while-loop, checkBound, forLoop, forInt, forKnown, convert-for-loop, convert-break, convert-continue, convert-statement, convert-block}
-use Rattle.tables.proofs.Exists.{Word, VarIn, LabelFits}
+use Rattle.tables.proofs.Exists.{Word, VarIn, KnownLabel}
 use Rattle.tables.proofs.SyntaxFits.{OkIs, okIs, errIs, OptIs, someIs, held, ExprFits, ArgsFit, StatementFits, BlockFits, CalleeFits, KeyedFit, TreeFits}
 use Rattle.tables.proofs.Typing.{TypeFits, pick-is, find-is}
 use Rattle.tables.proofs.Keeps.{known-label, Up, Typed, Named, Keeps, then, and-then, from, gives, fails, emits, picks, new-variable, label-number, float-number, knowing, lift-then, lift-any}
 use Rattle.tables.proofs.Operands.{Done, ScopeIn, Scoped, on-int, fit-keeps, call-keeps, type-then, resolve-then, expr-keeps, args-keeps}
 
-start-fits : (r : ℕ) → Word r → LabelFits (loopStart r)
+start-fits : (r : ℕ) → Word r → KnownLabel (loopStart r)
 start-fits r h = known-label 1 r tt h
 
-end-fits : (r : ℕ) → Word r → LabelFits (loopEnd r)
+end-fits : (r : ℕ) → Word r → KnownLabel (loopEnd r)
 end-fits r h = known-label 2 r tt h
 
-check-fits : (r : ℕ) → Word r → LabelFits (loopCheck r)
+check-fits : (r : ℕ) → Word r → KnownLabel (loopCheck r)
 check-fits r h = known-label 3 r tt h
 
-otherwise-fits : (r : ℕ) → Word r → LabelFits (otherwiseLabel r)
+otherwise-fits : (r : ℕ) → Word r → KnownLabel (otherwiseLabel r)
 otherwise-fits r h = known-label 4 r tt h
 
-condition-fits : (r : ℕ) → Word r → LabelFits (conditionEnd r)
+condition-fits : (r : ℕ) → Word r → KnownLabel (conditionEnd r)
 condition-fits r h = known-label 5 r tt h
 
 declared-by : (o : Option Variable) (v : Variable) (r : ℕ) (sc : Scope) → OkIs (λ d. d ≡ withVariable v sc) (declareNew o v r sc)

@@ -18,7 +18,8 @@ use Rattle.conversion.specs.Functions.{get-all-functions, check-main, always-re
 use Rattle.conversion.specs.Converter.{convertAll, convert}
 use Rattle.conversion.specs.Written.{codeOf, countsOf}
 use Rattle.conversion.proofs.Called.{map-of}
-use Rattle.tables.proofs.Exists.{Word, InstrIn, StringFits, FloatFits, stateOf, FunctionFits, CountsFit, ProgramFits}
+use Rattle.conversion.specs.Fits.{StringStands, FloatFits}
+use Rattle.tables.proofs.Exists.{Word, InstrIn, stateOf, FunctionFits, CountsFit, ProgramFits}
 use Rattle.tables.proofs.SyntaxFits.{OkIs, okIs, errIs, OptIs, noneIs, held, BlockFits, SignatureFits, FunctionFitsIn, KeyedFit, TreeFits}
 use Rattle.tables.proofs.Typing.{ok-bind, signatures}
 use Rattle.tables.proofs.Keeps.{all-append, all-map, instr-up, Always, Post, Keeps, then, from, gives, fails, picks, new-variable}
@@ -62,7 +63,7 @@ module _ (text : Text) where
     -- the program so far, its counts aside
     record Made (l : List IrFunction) (p : Pool) : Type 0 where
       funcs : All (FunctionFits (programOf l p)) l
-      strings : All (StringFits text) (p .strings)
+      strings : All (StringStands text) (p .strings)
       floats : All FloatFits (p .floats)
 
     record PoolExtends (p q : Pool) : Type 0 where
@@ -88,7 +89,7 @@ module _ (text : Text) where
     record Added (p : Pool) (r : IrFunction × Pool) : Type 0 where
       func : FunctionFits (programOf [] (r .1)) (r .0)
       more : PoolExtends p (r .1)
-      strings : All (StringFits text) (r .1 .strings)
+      strings : All (StringStands text) (r .1 .strings)
       floats : All FloatFits (r .1 .floats)
 
     finished-fits : (f : Function) (p : Pool) (o : Out (Unit {0})) → Word (f .recOf)
@@ -103,7 +104,7 @@ module _ (text : Text) where
     finished-fits f p (failed k r) w h = errIs
 
     function-fits : (f : Function) (b : Option Block) (p : Pool) → SignatureFits text f → OptIs (BlockFits text) b
-        → All (StringFits text) (p .strings) → All FloatFits (p .floats) → OkIs (Added p) (convertFunction P F f b p)
+        → All (StringStands text) (p .strings) → All FloatFits (p .floats) → OkIs (Added p) (convertFunction P F f b p)
     unfolding convertFunction codeOf
     function-fits f nothing p h k i j = okIs (record {
       func = record { func = h .recOf; vars = tt; labels = tt; body = tt };

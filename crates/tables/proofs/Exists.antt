@@ -1,15 +1,15 @@
 -- What a program must be for its tables to say all of it: what an instruction names exists, and each number fits its field.
 -- Definitions for proofs. Assumes nothing.
 use mathlib.Core.Path.{_≡_}
-use Prim.Native.Nat.{ℕ, _<_, _^_}
+use Prim.Native.Nat.{ℕ, _<_}
 use mathlib.Core.Option.{Option, none as nothing, some}
 use lib.ListN.{length, getElem?}
 use mir.Syntax.{w64}
 use mir.Val.{SFits}
 use Rattle.laws.specs.All.{All}
-use Rattle.records.specs.Words.{textAt}
 use Rattle.syntax.specs.Syntax.{Text}
-use Rattle.conversion.specs.Ir.{VarId, Operand, OVar, OInt, OFloat, OBool, ODataAddress, ONull, Instr, Copy, Unary, Binary, Cast, Zero, Arg, Call, Label, Jump, JumpIfNot, Return, Comment, LabelName, StringEntry, texts, FloatEntry, State, IrFunction, IrProgram}
+use Rattle.conversion.specs.Ir.{VarId, Operand, OVar, OInt, OFloat, OBool, ODataAddress, ONull, Instr, Copy, Unary, Binary, Cast, Zero, Arg, Call, Label, Jump, JumpIfNot, Return, Comment, LabelName, texts, State, IrFunction, IrProgram}
+use Rattle.conversion.specs.Fits.{StringStands, FloatFits}
 use Rattle.conversion.specs.Written.{Counts, codeOf, countsOf}
 use Rattle.tables.specs.Read.{_>>=_, ReadBody}
 
@@ -57,19 +57,10 @@ InstrIn s (Comment r) = Word r
 -- ---- entries
 
 -- one of the seven kinds
-pub record LabelFits (l : LabelName) : Type 0 where
+pub record KnownLabel (l : LabelName) : Type 0 where
   pub some-kind : 0 < l .kind
   pub known : l .kind < 8
   pub opener : Word (l .opener)
-
--- offset and length are words, and the bytes there are the string
-pub record StringFits (text : Text) (e : StringEntry) : Type 0 where
-  pub offset : Word (e .offset)
-  pub len : Word (e .len)
-  pub same : textAt text (e .offset) (e .len) ≡ e .text
-
-pub record FloatFits (e : FloatEntry) : Type 0 where
-  pub bits : e .bits < 2 ^ 64
 
 -- ---- functions and programs
 
@@ -79,7 +70,7 @@ stateOf p f = record { vars = f .vars; labels = f .labels; strings = p .strings;
 pub record FunctionFits (p : IrProgram) (f : IrFunction) : Type 0 where
   pub func : Word (f .func)
   pub vars : All Word (f .vars)
-  pub labels : All LabelFits (f .labels)
+  pub labels : All KnownLabel (f .labels)
   pub body : All (InstrIn (stateOf p f)) (codeOf (f .body))
 
 -- each count fits a word
@@ -94,7 +85,7 @@ pub record CountsFit (c : Counts) : Type 0 where
 -- a program all of whose names exist and whose numbers fit, its strings in `text`
 pub record ProgramFits (text : Text) (p : IrProgram) : Type 0 where
   pub funcs : All (FunctionFits p) (p .funcs)
-  pub strings : All (StringFits text) (p .strings)
+  pub strings : All (StringStands text) (p .strings)
   pub floats : All FloatFits (p .floats)
   pub counts : CountsFit (countsOf p)
 

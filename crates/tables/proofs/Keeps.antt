@@ -17,7 +17,8 @@ use Rattle.syntax.specs.Syntax.{Text}
 use Rattle.conversion.specs.ConvertError.{ConvertErrorKind, Result, ok, err}
 use Rattle.conversion.specs.Ir.{VarId, Operand, OVar, OInt, OFloat, OBool, ODataAddress, ONull, Instr, Copy, Unary, Binary, Cast, Zero, Arg, Call, Label, Jump, JumpIfNot, Return, Comment, LabelName, StringEntry, FloatEntry, State, Out, made, failed, M, after, bind, _>>=_, _>>_, pure, fail, lift, emit, position, new-var, numbered, label-id, string-id, float-id, floatBits, sameLabel, sameText, sameFloat}
 use Rattle.tables.proofs.SyntaxFits.{OkIs, okIs, errIs}
-use Rattle.tables.proofs.Exists.{Word, VarIn, OperandIn, DestinationIn, LabelIn, InstrIn, LabelFits, StringFits, FloatFits}
+use Rattle.conversion.specs.Fits.{StringStands, FloatFits}
+use Rattle.tables.proofs.Exists.{Word, VarIn, OperandIn, DestinationIn, LabelIn, InstrIn, KnownLabel}
 
 -- ---- lists
 
@@ -106,7 +107,7 @@ module _ (s t : State) (e : Extends s t) where
   instr-up (Comment r) h = h
 
 -- a label of one of the seven kinds
-pub known-label : (k r : ℕ) → T (ltb 0 k && ltb k 8) → Word r → LabelFits (record { kind = k; opener = r })
+pub known-label : (k r : ℕ) → T (ltb 0 k && ltb k 8) → Word r → KnownLabel (record { kind = k; opener = r })
 known-label k r h w =
     let t = and-yes (ltb 0 k) (ltb k 8) h in
     record { some-kind = ltb→lt 0 k (t .0); known = ltb→lt k 8 (t .1); opener = w }
@@ -139,8 +140,8 @@ Labelled l = record { holds = λ s. LabelIn s l; up = λ s t e h. label-up s t e
 module _ (text : Text) where
   pub record StateFits (s : State) : Type 0 where
     pub vars : All Word (s .vars)
-    pub labels : All LabelFits (s .labels)
-    pub strings : All (StringFits text) (s .strings)
+    pub labels : All KnownLabel (s .labels)
+    pub strings : All (StringStands text) (s .strings)
     pub floats : All FloatFits (s .floats)
 
   -- ---- computations
@@ -249,7 +250,7 @@ module _ (text : Text) where
     numbered-keeps nothing h = (more, v, tt, q t (length (table s)) (rw new (last-below (table s) x)))
     numbered-keeps (some n) h = (extends-refl s, w, tt, q s n (h n refl))
 
-  pub label-number : {G : Up} {l : LabelName} → LabelFits l → Keeps G Labelled (label-id l)
+  pub label-number : {G : Up} {l : LabelName} → KnownLabel l → Keeps G Labelled (label-id l)
   unfolding label-id
   label-number {G} {l} h = record {
     runs = λ s g w.
@@ -262,13 +263,13 @@ module _ (text : Text) where
           floats = prefix-refl;
         }) refl w (record {
           vars = w .vars;
-          labels = all-append LabelFits (s .labels) (l ∷ []) (w .labels) (h, tt);
+          labels = all-append KnownLabel (s .labels) (l ∷ []) (w .labels) (h, tt);
           strings = w .strings;
           floats = w .floats;
         }) Labelled (λ u n b. b) (position (sameLabel l) (s .labels)) (position-below (sameLabel l) (s .labels));
   }
 
-  pub string-number : {G : Up} {e : StringEntry} → StringFits text e → Keeps G (λ n. Named (ODataAddress n)) (string-id e)
+  pub string-number : {G : Up} {e : StringEntry} → StringStands text e → Keeps G (λ n. Named (ODataAddress n)) (string-id e)
   unfolding string-id
   string-number {G} {e} h = record {
     runs = λ s g w.
@@ -282,7 +283,7 @@ module _ (text : Text) where
         }) refl w (record {
           vars = w .vars;
           labels = w .labels;
-          strings = all-append (StringFits text) (s .strings) (e ∷ []) (w .strings) (h, tt);
+          strings = all-append (StringStands text) (s .strings) (e ∷ []) (w .strings) (h, tt);
           floats = w .floats;
         }) (λ n. Named (ODataAddress n)) (λ u n b. b)
         (position (λ x. sameText (e .text) (x .text)) (s .strings)) (position-below (λ x. sameText (e .text) (x .text)) (s .strings));

@@ -1,6 +1,6 @@
 -- What converting an expression emits names only what exists, and so does the operand that it leaves.
 -- By induction over the expression, one law for each definition that conversion calls. Assumes nothing.
-use mathlib.Core.Path.{_≡_, refl}
+use mathlib.Core.Path.{_≡_, refl, sym}
 use Prim.Native.Nat.{ℕ, zero, suc, _<_, _^_}
 use mathlib.Core.Bool.{Bool, true, false, not, _&&_}
 use mathlib.Core.List.{List, [], _∷_}
@@ -17,7 +17,7 @@ use Rattle.conversion.specs.Types.{onInt, onFloat, isFloat, within, sizeStep, s
 use Rattle.conversion.specs.Scope.{Variable, Scope, find-variable}
 use Rattle.conversion.specs.Expressions.{Callee, CallFunction, CallCast, Functions, unwrapOr, get-type, resolve-call}
 use Rattle.conversion.specs.Statements.{nameOperand, sizeOperand, castOperand, refloat, fit-operand, parameterType, position, expectedType, fitFrom, fit-args, emitArgs, convert-unary, convertAnd, convertOr, castFirst, convertOther, convertBinaryBy, convert-binary, callFunction, callValue, convert-call-value, convert-expr, convert-args}
-use Rattle.tables.proofs.Exists.{Word, VarIn, OperandIn, DestinationIn, LabelFits}
+use Rattle.tables.proofs.Exists.{Word, VarIn, OperandIn, DestinationIn, KnownLabel}
 use Rattle.tables.proofs.SyntaxFits.{OptIs, noneIs, someIs, held, ExprFits, ArgsFit, SignatureFits, CalleeFits, KeyedFit, TreeFits}
 use Rattle.tables.proofs.Typing.{TypeFits, unwrap-is, float-type-word, find-is, type-word, resolve-fits, common-type-word}
 use Rattle.tables.proofs.Keeps.{known-label, all-map, var-up, operand-up, Up, Always, Named, Keeps, then, and-then, from, gives, fails, emits, new-variable, label-number, string-number, float-number, float-bits, knowing, lift-then}
@@ -133,10 +133,10 @@ module _ (text : Text) where
       and-then text (emits text (Unary dest o src) (λ s g. (g .1 .0, g .0 .1)))
       (gives text (OVar dest) (λ s g. g .1 .0))
 
-  rhs-fits : (r : ℕ) → Word r → LabelFits (logicRhs r)
+  rhs-fits : (r : ℕ) → Word r → KnownLabel (logicRhs r)
   rhs-fits r h = known-label 6 r tt h
 
-  end-fits : (r : ℕ) → Word r → LabelFits (logicEnd r)
+  end-fits : (r : ℕ) → Word r → KnownLabel (logicEnd r)
   end-fits r h = known-label 7 r tt h
 
   and-keeps : {G : Up} {a b : M Operand} (r y : ℕ) → Word r → Word y → Keeps text G Named a → Keeps text G Named b
@@ -301,7 +301,7 @@ module _ (text : Text) where
         expr-keeps (ENull r) sc h = gives text ONull (λ s g. tt)
         expr-keeps (EName r t) sc h = name-keeps r t sc
         expr-keeps (EStr r o n t) sc h =
-            then text (string-number text {e = record { offset = o; len = n; text = t }} (record { offset = h .0; len = h .1; same = h .2 })) λ i.
+            then text (string-number text {e = record { offset = o; len = n; text = t }} (record { offset = h .0; len = h .1; stands = sym (h .2) })) λ i.
             gives text (ODataAddress i) (λ s g. g .1)
         expr-keeps (ESizeOf r y) sc h = size-keeps r (size (P .typeOf) y) (size-small y)
         expr-keeps (EUnary r o a) sc h = type-then (EUnary r o a) sc (λ s g. g) h λ y w.

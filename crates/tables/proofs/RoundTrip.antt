@@ -1,6 +1,6 @@
 -- Reading the six tables of a program back gives each function's body, for a program whose names exist and whose numbers fit.
 -- By the law of parts of a table, once for each table, and the totals that a function's entry starts from. Assumes nothing.
-use mathlib.Core.Path.{_≡_, refl, ap, _∙_}
+use mathlib.Core.Path.{_≡_, refl, sym, ap, _∙_}
 use Prim.Native.Nat.{ℕ, suc, _+_, _*_}
 use mathlib.Core.Bool.{Bool, true, false}
 use mathlib.Core.List.{List, [], _∷_, _++_, append-assoc}
@@ -17,7 +17,8 @@ use Rattle.syntax.specs.Syntax.{Text}
 use Rattle.conversion.specs.Ir.{Operand, OVar, OInt, OFloat, OBool, ODataAddress, ONull, Instr, Copy, Unary, Binary, Cast, Zero, Arg, Call, Label, Jump, JumpIfNot, Return, Comment, LabelName, StringEntry, FloatEntry, State, IrFunction, IrProgram}
 use Rattle.conversion.specs.Written.{bytesOf, word, wide, boolNumber, encodeInstr, encodeVar, encodeLabel, encodeString, encodeFloat, encodeAll, codeOf, bodyMark, encodeFunctions, allCode, allVars, allLabels, Tables, tablesOf, countsOf}
 use Rattle.tables.specs.Read.{_>>=_, check, unused, wideAt, instrAt, variableAt, labelAt, stringAt, floatAt, FunctionEntry, functionAt, part, operandListed, listed, allListed, bodyAt, Begin}
-use Rattle.tables.proofs.Exists.{Word, OperandIn, InstrIn, LabelFits, StringFits, FloatFits, stateOf, FunctionFits, ProgramFits, bodyOf}
+use Rattle.conversion.specs.Fits.{StringStands, FloatFits}
+use Rattle.tables.proofs.Exists.{Word, OperandIn, InstrIn, KnownLabel, stateOf, FunctionFits, ProgramFits, bodyOf}
 use Rattle.tables.proofs.Numbers.{word-back, wide-back}
 use Rattle.tables.proofs.Entries.{all-at, Cut, cut, not-found, drop-entries, part-back, entries-back}
 use Rattle.tables.proofs.Instructions.{Small, found-below, mark-back, instr-back, instr-length}
@@ -28,7 +29,7 @@ var-back : (y : ℕ) (rest : List ℕ) → Word y → variableAt (encodeVar y ++
 unfolding variableAt encodeVar
 var-back y rest h = rw (word-back y rest h)
 
-label-back : (l : LabelName) (rest : List ℕ) → LabelFits l → labelAt (encodeLabel l ++ rest) ≡ some l
+label-back : (l : LabelName) (rest : List ℕ) → KnownLabel l → labelAt (encodeLabel l ++ rest) ≡ some l
 unfolding labelAt encodeLabel wordAt byteAt word bytesOf _>>=_ check
 label-back l rest h = rw (
   word-back (l .kind) [] (omega arith),
@@ -37,9 +38,9 @@ label-back l rest h = rw (
   lt-ltb (l .kind) 8 (h .known),
 )
 
-string-back : (text : Text) (e : StringEntry) (rest : List ℕ) → StringFits text e → stringAt text (encodeString e ++ rest) ≡ some e
+string-back : (text : Text) (e : StringEntry) (rest : List ℕ) → StringStands text e → stringAt text (encodeString e ++ rest) ≡ some e
 unfolding stringAt encodeString wordAt byteAt word bytesOf
-string-back text e rest h = rw (word-back (e .offset) [] (h .offset), word-back (e .len) [] (h .len), h .same)
+string-back text e rest h = rw (word-back (e .offset) [] (h .offset), word-back (e .len) [] (h .len), sym (h .stands))
 
 mark-word : (b : Bool) → Word (boolNumber b)
 unfolding boolNumber
@@ -220,7 +221,7 @@ module _ (text : Text) (p : IrProgram) (t : Tables) (fits : ProgramFits text p) 
   strings-back : part (stringAt text) 8 (t .strings) 0 (countsOf p .strings) ≡ some (p .strings)
   unfolding part tablesOf countsOf
   strings-back = rw (held .strings .same)
-      (entries-back encodeString 8 string-length (StringFits text) (stringAt text) (string-back text) (p .strings) (held .strings .rest) (fits .strings))
+      (entries-back encodeString 8 string-length (StringStands text) (stringAt text) (string-back text) (p .strings) (held .strings .rest) (fits .strings))
 
   floats-back : part floatAt 16 (t .floats) 0 (countsOf p .floats) ≡ some (p .floats)
   unfolding part tablesOf countsOf
@@ -296,7 +297,7 @@ module _ (text : Text) (p : IrProgram) (t : Tables) (fits : ProgramFits text p) 
     labels-read : part labelAt 8 (t .labels) (length (allLabels (c .before))) (length (f .labels)) ≡ some (f .labels)
     unfolding tablesOf
     labels-read = rw (held .labels .same, labels-parts)
-        (part-back encodeLabel 8 label-length LabelFits labelAt label-back (allLabels (c .before)) (f .labels) (allLabels (c .after))
+        (part-back encodeLabel 8 label-length KnownLabel labelAt label-back (allLabels (c .before)) (f .labels) (allLabels (c .after))
         (held .labels .rest) (function-fits .labels))
 
     code-listed : allListed (length (f .labels)) (length (p .strings)) (length (p .floats)) (Code f) ≡ true

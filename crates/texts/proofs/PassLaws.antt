@@ -1,5 +1,5 @@
--- The pass over the records: what the walk along a chain of texts shows of a record's number, and what is left once the record is entered and its number written.
--- By the laws of chains and of texts, and word for word where the number is written. Assumes nothing.
+-- The pass over the records: what the walk along a chain of texts shows of a record's number, and what is left once the record is entered and its number and digest written.
+-- By the laws of chains and of texts, and word for word where these are written. Assumes nothing.
 use mathlib.Core.Path.{_≡_, refl, sym, ap, _∙_}
 use mathlib.Core.Logic.{_⊎_, inl, inr}
 use Prim.Native.Nat.{ℕ, suc, _+_, _*_, _≤_, _<_}
@@ -16,12 +16,12 @@ use Rattle.laws.proofs.ChainLaws.{walk-end}
 use Rattle.laws.proofs.Splices.{length-splice}
 use Rattle.laws.proofs.Tests.{tested, and-left, and-right}
 use Rattle.records.specs.Chains.{bucketOf, entryAt, ChainRoom, Emptied, entered}
-use Rattle.records.specs.Digest.{digestOf}
+use Rattle.records.specs.Digest.{digestEnd, digestOf, rollOf}
 use Rattle.records.specs.Words.{byteAt, wordAt, kindOf, wordOf, textAt, sameText, bytesOf, word, records, mostRecords, A, B}
 use Rattle.records.proofs.Apart.{byte-apart, word-apart, word-there, word-back, word-same}
 use Rattle.records.proofs.ChainedLaws as chained
-use Rattle.records.proofs.DigestLaws.{same-equal}
-use Rattle.texts.specs.Texts.{hasText, hasOwn, ownText, sameOwn, numberOr, original, originalAt, Kept}
+use Rattle.records.proofs.DigestLaws.{same-equal, digest-is}
+use Rattle.texts.specs.Texts.{hasText, hasOwn, ownText, sameOwn, numberOr, original, originalAt, textDigestAt, Kept}
 use Rattle.texts.specs.Pass.{ownDigest, textBucket, Passed}
 use Rattle.texts.proofs.TextLaws.{same-own, same-original, original-below}
 
@@ -48,8 +48,11 @@ module _ (tree text : List ℕ) where
   texts-told k r a b x y v ea eb ex ey e = e ∙ rw (ea, eb, ex, ey) refl
 
   -- what the code reads of record r
-  pub digest-told : (r a b d : ℕ) → a ≡ wordOf tree r A → b ≡ wordOf tree r B → d ≡ digestOf (textAt text a b) → d ≡ ownDigest tree text r
-  digest-told r a b d ea eb e = e ∙ rw (ea, eb) refl
+  pub roll-told : (r a b x : ℕ) → a ≡ wordOf tree r A → b ≡ wordOf tree r B → x ≡ rollOf (textAt text a b) → x ≡ rollOf (ownText tree text r)
+  roll-told r a b x ea eb e = e ∙ rw (ea, eb) refl
+
+  pub digest-told : (r x d : ℕ) → x ≡ rollOf (ownText tree text r) → d ≡ digestEnd x → d ≡ ownDigest tree text r
+  digest-told r x d ex e = digest-is (ownText tree text r) x d ex e
 
   module _ (r d b : ℕ) (tr : hasOwn tree r ≡ true) (ed : d ≡ ownDigest tree text r) (eb : b ≡ bucketOf (records tree) d) where
     pub bucket-told : b ≡ textBucket tree text r
@@ -115,16 +118,22 @@ kept-on n s s₁ s₂ a b =
     record {
       long = b .long ∙ a .long;
       between = λ i h k. b .between i h k ∙ a .between i h k;
+      keys = λ i h k. b .keys i h k ∙ a .keys i h k;
       behind = λ i h. b .behind i h ∙ a .behind i h;
     }
 
 pub kept-all : (n : ℕ) (s : List ℕ) → Kept n s s
-kept-all n s = record { long = refl; between = λ i h k. refl; behind = λ i h. refl }
+kept-all n s = record { long = refl; between = λ i h k. refl; keys = λ i h k. refl; behind = λ i h. refl }
 
 -- the heads are cleared
 pub kept-heads : (n : ℕ) (s s′ : List ℕ) → Emptied (4 * n) s s′ → Kept n s s′
 kept-heads n s s′ e =
-    record { long = e .long; between = λ i h k. e .others i (omega arith); behind = λ i h. e .others i (omega arith) }
+    record {
+      long = e .long;
+      between = λ i h k. e .others i (omega arith);
+      keys = λ i h k. e .others i (omega arith);
+      behind = λ i h. e .others i (omega arith);
+    }
 
 -- ---- one record more
 
@@ -135,6 +144,7 @@ module _ (tree text : List ℕ) where
       record {
         chained = chained.chained-none (hasOwn tree) (ownDigest tree text) (records tree) s′ (e .heads);
         numbered = λ k h. absurd (omega arith);
+        rolled = λ k h. absurd (omega arith);
       }
 
   -- a record without a text
@@ -146,12 +156,16 @@ module _ (tree text : List ℕ) where
             below-more (λ (k : ℕ). hasOwn tree k ≡ true → wordAt s (originalAt (records tree) k) ≡ original tree text k) r
             (p .numbered)
             (λ t. absurd (false≢true (sym m ∙ t)));
+        rolled =
+            below-more (λ (k : ℕ). hasOwn tree k ≡ true → wordAt s (textDigestAt (records tree) k) ≡ rollOf (ownText tree text k)) r
+            (p .rolled)
+            (λ t. absurd (false≢true (sym m ∙ t)));
       }
 
-  -- a record with a text: s₁ is the scratch once it is entered, s₂ once its number is written
-  module _ (s : List ℕ) (r d b h o : ℕ) (few : records tree ≤ mostRecords) (room : 72 * records tree ≤ length s) (hr : r < records tree) (hb : b < records tree)
-      (hd : d < 4294967296) (hh : h < 4294967296) (s₁ s₂ : List ℕ) (e₁ : s₁ ≡ entered (records tree) r d b h s)
-      (e₂ : s₂ ≡ splice s₁ (originalAt (records tree) r) (word o)) where
+  -- a record with a text: s₁ is the scratch once it is entered, s₂ once its number is written, s₃ once its digest is
+  module _ (s : List ℕ) (r d b h o x : ℕ) (few : records tree ≤ mostRecords) (room : 72 * records tree ≤ length s) (hr : r < records tree) (hb : b < records tree)
+      (hd : d < 4294967296) (hh : h < 4294967296) (s₁ s₂ s₃ : List ℕ) (e₁ : s₁ ≡ entered (records tree) r d b h s)
+      (e₂ : s₂ ≡ splice s₁ (originalAt (records tree) r) (word o)) (e₃ : s₃ ≡ splice s₂ (textDigestAt (records tree) r) (word x)) where
     chain-room : ChainRoom (records tree) s
     chain-room = record { few = few; room = omega arith }
 
@@ -168,6 +182,10 @@ module _ (tree text : List ℕ) where
     apart₂ : (p : ℕ) → p + 4 ≤ originalAt (records tree) r → wordAt s₂ p ≡ wordAt s₁ p
     apart₂ p k = ap (λ (x : List ℕ). wordAt x p) e₂ ∙ word-apart s₁ (originalAt (records tree) r) (word o) fit p (inl k)
 
+    above₂ : (p : ℕ) → originalAt (records tree) r + 4 ≤ p → wordAt s₂ p ≡ wordAt s₁ p
+    unfolding word bytesOf
+    above₂ p k = ap (λ (l : List ℕ). wordAt l p) e₂ ∙ word-apart s₁ (originalAt (records tree) r) (word o) fit p (inr k)
+
     byte₂ : (i : ℕ) → (i < originalAt (records tree) r) ⊎ (originalAt (records tree) r + 4 ≤ i) → getD s₂ i 0 ≡ getD s₁ i 0
     unfolding word bytesOf
     byte₂ i k = ap (λ (x : List ℕ). getD x i 0) e₂ ∙ byte-apart s₁ (originalAt (records tree) r) (word o) fit i k
@@ -183,30 +201,58 @@ module _ (tree text : List ℕ) where
         ∙ word-there s₁ (originalAt (records tree) r) (word o) fit 0 (originalAt (records tree) r) (omega arith) (omega arith)
         ∙ word-back o ho
 
-    kept : Kept (records tree) s s₂
+    long₂ : length s₂ ≡ length s
+    long₂ = ap length e₂ ∙ length-splice s₁ (originalAt (records tree) r) (word o) fit ∙ long₁
+
+    fit₃ : textDigestAt (records tree) r + length (word x) ≤ length s₂
     unfolding word bytesOf
+    fit₃ = omega (arith, long₂)
+
+    apart₃ : (p : ℕ) → p + 4 ≤ textDigestAt (records tree) r → wordAt s₃ p ≡ wordAt s₂ p
+    apart₃ p k = ap (λ (l : List ℕ). wordAt l p) e₃ ∙ word-apart s₂ (textDigestAt (records tree) r) (word x) fit₃ p (inl k)
+
+    byte₃ : (i : ℕ) → (i < textDigestAt (records tree) r) ⊎ (textDigestAt (records tree) r + 4 ≤ i) → getD s₃ i 0 ≡ getD s₂ i 0
+    unfolding word bytesOf
+    byte₃ i k = ap (λ (l : List ℕ). getD l i 0) e₃ ∙ byte-apart s₂ (textDigestAt (records tree) r) (word x) fit₃ i k
+
+    written₃ : x < 4294967296 → wordAt s₃ (textDigestAt (records tree) r) ≡ x
+    unfolding word bytesOf wordAt byteAt
+    written₃ hx =
+        ap (λ (l : List ℕ). wordAt l (textDigestAt (records tree) r)) e₃
+        ∙ word-there s₂ (textDigestAt (records tree) r) (word x) fit₃ 0 (textDigestAt (records tree) r) (omega arith) (omega arith)
+        ∙ word-back x hx
+
+    kept : Kept (records tree) s s₃
     kept =
         record {
-          long = ap length e₂ ∙ length-splice s₁ (originalAt (records tree) r) (word o) fit ∙ long₁;
-          between = λ i k m. byte₂ i (inl (omega arith)) ∙ behind₁ i k;
-          behind = λ i k. byte₂ i (inr (omega arith)) ∙ behind₁ i (omega arith);
+          long = ap length e₃ ∙ length-splice s₂ (textDigestAt (records tree) r) (word x) fit₃ ∙ long₂;
+          between = λ i k m. byte₃ i (inl (omega arith)) ∙ byte₂ i (inl (omega arith)) ∙ behind₁ i k;
+          keys = λ i k m. byte₃ i (inl (omega arith)) ∙ byte₂ i (inr (omega arith)) ∙ behind₁ i (omega arith);
+          behind = λ i k. byte₃ i (inr (omega arith)) ∙ byte₂ i (inr (omega arith)) ∙ behind₁ i (omega arith);
         }
 
-    passed : Passed tree text r s → hasOwn tree r ≡ true → d ≡ ownDigest tree text r → b ≡ textBucket tree text r → h ≡ wordAt s (4 * b)
-        → o ≡ original tree text r → Passed tree text (r + 1) s₂
-    passed p tr ed eb eh eo =
-        record {
-          chained =
-              chained.chained-kept (hasOwn tree) (ownDigest tree text) (records tree) s₁ s₂ (r + 1) (omega arith)
-              (λ x k. apart₂ x (omega arith))
-              (chained.chained-more (records tree) s r d b h chain-room hr hb hd hh (hasOwn tree) (ownDigest tree text) s₁ e₁ (p .chained) ed eb eh);
-          numbered =
-              below-more (λ (k : ℕ). hasOwn tree k ≡ true → wordAt s₂ (originalAt (records tree) k) ≡ original tree text k) r
-              (λ k hk t.
-              apart₂ (originalAt (records tree) k) (omega arith) ∙ word₁ (originalAt (records tree) k) (omega arith) ∙ p .numbered k hk t)
-              (λ t. written₂ (omega (arith, eo, original-below tree text r hr tr)) ∙ eo);
-        }
+    module _ (p : Passed tree text r s) (tr : hasOwn tree r ≡ true) (ex : x ≡ rollOf (ownText tree text r)) (hx : x < 4294967296) (ed : d ≡ ownDigest tree text r)
+        (eb : b ≡ textBucket tree text r) (eh : h ≡ wordAt s (4 * b)) (eo : o ≡ original tree text r) where
+      passed : Passed tree text (r + 1) s₃
+      passed =
+          record {
+            chained =
+                chained.chained-kept (hasOwn tree) (ownDigest tree text) (records tree) s₁ s₃ (r + 1) (omega arith)
+                (λ z k. apart₃ z (omega arith) ∙ apart₂ z (omega arith))
+                (chained.chained-more (records tree) s r d b h chain-room hr hb hd hh (hasOwn tree) (ownDigest tree text) s₁ e₁ (p .chained) ed eb eh);
+            numbered =
+                below-more (λ (k : ℕ). hasOwn tree k ≡ true → wordAt s₃ (originalAt (records tree) k) ≡ original tree text k) r
+                (λ k hk t.
+                apart₃ (originalAt (records tree) k) (omega arith) ∙ apart₂ (originalAt (records tree) k) (omega arith)
+                ∙ word₁ (originalAt (records tree) k) (omega arith) ∙ p .numbered k hk t)
+                (λ t. apart₃ (originalAt (records tree) r) (omega arith) ∙ written₂ (omega (arith, eo, original-below tree text r hr tr)) ∙ eo);
+            rolled =
+                below-more (λ (k : ℕ). hasOwn tree k ≡ true → wordAt s₃ (textDigestAt (records tree) k) ≡ rollOf (ownText tree text k)) r
+                (λ k hk t.
+                apart₃ (textDigestAt (records tree) k) (omega arith) ∙ above₂ (textDigestAt (records tree) k) (omega arith)
+                ∙ word₁ (textDigestAt (records tree) k) (omega arith) ∙ p .rolled k hk t)
+                (λ t. written₃ hx ∙ ex);
+          }
 
-    pub taken : Passed tree text r s → hasOwn tree r ≡ true → d ≡ ownDigest tree text r → b ≡ textBucket tree text r → h ≡ wordAt s (4 * b)
-        → o ≡ original tree text r → Passed tree text (r + 1) s₂ × Kept (records tree) s s₂
-    taken p tr ed eb eh eo = (passed p tr ed eb eh eo, kept)
+      pub taken : Passed tree text (r + 1) s₃ × Kept (records tree) s s₃
+      taken = (passed, kept)

@@ -1,22 +1,20 @@
 -- The number of a text: the record that it names has that text, equal texts have one number, and it can be told by the number, or by its words A and B, whether
 -- texts are the same. By the laws of `lowest` and of texts. Assumes nothing.
 use mathlib.Core.Path.{_≡_, refl, sym, ap, _∙_}
-use Prim.Native.Nat.{ℕ, _+_, _*_, _≤_, _<_}
+use Prim.Native.Nat.{ℕ, _<_}
 use mathlib.Core.Bool.{Bool, true, _&&_, false≢true}
 use mathlib.Core.List.{List}
 use mathlib.Core.Option.{Option, none, some}
-use native.Mathlib.Omega.{arith}
 use lib.Dec.{eqb}
-use lib.ListN.{getD}
 use borrow.Author.Tests.{eq-eqb, eqb-true}
 use Rattle.laws.specs.Below.{lowest}
 use Rattle.laws.proofs.BelowLaws.{lowest-holds, lowest-missed}
 use Rattle.laws.proofs.Tests.{tested, and-left, and-right}
+use Rattle.records.specs.Digest.{rollOf}
 use Rattle.records.specs.Words.{wordAt, wordOf, textAt, sameText, records, A, B}
-use Rattle.records.proofs.Apart.{word-same}
 use Rattle.records.proofs.DigestLaws.{same-equal}
 use Rattle.records.proofs.TextLaws.{same-texts}
-use Rattle.texts.specs.Texts.{hasOwn, ownText, sameOwn, numberOr, original, originalAt, Numbered}
+use Rattle.texts.specs.Texts.{hasOwn, ownText, sameOwn, numberOr, original, originalAt, textDigestAt, Numbered}
 
 -- ---- the lowest number, or another
 
@@ -82,16 +80,17 @@ module _ (tree text : List ℕ) where
   pub original-again : (r : ℕ) → r < records tree → hasOwn tree r ≡ true → original tree text (original tree text r) ≡ original tree text r
   original-again r h t = same-original (original tree text r) r h t (original-text r h t)
 
-  -- the numbers stay where the bytes of their region do
-  pub numbered-stays : (s s′ : List ℕ) → ((i : ℕ) → 40 * records tree ≤ i → i < 44 * records tree → getD s′ i 0 ≡ getD s i 0) → Numbered tree text s → Numbered tree text s′
-  numbered-stays s s′ same numbered r h t =
-      let at : ℕ = originalAt (records tree) r in
-      word-same s′ at s at
-      (same at (omega arith) (omega arith))
-      (same (at + 1) (omega arith) (omega arith))
-      (same (at + 2) (omega arith) (omega arith))
-      (same (at + 3) (omega arith) (omega arith))
-      ∙ numbered r h t
+  -- the numbers and digests stay where their words do
+  pub numbered-stays : (s s′ : List ℕ) → ((r : ℕ) → r < records tree → wordAt s′ (originalAt (records tree) r) ≡ wordAt s (originalAt (records tree) r))
+      → ((r : ℕ) → r < records tree → wordAt s′ (textDigestAt (records tree) r) ≡ wordAt s (textDigestAt (records tree) r)) → Numbered tree text s → Numbered tree text s′
+  numbered-stays s s′ numbers digests numbered =
+      record { number = λ r h t. numbers r h ∙ numbered .number r h t; digest = λ r h t. digests r h ∙ numbered .digest r h t }
+
+  -- the digest at the slot of the number is that of the text
+  pub original-digest : (s : List ℕ) → Numbered tree text s → (r : ℕ) → r < records tree → hasOwn tree r ≡ true
+      → wordAt s (textDigestAt (records tree) (original tree text r)) ≡ rollOf (ownText tree text r)
+  original-digest s numbered r h t =
+      numbered .digest (original tree text r) (original-below r h t) (original-has r h t) ∙ ap rollOf (original-text r h t)
 
   module _ (r q : ℕ) (hr : r < records tree) (hq : q < records tree) (tr : hasOwn tree r ≡ true) (tq : hasOwn tree q ≡ true) where
     pub same-numbers : sameText (ownText tree text r) (ownText tree text q) ≡ eqb (original tree text r) (original tree text q)
@@ -122,10 +121,10 @@ module _ (tree text : List ℕ) where
 
     module _ (s : List ℕ) (numbered : Numbered tree text s) (o p : ℕ) (eo : o ≡ wordAt s (originalAt (records tree) r)) (ep : p ≡ wordAt s (originalAt (records tree) q)) where
       at-r : o ≡ original tree text r
-      at-r = eo ∙ numbered r hr tr
+      at-r = eo ∙ numbered .number r hr tr
 
       at-q : p ≡ original tree text q
-      at-q = ep ∙ numbered q hq tq
+      at-q = ep ∙ numbered .number q hq tq
 
       pub numbers-tell : sameText (ownText tree text r) (ownText tree text q) ≡ eqb o p
       numbers-tell = rw (at-r, at-q) same-numbers

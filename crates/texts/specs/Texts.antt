@@ -1,5 +1,5 @@
 -- Document 01, 'A text is an offset and a length into the text buffer': the texts of a tree by number. Texts that are the same have one number, the lowest record
--- that has it. Assumes nothing: these are definitions.
+-- that has it; beside the number stands a digest of the text. Assumes nothing: these are definitions.
 use mathlib.Core.Path.{_≡_}
 use Prim.Native.Nat.{ℕ, _+_, _*_, _≤_, _<_}
 use mathlib.Core.Bool.{Bool, true, _&&_, _||_}
@@ -8,8 +8,9 @@ use mathlib.Core.Option.{Option, none, some}
 use lib.Dec.{eqb}
 use lib.ListN.{length, getD}
 use Rattle.laws.specs.Below.{lowest}
+use Rattle.records.specs.Digest.{rollOf}
 use Rattle.records.specs.Kinds.{kindStr, kindName, kindCall, kindDeclare, kindInit, kindVariable}
-use Rattle.records.specs.Layout.{originals}
+use Rattle.records.specs.Layout.{originals, textDigests}
 use Rattle.records.specs.Words.{wordAt, kindOf, wordOf, textAt, sameText, records, A, B}
 
 -- '4 Str, 6 Name: A B text', '11 Call: A B verb', '15 Declare, 16 Init, 24 variable: A B name': the kinds whose words A and B are a text
@@ -44,12 +45,18 @@ original tree text r = numberOr (lowest (records tree) (sameOwn tree text r)) r
 abbrev pub originalAt : ℕ → ℕ → ℕ
 originalAt n r = originals .from * n + originals .each * r
 
--- each record that has a text has its number in the scratch
-abbrev pub Numbered : List ℕ → List ℕ → List ℕ → Type 0
-Numbered tree text s = (r : ℕ) → r < records tree → hasOwn tree r ≡ true → wordAt s (originalAt (records tree) r) ≡ original tree text r
+-- and where its digest stands
+abbrev pub textDigestAt : ℕ → ℕ → ℕ
+textDigestAt n r = textDigests .from * n + textDigests .each * r
 
--- the scratch of n records, before and after: its length and the bytes from 12n to 40n and from 44n on are as they were
+-- each record that has a text has its number and its digest in the scratch
+pub record Numbered (tree text s : List ℕ) : Type 0 where
+  pub number : (r : ℕ) → r < records tree → hasOwn tree r ≡ true → wordAt s (originalAt (records tree) r) ≡ original tree text r
+  pub digest : (r : ℕ) → r < records tree → hasOwn tree r ≡ true → wordAt s (textDigestAt (records tree) r) ≡ rollOf (ownText tree text r)
+
+-- the scratch of n records, before and after: its length and the bytes from 12n to 40n, from 44n to 52n and from 56n on are as they were
 pub record Kept (n : ℕ) (s s′ : List ℕ) : Type 0 where
   pub long : length s′ ≡ length s
   pub between : (i : ℕ) → 12 * n ≤ i → i < 40 * n → getD s′ i 0 ≡ getD s i 0
-  pub behind : (i : ℕ) → 44 * n ≤ i → getD s′ i 0 ≡ getD s i 0
+  pub keys : (i : ℕ) → 44 * n ≤ i → i < 52 * n → getD s′ i 0 ≡ getD s i 0
+  pub behind : (i : ℕ) → 56 * n ≤ i → getD s′ i 0 ≡ getD s i 0

@@ -6,21 +6,24 @@ ghost use lib.ListN.{length};
 ghost use Rattle.laws.specs.Chain.{linkTo};
 ghost use Rattle.records.specs.Good.{Good};
 ghost use Rattle.records.specs.Words.{wordAt, sameText, records};
-ghost use Rattle.texts.specs.Texts.{hasText, hasOwn, ownText, original as originalOf, originalAt, Numbered, Kept};
+ghost use Rattle.texts.specs.Texts.{hasText, hasOwn, ownText, original as originalOf, originalAt, textDigestAt, Numbered, Kept};
 ghost use Rattle.texts.specs.Pass.{ownDigest, textBucket, Passed};
 use records::chains::bucket;
 use records::chains::clear_heads;
 use records::chains::enter;
 use records::layout::ORIGINAL_BYTES;
 use records::layout::ORIGINALS;
+use records::layout::TEXT_DIGEST_BYTES;
+use records::layout::TEXT_DIGESTS;
 use records::numbers::KIND_CALL;
 use records::numbers::KIND_DECLARE;
 use records::numbers::KIND_INIT;
 use records::numbers::KIND_NAME;
 use records::numbers::KIND_STR;
 use records::numbers::KIND_VARIABLE;
+use records::texts::roll_digest;
 use records::texts::same_text;
-use records::texts::text_digest;
+use records::texts::text_roll;
 use records::words::WORD_A;
 use records::words::WORD_B;
 use records::words::index;
@@ -76,8 +79,9 @@ fn find_original(tree: &[u8], text: &[u8], scratch: &[u8], r: usize, d: u32, hea
     r as u32
 }
 
-// Record r: where it has a text, the text's number is found and written, and the record goes before the others of its bucket.
-fn take_record(tree: &[u8], text: &[u8], r: usize, scratch: &mut [u8])
+// Record r: where it has a text, the text's number is found, the record goes before the others of its bucket, and the number is written, with the digest
+// that goes on, so that the text need not be read for a digest again.
+fn number_record(tree: &[u8], text: &[u8], r: usize, scratch: &mut [u8])
     requires { ⌜ Good (now tree) (now text) × (72 * records (now tree) ≤ length (now scratch)) ⌝ }
     requires { ⌜ (r < records (now tree)) × Passed (now tree) (now text) r (now scratch) ⌝ }
     ensures { λ _. ⌜ Passed (now (tree .entry)) (now (text .entry)) (r + 1) (now (scratch .exit)) × Kept (records (now (tree .entry))) (now (scratch .entry)) (now (scratch .exit)) ⌝ }
@@ -86,15 +90,17 @@ fn take_record(tree: &[u8], text: &[u8], r: usize, scratch: &mut [u8])
         return;
     }
     let n = tree.len() / 32;
-    let d = text_digest(text, word(tree, r, WORD_A), word(tree, r, WORD_B));
+    let rolled = text_roll(text, word(tree, r, WORD_A), word(tree, r, WORD_B));
+    let d = roll_digest(rolled);
     let b = bucket(d, n);
     let head = load(scratch, 4 * b);
     let number = find_original(tree, text, scratch, r, d, head);
     enter(scratch, n, r, d, b, head);
     put_word(scratch, ORIGINALS * n + ORIGINAL_BYTES * r, number);
+    put_word(scratch, TEXT_DIGESTS * n + TEXT_DIGEST_BYTES * r, rolled);
 }
 
-// Every text of a good tree gets its number, in one pass over the records. The heads, digests and links stand below 12n.
+// Every text of a good tree gets its number and its digest, in one pass over the records. The heads, digests and links stand below 12n.
 pub fn number_texts(tree: &[u8], text: &[u8], scratch: &mut [u8])
     requires { ⌜ Good (now tree) (now text) × (72 * records (now tree) ≤ length (now scratch)) ⌝ }
     ensures { λ _. ⌜ Numbered (now (tree .entry)) (now (text .entry)) (now (scratch .exit)) × Kept (records (now (tree .entry))) (now (scratch .entry)) (now (scratch .exit)) ⌝ }
@@ -103,7 +109,7 @@ pub fn number_texts(tree: &[u8], text: &[u8], scratch: &mut [u8])
     clear_heads(scratch, 4 * n);
     let mut r = 0;
     while r < n {
-        take_record(tree, text, r, scratch);
+        number_record(tree, text, r, scratch);
         r += 1;
     }
 }
@@ -114,4 +120,12 @@ pub fn original(scratch: &[u8], n: usize, r: usize) -> usize
     ensures { λ v. ⌜ v ≡ wordAt (now (scratch .entry)) (originalAt n r) ⌝ }
 {
     index(load(scratch, ORIGINALS * n + ORIGINAL_BYTES * r))
+}
+
+// The digest of record r's text that goes on, as it stands there.
+pub fn kept_digest(scratch: &[u8], n: usize, r: usize) -> u32
+    requires { ⌜ textDigestAt n r + 4 ≤ length (now scratch) ⌝ }
+    ensures { λ v. ⌜ v ≡ wordAt (now (scratch .entry)) (textDigestAt n r) ⌝ }
+{
+    load(scratch, TEXT_DIGESTS * n + TEXT_DIGEST_BYTES * r)
 }

@@ -4,7 +4,9 @@ use mathlib.Core.Bool.{Bool}
 use mathlib.Core.List.{List}
 use lib.ListN.{length}
 use Rattle.records.specs.Words.{detailOf}
-use Rattle.syntax.specs.Decode.{exprOf, node, typeAt}
+use lib.IntN.{ℤ}
+use Rattle.int128.specs.Ops.{intFits}
+use Rattle.syntax.specs.Decode.{exprOf, node, typeAt, bit}
 use Rattle.conversion.specs.Types.{fitsInto, isLiteral, fits, range-error}
 
 -- record y is one of the tree, and its detail one of a type's: '1 Int, 2 Float, .. 9 Null', marks aside
@@ -12,6 +14,10 @@ pub record IsType (tree : List ℕ) (y : ℕ) : Type 0 where
   pub inside : y * 32 + 32 ≤ length tree
   pub least : 1 ≤ detailOf tree y % 16
   pub most : detailOf tree y % 16 ≤ 9
+
+-- v is in the range that the marks of the integer type y say: of weight 16 short, of weight 32 unsigned
+abbrev pub inRangeOf : List ℕ → ℕ → ℤ → Bool
+inRangeOf tree y v = intFits v (bit 16 (detailOf tree y)) (bit 32 (detailOf tree y))
 
 module _ (tree text : List ℕ) (e ty expected : ℕ) where
   unfoldable pub fitsAt : Bool

@@ -7,11 +7,10 @@ ghost use lib.ListN.{length};
 ghost use lib.Dec.{eqb};
 ghost use Rattle.records.specs.Words as Words;
 ghost use Rattle.records.specs.Words.{detailOf, wordOf};
-ghost use Rattle.int128.specs.Ops.{intFits};
 ghost use Rattle.syntax.specs.Places.{IsExpr};
 ghost use Rattle.syntax.specs.Decode.{exprOf, node, bit};
 ghost use Rattle.conversion.specs.Types.{someAnd, isSome, int-value, float-value, float-fits};
-ghost use Rattle.types.specs.Fits.{IsType, fitsAt, intoAt, literalAt, rangeErrorAt};
+ghost use Rattle.types.specs.Fits.{IsType, inRangeOf, fitsAt, intoAt, literalAt, rangeErrorAt};
 use crate::float_value::FloatValue;
 use crate::float_value::float_fits;
 use crate::float_value::float_value;
@@ -34,7 +33,7 @@ use records::words::reference;
 fn int_constant_fits(tree: &[u8], e: usize, expected: usize) -> bool
     requires { ⌜ e * 32 + 32 ≤ length (now tree) ⌝ }
     requires { ⌜ expected * 32 + 32 ≤ length (now tree) ⌝ }
-    ensures { λ r. ⌜ ((text : List ℕ) → r ≡ someAnd (int-value (exprOf (node (now (tree .entry)) text e))) (λ v. intFits v (bit 16 (detailOf (now (tree .entry)) expected)) (bit 32 (detailOf (now (tree .entry)) expected)))) ⌝ }
+    ensures { λ r. ⌜ ((text : List ℕ) → r ≡ someAnd (int-value (exprOf (node (now (tree .entry)) text e))) (inRangeOf (now (tree .entry)) expected)) ⌝ }
 {
     match int_value(tree, e) {
         Checked::Value(v) => int_fits(v, is_short(tree, expected), is_unsigned(tree, expected)),

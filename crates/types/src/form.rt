@@ -57,7 +57,7 @@ pub fn is_number(tree: &[u8], ty: usize) -> bool
     f == FLOAT
 }
 
-fn wide(x: u32) -> u64
+fn wide_word(x: u32) -> u64
     ensures { λ r. ⌜ r ≡ x ⌝ }
 {
     x as u64
@@ -69,5 +69,5 @@ pub fn two_words(tree: &[u8], r: usize, k: usize) -> u64
     requires { ⌜ k ≤ 3 ⌝ }
     ensures { λ v. ⌜ v ≡ wordOf (now (tree .entry)) r k + wordOf (now (tree .entry)) r (k + 1) * 4294967296 ⌝ }
 {
-    wide(word(tree, r, k)) + wide(word(tree, r, k + 1)) * 4294967296
+    wide_word(word(tree, r, k)) + wide_word(word(tree, r, k + 1)) * 4294967296
 }

@@ -6,11 +6,6 @@ use lib.Seq.{length-take-le}
 use borrow.Author.Needs.{needs}
 use Rattle.convert_replay.proofs.replay_body.Statement.{statement}
 use Rattle.convert_replay.proofs.replay_body.Tie as tie
-use Rattle.convert_replay.proofs.replay_body.Reads as reads
-use Rattle.convert_replay.proofs.replay_body.Lts as lts
-use Rattle.convert_replay.proofs.replay_lent.Reads as replay-lent-reads
-use Rattle.convert_replay.proofs.tables_left.Reads as tables-left-reads
-use Rattle.records.proofs.words.load.Reads as load-reads
 
 load-requires : tie.Need-load-requires
 load-requires c κs = search needs
@@ -30,53 +25,29 @@ add-t c = search needs
 returns : tie.Need-returns
 returns c = search needs
 
-slice-aggregate-replay-lent : tie.Need-slice-aggregate-replay-lent
-slice-aggregate-replay-lent c = sym (length-take-le _ _ (omega arith))
+slice-aggregate-replay-case : tie.Need-slice-aggregate-replay-case
+slice-aggregate-replay-case c = sym (length-take-le _ _ (omega arith))
 
-sub-replay-lent : tie.Need-sub-replay-lent
-sub-replay-lent c = search needs
+sub-replay-case : tie.Need-sub-replay-case
+sub-replay-case c = search needs
 
-part-replay-lent-start : tie.Need-part-replay-lent-start
-part-replay-lent-start c = search needs
+part-replay-case-start : tie.Need-part-replay-case-start
+part-replay-case-start c = search needs
 
-part-replay-lent-end : tie.Need-part-replay-lent-end
-part-replay-lent-end c = search needs
+part-replay-case-end : tie.Need-part-replay-case-end
+part-replay-case-end c = search needs
 
-replay-lent-requires : tie.Need-replay-lent-requires
-replay-lent-requires c κs = search needs
+sub-replay-case-2 : tie.Need-sub-replay-case-2
+sub-replay-case-2 c = search needs
 
-sub-tables-left : tie.Need-sub-tables-left
-sub-tables-left c = search needs
+part-replay-case-start-2 : tie.Need-part-replay-case-start-2
+part-replay-case-start-2 c = search needs
 
-part-tables-left-start : tie.Need-part-tables-left-start
-part-tables-left-start c = search needs
+part-replay-case-end-2 : tie.Need-part-replay-case-end-2
+part-replay-case-end-2 c = search needs
 
-part-tables-left-end : tie.Need-part-tables-left-end
-part-tables-left-end c = search needs
-
-tables-left-requires : tie.Need-tables-left-requires
-tables-left-requires c κs = c .before .before .before .before .before .before .before .before .before .before .before .before .before .before .before .before .before .before .before .before .before .before .before .before .before .before .before .before .before .before .before .before .before .before .before .before .before .before .before .before .before .before .before .before .pre
-
-same-length : tie.Need-same-length
-same-length c = search needs
-
-same-length-2 : tie.Need-same-length-2
-same-length-2 c = search needs
-
-same-length-3 : tie.Need-same-length-3
-same-length-3 c = search needs
-
-same-length-4 : tie.Need-same-length-4
-same-length-4 c = search needs
-
-same-length-5 : tie.Need-same-length-5
-same-length-5 c = search needs
-
-same-length-6 : tie.Need-same-length-6
-same-length-6 c = search needs
-
-same-length-7 : tie.Need-same-length-7
-same-length-7 c = search needs
+replay-case-requires : tie.Need-replay-case-requires
+replay-case-requires c κs = search needs
 
 returns-2 : tie.Need-returns-2
 returns-2 c = search needs
@@ -91,20 +62,12 @@ replay-body-spec =
     cast-t
     add-t
     returns
-    slice-aggregate-replay-lent
-    sub-replay-lent
-    part-replay-lent-start
-    part-replay-lent-end
-    replay-lent-requires
-    sub-tables-left
-    part-tables-left-start
-    part-tables-left-end
-    tables-left-requires
-    same-length
-    same-length-2
-    same-length-3
-    same-length-4
-    same-length-5
-    same-length-6
-    same-length-7
+    slice-aggregate-replay-case
+    sub-replay-case
+    part-replay-case-start
+    part-replay-case-end
+    sub-replay-case-2
+    part-replay-case-start-2
+    part-replay-case-end-2
+    replay-case-requires
     returns-2)

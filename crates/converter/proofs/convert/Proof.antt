@@ -1,15 +1,30 @@
 -- THE CALL keeps its promise: it judges, and converts what the judge accepts.
 -- A refusal is the judge's row; an accepted tree is good, its buffers suffice, and its conversion is the definition's. Assumes nothing.
+use mathlib.Core.Path.{sym, ap, _∙_}
 use borrow.Author.Needs.{needs}
-use Rattle.converter.proofs.CallLaws.{judge-refuses, judged-good, judged-some, judged-lent, promise-kept}
+use Rattle.judge.specs.Judge.{buffers, lengthsOf}
+use Rattle.judge.specs.Keeps.{placed}
+use Rattle.converter.proofs.CallLaws.{rows-told, first-cleared, first-kept, first-accepted, judge-refuses, judged-good, judged-some, judged-lent, promise-kept}
 use Rattle.converter.proofs.convert.Statement.{statement}
 use Rattle.converter.proofs.convert.Tie as tie
 
-judge-first-requires : tie.Need-judge-first-requires
-judge-first-requires c κs = search needs
+lengths-of-requires : tie.Need-lengths-of-requires
+lengths-of-requires c κs = search needs
+
+judge-rows-requires : tie.Need-judge-rows-requires
+judge-rows-requires c κs = search needs
 
 enum-known-judged : tie.Need-enum-known-judged
 enum-known-judged c = search needs
+
+has-place-requires : tie.Need-has-place-requires
+has-place-requires c κs = search needs
+
+clear-outputs-requires : tie.Need-clear-outputs-requires
+clear-outputs-requires c κs = search needs
+
+clear-requires : tie.Need-clear-requires
+clear-requires c κs = search needs
 
 same-length : tie.Need-same-length
 same-length c = search needs
@@ -34,17 +49,10 @@ same-length-7 c = search needs
 
 returns : tie.Need-returns
 returns c =
-    let judged = c .before .before .before .before .before .before .before .before .before .before .before .before .before .before .before .before .before in
-    judge-refuses _ _ _ _ _ (judged .judge-first .ensures) _ (λ i. judged .before .before .before .before .before .before .before .before .before .before .before .before .before .before .before .before .shared-slice-known .given i .fits) _ (c .before .judged .given .1)
-
-enum-told : tie.Need-enum-told
-enum-told c = search needs
-
-convert-good-requires : tie.Need-convert-good-requires
-convert-good-requires c κs =
-    let told = c .before .before .before .before .before .before .before in
-    let e = told .before .before .before .before .before .before .before .before .before .before .before .before .before .before .before .before .judge-first .ensures in
-    ((judged-good _ _ _ _ _ e (told .enum-told .given .1), judged-some _ _ _ _ _ e (told .enum-told .given .1)), judged-lent _ _ _ _ _ e (told .enum-told .given .1))
+    let start = c .before .before .before .before .before .before .before .before .before .before .before .before .before .before .before .before .before .before .before .before .before .before .before .before .before .before .before .before .before .before .before .before .before .before .before .before .before .before .before .before .before .before .before .before .before .before .before .before in
+    let b = buffers (start .args .instructions .now) (start .args .variables .now) (start .args .labels .now) (start .args .functions .now) (start .args .strings .now) (start .args .floats .now) (start .args .scratch .now) in
+    let first = first-cleared _ _ b _ _ (rows-told _ _ _ (lengthsOf b) _ _ _ (c .before .before .before .before .before .before .before .before .before .before .before .before .before .before .before .before .before .before .before .before .before .before .before .before .before .before .before .before .before .before .before .before .lengths-of .ensures) (c .before .before .before .before .before .before .before .before .before .before .before .before .before .before .before .before .before .before .before .before .before .before .before .before .before .before .before .before .before .before .judge-rows .ensures)) _ (c .before .before .before .before .before .before .before .before .before .before .before .before .before .before .before .before .before .before .before .before .before .before .before .before .has-place .ensures ∙ ap placed (sym (c .before .before .before .before .before .before .before .before .before .before .before .before .before .before .before .before .before .before .before .before .before .before .before .before .before .before .judged .given .1))) (c .before .before .before .before .before .before .before .before .before .before .before .before .before .before .before .before .before .before .before .before .before .before .before .if1 .taken) _ _ _ _ _ _ _ (c .before .before .before .before .before .before .before .before .before .before .before .before .before .before .before .before .clear-outputs .ensures) (c .before .before .clear .ensures) in
+    judge-refuses _ _ b _ _ first _ (λ i. c .before .before .before .before .before .before .before .before .before .before .before .before .before .before .before .before .before .before .before .before .before .before .before .before .before .before .before .before .before .before .before .before .before .before .before .before .before .before .before .before .before .before .before .before .before .before .before .shared-slice-known .given i .fits) _ (c .before .before .before .before .before .before .before .before .before .before .before .before .before .before .before .before .before .before .before .before .before .before .before .before .before .before .judged .given .1)
 
 same-length-8 : tie.Need-same-length-8
 same-length-8 c = search needs
@@ -69,18 +77,61 @@ same-length-14 c = search needs
 
 returns-2 : tie.Need-returns-2
 returns-2 c =
-    let made = c .before .before .before .before .before .before .before .before .before .before .before .before .before .before in
-    let told = made .before .before .before .before .before .before .before .before in
-    let judged = told .before .before .before .before .before .before .before .before .before .before .before .before .before .before .before .before in
-    promise-kept _ _ _ _ _ (judged .judge-first .ensures) _ (λ i. judged .before .before .before .before .before .before .before .before .before .before .before .before .before .before .before .before .shared-slice-known .given i .fits) (told .enum-told .given .1) _ _
-    (made .convert-good .ensures)
+    let start = c .before .before .before .before .before .before .before .before .before .before .before .before .before .before .before .before .before .before .before .before .before .before .before .before .before in
+    let b = buffers (start .args .instructions .now) (start .args .variables .now) (start .args .labels .now) (start .args .functions .now) (start .args .strings .now) (start .args .floats .now) (start .args .scratch .now) in
+    let first = first-kept _ _ b _ _ (rows-told _ _ _ (lengthsOf b) _ _ _ (c .before .before .before .before .before .before .before .before .before .lengths-of .ensures) (c .before .before .before .before .before .before .before .judge-rows .ensures)) _ (c .before .has-place .ensures ∙ ap placed (sym (c .before .before .before .judged .given .1))) (c .if1 .left) in
+    judge-refuses _ _ b _ _ first _ (λ i. c .before .before .before .before .before .before .before .before .before .before .before .before .before .before .before .before .before .before .before .before .before .before .before .before .shared-slice-known .given i .fits) _ (c .before .before .before .judged .given .1)
+
+enum-told : tie.Need-enum-told
+enum-told c = search needs
+
+convert-good-requires : tie.Need-convert-good-requires
+convert-good-requires c κs =
+    let start = c .before .before .before .before .before .before .before .before .before .before .before .before .before .before .before .before .before .before .before .before .before .before .before .before .before .before .before .before .before in
+    let b = buffers (start .args .instructions .now) (start .args .variables .now) (start .args .labels .now) (start .args .functions .now) (start .args .strings .now) (start .args .floats .now) (start .args .scratch .now) in
+    let q = c .before .before .before .before .before .before .before .enum-told .given .1 in
+    let first = first-accepted _ _ b _ _ (rows-told _ _ _ (lengthsOf b) _ _ _ (c .before .before .before .before .before .before .before .before .before .before .before .before .before .lengths-of .ensures) (c .before .before .before .before .before .before .before .before .before .before .before .judge-rows .ensures)) q in
+    ((judged-good _ _ b _ _ first q, judged-some _ _ b _ _ first q), judged-lent _ _ b _ _ first q)
+
+same-length-15 : tie.Need-same-length-15
+same-length-15 c = search needs
+
+same-length-16 : tie.Need-same-length-16
+same-length-16 c = search needs
+
+same-length-17 : tie.Need-same-length-17
+same-length-17 c = search needs
+
+same-length-18 : tie.Need-same-length-18
+same-length-18 c = search needs
+
+same-length-19 : tie.Need-same-length-19
+same-length-19 c = search needs
+
+same-length-20 : tie.Need-same-length-20
+same-length-20 c = search needs
+
+same-length-21 : tie.Need-same-length-21
+same-length-21 c = search needs
+
+returns-3 : tie.Need-returns-3
+returns-3 c =
+    let start = c .before .before .before .before .before .before .before .before .before .before .before .before .before .before .before .before .before .before .before .before .before .before .before .before .before .before .before .before .before .before .before .before .before .before .before .before .before .before .before .before .before .before .before .before in
+    let b = buffers (start .args .instructions .now) (start .args .variables .now) (start .args .labels .now) (start .args .functions .now) (start .args .strings .now) (start .args .floats .now) (start .args .scratch .now) in
+    let q = c .before .before .before .before .before .before .before .before .before .before .before .before .before .before .before .before .before .before .before .before .before .before .enum-told .given .1 in
+    let first = first-accepted _ _ b _ _ (rows-told _ _ _ (lengthsOf b) _ _ _ (c .before .before .before .before .before .before .before .before .before .before .before .before .before .before .before .before .before .before .before .before .before .before .before .before .before .before .before .before .lengths-of .ensures) (c .before .before .before .before .before .before .before .before .before .before .before .before .before .before .before .before .before .before .before .before .before .before .before .before .before .before .judge-rows .ensures)) q in
+    promise-kept _ _ b _ _ first _ (λ i. c .before .before .before .before .before .before .before .before .before .before .before .before .before .before .before .before .before .before .before .before .before .before .before .before .before .before .before .before .before .before .before .before .before .before .before .before .before .before .before .before .before .before .before .shared-slice-known .given i .fits) q _ _ (c .before .before .before .before .before .before .before .before .before .before .before .before .before .before .convert-good .ensures)
 
 pub convert-spec : {M : Type 1} → statement M
 convert-spec =
     tie.close
     (tie.spec
-    judge-first-requires
+    lengths-of-requires
+    judge-rows-requires
     enum-known-judged
+    has-place-requires
+    clear-outputs-requires
+    clear-requires
     same-length
     same-length-2
     same-length-3
@@ -89,8 +140,6 @@ convert-spec =
     same-length-6
     same-length-7
     returns
-    enum-told
-    convert-good-requires
     same-length-8
     same-length-9
     same-length-10
@@ -98,4 +147,14 @@ convert-spec =
     same-length-12
     same-length-13
     same-length-14
-    returns-2)
+    returns-2
+    enum-told
+    convert-good-requires
+    same-length-15
+    same-length-16
+    same-length-17
+    same-length-18
+    same-length-19
+    same-length-20
+    same-length-21
+    returns-3)

@@ -13,19 +13,19 @@ lengths-ok-requires c κs = search needs
 buffers-ok-requires : tie.Need-buffers-ok-requires
 buffers-ok-requires c κs = search needs
 
-refuse-requires : tie.Need-refuse-requires
-refuse-requires c κs = search needs
+refuse-tree-requires : tie.Need-refuse-tree-requires
+refuse-tree-requires c κs = search needs
 
 returns : tie.Need-returns
 returns c =
-    judged-length _ _ _ _ _ (c .before .before .before .lengths-ok .ensures) _ (not-true _ (c .before .if1 .taken)) (c .refuse .ensures)
+    judged-length _ _ _ _ _ (c .before .before .before .lengths-ok .ensures) _ (not-true _ (c .before .if1 .taken)) (c .refuse-tree .ensures)
 
-refuse-requires-2 : tie.Need-refuse-requires-2
-refuse-requires-2 c κs = search needs
+refuse-tree-requires-2 : tie.Need-refuse-tree-requires-2
+refuse-tree-requires-2 c κs = search needs
 
 returns-2 : tie.Need-returns-2
 returns-2 c =
-    judged-buffer _ _ _ _ _ (c .before .before .before .before .lengths-ok .ensures) (not-false _ (c .before .before .if1 .left)) _ (c .before .before .before .buffers-ok .ensures) _ (not-true _ (c .before .if2 .taken)) (c .refuse2 .ensures)
+    judged-buffer _ _ _ _ _ (c .before .before .before .before .lengths-ok .ensures) (not-false _ (c .before .before .if1 .left)) _ (c .before .before .before .buffers-ok .ensures) _ (not-true _ (c .before .if2 .taken)) (c .refuse-tree2 .ensures)
 
 judge-records-requires : tie.Need-judge-records-requires
 judge-records-requires c κs =
@@ -45,9 +45,9 @@ judge-rows-spec =
     (tie.spec
     lengths-ok-requires
     buffers-ok-requires
-    refuse-requires
+    refuse-tree-requires
     returns
-    refuse-requires-2
+    refuse-tree-requires-2
     returns-2
     judge-records-requires
     same-length

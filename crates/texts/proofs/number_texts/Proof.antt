@@ -1,4 +1,4 @@
--- The records are taken in rising order. The invariant: those passed are entered and have their numbers, and the bytes that the contract names stay.
+-- The records are taken in rising order. The invariant: those passed are entered and have their numbers and digests, and the bytes that the contract names stay.
 -- By the laws of the pass at each turn; the measure is what is left of the records. Assumes nothing.
 use Prim.Native.Nat.{_≤_, _-_}
 use native.Mathlib.Omega.{arith}
@@ -12,7 +12,7 @@ use Rattle.texts.proofs.number_texts.Tie as tie
 use Rattle.texts.proofs.number_texts.Reads as reads
 use Rattle.texts.proofs.number_texts.Lts as lts
 use Rattle.records.proofs.chains.clear_heads.Reads as clear-heads-reads
-use Rattle.texts.proofs.take_record.Reads as take-record-reads
+use Rattle.texts.proofs.number_record.Reads as number-record-reads
 
 abbrev Inv-loop : tie.InvT-loop
 Inv-loop tree text scratch₀ n r₀ scratch r = (r ≤ records tree) × Passed tree text r scratch × Kept (records tree) scratch₀ scratch
@@ -29,8 +29,8 @@ clear-heads-requires c κs = omega (arith, c .before .before .before .before .pr
 loop-holds : tie.Need-loop-holds Inv-loop μ-loop
 loop-holds c = (omega arith, passed-none _ _ _ _ (c .before .before .clear-heads .ensures), kept-all _ _)
 
-take-record-requires : tie.Need-take-record-requires Inv-loop μ-loop
-take-record-requires c κs =
+number-record-requires : tie.Need-number-record-requires Inv-loop μ-loop
+number-record-requires c κs =
     let start = c .before .before .before .before .before .before .before .before .before .before in
     let inv = c .before .before .loop .inv in
     ((start .pre .0, omega (arith, start .pre .1, inv .2 .long, c .before .before .before .before .before .clear-heads .ensures .long)), (c .before .loop-test .taken, inv .1))
@@ -43,7 +43,7 @@ loop-less c = omega arith
 
 loop-again : tie.Need-loop-again Inv-loop μ-loop
 loop-again c =
-    let step = c .before .before .take-record .ensures in
+    let step = c .before .before .number-record .ensures in
     (omega arith, step .0, kept-on _ _ _ _ (c .before .before .before .before .before .loop .inv .2) (step .1))
 
 same-length : tie.Need-same-length Inv-loop μ-loop
@@ -52,7 +52,7 @@ same-length c = c .before .loop .inv .2 .long ∙ c .before .before .before .bef
 returns : tie.Need-returns Inv-loop μ-loop
 returns c =
     let inv = c .before .loop .inv in
-    (λ k h t. inv .1 .numbered k (omega arith) t, kept-on _ _ _ _ (kept-heads _ _ _ (c .before .before .before .before .clear-heads .ensures)) (inv .2))
+    (record { number = λ k h t. inv .1 .numbered k (omega arith) t; digest = λ k h t. inv .1 .rolled k (omega arith) t }, kept-on _ _ _ _ (kept-heads _ _ _ (c .before .before .before .before .clear-heads .ensures)) (inv .2))
 
 pub number-texts-spec : {M : Type 1} → statement M
 number-texts-spec =
@@ -63,7 +63,7 @@ number-texts-spec =
     mul-clear-heads
     clear-heads-requires
     loop-holds
-    take-record-requires
+    number-record-requires
     add-r
     loop-less
     loop-again

@@ -30,7 +30,7 @@ full-length-requires c κs = c .before .before .before .pre .1
 
 -- src/exact.rt:161:9
 full-digest-requires : tie.Need-full-digest-requires Inv-loop μ-loop
-full-digest-requires c κs = c .before .before .before .before .pre .1
+full-digest-requires c κs = (c .before .before .before .before .pre .1, c .before .before .before .before .pre .0 .numbered)
 
 -- src/exact.rt:164:5
 loop-holds : tie.Need-loop-holds Inv-loop μ-loop

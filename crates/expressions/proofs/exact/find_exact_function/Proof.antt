@@ -18,7 +18,7 @@ enum-known-f c = search needs
 
 returns : tie.Need-returns
 returns c =
-    exact-verb _ _ _ _ (c .before .before .before .before .before .before .before .pre .0) _ (c .before .before .before .before .before .before .before .pre .1) _ (c .before .before .before .by-name .ensures .is) _ (c .before .before .before .by-name .ensures .function) (c .before .f .given .1)
+    exact-verb _ _ _ _ (c .before .before .before .before .before .before .before .pre .1) _ (c .before .before .before .by-name .ensures .is) _ (c .before .before .before .by-name .ensures .function) (c .before .f .given .1)
 
 enum-told : tie.Need-enum-told
 enum-told c = search needs
@@ -31,7 +31,7 @@ enum-known-f-2 c = search needs
 
 returns-2 : tie.Need-returns-2
 returns-2 c =
-    exact-name _ _ _ _ (c .before .before .before .before .before .before .before .before .before .before .pre .0) _ (c .before .before .before .before .before .before .before .before .before .before .pre .1) _ (c .before .before .before .before .before .before .by-name .ensures .is) (c .before .before .before .before .enum-told .given .1) _ (c .before .before .before .by-whole-name .ensures .is) _ (c .before .before .before .by-whole-name .ensures .function) (c .before .f2 .given .1)
+    exact-name _ _ _ _ (c .before .before .before .before .before .before .before .before .before .before .pre .1) _ (c .before .before .before .before .before .before .by-name .ensures .is) (c .before .before .before .before .enum-told .given .1) _ (c .before .before .before .by-whole-name .ensures .is) _ (c .before .before .before .by-whole-name .ensures .function) (c .before .f2 .given .1)
 
 enum-told-2 : tie.Need-enum-told-2
 enum-told-2 c = search needs
@@ -41,7 +41,7 @@ by-prefix-requires c κs = (c .before .before .before .before .before .before .b
 
 returns-3 : tie.Need-returns-3
 returns-3 c = record {
-  is = exact-prefix _ _ _ _ (c .before .before .before .before .before .before .before .before .before .before .pre .0) _ (c .before .before .before .before .before .before .before .before .before .before .pre .1) _ (c .before .before .before .before .before .before .by-name .ensures .is) (c .before .before .before .before .enum-told .given .1) _ (c .before .before .before .by-whole-name .ensures .is) (c .before .enum-told2 .given .1) _ (c .by-prefix .ensures .is);
+  is = exact-prefix _ _ _ _ (c .before .before .before .before .before .before .before .before .before .before .pre .1) _ (c .before .before .before .before .before .before .by-name .ensures .is) (c .before .before .before .before .enum-told .given .1) _ (c .before .before .before .by-whole-name .ensures .is) (c .before .enum-told2 .given .1) _ (c .by-prefix .ensures .is);
   function = c .by-prefix .ensures .function;
 }
 

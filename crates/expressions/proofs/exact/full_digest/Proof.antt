@@ -1,7 +1,6 @@
 -- The digest of the verb with all suffixes. The invariant: what was asked is the digest at hand, gone on over the cells that are left.
 -- By the laws of that digest, cell by cell. Assumes nothing.
 use mathlib.Core.Path.{refl}
-use native.Mathlib.Omega.{arith}
 use Rattle.syntax.proofs.Lists.{left}
 use Rattle.expressions.proofs.SuffixLaws.{first-cell}
 use Rattle.expressions.proofs.NameDigest.{Rolled, rolled-start, rolled-more, rolled-end}
@@ -12,6 +11,7 @@ use Rattle.expressions.proofs.exact.full_digest.Lts as lts
 use Rattle.expressions.proofs.arguments.argument_type.Reads as argument-type-reads
 use Rattle.expressions.proofs.arguments.next_cell.Reads as next-cell-reads
 use Rattle.expressions.proofs.arguments.type_key.Reads as type-key-reads
+use Rattle.expressions.proofs.exact.verb_digest.Reads as verb-digest-reads
 use Rattle.records.proofs.texts.roll.Reads as roll-reads
 use Rattle.records.proofs.texts.roll_byte.Reads as roll-byte-reads
 
@@ -21,49 +21,39 @@ Inv-loop tree text scratch d₀ cell₀ d cell = Rolled tree text scratch d₀ c
 abbrev μ-loop : tie.MeasureT-loop
 μ-loop tree text scratch d₀ cell₀ d cell = left cell
 
--- src/exact.rt:143:9
-roll-requires : tie.Need-roll-requires Inv-loop μ-loop
-roll-requires c κs = (c .before .before .before .pre .inside, omega arith)
+verb-digest-requires : tie.Need-verb-digest-requires Inv-loop μ-loop
+verb-digest-requires c κs = c .before .before .before .pre
 
--- src/exact.rt:145:5
 loop-holds : tie.Need-loop-holds Inv-loop μ-loop
-loop-holds c = rolled-start _ _ _ _ _ (c .before .before .before .before .pre .argued) (c .roll .ensures .1)
+loop-holds c = rolled-start _ _ _ _ _ (c .before .before .before .before .pre .0 .argued) (c .verb-digest .ensures .1)
 
--- src/exact.rt:146:40
 argument-type-requires : tie.Need-argument-type-requires Inv-loop μ-loop
 argument-type-requires c κs = (c .before .loop .inv .argued, c .loop-test .taken)
 
--- src/exact.rt:146:13
 type-key-requires : tie.Need-type-key-requires Inv-loop μ-loop
 type-key-requires c κs = (c .before .before .loop .inv .argued .good, c .argument-type .ensures .1)
 
--- src/exact.rt:147:24
 roll-byte-requires : tie.Need-roll-byte-requires Inv-loop μ-loop
 roll-byte-requires c κs = c .before .before .before .loop .inv .small
 
--- src/exact.rt:147:9
-roll-requires-2 : tie.Need-roll-requires-2 Inv-loop μ-loop
-roll-requires-2 c κs = (c .before .type-key .ensures .inside, c .roll-byte .ensures .1)
+roll-requires : tie.Need-roll-requires Inv-loop μ-loop
+roll-requires c κs = (c .before .type-key .ensures .inside, c .roll-byte .ensures .1)
 
--- src/exact.rt:148:9
 next-cell-requires : tie.Need-next-cell-requires Inv-loop μ-loop
 next-cell-requires c κs =
     (c .before .before .before .before .before .loop .inv .argued .good, first-cell _ _ _ _ _ (c .before .before .before .before .before .loop .inv .argued) (c .before .before .before .before .loop-test .taken) (c .before .before .before .argument-type .ensures .0) .inside)
 
--- src/exact.rt:145:5
 loop-less : tie.Need-loop-less Inv-loop μ-loop
 loop-less c =
     rw (c .next-cell .ensures) (first-cell _ _ _ _ _ (c .before .before .before .before .before .before .loop .inv .argued) (c .before .before .before .before .before .loop-test .taken) (c .before .before .before .before .argument-type .ensures .0) .falls)
 
--- src/exact.rt:145:5
 loop-again : tie.Need-loop-again Inv-loop μ-loop
 loop-again c =
     rw (c .next-cell .ensures)
-    (rolled-more _ _ _ _ _ _ _ (c .before .before .before .before .before .before .loop .inv) _ _ (first-cell _ _ _ _ _ (c .before .before .before .before .before .before .loop .inv .argued) (c .before .before .before .before .before .loop-test .taken) (c .before .before .before .before .argument-type .ensures .0)) (c .before .before .before .type-key .ensures) _ (c .before .before .roll-byte .ensures .0) _ (c .before .roll2 .ensures))
+    (rolled-more _ _ _ _ _ _ _ (c .before .before .before .before .before .before .loop .inv) _ _ (first-cell _ _ _ _ _ (c .before .before .before .before .before .before .loop .inv .argued) (c .before .before .before .before .before .loop-test .taken) (c .before .before .before .before .argument-type .ensures .0)) (c .before .before .before .type-key .ensures) _ (c .before .before .roll-byte .ensures .0) _ (c .before .roll .ensures))
 
--- src/exact.rt:139:1
 returns : tie.Need-returns Inv-loop μ-loop
-returns c = rolled-end _ _ _ _ _ _ _ (c .before .loop .inv) (c .loop-test .left) _ (c .before .before .before .before .before .before .pre) refl (c .before .before .roll .ensures .0)
+returns c = rolled-end _ _ _ _ _ _ _ (c .before .loop .inv) (c .loop-test .left) _ (c .before .before .before .before .before .before .pre .0) refl (c .before .before .verb-digest .ensures .0)
 
 pub full-digest-spec : {M : Type 1} → statement M
 full-digest-spec =
@@ -71,12 +61,12 @@ full-digest-spec =
     (tie.spec
     Inv-loop
     μ-loop
-    roll-requires
+    verb-digest-requires
     loop-holds
     argument-type-requires
     type-key-requires
     roll-byte-requires
-    roll-requires-2
+    roll-requires
     next-cell-requires
     loop-less
     loop-again

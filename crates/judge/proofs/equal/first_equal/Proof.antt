@@ -23,10 +23,10 @@ use Rattle.records.proofs.chains.enter.Reads as enter-reads
 use Rattle.records.proofs.words.load.Reads as load-reads
 
 abbrev Inv-loop : tie.InvT-loop
-Inv-loop tree text n types scratch₀ r₀ scratch r = (r ≤ types) × (length scratch ≡ length scratch₀) × TypesChained tree text types r scratch × ((k : ℕ) → k < r → not (typeIsNew tree text k) ≡ false)
+Inv-loop tree text types scratch₀ r₀ scratch r = (r ≤ types) × (length scratch ≡ length scratch₀) × TypesChained tree text types r scratch × ((k : ℕ) → k < r → not (typeIsNew tree text k) ≡ false)
 
 abbrev μ-loop : tie.MeasureT-loop
-μ-loop tree text n types scratch₀ r₀ scratch r = types - r
+μ-loop tree text types scratch₀ r₀ scratch r = types - r
 
 mul-clear-heads : tie.Need-mul-clear-heads Inv-loop μ-loop
 mul-clear-heads c = omega arith
@@ -40,23 +40,23 @@ loop-holds c =
 
 type-digest-requires : tie.Need-type-digest-requires Inv-loop μ-loop
 type-digest-requires c κs =
-    omega (arith, c .before .before .before .before .before .before .before .before .before .pre .1 .within)
+    omega (arith, c .before .before .before .before .before .before .before .before .before .pre .lead .within)
 
 bucket-requires : tie.Need-bucket-requires Inv-loop μ-loop
 bucket-requires c κs =
-    (omega arith, omega (arith, c .before .before .before .before .before .before .before .before .before .before .pre .1 .within))
+    (omega arith, omega (arith, c .before .before .before .before .before .before .before .before .before .before .pre .lead .within))
 
 mul-load : tie.Need-mul-load Inv-loop μ-loop
 mul-load c =
-    omega (arith, c .before .before .before .before .before .before .before .before .before .before .before .before .pre .1 .within, c .before .bucket .ensures .1)
+    omega (arith, c .before .before .before .before .before .before .before .before .before .before .before .before .pre .lead .within, c .before .bucket .ensures .1)
 
 load-requires : tie.Need-load-requires Inv-loop μ-loop
 load-requires c κs =
-    omega (arith, c .before .before .before .before .before .before .before .before .before .before .before .before .pre .1 .within, c .before .bucket .ensures .1, c .before .before .before .before .loop .inv .1, c .before .before .before .before .before .before .before .clear-heads .ensures .long)
+    omega (arith, c .before .before .before .before .before .before .before .before .before .before .before .before .pre .lead .within, c .before .bucket .ensures .1, c .before .before .before .before .loop .inv .1, c .before .before .before .before .before .before .before .clear-heads .ensures .long)
 
 has-equal-requires : tie.Need-has-equal-requires Inv-loop μ-loop
 has-equal-requires c κs =
-    ((omega (arith, c .before .before .before .before .before .before .before .before .before .before .before .before .before .before .pre .1 .within), c .before .before .before .before .before .loop-test .taken, c .before .before .before .before .before .before .before .before .before .before .before .before .before .before .pre .1 .types), ((record { few = omega (arith, c .before .before .before .before .before .before .before .before .before .before .before .before .before .before .pre .1 .within); room = omega (arith, c .before .before .before .before .before .before .before .before .before .before .before .before .before .before .pre .1 .within, c .before .before .before .before .before .before .loop .inv .1, c .before .before .before .before .before .before .before .before .before .clear-heads .ensures .long) }, c .before .before .before .before .before .before .loop .inv .2), (c .before .before .before .before .type-digest .ensures, head-told _ _ _ _ _ _ _ (c .before .before .before .before .before .before .loop .inv .2) (c .before .before .before .bucket .ensures .1) (bucket-told _ _ _ _ _ _ refl (c .before .before .before .before .type-digest .ensures) (c .before .before .before .bucket .ensures .0)) (c .before .load .ensures))))
+    ((omega (arith, c .before .before .before .before .before .before .before .before .before .before .before .before .before .before .pre .lead .within), c .before .before .before .before .before .loop-test .taken, c .before .before .before .before .before .before .before .before .before .before .before .before .before .before .pre .lead .types), ((record { few = omega (arith, c .before .before .before .before .before .before .before .before .before .before .before .before .before .before .pre .lead .within); room = omega (arith, c .before .before .before .before .before .before .before .before .before .before .before .before .before .before .pre .lead .within, c .before .before .before .before .before .before .loop .inv .1, c .before .before .before .before .before .before .before .before .before .clear-heads .ensures .long) }, c .before .before .before .before .before .before .loop .inv .2), (c .before .before .before .before .type-digest .ensures, head-told _ _ _ _ _ _ _ (c .before .before .before .before .before .before .loop .inv .2) (c .before .before .before .bucket .ensures .1) (bucket-told _ _ _ _ _ _ refl (c .before .before .before .before .type-digest .ensures) (c .before .before .before .bucket .ensures .0)) (c .before .load .ensures))))
 
 same-length : tie.Need-same-length Inv-loop μ-loop
 same-length c =
@@ -68,7 +68,7 @@ returns c =
 
 enter-requires : tie.Need-enter-requires Inv-loop μ-loop
 enter-requires c κs =
-    (record { few = omega (arith, c .before .before .before .before .before .before .before .before .before .before .before .before .before .before .before .before .before .pre .1 .within); room = omega (arith, c .before .before .before .before .before .before .before .before .before .before .before .before .before .before .before .before .before .pre .1 .within, c .before .before .before .before .before .before .before .before .before .loop .inv .1, c .before .before .before .before .before .before .before .before .before .before .before .before .clear-heads .ensures .long) }, c .before .before .before .before .before .before .before .before .loop-test .taken, c .before .before .before .before .before .before .bucket .ensures .1)
+    (record { few = omega (arith, c .before .before .before .before .before .before .before .before .before .before .before .before .before .before .before .before .before .pre .lead .within); room = omega (arith, c .before .before .before .before .before .before .before .before .before .before .before .before .before .before .before .before .before .pre .lead .within, c .before .before .before .before .before .before .before .before .before .loop .inv .1, c .before .before .before .before .before .before .before .before .before .before .before .before .clear-heads .ensures .long) }, c .before .before .before .before .before .before .before .before .loop-test .taken, c .before .before .before .before .before .before .bucket .ensures .1)
 
 add-r : tie.Need-add-r Inv-loop μ-loop
 add-r c = omega arith
@@ -78,7 +78,7 @@ loop-less c = omega arith
 
 loop-again : tie.Need-loop-again Inv-loop μ-loop
 loop-again c =
-    let lead = c .before .before .before .before .before .before .before .before .before .before .before .before .before .before .before .before .before .before .before .before .pre .1 .within in
+    let lead = c .before .before .before .before .before .before .before .before .before .before .before .before .before .before .before .before .before .before .before .before .pre .lead .within in
     let at-loop = c .before .before .before .before .before .before .before .before .before .before .before .before .loop in
     let room : ChainRoom (c .before .before .before .before .before .before .before .before .before .before .before .before .before .before .before .before .before .before .before .before .args .types) (at-loop .scratch) = record { few = omega (arith, lead); room = omega (arith, lead, at-loop .inv .1, c .before .before .before .before .before .before .before .before .before .before .before .before .before .before .before .clear-heads .ensures .long) } in
     let r-below = c .before .before .before .before .before .before .before .before .before .before .before .loop-test .taken in

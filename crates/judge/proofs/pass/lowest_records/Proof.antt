@@ -4,6 +4,7 @@ use borrow.Author.Needs.{needs}
 use mathlib.Core.Path.{refl, _∙_}
 use native.Mathlib.Omega.{arith}
 use Rattle.judge.proofs.FaultLaws.{counts-told, lowest-equal, lowest-other, both-below, not-both}
+use Rattle.judge.proofs.RowLaws.{records-told}
 use Rattle.judge.proofs.pass.lowest_records.Statement.{statement}
 use Rattle.judge.proofs.pass.lowest_records.Tie as tie
 
@@ -12,11 +13,12 @@ leading-types-requires c κs = search needs
 
 first-equal-requires : tie.Need-first-equal-requires
 first-equal-requires c κs =
-    ((c .before .before .before .before .before .pre .0, c .before .before .before .before .before .pre .2, c .before .before .before .before .before .pre .1), c .before .leading-types .ensures)
+    let start = c .before .before .before .before .before in
+    rw (records-told (start .args .tree .now) (start .args .n) (start .pre .0)) (record { whole = start .pre .0; few = start .pre .1; room = start .pre .2; lead = c .before .leading-types .ensures })
 
 pass-requires : tie.Need-pass-requires
 pass-requires c κs =
-    (c .before .before .before .before .before .before .before .before .before .pre .0, c .before .before .before .before .before .before .before .before .before .pre .1, omega (arith, c .before .before .before .first-equal .ensures .1, c .before .before .before .before .before .before .before .before .before .pre .2), c .before .before .before .before .before .leading-types .ensures)
+    record { whole = c .before .before .before .before .before .before .before .before .before .pre .0; few = c .before .before .before .before .before .before .before .before .before .pre .1; room = omega (arith, c .before .before .before .first-equal .ensures .1, c .before .before .before .before .before .before .before .before .before .pre .2); lead = c .before .before .before .before .before .leading-types .ensures }
 
 lowest-miscounted-requires : tie.Need-lowest-miscounted-requires
 lowest-miscounted-requires c κs =
@@ -29,7 +31,7 @@ same-length c =
 returns : tie.Need-returns
 returns c =
     let below = both-below (c .before .before .before .before .before .before .before .before .before .first-equal .result) (c .before .before .before .before .before .before .before .before .before .before .before .leading-types .result) (c .before .lowest-miscounted .result) (c .if1 .taken) in
-    (lowest-equal _ _ _ _ (c .before .before .before .before .before .before .before .before .before .before .before .before .before .before .before .pre .0) (c .before .before .before .before .before .before .before .before .before .before .before .before .before .before .before .pre .1) (c .before .before .before .before .before .pass .ensures .fault) (c .before .before .before .before .before .before .before .before .before .before .before .before .before .before .before .args .text .now) refl _ (c .before .before .before .before .before .before .before .before .before .before .before .leading-types .ensures) _ _ (c .before .lowest-miscounted .ensures) (c .before .before .before .before .before .before .before .before .before .first-equal .ensures .0) (below .0) (below .1), c .before .before .before .before .before .pass .ensures .deep, c .before .before .before .before .before .pass .ensures .same ∙ c .before .before .before .before .before .before .before .before .before .first-equal .ensures .1)
+    (lowest-equal _ _ _ _ (c .before .before .before .before .before .before .before .before .before .before .before .before .before .before .before .pre .0) (c .before .before .before .before .before .before .before .before .before .before .before .before .before .before .before .pre .1) (c .before .before .before .before .before .pass .ensures .fault) (c .before .before .before .before .before .before .before .before .before .before .before .before .before .before .before .args .text .now) refl _ (c .before .before .before .before .before .before .before .before .before .before .before .leading-types .ensures) _ _ (c .before .lowest-miscounted .ensures) (c .before .before .before .before .before .before .before .before .before .first-equal .ensures .0) (below .0) (below .1), (c .before .before .before .before .before .pass .ensures .deep, c .before .before .before .before .before .pass .ensures .same ∙ c .before .before .before .before .before .before .before .before .before .first-equal .ensures .1))
 
 same-length-2 : tie.Need-same-length-2
 same-length-2 c =
@@ -37,7 +39,7 @@ same-length-2 c =
 
 returns-2 : tie.Need-returns-2
 returns-2 c =
-    (lowest-other _ _ _ _ (c .before .before .before .before .before .before .before .before .before .before .before .before .before .before .before .pre .0) (c .before .before .before .before .before .before .before .before .before .before .before .before .before .before .before .pre .1) (c .before .before .before .before .before .pass .ensures .fault) (c .before .before .before .before .before .before .before .before .before .before .before .before .before .before .before .args .text .now) refl _ (c .before .before .before .before .before .before .before .before .before .before .before .leading-types .ensures) _ _ (c .before .lowest-miscounted .ensures) (c .before .before .before .before .before .before .before .before .before .first-equal .ensures .0) (not-both (c .before .before .before .before .before .before .before .before .before .first-equal .result) (c .before .before .before .before .before .before .before .before .before .before .before .leading-types .result) (c .before .lowest-miscounted .result) (c .if1 .left)), c .before .before .before .before .before .pass .ensures .deep, c .before .before .before .before .before .pass .ensures .same ∙ c .before .before .before .before .before .before .before .before .before .first-equal .ensures .1)
+    (lowest-other _ _ _ _ (c .before .before .before .before .before .before .before .before .before .before .before .before .before .before .before .pre .0) (c .before .before .before .before .before .before .before .before .before .before .before .before .before .before .before .pre .1) (c .before .before .before .before .before .pass .ensures .fault) (c .before .before .before .before .before .before .before .before .before .before .before .before .before .before .before .args .text .now) refl _ (c .before .before .before .before .before .before .before .before .before .before .before .leading-types .ensures) _ _ (c .before .lowest-miscounted .ensures) (c .before .before .before .before .before .before .before .before .before .first-equal .ensures .0) (not-both (c .before .before .before .before .before .before .before .before .before .first-equal .result) (c .before .before .before .before .before .before .before .before .before .before .before .leading-types .result) (c .before .lowest-miscounted .result) (c .if1 .left)), (c .before .before .before .before .before .pass .ensures .deep, c .before .before .before .before .before .pass .ensures .same ∙ c .before .before .before .before .before .before .before .before .before .first-equal .ensures .1))
 
 pub lowest-records-spec : {M : Type 1} → statement M
 lowest-records-spec =

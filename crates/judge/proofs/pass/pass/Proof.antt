@@ -11,6 +11,7 @@ use Rattle.judge.specs.Inner.{Lowest, Known, Counting, otherRules}
 use Rattle.judge.proofs.CountLaws.{known-none, counting-none}
 use Rattle.judge.proofs.DepthLaws.{deep-told}
 use Rattle.judge.proofs.FaultLaws.{lowest-start}
+use Rattle.judge.proofs.RowLaws.{records-told}
 use Rattle.judge.proofs.pass.pass.Statement.{statement}
 use Rattle.judge.proofs.pass.pass.Tie as tie
 
@@ -28,19 +29,22 @@ loop-holds c =
 
 take-record-requires : tie.Need-take-record-requires Inv-loop μ-loop
 take-record-requires c κs =
-    ((c .before .before .before .before .before .pre .0, c .before .loop-test .taken, c .before .before .before .before .before .pre .1, omega (arith, c .before .before .loop .inv .1, c .before .before .before .before .before .pre .2), c .before .before .before .before .before .pre .3), (c .before .before .loop .inv .2, c .before .before .loop .inv .3))
+    let start = c .before .before .before .before .before in
+    let h = start .pre in
+    let n = records-told (start .args .tree .now) (start .args .n) (h .whole) in
+    ((rw n (c .before .loop-test .taken), rw n (record { whole = h .whole; few = h .few; room = omega (arith, c .before .before .loop .inv .1, h .room); lead = h .lead })), (c .before .before .loop .inv .2, c .before .before .loop .inv .3))
 
 next-lowest-requires : tie.Need-next-lowest-requires Inv-loop μ-loop
 next-lowest-requires c κs =
-    omega (arith, c .before .before .before .before .before .loop-test .taken, c .before .before .before .before .before .before .before .before .before .pre .1)
+    omega (arith, c .before .before .before .before .before .loop-test .taken, c .before .before .before .before .before .before .before .before .before .pre .few)
 
 next-lowest-requires-2 : tie.Need-next-lowest-requires-2 Inv-loop μ-loop
 next-lowest-requires-2 c κs =
-    omega (arith, c .before .before .before .before .before .before .loop-test .taken, c .before .before .before .before .before .before .before .before .before .before .pre .1)
+    omega (arith, c .before .before .before .before .before .before .loop-test .taken, c .before .before .before .before .before .before .before .before .before .before .pre .few)
 
 add-r : tie.Need-add-r Inv-loop μ-loop
 add-r c =
-    omega (arith, c .before .before .before .before .before .before .before .loop-test .taken, c .before .before .before .before .before .before .before .before .before .before .before .pre .1)
+    omega (arith, c .before .before .before .before .before .before .before .loop-test .taken, c .before .before .before .before .before .before .before .before .before .before .before .pre .few)
 
 loop-less : tie.Need-loop-less Inv-loop μ-loop
 loop-less c =

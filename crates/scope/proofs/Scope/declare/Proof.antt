@@ -9,11 +9,11 @@ use Rattle.scope.proofs.Scope.declare.Reads as reads
 use Rattle.scope.proofs.Scope.declare.Lts as lts
 use Rattle.records.proofs.words.mark.Reads as mark-reads
 use Rattle.records.proofs.words.put_four.Reads as put-four-reads
-use Rattle.scope.proofs.find_name.Reads as find-name-reads
+use Rattle.scope.proofs.last_open.Reads as last-open-reads
 
 -- src/lib.rt:117:31
-find-name-requires : tie.Need-find-name-requires
-find-name-requires c κs = search needs
+last-open-requires : tie.Need-last-open-requires
+last-open-requires c κs = search needs
 
 -- src/lib.rt:118:13
 enum-told : tie.Need-enum-told
@@ -74,7 +74,7 @@ pub declare-spec : {M : Type 1} → statement M
 declare-spec =
     tie.close
     (tie.spec
-    find-name-requires
+    last-open-requires
     enum-told
     same-length
     returns

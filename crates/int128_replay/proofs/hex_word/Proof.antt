@@ -1,9 +1,9 @@
--- `int128_replay::word` is safe and ends: the index stays within the line, and a value cut to 60 bits has room for one digit more.
+-- `int128_replay::hex_word` is safe and ends: the index stays within the line, and a value cut to 60 bits has room for one digit more.
 -- The loop's invariant is that i is at most 16, and its measure what is left of that.
 use Prim.Native.Nat.{_-_, _≤_}
 use borrow.Author.Needs.{needs}
-use Rattle.int128_replay.proofs.word.Statement.{statement}
-use Rattle.int128_replay.proofs.word.Tie as tie
+use Rattle.int128_replay.proofs.hex_word.Statement.{statement}
+use Rattle.int128_replay.proofs.hex_word.Tie as tie
 
 abbrev Inv-loop : tie.InvT-loop
 Inv-loop line from value₀ i₀ value i = i ≤ 16
@@ -17,14 +17,14 @@ loop-holds c = search needs
 mul-value : tie.Need-mul-value Inv-loop μ-loop
 mul-value c = search needs
 
-add-digit : tie.Need-add-digit Inv-loop μ-loop
-add-digit c = search needs
+add-hex-digit : tie.Need-add-hex-digit Inv-loop μ-loop
+add-hex-digit c = search needs
 
-element-copy-out-digit : tie.Need-element-copy-out-digit Inv-loop μ-loop
-element-copy-out-digit c = search needs
+element-copy-out-hex-digit : tie.Need-element-copy-out-hex-digit Inv-loop μ-loop
+element-copy-out-hex-digit c = search needs
 
-digit-requires : tie.Need-digit-requires Inv-loop μ-loop
-digit-requires c κs = search needs
+hex-digit-requires : tie.Need-hex-digit-requires Inv-loop μ-loop
+hex-digit-requires c κs = search needs
 
 add-value : tie.Need-add-value Inv-loop μ-loop
 add-value c = search needs
@@ -41,17 +41,17 @@ loop-again c = search needs
 returns : tie.Need-returns Inv-loop μ-loop
 returns c = search needs
 
-pub word-spec : {M : Type 1} → statement M
-word-spec =
+pub hex-word-spec : {M : Type 1} → statement M
+hex-word-spec =
     tie.close
     (tie.spec
     Inv-loop
     μ-loop
     loop-holds
     mul-value
-    add-digit
-    element-copy-out-digit
-    digit-requires
+    add-hex-digit
+    element-copy-out-hex-digit
+    hex-digit-requires
     add-value
     add-i
     loop-less

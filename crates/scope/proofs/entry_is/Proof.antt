@@ -2,10 +2,10 @@
 -- By what `load` ensures of its words. Assumes nothing.
 use Rattle.scope.specs.Open.{wordsAre}
 use borrow.Author.Needs.{needs}
-use Rattle.scope.proofs.is_name.Statement.{statement}
-use Rattle.scope.proofs.is_name.Tie as tie
-use Rattle.scope.proofs.is_name.Reads as reads
-use Rattle.scope.proofs.is_name.Lts as lts
+use Rattle.scope.proofs.entry_is.Statement.{statement}
+use Rattle.scope.proofs.entry_is.Tie as tie
+use Rattle.scope.proofs.entry_is.Reads as reads
+use Rattle.scope.proofs.entry_is.Lts as lts
 use Rattle.records.proofs.words.load.Reads as load-reads
 
 -- src/lib.rt:50:27
@@ -49,8 +49,8 @@ returns : tie.Need-returns
 unfolding wordsAre
 returns c = cc
 
-pub is-name-spec : {M : Type 1} → statement M
-is-name-spec =
+pub entry-is-spec : {M : Type 1} → statement M
+entry-is-spec =
     tie.close
     (tie.spec
     mul-load
