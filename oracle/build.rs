@@ -14,7 +14,7 @@ const FILES: [&str; 4] = [
 /// What the unmodified and the amended converter each have for themselves; errors and flat bodies they share.
 const CONVERTER: [&str; 6] = ["converter", "expressions", "functions", "scope", "statements", "types"];
 
-/// A place where a request decides otherwise than the Rust.
+/// A place where a request decides otherwise than the Rust, or asks what the Rust does.
 struct Amendment {
     /// One of `CONVERTER`.
     file: &'static str,
@@ -23,7 +23,7 @@ struct Amendment {
     put: &'static str,
 }
 
-const AMENDMENTS: [Amendment; 5] = [
+const AMENDMENTS: [Amendment; 6] = [
     // A left shift folds to nothing unless the shifted value, taken back right by the same count, gives the old one.
     Amendment {
         file: "types",
@@ -53,6 +53,13 @@ const AMENDMENTS: [Amendment; 5] = [
         put: "let mut positions = (0..given.len()).filter(|at| !matches!(given[*at], Argument::ToType(_)));
         for op in operands {
             let i = positions.next().expect(\"a position for each value\");",
+    },
+    // How many expressions the Rust types at least once is a count of the answer: each call is noted, which changes no answer.
+    Amendment {
+        file: "expressions",
+        find: "fn get_type(&self, expr: &Expr, scope: &Scope) -> Result<Type, ConvertError> {",
+        put: "fn get_type(&self, expr: &Expr, scope: &Scope) -> Result<Type, ConvertError> {
+        crate::visits::typed(expr.span);",
     },
 ];
 

@@ -57,7 +57,8 @@ static void convert(const uint8_t *tree, size_t tree_len)
         printf("refused: %u at record %u\n", (unsigned)a.number, (unsigned)a.place);
         return;
     }
-    printf("%u functions, %u instructions\n", (unsigned)a.functions, (unsigned)a.instructions);
+    printf("%u functions, %u instructions, %u expressions typed\n", (unsigned)a.functions, (unsigned)a.instructions,
+           (unsigned)a.visits);
     for (uint32_t i = 0; i < a.instructions; i++) {
         const uint8_t *at = instructions + RUDDERPLUM_INSTRUCTION_ENTRY * i;
         if (at[0] == 12) {

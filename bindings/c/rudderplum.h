@@ -25,7 +25,7 @@ extern "C" {
 #define RUDDERPLUM_FUNCTIONS_PER_RECORD 32
 #define RUDDERPLUM_STRINGS_PER_RECORD 8
 #define RUDDERPLUM_FLOATS_PER_RECORD 32
-#define RUDDERPLUM_SCRATCH_PER_RECORD 64
+#define RUDDERPLUM_SCRATCH_PER_RECORD 72
 
 /* Bytes of an entry of each table; docs/FORM.md says what they are. */
 #define RUDDERPLUM_INSTRUCTION_ENTRY 32
@@ -101,9 +101,9 @@ uint32_t rudderplum_judge(const uint8_t *tree, size_t tree_len,
 
 /*
  * Converts a tree; with `needs_main` other than 0 a program without a `main` is refused. Returns 1 and writes the answer to
- * the first 32 bytes of `answer`: 0, the counts of functions, instructions, variables, labels, strings and floats, and a
- * zero; or number, place, span start, span end, and zeros. With an `answer` of fewer than 32 bytes it returns 0 and writes
- * nothing anywhere.
+ * the first 32 bytes of `answer`: 0, the counts of functions, instructions, variables, labels, strings and floats, and the
+ * visits; or number, place, span start, span end, and zeros. A visit is an expression record whose type was worked out, and
+ * no record is visited twice. With an `answer` of fewer than 32 bytes it returns 0 and writes nothing anywhere.
  *
  * Afterwards:
  *   converted                                  each table is at the start of its buffer, zero behind it; scratch is zero
@@ -145,6 +145,7 @@ struct rudderplum_answer {
     uint32_t labels;
     uint32_t strings;
     uint32_t floats;
+    uint32_t visits;
 };
 
 /* The little-endian word at `bytes`. */
@@ -160,8 +161,8 @@ static inline struct rudderplum_answer rudderplum_read_answer(const uint8_t *ans
     for (int i = 0; i < 8; i++) {
         w[i] = rudderplum_word(answer + 4 * i);
     }
-    struct rudderplum_answer refused = {w[0], w[1], w[2], w[3], 0, 0, 0, 0, 0, 0};
-    struct rudderplum_answer converted = {0, RUDDERPLUM_NONE, 0, 0, w[1], w[2], w[3], w[4], w[5], w[6]};
+    struct rudderplum_answer refused = {w[0], w[1], w[2], w[3], 0, 0, 0, 0, 0, 0, 0};
+    struct rudderplum_answer converted = {0, RUDDERPLUM_NONE, 0, 0, w[1], w[2], w[3], w[4], w[5], w[6], w[7]};
     return w[0] == 0 ? converted : refused;
 }
 

@@ -11,6 +11,7 @@ use crate::program::Build;
 use crate::stand_ins::set_key_texts;
 use crate::tables::{Tables, tables};
 use crate::tree::*;
+use crate::visits::{self, Log};
 use crate::walk::{Stop, Walk};
 use crate::yardstick::{AMENDED, Krc, RUST, Reason, Yardstick};
 
@@ -58,27 +59,58 @@ pub fn try_convert(tree: &[u8], text: &[u8], needs_main: bool, lens: [usize; 7])
 /// An answer, the yardstick that it is (none where the tree is refused before conversion), and the Rust's own answer where that is another.
 pub struct Held {
     pub answer: Answer,
+    /// The seventh count: how many expression records are typed at least once; 0 where nothing is converted.
+    pub visits: u32,
     pub by: Option<Yardstick>,
     pub otherwise: Option<Answer>,
+}
+
+impl Held {
+    fn refused(refusal: Refusal) -> Self {
+        Self { answer: Answer::Refused(refusal), visits: 0, by: None, otherwise: None }
+    }
+
+    /// The eight words of the call's answer: 0 and the seven counts; or number, place, span, and zeros.
+    pub fn words(&self) -> [u32; 8] {
+        match &self.answer {
+            Answer::Converted(tables) => {
+                let [a, b, c, d, e, f] = tables.counts();
+                [0, a, b, c, d, e, f, self.visits]
+            }
+            Answer::Refused(r) => [r.number, r.place, r.start, r.end, 0, 0, 0, 0],
+        }
+    }
 }
 
 /// `try_convert`, with the yardstick that the tree is held to.
 pub fn held(tree: &[u8], text: &[u8], needs_main: bool, lens: [usize; 7]) -> Result<Held, String> {
     if let Err(refusal) = judge(tree, text, lens) {
-        return Ok(Held { answer: Answer::Refused(refusal), by: None, otherwise: None });
+        return Ok(Held::refused(refusal));
     }
     let tree = Tree::new(tree, text);
     let build = Build::new(&tree);
     let by = Yardstick::of(&build);
     let ask = |krc| answer_by(krc, &build, needs_main, lens);
-    let (rust, amended) = (ask(&RUST)?, ask(&AMENDED)?);
-    if rust == amended {
-        return Ok(Held { answer: rust, by: Some(by), otherwise: None });
-    }
-    if !may_differ(by, &rust, &amended) {
+    let (rust, (amended, log)) = (ask(&RUST)?, visits::watched(|| ask(&AMENDED)));
+    let amended = amended?;
+    if rust != amended && !may_differ(by, &rust, &amended) {
         return Err(format!("{by:?}: Krc answers {}, the amended copy {}", rust.line(), amended.line()));
     }
-    Ok(Held { answer: amended, by: Some(by), otherwise: Some(rust) })
+    let visits = visits_of(&amended, &tree, &log)?;
+    let otherwise = (rust != amended).then_some(rust);
+    Ok(Held { answer: amended, visits, by: Some(by), otherwise })
+}
+
+/// The seventh count: how many records the amended copy typed. They must be those that the records tell.
+fn visits_of(answer: &Answer, tree: &Tree, log: &Log) -> Result<u32, String> {
+    if let Answer::Refused(_) = answer {
+        return Ok(0);
+    }
+    let (typed, told) = (log.keys().copied().collect::<Vec<u32>>(), visits::by_records(tree));
+    if typed != told {
+        return Err(format!("the records {typed:?} are typed, {told:?} expected"));
+    }
+    Ok(typed.len() as u32)
 }
 
 /// Whether the two answers may be different ones: not without a reason; by type arguments alone, since 'overloads are chosen as before', only

@@ -22,7 +22,7 @@ pub const MOST_RECORDS: usize = 2048;
 pub const DEEPEST: u32 = 64;
 
 /// Bytes that each record needs: instructions, variables, labels, functions, strings, floats, scratch.
-pub const BYTES_PER_RECORD: [usize; 7] = [320, 12, 24, 32, 8, 32, 64];
+pub const BYTES_PER_RECORD: [usize; 7] = [320, 12, 24, 32, 8, 32, 72];
 
 /// The buffer lengths that just suffice for a tree of `tree_len` bytes.
 pub fn needed(tree_len: usize) -> [usize; 7] {

@@ -15,6 +15,7 @@ pub mod stand_ins;
 pub mod tables;
 pub mod tally;
 pub mod tree;
+pub mod visits;
 pub mod walk;
 pub mod write;
 pub mod yardstick;

@@ -5,7 +5,7 @@ use std::path::Path;
 use std::process::ExitCode;
 use std::{env, fs};
 
-use oracle::convert::{held, try_convert};
+use oracle::convert::{Held, held, try_convert};
 use oracle::generate::call_list;
 use oracle::generate::list::{bytes, cases};
 use oracle::program::Build;
@@ -57,8 +57,12 @@ fn show_files(tree: &str, text: &str, options: &[&str]) -> Result<(), String> {
         print!("\n{}\n", source_text(&tree));
     }
     println!("{}", yardstick_line(&bytes, &text));
-    match try_convert(&bytes, &text, options.contains(&"--main"), needed(bytes.len()))? {
-        Answer::Converted(tables) => print!("{}", show::tables_text(&tables, &|at| format!("#{at}"))),
+    let held = held(&bytes, &text, options.contains(&"--main"), needed(bytes.len()))?;
+    match held.answer {
+        Answer::Converted(tables) => {
+            print!("{}", show::tables_text(&tables, &|at| format!("#{at}")));
+            println!("expressions typed: {}", held.visits);
+        }
         Answer::Refused(refusal) => print!("{}", show::refusal_text(&tree, &refusal)),
     }
     Ok(())
@@ -111,7 +115,7 @@ struct Counts {
 }
 
 impl Counts {
-    fn add(&mut self, case: &Case) -> Result<Answer, String> {
+    fn add(&mut self, case: &Case) -> Result<Held, String> {
         let held = held(&case.tree, &case.text, case.needs_main, case.lens)?;
         let number = held.answer.number();
         self.all.add(&held);
@@ -119,7 +123,7 @@ impl Counts {
         if let Some(rust) = &held.otherwise {
             *self.otherwise.entry((rust.number(), number)).or_default() += 1;
         }
-        Ok(held.answer)
+        Ok(held)
     }
 
     fn print(&self) {
@@ -189,10 +193,11 @@ fn check(file: &str) -> Result<(), String> {
     let (mut counts, mut differ) = (Counts::default(), 0);
     for (at, stored) in slips::stored(&list).iter().enumerate() {
         let case = stored.case();
-        let answer = counts.add(&case)?;
-        if call_list::entry(at, &case, &answer) != stored.bytes {
+        let held = counts.add(&case)?;
+        if call_list::entry(at, &case, &held) != stored.bytes {
             differ += 1;
-            println!("{at}: {} stored, the oracle says {}", stored.line(), answer.line());
+            let (was, is) = (stored.answer, held.words());
+            println!("{at}: {was:?} stored, the oracle says {is:?}");
         }
     }
     counts.print();

@@ -159,13 +159,18 @@ fn nesting() {
 fn lengths_and_buffers() {
     let (tree, text) = (base().tree(), base().text);
     let n = tree.len() / 32;
-    let exact = [320, 12, 24, 32, 8, 32, 64].map(|bytes| bytes * n);
+    let exact = [320, 12, 24, 32, 8, 32, 72].map(|bytes| bytes * n);
     let number = |tree: &[u8], lens| judge(tree, &text, lens).err().map_or((0, 0), |r| (r.number, r.place));
     assert_eq!(number(&tree, exact), (0, 0));
     for buffer in 0..7 {
         let mut short = exact;
         short[buffer] -= 1;
         assert_eq!(number(&tree, short), (26, NONE));
+    }
+    let twelve = [320, 12, 24, 32, 8, 32].map(|bytes| bytes * 12);
+    for (scratch, want) in [(768, 26), (863, 26), (864, 0)] {
+        let [a, b, c, d, e, f] = twelve;
+        assert_eq!(number(&tree[..12 * 32], [a, b, c, d, e, f, scratch]).0, want);
     }
     for length in [0, 31, 32, 11 * 32, tree.len() - 1] {
         assert_eq!(number(&tree[..length], [0; 7]), (24, NONE));

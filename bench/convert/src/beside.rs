@@ -24,16 +24,19 @@ fn rows(programs: [&str; 2], words: &[String]) -> u64 {
         .sum()
 }
 
-/// A table for each make of `time`: at each size the rows of both.
+/// A table for each make of `time`: at each size and nesting the rows of both.
 pub fn time(programs: [&str; 2], options: &time::Options) -> u64 {
     let mut failed = 0;
     for make in &options.makes {
         println!("\n{}: {}\n\n| library {}\n|---{}", make.name, make.what, time::HEAD, time::LINE);
-        for size in &options.sizes {
-            let numbers = [*size, options.rounds, options.trees].map(|number| number.to_string());
-            let [size, rounds, trees] = numbers.each_ref().map(String::as_str);
-            let words = ["time", "--makes", make.name, "--sizes", size, "--rounds", rounds, "--trees", trees];
-            failed += rows(programs, &words.map(str::to_string));
+        for (size, nesting) in options.rows_of(make) {
+            let mut words = ["time", "--makes", make.name].map(str::to_string).to_vec();
+            let numbers =
+                [("--sizes", size), ("--rounds", options.rounds), ("--trees", options.trees)].into_iter();
+            for (name, number) in numbers.chain(nesting.map(|nesting| ("--nestings", nesting))) {
+                words.extend([name.to_string(), number.to_string()]);
+            }
+            failed += rows(programs, &words);
         }
     }
     failed

@@ -1,4 +1,4 @@
-//! Generated trees through the call and through the oracle: number, place and span or the six counts, and every byte of all buffers.
+//! Generated trees through the call and through the oracle: number, place and span or the seven counts, and every byte of all buffers.
 
 use std::collections::BTreeMap;
 use std::{fs, path::Path};
@@ -64,17 +64,6 @@ fn holds(fill: &Fill, (buffer, start): &(Vec<u8>, usize), after: After) -> bool 
     written && buffer[len..] == found[len..]
 }
 
-/// The eight words of an answer.
-fn as_words(answer: &Answer) -> [u32; 8] {
-    match answer {
-        Answer::Converted(tables) => {
-            let [a, b, c, d, e, f] = tables.counts();
-            [0, a, b, c, d, e, f, 0]
-        }
-        Answer::Refused(r) => [r.number, r.place, r.start, r.end, 0, 0, 0, 0],
-    }
-}
-
 /// The seven buffers after an answer.
 fn promised(answer: &Answer) -> [After<'_>; 7] {
     match answer {
@@ -94,7 +83,7 @@ fn promised(answer: &Answer) -> [After<'_>; 7] {
 }
 
 /// Says what differs, if anything does.
-fn differs(fill: &mut Fill, case: &Case, expected: &Answer) -> Option<String> {
+fn differs(fill: &mut Fill, case: &Case, expected: &Held) -> Option<String> {
     let mut lent = case.lens.map(|len| fill.buffer(len));
     let short = fill.below(16) == 0;
     let answer_len = if short { fill.below(ANSWER_BYTES) } else { ANSWER_BYTES + fill.below(9) };
@@ -109,7 +98,7 @@ fn differs(fill: &mut Fill, case: &Case, expected: &Answer) -> Option<String> {
     if wrote == short {
         return Some(format!("returned {wrote} with {answer_len} bytes for the answer"));
     }
-    let after = if short { [After::Found; 7] } else { promised(expected) };
+    let after = if short { [After::Found; 7] } else { promised(&expected.answer) };
     for (which, buffer) in lent.iter().enumerate() {
         if !holds(fill, buffer, after[which]) {
             return Some(format!("the bytes of buffer {which}"));
@@ -120,7 +109,7 @@ fn differs(fill: &mut Fill, case: &Case, expected: &Answer) -> Option<String> {
     if behind != &found[written.len()..] {
         return Some("the bytes behind the answer".to_string());
     }
-    let words = as_words(expected);
+    let words = expected.words();
     let bytes: Vec<u8> = words.iter().flat_map(|word| word.to_le_bytes()).collect();
     if !short && written != bytes {
         let read = read_conversion(written.try_into().unwrap());
@@ -195,7 +184,7 @@ impl Found {
             .unwrap_or_else(|message| panic!("oracle: internal error: {}: {message}", case.label));
         *self.numbers.entry(held.answer.number()).or_default() += 1;
         self.calls.add(&held);
-        if let Some(what) = differs(fill, case, &held.answer) {
+        if let Some(what) = differs(fill, case, &held) {
             self.differ.add(&held);
             if case.tree.len() < self.smallest {
                 self.smallest = case.tree.len();

@@ -12,11 +12,11 @@ use std::time::Duration;
 
 use attacks::{ATTACKS, Attack, Knobs};
 use hostile::Measure;
-use makes::{MAKES, Make};
+use makes::{MAKES, Make, NESTINGS, is_nesting};
 use oracle::classes;
 
 const USAGE: &str = "usage: convert-bench compare [N [SEED [DIR]]] [--class CLASS]
-       convert-bench time [--makes A,B] [--sizes N,N] [--rounds N] [--trees N] [--rows WORD]
+       convert-bench time [--makes A,B] [--sizes N,N] [--nestings N,N] [--rounds N] [--trees N] [--rows WORD]
        convert-bench hostile [--attacks A,B] [--limit SECONDS] [--rows WORD]
        convert-bench beside PROGRAM PROGRAM time|hostile [OPTIONS]
        convert-bench alone call|judge|krc ATTACK TEXT SHARE DEPTH SECONDS
@@ -34,6 +34,10 @@ fn number<T: std::str::FromStr>(word: &str) -> T {
 
 fn make(word: &str) -> &'static Make {
     makes::by_name(word).unwrap_or_else(|| stop())
+}
+
+fn nesting(word: &str) -> usize {
+    Some(number(word)).filter(|nesting| is_nesting(*nesting)).unwrap_or_else(|| stop())
 }
 
 fn attack(word: &str) -> &'static Attack {
@@ -62,11 +66,13 @@ fn compare_options<'o>(words: &[&'o str]) -> compare::Options<'o> {
 /// The options of `time`, in pairs of a name and a value.
 fn time_options(words: &[&str]) -> time::Options {
     let (makes, sizes) = (MAKES.iter().collect(), vec![50, 200, 500, 1000, 2000]);
-    let mut options = time::Options { makes, sizes, rounds: 800, trees: 32, rows: None };
+    let nestings = NESTINGS.to_vec();
+    let mut options = time::Options { makes, sizes, nestings, rounds: 800, trees: 32, rows: None };
     for pair in words.chunks(2) {
         match *pair {
             ["--makes", names] => options.makes = names.split(',').map(make).collect(),
             ["--sizes", sizes] => options.sizes = sizes.split(',').map(number).collect(),
+            ["--nestings", nestings] => options.nestings = nestings.split(',').map(nesting).collect(),
             ["--rounds", rounds] => options.rounds = number(rounds),
             ["--trees", trees] => options.trees = number(trees),
             ["--rows", word] => options.rows = Some(word.to_string()),

@@ -4,24 +4,59 @@ use oracle::ast::{Ar, Ex, Fun, Layout, St, Ty, mangle};
 use oracle::generate::programs::Maker;
 use oracle::generate::rng::Rng;
 use oracle::generate::whole;
-use oracle::tree::CAST_VERB;
+use oracle::judge::depths;
+use oracle::tree::{CAST_VERB, Tree};
 use oracle::write::*;
 use oracle::{Answer, Case, convert};
 use rudderplum::RECORD_BYTES;
 
+use Program::{Any, Nested};
+
 pub struct Make {
     pub name: &'static str,
     pub what: &'static str,
-    program: fn(&mut Rng, usize) -> Vec<Fun>,
+    program: Program,
 }
 
-pub const MAKES: [Make; 6] = [
-    Make { name: "mixed", what: "the generator's programs, with every construct", program: mixed },
-    Make { name: "bodies", what: "one long body with many open names", program: bodies },
-    Make { name: "functions", what: "many short functions that call each other", program: functions },
-    Make { name: "conditions", what: "Ifs, Whiles, Ands and Ors, nested near 60", program: conditions },
-    Make { name: "literals", what: "integers, floats and strings, half of them distinct", program: literals },
-    Make { name: "names", what: "long bodies, with Hangul names of 60 to 200 bytes", program: names },
+/// How a program of so many records is made.
+enum Program {
+    /// Nested as it comes.
+    Any(fn(&mut Rng, usize) -> Vec<Fun>),
+    /// Of groups of statements, the first of which makes the function around them just so deep, an even number.
+    Nested(fn(&mut Rng, usize) -> Vec<St>),
+}
+
+/// The shallowest and the deepest nesting of a make that takes it, and those taken unless said otherwise.
+const SHALLOWEST: usize = 8;
+const DEEPEST: usize = 64;
+pub const NESTINGS: [usize; 5] = [SHALLOWEST, 16, 32, 48, DEEPEST];
+
+/// Whether a make can take this nesting.
+pub fn is_nesting(nesting: usize) -> bool {
+    (SHALLOWEST..=DEEPEST).contains(&nesting) && nesting.is_multiple_of(2)
+}
+
+pub const MAKES: [Make; 8] = [
+    Make { name: "mixed", what: "the generator's programs, with every construct", program: Any(mixed) },
+    Make { name: "bodies", what: "one long body with many open names", program: Any(bodies) },
+    Make { name: "functions", what: "many short functions that call each other", program: Any(functions) },
+    Make { name: "conditions", what: "Ifs, Whiles, Ands and Ors, nested near 60", program: Any(conditions) },
+    Make {
+        name: "literals",
+        what: "integers, floats and strings, half of them distinct",
+        program: Any(literals),
+    },
+    Make { name: "names", what: "long bodies, with Hangul names of 60 to 200 bytes", program: Any(names) },
+    Make {
+        name: "deep-conditions",
+        what: "Ifs whose conditions are Ands and Ors in each other, nested as said, four of them an If",
+        program: Nested(deep_condition),
+    },
+    Make {
+        name: "deep-calls",
+        what: "statements of calls in calls, nested as said",
+        program: Nested(deep_calls),
+    },
 ];
 
 pub fn by_name(name: &str) -> Option<&'static Make> {
@@ -29,11 +64,30 @@ pub fn by_name(name: &str) -> Option<&'static Make> {
 }
 
 impl Make {
+    /// The nestings at which programs of a size are made: of those asked for the ones that it has room for, or just one that names none where the
+    /// make takes none.
+    pub fn nestings(&self, size: usize, asked: &[usize]) -> Vec<Option<usize>> {
+        match self.program {
+            Any(_) => vec![None],
+            Nested(_) => {
+                let room = |nesting: &&usize| 5 * **nesting / 2 + 27 <= size;
+                asked.iter().filter(room).map(|nesting| Some(*nesting)).collect()
+            }
+        }
+    }
+
+    fn program(&self, rng: &mut Rng, size: usize, nesting: Option<usize>) -> Vec<Fun> {
+        match (&self.program, nesting) {
+            (Any(program), _) => program(rng, size),
+            (Nested(group), nesting) => nested(rng, size, nesting.unwrap_or(DEEPEST), *group),
+        }
+    }
+
     /// So many distinct programs that convert, within a twentieth of the size in records.
-    pub fn cases(&self, size: usize, count: usize) -> Vec<Case> {
+    pub fn cases(&self, size: usize, nesting: Option<usize>, count: usize) -> Vec<Case> {
         let mut found: Vec<Case> = Vec::new();
         for seed in 0.. {
-            let case = whole(Layout::program(&(self.program)(&mut Rng::new(seed), size)));
+            let case = whole(Layout::program(&self.program(&mut Rng::new(seed), size, nesting)));
             let records = case.tree.len() / RECORD_BYTES;
             let converts =
                 || matches!(convert(&case.tree, &case.text, false, case.lens), Answer::Converted(_));
@@ -44,6 +98,10 @@ impl Make {
             if found.len() == count {
                 break;
             }
+        }
+        let deepest = |case: &Case| depths(&Tree::new(&case.tree, &case.text)).into_iter().max();
+        if let Some(nesting) = nesting {
+            found.iter().for_each(|case| assert_eq!(deepest(case), Some(nesting as u32)));
         }
         found
     }
@@ -361,6 +419,55 @@ fn conditions(rng: &mut Rng, size: usize) -> Vec<Fun> {
         made.push(next);
     }
     fill_up(rng, made, size)
+}
+
+/// Functions of such groups, as many as there is room for, none with much more than 230 records: so what a function costs is much the same at
+/// each nesting. What is left over goes to a few that are less deep.
+fn nested(rng: &mut Rng, size: usize, nesting: usize, group: fn(&mut Rng, usize) -> Vec<St>) -> Vec<Fun> {
+    let params = [("가", LONG), ("참", Ty::Bool)];
+    let one = declared("하나", &[("가", LONG)], Some(LONG), false);
+    let two = declared("둘", &[("가", LONG), ("나", LONG)], Some(LONG), false);
+    let (mut made, mut deep) = (vec![one, two], nesting);
+    while deep >= SHALLOWEST {
+        let left = size.saturating_sub(Layout::program(&made).records.len() + around(params.len()));
+        let mut body = Body::new(rng, left.min(230), short_name);
+        let mut next = group(body.rng, deep);
+        while next.into_iter().all(|statement| body.push(statement)) {
+            next = group(body.rng, deep);
+        }
+        if body.block.is_empty() {
+            deep -= 2;
+        } else {
+            made.push(func(&format!("함{}", made.len()), &params, None, body.block));
+        }
+    }
+    fill_up(rng, made, size)
+}
+
+/// An If whose condition is an And or Or of a comparison or name and of such a condition, on either side; then Ifs with a comparison alone, so many that
+/// there are four Ands and Ors and two comparisons for each If at every nesting: only how deep they stand is another.
+fn deep_condition(rng: &mut Rng, nesting: usize) -> Vec<St> {
+    let compared = |rng: &mut Rng| binary(name("가"), LT + rng.below(4) as u8, int(rng.below(100) as i64));
+    // The function and the If are one deeper each, the innermost comparison is 2 deep.
+    let levels = nesting - 4;
+    let test = (0..levels).fold(compared(rng), |test, level| {
+        let (op, leaf) = ([AND, OR][rng.below(2)], if level % 4 == 3 { compared(rng) } else { name("참") });
+        if rng.flip() { binary(leaf, op, test) } else { binary(test, op, leaf) }
+    });
+    let alone = (1..levels / 4).map(|_| compared(rng));
+    std::iter::once(test).chain(alone.collect::<Vec<_>>()).map(|test| St::If(test, vec![], None)).collect()
+}
+
+/// A call of a call, and so on, every second with one argument and every second with two; as a statement or as a value that is kept.
+fn deep_calls(rng: &mut Rng, nesting: usize) -> Vec<St> {
+    // The function and the statement are one deeper each, a call and its value too, the innermost sum is 2 deep.
+    let sum = binary(name("가"), ADD, int(rng.below(100) as i64));
+    let calls = (0..(nesting - 4) / 2).fold(sum, |inner, level| match (level % 2, rng.flip()) {
+        (0, _) => call_of("하나", vec![inner]),
+        (_, true) => call_of("둘", vec![inner, name("가")]),
+        (_, false) => call_of("둘", vec![name("가"), inner]),
+    });
+    vec![if rng.flip() { St::Call(calls) } else { St::Init(false, "가".into(), calls) }]
 }
 
 /// A literal; every second one is new.

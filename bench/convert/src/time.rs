@@ -17,19 +17,31 @@ use crate::makes::Make;
 /// The measures take turns, so that what else runs on the machine meets them alike.
 const TURNS: usize = 8;
 
-pub const HEAD: &str = "| records | trees | call (us) | 99 of 100 (us) | worst (us) | ns a record | judge (us) | clearing (us) | Krc's convert (us) | ratio |";
-pub const LINE: &str = "|---|---|---|---|---|---|---|---|---|---|";
+pub const HEAD: &str = "| records | nesting | trees | call (us) | 99 of 100 (us) | worst (us) | ns a record | judge (us) | clearing (us) | Krc's convert (us) | ratio |";
+pub const LINE: &str = "|---|---|---|---|---|---|---|---|---|---|---|";
 
 pub struct Options {
     pub makes: Vec<&'static Make>,
     /// Sizes in records.
     pub sizes: Vec<usize>,
+    /// For the makes that take one.
+    pub nestings: Vec<usize>,
     /// How often each measure is taken, for one row.
     pub rounds: usize,
     /// How many trees are taken in turn.
     pub trees: usize,
     /// Prints rows alone, each with this word before it, for runs whose tables are put together.
     pub rows: Option<String>,
+}
+
+impl Options {
+    /// Size and nesting of the rows of a make.
+    pub fn rows_of(&self, make: &Make) -> Vec<(usize, Option<usize>)> {
+        let of_size = |&size: &usize| {
+            make.nestings(size, &self.nestings).into_iter().map(move |nesting| (size, nesting))
+        };
+        self.sizes.iter().flat_map(of_size).collect()
+    }
 }
 
 /// A thread that was off its core for longer than this was waiting for it.
@@ -57,9 +69,9 @@ impl Times {
         self.of_hundred(50)
     }
 
-    /// What so many of a hundred do not exceed, once sorted.
+    /// What so many of a hundred do not exceed, once sorted; no number if every run was left out.
     fn of_hundred(&self, many: usize) -> f64 {
-        self.0[(self.0.len() - 1) * many / 100]
+        self.0.get(self.0.len().saturating_sub(1) * many / 100).copied().unwrap_or(f64::NAN)
     }
 }
 
@@ -163,10 +175,11 @@ fn measure(cases: &[Case], rounds: usize) -> Row {
 }
 
 impl Row {
-    fn print(&mut self, before: &str, trees: usize) {
+    fn print(&mut self, before: &str, nesting: Option<usize>, trees: usize) {
         let (call, krc) = (self.call.median(), self.krc.median());
+        let nesting = nesting.map_or("-".to_string(), |nesting| nesting.to_string());
         println!(
-            "{before}| {} | {trees} | {call:.1} | {:.1} | {:.0} | {:.0} | {:.1} | {:.1} | {krc:.1} | {:.2} |",
+            "{before}| {} | {nesting} | {trees} | {call:.1} | {:.1} | {:.0} | {:.0} | {:.1} | {:.1} | {krc:.1} | {:.2} |",
             self.records,
             self.call.of_hundred(99),
             self.call.of_hundred(100),
@@ -178,17 +191,17 @@ impl Row {
     }
 }
 
-/// Prints a table for each make, with two rows for each size: one tree again and again, and many in turn.
+/// Prints a table for each make, with two rows for each size and nesting: one tree again and again, and many in turn.
 pub fn time(options: &Options) -> u64 {
     let before = options.rows.as_ref().map_or(String::new(), |word| format!("| {word} "));
     for make in &options.makes {
         if options.rows.is_none() {
             println!("\n{}: {}\n\n{HEAD}\n{LINE}", make.name, make.what);
         }
-        for &size in &options.sizes {
-            let cases = make.cases(size, options.trees);
+        for (size, nesting) in options.rows_of(make) {
+            let cases = make.cases(size, nesting, options.trees);
             for some in [&cases[..1], &cases[..]] {
-                measure(some, options.rounds).print(&before, some.len());
+                measure(some, options.rounds).print(&before, nesting, some.len());
             }
         }
     }
@@ -197,7 +210,7 @@ pub fn time(options: &Options) -> u64 {
 
 /// Calls with so many trees of one make in turn, again and again, for a profile.
 pub fn repeat(make: &Make, size: usize, trees: usize, rounds: usize) -> u64 {
-    let cases = make.cases(size, trees);
+    let cases = make.cases(size, None, trees);
     let mut owned = Owned::for_cases(&cases);
     (0..rounds).for_each(|at| assert_eq!(owned.call(&cases[at % trees]), 0));
     0

@@ -13,7 +13,7 @@ pub use tables::{Float, Function, Instruction, Kind, Label, LabelKind, Operand, 
 pub const RECORD_BYTES: usize = 32;
 
 /// Bytes for each record that the buffers need: instructions, variables, labels, functions, strings, floats, scratch.
-pub const BYTES_PER_RECORD: [usize; 7] = [320, 12, 24, 32, 8, 32, 64];
+pub const BYTES_PER_RECORD: [usize; 7] = [320, 12, 24, 32, 8, 32, 72];
 
 /// The fewest and the most records that a tree may have.
 pub const FEWEST_RECORDS: usize = 12;
@@ -148,8 +148,8 @@ pub fn judge_into(tree: &[u8], text: &[u8], buffers: Buffers, answer: &mut [u8])
 }
 
 /// Converts into lent buffers, with the answer as bytes: 0 and the counts of functions, instructions, variables, labels,
-/// strings and floats, and a zero; or number, place (FFFFFFFF for none), span start, span end, and zeros. Bytes past the
-/// 32nd stay as found. With a shorter answer nothing is written anywhere, and the result is false.
+/// strings and floats, and the visits; or number, place (FFFFFFFF for none), span start, span end, and zeros. Bytes past
+/// the 32nd stay as found. With a shorter answer nothing is written anywhere, and the result is false.
 ///
 /// Converted: each table stands at the start of its buffer, with zeros behind it, and scratch is zero. Refused for its
 /// length or for short buffers (24 without a place, 26): nothing was written. Any other refusal: all seven are zero.
@@ -196,8 +196,8 @@ pub fn read_answer(answer: &[u8; JUDGE_ANSWER_BYTES]) -> Result<(), Refusal> {
     }
 }
 
-/// The answer that a conversion wrote: the counts of functions, instructions, variables, labels, strings and floats.
-pub fn read_conversion(answer: &[u8; ANSWER_BYTES]) -> Result<[usize; 6], Refusal> {
+/// The answer that a conversion wrote: the counts of functions, instructions, variables, labels, strings and floats, and the visits.
+pub fn read_conversion(answer: &[u8; ANSWER_BYTES]) -> Result<[usize; 7], Refusal> {
     match word(answer, 0) {
         0 => Ok(std::array::from_fn(|i| word(answer, 4 + 4 * i) as usize)),
         number => Err(Refusal::new(number, word(answer, 4), word(answer, 8), word(answer, 12))),

@@ -11,6 +11,7 @@ const NONE: u32 = u32::MAX;
 #[derive(Clone, Debug, PartialEq, Eq)]
 pub struct Tables {
     bytes: [Vec<u8>; 6],
+    visits: usize,
 }
 
 /// A function of the tree, in record order, and where its instructions, variables and labels stand in the tables.
@@ -169,12 +170,12 @@ fn label_kind(number: u32) -> LabelKind {
 }
 
 impl Tables {
-    /// Buffers in the order of the counts: functions, instructions, variables, labels, strings, floats.
-    pub(crate) fn new(counts: [usize; 6], mut bytes: [Vec<u8>; 6]) -> Self {
+    /// Buffers in the order of the counts: functions, instructions, variables, labels, strings, floats; the seventh count is the visits.
+    pub(crate) fn new(counts: [usize; 7], mut bytes: [Vec<u8>; 6]) -> Self {
         for (i, table) in bytes.iter_mut().enumerate() {
             table.truncate(counts[i] * ENTRY_BYTES[i]);
         }
-        Self { bytes }
+        Self { bytes, visits: counts[6] }
     }
 
     fn entries(&self, table: usize) -> std::slice::ChunksExact<'_, u8> {
@@ -184,6 +185,11 @@ impl Tables {
     /// The six counts: functions, instructions, variables, labels, strings, floats.
     pub fn counts(&self) -> [usize; 6] {
         std::array::from_fn(|i| self.bytes[i].len() / ENTRY_BYTES[i])
+    }
+
+    /// How many expression records had their type worked out; none of them had it twice.
+    pub fn visits(&self) -> usize {
+        self.visits
     }
 
     pub fn functions(&self) -> impl ExactSizeIterator<Item = Function> {

@@ -51,7 +51,8 @@ fn logic(op: u8) -> Vec<u8> {
 
 #[test]
 fn twelve_types_convert_to_nothing() {
-    assert_eq!(convert(&twelve_types(), &[], false).unwrap().counts(), [0; 6]);
+    let tables = convert(&twelve_types(), &[], false).unwrap();
+    assert_eq!((tables.counts(), tables.visits()), ([0; 6], 0));
 }
 
 #[test]
@@ -65,6 +66,8 @@ fn a_main_that_is_needed() {
 fn an_and_jumps_past_its_right_side() {
     let tables = convert(&logic(1), TEXT, false).unwrap();
     assert_eq!(tables.counts(), [1, 6, 3, 2, 0, 0]);
+    // p, q, and the And itself.
+    assert_eq!(tables.visits(), 3);
     let function = tables.functions().next().unwrap();
     assert!(function.has_body && function.record == 23);
     let var = |at| Operand::Var(at);
@@ -105,7 +108,7 @@ fn lent_buffers_after_each_kind_of_answer() {
         let mut answer = [FILL; ANSWER_BYTES + 2];
         assert!(convert_into(tree, TEXT, false, buffers, &mut answer));
         assert_eq!(answer[ANSWER_BYTES..], [FILL; 2]);
-        let counts = read_conversion(answer[..ANSWER_BYTES].try_into().unwrap()).unwrap_or([0; 6]);
+        let counts = read_conversion(answer[..ANSWER_BYTES].try_into().unwrap()).unwrap_or([0; 7]);
         let written =
             [32 * counts[1], 4 * counts[2], 8 * counts[3], 32 * counts[0], 8 * counts[4], 16 * counts[5], 0];
         for (buffer, written) in owned.iter().zip(written) {

@@ -105,6 +105,7 @@ fn wrong_lengths_write_nothing() {
 fn a_short_buffer_writes_nothing() {
     let mut tree = twelve_types();
     tree[2] = 1;
+    assert_eq!(needed(tree.len())[SCRATCH], 864);
     for which in 0..7 {
         let mut lens = needed(tree.len());
         lens[which] -= 1;

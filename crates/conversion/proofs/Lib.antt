@@ -12,3 +12,5 @@ pub mod Positions
 pub mod Called
 pub mod Shifts
 pub mod ShiftTrees
+pub mod VisitLaws
+pub mod VisitTrees

@@ -5,6 +5,7 @@ pub mod Scope
 pub mod Expressions
 pub mod BlockNumbers
 pub mod Statements
+pub mod Visits
 pub mod Functions
 pub mod Converter
 pub mod Written

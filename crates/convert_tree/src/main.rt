@@ -16,7 +16,7 @@ fn print_number(n: u64, after: u8) {
     io::write_all(STDOUT_FILENO, &[after]);
 }
 
-// Writes 0 and the six counts.
+// Writes 0 and the six counts; the visits are not printed.
 fn print_counts(c: Counts) {
     print_number(0, b' ');
     print_number(c.functions as u64, b' ');
@@ -43,7 +43,7 @@ fn convert_and_print(tree: &[u8], text: &[u8]) {
     let mut functions = [0u8; 6400];
     let mut strings = [0u8; 1600];
     let mut floats = [0u8; 6400];
-    let mut scratch = [0u8; 12800];
+    let mut scratch = [0u8; 14400];
     let answer = converter::convert(
         tree,
         text,

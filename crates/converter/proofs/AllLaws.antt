@@ -20,6 +20,7 @@ use Rattle.conversion.specs.ConvertError.{Result, ok, err, _>>=_}
 use Rattle.conversion.specs.Ir.{IrFunction}
 use Rattle.conversion.specs.Functions.{Pool, get-all-functions, check-main, convert-func}
 use Rattle.conversion.specs.Converter.{convertAll, convert}
+use Rattle.conversion.specs.Visits.{bodyVisits, functionsVisits}
 use Rattle.conversion.specs.Written.{bytesOf, word, wide, encodeAll, encodeFields, encodeInstr, encodeVar, encodeLabel, encodeFunctions, encodeString, encodeFloat, allCode, allVars, allLabels}
 use Rattle.ir.specs.declared.structs.Counters.{Counters}
 use Rattle.ir.specs.Arena.{Table, encodeDigest, Holds, Room}
@@ -30,13 +31,16 @@ use Rattle.texts.specs.Texts.{Kept}
 use Rattle.expressions.specs.declared.answers.Outcome.{Outcome}
 use Rattle.expressions.specs.declared.answers.Outcome.the-variants as Outcome
 use Rattle.expressions.specs.Answers.{refusal, outcomeOf}
+use Rattle.expressions.specs.Slots.{visitsAt, Forgets}
 use Rattle.statements.specs.declared.answers.Finished.{Finished}
 use Rattle.statements.specs.declared.answers.Finished.the-variants as Finished
+use Rattle.statements.specs.Converting.{Stays}
+use Rattle.statements.specs.Turns.{Turns}
 use Rattle.statements.proofs.StayLaws.{keyed-stays}
 use Rattle.functions.specs.declared.functions.AllFunctions.{AllFunctions}
 use Rattle.functions.specs.declared.functions.AllFunctions.the-variants as AllFunctions
 use Rattle.functions.specs.Functions.{AllMeet, done, refused}
-use Rattle.functions.specs.Bodies.{begun, FunctionsAfforded, FunctionSpent, FunctionStands, FunctionDone, ConvertsFunction}
+use Rattle.functions.specs.Bodies.{begun, FunctionsAfforded, FunctionSpent, FunctionStands, FunctionDone, ConvertsFunction, FunctionVisited}
 use Rattle.converter.specs.Convert.{emptyPool, ProgramStands, ConvertsTo, allFunctions, emptyCounters}
 
 -- ---- no tables yet
@@ -61,7 +65,8 @@ nothing-held text n l = record {
 
 -- ---- the loop
 
--- j functions are converted: they stand in the arena l, and what was asked is what is left; l₀ and s₀ are arena and scratch at the start
+-- j functions are converted: they stand in the arena l, what was asked is what is left, and the visits made and those left are all; l₀ and s₀ are arena
+-- and scratch at the start
 pub record SoFar (tree text l₀ s₀ : List ℕ) (count : ℕ) (k : Counters) (j : ℕ) (l s : List ℕ) : Type 0 where
   pub converted : List IrFunction
   pub pool : Pool
@@ -72,6 +77,8 @@ pub record SoFar (tree text l₀ s₀ : List ℕ) (count : ℕ) (k : Counters) (
   pub affords : FunctionsAfforded k (allRecords (from tree text j))
   pub holds : Holds text (begun converted pool) k l
   pub asked : allFunctions tree text ≡ convertAll (program tree text) (allKeys tree text) (from tree text j) converted pool
+  pub turns : Turns tree s k
+  pub visits : visitsAt tree s + functionsVisits (records tree) (from tree text j) ≡ functionsVisits (records tree) (program tree text .functions)
   pub long : length l ≡ length l₀
   pub scratch-long : length s ≡ length s₀
 
@@ -82,9 +89,10 @@ all-afforded tree text good =
     subst (λ (fs : List Function). allRecords fs ≤ records tree) (from-start tree text)
     (functions-records tree text (records tree) (judged-complete tree text (good .ok)) (judged-once tree text (good .ok)))
 
-pub all-start : (tree text l s : List ℕ) (count : ℕ) (k : Counters) → Keyed tree text s count → 320 * records tree ≤ length l → k ≡ emptyCounters (records tree)
+pub all-start : (tree text l s : List ℕ) (count : ℕ) (k : Counters) → Keyed tree text s count → 320 * records tree ≤ length l → Turns tree s (emptyCounters (records tree))
+    → k ≡ emptyCounters (records tree)
     → SoFar tree text l s count k 0 l s
-all-start tree text l s count k keyed room e =
+all-start tree text l s count k keyed room turns e =
     let few = keyed .good .few in
     let all = all-afforded tree text (keyed .good) in
     subst (λ (x : Counters). SoFar tree text l s count x 0 l s) (sym e) (record {
@@ -97,6 +105,8 @@ all-start tree text l s count k keyed room e =
       affords = record { tables = omega (arith, all); functions = omega (arith, all) };
       holds = nothing-held text (records tree) l;
       asked = ap (λ (fs : List Function). convertAll (program tree text) (allKeys tree text) fs [] emptyPool) (from-start tree text);
+      turns = turns;
+      visits = let same = ap (functionsVisits (records tree)) (from-start tree text) in omega (arith, turns .few, same);
       long = refl;
       scratch-long = refl;
     })
@@ -124,7 +134,11 @@ module _ (tree text l₀ s₀ : List ℕ) (count : ℕ) (k : Counters) (j : ℕ)
     unfolding convertAll
     asked-next = w .asked ∙ ap (λ (fs : List Function). convertAll (program tree text) (allKeys tree text) fs (w .converted) (w .pool)) one-more
 
-    module _ (a : Finished) (l′ s′ : List ℕ) (m : ConvertsFunction tree text f k l s a l′ s′) where
+    visits-left : functionsVisits (records tree) (from tree text j) ≡ bodyVisits (records tree) (functionOf tree text f .body) + functionsVisits (records tree) (from tree text (j + 1))
+    unfolding functionsVisits
+    visits-left = ap (functionsVisits (records tree)) one-more
+
+    module _ (a : Finished) (l′ s′ : List ℕ) (m : ConvertsFunction tree text f k l s a l′ s′) (p : FunctionVisited f tree text s a s′) where
       spent-left : (k′ : Counters) → FunctionSpent k k′ (functionRecords (functionOf tree text f)) → FunctionsAfforded k′ (allRecords (from tree text (j + 1)))
       unfolding functionRecords
       spent-left k′ p = record {
@@ -132,11 +146,11 @@ module _ (tree text l₀ s₀ : List ℕ) (count : ℕ) (k : Counters) (j : ℕ)
         functions = omega (arith, w .affords .functions, records-left, p .functions, p .records);
       }
 
-      next-by : (k′ : Counters) → FunctionDone tree text f k l k′ l′ → (x : Result (IrFunction × Pool))
+      next-by : (k′ : Counters) → a ≡ Finished.Done k′ → FunctionDone tree text f k l k′ l′ → (x : Result (IrFunction × Pool))
           → convert-func (program tree text) (allKeys tree text) (functionOf tree text f) (w .pool) ≡ x → FunctionStands x (w .converted) text k′ l′
           → SoFar tree text l₀ s₀ count k′ (j + 1) l′ s′
       unfolding FunctionStands _>>=_
-      next-by k′ d (ok q) e stands = record {
+      next-by k′ z d (ok q) e stands = record {
         converted = w .converted ++ (q .0 ∷ []);
         pool = q .1;
         keyed = keyed-stays tree (m .stays) text count (w .keyed);
@@ -146,15 +160,17 @@ module _ (tree text l₀ s₀ : List ℕ) (count : ℕ) (k : Counters) (j : ℕ)
         affords = spent-left k′ (d .spent);
         holds = stands;
         asked = asked-next ∙ ap (λ (x : Result (IrFunction × Pool)). x >>= λ y. convertAll (program tree text) (allKeys tree text) (from tree text (j + 1)) (w .converted ++ (y .0 ∷ [])) (y .1)) e;
+        turns = p .visited k′ z .turns;
+        visits = omega (arith, w .visits, visits-left, p .visited k′ z .visits);
         long = m .long ∙ w .long;
         scratch-long = m .stays .long ∙ w .scratch-long;
       }
-      next-by k′ d (err e r) q stands = absurd stands
+      next-by k′ z d (err e r) q stands = absurd stands
 
       pub all-next : (k′ : Counters) → a ≡ Finished.Done k′ → SoFar tree text l₀ s₀ count k′ (j + 1) l′ s′
       all-next k′ e =
           let d = m .gives k′ e in
-          next-by k′ d (convert-func (program tree text) (allKeys tree text) (functionOf tree text f) (w .pool)) refl (d .stands (w .converted) (w .pool) (w .holds))
+          next-by k′ e d (convert-func (program tree text) (allKeys tree text) (functionOf tree text f) (w .pool)) refl (d .stands (w .converted) (w .pool) (w .holds))
 
       pub all-refused : (e : ConvertError) → a ≡ Finished.Refused e → ConvertsTo tree text (allFunctions tree text) l₀ s₀ (Finished.Refused e) l′ s′
       unfolding _>>=_
@@ -162,6 +178,7 @@ module _ (tree text l₀ s₀ : List ℕ) (count : ℕ) (k : Counters) (j : ℕ)
         long = m .long ∙ w .long;
         scratch-long = m .stays .long ∙ w .scratch-long;
         gives = λ k′ z. absurd (let y : _≡_ {A = ℕ} 0 1 = cc in omega arith);
+        visits = λ k′ z. absurd (let y : _≡_ {A = ℕ} 0 1 = cc in omega arith);
         stops = λ x z. let y : a ≡ Finished.Refused x = cc in
             asked-next ∙ ap (λ (r : Result (IrFunction × Pool)). r >>= λ y. convertAll (program tree text) (allKeys tree text) (from tree text (j + 1)) (w .converted ++ (y .0 ∷ [])) (y .1))
             (m .stops x y (w .converted) (w .pool) (w .holds));
@@ -178,13 +195,41 @@ module _ (tree text l₀ s₀ : List ℕ) (count : ℕ) (k : Counters) (j : ℕ)
     holds = w .holds;
   }
 
+  -- none is left
+  all-visits : count ≤ j → visitsAt tree s ≡ functionsVisits (records tree) (program tree text .functions)
+  unfolding functionsVisits
+  all-visits h =
+      let none : functionsVisits (records tree) (from tree text j) ≡ 0 = ap (functionsVisits (records tree)) (from-end tree text j (omega (arith, w .keyed .listed .counted))) in
+      omega (arith, w .visits, none)
+
   pub all-end : count ≤ j → ConvertsTo tree text (allFunctions tree text) l₀ s₀ (Finished.Done k) l s
   all-end h = record {
     long = w .long;
     scratch-long = w .scratch-long;
     gives = λ k′ z. let y : k ≡ k′ = cc in subst (λ (x : Counters). ProgramStands text (records tree) (allFunctions tree text) x l) y (program-stands h);
+    visits = λ k′ z. all-visits h;
     stops = λ e z. absurd (let y : _≡_ {A = ℕ} 0 1 = cc in omega arith);
   }
+
+-- ---- forgetting, before the first function
+
+module _ (tree s s′ : List ℕ) (g : Forgets tree s s′) where
+  forgets-stays : Stays (records tree) 0 0 s s′
+  forgets-stays = record {
+    long = g .same-length;
+    listed = λ i h. g .below i (omega arith);
+    open-names = λ i a b d. g .below i (omega arith);
+    stack = λ i a b d. g .below i (omega arith);
+    behind = λ i a b. g .below i b;
+  }
+
+  -- the functions by key are as they were
+  pub forgets-keyed : (text : List ℕ) (count : ℕ) → Keyed tree text s count → Keyed tree text s′ count
+  forgets-keyed text count = keyed-stays tree forgets-stays text count
+
+  -- no turn has begun and no visit was made
+  pub forgets-turns : 0 < records tree → Turns tree s′ (emptyCounters (records tree))
+  forgets-turns some = record { latest = λ e h. omega (arith, g .turns e h); few = omega (arith, g .none-made some) }
 
 -- ---- the three steps of `convert`
 
@@ -204,13 +249,16 @@ module _ (tree text s s₁ : List ℕ) (r : AllFunctions) (m : AllMeet tree text
       go x (done {count = n} p k) z = let y : n ≡ count = cc in subst (Mapped tree text s₁) y k
       go x (refused p l g) z = absurd (let y : _≡_ {A = ℕ} 0 1 = cc in omega arith)
 
-  module _ (good : Good tree text) (room : 64 * records tree ≤ length s) where
+  module _ (good : Good tree text) (room : 72 * records tree ≤ length s) where
     pub listed-long : length s₁ ≡ length s
     listed-long = go r m
       where
         go : (x : AllFunctions) → AllMeet tree text s s₁ x → length s₁ ≡ length s
         go x (done p k) = p .long
         go x (refused p l g) = p .long
+
+    pub listed-room : 72 * records tree ≤ length s₁
+    listed-room = omega (arith, listed-long, room)
 
     module _ (needsMain : Bool) where
       pub tree-unkeyed : (l : List ℕ) (e : ConvertError) → r ≡ AllFunctions.Refused e → ConvertsTo tree text (convert (program tree text) needsMain) l s (Finished.Refused e) l s₁
@@ -219,6 +267,7 @@ module _ (tree text s s₁ : List ℕ) (r : AllFunctions) (m : AllMeet tree text
         long = refl;
         scratch-long = listed-long;
         gives = λ k z. absurd (let y : _≡_ {A = ℕ} 0 1 = cc in omega arith);
+        visits = λ k z. absurd (let y : _≡_ {A = ℕ} 0 1 = cc in omega arith);
         stops = λ x z. let y : e ≡ x = cc in rw (keys-refused e q, y);
       }
 
@@ -229,6 +278,7 @@ module _ (tree text s s₁ : List ℕ) (r : AllFunctions) (m : AllMeet tree text
           long = refl;
           scratch-long = listed-long;
           gives = λ k z. absurd (let y : _≡_ {A = ℕ} 0 1 = cc in omega arith);
+          visits = λ k z. absurd (let y : _≡_ {A = ℕ} 0 1 = cc in omega arith);
           stops = λ x z. let y : o ≡ Outcome.Refused x = cc in rw (keys-done count q .distinct, c ∙ ap outcomeOf y);
         }
 
@@ -236,17 +286,18 @@ module _ (tree text s s₁ : List ℕ) (r : AllFunctions) (m : AllMeet tree text
         unfolding convert _>>=_ outcomeOf
         all-asked p = rw (keys-done count q .distinct, c ∙ ap outcomeOf p)
 
-        pub tree-all : o ≡ Outcome.Done → (l l′ s′ : List ℕ) (a : Finished) → ConvertsTo tree text (allFunctions tree text) l s₁ a l′ s′
+        -- s₂ is what writing the keys' digests and forgetting leave of scratch
+        pub tree-all : o ≡ Outcome.Done → (s₂ : List ℕ) → length s₂ ≡ length s₁ → (l l′ s′ : List ℕ) (a : Finished) → ConvertsTo tree text (allFunctions tree text) l s₂ a l′ s′
             → ConvertsTo tree text (convert (program tree text) needsMain) l s a l′ s′
-        tree-all p l l′ s′ a m = rw (all-asked p) (record { long = m .long; scratch-long = m .scratch-long ∙ listed-long; gives = m .gives; stops = m .stops })
+        tree-all p s₂ same l l′ s′ a m = rw (all-asked p) (record { long = m .long; scratch-long = m .scratch-long ∙ same ∙ listed-long; gives = m .gives; visits = m .visits; stops = m .stops })
 
 -- the texts are numbered first, which leaves the scratch as long as it was
-pub room-numbered : {n : ℕ} {s₀ s : List ℕ} → Kept n s₀ s → 64 * n ≤ length s₀ → 64 * n ≤ length s
+pub room-numbered : {n : ℕ} {s₀ s : List ℕ} → Kept n s₀ s → 72 * n ≤ length s₀ → 72 * n ≤ length s
 room-numbered k h = omega (arith, k .long, h)
 
 -- scratch may have been another of one length
 pub tree-longer : {tree text s s₀ l l′ s′ : List ℕ} {x : Result IrProgram} {a : Finished} → length s ≡ length s₀ → ConvertsTo tree text x l s a l′ s′ → ConvertsTo tree text x l s₀ a l′ s′
-tree-longer e m = record { long = m .long; scratch-long = m .scratch-long ∙ e; gives = m .gives; stops = m .stops }
+tree-longer e m = record { long = m .long; scratch-long = m .scratch-long ∙ e; gives = m .gives; visits = m .visits; stops = m .stops }
 
 pub tree-numbered : {tree text s s₀ l l′ s′ : List ℕ} {x : Result IrProgram} {a : Finished} → Kept (records tree) s₀ s → ConvertsTo tree text x l s a l′ s′ → ConvertsTo tree text x l s₀ a l′ s′
 tree-numbered k m = tree-longer (k .long) m

@@ -1,7 +1,7 @@
 -- The end of the call: the tables cut out of the arena are those of the definition's program, or all is zero; and the whole call keeps its promise.
 -- By what the arena holds, case by case of the conversion's answer; demands: WaysOut, every-call. Assumes nothing.
 use mathlib.Core.Path.{_≡_, refl, sym, ap, ap₂, _∙_, subst}
-use Prim.Native.Nat.{ℕ, suc, _<_}
+use Prim.Native.Nat.{ℕ, suc, _*_, _≤_, _<_}
 use mathlib.Core.Bool.{Bool, true, false, not, false≢true}
 use mathlib.Core.List.{List, [], _∷_, append-nil}
 use native.Mathlib.Omega.{arith}
@@ -32,12 +32,14 @@ use Rattle.judge.specs.declared.Lengths.{Lengths}
 use Rattle.judge.specs.declared.Judged.{Judged}
 use Rattle.judge.specs.declared.Judged.the-variants as Judged
 use Rattle.judge.proofs.RowLaws.{cleared-length, core-kept, core-cleared, answer-in, outputs-cleared, outputs-kept}
+use Rattle.expressions.specs.Slots.{visitsAt}
 use Rattle.statements.specs.declared.answers.Finished.{Finished}
 use Rattle.statements.specs.declared.answers.Finished.the-variants as Finished
 use Rattle.functions.specs.Bodies.{begun}
-use Rattle.demands.specs.Call.{Counted, Refusal, filled, buffersAfter, Calls}
+use Rattle.demands.specs.Call.{visitsIn, Counted, Refusal, filled, buffersAfter, Calls}
 use Rattle.demands.specs.Demands.{allZero, AsTheRust}
-use Rattle.demands.proofs.WaysOut.{refused-run, good-in, enough-in, failed-run, converted-run}
+use Rattle.demands.proofs.GoodLaws.{good-visits}
+use Rattle.demands.proofs.WaysOut.{refused-run, good-in, some-in, enough-in, failed-run, converted-run}
 use Rattle.demands.proofs.Demands.{every-call}
 use Rattle.converter.specs.declared.Counts.{Counts}
 use Rattle.converter.specs.declared.Answer.{Answer}
@@ -63,10 +65,10 @@ cleared-same d e q = ap (λ (n : ℕ). replicate n 0) q
 
 -- ---- finish
 
-module _ (done : Finished) (i v l f s x i′ v′ l′ f′ s′ x′ : List ℕ) where
+module _ (done : Finished) (n : ℕ) (i v l f s x i′ v′ l′ f′ s′ x′ : List ℕ) where
   pub finish-refused : (e : ConvertError) → done ≡ Finished.Refused e
       → (i′ ≡ cleared i) × (v′ ≡ cleared v) × (l′ ≡ cleared l) × (f′ ≡ cleared f) × (s′ ≡ cleared s) × (x′ ≡ cleared x)
-      → FinishesIn done (Answer.Refused e) (outputs i v l f s x) (outputs i′ v′ l′ f′ s′ x′)
+      → FinishesIn done n (Answer.Refused e) (outputs i v l f s x) (outputs i′ v′ l′ f′ s′ x′)
   finish-refused e q (a, b, c, d, g, h) = record {
     long = record {
       instructions = cleared-length i i′ a;
@@ -80,20 +82,20 @@ module _ (done : Finished) (i v l f s x i′ v′ l′ f′ s′ x′ : List ℕ
     refused = λ r z. let y : e ≡ r = cc in (ap Answer.Refused y, six-outputs a b c d g h);
   }
 
-  pub finish-converted : (k : Counters) (c : Counts) → done ≡ Finished.Done k → c ≡ countsIn k → SameTableLengths (outputs i v l f s x) (outputs i′ v′ l′ f′ s′ x′)
-      → Cut.Cut k i i′ v′ l′ f′ s′ x′ → FinishesIn done (Answer.Converted c) (outputs i v l f s x) (outputs i′ v′ l′ f′ s′ x′)
+  pub finish-converted : (k : Counters) (c : Counts) → done ≡ Finished.Done k → c ≡ countsIn k n → SameTableLengths (outputs i v l f s x) (outputs i′ v′ l′ f′ s′ x′)
+      → Cut.Cut k i i′ v′ l′ f′ s′ x′ → FinishesIn done n (Answer.Converted c) (outputs i v l f s x) (outputs i′ v′ l′ f′ s′ x′)
   finish-converted k c q e long cut = record {
     long = long;
     converted = λ m z. let y : k ≡ m = cc in
-        subst (λ (n : Counters). (Answer.Converted c ≡ Answer.Converted (countsIn n)) × Cut.Cut n i i′ v′ l′ f′ s′ x′) y (ap Answer.Converted e, cut);
+        subst (λ (o : Counters). (Answer.Converted c ≡ Answer.Converted (countsIn o n)) × Cut.Cut o i i′ v′ l′ f′ s′ x′) y (ap Answer.Converted e, cut);
     refused = λ r z. absurd (let y : _≡_ {A = ℕ} 0 1 = cc in omega arith);
   }
 
 -- ---- the counters count the program's entries
 
-counts-are : (text : List ℕ) (p : IrProgram) (k : Counters) (l : List ℕ) → Holds text (begun (p .funcs) (poolOf p)) k l → countsFrom (countsIn k) ≡ countsOf p
+counts-are : (text : List ℕ) (p : IrProgram) (k : Counters) (n : ℕ) (l : List ℕ) → Holds text (begun (p .funcs) (poolOf p)) k l → countsFrom (countsIn k n) ≡ countsOf p
 unfolding countsOf
-counts-are text p k l h = six-counts
+counts-are text p k n l h = six-counts
     (h .before .functions-count)
     (h .instructions-hold .count ∙ ap length (append-nil (allCode (p .funcs))))
     (h .variables-hold .count ∙ ap length (append-nil (allVars (p .funcs))))
@@ -112,14 +114,18 @@ module _ (tree text : List ℕ) (needsMain : Bool) (i v l f s x t : List ℕ) (d
     lent = λ k q. subst (λ (n : ℕ). Cut.FiveLong n v l f s x) (sym (m .gives k q .records-are)) (lent .tables);
   }
 
-  -- the buffers afterwards
-  module _ (a : Answer) (i′ v′ l′ f′ s′ x′ t′ : List ℕ) (e : FinishesIn done a (outputs j v l f s x) (outputs i′ v′ l′ f′ s′ x′)) (z : t′ ≡ cleared u) where
+  pub scratch-room : SevenLong (records tree) (buffers i v l f s x t) → 72 * records tree ≤ length u
+  scratch-room lent = omega (arith, lent .scratch, m .scratch-long)
+
+  -- the visits that are read, and the buffers afterwards
+  module _ (good : Good tree text) (n : ℕ) (read : n ≡ visitsAt tree u)
+      (a : Answer) (i′ v′ l′ f′ s′ x′ t′ : List ℕ) (e : FinishesIn done n a (outputs j v l f s x) (outputs i′ v′ l′ f′ s′ x′)) (z : t′ ≡ cleared u) where
     scratch-zero : t′ ≡ cleared t
     scratch-zero = z ∙ cleared-same u t (m .scratch-long)
 
     -- what the answer says and the buffers hold is the program p
     abbrev Stand : IrProgram → Type 0
-    Stand p = (answerFrom tree a ≡ Counted (countsOf p))
+    Stand p = (answerFrom tree a ≡ Counted (countsOf p) (visitsIn tree text))
         × (buffers i′ v′ l′ f′ s′ x′ t′ ≡ buffers
         (filled (tablesOf p .instructions) i)
         (filled (tablesOf p .variables) v)
@@ -138,7 +144,7 @@ module _ (tree text : List ℕ) (needsMain : Bool) (i v l f s x t : List ℕ) (d
         let b = begun (st .result .funcs) (poolOf (st .result)) in
         let none : CutLaws.Finished b = record { code = refl; vars = refl; labels = refl } in
         subst Stand y (
-          ap (answerFrom tree) (c .0) ∙ ap Counted (counts-are text (st .result) k j (st .holds)),
+          ap (answerFrom tree) (c .0) ∙ ap₂ Counted (counts-are text (st .result) k n j (st .holds)) (read ∙ m .visits k q ∙ good-visits tree text good),
           seven-buffers
               (instructions-are text b k j i′ v′ l′ f′ s′ x′ (st .holds) none (c .1) ∙ ap (alone (tablesOf (st .result) .instructions)) (m .long))
               (variables-are text b k j i′ v′ l′ f′ s′ x′ (st .holds) none (c .1) ∙ ap (alone (tablesOf (st .result) .variables)) (e .long .variables))
@@ -265,6 +271,9 @@ module _ (tree text : List ℕ) (b : Buffers) (r : Judged) (b₁ : Buffers) (fir
 
     pub judged-good : Good tree text
     judged-good = good-in tree text true b accepted
+
+    pub judged-some : 0 < records tree
+    judged-some = some-in tree text true b accepted
 
     pub judged-lent : SevenLong (records tree) b₁
     judged-lent =

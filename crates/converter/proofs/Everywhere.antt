@@ -18,7 +18,7 @@ use Rattle.converter.specs.Convert.{countsFrom, answerFrom, Promised}
 pub promised-everywhere : (W : Type 0) (tree text : List ℕ) (needsMain : Bool) (before : Buffers) (answer : Answer) (after : Buffers)
     → Promised tree text needsMain before answer after
     → Demands W tree text needsMain before (answerFrom tree answer) after
-    × ((counts : Written.Counts) → answerFrom tree answer ≡ Counted counts → AllRunAlike W tree text counts after)
+    × ((counts : Written.Counts) (seventh : ℕ) → answerFrom tree answer ≡ Counted counts seventh → AllRunAlike W tree text counts after)
 promised-everywhere W tree text needsMain before answer after p =
     let d = every-call W tree text needsMain before (answerFrom tree answer) after (p .calls) in
     (d, d .demand3 (p .bytes))
@@ -28,4 +28,4 @@ pub converted-everywhere : (W : Type 0) (tree text : List ℕ) (needsMain : Bool
     → Promised tree text needsMain before (Answer.Converted counts) after → AllRunAlike W tree text (countsFrom counts) after
 unfolding answerFrom
 converted-everywhere W tree text needsMain before counts after p =
-    promised-everywhere W tree text needsMain before (Answer.Converted counts) after p .1 (countsFrom counts) refl
+    promised-everywhere W tree text needsMain before (Answer.Converted counts) after p .1 (countsFrom counts) (counts .visits) refl

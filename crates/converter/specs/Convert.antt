@@ -1,5 +1,5 @@
 -- What the call owes: its answer in document 01's words, the tables that a conversion leaves in the arena, and the promise itself, which is the
--- one definition of the call and the three demands. Assumes nothing: these are definitions.
+-- one definition of the call, the three demands and what is said of visits. Assumes nothing: these are definitions.
 use mathlib.Core.Path.{_≡_}
 use Prim.Native.Nat.{ℕ, _*_, _≤_}
 use mathlib.Core.Bool.{Bool}
@@ -14,12 +14,14 @@ use Rattle.conversion.specs.ConvertError.{Result, ok, err}
 use Rattle.conversion.specs.Ir.{IrProgram}
 use Rattle.conversion.specs.Functions.{Pool}
 use Rattle.conversion.specs.Converter.{convertAll}
+use Rattle.conversion.specs.Visits.{functionsVisits}
 use Rattle.conversion.specs.Written as Written
 use Rattle.ir.specs.declared.structs.Counters.{Counters}
 use Rattle.ir.specs.Arena.{Holds, Room}
 use Rattle.ir.specs.Cut as Cut
 use Rattle.keys.specs.Keys.{allKeys}
 use Rattle.judge.specs.Judge.{Buffers, cleared}
+use Rattle.expressions.specs.Slots.{visitsAt}
 use Rattle.statements.specs.declared.answers.Finished.{Finished}
 use Rattle.statements.specs.declared.answers.Finished.the-variants as Finished
 use Rattle.functions.specs.Bodies.{begun}
@@ -48,11 +50,12 @@ pub record ProgramStands (text : List ℕ) (n : ℕ) (x : Result IrProgram) (k :
   pub room : Room k l
   pub holds : Holds text (begun (result .funcs) (poolOf result)) k l
 
--- x is what the answer says: the program stands in the arena, or its error
+-- x is what the answer says: the program stands in the arena, and scratch has how many visits were made; or its error
 pub record ConvertsTo (tree text : List ℕ) (x : Result IrProgram) (l s : List ℕ) (a : Finished) (l′ s′ : List ℕ) : Type 0 where
   pub long : length l′ ≡ length l
   pub scratch-long : length s′ ≡ length s
   pub gives : (k : Counters) → a ≡ Finished.Done k → ProgramStands text (records tree) x k l′
+  pub visits : (k : Counters) → a ≡ Finished.Done k → visitsAt tree s′ ≡ functionsVisits (records tree) (program tree text .functions)
   pub stops : (e : ConvertError) → a ≡ Finished.Refused e → x ≡ err (e .kind) (e .place)
 
 -- all functions, once they are found
@@ -65,14 +68,15 @@ emptyCounters n = record { records = n; instructions = 0; variables = 0; labels 
 
 -- ---- the end: the tables are cut out, or all is zero
 
-abbrev pub countsIn : Counters → Counts
-countsIn k = record {
+abbrev pub countsIn : Counters → ℕ → Counts
+countsIn k visits = record {
   functions = k .functions;
   instructions = k .instructions;
   variables = k .variables;
   labels = k .labels;
   strings = k .strings;
   floats = k .floats;
+  visits = visits;
 }
 
 -- the six outputs
@@ -102,9 +106,9 @@ pub record SameTableLengths (b b′ : Written.Tables) : Type 0 where
   pub strings : length (b′ .strings) ≡ length (b .strings)
   pub floats : length (b′ .floats) ≡ length (b .floats)
 
-pub record FinishesIn (done : Finished) (a : Answer) (b b′ : Written.Tables) : Type 0 where
+pub record FinishesIn (done : Finished) (visits : ℕ) (a : Answer) (b b′ : Written.Tables) : Type 0 where
   pub long : SameTableLengths b b′
-  pub converted : (k : Counters) → done ≡ Finished.Done k → (a ≡ Answer.Converted (countsIn k))
+  pub converted : (k : Counters) → done ≡ Finished.Done k → (a ≡ Answer.Converted (countsIn k visits))
       × Cut.Cut k (b .instructions) (b′ .instructions) (b′ .variables) (b′ .labels) (b′ .functions) (b′ .strings) (b′ .floats)
   pub refused : (e : ConvertError) → done ≡ Finished.Refused e → (a ≡ Answer.Refused e) × (b′ ≡ clearedAll b)
 
@@ -112,7 +116,7 @@ pub record FinishesIn (done : Finished) (a : Answer) (b b′ : Written.Tables) :
 pub record SevenLong (n : ℕ) (b : Buffers) : Type 0 where
   pub arena : 320 * n ≤ length (b .instructions)
   pub tables : Cut.FiveLong n (b .variables) (b .labels) (b .functions) (b .strings) (b .floats)
-  pub scratch : 64 * n ≤ length (b .scratch)
+  pub scratch : 72 * n ≤ length (b .scratch)
 
 -- ---- the answer
 
@@ -127,14 +131,14 @@ countsFrom c = record {
   floats = c .floats;
 }
 
--- 'An answer is the number, place and the record's span, or six counts'
+-- 'An answer is the number, place and the record's span, or six counts', and the visits behind them
 unfoldable pub answerFrom : List ℕ → Answer → Call.Answer
 unfolding wordsOf
-answerFrom tree (Answer.Converted c) = Call.Counted (countsFrom c)
+answerFrom tree (Answer.Converted c) = Call.Counted (countsFrom c) (c .visits)
 answerFrom tree (Answer.Refused e) = Call.Refusal (wordsOf tree e)
 
 -- THE PROMISE: a tree is bytes; the answer and each byte of the seven buffers are those of the one definition of the call; and with it
--- the three demands hold, the third for runs over natural numbers (over every type of values: `promised-everywhere` in proofs/Everywhere.antt)
+-- the three demands hold, with what is said of visits, the third for runs over natural numbers (over every type of values: `promised-everywhere` in proofs/Everywhere.antt)
 pub record Promised (tree text : List ℕ) (needsMain : Bool) (before : Buffers) (answer : Answer) (after : Buffers) : Type 0 where
   pub bytes : All Byte tree
   pub calls : Calls tree text needsMain before (answerFrom tree answer) after

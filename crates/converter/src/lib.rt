@@ -1,6 +1,6 @@
 // The call: a tree of any bytes is judged, and a good one is converted. Krc's converter/converter.rs.
 ghost use mathlib.Core.Path.{_≡_};
-ghost use Prim.Native.Nat.{_*_, _≤_};
+ghost use Prim.Native.Nat.{_*_, _≤_, _<_};
 ghost use mathlib.Core.List.{[]};
 ghost use lib.ListN.{length};
 ghost use Rattle.records.specs.Words.{records};
@@ -8,6 +8,7 @@ ghost use Rattle.records.specs.Good.{Good};
 ghost use Rattle.syntax.specs.Decode.{program};
 ghost use Rattle.conversion.specs.Converter as Krc;
 ghost use Rattle.keys.specs.Keys.{Keyed};
+ghost use Rattle.statements.specs.Turns.{Turns};
 ghost use Rattle.judge.specs.Judge.{buffers, lengthsOf};
 ghost use Rattle.demands.specs.Demands.{AsTheRust};
 ghost use Rattle.converter.specs.Convert.{ConvertsTo, allFunctions, emptyCounters, countsIn, answerFrom, outputs, SevenLong, CutAfforded, FinishesIn, Promised};
@@ -30,7 +31,7 @@ use records::convert_error::ConvertError;
 use statements::answers::Finished;
 use texts::number_texts;
 
-// How many entries each table has.
+// How many entries each table has, and how often the type of an expression was worked out.
 pub struct Counts {
     pub functions: usize,
     pub instructions: usize,
@@ -38,6 +39,7 @@ pub struct Counts {
     pub labels: usize,
     pub strings: usize,
     pub floats: usize,
+    pub visits: usize,
 }
 
 pub enum Answer {
@@ -63,8 +65,8 @@ fn empty_tables(records: usize) -> Counters
     }
 }
 
-fn counts_of(k: Counters) -> Counts
-    ensures { λ c. ⌜ c ≡ countsIn k ⌝ }
+fn counts_of(k: Counters, visits: usize) -> Counts
+    ensures { λ c. ⌜ c ≡ countsIn k visits ⌝ }
 {
     Counts {
         functions: k.functions,
@@ -73,10 +75,11 @@ fn counts_of(k: Counters) -> Counts
         labels: k.labels,
         strings: k.strings,
         floats: k.floats,
+        visits,
     }
 }
 
-// The functions in their order, the first `count` words of scratch.
+// The functions in their order, the first `count` words of scratch; no visit was made yet.
 fn convert_all(
     tree: &[u8],
     text: &[u8],
@@ -85,6 +88,7 @@ fn convert_all(
     count: usize,
 ) -> Finished
     requires { ⌜ Keyed (now tree) (now text) (now scratch) count × (320 * records (now tree) ≤ length (now arena)) ⌝ }
+    requires { ⌜ Turns (now tree) (now scratch) (emptyCounters (records (now tree))) ⌝ }
     ensures { λ a. ⌜ ConvertsTo (now (tree .entry)) (now (text .entry)) (allFunctions (now (tree .entry)) (now (text .entry))) (now (arena .entry)) (now (scratch .entry)) a (now (arena .exit)) (now (scratch .exit)) ⌝ }
 {
     let mut k = empty_tables(tree.len() / 32);
@@ -100,7 +104,8 @@ fn convert_all(
     Finished::Done(k)
 }
 
-// A good tree, whose tables stand in the arena afterwards. Its texts are numbered first, so that names are told apart without them.
+// A good tree, whose tables stand in the arena afterwards. Its texts are numbered first, so that names are told apart without them. What scratch holds of
+// types is forgotten before the first body.
 fn convert_tree(
     tree: &[u8],
     text: &[u8],
@@ -108,7 +113,7 @@ fn convert_tree(
     arena: &mut [u8],
     scratch: &mut [u8],
 ) -> Finished
-    requires { ⌜ Good (now tree) (now text) × (320 * records (now tree) ≤ length (now arena)) × (64 * records (now tree) ≤ length (now scratch)) ⌝ }
+    requires { ⌜ Good (now tree) (now text) × (320 * records (now tree) ≤ length (now arena)) × (72 * records (now tree) ≤ length (now scratch)) × (0 < records (now tree)) ⌝ }
     ensures { λ a. ⌜ ConvertsTo (now (tree .entry)) (now (text .entry)) (Krc.convert (program (now (tree .entry)) (now (text .entry))) «needs_main») (now (arena .entry)) (now (scratch .entry)) a (now (arena .exit)) (now (scratch .exit)) ⌝ }
 {
     number_texts(tree, text, scratch);
@@ -119,6 +124,7 @@ fn convert_tree(
                 Outcome::Refused(e) => Finished::Refused(e),
                 Outcome::Done => {
                     digest_keys(tree, text, scratch, count);
+                    expressions::turns::forget(tree, scratch);
                     convert_all(tree, text, arena, scratch, count)
                 }
             }
@@ -129,6 +135,7 @@ fn convert_tree(
 // What is left in the outputs: each table in its own, or zero everywhere.
 fn finish(
     done: Finished,
+    visits: usize,
     instructions: &mut [u8],
     variables: &mut [u8],
     labels: &mut [u8],
@@ -137,7 +144,7 @@ fn finish(
     floats: &mut [u8],
 ) -> Answer
     requires { ⌜ CutAfforded done (outputs (now instructions) (now variables) (now labels) (now functions) (now strings) (now floats)) ⌝ }
-    ensures { λ a. ⌜ FinishesIn done a (outputs (now (instructions .entry)) (now (variables .entry)) (now (labels .entry)) (now (functions .entry)) (now (strings .entry)) (now (floats .entry))) (outputs (now (instructions .exit)) (now (variables .exit)) (now (labels .exit)) (now (functions .exit)) (now (strings .exit)) (now (floats .exit))) ⌝ }
+    ensures { λ a. ⌜ FinishesIn done visits a (outputs (now (instructions .entry)) (now (variables .entry)) (now (labels .entry)) (now (functions .entry)) (now (strings .entry)) (now (floats .entry))) (outputs (now (instructions .exit)) (now (variables .exit)) (now (labels .exit)) (now (functions .exit)) (now (strings .exit)) (now (floats .exit))) ⌝ }
 {
     match done {
         Finished::Refused(e) => {
@@ -154,12 +161,12 @@ fn finish(
                 strings,
                 floats,
             );
-            Answer::Converted(counts_of(k))
+            Answer::Converted(counts_of(k, visits))
         }
     }
 }
 
-// A good tree: its tables are cut out of the arena, which is the instructions' buffer, and scratch is left zero.
+// A good tree: its tables are cut out of the arena, which is the instructions' buffer, and scratch is left zero once its visits are read.
 fn convert_good(
     tree: &[u8],
     text: &[u8],
@@ -172,14 +179,16 @@ fn convert_good(
     floats: &mut [u8],
     scratch: &mut [u8],
 ) -> Answer
-    requires { ⌜ Good (now tree) (now text) ⌝ }
+    requires { ⌜ Good (now tree) (now text) × (0 < records (now tree)) ⌝ }
     requires { ⌜ SevenLong (records (now tree)) (buffers (now instructions) (now variables) (now labels) (now functions) (now strings) (now floats) (now scratch)) ⌝ }
     ensures { λ a. ⌜ AsTheRust (now (tree .entry)) (now (text .entry)) «needs_main» (buffers (now (instructions .entry)) (now (variables .entry)) (now (labels .entry)) (now (functions .entry)) (now (strings .entry)) (now (floats .entry)) (now (scratch .entry))) (answerFrom (now (tree .entry)) a) (buffers (now (instructions .exit)) (now (variables .exit)) (now (labels .exit)) (now (functions .exit)) (now (strings .exit)) (now (floats .exit)) (now (scratch .exit))) ⌝ }
 {
     let done = convert_tree(tree, text, needs_main, instructions, scratch);
+    let visits = expressions::turns::visits(tree, scratch);
     clear(scratch);
     finish(
         done,
+        visits,
         instructions,
         variables,
         labels,

@@ -91,6 +91,9 @@ module _ (tree text : List ℕ) (l : Lengths) (scratch : ℕ) (passed : verdict 
   unfolding lengthsOk
   at-most = leb-true (length tree) (2048 * 32) (and-right (eqb (length tree % 32) 0 && leb (12 * 32) (length tree)) (leb (length tree) (2048 * 32)) (parts .whole))
 
+  at-least : 12 * 32 ≤ length tree
+  at-least = leb-true (12 * 32) (length tree) (and-right (eqb (length tree % 32) 0) (leb (12 * 32) (length tree)) multiple)
+
   no-rest : length tree % 32 ≡ 0
   no-rest = eqb-true (length tree % 32) 0 (and-left (eqb (length tree % 32) 0) (leb (12 * 32) (length tree)) multiple)
 
@@ -105,6 +108,9 @@ module _ (tree text : List ℕ) (l : Lengths) (scratch : ℕ) (passed : verdict 
     few = omega (arith, at-most, whole-records);
     ok = λ r h. not-false (recordOk tree text r) (lowest-none (records tree) (λ r. not (recordOk tree text r)) (parts .rules) r h);
   }
+
+  pub passed-some : 0 < records tree
+  passed-some = omega (arith, at-least, whole-records)
 
   pub passed-lent : buffersOk (records tree) l scratch ≡ true
   passed-lent = parts .lent

@@ -1,5 +1,5 @@
--- The three demands, of every run of the call; and the call's relation is a function: it has one answer and one way to leave the buffers.
--- By the rows of the call: a refusal's buffers by its row, a success's by the sizes that suffice, its runs by demand 3 on tables. Assumes nothing.
+-- The three demands and the visits, of every run of the call; and the call's relation is a function: it has one answer and one way to leave the buffers.
+-- By the rows of the call: a refusal's buffers by its row, a success's by the sizes that suffice, its runs by demand 3 on tables, its visits by what a good tree has. Assumes nothing.
 use mathlib.Core.Path.{_≡_, refl, sym, ap, _∙_, subst}
 use Prim.Native.Nat.{ℕ, _-_, _≤_}
 use mathlib.Core.Bool.{Bool, true, false}
@@ -27,9 +27,9 @@ use Rattle.conversion.proofs.Bytes.{Fit}
 use Rattle.tables.specs.Bytes.{Byte}
 use Rattle.tables.specs.Read.{Begin}
 use Rattle.demands.specs.Demand3.{RunsAlike}
-use Rattle.demands.specs.Call.{CallOutcome, RefusedAt, Success, conversionRow, judgedRows, callOf, Answer, Counted, answerOf, filled, buffersAfter, Calls}
-use Rattle.demands.specs.Demands.{allZero, spanless, PastBuffers, Left, untouched, zeroed, SameLengths, Sound, InLimits, ByRows, AsTheRust, outputsOf, AllRunAlike, OfEveryCall}
-use Rattle.demands.proofs.GoodLaws.{good-fits}
+use Rattle.demands.specs.Call.{CallOutcome, RefusedAt, Success, visitsIn, conversionRow, judgedRows, callOf, Answer, Counted, answerOf, filled, buffersAfter, Calls}
+use Rattle.demands.specs.Demands.{allZero, spanless, PastBuffers, Left, untouched, zeroed, SameLengths, Sound, InLimits, ByRows, AsTheRust, outputsOf, AllRunAlike, VisitsCounted, OfEveryCall}
+use Rattle.demands.proofs.GoodLaws.{good-fits, good-visits, good-at-most}
 use Rattle.demands.proofs.Demand3.{good-demand3}
 use Rattle.demands.proofs.Accepted.{passed-good, passed-lent}
 use Rattle.demands.proofs.Rows.{row-lengths, row-buffers, row-records, row-nesting, all-passed, row-conversion, row-success, success-from}
@@ -87,9 +87,9 @@ unfolding filled
 filled-length table buffer h =
     length-append table (replicate (length buffer - length table) 0) ∙ rw (length-replicate {A = ℕ} (length buffer - length table) 0) (omega arith)
 
-pub tables-fit-buffers : (n : ℕ) (c : Counts) (t : Tables) (b : Buffers) → Fit n t → Enough n (lengthsOf b) (length (b .scratch)) → SameLengths b (buffersAfter (Success c t) b)
+pub tables-fit-buffers : (n : ℕ) (c : Counts) (m : ℕ) (t : Tables) (b : Buffers) → Fit n t → Enough n (lengthsOf b) (length (b .scratch)) → SameLengths b (buffersAfter (Success c m t) b)
 unfolding buffersAfter
-tables-fit-buffers n c t b f e = record {
+tables-fit-buffers n c m t b f e = record {
   instructions = filled-length (t .instructions) (b .instructions) (omega (arith, f .instructions, e .instructions));
   variables = filled-length (t .variables) (b .variables) (omega (arith, f .variables, e .variables));
   labels = filled-length (t .labels) (b .labels) (omega (arith, f .labels, e .labels));
@@ -99,9 +99,9 @@ tables-fit-buffers n c t b f e = record {
   scratch = length-replicate (length (b .scratch)) 0;
 }
 
-success-begins : (c : Counts) (t : Tables) (b : Buffers) → Begin t (outputsOf (buffersAfter (Success c t) b))
+success-begins : (c : Counts) (m : ℕ) (t : Tables) (b : Buffers) → Begin t (outputsOf (buffersAfter (Success c m t) b))
 unfolding buffersAfter filled
-success-begins c t b = record {
+success-begins c m t b = record {
   instructions = record { rest = replicate (length (b .instructions) - length (t .instructions)) 0; same = refl };
   variables = record { rest = replicate (length (b .variables) - length (t .variables)) 0; same = refl };
   labels = record { rest = replicate (length (b .labels) - length (t .labels)) 0; same = refl };
@@ -153,19 +153,19 @@ module _ (tree text : List ℕ) (needsMain : Bool) (before : Buffers) where
   unfolding callOf judgedRows conversionRow conversion Written.answerOf
   refusal-ranged row w e = go (verdictIn tree text before) (convert (program tree text) needsMain) e
     where
-      go : (v : Verdict) (x : Result IrProgram) → judgedRows tree v (conversionRow (Written.answerOf tree x)) ≡ RefusedAt row w → Ranged w
+      go : (v : Verdict) (x : Result IrProgram) → judgedRows tree v (conversionRow (visitsIn tree text) (Written.answerOf tree x)) ≡ RefusedAt row w → Ranged w
       go (RefusedBy r f) x h = words-ranged tree f w (cc)
       go Passed (err k r) h = words-ranged tree (record { kind = k; place = r }) w (cc)
       go Passed (ok p) h = let z : _≡_ {A = ℕ} 0 1 = cc in absurd (omega arith)
 
   -- the tables of a success have room
-  success-fits : (c : Counts) (t : Tables) → callOf tree text needsMain before ≡ Success c t → SameLengths before (buffersAfter (Success c t) before)
+  success-fits : (c : Counts) (m : ℕ) (t : Tables) → callOf tree text needsMain before ≡ Success c m t → SameLengths before (buffersAfter (Success c m t) before)
   unfolding verdictIn conversion Written.answerOf
-  success-fits c t e =
-      let h = success-from tree text needsMain before c t e in
+  success-fits c m t e =
+      let h = success-from tree text needsMain before c m t e in
       let good = passed-good tree text (lengthsOf before) (length (before .scratch)) (h .0) in
       let lent = enough (records tree) (lengthsOf before) (length (before .scratch)) (passed-lent tree text (lengthsOf before) (length (before .scratch)) (h .0)) in
-      tables-fit-buffers (records tree) c t before (go (convert (program tree text) needsMain) (good-fits tree text good needsMain) (h .1)) lent
+      tables-fit-buffers (records tree) c m t before (go (convert (program tree text) needsMain) (good-fits tree text good needsMain) (h .1)) lent
     where
       go : (x : Result IrProgram) → IfOk (λ p. Fit (records tree) (tablesOf p)) x → Written.answerOf tree x ≡ Converted c t → Fit (records tree) t
       go (ok p) f h = let z : tablesOf p ≡ t = cc in subst (Fit (records tree)) z f
@@ -185,13 +185,13 @@ module _ (tree text : List ℕ) (needsMain : Bool) (before : Buffers) where
               lengths = left-lengths before after so;
               numbered = λ x h. let z : w ≡ x = cc in subst (λ y. Ranged y) z (refusal-ranged row w e);
               left = λ x h. so;
-              converted = λ c h. let z : _≡_ {A = ℕ} 0 1 = cc in absurd (omega arith);
+              converted = λ c m h. let z : _≡_ {A = ℕ} 0 1 = cc in absurd (omega arith);
             }
-        go (Success c t) e a l = record {
-          lengths = subst (SameLengths before) (sym l) (success-fits c t e);
+        go (Success c m t) e a l = record {
+          lengths = subst (SameLengths before) (sym l) (success-fits c m t e);
           numbered = λ x h. let z : _≡_ {A = ℕ} 0 1 = cc in absurd (omega arith);
           left = λ x h. let z : _≡_ {A = ℕ} 0 1 = cc in absurd (omega arith);
-          converted = λ d h. ap (λ b. b .scratch) l;
+          converted = λ d n h. ap (λ b. b .scratch) l;
         }
 
     -- the outcome is known, and so are answer and buffers
@@ -217,19 +217,36 @@ module _ (tree text : List ℕ) (needsMain : Bool) (before : Buffers) where
         }
 
     -- DEMAND 3 of the buffers as the call leaves them: its premise is the contract's own relation
-    pub call-runs-alike : (W : Type 0) → All Byte tree → (c : Counts) → answer ≡ Counted c → AllRunAlike W tree text c after
+    pub call-runs-alike : (W : Type 0) → All Byte tree → (c : Counts) (m : ℕ) → answer ≡ Counted c m → AllRunAlike W tree text c after
     unfolding answerOf verdictIn
-    call-runs-alike W bytes c h i f b = go (callOf tree text needsMain before) refl (calls .answers) (calls .leaves)
+    call-runs-alike W bytes c m h i f b = go (callOf tree text needsMain before) refl (calls .answers) (calls .leaves)
       where
         go : (o : CallOutcome) → callOf tree text needsMain before ≡ o → answer ≡ answerOf o → after ≡ buffersAfter o before
             → getElem? (program tree text .functions) i ≡ some f → f .body ≡ some b → RunsAlike W tree text c (outputsOf after) i f b
         go (RefusedAt row w) e a l = let z : _≡_ {A = ℕ} 0 1 = cc in absurd (omega arith)
-        go (Success d t) e a l =
-            let from = success-from tree text needsMain before d t e in
+        go (Success d n t) e a l =
+            let from = success-from tree text needsMain before d n t e in
             let z : d ≡ c = cc in
             good-demand3 W tree text needsMain bytes (passed-good tree text (lengthsOf before) (length (before .scratch)) (from .0)) c t (outputsOf after)
             (rw z at (from .1))
-            (subst (λ x. Begin t (outputsOf x)) (sym l) (success-begins d t before)) i f b
+            (subst (λ x. Begin t (outputsOf x)) (sym l) (success-begins d n t before)) i f b
+
+    -- VISITS: a tree that was converted is good
+    pub call-visits : (c : Counts) (m : ℕ) → answer ≡ Counted c m → VisitsCounted tree text m
+    unfolding answerOf verdictIn
+    call-visits c m h = go (callOf tree text needsMain before) refl (calls .answers)
+      where
+        go : (o : CallOutcome) → callOf tree text needsMain before ≡ o → answer ≡ answerOf o → VisitsCounted tree text m
+        go (RefusedAt row w) e a = let z : _≡_ {A = ℕ} 0 1 = cc in absurd (omega arith)
+        go (Success d n t) e a =
+            let from = success-from tree text needsMain before d n t e in
+            let good = passed-good tree text (lengthsOf before) (length (before .scratch)) (from .0) in
+            let z : m ≡ n = cc in
+            record {
+              atMost = good-at-most tree text good;
+              total = z ∙ from .2 ∙ sym (good-visits tree text good);
+              typed = z ∙ from .2;
+            }
 
 -- THE DEMANDS
 pub every-call : OfEveryCall
@@ -237,6 +254,7 @@ every-call W tree text needsMain before answer after calls = record {
   demand1 = (call-sound tree text needsMain before answer after calls, call-by-rows tree text needsMain before answer after calls);
   demand2 = call-as-rust tree text needsMain before answer after calls;
   demand3 = call-runs-alike tree text needsMain before answer after calls W;
+  visitsCounted = call-visits tree text needsMain before answer after calls;
 }
 
 -- ---- nothing is lost on the page: what keeps demands 1 and 2 is a run of the call
@@ -251,7 +269,7 @@ module _ (tree text : List ℕ) (needsMain : Bool) (before : Buffers) (answer : 
     converts w (ok p) e =
         let passed = all-passed tree text needsMain before (w .lent .whole) (w .lent .room) (w .rules) (w .shallow) in
         let o = rust w .bodies p e in
-        run-of (Success (countsOf p) (tablesOf p)) (row-success tree text needsMain before passed p e) (o .0) (o .1)
+        run-of (Success (countsOf p) (visitsIn tree text) (tablesOf p)) (row-success tree text needsMain before passed p e) (o .0) (o .1)
     converts w (err k r) e =
         let passed = all-passed tree text needsMain before (w .lent .whole) (w .lent .room) (w .rules) (w .shallow) in
         let o = rust w .error k r e in

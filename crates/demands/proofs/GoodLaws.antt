@@ -1,21 +1,25 @@
--- What a good tree has: complete records, each referred to at most once; so the lent sizes suffice, and bodies meet their records once.
+-- What a good tree has: complete records, each referred to at most once; so the lent sizes suffice, bodies meet their records once, and visits are counted.
 -- Each is a law about records that keep the rules. Assumes nothing.
 use mathlib.Core.Path.{_≡_}
-use Prim.Native.Nat.{ℕ, _<_}
+use Prim.Native.Nat.{ℕ, _≤_, _<_}
 use mathlib.Core.Bool.{Bool}
 use mathlib.Core.List.{List}
 use native.Mathlib.Omega.{arith}
+use Rattle.laws.specs.All.{All}
 use Rattle.records.specs.Words.{records}
 use Rattle.records.specs.Good.{Good}
+use Rattle.syntax.specs.Exprs.{expressionRecords}
 use Rattle.syntax.specs.Decode.{program}
 use Rattle.syntax.proofs.Held.{Complete, Once}
 use Rattle.syntax.proofs.Judged.{judged-complete, judged-once}
 use Rattle.conversion.specs.ConvertError.{ok}
 use Rattle.conversion.specs.Ir.{IrProgram}
 use Rattle.conversion.specs.Converter.{convert}
+use Rattle.conversion.specs.Visits.{visits, bodyVisits, functionsVisits}
 use Rattle.conversion.specs.Written.{tablesOf, countsOf}
 use Rattle.conversion.proofs.Sizes.{IfOk, Suffice, tree-suffices}
 use Rattle.conversion.proofs.Bytes.{Fit, judged-fits}
+use Rattle.conversion.proofs.VisitLaws.{judged-visits, judged-at-most}
 use Rattle.tables.proofs.Exists.{CountsFit}
 use Rattle.tables.proofs.Judged.{judged-counts}
 use Rattle.runs.proofs.Opens.{WellFormed}
@@ -42,3 +46,11 @@ module _ (tree text : List ℕ) (good : Good tree text) where
 
   pub good-well-formed : WellFormed (program tree text)
   good-well-formed = once-well-formed tree text good-once
+
+  -- the visits as they are made are the different records that are typed
+  pub good-visits : functionsVisits (records tree) (program tree text .functions) ≡ visits (records tree) (program tree text .functions)
+  good-visits = judged-visits tree text (good .ok)
+
+  -- and in each function at most its expression records
+  pub good-at-most : All (λ f. bodyVisits (records tree) (f .body) ≤ expressionRecords (records tree) f) (program tree text .functions)
+  good-at-most = judged-at-most tree text (good .ok)

@@ -22,7 +22,7 @@ lent n fill =
     (replicate (32 * n + 3) fill)
     (replicate (8 * n + 3) fill)
     (replicate (32 * n + 3) fill)
-    (replicate (64 * n + 3) fill)
+    (replicate (72 * n + 3) fill)
 
 -- answer and buffers of a call
 pub record Run : Type 0 where
@@ -40,7 +40,7 @@ refuses number place = Refusal (record { number = number; place = place; start =
 -- ---- 'Twelve types alone print, whole: `0 0 0 0 0 0 0`'
 
 pub twelve-types : run types [] false (lent 12 7)
-    ≡ record { answer = Counted (record { functions = 0; instructions = 0; variables = 0; labels = 0; strings = 0; floats = 0 }); after = lent 12 0 }
+    ≡ record { answer = Counted (record { functions = 0; instructions = 0; variables = 0; labels = 0; strings = 0; floats = 0 }) 0; after = lent 12 0 }
 unfolding run types lent
 twelve-types = refl
 
@@ -49,21 +49,36 @@ pub no-main : run types [] true (lent 12 7) ≡ record { answer = refuses 10 non
 unfolding run types lent refuses
 no-main = refl
 
--- the buffer for strings is one byte too short: all seven as found
-unfoldable pub oneShort : Buffers
-oneShort =
+-- seven buffers for twelve records, as long as needed but for strings and scratch, which take 96 and 864 bytes
+unfoldable pub lentWith : ℕ → ℕ → Buffers
+lentWith strings scratch =
     buffers
     (replicate 3840 7)
     (replicate 144 7)
     (replicate 288 7)
     (replicate 384 7)
-    (replicate 95 7)
+    (replicate strings 7)
     (replicate 384 7)
-    (replicate 768 7)
+    (replicate scratch 7)
+
+-- the buffer for strings is one byte too short: all seven as found
+unfoldable pub oneShort : Buffers
+unfolding lentWith
+oneShort = lentWith 95 864
 
 pub short-buffer : run types [] false oneShort ≡ record { answer = refuses 26 none; after = oneShort }
 unfolding run types oneShort refuses
 short-buffer = refl
+
+-- scratch is, and 'Scratch grows to 72n bytes, for 26 too'
+pub short-scratch : run types [] false (lentWith 96 863) ≡ record { answer = refuses 26 none; after = lentWith 96 863 }
+unfolding run types lentWith refuses
+short-scratch = refl
+
+-- and with that byte the twelve types convert
+pub no-longer-short : run types [] false (lentWith 96 864) .answer ≡ Counted (record { functions = 0; instructions = 0; variables = 0; labels = 0; strings = 0; floats = 0 }) 0
+unfolding run types lentWith
+no-longer-short = refl
 
 -- part of a record follows, and buffers are too short besides: row 'lengths' comes first
 pub part-record : run (types ++ (6 ∷ [])) [] false oneShort ≡ record { answer = refuses 24 none; after = oneShort }
@@ -103,9 +118,9 @@ caseOne =
     (padded (23 ∷ 1 ∷ 0 ∷ 6 ∷ 0 ∷ 3 ∷ 0 ∷ 2 ∷ []) 739)
     (padded [] 195)
     (padded [] 771)
-    (padded [] 1539)
+    (padded [] 1731)
 
 pub marked-one : run (logic 1) text false (lent 24 7)
-    ≡ record { answer = Counted (record { functions = 1; instructions = 6; variables = 3; labels = 2; strings = 0; floats = 0 }); after = caseOne }
+    ≡ record { answer = Counted (record { functions = 1; instructions = 6; variables = 3; labels = 2; strings = 0; floats = 0 }) 3; after = caseOne }
 unfolding run logic text lent caseOne
 marked-one = refl

@@ -17,9 +17,9 @@ use Rattle.records.specs.Words.{kindOf, detailOf, wordOf, records, A, B, C, D, 
 use Rattle.syntax.specs.Syntax.{BinaryOp, Or, And, BitOr, BitXor, BitAnd, Eq, NotEq, Lt, Le, Gt, Ge, Shl, Shr, Add, Sub, Mul, Div, Rem, Args, Block, Function, binaryOps}
 use Rattle.syntax.specs.Decode as Decode
 use Rattle.syntax.specs.Decode.{Node, absent, expr, value, toType, stmt, variable, func, cell, exprOf, withArg, argsOf, withStatement, blockOf, functionsIn, child, exprIn, blockIn, nothingAt, intAt, floatAt, strAt, boolAt, nameAt, nullAt, sizeOfAt, unaryAt, binaryAt, callAt, listAt, valueAt, typeArgumentAt, declareAt, initAt, returnAt, callStatementAt, ifAt, whileAt, forAt, breakAt, continueAt, variableAt, functionAt, kinds, node, functionsBelow, program}
-use Rattle.syntax.proofs.Sums.{sum-le, sum-add, sum-swap, sum-times, hit, sum-hit}
+use Rattle.laws.proofs.Sums.{sum-le, sum-add, sum-swap, sum-times, hit, sum-hit}
 use Rattle.syntax.proofs.Unfold.{node-is}
-use Rattle.syntax.proofs.Held.{Leads, nowhere, leads, leadsByKind, mentionsBy, mentions, Once}
+use Rattle.syntax.proofs.Held.{Leads, nowhere, leads, forLeads, leadsByKind, mentionsBy, mentions, Once}
 use Rattle.runs.proofs.Opens.{bit, logicOpens, opensE, opensA, opensS, opensB, WellFormed}
 
 -- ---- how often x, as a record that opens labels, is met below a node; a function is referred to by nobody
@@ -246,7 +246,7 @@ module _ (tree text : List ℕ) (x : ℕ) where
   unfolding whileAt exprIn blockIn openedBy opens functionOpens opensS own
   while-opening g r = omega (arith, expr-opens x (child tree text g r A), block-opens x (child tree text g r B))
 
-  for-opening : Opening (forAt tree text) (leads (A ∷ B ∷ C ∷ D ∷ []) (A ∷ B ∷ C ∷ []))
+  for-opening : Opening (forAt tree text) forLeads
   unfolding forAt exprIn blockIn openedBy opens functionOpens opensS own
   for-opening g r = omega (
     arith,

@@ -22,7 +22,7 @@ use Rattle.conversion.specs.Converter.{convert}
 use Rattle.conversion.specs.Written as Written
 use Rattle.conversion.specs.Written.{Counts, Tables, Conversion, Refused, Converted, conversion, tablesOf, countsOf}
 use Rattle.demands.specs.Demands.{spanless}
-use Rattle.demands.specs.Call.{RefusedAt, Success, conversionRow, judgedRows, callOf}
+use Rattle.demands.specs.Call.{RefusedAt, Success, visitsIn, conversionRow, judgedRows, callOf}
 
 pick-same : (b : Bool) (n : ℕ) → pick b n n ≡ n
 unfolding pick
@@ -106,26 +106,27 @@ module _ (tree text : List ℕ) (needsMain : Bool) where
     -- ---- 'conversion | 1 to 23', 'conversion | 27', and success
 
     module _ (passed : verdictIn tree text b ≡ Passed) where
-      passed-converts : callOf tree text needsMain b ≡ conversionRow (conversion tree text needsMain)
+      passed-converts : callOf tree text needsMain b ≡ conversionRow (visitsIn tree text) (conversion tree text needsMain)
       unfolding callOf judgedRows
       passed-converts = rw passed refl
 
       pub row-conversion : (kind : ConvertErrorKind) (place : ℕ) → convert (program tree text) needsMain ≡ err kind place
           → callOf tree text needsMain b ≡ RefusedAt atConversion (wordsOf tree (record { kind = kind; place = place }))
       unfolding conversionRow
-      row-conversion kind place e = passed-converts ∙ ap conversionRow (conversion-err kind place e)
+      row-conversion kind place e = passed-converts ∙ ap (conversionRow (visitsIn tree text)) (conversion-err kind place e)
 
-      pub row-success : (p : IrProgram) → convert (program tree text) needsMain ≡ ok p → callOf tree text needsMain b ≡ Success (countsOf p) (tablesOf p)
+      pub row-success : (p : IrProgram) → convert (program tree text) needsMain ≡ ok p → callOf tree text needsMain b ≡ Success (countsOf p) (visitsIn tree text) (tablesOf p)
       unfolding conversionRow
-      row-success p e = passed-converts ∙ ap conversionRow (conversion-ok p e)
+      row-success p e = passed-converts ∙ ap (conversionRow (visitsIn tree text)) (conversion-ok p e)
 
     -- ---- what a success comes from
 
-    pub success-from : (c : Counts) (t : Tables) → callOf tree text needsMain b ≡ Success c t → (verdictIn tree text b ≡ Passed) × (conversion tree text needsMain ≡ Converted c t)
+    pub success-from : (c : Counts) (n : ℕ) (t : Tables) → callOf tree text needsMain b ≡ Success c n t
+        → (verdictIn tree text b ≡ Passed) × (conversion tree text needsMain ≡ Converted c t) × (n ≡ visitsIn tree text)
     unfolding callOf judgedRows conversionRow
-    success-from c t e = go (verdictIn tree text b) (conversion tree text needsMain) e
+    success-from c n t e = go (verdictIn tree text b) (conversion tree text needsMain) e
       where
-        go : (v : Verdict) (x : Conversion) → judgedRows tree v (conversionRow x) ≡ Success c t → (v ≡ Passed) × (x ≡ Converted c t)
+        go : (v : Verdict) (x : Conversion) → judgedRows tree v (conversionRow (visitsIn tree text) x) ≡ Success c n t → (v ≡ Passed) × (x ≡ Converted c t) × (n ≡ visitsIn tree text)
         go (RefusedBy row e) x h = let z : _≡_ {A = ℕ} 0 1 = cc in absurd (omega arith)
         go Passed (Refused w) h = let z : _≡_ {A = ℕ} 0 1 = cc in absurd (omega arith)
-        go Passed (Converted d u) h = (refl, cc)
+        go Passed (Converted d u) h = (refl, cc, cc)

@@ -1,7 +1,7 @@
 -- The ways out of a call that judges first and then converts: refused by the judge, failed in conversion, converted; each is a run of the call.
 -- By the rows; an accepted tree is good, its buffers are long enough, and the judge leaves scratch zero. Assumes nothing.
 use mathlib.Core.Path.{_≡_, refl, sym, ap}
-use Prim.Native.Nat.{ℕ}
+use Prim.Native.Nat.{ℕ, _<_}
 use mathlib.Core.Bool.{Bool}
 use mathlib.Core.List.{List}
 use native.Mathlib.Omega.{arith}
@@ -19,9 +19,9 @@ use Rattle.conversion.specs.ConvertError.{ok, err}
 use Rattle.conversion.specs.Ir.{IrProgram}
 use Rattle.conversion.specs.Converter.{convert}
 use Rattle.conversion.specs.Written.{tablesOf, countsOf}
-use Rattle.demands.specs.Call.{RefusedAt, Success, Refusal, Counted, answerOf, buffersAfter, Calls}
+use Rattle.demands.specs.Call.{RefusedAt, Success, visitsIn, Refusal, Counted, answerOf, buffersAfter, Calls}
 use Rattle.demands.specs.Demands.{allZero}
-use Rattle.demands.proofs.Accepted.{judged-passed, passed-good, passed-lent}
+use Rattle.demands.proofs.Accepted.{judged-passed, passed-good, passed-some, passed-lent}
 use Rattle.demands.proofs.Rows.{refused-first, row-conversion, row-success}
 use Rattle.demands.proofs.Demands.{run-of, other-rows}
 
@@ -50,6 +50,10 @@ module _ (tree text : List ℕ) (needsMain : Bool) (before : Buffers) where
     unfolding verdictIn
     good-in = passed-good tree text (lengthsOf before) (length (before .scratch)) passed-in
 
+    pub some-in : 0 < records tree
+    unfolding verdictIn
+    some-in = passed-some tree text (lengthsOf before) (length (before .scratch)) passed-in
+
     pub enough-in : Enough (records tree) (lengthsOf before) (length (before .scratch))
     unfolding verdictIn
     enough-in = enough (records tree) (lengthsOf before) (length (before .scratch)) (passed-lent tree text (lengthsOf before) (length (before .scratch)) passed-in)
@@ -68,6 +72,6 @@ module _ (tree text : List ℕ) (needsMain : Bool) (before : Buffers) where
         run-of tree text needsMain before _ _ (RefusedAt atConversion words) (row-conversion tree text needsMain before passed-in k r e) refl (sym (other-rows words before .2))
 
     pub converted-run : (p : IrProgram) → convert (program tree text) needsMain ≡ ok p
-        → Calls tree text needsMain before (Counted (countsOf p)) (buffersAfter (Success (countsOf p) (tablesOf p)) before)
+        → Calls tree text needsMain before (Counted (countsOf p) (visitsIn tree text)) (buffersAfter (Success (countsOf p) (visitsIn tree text) (tablesOf p)) before)
     unfolding answerOf
-    converted-run p e = run-of tree text needsMain before _ _ (Success (countsOf p) (tablesOf p)) (row-success tree text needsMain before passed-in p e) refl refl
+    converted-run p e = run-of tree text needsMain before _ _ (Success (countsOf p) (visitsIn tree text) (tablesOf p)) (row-success tree text needsMain before passed-in p e) refl refl

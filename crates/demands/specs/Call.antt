@@ -6,29 +6,37 @@
 --   records       24           `lowestFault`              that record                zero
 --   nesting       25           `lowestDeep`               that record                zero
 --   conversion    1 to 23, 27  `convert` gives an error   its record; NoMain none    zero
---   no row        six counts   `convert` gives bodies                                each table, then zeros; scratch zero
+--   no row        seven counts `convert` gives bodies                                each table, then zeros; scratch zero
 -- Each line is a theorem of proofs/Rows.antt and proofs/Demands.antt.
 use mathlib.Core.Path.{_≡_}
 use Prim.Native.Nat.{ℕ, _-_}
 use mathlib.Core.Bool.{Bool}
 use mathlib.Core.List.{List, _++_}
 use lib.ListN.{length, replicate}
+use Rattle.records.specs.Words.{records}
 use Rattle.records.specs.Answer.{wordsOf}
 use Rattle.records.specs.declared.convert_error.AnswerWords.{AnswerWords}
+use Rattle.syntax.specs.Decode.{program}
+use Rattle.conversion.specs.Visits.{visits}
 use Rattle.conversion.specs.Written.{Counts, Tables, Conversion, Refused, Converted, conversion}
 use Rattle.judge.specs.Judge.{Buffers, buffers, TableRow, atConversion, Verdict, RefusedBy, Passed, verdictIn, refusalLeaves, cleared}
 
 -- ---- the answer
 
--- what a call comes to: the row that refuses, with number, place and span; or six counts, with what the tables hold
+-- what a call comes to: the row that refuses, with number, place and span; or seven counts, those of the six tables and the visits, with what the
+-- tables hold
 pub data CallOutcome : Type 0 where
   RefusedAt : TableRow → AnswerWords → CallOutcome
-  Success : Counts → Tables → CallOutcome
+  Success : Counts → ℕ → Tables → CallOutcome
 
--- 'conversion | 1 to 23', 'conversion | 27': 'in conversion, the first met in the Rust's order'; and no row applies
-unfoldable pub conversionRow : Conversion → CallOutcome
-conversionRow (Refused words) = RefusedAt atConversion words
-conversionRow (Converted counts tables) = Success counts tables
+-- document 02, point 9: 'their total, a seventh count in the answer', of the program that the tree stands for
+abbrev pub visitsIn : List ℕ → List ℕ → ℕ
+visitsIn tree text = visits (records tree) (program tree text .functions)
+
+-- 'conversion | 1 to 23', 'conversion | 27': 'in conversion, the first met in the Rust's order'; and no row applies. A refusal has no count
+unfoldable pub conversionRow : ℕ → Conversion → CallOutcome
+conversionRow seventh (Refused words) = RefusedAt atConversion words
+conversionRow seventh (Converted counts tables) = Success counts seventh tables
 
 -- rows 'lengths', 'buffers', 'records' and 'nesting'; a tree that passes them comes to the next rows
 unfoldable pub judgedRows : List ℕ → Verdict → CallOutcome → CallOutcome
@@ -38,17 +46,17 @@ judgedRows tree Passed next = next
 
 -- 'The first row that applies wins'
 unfoldable pub callOf : List ℕ → List ℕ → Bool → Buffers → CallOutcome
-unfolding judgedRows verdictIn conversionRow conversion
-callOf tree text needsMain before = judgedRows tree (verdictIn tree text before) (conversionRow (conversion tree text needsMain))
+unfolding judgedRows verdictIn conversionRow conversion visits
+callOf tree text needsMain before = judgedRows tree (verdictIn tree text before) (conversionRow (visitsIn tree text) (conversion tree text needsMain))
 
--- 'An answer is the number, place and the record's span .., or six counts'
+-- 'An answer is the number, place and the record's span .., or six counts', and the seventh behind them
 pub data Answer : Type 0 where
   Refusal : AnswerWords → Answer
-  Counted : Counts → Answer
+  Counted : Counts → ℕ → Answer
 
 unfoldable pub answerOf : CallOutcome → Answer
 answerOf (RefusedAt row words) = Refusal words
-answerOf (Success counts tables) = Counted counts
+answerOf (Success counts seventh tables) = Counted counts seventh
 
 -- ---- the buffers
 
@@ -69,7 +77,7 @@ buffersAfter (RefusedAt row words) b =
     (refusalLeaves row (b .strings))
     (refusalLeaves row (b .floats))
     (refusalLeaves row (b .scratch))
-buffersAfter (Success counts tables) b =
+buffersAfter (Success counts seventh tables) b =
     buffers
     (filled (tables .instructions) (b .instructions))
     (filled (tables .variables) (b .variables))

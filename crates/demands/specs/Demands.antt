@@ -1,12 +1,13 @@
 -- THE DEMANDS, together. A run of the call takes a tree, a text, whether `main` is needed and seven buffers, and gives an answer and the
--- buffers afterwards. What its contract says of them is `Calls` (Call.antt); the three demands are what follows for every such run
--- (`every-call` of proofs/Demands.antt), and what keeps the first two is such a run (`page-calls`). Assumes nothing: these are definitions.
+-- buffers afterwards. What its contract says of them is `Calls` (Call.antt); the three demands, and what document 02 asks of visits, are what follows for
+-- every such run (`every-call` of proofs/Demands.antt), and what keeps the first two is such a run (`page-calls`). Assumes nothing: these are definitions.
 -- What must be believed below this page, in reading order:
 --   laws: Fix, Below; records: Words, Kinds, Shapes, Rules, Depth, Answer, Good: the form of a tree, and a refusal's number, place and span;
 --   judge: Judge: the rows 'lengths', 'buffers', 'records' and 'nesting', and what a row that refuses leaves of a buffer;
 --   syntax: Syntax, Decode: what a tree stands for; int128: Ops;
 --   conversion: ConvertError, Ir, Types, Scope, Expressions, Statements, Functions, Converter: what the Rust makes of it; Written: as bytes;
---   Call: the whole call; for demand 3 also laws: All; tables: Bytes, Read; runs: Rule, TreeRun, BodyRun, Shared: the two runs; and Demand3.
+--   laws: All, Different; syntax: Exprs; conversion: Visits: which expression records are typed, and how many different ones;
+--   Call: the whole call; for demand 3 also tables: Bytes, Read; runs: Rule, TreeRun, BodyRun, Shared: the two runs; and Demand3.
 use mathlib.Core.Path.{_≡_}
 use Prim.Native.Nat.{ℕ, _≤_}
 use mathlib.Core.Bool.{Bool, true, false}
@@ -20,13 +21,15 @@ use Rattle.records.specs.declared.convert_error.ConvertErrorKind.{ConvertErrorK
 use Rattle.records.specs.declared.convert_error.AnswerWords.{AnswerWords}
 use Rattle.judge.specs.Judge.{lengthsOk, buffersOk, Buffers, buffers, lengthsOf, lowestFault, lowestDeep, cleared}
 use Rattle.syntax.specs.Syntax.{Block, Function}
+use Rattle.syntax.specs.Exprs.{expressionRecords}
 use Rattle.syntax.specs.Decode.{program}
 use Rattle.conversion.specs.ConvertError.{ok, err}
 use Rattle.conversion.specs.Ir.{IrProgram}
 use Rattle.conversion.specs.Converter.{convert}
+use Rattle.conversion.specs.Visits.{visits, bodyVisits, functionsVisits}
 use Rattle.conversion.specs.Written.{Counts, Tables, tablesOf, countsOf}
 use Rattle.tables.specs.Bytes.{Byte}
-use Rattle.demands.specs.Call.{Answer, Refusal, Counted, filled, Calls}
+use Rattle.demands.specs.Call.{Answer, Refusal, Counted, visitsIn, filled, Calls}
 use Rattle.demands.specs.Demand3.{RunsAlike}
 
 -- ---- DEMAND 1: 'Every input gets a sound answer. Bad trees, short buffers and forms that make the Rust panic are refused by number and
@@ -87,13 +90,13 @@ pub record Sound (before : Buffers) (answer : Answer) (after : Buffers) : Type 0
   -- a refusal has a number of document 01's
   pub numbered : (words : AnswerWords) → answer ≡ Refusal words → (1 ≤ words .number) × (words .number ≤ 27)
   pub left : (words : AnswerWords) → answer ≡ Refusal words → Left before after
-  pub converted : (counts : Counts) → answer ≡ Counted counts → after .scratch ≡ cleared (before .scratch)
+  pub converted : (counts : Counts) (seventh : ℕ) → answer ≡ Counted counts seventh → after .scratch ≡ cleared (before .scratch)
 
 -- ---- DEMAND 2: 'Within the stated limits Krc's Rust decides which trees convert, to which bodies, else which error at which place.'
 
 -- `convert` is the Rust's `Converter::convert`, of the program that the tree stands for; where requests amend it docs/DIFFERENCES.md says how
 pub record AsTheRust (tree text : List ℕ) (needsMain : Bool) (before : Buffers) (answer : Answer) (after : Buffers) : Type 0 where
-  pub bodies : (p : IrProgram) → convert (program tree text) needsMain ≡ ok p → (answer ≡ Counted (countsOf p))
+  pub bodies : (p : IrProgram) → convert (program tree text) needsMain ≡ ok p → (answer ≡ Counted (countsOf p) (visitsIn tree text))
       × (after ≡ buffers
       (filled (tablesOf p .instructions) (before .instructions))
       (filled (tablesOf p .variables) (before .variables))
@@ -124,13 +127,24 @@ abbrev pub AllRunAlike : Type 0 → List ℕ → List ℕ → Counts → Buffers
 AllRunAlike W tree text counts after = (i : ℕ) (f : Function) (b : Block) → getElem? (program tree text .functions) i ≡ some f → f .body ≡ some b
     → RunsAlike W tree text counts (outputsOf after) i f b
 
--- ---- the three, of every run of the call; a contract cites them at one type of values (ℕ: over an empty one nothing is said),
+-- ---- VISITS, document 02, point 9: 'For a function whose tree holds e such records, the visits shall be at most e; their total, a seventh count in the
+-- answer, unprinted, is the number of those that the Rust, as amended, types at least once.' On a refusal there is no count. `bodyVisits` are those that
+-- `convert_func` makes, which its contract says with the bound (`FunctionVisited` in functions/specs/Bodies.antt); `visits` speaks of no code. That the
+-- sum over statements (`total`) is the number of different records (`typed`) says that no record is visited twice.
+
+pub record VisitsCounted (tree text : List ℕ) (seventh : ℕ) : Type 0 where
+  pub atMost : All (λ f. bodyVisits (records tree) (f .body) ≤ expressionRecords (records tree) f) (program tree text .functions)
+  pub total : seventh ≡ functionsVisits (records tree) (program tree text .functions)
+  pub typed : seventh ≡ visits (records tree) (program tree text .functions)
+
+-- ---- all of them, of every run of the call; a contract cites them at one type of values (ℕ: over an empty one nothing is said),
 -- and they hold over every one
 
 pub record Demands (W : Type 0) (tree text : List ℕ) (needsMain : Bool) (before : Buffers) (answer : Answer) (after : Buffers) : Type 0 where
   pub demand1 : Sound before answer after × ByRows tree text before answer after
   pub demand2 : InLimits tree text before → AsTheRust tree text needsMain before answer after
-  pub demand3 : All Byte tree → (counts : Counts) → answer ≡ Counted counts → AllRunAlike W tree text counts after
+  pub demand3 : All Byte tree → (counts : Counts) (seventh : ℕ) → answer ≡ Counted counts seventh → AllRunAlike W tree text counts after
+  pub visitsCounted : (counts : Counts) (seventh : ℕ) → answer ≡ Counted counts seventh → VisitsCounted tree text seventh
 
 abbrev pub OfEveryCall : Type 1
 OfEveryCall = (W : Type 0) (tree text : List ℕ) (needsMain : Bool) (before : Buffers) (answer : Answer) (after : Buffers)

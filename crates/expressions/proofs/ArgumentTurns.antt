@@ -1,26 +1,26 @@
--- The loop over a call's arguments: what is left suffices for what was asked, in the scope that the open names stand for.
+-- The loop over a call's arguments: what is left suffices for what was asked, in the scope that the open names stand for and in one turn.
 -- By one turn at a value, at a type, at a refusal, and at the end. Assumes nothing.
 use mathlib.Core.Path.{_≡_, refl, sym, ap, _∙_, subst}
 use mathlib.Core.Logic.{_⊎_, inl, inr}
-use mathlib.Core.List.{List, _∷_}
+use mathlib.Core.List.{List, _∷_, _++_}
 use mathlib.Core.Option.{some, none as nothing}
-use Prim.Native.Nat.{ℕ, suc, _+_, _*_, _^_, _≤_, _<_}
+use Prim.Native.Nat.{ℕ, suc, _<_}
 use native.Mathlib.Omega.{arith}
 use lib.Dec.{eqb}
-use lib.ListN.{length}
 use borrow.Author.Tests.{eq-eqb, ne-eqb}
 use Rattle.laws.specs.Fix.{pick}
-use Rattle.laws.specs.Splice.{splice}
+use Rattle.laws.specs.Different.{has}
+use Rattle.laws.proofs.DifferentLaws.{has-append}
 use Rattle.records.specs.declared.shape.Role.the-variants.{Arguments}
 use Rattle.records.specs.declared.convert_error.ConvertError.{ConvertError}
-use Rattle.records.specs.Words.{wordOf, records, none, A, B, C}
+use Rattle.records.specs.Words.{wordOf, records, none, B, C}
 use Rattle.records.specs.Good.{Good}
 use Rattle.syntax.specs.Syntax.{Expr, Args, noArgs, Value, ToType, Program, place}
 use Rattle.syntax.specs.Decode.{program}
+use Rattle.syntax.specs.Exprs.{exprs, argsExprs}
 use Rattle.conversion.specs.ConvertError.{ConvertErrorKind, ok, err, _>>=_}
 use Rattle.conversion.specs.Scope as Def
 use Rattle.conversion.specs.Expressions.{TypedArg, Functions, get-type, get-argument-types}
-use Rattle.conversion.specs.Written.{word}
 use Rattle.scope.specs.declared.Scope.{Scope}
 use Rattle.scope.specs.Open.{scopeAt}
 use Rattle.expressions.specs.declared.answers.Outcome.{Outcome}
@@ -29,30 +29,35 @@ use Rattle.expressions.specs.declared.answers.ExprType.{ExprType}
 use Rattle.expressions.specs.declared.answers.ExprType.the-variants as ExprType
 use Rattle.expressions.specs.declared.arguments.Argument.{Argument}
 use Rattle.expressions.specs.declared.arguments.Argument.the-variants as Argument
-use Rattle.syntax.specs.Places.{IsExpr, IsKind, TypeAt, ArgsAt, exprAt, argsAt}
+use Rattle.syntax.specs.Places.{IsExpr, IsKind, ArgsAt, exprAt, argsAt}
 use Rattle.keys.specs.Keys.{allKeys}
-use Rattle.expressions.specs.Slots.{slotAt, slotted, ArgsTyped, Frame, Slots, typeIn, Ready}
+use Rattle.expressions.specs.Slots.{slotAt, slotted, ArgsTyped, Frame, typeIn, RightAt, Remembers, Typed, Typing}
 use Rattle.expressions.specs.Answers.{refusal, typeResult, doneWith, ArgumentIs, TypeMeets, ArgsMeet}
 use Rattle.syntax.proofs.Lists.{Cell, cell-is, args-end}
-use Rattle.expressions.proofs.SlotLaws.{frame-refl, frame-trans, type-later, ready-frame, put-frame, put-here, slots-refl, slots-trans, slot-kept, put-slots}
-use Rattle.expressions.proofs.TypingLaws.{type-ok, type-refused, is-typed, expr-low, place-is, call-list, call-low}
+use Rattle.expressions.proofs.SlotLaws.{frame-refl, frame-trans}
+use Rattle.expressions.proofs.PartLaws.{own-exprs, expr-low, place-is, call-list, call-low}
+use Rattle.expressions.proofs.TurnLaws.{typed-none, typed-both, typed-right, same-scope, typing-next, later-type, later-adds}
+use Rattle.expressions.proofs.TypingLaws.{type-ok, type-refused}
 
--- in one scope: the slots, and what the arguments from cell w on give those from cell o on
-pub record LeftIn (tree text : List ℕ) (S : Def.Scope) (s₀ : List ℕ) (o : ℕ) (s : List ℕ) (w : ℕ) : Type 0 where
-  pub slots : Slots tree text S s₀ s
-  pub done : (s′ : List ℕ) → Slots tree text S s s′
-      → get-argument-types (program tree text) (allKeys tree text) (argsAt tree text w) S ≡ ok (slotted tree s′ (argsAt tree text w))
-      → get-argument-types (program tree text) (allKeys tree text) (argsAt tree text o) S ≡ ok (slotted tree s′ (argsAt tree text o))
-  pub typed : (s′ : List ℕ) → Slots tree text S s s′ → ArgsTyped tree s′ (argsAt tree text w) → ArgsTyped tree s′ (argsAt tree text o)
+-- in one scope and turn: the arguments from cell w on are typed, from s to s′
+pub record ArgsDone (tree text : List ℕ) (S : Def.Scope) (turn : ℕ) (s : List ℕ) (w : ℕ) (s′ : List ℕ) : Type 0 where
+  pub typed : ArgsTyped tree s′ (argsAt tree text w)
+  pub meets : get-argument-types (program tree text) (allKeys tree text) (argsAt tree text w) S ≡ ok (slotted tree s′ (argsAt tree text w))
+  pub adds : Typed tree text S turn s (argsExprs (argsAt tree text w)) s′
+
+-- what the arguments from cell w on give those from cell o on
+pub record LeftIn (tree text : List ℕ) (S : Def.Scope) (turn : ℕ) (s₀ : List ℕ) (o : ℕ) (s : List ℕ) (w : ℕ) : Type 0 where
+  pub done : (s′ : List ℕ) → ArgsDone tree text S turn s w s′ → ArgsDone tree text S turn s₀ o s′
   pub refused : (k : ConvertErrorKind) (p : ℕ) → get-argument-types (program tree text) (allKeys tree text) (argsAt tree text w) S ≡ err k p
       → get-argument-types (program tree text) (allKeys tree text) (argsAt tree text o) S ≡ err k p
 
 -- the loop's invariant: of the arguments of the call at record r those from cell w on are left
-pub record Left (tree text s₀ : List ℕ) (sc : Scope) (r : ℕ) (s : List ℕ) (w : ℕ) : Type 0 where
+pub record Left (tree text s₀ : List ℕ) (count : ℕ) (sc : Scope) (turn r : ℕ) (s : List ℕ) (w : ℕ) : Type 0 where
   pub frame : Frame tree s₀ s
+  pub typing : Typing tree text s count sc turn
   pub cells : ArgsAt tree w
   pub low : (w ≡ none) ⊎ (w < r)
-  pub meets : LeftIn tree text (scopeAt tree text s₀ sc) s₀ (wordOf tree r C) s w
+  pub meets : LeftIn tree text (scopeAt tree text s₀ sc) turn s₀ (wordOf tree r C) s w
 
 -- ---- one argument, and the rest
 
@@ -80,20 +85,22 @@ module _ (P : Program) (F : Functions) (S : Def.Scope) (r : ℕ) (l : Args) wher
   unfolding get-argument-types _>>=_
   type-rest y k n q = rw q
 
--- ---- a turn in one scope
+-- ---- a turn of the loop in one scope
 
-module _ (tree text : List ℕ) (good : Good tree text) (S : Def.Scope) (s₀ : List ℕ) (o : ℕ) (s : List ℕ) (w : ℕ) (l : LeftIn tree text S s₀ o s w) where
+module _ (tree text : List ℕ) (good : Good tree text) (S : Def.Scope) (turn : ℕ) (s₀ : List ℕ) (o : ℕ) (s : List ℕ) (w : ℕ)
+    (l : LeftIn tree text S turn s₀ o s w) where
   abbrev rest : Args
   rest = argsAt tree text (wordOf tree w B)
 
-  type-in : (r y : ℕ) → argsAt tree text w ≡ ToType r y rest → LeftIn tree text S s₀ o s (wordOf tree w B)
-  unfolding slotted ArgsTyped
+  type-in : (r y : ℕ) → argsAt tree text w ≡ ToType r y rest → LeftIn tree text S turn s₀ o s (wordOf tree w B)
+  unfolding slotted ArgsTyped argsExprs
   type-in r y q = record {
-    slots = l .slots;
-    done = λ s′ f h. l .done s′ f
-        (subst (λ (z : Args). get-argument-types (program tree text) (allKeys tree text) z S ≡ ok (slotted tree s′ z)) (sym q)
-        (type-done (program tree text) (allKeys tree text) S r rest y (slotted tree s′ rest) h));
-    typed = λ s′ f h. l .typed s′ f (subst (λ (z : Args). ArgsTyped tree s′ z) (sym q) h);
+    done = λ s′ d. l .done s′ (record {
+      typed = subst (λ (z : Args). ArgsTyped tree s′ z) (sym q) (d .typed);
+      meets = subst (λ (z : Args). get-argument-types (program tree text) (allKeys tree text) z S ≡ ok (slotted tree s′ z)) (sym q)
+          (type-done (program tree text) (allKeys tree text) S r rest y (slotted tree s′ rest) (d .meets));
+      adds = subst (λ (z : Args). Typed tree text S turn s (argsExprs z) s′) (sym q) (d .adds);
+    });
     refused = λ k n h. l .refused k n
         (subst (λ (z : Args). get-argument-types (program tree text) (allKeys tree text) z S ≡ err k n) (sym q)
         (type-rest (program tree text) (allKeys tree text) S r rest y k n h));
@@ -107,29 +114,30 @@ module _ (tree text : List ℕ) (good : Good tree text) (S : Def.Scope) (s₀ : 
         (subst (λ (v : Args). get-argument-types (program tree text) (allKeys tree text) v S ≡ err (z .kind) (z .place)) (sym q)
         (value-stop (program tree text) (allKeys tree text) S r rest (exprAt tree text e) z t))
 
-    module _ (s₁ s₂ : List ℕ) (y : ℕ) (f₁ : Slots tree text S s s₁) (t : typeIn tree text S e ≡ ok y) (a : TypeAt tree y)
-        (room : 64 * records tree ≤ length s₁) (put : s₂ ≡ splice s₁ (4 * records tree + 4 * e) (word y)) where
-      small : y < 2 ^ 32
-      small = omega (arith, a .below, good .few)
+    module _ (s₁ : List ℕ) (y : ℕ) (t : typeIn tree text S e ≡ ok y) (f : Typed tree text S turn s (exprs (exprAt tree text e)) s₁) where
+      -- the argument's slot has its type when all are typed
+      value-right : (s′ : List ℕ) → Typed tree text S turn s (exprs (exprAt tree text e) ++ argsExprs rest) s′ → RightAt tree text S s′ (place (exprAt tree text e))
+      unfolding has
+      value-right s′ g = subst (λ (z : ℕ). RightAt tree text S s′ z) (sym (place-is tree text good e x))
+          (typed-right tree text S turn s (exprs (exprAt tree text e) ++ argsExprs rest) s′ g e (expr-low tree text good e x)
+          (has-append e (exprs (exprAt tree text e)) (argsExprs rest) ∙ rw (own-exprs tree text good e x, eq-eqb e e refl)))
 
-      step : Slots tree text S s s₂
-      step = slots-trans tree text S s s₁ s₂ f₁ (put-slots tree text S s₁ s₂ e y (expr-low tree text good e x) room put small x t a)
+      value-all : (s′ : List ℕ) → ArgsDone tree text S turn s₁ (wordOf tree w B) s′ → ArgsDone tree text S turn s w s′
+      unfolding slotted ArgsTyped argsExprs typeIn
+      value-all s′ d =
+          let all = typed-both tree text S turn s s₁ s′ (exprs (exprAt tree text e)) (argsExprs rest) f (d .adds) in
+          let right = value-right s′ all in record {
+            typed = subst (λ (z : Args). ArgsTyped tree s′ z) (sym q) (right .type, d .typed);
+            meets = subst (λ (z : Args). get-argument-types (program tree text) (allKeys tree text) z S ≡ ok (slotted tree s′ z)) (sym q)
+                (value-done (program tree text) (allKeys tree text) S r rest (exprAt tree text e) (slotAt tree s′ (place (exprAt tree text e))) (slotted tree s′ rest)
+                (ap (typeIn tree text S) (sym (place-is tree text good e x)) ∙ right .is) (d .meets));
+            adds = subst (λ (z : Args). Typed tree text S turn s (argsExprs z) s′) (sym q) all;
+          }
 
-      kept : (s′ : List ℕ) → Slots tree text S s₂ s′ → slotAt tree s′ (place (exprAt tree text e)) ≡ y
-      kept s′ f =
-          ap (slotAt tree s′) (place-is tree text good e x)
-          ∙ slot-kept tree text S s₂ s′ e y f (expr-low tree text good e x) t (put-here tree s₁ s₂ e y (expr-low tree text good e x) room put small)
-
-      value-in : LeftIn tree text S s₀ o s₂ (wordOf tree w B)
-      unfolding slotted ArgsTyped typeIn
+      value-in : LeftIn tree text S turn s₀ o s₁ (wordOf tree w B)
+      unfolding typeIn
       value-in = record {
-        slots = slots-trans tree text S s₀ s s₂ (l .slots) step;
-        done = λ s′ f h. l .done s′ (slots-trans tree text S s s₂ s′ step f)
-            (subst (λ (z : Args). get-argument-types (program tree text) (allKeys tree text) z S ≡ ok (slotted tree s′ z)) (sym q)
-            (value-done (program tree text) (allKeys tree text) S r rest (exprAt tree text e) y (slotted tree s′ rest) t h
-            ∙ ap (λ (z : ℕ). ok (record { ty = z; value = some (exprAt tree text e) } ∷ slotted tree s′ rest)) (sym (kept s′ f))));
-        typed = λ s′ f h. l .typed s′ (slots-trans tree text S s s₂ s′ step f)
-            (subst (λ (z : Args). ArgsTyped tree s′ z) (sym q) (subst (λ (z : ℕ). TypeAt tree z) (sym (kept s′ f)) a, h));
+        done = λ s′ d. l .done s′ (value-all s′ d);
         refused = λ k n h. l .refused k n
             (subst (λ (z : Args). get-argument-types (program tree text) (allKeys tree text) z S ≡ err k n) (sym q)
             (value-rest (program tree text) (allKeys tree text) S r rest (exprAt tree text e) y k n t h));
@@ -160,39 +168,40 @@ type-cell tree text w a y h q = go (subst (λ (z : Argument). ArgumentIs tree te
     go : ArgumentIs tree text w (Argument.ToType y) → TypeCell tree text w
     go (ArgumentIs.a-type r p k) = record { at = r; named = y; opens = p }
 
-module _ (tree text : List ℕ) (good : Good tree text) (s₀ : List ℕ) (sc : Scope) (r : ℕ) where
+module _ (tree text : List ℕ) (good : Good tree text) (s₀ : List ℕ) (count : ℕ) (sc : Scope) (turn r : ℕ) (typing : Typing tree text s₀ count sc turn) where
   abbrev S : Def.Scope
   S = scopeAt tree text s₀ sc
 
-  pub loop-start : IsKind tree 11 r → (w : ℕ) → w ≡ wordOf tree r C → Left tree text s₀ sc r s₀ w
-  loop-start k w e = subst (λ (z : ℕ). Left tree text s₀ sc r s₀ z) (sym e) (record {
+  pub loop-start : IsKind tree 11 r → (w : ℕ) → w ≡ wordOf tree r C → Left tree text s₀ count sc turn r s₀ w
+  loop-start k w e = subst (λ (z : ℕ). Left tree text s₀ count sc turn r s₀ z) (sym e) (record {
     frame = frame-refl tree s₀;
+    typing = typing;
     cells = call-list tree text good r k;
     low = call-low tree text good r k;
-    meets = record { slots = slots-refl tree text S s₀; done = λ s′ f h. h; typed = λ s′ f h. h; refused = λ k n h. h };
+    meets = record { done = λ s′ d. d; refused = λ k n h. h };
   })
 
   -- the same scratch and the same cell
-  moved : (s₁ s₂ : List ℕ) (n w : ℕ) → s₂ ≡ s₁ → n ≡ w → Left tree text s₀ sc r s₁ w → Left tree text s₀ sc r s₂ n
+  moved : (s₁ s₂ : List ℕ) (n w : ℕ) → s₂ ≡ s₁ → n ≡ w → Left tree text s₀ count sc turn r s₁ w → Left tree text s₀ count sc turn r s₂ n
   moved s₁ s₂ n w e q l =
-      subst (λ (z : List ℕ). Left tree text s₀ sc r z n) (sym e) (subst (λ (z : ℕ). Left tree text s₀ sc r s₁ z) (sym q) l)
+      subst (λ (z : List ℕ). Left tree text s₀ count sc turn r z n) (sym e) (subst (λ (z : ℕ). Left tree text s₀ count sc turn r s₁ z) (sym q) l)
 
-  module _ (count : ℕ) (ready : Ready tree text s₀ count sc) (s : List ℕ) (w : ℕ) (l : Left tree text s₀ sc r s w) where
-    pub now-ready : Ready tree text s count sc
-    now-ready = ready-frame tree s₀ s (l .frame) text count sc ready
+  module _ (s : List ℕ) (w : ℕ) (l : Left tree text s₀ count sc turn r s w) where
+    -- the scope is still the one from the start
+    now-scope : scopeAt tree text s sc ≡ S
+    now-scope = same-scope tree text s₀ count sc turn typing s (l .frame)
 
-    pub loop-end : w ≡ none → ArgsMeet tree text s₀ sc (wordOf tree r C) Outcome.Done s
-    unfolding doneWith slotted ArgsTyped get-argument-types
+    pub loop-end : w ≡ none → ArgsMeet tree text s₀ sc turn (wordOf tree r C) Outcome.Done s
+    unfolding doneWith slotted ArgsTyped argsExprs get-argument-types
     loop-end e =
         let over : argsAt tree text w ≡ noArgs = ap (argsAt tree text) e ∙ args-end tree text good in
-        record {
-          frame = l .frame;
-          typed = λ q. l .meets .typed s (slots-refl tree text S s) (subst (λ (z : Args). ArgsTyped tree s z) (sym over) tt);
-          slots = l .meets .slots;
-          meets =
-              l .meets .done s (slots-refl tree text S s)
-              (subst (λ (z : Args). get-argument-types (program tree text) (allKeys tree text) z S ≡ ok (slotted tree s z)) (sym over) refl);
-        }
+        let all = l .meets .done s (record {
+          typed = subst (λ (z : Args). ArgsTyped tree s z) (sym over) tt;
+          meets = subst (λ (z : Args). get-argument-types (program tree text) (allKeys tree text) z S ≡ ok (slotted tree s z)) (sym over) refl;
+          adds = subst (λ (z : Args). Typed tree text S turn s (argsExprs z) s) (sym over)
+              (typed-none tree text S turn s (subst (λ (z : Def.Scope). Remembers tree text z turn s) now-scope (l .typing .remembers)));
+        }) in
+        record { frame = l .frame; typed = λ q. all .typed; meets = all .meets; adds = λ q. all .adds }
 
     module _ (more : w ≡ none → ⊥) where
       here : Cell tree text good Arguments w
@@ -224,14 +233,15 @@ module _ (tree text : List ℕ) (good : Good tree text) (s₀ : List ℕ) (sc : 
           go (inr h) = rw (ne-eqb n none (λ q. omega (arith, here .inside, good .few))) (omega arith)
 
       module _ (a : Argument) (is : ArgumentIs tree text w a) where
-        pub turn-type : (y : ℕ) → a ≡ Argument.ToType y → (s′ : List ℕ) → s′ ≡ s → (n : ℕ) → n ≡ wordOf tree w B → Left tree text s₀ sc r s′ n
+        pub turn-type : (y : ℕ) → a ≡ Argument.ToType y → (s′ : List ℕ) → s′ ≡ s → (n : ℕ) → n ≡ wordOf tree w B → Left tree text s₀ count sc turn r s′ n
         turn-type y q s′ es n en =
             let t = type-cell tree text w a y is q in
             moved s s′ n (wordOf tree w B) es en (record {
               frame = l .frame;
+              typing = l .typing;
               cells = here .rest;
               low = next-low;
-              meets = type-in tree text good S s₀ (wordOf tree r C) s w (l .meets) (t .at) (t .named) (t .opens);
+              meets = type-in tree text good S turn s₀ (wordOf tree r C) s w (l .meets) (t .at) (t .named) (t .opens);
             })
 
         module _ (e : ℕ) (q : a ≡ Argument.Expr e) where
@@ -241,42 +251,31 @@ module _ (tree text : List ℕ) (good : Good tree text) (s₀ : List ℕ) (sc : 
           pub value-low : (e < r) × IsExpr tree e
           value-low = (omega (arith, found .lower, below-call), found .expression)
 
-          module _ (t : ExprType) (s₁ : List ℕ) (m : TypeMeets tree text s sc e t s₁) where
-            -- the scope is still the one from the start
-            typed-now : Slots tree text S s s₁ × (typeIn tree text S e ≡ typeResult t)
-            typed-now = type-later tree text s₀ s sc (l .frame) (ready .scoped .records-are) e t s₁ m
+          module _ (t : ExprType) (s₁ : List ℕ) (m : TypeMeets tree text s sc turn e t s₁) where
+            typed-now : typeIn tree text S e ≡ typeResult t
+            typed-now = later-type tree text s₀ count sc turn typing s (l .frame) e t s₁ m
 
-            pub turn-stop : (x : ConvertError) → t ≡ ExprType.Refused x → ArgsMeet tree text s₀ sc (wordOf tree r C) (Outcome.Refused x) s₁
+            pub turn-stop : (x : ConvertError) → t ≡ ExprType.Refused x → ArgsMeet tree text s₀ sc turn (wordOf tree r C) (Outcome.Refused x) s₁
             unfolding doneWith refusal
             turn-stop x v = record {
               frame = frame-trans (l .frame) (m .frame);
               typed = λ z. absurd (differ z);
-              slots = slots-trans tree text S s₀ s s₁ (l .meets .slots) (typed-now .0);
               meets =
-                  stop-in tree text good S s₀ (wordOf tree r C) s w (l .meets) (found .at) e (found .opens) (found .expression) x
-                  (type-refused (typeIn tree text S e) t x (typed-now .1) v);
+                  stop-in tree text good S turn s₀ (wordOf tree r C) s w (l .meets) (found .at) e (found .opens) (found .expression) x
+                  (type-refused (typeIn tree text S e) t x typed-now v);
+              adds = λ z. absurd (differ z);
             }
               where
                 differ : Outcome.Refused x ≡ Outcome.Done → ⊥
                 differ z = let u : _≡_ {A = ℕ} 0 1 = cc in omega arith
 
-            module _ (y : ℕ) (v : t ≡ ExprType.Is y) where
-              pub typed-at : TypeAt tree y
-              typed-at = is-typed tree t y (m .typed) v
-
-              room : 64 * records tree ≤ length s₁
-              room = omega (arith, m .frame .same-length, l .frame .same-length, ready .keyed .listed .room)
-
-              pub put-ready : (e < records tree) × (64 * records tree ≤ length s₁) × (y < 4294967296)
-              put-ready = (expr-low tree text good e (found .expression), room, omega (arith, typed-at .below, good .few))
-
-              pub turn-value : (s₂ : List ℕ) → s₂ ≡ splice s₁ (4 * records tree + 4 * e) (word y)
-                  → (s′ : List ℕ) → s′ ≡ s₂ → (n : ℕ) → n ≡ wordOf tree w B → Left tree text s₀ sc r s′ n
-              turn-value s₂ put s′ es n en = moved s₂ s′ n (wordOf tree w B) es en (record {
-                frame = frame-trans (l .frame) (frame-trans (m .frame) (put-frame tree s₁ s₂ e y (expr-low tree text good e (found .expression)) room put));
-                cells = here .rest;
-                low = next-low;
-                meets = value-in tree text good S s₀ (wordOf tree r C) s w (l .meets) (found .at) e (found .opens) (found .expression)
-                    s₁ s₂ y (typed-now .0)
-                    (type-ok (typeIn tree text S e) t y (typed-now .1) v) typed-at room put;
-              })
+            pub turn-value : (y : ℕ) → t ≡ ExprType.Is y → (s′ : List ℕ) → s′ ≡ s₁ → (n : ℕ) → n ≡ wordOf tree w B → Left tree text s₀ count sc turn r s′ n
+            turn-value y v s′ es n en = moved s₁ s′ n (wordOf tree w B) es en (record {
+              frame = frame-trans (l .frame) (m .frame);
+              typing = typing-next tree text s count sc turn (l .typing) s₁ (m .frame) (exprs (exprAt tree text e)) (m .adds y v);
+              cells = here .rest;
+              low = next-low;
+              meets = value-in tree text good S turn s₀ (wordOf tree r C) s w (l .meets) (found .at) e (found .opens) (found .expression) s₁ y
+                  (type-ok (typeIn tree text S e) t y typed-now v)
+                  (later-adds tree text s₀ count sc turn typing s (l .frame) e t s₁ m y v);
+            })

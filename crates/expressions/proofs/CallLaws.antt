@@ -286,7 +286,7 @@ counted-at tree text n first w e h s = h s ∙ ap (λ (x : ℕ). length (typedAt
 
 -- the verb's number, as it is read from the scratch
 module _ (tree text s : List ℕ) (r : ℕ) (k : IsKind tree 11 r) where
-  pub verb-inside : 64 * records tree ≤ length s → originalAt (records tree) r + 4 ≤ length s
+  pub verb-inside : 72 * records tree ≤ length s → originalAt (records tree) r + 4 ≤ length s
   verb-inside room = omega (arith, k .below)
 
   pub verb-number : Numbered tree text s → (o : ℕ) → o ≡ wordAt s (originalAt (records tree) r) → o ≡ original tree text r

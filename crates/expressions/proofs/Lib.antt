@@ -3,13 +3,16 @@ pub mod ArgumentTurns
 pub mod CallLaws
 pub mod CommonLaws
 pub mod ExactLaws
+pub mod ForgetLaws
 pub mod LeafLaws
 pub mod NameDigest
 pub mod NameLaws
 pub mod OperandLaws
 pub mod OriginalLaws
+pub mod PartLaws
 pub mod PrefixLaws
 pub mod SlotLaws
 pub mod SuffixLaws
 pub mod TakeLaws
+pub mod TurnLaws
 pub mod TypingLaws

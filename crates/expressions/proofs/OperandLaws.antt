@@ -47,6 +47,11 @@ found-type tree f y t q = go (subst (λ (z : Found). TypeFound tree z) q t)
     go : TypeFound tree (Found.At y) → TypeAt tree y
     go (TypeFound.a-type h) = h
 
+-- two expressions with their types, put together
+pub operands-are : (tree : List ℕ) (s : Sides) (a l b r : ℕ) → s ≡ record { left = a; «left_type» = l; right = b; «right_type» = r }
+    → IsExpr tree a → TypeAt tree l → IsExpr tree b → TypeAt tree r → Operands tree s
+operands-are tree s a l b r e x t y u = subst (Operands tree) (sym e) (record { left = x; left-type = t; right = y; right-type = u })
+
 -- ---- the twelve first types
 
 module _ (tree text : List ℕ) (good : Good tree text) where

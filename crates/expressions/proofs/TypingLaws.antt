@@ -1,24 +1,23 @@
--- The type of an expression by its kind, and what typing owes after each call: a refusal is passed on, a type goes into the rule of the operator.
--- By the cases of nodes and the laws of the scratch, in the scope that the open names stand for. Assumes nothing.
+-- The type of an expression by its kind, and what typing owes after each call: a refusal is passed on, a type goes into the rule of the operator, and is remembered.
+-- By the cases of nodes and the laws of turns, in the scope that the open names stand for. Assumes nothing.
 use mathlib.Core.Path.{_≡_, refl, sym, ap, _∙_, subst}
-use mathlib.Core.Logic.{_⊎_}
-use mathlib.Core.Bool.{true}
-use mathlib.Core.List.{List}
-use Prim.Native.Nat.{ℕ, _≤_, _<_}
+use mathlib.Core.Bool.{Bool, true, false}
+use mathlib.Core.List.{List, [], _++_}
+use Prim.Native.Nat.{ℕ, _+_, _*_, _≤_, _<_}
 use native.Mathlib.Omega.{arith}
 use lib.Dec.{leb}
-use lib.ListN.{getD}
+use lib.ListN.{length, getD}
 use borrow.Author.Tests.{leb-true}
 use Rattle.laws.proofs.Tests.{and-right}
-use Rattle.records.specs.declared.shape.Role.the-variants.{Arguments}
 use Rattle.records.specs.declared.convert_error.ConvertError.{ConvertError}
-use Rattle.records.specs.Words.{kindOf, detailOf, wordOf, records, none, A, B, C}
+use Rattle.records.specs.Words.{kindOf, detailOf, wordOf, records, A, B, C}
 use Rattle.records.specs.Rules.{isExpr}
 use Rattle.records.specs.Good.{Good}
-use Rattle.records.proofs.GoodLaws.{unary-a, binary-a, binary-b, call-c}
-use Rattle.syntax.specs.Syntax.{Neg, Or, place, unaryOps, binaryOps}
+use Rattle.records.proofs.GoodLaws.{unary-a, binary-a, binary-b}
+use Rattle.syntax.specs.Syntax.{Neg, Or, unaryOps, binaryOps}
 use Rattle.syntax.specs.Decode.{program, textOf}
-use Rattle.conversion.specs.ConvertError.{Result, ok, err, _>>=_}
+use Rattle.syntax.specs.Exprs.{exprs, argsExprs, partsExprs}
+use Rattle.conversion.specs.ConvertError.{ConvertErrorKind, Result, ok, err, _>>=_}
 use Rattle.conversion.specs.Scope as Def
 use Rattle.conversion.specs.Expressions.{Callee, get-type, get-argument-types, resolve-call, resolveTyped, unaryType, binaryType, valueType, return-type}
 use Rattle.scope.specs.declared.Scope.{Scope}
@@ -30,14 +29,17 @@ use Rattle.expressions.specs.declared.answers.ExprType.{ExprType}
 use Rattle.expressions.specs.declared.answers.ExprType.the-variants as ExprType
 use Rattle.expressions.specs.declared.answers.Resolved.{Resolved}
 use Rattle.expressions.specs.declared.answers.Resolved.the-variants as Resolved
-use Rattle.syntax.specs.Places.{IsExpr, IsKind, TypeAt, ArgsAt, exprAt, argsAt}
+use Rattle.syntax.specs.Places.{IsExpr, IsKind, TypeAt, exprAt, argsAt}
 use Rattle.keys.specs.Keys.{allKeys}
-use Rattle.expressions.specs.Slots.{typeIn, slotted, Slots, Ready}
+use Rattle.expressions.specs.Slots.{slotAt, inTurn, afterVisit, slotted, typeIn, Typed, Typing}
 use Rattle.expressions.specs.Calls.{typedAt}
-use Rattle.expressions.specs.Answers.{refusal, typeResult, doneWith, calleeOf, valueResult, IsTyped, IsCallee, TypeIs, CalleeIs, TypeMeets, ArgsMeet, CallMeets}
-use Rattle.syntax.proofs.Lists.{list-lower, list-at}
-use Rattle.syntax.proofs.Records.{expr-unary, expr-binary, expr-call, expr-place}
-use Rattle.expressions.proofs.SlotLaws.{frame-refl, frame-trans, type-later, slots-refl, slots-trans}
+use Rattle.expressions.specs.declared.operands.Sides.{Sides}
+use Rattle.expressions.specs.Answers.{refusal, typeResult, doneWith, calleeOf, valueResult, IsTyped, IsCallee, TypeIs, CalleeIs, binaryTypeAt, WorksOut, Keepable, Keeps, TypeMeets, ArgsMeet, CallMeets}
+use Rattle.syntax.proofs.Records.{expr-unary, expr-binary, expr-call}
+use Rattle.expressions.proofs.SlotLaws.{frame-refl, frame-trans}
+pub use Rattle.expressions.proofs.PartLaws.{expr-low, place-is, call-list, call-low}
+use Rattle.expressions.proofs.PartLaws.{leaf-parts, unary-parts, binary-parts, call-parts}
+use Rattle.expressions.proofs.TurnLaws.{visited-frame, typed-none, typed-both, hit-right, hit-typed, visit-fits, visit-typed, later-type, later-adds}
 
 -- ---- results one after the other
 
@@ -69,27 +71,37 @@ is-typed tree a y t q = go (subst (λ (z : ExprType). IsTyped tree z) q t)
     go : IsTyped tree (ExprType.Is y) → TypeAt tree y
     go (IsTyped.is h) = h
 
+-- a refusal is no success
+pub err-ok : {X : Type 0} (k : ConvertErrorKind) (p : ℕ) (x : X) → _≡_ {A = Result X} (err k p) (ok x) → ⊥
+err-ok k p x e = let z : _≡_ {A = ℕ} 0 1 = cc in omega arith
+
+refused-is : (r : ConvertError) (y : ℕ) → ExprType.Refused r ≡ ExprType.Is y → ⊥
+refused-is r y e = let z : _≡_ {A = ℕ} 0 1 = cc in omega arith
+
+-- what is kept of a refusal, and of a type
+pub keeps-refusal : (tree : List ℕ) (turn e : ℕ) (a : ExprType) (s : List ℕ) (r : ConvertError) → a ≡ ExprType.Refused r → Keeps tree turn e a s (ExprType.Refused r) s
+keeps-refusal tree turn e a s r q = record { same = sym q; type = λ y w. absurd (refused-is r y (sym q ∙ w)); refused = λ x w. refl }
+
+type-same : (y z : ℕ) → ExprType.Is y ≡ ExprType.Is z → y ≡ z
+type-same y z e = cc
+
+pub keeps-type : (tree : List ℕ) (turn e : ℕ) (a : ExprType) (s : List ℕ) (y : ℕ) → a ≡ ExprType.Is y → (s′ : List ℕ) → s′ ≡ afterVisit tree turn e y s
+    → Keeps tree turn e a s (ExprType.Is y) s′
+keeps-type tree turn e a s y q s′ w = record {
+  same = sym q;
+  type = λ z v. w ∙ ap (λ (x : ℕ). afterVisit tree turn e x s) (type-same y z (sym q ∙ v));
+  refused = λ r v. absurd (refused-is r y (sym v ∙ q));
+}
+
+-- what succeeds after a callee has one
+callee-ok : {P : Type 0} (m : Result Callee) (f : Callee → Result ℕ) (y : ℕ) → (m >>= f) ≡ ok y → ((c : Callee) → m ≡ ok c → P) → P
+unfolding _>>=_
+callee-ok (ok c) f y q g = g c refl
+callee-ok (err k p) f y q g = absurd (err-ok k p y q)
+
 -- ---- the kinds
 
 module _ (tree text : List ℕ) (good : Good tree text) where
-  pub expr-low : (e : ℕ) → IsExpr tree e → e < records tree
-  expr-low e x = omega (arith, x .inside)
-
-  -- an expression's record is its place
-  pub place-is : (e : ℕ) → IsExpr tree e → place (exprAt tree text e) ≡ e
-  place-is e x = expr-place tree text good e (expr-low e x) (x .expression)
-
-  -- ---- a call's arguments
-
-  module _ (r : ℕ) (k : IsKind tree 11 r) where
-    pub call-list : ArgsAt tree (wordOf tree r C)
-    call-list = list-at tree text good Arguments r (wordOf tree r C) (k .below) (call-c tree text good r (k .below) (k .kind))
-
-    pub call-low : (wordOf tree r C ≡ none) ⊎ (wordOf tree r C < r)
-    call-low = list-lower tree text good Arguments r (wordOf tree r C) (call-c tree text good r (k .below) (k .kind))
-
-  -- ---- types by kind
-
   module _ (S : Def.Scope) (e : ℕ) (low : e < records tree) where
     pub type-unary : kindOf tree e ≡ 9
         → typeIn tree text S e
@@ -122,46 +134,51 @@ module _ (tree text : List ℕ) (good : Good tree text) where
     kind-at n q = sym ek ∙ q
 
     pub is-kind : (n : ℕ) → k ≡ n → IsKind tree n e
-    is-kind n q = record { below = expr-low e x; kind = kind-at n q }
+    is-kind n q = record { below = expr-low tree text good e x; kind = kind-at n q }
 
     lower-expr : (a w : ℕ) → a ≡ w → w < e → isExpr (kindOf tree w) ≡ true → IsExpr tree a
-    lower-expr a w q h t = subst (λ (z : ℕ). IsExpr tree z) (sym q) (is-expr tree text good w (omega (arith, expr-low e x)) t)
+    lower-expr a w q h t = subst (λ (z : ℕ). IsExpr tree z) (sym q) (is-expr tree text good w (omega (arith, expr-low tree text good e x)) t)
 
     pub operand-expr : k ≡ 9 → (a : ℕ) → a ≡ wordOf tree e A → (a < e) × IsExpr tree a
     operand-expr q a ea =
-        let h = unary-a tree text good e (expr-low e x) (kind-at 9 q) in
+        let h = unary-a tree text good e (expr-low tree text good e x) (kind-at 9 q) in
         (omega (arith, h .0), lower-expr a (wordOf tree e A) ea (h .0) (h .1))
 
     pub left-expr : k ≡ 10 → (a : ℕ) → a ≡ wordOf tree e A → (a < e) × IsExpr tree a
     left-expr q a ea =
-        let h = binary-a tree text good e (expr-low e x) (kind-at 10 q) in
+        let h = binary-a tree text good e (expr-low tree text good e x) (kind-at 10 q) in
         (omega (arith, h .0), lower-expr a (wordOf tree e A) ea (h .0) (h .1))
 
     pub right-expr : k ≡ 10 → (b : ℕ) → b ≡ wordOf tree e B → (b < e) × IsExpr tree b
     right-expr q b eb =
-        let h = binary-b tree text good e (expr-low e x) (kind-at 10 q) in
+        let h = binary-b tree text good e (expr-low tree text good e x) (kind-at 10 q) in
         (omega (arith, h .0), lower-expr b (wordOf tree e B) eb (h .0) (h .1))
 
     pub leaf-kind : (k ≡ 9 → ⊥) → (k ≡ 10 → ⊥) → (k ≡ 11 → ⊥) → kindOf tree e ≤ 8
     leaf-kind n₉ n₁₀ n₁₁ = omega (arith, ek, leb-true (kindOf tree e) 11 (and-right (leb 2 (kindOf tree e)) (leb (kindOf tree e) 11) (x .expression)))
 
-    module _ (s : List ℕ) (sc : Scope) where
+    module _ (s : List ℕ) (sc : Scope) (turn : ℕ) where
       abbrev S : Def.Scope
       S = scopeAt tree text s sc
 
+      -- the parts by their list
+      parts-as : (l : List ℕ) → partsExprs (exprAt tree text e) ≡ l → (s₁ : List ℕ) → Typed tree text S turn s l s₁
+          → Typed tree text S turn s (partsExprs (exprAt tree text e)) s₁
+      parts-as l q s₁ t = subst (λ (z : List ℕ). Typed tree text S turn s z s₁) (sym q) t
+
       -- an operator with one operand
-      module _ (q : k ≡ 9) (a : ℕ) (ea : a ≡ wordOf tree e A) (t : ExprType) (s₁ : List ℕ) (m : TypeMeets tree text s sc a t s₁) where
+      module _ (q : k ≡ 9) (a : ℕ) (ea : a ≡ wordOf tree e A) (t : ExprType) (s₁ : List ℕ) (m : TypeMeets tree text s sc turn a t s₁) where
         operand-type : typeIn tree text S (wordOf tree e A) ≡ typeResult t
         operand-type = ap (typeIn tree text S) (sym ea) ∙ m .meets
 
-        pub unary-stop : (r : ConvertError) → t ≡ ExprType.Refused r → TypeMeets tree text s sc e (ExprType.Refused r) s₁
+        pub unary-stop : (r : ConvertError) → t ≡ ExprType.Refused r → TypeMeets tree text s sc turn e (ExprType.Refused r) s₁
         unfolding typeResult
         unary-stop r w = record {
           frame = m .frame;
           typed = IsTyped.no;
-          slots = m .slots;
+          adds = λ y v. absurd (refused-is r y v);
           meets =
-              type-unary S e (expr-low e x) (kind-at 9 q)
+              type-unary S e (expr-low tree text good e x) (kind-at 9 q)
               ∙ bind-refused (typeIn tree text S (wordOf tree e A)) r
               (unaryType (program tree text) (allKeys tree text) e (getD unaryOps (detailOf tree e) Neg))
               (type-refused (typeIn tree text S (wordOf tree e A)) t r operand-type w);
@@ -169,13 +186,13 @@ module _ (tree text : List ℕ) (good : Good tree text) where
 
         pub unary-next : (y : ℕ) → t ≡ ExprType.Is y → (b : ExprType)
             → TypeIs tree b (unaryType (program tree text) (allKeys tree text) e (getD unaryOps (detailOf tree e) Neg) y)
-            → TypeMeets tree text s sc e b s₁
+            → WorksOut tree text s sc turn e b s₁
         unary-next y w b u = record {
           frame = m .frame;
           typed = u .type;
-          slots = m .slots;
+          adds = λ z v. parts-as (exprs (exprAt tree text a)) (unary-parts tree text good e x (kind-at 9 q) ∙ ap (λ (z : ℕ). exprs (exprAt tree text z)) (sym ea)) s₁ (m .adds y w);
           meets =
-              type-unary S e (expr-low e x) (kind-at 9 q)
+              type-unary S e (expr-low tree text good e x) (kind-at 9 q)
               ∙ bind-ok (typeIn tree text S (wordOf tree e A)) y
               (unaryType (program tree text) (allKeys tree text) e (getD unaryOps (detailOf tree e) Neg))
               (type-ok (typeIn tree text S (wordOf tree e A)) t y operand-type w)
@@ -183,7 +200,7 @@ module _ (tree text : List ℕ) (good : Good tree text) where
         }
 
       -- an operator with two
-      module _ (q : k ≡ 10) (a : ℕ) (ea : a ≡ wordOf tree e A) (t : ExprType) (s₁ : List ℕ) (m : TypeMeets tree text s sc a t s₁) where
+      module _ (q : k ≡ 10) (a : ℕ) (ea : a ≡ wordOf tree e A) (t : ExprType) (s₁ : List ℕ) (m : TypeMeets tree text s sc turn a t s₁) where
         left-type : typeIn tree text S (wordOf tree e A) ≡ typeResult t
         left-type = ap (typeIn tree text S) (sym ea) ∙ m .meets
 
@@ -192,41 +209,42 @@ module _ (tree text : List ℕ) (good : Good tree text) where
             >>= λ y. binaryType (program tree text) (allKeys tree text) e (getD binaryOps (detailOf tree e) Or)
             (exprAt tree text (wordOf tree e A)) l (exprAt tree text (wordOf tree e B)) y
 
-        pub left-stop : (r : ConvertError) → t ≡ ExprType.Refused r → TypeMeets tree text s sc e (ExprType.Refused r) s₁
+        pub left-stop : (r : ConvertError) → t ≡ ExprType.Refused r → TypeMeets tree text s sc turn e (ExprType.Refused r) s₁
         unfolding typeResult
         left-stop r w = record {
           frame = m .frame;
           typed = IsTyped.no;
-          slots = m .slots;
+          adds = λ y v. absurd (refused-is r y v);
           meets =
-              type-binary S e (expr-low e x) (kind-at 10 q)
+              type-binary S e (expr-low tree text good e x) (kind-at 10 q)
               ∙ bind-refused (typeIn tree text S (wordOf tree e A)) r (rule S)
               (type-refused (typeIn tree text S (wordOf tree e A)) t r left-type w);
         }
 
-        module _ (count : ℕ) (ready : Ready tree text s count sc) (l : ℕ) (w : t ≡ ExprType.Is l)
-            (b : ℕ) (eb : b ≡ wordOf tree e B) (u : ExprType) (s₂ : List ℕ) (m₂ : TypeMeets tree text s₁ sc b u s₂) where
-          -- the scope is still the one from before
-          later : TypeMeets tree text s₁ sc b u s₂ → Slots tree text S s₁ s₂ × (typeIn tree text S b ≡ typeResult u)
-          later n = type-later tree text s s₁ sc (m .frame) (ready .scoped .records-are) b u s₂ n
-
+        module _ (count : ℕ) (typing : Typing tree text s count sc turn) (l : ℕ) (w : t ≡ ExprType.Is l)
+            (b : ℕ) (eb : b ≡ wordOf tree e B) (u : ExprType) (s₂ : List ℕ) (m₂ : TypeMeets tree text s₁ sc turn b u s₂) where
           right-type : typeIn tree text S (wordOf tree e B) ≡ typeResult u
-          right-type = ap (typeIn tree text S) (sym eb) ∙ later m₂ .1
+          right-type = ap (typeIn tree text S) (sym eb) ∙ later-type tree text s count sc turn typing s₁ (m .frame) b u s₂ m₂
 
-          both-slots : Slots tree text S s s₂
-          both-slots = slots-trans tree text S s s₁ s₂ (m .slots) (later m₂ .0)
+          both-parts : partsExprs (exprAt tree text e) ≡ exprs (exprAt tree text a) ++ exprs (exprAt tree text b)
+          both-parts = binary-parts tree text good e x (kind-at 10 q) ∙ rw (ea, eb)
+
+          both-adds : (y : ℕ) → u ≡ ExprType.Is y → Typed tree text S turn s (partsExprs (exprAt tree text e)) s₂
+          both-adds y v = parts-as (exprs (exprAt tree text a) ++ exprs (exprAt tree text b)) both-parts s₂
+              (typed-both tree text S turn s s₁ s₂ (exprs (exprAt tree text a)) (exprs (exprAt tree text b)) (m .adds l w)
+              (later-adds tree text s count sc turn typing s₁ (m .frame) b u s₂ m₂ y v))
 
           with-left : typeIn tree text S e ≡ rule S l
           with-left =
-              type-binary S e (expr-low e x) (kind-at 10 q)
+              type-binary S e (expr-low tree text good e x) (kind-at 10 q)
               ∙ bind-ok (typeIn tree text S (wordOf tree e A)) l (rule S) (type-ok (typeIn tree text S (wordOf tree e A)) t l left-type w)
 
-          pub right-stop : (r : ConvertError) → u ≡ ExprType.Refused r → TypeMeets tree text s sc e (ExprType.Refused r) s₂
+          pub right-stop : (r : ConvertError) → u ≡ ExprType.Refused r → TypeMeets tree text s sc turn e (ExprType.Refused r) s₂
           unfolding typeResult
           right-stop r v = record {
             frame = frame-trans (m .frame) (m₂ .frame);
             typed = IsTyped.no;
-            slots = both-slots;
+            adds = λ y z. absurd (refused-is r y z);
             meets =
                 with-left
                 ∙ bind-refused (typeIn tree text S (wordOf tree e B)) r
@@ -235,50 +253,116 @@ module _ (tree text : List ℕ) (good : Good tree text) where
                 (type-refused (typeIn tree text S (wordOf tree e B)) u r right-type v);
           }
 
-          pub right-next : (y : ℕ) → u ≡ ExprType.Is y → (d : ExprType)
-              → TypeIs tree d (binaryType (program tree text) (allKeys tree text) e (getD binaryOps (detailOf tree e) Or) (exprAt tree text a) l (exprAt tree text b) y)
-              → TypeMeets tree text s sc e d s₂
-          right-next y v d z = record {
+          pub right-next : (y : ℕ) → u ≡ ExprType.Is y → (sides : Sides) → sides ≡ record { left = a; «left_type» = l; right = b; «right_type» = y } → (d : ExprType)
+              → TypeIs tree d (binaryTypeAt tree text e sides)
+              → WorksOut tree text s sc turn e d s₂
+          right-next y v sides es d z = record {
             frame = frame-trans (m .frame) (m₂ .frame);
             typed = z .type;
-            slots = both-slots;
+            adds = λ i j. both-adds y v;
             meets =
                 with-left
                 ∙ bind-ok (typeIn tree text S (wordOf tree e B)) y
                 (binaryType (program tree text) (allKeys tree text) e (getD binaryOps (detailOf tree e) Or)
                 (exprAt tree text (wordOf tree e A)) l (exprAt tree text (wordOf tree e B)))
                 (type-ok (typeIn tree text S (wordOf tree e B)) u y right-type v)
-                ∙ rw (← ea, ← eb) (z .is);
+                ∙ rw (← ea, ← eb) (subst (λ (w : Sides). TypeIs tree d (binaryTypeAt tree text e w)) es z .is);
           }
 
       -- a call
-      pub call-value : k ≡ 11 → (c : Resolved) (s₁ : List ℕ) → CallMeets tree text s sc e c s₁ → (b : ExprType)
-          → TypeIs tree b (valueResult tree text e c) → TypeMeets tree text s sc e b s₁
+      pub call-value : k ≡ 11 → (c : Resolved) (s₁ : List ℕ) → CallMeets tree text s sc turn e c s₁ → (b : ExprType)
+          → TypeIs tree b (valueResult tree text e c) → WorksOut tree text s sc turn e b s₁
       unfolding valueResult
       call-value q c s₁ m b u = record {
         frame = m .frame;
         typed = u .type;
-        slots = m .slots;
+        adds = λ y v. callee-ok (calleeOf tree text c) (λ c. valueType e (return-type c)) y (type-ok (valueResult tree text e c) b y (u .is) v)
+            (λ d z. parts-as (argsExprs (argsAt tree text (wordOf tree e C))) (call-parts tree text good e x (kind-at 11 q)) s₁ (m .adds d z));
         meets =
-            type-call S e (expr-low e x) (kind-at 11 q) ∙ ap (λ (z : Result Callee). z >>= λ c. valueType e (return-type c)) (m .meets) ∙ u .is;
+            type-call S e (expr-low tree text good e x) (kind-at 11 q) ∙ ap (λ (z : Result Callee). z >>= λ c. valueType e (return-type c)) (m .meets) ∙ u .is;
       }
 
-  pub leaf-meets : (s : List ℕ) (sc : Scope) (e : ℕ) (a : ExprType)
-      → TypeIs tree a (typeIn tree text (scopeAt tree text s sc) e) → TypeMeets tree text s sc e a s
-  leaf-meets s sc e a h = record { frame = frame-refl tree s; slots = slots-refl tree text (scopeAt tree text s sc) s; typed = h .type; meets = h .is }
+      -- an expression without parts
+      pub leaf-meets : (count : ℕ) → Typing tree text s count sc turn → (k ≡ 9 → ⊥) → (k ≡ 10 → ⊥) → (k ≡ 11 → ⊥) → (a : ExprType)
+          → TypeIs tree a (typeIn tree text S e) → WorksOut tree text s sc turn e a s
+      leaf-meets count typing n₉ n₁₀ n₁₁ a h = record {
+        frame = frame-refl tree s;
+        typed = h .type;
+        adds = λ y v. parts-as [] (leaf-parts tree text good e x (leaf-kind n₉ n₁₀ n₁₁)) s (typed-none tree text S turn s (typing .remembers));
+        meets = h .is;
+      }
+
+  -- ---- a type that the turn remembers, or that is worked out in it
+
+  pub look-ready : (e : ℕ) → IsExpr tree e → (s : List ℕ) (count : ℕ) (sc : Scope) (turn : ℕ) → Typing tree text s count sc turn
+      → (e < records tree) × (72 * records tree ≤ length s)
+  look-ready e x s count sc turn typing = (expr-low tree text good e x, typing .ready .keyed .listed .room)
+
+  module _ (e : ℕ) (x : IsExpr tree e) (s : List ℕ) (count : ℕ) (sc : Scope) (turn : ℕ) (typing : Typing tree text s count sc turn) where
+    abbrev U : Def.Scope
+    U = scopeAt tree text s sc
+
+    pub type-known : (b : Bool) → b ≡ inTurn tree turn s e → b ≡ true → (y : ℕ) → y ≡ slotAt tree s e → TypeMeets tree text s sc turn e (ExprType.Is y) s
+    unfolding typeResult
+    type-known b eb q y ey =
+        let right = hit-right tree text U turn s (typing .remembers) e (expr-low tree text good e x) (sym eb ∙ q) in record {
+          frame = frame-refl tree s;
+          typed = IsTyped.is (subst (λ (z : ℕ). TypeAt tree z) (sym ey) (right .type));
+          meets = right .is ∙ ap (λ (z : ℕ). ok z) (sym ey);
+          adds = λ z v. hit-typed tree text U turn s (typing .remembers) e (expr-low tree text good e x) (sym eb ∙ q);
+        }
+
+    -- it is worked out where the turn has none, and kept
+    module _ (new : inTurn tree turn s e ≡ false) (a : ExprType) (s₁ : List ℕ) (m : WorksOut tree text s sc turn e a s₁) where
+      room : 72 * records tree ≤ length s₁
+      room = omega (arith, m .frame .same-length, typing .ready .keyed .listed .room)
+
+      pub keep-ready : Keepable tree e a s₁
+      keep-ready = record {
+        fits = λ y q. (
+          (expr-low tree text good e x, room, omega (arith, is-typed tree a y (m .typed) q .below, good .few)),
+          visit-fits tree text U turn good s s₁ e x room new (m .adds y q),
+        );
+      }
+
+      kept-type : turn < 4294967296 → (y : ℕ) → a ≡ ExprType.Is y → TypeMeets tree text s sc turn e (ExprType.Is y) (afterVisit tree turn e y s₁)
+      unfolding typeResult
+      kept-type fit y q = record {
+        frame = frame-trans (m .frame) (visited-frame tree s₁ turn e y (expr-low tree text good e x) room);
+        typed = IsTyped.is (is-typed tree a y (m .typed) q);
+        meets = m .meets ∙ ap typeResult q;
+        adds = λ z v. visit-typed tree text U turn good s s₁ e x room new (m .adds y q) y fit (type-ok (typeIn tree text U e) a y (m .meets) q)
+            (is-typed tree a y (m .typed) q);
+      }
+
+      kept-refusal : (r : ConvertError) → a ≡ ExprType.Refused r → TypeMeets tree text s sc turn e (ExprType.Refused r) s₁
+      unfolding typeResult
+      kept-refusal r q = record {
+        frame = m .frame;
+        typed = IsTyped.no;
+        meets = m .meets ∙ ap typeResult q;
+        adds = λ y v. absurd (refused-is r y v);
+      }
+
+      pub keep-meets : turn < 4294967296 → (b : ExprType) (s₂ : List ℕ) → Keeps tree turn e a s₁ b s₂ → TypeMeets tree text s sc turn e b s₂
+      keep-meets fit b s₂ k = go a refl
+        where
+          go : (z : ExprType) → a ≡ z → TypeMeets tree text s sc turn e b s₂
+          go (ExprType.Is y) q = rw (k .same, q, k .type y q) (kept-type fit y q)
+          go (ExprType.Refused r) q = rw (k .same, q, k .refused r q) (kept-refusal r q)
 
   -- ---- what a call runs
 
-  module _ (s : List ℕ) (sc : Scope) (r : ℕ) (a : Outcome) (s₁ : List ℕ) (m : ArgsMeet tree text s sc (wordOf tree r C) a s₁) where
+  module _ (s : List ℕ) (sc : Scope) (turn r : ℕ) (a : Outcome) (s₁ : List ℕ) (m : ArgsMeet tree text s sc turn (wordOf tree r C) a s₁) where
     abbrev T : Def.Scope
     T = scopeAt tree text s sc
 
-    pub call-stop : (x : ConvertError) → a ≡ Outcome.Refused x → CallMeets tree text s sc r (Resolved.Refused x) s₁
-    unfolding calleeOf doneWith resolve-call
+    pub call-stop : (x : ConvertError) → a ≡ Outcome.Refused x → CallMeets tree text s sc turn r (Resolved.Refused x) s₁
+    unfolding calleeOf doneWith resolve-call refusal
     call-stop x q = record {
       frame = m .frame;
       callee = IsCallee.no;
-      slots = m .slots;
+      adds = λ c v. absurd (err-ok (x .kind) (x .place) c v);
       meets =
           bind-refused (get-argument-types (program tree text) (allKeys tree text) (argsAt tree text (wordOf tree r C)) T) x
           (resolveTyped (program tree text) (allKeys tree text) (textOf tree text r A) r)
@@ -287,12 +371,12 @@ module _ (tree text : List ℕ) (good : Good tree text) where
 
     pub call-next : a ≡ Outcome.Done → (c : Resolved)
         → CalleeIs tree text c (resolveTyped (program tree text) (allKeys tree text) (textOf tree text r A) r (typedAt tree text s₁ (wordOf tree r C)))
-        → CallMeets tree text s sc r c s₁
+        → CallMeets tree text s sc turn r c s₁
     unfolding doneWith resolve-call typedAt
     call-next q c u = record {
       frame = m .frame;
       callee = u .callee;
-      slots = m .slots;
+      adds = λ d v. m .adds q;
       meets =
           bind-ok (get-argument-types (program tree text) (allKeys tree text) (argsAt tree text (wordOf tree r C)) T) (slotted tree s₁ (argsAt tree text (wordOf tree r C)))
           (resolveTyped (program tree text) (allKeys tree text) (textOf tree text r A) r)

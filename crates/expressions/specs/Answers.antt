@@ -1,14 +1,15 @@
 -- What each answer says, as the definitions say it: a result, or a refusal's kind and place. Assumes nothing: these are definitions.
 use mathlib.Core.Path.{_≡_}
-use Prim.Native.Nat.{ℕ, _<_}
+use Prim.Native.Nat.{ℕ, _+_, _*_, _≤_, _<_}
 use mathlib.Core.Bool.{Bool}
-use mathlib.Core.List.{List, [], _∷_}
+use mathlib.Core.List.{List, [], _∷_, _++_}
 use mathlib.Core.Option.{Option, none, some}
-use lib.ListN.{getD}
-use Rattle.records.specs.Words.{detailOf, wordOf, A, B, C}
+use lib.ListN.{length, getD}
+use Rattle.records.specs.Words.{detailOf, wordOf, records, A, B, C}
 use Rattle.records.specs.declared.convert_error.ConvertError.{ConvertError}
 use Rattle.syntax.specs.Syntax.{Value, ToType, Function, Neg, Or, unaryOps, binaryOps}
 use Rattle.syntax.specs.Decode.{program, textOf}
+use Rattle.syntax.specs.Exprs.{exprs, argsExprs, partsExprs}
 use Rattle.conversion.specs.ConvertError.{Result, ok, err, _>>=_}
 use Rattle.conversion.specs.Expressions as Defined
 use Rattle.conversion.specs.Expressions.{Callee, CallFunction, CallCast, return-type, valueType, get-argument-types, resolve-call, common-type, OperandClass, acceptsClass, unaryType, operandsError, binaryType}
@@ -34,7 +35,7 @@ use Rattle.expressions.specs.declared.arguments.Argument.{Argument}
 use Rattle.expressions.specs.declared.arguments.Argument.the-variants as Argument
 use Rattle.syntax.specs.Places.{IsExpr, TypeAt, FunctionAt, functionOf, exprAt, argsAt}
 use Rattle.keys.specs.Keys.{allKeys}
-use Rattle.expressions.specs.Slots.{slotted, ArgsTyped, Frame, Slots, typeIn}
+use Rattle.expressions.specs.Slots.{visitsAt, afterVisit, slotted, ArgsTyped, Frame, Typed, typeIn}
 
 -- a refusal
 unfoldable pub refusal : {A : Type 0} → ConvertError → Result A
@@ -189,34 +190,52 @@ module _ (tree text : List ℕ) where
   abbrev pub Accepts : ℕ → ℕ → Bool → Type 0
   Accepts class y r = (c : OperandClass) → class ≡ classNumber c → r ≡ acceptsClass (program tree text) (allKeys tree text) c y
 
--- ---- what typing owes, of the answer and of the scratch before and after
+-- ---- what typing owes, of the answer and of the scratch before and after, in the scope that the open names stand for. Where nothing is refused it says
+-- which expressions were typed
 
--- `get_type` of the expression at record e, in the scope that the open names stand for
-pub record TypeMeets (tree text s : List ℕ) (sc : Scope) (e : ℕ) (a : ExprType) (s′ : List ℕ) : Type 0 where
+-- the type of the expression at record e, worked out from its parts, before it is kept
+pub record WorksOut (tree text s : List ℕ) (sc : Scope) (turn e : ℕ) (a : ExprType) (s′ : List ℕ) : Type 0 where
   pub frame : Frame tree s s′
-  pub slots : Slots tree text (scopeAt tree text s sc) s s′
   pub typed : IsTyped tree a
   pub meets : typeIn tree text (scopeAt tree text s sc) e ≡ typeResult a
+  pub adds : (y : ℕ) → a ≡ ExprType.Is y → Typed tree text (scopeAt tree text s sc) turn s (partsExprs (exprAt tree text e)) s′
+
+-- what that came to can be kept, and is: a type by a visit, and a refusal leaves the scratch as it was
+pub record Keepable (tree : List ℕ) (e : ℕ) (a : ExprType) (s : List ℕ) : Type 0 where
+  pub fits : (y : ℕ) → a ≡ ExprType.Is y
+      → ((e < records tree) × (72 * records tree ≤ length s) × (y < 4294967296)) × (visitsAt tree s + 1 < 4294967296)
+
+pub record Keeps (tree : List ℕ) (turn e : ℕ) (a : ExprType) (s : List ℕ) (r : ExprType) (s′ : List ℕ) : Type 0 where
+  pub same : r ≡ a
+  pub type : (y : ℕ) → a ≡ ExprType.Is y → s′ ≡ afterVisit tree turn e y s
+  pub refused : (x : ConvertError) → a ≡ ExprType.Refused x → s′ ≡ s
+
+-- `get_type` of the expression at record e
+pub record TypeMeets (tree text s : List ℕ) (sc : Scope) (turn e : ℕ) (a : ExprType) (s′ : List ℕ) : Type 0 where
+  pub frame : Frame tree s s′
+  pub typed : IsTyped tree a
+  pub meets : typeIn tree text (scopeAt tree text s sc) e ≡ typeResult a
+  pub adds : (y : ℕ) → a ≡ ExprType.Is y → Typed tree text (scopeAt tree text s sc) turn s (exprs (exprAt tree text e)) s′
 
 -- `get_argument_types` of the arguments that word w opens: their types stand in the slots
-pub record ArgsMeet (tree text s : List ℕ) (sc : Scope) (w : ℕ) (a : Outcome) (s′ : List ℕ) : Type 0 where
+pub record ArgsMeet (tree text s : List ℕ) (sc : Scope) (turn w : ℕ) (a : Outcome) (s′ : List ℕ) : Type 0 where
   pub frame : Frame tree s s′
-  pub slots : Slots tree text (scopeAt tree text s sc) s s′
   pub typed : a ≡ Outcome.Done → ArgsTyped tree s′ (argsAt tree text w)
   pub meets : get-argument-types (program tree text) (allKeys tree text) (argsAt tree text w) (scopeAt tree text s sc)
       ≡ doneWith (slotted tree s′ (argsAt tree text w)) a
+  pub adds : a ≡ Outcome.Done → Typed tree text (scopeAt tree text s sc) turn s (argsExprs (argsAt tree text w)) s′
 
 -- `resolve_call` of the call at record r
-pub record CallMeets (tree text s : List ℕ) (sc : Scope) (r : ℕ) (a : Resolved) (s′ : List ℕ) : Type 0 where
+pub record CallMeets (tree text s : List ℕ) (sc : Scope) (turn r : ℕ) (a : Resolved) (s′ : List ℕ) : Type 0 where
   pub frame : Frame tree s s′
-  pub slots : Slots tree text (scopeAt tree text s sc) s s′
   pub callee : IsCallee tree a
   pub meets : resolve-call (program tree text) (allKeys tree text) (textOf tree text r A) (argsAt tree text (wordOf tree r C)) (scopeAt tree text s sc) r
       ≡ calleeOf tree text a
+  pub adds : (c : Callee) → calleeOf tree text a ≡ ok c → Typed tree text (scopeAt tree text s sc) turn s (argsExprs (argsAt tree text (wordOf tree r C))) s′
 
 -- `common_type` of the expressions at records l and r
-pub record CommonMeets (tree text s : List ℕ) (sc : Scope) (l r : ℕ) (a : Common) (s′ : List ℕ) : Type 0 where
+pub record CommonMeets (tree text s : List ℕ) (sc : Scope) (turn l r : ℕ) (a : Common) (s′ : List ℕ) : Type 0 where
   pub frame : Frame tree s s′
-  pub slots : Slots tree text (scopeAt tree text s sc) s s′
   pub common : IsCommon tree a
   pub meets : common-type (program tree text) (allKeys tree text) (exprAt tree text l) (exprAt tree text r) (scopeAt tree text s sc) ≡ commonResult a
+  pub adds : (o : Option ℕ) → commonResult a ≡ ok o → Typed tree text (scopeAt tree text s sc) turn s (exprs (exprAt tree text l) ++ exprs (exprAt tree text r)) s′

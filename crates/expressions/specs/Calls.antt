@@ -60,7 +60,7 @@ module _ (tree text s : List ℕ) where
   -- a good tree, and arguments from cell w on whose slots have types
   pub record Argued (w : ℕ) : Type 0 where
     pub good : Good tree text
-    pub room : 64 * records tree ≤ length s
+    pub room : 72 * records tree ≤ length s
     pub cells : ArgsAt tree w
     pub typed : ArgsTyped tree s (argsAt tree text w)
 

@@ -1,21 +1,28 @@
--- The types of arguments in scratch, each at its expression's slot; the scope; and what typing leaves of the scratch.
+-- The types of expressions in scratch, each at its slot, with the turn in which it was worked out; the scope; and what typing leaves of the scratch.
 -- Assumes nothing: these are definitions.
 use mathlib.Core.Path.{_≡_}
 use mathlib.Core.Logic.{_⊎_}
 use Prim.Native.Nat.{ℕ, _+_, _*_, _/_, _≤_, _<_}
-use mathlib.Core.Bool.{true}
+use mathlib.Core.Bool.{Bool, true, _||_}
 use mathlib.Core.List.{List, [], _∷_}
 use mathlib.Core.Option.{none, some}
+use lib.Dec.{eqb}
 use lib.ListN.{length}
+use Rattle.laws.specs.Fix.{pick}
+use Rattle.laws.specs.Below.{sumBelow}
+use Rattle.laws.specs.Splice.{splice}
+use Rattle.laws.specs.Different.{has}
 use Rattle.records.specs.Words.{byteAt, wordAt, wordOf, records, A, B}
 use Rattle.records.specs.Good.{Good}
 use Rattle.syntax.specs.Syntax.{Args, noArgs, Value, ToType, place}
 use Rattle.syntax.specs.Decode.{program}
+use Rattle.syntax.specs.Exprs.{exprs}
 use Rattle.conversion.specs.ConvertError.{Result, ok}
 use Rattle.conversion.specs.Scope as Def
 use Rattle.conversion.specs.Expressions.{TypedArg, get-type}
+use Rattle.conversion.specs.Written.{word}
 use Rattle.scope.specs.declared.Scope.{Scope}
-use Rattle.scope.specs.Open.{NamesRoom}
+use Rattle.scope.specs.Open.{NamesRoom, scopeAt}
 use Rattle.syntax.specs.Places.{IsExpr, TypeAt, exprAt}
 use Rattle.texts.specs.Texts.{hasOwn, originalAt, Numbered}
 use Rattle.keys.specs.Keys.{allKeys, Keyed}
@@ -26,10 +33,34 @@ FirstType [] y = ⊥
 FirstType (a ∷ l) y = a .ty ≡ y
 
 module _ (tree : List ℕ) where
-  -- 'the types of expressions that stand as arguments: a word at the slot of the expression's record', from byte 4n on
+  -- 'the types of expressions: a word at the slot of the expression's record', from byte 4n on
   unfoldable pub slotAt : List ℕ → ℕ → ℕ
   unfolding wordAt
   slotAt s e = wordAt s (4 * records tree + 4 * e)
+
+  -- 'the turn in which its type was worked out: a word at the slot of its record', from byte 64n on; 'how many visits were made', at byte 68n
+  unfoldable pub turnAt : List ℕ → ℕ → ℕ
+  unfolding wordAt
+  turnAt s e = wordAt s (64 * records tree + 4 * e)
+
+  unfoldable pub visitsAt : List ℕ → ℕ
+  unfolding wordAt
+  visitsAt s = wordAt s (68 * records tree)
+
+  -- the type of record e was worked out in this turn; how many were
+  unfoldable pub inTurn : ℕ → List ℕ → ℕ → Bool
+  unfolding turnAt
+  inTurn turn s e = eqb (turnAt s e) turn
+
+  unfoldable pub made : ℕ → List ℕ → ℕ
+  unfolding inTurn sumBelow pick
+  made turn s = sumBelow (records tree) (λ e. pick (inTurn turn s e) 1 0)
+
+  -- a visit: the type y of record e is worked out in this turn
+  unfoldable pub afterVisit : ℕ → ℕ → ℕ → List ℕ → List ℕ
+  unfolding visitsAt splice word
+  afterVisit turn e y s =
+      splice (splice (splice s (4 * records tree + 4 * e) (word y)) (64 * records tree + 4 * e) (word turn)) (68 * records tree) (word (visitsAt s + 1))
 
   -- the arguments with the types that the slots have
   unfoldable pub slotted : List ℕ → Args → List TypedArg
@@ -64,10 +95,17 @@ module _ (tree : List ℕ) where
     pub types : (j : ℕ) → j < sc .names → TypeAt tree (wordAt s (8 * records tree + 16 * j + 12) / 2)
     pub named : (j : ℕ) → j < sc .names → Original s (8 * records tree + 16 * j)
 
-  -- only the region of the slots, from byte 4n to byte 8n, may differ
+  -- below byte 64n only the region of the slots, from byte 4n to byte 8n, may differ
   pub record Frame (s s′ : List ℕ) : Type 0 where
     pub same-length : length s′ ≡ length s
-    pub outside : (i : ℕ) → (i < 4 * records tree) ⊎ (8 * records tree ≤ i) → byteAt s′ i ≡ byteAt s i
+    pub outside : (i : ℕ) → (i < 4 * records tree) ⊎ ((8 * records tree ≤ i) × (i < 64 * records tree)) → byteAt s′ i ≡ byteAt s i
+
+  -- no type was worked out in any turn but 0, and no visit made (a tree without records has no word for them); all below byte 64n is as it was
+  pub record Forgets (s s′ : List ℕ) : Type 0 where
+    pub same-length : length s′ ≡ length s
+    pub below : (i : ℕ) → i < 64 * records tree → byteAt s′ i ≡ byteAt s i
+    pub turns : (e : ℕ) → e < records tree → turnAt s′ e ≡ 0
+    pub none-made : 0 < records tree → visitsAt s′ ≡ 0
 
   module _ (text : List ℕ) where
     -- the type of the expression at record e
@@ -75,11 +113,25 @@ module _ (tree : List ℕ) where
     unfolding get-type exprAt program allKeys
     typeIn S e = get-type (program tree text) (allKeys tree text) (exprAt tree text e) S
 
-    -- a slot is as it was, or its record is an expression and it has that expression's type
-    unfoldable pub Slots : Def.Scope → List ℕ → List ℕ → Type 0
-    unfolding slotAt typeIn
-    Slots S s s′ = (e : ℕ) → e < records tree
-        → (slotAt s′ e ≡ slotAt s e) ⊎ (IsExpr tree e × (typeIn S e ≡ ok (slotAt s′ e)) × TypeAt tree (slotAt s′ e))
+    -- the type of the expression at record e, in this scope, stands at its slot
+    pub record RightAt (S : Def.Scope) (s : List ℕ) (e : ℕ) : Type 0 where
+      pub expression : IsExpr tree e
+      pub is : typeIn S e ≡ ok (slotAt s e)
+      pub type : TypeAt tree (slotAt s e)
+
+    -- what was worked out in this turn, in this scope: it is right, and so is all below it; no later turn has begun, and visits can be counted on
+    pub record Remembers (S : Def.Scope) (turn : ℕ) (s : List ℕ) : Type 0 where
+      pub right : (e : ℕ) → e < records tree → turnAt s e ≡ turn → RightAt S s e
+      pub below : (e : ℕ) → e < records tree → turnAt s e ≡ turn
+          → (r : ℕ) → r < records tree → has r (exprs (exprAt tree text e)) ≡ true → turnAt s r ≡ turn
+      pub latest : (e : ℕ) → e < records tree → turnAt s e ≤ turn
+      pub countable : visitsAt s + records tree < 4294967296 + made turn s
+
+    -- the records of the list l were typed, each once unless it had been in this turn before
+    pub record Typed (S : Def.Scope) (turn : ℕ) (s : List ℕ) (l : List ℕ) (s′ : List ℕ) : Type 0 where
+      pub remembers : Remembers S turn s′
+      pub adds : (r : ℕ) → r < records tree → inTurn turn s′ r ≡ (inTurn turn s r || has r l)
+      pub counts : visitsAt s′ + made turn s ≡ visitsAt s + made turn s′
 
 -- the text of record r is a name that can be looked for: the texts have their numbers, and the scope is the tree's
 pub record Asked (tree text s : List ℕ) (sc : Scope) (r : ℕ) : Type 0 where
@@ -93,3 +145,8 @@ pub record Asked (tree text s : List ℕ) (sc : Scope) (r : ℕ) : Type 0 where
 pub record Ready (tree text s : List ℕ) (count : ℕ) (sc : Scope) : Type 0 where
   pub keyed : Keyed tree text s count
   pub scoped : Scoped tree s sc
+
+-- the same, in a turn that remembers what it worked out
+pub record Typing (tree text s : List ℕ) (count : ℕ) (sc : Scope) (turn : ℕ) : Type 0 where
+  pub ready : Ready tree text s count sc
+  pub remembers : Remembers tree text (scopeAt tree text s sc) turn s

@@ -15,8 +15,8 @@ ghost use Rattle.expressions.specs.Slots.{slotAt, FirstType};
 ghost use Rattle.expressions.specs.Answers.{ArgumentIs, foundNumber, TypeFound};
 use keys::parts::Part;
 use keys::parts::text_part;
-use records::layout::ARGUMENT_TYPE_BYTES;
-use records::layout::ARGUMENT_TYPES;
+use records::layout::TYPE_SLOT_BYTES;
+use records::layout::TYPE_SLOTS;
 use records::numbers::KIND_VALUE;
 use records::words::Found;
 use records::words::WORD_A;
@@ -70,11 +70,11 @@ pub fn next_cell(tree: &[u8], text: &[u8], cell: usize) -> usize
 
 // The type at an expression's slot.
 pub(crate) fn slot(tree: &[u8], scratch: &[u8], e: usize) -> usize
-    requires { ⌜ (e < records (now tree)) × (64 * records (now tree) ≤ length (now scratch)) ⌝ }
+    requires { ⌜ (e < records (now tree)) × (72 * records (now tree) ≤ length (now scratch)) ⌝ }
     ensures { λ y. ⌜ y ≡ slotAt (now (tree .entry)) (now (scratch .entry)) e ⌝ }
 {
     let n = tree.len() / 32;
-    load(scratch, ARGUMENT_TYPES * n + ARGUMENT_TYPE_BYTES * e) as usize
+    load(scratch, TYPE_SLOTS * n + TYPE_SLOT_BYTES * e) as usize
 }
 
 // The type of the argument in a cell.

@@ -132,7 +132,7 @@ fn resolve_function(
 
 // The call of record r, for its typed arguments.
 fn call_of(tree: &[u8], text: &[u8], scratch: &[u8], r: usize) -> Call
-    requires { ⌜ Good (now tree) (now text) × Numbered (now tree) (now text) (now scratch) × (64 * records (now tree) ≤ length (now scratch)) ⌝ }
+    requires { ⌜ Good (now tree) (now text) × Numbered (now tree) (now text) (now scratch) × (72 * records (now tree) ≤ length (now scratch)) ⌝ }
     requires { ⌜ IsKind (now tree) kindCall r ⌝ }
     ensures { λ c. ⌜ CallAt (now (tree .entry)) (now (text .entry)) r c ⌝ }
 {

@@ -7,3 +7,4 @@ mod exact;
 pub mod expressions;
 mod operands;
 mod takes;
+pub mod turns;

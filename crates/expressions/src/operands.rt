@@ -124,6 +124,17 @@ pub struct Sides {
     pub right_type: usize,
 }
 
+pub(crate) fn both_sides(left: usize, left_type: usize, right: usize, right_type: usize) -> Sides
+    ensures { λ s. ⌜ s ≡ record { left = left; «left_type» = «left_type»; right = right; «right_type» = «right_type» } ⌝ }
+{
+    Sides {
+        left,
+        left_type,
+        right,
+        right_type,
+    }
+}
+
 // The type that both take: a literal takes the type of the other side.
 pub(crate) fn common_of(tree: &[u8], text: &[u8], s: Sides) -> Found
     requires { ⌜ Good (now tree) (now text) ⌝ }

@@ -28,6 +28,7 @@ use Rattle.conversion.specs.Types.{someAnd, isSome}
 use Rattle.conversion.specs.Scope as Def
 use Rattle.conversion.specs.Scope.{find-variable, withVariable}
 use Rattle.conversion.specs.Statements.{convert-block}
+use Rattle.conversion.specs.Visits.{blockVisits, bodyVisits}
 use Rattle.conversion.specs.Functions.{Pool, always-returns, convertBody, finished, convertFunction, convert-func}
 use Rattle.conversion.proofs.MonadLaws.{regroup, seq-is, pure-first}
 use Rattle.ir.specs.declared.structs.Counters.{Counters}
@@ -46,15 +47,18 @@ use Rattle.statements.specs.declared.answers.Finished.{Finished}
 use Rattle.statements.specs.declared.answers.Finished.the-variants as Finished
 use Rattle.statements.specs.Converting.{Converting, RoomFor, blockAmount, BlockAfforded, Stays, StaysFor}
 use Rattle.statements.specs.Meets.{Adds}
+use Rattle.statements.specs.Turns.{Turns, Visited, TurnsStay, BlockVisited}
 use Rattle.statements.specs.Answers.{blockSteps, BlockAs}
 use Rattle.statements.proofs.MeetLaws.{adds-then, adds-pure, adds-most}
 use Rattle.statements.proofs.EmitLaws.{var-adds}
 use Rattle.statements.proofs.StayLaws.{stays-refl, stays-then}
 use Rattle.statements.proofs.StatedLaws.{finished-next, finished-stop}
+use Rattle.statements.proofs.TurnLaws.{turns-refl, turns-stay, turns-later, visits-stay, visited-stay, visited-later}
 use Rattle.functions.specs.declared.parameters.Parameters.{Parameters}
 use Rattle.functions.specs.declared.parameters.Parameters.the-variants as Parameters
 use Rattle.functions.specs.Parameters.{parameterOf, withParams, emptyIn, ParametersMeet}
-use Rattle.functions.specs.Bodies.{newVars, begun, FunctionsAfforded, FunctionSpent, FunctionStands, FunctionDone, ConvertsFunction, bodySteps, BodyStands, BodyDone, ConvertsBody, BodyAs}
+use Rattle.functions.proofs.Members.{function-at-most}
+use Rattle.functions.specs.Bodies.{newVars, begun, FunctionsAfforded, FunctionSpent, FunctionStands, FunctionDone, ConvertsFunction, bodySteps, BodyStands, BodyDone, ConvertsBody, BodyAs, FunctionVisited}
 use Rattle.functions.proofs.ParameterRun.{withTypes, run-made, run-failed}
 use Rattle.functions.proofs.ParameterRegion.{NamesOnly, names-only}
 
@@ -277,15 +281,27 @@ module _ {tree text l l₁ s s₁ : List ℕ} {c : Converter} (f : ℕ) {w : ℕ
           floats = z .floats;
         }
 
+-- an entry leaves the instructions' count
+closed-instructions : {b : Bool} {f : ℕ} {k k′ z : Counters} {l l′ : List ℕ} → Closes f b k l k′ l′ → Finished.Done k′ ≡ Finished.Done z → k .instructions ≤ z .instructions
+closed-instructions {k′ = k′} {z = z} p e = let d : k′ ≡ z = cc in omega (arith, ap (λ (x : Counters). x .instructions) (sym d ∙ p .counts))
+
+-- the visits of a body are its block's
+pub body-visited : (tree text : List ℕ) {s s₁ l₁ l₂ : List ℕ} (f : ℕ) {w : ℕ} {a : Finished} {k k′ : Counters} → w ≡ wordOf tree f E → BlockVisited w tree text s a s₁
+    → a ≡ Finished.Done k → Closes f true k l₁ k′ l₂ → BlockVisited (wordOf tree f E) tree text s (Finished.Done k′) s₁
+body-visited tree text {s} {s₁} f {k = k} ew v q p =
+    λ z e.
+    visited-later k z (closed-instructions p e)
+    (subst (λ (x : ℕ). Visited tree s (blockVisits (records tree) (blockAt tree text x)) k s₁) ew (v k q))
+
 -- ---- the parameters' names
 
 names-stay : {tree s s′ : List ℕ} → NamesOnly tree s s′ → Stays (records tree) 0 0 s s′
 names-stay n = record {
   long = n .same-length;
   listed = λ i h. n .outside i (inl (omega arith));
-  open-names = λ i a b. absurd (omega arith);
-  stack = λ i a b. absurd (omega arith);
-  behind = λ i h. n .outside i (inr (omega arith));
+  open-names = λ i a b d. absurd (omega arith);
+  stack = λ i a b d. absurd (omega arith);
+  behind = λ i h j. n .outside i (inr (omega arith));
 }
 
 -- as many names as parameters
@@ -407,6 +423,14 @@ function-stands text before p ps g f k l (made u c s) e h =
     subst (λ (r : ℕ). Holds text (begun (before ++ (record { func = r; body = some c; vars = s .vars; labels = s .labels } ∷ [])) (record { strings = s .strings; floats = s .floats })) k l) (sym e) h
 function-stands text before p ps g f k l (failed x r) e h = h
 
+-- visits that are those of the body are at most the function's expression records
+pub counted : {tree text s s′ : List ℕ} {f : ℕ} {a : Finished} → Good tree text → FunctionAt tree f
+    → ((k : Counters) → a ≡ Finished.Done k → Visited tree s (bodyVisits (records tree) (functionOf tree text f .body)) k s′) → FunctionVisited f tree text s a s′
+counted {tree} {text} {f = f} good at v = record {
+  visited = v;
+  at-most = λ k e. omega (arith, v k e .visits, function-at-most tree text good f at);
+}
+
 module _ {tree text l s : List ℕ} {functions f : ℕ} {k : Counters} (keyed : Keyed tree text s functions) (at : FunctionAt tree f) (room : Room k l)
     (are : k .records ≡ records tree) (h : FunctionsAfforded k (functionRecords (functionOf tree text f))) where
   pub function-room : Room k l × (k .functions < k .records)
@@ -427,6 +451,16 @@ module _ {tree text l s : List ℕ} {functions f : ℕ} {k : Counters} (keyed : 
             (sym (function-rec tree text (keyed .good) f at)) (p .stands text (begun before pool) held (λ e. refl)));
       })
 
+  -- which makes no visit
+  pub bare-visited : {b : Bool} {k′ : Counters} {l′ : List ℕ} → Turns tree s k → b ≡ isSome (functionOf tree text f .body) → not b ≡ true → Closes f false k l k′ l′
+      → FunctionVisited f tree text s (Finished.Done k′) s
+  unfolding bodyVisits
+  bare-visited turns eb q p =
+      counted (keyed .good) at
+      (λ z e.
+      subst (λ (o : Option Block). Visited tree s (bodyVisits (records tree) o) z s) (sym (body-missing (keyed .good) at eb q))
+      (visited-later k z (closed-instructions p e) (visited-stay (turns-refl tree s) turns)))
+
   pub vars-room : RoomFor k l (amount 0 (length (functionOf tree text f .params)) 0 0 0)
   unfolding functionRecords
   vars-room = record { room = room; affords = omega (arith, h .tables, room) }
@@ -444,17 +478,26 @@ module _ {tree text l s : List ℕ} {functions f : ℕ} {k : Counters} (keyed : 
         function-stops refl (names-stay (names-only tree text functions f s s₁ keyed at a p))
         (λ before pool held. refused-run tree text f pool the-body (not-declared tree text functions f s s₁ p d))
 
+    -- the visits are those of its body, which begins where nothing was typed yet
+    pub function-visited : {s₂ : List ℕ} {z : Finished} → TurnsStay tree s s₁ → BlockVisited (wordOf tree f E) tree text s₁ z s₂ → FunctionVisited f tree text s z s₂
+    unfolding bodyVisits
+    function-visited {s₂} same v =
+        counted (keyed .good) at
+        (λ k′ e.
+        subst (λ (o : Option Block). Visited tree s (bodyVisits (records tree) o) k′ s₂) (sym the-body)
+        (record { turns = v k′ e .turns; visits = omega (arith, visits-stay same, v k′ e .visits) }))
+
     module _ {sc : Scope} (d : a ≡ Parameters.Done sc) {k₁ : Counters} {l₁ : List ℕ} (v : VarsAdd (functionOf tree text f .params) k l k₁ l₁) where
       abbrev inner : Converter
-      inner = record { functions = functions; scope = sc; counters = k₁; operands = 0 }
+      inner = record { functions = functions; scope = sc; counters = k₁; operands = 0; turn = 0 }
 
       is-declared : Declared tree text functions f s s₁ sc
       is-declared = declared tree text functions f s s₁ p d
 
       -- what the body needs
-      pub body-needs : (Converting tree text l₁ s₁ inner × BlockAfforded tree text inner (wordOf tree f E))
-          × (FunctionAt tree f × (k₁ .functions < k₁ .records))
-      body-needs = (
+      pub body-needs : TurnsStay tree s s₁ → Turns tree s k → (Converting tree text l₁ s₁ inner × BlockAfforded tree text inner (wordOf tree f E))
+          × ((FunctionAt tree f × (k₁ .functions < k₁ .records)) × Turns tree s₁ k₁)
+      body-needs same turns = (
         (
           record { ready = is-declared .ready; function = rw (is-declared .function) at; records-are = v .spent .records ∙ are; room = v .next .room },
           record {
@@ -463,7 +506,7 @@ module _ {tree text l s : List ℕ} {functions f : ℕ} {k : Counters} (keyed : 
             names = omega (arith, h .functions, record-count, are, is-declared .names);
           },
         ),
-        (at, omega (arith, h .functions, record-count, v .spent .functions, v .spent .records)),
+        ((at, omega (arith, h .functions, record-count, v .spent .functions, v .spent .records)), turns-later k k₁ (v .spent .instructions-stay) (turns-stay same turns)),
       )
 
       -- from any tables at a function's beginning

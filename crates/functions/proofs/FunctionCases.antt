@@ -230,7 +230,7 @@ module _ (tree s s′ : List ℕ) (long : length s′ ≡ length s) (same : (i :
         numbered-stays tree text s s′ (λ r h. word-before (originalAt (records tree) r) (omega arith)) (λ r h. word-behind (textDigestAt (records tree) r) (omega arith))
 
 -- the functions are listed, and no slot is taken
-module _ (tree text s₀ : List ℕ) (count : ℕ) (good : Good tree text) (room : 64 * records tree ≤ length s₀) (s₁ s : List ℕ)
+module _ (tree text s₀ : List ℕ) (count : ℕ) (good : Good tree text) (room : 72 * records tree ≤ length s₀) (s₁ s : List ℕ)
     (made : (s₁ ≡ listedIn tree s₀) × (count ≡ length (functionPlaces tree))) (c : Cleared (44 * records tree) (48 * records tree) s₁ s) where
   pub start-keeps : ListKeeps tree s₀ s
   start-keeps =

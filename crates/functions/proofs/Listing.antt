@@ -101,7 +101,7 @@ module _ (tree s₀ : List ℕ) where
       listed = w .listed ∙ ap (λ (l : List ℕ). splice s₀ 0 (words l)) (sym (none-more tree r e));
     }
 
-    module _ (room : 64 * records tree ≤ length s₀) (s′ : List ℕ) (put : s′ ≡ splice s (4 * count) (word r)) where
+    module _ (room : 72 * records tree ≤ length s₀) (s′ : List ℕ) (put : s′ ≡ splice s (4 * count) (word r)) where
       length-now : length (words (recordsBelow tree r)) ≡ 4 * count
       length-now = words-length (recordsBelow tree r) ∙ omega (arith, w .counted)
 
@@ -134,7 +134,7 @@ module _ (tree s₀ : List ℕ) where
 
 -- ---- what stands in scratch afterwards
 
-module _ (tree text s : List ℕ) (good : Good tree text) (room : 64 * records tree ≤ length s) where
+module _ (tree text s : List ℕ) (good : Good tree text) (room : 72 * records tree ≤ length s) where
   inside-scratch : 0 + length (words (functionPlaces tree)) ≤ length s
   inside-scratch = omega (arith, words-length (functionPlaces tree), records-most tree (records tree))
 

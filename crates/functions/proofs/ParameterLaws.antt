@@ -41,7 +41,9 @@ use Rattle.keys.specs.Keys.{Keyed}
 use Rattle.expressions.specs.Slots.{originalWord, Original, Asked, Ready}
 use Rattle.expressions.proofs.OriginalLaws.{origin-text, kind-asked}
 use Rattle.statements.specs.Converting.{Stays}
+use Rattle.statements.specs.Turns.{TurnsStay}
 use Rattle.statements.proofs.StayLaws.{name-stays, original-word, ready-stays}
+use Rattle.statements.proofs.TurnLaws.{turns-refl, turns-entry}
 use Rattle.expressions.specs.Answers.{refusal}
 use Rattle.functions.specs.Parameters.{parameterOf, withParams, emptyIn, untilTaken, parameterEntry, entries, OneMore, ParametersMeet}
 use Rattle.syntax.proofs.Lists.{left, left-some, cell-is, next-list, next-falls, left-most, params-end, parameter-item, parameter-type}
@@ -67,6 +69,14 @@ module _ (tree s : List ℕ) where
   entries-more (q ∷ l) p k m e =
       ap (λ (x : List ℕ). parameterEntry tree s q k ++ x) (entries-more l p (suc k) m (omega (arith, e)))
       ∙ sym (append-assoc (parameterEntry tree s q k) (entries tree s l (suc k)) (parameterEntry tree s p m))
+
+-- one parameter types nothing: its entry is among the names, or there is none
+pub one-more-turns : {tree text s s′ : List ℕ} {functions : ℕ} {sc : Scope} {p : Param} {a : Answered} → 72 * records tree ≤ length s → sc .names < records tree
+    → OneMore tree text functions sc p s s′ a → TurnsStay tree s s′
+one-more-turns {tree} {s = s} {s′ = s′} {sc = sc} {p = p} room few (OneMore.done r is free adds wrote) =
+    turns-entry tree s s′ (parameterEntry tree s p (sc .names)) (8 * records tree + 16 * sc .names) wrote (param-long tree s p (sc .names)) (omega arith) (omega (arith, few))
+    (omega (arith, few, room))
+one-more-turns {tree} {s = s} room few (OneMore.refused e is same) = subst (TurnsStay tree s) (sym same) (turns-refl tree s)
 
 splice-none : (l : List ℕ) (i : ℕ) → splice l i [] ≡ l
 unfolding splice

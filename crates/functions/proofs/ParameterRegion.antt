@@ -26,6 +26,7 @@ use Rattle.functions.specs.Parameters.{parameterOf, emptyIn, untilTaken,
 use Rattle.records.proofs.Apart.{byte-apart}
 use Rattle.syntax.proofs.Lists.{left, cell-is, next-list, next-falls, left-most, params-end, parameter-item}
 use Rattle.syntax.proofs.Records.{function-params, params-are}
+use Rattle.statements.specs.Turns.{TurnsStay}
 use Rattle.functions.proofs.ParameterLaws.{entries-long}
 
 -- only the region of the open names may differ
@@ -66,7 +67,7 @@ module _ (tree text : List ℕ) (good : Good tree text) where
       (cells-most (records tree) (wordOf tree f C) (left-most tree text good Parameters (wordOf tree f C) (params-are tree text good f at))
       (params-are tree text good f at))
 
-module _ (tree s : List ℕ) (room : 64 * records tree ≤ length s) (l : List Param) (few : length l ≤ records tree) where
+module _ (tree s : List ℕ) (room : 72 * records tree ≤ length s) (l : List Param) (few : length l ≤ records tree) where
   entries-in : (s′ : List ℕ) → s′ ≡ splice s (8 * records tree) (entries tree s l 0) → NamesOnly tree s s′
   unfolding byteAt
   entries-in s′ e = record {
@@ -88,3 +89,7 @@ module _ (tree text : List ℕ) (functions f : ℕ) (s s′ : List ℕ) (keyed :
   names-only _ (ParametersMeet.refused asked bytes) =
       entries-in tree s (keyed .listed .room) (untilTaken (functionOf tree text f .params) 0 (emptyIn tree text f))
       (omega (arith, taken-most (functionOf tree text f .params) 0 (emptyIn tree text f), params-most tree text (keyed .good) f at)) s′ bytes
+
+  -- so nothing was typed
+  pub parameters-turns : {r : Answered} → ParametersMeet tree text functions f s s′ r → TurnsStay tree s s′
+  parameters-turns {r} p = let n = names-only r p in record { slots = λ i a b. n .outside i (inl b); behind = λ i h. n .outside i (inr (omega arith)) }

@@ -15,7 +15,8 @@ ghost use Rattle.ir.specs.Arena.{Room};
 ghost use Rattle.keys.specs.Keys.{Keyed};
 ghost use Rattle.statements.specs.Converting.{Converting, RoomFor, BlockAfforded};
 ghost use Rattle.statements.specs.Meets.{Adds};
-ghost use Rattle.functions.specs.Bodies.{newVars, FunctionsAfforded, BodyAs, ConvertsFunction};
+ghost use Rattle.statements.specs.Turns.{Turns, BlockVisited};
+ghost use Rattle.functions.specs.Bodies.{newVars, FunctionsAfforded, BodyAs, ConvertsFunction, FunctionVisited};
 use crate::parameters::Parameters;
 use crate::parameters::declare_parameters;
 use crate::returns::always_returns;
@@ -95,7 +96,9 @@ fn convert_body(
 ) -> Finished
     requires { ⌜ Converting (now tree) (now text) (now arena) (now scratch) c × BlockAfforded (now tree) (now text) c (wordOf (now tree) f Words.E) ⌝ }
     requires { ⌜ FunctionAt (now tree) f × (c .counters .functions < c .counters .records) ⌝ }
+    requires { ⌜ Turns (now tree) (now scratch) (c .counters) ⌝ }
     ensures { λ a. ⌜ BodyAs c f (now (tree .entry)) (now (text .entry)) (now (arena .entry)) (now (scratch .entry)) a (now (arena .exit)) (now (scratch .exit)) ⌝ }
+    ensures visits { λ a. ⌜ BlockVisited (wordOf (now (tree .entry)) f Words.E) (now (tree .entry)) (now (text .entry)) (now (scratch .entry)) a (now (scratch .exit)) ⌝ }
 {
     let body = reference(tree, f, WORD_E);
     match convert_block(tree, text, arena, scratch, c, body) {
@@ -124,7 +127,9 @@ pub fn convert_func(
 ) -> Finished
     requires { ⌜ Keyed (now tree) (now text) (now scratch) functions × FunctionAt (now tree) f ⌝ }
     requires { ⌜ Room k (now arena) × (k .records ≡ records (now tree)) × FunctionsAfforded k (functionRecords (functionOf (now tree) (now text) f)) ⌝ }
+    requires { ⌜ Turns (now tree) (now scratch) k ⌝ }
     ensures { λ a. ⌜ ConvertsFunction (now (tree .entry)) (now (text .entry)) f k (now (arena .entry)) (now (scratch .entry)) a (now (arena .exit)) (now (scratch .exit)) ⌝ }
+    ensures visits { λ a. ⌜ FunctionVisited f (now (tree .entry)) (now (text .entry)) (now (scratch .entry)) a (now (scratch .exit)) ⌝ }
 {
     if !has_body(tree, text, f) {
         return Finished::Done(add_function(arena, k, f as u32, false));
@@ -138,6 +143,7 @@ pub fn convert_func(
                 scope,
                 counters: k1,
                 operands: 0,
+                turn: 0,
             };
             convert_body(tree, text, arena, scratch, c, f)
         }

@@ -48,7 +48,7 @@ fn refuse(kind: ConvertErrorKind, place: u32) -> Outcome
 // Lists the functions' records in scratch, and says how many there are.
 fn list_functions(tree: &[u8], text: &[u8], scratch: &mut [u8]) -> usize
     requires { ⌜ Good (now tree) (now text) ⌝ }
-    requires { ⌜ 64 * records (now tree) ≤ length (now scratch) ⌝ }
+    requires { ⌜ 72 * records (now tree) ≤ length (now scratch) ⌝ }
     ensures { λ count. ⌜ (now (scratch .exit) ≡ listedIn (now (tree .entry)) (now (scratch .entry))) × (count ≡ length (functionPlaces (now (tree .entry)))) ⌝ }
 {
     let n = tree.len() / 32;
@@ -95,7 +95,7 @@ fn add_function(tree: &[u8], text: &[u8], scratch: &[u8], count: usize, j: usize
 // wrong letters.
 pub fn get_all_functions(tree: &[u8], text: &[u8], scratch: &mut [u8]) -> AllFunctions
     requires { ⌜ Good (now tree) (now text) × Numbered (now tree) (now text) (now scratch) ⌝ }
-    requires { ⌜ 64 * records (now tree) ≤ length (now scratch) ⌝ }
+    requires { ⌜ 72 * records (now tree) ≤ length (now scratch) ⌝ }
     ensures { λ r. ⌜ AllMeet (now (tree .entry)) (now (text .entry)) (now (scratch .entry)) (now (scratch .exit)) r ⌝ }
 {
     let count = list_functions(tree, text, scratch);

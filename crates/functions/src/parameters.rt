@@ -7,6 +7,7 @@ ghost use Rattle.keys.specs.Keys.{Keyed};
 ghost use Rattle.expressions.specs.Slots.{Ready};
 ghost use Rattle.conversion.specs.ConvertError.{AlreadyDeclared};
 ghost use Rattle.functions.specs.Parameters.{parameterIn, OneMore, ParametersMeet};
+ghost use Rattle.statements.specs.Turns.{TurnsStay};
 use expressions::arguments::END;
 use expressions::arguments::next_cell;
 use ir::structs::VarId;
@@ -53,6 +54,7 @@ fn declare_parameter(
     requires { ⌜ ParamsAt (now tree) cell ⌝ }
     requires { ⌜ (cell ≡ 4294967295 → ⊥) × (scope .names + cell < records (now tree)) ⌝ }
     ensures { λ a. ⌜ OneMore (now (tree .entry)) (now (text .entry)) functions scope (parameterIn (now (tree .entry)) (now (text .entry)) cell) (now (scratch .entry)) (now (scratch .exit)) a ⌝ }
+    ensures turns { λ _. ⌜ TurnsStay (now (tree .entry)) (now (scratch .entry)) (now (scratch .exit)) ⌝ }
 {
     let p = reference(tree, cell, WORD_A);
     let v = VarId(scope.names as u32, word(tree, p, WORD_C));
@@ -76,6 +78,7 @@ pub fn declare_parameters(
     requires { ⌜ Keyed (now tree) (now text) (now scratch) functions ⌝ }
     requires { ⌜ FunctionAt (now tree) f ⌝ }
     ensures { λ a. ⌜ ParametersMeet (now (tree .entry)) (now (text .entry)) functions f (now (scratch .entry)) (now (scratch .exit)) a ⌝ }
+    ensures turns { λ _. ⌜ TurnsStay (now (tree .entry)) (now (scratch .entry)) (now (scratch .exit)) ⌝ }
 {
     let mut cell = parameters_of(tree, text, f);
     let mut scope = Scope {

@@ -50,6 +50,14 @@ module _ {A : Type 0} {Q : A → Type 0} {i v l s f : ℕ} (text : List ℕ) (t 
           length-append (allCode (t .done)) (t .code ++ c),
           length-append (t .code) c,
         );
+        instructions-stay = omega (
+          arith,
+          h .instructions-hold .count,
+          h′ .instructions-hold .count,
+          length-append (allCode (t .done)) (t .code),
+          length-append (allCode (t .done)) (t .code ++ c),
+          length-append (t .code) c,
+        );
         variables = omega (arith, g .vars, h .variables-hold .count, h′ .variables-hold .count, length-append (allVars (t .done)) (t .state .vars), length-append (allVars (t .done)) (st .vars));
         labels = omega (arith, g .labels, h .labels-hold .count, h′ .labels-hold .count, length-append (allLabels (t .done)) (t .state .labels), length-append (allLabels (t .done)) (st .labels));
         strings = omega (arith, g .strings, h .strings-hold .count, h′ .strings-hold .count);

@@ -27,10 +27,11 @@ pub record Affords (k : Counters) (a : Amount) : Type 0 where
   pub strings : k .strings + a .strings ≤ k .records
   pub floats : k .floats + a .floats ≤ 2 * k .records
 
--- from k to k′ at most this amount was added, to the tables of one function
+-- from k to k′ at most this amount was added, to the tables of one function, and no instruction taken away
 pub record Spent (k k′ : Counters) (a : Amount) : Type 0 where
   pub records : k′ .records ≡ k .records
   pub instructions : k′ .instructions ≤ k .instructions + a .instructions
+  pub instructions-stay : k .instructions ≤ k′ .instructions
   pub variables : k′ .variables ≤ k .variables + a .variables
   pub labels : k′ .labels ≤ k .labels + a .labels
   pub strings : k′ .strings ≤ k .strings + a .strings

@@ -1,7 +1,7 @@
 -- The lowest record that breaks a rule, from three lowest ones: of equal types, of records that break another rule, and of those that are not referred to once.
 -- Below the lowest fault every reference goes down, so the references from behind are all of them. Assumes nothing.
 use mathlib.Core.Path.{_≡_, refl, sym, ap, _∙_}
-use Prim.Native.Nat.{ℕ, zero, suc, _+_, _*_, _/_, _≤_, _<_}
+use Prim.Native.Nat.{ℕ, _+_, _*_, _/_, _≤_, _<_}
 use mathlib.Core.Bool.{Bool, true, false, not, _&&_, _||_}
 use mathlib.Core.List.{List}
 use native.Mathlib.Omega.{arith}
@@ -11,6 +11,7 @@ use borrow.Author.Tests.{lt-ltb, eq-eqb, eqb-true, eqb-false, ltb-true, ltb-fals
 use Rattle.laws.specs.Below.{allBelow, sumBelow}
 use Rattle.laws.proofs.AllBelow.{all-at}
 use Rattle.laws.proofs.FixLaws.{pick-yes, pick-no}
+use Rattle.laws.proofs.Sums.{sum-same}
 use Rattle.laws.proofs.Tests.{tested, and-left, and-right}
 use Rattle.records.specs.Words.{kindOf, detailOf, padOf, wordOf, A, B, C, D, E}
 use Rattle.records.specs.Shapes.{rowAt}
@@ -75,11 +76,6 @@ module _ (tree : List ℕ) (bytes i k : ℕ) (h : i ≤ k) (few : k < 2048) (goo
         refers-down tree bytes i (row .d) (wordOf tree i D) (wordOf tree i E) k (and-right (a && b && c) d toD) h few,
         refers-down tree bytes i (row .e) (wordOf tree i E) 0 k (and-right (a && b && c && d) e words-good) h few,
       ) refl
-
-sum-same : (n : ℕ) (f g : ℕ → ℕ) → ((i : ℕ) → i < n → f i ≡ g i) → sumBelow n f ≡ sumBelow n g
-unfolding sumBelow
-sum-same zero f g e = refl
-sum-same (suc n) f g e = rw (sum-same n f g (λ i h. e i (omega arith)), e n (omega arith)) refl
 
 module _ (tree : List ℕ) (bytes n fault : ℕ) (whole : n * 32 ≡ length tree) (few : n ≤ 2048) (low : Lowest n (λ k. not (otherRules tree bytes k)) fault) where
   good : (k : ℕ) → k < fault → otherRules tree bytes k ≡ true

@@ -82,7 +82,7 @@ divided a b c d y n =
     tested (leb a b) (λ e. e ∙ sym (le-leb c d (y (leb-true a b e)))) (λ e. e ∙ sym (lt-leb c d (n (leb-false a b e))))
 
 -- the seven tests as the code makes them
-pub buffers-divided : (n : ℕ) (l : Lengths) (scratch : ℕ) → (leb n (l .instructions / 320) && leb n (l .variables / 12) && leb n (l .labels / 24) && leb n (l .functions / 32) && leb n (l .strings / 8) && leb n (l .floats / 32) && leb n (scratch / 64)) ≡ buffersOk n l scratch
+pub buffers-divided : (n : ℕ) (l : Lengths) (scratch : ℕ) → (leb n (l .instructions / 320) && leb n (l .variables / 12) && leb n (l .labels / 24) && leb n (l .functions / 32) && leb n (l .strings / 8) && leb n (l .floats / 32) && leb n (scratch / 72)) ≡ buffersOk n l scratch
 unfolding buffersOk
 buffers-divided n l scratch =
     let at320 = divided n (l .instructions / 320) (320 * n) (l .instructions) (λ h. omega arith) (λ h. omega arith) in
@@ -91,8 +91,8 @@ buffers-divided n l scratch =
     let at32 = divided n (l .functions / 32) (32 * n) (l .functions) (λ h. omega arith) (λ h. omega arith) in
     let at8 = divided n (l .strings / 8) (8 * n) (l .strings) (λ h. omega arith) (λ h. omega arith) in
     let at32f = divided n (l .floats / 32) (32 * n) (l .floats) (λ h. omega arith) (λ h. omega arith) in
-    let at64 = divided n (scratch / 64) (64 * n) scratch (λ h. omega arith) (λ h. omega arith) in
-    rw (at320, at12, at24, at32, at8, at32f, at64) refl
+    let at72 = divided n (scratch / 72) (72 * n) scratch (λ h. omega arith) (λ h. omega arith) in
+    rw (at320, at12, at24, at32, at8, at32f, at72) refl
 
 -- buffers that are long enough, one by one
 pub record Enough (n : ℕ) (l : Lengths) (bytes : ℕ) : Type 0 where
@@ -102,7 +102,7 @@ pub record Enough (n : ℕ) (l : Lengths) (bytes : ℕ) : Type 0 where
   pub functions : 32 * n ≤ l .functions
   pub strings : 8 * n ≤ l .strings
   pub floats : 32 * n ≤ l .floats
-  pub scratch : 64 * n ≤ bytes
+  pub scratch : 72 * n ≤ bytes
 
 pub enough : (n : ℕ) (l : Lengths) (scratch : ℕ) → buffersOk n l scratch ≡ true → Enough n l scratch
 unfolding buffersOk
@@ -113,7 +113,7 @@ enough n l scratch e =
     let four = three && leb (32 * n) (l .functions) in
     let five = four && leb (8 * n) (l .strings) in
     let six = five && leb (32 * n) (l .floats) in
-    let e6 = and-left six (leb (64 * n) scratch) e in
+    let e6 = and-left six (leb (72 * n) scratch) e in
     let e5 = and-left five (leb (32 * n) (l .floats)) e6 in
     let e4 = and-left four (leb (8 * n) (l .strings)) e5 in
     let e3 = and-left three (leb (32 * n) (l .functions)) e4 in
@@ -125,7 +125,7 @@ enough n l scratch e =
       functions = leb-true _ _ (and-right three (leb (32 * n) (l .functions)) e4);
       strings = leb-true _ _ (and-right four (leb (8 * n) (l .strings)) e5);
       floats = leb-true _ _ (and-right five (leb (32 * n) (l .floats)) e6);
-      scratch = leb-true _ _ (and-right six (leb (64 * n) scratch) e);
+      scratch = leb-true _ _ (and-right six (leb (72 * n) scratch) e);
     }
 
 -- a list filled to its end is cleared

@@ -33,7 +33,7 @@ pub record TypesLead (tree : List ℕ) (n count : ℕ) : Type 0 where
 pub record Passing (tree : List ℕ) (n count : ℕ) (known : List ℕ) : Type 0 where
   pub whole : n * 32 ≡ length tree
   pub few : n ≤ mostRecords
-  pub room : 64 * n ≤ length known
+  pub room : 72 * n ≤ length known
   pub lead : TypesLead tree n count
 
 -- a number that stops at `most`: a count at 2, a depth at 65

@@ -25,7 +25,7 @@ fewestRecords = 12
 unfoldable pub lengthsOk : ℕ → Bool
 lengthsOk bytes = eqb (bytes % 32) 0 && leb (fewestRecords * 32) bytes && leb bytes (mostRecords * 32)
 
--- 'With n records the outputs need: instructions 320n bytes, variables 12n, labels 24n, functions 32n, strings 8n, floats 32n, and scratch 64n'
+-- 'With n records the outputs need: instructions 320n bytes, variables 12n, labels 24n, functions 32n, strings 8n, floats 32n, and scratch 64n'; document 02, point 9: 'Scratch grows to 72n bytes, for 26 too'
 unfoldable pub buffersOk : ℕ → Lengths → ℕ → Bool
 buffersOk n l scratch =
     leb (320 * n) (l .instructions)
@@ -34,7 +34,7 @@ buffersOk n l scratch =
     && leb (32 * n) (l .functions)
     && leb (8 * n) (l .strings)
     && leb (32 * n) (l .floats)
-    && leb (64 * n) scratch
+    && leb (72 * n) scratch
 
 -- the seven buffers that a caller lends: six outputs and scratch
 pub record Buffers : Type 0 where

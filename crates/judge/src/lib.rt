@@ -66,12 +66,12 @@ fn buffers_ok(n: usize, l: Lengths, scratch: usize) -> bool
         & (n <= l.functions / 32)
         & (n <= l.strings / 8)
         & (n <= l.floats / 32)
-        & (n <= scratch / 64)
+        & (n <= scratch / 72)
 }
 
 // Rows 'records' and 'nesting'; the bytes of scratch are the pass's own.
 fn judge_records(tree: &[u8], text: &[u8], n: usize, scratch: &mut [u8]) -> Judged
-    requires { ⌜ (n * 32 ≡ length (now tree)) × (n ≤ mostRecords) × (64 * n ≤ length (now scratch)) ⌝ }
+    requires { ⌜ (n * 32 ≡ length (now tree)) × (n ≤ mostRecords) × (72 * n ≤ length (now scratch)) ⌝ }
     ensures { λ r. ⌜ (r ≡ judgedBy (recordsVerdict (now (tree .entry)) (now (text .entry)))) × (length (now (scratch .exit)) ≡ length (now (scratch .entry))) ⌝ }
 {
     let lowest = pass::lowest_records(tree, text, n, scratch);

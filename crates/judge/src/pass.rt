@@ -212,7 +212,7 @@ fn pass(tree: &[u8], bytes: usize, n: usize, types: usize, known: &mut [u8]) -> 
 
 // The lowest record that breaks a rule, and the lowest that is too deep, each n where there is none.
 pub(crate) fn lowest_records(tree: &[u8], text: &[u8], n: usize, scratch: &mut [u8]) -> Lowests
-    requires { ⌜ (n * 32 ≡ length (now tree)) × (n ≤ mostRecords) × (64 * n ≤ length (now scratch)) ⌝ }
+    requires { ⌜ (n * 32 ≡ length (now tree)) × (n ≤ mostRecords) × (72 * n ≤ length (now scratch)) ⌝ }
     ensures { λ v. ⌜ Lowest n (λ k. not (recordOk (now (tree .entry)) (now (text .entry)) k)) (v .fault) ⌝ }
     ensures { λ v. ⌜ Lowest n (λ k. ltb 64 (depthOf (now (tree .entry)) k)) (v .deep) ⌝ }
     ensures { λ _. ⌜ length (now (scratch .exit)) ≡ length (now (scratch .entry)) ⌝ }

@@ -78,10 +78,10 @@ module _ (tree text : List ℕ) (good : Good tree text) (f : ℕ) (at : Function
 
   -- the key's number, as it is read from the scratch
   module _ (s : List ℕ) (r : ℕ) (e : r ≡ keyRecord tree text f) where
-    pub number-inside : 64 * records tree ≤ length s → originalAt (records tree) r + 4 ≤ length s
+    pub number-inside : 72 * records tree ≤ length s → originalAt (records tree) r + 4 ≤ length s
     number-inside room = omega (arith, e, key-is .below)
 
-    pub digest-inside : 64 * records tree ≤ length s → textDigestAt (records tree) r + 4 ≤ length s
+    pub digest-inside : 72 * records tree ≤ length s → textDigestAt (records tree) r + 4 ≤ length s
     digest-inside room = omega (arith, e, key-is .below)
 
     -- and its digest
@@ -134,7 +134,7 @@ module _ (tree text s s′ : List ℕ) (c : Cleared (44 * records tree) (48 * re
 pub entered-at : (tree text s s′ : List ℕ) (f o : ℕ) → o ≡ original tree text (keyRecord tree text f) → s′ ≡ splice s (keySlotAt (records tree) o) (word (f + 1)) → s′ ≡ keyEntered tree text f s
 entered-at tree text s s′ f o e w = w ∙ ap (λ (x : ℕ). splice s (keySlotAt (records tree) x) (word (f + 1))) e
 
-module _ (tree text s : List ℕ) (good : Good tree text) (room : 64 * records tree ≤ length s) (f : ℕ) (at : FunctionAt tree f) (s′ : List ℕ) (e : s′ ≡ keyEntered tree text f s) where
+module _ (tree text s : List ℕ) (good : Good tree text) (room : 72 * records tree ≤ length s) (f : ℕ) (at : FunctionAt tree f) (s′ : List ℕ) (e : s′ ≡ keyEntered tree text f s) where
   abbrev key : ℕ
   key = keyRecord tree text f
 

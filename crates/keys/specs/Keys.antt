@@ -1,5 +1,5 @@
 -- The functions by key, as `get_all_functions` has them in its map: their records stand in scratch, in their order, and each besides at the slot of its
--- key's number, where the key is looked for. Assumes nothing: these are definitions.
+-- key's number. Assumes nothing: these are definitions.
 use mathlib.Core.Path.{_≡_}
 use Prim.Native.Nat.{ℕ, zero, suc, _+_, _*_, _≤_, _<_}
 use mathlib.Core.Bool.{true}
@@ -64,7 +64,7 @@ module _ (tree text : List ℕ) where
 
 -- the scratch has the functions' records, `count` of them
 pub record Listed (tree s : List ℕ) (count : ℕ) : Type 0 where
-  pub room : 64 * records tree ≤ length s
+  pub room : 72 * records tree ≤ length s
   pub counted : count ≡ length (functionPlaces tree)
   pub listed : (j : ℕ) → j < count → wordAt s (4 * j) ≡ getD (functionPlaces tree) j 0
 

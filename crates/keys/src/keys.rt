@@ -117,7 +117,7 @@ fn key_record(tree: &[u8], text: &[u8], f: usize) -> usize
 
 // The number of a function's key.
 fn key_number(tree: &[u8], text: &[u8], scratch: &[u8], f: usize) -> usize
-    requires { ⌜ Good (now tree) (now text) × Numbered (now tree) (now text) (now scratch) × (64 * records (now tree) ≤ length (now scratch)) ⌝ }
+    requires { ⌜ Good (now tree) (now text) × Numbered (now tree) (now text) (now scratch) × (72 * records (now tree) ≤ length (now scratch)) ⌝ }
     requires { ⌜ FunctionAt (now tree) f ⌝ }
     ensures { λ o. ⌜ (o ≡ originalOf (now (tree .entry)) (now (text .entry)) (keyRecord (now (tree .entry)) (now (text .entry)) f)) × (o < records (now (tree .entry))) ⌝ }
 {
@@ -127,7 +127,7 @@ fn key_number(tree: &[u8], text: &[u8], scratch: &[u8], f: usize) -> usize
 
 // No function is entered by its key yet.
 pub fn clear_keys(scratch: &mut [u8], n: usize)
-    requires { ⌜ (n ≤ mostRecords) × (64 * n ≤ length (now scratch)) ⌝ }
+    requires { ⌜ (n ≤ mostRecords) × (72 * n ≤ length (now scratch)) ⌝ }
     ensures { λ _. ⌜ Cleared (44 * n) (48 * n) (now (scratch .entry)) (now (scratch .exit)) ⌝ }
 {
     let from = KEY_SLOTS * n;
@@ -136,7 +136,7 @@ pub fn clear_keys(scratch: &mut [u8], n: usize)
 
 // A function is entered at the slot of its key's number.
 pub fn enter_key(tree: &[u8], text: &[u8], scratch: &mut [u8], f: usize)
-    requires { ⌜ Good (now tree) (now text) × Numbered (now tree) (now text) (now scratch) × (64 * records (now tree) ≤ length (now scratch)) ⌝ }
+    requires { ⌜ Good (now tree) (now text) × Numbered (now tree) (now text) (now scratch) × (72 * records (now tree) ≤ length (now scratch)) ⌝ }
     requires { ⌜ FunctionAt (now tree) f ⌝ }
     ensures { λ _. ⌜ now (scratch .exit) ≡ keyEntered (now (tree .entry)) (now (text .entry)) f (now (scratch .entry)) ⌝ }
 {
@@ -148,7 +148,7 @@ pub fn enter_key(tree: &[u8], text: &[u8], scratch: &mut [u8], f: usize)
 
 // The function whose key is the text of this number: one load, whatever the functions are.
 pub fn find_key(tree: &[u8], text: &[u8], scratch: &[u8], number: usize) -> Found
-    requires { ⌜ Good (now tree) (now text) × (64 * records (now tree) ≤ length (now scratch)) × (number < records (now tree)) ⌝ }
+    requires { ⌜ Good (now tree) (now text) × (72 * records (now tree) ≤ length (now scratch)) × (number < records (now tree)) ⌝ }
     ensures { λ r. ⌜ FindsKey (now (tree .entry)) (now (text .entry)) (now (scratch .entry)) number r ⌝ }
 {
     let n = tree.len() / 32;
@@ -161,7 +161,7 @@ pub fn find_key(tree: &[u8], text: &[u8], scratch: &[u8], number: usize) -> Foun
 
 // The function that is entered with the key of function f.
 pub fn find_own_key(tree: &[u8], text: &[u8], scratch: &[u8], f: usize) -> Found
-    requires { ⌜ Good (now tree) (now text) × Numbered (now tree) (now text) (now scratch) × (64 * records (now tree) ≤ length (now scratch)) ⌝ }
+    requires { ⌜ Good (now tree) (now text) × Numbered (now tree) (now text) (now scratch) × (72 * records (now tree) ≤ length (now scratch)) ⌝ }
     requires { ⌜ FunctionAt (now tree) f ⌝ }
     ensures { λ r. ⌜ FindsOwnKey (now (tree .entry)) (now (text .entry)) (now (scratch .entry)) f r ⌝ }
 {

@@ -1,5 +1,6 @@
 pub mod All
 pub mod Below
+pub mod Different
 pub mod Chain
 pub mod Fix
 pub mod Splice

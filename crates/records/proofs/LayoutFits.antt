@@ -1,4 +1,4 @@
--- The regions of the scratch lie one behind the other within 64 bytes a record: the test is computed.
+-- The regions of the scratch lie one behind the other within 72 bytes a record: the test is computed.
 -- Assumes nothing.
 use mathlib.Core.Path.{_≡_, refl}
 use mathlib.Core.Bool.{true}

@@ -1,4 +1,4 @@
--- One layout of the scratch: 64 bytes a record, cut into regions that lie one behind the other. Assumes nothing: these are definitions.
+-- One layout of the scratch: 72 bytes a record, cut into regions that lie one behind the other. Assumes nothing: these are definitions.
 use Prim.Native.Nat.{ℕ, _+_, _*_}
 use mathlib.Core.Bool.{Bool, true, false, _&&_}
 use mathlib.Core.List.{List, [], _∷_}
@@ -15,9 +15,9 @@ pub record Region : Type 0 where
 abbrev pub judging : Region
 judging = record { from = 0; each = 4 }
 
--- the types of expressions that stand as arguments: a word at the slot of the expression's record
-abbrev pub argumentTypes : Region
-argumentTypes = record { from = 4; each = 4 }
+-- the types of expressions: a word at the slot of the expression's record
+abbrev pub typeSlots : Region
+typeSlots = record { from = 4; each = 4 }
 
 -- the open names, the innermost last: four words each (offset and length of the lowest record with the name, variable, twice its type and 1 if constant)
 abbrev pub openNames : Region
@@ -43,16 +43,24 @@ keyDigests = record { from = 48; each = 4 }
 abbrev pub textDigests : Region
 textDigests = record { from = 52; each = 4 }
 
--- for a later mark at each expression (whether it was typed, and its type)
-abbrev pub typedOnce : Region
-typedOnce = record { from = 56; each = 8 }
+-- left for later
+abbrev pub unused : Region
+unused = record { from = 56; each = 8 }
+
+-- for each expression the turn in which its type was worked out: a word at the slot of its record
+abbrev pub turns : Region
+turns = record { from = 64; each = 4 }
+
+-- how many visits were made, in the first word
+abbrev pub visitCount : Region
+visitCount = record { from = 68; each = 4 }
 
 abbrev pub layout : List Region
-layout = judging ∷ argumentTypes ∷ openNames ∷ operands ∷ originals ∷ keySlots ∷ keyDigests ∷ textDigests ∷ typedOnce ∷ []
+layout = judging ∷ typeSlots ∷ openNames ∷ operands ∷ originals ∷ keySlots ∷ keyDigests ∷ textDigests ∷ unused ∷ turns ∷ visitCount ∷ []
 
--- 'scratch 64n'
+-- document 02, point 9: 'Scratch grows to 72n bytes'
 abbrev pub scratchEach : ℕ
-scratchEach = 64
+scratchEach = 72
 
 -- each region starts behind the one before, and the last ends within the scratch
 unfoldable pub fitsFrom : ℕ → List Region → Bool

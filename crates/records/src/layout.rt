@@ -1,9 +1,9 @@
 // Where the regions of scratch begin, in bytes a record, and how long an entry of each is: `records/specs/Layout.antt`.
 
-// The types of expressions that stand as arguments, a word each.
-pub const ARGUMENT_TYPES: usize = 4;
+// The types of expressions, a word each.
+pub const TYPE_SLOTS: usize = 4;
 
-pub const ARGUMENT_TYPE_BYTES: usize = 4;
+pub const TYPE_SLOT_BYTES: usize = 4;
 
 // The open names.
 pub const OPEN_NAMES: usize = 8;
@@ -34,3 +34,14 @@ pub const KEY_DIGEST_BYTES: usize = 4;
 pub const TEXT_DIGESTS: usize = 52;
 
 pub const TEXT_DIGEST_BYTES: usize = 4;
+
+// The turns in which the types of expressions were worked out, a word each.
+pub const TURNS: usize = 64;
+
+pub const TURN_BYTES: usize = 4;
+
+// How many visits were made, one word.
+pub const VISIT_COUNT: usize = 68;
+
+// All regions together.
+pub const SCRATCH: usize = 72;

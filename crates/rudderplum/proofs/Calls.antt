@@ -79,20 +79,21 @@ two-fours : (l l₁ l₂ vs ws : List ℕ) → 32 ≤ length l → length vs ≡
 two-fours l l₁ l₂ vs ws h a b p q = q ∙ ap (λ (x : List ℕ). splice x 16 ws) p ∙ splice-splice l 0 16 vs ws (omega arith) (omega arith)
 
 module _ (l l₁ l₂ : List ℕ) (h : 32 ≤ length l) where
-  pub counts-put : (c : Counts) (f i v y s x : ℕ) → f ≡ c .functions % 4294967296 → i ≡ c .instructions % 4294967296 → v ≡ c .variables % 4294967296
-      → y ≡ c .labels % 4294967296 → s ≡ c .strings % 4294967296 → x ≡ c .floats % 4294967296
-      → l₁ ≡ splice l 0 (word 0 ++ word f ++ word i ++ word v) → l₂ ≡ splice l₁ 16 (word y ++ word s ++ word x ++ word 0)
-      → l₂ ≡ splice l 0 (conversionBytes (Counted (countsFrom c)))
+  pub counts-put : (c : Counts) (f i v y s x n : ℕ) → f ≡ c .functions % 4294967296 → i ≡ c .instructions % 4294967296 → v ≡ c .variables % 4294967296
+      → y ≡ c .labels % 4294967296 → s ≡ c .strings % 4294967296 → x ≡ c .floats % 4294967296 → n ≡ c .visits % 4294967296
+      → l₁ ≡ splice l 0 (word 0 ++ word f ++ word i ++ word v) → l₂ ≡ splice l₁ 16 (word y ++ word s ++ word x ++ word n)
+      → l₂ ≡ splice l 0 (conversionBytes (Counted (countsFrom c) (c .visits)))
   unfolding conversionBytes
-  counts-put c f i v y s x ef ei ev ey es ex p q =
-      let back : (n m : ℕ) → n ≡ m % 4294967296 → word n ≡ word m = λ n m e. ap word e ∙ word-cut m in
+  counts-put c f i v y s x n ef ei ev ey es ex en p q =
+      let back : (a m : ℕ) → a ≡ m % 4294967296 → word a ≡ word m = λ a m e. ap word e ∙ word-cut m in
       let e₁ = back f (c .functions) ef in
       let e₂ = back i (c .instructions) ei in
       let e₃ = back v (c .variables) ev in
       let e₄ = back y (c .labels) ey in
       let e₅ = back s (c .strings) es in
       let e₆ = back x (c .floats) ex in
-      two-fours l l₁ l₂ (word 0 ++ word f ++ word i ++ word v) (word y ++ word s ++ word x ++ word 0) h (four-long 0 f i v) (four-long y s x 0) p q ∙ cc
+      let e₇ = back n (c .visits) en in
+      two-fours l l₁ l₂ (word 0 ++ word f ++ word i ++ word v) (word y ++ word s ++ word x ++ word n) h (four-long 0 f i v) (four-long y s x n) p q ∙ cc
 
   pub refusal-put : (a : AnswerWords) → l₁ ≡ splice l 0 (answerBytes a) → l₂ ≡ splice l₁ 16 (word 0 ++ word 0 ++ word 0 ++ word 0)
       → l₂ ≡ splice l 0 (conversionBytes (Refusal a))
@@ -103,7 +104,7 @@ module _ (l l₁ l₂ : List ℕ) (h : 32 ≤ length l) where
 
 -- by the case of the answer
 module _ (tree l l′ : List ℕ) (a : Answer) where
-  pub converted-put : (c : Counts) → a ≡ Answer.Converted c → l′ ≡ splice l 0 (conversionBytes (Counted (countsFrom c))) → l′ ≡ splice l 0 (conversionBytes (answerFrom tree a))
+  pub converted-put : (c : Counts) → a ≡ Answer.Converted c → l′ ≡ splice l 0 (conversionBytes (Counted (countsFrom c) (c .visits))) → l′ ≡ splice l 0 (conversionBytes (answerFrom tree a))
   unfolding answerFrom
   converted-put c e p = p ∙ ap (λ (z : Answer). splice l 0 (conversionBytes (answerFrom tree z))) (sym e)
 

@@ -60,12 +60,12 @@ judgeCall tree text b = pick (roomy (b .answer)) (answeredIn tree text b) b
 
 -- ---- a conversion
 
--- the answer is eight words: 0, the six counts in document 01's order and a zero, kept for a seventh count; or number, place, span start, span end and zeros
+-- the answer is eight words: 0, the six counts in document 01's order and the seventh, the visits; or number, place, span start, span end and zeros
 unfoldable pub conversionBytes : Answer → List ℕ
 unfolding word answerBytes
 conversionBytes (Refusal a) = answerBytes a ++ (word 0 ++ word 0 ++ word 0 ++ word 0)
-conversionBytes (Counted c) =
-    (word 0 ++ word (c .functions) ++ word (c .instructions) ++ word (c .variables)) ++ (word (c .labels) ++ word (c .strings) ++ word (c .floats) ++ word 0)
+conversionBytes (Counted c seventh) =
+    (word 0 ++ word (c .functions) ++ word (c .instructions) ++ word (c .variables)) ++ (word (c .labels) ++ word (c .strings) ++ word (c .floats) ++ word seventh)
 
 -- the eight words fit the buffer lent for them
 unfoldable pub roomyForEight : List ℕ → Bool

@@ -76,17 +76,18 @@ pub extern "C" fn rudderplum_judge(
     1
 }
 
-// A count as a word: a table has at most four entries for each record of the tree, so nothing is cut off.
+// A count as a word: a table has at most four entries for each record of the tree, and a record is visited at most once, so nothing is cut off: the sizes
+// that suffice and `different-most` in laws/proofs/DifferentLaws.antt say so, not this contract.
 fn count_word(n: usize) -> u32
     ensures { λ r. ⌜ r ≡ n % 4294967296 ⌝ }
 {
     (n % 4294967296) as u32
 }
 
-// Writes a converted tree's eight words: 0, the six counts, and a zero.
+// Writes a converted tree's eight words: 0, the six counts, and the visits.
 fn put_counts(buffer: &mut [u8], c: Counts)
     requires { ⌜ 32 ≤ length (now buffer) ⌝ }
-    ensures { λ _. ⌜ now (buffer .exit) ≡ splice (now (buffer .entry)) 0 (conversionBytes (Call.Counted (countsFrom c))) ⌝ }
+    ensures { λ _. ⌜ now (buffer .exit) ≡ splice (now (buffer .entry)) 0 (conversionBytes (Call.Counted (countsFrom c) (c .visits))) ⌝ }
 {
     let functions = count_word(c.functions);
     let instructions = count_word(c.instructions);
@@ -94,8 +95,9 @@ fn put_counts(buffer: &mut [u8], c: Counts)
     let labels = count_word(c.labels);
     let strings = count_word(c.strings);
     let floats = count_word(c.floats);
+    let visits = count_word(c.visits);
     put_four(buffer, 0, Four(0, functions, instructions, variables));
-    put_four(buffer, 16, Four(labels, strings, floats, 0));
+    put_four(buffer, 16, Four(labels, strings, floats, visits));
 }
 
 // Writes a refusal's eight words: number, place, span start, span end, and zeros.
@@ -119,8 +121,8 @@ fn put_conversion(buffer: &mut [u8], tree: &[u8], a: Answer)
 }
 
 // Converts a tree; a `main` is needed unless `needs_main` is 0. The answer's buffer takes 32 bytes: the words 0, functions, instructions,
-// variables, labels, strings, floats and 0; or number, place (FFFFFFFF for none), span start, span end and zeros. Returns 1; where that
-// buffer is shorter, returns 0 and writes nothing anywhere.
+// variables, labels, strings, floats and visits; or number, place (FFFFFFFF for none), span start, span end and zeros. Returns 1; where
+// that buffer is shorter, returns 0 and writes nothing anywhere.
 #[no_mangle]
 pub extern "C" fn rudderplum_convert(
     tree: &[u8],

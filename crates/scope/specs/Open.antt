@@ -60,7 +60,7 @@ scopeAt tree text s sc = record { variables = variablesOf text s sc; inLoop = lo
 
 -- the open names stay within their region, and the scratch is as long as document 01 lends it
 pub record NamesRoom (sc : Scope) (s : List ℕ) : Type 0 where
-  pub scratch : 64 * sc .records ≤ length s
+  pub scratch : 72 * sc .records ≤ length s
   pub names-in : sc .names ≤ sc .records
 
 -- ---- looking for a name

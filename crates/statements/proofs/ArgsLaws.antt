@@ -27,6 +27,7 @@ use Rattle.conversion.specs.Ir.{M, _>>=_, pure}
 use Rattle.conversion.specs.Scope as Def
 use Rattle.conversion.specs.Expressions.{Callee}
 use Rattle.conversion.specs.Statements.{convert-expr, convert-args, convert-call-value}
+use Rattle.conversion.specs.Visits.{typedArgs}
 use Rattle.ir.specs.declared.structs.Counters.{Counters}
 use Rattle.ir.specs.declared.structs.Operand.{Operand}
 use Rattle.ir.specs.Amounts.{amount, Spent}
@@ -43,8 +44,10 @@ use denote.Enum.Declared.{tagOf}
 use Rattle.expressions.proofs.answers.Resolved.{the-type}
 use Rattle.expressions.specs.declared.arguments.Argument.{Argument}
 use Rattle.expressions.specs.declared.arguments.Argument.the-variants as Argument
+use Rattle.expressions.specs.Slots.{Typed}
 use Rattle.expressions.specs.Answers.{refusal, calleeOf, ArgumentIs, CallMeets}
 use Rattle.expressions.proofs.SlotLaws.{scope-frame}
+use Rattle.expressions.proofs.TurnLaws.{typed-none, typed-both}
 use Rattle.expressions.proofs.ArgumentTurns.{ValueCell, TypeCell}
 use Rattle.expressions.proofs.TypingLaws.{call-list, call-low}
 use Rattle.statements.specs.declared.answers.Converter.{Converter}
@@ -57,10 +60,12 @@ use Rattle.statements.specs.Converting.{Converting, withCounters, Afford
 use Rattle.statements.specs.Meets.{AddsIn}
 use Rattle.statements.specs.Parts.{finishCall}
 use Rattle.statements.specs.Answers.{convertedOf, argsOf, Converts, ConvertsArgs, exprSteps, argsSteps, callSteps}
+use Rattle.statements.specs.Turns.{InTurn, TypedIn, exprTypes, argsTypes, ConvertsTyped, ArgumentsTyped}
 use Rattle.statements.proofs.MeetLaws.{meets-gave, meets-refused, meets-most, meets-then, meets-stop, meets-lift, meets-lift-stop}
 use Rattle.statements.proofs.StayLaws.{stays-refl, names-refl, names-then, names-of, frame-names, stays-then, frame-stays, operand-stays, scope-stays, ready-stays, operand-kept, stack-kept, converting-next, converting-frame}
 use Rattle.statements.proofs.StackLaws.{operand-long, stack-last}
 use Rattle.statements.proofs.ConvertLaws.{converted-next, converting-after}
+use Rattle.statements.proofs.TurnLaws.{typed-stay, turns-entry}
 
 module _ (tree text : List ℕ) (S : Def.Scope) where
   abbrev argsIn : ℕ → M (List Ir.Operand)
@@ -75,11 +80,11 @@ args-count (ToType r y l) = omega (arith, args-count l)
 
 -- ---- the call around its values
 
-record CalleeIs (tree text : List ℕ) (a : Resolved) : Type 0 where
+pub record CalleeIs (tree text : List ℕ) (a : Resolved) : Type 0 where
   pub to : Callee
   pub is : calleeOf tree text a ≡ ok to
 
-callee-is : (tree text : List ℕ) (a : Resolved) → OneOf (0 ∷ 1 ∷ []) (tagOf the-type a) → CalleeIs tree text a
+pub callee-is : (tree text : List ℕ) (a : Resolved) → OneOf (0 ∷ 1 ∷ []) (tagOf the-type a) → CalleeIs tree text a
 unfolding calleeOf
 callee-is tree text (Resolved.Function f) h = record { to = _; is = refl }
 callee-is tree text (Resolved.Cast y) h = record { to = _; is = refl }
@@ -87,7 +92,7 @@ callee-is tree text (Resolved.Refused z) (inl e) = absurd (omega arith)
 callee-is tree text (Resolved.Refused z) (inr e) = absurd (omega arith)
 
 module _ {tree text l s : List ℕ} {c : Converter} {e : ℕ} (p : Converting tree text l s c) (f : ExprAfforded tree text c e) (x : IsKind tree 11 e)
-    {callee : Resolved} {s₁ : List ℕ} (m : CallMeets tree text s (c .scope) e callee s₁) where
+    {callee : Resolved} {s₁ : List ℕ} (m : CallMeets tree text s (c .scope) (c .turn) e callee s₁) where
   abbrev S : Def.Scope
   S = scopeAt tree text s (c .scope)
 
@@ -123,7 +128,7 @@ module _ {tree text l s : List ℕ} {c : Converter} {e : ℕ} (p : Converting tr
   module _ {a : ConvertedArgs} {l₁ s₂ : List ℕ}
       (n : ConvertsArgs tree text (argsSteps tree text s₁ c W) (argsAmount (argsUnder (argsAt tree text W)) (argsValues (argsAt tree text W))) (argsValues (argsAt tree text W)) c l s₁ a l₁ s₂) where
     same-args : argsSteps tree text s₁ c W ≡ argsIn tree text S W
-    same-args = ap (λ (Z : Def.Scope). argsIn tree text Z W) (scope-frame tree s s₁ (m .frame) text (c .scope) (p .ready .scoped .records-are))
+    same-args = ap (λ (Z : Def.Scope). argsIn tree text Z W) (scope-frame tree s s₁ (m .frame) text (c .scope) (p .ready .scoped))
 
     pub args-stop : (y : ℕ) {z : ConvertError} → OneOf (0 ∷ 1 ∷ []) (tagOf the-type callee) → a ≡ ConvertedArgs.Refused z
         → Converts tree text (callSteps tree text s c e y) (exprAmount (under (exprAt tree text e))) c l s (Converted.Refused z) l₁ s₂
@@ -183,6 +188,10 @@ pub record ArgsLeft (tree text l₀ s₀ : List ℕ) (c : Converter) (e : ℕ) (
   pub typed : StackIn tree s (c .operands) count
   pub below-is : below + argsUnder (argsAt tree text w) ≡ argsUnder (argsAt tree text (wordOf tree e C))
   pub count-is : count + argsValues (argsAt tree text w) ≡ argsValues (argsAt tree text (wordOf tree e C))
+  pub turn : at .turn ≡ c .turn
+  pub earlier : List ℕ
+  pub earlier-typed : TypedIn tree text c s₀ earlier s
+  pub earlier-is : earlier ++ argsTypes tree text w ≡ argsTypes tree text (wordOf tree e C)
   pub spent : Spent (c .counters) (at .counters) (argsAmount below count)
   pub done : (os : List Ir.Operand) (k : Counters) (l′ : List ℕ) → NextIn text (argsIn tree text (scopeAt tree text s₀ (c .scope)) w) (at .counters) l os k l′
       → NextIn text (argsIn tree text (scopeAt tree text s₀ (c .scope)) (wordOf tree e C)) (c .counters) l₀ (stackAt s (records tree) (c .operands) count ++ os) k l′
@@ -207,9 +216,9 @@ module _ {tree text l₀ s₀ : List ℕ} {c : Converter} {e : ℕ} (p : Convert
       go (inl q) = rw (eq-eqb opening none q) (omega arith)
       go (inr h) = rw (left-some opening (λ q. omega (arith, x .below, good .few))) (omega arith)
 
-  pub loop-start : (w : ℕ) → w ≡ opening → ArgsLeft tree text l₀ s₀ c e l₀ s₀ w c
+  pub loop-start : InTurn tree text s₀ c → (w : ℕ) → w ≡ opening → ArgsLeft tree text l₀ s₀ c e l₀ s₀ w c
   unfolding stackAt
-  loop-start w q = subst (λ (z : ℕ). ArgsLeft tree text l₀ s₀ c e l₀ s₀ z c) (sym q) (record {
+  loop-start t w q = subst (λ (z : ℕ). ArgsLeft tree text l₀ s₀ c e l₀ s₀ z c) (sym q) (record {
     count = 0;
     below = 0;
     functions = refl;
@@ -224,6 +233,10 @@ module _ {tree text l₀ s₀ : List ℕ} {c : Converter} {e : ℕ} (p : Convert
     typed = λ i a b. absurd (omega arith);
     below-is = omega arith;
     count-is = omega arith;
+    turn = refl;
+    earlier = [];
+    earlier-typed = typed-none tree text T (c .turn) s₀ t;
+    earlier-is = refl;
     spent = omega arith;
     done = λ os k l′ h. h;
     stops = λ k r h. h;
@@ -253,6 +266,13 @@ module _ {tree text l₀ s₀ : List ℕ} {c : Converter} {e : ℕ} (p : Convert
           names = i .names;
         }
 
+    -- all were typed
+    pub loop-end-types : w ≡ none → (a : ConvertedArgs) → ArgumentsTyped argsTypes c opening tree text s₀ a s
+    unfolding typedArgs
+    loop-end-types q a count k h =
+        let over : argsTypes tree text w ≡ [] = ap (argsTypes tree text) q ∙ ap typedArgs (args-end tree text good) in
+        subst (λ (z : List ℕ). TypedIn tree text c s₀ z s) (sym (append-nil (i .earlier)) ∙ ap (λ (z : List ℕ). i .earlier ++ z) (sym over) ∙ i .earlier-is) (i .earlier-typed)
+
     module _ (more : w ≡ none → ⊥) where
       pub cell-low : w < records tree
       cell-low = cell-below tree text good Arguments w (i .cells) more
@@ -267,7 +287,10 @@ module _ {tree text l₀ s₀ : List ℕ} {c : Converter} {e : ℕ} (p : Convert
       names-same = ap (λ (z : Scope). z .names) (i .scope)
 
       scope-now : scopeAt tree text s (at .scope) ≡ T
-      scope-now = ap (scopeAt tree text s) (i .scope) ∙ scope-stays tree (i .stays) text (c .scope) (p .ready .scoped .records-are) (omega arith)
+      scope-now = ap (scopeAt tree text s) (i .scope) ∙ scope-stays tree (i .stays) text (c .scope) (p .ready .scoped) (omega arith)
+
+      pub turn-in : InTurn tree text s at
+      turn-in = rw (scope-now, i .turn) (i .earlier-typed .remembers)
 
       module _ {a : Argument} (is : ArgumentIs tree text w a) where
         type-cell : (y : ℕ) → a ≡ Argument.ToType y → TypeCell tree text w
@@ -279,7 +302,7 @@ module _ {tree text l₀ s₀ : List ℕ} {c : Converter} {e : ℕ} (p : Convert
         -- a type gives no value
         pub turn-type : (y : ℕ) → a ≡ Argument.ToType y → {l′ s′ : List ℕ} {at′ : Converter} → l′ ≡ l → s′ ≡ s → at′ ≡ at → (v : ℕ) → v ≡ wordOf tree w B
             → ArgsLeft tree text l₀ s₀ c e l′ s′ v at′
-        unfolding convert-args argsUnder argsValues
+        unfolding convert-args argsUnder argsValues typedArgs
         turn-type y q {l′} {s′} {at′} el es ea v ev =
             let t = type-cell y q in
             subst (λ (z : List ℕ). ArgsLeft tree text l₀ s₀ c e z s′ v at′) (sym el)
@@ -300,6 +323,10 @@ module _ {tree text l₀ s₀ : List ℕ} {c : Converter} {e : ℕ} (p : Convert
               typed = i .typed;
               below-is = omega (arith, i .below-is, ap argsUnder (t .opens));
               count-is = omega (arith, i .count-is, ap argsValues (t .opens));
+              turn = i .turn;
+              earlier = i .earlier;
+              earlier-typed = i .earlier-typed;
+              earlier-is = ap (λ (z : List ℕ). i .earlier ++ z) (sym (ap typedArgs (t .opens))) ∙ i .earlier-is;
               spent = i .spent;
               done = λ os k l″ h. i .done os k l″ (subst (λ (z : Args). NextIn text (convert-args (program tree text) (allKeys tree text) z T) (at .counters) l os k l″) (sym (t .opens)) h);
               stops = λ k n h. i .stops k n (subst (λ (z : Args). StopsIn text (convert-args (program tree text) (allKeys tree text) z T) (at .counters) l k n) (sym (t .opens)) h);
@@ -351,10 +378,10 @@ module _ {tree text l₀ s₀ : List ℕ} {c : Converter} {e : ℕ} (p : Convert
               names = names-then (i .names) (n .names);
             }
 
-            module _ {o : Operand} {k : Counters} (u : r ≡ Converted.Is o k) {s₂ : List ℕ} (put : s₂ ≡ splice s₁ (entryAt (records tree) (at .operands)) (operandBytes (operandOf o)))
+            module _ {o : Operand} {k : Counters} (u : r ≡ Converted.Is o k) (ty : ConvertsTyped exprTypes at v tree text s r s₁) {s₂ : List ℕ} (put : s₂ ≡ splice s₁ (entryAt (records tree) (at .operands)) (operandBytes (operandOf o)))
                 (back : operandAt s₂ (records tree) (at .operands) ≡ operandOf o) where
               abbrev pushed : Converter
-              pushed = record { functions = at .functions; scope = at .scope; counters = k; operands = at .operands + 1 }
+              pushed = record { functions = at .functions; scope = at .scope; counters = k; operands = at .operands + 1; turn = at .turn }
 
               put-stays : (names operands : ℕ) → operands ≤ at .operands → names ≤ records tree → Stays (records tree) names operands s₁ s₂
               put-stays names operands h m =
@@ -379,13 +406,13 @@ module _ {tree text l₀ s₀ : List ℕ} {c : Converter} {e : ℕ} (p : Convert
               stack-same : stackAt s₂ (records tree) (c .operands) (suc (i .count)) ≡ stackAt s (records tree) (c .operands) (i .count) ++ (operandOf o ∷ [])
               stack-same =
                   stack-last s₂ (records tree) (c .operands) (i .count)
-                  ∙ ap (λ (z : List Ir.Operand). z ++ (operandAt s₂ (records tree) (c .operands + i .count) ∷ [])) (stack-kept tree after (i .count) (c .operands) (omega (arith, i .operands)))
+                  ∙ ap (λ (z : List Ir.Operand). z ++ (operandAt s₂ (records tree) (c .operands + i .count) ∷ [])) (stack-kept tree after (i .count) (c .operands) (omega (arith, i .operands)) (omega (arith, i .operands, value-room)))
                   ∙ ap (λ (z : Ir.Operand). stackAt s (records tree) (c .operands) (i .count) ++ (z ∷ [])) (ap (operandAt s₂ (records tree)) (sym (i .operands)) ∙ back)
 
               pushed-typed : StackIn tree s₂ (c .operands) (suc (i .count))
               pushed-typed j a b = tested (ltb j (c .operands + i .count))
                   (λ h. let low : j < c .operands + i .count = ltb-true j (c .operands + i .count) h in
-                  subst (λ (z : Ir.Operand). OperandIn tree z) (sym (operand-kept tree after j (omega (arith, i .operands)))) (i .typed j a low))
+                  subst (λ (z : Ir.Operand). OperandIn tree z) (sym (operand-kept tree after j (omega (arith, i .operands)) (omega (arith, i .operands, value-room)))) (i .typed j a low))
                   λ h. let ej : j ≡ at .operands = omega (arith, i .operands, ltb-false j (c .operands + i .count) h) in
                   subst (λ (z : ℕ). OperandIn tree (operandAt s₂ (records tree) z)) (sym ej) (subst (λ (z : Ir.Operand). OperandIn tree z) (sym back) (n .operand o k u))
 
@@ -410,6 +437,20 @@ module _ {tree text l₀ s₀ : List ℕ} {c : Converter} {e : ℕ} (p : Convert
                   (then-stop text (λ (z : Ir.Operand). argsIn tree text T (wordOf tree w B) >>= (λ os. pure (z ∷ os))) value-next
                   (stop-first text (λ (zs : List Ir.Operand). pure (operandOf o ∷ zs)) h)))
 
+              -- what was typed now, with this one
+              value-typed : Typed tree text T (c .turn) s (exprTypes tree text v) s₁
+              value-typed = rw (← scope-now, ← i .turn) (ty o k u)
+
+              pushed-turn : TypedIn tree text c s₀ (i .earlier ++ exprTypes tree text v) s₂
+              pushed-turn = typed-stay c (typed-both tree text T (c .turn) s₀ s s₁ (i .earlier) (exprTypes tree text v) (i .earlier-typed) value-typed)
+                  (turns-entry tree s₁ s₂ (operandBytes (operandOf o)) (entryAt (records tree) (at .operands)) put (operand-long (operandOf o)) (omega arith) (omega (arith, value-room)) (omega (arith, push-room)))
+
+              pushed-is : (i .earlier ++ exprTypes tree text v) ++ argsTypes tree text (wordOf tree w B) ≡ argsTypes tree text opening
+              unfolding typedArgs
+              pushed-is =
+                  append-assoc (i .earlier) (exprTypes tree text v) (argsTypes tree text (wordOf tree w B))
+                  ∙ ap (λ (z : List ℕ). i .earlier ++ z) (sym (ap typedArgs (found .opens))) ∙ i .earlier-is
+
               -- a value is pushed
               pub turn-value : {l′ s′ : List ℕ} {at′ : Converter} → l′ ≡ l₁ → s′ ≡ s₂ → at′ ≡ pushed → (b : ℕ) → b ≡ wordOf tree w B
                   → ArgsLeft tree text l₀ s₀ c e l′ s′ b at′
@@ -432,6 +473,10 @@ module _ {tree text l₀ s₀ : List ℕ} {c : Converter} {e : ℕ} (p : Convert
                     typed = pushed-typed;
                     below-is = omega (arith, i .below-is, under-is);
                     count-is = omega (arith, i .count-is, values-is);
+                    turn = i .turn;
+                    earlier = i .earlier ++ exprTypes tree text v;
+                    earlier-typed = pushed-turn;
+                    earlier-is = pushed-is;
                     spent = omega (arith, i .spent, converted-next n u .spent);
                     done = pushed-done;
                     stops = pushed-stops;

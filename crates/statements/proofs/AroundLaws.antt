@@ -2,7 +2,7 @@
 -- By the laws of steps in a row, each definition being the chain's own text; amounts by arithmetic. Assumes nothing.
 use mathlib.Core.Path.{_≡_, refl, sym, ap, _∙_, subst}
 use mathlib.Core.List.{List, []}
-use mathlib.Core.Option.{Option, some}
+use mathlib.Core.Option.{Option, none, some}
 use Prim.Native.Nat.{ℕ, zero, suc, _+_, _*_, _<_}
 use native.Mathlib.Omega.{arith}
 use lib.Dec.{eqb}
@@ -55,6 +55,7 @@ use Rattle.statements.specs.Converting.{withCounters, OperandIn, StaysFo
 use Rattle.statements.specs.Meets.{Adds}
 use Rattle.statements.specs.Parts.{jumpTo, jumpIfNot, placeLabel, finishUnary, beginLogic, joinAnd, joinOr, endLogic, finishBinary, passArgs, finishCall, operandType}
 use Rattle.statements.specs.Answers.{FitAdds, Converts, OperandTyped}
+use Rattle.statements.specs.Turns.{CommonTyped}
 use Rattle.statements.proofs.MeetLaws.{adds-then, adds-seq, adds-pure, adds-most, adds-same, adds-in}
 use Rattle.statements.proofs.StayLaws.{stays-refl, names-refl}
 use Rattle.statements.proofs.EmitLaws.{emit-adds, var-adds, label-adds}
@@ -159,7 +160,7 @@ is-common {tree = tree} {y = y} t q = go (subst (λ (z : Common). IsCommon tree 
     go (IsCommon.is h) = h
 
 module _ {tree text s s′ : List ℕ} (c : Converter) (e y : ℕ) {a b : ℕ} {t : Common} (ea : a ≡ wordOf tree e A) (eb : b ≡ wordOf tree e B)
-    (m : CommonMeets tree text s (c .scope) a b t s′) where
+    (m : CommonMeets tree text s (c .scope) (c .turn) a b t s′) where
   meets-as : (u : ExprType) → operandType (commonResult t) y ≡ typeResult u
       → operandType (common-type (program tree text) (allKeys tree text) (exprAt tree text (wordOf tree e A)) (exprAt tree text (wordOf tree e B)) (scopeAt tree text s (c .scope))) y ≡ typeResult u
   meets-as u q = rw (← ea, ← eb) (ap (λ (z : Result (Option ℕ)). operandType z y) (m .meets) ∙ q)
@@ -179,6 +180,23 @@ module _ {tree text s s′ : List ℕ} (c : Converter) (e y : ℕ) {a b : ℕ} {
   pub common-neither : t ≡ Common.Neither → TypeAt tree y → OperandTyped tree text s c e y (ExprType.Is y) s′
   unfolding operandType commonResult typeResult
   common-neither q h = record { frame = m .frame; typed = IsTyped.is h; meets = meets-as (ExprType.Is y) (ap (λ (z : Common). operandType (commonResult z) y) q) }
+
+-- both sides are typed
+module _ {tree text s s′ : List ℕ} (c : Converter) (e : ℕ) {a b : ℕ} {t : Common} (ea : a ≡ wordOf tree e A) (eb : b ≡ wordOf tree e B)
+    (m : CommonMeets tree text s (c .scope) (c .turn) a b t s′) where
+  sides-types : (o : Option ℕ) → commonResult t ≡ ok o → (u : ExprType) → CommonTyped c e tree text s u s′
+  sides-types o q u z h = rw (← ea, ← eb) (m .adds o q)
+
+  pub is-types : (z : ℕ) → t ≡ Common.Is z → (u : ExprType) → CommonTyped c e tree text s u s′
+  unfolding commonResult
+  is-types z q u = sides-types (some z) (ap commonResult q) u
+
+  pub neither-types : t ≡ Common.Neither → (u : ExprType) → CommonTyped c e tree text s u s′
+  unfolding commonResult
+  neither-types q u = sides-types none (ap commonResult q) u
+
+pub refused-common : {X : Type 0} {x : ConvertError} (y : ℕ) → ExprType.Refused x ≡ ExprType.Is y → X
+refused-common y h = let z : _≡_ {A = ℕ} 0 1 = cc in absurd (omega arith)
 
 -- ---- calls
 

@@ -42,7 +42,7 @@ use Rattle.statements.specs.declared.answers.Stated.the-variants as Stat
 use Rattle.statements.specs.declared.answers.Finished.{Finished}
 use Rattle.statements.specs.declared.answers.Finished.the-variants as Finished
 use Rattle.statements.specs.Meets.{StepAnswer, gave, refused, Adds, AddsIn, Meets}
-use Rattle.statements.specs.Converting.{Converting, withCounters, BehindAfforded, StatementAfforded, behindAmount, blockAmount}
+use Rattle.statements.specs.Converting.{Converting, BehindAfforded, StatementAfforded, behindAmount, blockAmount}
 use Rattle.statements.specs.Parts.{loopBack}
 use Rattle.statements.specs.Answers.{statedWith, Leaves, States, Finishes, scopeIn, statementSteps, blockSteps, declareSteps, initSteps, returnSteps, callStatementSteps, breakSteps, continueSteps, plainSteps, jumpSteps, ifSteps, whileSteps, forSteps, StatesAs, FinishesAs, StatementAs, BlockAs}
 use Rattle.statements.proofs.MeetLaws.{adds-in, adds-seq, adds-pure, adds-most, meets-gave, meets-refused, meets-same, meets-most, meets-drop}
@@ -85,6 +85,10 @@ module _ (tree : List ℕ) (r : ℕ) {node : ℕ} (e : node ≡ kindOf tree r) w
     jump-continue n p = rw (no 22 n) p
 
 -- ---- a statement is its comment, and what its kind does
+
+-- behind the comment, in a turn of its own
+abbrev pub begun : Converter → Counters → Converter
+begun c k = record { functions = c .functions; scope = c .scope; counters = k; operands = c .operands; turn = k .instructions }
 
 -- the kind that is left when all others are excluded
 pub last-kind : {node : ℕ} → 18 < node → node < 22 → (node ≡ 19 → ⊥) → (node ≡ 20 → ⊥) → node ≡ 21
@@ -131,14 +135,16 @@ module _ {tree text l s : List ℕ} {c : Converter} {r : ℕ} (p : Converting tr
   abbrev size : ℕ
   size = statementRecords (statementAt tree text r)
 
-  pub comment-converting : Converting tree text l₁ s (withCounters c k)
-  comment-converting = converting-next p (next-in text (i .next)) (stays-refl (records tree) (c .scope .names) (c .operands) s)
+  pub comment-converting : Converting tree text l₁ s (begun c k)
+  comment-converting =
+      let q = converting-next p (next-in text (i .next)) (stays-refl (records tree) (c .scope .names) (c .operands) s) in
+      record { ready = q .ready; function = q .function; records-are = q .records-are; room = q .room }
 
-  pub comment-afforded : BehindAfforded tree text (withCounters c k) r
+  pub comment-afforded : BehindAfforded tree text (begun c k) r
   comment-afforded = omega (arith, f, i .spent)
 
   module _ {l₂ s₂ : List ℕ} {a : Stated} where
-    commented : {m : M Def.Scope} → statementSteps tree text s c r ≡ emit (Comment r) >> m → States tree text m (behindAmount size) size (withCounters c k) l₁ s a l₂ s₂
+    commented : {m : M Def.Scope} → statementSteps tree text s c r ≡ emit (Comment r) >> m → States tree text m (behindAmount size) size (begun c k) l₁ s a l₂ s₂
         → StatementAs statementSteps c r tree text l s a l₂ s₂
     commented {m} e q = states-same (sym e) (record {
       meets = meets-most text (seq-then text m long (adds-in text (emit-adds long i)) (q .meets)) (omega arith);
@@ -147,24 +153,24 @@ module _ {tree text l s : List ℕ} {c : Converter} {r : ℕ} (p : Converting tr
     })
 
     module _ {node : ℕ} (e : node ≡ kindOf tree r) where
-      pub commented-plain : node ≤ 18 → StatesAs plainSteps (withCounters c k) r tree text l₁ s a l₂ s₂ → StatementAs statementSteps c r tree text l s a l₂ s₂
+      pub commented-plain : node ≤ 18 → StatesAs plainSteps (begun c k) r tree text l₁ s a l₂ s₂ → StatementAs statementSteps c r tree text l s a l₂ s₂
       commented-plain h q = commented (plain-is tree text good s c r (x .below) (x .least) (omega (arith, e, h))) q
 
-      pub commented-jump : 22 ≤ node → StatesAs jumpSteps (withCounters c k) r tree text l₁ s a l₂ s₂ → StatementAs statementSteps c r tree text l s a l₂ s₂
+      pub commented-jump : 22 ≤ node → StatesAs jumpSteps (begun c k) r tree text l₁ s a l₂ s₂ → StatementAs statementSteps c r tree text l s a l₂ s₂
       commented-jump h q = commented (jump-is tree text good s c r (x .below) (omega (arith, e, h)) (x .most)) q
 
       module _ {done : Finished} (w : a ≡ statedWith (c .scope) done) where
         left-scope : {m : M Def.Scope} → statementSteps tree text s c r ≡ emit (Comment r) >> m
-            → Finishes tree text m (scopeIn tree text s c) (behindAmount size) (withCounters c k) l₁ s done l₂ s₂ → StatementAs statementSteps c r tree text l s a l₂ s₂
-        left-scope {m} is q = commented is (subst (λ (z : Stated). States tree text m (behindAmount size) size (withCounters c k) l₁ s z l₂ s₂) (sym w) (go done q))
+            → Finishes tree text m (scopeIn tree text s c) (behindAmount size) (begun c k) l₁ s done l₂ s₂ → StatementAs statementSteps c r tree text l s a l₂ s₂
+        left-scope {m} is q = commented is (subst (λ (z : Stated). States tree text m (behindAmount size) size (begun c k) l₁ s z l₂ s₂) (sym w) (go done q))
           where
-            go : (d : Finished) → Finishes tree text m (scopeIn tree text s c) (behindAmount size) (withCounters c k) l₁ s d l₂ s₂
-                → States tree text m (behindAmount size) size (withCounters c k) l₁ s (statedWith (c .scope) d) l₂ s₂
+            go : (d : Finished) → Finishes tree text m (scopeIn tree text s c) (behindAmount size) (begun c k) l₁ s d l₂ s₂
+                → States tree text m (behindAmount size) size (begun c k) l₁ s (statedWith (c .scope) d) l₂ s₂
             go (Finished.Done j) g = record {
               meets = subst (λ (z : Def.Scope). Meets text m (behindAmount size) k l₁ l₂ (gave z j)) (sym (scope-later comment-converting (g .stays))) (g .meets);
               leaves = λ sc j′ d.
                   let same : c .scope ≡ sc = cc in
-                  subst (λ (z : Scope). Leaves tree text size (withCounters c k) s₂ z) same (leaves-same comment-converting (g .stays));
+                  subst (λ (z : Scope). Leaves tree text size (begun c k) s₂ z) same (leaves-same comment-converting (g .stays));
               stays = g .stays;
             }
             go (Finished.Refused z) g = record {
@@ -173,13 +179,13 @@ module _ {tree text l s : List ℕ} {c : Converter} {r : ℕ} (p : Converting tr
               stays = g .stays;
             }
 
-        pub commented-if : node ≡ 19 → FinishesAs ifSteps (withCounters c k) r tree text l₁ s done l₂ s₂ → StatementAs statementSteps c r tree text l s a l₂ s₂
+        pub commented-if : node ≡ 19 → FinishesAs ifSteps (begun c k) r tree text l₁ s done l₂ s₂ → StatementAs statementSteps c r tree text l s a l₂ s₂
         commented-if h q = left-scope (if-is tree text good s c r (x .below) (sym e ∙ h)) q
 
-        pub commented-while : node ≡ 20 → FinishesAs whileSteps (withCounters c k) r tree text l₁ s done l₂ s₂ → StatementAs statementSteps c r tree text l s a l₂ s₂
+        pub commented-while : node ≡ 20 → FinishesAs whileSteps (begun c k) r tree text l₁ s done l₂ s₂ → StatementAs statementSteps c r tree text l s a l₂ s₂
         commented-while h q = left-scope (while-is tree text good s c r (x .below) (sym e ∙ h)) q
 
-        pub commented-for : node ≡ 21 → FinishesAs forSteps (withCounters c k) r tree text l₁ s done l₂ s₂ → StatementAs statementSteps c r tree text l s a l₂ s₂
+        pub commented-for : node ≡ 21 → FinishesAs forSteps (begun c k) r tree text l₁ s done l₂ s₂ → StatementAs statementSteps c r tree text l s a l₂ s₂
         commented-for h q = left-scope (for-is tree text good s c r (x .below) (sym e ∙ h)) q
 
 -- ---- a block in a row with what stands behind it
@@ -228,7 +234,7 @@ module _ (tree text : List ℕ) (good : Good tree text) (r : ℕ) (h : r < recor
 -- ---- the body of a loop, whose scope is inside the loop
 
 abbrev pub placed : Converter → Scope → Counters → Converter
-placed c sc k = record { functions = c .functions; scope = sc; counters = k; operands = c .operands }
+placed c sc k = record { functions = c .functions; scope = sc; counters = k; operands = c .operands; turn = c .turn }
 
 module _ {tree text l s : List ℕ} (c : Converter) {r : ℕ} {sc inner : Scope} {k : Counters} (p : Converting tree text l s (placed c sc k)) (h : r < records tree) (e : inner ≡ within r sc) where
   pub inner-converting : Converting tree text l s (placed c inner k)

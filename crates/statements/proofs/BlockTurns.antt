@@ -18,6 +18,7 @@ use Rattle.conversion.specs.ConvertError.{ConvertErrorKind}
 use Rattle.conversion.specs.Ir.{M, _>>=_, pure}
 use Rattle.conversion.specs.Scope as Def
 use Rattle.conversion.specs.Statements.{convert-statement, convert-block}
+use Rattle.conversion.specs.Visits.{statementVisits, blockVisits}
 use Rattle.ir.specs.declared.structs.Counters.{Counters}
 use Rattle.ir.specs.Amounts.{Spent}
 use Rattle.ir.specs.Steps.{NextIn, StopsIn}
@@ -33,9 +34,15 @@ use Rattle.statements.specs.declared.answers.Finished.the-variants as Fi
 use Rattle.statements.specs.Meets.{AddsIn}
 use Rattle.statements.specs.Converting.{Converting, BlockAfforded, StatementAfforded, StaysFor, blockAmount, statementAmount}
 use Rattle.statements.specs.Answers.{statedOf, scopeIn, blockSteps, statementSteps, StatementAs, BlockAs}
+use Rattle.statements.specs.Turns.{Turns, Visited, StatementVisited, BlockVisited}
+use Rattle.statements.proofs.TurnLaws.{turns-refl, visited-stay, visited-next}
 use Rattle.statements.proofs.MeetLaws.{meets-gave, meets-refused}
 use Rattle.statements.proofs.StayLaws.{stays-refl, stays-then}
 use Rattle.statements.proofs.BlockLaws.{placed, bodyIn, bodySize}
+
+-- the visits of the block that word w opens
+abbrev pub visitsFrom : List ℕ → List ℕ → ℕ → ℕ
+visitsFrom tree text w = blockVisits (records tree) (blockAt tree text w)
 
 -- of the block that word `first` opens the statements from cell w on are left
 pub record BlockLeft (tree text l₀ s₀ : List ℕ) (c : Converter) (first : ℕ) (l s : List ℕ) (w : ℕ) (at : Converter) : Type 0 where
@@ -55,10 +62,13 @@ pub record BlockLeft (tree text l₀ s₀ : List ℕ) (c : Converter) (first : �
       → NextIn text (bodyIn tree text first (scopeIn tree text s₀ c)) (c .counters) l₀ S k l′
   pub stops : (k : ConvertErrorKind) (r : ℕ) → StopsIn text (bodyIn tree text w (scopeIn tree text s at)) (at .counters) l k r
       → StopsIn text (bodyIn tree text first (scopeIn tree text s₀ c)) (c .counters) l₀ k r
+  pub seen : ℕ
+  pub visited : Visited tree s₀ seen (at .counters) s
+  pub seen-is : seen + visitsFrom tree text w ≡ visitsFrom tree text first
 
 module _ {tree text l₀ s₀ : List ℕ} {c : Converter} {first : ℕ} (p : Converting tree text l₀ s₀ c) (f : BlockAfforded tree text c first) (x : BodyAt tree first) where
-  pub block-start : BlockLeft tree text l₀ s₀ c first l₀ s₀ first c
-  block-start = record {
+  pub block-start : Turns tree s₀ (c .counters) → BlockLeft tree text l₀ s₀ c first l₀ s₀ first c
+  block-start t = record {
     passed = 0;
     functions = refl;
     operands = refl;
@@ -73,6 +83,9 @@ module _ {tree text l₀ s₀ : List ℕ} {c : Converter} {first : ℕ} (p : Con
     spent = omega arith;
     gives = λ S k l′ h. h;
     stops = λ k r h. h;
+    seen = 0;
+    visited = visited-stay (turns-refl tree s₀) t;
+    seen-is = omega arith;
   }
 
   module _ {l s : List ℕ} {w : ℕ} {at : Converter} (i : BlockLeft tree text l₀ s₀ c first l s w at) where
@@ -95,6 +108,14 @@ module _ {tree text l₀ s₀ : List ℕ} {c : Converter} {first : ℕ} (p : Con
           stays = i .stays;
         }
 
+    pub block-visited : w ≡ none → BlockVisited first tree text s₀ (Finished.Done (at .counters)) s
+    unfolding blockVisits
+    block-visited q k e =
+        let over : visitsFrom tree text w ≡ 0 = ap (λ (z : ℕ). visitsFrom tree text z) q ∙ ap (blockVisits (records tree)) (block-end tree text good) in
+        let same : at .counters ≡ k = cc in
+        let all : i .seen ≡ visitsFrom tree text first = omega (arith, i .seen-is, over) in
+        subst (λ (j : Counters). Visited tree s₀ (visitsFrom tree text first) j s) same (subst (λ (v : ℕ). Visited tree s₀ v (at .counters) s) all (i .visited))
+
     module _ (more : w ≡ none → ⊥) where
       cell : Cell tree text good Body w
       cell = cell-is tree text good Body w (i .cells) more
@@ -111,6 +132,10 @@ module _ {tree text l₀ s₀ : List ℕ} {c : Converter} {first : ℕ} (p : Con
       size-is : bodySize tree text w ≡ 1 + (statementRecords (statementAt tree text (wordOf tree w A)) + bodySize tree text (wordOf tree w B))
       unfolding blockRecords
       size-is = ap blockRecords opens
+
+      visits-is : visitsFrom tree text w ≡ statementVisits (records tree) (statementAt tree text (wordOf tree w A)) + visitsFrom tree text (wordOf tree w B)
+      unfolding blockVisits
+      visits-is = ap (blockVisits (records tree)) opens
 
       module _ {r : ℕ} (er : r ≡ wordOf tree w A) where
         pub turn-statement : (r < left first) × IsStatement tree r
@@ -154,8 +179,8 @@ module _ {tree text l₀ s₀ : List ℕ} {c : Converter} {first : ℕ} (p : Con
                 }
 
             -- a statement is converted
-            pub turn-next : (v : ℕ) → v ≡ wordOf tree w B → BlockLeft tree text l₀ s₀ c first l₁ s₁ v (placed at sc k)
-            turn-next v ev = subst (λ (z : ℕ). BlockLeft tree text l₀ s₀ c first l₁ s₁ z (placed at sc k)) (sym ev) (record {
+            pub turn-next : StatementVisited r tree text s a s₁ → (v : ℕ) → v ≡ wordOf tree w B → BlockLeft tree text l₀ s₀ c first l₁ s₁ v (placed at sc k)
+            turn-next t v ev = subst (λ (z : ℕ). BlockLeft tree text l₀ s₀ c first l₁ s₁ z (placed at sc k)) (sym ev) (record {
               passed = i .passed + (1 + statementRecords (statementAt tree text r));
               functions = i .functions;
               operands = i .operands;
@@ -172,4 +197,7 @@ module _ {tree text l₀ s₀ : List ℕ} {c : Converter} {first : ℕ} (p : Con
                   (then-in text (λ S′. bodyIn tree text (wordOf tree w B) S′) (added .next) g));
               stops = λ d b g. i .stops d b (subst (λ (m : M Def.Scope). StopsIn text m (at .counters) l d b) (sym opens-here)
                   (then-stop text (λ S′. bodyIn tree text (wordOf tree w B) S′) (added .next) g));
+              seen = i .seen + statementVisits (records tree) (statementAt tree text r);
+              visited = visited-next (i .visited) (t sc k u);
+              seen-is = omega (arith, i .seen-is, visits-is, ap (λ (z : ℕ). statementVisits (records tree) (statementAt tree text z)) er);
             })

@@ -2,7 +2,7 @@
 -- By what `declare` owes: its entry stands behind the open names, and the variable's type is one of the tree's. Assumes nothing.
 use mathlib.Core.Path.{_≡_, refl, sym, ap, _∙_, subst}
 use mathlib.Core.Bool.{Bool, true, false}
-use mathlib.Core.List.{List}
+use mathlib.Core.List.{List, []}
 use mathlib.Core.Option.{Option, some}
 use Prim.Native.Nat.{ℕ, zero, suc, _+_, _*_, _/_, _%_, _≤_, _<_}
 use native.Mathlib.Decide.{decLt}
@@ -63,8 +63,10 @@ use Rattle.statements.specs.Meets.{StepAnswer, gave, refused, Adds, Meet
 use Rattle.statements.specs.Converting.{Converting, RoomFor, BehindAfforded, StaysFor, behindAmount}
 use Rattle.statements.specs.Parts.{jumpTo, zeroFloat}
 use Rattle.statements.specs.Answers.{finishedOf, Leaves, States, StatesAs, declareSteps, breakSteps, continueSteps}
+use Rattle.statements.specs.Turns.{InTurn, TypedIn, TurnsStay}
 use Rattle.statements.proofs.MeetLaws.{adds-in, adds-then, adds-seq, adds-pure, adds-most, adds-same, meets-gave, meets-refused, meets-same, meets-then, meets-lift}
 use Rattle.statements.proofs.StayLaws.{stays-refl, name-stays, original-word, ready-stays}
+use Rattle.statements.proofs.TurnLaws.{turns-entry, stay-typed}
 use Rattle.statements.proofs.FitLaws.{forms, type-is}
 use Rattle.statements.proofs.EmitLaws.{emit-adds, var-adds}
 use Rattle.statements.proofs.StatedLaws.{states-gave, states-refused, states-same, states-most, seq-then, seq-not, leaves-same}
@@ -93,6 +95,12 @@ module _ {tree text l s : List ℕ} {c : Converter} (p : Converting tree text l 
           name-stays (records tree) (c .scope .names) (c .operands) s s′ (nameEntry (originalWord tree s r A) (originalWord tree s r B) v constant) (8 * c .scope .records + 16 * c .scope .names)
           (a .written) (entry-long (originalWord tree s r A) (originalWord tree s r B) v constant) (omega (arith, p .ready .scoped .room .scratch, p .ready .scoped .records-are))
           (omega (arith, p .ready .scoped .records-are)) few
+
+      added-turns : TurnsStay tree s s′
+      added-turns =
+          turns-entry tree s s′ (nameEntry (originalWord tree s r A) (originalWord tree s r B) v constant) (8 * c .scope .records + 16 * c .scope .names) (a .written)
+          (entry-long (originalWord tree s r A) (originalWord tree s r B) v constant) (omega (arith, p .ready .scoped .records-are)) (omega (arith, p .ready .scoped .records-are))
+          (omega (arith, p .ready .scoped .room .scratch, p .ready .scoped .records-are))
 
       kept : Ready tree text s′ (c .functions) (c .scope)
       kept = ready-stays tree added-stays text (c .functions) (c .scope) (omega arith) (p .ready)
@@ -146,6 +154,13 @@ module _ {tree text l s : List ℕ} {c : Converter} (p : Converting tree text l 
       -- done: what stays, the scope that is left, and the definition's scope
       pub declared-stays : {sc′ : Scope} → d ≡ Declared.Done sc′ → StaysFor tree c s s′
       declared-stays q = added-stays (was-added q)
+
+      -- nothing was typed
+      pub declared-turns : {sc′ : Scope} → d ≡ Declared.Done sc′ → TurnsStay tree s s′
+      declared-turns q = added-turns (was-added q)
+
+      pub declared-types : {sc′ : Scope} → d ≡ Declared.Done sc′ → InTurn tree text s c → TypedIn tree text c s [] s′
+      declared-types q i = stay-typed (declared-turns q) text (scopeAt tree text s (c .scope)) (c .turn) i
 
       pub declared-leaves : {sc′ : Scope} → d ≡ Declared.Done sc′ → Leaves tree text 1 c s′ sc′
       declared-leaves q = added-leaves (was-added q)
@@ -331,6 +346,9 @@ module _ {tree text l s : List ℕ} {c : Converter} (p : Converting tree text l 
           variable-not p long newly declare-few declare-type r declare-asked false s′ m r
           (λ (x : Ir.VarId) (S : Def.Scope). zeroValue (program tree text) (allKeys tree text) r x (typeAt tree text (wordOf tree r C)) >> pure S) q w in
           states-refused long (n .stops z refl) (taken-stays p (made .var) declare-few (var-typed p long newly declare-few declare-type) r declare-asked false s′ m q)
+
+      pub declare-types : {sc′ : Scope} → d ≡ Declared.Done sc′ → InTurn tree text s c → TypedIn tree text c s [] s′
+      declare-types q u = declared-types p (made .var) declare-few (var-typed p long newly declare-few declare-type) r declare-asked false s′ m q u
 
       module _ {sc′ : Scope} (q : d ≡ Declared.Done sc′) {l₂ : List ℕ} (a : Finished)
           (zero : (t : List ℕ) (F : Functions) → Meets t (zeroValue (program tree t) F r (varOf (made .var)) (typeAt tree t (made .var .1))) (amount 1 0 0 0 1) (made .counters) l₁ l₂ (finishedOf tt a)) where

@@ -110,7 +110,7 @@ part-of {tree = tree} {text = text} {l = l} {l₁ = l₁} {s = s} {s₁ = s₁} 
 -- ---- an expression, once it is typed
 
 module _ {tree text l s : List ℕ} {c : Converter} {e : ℕ} (p : Converting tree text l s c) (x : IsExpr tree e) {ty : ExprType} {s₁ : List ℕ}
-    (m : TypeMeets tree text s (c .scope) e ty s₁) where
+    (m : TypeMeets tree text s (c .scope) (c .turn) e ty s₁) where
   abbrev S : Def.Scope
   S = scopeAt tree text s (c .scope)
 
@@ -121,7 +121,7 @@ module _ {tree text l s : List ℕ} {c : Converter} {e : ℕ} (p : Converting tr
   typed-converting = converting-frame p (m .frame)
 
   same-scope : scopeAt tree text s₁ (c .scope) ≡ S
-  same-scope = scope-frame tree s s₁ (m .frame) text (c .scope) (p .ready .scoped .records-are)
+  same-scope = scope-frame tree s s₁ (m .frame) text (c .scope) (p .ready .scoped)
 
   typed-stays : StaysFor tree c s s₁
   typed-stays = frame-stays (c .scope .names) (c .operands) (m .frame)
@@ -300,7 +300,7 @@ module _ {tree text l s : List ℕ} {c : Converter} {e y : ℕ} (p : Converting 
     unfolding convert-binary typeResult
     fitted-by g same i =
         let o = common-ok sides y q (m .meets ∙ ap typeResult w) in
-        let i′ = converts-same (ap g (scope-frame tree s s₁ (m .frame) text (c .scope) (p .ready .scoped .records-are)) ∙ same (o .common) (o .fitted)) i in
+        let i′ = converts-same (ap g (scope-frame tree s s₁ (m .frame) text (c .scope) (p .ready .scoped)) ∙ same (o .common) (o .fitted)) i in
         record {
           meets = meets-lift text by (p .room) (o .is) (i′ .meets);
           operand = i′ .operand;
@@ -354,7 +354,7 @@ module _ {tree text l s : List ℕ} {c : Converter} {e : ℕ} (p : Converting tr
   under-b = ap (λ (z : ℕ). under (exprAt tree text z)) eb
 
   later : {s₁ : List ℕ} → StaysFor tree c s s₁ → scopeAt tree text s₁ (c .scope) ≡ U
-  later st = scope-stays tree st text (c .scope) (p .ready .scoped .records-are) (omega arith)
+  later st = scope-stays tree st text (c .scope) (p .ready .scoped) (omega arith)
 
   pub left-afforded : ExprAfforded tree text c a
   left-afforded = omega (arith, f, binary-under, under-a)

@@ -30,9 +30,11 @@ use Rattle.statements.specs.Meets.{Adds}
 use Rattle.statements.specs.Parts.{passArgs}
 use Rattle.statements.specs.declared.answers.AtValue.{AtValue}
 use Rattle.statements.specs.Answers.{FitAdds, FirstValue}
+use Rattle.statements.specs.Turns.{TurnsStay}
 use Rattle.statements.proofs.MeetLaws.{adds-then, adds-seq, adds-pure, adds-most, adds-same}
 use Rattle.statements.proofs.StayLaws.{stays-refl, stays-then, operand-stays, stack-kept}
 use Rattle.statements.proofs.StackLaws.{operand-long, stack-last}
+use Rattle.statements.proofs.TurnLaws.{turns-refl, turns-then, turns-entry}
 
 -- ---- the stack from an entry on
 
@@ -91,7 +93,7 @@ module _ (s : List ℕ) (n first count : ℕ) (k₀ : Counters) (l₀ : List ℕ
 
 -- ---- an entry is written
 
-module _ (s s′ : List ℕ) (n i : ℕ) (o : Ir.Operand) (e : s′ ≡ splice s (entryAt n i) (operandBytes o)) (fits : 64 * n ≤ length s) (low : i < n) where
+module _ (s s′ : List ℕ) (n i : ℕ) (o : Ir.Operand) (e : s′ ≡ splice s (entryAt n i) (operandBytes o)) (fits : 72 * n ≤ length s) (low : i < n) where
   byte : (q : ℕ) → entryAt n i + 16 ≤ q → getD s′ q 0 ≡ getD s q 0
   byte q h = ap (λ (x : List ℕ). getD x q 0) e ∙ byte-apart s (entryAt n i) (operandBytes o) (omega (arith, operand-long o)) q (inr (omega (arith, operand-long o)))
 
@@ -125,6 +127,7 @@ pub record FitLeft (tree text s₀ : List ℕ) (given : Args) (f : Function) (fi
   pub types : (i : ℕ) → expectedType (paramsAt tree text parameter) (argsAt tree text argument) i ≡ expectedType (f .params) given (j + i)
   pub operands : (i : ℕ) → first + j ≤ i → i < first + count → OperandIn tree (operandAt s (records tree) i)
   pub stays : (names : ℕ) → names ≤ records tree → Stays (records tree) names first s₀ s
+  pub turns : TurnsStay tree s₀ s
   pub rest : (k′ : Counters) (l′ : List ℕ) (os : List Ir.Operand)
       → Adds (fitFrom (program tree text) j (stackAt s (records tree) (first + j) (count - j)) given f) (amount (count - j) (count - j) 0 0 (count - j)) k l os k′ l′
       → Adds (fit-args (program tree text) (stackAt s₀ (records tree) first count) given f) (amount count count 0 0 count) k₀ l₀ (stackAt s (records tree) first j ++ os) k′ l′
@@ -142,6 +145,7 @@ module _ (tree text s₀ : List ℕ) (given : Args) (f : Function) (first count 
         ∙ ap (λ (l : Args). expectedType (f .params) l i) (sym ea) ∙ ap (expectedType (f .params) given) z;
     operands = λ i a b. ops i (omega arith) b;
     stays = λ names a. stays-refl (records tree) names first s₀;
+    turns = turns-refl tree s₀;
     rest = λ k′ l′ os a. adds-most (adds-same (ap (λ z. fitFrom (program tree text) 0 z given f) (whole s₀ (records tree) first count)) a) (omega arith);
   }
 
@@ -155,8 +159,8 @@ module _ (tree text s₀ : List ℕ) (given : Args) (f : Function) (first count 
         (x .rest k l [] (adds-same (sym (ap (λ z. fitFrom (program tree text) j z given f) (over s (records tree) first j count h)))
         (adds-most (adds-pure [] k l (x .room .room)) (omega arith))))
 
-    module _ (more-left : j < count) (room : first + count ≤ records tree) (long : 64 * records tree ≤ length s₀) where
-      scratch-long : 64 * records tree ≤ length s
+    module _ (more-left : j < count) (room : first + count ≤ records tree) (long : 72 * records tree ≤ length s₀) where
+      scratch-long : 72 * records tree ≤ length s
       scratch-long = omega (arith, long, x .stays 0 (omega arith) .long)
 
       module _ (o : Operand) (eo : operandOf o ≡ operandAt s (records tree) (first + j)) where
@@ -181,7 +185,7 @@ module _ (tree text s₀ : List ℕ) (given : Args) (f : Function) (first count 
           grown : (os : List Ir.Operand) → stackAt s (records tree) first j ++ (operandOf (r .operand) ∷ os) ≡ stackAt s₁ (records tree) first (j + 1) ++ os
           grown os =
               let z : suc j ≡ j + 1 = omega arith in
-              let kept : stackAt s₁ (records tree) first j ≡ stackAt s (records tree) first j = stack-kept tree (written 0 (omega arith)) j first (omega arith) in
+              let kept : stackAt s₁ (records tree) first j ≡ stackAt s (records tree) first j = stack-kept tree (written 0 (omega arith)) j first (omega arith) (omega arith) in
               sym (ap (λ (n : ℕ). stackAt s₁ (records tree) first n ++ os) (sym z)
               ∙ ap (λ (v : List Ir.Operand). v ++ os) (stack-last s₁ (records tree) first j)
               ∙ append-assoc (stackAt s₁ (records tree) first j) (operandAt s₁ (records tree) (first + j) ∷ []) os
@@ -219,6 +223,8 @@ module _ (tree text s₀ : List ℕ) (given : Args) (f : Function) (first count 
             operands = λ i h m. subst (λ (w : Ir.Operand). OperandIn tree w)
                 (sym (entry-behind s s₁ (records tree) (first + j) (operandOf (r .operand)) put scratch-long (omega arith) i (omega arith))) (x .operands i (omega arith) m);
             stays = λ names h. stays-then (omega arith) (omega arith) (x .stays names h) (written names h);
+            turns = turns-then (x .turns) (turns-entry tree s s₁ (operandBytes (operandOf (r .operand))) (entryAt (records tree) (first + j)) put
+                (operand-long (operandOf (r .operand))) (omega arith) (omega arith) (omega (arith, scratch-long)));
             rest = λ k′ l′ os b. subst (λ w. Adds (fit-args (program tree text) (stackAt s₀ (records tree) first count) given f) (amount count count 0 0 count) k₀ l₀ w k′ l′)
                 (grown os) (x .rest k′ l′ (operandOf (r .operand) ∷ os) (step k′ l′ os b));
           }

@@ -3,7 +3,7 @@
 use mathlib.Core.Path.{_≡_, refl, sym, ap, _∙_, subst, fun-ext}
 use mathlib.Core.Logic.{_⊎_, inl, inr}
 use mathlib.Core.Bool.{Bool, true, false}
-use mathlib.Core.List.{List}
+use mathlib.Core.List.{List, _++_}
 use mathlib.Core.Option.{none as nothing, some}
 use Prim.Native.Nat.{ℕ, _+_, _*_, _%_, _≤_, _<_}
 use native.Mathlib.Omega.{arith}
@@ -51,7 +51,7 @@ use Rattle.expressions.specs.declared.answers.ExprType.the-variants as ExprType
 use Rattle.expressions.specs.declared.answers.Outcome.{Outcome}
 use Rattle.expressions.specs.declared.answers.Outcome.the-variants as Outcome
 use Rattle.texts.specs.Texts.{hasText}
-use Rattle.expressions.specs.Slots.{originalWord, Asked, Ready, typeIn}
+use Rattle.expressions.specs.Slots.{originalWord, Asked, Ready, Scoped, typeIn}
 use Rattle.expressions.proofs.OriginalLaws.{kind-asked}
 use Rattle.expressions.specs.Answers.{refusal, outcomeOf, TypeMeets}
 use Rattle.expressions.proofs.SlotLaws.{scope-frame, frame-trans}
@@ -67,10 +67,12 @@ use Rattle.statements.specs.Meets.{StepAnswer, gave, AddsIn, Meets}
 use Rattle.statements.specs.Parts.{knownVariable, forVariable, forBounds, forBegin, forTest, forTurns, forHead}
 use Rattle.statements.specs.Converting.{Converting, withCounters, Afforded, BehindAfforded, forHeadAmount, Stays, StaysFor, NamesStay}
 use Rattle.statements.specs.Answers.{variableOf, Leaves, States, Finishes, FindsVariable, Checks, scopeIn, forVariableSteps, forBoundsSteps, forBeginSteps, forTestSteps, forTurnsSteps, forHeadSteps, boundsUnder}
+use Rattle.statements.specs.Turns.{InTurn, TypedIn, TurnsStay, boundTypes, boundsTypes, forBeginTypes, forTestTypes, forTypes, StatesTyped, FinishesTyped, VariableTyped, ChecksTyped}
+use Rattle.statements.proofs.TurnLaws.{stay-typed, in-turn-next, typed-next}
 use Rattle.statements.proofs.MeetLaws.{adds-in, adds-pure, adds-most, adds-same, meets-gave, meets-refused, meets-same, meets-most, meets-then, meets-lift}
 use Rattle.statements.proofs.StayLaws.{stays-refl, stays-then, stays-more, frame-stays, scope-stays, ready-stays, converting-next, converting-frame}
 use Rattle.statements.proofs.FitLaws.{type-is, forms-are}
-use Rattle.statements.proofs.DeclareLaws.{found-typed, declaredThen, var-typed, var-afforded, variable-then, variable-not, taken-stays, declared-stays, declared-leaves}
+use Rattle.statements.proofs.DeclareLaws.{found-typed, declaredThen, var-typed, var-afforded, variable-then, variable-not, taken-stays, declared-stays, declared-types, declared-leaves}
 use Rattle.statements.proofs.StatedLaws.{states-stop, states-gave, states-refused, finishes-refused, finished-next, finished-stop, leaves-same, scope-later, seq-then, seq-not, fails-as}
 
 -- ---- what changes nothing but may fail, and then the rest
@@ -118,7 +120,7 @@ abbrev boundsAt : List ℕ → List ℕ → List ℕ → Scope → ℕ → ℕ �
 boundsAt tree text s sc r y =
     forBounds (program tree text) (allKeys tree text) y (exprAt tree text (wordOf tree r B)) (exprAt tree text (wordOf tree r C)) (scopeAt tree text s sc)
 
-module _ {tree text s s₁ : List ℕ} {count : ℕ} {sc : Scope} {e : ℕ} {t : ExprType} (y : ℕ) (p : Ready tree text s count sc) (is : IsExpr tree e) (m : TypeMeets tree text s sc e t s₁) where
+module _ {tree text s s₁ : List ℕ} {count turn : ℕ} {sc : Scope} {e : ℕ} {t : ExprType} (y : ℕ) (p : Ready tree text s count sc) (is : IsExpr tree e) (m : TypeMeets tree text s sc turn e t s₁) where
   pub bound-asks : {q : ℕ} → TypeAt tree y → t ≡ ExprType.Is q → IsExpr tree e × IsType tree q × IsType tree y × (e < 4294967296) × (e < 4294967296)
   bound-asks {q} h w =
       let good = p .keyed .good in
@@ -164,7 +166,7 @@ module _ (tree text s : List ℕ) (sc : Scope) (r y : ℕ) {s₁ : List ℕ} {b 
     frame = m .frame;
   }
 
-  pub bounds-then : {d : ℕ} {a : Outcome} {s₂ : List ℕ} → sc .records ≡ records tree → o ≡ Outcome.Done → d ≡ wordOf tree r C
+  pub bounds-then : {d : ℕ} {a : Outcome} {s₂ : List ℕ} → Scoped tree s sc → o ≡ Outcome.Done → d ≡ wordOf tree r C
       → Checks tree (boundAt tree text s₁ sc d y) s₁ a s₂ → Checks tree (boundsAt tree text s sc r y) s a s₂
   unfolding forBounds outcomeOf
   bounds-then er w ed n = record {
@@ -176,7 +178,37 @@ module _ (tree text s : List ℕ) (sc : Scope) (r y : ℕ) {s₁ : List ℕ} {b 
     frame = frame-trans (m .frame) (n .frame);
   }
 
+-- a refusal owes nothing
+pub refused-outcome : {X : Type 0} {x : ConvertError} → Outcome.Refused x ≡ Outcome.Done → X
+refused-outcome q = let z : _≡_ {A = ℕ} 0 1 = cc in absurd (omega arith)
+
+-- what a check types in a turn, and then more of the turn
+module _ {tree text s s₁ : List ℕ} (c : Converter) {m : M (Unit {0})} {o : Outcome} {a : List ℕ} (er : Scoped tree s (c .scope)) (b : Checks tree m s o s₁)
+    (t : o ≡ Outcome.Done → TypedIn tree text c s a s₁) (d : o ≡ Outcome.Done) where
+  checked-scope : scopeAt tree text s₁ (c .scope) ≡ scopeAt tree text s (c .scope)
+  checked-scope = scope-frame tree s s₁ (b .frame) text (c .scope) er
+
+  pub checked-in-turn : InTurn tree text s₁ c
+  checked-in-turn = in-turn-next c checked-scope (t d)
+
+  pub checked-next : {e s₂ : List ℕ} → TypedIn tree text c s₁ e s₂ → TypedIn tree text c s (a ++ e) s₂
+  checked-next u = typed-next c checked-scope (t d) u
+
+pub bounds-typed : {tree text s s₁ s₂ : List ℕ} (c : Converter) (r : ℕ) {b d : ℕ} {m : M (Unit {0})} {o a : Outcome} → Scoped tree s (c .scope) → Checks tree m s o s₁
+    → ChecksTyped boundTypes c b tree text s o s₁ → o ≡ Outcome.Done → b ≡ wordOf tree r B → d ≡ wordOf tree r C → ChecksTyped boundTypes c d tree text s₁ a s₂
+    → ChecksTyped boundsTypes c r tree text s a s₂
+bounds-typed {tree} {text} {s} {s₂ = s₂} c r {b} {d} er m t w eb ed u q =
+    subst (λ (z : ℕ). TypedIn tree text c s (boundTypes tree text z ++ boundTypes tree text (wordOf tree r C)) s₂) eb
+    (subst (λ (z : ℕ). TypedIn tree text c s (boundTypes tree text b ++ boundTypes tree text z) s₂) ed (checked-next c er m t w (u q)))
+
 -- ---- the answer of a For's variable
+
+pub refused-variable : {X : Type 0} {e : ConvertError} (x : VarId) (sc : Scope) (k : Counters) → ForVariable.Refused e ≡ ForVariable.Is x sc k → X
+refused-variable x sc k q = let z : _≡_ {A = ℕ} 0 1 = cc in absurd (omega arith)
+
+-- it types nothing
+pub variable-typed-none : (c : Converter) {tree text s s′ : List ℕ} {a : ForVariable} → TurnsStay tree s s′ → InTurn tree text s c → VariableTyped c tree text s a s′
+variable-typed-none c {tree} {text} {s} f m x sc k q = stay-typed f text (scopeAt tree text s (c .scope)) (c .turn) m
 
 module _ {tree text l l′ s s′ : List ℕ} {m : M (Ir.VarId × Def.Scope)} {c : Converter} where
   pub variable-gave : {v : VarId} {sc : Scope} {k : Counters} → length l′ ≡ length l
@@ -294,6 +326,9 @@ module _ {tree text l s : List ℕ} {c : Converter} {r v : ℕ} (p : Converting 
           (var-typed p long new few typed) (declared-leaves p (made .var) few (var-typed p long new few typed) v asked false s′ m q)
           (declared-stays p (made .var) few (var-typed p long new few typed) v asked false s′ m q)
 
+      pub declared-none : {sc : Scope} → d ≡ Declared.Done sc → InTurn tree text s c → VariableTyped c tree text s (ForVariable.Is (made .var) sc (made .counters)) s′
+      declared-none q u x sc k e = declared-types p (made .var) few (var-typed p long new few typed) v asked false s′ m q u
+
 -- ---- the turns: x is the variable
 
 -- what is only checked leaves the tables
@@ -363,6 +398,19 @@ module _ {tree text l s : List ℕ} {c : Converter} (x : VarId) (r : ℕ) (p : C
         stays = stays-then (omega arith) (omega arith) bounds-stay (stays-then (omega arith) (omega arith) (g .stays) (q .stays));
       }
 
+-- in one turn
+module _ {tree text l s s₁ l₂ s₂ : List ℕ} {c : Converter} {m m′ : M (Unit {0})} {n : Amount} {o : Outcome} {a : Finished} {k : Counters} (r : ℕ) (p : Converting tree text l s c)
+    (b : Checks tree m s o s₁) (g : Finishes tree text m′ tt n c l s₁ a l₂ s₂) (u : FinishesTyped forBeginTypes c r tree text s₁ a s₂) (w : a ≡ Finished.Done k) where
+  test-scope : scopeIn tree text s₂ c ≡ scopeIn tree text s₁ c
+  test-scope = scope-later (checks-converting p b) (g .stays)
+
+  pub test-in-turn : InTurn tree text s₂ (withCounters c k)
+  test-in-turn = in-turn-next c test-scope (u k w)
+
+  pub turns-typed : {y : Finished} {s₃ : List ℕ} → ChecksTyped boundsTypes c r tree text s o s₁ → o ≡ Outcome.Done → FinishesTyped forTestTypes (withCounters c k) r tree text s₂ y s₃
+      → FinishesTyped forTypes c r tree text s y s₃
+  turns-typed t d v k′ q = checked-next c (p .ready .scoped) b t d (typed-next c test-scope (u k w) (v k′ q))
+
 -- ---- the head
 
 module _ {tree text l s l₁ s₁ : List ℕ} {c : Converter} (r : ℕ) (p : Converting tree text l s c) {a : ForVariable} (m : FindsVariable tree text (forVariableSteps tree text s c r) c l s a l₁ s₁) where
@@ -393,6 +441,14 @@ module _ {tree text l s l₁ s₁ : List ℕ} {c : Converter} (r : ℕ) (p : Con
           (is, m .variable x inner k w .0),
         )
 
+    module _ (t : VariableTyped c tree text s a s₁) where
+      pub head-in-turn : InTurn tree text s₁ (withCounters c k)
+      head-in-turn = in-turn-next c (scope-later p (m .stays)) (t x inner k w)
+
+      pub head-typed : {b : Finished} {k₁ : Counters} {s₂ : List ℕ} → b ≡ Finished.Done k₁ → FinishesTyped forTypes (withCounters c k) r tree text s₁ b s₂
+          → StatesTyped forTypes c r tree text s (Stated.Done inner k₁) s₂
+      head-typed {k₁ = k₁} d u sc k′ q = typed-next c (scope-later p (m .stays)) (t x inner k w) (u k₁ d)
+
     module _ {n : Amount} {b : Finished} {l₂ s₂ : List ℕ} (t : Finishes tree text (forTurnsSteps tree text s₁ (withCounters c k) x r) tt n (withCounters c k) l₁ s₁ b l₂ s₂) where
       head-stays : StaysFor tree c s s₂
       head-stays = stays-then (omega arith) (omega arith) (m .stays) (t .stays)
@@ -418,7 +474,7 @@ module _ {tree text l s l₁ s₁ : List ℕ} {c : Converter} (r : ℕ) (p : Con
           states-gave (t .meets .long ∙ m .meets .long)
           (head-scope (meets-most text (seq-then text (pure (scopeAt tree text s₁ inner)) (t .meets .long) (finished-next t d)
           (meets-gave text refl (adds-in text (adds-pure (scopeAt tree text s₁ inner) k₁ l₂ (finished-next t d .next .room))))) (omega arith))
-          .gives (scopeAt tree text s₂ inner) k₁ (ap (λ (S : Def.Scope). gave S k₁) (sym (scope-stays tree names text inner (h .ready .scoped .records-are) (omega arith)))))
+          .gives (scopeAt tree text s₂ inner) k₁ (ap (λ (S : Def.Scope). gave S k₁) (sym (scope-stays tree names text inner (h .ready .scoped) (omega arith)))))
           (record {
             ready = ready-stays tree names text (c .functions) inner (omega arith) (h .ready);
             function = h .function;

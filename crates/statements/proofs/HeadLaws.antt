@@ -45,6 +45,7 @@ use Rattle.statements.specs.Converting.{Converting, withCounters, RoomFo
 use Rattle.statements.specs.Meets.{Adds}
 use Rattle.statements.specs.Parts.{jumpTo, jumpIfNot, placeLabel, copyFitted, countOn, testBound, ifHead, whileHead, forBegin, forTest, ifMiddle, loopBack}
 use Rattle.statements.specs.Answers.{FitAdds, Converts, Finishes, exprSteps, condSteps, ifHeadSteps, whileHeadSteps, forBeginSteps, forTestSteps}
+use Rattle.statements.specs.Turns.{TypesAt, TypedIn, ConvertsTyped}
 use Rattle.statements.proofs.MeetLaws.{Most, adds-in, adds-then, adds-seq, adds-most, adds-same, meets-gave}
 use Rattle.statements.proofs.StayLaws.{stays-refl, converting-next}
 use Rattle.statements.proofs.EmitLaws.{emit-adds, var-adds}
@@ -308,3 +309,14 @@ module _ {tree text l s l₁ s₁ : List ℕ} {c : Converter} (r : ℕ) {e : ℕ
         → Finishes tree text (forTestSteps tree text s c x r) tt (turnsAmount (under (exprAt tree text (wordOf tree r C)))) c l s (Finished.Done k₂) l₂ s₁
     unfolding forTest
     test-done w g = operand-finishes (expr-at q i) (λ (o : Ir.Operand). testBound (program tree text) r (varOf x) o) w g (omega arith)
+
+-- ---- what the heads type
+
+-- a refusal owes nothing
+pub refused-finished : {X : Type 0} {z : ConvertError} (k : Counters) → Finished.Refused z ≡ Finished.Done k → X
+refused-finished k q = let y : _≡_ {A = ℕ} 0 1 = cc in absurd (omega arith)
+
+-- an operand, by its word, and then what types nothing
+pub operand-typed : (types : TypesAt) (c : Converter) {tree text s s₁ : List ℕ} {e w : ℕ} {a : Converted} {o : Operand} {k : Counters} {z : Finished} → e ≡ w
+    → ConvertsTyped types c e tree text s a s₁ → a ≡ Converted.Is o k → (k′ : Counters) → z ≡ Finished.Done k′ → TypedIn tree text c s (types tree text w) s₁
+operand-typed types c {tree} {text} {s} {s₁} {o = o} {k = k} q t w k′ d = subst (λ (x : ℕ). TypedIn tree text c s (types tree text x) s₁) q (t o k w)

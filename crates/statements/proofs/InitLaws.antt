@@ -1,8 +1,8 @@
 -- The Init, as the code meets it: a value assigned to a known variable, a new variable with its name and the copy, and which of both it is.
 -- By the laws of steps in a row: the scope stays while the value is typed and converted; amounts are arithmetic over the value's records. Assumes nothing.
 use mathlib.Core.Path.{_≡_, refl, sym, ap, ap₂, _∙_, subst}
-use mathlib.Core.Bool.{Bool, true, false}
-use mathlib.Core.List.{List}
+use mathlib.Core.Bool.{Bool, true, false, _||_}
+use mathlib.Core.List.{List, [], _++_}
 use mathlib.Core.Option.{Option, none, some}
 use Prim.Native.Nat.{ℕ, _+_, _*_, _≤_, _<_}
 use native.Mathlib.Omega.{arith}
@@ -10,6 +10,8 @@ use lib.Dec.{eqb}
 use lib.ListN.{length}
 use borrow.Author.Tests.{eq-eqb, ne-eqb}
 use Rattle.laws.specs.Fix.{pick}
+use Rattle.laws.specs.Different.{has}
+use Rattle.laws.proofs.DifferentLaws.{has-append}
 use Rattle.records.specs.declared.convert_error.ConvertError.{ConvertError}
 use Rattle.records.specs.Words.{detailOf, wordOf, records, A, B, C}
 use Rattle.records.specs.Good.{Good}
@@ -17,6 +19,7 @@ use Rattle.records.proofs.GoodLaws.{inside, init-detail, init-c}
 use Rattle.syntax.specs.Syntax.{Text, Expr, Program, nullType, addressOfNull}
 use Rattle.syntax.specs.Count.{under, exprRecords, statementRecords}
 use Rattle.syntax.specs.Decode.{program, bit, textOf}
+use Rattle.syntax.specs.Exprs.{exprs}
 use Rattle.syntax.specs.Places.{IsExpr, IsKind, TypeAt, exprAt, statementAt}
 use Rattle.syntax.proofs.Records.{statement-init}
 use Rattle.conversion.specs.ConvertError.{AssignToConstant, WrongAssignType, AlreadyDeclared}
@@ -26,6 +29,7 @@ use Rattle.conversion.specs.Scope as Def
 use Rattle.conversion.specs.Scope.{Variable, find-variable}
 use Rattle.conversion.specs.Expressions.{Functions, get-type}
 use Rattle.conversion.specs.Statements.{fit-operand, convert-expr, checkFits, assignTo, convert-assign, initNew, initBy, convert-init}
+use Rattle.conversion.specs.Visits.{typedValue}
 use Rattle.conversion.proofs.MonadLaws.{regroup, seq-is}
 use Rattle.types.specs.Fits.{IsType}
 use Rattle.types.proofs.FromGood.{is-expr}
@@ -55,6 +59,7 @@ use Rattle.expressions.specs.declared.answers.Outcome.the-variants as Outcome
 use Rattle.expressions.specs.Answers.{outcomeOf, IsTyped, TypeMeets}
 use Rattle.expressions.proofs.OperandLaws.{first-type, type-of}
 use Rattle.expressions.proofs.TypingLaws.{is-typed}
+use Rattle.expressions.proofs.TurnLaws.{typed-same}
 use Rattle.statements.specs.declared.answers.Converter.{Converter}
 use Rattle.statements.specs.declared.answers.Converted.{Converted}
 use Rattle.statements.specs.declared.answers.Converted.the-variants as Converted
@@ -65,13 +70,16 @@ use Rattle.statements.specs.Converting.{Converting, withCounters, RoomFo
 use Rattle.statements.specs.Meets.{StepAnswer, Adds, Meets}
 use Rattle.statements.specs.Parts.{copyFitted, declareInit}
 use Rattle.statements.specs.Answers.{FitAdds, Converts, StatesAs, DeclaresAs, exprSteps, initSteps, initNewSteps, assignSteps, assignToSteps, declareInitSteps}
+use Rattle.statements.specs.Turns.{InTurn, TypedIn, exprTypes, valueTypes, assignTypes, initTypes}
 use Rattle.statements.proofs.MeetLaws.{adds-then, adds-seq, adds-pure, adds-most, adds-in, meets-gave, meets-refused, meets-same, meets-most}
 use Rattle.statements.proofs.StayLaws.{stays-refl, stays-then}
+use Rattle.statements.proofs.TurnLaws.{in-turn-next, typed-next, typed-last}
+use Rattle.statements.proofs.PlainTurns.{value-next}
 use Rattle.statements.proofs.StatedLaws.{states-done, states-stop, states-same, states-kept, scope-later, type-converting, type-stays, typed-then, typed-not, operand-then, operand-not, fails-as, checked-then, checked-not}
 use Rattle.statements.proofs.LeafLaws.{mark-bit}
 use Rattle.statements.proofs.EmitLaws.{emit-adds}
 use Rattle.statements.proofs.ConvertLaws.{converted-next, converting-after}
-use Rattle.statements.proofs.DeclareLaws.{found-typed, declaredThen, var-afforded, var-typed, declared-stays, declared-leaves, taken-stays, variable-then, variable-not}
+use Rattle.statements.proofs.DeclareLaws.{found-typed, declaredThen, declared-types, var-afforded, var-typed, declared-stays, declared-leaves, taken-stays, variable-then, variable-not}
 
 -- ---- the copy
 
@@ -140,6 +148,15 @@ module _ {tree text l s : List ℕ} {c : Converter} {r : ℕ} (p : Converting tr
   pub assign-stop : {z : ConvertError} → a ≡ Converted.Refused z → StatesAs (λ t u i k j. assignToSteps t u i k j v) c r tree text l s (Stated.Refused z) l₁ s₁
   assign-stop q = states-stop (meets-same text assign-steps (operand-not m (λ src. typedThen (scopeAt tree text s (c .scope)) src) q)) (m .stays)
 
+  -- in the turn, once the value is converted
+  module _ (u : TypedIn tree text c s (exprTypes tree text e) s₁) where
+    pub assign-turn : InTurn tree text s₁ c
+    assign-turn = in-turn-next c (scope-later p (m .stays)) u
+
+    pub assign-types : {ty : ExprType} {y : ℕ} {s₂ : List ℕ} → TypeMeets tree text s₁ (c .scope) (c .turn) e ty s₂ → ty ≡ ExprType.Is y → TypedIn tree text c s (assignTypes tree text r) s₂
+    assign-types {y = y} {s₂ = s₂} t w =
+        subst (λ (z : ℕ). TypedIn tree text c s (exprTypes tree text z ++ exprs (exprAt tree text z)) s₂) ee (typed-next c (scope-later p (m .stays)) u (t .adds y w))
+
   module _ {o : Operand} {k : Counters} (q : a ≡ Converted.Is o k) where
     abbrev further : Converting tree text l₁ s₁ (withCounters c k)
     further = converting-after m q p
@@ -150,7 +167,7 @@ module _ {tree text l s : List ℕ} {c : Converter} {r : ℕ} (p : Converting tr
       affords = omega (arith, f .tables, value-records (p .ready .keyed .good) x ee, converted-next m q .spent);
     }
 
-    module _ {ty : ExprType} {s₂ : List ℕ} (t : TypeMeets tree text s₁ (c .scope) e ty s₂) where
+    module _ {ty : ExprType} {s₂ : List ℕ} (t : TypeMeets tree text s₁ (c .scope) (c .turn) e ty s₂) where
       both-stay : StaysFor tree c s s₂
       both-stay = stays-then (omega arith) (omega arith) (m .stays) (type-stays further t)
 
@@ -193,6 +210,21 @@ module _ {tree text l s : List ℕ} {c : Converter} (r : ℕ) (v : VarId) {const
   unfolding convert-assign pick
   assign-plain h i = states-same (ap (λ (b : Bool). assignSteps tree text s c r v b) (sym h)) i
 
+-- it is converted and then typed: the same records as of a new name's value
+pub known-types : {tree text s s′ : List ℕ} (c : Converter) (r : ℕ) → TypedIn tree text c s (assignTypes tree text r) s′ → TypedIn tree text c s (initTypes tree text r) s′
+unfolding typedValue
+known-types {tree = tree} {text = text} {s = s} {s′ = s′} c r u =
+    let a : List ℕ = exprTypes tree text (wordOf tree r C) in
+    let b : List ℕ = exprs (exprAt tree text (wordOf tree r C)) in
+    typed-same tree text (scopeAt tree text s (c .scope)) (c .turn) s s′ (a ++ b) (b ++ a)
+    (λ q h. has-append q a b ∙ either (has q a) (has q b) ∙ sym (has-append q b a)) u
+  where
+    either : (x y : Bool) → (x || y) ≡ (y || x)
+    either true true = refl
+    either true false = refl
+    either false true = refl
+    either false false = refl
+
 -- ---- a new name, behind its value
 
 -- an Init's name can be looked for
@@ -234,6 +266,9 @@ module _ {tree text l s : List ℕ} {c : Converter} {r y : ℕ} (p : Converting 
           states-stop (meets-same text (declare-steps src ed) (variable-not p long new more-names new-type r (init-asked (p .ready) x) (eqb d 1) s′ m r (copied src) q w))
           (taken-stays p (made .var) more-names (var-typed p long new more-names new-type) r (init-asked (p .ready) x) (eqb d 1) s′ m q)
 
+      pub new-types : {sc : Scope} → g ≡ Declared.Done sc → InTurn tree text s c → TypedIn tree text c s [] s′
+      new-types q i = declared-types p (made .var) more-names (var-typed p long new more-names new-type) r (init-asked (p .ready) x) (eqb d 1) s′ m q i
+
       pub new-declared : {sc : Scope} {k₂ : Counters} {l₂ : List ℕ} → g ≡ Declared.Done sc → length l₂ ≡ length l₁ → Emits (copy (made .var) src) (made .counters) l₁ k₂ l₂
           → DeclaresAs (λ t u i k j. declareInitSteps t u i k j y src) c r tree text l s (Stated.Done sc k₂) l₂ s′
       new-declared {sc} {k₂} {l₂} q h i =
@@ -247,7 +282,7 @@ module _ {tree text l s : List ℕ} {c : Converter} {r y : ℕ} (p : Converting 
 -- ---- a new name, from its value on
 
 module _ {tree text l s : List ℕ} {c : Converter} {r : ℕ} (p : Converting tree text l s c) (f : BehindAfforded tree text c r) (x : IsKind tree 16 r)
-    {e : ℕ} (ee : e ≡ wordOf tree r C) {ty : ExprType} {s₁ : List ℕ} (t : TypeMeets tree text s (c .scope) e ty s₁) where
+    {e : ℕ} (ee : e ≡ wordOf tree r C) {ty : ExprType} {s₁ : List ℕ} (t : TypeMeets tree text s (c .scope) (c .turn) e ty s₁) where
   abbrev declared : Def.Scope → ℕ → Ir.Operand → M Def.Scope
   declared S y src = declareInit (program tree text) (allKeys tree text) r (bit 1 (detailOf tree r)) (textOf tree text r A) y src S
 
@@ -289,6 +324,14 @@ module _ {tree text l s : List ℕ} {c : Converter} {r : ℕ} (p : Converting tr
 
       pub new-typed : TypeAt tree y
       new-typed = is-typed tree ty y (t .typed) w
+
+      module _ (u : TypedIn tree text c s₁ (exprTypes tree text e) s₂) where
+        pub value-turn : InTurn tree text s₂ c
+        value-turn = in-turn-next c (scope-later p value-stays) (value-next p t w u)
+
+        pub value-types : {s₃ : List ℕ} → TypedIn tree text c s₂ [] s₃ → TypedIn tree text c s (initTypes tree text r) s₃
+        value-types {s₃ = s₃} i =
+            subst (λ (z : ℕ). TypedIn tree text c s (valueTypes tree text z) s₃) ee (typed-last c (scope-later p value-stays) (value-next p t w u) i)
 
       pub new-done : {b : Stated} {l₂ s₃ : List ℕ} → DeclaresAs (λ t u i k j. declareInitSteps t u i k j y o) (withCounters c k) r tree text l₁ s₂ b l₂ s₃
           → StatesAs initNewSteps c r tree text l s b l₂ s₃

@@ -1,3 +1,5 @@
+pub mod TurnLaws
+pub mod PlainTurns
 pub mod PartLaws
 pub mod MeetLaws
 pub mod StayLaws
@@ -13,6 +15,7 @@ pub mod ConvertLaws
 pub mod AroundLaws
 pub mod ExprLaws
 pub mod ArgsLaws
+pub mod TypedLaws
 pub mod HeadLaws
 pub mod ReturnLaws
 pub mod DeclareLaws
@@ -21,3 +24,4 @@ pub mod ForLaws
 pub mod BlockLaws
 pub mod BlockParts
 pub mod BlockTurns
+pub mod BlockVisits

@@ -17,9 +17,10 @@ use Rattle.records.specs.Words.{kindOf, wordOf, records, none, A, C, D}
 use Rattle.records.specs.Rules.{isExpr}
 use Rattle.records.specs.Good.{Good}
 use Rattle.records.proofs.GoodLaws.{return-a, callStatement-a}
-use Rattle.syntax.specs.Syntax.{Text, Expr, Args, Program, Function, boolType, place}
+use Rattle.syntax.specs.Syntax.{Text, Expr, Args, Program, Function, SCall, boolType, place}
 use Rattle.syntax.specs.Count.{under, argsRecords, exprRecords, statementRecords, argsUnder, argsValues}
 use Rattle.syntax.specs.Decode.{program, reference, textOf}
+use Rattle.syntax.specs.Exprs.{exprs, argsExprs}
 use Rattle.syntax.specs.Places.{IsExpr, IsKind, TypeAt, FunctionAt, functionOf, exprAt, argsAt, statementAt}
 use Rattle.syntax.proofs.Records.{expr-int, expr-float, expr-str, expr-bool, expr-name, expr-null, expr-sizeOf, expr-unary, expr-binary, expr-call, statement-return, statement-call, function-rec, function-return, return-is}
 use Rattle.conversion.specs.ConvertError.{NotBool, ReturnWithoutType, WrongReturnType, WouldPanic}
@@ -28,6 +29,7 @@ use Rattle.conversion.specs.Ir.{Return, Call, M, _>>=_, _>>_, pure, fail, lift,
 use Rattle.conversion.specs.Scope as Def
 use Rattle.conversion.specs.Expressions.{Functions, Callee, CallFunction, get-type, resolve-call}
 use Rattle.conversion.specs.Statements.{asCall, fit-operand, convert-expr, convert-args, convert-cond, checkFits, returnAs, convert-return, callFunction, callStatement, convert-call}
+use Rattle.conversion.specs.Visits.{typedOwn}
 use Rattle.conversion.proofs.MonadLaws.{regroup, seq-is}
 use Rattle.types.proofs.FromGood.{is-expr}
 use Rattle.ir.specs.declared.structs.Counters.{Counters}
@@ -62,8 +64,11 @@ use Rattle.statements.specs.Meets.{Adds, AddsIn}
 use Rattle.statements.specs.Parts.{passArgs}
 use Rattle.statements.specs.Converting.{Converting, withCounters, RoomFor, Afforded, ExprAfforded, ArgsAfforded, BehindAfforded, exprAmount, argsAmount, behindAmount, StackIn, StaysFor}
 use Rattle.statements.specs.Answers.{argsOf, Converts, ConvertsArgs, States, FitAdds, ConvertsAs, StatesAs, CallOnlyAs, exprSteps, condSteps, argsSteps, returnSteps, returnAsSteps, callStatementSteps, callOnlySteps}
+use Rattle.statements.specs.Turns.{InTurn, TypedIn, TurnsStay, exprTypes, callOnlyTypes, callTypes, headTypes, returnAsTypes, ownTypes}
 use Rattle.statements.proofs.MeetLaws.{Most, adds-in, adds-then, adds-seq, adds-pure, adds-same, meets-gave, meets-refused, meets-same, meets-most, meets-then, meets-stop, meets-lift, meets-lift-stop}
 use Rattle.statements.proofs.StayLaws.{names-then, frame-names, stays-refl, stays-then, frame-stays, converting-next}
+use Rattle.statements.proofs.TurnLaws.{in-turn-next, typed-next, typed-stay}
+use Rattle.statements.proofs.PlainTurns.{value-next}
 use Rattle.statements.proofs.StatedLaws.{states-stop, states-same, states-most, states-kept, scope-later, type-stays, typed-then, typed-not, operand-then, operand-not, seq-not, fails-as, checked-then, checked-not}
 use Rattle.statements.proofs.EmitLaws.{emit-adds}
 use Rattle.statements.proofs.ConvertLaws.{converts-same, converted-next}
@@ -72,7 +77,7 @@ use Rattle.statements.proofs.ArgsLaws.{args-count}
 -- ---- a condition
 
 module _ {tree text l s : List ℕ} {c : Converter} {e : ℕ} (p : Converting tree text l s c) (x : IsExpr tree e) {ty : ExprType} {s₁ : List ℕ}
-    (t : TypeMeets tree text s (c .scope) e ty s₁) where
+    (t : TypeMeets tree text s (c .scope) (c .turn) e ty s₁) where
   abbrev condition : ℕ → M Ir.Operand
   condition y = pick (eqb y boolType) (exprSteps tree text s c e) (fail NotBool (place (exprAt tree text e)))
 
@@ -112,7 +117,7 @@ module _ {tree text l s : List ℕ} {c : Converter} {e : ℕ} (p : Converting tr
 
 -- ---- a statement behind typing, which writes no table
 
-module _ {tree text l s : List ℕ} {c : Converter} {e : ℕ} (p : Converting tree text l s c) {ty : ExprType} {s₁ : List ℕ} (t : TypeMeets tree text s (c .scope) e ty s₁)
+module _ {tree text l s : List ℕ} {c : Converter} {e : ℕ} (p : Converting tree text l s c) {ty : ExprType} {s₁ : List ℕ} (t : TypeMeets tree text s (c .scope) (c .turn) e ty s₁)
     (f : Def.Scope → ℕ → M Def.Scope) where
   abbrev typedSteps : M Def.Scope
   typedSteps = lift (get-type (program tree text) (allKeys tree text) (exprAt tree text e) (scopeAt tree text s (c .scope))) >>= f (scopeAt tree text s (c .scope))
@@ -216,19 +221,26 @@ module _ {tree text l s : List ℕ} {c : Converter} {r e : ℕ} (p : Converting 
             as-return (both (exprAmount u) (both (amount 1 1 0 0 1) (both (amount 1 0 0 0 0) (amount 0 0 0 0 0)))) (omega arith)
             (states-kept p (m .stays) (checked-then o q valued text fine (p .room) (operand-then m fitted w (meets-gave text (last .long) (adds-in text last)))))
 
+-- its value is typed in the turn as it is converted
+pub return-types : {tree text s s′ : List ℕ} (c : Converter) (r : ℕ) {e : ℕ} → e ≡ wordOf tree r A → TypedIn tree text c s (exprTypes tree text e) s′ → TypedIn tree text c s (returnAsTypes tree text r) s′
+return-types {tree = tree} {text = text} {s = s} {s′ = s′} c r ee u = subst (λ (w : ℕ). TypedIn tree text c s (exprTypes tree text w) s′) ee u
+
 -- ---- a Return, once its value is typed
 
 module _ {tree text l s : List ℕ} {c : Converter} {r e : ℕ} (p : Converting tree text l s c) (x : IsKind tree 17 r) (ee : e ≡ wordOf tree r A) {ty : ExprType} {s₁ : List ℕ}
-    (t : TypeMeets tree text s (c .scope) e ty s₁) where
+    (t : TypeMeets tree text s (c .scope) (c .turn) e ty s₁) where
   abbrev byFunction : Def.Scope → ℕ → M Def.Scope
   byFunction S y = returnAs (program tree text) (allKeys tree text) r (exprAt tree text (wordOf tree r A)) y S (S .function .returnType)
 
-  typed : TypeMeets tree text s (c .scope) (wordOf tree r A) ty s₁
-  typed = subst (λ (w : ℕ). TypeMeets tree text s (c .scope) w ty s₁) ee t
+  typed : TypeMeets tree text s (c .scope) (c .turn) (wordOf tree r A) ty s₁
+  typed = subst (λ (w : ℕ). TypeMeets tree text s (c .scope) (c .turn) w ty s₁) ee t
 
   pub return-untyped : {z : ConvertError} → ty ≡ ExprType.Refused z → StatesAs returnSteps c r tree text l s (Stated.Refused z) l s₁
   unfolding convert-return
   return-untyped w = typed-refused p typed byFunction w
+
+  pub return-next : {y : ℕ} {s₂ : List ℕ} → ty ≡ ExprType.Is y → TypedIn tree text c s₁ (returnAsTypes tree text r) s₂ → TypedIn tree text c s (headTypes tree text r) s₂
+  return-next w u = value-next p typed w u
 
   module _ {expected : ℕ} (ex : expected ≡ wordOf tree (c .scope .function) D) where
     function-type : (s : List ℕ) → scopeAt tree text s (c .scope) .function .returnType ≡ pick (eqb expected none) nothing (some expected)
@@ -298,6 +310,9 @@ module _ {tree text l s : List ℕ} {c : Converter} {e : ℕ} (p : Converting tr
       pub values-typed : StackIn tree s₁ (c .operands) count
       values-typed = m .operands count k w .1
 
+      pub values-types : {s₂ : List ℕ} → TypedIn tree text c s (callOnlyTypes tree text e) s₁ → TurnsStay tree s₁ s₂ → TypedIn tree text c s (callOnlyTypes tree text e) s₂
+      values-types u i = typed-stay c u i
+
       module _ {u : M (Unit {0})} {k₁ : Counters} {l₂ : List ℕ} (i : Adds u (amount (2 * count) count 0 0 count) k l₁ tt k₁ l₂) where
         pub passed-room : Room k₁ l₂ × (k₁ .instructions < 4 * k₁ .records)
         passed-room = (i .next .room, omega (arith, f .tables, values-under, args-count values, computed .spent, m .operands count k w .0, i .spent))
@@ -328,8 +343,12 @@ module _ {tree text l s : List ℕ} {c : Converter} {r e : ℕ} (p : Converting 
   pub statement-afforded : ExprAfforded tree text c e
   statement-afforded = omega (arith, f, called-records good ee x)
 
+  -- what it types, by its expression
+  own-types : ownTypes tree text r ≡ typedOwn (SCall r (exprAt tree text e))
+  own-types = ap typedOwn (statement-call tree text good r (x .below) (x .kind)) ∙ ap (λ (w : ℕ). typedOwn (SCall r (exprAt tree text w))) (sym ee)
+
   -- the expression is a call
-  module _ (y : IsKind tree 11 e) {callee : Resolved} {s₁ : List ℕ} (m : CallMeets tree text s (c .scope) e callee s₁) where
+  module _ (y : IsKind tree 11 e) {callee : Resolved} {s₁ : List ℕ} (m : CallMeets tree text s (c .scope) (c .turn) e callee s₁) where
     abbrev called : Def.Scope → Callee → M Def.Scope
     called S to = callStatement (program tree text) (allKeys tree text) r (argsAt tree text (wordOf tree e C)) S to >> pure S
 
@@ -369,15 +388,30 @@ module _ {tree text l s : List ℕ} {c : Converter} {r e : ℕ} (p : Converting 
     resolved-function {g = g} w i =
         let S = scopeAt tree text s (c .scope) in
         let i′ = states-most {n′ = behindAmount (statementRecords (statementAt tree text r))} {q′ = statementRecords (statementAt tree text r)} (omega (arith, called-records good ee x)) (omega arith)
-        (states-same (ap (λ (Z : Def.Scope). only Z g) (scope-frame tree s s₁ (m .frame) text (c .scope) (p .ready .scoped .records-are)) ∙ function-parts S g) i) in
+        (states-same (ap (λ (Z : Def.Scope). only Z g) (scope-frame tree s s₁ (m .frame) text (c .scope) (p .ready .scoped)) ∙ function-parts S g) i) in
         states-same is-called (record {
           meets = meets-lift text (called S) (p .room) (m .meets ∙ ap (calleeOf tree text) w) (i′ .meets);
           leaves = i′ .leaves;
           stays = stays-then (omega arith) (omega arith) resolved-stays (i′ .stays);
         })
 
+    call-types : ownTypes tree text r ≡ callTypes tree text e
+    unfolding typedOwn asCall
+    call-types = own-types ∙ ap (λ (z : Expr). typedOwn (SCall r z)) (expr-call tree text good e (y .below) (y .kind))
+
+    -- in the turn: its arguments are typed, and then converted
+    arguments-typed : {g : ℕ} → callee ≡ Resolved.Function g → TypedIn tree text c s (argsExprs (argsAt tree text (wordOf tree e C))) s₁
+    unfolding calleeOf
+    arguments-typed {g = g} w = m .adds (CallFunction (functionOf tree text g)) (ap (calleeOf tree text) w)
+
+    pub resolved-turn : {g : ℕ} → callee ≡ Resolved.Function g → InTurn tree text s₁ c
+    resolved-turn w = in-turn-next c (scope-later p resolved-stays) (arguments-typed w)
+
+    pub resolved-types : {g : ℕ} {s₂ : List ℕ} → callee ≡ Resolved.Function g → TypedIn tree text c s₁ (callOnlyTypes tree text e) s₂ → TypedIn tree text c s (ownTypes tree text r) s₂
+    resolved-types {s₂ = s₂} w u = subst (λ (z : List ℕ). TypedIn tree text c s z s₂) (sym call-types) (typed-next c (scope-later p resolved-stays) (arguments-typed w) u)
+
   -- it is none: typed and never converted
-  module _ {k : ℕ} (ek : k ≡ kindOf tree e) (other : k ≡ 11 → ⊥) {ty : ExprType} {s₁ : List ℕ} (t : TypeMeets tree text s (c .scope) e ty s₁) where
+  module _ {k : ℕ} (ek : k ≡ kindOf tree e) (other : k ≡ 11 → ⊥) {ty : ExprType} {s₁ : List ℕ} (t : TypeMeets tree text s (c .scope) (c .turn) e ty s₁) where
     no-call : {X : Type 0} (d : X) (g : ℕ → Text → Args → X) → asCall (exprAt tree text e) d g ≡ d
     unfolding asCall
     no-call d g =
@@ -412,3 +446,10 @@ module _ {tree text l s : List ℕ} {c : Converter} {r e : ℕ} (p : Converting 
         let S = scopeAt tree text s (c .scope) in
         let done = adds-pure S (c .counters) l (p .room) in
         states-most {q = 0} (omega arith) (omega arith) (states-same never-run (states-kept p (type-stays p t) (typed-then p t (dropped S) w (meets-gave text (done .long) (adds-in text done)))))
+
+    none-types : ownTypes tree text r ≡ exprs (exprAt tree text e)
+    unfolding typedOwn
+    none-types = own-types ∙ no-call (exprs (exprAt tree text e)) _
+
+    pub only-types : {y : ℕ} → ty ≡ ExprType.Is y → TypedIn tree text c s (ownTypes tree text r) s₁
+    only-types {y = y} w = subst (λ (z : List ℕ). TypedIn tree text c s z s₁) (sym none-types) (t .adds y w)

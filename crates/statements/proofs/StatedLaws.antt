@@ -115,7 +115,7 @@ module _ {X : Type 0} {tree text l l′ s s′ : List ℕ} {m : M X} {x : X} {n 
 
 module _ {tree text l s s′ : List ℕ} {c : Converter} (p : Converting tree text l s c) (st : StaysFor tree c s s′) where
   pub scope-later : scopeAt tree text s′ (c .scope) ≡ scopeAt tree text s (c .scope)
-  scope-later = scope-stays tree st text (c .scope) (p .ready .scoped .records-are) (omega arith)
+  scope-later = scope-stays tree st text (c .scope) (p .ready .scoped) (omega arith)
 
   pub leaves-same : {q : ℕ} → Leaves tree text q c s′ (c .scope)
   leaves-same = record {
@@ -132,7 +132,7 @@ module _ {tree text l s s′ : List ℕ} {c : Converter} (p : Converting tree te
 
 -- ---- typing first: the step of the expression e's type, which writes no table
 
-module _ {tree text l s : List ℕ} {c : Converter} {e : ℕ} (p : Converting tree text l s c) {ty : ExprType} {s₁ : List ℕ} (t : TypeMeets tree text s (c .scope) e ty s₁) where
+module _ {tree text l s : List ℕ} {c : Converter} {e : ℕ} (p : Converting tree text l s c) {ty : ExprType} {s₁ : List ℕ} (t : TypeMeets tree text s (c .scope) (c .turn) e ty s₁) where
   pub type-converting : Converting tree text l s₁ c
   type-converting = converting-frame p (t .frame)
 

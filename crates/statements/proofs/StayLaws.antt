@@ -34,7 +34,7 @@ use Rattle.statements.specs.Converting.{Converting, withCounters, Stays,
 -- ---- one writer after another
 
 pub stays-refl : (n names operands : ℕ) (s : List ℕ) → Stays n names operands s s
-stays-refl n names operands s = record { long = refl; listed = λ i h. refl; open-names = λ i a b. refl; stack = λ i a b. refl; behind = λ i h. refl }
+stays-refl n names operands s = record { long = refl; listed = λ i h. refl; open-names = λ i a b d. refl; stack = λ i a b d. refl; behind = λ i h j. refl }
 
 -- what stays of more stays of less
 pub stays-then : {n names operands names′ operands′ : ℕ} {s s₁ s₂ : List ℕ} → names ≤ names′ → operands ≤ operands′
@@ -42,9 +42,9 @@ pub stays-then : {n names operands names′ operands′ : ℕ} {s s₁ s₂ : Li
 stays-then hn ho p q = record {
   long = q .long ∙ p .long;
   listed = λ i h. q .listed i h ∙ p .listed i h;
-  open-names = λ i a b. q .open-names i a (omega arith) ∙ p .open-names i a b;
-  stack = λ i a b. q .stack i a (omega arith) ∙ p .stack i a b;
-  behind = λ i h. q .behind i h ∙ p .behind i h;
+  open-names = λ i a b d. q .open-names i a (omega arith) d ∙ p .open-names i a b d;
+  stack = λ i a b d. q .stack i a (omega arith) d ∙ p .stack i a b d;
+  behind = λ i h j. q .behind i h j ∙ p .behind i h j;
 }
 
 -- ---- writers: typing, a name, an operand
@@ -53,12 +53,12 @@ pub frame-stays : {tree s s′ : List ℕ} (names operands : ℕ) → Frame tree
 frame-stays names operands f = record {
   long = f .same-length;
   listed = λ i h. f .outside i (inl h);
-  open-names = λ i a b. f .outside i (inr a);
-  stack = λ i a b. f .outside i (inr (omega arith));
-  behind = λ i h. f .outside i (inr (omega arith));
+  open-names = λ i a b d. f .outside i (inr (a, omega arith));
+  stack = λ i a b d. f .outside i (inr (omega arith, omega arith));
+  behind = λ i h j. f .outside i (inr (omega arith, j));
 }
 
-module _ (n names operands : ℕ) (s s′ vs : List ℕ) (i : ℕ) (e : s′ ≡ splice s i vs) (long : length vs ≡ 16) (fits : 64 * n ≤ length s) where
+module _ (n names operands : ℕ) (s s′ vs : List ℕ) (i : ℕ) (e : s′ ≡ splice s i vs) (long : length vs ≡ 16) (fits : 72 * n ≤ length s) where
   before : i + 16 ≤ length s → (j : ℕ) → j < i → byteAt s′ j ≡ byteAt s j
   unfolding byteAt
   before h j k = ap (λ (x : List ℕ). getD x j 0) e ∙ byte-apart s i vs (omega arith) j (inl k)
@@ -75,9 +75,9 @@ module _ (n names operands : ℕ) (s s′ vs : List ℕ) (i : ℕ) (e : s′ ≡
   name-stays q h = record {
     long = same-long (omega arith);
     listed = λ j k. before (omega arith) j (omega arith);
-    open-names = λ j a b. before (omega arith) j (omega arith);
-    stack = λ j a b. after (omega arith) j (omega arith);
-    behind = λ j k. after (omega arith) j (omega arith);
+    open-names = λ j a b d. before (omega arith) j (omega arith);
+    stack = λ j a b d. after (omega arith) j (omega arith);
+    behind = λ j k z. after (omega arith) j (omega arith);
   }
 
   -- the entry of an operand behind those that wait
@@ -85,9 +85,9 @@ module _ (n names operands : ℕ) (s s′ vs : List ℕ) (i : ℕ) (e : s′ ≡
   operand-stays x q h low m = record {
     long = same-long (omega arith);
     listed = λ j k. before (omega arith) j (omega arith);
-    open-names = λ j a b. before (omega arith) j (omega arith);
-    stack = λ j a b. before (omega arith) j (omega arith);
-    behind = λ j k. after (omega arith) j (omega arith);
+    open-names = λ j a b d. before (omega arith) j (omega arith);
+    stack = λ j a b d. before (omega arith) j (omega arith);
+    behind = λ j k z. after (omega arith) j (omega arith);
   }
 
 -- ---- all names
@@ -99,10 +99,10 @@ pub names-then : {tree s s₁ s₂ : List ℕ} → NamesStay tree s s₁ → Nam
 names-then p q = record { bytes = λ i a b. q .bytes i a b ∙ p .bytes i a b }
 
 pub frame-names : {tree s s′ : List ℕ} → Frame tree s s′ → NamesStay tree s s′
-frame-names f = record { bytes = λ i a b. f .outside i (inr a) }
+frame-names f = record { bytes = λ i a b. f .outside i (inr (a, omega arith)) }
 
 pub names-of : {tree s s′ : List ℕ} {operands : ℕ} → Stays (records tree) (records tree) operands s s′ → NamesStay tree s s′
-names-of p = record { bytes = λ i a b. p .open-names i a (omega arith) }
+names-of p = record { bytes = λ i a b. p .open-names i a (omega arith) b }
 
 -- so a name more
 pub stays-more : {tree s s′ : List ℕ} {names operands : ℕ} (more : ℕ) → more ≤ records tree → Stays (records tree) names operands s s′ → NamesStay tree s s′
@@ -110,7 +110,7 @@ pub stays-more : {tree s s′ : List ℕ} {names operands : ℕ} (more : ℕ) �
 stays-more more h p q = record {
   long = p .long;
   listed = p .listed;
-  open-names = λ i a b. q .bytes i a (omega arith);
+  open-names = λ i a b d. q .bytes i a d;
   stack = p .stack;
   behind = p .behind;
 }
@@ -129,22 +129,22 @@ module _ (tree : List ℕ) {s s′ : List ℕ} {names operands : ℕ} (f : Stays
   pub listed-word : (p : ℕ) → p + 4 ≤ 4 * records tree → wordAt s′ p ≡ wordAt s p
   listed-word p h = byte-word p (λ j q e k. f .listed q (omega arith))
 
-  pub name-word : (p : ℕ) → 8 * records tree ≤ p → p + 4 ≤ 8 * records tree + 16 * names → wordAt s′ p ≡ wordAt s p
-  name-word p a b = byte-word p (λ j q e k. f .open-names q (omega arith) (omega arith))
+  pub name-word : (p : ℕ) → 8 * records tree ≤ p → p + 4 ≤ 8 * records tree + 16 * names → p + 4 ≤ 24 * records tree → wordAt s′ p ≡ wordAt s p
+  name-word p a b d = byte-word p (λ j q e k. f .open-names q (omega arith) (omega arith) (omega arith))
 
-  pub stack-word : (p : ℕ) → 24 * records tree ≤ p → p + 4 ≤ 24 * records tree + 16 * operands → wordAt s′ p ≡ wordAt s p
-  stack-word p a b = byte-word p (λ j q e k. f .stack q (omega arith) (omega arith))
+  pub stack-word : (p : ℕ) → 24 * records tree ≤ p → p + 4 ≤ 24 * records tree + 16 * operands → p + 4 ≤ 40 * records tree → wordAt s′ p ≡ wordAt s p
+  stack-word p a b d = byte-word p (λ j q e k. f .stack q (omega arith) (omega arith) (omega arith))
 
-  pub names-kept : (sc : Scope) → sc .records ≡ records tree → sc .names ≤ names → Kept (sc .records) (sc .names) s s′
+  pub names-kept : (sc : Scope) → sc .records ≡ records tree → sc .names ≤ names → sc .names ≤ sc .records → Kept (sc .records) (sc .names) s s′
   unfolding byteAt
-  names-kept sc e h = record { bytes = λ j a b. f .open-names j (omega arith) (omega arith); long = f .long }
+  names-kept sc e h i = record { bytes = λ j a b. f .open-names j (omega arith) (omega arith) (omega arith); long = f .long }
 
   -- the scope is the same, also that of a block which is left
-  pub scope-stays : (text : List ℕ) (sc : Scope) → sc .records ≡ records tree → sc .names ≤ names → scopeAt tree text s′ sc ≡ scopeAt tree text s sc
-  scope-stays text sc e h = scope-kept tree text s s′ sc (names-kept sc e h)
+  pub scope-stays : (text : List ℕ) (sc : Scope) → Scoped tree s sc → sc .names ≤ names → scopeAt tree text s′ sc ≡ scopeAt tree text s sc
+  scope-stays text sc k h = scope-kept tree text s s′ sc (names-kept sc (k .records-are) h (k .room .names-in))
 
   number-word : (r : ℕ) → r < records tree → wordAt s′ (originalAt (records tree) r) ≡ wordAt s (originalAt (records tree) r)
-  number-word r h = byte-word (originalAt (records tree) r) (λ j q e k. f .behind q (omega arith))
+  number-word r h = byte-word (originalAt (records tree) r) (λ j q e k. f .behind q (omega arith) (omega arith))
 
   -- words A and B of the lowest record with a text
   pub original-word : (r k : ℕ) → r < records tree → originalWord tree s′ r k ≡ originalWord tree s r k
@@ -153,17 +153,17 @@ module _ (tree : List ℕ) {s s′ : List ℕ} {names operands : ℕ} (f : Stays
   pub keyed-stays : (text : List ℕ) (count : ℕ) → Keyed tree text s count → Keyed tree text s′ count
   keyed-stays text count r = record {
     good = r .good;
-    numbered = numbered-stays tree text s s′ number-word (λ t h. byte-word (textDigestAt (records tree) t) (λ j q e k. f .behind q (omega arith))) (r .numbered);
+    numbered = numbered-stays tree text s s′ number-word (λ t h. byte-word (textDigestAt (records tree) t) (λ j q e k. f .behind q (omega arith) (omega arith))) (r .numbered);
     distinct = r .distinct;
     listed = record {
       room = omega (arith, r .listed .room, f .long);
       counted = r .listed .counted;
       listed = λ j q. listed-word (4 * j) (omega (arith, r .listed .counted, records-most tree (records tree))) ∙ r .listed .listed j q;
     };
-    slots = slots-stay tree text s s′ (λ o h. byte-word (keySlotAt (records tree) o) (λ j q e k. f .behind q (omega arith))) _ (r .slots);
+    slots = slots-stay tree text s s′ (λ o h. byte-word (keySlotAt (records tree) o) (λ j q e k. f .behind q (omega arith) (omega arith))) _ (r .slots);
     digests =
         digests-stay tree text s s′ count (λ j q. listed-word (4 * j) (omega (arith, r .listed .counted, records-most tree (records tree))))
-        (λ j h. byte-word (keyDigestAt (records tree) j) (λ i q e k. f .behind q (omega arith))) (r .digests);
+        (λ j h. byte-word (keyDigestAt (records tree) j) (λ i q e k. f .behind q (omega arith) (omega (arith, r .listed .counted, records-most tree (records tree))))) (r .digests);
   }
 
   pub ready-stays : (text : List ℕ) (count : ℕ) (sc : Scope) → sc .names ≤ names → Ready tree text s count sc → Ready tree text s′ count sc
@@ -173,21 +173,29 @@ module _ (tree : List ℕ) {s s′ : List ℕ} {names operands : ℕ} (f : Stays
         scoped = record {
           records-are = r .scoped .records-are;
           room = record { scratch = omega (arith, r .scoped .room .scratch, f .long); names-in = r .scoped .room .names-in };
-          types = λ j q. subst (λ (w : ℕ). TypeAt tree (w / 2)) (sym (name-word (8 * records tree + 16 * j + 12) (omega arith) (omega arith))) (r .scoped .types j q);
-          named = λ j q. original-stays tree s s′ number-word _ (name-word (8 * records tree + 16 * j) (omega arith) (omega arith)) (name-word (8 * records tree + 16 * j + 4) (omega arith) (omega arith)) (r .scoped .named j q);
+          types = λ j q. subst (λ (w : ℕ). TypeAt tree (w / 2)) (sym (name-word (8 * records tree + 16 * j + 12) (omega arith) (omega arith) (low j q))) (r .scoped .types j q);
+          named = λ j q. original-stays tree s s′ number-word _ (name-word (8 * records tree + 16 * j) (omega arith) (omega arith) (omega (arith, low j q))) (name-word (8 * records tree + 16 * j + 4) (omega arith) (omega arith) (omega (arith, low j q))) (r .scoped .named j q);
         };
       }
+    where
+      low : (j : ℕ) → j < sc .names → 8 * records tree + 16 * j + 12 + 4 ≤ 24 * records tree
+      low j q = omega (arith, q, r .scoped .room .names-in, r .scoped .records-are)
 
-  pub operand-kept : (j : ℕ) → j < operands → operandAt s′ (records tree) j ≡ operandAt s (records tree) j
+  pub operand-kept : (j : ℕ) → j < operands → j < records tree → operandAt s′ (records tree) j ≡ operandAt s (records tree) j
   unfolding operandAt
-  operand-kept j h =
+  operand-kept j h i =
       let p : ℕ = entryAt (records tree) j in
-      rw (stack-word p (omega arith) (omega arith), stack-word (p + 4) (omega arith) (omega arith), stack-word (p + 8) (omega arith) (omega arith), stack-word (p + 12) (omega arith) (omega arith))
+      rw (
+        stack-word p (omega arith) (omega arith) (omega arith),
+        stack-word (p + 4) (omega arith) (omega arith) (omega arith),
+        stack-word (p + 8) (omega arith) (omega arith) (omega arith),
+        stack-word (p + 12) (omega arith) (omega arith) (omega arith),
+      )
 
-  pub stack-kept : (count j : ℕ) → j + count ≤ operands → stackAt s′ (records tree) j count ≡ stackAt s (records tree) j count
+  pub stack-kept : (count j : ℕ) → j + count ≤ operands → j + count ≤ records tree → stackAt s′ (records tree) j count ≡ stackAt s (records tree) j count
   unfolding stackAt
-  stack-kept zero j h = refl
-  stack-kept (suc count) j h = rw (operand-kept j (omega arith), stack-kept count (suc j) (omega arith))
+  stack-kept zero j h i = refl
+  stack-kept (suc count) j h i = rw (operand-kept j (omega arith) (omega arith), stack-kept count (suc j) (omega arith) (omega arith))
 
 -- ---- further on in the tables, with what stays
 

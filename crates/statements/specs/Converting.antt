@@ -27,7 +27,7 @@ pub record Converting (tree text l s : List ℕ) (c : Converter) : Type 0 where
 
 -- the same, further on in the tables
 abbrev pub withCounters : Converter → Counters → Converter
-withCounters c k = record { functions = c .functions; scope = c .scope; counters = k; operands = c .operands }
+withCounters c k = record { functions = c .functions; scope = c .scope; counters = k; operands = c .operands; turn = c .turn }
 
 -- the type of a variable is one of the tree's
 unfoldable pub OperandIn : List ℕ → Ir.Operand → Type 0
@@ -112,14 +112,14 @@ BlockAfforded tree text c w =
 
 -- ---- what stays of the scratch
 
--- with n records: the functions' records, the first `names` open names, the first `operands` of the stack, and all behind the regions in use.
--- Only slots of types, names that were not open and operands that did not wait may differ
+-- with n records: the functions' records, the first `names` open names, the first `operands` of the stack, and the regions behind it.
+-- Only slots of types and their turns, names that were not open and operands that did not wait may differ
 pub record Stays (n names operands : ℕ) (s s′ : List ℕ) : Type 0 where
   pub long : length s′ ≡ length s
   pub listed : (i : ℕ) → i < 4 * n → byteAt s′ i ≡ byteAt s i
-  pub open-names : (i : ℕ) → 8 * n ≤ i → i < 8 * n + 16 * names → byteAt s′ i ≡ byteAt s i
-  pub stack : (i : ℕ) → 24 * n ≤ i → i < 24 * n + 16 * operands → byteAt s′ i ≡ byteAt s i
-  pub behind : (i : ℕ) → 40 * n ≤ i → byteAt s′ i ≡ byteAt s i
+  pub open-names : (i : ℕ) → 8 * n ≤ i → i < 8 * n + 16 * names → i < 24 * n → byteAt s′ i ≡ byteAt s i
+  pub stack : (i : ℕ) → 24 * n ≤ i → i < 24 * n + 16 * operands → i < 40 * n → byteAt s′ i ≡ byteAt s i
+  pub behind : (i : ℕ) → 40 * n ≤ i → i < 64 * n → byteAt s′ i ≡ byteAt s i
 
 -- the region of the names: an expression declares none
 pub record NamesStay (tree s s′ : List ℕ) : Type 0 where

@@ -3,3 +3,4 @@ pub mod Converting
 pub mod Meets
 pub mod Parts
 pub mod Answers
+pub mod Turns

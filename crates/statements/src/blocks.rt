@@ -7,6 +7,7 @@ ghost use Rattle.records.specs.Kinds.{kindCallStatement, kindIf, kindWhile, kin
 ghost use Rattle.syntax.specs.Places.{IsKind, IsStatement, BodyAt};
 ghost use Rattle.statements.specs.Converting.{Converting, BehindAfforded, StatementAfforded, BlockAfforded};
 ghost use Rattle.statements.specs.Answers.{StatesAs, StatementAs, BlockAs, FinishesAs, statedWith, plainSteps, jumpSteps, statementSteps, blockSteps, ifSteps, whileSteps, forSteps};
+ghost use Rattle.statements.specs.Turns.{Turns, Fresh, InTurn, ownTypes, StatesTyped, StatementVisited, FinishedVisited, BlockVisited};
 use crate::answers::Converter;
 use crate::answers::Finished;
 use crate::answers::Stated;
@@ -53,7 +54,9 @@ fn convert_plain(
 ) -> Stated
     requires { ⌜ Converting (now tree) (now text) (now arena) (now scratch) c × BehindAfforded (now tree) (now text) c r ⌝ }
     requires { ⌜ IsStatement (now tree) r × (kindOf (now tree) r ≤ kindCallStatement) ⌝ }
+    requires { ⌜ InTurn (now tree) (now text) (now scratch) c ⌝ }
     ensures { λ a. ⌜ StatesAs plainSteps c r (now (tree .entry)) (now (text .entry)) (now (arena .entry)) (now (scratch .entry)) a (now (arena .exit)) (now (scratch .exit)) ⌝ }
+    ensures types { λ a. ⌜ StatesTyped ownTypes c r (now (tree .entry)) (now (text .entry)) (now (scratch .entry)) a (now (scratch .exit)) ⌝ }
 {
     let node = kind(tree, r);
     if node == KIND_DECLARE {
@@ -97,7 +100,7 @@ fn stated(scope: Scope, done: Finished) -> Stated
     }
 }
 
-// The statement r, with its comment first.
+// The statement r, with its comment first. Its turn is told by how far the instructions are, so that no earlier one has the same.
 fn convert_statement(
     tree: &[u8],
     text: &[u8],
@@ -108,7 +111,9 @@ fn convert_statement(
 ) -> Stated
     requires { ⌜ Converting (now tree) (now text) (now arena) (now scratch) c × StatementAfforded (now tree) (now text) c r ⌝ }
     requires { ⌜ IsStatement (now tree) r ⌝ }
+    requires { ⌜ Turns (now tree) (now scratch) (c .counters) ⌝ }
     ensures { λ a. ⌜ StatementAs statementSteps c r (now (tree .entry)) (now (text .entry)) (now (arena .entry)) (now (scratch .entry)) a (now (arena .exit)) (now (scratch .exit)) ⌝ }
+    ensures visits { λ a. ⌜ StatementVisited r (now (tree .entry)) (now (text .entry)) (now (scratch .entry)) a (now (scratch .exit)) ⌝ }
 {
     let scope = c.scope;
     let k = c.counters;
@@ -116,6 +121,7 @@ fn convert_statement(
     let k1 = emit(arena, k, Instr::Comment(r as u32));
     let mut at = c;
     at.counters = k1;
+    at.turn = k1.instructions as u32;
     if node <= KIND_CALL_STATEMENT {
         return convert_plain(tree, text, arena, scratch, at, r);
     }
@@ -142,7 +148,9 @@ pub fn convert_block(
 ) -> Finished
     requires { ⌜ Converting (now tree) (now text) (now arena) (now scratch) c × BlockAfforded (now tree) (now text) c first ⌝ }
     requires { ⌜ BodyAt (now tree) first ⌝ }
+    requires { ⌜ Turns (now tree) (now scratch) (c .counters) ⌝ }
     ensures { λ a. ⌜ BlockAs blockSteps c first (now (tree .entry)) (now (text .entry)) (now (arena .entry)) (now (scratch .entry)) a (now (arena .exit)) (now (scratch .exit)) ⌝ }
+    ensures visits { λ a. ⌜ BlockVisited first (now (tree .entry)) (now (text .entry)) (now (scratch .entry)) a (now (scratch .exit)) ⌝ }
 {
     let mut cell = first;
     let mut at = c;
@@ -172,7 +180,9 @@ fn convert_if(
 ) -> Finished
     requires { ⌜ Converting (now tree) (now text) (now arena) (now scratch) c × BehindAfforded (now tree) (now text) c r ⌝ }
     requires { ⌜ IsKind (now tree) kindIf r ⌝ }
+    requires { ⌜ Fresh (now tree) (now scratch) c ⌝ }
     ensures { λ a. ⌜ FinishesAs ifSteps c r (now (tree .entry)) (now (text .entry)) (now (arena .entry)) (now (scratch .entry)) a (now (arena .exit)) (now (scratch .exit)) ⌝ }
+    ensures visits { λ a. ⌜ FinishedVisited r (now (tree .entry)) (now (text .entry)) (now (scratch .entry)) a (now (scratch .exit)) ⌝ }
 {
     let then = reference(tree, r, WORD_B);
     let otherwise = reference(tree, r, WORD_C);
@@ -209,7 +219,9 @@ fn convert_while_loop(
 ) -> Finished
     requires { ⌜ Converting (now tree) (now text) (now arena) (now scratch) c × BehindAfforded (now tree) (now text) c r ⌝ }
     requires { ⌜ IsKind (now tree) kindWhile r ⌝ }
+    requires { ⌜ Fresh (now tree) (now scratch) c ⌝ }
     ensures { λ a. ⌜ FinishesAs whileSteps c r (now (tree .entry)) (now (text .entry)) (now (arena .entry)) (now (scratch .entry)) a (now (arena .exit)) (now (scratch .exit)) ⌝ }
+    ensures visits { λ a. ⌜ FinishedVisited r (now (tree .entry)) (now (text .entry)) (now (scratch .entry)) a (now (scratch .exit)) ⌝ }
 {
     let scope = c.scope;
     let inner = scope.with_loop(r as u32);
@@ -239,7 +251,9 @@ fn convert_for_loop(
 ) -> Finished
     requires { ⌜ Converting (now tree) (now text) (now arena) (now scratch) c × BehindAfforded (now tree) (now text) c r ⌝ }
     requires { ⌜ IsKind (now tree) kindFor r ⌝ }
+    requires { ⌜ Fresh (now tree) (now scratch) c ⌝ }
     ensures { λ a. ⌜ FinishesAs forSteps c r (now (tree .entry)) (now (text .entry)) (now (arena .entry)) (now (scratch .entry)) a (now (arena .exit)) (now (scratch .exit)) ⌝ }
+    ensures visits { λ a. ⌜ FinishedVisited r (now (tree .entry)) (now (text .entry)) (now (scratch .entry)) a (now (scratch .exit)) ⌝ }
 {
     let body = reference(tree, r, WORD_D);
     match for_head(tree, text, arena, scratch, c, r) {

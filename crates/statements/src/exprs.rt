@@ -7,6 +7,7 @@ ghost use Rattle.records.specs.Kinds.{kindUnary, kindBinary, kindCall};
 ghost use Rattle.syntax.specs.Places.{IsExpr, IsKind, TypeAt};
 ghost use Rattle.statements.specs.Converting.{Converting, ExprAfforded, ArgsAfforded};
 ghost use Rattle.statements.specs.Answers.{exprSteps, unarySteps, logicSteps, otherSteps, binarySteps, callSteps, argsSteps, ConvertsAs, ArgsAs};
+ghost use Rattle.statements.specs.Turns.{InTurn, exprTypes, unaryTypes, sidesTypes, binaryTypes, argsTypes, callTypes, ConvertsTyped, ArgumentsTyped};
 use crate::answers::Converted;
 use crate::answers::ConvertedArgs;
 use crate::answers::Converter;
@@ -50,14 +51,16 @@ pub(crate) fn convert_expr(
 ) -> Converted
     requires { ⌜ Converting (now tree) (now text) (now arena) (now scratch) c × ExprAfforded (now tree) (now text) c e ⌝ }
     requires { ⌜ IsExpr (now tree) e ⌝ }
+    requires { ⌜ InTurn (now tree) (now text) (now scratch) c ⌝ }
     ensures { λ a. ⌜ ConvertsAs exprSteps c e (now (tree .entry)) (now (text .entry)) (now (arena .entry)) (now (scratch .entry)) a (now (arena .exit)) (now (scratch .exit)) ⌝ }
+    ensures types { λ a. ⌜ ConvertsTyped exprTypes c e (now (tree .entry)) (now (text .entry)) (now (scratch .entry)) a (now (scratch .exit)) ⌝ }
 {
     let scope = c.scope;
     let node = kind(tree, e);
     if node <= KIND_SIZE_OF {
         return operand(tree, text, arena, scratch, c, e);
     }
-    match get_type(tree, text, scratch, c.functions, scope, e) {
+    match get_type(tree, text, scratch, c.functions, scope, c.turn, e) {
         ExprType::Refused(x) => Converted::Refused(x),
         ExprType::Is(y) => {
             if node == KIND_UNARY {
@@ -83,7 +86,9 @@ fn convert_unary(
 ) -> Converted
     requires { ⌜ Converting (now tree) (now text) (now arena) (now scratch) c × ExprAfforded (now tree) (now text) c e ⌝ }
     requires { ⌜ IsKind (now tree) kindUnary e × TypeAt (now tree) y ⌝ }
+    requires { ⌜ InTurn (now tree) (now text) (now scratch) c ⌝ }
     ensures { λ a. ⌜ ConvertsAs (λ t x s k q. unarySteps t x s k q y) c e (now (tree .entry)) (now (text .entry)) (now (arena .entry)) (now (scratch .entry)) a (now (arena .exit)) (now (scratch .exit)) ⌝ }
+    ensures types { λ a. ⌜ ConvertsTyped unaryTypes c e (now (tree .entry)) (now (text .entry)) (now (scratch .entry)) a (now (scratch .exit)) ⌝ }
 {
     let op = detail(tree, e);
     let part = reference(tree, e, WORD_A);
@@ -108,7 +113,9 @@ fn convert_binary(
 ) -> Converted
     requires { ⌜ Converting (now tree) (now text) (now arena) (now scratch) c × ExprAfforded (now tree) (now text) c e ⌝ }
     requires { ⌜ IsKind (now tree) kindBinary e × TypeAt (now tree) y ⌝ }
+    requires { ⌜ InTurn (now tree) (now text) (now scratch) c ⌝ }
     ensures { λ a. ⌜ ConvertsAs (λ t x s k q. binarySteps t x s k q y) c e (now (tree .entry)) (now (text .entry)) (now (arena .entry)) (now (scratch .entry)) a (now (arena .exit)) (now (scratch .exit)) ⌝ }
+    ensures types { λ a. ⌜ ConvertsTyped binaryTypes c e (now (tree .entry)) (now (text .entry)) (now (scratch .entry)) a (now (scratch .exit)) ⌝ }
 {
     match operand_type(tree, text, scratch, c, e, y) {
         ExprType::Refused(x) => Converted::Refused(x),
@@ -133,7 +140,9 @@ fn convert_logic(
 ) -> Converted
     requires { ⌜ Converting (now tree) (now text) (now arena) (now scratch) c × ExprAfforded (now tree) (now text) c e ⌝ }
     requires { ⌜ IsKind (now tree) kindBinary e × TypeAt (now tree) y ⌝ }
+    requires { ⌜ InTurn (now tree) (now text) (now scratch) c ⌝ }
     ensures { λ a. ⌜ ConvertsAs (λ t x s k q. logicSteps t x s k q y) c e (now (tree .entry)) (now (text .entry)) (now (arena .entry)) (now (scratch .entry)) a (now (arena .exit)) (now (scratch .exit)) ⌝ }
+    ensures types { λ a. ⌜ ConvertsTyped sidesTypes c e (now (tree .entry)) (now (text .entry)) (now (scratch .entry)) a (now (scratch .exit)) ⌝ }
 {
     let left = reference(tree, e, WORD_A);
     let right = reference(tree, e, WORD_B);
@@ -172,7 +181,9 @@ fn convert_other(
 ) -> Converted
     requires { ⌜ Converting (now tree) (now text) (now arena) (now scratch) c × ExprAfforded (now tree) (now text) c e ⌝ }
     requires { ⌜ IsKind (now tree) kindBinary e × TypeAt (now tree) y × TypeAt (now tree) q ⌝ }
+    requires { ⌜ InTurn (now tree) (now text) (now scratch) c ⌝ }
     ensures { λ a. ⌜ ConvertsAs (λ t x s k r. otherSteps t x s k r y q) c e (now (tree .entry)) (now (text .entry)) (now (arena .entry)) (now (scratch .entry)) a (now (arena .exit)) (now (scratch .exit)) ⌝ }
+    ensures types { λ a. ⌜ ConvertsTyped sidesTypes c e (now (tree .entry)) (now (text .entry)) (now (scratch .entry)) a (now (scratch .exit)) ⌝ }
 {
     let op = detail(tree, e);
     let left = reference(tree, e, WORD_A);
@@ -205,10 +216,12 @@ fn convert_call_value(
 ) -> Converted
     requires { ⌜ Converting (now tree) (now text) (now arena) (now scratch) c × ExprAfforded (now tree) (now text) c e ⌝ }
     requires { ⌜ IsKind (now tree) kindCall e × TypeAt (now tree) y ⌝ }
+    requires { ⌜ InTurn (now tree) (now text) (now scratch) c ⌝ }
     ensures { λ a. ⌜ ConvertsAs (λ t x s k q. callSteps t x s k q y) c e (now (tree .entry)) (now (text .entry)) (now (arena .entry)) (now (scratch .entry)) a (now (arena .exit)) (now (scratch .exit)) ⌝ }
+    ensures types { λ a. ⌜ ConvertsTyped callTypes c e (now (tree .entry)) (now (text .entry)) (now (scratch .entry)) a (now (scratch .exit)) ⌝ }
 {
     let scope = c.scope;
-    let callee = resolve_call(tree, text, scratch, c.functions, scope, e);
+    let callee = resolve_call(tree, text, scratch, c.functions, scope, c.turn, e);
     if let Resolved::Refused(x) = callee {
         return Converted::Refused(x);
     }
@@ -233,7 +246,9 @@ pub(crate) fn convert_args(
 ) -> ConvertedArgs
     requires { ⌜ Converting (now tree) (now text) (now arena) (now scratch) c × ArgsAfforded (now tree) (now text) c (wordOf (now tree) e Words.C) ⌝ }
     requires { ⌜ IsKind (now tree) kindCall e ⌝ }
+    requires { ⌜ InTurn (now tree) (now text) (now scratch) c ⌝ }
     ensures { λ a. ⌜ ArgsAs argsSteps c (wordOf (now (tree .entry)) e Words.C) (now (tree .entry)) (now (text .entry)) (now (arena .entry)) (now (scratch .entry)) a (now (arena .exit)) (now (scratch .exit)) ⌝ }
+    ensures types { λ a. ⌜ ArgumentsTyped argsTypes c (wordOf (now (tree .entry)) e Words.C) (now (tree .entry)) (now (text .entry)) (now (scratch .entry)) a (now (scratch .exit)) ⌝ }
 {
     let n = tree.len() / 32;
     let first = c.operands;

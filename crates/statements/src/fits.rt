@@ -21,6 +21,7 @@ ghost use Rattle.statements.specs.Stack.{stackAt};
 ghost use Rattle.statements.specs.Converting.{Converting, Afforded, RoomFor, OperandIn, StackIn, StaysFor, NamesStay};
 ghost use Rattle.statements.specs.Meets.{Adds};
 ghost use Rattle.statements.specs.Answers.{FitAdds, FirstValue, FitsAs, PassesAs};
+ghost use Rattle.statements.specs.Turns.{TurnsStay};
 use crate::answers::AtValue;
 use crate::answers::Converter;
 use crate::answers::Fitted;
@@ -220,6 +221,7 @@ fn fit_args(
     requires { ⌜ Converting (now tree) (now text) (now arena) (now scratch) c × FunctionAt (now tree) f × IsKind (now tree) kindCall e ⌝ }
     requires { ⌜ Afforded (now tree) c (amount count count 0 0 count) count 0 × StackIn (now tree) (now scratch) (c .operands) count ⌝ }
     ensures { λ r. ⌜ FitsAs e f count c (now (tree .entry)) (now (text .entry)) (now (arena .entry)) (now (scratch .entry)) r (now (arena .exit)) (now (scratch .exit)) ⌝ }
+    ensures turns { λ _. ⌜ TurnsStay (now (tree .entry)) (now (scratch .entry)) (now (scratch .exit)) ⌝ }
 {
     let first = c.operands;
     let n = tree.len() / 32;
@@ -244,7 +246,7 @@ fn fit_args(
 // An Arg for each of `count` operands of the stack.
 fn emit_args(tree: &[u8], arena: &mut [u8], scratch: &[u8], c: Converter, count: usize) -> Counters
     requires { ⌜ RoomFor (c .counters) (now arena) (amount count 0 0 0 0) ⌝ }
-    requires { ⌜ (c .operands + count ≤ records (now tree)) × (64 * records (now tree) ≤ length (now scratch)) ⌝ }
+    requires { ⌜ (c .operands + count ≤ records (now tree)) × (72 * records (now tree) ≤ length (now scratch)) ⌝ }
     ensures { λ r. ⌜ Adds (emitArgs (stackAt (now (scratch .entry)) (records (now (tree .entry))) (c .operands) count)) (amount count 0 0 0 0) (c .counters) (now (arena .entry)) tt r (now (arena .exit)) ⌝ }
 {
     let first = c.operands;
@@ -274,6 +276,7 @@ pub(crate) fn pass_args(
     requires { ⌜ Afforded (now tree) c (amount (2 * count) count 0 0 count) count 0 × StackIn (now tree) (now scratch) (c .operands) count ⌝ }
     ensures adds { λ r. ⌜ PassesAs e f count c (now (tree .entry)) (now (text .entry)) (now (arena .entry)) (now (scratch .entry)) r (now (arena .exit)) ⌝ }
     ensures stays { λ _. ⌜ StaysFor (now (tree .entry)) c (now (scratch .entry)) (now (scratch .exit)) × NamesStay (now (tree .entry)) (now (scratch .entry)) (now (scratch .exit)) ⌝ }
+    ensures turns { λ _. ⌜ TurnsStay (now (tree .entry)) (now (scratch .entry)) (now (scratch .exit)) ⌝ }
 {
     let k = fit_args(tree, text, arena, scratch, c, e, f, count);
     let mut at = c;

@@ -17,6 +17,7 @@ ghost use Rattle.statements.specs.Converting.{Converting, RoomFor, Opera
 ghost use Rattle.statements.specs.Meets.{Adds};
 ghost use Rattle.statements.specs.Parts.{ifMiddle, loopBack, countOn, testBound, placeLabel};
 ghost use Rattle.statements.specs.Answers.{HeadAs, BoundAs, TurnsAs, ForHeadAs, VariableAs, Checks, ifHeadSteps, whileHeadSteps, forVariableSteps, boundSteps, forBoundsSteps, forBeginSteps, forTestSteps, forTurnsSteps, forHeadSteps, boundsUnder};
+ghost use Rattle.statements.specs.Turns.{InTurn, headTypes, boundTypes, boundsTypes, forBeginTypes, forTestTypes, forTypes, StatesTyped, FinishesTyped, VariableTyped, ChecksTyped};
 use crate::answers::Converted;
 use crate::answers::Converter;
 use crate::answers::Finished;
@@ -97,7 +98,9 @@ pub(crate) fn if_head(
 ) -> Finished
     requires { ⌜ Converting (now tree) (now text) (now arena) (now scratch) c × BehindAfforded (now tree) (now text) c r ⌝ }
     requires { ⌜ IsKind (now tree) kindIf r ⌝ }
+    requires { ⌜ InTurn (now tree) (now text) (now scratch) c ⌝ }
     ensures { λ a. ⌜ HeadAs ifHeadSteps c r (now (tree .entry)) (now (text .entry)) (now (arena .entry)) (now (scratch .entry)) a (now (arena .exit)) (now (scratch .exit)) ⌝ }
+    ensures types { λ a. ⌜ FinishesTyped headTypes c r (now (tree .entry)) (now (text .entry)) (now (scratch .entry)) a (now (scratch .exit)) ⌝ }
 {
     let e = reference(tree, r, WORD_A);
     let label = if_not_label(tree, r);
@@ -135,7 +138,9 @@ pub(crate) fn while_head(
 ) -> Finished
     requires { ⌜ Converting (now tree) (now text) (now arena) (now scratch) c × BehindAfforded (now tree) (now text) c r ⌝ }
     requires { ⌜ IsKind (now tree) kindWhile r ⌝ }
+    requires { ⌜ InTurn (now tree) (now text) (now scratch) c ⌝ }
     ensures { λ a. ⌜ HeadAs whileHeadSteps c r (now (tree .entry)) (now (text .entry)) (now (arena .entry)) (now (scratch .entry)) a (now (arena .exit)) (now (scratch .exit)) ⌝ }
+    ensures types { λ a. ⌜ FinishesTyped headTypes c r (now (tree .entry)) (now (text .entry)) (now (scratch .entry)) a (now (scratch .exit)) ⌝ }
 {
     let k = c.counters;
     let e = reference(tree, r, WORD_A);
@@ -169,7 +174,9 @@ fn for_declared(
 ) -> ForVariable
     requires { ⌜ Converting (now tree) (now text) (now arena) (now scratch) c × BehindAfforded (now tree) (now text) c r ⌝ }
     requires { ⌜ IsKind (now tree) kindFor r × (v ≡ wordOf (now tree) r Words.A) × TypeAt (now tree) (wordOf (now tree) v Words.C) ⌝ }
+    requires { ⌜ InTurn (now tree) (now text) (now scratch) c ⌝ }
     ensures { λ a. ⌜ VariableAs forVariableSteps c r (now (tree .entry)) (now (text .entry)) (now (arena .entry)) (now (scratch .entry)) a (now (arena .exit)) (now (scratch .exit)) ⌝ }
+    ensures types { λ a. ⌜ VariableTyped c (now (tree .entry)) (now (text .entry)) (now (scratch .entry)) a (now (scratch .exit)) ⌝ }
 {
     let scope = c.scope;
     let k = c.counters;
@@ -220,7 +227,9 @@ fn for_variable(
 ) -> ForVariable
     requires { ⌜ Converting (now tree) (now text) (now arena) (now scratch) c × BehindAfforded (now tree) (now text) c r ⌝ }
     requires { ⌜ IsKind (now tree) kindFor r ⌝ }
+    requires { ⌜ InTurn (now tree) (now text) (now scratch) c ⌝ }
     ensures { λ a. ⌜ VariableAs forVariableSteps c r (now (tree .entry)) (now (text .entry)) (now (arena .entry)) (now (scratch .entry)) a (now (arena .exit)) (now (scratch .exit)) ⌝ }
+    ensures types { λ a. ⌜ VariableTyped c (now (tree .entry)) (now (text .entry)) (now (scratch .entry)) a (now (scratch .exit)) ⌝ }
 {
     let v = reference(tree, r, WORD_A);
     if word(tree, v, WORD_C) == NONE {
@@ -239,10 +248,12 @@ fn check_bound(
     y: usize,
 ) -> Outcome
     requires { ⌜ Ready (now tree) (now text) (now scratch) (c .functions) (c .scope) × IsExpr (now tree) e × TypeAt (now tree) y ⌝ }
+    requires { ⌜ InTurn (now tree) (now text) (now scratch) c ⌝ }
     ensures { λ a. ⌜ Checks (now (tree .entry)) (boundSteps (now (tree .entry)) (now (text .entry)) (now (scratch .entry)) c e y) (now (scratch .entry)) a (now (scratch .exit)) ⌝ }
+    ensures types { λ a. ⌜ ChecksTyped boundTypes c e (now (tree .entry)) (now (text .entry)) (now (scratch .entry)) a (now (scratch .exit)) ⌝ }
 {
     let scope = c.scope;
-    match get_type(tree, text, scratch, c.functions, scope, e) {
+    match get_type(tree, text, scratch, c.functions, scope, c.turn, e) {
         ExprType::Refused(x) => Outcome::Refused(x),
         ExprType::Is(q) => check_fits(tree, e, q, y, ConvertErrorKind::NotInteger, e),
     }
@@ -258,7 +269,9 @@ fn for_bounds(
     y: usize,
 ) -> Outcome
     requires { ⌜ Ready (now tree) (now text) (now scratch) (c .functions) (c .scope) × IsKind (now tree) kindFor r × TypeAt (now tree) y ⌝ }
+    requires { ⌜ InTurn (now tree) (now text) (now scratch) c ⌝ }
     ensures { λ a. ⌜ Checks (now (tree .entry)) (forBoundsSteps (now (tree .entry)) (now (text .entry)) (now (scratch .entry)) c r y) (now (scratch .entry)) a (now (scratch .exit)) ⌝ }
+    ensures types { λ a. ⌜ ChecksTyped boundsTypes c r (now (tree .entry)) (now (text .entry)) (now (scratch .entry)) a (now (scratch .exit)) ⌝ }
 {
     let from = reference(tree, r, WORD_B);
     let until = reference(tree, r, WORD_C);
@@ -293,7 +306,9 @@ fn for_begin(
 ) -> Finished
     requires { ⌜ Converting (now tree) (now text) (now arena) (now scratch) c × BoundAfforded (now tree) (now text) c r 1 ⌝ }
     requires { ⌜ IsKind (now tree) kindFor r × TypeAt (now tree) (x .1) ⌝ }
+    requires { ⌜ InTurn (now tree) (now text) (now scratch) c ⌝ }
     ensures { λ a. ⌜ BoundAs (λ t y s k q. forBeginSteps t y s k x q) 1 c r (now (tree .entry)) (now (text .entry)) (now (arena .entry)) (now (scratch .entry)) a (now (arena .exit)) (now (scratch .exit)) ⌝ }
+    ensures types { λ a. ⌜ FinishesTyped forBeginTypes c r (now (tree .entry)) (now (text .entry)) (now (scratch .entry)) a (now (scratch .exit)) ⌝ }
 {
     let from = reference(tree, r, WORD_B);
     match convert_expr(tree, text, arena, scratch, c, from) {
@@ -339,7 +354,9 @@ fn for_test(
 ) -> Finished
     requires { ⌜ Converting (now tree) (now text) (now arena) (now scratch) c × BoundAfforded (now tree) (now text) c r 2 ⌝ }
     requires { ⌜ IsKind (now tree) kindFor r × TypeAt (now tree) (x .1) ⌝ }
+    requires { ⌜ InTurn (now tree) (now text) (now scratch) c ⌝ }
     ensures { λ a. ⌜ BoundAs (λ t y s k q. forTestSteps t y s k x q) 2 c r (now (tree .entry)) (now (text .entry)) (now (arena .entry)) (now (scratch .entry)) a (now (arena .exit)) (now (scratch .exit)) ⌝ }
+    ensures types { λ a. ⌜ FinishesTyped forTestTypes c r (now (tree .entry)) (now (text .entry)) (now (scratch .entry)) a (now (scratch .exit)) ⌝ }
 {
     let until = reference(tree, r, WORD_C);
     match convert_expr(tree, text, arena, scratch, c, until) {
@@ -360,7 +377,9 @@ fn for_turns(
 ) -> Finished
     requires { ⌜ Converting (now tree) (now text) (now arena) (now scratch) c × Afforded (now tree) c (forHeadAmount (boundsUnder (now tree) (now text) r)) (boundsUnder (now tree) (now text) r) 0 ⌝ }
     requires { ⌜ IsKind (now tree) kindFor r × TypeAt (now tree) (x .1) ⌝ }
+    requires { ⌜ InTurn (now tree) (now text) (now scratch) c ⌝ }
     ensures { λ a. ⌜ TurnsAs (λ t y s k q. forTurnsSteps t y s k x q) c r (now (tree .entry)) (now (text .entry)) (now (arena .entry)) (now (scratch .entry)) a (now (arena .exit)) (now (scratch .exit)) ⌝ }
+    ensures types { λ a. ⌜ FinishesTyped forTypes c r (now (tree .entry)) (now (text .entry)) (now (scratch .entry)) a (now (scratch .exit)) ⌝ }
 {
     let y = x.1 as usize;
     if form(tree, y) != INT {
@@ -390,7 +409,9 @@ pub(crate) fn for_head(
 ) -> Stated
     requires { ⌜ Converting (now tree) (now text) (now arena) (now scratch) c × BehindAfforded (now tree) (now text) c r ⌝ }
     requires { ⌜ IsKind (now tree) kindFor r ⌝ }
+    requires { ⌜ InTurn (now tree) (now text) (now scratch) c ⌝ }
     ensures { λ a. ⌜ ForHeadAs forHeadSteps c r (now (tree .entry)) (now (text .entry)) (now (arena .entry)) (now (scratch .entry)) a (now (arena .exit)) (now (scratch .exit)) ⌝ }
+    ensures types { λ a. ⌜ StatesTyped forTypes c r (now (tree .entry)) (now (text .entry)) (now (scratch .entry)) a (now (scratch .exit)) ⌝ }
 {
     match for_variable(tree, text, arena, scratch, c, r) {
         ForVariable::Refused(e) => Stated::Refused(e),

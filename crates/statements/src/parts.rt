@@ -18,6 +18,7 @@ ghost use Rattle.statements.specs.Converting.{Converting, RoomFor, Opera
 ghost use Rattle.statements.specs.Meets.{Adds};
 ghost use Rattle.statements.specs.Parts.{finishUnary, beginLogic, joinAnd, joinOr, endLogic, finishBinary};
 ghost use Rattle.statements.specs.Answers.{FitAdds, OperandTyped, CastsAs, CallsAs, CallEndsAs};
+ghost use Rattle.statements.specs.Turns.{InTurn, TurnsStay, CommonTyped};
 use crate::answers::Converted;
 use crate::answers::Converter;
 use crate::answers::Fitted;
@@ -161,12 +162,14 @@ pub(crate) fn operand_type(
 ) -> ExprType
     requires { ⌜ Ready (now tree) (now text) (now scratch) (c .functions) (c .scope) ⌝ }
     requires { ⌜ IsKind (now tree) kindBinary e × TypeAt (now tree) y ⌝ }
+    requires { ⌜ InTurn (now tree) (now text) (now scratch) c ⌝ }
     ensures { λ a. ⌜ OperandTyped (now (tree .entry)) (now (text .entry)) (now (scratch .entry)) c e y a (now (scratch .exit)) ⌝ }
+    ensures types { λ a. ⌜ CommonTyped c e (now (tree .entry)) (now (text .entry)) (now (scratch .entry)) a (now (scratch .exit)) ⌝ }
 {
     let scope = c.scope;
     let left = reference(tree, e, WORD_A);
     let right = reference(tree, e, WORD_B);
-    match common_type(tree, text, scratch, c.functions, scope, left, right) {
+    match common_type(tree, text, scratch, c.functions, scope, c.turn, left, right) {
         Common::Refused(x) => ExprType::Refused(x),
         Common::Is(q) => ExprType::Is(q),
         Common::Neither => ExprType::Is(y),
@@ -245,6 +248,7 @@ pub(crate) fn call_function(
     requires { ⌜ Converting (now tree) (now text) (now arena) (now scratch) c × Afforded (now tree) c (amount (2 * count + 1) count 0 0 count) count 0 ⌝ }
     requires { ⌜ FunctionAt (now tree) f × IsKind (now tree) kindCall e × TypeAt (now tree) (dest .1) × StackIn (now tree) (now scratch) (c .operands) count ⌝ }
     ensures { λ a. ⌜ CallsAs e f dest count c (now (tree .entry)) (now (text .entry)) (now (arena .entry)) (now (scratch .entry)) a (now (arena .exit)) (now (scratch .exit)) ⌝ }
+    ensures turns { λ _. ⌜ TurnsStay (now (tree .entry)) (now (scratch .entry)) (now (scratch .exit)) ⌝ }
 {
     let k = pass_args(tree, text, arena, scratch, c, e, f, count);
     let next = emit(arena, k, Instr::Call(dest, f as u32));
@@ -266,6 +270,7 @@ pub(crate) fn finish_call(
     requires { ⌜ Converting (now tree) (now text) (now arena) (now scratch) c × Afforded (now tree) c (amount (2 * count + 1) (count + 1) 0 0 count) count 0 ⌝ }
     requires { ⌜ IsKind (now tree) kindCall e × TypeAt (now tree) y × IsCallee (now tree) callee × StackIn (now tree) (now scratch) (c .operands) count ⌝ }
     ensures { λ a. ⌜ CallEndsAs e y callee count c (now (tree .entry)) (now (text .entry)) (now (arena .entry)) (now (scratch .entry)) a (now (arena .exit)) (now (scratch .exit)) ⌝ }
+    ensures turns { λ _. ⌜ TurnsStay (now (tree .entry)) (now (scratch .entry)) (now (scratch .exit)) ⌝ }
 {
     let k = c.counters;
     let made = new_var(arena, k, y as u32);

@@ -23,6 +23,7 @@ ghost use Rattle.statements.specs.Converting.{Converting, RoomFor, Opera
 ghost use Rattle.statements.specs.Meets.{Adds, Meets};
 ghost use Rattle.statements.specs.Parts.{copyFitted, zeroFloat};
 ghost use Rattle.statements.specs.Answers.{ConvertsAs, StatesAs, CallOnlyAs, DeclaresAs, finishedOf, condSteps, declareSteps, initSteps, initNewSteps, assignSteps, assignToSteps, returnSteps, returnAsSteps, callStatementSteps, callOnlySteps, breakSteps, continueSteps, declareInitSteps};
+ghost use Rattle.statements.specs.Turns.{InTurn, noTypes, callOnlyTypes, valueTypes, assignTypes, initTypes, headTypes, returnAsTypes, ownTypes, ConvertsTyped, StatesTyped};
 use crate::answers::Converted;
 use crate::answers::ConvertedArgs;
 use crate::answers::Converter;
@@ -89,10 +90,12 @@ pub(crate) fn convert_cond(
 ) -> Converted
     requires { ⌜ Converting (now tree) (now text) (now arena) (now scratch) c × ExprAfforded (now tree) (now text) c e ⌝ }
     requires { ⌜ IsExpr (now tree) e ⌝ }
+    requires { ⌜ InTurn (now tree) (now text) (now scratch) c ⌝ }
     ensures { λ a. ⌜ ConvertsAs condSteps c e (now (tree .entry)) (now (text .entry)) (now (arena .entry)) (now (scratch .entry)) a (now (arena .exit)) (now (scratch .exit)) ⌝ }
+    ensures types { λ a. ⌜ ConvertsTyped valueTypes c e (now (tree .entry)) (now (text .entry)) (now (scratch .entry)) a (now (scratch .exit)) ⌝ }
 {
     let scope = c.scope;
-    match get_type(tree, text, scratch, c.functions, scope, e) {
+    match get_type(tree, text, scratch, c.functions, scope, c.turn, e) {
         ExprType::Refused(x) => Converted::Refused(x),
         ExprType::Is(y) => {
             if y == BOOL_TYPE {
@@ -187,7 +190,9 @@ pub(crate) fn convert_declare(
 ) -> Stated
     requires { ⌜ Converting (now tree) (now text) (now arena) (now scratch) c × BehindAfforded (now tree) (now text) c r ⌝ }
     requires { ⌜ IsKind (now tree) kindDeclare r ⌝ }
+    requires { ⌜ InTurn (now tree) (now text) (now scratch) c ⌝ }
     ensures { λ a. ⌜ StatesAs declareSteps c r (now (tree .entry)) (now (text .entry)) (now (arena .entry)) (now (scratch .entry)) a (now (arena .exit)) (now (scratch .exit)) ⌝ }
+    ensures types { λ a. ⌜ StatesTyped noTypes c r (now (tree .entry)) (now (text .entry)) (now (scratch .entry)) a (now (scratch .exit)) ⌝ }
 {
     let scope = c.scope;
     let k = c.counters;
@@ -232,13 +237,23 @@ fn assign_to(
 ) -> Stated
     requires { ⌜ Converting (now tree) (now text) (now arena) (now scratch) c × BehindAfforded (now tree) (now text) c r ⌝ }
     requires { ⌜ IsKind (now tree) kindInit r × TypeAt (now tree) (v .1) ⌝ }
+    requires { ⌜ InTurn (now tree) (now text) (now scratch) c ⌝ }
     ensures { λ a. ⌜ StatesAs (λ t x s k q. assignToSteps t x s k q v) c r (now (tree .entry)) (now (text .entry)) (now (arena .entry)) (now (scratch .entry)) a (now (arena .exit)) (now (scratch .exit)) ⌝ }
+    ensures types { λ a. ⌜ StatesTyped assignTypes c r (now (tree .entry)) (now (text .entry)) (now (scratch .entry)) a (now (scratch .exit)) ⌝ }
 {
     let scope = c.scope;
     let e = reference(tree, r, WORD_C);
     match convert_expr(tree, text, arena, scratch, c, e) {
         Converted::Refused(x) => Stated::Refused(x),
-        Converted::Is(src, k) => match get_type(tree, text, scratch, c.functions, scope, e) {
+        Converted::Is(src, k) => match get_type(
+            tree,
+            text,
+            scratch,
+            c.functions,
+            scope,
+            c.turn,
+            e,
+        ) {
             ExprType::Refused(x) => Stated::Refused(x),
             ExprType::Is(y) => {
                 let expected = v.1 as usize;
@@ -263,7 +278,9 @@ fn convert_assign(
 ) -> Stated
     requires { ⌜ Converting (now tree) (now text) (now arena) (now scratch) c × BehindAfforded (now tree) (now text) c r ⌝ }
     requires { ⌜ IsKind (now tree) kindInit r × TypeAt (now tree) (v .1) ⌝ }
+    requires { ⌜ InTurn (now tree) (now text) (now scratch) c ⌝ }
     ensures { λ a. ⌜ StatesAs (λ t x s k q. assignSteps t x s k q v constant) c r (now (tree .entry)) (now (text .entry)) (now (arena .entry)) (now (scratch .entry)) a (now (arena .exit)) (now (scratch .exit)) ⌝ }
+    ensures types { λ a. ⌜ StatesTyped assignTypes c r (now (tree .entry)) (now (text .entry)) (now (scratch .entry)) a (now (scratch .exit)) ⌝ }
 {
     if constant {
         return Stated::Refused(error_at(ConvertErrorKind::AssignToConstant, r));
@@ -294,7 +311,9 @@ fn declare_init(
 ) -> Stated
     requires { ⌜ Converting (now tree) (now text) (now arena) (now scratch) c × Afforded (now tree) c (amount 1 1 0 0 0) 0 1 ⌝ }
     requires { ⌜ IsKind (now tree) kindInit r × TypeAt (now tree) y ⌝ }
+    requires { ⌜ InTurn (now tree) (now text) (now scratch) c ⌝ }
     ensures { λ a. ⌜ DeclaresAs (λ t x s k q. declareInitSteps t x s k q y src) c r (now (tree .entry)) (now (text .entry)) (now (arena .entry)) (now (scratch .entry)) a (now (arena .exit)) (now (scratch .exit)) ⌝ }
+    ensures types { λ a. ⌜ StatesTyped noTypes c r (now (tree .entry)) (now (text .entry)) (now (scratch .entry)) a (now (scratch .exit)) ⌝ }
 {
     let scope = c.scope;
     let k = c.counters;
@@ -319,11 +338,13 @@ fn init_new(
 ) -> Stated
     requires { ⌜ Converting (now tree) (now text) (now arena) (now scratch) c × BehindAfforded (now tree) (now text) c r ⌝ }
     requires { ⌜ IsKind (now tree) kindInit r ⌝ }
+    requires { ⌜ InTurn (now tree) (now text) (now scratch) c ⌝ }
     ensures { λ a. ⌜ StatesAs initNewSteps c r (now (tree .entry)) (now (text .entry)) (now (arena .entry)) (now (scratch .entry)) a (now (arena .exit)) (now (scratch .exit)) ⌝ }
+    ensures types { λ a. ⌜ StatesTyped initTypes c r (now (tree .entry)) (now (text .entry)) (now (scratch .entry)) a (now (scratch .exit)) ⌝ }
 {
     let scope = c.scope;
     let e = reference(tree, r, WORD_C);
-    match get_type(tree, text, scratch, c.functions, scope, e) {
+    match get_type(tree, text, scratch, c.functions, scope, c.turn, e) {
         ExprType::Refused(x) => Stated::Refused(x),
         ExprType::Is(y) => match convert_expr(tree, text, arena, scratch, c, e) {
             Converted::Refused(x) => Stated::Refused(x),
@@ -347,7 +368,9 @@ pub(crate) fn convert_init(
 ) -> Stated
     requires { ⌜ Converting (now tree) (now text) (now arena) (now scratch) c × BehindAfforded (now tree) (now text) c r ⌝ }
     requires { ⌜ IsKind (now tree) kindInit r ⌝ }
+    requires { ⌜ InTurn (now tree) (now text) (now scratch) c ⌝ }
     ensures { λ a. ⌜ StatesAs initSteps c r (now (tree .entry)) (now (text .entry)) (now (arena .entry)) (now (scratch .entry)) a (now (arena .exit)) (now (scratch .exit)) ⌝ }
+    ensures types { λ a. ⌜ StatesTyped initTypes c r (now (tree .entry)) (now (text .entry)) (now (scratch .entry)) a (now (scratch .exit)) ⌝ }
 {
     let scope = c.scope;
     if detail(tree, r) == 1 {
@@ -372,7 +395,9 @@ fn return_as(
 ) -> Stated
     requires { ⌜ Converting (now tree) (now text) (now arena) (now scratch) c × BehindAfforded (now tree) (now text) c r ⌝ }
     requires { ⌜ IsKind (now tree) kindReturn r × TypeAt (now tree) y × TypeAt (now tree) expected ⌝ }
+    requires { ⌜ InTurn (now tree) (now text) (now scratch) c ⌝ }
     ensures { λ a. ⌜ StatesAs (λ t x s k q. returnAsSteps t x s k q y expected) c r (now (tree .entry)) (now (text .entry)) (now (arena .entry)) (now (scratch .entry)) a (now (arena .exit)) (now (scratch .exit)) ⌝ }
+    ensures types { λ a. ⌜ StatesTyped returnAsTypes c r (now (tree .entry)) (now (text .entry)) (now (scratch .entry)) a (now (scratch .exit)) ⌝ }
 {
     let scope = c.scope;
     let e = reference(tree, r, WORD_A);
@@ -401,12 +426,14 @@ pub(crate) fn convert_return(
 ) -> Stated
     requires { ⌜ Converting (now tree) (now text) (now arena) (now scratch) c × BehindAfforded (now tree) (now text) c r ⌝ }
     requires { ⌜ IsKind (now tree) kindReturn r ⌝ }
+    requires { ⌜ InTurn (now tree) (now text) (now scratch) c ⌝ }
     ensures { λ a. ⌜ StatesAs returnSteps c r (now (tree .entry)) (now (text .entry)) (now (arena .entry)) (now (scratch .entry)) a (now (arena .exit)) (now (scratch .exit)) ⌝ }
+    ensures types { λ a. ⌜ StatesTyped headTypes c r (now (tree .entry)) (now (text .entry)) (now (scratch .entry)) a (now (scratch .exit)) ⌝ }
 {
     let scope = c.scope;
     let e = reference(tree, r, WORD_A);
     let expected = reference(tree, scope.function as usize, WORD_D);
-    match get_type(tree, text, scratch, c.functions, scope, e) {
+    match get_type(tree, text, scratch, c.functions, scope, c.turn, e) {
         ExprType::Refused(x) => Stated::Refused(x),
         ExprType::Is(y) => {
             if expected == NONE as usize {
@@ -429,7 +456,9 @@ fn call_only(
 ) -> Stated
     requires { ⌜ Converting (now tree) (now text) (now arena) (now scratch) c × ExprAfforded (now tree) (now text) c e ⌝ }
     requires { ⌜ IsKind (now tree) kindCall e × FunctionAt (now tree) f ⌝ }
+    requires { ⌜ InTurn (now tree) (now text) (now scratch) c ⌝ }
     ensures { λ a. ⌜ CallOnlyAs (λ t x s k q. callOnlySteps t x s k q f) c e (now (tree .entry)) (now (text .entry)) (now (arena .entry)) (now (scratch .entry)) a (now (arena .exit)) (now (scratch .exit)) ⌝ }
+    ensures types { λ a. ⌜ StatesTyped callOnlyTypes c e (now (tree .entry)) (now (text .entry)) (now (scratch .entry)) a (now (scratch .exit)) ⌝ }
 {
     let scope = c.scope;
     match convert_args(tree, text, arena, scratch, c, e) {
@@ -455,10 +484,12 @@ fn call_statement(
 ) -> Stated
     requires { ⌜ Converting (now tree) (now text) (now arena) (now scratch) c × BehindAfforded (now tree) (now text) c r ⌝ }
     requires { ⌜ IsKind (now tree) kindCallStatement r × IsKind (now tree) kindCall e × (e ≡ wordOf (now tree) r Words.A) ⌝ }
+    requires { ⌜ InTurn (now tree) (now text) (now scratch) c ⌝ }
     ensures { λ a. ⌜ StatesAs callStatementSteps c r (now (tree .entry)) (now (text .entry)) (now (arena .entry)) (now (scratch .entry)) a (now (arena .exit)) (now (scratch .exit)) ⌝ }
+    ensures types { λ a. ⌜ StatesTyped ownTypes c r (now (tree .entry)) (now (text .entry)) (now (scratch .entry)) a (now (scratch .exit)) ⌝ }
 {
     let scope = c.scope;
-    match resolve_call(tree, text, scratch, c.functions, scope, e) {
+    match resolve_call(tree, text, scratch, c.functions, scope, c.turn, e) {
         Resolved::Refused(x) => Stated::Refused(x),
         Resolved::Cast(_) => Stated::Refused(error_at(ConvertErrorKind::WouldPanic, r)),
         Resolved::Function(f) => call_only(tree, text, arena, scratch, c, e, f),
@@ -476,7 +507,9 @@ pub(crate) fn convert_call(
 ) -> Stated
     requires { ⌜ Converting (now tree) (now text) (now arena) (now scratch) c × BehindAfforded (now tree) (now text) c r ⌝ }
     requires { ⌜ IsKind (now tree) kindCallStatement r ⌝ }
+    requires { ⌜ InTurn (now tree) (now text) (now scratch) c ⌝ }
     ensures { λ a. ⌜ StatesAs callStatementSteps c r (now (tree .entry)) (now (text .entry)) (now (arena .entry)) (now (scratch .entry)) a (now (arena .exit)) (now (scratch .exit)) ⌝ }
+    ensures types { λ a. ⌜ StatesTyped ownTypes c r (now (tree .entry)) (now (text .entry)) (now (scratch .entry)) a (now (scratch .exit)) ⌝ }
 {
     let scope = c.scope;
     let k = c.counters;
@@ -484,7 +517,7 @@ pub(crate) fn convert_call(
     if kind(tree, e) == KIND_CALL {
         return call_statement(tree, text, arena, scratch, c, r, e);
     }
-    match get_type(tree, text, scratch, c.functions, scope, e) {
+    match get_type(tree, text, scratch, c.functions, scope, c.turn, e) {
         ExprType::Refused(x) => Stated::Refused(x),
         ExprType::Is(_) => Stated::Done(scope, k),
     }

@@ -16,8 +16,8 @@ use Rattle.records.specs.declared.shape.Row.{Row}
 use Rattle.records.specs.Shapes.{shapeOf, rowOf, rowAt, refers}
 use Rattle.records.specs.Rules.{kindBelow, isExpr, wordOk, wordsOk, formOk, refersTo, refersFrom, references, otherwiseMarked, bodyMarked, isFirstType, typesFirst, typeIsNew, referredOnce, recordOk}
 use Rattle.syntax.specs.Decode.{Node, child, node}
-use Rattle.syntax.proofs.Sums.{sum-le, hit}
-use Rattle.syntax.proofs.Held.{held, Leads, nowhere, leadsByKind, Present, Complete, Once, mentionsBy, mentions, word-holds}
+use Rattle.laws.proofs.Sums.{sum-le, hit}
+use Rattle.syntax.proofs.Held.{AnExpr, AVariable, Leads, nowhere, leadsByKind, Led, Complete, Once, mentionsBy, mentions, expr-below, variable-below}
 
 or-third : (a b c : Bool) → (a || b || c) ≡ true → a ≡ false → b ≡ false → c ≡ true
 or-third true b c e f g = absurd (false≢true (sym f))
@@ -35,23 +35,26 @@ lower p z true k e = (refl, e)
 lower p z false k e = absurd (false≢true (sym z ∙ e))
 
 module _ (tree text : List ℕ) where
-  kind-word : (p : ℕ → Bool) → p 0 ≡ false → ((k : ℕ) → p k ≡ true → (2 ≤ k) × (k ≤ 24)) → (r i : ℕ) → p (kindBelow tree r (wordOf tree r i)) ≡ true
-      → 1 ≤ held (child tree text (node tree text) r i)
+  -- the words that must lead to something, by their roles
+  kind-word : (p : ℕ → Bool) → p 0 ≡ false → ((k : ℕ) → p k ≡ true → (2 ≤ k) × (k ≤ 11)) → (r i : ℕ) → p (kindBelow tree r (wordOf tree r i)) ≡ true
+      → AnExpr (child tree text (node tree text) r i)
   unfolding kindBelow
   kind-word p z h r i e =
       let l = lower p z (ltb (wordOf tree r i) r) (kindOf tree (wordOf tree r i)) e in
       let b = h (kindOf tree (wordOf tree r i)) (l .1) in
-      word-holds tree text r i (kindOf tree (wordOf tree r i) - 2) (ltb-true (wordOf tree r i) r (l .0)) (omega (arith, b)) (omega (arith, b))
+      expr-below tree text r i (kindOf tree (wordOf tree r i) - 2) (ltb-true (wordOf tree r i) r (l .0)) (omega (arith, b)) (omega (arith, b))
 
-  -- the words that must lead to something, by their roles
-  expr-word : (r i : ℕ) → isExpr (kindBelow tree r (wordOf tree r i)) ≡ true → 1 ≤ held (child tree text (node tree text) r i)
+  expr-word : (r i : ℕ) → isExpr (kindBelow tree r (wordOf tree r i)) ≡ true → AnExpr (child tree text (node tree text) r i)
   expr-word = kind-word isExpr refl (λ k e. omega (arith, leb-true 2 k (and-left (leb 2 k) (leb k 11) e), leb-true k 11 (and-right (leb 2 k) (leb k 11) e)))
 
-  name-word : (r i : ℕ) → eqb (kindBelow tree r (wordOf tree r i)) 6 ≡ true → 1 ≤ held (child tree text (node tree text) r i)
+  name-word : (r i : ℕ) → eqb (kindBelow tree r (wordOf tree r i)) 6 ≡ true → AnExpr (child tree text (node tree text) r i)
   name-word = kind-word (λ k. eqb k 6) refl (λ k e. omega (arith, eqb-true k 6 e))
 
-  variable-word : (r i : ℕ) → eqb (kindBelow tree r (wordOf tree r i)) 24 ≡ true → 1 ≤ held (child tree text (node tree text) r i)
-  variable-word = kind-word (λ k. eqb k 24) refl (λ k e. omega (arith, eqb-true k 24 e))
+  variable-word : (r i : ℕ) → eqb (kindBelow tree r (wordOf tree r i)) 24 ≡ true → AVariable (child tree text (node tree text) r i)
+  unfolding kindBelow
+  variable-word r i e =
+      let l = lower (λ k. eqb k 24) refl (ltb (wordOf tree r i) r) (kindOf tree (wordOf tree r i)) e in
+      variable-below tree text r i (ltb-true (wordOf tree r i) r (l .0)) (eqb-true (kindOf tree (wordOf tree r i)) 24 (l .1))
 
   module _ (r : ℕ) (ok : wordsOk tree (length text) r (rowAt tree r) ≡ true) where
     -- the five words' own tests, once the kind is known
@@ -88,59 +91,59 @@ module _ (tree text : List ℕ) where
     word-c : (row : Row) → wordsOk tree (length text) r row ≡ true → wc row ≡ true
     word-c row e = and-right (wa row && wb row) (wc row) (first-three row e)
 
-    unary-must : kindOf tree r ≡ 9 → Present tree text (node tree text) r (getD leadsByKind 9 nowhere .must)
+    unary-must : kindOf tree r ≡ 9 → Led tree text (node tree text) r (getD leadsByKind 9 nowhere)
     unfolding wordsOk wordOk rowOf shapeOf pick
-    unary-must e = (expr-word r A (word-a (rowOf (shapeOf 9 (detailOf tree r))) (at-kind 9 e)), tt)
+    unary-must e = ((expr-word r A (word-a (rowOf (shapeOf 9 (detailOf tree r))) (at-kind 9 e)), tt), tt)
 
-    binary-must : kindOf tree r ≡ 10 → Present tree text (node tree text) r (getD leadsByKind 10 nowhere .must)
+    binary-must : kindOf tree r ≡ 10 → Led tree text (node tree text) r (getD leadsByKind 10 nowhere)
     unfolding wordsOk wordOk rowOf shapeOf pick
-    binary-must e = (expr-word r A (word-a (rowOf (shapeOf 10 (detailOf tree r))) (at-kind 10 e)), (expr-word r B (word-b (rowOf (shapeOf 10 (detailOf tree r))) (at-kind 10 e)), tt))
+    binary-must e = ((expr-word r A (word-a (rowOf (shapeOf 10 (detailOf tree r))) (at-kind 10 e)), (expr-word r B (word-b (rowOf (shapeOf 10 (detailOf tree r))) (at-kind 10 e)), tt)), tt)
 
-    value-must : kindOf tree r ≡ 13 → Present tree text (node tree text) r (getD leadsByKind 13 nowhere .must)
+    value-must : kindOf tree r ≡ 13 → Led tree text (node tree text) r (getD leadsByKind 13 nowhere)
     unfolding wordsOk wordOk rowOf shapeOf pick
-    value-must e = (expr-word r A (word-a (rowOf (shapeOf 13 (detailOf tree r))) (at-kind 13 e)), tt)
+    value-must e = ((expr-word r A (word-a (rowOf (shapeOf 13 (detailOf tree r))) (at-kind 13 e)), tt), tt)
 
-    init-must : kindOf tree r ≡ 16 → Present tree text (node tree text) r (getD leadsByKind 16 nowhere .must)
+    init-must : kindOf tree r ≡ 16 → Led tree text (node tree text) r (getD leadsByKind 16 nowhere)
     unfolding wordsOk wordOk rowOf shapeOf pick
-    init-must e = (expr-word r C (word-c (rowOf (shapeOf 16 (detailOf tree r))) (at-kind 16 e)), tt)
+    init-must e = ((expr-word r C (word-c (rowOf (shapeOf 16 (detailOf tree r))) (at-kind 16 e)), tt), tt)
 
-    return-must : kindOf tree r ≡ 17 → Present tree text (node tree text) r (getD leadsByKind 17 nowhere .must)
+    return-must : kindOf tree r ≡ 17 → Led tree text (node tree text) r (getD leadsByKind 17 nowhere)
     unfolding wordsOk wordOk rowOf shapeOf pick
-    return-must e = (expr-word r A (word-a (rowOf (shapeOf 17 (detailOf tree r))) (at-kind 17 e)), tt)
+    return-must e = ((expr-word r A (word-a (rowOf (shapeOf 17 (detailOf tree r))) (at-kind 17 e)), tt), tt)
 
-    callStatement-must : kindOf tree r ≡ 18 → Present tree text (node tree text) r (getD leadsByKind 18 nowhere .must)
+    callStatement-must : kindOf tree r ≡ 18 → Led tree text (node tree text) r (getD leadsByKind 18 nowhere)
     unfolding wordsOk wordOk rowOf shapeOf pick
-    callStatement-must e = (expr-word r A (word-a (rowOf (shapeOf 18 (detailOf tree r))) (at-kind 18 e)), tt)
+    callStatement-must e = ((expr-word r A (word-a (rowOf (shapeOf 18 (detailOf tree r))) (at-kind 18 e)), tt), tt)
 
-    if-must : kindOf tree r ≡ 19 → Present tree text (node tree text) r (getD leadsByKind 19 nowhere .must)
+    if-must : kindOf tree r ≡ 19 → Led tree text (node tree text) r (getD leadsByKind 19 nowhere)
     unfolding wordsOk wordOk rowOf shapeOf pick
-    if-must e = (expr-word r A (word-a (rowOf (shapeOf 19 (detailOf tree r))) (at-kind 19 e)), tt)
+    if-must e = ((expr-word r A (word-a (rowOf (shapeOf 19 (detailOf tree r))) (at-kind 19 e)), tt), tt)
 
-    while-must : kindOf tree r ≡ 20 → Present tree text (node tree text) r (getD leadsByKind 20 nowhere .must)
+    while-must : kindOf tree r ≡ 20 → Led tree text (node tree text) r (getD leadsByKind 20 nowhere)
     unfolding wordsOk wordOk rowOf shapeOf pick
-    while-must e = (expr-word r A (word-a (rowOf (shapeOf 20 (detailOf tree r))) (at-kind 20 e)), tt)
+    while-must e = ((expr-word r A (word-a (rowOf (shapeOf 20 (detailOf tree r))) (at-kind 20 e)), tt), tt)
 
-    for-must : kindOf tree r ≡ 21 → Present tree text (node tree text) r (getD leadsByKind 21 nowhere .must)
+    for-must : kindOf tree r ≡ 21 → Led tree text (node tree text) r (getD leadsByKind 21 nowhere)
     unfolding wordsOk wordOk rowOf shapeOf pick
-    for-must e = (variable-word r A (word-a (rowOf (shapeOf 21 (detailOf tree r))) (at-kind 21 e)), (expr-word r B (word-b (rowOf (shapeOf 21 (detailOf tree r))) (at-kind 21 e)), (expr-word r C (word-c (rowOf (shapeOf 21 (detailOf tree r))) (at-kind 21 e)), tt)))
+    for-must e = ((expr-word r B (word-b (rowOf (shapeOf 21 (detailOf tree r))) (at-kind 21 e)), (expr-word r C (word-c (rowOf (shapeOf 21 (detailOf tree r))) (at-kind 21 e)), tt)), (variable-word r A (word-a (rowOf (shapeOf 21 (detailOf tree r))) (at-kind 21 e)), tt))
 
-    function-must : kindOf tree r ≡ 25 → Present tree text (node tree text) r (getD leadsByKind 25 nowhere .must)
+    function-must : kindOf tree r ≡ 25 → Led tree text (node tree text) r (getD leadsByKind 25 nowhere)
     unfolding wordsOk wordOk rowOf shapeOf pick
-    function-must e = (name-word r A (word-a (rowOf (shapeOf 25 (detailOf tree r))) (at-kind 25 e)), (name-word r B (word-b (rowOf (shapeOf 25 (detailOf tree r))) (at-kind 25 e)), tt))
+    function-must e = ((name-word r A (word-a (rowOf (shapeOf 25 (detailOf tree r))) (at-kind 25 e)), (name-word r B (word-b (rowOf (shapeOf 25 (detailOf tree r))) (at-kind 25 e)), tt)), tt)
 
     AllMust : ℕ → List Leads → Type 0
     AllMust i [] = Unit {0}
-    AllMust i (w ∷ ws) = (kindOf tree r ≡ i → Present tree text (node tree text) r (w .must)) × AllMust (suc i) ws
+    AllMust i (w ∷ ws) = (kindOf tree r ≡ i → Led tree text (node tree text) r w) × AllMust (suc i) ws
 
-    must-at : (i : ℕ) (ws : List Leads) → AllMust i ws → (k : ℕ) → kindOf tree r ≡ i + k → Present tree text (node tree text) r (getD ws k nowhere .must)
+    must-at : (i : ℕ) (ws : List Leads) → AllMust i ws → (k : ℕ) → kindOf tree r ≡ i + k → Led tree text (node tree text) r (getD ws k nowhere)
     unfolding AllMust
-    must-at i [] a k e = tt
+    must-at i [] a k e = (tt, tt)
     must-at i (w ∷ ws) a zero e = a .0 (e ∙ omega arith)
     must-at i (w ∷ ws) a (suc k) e = must-at (suc i) ws (a .1) k (e ∙ omega arith)
 
     all-must : AllMust 0 leadsByKind
     unfolding AllMust
-    all-must = ((λ e. tt), ((λ e. tt), ((λ e. tt), ((λ e. tt), ((λ e. tt), ((λ e. tt), ((λ e. tt), ((λ e. tt), ((λ e. tt), (unary-must, (binary-must, ((λ e. tt), ((λ e. tt), (value-must, ((λ e. tt), ((λ e. tt), (init-must, (return-must, (callStatement-must, (if-must, (while-must, (for-must, ((λ e. tt), ((λ e. tt), ((λ e. tt), (function-must, tt))))))))))))))))))))))))))
+    all-must = ((λ e. (tt, tt)), ((λ e. (tt, tt)), ((λ e. (tt, tt)), ((λ e. (tt, tt)), ((λ e. (tt, tt)), ((λ e. (tt, tt)), ((λ e. (tt, tt)), ((λ e. (tt, tt)), ((λ e. (tt, tt)), (unary-must, (binary-must, ((λ e. (tt, tt)), ((λ e. (tt, tt)), (value-must, ((λ e. (tt, tt)), ((λ e. (tt, tt)), (init-must, (return-must, (callStatement-must, (if-must, (while-must, (for-must, ((λ e. (tt, tt)), ((λ e. (tt, tt)), ((λ e. (tt, tt)), (function-must, tt))))))))))))))))))))))))))
 
     complete : Complete tree text r
     complete = must-at 0 leadsByKind all-must (kindOf tree r) (sym (omega arith))

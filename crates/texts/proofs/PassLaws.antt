@@ -163,7 +163,7 @@ module _ (tree text : List ℕ) where
       }
 
   -- a record with a text: s₁ is the scratch once it is entered, s₂ once its number is written, s₃ once its digest is
-  module _ (s : List ℕ) (r d b h o x : ℕ) (few : records tree ≤ mostRecords) (room : 64 * records tree ≤ length s) (hr : r < records tree) (hb : b < records tree)
+  module _ (s : List ℕ) (r d b h o x : ℕ) (few : records tree ≤ mostRecords) (room : 72 * records tree ≤ length s) (hr : r < records tree) (hb : b < records tree)
       (hd : d < 4294967296) (hh : h < 4294967296) (s₁ s₂ s₃ : List ℕ) (e₁ : s₁ ≡ entered (records tree) r d b h s)
       (e₂ : s₂ ≡ splice s₁ (originalAt (records tree) r) (word o)) (e₃ : s₃ ≡ splice s₂ (textDigestAt (records tree) r) (word x)) where
     chain-room : ChainRoom (records tree) s

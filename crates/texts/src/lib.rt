@@ -60,7 +60,7 @@ fn same_own(tree: &[u8], text: &[u8], k: usize, r: usize, digest: u32, d: u32) -
 
 // The number of record r's text: that of a lower record with the same text, else r. The chain of its bucket is walked from the head on.
 fn find_original(tree: &[u8], text: &[u8], scratch: &[u8], r: usize, d: u32, head: u32) -> u32
-    requires { ⌜ Good (now tree) (now text) × (64 * records (now tree) ≤ length (now scratch)) ⌝ }
+    requires { ⌜ Good (now tree) (now text) × (72 * records (now tree) ≤ length (now scratch)) ⌝ }
     requires { ⌜ (r < records (now tree)) × (hasOwn (now tree) r ≡ true) × Passed (now tree) (now text) r (now scratch) ⌝ }
     requires { ⌜ (d ≡ ownDigest (now tree) (now text) r) × (head ≡ linkTo (textBucket (now tree) (now text)) r (textBucket (now tree) (now text) r)) ⌝ }
     ensures { λ v. ⌜ v ≡ originalOf (now (tree .entry)) (now (text .entry)) r ⌝ }
@@ -82,7 +82,7 @@ fn find_original(tree: &[u8], text: &[u8], scratch: &[u8], r: usize, d: u32, hea
 // Record r: where it has a text, the text's number is found, the record goes before the others of its bucket, and the number is written, with the digest
 // that goes on, so that the text need not be read for a digest again.
 fn number_record(tree: &[u8], text: &[u8], r: usize, scratch: &mut [u8])
-    requires { ⌜ Good (now tree) (now text) × (64 * records (now tree) ≤ length (now scratch)) ⌝ }
+    requires { ⌜ Good (now tree) (now text) × (72 * records (now tree) ≤ length (now scratch)) ⌝ }
     requires { ⌜ (r < records (now tree)) × Passed (now tree) (now text) r (now scratch) ⌝ }
     ensures { λ _. ⌜ Passed (now (tree .entry)) (now (text .entry)) (r + 1) (now (scratch .exit)) × Kept (records (now (tree .entry))) (now (scratch .entry)) (now (scratch .exit)) ⌝ }
 {
@@ -102,7 +102,7 @@ fn number_record(tree: &[u8], text: &[u8], r: usize, scratch: &mut [u8])
 
 // Every text of a good tree gets its number and its digest, in one pass over the records. The heads, digests and links stand below 12n.
 pub fn number_texts(tree: &[u8], text: &[u8], scratch: &mut [u8])
-    requires { ⌜ Good (now tree) (now text) × (64 * records (now tree) ≤ length (now scratch)) ⌝ }
+    requires { ⌜ Good (now tree) (now text) × (72 * records (now tree) ≤ length (now scratch)) ⌝ }
     ensures { λ _. ⌜ Numbered (now (tree .entry)) (now (text .entry)) (now (scratch .exit)) × Kept (records (now (tree .entry))) (now (scratch .entry)) (now (scratch .exit)) ⌝ }
 {
     let n = tree.len() / 32;

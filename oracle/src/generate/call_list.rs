@@ -2,7 +2,7 @@
 
 use super::{Case, broken, generate, list, misses, shifts, whole};
 use crate::ast::Layout;
-use crate::convert::{Answer, try_convert};
+use crate::convert::{Answer, Held, held};
 use crate::generate::classes;
 use crate::judge::needed;
 use crate::tree::{RECORD_BYTES, Tree};
@@ -103,9 +103,9 @@ pub fn cases(seed: u64, count: usize, vectors: &str) -> Result<Vec<Case>, String
 pub fn bytes(cases: &[Case]) -> Result<Vec<u8>, String> {
     let mut list = Vec::new();
     for (at, case) in cases.iter().enumerate() {
-        let answer = try_convert(&case.tree, &case.text, case.needs_main, case.lens)
+        let held = held(&case.tree, &case.text, case.needs_main, case.lens)
             .map_err(|message| format!("internal error: {}: {message}", case.label))?;
-        list.extend(entry(at, case, &answer));
+        list.extend(entry(at, case, &held));
     }
     Ok(list)
 }
@@ -113,31 +113,18 @@ pub fn bytes(cases: &[Case]) -> Result<Vec<u8>, String> {
 /// Case number `at` as bytes: 26 words (tree length, text length, main needed; the seven lengths; the byte that fills the buffers, the byte
 /// behind the tables afterwards; the eight words of the answer; the lengths of the six tables), then tree, text and tables. The tables stand in
 /// the order of the buffers: instructions, variables, labels, functions, strings, floats.
-pub fn entry(at: usize, case: &Case, answer: &Answer) -> Vec<u8> {
+pub fn entry(at: usize, case: &Case, held: &Held) -> Vec<u8> {
     let fill = 1 + (at * 37 % 255) as u32;
     let mut words = vec![case.tree.len() as u32, case.text.len() as u32, u32::from(case.needs_main)];
     words.extend(case.lens.iter().map(|len| *len as u32));
-    let mut tables: [&[u8]; 6] = [&[]; 6];
-    match answer {
-        Answer::Converted(made) => {
-            words.extend([fill, 0, 0]);
-            words.extend(made.counts());
-            words.push(0);
-            tables = [
-                &made.instructions,
-                &made.variables,
-                &made.labels,
-                &made.functions,
-                &made.strings,
-                &made.floats,
-            ];
+    let (tables, untouched): ([&[u8]; 6], bool) = match &held.answer {
+        Answer::Converted(t) => {
+            ([&t.instructions, &t.variables, &t.labels, &t.functions, &t.strings, &t.floats], false)
         }
-        Answer::Refused(r) => {
-            let untouched = r.place == u32::MAX && r.number != 10;
-            words.extend([fill, if untouched { fill } else { 0 }]);
-            words.extend([r.number, r.place, r.start, r.end, 0, 0, 0, 0]);
-        }
-    }
+        Answer::Refused(r) => ([&[]; 6], r.place == u32::MAX && r.number != 10),
+    };
+    words.extend([fill, if untouched { fill } else { 0 }]);
+    words.extend(held.words());
     words.extend(tables.iter().map(|table| table.len() as u32));
     let head = words.iter().flat_map(|word| word.to_le_bytes());
     let mut bytes: Vec<u8> = head.chain(case.tree.iter().copied()).chain(case.text.iter().copied()).collect();

@@ -33,6 +33,12 @@ fn bounds(cases: &mut Vec<Case>) {
             cases.push(short);
         }
     }
+    // Scratch of the twelve types: 64 bytes a record, as long as was enough once, one byte too few, and enough.
+    for scratch in [768, 863, 864] {
+        let mut case = twelve.clone();
+        case.lens[6] = scratch;
+        cases.push(Case { label: format!("scratch {scratch}"), ..case });
+    }
     cases.push(Case { lens: [0; 7], tree: vec![0; 33], text: vec![], ..twelve.clone() });
     cases.push(Case { lens: twelve.lens.map(|len| len + 1), ..twelve });
 }

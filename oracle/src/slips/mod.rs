@@ -70,12 +70,6 @@ impl Stored<'_> {
         Case { tree, text, needs_main, lens, label: "stored".to_string() }
     }
 
-    /// The stored answer as document 01's program prints it.
-    pub fn line(&self) -> String {
-        let words = if self.answer[0] == 0 { &self.answer[..7] } else { &self.answer[..4] };
-        words.iter().map(u32::to_string).collect::<Vec<_>>().join(" ")
-    }
-
     /// Number and place of a refusal before conversion, else (0, 0).
     fn judged(&self) -> (u32, u32) {
         if (24..=26).contains(&self.answer[0]) { (self.answer[0], self.answer[1]) } else { (0, 0) }

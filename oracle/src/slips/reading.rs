@@ -247,7 +247,7 @@ impl Rules {
             multiple: 32,
             fewest: 12,
             most: 2048,
-            bytes: [(320, 0), (12, 0), (24, 0), (32, 0), (8, 0), (32, 0), (64, 0)],
+            bytes: [(320, 0), (12, 0), (24, 0), (32, 0), (8, 0), (32, 0), (72, 0)],
             deepest: 64,
             forms: forms(),
             marks: vec![(IF, 1, 2), (FUNCTION, 4, 4)],

@@ -1,12 +1,12 @@
 //! Writes generated trees with the oracle's answers, one to a line, for tools/compare-definitions:
-//! label | 1 if main is needed | tree | text | 0 and six tables, or number, place, span.
+//! label | 1 if main is needed | tree | text | 0, the seventh count and six tables, or number, place, span.
 //!
 //! definitions CLASS SEED N LEAST MOST: of that class, the first N accepted trees of LEAST to MOST records.
 //! definitions file TREE TEXT [--main]: the tree of these two files.
 
 use std::{env, fs};
 
-use oracle::convert::try_convert;
+use oracle::convert::{Held, held};
 use oracle::{Answer, generate, needed};
 
 /// Seeds tried for each tree that is wanted.
@@ -16,11 +16,11 @@ fn hex(bytes: &[u8]) -> String {
     bytes.iter().map(|byte| format!("{byte:02x}")).collect()
 }
 
-fn answer_text(answer: &Answer) -> String {
-    match answer {
+fn answer_text(held: &Held) -> String {
+    match &held.answer {
         Answer::Converted(tables) => {
             let tables = tables.in_order().map(|table| format!(" {}.", hex(table)));
-            format!("0{}", tables.concat())
+            format!("0 {}{}", held.visits, tables.concat())
         }
         Answer::Refused(r) => format!("{} {} {} {}", r.number, r.place, r.start, r.end),
     }
@@ -28,15 +28,15 @@ fn answer_text(answer: &Answer) -> String {
 
 /// The line of a tree, unless it is refused before conversion.
 fn line(label: &str, main: bool, tree: &[u8], text: &[u8], lens: [usize; 7]) -> Option<String> {
-    let answer = match try_convert(tree, text, main, lens) {
-        Ok(answer) => answer,
+    let held = match held(tree, text, main, lens) {
+        Ok(held) => held,
         Err(message) => panic!("{label}: {message}"),
     };
-    if (24..=26).contains(&answer.number()) {
+    if (24..=26).contains(&held.answer.number()) {
         return None;
     }
     let main = u8::from(main);
-    Some(format!("{label}|{main}|{}|{}|{}", hex(tree), hex(text), answer_text(&answer)))
+    Some(format!("{label}|{main}|{}|{}|{}", hex(tree), hex(text), answer_text(&held)))
 }
 
 fn write_class(class: &str, seed: u64, wanted: u64, least: usize, most: usize) {

@@ -4,7 +4,7 @@ use mathlib.Core.Path.{sym, ap, _∙_}
 use borrow.Author.Needs.{needs}
 use Rattle.judge.specs.Judge.{buffers, lengthsOf}
 use Rattle.judge.specs.Keeps.{placed}
-use Rattle.converter.proofs.CallLaws.{rows-told, first-cleared, first-kept, first-accepted, judge-refuses, judged-good, judged-lent, promise-kept}
+use Rattle.converter.proofs.CallLaws.{rows-told, first-cleared, first-kept, first-accepted, judge-refuses, judged-good, judged-some, judged-lent, promise-kept}
 use Rattle.converter.proofs.convert.Statement.{statement}
 use Rattle.converter.proofs.convert.Tie as tie
 
@@ -91,7 +91,7 @@ convert-good-requires c κs =
     let b = buffers (start .args .instructions .now) (start .args .variables .now) (start .args .labels .now) (start .args .functions .now) (start .args .strings .now) (start .args .floats .now) (start .args .scratch .now) in
     let q = c .before .before .before .before .before .before .before .enum-told .given .1 in
     let first = first-accepted _ _ b _ _ (rows-told _ _ _ (lengthsOf b) _ _ _ (c .before .before .before .before .before .before .before .before .before .before .before .before .before .lengths-of .ensures) (c .before .before .before .before .before .before .before .before .before .before .before .judge-rows .ensures)) q in
-    (judged-good _ _ b _ _ first q, judged-lent _ _ b _ _ first q)
+    ((judged-good _ _ b _ _ first q, judged-some _ _ b _ _ first q), judged-lent _ _ b _ _ first q)
 
 same-length-15 : tie.Need-same-length-15
 same-length-15 c = search needs

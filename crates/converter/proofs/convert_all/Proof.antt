@@ -18,7 +18,9 @@ empty-tables-requires : tie.Need-empty-tables-requires Inv-loop μ-loop
 empty-tables-requires c κs = search needs
 
 loop-holds : tie.Need-loop-holds Inv-loop μ-loop
-loop-holds c = all-start _ _ _ _ _ _ (c .before .before .before .before .before .pre .0) (c .before .before .before .before .before .pre .1) (c .empty-tables .ensures)
+loop-holds c =
+    let first = c .before .before .before .before .before in
+    all-start _ _ _ _ _ _ (first .pre .0 .0) (first .pre .0 .1) (first .pre .1) (c .empty-tables .ensures)
 
 function-at-requires : tie.Need-function-at-requires Inv-loop μ-loop
 function-at-requires c κs = (c .before .before .loop .inv .keyed .listed, c .before .loop-test .taken)
@@ -28,7 +30,7 @@ convert-func-requires c κs =
     let found = c .before .before in
     let test = found .before .before in
     let w = test .before .loop .inv in
-    ((w .keyed, found .function-at .ensures .1), (w .room, w .records-are, one-afforded _ _ _ _ _ _ _ _ _ w (test .loop-test .taken) _ (found .function-at .ensures .0)))
+    ((w .keyed, found .function-at .ensures .1), ((w .room, w .records-are, one-afforded _ _ _ _ _ _ _ _ _ w (test .loop-test .taken) _ (found .function-at .ensures .0)), w .turns))
 
 enum-known-e : tie.Need-enum-known-e Inv-loop μ-loop
 enum-known-e c = search needs
@@ -44,7 +46,7 @@ returns c =
     let turn = c .before .before .before .before .before .before .before in
     let found = turn .before .before .before in
     let test = found .before .before in
-    all-refused _ _ _ _ _ _ _ _ _ (test .before .loop .inv) (test .loop-test .taken) _ (found .function-at .ensures .0) _ _ _ (turn .convert-func .ensures) _ (c .before .e .given .1)
+    all-refused _ _ _ _ _ _ _ _ _ (test .before .loop .inv) (test .loop-test .taken) _ (found .function-at .ensures .0) _ _ _ (turn .convert-func .ensures .0) (turn .convert-func .ensures .1) _ (c .before .e .given .1)
 
 enum-known-next : tie.Need-enum-known-next Inv-loop μ-loop
 enum-known-next c = search needs
@@ -62,7 +64,7 @@ loop-again c =
     let turn = c .before .before .before .before .before .before .before in
     let found = turn .before .before .before in
     let test = found .before .before in
-    all-next _ _ _ _ _ _ _ _ _ (test .before .loop .inv) (test .loop-test .taken) _ (found .function-at .ensures .0) _ _ _ (turn .convert-func .ensures) _ (c .before .next .given .1)
+    all-next _ _ _ _ _ _ _ _ _ (test .before .loop .inv) (test .loop-test .taken) _ (found .function-at .ensures .0) _ _ _ (turn .convert-func .ensures .0) (turn .convert-func .ensures .1) _ (c .before .next .given .1)
 
 same-length-3 : tie.Need-same-length-3 Inv-loop μ-loop
 same-length-3 c = c .before .loop .inv .long

@@ -1,19 +1,25 @@
--- Of a good tree, answer and buffers are what the definition says: its tables, each alone, or its error and zeros; scratch is zero.
--- What the conversion leaves in the arena, and what is cut out of it. Assumes nothing.
+-- Of a good tree, answer and buffers are what the definition says: its tables, each alone, and its visits, or its error and zeros; scratch is zero.
+-- What the conversion leaves in arena and scratch, and what is cut out of the arena. Assumes nothing.
 use borrow.Author.Needs.{needs}
-use Rattle.converter.proofs.CallLaws.{cut-afforded, as-the-rust}
+use Rattle.converter.proofs.CallLaws.{cut-afforded, scratch-room, as-the-rust}
 use Rattle.converter.proofs.convert_good.Statement.{statement}
 use Rattle.converter.proofs.convert_good.Tie as tie
 
 convert-tree-requires : tie.Need-convert-tree-requires
 convert-tree-requires c κs = search needs
 
+visits-requires : tie.Need-visits-requires
+visits-requires c κs =
+    let made = c .before .before .before .before .before in
+    let first = made .before .before .before .before .before .before .before .before .before .before .before .before in
+    (first .pre .0 .1, scratch-room _ _ _ _ _ _ _ _ _ _ _ _ _ (made .convert-tree .ensures) (first .pre .1))
+
 clear-requires : tie.Need-clear-requires
 clear-requires c κs = search needs
 
 finish-requires : tie.Need-finish-requires
 finish-requires c κs =
-    let made = c .before .before .before .before .before .before .before .before .before .before .before .before .before .before in
+    let made = c .before .before .before .before .before .before .before .before .before .before .before .before .before .before .before .before in
     cut-afforded _ _ _ _ _ _ _ _ _ _ _ _ _ (made .convert-tree .ensures) (made .before .before .before .before .before .before .before .before .before .before .before .before .pre .1)
 
 same-length : tie.Need-same-length
@@ -41,13 +47,17 @@ returns : tie.Need-returns
 returns c =
     let end = c .before .before .before .before .before .before .before .before .before .before .before .before in
     let zero = end .before .before .before .before .before .before .before .before .before in
-    as-the-rust _ _ _ _ _ _ _ _ _ _ _ _ _ (zero .before .before .before .before .before .before .convert-tree .ensures) _ _ _ _ _ _ _ _ (end .finish .ensures) (zero .clear .ensures)
+    let read = zero .before .before in
+    let made = read .before .before .before .before .before .before in
+    let first = made .before .before .before .before .before .before .before .before .before .before .before .before in
+    as-the-rust _ _ _ _ _ _ _ _ _ _ _ _ _ (made .convert-tree .ensures) (first .pre .0 .0) _ (read .visits .ensures) _ _ _ _ _ _ _ _ (end .finish .ensures) (zero .clear .ensures)
 
 pub convert-good-spec : {M : Type 1} → statement M
 convert-good-spec =
     tie.close
     (tie.spec
     convert-tree-requires
+    visits-requires
     clear-requires
     finish-requires
     same-length

@@ -44,7 +44,7 @@ same-length-6 c = search needs
 returns : tie.Need-returns
 returns c =
     let cleared = c .before .before .before .before .before .before .before .before .before .before .before .before in
-    finish-refused _ _ _ _ _ _ _ _ _ _ _ _ _ _ (cleared .before .before .before .before .before .before .before .before .done .given .1) (cleared .clear-outputs .ensures)
+    finish-refused _ _ _ _ _ _ _ _ _ _ _ _ _ _ _ (cleared .before .before .before .before .before .before .before .before .done .given .1) (cleared .clear-outputs .ensures)
 
 same-length-7 : tie.Need-same-length-7
 same-length-7 c = search needs
@@ -73,7 +73,7 @@ returns-2 c =
     let v = l .before .before in
     let i = v .before .before in
     let cut = i .before in
-    finish-converted _ _ _ _ _ _ _ _ _ _ _ _ _ _ _ (cut .before .before .before .before .before .before .before .before .done2 .given .1) (c .counts-of .ensures)
+    finish-converted _ _ _ _ _ _ _ _ _ _ _ _ _ _ _ _ (cut .before .before .before .before .before .before .before .before .done2 .given .1) (c .counts-of .ensures)
     (record { instructions = i .instructions2 .given; variables = v .variables2 .given; labels = l .labels2 .given; functions = f .functions2 .given; strings = s .given; floats = x .floats2 .given })
     (cut .cut-tables .ensures)
 

@@ -33,11 +33,15 @@ count-word-requires-5 c κs = search needs
 count-word-requires-6 : tie.Need-count-word-requires-6
 count-word-requires-6 c κs = search needs
 
--- src/lib.rt:97:5
+-- src/lib.rt:97:9
+count-word-requires-7 : tie.Need-count-word-requires-7
+count-word-requires-7 c κs = search needs
+
+-- src/lib.rt:98:5
 put-four-requires : tie.Need-put-four-requires
 put-four-requires c κs = search needs
 
--- src/lib.rt:98:5
+-- src/lib.rt:99:5
 put-four-requires-2 : tie.Need-put-four-requires-2
 put-four-requires-2 c κs = search needs
 
@@ -47,7 +51,18 @@ same-length c = search needs
 
 -- src/lib.rt:87:1
 returns : tie.Need-returns
-returns c = counts-put _ _ _ (c .before .before .before .before .before .before .before .before .before .before .before .before .before .before .before .pre) (c .before .before .before .before .before .before .before .before .before .before .before .before .before .before .before .args .c) _ _ _ _ _ _ (c .before .before .before .before .before .before .before .before .before .before .before .before .before .count-word .ensures) (c .before .before .before .before .before .before .before .before .before .before .before .before .count-word2 .ensures) (c .before .before .before .before .before .before .before .before .before .before .before .count-word3 .ensures) (c .before .before .before .before .before .before .before .before .before .before .count-word4 .ensures) (c .before .before .before .before .before .before .before .before .before .count-word5 .ensures) (c .before .before .before .before .before .before .before .before .count-word6 .ensures) (c .before .before .before .before .before .before .put-four .ensures) (c .before .before .put-four2 .ensures)
+returns c =
+    let first = c .before .before .before .before .before .before .before .before .before .before .before .before .before .before .before .before in
+    counts-put _ _ _ (first .pre) (first .args .c) _ _ _ _ _ _ _
+    (c .before .before .before .before .before .before .before .before .before .before .before .before .before .before .count-word .ensures)
+    (c .before .before .before .before .before .before .before .before .before .before .before .before .before .count-word2 .ensures)
+    (c .before .before .before .before .before .before .before .before .before .before .before .before .count-word3 .ensures)
+    (c .before .before .before .before .before .before .before .before .before .before .before .count-word4 .ensures)
+    (c .before .before .before .before .before .before .before .before .before .before .count-word5 .ensures)
+    (c .before .before .before .before .before .before .before .before .before .count-word6 .ensures)
+    (c .before .before .before .before .before .before .before .before .count-word7 .ensures)
+    (c .before .before .before .before .before .before .put-four .ensures)
+    (c .before .before .put-four2 .ensures)
 
 pub put-counts-spec : {M : Type 1} → statement M
 put-counts-spec =
@@ -59,6 +74,7 @@ put-counts-spec =
     count-word-requires-4
     count-word-requires-5
     count-word-requires-6
+    count-word-requires-7
     put-four-requires
     put-four-requires-2
     same-length

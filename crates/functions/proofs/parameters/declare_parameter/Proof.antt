@@ -4,7 +4,7 @@ use native.Mathlib.Omega.{arith}
 use mathlib.Core.Path.{refl}
 use borrow.Author.Needs.{needs}
 use Rattle.expressions.proofs.OriginalLaws.{number-inside, origin-inside, origin-declared}
-use Rattle.functions.proofs.ParameterLaws.{place-inside, place-word, place-asked, met-room, met-done, met-taken}
+use Rattle.functions.proofs.ParameterLaws.{place-inside, place-word, place-asked, met-room, met-done, met-taken, one-more-turns}
 use Rattle.functions.proofs.parameters.declare_parameter.Statement.{statement}
 use Rattle.functions.proofs.parameters.declare_parameter.Tie as tie
 use Rattle.functions.proofs.parameters.declare_parameter.Reads as reads
@@ -68,8 +68,9 @@ returns c =
     let read = words .before .before .before .before .before .before in
     let first = read .before .before .before .before in
     let asked = place-asked _ _ _ _ _ (first .pre .0) _ (first .pre .1 .0) (first .pre .1 .1 .0) (first .pre .1 .1 .1) _ (read .reference .ensures) in
-    met-done _ _ _ _ _ (first .pre .0) _ (first .pre .1 .0) (first .pre .1 .1 .0) (first .pre .1 .1 .1) _ (read .reference .ensures) _ (words .before .before .before .before .word .ensures) _ refl refl _ _
-    (origin-declared asked (words .before .before .original .ensures) (words .before .word2 .ensures) (words .word3 .ensures) _ _ _ _ (got .declare .ensures)) _ (c .before .next .given .1)
+    let met = met-done _ _ _ _ _ (first .pre .0) _ (first .pre .1 .0) (first .pre .1 .1 .0) (first .pre .1 .1 .1) _ (read .reference .ensures) _ (words .before .before .before .before .word .ensures) _ refl refl _ _
+    (origin-declared asked (words .before .before .original .ensures) (words .before .word2 .ensures) (words .word3 .ensures) _ _ _ _ (got .declare .ensures)) _ (c .before .next .given .1) in
+    (met, one-more-turns (first .pre .0 .keyed .listed .room) (omega (arith, first .pre .1 .1 .1)) met)
 
 same-length-2 : tie.Need-same-length-2
 same-length-2 c = search needs
@@ -81,8 +82,9 @@ returns-2 c =
     let read = words .before .before .before .before .before .before in
     let first = read .before .before .before .before in
     let asked = place-asked _ _ _ _ _ (first .pre .0) _ (first .pre .1 .0) (first .pre .1 .1 .0) (first .pre .1 .1 .1) _ (read .reference .ensures) in
-    met-taken _ _ _ _ _ (first .pre .0) _ (first .pre .1 .0) (first .pre .1 .1 .0) (first .pre .1 .1 .1) _ (read .reference .ensures) _ (words .before .before .before .before .word .ensures) _ refl refl _ _
-    (origin-declared asked (words .before .before .original .ensures) (words .before .word2 .ensures) (words .word3 .ensures) _ _ _ _ (got .declare .ensures)) (c .before .enum-told .given .1) _ (c .taken .ensures)
+    let met = met-taken _ _ _ _ _ (first .pre .0) _ (first .pre .1 .0) (first .pre .1 .1 .0) (first .pre .1 .1 .1) _ (read .reference .ensures) _ (words .before .before .before .before .word .ensures) _ refl refl _ _
+    (origin-declared asked (words .before .before .original .ensures) (words .before .word2 .ensures) (words .word3 .ensures) _ _ _ _ (got .declare .ensures)) (c .before .enum-told .given .1) _ (c .taken .ensures) in
+    (met, one-more-turns (first .pre .0 .keyed .listed .room) (omega (arith, first .pre .1 .1 .1)) met)
 
 pub declare-parameter-spec : {M : Type 1} → statement M
 declare-parameter-spec =

@@ -1,6 +1,6 @@
 -- The functions that convert statements and blocks meet their contracts. Their measures are 3r + 2 for a statement, 3r + 1 for an If, While or For, and three times the first cell's place for a block: a call goes to a lower record, or down this order.
 -- Each need is a law of BlockLaws, BlockParts or BlockTurns; the loop's invariant is `BlockLeft`, its measure the cell's place. Assumes nothing.
-use mathlib.Core.Path.{sym, _∙_}
+use mathlib.Core.Path.{refl, sym, _∙_}
 use native.Mathlib.Omega.{arith}
 use borrow.Author.Needs.{needs}
 use borrow.Author.Tests.{not-true, not-false}
@@ -9,7 +9,9 @@ use Rattle.syntax.proofs.Lists.{left}
 use Rattle.statements.proofs.StatedLaws.{finished-converting}
 use Rattle.statements.proofs.BlockLaws.{comment-converting, comment-afforded, last-kind, commented-plain, commented-jump, commented-if, commented-while, commented-for}
 use Rattle.statements.proofs.BlockParts.{while-list, while-stop, while-converting, while-afforded, while-body-stop, while-room, while-next, for-list, for-stop, for-converting, for-afforded, for-body-stop, for-room, for-next, then-list, other-list, if-stop, then-afforded, then-stop, if-room, if-next, middle-room, other-converting, other-afforded, other-stop, other-room, if-else-next}
-use Rattle.statements.proofs.BlockTurns.{BlockLeft, block-start, block-done, cell-low, block-less, turn-statement, turn-afforded, turn-stop, turn-next}
+use Rattle.statements.proofs.HeadLaws.{refused-finished}
+use Rattle.statements.proofs.BlockVisits.{comment-fresh, comment-small, comment-in-turn, plain-visited, jump-visited, stated-visited, refused-visited, begun-in-turn, head-visited, while-visited, if-visited, middle-turns, else-visited, for-head-visited, for-visited}
+use Rattle.statements.proofs.BlockTurns.{BlockLeft, block-start, block-done, block-visited, cell-low, block-less, turn-statement, turn-afforded, turn-stop, turn-next}
 use Prim.Native.Nat.{ℕ, _+_, _*_, _<_}
 use borrow.Fn.Kinds.{In}
 use borrow.Fn.PlainCycle.{Measures, is, falls, and}
@@ -147,7 +149,7 @@ convert-block-loop-holds : (t : ℕ) → convert-block-lts.Need-loop-holds (
   next-cell-reads.Asked,
   next-cell-reads.Learnt,
 ) (convert-block-at t) convert-block.Post convert-block-Inv-loop convert-block-μ-loop
-convert-block-loop-holds t c = block-start (c .before .before .before .before .pre .1 .0 .0) (c .before .before .before .before .pre .1 .0 .1) (c .before .before .before .before .pre .1 .1)
+convert-block-loop-holds t c = block-start (c .before .before .before .before .pre .1 .0 .0) (c .before .before .before .before .pre .1 .0 .1) (c .before .before .before .before .pre .1 .1 .0) (c .before .before .before .before .pre .1 .1 .1)
 
 convert-block-reference-requires : (t : ℕ) → convert-block-lts.Need-reference-requires (
   reference-reads.Asked,
@@ -157,7 +159,7 @@ convert-block-reference-requires : (t : ℕ) → convert-block-lts.Need-referenc
   next-cell-reads.Asked,
   next-cell-reads.Learnt,
 ) (convert-block-at t) convert-block.Post convert-block-Inv-loop convert-block-μ-loop
-convert-block-reference-requires t c κs = (omega (arith, cell-low (c .before .before .before .before .before .before .pre .1 .0 .0) (c .before .before .before .before .before .before .pre .1 .0 .1) (c .before .before .before .before .before .before .pre .1 .1) (c .before .loop .inv) (c .loop-test .taken), c .before .before .before .before .before .before .pre .1 .0 .0 .ready .keyed .good .whole), omega arith)
+convert-block-reference-requires t c κs = (omega (arith, cell-low (c .before .before .before .before .before .before .pre .1 .0 .0) (c .before .before .before .before .before .before .pre .1 .0 .1) (c .before .before .before .before .before .before .pre .1 .1 .0) (c .before .loop .inv) (c .loop-test .taken), c .before .before .before .before .before .before .pre .1 .0 .0 .ready .keyed .good .whole), omega arith)
 
 convert-block-convert-statement-requires :
     (t : ℕ) → convert-block-lts.Need-convert-statement-requires (
@@ -168,7 +170,7 @@ convert-block-convert-statement-requires :
       next-cell-reads.Asked,
       next-cell-reads.Learnt,
     ) (convert-block-at t) convert-block.Post convert-block-Inv-loop convert-block-μ-loop
-convert-block-convert-statement-requires t c κs = let h = turn-statement (c .before .before .before .before .before .before .before .before .before .pre .1 .0 .0) (c .before .before .before .before .before .before .before .before .before .pre .1 .0 .1) (c .before .before .before .before .before .before .before .before .before .pre .1 .1) (c .before .before .before .before .loop .inv) (c .before .before .before .loop-test .taken) (c .before .before .reference .ensures) in (omega (arith, h .0, c .before .before .before .before .before .before .before .before .before .pre .0), (((c .before .before .before .before .loop .inv) .converting, turn-afforded (c .before .before .before .before .before .before .before .before .before .pre .1 .0 .0) (c .before .before .before .before .before .before .before .before .before .pre .1 .0 .1) (c .before .before .before .before .before .before .before .before .before .pre .1 .1) (c .before .before .before .before .loop .inv) (c .before .before .before .loop-test .taken) (c .before .before .reference .ensures)), h .1))
+convert-block-convert-statement-requires t c κs = let h = turn-statement (c .before .before .before .before .before .before .before .before .before .pre .1 .0 .0) (c .before .before .before .before .before .before .before .before .before .pre .1 .0 .1) (c .before .before .before .before .before .before .before .before .before .pre .1 .1 .0) (c .before .before .before .before .loop .inv) (c .before .before .before .loop-test .taken) (c .before .before .reference .ensures) in (omega (arith, h .0, c .before .before .before .before .before .before .before .before .before .pre .0), (((c .before .before .before .before .loop .inv) .converting, turn-afforded (c .before .before .before .before .before .before .before .before .before .pre .1 .0 .0) (c .before .before .before .before .before .before .before .before .before .pre .1 .0 .1) (c .before .before .before .before .before .before .before .before .before .pre .1 .1 .0) (c .before .before .before .before .loop .inv) (c .before .before .before .loop-test .taken) (c .before .before .reference .ensures)), (h .1, (c .before .before .before .before .loop .inv .visited .turns))))
 
 convert-block-enum-known-x : (t : ℕ) → convert-block-lts.Need-enum-known-x (
   reference-reads.Asked,
@@ -188,7 +190,7 @@ convert-block-same-length : (t : ℕ) → convert-block-lts.Need-same-length (
   next-cell-reads.Asked,
   next-cell-reads.Learnt,
 ) (convert-block-at t) convert-block.Post convert-block-Inv-loop convert-block-μ-loop
-convert-block-same-length t c = omega (arith, (c .before .before .before .before .before .before .before .before .before .before .before .before .loop .inv) .long, (c .before .before .before .before .before .before .before .convert-statement .ensures) .meets .long)
+convert-block-same-length t c = omega (arith, (c .before .before .before .before .before .before .before .before .before .before .before .before .loop .inv) .long, (c .before .before .before .before .before .before .before .convert-statement .ensures .0) .meets .long)
 
 convert-block-same-length-2 : (t : ℕ) → convert-block-lts.Need-same-length-2 (
   reference-reads.Asked,
@@ -198,7 +200,7 @@ convert-block-same-length-2 : (t : ℕ) → convert-block-lts.Need-same-length-2
   next-cell-reads.Asked,
   next-cell-reads.Learnt,
 ) (convert-block-at t) convert-block.Post convert-block-Inv-loop convert-block-μ-loop
-convert-block-same-length-2 t c = omega (arith, (c .before .before .before .before .before .before .before .before .before .before .before .before .loop .inv) .stays .long, (c .before .before .before .before .before .before .before .convert-statement .ensures) .stays .long)
+convert-block-same-length-2 t c = omega (arith, (c .before .before .before .before .before .before .before .before .before .before .before .before .loop .inv) .stays .long, (c .before .before .before .before .before .before .before .convert-statement .ensures .0) .stays .long)
 
 convert-block-returns : (t : ℕ) → convert-block-lts.Need-returns (
   reference-reads.Asked,
@@ -208,7 +210,7 @@ convert-block-returns : (t : ℕ) → convert-block-lts.Need-returns (
   next-cell-reads.Asked,
   next-cell-reads.Learnt,
 ) (convert-block-at t) convert-block.Post convert-block-Inv-loop convert-block-μ-loop
-convert-block-returns t c = turn-stop (c .before .before .before .before .before .before .before .before .before .before .before .before .before .before .before .before .before .pre .1 .0 .0) (c .before .before .before .before .before .before .before .before .before .before .before .before .before .before .before .before .before .pre .1 .0 .1) (c .before .before .before .before .before .before .before .before .before .before .before .before .before .before .before .before .before .pre .1 .1) (c .before .before .before .before .before .before .before .before .before .before .before .before .loop .inv) (c .before .before .before .before .before .before .before .before .before .before .before .loop-test .taken) (c .before .before .before .before .before .before .before .before .before .before .reference .ensures) (c .before .before .before .before .before .before .before .convert-statement .ensures) (c .before .x .given .1)
+convert-block-returns t c = (turn-stop (c .before .before .before .before .before .before .before .before .before .before .before .before .before .before .before .before .before .pre .1 .0 .0) (c .before .before .before .before .before .before .before .before .before .before .before .before .before .before .before .before .before .pre .1 .0 .1) (c .before .before .before .before .before .before .before .before .before .before .before .before .before .before .before .before .before .pre .1 .1 .0) (c .before .before .before .before .before .before .before .before .before .before .before .before .loop .inv) (c .before .before .before .before .before .before .before .before .before .before .before .loop-test .taken) (c .before .before .before .before .before .before .before .before .before .before .reference .ensures) (c .before .before .before .before .before .before .before .convert-statement .ensures .0) (c .before .x .given .1), λ k q. refused-finished k q)
 
 convert-block-enum-known-scope : (t : ℕ) → convert-block-lts.Need-enum-known-scope (
   reference-reads.Asked,
@@ -228,7 +230,7 @@ convert-block-next-cell-requires : (t : ℕ) → convert-block-lts.Need-next-cel
   next-cell-reads.Asked,
   next-cell-reads.Learnt,
 ) (convert-block-at t) convert-block.Post convert-block-Inv-loop convert-block-μ-loop
-convert-block-next-cell-requires t c κs = (c .before .before .before .before .before .before .before .before .before .before .before .before .before .before .before .before .before .pre .1 .0 .0 .ready .keyed .good, cell-low (c .before .before .before .before .before .before .before .before .before .before .before .before .before .before .before .before .before .pre .1 .0 .0) (c .before .before .before .before .before .before .before .before .before .before .before .before .before .before .before .before .before .pre .1 .0 .1) (c .before .before .before .before .before .before .before .before .before .before .before .before .before .before .before .before .before .pre .1 .1) (c .before .before .before .before .before .before .before .before .before .before .before .before .loop .inv) (c .before .before .before .before .before .before .before .before .before .before .before .loop-test .taken))
+convert-block-next-cell-requires t c κs = (c .before .before .before .before .before .before .before .before .before .before .before .before .before .before .before .before .before .pre .1 .0 .0 .ready .keyed .good, cell-low (c .before .before .before .before .before .before .before .before .before .before .before .before .before .before .before .before .before .pre .1 .0 .0) (c .before .before .before .before .before .before .before .before .before .before .before .before .before .before .before .before .before .pre .1 .0 .1) (c .before .before .before .before .before .before .before .before .before .before .before .before .before .before .before .before .before .pre .1 .1 .0) (c .before .before .before .before .before .before .before .before .before .before .before .before .loop .inv) (c .before .before .before .before .before .before .before .before .before .before .before .loop-test .taken))
 
 convert-block-loop-less : (t : ℕ) → convert-block-lts.Need-loop-less (
   reference-reads.Asked,
@@ -238,7 +240,7 @@ convert-block-loop-less : (t : ℕ) → convert-block-lts.Need-loop-less (
   next-cell-reads.Asked,
   next-cell-reads.Learnt,
 ) (convert-block-at t) convert-block.Post convert-block-Inv-loop convert-block-μ-loop
-convert-block-loop-less t c = block-less (c .before .before .before .before .before .before .before .before .before .before .before .before .before .before .before .before .before .before .pre .1 .0 .0) (c .before .before .before .before .before .before .before .before .before .before .before .before .before .before .before .before .before .before .pre .1 .0 .1) (c .before .before .before .before .before .before .before .before .before .before .before .before .before .before .before .before .before .before .pre .1 .1) (c .before .before .before .before .before .before .before .before .before .before .before .before .before .loop .inv) (c .before .before .before .before .before .before .before .before .before .before .before .before .loop-test .taken) _ (c .next-cell .ensures)
+convert-block-loop-less t c = block-less (c .before .before .before .before .before .before .before .before .before .before .before .before .before .before .before .before .before .before .pre .1 .0 .0) (c .before .before .before .before .before .before .before .before .before .before .before .before .before .before .before .before .before .before .pre .1 .0 .1) (c .before .before .before .before .before .before .before .before .before .before .before .before .before .before .before .before .before .before .pre .1 .1 .0) (c .before .before .before .before .before .before .before .before .before .before .before .before .before .loop .inv) (c .before .before .before .before .before .before .before .before .before .before .before .before .loop-test .taken) _ (c .next-cell .ensures)
 
 convert-block-loop-again : (t : ℕ) → convert-block-lts.Need-loop-again (
   reference-reads.Asked,
@@ -248,7 +250,7 @@ convert-block-loop-again : (t : ℕ) → convert-block-lts.Need-loop-again (
   next-cell-reads.Asked,
   next-cell-reads.Learnt,
 ) (convert-block-at t) convert-block.Post convert-block-Inv-loop convert-block-μ-loop
-convert-block-loop-again t c = turn-next (c .before .before .before .before .before .before .before .before .before .before .before .before .before .before .before .before .before .before .pre .1 .0 .0) (c .before .before .before .before .before .before .before .before .before .before .before .before .before .before .before .before .before .before .pre .1 .0 .1) (c .before .before .before .before .before .before .before .before .before .before .before .before .before .before .before .before .before .before .pre .1 .1) (c .before .before .before .before .before .before .before .before .before .before .before .before .before .loop .inv) (c .before .before .before .before .before .before .before .before .before .before .before .before .loop-test .taken) (c .before .before .before .before .before .before .before .before .before .before .before .reference .ensures) (c .before .before .before .before .before .before .before .before .convert-statement .ensures) (c .before .before .scope .given .1) _ (c .next-cell .ensures)
+convert-block-loop-again t c = turn-next (c .before .before .before .before .before .before .before .before .before .before .before .before .before .before .before .before .before .before .pre .1 .0 .0) (c .before .before .before .before .before .before .before .before .before .before .before .before .before .before .before .before .before .before .pre .1 .0 .1) (c .before .before .before .before .before .before .before .before .before .before .before .before .before .before .before .before .before .before .pre .1 .1 .0) (c .before .before .before .before .before .before .before .before .before .before .before .before .before .loop .inv) (c .before .before .before .before .before .before .before .before .before .before .before .before .loop-test .taken) (c .before .before .before .before .before .before .before .before .before .before .before .reference .ensures) (c .before .before .before .before .before .before .before .before .convert-statement .ensures .0) (c .before .before .scope .given .1) (c .before .before .before .before .before .before .before .before .convert-statement .ensures .1) _ (c .next-cell .ensures)
 
 convert-block-same-length-3 : (t : ℕ) → convert-block-lts.Need-same-length-3 (
   reference-reads.Asked,
@@ -278,7 +280,7 @@ convert-block-returns-2 : (t : ℕ) → convert-block-lts.Need-returns-2 (
   next-cell-reads.Asked,
   next-cell-reads.Learnt,
 ) (convert-block-at t) convert-block.Post convert-block-Inv-loop convert-block-μ-loop
-convert-block-returns-2 t c = block-done (c .before .before .before .before .before .before .before .pre .1 .0 .0) (c .before .before .before .before .before .before .before .pre .1 .0 .1) (c .before .before .before .before .before .before .before .pre .1 .1) (c .before .before .loop .inv) (c .before .loop-test .left)
+convert-block-returns-2 t c = (block-done (c .before .before .before .before .before .before .before .pre .1 .0 .0) (c .before .before .before .before .before .before .before .pre .1 .0 .1) (c .before .before .before .before .before .before .before .pre .1 .1 .0) (c .before .before .loop .inv) (c .before .loop-test .left), block-visited (c .before .before .before .before .before .before .before .pre .1 .0 .0) (c .before .before .before .before .before .before .before .pre .1 .0 .1) (c .before .before .before .before .before .before .before .pre .1 .1 .0) (c .before .before .loop .inv) (c .before .loop-test .left))
 
 convert-for-loop-reference-requires : (t : ℕ) → convert-for-loop-lts.Need-reference-requires (
   reference-reads.Asked,
@@ -292,7 +294,7 @@ convert-for-loop-reference-requires : (t : ℕ) → convert-for-loop-lts.Need-re
   loop-end-reads.Asked,
   loop-end-reads.Learnt,
 ) (convert-for-loop-at t) convert-for-loop.Post
-convert-for-loop-reference-requires t c κs = (omega (arith, (c .before .before .before .before .pre .1 .1) .below, c .before .before .before .before .pre .1 .0 .0 .ready .keyed .good .whole), omega arith)
+convert-for-loop-reference-requires t c κs = (omega (arith, (c .before .before .before .before .pre .1 .1 .0) .below, c .before .before .before .before .pre .1 .0 .0 .ready .keyed .good .whole), omega arith)
 
 convert-for-loop-for-head-requires : (t : ℕ) → convert-for-loop-lts.Need-for-head-requires (
   reference-reads.Asked,
@@ -306,7 +308,7 @@ convert-for-loop-for-head-requires : (t : ℕ) → convert-for-loop-lts.Need-for
   loop-end-reads.Asked,
   loop-end-reads.Learnt,
 ) (convert-for-loop-at t) convert-for-loop.Post
-convert-for-loop-for-head-requires t c κs = (((c .before .before .before .before .before .before .before .pre .1 .0 .0), (c .before .before .before .before .before .before .before .pre .1 .0 .1)), (c .before .before .before .before .before .before .before .pre .1 .1))
+convert-for-loop-for-head-requires t c κs = (((c .before .before .before .before .before .before .before .pre .1 .0 .0), (c .before .before .before .before .before .before .before .pre .1 .0 .1)), ((c .before .before .before .before .before .before .before .pre .1 .1 .0), begun-in-turn (c .before .before .before .before .before .before .before .pre .1 .0 .0) (c .before .before .before .before .before .before .before .pre .1 .1 .0) (c .before .before .before .before .before .before .before .pre .1 .1 .1) (c .before .before .before .before .before .before .before .pre .1 .0 .1)))
 
 convert-for-loop-enum-known-x : (t : ℕ) → convert-for-loop-lts.Need-enum-known-x (
   reference-reads.Asked,
@@ -348,7 +350,7 @@ convert-for-loop-cast-with-loop : (t : ℕ) → convert-for-loop-lts.Need-cast-w
   loop-end-reads.Asked,
   loop-end-reads.Learnt,
 ) (convert-for-loop-at t) convert-for-loop.Post
-convert-for-loop-cast-with-loop t c = omega (arith, (c .before .before .before .before .before .before .before .before .before .before .before .before .before .before .before .pre .1 .1) .below, c .before .before .before .before .before .before .before .before .before .before .before .before .before .before .before .pre .1 .0 .0 .ready .keyed .good .few)
+convert-for-loop-cast-with-loop t c = omega (arith, (c .before .before .before .before .before .before .before .before .before .before .before .before .before .before .before .pre .1 .1 .0) .below, c .before .before .before .before .before .before .before .before .before .before .before .before .before .before .before .pre .1 .0 .0 .ready .keyed .good .few)
 
 convert-for-loop-with-loop-requires : (t : ℕ) → convert-for-loop-lts.Need-with-loop-requires (
   reference-reads.Asked,
@@ -377,7 +379,7 @@ convert-for-loop-convert-block-requires :
       loop-end-reads.Asked,
       loop-end-reads.Learnt,
     ) (convert-for-loop-at t) convert-for-loop.Post
-convert-for-loop-convert-block-requires t c κs = let h = for-list (c .before .before .before .before .before .before .before .before .before .before .before .before .before .before .before .before .before .before .pre .1 .0 .0) (c .before .before .before .before .before .before .before .before .before .before .before .before .before .before .before .before .before .before .pre .1 .0 .1) (c .before .before .before .before .before .before .before .before .before .before .before .before .before .before .before .before .before .before .pre .1 .1) (c .before .before .before .before .before .before .before .before .before .before .before .before .before .reference .ensures) in (omega (arith, h .0, c .before .before .before .before .before .before .before .before .before .before .before .before .before .before .before .before .before .before .pre .0), ((for-converting (c .before .before .before .before .before .before .before .before .before .before .before .before .before .before .before .before .before .before .pre .1 .0 .0) (c .before .before .before .before .before .before .before .before .before .before .before .before .before .before .before .before .before .before .pre .1 .0 .1) (c .before .before .before .before .before .before .before .before .before .before .before .before .before .before .before .before .before .before .pre .1 .1) (c .before .before .before .before .before .before .before .before .before .before .for-head .ensures) (c .before .before .before .before .scope .given .1) (c .before .before .with-loop .ensures) (c .before .before .before .before .before .before .before .before .before .before .before .before .before .reference .ensures), for-afforded (c .before .before .before .before .before .before .before .before .before .before .before .before .before .before .before .before .before .before .pre .1 .0 .0) (c .before .before .before .before .before .before .before .before .before .before .before .before .before .before .before .before .before .before .pre .1 .0 .1) (c .before .before .before .before .before .before .before .before .before .before .before .before .before .before .before .before .before .before .pre .1 .1) (c .before .before .before .before .before .before .before .before .before .before .for-head .ensures) (c .before .before .before .before .scope .given .1) (c .before .before .with-loop .ensures) (c .before .before .before .before .before .before .before .before .before .before .before .before .before .reference .ensures)), h .1))
+convert-for-loop-convert-block-requires t c κs = let h = for-list (c .before .before .before .before .before .before .before .before .before .before .before .before .before .before .before .before .before .before .pre .1 .0 .0) (c .before .before .before .before .before .before .before .before .before .before .before .before .before .before .before .before .before .before .pre .1 .0 .1) (c .before .before .before .before .before .before .before .before .before .before .before .before .before .before .before .before .before .before .pre .1 .1 .0) (c .before .before .before .before .before .before .before .before .before .before .before .before .before .reference .ensures) in (omega (arith, h .0, c .before .before .before .before .before .before .before .before .before .before .before .before .before .before .before .before .before .before .pre .0), ((for-converting (c .before .before .before .before .before .before .before .before .before .before .before .before .before .before .before .before .before .before .pre .1 .0 .0) (c .before .before .before .before .before .before .before .before .before .before .before .before .before .before .before .before .before .before .pre .1 .0 .1) (c .before .before .before .before .before .before .before .before .before .before .before .before .before .before .before .before .before .before .pre .1 .1 .0) (c .before .before .before .before .before .before .before .before .before .before .for-head .ensures .0) (c .before .before .before .before .scope .given .1) (c .before .before .with-loop .ensures) (c .before .before .before .before .before .before .before .before .before .before .before .before .before .reference .ensures), for-afforded (c .before .before .before .before .before .before .before .before .before .before .before .before .before .before .before .before .before .before .pre .1 .0 .0) (c .before .before .before .before .before .before .before .before .before .before .before .before .before .before .before .before .before .before .pre .1 .0 .1) (c .before .before .before .before .before .before .before .before .before .before .before .before .before .before .before .before .before .before .pre .1 .1 .0) (c .before .before .before .before .before .before .before .before .before .before .for-head .ensures .0) (c .before .before .before .before .scope .given .1) (c .before .before .with-loop .ensures) (c .before .before .before .before .before .before .before .before .before .before .before .before .before .reference .ensures)), (h .1, (for-head-visited (c .before .before .before .before .before .before .before .before .before .before .before .before .before .before .before .before .before .before .pre .1 .0 .0) (c .before .before .before .before .before .before .before .before .before .before .before .before .before .before .before .before .before .before .pre .1 .1 .0) (c .before .before .before .before .before .before .before .before .before .before .before .before .before .before .before .before .before .before .pre .1 .1 .1) (c .before .before .before .before .before .before .before .before .before .before .for-head .ensures .0) (c .before .before .before .before .scope .given .1) (c .before .before .before .before .before .before .before .before .before .before .for-head .ensures .1)) .turns)))
 
 convert-for-loop-enum-known-x-2 : (t : ℕ) → convert-for-loop-lts.Need-enum-known-x-2 (
   reference-reads.Asked,
@@ -419,7 +421,7 @@ convert-for-loop-loop-end-requires : (t : ℕ) → convert-for-loop-lts.Need-loo
   loop-end-reads.Asked,
   loop-end-reads.Learnt,
 ) (convert-for-loop-at t) convert-for-loop.Post
-convert-for-loop-loop-end-requires t c κs = (for-room (c .before .before .before .before .before .before .before .before .before .before .before .before .before .before .before .before .before .before .before .before .before .before .before .before .before .before .before .pre .1 .0 .0) (c .before .before .before .before .before .before .before .before .before .before .before .before .before .before .before .before .before .before .before .before .before .before .before .before .before .before .before .pre .1 .0 .1) (c .before .before .before .before .before .before .before .before .before .before .before .before .before .before .before .before .before .before .before .before .before .before .before .before .before .before .before .pre .1 .1) (c .before .before .before .before .before .before .before .before .before .before .before .before .before .before .before .before .before .before .before .for-head .ensures) (c .before .before .before .before .before .before .before .before .before .before .before .before .before .scope .given .1) (c .before .before .before .before .before .before .before .before .before .before .before .with-loop .ensures) (c .before .before .before .before .before .before .before .before .before .before .before .before .before .before .before .before .before .before .before .before .before .before .reference .ensures) (c .before .before .before .before .before .before .before .before .convert-block .ensures) (c .before .before .k1 .given .1), omega (arith, (c .before .before .before .before .before .before .before .before .before .before .before .before .before .before .before .before .before .before .before .before .before .before .before .before .before .before .before .pre .1 .1) .below, c .before .before .before .before .before .before .before .before .before .before .before .before .before .before .before .before .before .before .before .before .before .before .before .before .before .before .before .pre .1 .0 .0 .ready .keyed .good .few))
+convert-for-loop-loop-end-requires t c κs = (for-room (c .before .before .before .before .before .before .before .before .before .before .before .before .before .before .before .before .before .before .before .before .before .before .before .before .before .before .before .pre .1 .0 .0) (c .before .before .before .before .before .before .before .before .before .before .before .before .before .before .before .before .before .before .before .before .before .before .before .before .before .before .before .pre .1 .0 .1) (c .before .before .before .before .before .before .before .before .before .before .before .before .before .before .before .before .before .before .before .before .before .before .before .before .before .before .before .pre .1 .1 .0) (c .before .before .before .before .before .before .before .before .before .before .before .before .before .before .before .before .before .before .before .for-head .ensures .0) (c .before .before .before .before .before .before .before .before .before .before .before .before .before .scope .given .1) (c .before .before .before .before .before .before .before .before .before .before .before .with-loop .ensures) (c .before .before .before .before .before .before .before .before .before .before .before .before .before .before .before .before .before .before .before .before .before .before .reference .ensures) (c .before .before .before .before .before .before .before .before .convert-block .ensures .0) (c .before .before .k1 .given .1), omega (arith, (c .before .before .before .before .before .before .before .before .before .before .before .before .before .before .before .before .before .before .before .before .before .before .before .before .before .before .before .pre .1 .1 .0) .below, c .before .before .before .before .before .before .before .before .before .before .before .before .before .before .before .before .before .before .before .before .before .before .before .before .before .before .before .pre .1 .0 .0 .ready .keyed .good .few))
 
 convert-for-loop-same-length : (t : ℕ) → convert-for-loop-lts.Need-same-length (
   reference-reads.Asked,
@@ -433,7 +435,7 @@ convert-for-loop-same-length : (t : ℕ) → convert-for-loop-lts.Need-same-leng
   loop-end-reads.Asked,
   loop-end-reads.Learnt,
 ) (convert-for-loop-at t) convert-for-loop.Post
-convert-for-loop-same-length t c = omega (arith, (c .before .before .before .before .before .before .before .for-head .ensures) .meets .long)
+convert-for-loop-same-length t c = omega (arith, (c .before .before .before .before .before .before .before .for-head .ensures .0) .meets .long)
 
 convert-for-loop-same-length-2 : (t : ℕ) → convert-for-loop-lts.Need-same-length-2 (
   reference-reads.Asked,
@@ -447,7 +449,7 @@ convert-for-loop-same-length-2 : (t : ℕ) → convert-for-loop-lts.Need-same-le
   loop-end-reads.Asked,
   loop-end-reads.Learnt,
 ) (convert-for-loop-at t) convert-for-loop.Post
-convert-for-loop-same-length-2 t c = omega (arith, (c .before .before .before .before .before .before .before .for-head .ensures) .stays .long)
+convert-for-loop-same-length-2 t c = omega (arith, (c .before .before .before .before .before .before .before .for-head .ensures .0) .stays .long)
 
 convert-for-loop-returns : (t : ℕ) → convert-for-loop-lts.Need-returns (
   reference-reads.Asked,
@@ -461,7 +463,7 @@ convert-for-loop-returns : (t : ℕ) → convert-for-loop-lts.Need-returns (
   loop-end-reads.Asked,
   loop-end-reads.Learnt,
 ) (convert-for-loop-at t) convert-for-loop.Post
-convert-for-loop-returns t c = for-stop (c .before .before .before .before .before .before .before .before .before .before .before .before .before .before .before .pre .1 .0 .0) (c .before .before .before .before .before .before .before .before .before .before .before .before .before .before .before .pre .1 .0 .1) (c .before .before .before .before .before .before .before .before .before .before .before .before .before .before .before .pre .1 .1) (c .before .before .before .before .before .before .before .for-head .ensures) (c .before .x .given .1)
+convert-for-loop-returns t c = (for-stop (c .before .before .before .before .before .before .before .before .before .before .before .before .before .before .before .pre .1 .0 .0) (c .before .before .before .before .before .before .before .before .before .before .before .before .before .before .before .pre .1 .0 .1) (c .before .before .before .before .before .before .before .before .before .before .before .before .before .before .before .pre .1 .1 .0) (c .before .before .before .before .before .before .before .for-head .ensures .0) (c .before .x .given .1), λ k q. refused-finished k q)
 
 convert-for-loop-same-length-3 : (t : ℕ) → convert-for-loop-lts.Need-same-length-3 (
   reference-reads.Asked,
@@ -475,7 +477,7 @@ convert-for-loop-same-length-3 : (t : ℕ) → convert-for-loop-lts.Need-same-le
   loop-end-reads.Asked,
   loop-end-reads.Learnt,
 ) (convert-for-loop-at t) convert-for-loop.Post
-convert-for-loop-same-length-3 t c = omega (arith, (c .before .before .before .before .before .before .before .before .before .before .before .before .before .before .before .before .before .before .for-head .ensures) .meets .long, (c .before .before .before .before .before .before .before .convert-block .ensures) .meets .long)
+convert-for-loop-same-length-3 t c = omega (arith, (c .before .before .before .before .before .before .before .before .before .before .before .before .before .before .before .before .before .before .for-head .ensures .0) .meets .long, (c .before .before .before .before .before .before .before .convert-block .ensures .0) .meets .long)
 
 convert-for-loop-same-length-4 : (t : ℕ) → convert-for-loop-lts.Need-same-length-4 (
   reference-reads.Asked,
@@ -489,7 +491,7 @@ convert-for-loop-same-length-4 : (t : ℕ) → convert-for-loop-lts.Need-same-le
   loop-end-reads.Asked,
   loop-end-reads.Learnt,
 ) (convert-for-loop-at t) convert-for-loop.Post
-convert-for-loop-same-length-4 t c = omega (arith, (c .before .before .before .before .before .before .before .before .before .before .before .before .before .before .before .before .before .before .for-head .ensures) .stays .long, (c .before .before .before .before .before .before .before .convert-block .ensures) .stays .long)
+convert-for-loop-same-length-4 t c = omega (arith, (c .before .before .before .before .before .before .before .before .before .before .before .before .before .before .before .before .before .before .for-head .ensures .0) .stays .long, (c .before .before .before .before .before .before .before .convert-block .ensures .0) .stays .long)
 
 convert-for-loop-returns-2 : (t : ℕ) → convert-for-loop-lts.Need-returns-2 (
   reference-reads.Asked,
@@ -503,7 +505,7 @@ convert-for-loop-returns-2 : (t : ℕ) → convert-for-loop-lts.Need-returns-2 (
   loop-end-reads.Asked,
   loop-end-reads.Learnt,
 ) (convert-for-loop-at t) convert-for-loop.Post
-convert-for-loop-returns-2 t c = for-body-stop (c .before .before .before .before .before .before .before .before .before .before .before .before .before .before .before .before .before .before .before .before .before .before .before .before .before .before .pre .1 .0 .0) (c .before .before .before .before .before .before .before .before .before .before .before .before .before .before .before .before .before .before .before .before .before .before .before .before .before .before .pre .1 .0 .1) (c .before .before .before .before .before .before .before .before .before .before .before .before .before .before .before .before .before .before .before .before .before .before .before .before .before .before .pre .1 .1) (c .before .before .before .before .before .before .before .before .before .before .before .before .before .before .before .before .before .before .for-head .ensures) (c .before .before .before .before .before .before .before .before .before .before .before .before .scope .given .1) (c .before .before .before .before .before .before .before .before .before .before .with-loop .ensures) (c .before .before .before .before .before .before .before .before .before .before .before .before .before .before .before .before .before .before .before .before .before .reference .ensures) (c .before .before .before .before .before .before .before .convert-block .ensures) (c .before .x2 .given .1)
+convert-for-loop-returns-2 t c = (for-body-stop (c .before .before .before .before .before .before .before .before .before .before .before .before .before .before .before .before .before .before .before .before .before .before .before .before .before .before .pre .1 .0 .0) (c .before .before .before .before .before .before .before .before .before .before .before .before .before .before .before .before .before .before .before .before .before .before .before .before .before .before .pre .1 .0 .1) (c .before .before .before .before .before .before .before .before .before .before .before .before .before .before .before .before .before .before .before .before .before .before .before .before .before .before .pre .1 .1 .0) (c .before .before .before .before .before .before .before .before .before .before .before .before .before .before .before .before .before .before .for-head .ensures .0) (c .before .before .before .before .before .before .before .before .before .before .before .before .scope .given .1) (c .before .before .before .before .before .before .before .before .before .before .with-loop .ensures) (c .before .before .before .before .before .before .before .before .before .before .before .before .before .before .before .before .before .before .before .before .before .reference .ensures) (c .before .before .before .before .before .before .before .convert-block .ensures .0) (c .before .x2 .given .1), λ k q. refused-finished k q)
 
 convert-for-loop-same-length-5 : (t : ℕ) → convert-for-loop-lts.Need-same-length-5 (
   reference-reads.Asked,
@@ -517,7 +519,7 @@ convert-for-loop-same-length-5 : (t : ℕ) → convert-for-loop-lts.Need-same-le
   loop-end-reads.Asked,
   loop-end-reads.Learnt,
 ) (convert-for-loop-at t) convert-for-loop.Post
-convert-for-loop-same-length-5 t c = omega (arith, (c .before .before .before .before .before .before .before .before .before .before .before .before .before .before .before .before .before .before .before .before .before .before .for-head .ensures) .meets .long, (c .before .before .before .before .before .before .before .before .before .before .before .convert-block .ensures) .meets .long, (c .before .before .loop-end .ensures) .long)
+convert-for-loop-same-length-5 t c = omega (arith, (c .before .before .before .before .before .before .before .before .before .before .before .before .before .before .before .before .before .before .before .before .before .before .for-head .ensures .0) .meets .long, (c .before .before .before .before .before .before .before .before .before .before .before .convert-block .ensures .0) .meets .long, (c .before .before .loop-end .ensures) .long)
 
 convert-for-loop-same-length-6 : (t : ℕ) → convert-for-loop-lts.Need-same-length-6 (
   reference-reads.Asked,
@@ -531,7 +533,7 @@ convert-for-loop-same-length-6 : (t : ℕ) → convert-for-loop-lts.Need-same-le
   loop-end-reads.Asked,
   loop-end-reads.Learnt,
 ) (convert-for-loop-at t) convert-for-loop.Post
-convert-for-loop-same-length-6 t c = omega (arith, (c .before .before .before .before .before .before .before .before .before .before .before .before .before .before .before .before .before .before .before .before .before .before .for-head .ensures) .stays .long, (c .before .before .before .before .before .before .before .before .before .before .before .convert-block .ensures) .stays .long)
+convert-for-loop-same-length-6 t c = omega (arith, (c .before .before .before .before .before .before .before .before .before .before .before .before .before .before .before .before .before .before .before .before .before .before .for-head .ensures .0) .stays .long, (c .before .before .before .before .before .before .before .before .before .before .before .convert-block .ensures .0) .stays .long)
 
 convert-for-loop-returns-3 : (t : ℕ) → convert-for-loop-lts.Need-returns-3 (
   reference-reads.Asked,
@@ -545,7 +547,7 @@ convert-for-loop-returns-3 : (t : ℕ) → convert-for-loop-lts.Need-returns-3 (
   loop-end-reads.Asked,
   loop-end-reads.Learnt,
 ) (convert-for-loop-at t) convert-for-loop.Post
-convert-for-loop-returns-3 t c = for-next (c .before .before .before .before .before .before .before .before .before .before .before .before .before .before .before .before .before .before .before .before .before .before .before .before .before .before .before .before .before .before .pre .1 .0 .0) (c .before .before .before .before .before .before .before .before .before .before .before .before .before .before .before .before .before .before .before .before .before .before .before .before .before .before .before .before .before .before .pre .1 .0 .1) (c .before .before .before .before .before .before .before .before .before .before .before .before .before .before .before .before .before .before .before .before .before .before .before .before .before .before .before .before .before .before .pre .1 .1) (c .before .before .before .before .before .before .before .before .before .before .before .before .before .before .before .before .before .before .before .before .before .before .for-head .ensures) (c .before .before .before .before .before .before .before .before .before .before .before .before .before .before .before .before .scope .given .1) (c .before .before .before .before .before .before .before .before .before .before .before .before .before .before .with-loop .ensures) (c .before .before .before .before .before .before .before .before .before .before .before .before .before .before .before .before .before .before .before .before .before .before .before .before .before .reference .ensures) (c .before .before .before .before .before .before .before .before .before .before .before .convert-block .ensures) (c .before .before .before .before .before .k1 .given .1) (c .before .before .loop-end .ensures)
+convert-for-loop-returns-3 t c = (for-next (c .before .before .before .before .before .before .before .before .before .before .before .before .before .before .before .before .before .before .before .before .before .before .before .before .before .before .before .before .before .before .pre .1 .0 .0) (c .before .before .before .before .before .before .before .before .before .before .before .before .before .before .before .before .before .before .before .before .before .before .before .before .before .before .before .before .before .before .pre .1 .0 .1) (c .before .before .before .before .before .before .before .before .before .before .before .before .before .before .before .before .before .before .before .before .before .before .before .before .before .before .before .before .before .before .pre .1 .1 .0) (c .before .before .before .before .before .before .before .before .before .before .before .before .before .before .before .before .before .before .before .before .before .before .for-head .ensures .0) (c .before .before .before .before .before .before .before .before .before .before .before .before .before .before .before .before .scope .given .1) (c .before .before .before .before .before .before .before .before .before .before .before .before .before .before .with-loop .ensures) (c .before .before .before .before .before .before .before .before .before .before .before .before .before .before .before .before .before .before .before .before .before .before .before .before .before .reference .ensures) (c .before .before .before .before .before .before .before .before .before .before .before .convert-block .ensures .0) (c .before .before .before .before .before .k1 .given .1) (c .before .before .loop-end .ensures), for-visited (c .before .before .before .before .before .before .before .before .before .before .before .before .before .before .before .before .before .before .before .before .before .before .before .before .before .before .before .before .before .before .pre .1 .0 .0) (c .before .before .before .before .before .before .before .before .before .before .before .before .before .before .before .before .before .before .before .before .before .before .before .before .before .before .before .before .before .before .pre .1 .1 .0) (c .before .before .before .before .before .before .before .before .before .before .before .before .before .before .before .before .before .before .before .before .before .before .before .before .before .before .before .before .before .before .pre .1 .1 .1) (c .before .before .before .before .before .before .before .before .before .before .before .before .before .before .before .before .before .before .before .before .before .before .for-head .ensures .0) (c .before .before .before .before .before .before .before .before .before .before .before .before .before .before .before .before .scope .given .1) (c .before .before .before .before .before .before .before .before .before .before .before .before .before .before .before .before .before .before .before .before .before .before .for-head .ensures .1) refl (c .before .before .before .before .before .before .before .before .before .before .before .before .before .before .before .before .before .before .before .before .before .before .before .before .before .reference .ensures) (c .before .before .before .before .before .before .before .before .before .before .before .convert-block .ensures .1) (c .before .before .before .before .before .k1 .given .1) (c .before .before .loop-end .ensures))
 
 convert-if-reference-requires : (t : ℕ) → convert-if-lts.Need-reference-requires (
   reference-reads.Asked,
@@ -561,7 +563,7 @@ convert-if-reference-requires : (t : ℕ) → convert-if-lts.Need-reference-requ
   if-middle-reads.Asked,
   if-middle-reads.Learnt,
 ) (convert-if-at t) convert-if.Post
-convert-if-reference-requires t c κs = (omega (arith, (c .before .before .before .before .pre .1 .1) .below, c .before .before .before .before .pre .1 .0 .0 .ready .keyed .good .whole), omega arith)
+convert-if-reference-requires t c κs = (omega (arith, (c .before .before .before .before .pre .1 .1 .0) .below, c .before .before .before .before .pre .1 .0 .0 .ready .keyed .good .whole), omega arith)
 
 convert-if-reference-requires-2 : (t : ℕ) → convert-if-lts.Need-reference-requires-2 (
   reference-reads.Asked,
@@ -577,7 +579,7 @@ convert-if-reference-requires-2 : (t : ℕ) → convert-if-lts.Need-reference-re
   if-middle-reads.Asked,
   if-middle-reads.Learnt,
 ) (convert-if-at t) convert-if.Post
-convert-if-reference-requires-2 t c κs = (omega (arith, (c .before .before .before .before .before .pre .1 .1) .below, c .before .before .before .before .before .pre .1 .0 .0 .ready .keyed .good .whole), omega arith)
+convert-if-reference-requires-2 t c κs = (omega (arith, (c .before .before .before .before .before .pre .1 .1 .0) .below, c .before .before .before .before .before .pre .1 .0 .0 .ready .keyed .good .whole), omega arith)
 
 convert-if-if-head-requires : (t : ℕ) → convert-if-lts.Need-if-head-requires (
   reference-reads.Asked,
@@ -593,7 +595,7 @@ convert-if-if-head-requires : (t : ℕ) → convert-if-lts.Need-if-head-requires
   if-middle-reads.Asked,
   if-middle-reads.Learnt,
 ) (convert-if-at t) convert-if.Post
-convert-if-if-head-requires t c κs = (((c .before .before .before .before .before .before .before .before .pre .1 .0 .0), (c .before .before .before .before .before .before .before .before .pre .1 .0 .1)), (c .before .before .before .before .before .before .before .before .pre .1 .1))
+convert-if-if-head-requires t c κs = (((c .before .before .before .before .before .before .before .before .pre .1 .0 .0), (c .before .before .before .before .before .before .before .before .pre .1 .0 .1)), ((c .before .before .before .before .before .before .before .before .pre .1 .1 .0), begun-in-turn (c .before .before .before .before .before .before .before .before .pre .1 .0 .0) (c .before .before .before .before .before .before .before .before .pre .1 .1 .0) (c .before .before .before .before .before .before .before .before .pre .1 .1 .1) (c .before .before .before .before .before .before .before .before .pre .1 .0 .1)))
 
 convert-if-enum-known-head : (t : ℕ) → convert-if-lts.Need-enum-known-head (
   reference-reads.Asked,
@@ -641,7 +643,7 @@ convert-if-same-length : (t : ℕ) → convert-if-lts.Need-same-length (
   if-middle-reads.Asked,
   if-middle-reads.Learnt,
 ) (convert-if-at t) convert-if.Post
-convert-if-same-length t c = omega (arith, (c .before .before .before .before .before .before .if-head .ensures) .meets .long)
+convert-if-same-length t c = omega (arith, (c .before .before .before .before .before .before .if-head .ensures .0) .meets .long)
 
 convert-if-same-length-2 : (t : ℕ) → convert-if-lts.Need-same-length-2 (
   reference-reads.Asked,
@@ -657,7 +659,7 @@ convert-if-same-length-2 : (t : ℕ) → convert-if-lts.Need-same-length-2 (
   if-middle-reads.Asked,
   if-middle-reads.Learnt,
 ) (convert-if-at t) convert-if.Post
-convert-if-same-length-2 t c = omega (arith, (c .before .before .before .before .before .before .if-head .ensures) .stays .long)
+convert-if-same-length-2 t c = omega (arith, (c .before .before .before .before .before .before .if-head .ensures .0) .stays .long)
 
 convert-if-returns : (t : ℕ) → convert-if-lts.Need-returns (
   reference-reads.Asked,
@@ -673,7 +675,7 @@ convert-if-returns : (t : ℕ) → convert-if-lts.Need-returns (
   if-middle-reads.Asked,
   if-middle-reads.Learnt,
 ) (convert-if-at t) convert-if.Post
-convert-if-returns t c = if-stop (c .before .before .before .before .before .before .before .before .before .before .before .before .before .before .before .pre .1 .0 .0) (c .before .before .before .before .before .before .before .before .before .before .before .before .before .before .before .pre .1 .0 .1) (c .before .before .before .before .before .before .before .before .before .before .before .before .before .before .before .pre .1 .1) (c .before .before .before .before .before .before .if-head .ensures) (c .before .match .keys2)
+convert-if-returns t c = (if-stop (c .before .before .before .before .before .before .before .before .before .before .before .before .before .before .before .pre .1 .0 .0) (c .before .before .before .before .before .before .before .before .before .before .before .before .before .before .before .pre .1 .0 .1) (c .before .before .before .before .before .before .before .before .before .before .before .before .before .before .before .pre .1 .1 .0) (c .before .before .before .before .before .before .if-head .ensures .0) (c .before .match .keys2), λ k q. refused-visited _ (c .before .match .keys2) k q)
 
 convert-if-convert-block-requires : (t : ℕ) → convert-if-lts.Need-convert-block-requires (
   reference-reads.Asked,
@@ -689,7 +691,7 @@ convert-if-convert-block-requires : (t : ℕ) → convert-if-lts.Need-convert-bl
   if-middle-reads.Asked,
   if-middle-reads.Learnt,
 ) (convert-if-at t) convert-if.Post
-convert-if-convert-block-requires t c κs = let h = then-list (c .before .before .before .before .before .before .before .before .before .before .before .before .before .before .before .before .before .before .pre .1 .0 .0) (c .before .before .before .before .before .before .before .before .before .before .before .before .before .before .before .before .before .before .pre .1 .0 .1) (c .before .before .before .before .before .before .before .before .before .before .before .before .before .before .before .before .before .before .pre .1 .1) (c .before .before .before .before .before .before .before .before .before .before .before .before .before .reference .ensures) in (omega (arith, h .0, c .before .before .before .before .before .before .before .before .before .before .before .before .before .before .before .before .before .before .pre .0), ((finished-converting (c .before .before .before .before .before .before .before .before .before .if-head .ensures) (c .before .before .before .head .given .1) (c .before .before .before .before .before .before .before .before .before .before .before .before .before .before .before .before .before .before .pre .1 .0 .0), then-afforded (c .before .before .before .before .before .before .before .before .before .before .before .before .before .before .before .before .before .before .pre .1 .0 .0) (c .before .before .before .before .before .before .before .before .before .before .before .before .before .before .before .before .before .before .pre .1 .0 .1) (c .before .before .before .before .before .before .before .before .before .before .before .before .before .before .before .before .before .before .pre .1 .1) (c .before .before .before .before .before .before .before .before .before .if-head .ensures) (c .before .before .before .head .given .1) (c .before .before .before .before .before .before .before .before .before .before .before .before .before .reference .ensures)), h .1))
+convert-if-convert-block-requires t c κs = let h = then-list (c .before .before .before .before .before .before .before .before .before .before .before .before .before .before .before .before .before .before .pre .1 .0 .0) (c .before .before .before .before .before .before .before .before .before .before .before .before .before .before .before .before .before .before .pre .1 .0 .1) (c .before .before .before .before .before .before .before .before .before .before .before .before .before .before .before .before .before .before .pre .1 .1 .0) (c .before .before .before .before .before .before .before .before .before .before .before .before .before .reference .ensures) in (omega (arith, h .0, c .before .before .before .before .before .before .before .before .before .before .before .before .before .before .before .before .before .before .pre .0), ((finished-converting (c .before .before .before .before .before .before .before .before .before .if-head .ensures .0) (c .before .before .before .head .given .1) (c .before .before .before .before .before .before .before .before .before .before .before .before .before .before .before .before .before .before .pre .1 .0 .0), then-afforded (c .before .before .before .before .before .before .before .before .before .before .before .before .before .before .before .before .before .before .pre .1 .0 .0) (c .before .before .before .before .before .before .before .before .before .before .before .before .before .before .before .before .before .before .pre .1 .0 .1) (c .before .before .before .before .before .before .before .before .before .before .before .before .before .before .before .before .before .before .pre .1 .1 .0) (c .before .before .before .before .before .before .before .before .before .if-head .ensures .0) (c .before .before .before .head .given .1) (c .before .before .before .before .before .before .before .before .before .before .before .before .before .reference .ensures)), (h .1, (head-visited (c .before .before .before .before .before .before .before .before .before .before .before .before .before .before .before .before .before .before .pre .1 .0 .0) (c .before .before .before .before .before .before .before .before .before .before .before .before .before .before .before .before .before .before .pre .1 .1 .0) (c .before .before .before .before .before .before .before .before .before .before .before .before .before .before .before .before .before .before .pre .1 .1 .1) (c .before .before .before .before .before .before .before .before .before .if-head .ensures .0) (c .before .before .before .head .given .1) (c .before .before .before .before .before .before .before .before .before .if-head .ensures .1)) .turns)))
 
 convert-if-enum-known-x : (t : ℕ) → convert-if-lts.Need-enum-known-x (
   reference-reads.Asked,
@@ -737,7 +739,7 @@ convert-if-has-otherwise-requires : (t : ℕ) → convert-if-lts.Need-has-otherw
   if-middle-reads.Asked,
   if-middle-reads.Learnt,
 ) (convert-if-at t) convert-if.Post
-convert-if-has-otherwise-requires t c κs = (omega (arith, (c .before .before .before .before .before .before .before .before .before .before .before .before .before .before .before .before .before .before .before .before .before .before .before .before .before .before .pre .1 .1) .below, c .before .before .before .before .before .before .before .before .before .before .before .before .before .before .before .before .before .before .before .before .before .before .before .before .before .before .pre .1 .0 .0 .ready .keyed .good .whole), omega (arith, if-detail _ _ (c .before .before .before .before .before .before .before .before .before .before .before .before .before .before .before .before .before .before .before .before .before .before .before .before .before .before .pre .1 .0 .0 .ready .keyed .good) _ ((c .before .before .before .before .before .before .before .before .before .before .before .before .before .before .before .before .before .before .before .before .before .before .before .before .before .before .pre .1 .1) .below) ((c .before .before .before .before .before .before .before .before .before .before .before .before .before .before .before .before .before .before .before .before .before .before .before .before .before .before .pre .1 .1) .kind)))
+convert-if-has-otherwise-requires t c κs = (omega (arith, (c .before .before .before .before .before .before .before .before .before .before .before .before .before .before .before .before .before .before .before .before .before .before .before .before .before .before .pre .1 .1 .0) .below, c .before .before .before .before .before .before .before .before .before .before .before .before .before .before .before .before .before .before .before .before .before .before .before .before .before .before .pre .1 .0 .0 .ready .keyed .good .whole), omega (arith, if-detail _ _ (c .before .before .before .before .before .before .before .before .before .before .before .before .before .before .before .before .before .before .before .before .before .before .before .before .before .before .pre .1 .0 .0 .ready .keyed .good) _ ((c .before .before .before .before .before .before .before .before .before .before .before .before .before .before .before .before .before .before .before .before .before .before .before .before .before .before .pre .1 .1 .0) .below) ((c .before .before .before .before .before .before .before .before .before .before .before .before .before .before .before .before .before .before .before .before .before .before .before .before .before .before .pre .1 .1 .0) .kind)))
 
 convert-if-if-end-requires : (t : ℕ) → convert-if-lts.Need-if-end-requires (
   reference-reads.Asked,
@@ -753,7 +755,7 @@ convert-if-if-end-requires : (t : ℕ) → convert-if-lts.Need-if-end-requires (
   if-middle-reads.Asked,
   if-middle-reads.Learnt,
 ) (convert-if-at t) convert-if.Post
-convert-if-if-end-requires t c κs = (if-room (c .before .before .before .before .before .before .before .before .before .before .before .before .before .before .before .before .before .before .before .before .before .before .before .before .before .before .before .before .before .pre .1 .0 .0) (c .before .before .before .before .before .before .before .before .before .before .before .before .before .before .before .before .before .before .before .before .before .before .before .before .before .before .before .before .before .pre .1 .0 .1) (c .before .before .before .before .before .before .before .before .before .before .before .before .before .before .before .before .before .before .before .before .before .before .before .before .before .before .before .before .before .pre .1 .1) (c .before .before .before .before .before .before .before .before .before .before .before .before .before .before .before .before .before .before .before .before .if-head .ensures) (c .before .before .before .before .before .before .before .before .before .before .before .before .before .before .head .given .1) (c .before .before .before .before .before .before .before .before .before .before .before .before .before .before .before .before .before .before .before .before .before .before .before .before .reference .ensures) (c .before .before .before .before .before .before .before .before .before .before .convert-block .ensures) (c .before .before .before .before .k1 .given .1) (c .before .before .has-otherwise .ensures) (not-true _ (c .before .if1 .taken)), omega (arith, (c .before .before .before .before .before .before .before .before .before .before .before .before .before .before .before .before .before .before .before .before .before .before .before .before .before .before .before .before .before .pre .1 .1) .below, c .before .before .before .before .before .before .before .before .before .before .before .before .before .before .before .before .before .before .before .before .before .before .before .before .before .before .before .before .before .pre .1 .0 .0 .ready .keyed .good .few))
+convert-if-if-end-requires t c κs = (if-room (c .before .before .before .before .before .before .before .before .before .before .before .before .before .before .before .before .before .before .before .before .before .before .before .before .before .before .before .before .before .pre .1 .0 .0) (c .before .before .before .before .before .before .before .before .before .before .before .before .before .before .before .before .before .before .before .before .before .before .before .before .before .before .before .before .before .pre .1 .0 .1) (c .before .before .before .before .before .before .before .before .before .before .before .before .before .before .before .before .before .before .before .before .before .before .before .before .before .before .before .before .before .pre .1 .1 .0) (c .before .before .before .before .before .before .before .before .before .before .before .before .before .before .before .before .before .before .before .before .if-head .ensures .0) (c .before .before .before .before .before .before .before .before .before .before .before .before .before .before .head .given .1) (c .before .before .before .before .before .before .before .before .before .before .before .before .before .before .before .before .before .before .before .before .before .before .before .before .reference .ensures) (c .before .before .before .before .before .before .before .before .before .before .convert-block .ensures .0) (c .before .before .before .before .k1 .given .1) (c .before .before .has-otherwise .ensures) (not-true _ (c .before .if1 .taken)), omega (arith, (c .before .before .before .before .before .before .before .before .before .before .before .before .before .before .before .before .before .before .before .before .before .before .before .before .before .before .before .before .before .pre .1 .1 .0) .below, c .before .before .before .before .before .before .before .before .before .before .before .before .before .before .before .before .before .before .before .before .before .before .before .before .before .before .before .before .before .pre .1 .0 .0 .ready .keyed .good .few))
 
 convert-if-same-length-3 : (t : ℕ) → convert-if-lts.Need-same-length-3 (
   reference-reads.Asked,
@@ -769,7 +771,7 @@ convert-if-same-length-3 : (t : ℕ) → convert-if-lts.Need-same-length-3 (
   if-middle-reads.Asked,
   if-middle-reads.Learnt,
 ) (convert-if-at t) convert-if.Post
-convert-if-same-length-3 t c = omega (arith, (c .before .before .before .before .before .before .before .before .before .before .before .before .before .before .before .before .before .before .before .before .before .before .before .if-head .ensures) .meets .long, (c .before .before .before .before .before .before .before .before .before .before .before .before .before .convert-block .ensures) .meets .long, (c .before .before .if-end .ensures) .long)
+convert-if-same-length-3 t c = omega (arith, (c .before .before .before .before .before .before .before .before .before .before .before .before .before .before .before .before .before .before .before .before .before .before .before .if-head .ensures .0) .meets .long, (c .before .before .before .before .before .before .before .before .before .before .before .before .before .convert-block .ensures .0) .meets .long, (c .before .before .if-end .ensures) .long)
 
 convert-if-same-length-4 : (t : ℕ) → convert-if-lts.Need-same-length-4 (
   reference-reads.Asked,
@@ -785,7 +787,7 @@ convert-if-same-length-4 : (t : ℕ) → convert-if-lts.Need-same-length-4 (
   if-middle-reads.Asked,
   if-middle-reads.Learnt,
 ) (convert-if-at t) convert-if.Post
-convert-if-same-length-4 t c = omega (arith, (c .before .before .before .before .before .before .before .before .before .before .before .before .before .before .before .before .before .before .before .before .before .before .before .if-head .ensures) .stays .long, (c .before .before .before .before .before .before .before .before .before .before .before .before .before .convert-block .ensures) .stays .long)
+convert-if-same-length-4 t c = omega (arith, (c .before .before .before .before .before .before .before .before .before .before .before .before .before .before .before .before .before .before .before .before .before .before .before .if-head .ensures .0) .stays .long, (c .before .before .before .before .before .before .before .before .before .before .before .before .before .convert-block .ensures .0) .stays .long)
 
 convert-if-returns-2 : (t : ℕ) → convert-if-lts.Need-returns-2 (
   reference-reads.Asked,
@@ -801,7 +803,7 @@ convert-if-returns-2 : (t : ℕ) → convert-if-lts.Need-returns-2 (
   if-middle-reads.Asked,
   if-middle-reads.Learnt,
 ) (convert-if-at t) convert-if.Post
-convert-if-returns-2 t c = if-next (c .before .before .before .before .before .before .before .before .before .before .before .before .before .before .before .before .before .before .before .before .before .before .before .before .before .before .before .before .before .before .before .before .pre .1 .0 .0) (c .before .before .before .before .before .before .before .before .before .before .before .before .before .before .before .before .before .before .before .before .before .before .before .before .before .before .before .before .before .before .before .before .pre .1 .0 .1) (c .before .before .before .before .before .before .before .before .before .before .before .before .before .before .before .before .before .before .before .before .before .before .before .before .before .before .before .before .before .before .before .before .pre .1 .1) (c .before .before .before .before .before .before .before .before .before .before .before .before .before .before .before .before .before .before .before .before .before .before .before .if-head .ensures) (c .before .before .before .before .before .before .before .before .before .before .before .before .before .before .before .before .before .head .given .1) (c .before .before .before .before .before .before .before .before .before .before .before .before .before .before .before .before .before .before .before .before .before .before .before .before .before .before .before .reference .ensures) (c .before .before .before .before .before .before .before .before .before .before .before .before .before .convert-block .ensures) (c .before .before .before .before .before .before .before .k1 .given .1) (c .before .before .before .before .before .has-otherwise .ensures) (not-true _ (c .before .before .before .before .if1 .taken)) (c .before .before .if-end .ensures)
+convert-if-returns-2 t c = (if-next (c .before .before .before .before .before .before .before .before .before .before .before .before .before .before .before .before .before .before .before .before .before .before .before .before .before .before .before .before .before .before .before .before .pre .1 .0 .0) (c .before .before .before .before .before .before .before .before .before .before .before .before .before .before .before .before .before .before .before .before .before .before .before .before .before .before .before .before .before .before .before .before .pre .1 .0 .1) (c .before .before .before .before .before .before .before .before .before .before .before .before .before .before .before .before .before .before .before .before .before .before .before .before .before .before .before .before .before .before .before .before .pre .1 .1 .0) (c .before .before .before .before .before .before .before .before .before .before .before .before .before .before .before .before .before .before .before .before .before .before .before .if-head .ensures .0) (c .before .before .before .before .before .before .before .before .before .before .before .before .before .before .before .before .before .head .given .1) (c .before .before .before .before .before .before .before .before .before .before .before .before .before .before .before .before .before .before .before .before .before .before .before .before .before .before .before .reference .ensures) (c .before .before .before .before .before .before .before .before .before .before .before .before .before .convert-block .ensures .0) (c .before .before .before .before .before .before .before .k1 .given .1) (c .before .before .before .before .before .has-otherwise .ensures) (not-true _ (c .before .before .before .before .if1 .taken)) (c .before .before .if-end .ensures), if-visited (c .before .before .before .before .before .before .before .before .before .before .before .before .before .before .before .before .before .before .before .before .before .before .before .before .before .before .before .before .before .before .before .before .pre .1 .0 .0) (c .before .before .before .before .before .before .before .before .before .before .before .before .before .before .before .before .before .before .before .before .before .before .before .before .before .before .before .before .before .before .before .before .pre .1 .1 .0) (c .before .before .before .before .before .before .before .before .before .before .before .before .before .before .before .before .before .before .before .before .before .before .before .before .before .before .before .before .before .before .before .before .pre .1 .1 .1) (c .before .before .before .before .before .before .before .before .before .before .before .before .before .before .before .before .before .before .before .before .before .before .before .if-head .ensures .0) (c .before .before .before .before .before .before .before .before .before .before .before .before .before .before .before .before .before .head .given .1) (c .before .before .before .before .before .before .before .before .before .before .before .before .before .before .before .before .before .before .before .before .before .before .before .if-head .ensures .1) (c .before .before .before .before .before .before .before .before .before .before .before .before .before .before .before .before .before .before .before .before .before .before .before .before .before .before .before .reference .ensures) (c .before .before .before .before .before .before .before .before .before .before .before .before .before .convert-block .ensures .1) (c .before .before .before .before .before .before .before .k1 .given .1) (c .before .before .if-end .ensures) (c .before .before .before .before .before .has-otherwise .ensures) refl (not-true _ (c .before .before .before .before .if1 .taken)))
 
 convert-if-if-middle-requires : (t : ℕ) → convert-if-lts.Need-if-middle-requires (
   reference-reads.Asked,
@@ -817,7 +819,7 @@ convert-if-if-middle-requires : (t : ℕ) → convert-if-lts.Need-if-middle-requ
   if-middle-reads.Asked,
   if-middle-reads.Learnt,
 ) (convert-if-at t) convert-if.Post
-convert-if-if-middle-requires t c κs = (middle-room (c .before .before .before .before .before .before .before .before .before .before .before .before .before .before .before .before .before .before .before .before .before .before .before .before .before .before .before .before .before .pre .1 .0 .0) (c .before .before .before .before .before .before .before .before .before .before .before .before .before .before .before .before .before .before .before .before .before .before .before .before .before .before .before .before .before .pre .1 .0 .1) (c .before .before .before .before .before .before .before .before .before .before .before .before .before .before .before .before .before .before .before .before .before .before .before .before .before .before .before .before .before .pre .1 .1) (c .before .before .before .before .before .before .before .before .before .before .before .before .before .before .before .before .before .before .before .before .if-head .ensures) (c .before .before .before .before .before .before .before .before .before .before .before .before .before .before .head .given .1) (c .before .before .before .before .before .before .before .before .before .before .before .before .before .before .before .before .before .before .before .before .before .before .before .before .reference .ensures) (c .before .before .before .before .before .before .before .before .before .before .convert-block .ensures) (c .before .before .before .before .k1 .given .1) (c .before .before .has-otherwise .ensures) (not-false _ (c .before .if1 .left)), omega (arith, (c .before .before .before .before .before .before .before .before .before .before .before .before .before .before .before .before .before .before .before .before .before .before .before .before .before .before .before .before .before .pre .1 .1) .below, c .before .before .before .before .before .before .before .before .before .before .before .before .before .before .before .before .before .before .before .before .before .before .before .before .before .before .before .before .before .pre .1 .0 .0 .ready .keyed .good .few))
+convert-if-if-middle-requires t c κs = (middle-room (c .before .before .before .before .before .before .before .before .before .before .before .before .before .before .before .before .before .before .before .before .before .before .before .before .before .before .before .before .before .pre .1 .0 .0) (c .before .before .before .before .before .before .before .before .before .before .before .before .before .before .before .before .before .before .before .before .before .before .before .before .before .before .before .before .before .pre .1 .0 .1) (c .before .before .before .before .before .before .before .before .before .before .before .before .before .before .before .before .before .before .before .before .before .before .before .before .before .before .before .before .before .pre .1 .1 .0) (c .before .before .before .before .before .before .before .before .before .before .before .before .before .before .before .before .before .before .before .before .if-head .ensures .0) (c .before .before .before .before .before .before .before .before .before .before .before .before .before .before .head .given .1) (c .before .before .before .before .before .before .before .before .before .before .before .before .before .before .before .before .before .before .before .before .before .before .before .before .reference .ensures) (c .before .before .before .before .before .before .before .before .before .before .convert-block .ensures .0) (c .before .before .before .before .k1 .given .1) (c .before .before .has-otherwise .ensures) (not-false _ (c .before .if1 .left)), omega (arith, (c .before .before .before .before .before .before .before .before .before .before .before .before .before .before .before .before .before .before .before .before .before .before .before .before .before .before .before .before .before .pre .1 .1 .0) .below, c .before .before .before .before .before .before .before .before .before .before .before .before .before .before .before .before .before .before .before .before .before .before .before .before .before .before .before .before .before .pre .1 .0 .0 .ready .keyed .good .few))
 
 convert-if-convert-block-requires-2 : (t : ℕ) → convert-if-lts.Need-convert-block-requires-2 (
   reference-reads.Asked,
@@ -833,7 +835,7 @@ convert-if-convert-block-requires-2 : (t : ℕ) → convert-if-lts.Need-convert-
   if-middle-reads.Asked,
   if-middle-reads.Learnt,
 ) (convert-if-at t) convert-if.Post
-convert-if-convert-block-requires-2 t c κs = let h = other-list (c .before .before .before .before .before .before .before .before .before .before .before .before .before .before .before .before .before .before .before .before .before .before .before .before .before .before .before .before .before .before .before .before .before .before .pre .1 .0 .0) (c .before .before .before .before .before .before .before .before .before .before .before .before .before .before .before .before .before .before .before .before .before .before .before .before .before .before .before .before .before .before .before .before .before .before .pre .1 .0 .1) (c .before .before .before .before .before .before .before .before .before .before .before .before .before .before .before .before .before .before .before .before .before .before .before .before .before .before .before .before .before .before .before .before .before .before .pre .1 .1) (c .before .before .before .before .before .before .before .before .before .before .before .before .before .before .before .before .before .before .before .before .before .before .before .before .before .before .before .before .reference2 .ensures) in (omega (arith, h .0, c .before .before .before .before .before .before .before .before .before .before .before .before .before .before .before .before .before .before .before .before .before .before .before .before .before .before .before .before .before .before .before .before .before .before .pre .0), ((other-converting (c .before .before .before .before .before .before .before .before .before .before .before .before .before .before .before .before .before .before .before .before .before .before .before .before .before .before .before .before .before .before .before .before .before .before .pre .1 .0 .0) (c .before .before .before .before .before .before .before .before .before .before .before .before .before .before .before .before .before .before .before .before .before .before .before .before .before .before .before .before .before .before .before .before .before .before .pre .1 .0 .1) (c .before .before .before .before .before .before .before .before .before .before .before .before .before .before .before .before .before .before .before .before .before .before .before .before .before .before .before .before .before .before .before .before .before .before .pre .1 .1) (c .before .before .before .before .before .before .before .before .before .before .before .before .before .before .before .before .before .before .before .before .before .before .before .before .before .if-head .ensures) (c .before .before .before .before .before .before .before .before .before .before .before .before .before .before .before .before .before .before .before .head .given .1) (c .before .before .before .before .before .before .before .before .before .before .before .before .before .before .before .before .before .before .before .before .before .before .before .before .before .before .before .before .before .reference .ensures) (c .before .before .before .before .before .before .before .before .before .before .before .before .before .before .before .convert-block .ensures) (c .before .before .before .before .before .before .before .before .before .k1 .given .1) (c .before .before .before .before .before .before .before .has-otherwise .ensures) (not-false _ (c .before .before .before .before .before .before .if1 .left)) (c .before .before .before .before .if-middle .ensures) (c .before .before .before .before .before .before .before .before .before .before .before .before .before .before .before .before .before .before .before .before .before .before .before .before .before .before .before .before .reference2 .ensures), other-afforded (c .before .before .before .before .before .before .before .before .before .before .before .before .before .before .before .before .before .before .before .before .before .before .before .before .before .before .before .before .before .before .before .before .before .before .pre .1 .0 .0) (c .before .before .before .before .before .before .before .before .before .before .before .before .before .before .before .before .before .before .before .before .before .before .before .before .before .before .before .before .before .before .before .before .before .before .pre .1 .0 .1) (c .before .before .before .before .before .before .before .before .before .before .before .before .before .before .before .before .before .before .before .before .before .before .before .before .before .before .before .before .before .before .before .before .before .before .pre .1 .1) (c .before .before .before .before .before .before .before .before .before .before .before .before .before .before .before .before .before .before .before .before .before .before .before .before .before .if-head .ensures) (c .before .before .before .before .before .before .before .before .before .before .before .before .before .before .before .before .before .before .before .head .given .1) (c .before .before .before .before .before .before .before .before .before .before .before .before .before .before .before .before .before .before .before .before .before .before .before .before .before .before .before .before .before .reference .ensures) (c .before .before .before .before .before .before .before .before .before .before .before .before .before .before .before .convert-block .ensures) (c .before .before .before .before .before .before .before .before .before .k1 .given .1) (c .before .before .before .before .before .before .before .has-otherwise .ensures) (not-false _ (c .before .before .before .before .before .before .if1 .left)) (c .before .before .before .before .if-middle .ensures) (c .before .before .before .before .before .before .before .before .before .before .before .before .before .before .before .before .before .before .before .before .before .before .before .before .before .before .before .before .reference2 .ensures)), h .1))
+convert-if-convert-block-requires-2 t c κs = let h = other-list (c .before .before .before .before .before .before .before .before .before .before .before .before .before .before .before .before .before .before .before .before .before .before .before .before .before .before .before .before .before .before .before .before .before .before .pre .1 .0 .0) (c .before .before .before .before .before .before .before .before .before .before .before .before .before .before .before .before .before .before .before .before .before .before .before .before .before .before .before .before .before .before .before .before .before .before .pre .1 .0 .1) (c .before .before .before .before .before .before .before .before .before .before .before .before .before .before .before .before .before .before .before .before .before .before .before .before .before .before .before .before .before .before .before .before .before .before .pre .1 .1 .0) (c .before .before .before .before .before .before .before .before .before .before .before .before .before .before .before .before .before .before .before .before .before .before .before .before .before .before .before .before .reference2 .ensures) in (omega (arith, h .0, c .before .before .before .before .before .before .before .before .before .before .before .before .before .before .before .before .before .before .before .before .before .before .before .before .before .before .before .before .before .before .before .before .before .before .pre .0), ((other-converting (c .before .before .before .before .before .before .before .before .before .before .before .before .before .before .before .before .before .before .before .before .before .before .before .before .before .before .before .before .before .before .before .before .before .before .pre .1 .0 .0) (c .before .before .before .before .before .before .before .before .before .before .before .before .before .before .before .before .before .before .before .before .before .before .before .before .before .before .before .before .before .before .before .before .before .before .pre .1 .0 .1) (c .before .before .before .before .before .before .before .before .before .before .before .before .before .before .before .before .before .before .before .before .before .before .before .before .before .before .before .before .before .before .before .before .before .before .pre .1 .1 .0) (c .before .before .before .before .before .before .before .before .before .before .before .before .before .before .before .before .before .before .before .before .before .before .before .before .before .if-head .ensures .0) (c .before .before .before .before .before .before .before .before .before .before .before .before .before .before .before .before .before .before .before .head .given .1) (c .before .before .before .before .before .before .before .before .before .before .before .before .before .before .before .before .before .before .before .before .before .before .before .before .before .before .before .before .before .reference .ensures) (c .before .before .before .before .before .before .before .before .before .before .before .before .before .before .before .convert-block .ensures .0) (c .before .before .before .before .before .before .before .before .before .k1 .given .1) (c .before .before .before .before .before .before .before .has-otherwise .ensures) (not-false _ (c .before .before .before .before .before .before .if1 .left)) (c .before .before .before .before .if-middle .ensures) (c .before .before .before .before .before .before .before .before .before .before .before .before .before .before .before .before .before .before .before .before .before .before .before .before .before .before .before .before .reference2 .ensures), other-afforded (c .before .before .before .before .before .before .before .before .before .before .before .before .before .before .before .before .before .before .before .before .before .before .before .before .before .before .before .before .before .before .before .before .before .before .pre .1 .0 .0) (c .before .before .before .before .before .before .before .before .before .before .before .before .before .before .before .before .before .before .before .before .before .before .before .before .before .before .before .before .before .before .before .before .before .before .pre .1 .0 .1) (c .before .before .before .before .before .before .before .before .before .before .before .before .before .before .before .before .before .before .before .before .before .before .before .before .before .before .before .before .before .before .before .before .before .before .pre .1 .1 .0) (c .before .before .before .before .before .before .before .before .before .before .before .before .before .before .before .before .before .before .before .before .before .before .before .before .before .if-head .ensures .0) (c .before .before .before .before .before .before .before .before .before .before .before .before .before .before .before .before .before .before .before .head .given .1) (c .before .before .before .before .before .before .before .before .before .before .before .before .before .before .before .before .before .before .before .before .before .before .before .before .before .before .before .before .before .reference .ensures) (c .before .before .before .before .before .before .before .before .before .before .before .before .before .before .before .convert-block .ensures .0) (c .before .before .before .before .before .before .before .before .before .k1 .given .1) (c .before .before .before .before .before .before .before .has-otherwise .ensures) (not-false _ (c .before .before .before .before .before .before .if1 .left)) (c .before .before .before .before .if-middle .ensures) (c .before .before .before .before .before .before .before .before .before .before .before .before .before .before .before .before .before .before .before .before .before .before .before .before .before .before .before .before .reference2 .ensures)), (h .1, middle-turns (c .before .before .before .before .before .before .before .before .before .before .before .before .before .before .before .before .before .before .before .before .before .before .before .before .before .before .before .before .before .before .before .before .before .before .pre .1 .0 .0) (c .before .before .before .before .before .before .before .before .before .before .before .before .before .before .before .before .before .before .before .before .before .before .before .before .before .before .before .before .before .before .before .before .before .before .pre .1 .1 .0) (c .before .before .before .before .before .before .before .before .before .before .before .before .before .before .before .before .before .before .before .before .before .before .before .before .before .before .before .before .before .before .before .before .before .before .pre .1 .1 .1) (c .before .before .before .before .before .before .before .before .before .before .before .before .before .before .before .before .before .before .before .before .before .before .before .before .before .if-head .ensures .0) (c .before .before .before .before .before .before .before .before .before .before .before .before .before .before .before .before .before .before .before .head .given .1) (c .before .before .before .before .before .before .before .before .before .before .before .before .before .before .before .before .before .before .before .before .before .before .before .before .before .if-head .ensures .1) (c .before .before .before .before .before .before .before .before .before .before .before .before .before .before .before .before .before .before .before .before .before .before .before .before .before .before .before .before .before .reference .ensures) (c .before .before .before .before .before .before .before .before .before .before .before .before .before .before .before .convert-block .ensures .1) (c .before .before .before .before .before .before .before .before .before .k1 .given .1) (c .before .before .before .before .if-middle .ensures) (c .before .before .before .before .before .before .before .has-otherwise .ensures))))
 
 convert-if-enum-known-x-2 : (t : ℕ) → convert-if-lts.Need-enum-known-x-2 (
   reference-reads.Asked,
@@ -881,7 +883,7 @@ convert-if-if-end-requires-2 : (t : ℕ) → convert-if-lts.Need-if-end-requires
   if-middle-reads.Asked,
   if-middle-reads.Learnt,
 ) (convert-if-at t) convert-if.Post
-convert-if-if-end-requires-2 t c κs = (other-room (c .before .before .before .before .before .before .before .before .before .before .before .before .before .before .before .before .before .before .before .before .before .before .before .before .before .before .before .before .before .before .before .before .before .before .before .before .before .before .before .before .before .before .before .pre .1 .0 .0) (c .before .before .before .before .before .before .before .before .before .before .before .before .before .before .before .before .before .before .before .before .before .before .before .before .before .before .before .before .before .before .before .before .before .before .before .before .before .before .before .before .before .before .before .pre .1 .0 .1) (c .before .before .before .before .before .before .before .before .before .before .before .before .before .before .before .before .before .before .before .before .before .before .before .before .before .before .before .before .before .before .before .before .before .before .before .before .before .before .before .before .before .before .before .pre .1 .1) (c .before .before .before .before .before .before .before .before .before .before .before .before .before .before .before .before .before .before .before .before .before .before .before .before .before .before .before .before .before .before .before .before .before .before .if-head .ensures) (c .before .before .before .before .before .before .before .before .before .before .before .before .before .before .before .before .before .before .before .before .before .before .before .before .before .before .before .before .head .given .1) (c .before .before .before .before .before .before .before .before .before .before .before .before .before .before .before .before .before .before .before .before .before .before .before .before .before .before .before .before .before .before .before .before .before .before .before .before .before .before .reference .ensures) (c .before .before .before .before .before .before .before .before .before .before .before .before .before .before .before .before .before .before .before .before .before .before .before .before .convert-block .ensures) (c .before .before .before .before .before .before .before .before .before .before .before .before .before .before .before .before .before .before .k1 .given .1) (c .before .before .before .before .before .before .before .before .before .before .before .before .before .before .before .before .has-otherwise .ensures) (not-false _ (c .before .before .before .before .before .before .before .before .before .before .before .before .before .before .before .if1 .left)) (c .before .before .before .before .before .before .before .before .before .before .before .before .before .if-middle .ensures) (c .before .before .before .before .before .before .before .before .before .before .before .before .before .before .before .before .before .before .before .before .before .before .before .before .before .before .before .before .before .before .before .before .before .before .before .before .before .reference2 .ensures) (c .before .before .before .before .before .before .before .before .convert-block2 .ensures) (c .before .before .k3 .given .1), omega (arith, (c .before .before .before .before .before .before .before .before .before .before .before .before .before .before .before .before .before .before .before .before .before .before .before .before .before .before .before .before .before .before .before .before .before .before .before .before .before .before .before .before .before .before .before .pre .1 .1) .below, c .before .before .before .before .before .before .before .before .before .before .before .before .before .before .before .before .before .before .before .before .before .before .before .before .before .before .before .before .before .before .before .before .before .before .before .before .before .before .before .before .before .before .before .pre .1 .0 .0 .ready .keyed .good .few))
+convert-if-if-end-requires-2 t c κs = (other-room (c .before .before .before .before .before .before .before .before .before .before .before .before .before .before .before .before .before .before .before .before .before .before .before .before .before .before .before .before .before .before .before .before .before .before .before .before .before .before .before .before .before .before .before .pre .1 .0 .0) (c .before .before .before .before .before .before .before .before .before .before .before .before .before .before .before .before .before .before .before .before .before .before .before .before .before .before .before .before .before .before .before .before .before .before .before .before .before .before .before .before .before .before .before .pre .1 .0 .1) (c .before .before .before .before .before .before .before .before .before .before .before .before .before .before .before .before .before .before .before .before .before .before .before .before .before .before .before .before .before .before .before .before .before .before .before .before .before .before .before .before .before .before .before .pre .1 .1 .0) (c .before .before .before .before .before .before .before .before .before .before .before .before .before .before .before .before .before .before .before .before .before .before .before .before .before .before .before .before .before .before .before .before .before .before .if-head .ensures .0) (c .before .before .before .before .before .before .before .before .before .before .before .before .before .before .before .before .before .before .before .before .before .before .before .before .before .before .before .before .head .given .1) (c .before .before .before .before .before .before .before .before .before .before .before .before .before .before .before .before .before .before .before .before .before .before .before .before .before .before .before .before .before .before .before .before .before .before .before .before .before .before .reference .ensures) (c .before .before .before .before .before .before .before .before .before .before .before .before .before .before .before .before .before .before .before .before .before .before .before .before .convert-block .ensures .0) (c .before .before .before .before .before .before .before .before .before .before .before .before .before .before .before .before .before .before .k1 .given .1) (c .before .before .before .before .before .before .before .before .before .before .before .before .before .before .before .before .has-otherwise .ensures) (not-false _ (c .before .before .before .before .before .before .before .before .before .before .before .before .before .before .before .if1 .left)) (c .before .before .before .before .before .before .before .before .before .before .before .before .before .if-middle .ensures) (c .before .before .before .before .before .before .before .before .before .before .before .before .before .before .before .before .before .before .before .before .before .before .before .before .before .before .before .before .before .before .before .before .before .before .before .before .before .reference2 .ensures) (c .before .before .before .before .before .before .before .before .convert-block2 .ensures .0) (c .before .before .k3 .given .1), omega (arith, (c .before .before .before .before .before .before .before .before .before .before .before .before .before .before .before .before .before .before .before .before .before .before .before .before .before .before .before .before .before .before .before .before .before .before .before .before .before .before .before .before .before .before .before .pre .1 .1 .0) .below, c .before .before .before .before .before .before .before .before .before .before .before .before .before .before .before .before .before .before .before .before .before .before .before .before .before .before .before .before .before .before .before .before .before .before .before .before .before .before .before .before .before .before .before .pre .1 .0 .0 .ready .keyed .good .few))
 
 convert-if-same-length-5 : (t : ℕ) → convert-if-lts.Need-same-length-5 (
   reference-reads.Asked,
@@ -897,7 +899,7 @@ convert-if-same-length-5 : (t : ℕ) → convert-if-lts.Need-same-length-5 (
   if-middle-reads.Asked,
   if-middle-reads.Learnt,
 ) (convert-if-at t) convert-if.Post
-convert-if-same-length-5 t c = omega (arith, (c .before .before .before .before .before .before .before .before .before .before .before .before .before .before .before .before .before .if-head .ensures) .meets .long, (c .before .before .before .before .before .before .before .convert-block .ensures) .meets .long)
+convert-if-same-length-5 t c = omega (arith, (c .before .before .before .before .before .before .before .before .before .before .before .before .before .before .before .before .before .if-head .ensures .0) .meets .long, (c .before .before .before .before .before .before .before .convert-block .ensures .0) .meets .long)
 
 convert-if-same-length-6 : (t : ℕ) → convert-if-lts.Need-same-length-6 (
   reference-reads.Asked,
@@ -913,7 +915,7 @@ convert-if-same-length-6 : (t : ℕ) → convert-if-lts.Need-same-length-6 (
   if-middle-reads.Asked,
   if-middle-reads.Learnt,
 ) (convert-if-at t) convert-if.Post
-convert-if-same-length-6 t c = omega (arith, (c .before .before .before .before .before .before .before .before .before .before .before .before .before .before .before .before .before .if-head .ensures) .stays .long, (c .before .before .before .before .before .before .before .convert-block .ensures) .stays .long)
+convert-if-same-length-6 t c = omega (arith, (c .before .before .before .before .before .before .before .before .before .before .before .before .before .before .before .before .before .if-head .ensures .0) .stays .long, (c .before .before .before .before .before .before .before .convert-block .ensures .0) .stays .long)
 
 convert-if-returns-3 : (t : ℕ) → convert-if-lts.Need-returns-3 (
   reference-reads.Asked,
@@ -929,7 +931,7 @@ convert-if-returns-3 : (t : ℕ) → convert-if-lts.Need-returns-3 (
   if-middle-reads.Asked,
   if-middle-reads.Learnt,
 ) (convert-if-at t) convert-if.Post
-convert-if-returns-3 t c = then-stop (c .before .before .before .before .before .before .before .before .before .before .before .before .before .before .before .before .before .before .before .before .before .before .before .before .before .before .pre .1 .0 .0) (c .before .before .before .before .before .before .before .before .before .before .before .before .before .before .before .before .before .before .before .before .before .before .before .before .before .before .pre .1 .0 .1) (c .before .before .before .before .before .before .before .before .before .before .before .before .before .before .before .before .before .before .before .before .before .before .before .before .before .before .pre .1 .1) (c .before .before .before .before .before .before .before .before .before .before .before .before .before .before .before .before .before .if-head .ensures) (c .before .before .before .before .before .before .before .before .before .before .before .head .given .1) (c .before .before .before .before .before .before .before .before .before .before .before .before .before .before .before .before .before .before .before .before .before .reference .ensures) (c .before .before .before .before .before .before .before .convert-block .ensures) (c .before .x .given .1)
+convert-if-returns-3 t c = (then-stop (c .before .before .before .before .before .before .before .before .before .before .before .before .before .before .before .before .before .before .before .before .before .before .before .before .before .before .pre .1 .0 .0) (c .before .before .before .before .before .before .before .before .before .before .before .before .before .before .before .before .before .before .before .before .before .before .before .before .before .before .pre .1 .0 .1) (c .before .before .before .before .before .before .before .before .before .before .before .before .before .before .before .before .before .before .before .before .before .before .before .before .before .before .pre .1 .1 .0) (c .before .before .before .before .before .before .before .before .before .before .before .before .before .before .before .before .before .if-head .ensures .0) (c .before .before .before .before .before .before .before .before .before .before .before .head .given .1) (c .before .before .before .before .before .before .before .before .before .before .before .before .before .before .before .before .before .before .before .before .before .reference .ensures) (c .before .before .before .before .before .before .before .convert-block .ensures .0) (c .before .x .given .1), λ k q. refused-finished k q)
 
 convert-if-same-length-7 : (t : ℕ) → convert-if-lts.Need-same-length-7 (
   reference-reads.Asked,
@@ -945,7 +947,7 @@ convert-if-same-length-7 : (t : ℕ) → convert-if-lts.Need-same-length-7 (
   if-middle-reads.Asked,
   if-middle-reads.Learnt,
 ) (convert-if-at t) convert-if.Post
-convert-if-same-length-7 t c = omega (arith, (c .before .before .before .before .before .before .before .before .before .before .before .before .before .before .before .before .before .before .before .before .before .before .before .before .before .before .before .before .before .before .before .before .before .if-head .ensures) .meets .long, (c .before .before .before .before .before .before .before .before .before .before .before .before .before .before .before .before .before .before .before .before .before .before .before .convert-block .ensures) .meets .long, (c .before .before .before .before .before .before .before .before .before .before .before .before .if-middle .ensures) .long, (c .before .before .before .before .before .before .before .convert-block2 .ensures) .meets .long)
+convert-if-same-length-7 t c = omega (arith, (c .before .before .before .before .before .before .before .before .before .before .before .before .before .before .before .before .before .before .before .before .before .before .before .before .before .before .before .before .before .before .before .before .before .if-head .ensures .0) .meets .long, (c .before .before .before .before .before .before .before .before .before .before .before .before .before .before .before .before .before .before .before .before .before .before .before .convert-block .ensures .0) .meets .long, (c .before .before .before .before .before .before .before .before .before .before .before .before .if-middle .ensures) .long, (c .before .before .before .before .before .before .before .convert-block2 .ensures .0) .meets .long)
 
 convert-if-same-length-8 : (t : ℕ) → convert-if-lts.Need-same-length-8 (
   reference-reads.Asked,
@@ -961,7 +963,7 @@ convert-if-same-length-8 : (t : ℕ) → convert-if-lts.Need-same-length-8 (
   if-middle-reads.Asked,
   if-middle-reads.Learnt,
 ) (convert-if-at t) convert-if.Post
-convert-if-same-length-8 t c = omega (arith, (c .before .before .before .before .before .before .before .before .before .before .before .before .before .before .before .before .before .before .before .before .before .before .before .before .before .before .before .before .before .before .before .before .before .if-head .ensures) .stays .long, (c .before .before .before .before .before .before .before .before .before .before .before .before .before .before .before .before .before .before .before .before .before .before .before .convert-block .ensures) .stays .long, (c .before .before .before .before .before .before .before .convert-block2 .ensures) .stays .long)
+convert-if-same-length-8 t c = omega (arith, (c .before .before .before .before .before .before .before .before .before .before .before .before .before .before .before .before .before .before .before .before .before .before .before .before .before .before .before .before .before .before .before .before .before .if-head .ensures .0) .stays .long, (c .before .before .before .before .before .before .before .before .before .before .before .before .before .before .before .before .before .before .before .before .before .before .before .convert-block .ensures .0) .stays .long, (c .before .before .before .before .before .before .before .convert-block2 .ensures .0) .stays .long)
 
 convert-if-returns-4 : (t : ℕ) → convert-if-lts.Need-returns-4 (
   reference-reads.Asked,
@@ -977,7 +979,7 @@ convert-if-returns-4 : (t : ℕ) → convert-if-lts.Need-returns-4 (
   if-middle-reads.Asked,
   if-middle-reads.Learnt,
 ) (convert-if-at t) convert-if.Post
-convert-if-returns-4 t c = other-stop (c .before .before .before .before .before .before .before .before .before .before .before .before .before .before .before .before .before .before .before .before .before .before .before .before .before .before .before .before .before .before .before .before .before .before .before .before .before .before .before .before .before .before .pre .1 .0 .0) (c .before .before .before .before .before .before .before .before .before .before .before .before .before .before .before .before .before .before .before .before .before .before .before .before .before .before .before .before .before .before .before .before .before .before .before .before .before .before .before .before .before .before .pre .1 .0 .1) (c .before .before .before .before .before .before .before .before .before .before .before .before .before .before .before .before .before .before .before .before .before .before .before .before .before .before .before .before .before .before .before .before .before .before .before .before .before .before .before .before .before .before .pre .1 .1) (c .before .before .before .before .before .before .before .before .before .before .before .before .before .before .before .before .before .before .before .before .before .before .before .before .before .before .before .before .before .before .before .before .before .if-head .ensures) (c .before .before .before .before .before .before .before .before .before .before .before .before .before .before .before .before .before .before .before .before .before .before .before .before .before .before .before .head .given .1) (c .before .before .before .before .before .before .before .before .before .before .before .before .before .before .before .before .before .before .before .before .before .before .before .before .before .before .before .before .before .before .before .before .before .before .before .before .before .reference .ensures) (c .before .before .before .before .before .before .before .before .before .before .before .before .before .before .before .before .before .before .before .before .before .before .before .convert-block .ensures) (c .before .before .before .before .before .before .before .before .before .before .before .before .before .before .before .before .before .k1 .given .1) (c .before .before .before .before .before .before .before .before .before .before .before .before .before .before .before .has-otherwise .ensures) (not-false _ (c .before .before .before .before .before .before .before .before .before .before .before .before .before .before .if1 .left)) (c .before .before .before .before .before .before .before .before .before .before .before .before .if-middle .ensures) (c .before .before .before .before .before .before .before .before .before .before .before .before .before .before .before .before .before .before .before .before .before .before .before .before .before .before .before .before .before .before .before .before .before .before .before .before .reference2 .ensures) (c .before .before .before .before .before .before .before .convert-block2 .ensures) (c .before .x2 .given .1)
+convert-if-returns-4 t c = (other-stop (c .before .before .before .before .before .before .before .before .before .before .before .before .before .before .before .before .before .before .before .before .before .before .before .before .before .before .before .before .before .before .before .before .before .before .before .before .before .before .before .before .before .before .pre .1 .0 .0) (c .before .before .before .before .before .before .before .before .before .before .before .before .before .before .before .before .before .before .before .before .before .before .before .before .before .before .before .before .before .before .before .before .before .before .before .before .before .before .before .before .before .before .pre .1 .0 .1) (c .before .before .before .before .before .before .before .before .before .before .before .before .before .before .before .before .before .before .before .before .before .before .before .before .before .before .before .before .before .before .before .before .before .before .before .before .before .before .before .before .before .before .pre .1 .1 .0) (c .before .before .before .before .before .before .before .before .before .before .before .before .before .before .before .before .before .before .before .before .before .before .before .before .before .before .before .before .before .before .before .before .before .if-head .ensures .0) (c .before .before .before .before .before .before .before .before .before .before .before .before .before .before .before .before .before .before .before .before .before .before .before .before .before .before .before .head .given .1) (c .before .before .before .before .before .before .before .before .before .before .before .before .before .before .before .before .before .before .before .before .before .before .before .before .before .before .before .before .before .before .before .before .before .before .before .before .before .reference .ensures) (c .before .before .before .before .before .before .before .before .before .before .before .before .before .before .before .before .before .before .before .before .before .before .before .convert-block .ensures .0) (c .before .before .before .before .before .before .before .before .before .before .before .before .before .before .before .before .before .k1 .given .1) (c .before .before .before .before .before .before .before .before .before .before .before .before .before .before .before .has-otherwise .ensures) (not-false _ (c .before .before .before .before .before .before .before .before .before .before .before .before .before .before .if1 .left)) (c .before .before .before .before .before .before .before .before .before .before .before .before .if-middle .ensures) (c .before .before .before .before .before .before .before .before .before .before .before .before .before .before .before .before .before .before .before .before .before .before .before .before .before .before .before .before .before .before .before .before .before .before .before .before .reference2 .ensures) (c .before .before .before .before .before .before .before .convert-block2 .ensures .0) (c .before .x2 .given .1), λ k q. refused-finished k q)
 
 convert-if-same-length-9 : (t : ℕ) → convert-if-lts.Need-same-length-9 (
   reference-reads.Asked,
@@ -993,7 +995,7 @@ convert-if-same-length-9 : (t : ℕ) → convert-if-lts.Need-same-length-9 (
   if-middle-reads.Asked,
   if-middle-reads.Learnt,
 ) (convert-if-at t) convert-if.Post
-convert-if-same-length-9 t c = omega (arith, (c .before .before .before .before .before .before .before .before .before .before .before .before .before .before .before .before .before .before .before .before .before .before .before .before .before .before .before .before .before .before .before .before .before .before .before .before .before .if-head .ensures) .meets .long, (c .before .before .before .before .before .before .before .before .before .before .before .before .before .before .before .before .before .before .before .before .before .before .before .before .before .before .before .convert-block .ensures) .meets .long, (c .before .before .before .before .before .before .before .before .before .before .before .before .before .before .before .before .if-middle .ensures) .long, (c .before .before .before .before .before .before .before .before .before .before .before .convert-block2 .ensures) .meets .long, (c .before .before .if-end2 .ensures) .long)
+convert-if-same-length-9 t c = omega (arith, (c .before .before .before .before .before .before .before .before .before .before .before .before .before .before .before .before .before .before .before .before .before .before .before .before .before .before .before .before .before .before .before .before .before .before .before .before .before .if-head .ensures .0) .meets .long, (c .before .before .before .before .before .before .before .before .before .before .before .before .before .before .before .before .before .before .before .before .before .before .before .before .before .before .before .convert-block .ensures .0) .meets .long, (c .before .before .before .before .before .before .before .before .before .before .before .before .before .before .before .before .if-middle .ensures) .long, (c .before .before .before .before .before .before .before .before .before .before .before .convert-block2 .ensures .0) .meets .long, (c .before .before .if-end2 .ensures) .long)
 
 convert-if-same-length-10 : (t : ℕ) → convert-if-lts.Need-same-length-10 (
   reference-reads.Asked,
@@ -1009,7 +1011,7 @@ convert-if-same-length-10 : (t : ℕ) → convert-if-lts.Need-same-length-10 (
   if-middle-reads.Asked,
   if-middle-reads.Learnt,
 ) (convert-if-at t) convert-if.Post
-convert-if-same-length-10 t c = omega (arith, (c .before .before .before .before .before .before .before .before .before .before .before .before .before .before .before .before .before .before .before .before .before .before .before .before .before .before .before .before .before .before .before .before .before .before .before .before .before .if-head .ensures) .stays .long, (c .before .before .before .before .before .before .before .before .before .before .before .before .before .before .before .before .before .before .before .before .before .before .before .before .before .before .before .convert-block .ensures) .stays .long, (c .before .before .before .before .before .before .before .before .before .before .before .convert-block2 .ensures) .stays .long)
+convert-if-same-length-10 t c = omega (arith, (c .before .before .before .before .before .before .before .before .before .before .before .before .before .before .before .before .before .before .before .before .before .before .before .before .before .before .before .before .before .before .before .before .before .before .before .before .before .if-head .ensures .0) .stays .long, (c .before .before .before .before .before .before .before .before .before .before .before .before .before .before .before .before .before .before .before .before .before .before .before .before .before .before .before .convert-block .ensures .0) .stays .long, (c .before .before .before .before .before .before .before .before .before .before .before .convert-block2 .ensures .0) .stays .long)
 
 convert-if-returns-5 : (t : ℕ) → convert-if-lts.Need-returns-5 (
   reference-reads.Asked,
@@ -1025,7 +1027,7 @@ convert-if-returns-5 : (t : ℕ) → convert-if-lts.Need-returns-5 (
   if-middle-reads.Asked,
   if-middle-reads.Learnt,
 ) (convert-if-at t) convert-if.Post
-convert-if-returns-5 t c = if-else-next (c .before .before .before .before .before .before .before .before .before .before .before .before .before .before .before .before .before .before .before .before .before .before .before .before .before .before .before .before .before .before .before .before .before .before .before .before .before .before .before .before .before .before .before .before .before .before .pre .1 .0 .0) (c .before .before .before .before .before .before .before .before .before .before .before .before .before .before .before .before .before .before .before .before .before .before .before .before .before .before .before .before .before .before .before .before .before .before .before .before .before .before .before .before .before .before .before .before .before .before .pre .1 .0 .1) (c .before .before .before .before .before .before .before .before .before .before .before .before .before .before .before .before .before .before .before .before .before .before .before .before .before .before .before .before .before .before .before .before .before .before .before .before .before .before .before .before .before .before .before .before .before .before .pre .1 .1) (c .before .before .before .before .before .before .before .before .before .before .before .before .before .before .before .before .before .before .before .before .before .before .before .before .before .before .before .before .before .before .before .before .before .before .before .before .before .if-head .ensures) (c .before .before .before .before .before .before .before .before .before .before .before .before .before .before .before .before .before .before .before .before .before .before .before .before .before .before .before .before .before .before .before .head .given .1) (c .before .before .before .before .before .before .before .before .before .before .before .before .before .before .before .before .before .before .before .before .before .before .before .before .before .before .before .before .before .before .before .before .before .before .before .before .before .before .before .before .before .reference .ensures) (c .before .before .before .before .before .before .before .before .before .before .before .before .before .before .before .before .before .before .before .before .before .before .before .before .before .before .before .convert-block .ensures) (c .before .before .before .before .before .before .before .before .before .before .before .before .before .before .before .before .before .before .before .before .before .k1 .given .1) (c .before .before .before .before .before .before .before .before .before .before .before .before .before .before .before .before .before .before .before .has-otherwise .ensures) (not-false _ (c .before .before .before .before .before .before .before .before .before .before .before .before .before .before .before .before .before .before .if1 .left)) (c .before .before .before .before .before .before .before .before .before .before .before .before .before .before .before .before .if-middle .ensures) (c .before .before .before .before .before .before .before .before .before .before .before .before .before .before .before .before .before .before .before .before .before .before .before .before .before .before .before .before .before .before .before .before .before .before .before .before .before .before .before .before .reference2 .ensures) (c .before .before .before .before .before .before .before .before .before .before .before .convert-block2 .ensures) (c .before .before .before .before .before .k3 .given .1) (c .before .before .if-end2 .ensures)
+convert-if-returns-5 t c = (if-else-next (c .before .before .before .before .before .before .before .before .before .before .before .before .before .before .before .before .before .before .before .before .before .before .before .before .before .before .before .before .before .before .before .before .before .before .before .before .before .before .before .before .before .before .before .before .before .before .pre .1 .0 .0) (c .before .before .before .before .before .before .before .before .before .before .before .before .before .before .before .before .before .before .before .before .before .before .before .before .before .before .before .before .before .before .before .before .before .before .before .before .before .before .before .before .before .before .before .before .before .before .pre .1 .0 .1) (c .before .before .before .before .before .before .before .before .before .before .before .before .before .before .before .before .before .before .before .before .before .before .before .before .before .before .before .before .before .before .before .before .before .before .before .before .before .before .before .before .before .before .before .before .before .before .pre .1 .1 .0) (c .before .before .before .before .before .before .before .before .before .before .before .before .before .before .before .before .before .before .before .before .before .before .before .before .before .before .before .before .before .before .before .before .before .before .before .before .before .if-head .ensures .0) (c .before .before .before .before .before .before .before .before .before .before .before .before .before .before .before .before .before .before .before .before .before .before .before .before .before .before .before .before .before .before .before .head .given .1) (c .before .before .before .before .before .before .before .before .before .before .before .before .before .before .before .before .before .before .before .before .before .before .before .before .before .before .before .before .before .before .before .before .before .before .before .before .before .before .before .before .before .reference .ensures) (c .before .before .before .before .before .before .before .before .before .before .before .before .before .before .before .before .before .before .before .before .before .before .before .before .before .before .before .convert-block .ensures .0) (c .before .before .before .before .before .before .before .before .before .before .before .before .before .before .before .before .before .before .before .before .before .k1 .given .1) (c .before .before .before .before .before .before .before .before .before .before .before .before .before .before .before .before .before .before .before .has-otherwise .ensures) (not-false _ (c .before .before .before .before .before .before .before .before .before .before .before .before .before .before .before .before .before .before .if1 .left)) (c .before .before .before .before .before .before .before .before .before .before .before .before .before .before .before .before .if-middle .ensures) (c .before .before .before .before .before .before .before .before .before .before .before .before .before .before .before .before .before .before .before .before .before .before .before .before .before .before .before .before .before .before .before .before .before .before .before .before .before .before .before .before .reference2 .ensures) (c .before .before .before .before .before .before .before .before .before .before .before .convert-block2 .ensures .0) (c .before .before .before .before .before .k3 .given .1) (c .before .before .if-end2 .ensures), else-visited (c .before .before .before .before .before .before .before .before .before .before .before .before .before .before .before .before .before .before .before .before .before .before .before .before .before .before .before .before .before .before .before .before .before .before .before .before .before .before .before .before .before .before .before .before .before .before .pre .1 .0 .0) (c .before .before .before .before .before .before .before .before .before .before .before .before .before .before .before .before .before .before .before .before .before .before .before .before .before .before .before .before .before .before .before .before .before .before .before .before .before .before .before .before .before .before .before .before .before .before .pre .1 .1 .0) (c .before .before .before .before .before .before .before .before .before .before .before .before .before .before .before .before .before .before .before .before .before .before .before .before .before .before .before .before .before .before .before .before .before .before .before .before .before .before .before .before .before .before .before .before .before .before .pre .1 .1 .1) (c .before .before .before .before .before .before .before .before .before .before .before .before .before .before .before .before .before .before .before .before .before .before .before .before .before .before .before .before .before .before .before .before .before .before .before .before .before .if-head .ensures .0) (c .before .before .before .before .before .before .before .before .before .before .before .before .before .before .before .before .before .before .before .before .before .before .before .before .before .before .before .before .before .before .before .head .given .1) (c .before .before .before .before .before .before .before .before .before .before .before .before .before .before .before .before .before .before .before .before .before .before .before .before .before .before .before .before .before .before .before .before .before .before .before .before .before .if-head .ensures .1) (c .before .before .before .before .before .before .before .before .before .before .before .before .before .before .before .before .before .before .before .before .before .before .before .before .before .before .before .before .before .before .before .before .before .before .before .before .before .before .before .before .before .reference .ensures) (c .before .before .before .before .before .before .before .before .before .before .before .before .before .before .before .before .before .before .before .before .before .before .before .before .before .before .before .convert-block .ensures .1) (c .before .before .before .before .before .before .before .before .before .before .before .before .before .before .before .before .before .before .before .before .before .k1 .given .1) (c .before .before .before .before .before .before .before .before .before .before .before .before .before .before .before .before .if-middle .ensures) (c .before .before .before .before .before .before .before .before .before .before .before .before .before .before .before .before .before .before .before .has-otherwise .ensures) refl (not-false _ (c .before .before .before .before .before .before .before .before .before .before .before .before .before .before .before .before .before .before .if1 .left)) (c .before .before .before .before .before .before .before .before .before .before .before .before .before .before .before .before .before .before .before .before .before .before .before .before .before .before .before .before .before .before .before .before .before .before .before .before .before .before .before .before .reference2 .ensures) (c .before .before .before .before .before .before .before .before .before .before .before .convert-block2 .ensures .1) (c .before .before .before .before .before .k3 .given .1) (c .before .before .if-end2 .ensures))
 
 convert-statement-kind-requires : (t : ℕ) → convert-statement-lts.Need-kind-requires (
   kind-reads.Asked,
@@ -1045,7 +1047,7 @@ convert-statement-kind-requires : (t : ℕ) → convert-statement-lts.Need-kind-
   convert-for-loop-below t,
   convert-for-loop.Post,
 ) (convert-statement-at t) convert-statement.Post
-convert-statement-kind-requires t c κs = omega (arith, (c .before .before .before .before .before .before .pre .1 .1) .below, c .before .before .before .before .before .before .pre .1 .0 .0 .ready .keyed .good .whole)
+convert-statement-kind-requires t c κs = omega (arith, (c .before .before .before .before .before .before .pre .1 .1 .0) .below, c .before .before .before .before .before .before .pre .1 .0 .0 .ready .keyed .good .whole)
 
 convert-statement-cast-t14 : (t : ℕ) → convert-statement-lts.Need-cast-t14 (
   kind-reads.Asked,
@@ -1065,7 +1067,7 @@ convert-statement-cast-t14 : (t : ℕ) → convert-statement-lts.Need-cast-t14 (
   convert-for-loop-below t,
   convert-for-loop.Post,
 ) (convert-statement-at t) convert-statement.Post
-convert-statement-cast-t14 t c = omega (arith, (c .before .before .before .before .before .before .before .before .pre .1 .1) .below, c .before .before .before .before .before .before .before .before .pre .1 .0 .0 .ready .keyed .good .few)
+convert-statement-cast-t14 t c = omega (arith, (c .before .before .before .before .before .before .before .before .pre .1 .1 .0) .below, c .before .before .before .before .before .before .before .before .pre .1 .0 .0 .ready .keyed .good .few)
 
 convert-statement-emit-requires : (t : ℕ) → convert-statement-lts.Need-emit-requires (
   kind-reads.Asked,
@@ -1087,6 +1089,26 @@ convert-statement-emit-requires : (t : ℕ) → convert-statement-lts.Need-emit-
 ) (convert-statement-at t) convert-statement.Post
 convert-statement-emit-requires t c κs = ((c .before .before .before .before .before .before .before .before .pre .1 .0 .0) .room, omega (arith, (c .before .before .before .before .before .before .before .before .pre .1 .0 .1) .tables))
 
+convert-statement-cast-at : (t : ℕ) → convert-statement-lts.Need-cast-at (
+  kind-reads.Asked,
+  kind-reads.Learnt,
+  emit-reads.Asked,
+  emit-reads.Learnt,
+  convert-plain-reads.Asked,
+  convert-plain-reads.Learnt,
+  convert-jump-reads.Asked,
+  convert-jump-reads.Learnt,
+  convert-if-below t,
+  convert-if.Post,
+  stated-reads.Asked,
+  stated-reads.Learnt,
+  convert-while-loop-below t,
+  convert-while-loop.Post,
+  convert-for-loop-below t,
+  convert-for-loop.Post,
+) (convert-statement-at t) convert-statement.Post
+convert-statement-cast-at t c = omega (arith, comment-small (c .before .before .before .before .before .before .before .before .before .before .before .before .pre .1 .0 .0) (c .before .before .before .before .before .before .before .before .before .before .before .before .pre .1 .0 .1) (c .before .before .before .before .before .before .before .before .before .before .before .before .pre .1 .1 .0) (c .before .before .before .before .before .before .before .before .before .before .before .before .pre .1 .1 .1) (c .before .before .before .emit .ensures))
+
 convert-statement-convert-plain-requires :
     (t : ℕ) → convert-statement-lts.Need-convert-plain-requires (
       kind-reads.Asked,
@@ -1106,7 +1128,7 @@ convert-statement-convert-plain-requires :
       convert-for-loop-below t,
       convert-for-loop.Post,
     ) (convert-statement-at t) convert-statement.Post
-convert-statement-convert-plain-requires t c κs = ((comment-converting (c .before .before .before .before .before .before .before .before .before .before .before .before .before .before .pre .1 .0 .0) (c .before .before .before .before .before .before .before .before .before .before .before .before .before .before .pre .1 .0 .1) (c .before .before .before .before .before .before .before .before .before .before .before .before .before .before .pre .1 .1) (omega arith) (c .before .before .before .before .before .emit .ensures), comment-afforded (c .before .before .before .before .before .before .before .before .before .before .before .before .before .before .pre .1 .0 .0) (c .before .before .before .before .before .before .before .before .before .before .before .before .before .before .pre .1 .0 .1) (c .before .before .before .before .before .before .before .before .before .before .before .before .before .before .pre .1 .1) (omega arith) (c .before .before .before .before .before .emit .ensures)), ((c .before .before .before .before .before .before .before .before .before .before .before .before .before .before .pre .1 .1), omega (arith, (c .before .before .before .before .before .before .before .kind .ensures), c .before .before .if1 .taken)))
+convert-statement-convert-plain-requires t c κs = ((comment-converting (c .before .before .before .before .before .before .before .before .before .before .before .before .before .before .before .pre .1 .0 .0) (c .before .before .before .before .before .before .before .before .before .before .before .before .before .before .before .pre .1 .0 .1) (c .before .before .before .before .before .before .before .before .before .before .before .before .before .before .before .pre .1 .1 .0) (omega arith) (c .before .before .before .before .before .before .emit .ensures), comment-afforded (c .before .before .before .before .before .before .before .before .before .before .before .before .before .before .before .pre .1 .0 .0) (c .before .before .before .before .before .before .before .before .before .before .before .before .before .before .before .pre .1 .0 .1) (c .before .before .before .before .before .before .before .before .before .before .before .before .before .before .before .pre .1 .1 .0) (omega arith) (c .before .before .before .before .before .before .emit .ensures)), (((c .before .before .before .before .before .before .before .before .before .before .before .before .before .before .before .pre .1 .1 .0), omega (arith, (c .before .before .before .before .before .before .before .before .kind .ensures), c .before .before .if1 .taken)), comment-in-turn (c .before .before .before .before .before .before .before .before .before .before .before .before .before .before .before .pre .1 .0 .0) (c .before .before .before .before .before .before .before .before .before .before .before .before .before .before .before .pre .1 .0 .1) (c .before .before .before .before .before .before .before .before .before .before .before .before .before .before .before .pre .1 .1 .0) (c .before .before .before .before .before .before .before .before .before .before .before .before .before .before .before .pre .1 .1 .1) (c .before .before .before .before .before .before .emit .ensures)))
 
 convert-statement-same-length : (t : ℕ) → convert-statement-lts.Need-same-length (
   kind-reads.Asked,
@@ -1166,7 +1188,7 @@ convert-statement-returns : (t : ℕ) → convert-statement-lts.Need-returns (
   convert-for-loop-below t,
   convert-for-loop.Post,
 ) (convert-statement-at t) convert-statement.Post
-convert-statement-returns t c = commented-plain (c .before .before .before .before .before .before .before .before .before .before .before .before .before .before .before .before .before .before .before .pre .1 .0 .0) (c .before .before .before .before .before .before .before .before .before .before .before .before .before .before .before .before .before .before .before .pre .1 .0 .1) (c .before .before .before .before .before .before .before .before .before .before .before .before .before .before .before .before .before .before .before .pre .1 .1) (omega arith) (c .before .before .before .before .before .before .before .before .before .before .emit .ensures) (c .before .before .before .before .before .before .before .before .before .before .before .before .kind .ensures) (c .before .before .before .before .before .before .before .if1 .taken) (c .before .before .before .before .convert-plain .ensures)
+convert-statement-returns t c = (commented-plain (c .before .before .before .before .before .before .before .before .before .before .before .before .before .before .before .before .before .before .before .before .pre .1 .0 .0) (c .before .before .before .before .before .before .before .before .before .before .before .before .before .before .before .before .before .before .before .before .pre .1 .0 .1) (c .before .before .before .before .before .before .before .before .before .before .before .before .before .before .before .before .before .before .before .before .pre .1 .1 .0) (omega arith) (c .before .before .before .before .before .before .before .before .before .before .before .emit .ensures) (c .before .before .before .before .before .before .before .before .before .before .before .before .before .kind .ensures) (c .before .before .before .before .before .before .before .if1 .taken) (c .before .before .before .before .convert-plain .ensures .0), plain-visited (c .before .before .before .before .before .before .before .before .before .before .before .before .before .before .before .before .before .before .before .before .pre .1 .0 .0) (c .before .before .before .before .before .before .before .before .before .before .before .before .before .before .before .before .before .before .before .before .pre .1 .0 .1) (c .before .before .before .before .before .before .before .before .before .before .before .before .before .before .before .before .before .before .before .before .pre .1 .1 .0) (c .before .before .before .before .before .before .before .before .before .before .before .before .before .before .before .before .before .before .before .before .pre .1 .1 .1) (c .before .before .before .before .before .before .before .before .before .before .before .emit .ensures) (c .before .before .before .before .convert-plain .ensures .0) (c .before .before .before .before .before .before .before .before .before .before .before .before .before .kind .ensures) (c .before .before .before .before .before .before .before .if1 .taken) (c .before .before .before .before .convert-plain .ensures .1))
 
 convert-statement-convert-jump-requires :
     (t : ℕ) → convert-statement-lts.Need-convert-jump-requires (
@@ -1187,7 +1209,7 @@ convert-statement-convert-jump-requires :
       convert-for-loop-below t,
       convert-for-loop.Post,
     ) (convert-statement-at t) convert-statement.Post
-convert-statement-convert-jump-requires t c κs = ((comment-converting (c .before .before .before .before .before .before .before .before .before .before .before .before .before .before .before .pre .1 .0 .0) (c .before .before .before .before .before .before .before .before .before .before .before .before .before .before .before .pre .1 .0 .1) (c .before .before .before .before .before .before .before .before .before .before .before .before .before .before .before .pre .1 .1) (omega arith) (c .before .before .before .before .before .before .emit .ensures), comment-afforded (c .before .before .before .before .before .before .before .before .before .before .before .before .before .before .before .pre .1 .0 .0) (c .before .before .before .before .before .before .before .before .before .before .before .before .before .before .before .pre .1 .0 .1) (c .before .before .before .before .before .before .before .before .before .before .before .before .before .before .before .pre .1 .1) (omega arith) (c .before .before .before .before .before .before .emit .ensures)), ((c .before .before .before .before .before .before .before .before .before .before .before .before .before .before .before .pre .1 .1), omega (arith, (c .before .before .before .before .before .before .before .before .kind .ensures), c .before .before .if2 .taken)))
+convert-statement-convert-jump-requires t c κs = ((comment-converting (c .before .before .before .before .before .before .before .before .before .before .before .before .before .before .before .before .pre .1 .0 .0) (c .before .before .before .before .before .before .before .before .before .before .before .before .before .before .before .before .pre .1 .0 .1) (c .before .before .before .before .before .before .before .before .before .before .before .before .before .before .before .before .pre .1 .1 .0) (omega arith) (c .before .before .before .before .before .before .before .emit .ensures), comment-afforded (c .before .before .before .before .before .before .before .before .before .before .before .before .before .before .before .before .pre .1 .0 .0) (c .before .before .before .before .before .before .before .before .before .before .before .before .before .before .before .before .pre .1 .0 .1) (c .before .before .before .before .before .before .before .before .before .before .before .before .before .before .before .before .pre .1 .1 .0) (omega arith) (c .before .before .before .before .before .before .before .emit .ensures)), ((c .before .before .before .before .before .before .before .before .before .before .before .before .before .before .before .before .pre .1 .1 .0), omega (arith, (c .before .before .before .before .before .before .before .before .before .kind .ensures), c .before .before .if2 .taken)))
 
 convert-statement-same-length-3 : (t : ℕ) → convert-statement-lts.Need-same-length-3 (
   kind-reads.Asked,
@@ -1247,7 +1269,7 @@ convert-statement-returns-2 : (t : ℕ) → convert-statement-lts.Need-returns-2
   convert-for-loop-below t,
   convert-for-loop.Post,
 ) (convert-statement-at t) convert-statement.Post
-convert-statement-returns-2 t c = commented-jump (c .before .before .before .before .before .before .before .before .before .before .before .before .before .before .before .before .before .before .pre .1 .0 .0) (c .before .before .before .before .before .before .before .before .before .before .before .before .before .before .before .before .before .before .pre .1 .0 .1) (c .before .before .before .before .before .before .before .before .before .before .before .before .before .before .before .before .before .before .pre .1 .1) (omega arith) (c .before .before .before .before .before .before .before .before .before .emit .ensures) (c .before .before .before .before .before .before .before .before .before .before .before .kind .ensures) (c .before .before .before .before .before .if2 .taken) (c .before .before .convert-jump .ensures)
+convert-statement-returns-2 t c = (commented-jump (c .before .before .before .before .before .before .before .before .before .before .before .before .before .before .before .before .before .before .before .pre .1 .0 .0) (c .before .before .before .before .before .before .before .before .before .before .before .before .before .before .before .before .before .before .before .pre .1 .0 .1) (c .before .before .before .before .before .before .before .before .before .before .before .before .before .before .before .before .before .before .before .pre .1 .1 .0) (omega arith) (c .before .before .before .before .before .before .before .before .before .before .emit .ensures) (c .before .before .before .before .before .before .before .before .before .before .before .before .kind .ensures) (c .before .before .before .before .before .if2 .taken) (c .before .before .convert-jump .ensures), jump-visited (c .before .before .before .before .before .before .before .before .before .before .before .before .before .before .before .before .before .before .before .pre .1 .0 .0) (c .before .before .before .before .before .before .before .before .before .before .before .before .before .before .before .before .before .before .before .pre .1 .0 .1) (c .before .before .before .before .before .before .before .before .before .before .before .before .before .before .before .before .before .before .before .pre .1 .1 .0) (c .before .before .before .before .before .before .before .before .before .before .before .before .before .before .before .before .before .before .before .pre .1 .1 .1) (c .before .before .before .before .before .before .before .before .before .before .emit .ensures) (c .before .before .convert-jump .ensures) (c .before .before .before .before .before .before .before .before .before .before .before .before .kind .ensures) (c .before .before .before .before .before .if2 .taken) refl)
 
 convert-statement-convert-if-requires : (t : ℕ) → convert-statement-lts.Need-convert-if-requires (
   kind-reads.Asked,
@@ -1267,7 +1289,7 @@ convert-statement-convert-if-requires : (t : ℕ) → convert-statement-lts.Need
   convert-for-loop-below t,
   convert-for-loop.Post,
 ) (convert-statement-at t) convert-statement.Post
-convert-statement-convert-if-requires t c κs = (omega (arith, c .before .before .before .before .before .before .before .before .before .before .before .before .before .before .before .before .pre .0), ((comment-converting (c .before .before .before .before .before .before .before .before .before .before .before .before .before .before .before .before .pre .1 .0 .0) (c .before .before .before .before .before .before .before .before .before .before .before .before .before .before .before .before .pre .1 .0 .1) (c .before .before .before .before .before .before .before .before .before .before .before .before .before .before .before .before .pre .1 .1) (omega arith) (c .before .before .before .before .before .before .before .emit .ensures), comment-afforded (c .before .before .before .before .before .before .before .before .before .before .before .before .before .before .before .before .pre .1 .0 .0) (c .before .before .before .before .before .before .before .before .before .before .before .before .before .before .before .before .pre .1 .0 .1) (c .before .before .before .before .before .before .before .before .before .before .before .before .before .before .before .before .pre .1 .1) (omega arith) (c .before .before .before .before .before .before .before .emit .ensures)), record { below = (c .before .before .before .before .before .before .before .before .before .before .before .before .before .before .before .before .pre .1 .1) .below; kind = sym (c .before .before .before .before .before .before .before .before .before .kind .ensures) ∙ c .before .before .if3 .taken }))
+convert-statement-convert-if-requires t c κs = (omega (arith, c .before .before .before .before .before .before .before .before .before .before .before .before .before .before .before .before .before .pre .0), ((comment-converting (c .before .before .before .before .before .before .before .before .before .before .before .before .before .before .before .before .before .pre .1 .0 .0) (c .before .before .before .before .before .before .before .before .before .before .before .before .before .before .before .before .before .pre .1 .0 .1) (c .before .before .before .before .before .before .before .before .before .before .before .before .before .before .before .before .before .pre .1 .1 .0) (omega arith) (c .before .before .before .before .before .before .before .before .emit .ensures), comment-afforded (c .before .before .before .before .before .before .before .before .before .before .before .before .before .before .before .before .before .pre .1 .0 .0) (c .before .before .before .before .before .before .before .before .before .before .before .before .before .before .before .before .before .pre .1 .0 .1) (c .before .before .before .before .before .before .before .before .before .before .before .before .before .before .before .before .before .pre .1 .1 .0) (omega arith) (c .before .before .before .before .before .before .before .before .emit .ensures)), (record { below = (c .before .before .before .before .before .before .before .before .before .before .before .before .before .before .before .before .before .pre .1 .1 .0) .below; kind = sym (c .before .before .before .before .before .before .before .before .before .before .kind .ensures) ∙ c .before .before .if3 .taken }, comment-fresh (c .before .before .before .before .before .before .before .before .before .before .before .before .before .before .before .before .before .pre .1 .0 .0) (c .before .before .before .before .before .before .before .before .before .before .before .before .before .before .before .before .before .pre .1 .0 .1) (c .before .before .before .before .before .before .before .before .before .before .before .before .before .before .before .before .before .pre .1 .1 .0) (c .before .before .before .before .before .before .before .before .before .before .before .before .before .before .before .before .before .pre .1 .1 .1) (c .before .before .before .before .before .before .before .before .emit .ensures))))
 
 convert-statement-stated-requires : (t : ℕ) → convert-statement-lts.Need-stated-requires (
   kind-reads.Asked,
@@ -1347,7 +1369,7 @@ convert-statement-returns-3 : (t : ℕ) → convert-statement-lts.Need-returns-3
   convert-for-loop-below t,
   convert-for-loop.Post,
 ) (convert-statement-at t) convert-statement.Post
-convert-statement-returns-3 t c = commented-if (c .before .before .before .before .before .before .before .before .before .before .before .before .before .before .before .before .before .before .before .before .before .before .pre .1 .0 .0) (c .before .before .before .before .before .before .before .before .before .before .before .before .before .before .before .before .before .before .before .before .before .before .pre .1 .0 .1) (c .before .before .before .before .before .before .before .before .before .before .before .before .before .before .before .before .before .before .before .before .before .before .pre .1 .1) (omega arith) (c .before .before .before .before .before .before .before .before .before .before .before .before .before .emit .ensures) (c .before .before .before .before .before .before .before .before .before .before .before .before .before .before .before .kind .ensures) (c .stated .ensures) (c .before .before .before .before .before .before .before .before .if3 .taken) (c .before .before .before .before .before .convert-if .ensures)
+convert-statement-returns-3 t c = (commented-if (c .before .before .before .before .before .before .before .before .before .before .before .before .before .before .before .before .before .before .before .before .before .before .before .pre .1 .0 .0) (c .before .before .before .before .before .before .before .before .before .before .before .before .before .before .before .before .before .before .before .before .before .before .before .pre .1 .0 .1) (c .before .before .before .before .before .before .before .before .before .before .before .before .before .before .before .before .before .before .before .before .before .before .before .pre .1 .1 .0) (omega arith) (c .before .before .before .before .before .before .before .before .before .before .before .before .before .before .emit .ensures) (c .before .before .before .before .before .before .before .before .before .before .before .before .before .before .before .before .kind .ensures) (c .stated .ensures) (c .before .before .before .before .before .before .before .before .if3 .taken) (c .before .before .before .before .before .convert-if .ensures .0), stated-visited _ _ _ _ (c .stated .ensures) (c .before .before .before .before .before .convert-if .ensures .1))
 
 convert-statement-convert-while-loop-requires :
     (t : ℕ) → convert-statement-lts.Need-convert-while-loop-requires (
@@ -1368,7 +1390,7 @@ convert-statement-convert-while-loop-requires :
       convert-for-loop-below t,
       convert-for-loop.Post,
     ) (convert-statement-at t) convert-statement.Post
-convert-statement-convert-while-loop-requires t c κs = (omega (arith, c .before .before .before .before .before .before .before .before .before .before .before .before .before .before .before .before .before .pre .0), ((comment-converting (c .before .before .before .before .before .before .before .before .before .before .before .before .before .before .before .before .before .pre .1 .0 .0) (c .before .before .before .before .before .before .before .before .before .before .before .before .before .before .before .before .before .pre .1 .0 .1) (c .before .before .before .before .before .before .before .before .before .before .before .before .before .before .before .before .before .pre .1 .1) (omega arith) (c .before .before .before .before .before .before .before .before .emit .ensures), comment-afforded (c .before .before .before .before .before .before .before .before .before .before .before .before .before .before .before .before .before .pre .1 .0 .0) (c .before .before .before .before .before .before .before .before .before .before .before .before .before .before .before .before .before .pre .1 .0 .1) (c .before .before .before .before .before .before .before .before .before .before .before .before .before .before .before .before .before .pre .1 .1) (omega arith) (c .before .before .before .before .before .before .before .before .emit .ensures)), record { below = (c .before .before .before .before .before .before .before .before .before .before .before .before .before .before .before .before .before .pre .1 .1) .below; kind = sym (c .before .before .before .before .before .before .before .before .before .before .kind .ensures) ∙ c .before .before .if4 .taken }))
+convert-statement-convert-while-loop-requires t c κs = (omega (arith, c .before .before .before .before .before .before .before .before .before .before .before .before .before .before .before .before .before .before .pre .0), ((comment-converting (c .before .before .before .before .before .before .before .before .before .before .before .before .before .before .before .before .before .before .pre .1 .0 .0) (c .before .before .before .before .before .before .before .before .before .before .before .before .before .before .before .before .before .before .pre .1 .0 .1) (c .before .before .before .before .before .before .before .before .before .before .before .before .before .before .before .before .before .before .pre .1 .1 .0) (omega arith) (c .before .before .before .before .before .before .before .before .before .emit .ensures), comment-afforded (c .before .before .before .before .before .before .before .before .before .before .before .before .before .before .before .before .before .before .pre .1 .0 .0) (c .before .before .before .before .before .before .before .before .before .before .before .before .before .before .before .before .before .before .pre .1 .0 .1) (c .before .before .before .before .before .before .before .before .before .before .before .before .before .before .before .before .before .before .pre .1 .1 .0) (omega arith) (c .before .before .before .before .before .before .before .before .before .emit .ensures)), (record { below = (c .before .before .before .before .before .before .before .before .before .before .before .before .before .before .before .before .before .before .pre .1 .1 .0) .below; kind = sym (c .before .before .before .before .before .before .before .before .before .before .before .kind .ensures) ∙ c .before .before .if4 .taken }, comment-fresh (c .before .before .before .before .before .before .before .before .before .before .before .before .before .before .before .before .before .before .pre .1 .0 .0) (c .before .before .before .before .before .before .before .before .before .before .before .before .before .before .before .before .before .before .pre .1 .0 .1) (c .before .before .before .before .before .before .before .before .before .before .before .before .before .before .before .before .before .before .pre .1 .1 .0) (c .before .before .before .before .before .before .before .before .before .before .before .before .before .before .before .before .before .before .pre .1 .1 .1) (c .before .before .before .before .before .before .before .before .before .emit .ensures))))
 
 convert-statement-stated-requires-2 : (t : ℕ) → convert-statement-lts.Need-stated-requires-2 (
   kind-reads.Asked,
@@ -1448,7 +1470,7 @@ convert-statement-returns-4 : (t : ℕ) → convert-statement-lts.Need-returns-4
   convert-for-loop-below t,
   convert-for-loop.Post,
 ) (convert-statement-at t) convert-statement.Post
-convert-statement-returns-4 t c = commented-while (c .before .before .before .before .before .before .before .before .before .before .before .before .before .before .before .before .before .before .before .before .before .before .before .pre .1 .0 .0) (c .before .before .before .before .before .before .before .before .before .before .before .before .before .before .before .before .before .before .before .before .before .before .before .pre .1 .0 .1) (c .before .before .before .before .before .before .before .before .before .before .before .before .before .before .before .before .before .before .before .before .before .before .before .pre .1 .1) (omega arith) (c .before .before .before .before .before .before .before .before .before .before .before .before .before .before .emit .ensures) (c .before .before .before .before .before .before .before .before .before .before .before .before .before .before .before .before .kind .ensures) (c .stated2 .ensures) (c .before .before .before .before .before .before .before .before .if4 .taken) (c .before .before .before .before .before .convert-while-loop .ensures)
+convert-statement-returns-4 t c = (commented-while (c .before .before .before .before .before .before .before .before .before .before .before .before .before .before .before .before .before .before .before .before .before .before .before .before .pre .1 .0 .0) (c .before .before .before .before .before .before .before .before .before .before .before .before .before .before .before .before .before .before .before .before .before .before .before .before .pre .1 .0 .1) (c .before .before .before .before .before .before .before .before .before .before .before .before .before .before .before .before .before .before .before .before .before .before .before .before .pre .1 .1 .0) (omega arith) (c .before .before .before .before .before .before .before .before .before .before .before .before .before .before .before .emit .ensures) (c .before .before .before .before .before .before .before .before .before .before .before .before .before .before .before .before .before .kind .ensures) (c .stated2 .ensures) (c .before .before .before .before .before .before .before .before .if4 .taken) (c .before .before .before .before .before .convert-while-loop .ensures .0), stated-visited _ _ _ _ (c .stated2 .ensures) (c .before .before .before .before .before .convert-while-loop .ensures .1))
 
 convert-statement-convert-for-loop-requires :
     (t : ℕ) → convert-statement-lts.Need-convert-for-loop-requires (
@@ -1469,7 +1491,7 @@ convert-statement-convert-for-loop-requires :
       convert-for-loop-below t,
       convert-for-loop.Post,
     ) (convert-statement-at t) convert-statement.Post
-convert-statement-convert-for-loop-requires t c κs = (omega (arith, c .before .before .before .before .before .before .before .before .before .before .before .before .before .before .before .before .before .pre .0), ((comment-converting (c .before .before .before .before .before .before .before .before .before .before .before .before .before .before .before .before .before .pre .1 .0 .0) (c .before .before .before .before .before .before .before .before .before .before .before .before .before .before .before .before .before .pre .1 .0 .1) (c .before .before .before .before .before .before .before .before .before .before .before .before .before .before .before .before .before .pre .1 .1) (omega arith) (c .before .before .before .before .before .before .before .before .emit .ensures), comment-afforded (c .before .before .before .before .before .before .before .before .before .before .before .before .before .before .before .before .before .pre .1 .0 .0) (c .before .before .before .before .before .before .before .before .before .before .before .before .before .before .before .before .before .pre .1 .0 .1) (c .before .before .before .before .before .before .before .before .before .before .before .before .before .before .before .before .before .pre .1 .1) (omega arith) (c .before .before .before .before .before .before .before .before .emit .ensures)), record { below = (c .before .before .before .before .before .before .before .before .before .before .before .before .before .before .before .before .before .pre .1 .1) .below; kind = sym (c .before .before .before .before .before .before .before .before .before .before .kind .ensures) ∙ last-kind (c .before .before .before .before .before .if1 .left) (c .before .before .before .before .if2 .left) (c .before .before .before .if3 .left) (c .before .before .if4 .left) }))
+convert-statement-convert-for-loop-requires t c κs = (omega (arith, c .before .before .before .before .before .before .before .before .before .before .before .before .before .before .before .before .before .before .pre .0), ((comment-converting (c .before .before .before .before .before .before .before .before .before .before .before .before .before .before .before .before .before .before .pre .1 .0 .0) (c .before .before .before .before .before .before .before .before .before .before .before .before .before .before .before .before .before .before .pre .1 .0 .1) (c .before .before .before .before .before .before .before .before .before .before .before .before .before .before .before .before .before .before .pre .1 .1 .0) (omega arith) (c .before .before .before .before .before .before .before .before .before .emit .ensures), comment-afforded (c .before .before .before .before .before .before .before .before .before .before .before .before .before .before .before .before .before .before .pre .1 .0 .0) (c .before .before .before .before .before .before .before .before .before .before .before .before .before .before .before .before .before .before .pre .1 .0 .1) (c .before .before .before .before .before .before .before .before .before .before .before .before .before .before .before .before .before .before .pre .1 .1 .0) (omega arith) (c .before .before .before .before .before .before .before .before .before .emit .ensures)), (record { below = (c .before .before .before .before .before .before .before .before .before .before .before .before .before .before .before .before .before .before .pre .1 .1 .0) .below; kind = sym (c .before .before .before .before .before .before .before .before .before .before .before .kind .ensures) ∙ last-kind (c .before .before .before .before .before .if1 .left) (c .before .before .before .before .if2 .left) (c .before .before .before .if3 .left) (c .before .before .if4 .left) }, comment-fresh (c .before .before .before .before .before .before .before .before .before .before .before .before .before .before .before .before .before .before .pre .1 .0 .0) (c .before .before .before .before .before .before .before .before .before .before .before .before .before .before .before .before .before .before .pre .1 .0 .1) (c .before .before .before .before .before .before .before .before .before .before .before .before .before .before .before .before .before .before .pre .1 .1 .0) (c .before .before .before .before .before .before .before .before .before .before .before .before .before .before .before .before .before .before .pre .1 .1 .1) (c .before .before .before .before .before .before .before .before .before .emit .ensures))))
 
 convert-statement-stated-requires-3 : (t : ℕ) → convert-statement-lts.Need-stated-requires-3 (
   kind-reads.Asked,
@@ -1549,7 +1571,7 @@ convert-statement-returns-5 : (t : ℕ) → convert-statement-lts.Need-returns-5
   convert-for-loop-below t,
   convert-for-loop.Post,
 ) (convert-statement-at t) convert-statement.Post
-convert-statement-returns-5 t c = commented-for (c .before .before .before .before .before .before .before .before .before .before .before .before .before .before .before .before .before .before .before .before .before .before .before .pre .1 .0 .0) (c .before .before .before .before .before .before .before .before .before .before .before .before .before .before .before .before .before .before .before .before .before .before .before .pre .1 .0 .1) (c .before .before .before .before .before .before .before .before .before .before .before .before .before .before .before .before .before .before .before .before .before .before .before .pre .1 .1) (omega arith) (c .before .before .before .before .before .before .before .before .before .before .before .before .before .before .emit .ensures) (c .before .before .before .before .before .before .before .before .before .before .before .before .before .before .before .before .kind .ensures) (c .stated3 .ensures) (last-kind (c .before .before .before .before .before .before .before .before .before .before .before .if1 .left) (c .before .before .before .before .before .before .before .before .before .before .if2 .left) (c .before .before .before .before .before .before .before .before .before .if3 .left) (c .before .before .before .before .before .before .before .before .if4 .left)) (c .before .before .before .before .before .convert-for-loop .ensures)
+convert-statement-returns-5 t c = (commented-for (c .before .before .before .before .before .before .before .before .before .before .before .before .before .before .before .before .before .before .before .before .before .before .before .before .pre .1 .0 .0) (c .before .before .before .before .before .before .before .before .before .before .before .before .before .before .before .before .before .before .before .before .before .before .before .before .pre .1 .0 .1) (c .before .before .before .before .before .before .before .before .before .before .before .before .before .before .before .before .before .before .before .before .before .before .before .before .pre .1 .1 .0) (omega arith) (c .before .before .before .before .before .before .before .before .before .before .before .before .before .before .before .emit .ensures) (c .before .before .before .before .before .before .before .before .before .before .before .before .before .before .before .before .before .kind .ensures) (c .stated3 .ensures) (last-kind (c .before .before .before .before .before .before .before .before .before .before .before .if1 .left) (c .before .before .before .before .before .before .before .before .before .before .if2 .left) (c .before .before .before .before .before .before .before .before .before .if3 .left) (c .before .before .before .before .before .before .before .before .if4 .left)) (c .before .before .before .before .before .convert-for-loop .ensures .0), stated-visited _ _ _ _ (c .stated3 .ensures) (c .before .before .before .before .before .convert-for-loop .ensures .1))
 
 convert-while-loop-cast-with-loop : (t : ℕ) → convert-while-loop-lts.Need-cast-with-loop (
   with-loop-reads.Asked,
@@ -1563,7 +1585,7 @@ convert-while-loop-cast-with-loop : (t : ℕ) → convert-while-loop-lts.Need-ca
   loop-end-reads.Asked,
   loop-end-reads.Learnt,
 ) (convert-while-loop-at t) convert-while-loop.Post
-convert-while-loop-cast-with-loop t c = omega (arith, (c .before .before .before .before .before .pre .1 .1) .below, c .before .before .before .before .before .pre .1 .0 .0 .ready .keyed .good .few)
+convert-while-loop-cast-with-loop t c = omega (arith, (c .before .before .before .before .before .pre .1 .1 .0) .below, c .before .before .before .before .before .pre .1 .0 .0 .ready .keyed .good .few)
 
 convert-while-loop-with-loop-requires : (t : ℕ) → convert-while-loop-lts.Need-with-loop-requires (
   with-loop-reads.Asked,
@@ -1591,7 +1613,7 @@ convert-while-loop-reference-requires : (t : ℕ) → convert-while-loop-lts.Nee
   loop-end-reads.Asked,
   loop-end-reads.Learnt,
 ) (convert-while-loop-at t) convert-while-loop.Post
-convert-while-loop-reference-requires t c κs = (omega (arith, (c .before .before .before .before .before .before .pre .1 .1) .below, c .before .before .before .before .before .before .pre .1 .0 .0 .ready .keyed .good .whole), omega arith)
+convert-while-loop-reference-requires t c κs = (omega (arith, (c .before .before .before .before .before .before .pre .1 .1 .0) .below, c .before .before .before .before .before .before .pre .1 .0 .0 .ready .keyed .good .whole), omega arith)
 
 convert-while-loop-while-head-requires : (t : ℕ) → convert-while-loop-lts.Need-while-head-requires (
   with-loop-reads.Asked,
@@ -1605,7 +1627,7 @@ convert-while-loop-while-head-requires : (t : ℕ) → convert-while-loop-lts.Ne
   loop-end-reads.Asked,
   loop-end-reads.Learnt,
 ) (convert-while-loop-at t) convert-while-loop.Post
-convert-while-loop-while-head-requires t c κs = (((c .before .before .before .before .before .before .before .before .before .pre .1 .0 .0), (c .before .before .before .before .before .before .before .before .before .pre .1 .0 .1)), (c .before .before .before .before .before .before .before .before .before .pre .1 .1))
+convert-while-loop-while-head-requires t c κs = (((c .before .before .before .before .before .before .before .before .before .pre .1 .0 .0), (c .before .before .before .before .before .before .before .before .before .pre .1 .0 .1)), ((c .before .before .before .before .before .before .before .before .before .pre .1 .1 .0), begun-in-turn (c .before .before .before .before .before .before .before .before .before .pre .1 .0 .0) (c .before .before .before .before .before .before .before .before .before .pre .1 .1 .0) (c .before .before .before .before .before .before .before .before .before .pre .1 .1 .1) (c .before .before .before .before .before .before .before .before .before .pre .1 .0 .1)))
 
 convert-while-loop-enum-known-x : (t : ℕ) → convert-while-loop-lts.Need-enum-known-x (
   with-loop-reads.Asked,
@@ -1648,7 +1670,7 @@ convert-while-loop-convert-block-requires :
       loop-end-reads.Asked,
       loop-end-reads.Learnt,
     ) (convert-while-loop-at t) convert-while-loop.Post
-convert-while-loop-convert-block-requires t c κs = let h = while-list (c .before .before .before .before .before .before .before .before .before .before .before .before .before .before .before .before .before .before .before .pre .1 .0 .0) (c .before .before .before .before .before .before .before .before .before .before .before .before .before .before .before .before .before .before .before .pre .1 .0 .1) (c .before .before .before .before .before .before .before .before .before .before .before .before .before .before .before .before .before .before .before .pre .1 .1) (c .before .before .before .before .before .before .before .before .before .before .before .before .reference .ensures) in (omega (arith, h .0, c .before .before .before .before .before .before .before .before .before .before .before .before .before .before .before .before .before .before .before .pre .0), ((while-converting (c .before .before .before .before .before .before .before .before .before .before .before .before .before .before .before .before .before .before .before .pre .1 .0 .0) (c .before .before .before .before .before .before .before .before .before .before .before .before .before .before .before .before .before .before .before .pre .1 .0 .1) (c .before .before .before .before .before .before .before .before .before .before .before .before .before .before .before .before .before .before .before .pre .1 .1) (c .before .before .before .before .before .before .before .before .before .while-head .ensures) (c .before .before .before .k .given .1) (c .before .before .before .before .before .before .before .before .before .before .before .before .before .with-loop .ensures) (c .before .before .before .before .before .before .before .before .before .before .before .before .reference .ensures), while-afforded (c .before .before .before .before .before .before .before .before .before .before .before .before .before .before .before .before .before .before .before .pre .1 .0 .0) (c .before .before .before .before .before .before .before .before .before .before .before .before .before .before .before .before .before .before .before .pre .1 .0 .1) (c .before .before .before .before .before .before .before .before .before .before .before .before .before .before .before .before .before .before .before .pre .1 .1) (c .before .before .before .before .before .before .before .before .before .while-head .ensures) (c .before .before .before .k .given .1) (c .before .before .before .before .before .before .before .before .before .before .before .before .before .with-loop .ensures) (c .before .before .before .before .before .before .before .before .before .before .before .before .reference .ensures)), h .1))
+convert-while-loop-convert-block-requires t c κs = let h = while-list (c .before .before .before .before .before .before .before .before .before .before .before .before .before .before .before .before .before .before .before .pre .1 .0 .0) (c .before .before .before .before .before .before .before .before .before .before .before .before .before .before .before .before .before .before .before .pre .1 .0 .1) (c .before .before .before .before .before .before .before .before .before .before .before .before .before .before .before .before .before .before .before .pre .1 .1 .0) (c .before .before .before .before .before .before .before .before .before .before .before .before .reference .ensures) in (omega (arith, h .0, c .before .before .before .before .before .before .before .before .before .before .before .before .before .before .before .before .before .before .before .pre .0), ((while-converting (c .before .before .before .before .before .before .before .before .before .before .before .before .before .before .before .before .before .before .before .pre .1 .0 .0) (c .before .before .before .before .before .before .before .before .before .before .before .before .before .before .before .before .before .before .before .pre .1 .0 .1) (c .before .before .before .before .before .before .before .before .before .before .before .before .before .before .before .before .before .before .before .pre .1 .1 .0) (c .before .before .before .before .before .before .before .before .before .while-head .ensures .0) (c .before .before .before .k .given .1) (c .before .before .before .before .before .before .before .before .before .before .before .before .before .with-loop .ensures) (c .before .before .before .before .before .before .before .before .before .before .before .before .reference .ensures), while-afforded (c .before .before .before .before .before .before .before .before .before .before .before .before .before .before .before .before .before .before .before .pre .1 .0 .0) (c .before .before .before .before .before .before .before .before .before .before .before .before .before .before .before .before .before .before .before .pre .1 .0 .1) (c .before .before .before .before .before .before .before .before .before .before .before .before .before .before .before .before .before .before .before .pre .1 .1 .0) (c .before .before .before .before .before .before .before .before .before .while-head .ensures .0) (c .before .before .before .k .given .1) (c .before .before .before .before .before .before .before .before .before .before .before .before .before .with-loop .ensures) (c .before .before .before .before .before .before .before .before .before .before .before .before .reference .ensures)), (h .1, (head-visited (c .before .before .before .before .before .before .before .before .before .before .before .before .before .before .before .before .before .before .before .pre .1 .0 .0) (c .before .before .before .before .before .before .before .before .before .before .before .before .before .before .before .before .before .before .before .pre .1 .1 .0) (c .before .before .before .before .before .before .before .before .before .before .before .before .before .before .before .before .before .before .before .pre .1 .1 .1) (c .before .before .before .before .before .before .before .before .before .while-head .ensures .0) (c .before .before .before .k .given .1) (c .before .before .before .before .before .before .before .before .before .while-head .ensures .1)) .turns)))
 
 convert-while-loop-enum-known-x-2 : (t : ℕ) → convert-while-loop-lts.Need-enum-known-x-2 (
   with-loop-reads.Asked,
@@ -1690,7 +1712,7 @@ convert-while-loop-loop-end-requires : (t : ℕ) → convert-while-loop-lts.Need
   loop-end-reads.Asked,
   loop-end-reads.Learnt,
 ) (convert-while-loop-at t) convert-while-loop.Post
-convert-while-loop-loop-end-requires t c κs = (while-room (c .before .before .before .before .before .before .before .before .before .before .before .before .before .before .before .before .before .before .before .before .before .before .before .before .before .before .before .before .pre .1 .0 .0) (c .before .before .before .before .before .before .before .before .before .before .before .before .before .before .before .before .before .before .before .before .before .before .before .before .before .before .before .before .pre .1 .0 .1) (c .before .before .before .before .before .before .before .before .before .before .before .before .before .before .before .before .before .before .before .before .before .before .before .before .before .before .before .before .pre .1 .1) (c .before .before .before .before .before .before .before .before .before .before .before .before .before .before .before .before .before .before .while-head .ensures) (c .before .before .before .before .before .before .before .before .before .before .before .before .k .given .1) (c .before .before .before .before .before .before .before .before .before .before .before .before .before .before .before .before .before .before .before .before .before .before .with-loop .ensures) (c .before .before .before .before .before .before .before .before .before .before .before .before .before .before .before .before .before .before .before .before .before .reference .ensures) (c .before .before .before .before .before .before .before .before .convert-block .ensures) (c .before .before .k1 .given .1), omega (arith, (c .before .before .before .before .before .before .before .before .before .before .before .before .before .before .before .before .before .before .before .before .before .before .before .before .before .before .before .before .pre .1 .1) .below, c .before .before .before .before .before .before .before .before .before .before .before .before .before .before .before .before .before .before .before .before .before .before .before .before .before .before .before .before .pre .1 .0 .0 .ready .keyed .good .few))
+convert-while-loop-loop-end-requires t c κs = (while-room (c .before .before .before .before .before .before .before .before .before .before .before .before .before .before .before .before .before .before .before .before .before .before .before .before .before .before .before .before .pre .1 .0 .0) (c .before .before .before .before .before .before .before .before .before .before .before .before .before .before .before .before .before .before .before .before .before .before .before .before .before .before .before .before .pre .1 .0 .1) (c .before .before .before .before .before .before .before .before .before .before .before .before .before .before .before .before .before .before .before .before .before .before .before .before .before .before .before .before .pre .1 .1 .0) (c .before .before .before .before .before .before .before .before .before .before .before .before .before .before .before .before .before .before .while-head .ensures .0) (c .before .before .before .before .before .before .before .before .before .before .before .before .k .given .1) (c .before .before .before .before .before .before .before .before .before .before .before .before .before .before .before .before .before .before .before .before .before .before .with-loop .ensures) (c .before .before .before .before .before .before .before .before .before .before .before .before .before .before .before .before .before .before .before .before .before .reference .ensures) (c .before .before .before .before .before .before .before .before .convert-block .ensures .0) (c .before .before .k1 .given .1), omega (arith, (c .before .before .before .before .before .before .before .before .before .before .before .before .before .before .before .before .before .before .before .before .before .before .before .before .before .before .before .before .pre .1 .1 .0) .below, c .before .before .before .before .before .before .before .before .before .before .before .before .before .before .before .before .before .before .before .before .before .before .before .before .before .before .before .before .pre .1 .0 .0 .ready .keyed .good .few))
 
 convert-while-loop-same-length : (t : ℕ) → convert-while-loop-lts.Need-same-length (
   with-loop-reads.Asked,
@@ -1704,7 +1726,7 @@ convert-while-loop-same-length : (t : ℕ) → convert-while-loop-lts.Need-same-
   loop-end-reads.Asked,
   loop-end-reads.Learnt,
 ) (convert-while-loop-at t) convert-while-loop.Post
-convert-while-loop-same-length t c = omega (arith, (c .before .before .before .before .before .before .before .while-head .ensures) .meets .long)
+convert-while-loop-same-length t c = omega (arith, (c .before .before .before .before .before .before .before .while-head .ensures .0) .meets .long)
 
 convert-while-loop-same-length-2 : (t : ℕ) → convert-while-loop-lts.Need-same-length-2 (
   with-loop-reads.Asked,
@@ -1718,7 +1740,7 @@ convert-while-loop-same-length-2 : (t : ℕ) → convert-while-loop-lts.Need-sam
   loop-end-reads.Asked,
   loop-end-reads.Learnt,
 ) (convert-while-loop-at t) convert-while-loop.Post
-convert-while-loop-same-length-2 t c = omega (arith, (c .before .before .before .before .before .before .before .while-head .ensures) .stays .long)
+convert-while-loop-same-length-2 t c = omega (arith, (c .before .before .before .before .before .before .before .while-head .ensures .0) .stays .long)
 
 convert-while-loop-returns : (t : ℕ) → convert-while-loop-lts.Need-returns (
   with-loop-reads.Asked,
@@ -1732,7 +1754,7 @@ convert-while-loop-returns : (t : ℕ) → convert-while-loop-lts.Need-returns (
   loop-end-reads.Asked,
   loop-end-reads.Learnt,
 ) (convert-while-loop-at t) convert-while-loop.Post
-convert-while-loop-returns t c = while-stop (c .before .before .before .before .before .before .before .before .before .before .before .before .before .before .before .before .before .pre .1 .0 .0) (c .before .before .before .before .before .before .before .before .before .before .before .before .before .before .before .before .before .pre .1 .0 .1) (c .before .before .before .before .before .before .before .before .before .before .before .before .before .before .before .before .before .pre .1 .1) (c .before .before .before .before .before .before .before .while-head .ensures) (c .before .x .given .1)
+convert-while-loop-returns t c = (while-stop (c .before .before .before .before .before .before .before .before .before .before .before .before .before .before .before .before .before .pre .1 .0 .0) (c .before .before .before .before .before .before .before .before .before .before .before .before .before .before .before .before .before .pre .1 .0 .1) (c .before .before .before .before .before .before .before .before .before .before .before .before .before .before .before .before .before .pre .1 .1 .0) (c .before .before .before .before .before .before .before .while-head .ensures .0) (c .before .x .given .1), λ k q. refused-finished k q)
 
 convert-while-loop-same-length-3 : (t : ℕ) → convert-while-loop-lts.Need-same-length-3 (
   with-loop-reads.Asked,
@@ -1746,7 +1768,7 @@ convert-while-loop-same-length-3 : (t : ℕ) → convert-while-loop-lts.Need-sam
   loop-end-reads.Asked,
   loop-end-reads.Learnt,
 ) (convert-while-loop-at t) convert-while-loop.Post
-convert-while-loop-same-length-3 t c = omega (arith, (c .before .before .before .before .before .before .before .before .before .before .before .before .before .before .before .before .before .while-head .ensures) .meets .long, (c .before .before .before .before .before .before .before .convert-block .ensures) .meets .long)
+convert-while-loop-same-length-3 t c = omega (arith, (c .before .before .before .before .before .before .before .before .before .before .before .before .before .before .before .before .before .while-head .ensures .0) .meets .long, (c .before .before .before .before .before .before .before .convert-block .ensures .0) .meets .long)
 
 convert-while-loop-same-length-4 : (t : ℕ) → convert-while-loop-lts.Need-same-length-4 (
   with-loop-reads.Asked,
@@ -1760,7 +1782,7 @@ convert-while-loop-same-length-4 : (t : ℕ) → convert-while-loop-lts.Need-sam
   loop-end-reads.Asked,
   loop-end-reads.Learnt,
 ) (convert-while-loop-at t) convert-while-loop.Post
-convert-while-loop-same-length-4 t c = omega (arith, (c .before .before .before .before .before .before .before .before .before .before .before .before .before .before .before .before .before .while-head .ensures) .stays .long, (c .before .before .before .before .before .before .before .convert-block .ensures) .stays .long)
+convert-while-loop-same-length-4 t c = omega (arith, (c .before .before .before .before .before .before .before .before .before .before .before .before .before .before .before .before .before .while-head .ensures .0) .stays .long, (c .before .before .before .before .before .before .before .convert-block .ensures .0) .stays .long)
 
 convert-while-loop-returns-2 : (t : ℕ) → convert-while-loop-lts.Need-returns-2 (
   with-loop-reads.Asked,
@@ -1774,7 +1796,7 @@ convert-while-loop-returns-2 : (t : ℕ) → convert-while-loop-lts.Need-returns
   loop-end-reads.Asked,
   loop-end-reads.Learnt,
 ) (convert-while-loop-at t) convert-while-loop.Post
-convert-while-loop-returns-2 t c = while-body-stop (c .before .before .before .before .before .before .before .before .before .before .before .before .before .before .before .before .before .before .before .before .before .before .before .before .before .before .before .pre .1 .0 .0) (c .before .before .before .before .before .before .before .before .before .before .before .before .before .before .before .before .before .before .before .before .before .before .before .before .before .before .before .pre .1 .0 .1) (c .before .before .before .before .before .before .before .before .before .before .before .before .before .before .before .before .before .before .before .before .before .before .before .before .before .before .before .pre .1 .1) (c .before .before .before .before .before .before .before .before .before .before .before .before .before .before .before .before .before .while-head .ensures) (c .before .before .before .before .before .before .before .before .before .before .before .k .given .1) (c .before .before .before .before .before .before .before .before .before .before .before .before .before .before .before .before .before .before .before .before .before .with-loop .ensures) (c .before .before .before .before .before .before .before .before .before .before .before .before .before .before .before .before .before .before .before .before .reference .ensures) (c .before .before .before .before .before .before .before .convert-block .ensures) (c .before .x2 .given .1)
+convert-while-loop-returns-2 t c = (while-body-stop (c .before .before .before .before .before .before .before .before .before .before .before .before .before .before .before .before .before .before .before .before .before .before .before .before .before .before .before .pre .1 .0 .0) (c .before .before .before .before .before .before .before .before .before .before .before .before .before .before .before .before .before .before .before .before .before .before .before .before .before .before .before .pre .1 .0 .1) (c .before .before .before .before .before .before .before .before .before .before .before .before .before .before .before .before .before .before .before .before .before .before .before .before .before .before .before .pre .1 .1 .0) (c .before .before .before .before .before .before .before .before .before .before .before .before .before .before .before .before .before .while-head .ensures .0) (c .before .before .before .before .before .before .before .before .before .before .before .k .given .1) (c .before .before .before .before .before .before .before .before .before .before .before .before .before .before .before .before .before .before .before .before .before .with-loop .ensures) (c .before .before .before .before .before .before .before .before .before .before .before .before .before .before .before .before .before .before .before .before .reference .ensures) (c .before .before .before .before .before .before .before .convert-block .ensures .0) (c .before .x2 .given .1), λ k q. refused-finished k q)
 
 convert-while-loop-same-length-5 : (t : ℕ) → convert-while-loop-lts.Need-same-length-5 (
   with-loop-reads.Asked,
@@ -1788,7 +1810,7 @@ convert-while-loop-same-length-5 : (t : ℕ) → convert-while-loop-lts.Need-sam
   loop-end-reads.Asked,
   loop-end-reads.Learnt,
 ) (convert-while-loop-at t) convert-while-loop.Post
-convert-while-loop-same-length-5 t c = omega (arith, (c .before .before .before .before .before .before .before .before .before .before .before .before .before .before .before .before .before .before .before .before .before .while-head .ensures) .meets .long, (c .before .before .before .before .before .before .before .before .before .before .before .convert-block .ensures) .meets .long, (c .before .before .loop-end .ensures) .long)
+convert-while-loop-same-length-5 t c = omega (arith, (c .before .before .before .before .before .before .before .before .before .before .before .before .before .before .before .before .before .before .before .before .before .while-head .ensures .0) .meets .long, (c .before .before .before .before .before .before .before .before .before .before .before .convert-block .ensures .0) .meets .long, (c .before .before .loop-end .ensures) .long)
 
 convert-while-loop-same-length-6 : (t : ℕ) → convert-while-loop-lts.Need-same-length-6 (
   with-loop-reads.Asked,
@@ -1802,7 +1824,7 @@ convert-while-loop-same-length-6 : (t : ℕ) → convert-while-loop-lts.Need-sam
   loop-end-reads.Asked,
   loop-end-reads.Learnt,
 ) (convert-while-loop-at t) convert-while-loop.Post
-convert-while-loop-same-length-6 t c = omega (arith, (c .before .before .before .before .before .before .before .before .before .before .before .before .before .before .before .before .before .before .before .before .before .while-head .ensures) .stays .long, (c .before .before .before .before .before .before .before .before .before .before .before .convert-block .ensures) .stays .long)
+convert-while-loop-same-length-6 t c = omega (arith, (c .before .before .before .before .before .before .before .before .before .before .before .before .before .before .before .before .before .before .before .before .before .while-head .ensures .0) .stays .long, (c .before .before .before .before .before .before .before .before .before .before .before .convert-block .ensures .0) .stays .long)
 
 convert-while-loop-returns-3 : (t : ℕ) → convert-while-loop-lts.Need-returns-3 (
   with-loop-reads.Asked,
@@ -1816,7 +1838,7 @@ convert-while-loop-returns-3 : (t : ℕ) → convert-while-loop-lts.Need-returns
   loop-end-reads.Asked,
   loop-end-reads.Learnt,
 ) (convert-while-loop-at t) convert-while-loop.Post
-convert-while-loop-returns-3 t c = while-next (c .before .before .before .before .before .before .before .before .before .before .before .before .before .before .before .before .before .before .before .before .before .before .before .before .before .before .before .before .before .before .before .pre .1 .0 .0) (c .before .before .before .before .before .before .before .before .before .before .before .before .before .before .before .before .before .before .before .before .before .before .before .before .before .before .before .before .before .before .before .pre .1 .0 .1) (c .before .before .before .before .before .before .before .before .before .before .before .before .before .before .before .before .before .before .before .before .before .before .before .before .before .before .before .before .before .before .before .pre .1 .1) (c .before .before .before .before .before .before .before .before .before .before .before .before .before .before .before .before .before .before .before .before .before .while-head .ensures) (c .before .before .before .before .before .before .before .before .before .before .before .before .before .before .before .k .given .1) (c .before .before .before .before .before .before .before .before .before .before .before .before .before .before .before .before .before .before .before .before .before .before .before .before .before .with-loop .ensures) (c .before .before .before .before .before .before .before .before .before .before .before .before .before .before .before .before .before .before .before .before .before .before .before .before .reference .ensures) (c .before .before .before .before .before .before .before .before .before .before .before .convert-block .ensures) (c .before .before .before .before .before .k1 .given .1) (c .before .before .loop-end .ensures)
+convert-while-loop-returns-3 t c = (while-next (c .before .before .before .before .before .before .before .before .before .before .before .before .before .before .before .before .before .before .before .before .before .before .before .before .before .before .before .before .before .before .before .pre .1 .0 .0) (c .before .before .before .before .before .before .before .before .before .before .before .before .before .before .before .before .before .before .before .before .before .before .before .before .before .before .before .before .before .before .before .pre .1 .0 .1) (c .before .before .before .before .before .before .before .before .before .before .before .before .before .before .before .before .before .before .before .before .before .before .before .before .before .before .before .before .before .before .before .pre .1 .1 .0) (c .before .before .before .before .before .before .before .before .before .before .before .before .before .before .before .before .before .before .before .before .before .while-head .ensures .0) (c .before .before .before .before .before .before .before .before .before .before .before .before .before .before .before .k .given .1) (c .before .before .before .before .before .before .before .before .before .before .before .before .before .before .before .before .before .before .before .before .before .before .before .before .before .with-loop .ensures) (c .before .before .before .before .before .before .before .before .before .before .before .before .before .before .before .before .before .before .before .before .before .before .before .before .reference .ensures) (c .before .before .before .before .before .before .before .before .before .before .before .convert-block .ensures .0) (c .before .before .before .before .before .k1 .given .1) (c .before .before .loop-end .ensures), while-visited (c .before .before .before .before .before .before .before .before .before .before .before .before .before .before .before .before .before .before .before .before .before .before .before .before .before .before .before .before .before .before .before .pre .1 .0 .0) (c .before .before .before .before .before .before .before .before .before .before .before .before .before .before .before .before .before .before .before .before .before .before .before .before .before .before .before .before .before .before .before .pre .1 .1 .0) (c .before .before .before .before .before .before .before .before .before .before .before .before .before .before .before .before .before .before .before .before .before .before .before .before .before .before .before .before .before .before .before .pre .1 .1 .1) (c .before .before .before .before .before .before .before .before .before .before .before .before .before .before .before .before .before .before .before .before .before .while-head .ensures .0) (c .before .before .before .before .before .before .before .before .before .before .before .before .before .before .before .k .given .1) (c .before .before .before .before .before .before .before .before .before .before .before .before .before .before .before .before .before .before .before .before .before .while-head .ensures .1) (c .before .before .before .before .before .before .before .before .before .before .before .before .before .before .before .before .before .before .before .before .before .before .before .before .reference .ensures) (c .before .before .before .before .before .before .before .before .before .before .before .convert-block .ensures .1) (c .before .before .before .before .before .k1 .given .1) (c .before .before .loop-end .ensures) refl)
 
 pub +convert-block+convert-for-loop+convert-if+convert-statement+convert-while-loop-spec :
     {M : Type 1} → statement M
@@ -1954,7 +1976,7 @@ pub +convert-block+convert-for-loop+convert-if+convert-statement+convert-while-l
     convert-statement.Post
     (convert-statement-kind-requires t)
     (convert-statement-cast-t14 t)
-    (convert-statement-emit-requires t)
+    (convert-statement-emit-requires t) (convert-statement-cast-at t)
     (convert-statement-convert-plain-requires t)
     (convert-statement-same-length t)
     (convert-statement-same-length-2 t)

@@ -10,7 +10,8 @@ use Rattle.expressions.proofs.TypingLaws.{is-typed, is-kind, expr-low}
 use Rattle.statements.proofs.AroundLaws.{variable-type, left-side, right-side}
 use Rattle.statements.proofs.ConvertLaws.{converts-most, converting-after}
 use Rattle.statements.proofs.ExprLaws.{typed-converting, typed-stop, typed-unary, typed-binary, typed-call, call-kind, operand-side, unary-part, unary-room, unary-stop, unary-next, fitted-converting, fitted-stop, fitted-logic, fitted-other, left-afforded, begin-room, other-left, other-afforded, other-room, other-right, other-next, logic-converting, logic-left-afforded, logic-left, logic-room, logic-right-converting, logic-right-afforded, logic-right, logic-end-room, logic-next}
-use Rattle.statements.proofs.ArgsLaws.{called-converting, called-afforded, called-stop, args-stop, finish-converting, finish-afforded, called-next, ArgsLeft, loop-start, loop-end, cell-low, next-less, turn-type, value-low, value-afforded, value-room, push-room, turn-stop, turn-value}
+use Rattle.statements.proofs.ArgsLaws.{called-converting, called-afforded, called-stop, args-stop, finish-converting, finish-afforded, called-next, ArgsLeft, loop-start, loop-end, cell-low, next-less, loop-end-types, turn-in, turn-type, value-low, value-afforded, value-room, push-room, turn-stop, turn-value}
+use Rattle.statements.proofs.TypedLaws.{refused-types, args-refused-types, leaf-types, typed-in-turn, unary-types, binary-types, call-types, common-in-turn, common-types, operand-types, left-in-turn, sides-types, called-in-turn, called-types}
 use Prim.Native.Nat.{ℕ, _+_, _*_, _<_}
 use borrow.Fn.Kinds.{In}
 use borrow.Fn.PlainCycle.{Measures, is, falls, and}
@@ -190,7 +191,7 @@ convert-args-reference-requires : (t : ℕ) → convert-args-lts.Need-reference-
   next-cell-reads.Asked,
   next-cell-reads.Learnt,
 ) (convert-args-at t) convert-args.Post convert-args-Inv-loop convert-args-μ-loop
-convert-args-reference-requires t c κs = (omega (arith, (c .before .before .before .before .pre .1 .1) .below, (c .before .before .before .before .pre .1 .0 .0 .ready .keyed .good) .whole), omega arith)
+convert-args-reference-requires t c κs = (omega (arith, (c .before .before .before .before .pre .1 .1 .0) .below, (c .before .before .before .before .pre .1 .0 .0 .ready .keyed .good) .whole), omega arith)
 
 convert-args-loop-holds : (t : ℕ) → convert-args-lts.Need-loop-holds (
   reference-reads.Asked,
@@ -204,7 +205,7 @@ convert-args-loop-holds : (t : ℕ) → convert-args-lts.Need-loop-holds (
   next-cell-reads.Asked,
   next-cell-reads.Learnt,
 ) (convert-args-at t) convert-args.Post convert-args-Inv-loop convert-args-μ-loop
-convert-args-loop-holds t c = loop-start (c .before .before .before .before .before .pre .1 .0 .0) (c .before .before .before .before .before .pre .1 .0 .1) (c .before .before .before .before .before .pre .1 .1) _ (c .reference .ensures)
+convert-args-loop-holds t c = loop-start (c .before .before .before .before .before .pre .1 .0 .0) (c .before .before .before .before .before .pre .1 .0 .1) (c .before .before .before .before .before .pre .1 .1 .0) (c .before .before .before .before .before .pre .1 .1 .1) _ (c .reference .ensures)
 
 convert-args-argument-at-requires : (t : ℕ) → convert-args-lts.Need-argument-at-requires (
   reference-reads.Asked,
@@ -246,7 +247,7 @@ convert-args-convert-expr-requires : (t : ℕ) → convert-args-lts.Need-convert
   next-cell-reads.Asked,
   next-cell-reads.Learnt,
 ) (convert-args-at t) convert-args.Post convert-args-Inv-loop convert-args-μ-loop
-convert-args-convert-expr-requires t c κs = let h = value-low (c .before .before .before .before .before .before .before .before .before .before .before .before .before .pre .1 .0 .0) (c .before .before .before .before .before .before .before .before .before .before .before .before .before .pre .1 .0 .1) (c .before .before .before .before .before .before .before .before .before .before .before .before .before .pre .1 .1) (c .before .before .before .before .before .before .before .loop .inv) (c .before .before .before .before .before .before .loop-test .taken) (c .before .before .before .before .before .argument-at .ensures) (c .before .before .before .value .given .1) in (omega (arith, h .0, (c .before .before .before .before .before .before .before .before .before .before .before .before .before .pre .0)), (((c .before .before .before .before .before .before .before .loop .inv) .converting, value-afforded (c .before .before .before .before .before .before .before .before .before .before .before .before .before .pre .1 .0 .0) (c .before .before .before .before .before .before .before .before .before .before .before .before .before .pre .1 .0 .1) (c .before .before .before .before .before .before .before .before .before .before .before .before .before .pre .1 .1) (c .before .before .before .before .before .before .before .loop .inv) (c .before .before .before .before .before .before .loop-test .taken) (c .before .before .before .before .before .argument-at .ensures) (c .before .before .before .value .given .1)), h .1))
+convert-args-convert-expr-requires t c κs = let h = value-low (c .before .before .before .before .before .before .before .before .before .before .before .before .before .pre .1 .0 .0) (c .before .before .before .before .before .before .before .before .before .before .before .before .before .pre .1 .0 .1) (c .before .before .before .before .before .before .before .before .before .before .before .before .before .pre .1 .1 .0) (c .before .before .before .before .before .before .before .loop .inv) (c .before .before .before .before .before .before .loop-test .taken) (c .before .before .before .before .before .argument-at .ensures) (c .before .before .before .value .given .1) in (omega (arith, h .0, (c .before .before .before .before .before .before .before .before .before .before .before .before .before .pre .0)), (((c .before .before .before .before .before .before .before .loop .inv) .converting, value-afforded (c .before .before .before .before .before .before .before .before .before .before .before .before .before .pre .1 .0 .0) (c .before .before .before .before .before .before .before .before .before .before .before .before .before .pre .1 .0 .1) (c .before .before .before .before .before .before .before .before .before .before .before .before .before .pre .1 .1 .0) (c .before .before .before .before .before .before .before .loop .inv) (c .before .before .before .before .before .before .loop-test .taken) (c .before .before .before .before .before .argument-at .ensures) (c .before .before .before .value .given .1)), (h .1, turn-in (c .before .before .before .before .before .before .before .before .before .before .before .before .before .pre .1 .0 .0) (c .before .before .before .before .before .before .before .before .before .before .before .before .before .pre .1 .0 .1) (c .before .before .before .before .before .before .before .before .before .before .before .before .before .pre .1 .1 .0) (c .before .before .before .before .before .before .before .loop .inv) (c .before .before .before .before .before .before .loop-test .taken))))
 
 convert-args-enum-known-x : (t : ℕ) → convert-args-lts.Need-enum-known-x (
   reference-reads.Asked,
@@ -302,7 +303,7 @@ convert-args-returns : (t : ℕ) → convert-args-lts.Need-returns (
   next-cell-reads.Asked,
   next-cell-reads.Learnt,
 ) (convert-args-at t) convert-args.Post convert-args-Inv-loop convert-args-μ-loop
-convert-args-returns t c = turn-stop (c .before .before .before .before .before .before .before .before .before .before .before .before .before .before .before .before .before .before .before .before .before .pre .1 .0 .0) (c .before .before .before .before .before .before .before .before .before .before .before .before .before .before .before .before .before .before .before .before .before .pre .1 .0 .1) (c .before .before .before .before .before .before .before .before .before .before .before .before .before .before .before .before .before .before .before .before .before .pre .1 .1) (c .before .before .before .before .before .before .before .before .before .before .before .before .before .before .before .loop .inv) (c .before .before .before .before .before .before .before .before .before .before .before .before .before .before .loop-test .taken) (c .before .before .before .before .before .before .before .before .before .before .before .before .before .argument-at .ensures) (c .before .before .before .before .before .before .before .before .before .before .before .value .given .1) (c .before .before .before .before .before .before .before .convert-expr .ensures) (c .before .x .given .1)
+convert-args-returns t c = (turn-stop (c .before .before .before .before .before .before .before .before .before .before .before .before .before .before .before .before .before .before .before .before .before .pre .1 .0 .0) (c .before .before .before .before .before .before .before .before .before .before .before .before .before .before .before .before .before .before .before .before .before .pre .1 .0 .1) (c .before .before .before .before .before .before .before .before .before .before .before .before .before .before .before .before .before .before .before .before .before .pre .1 .1 .0) (c .before .before .before .before .before .before .before .before .before .before .before .before .before .before .before .loop .inv) (c .before .before .before .before .before .before .before .before .before .before .before .before .before .before .loop-test .taken) (c .before .before .before .before .before .before .before .before .before .before .before .before .before .argument-at .ensures) (c .before .before .before .before .before .before .before .before .before .before .before .value .given .1) (c .before .before .before .before .before .before .before .convert-expr .ensures .0) (c .before .x .given .1), args-refused-types)
 
 convert-args-enum-known-o : (t : ℕ) → convert-args-lts.Need-enum-known-o (
   reference-reads.Asked,
@@ -330,7 +331,7 @@ convert-args-push-operand-requires : (t : ℕ) → convert-args-lts.Need-push-op
   next-cell-reads.Asked,
   next-cell-reads.Learnt,
 ) (convert-args-at t) convert-args.Post convert-args-Inv-loop convert-args-μ-loop
-convert-args-push-operand-requires t c κs = push-room (c .before .before .before .before .before .before .before .before .before .before .before .before .before .before .before .before .before .before .before .before .before .before .pre .1 .0 .0) (c .before .before .before .before .before .before .before .before .before .before .before .before .before .before .before .before .before .before .before .before .before .before .pre .1 .0 .1) (c .before .before .before .before .before .before .before .before .before .before .before .before .before .before .before .before .before .before .before .before .before .before .pre .1 .1) (c .before .before .before .before .before .before .before .before .before .before .before .before .before .before .before .before .loop .inv) (c .before .before .before .before .before .before .before .before .before .before .before .before .before .before .before .loop-test .taken) (c .before .before .before .before .before .before .before .before .before .before .before .before .before .before .argument-at .ensures) (c .before .before .before .before .before .before .before .before .before .before .before .before .value .given .1) (c .before .before .before .before .before .before .before .before .convert-expr .ensures)
+convert-args-push-operand-requires t c κs = push-room (c .before .before .before .before .before .before .before .before .before .before .before .before .before .before .before .before .before .before .before .before .before .before .pre .1 .0 .0) (c .before .before .before .before .before .before .before .before .before .before .before .before .before .before .before .before .before .before .before .before .before .before .pre .1 .0 .1) (c .before .before .before .before .before .before .before .before .before .before .before .before .before .before .before .before .before .before .before .before .before .before .pre .1 .1 .0) (c .before .before .before .before .before .before .before .before .before .before .before .before .before .before .before .before .loop .inv) (c .before .before .before .before .before .before .before .before .before .before .before .before .before .before .before .loop-test .taken) (c .before .before .before .before .before .before .before .before .before .before .before .before .before .before .argument-at .ensures) (c .before .before .before .before .before .before .before .before .before .before .before .before .value .given .1) (c .before .before .before .before .before .before .before .before .convert-expr .ensures .0)
 
 convert-args-add-at : (t : ℕ) → convert-args-lts.Need-add-at (
   reference-reads.Asked,
@@ -344,7 +345,7 @@ convert-args-add-at : (t : ℕ) → convert-args-lts.Need-add-at (
   next-cell-reads.Asked,
   next-cell-reads.Learnt,
 ) (convert-args-at t) convert-args.Post convert-args-Inv-loop convert-args-μ-loop
-convert-args-add-at t c = omega (arith, value-room (c .before .before .before .before .before .before .before .before .before .before .before .before .before .before .before .before .before .before .before .before .before .before .before .before .before .pre .1 .0 .0) (c .before .before .before .before .before .before .before .before .before .before .before .before .before .before .before .before .before .before .before .before .before .before .before .before .before .pre .1 .0 .1) (c .before .before .before .before .before .before .before .before .before .before .before .before .before .before .before .before .before .before .before .before .before .before .before .before .before .pre .1 .1) (c .before .before .before .before .before .before .before .before .before .before .before .before .before .before .before .before .before .before .before .loop .inv) (c .before .before .before .before .before .before .before .before .before .before .before .before .before .before .before .before .before .before .loop-test .taken) (c .before .before .before .before .before .before .before .before .before .before .before .before .before .before .before .before .before .argument-at .ensures) (c .before .before .before .before .before .before .before .before .before .before .before .before .before .before .before .value .given .1), (c .before .before .before .before .before .before .before .before .before .before .before .before .before .before .before .before .before .before .before .before .before .before .before .before .before .pre .1 .0 .0 .ready .keyed .good) .few)
+convert-args-add-at t c = omega (arith, value-room (c .before .before .before .before .before .before .before .before .before .before .before .before .before .before .before .before .before .before .before .before .before .before .before .before .before .pre .1 .0 .0) (c .before .before .before .before .before .before .before .before .before .before .before .before .before .before .before .before .before .before .before .before .before .before .before .before .before .pre .1 .0 .1) (c .before .before .before .before .before .before .before .before .before .before .before .before .before .before .before .before .before .before .before .before .before .before .before .before .before .pre .1 .1 .0) (c .before .before .before .before .before .before .before .before .before .before .before .before .before .before .before .before .before .before .before .loop .inv) (c .before .before .before .before .before .before .before .before .before .before .before .before .before .before .before .before .before .before .loop-test .taken) (c .before .before .before .before .before .before .before .before .before .before .before .before .before .before .before .before .before .argument-at .ensures) (c .before .before .before .before .before .before .before .before .before .before .before .before .before .before .before .value .given .1), (c .before .before .before .before .before .before .before .before .before .before .before .before .before .before .before .before .before .before .before .before .before .before .before .before .before .pre .1 .0 .0 .ready .keyed .good) .few)
 
 convert-args-enum-told : (t : ℕ) → convert-args-lts.Need-enum-told (
   reference-reads.Asked,
@@ -372,7 +373,7 @@ convert-args-next-cell-requires : (t : ℕ) → convert-args-lts.Need-next-cell-
   next-cell-reads.Asked,
   next-cell-reads.Learnt,
 ) (convert-args-at t) convert-args.Post convert-args-Inv-loop convert-args-μ-loop
-convert-args-next-cell-requires t c κs = ((c .before .before .before .before .before .before .before .before .before .pre .1 .0 .0 .ready .keyed .good), cell-low (c .before .before .before .before .before .before .before .before .before .pre .1 .0 .0) (c .before .before .before .before .before .before .before .before .before .pre .1 .0 .1) (c .before .before .before .before .before .before .before .before .before .pre .1 .1) (c .before .before .before .loop .inv) (c .before .before .loop-test .taken))
+convert-args-next-cell-requires t c κs = ((c .before .before .before .before .before .before .before .before .before .pre .1 .0 .0 .ready .keyed .good), cell-low (c .before .before .before .before .before .before .before .before .before .pre .1 .0 .0) (c .before .before .before .before .before .before .before .before .before .pre .1 .0 .1) (c .before .before .before .before .before .before .before .before .before .pre .1 .1 .0) (c .before .before .before .loop .inv) (c .before .before .loop-test .taken))
 
 convert-args-loop-less : (t : ℕ) → convert-args-lts.Need-loop-less (
   reference-reads.Asked,
@@ -386,7 +387,7 @@ convert-args-loop-less : (t : ℕ) → convert-args-lts.Need-loop-less (
   next-cell-reads.Asked,
   next-cell-reads.Learnt,
 ) (convert-args-at t) convert-args.Post convert-args-Inv-loop convert-args-μ-loop
-convert-args-loop-less t c = next-less (c .before .before .before .before .before .before .before .before .before .before .pre .1 .0 .0) (c .before .before .before .before .before .before .before .before .before .before .pre .1 .0 .1) (c .before .before .before .before .before .before .before .before .before .before .pre .1 .1) (c .before .before .before .before .loop .inv) (c .before .before .before .loop-test .taken) _ (c .next-cell .ensures)
+convert-args-loop-less t c = next-less (c .before .before .before .before .before .before .before .before .before .before .pre .1 .0 .0) (c .before .before .before .before .before .before .before .before .before .before .pre .1 .0 .1) (c .before .before .before .before .before .before .before .before .before .before .pre .1 .1 .0) (c .before .before .before .before .loop .inv) (c .before .before .before .loop-test .taken) _ (c .next-cell .ensures)
 
 convert-args-loop-again : (t : ℕ) → convert-args-lts.Need-loop-again (
   reference-reads.Asked,
@@ -401,8 +402,8 @@ convert-args-loop-again : (t : ℕ) → convert-args-lts.Need-loop-again (
   next-cell-reads.Learnt,
 ) (convert-args-at t) convert-args.Post convert-args-Inv-loop convert-args-μ-loop
 convert-args-loop-again t c = ⊎-elim
-    (λ w. turn-value (c .before .before .before .before .before .before .before .before .before .before .pre .1 .0 .0) (c .before .before .before .before .before .before .before .before .before .before .pre .1 .0 .1) (c .before .before .before .before .before .before .before .before .before .before .pre .1 .1) (c .before .before .before .before .loop .inv) (c .before .before .before .loop-test .taken) (c .before .before .argument-at .ensures) (w .1 .given .1) (w .5 .ensures) (w .11 .given .1) (w .14 .ensures .0) (w .14 .ensures .1) (w .17) (w .18) (w .19) _ (c .next-cell .ensures))
-    (λ w. turn-type (c .before .before .before .before .before .before .before .before .before .before .pre .1 .0 .0) (c .before .before .before .before .before .before .before .before .before .before .pre .1 .0 .1) (c .before .before .before .before .before .before .before .before .before .before .pre .1 .1) (c .before .before .before .before .loop .inv) (c .before .before .before .loop-test .taken) (c .before .before .argument-at .ensures) _ (w .1 .given .1) (w .2) (w .3) (w .4) _ (c .next-cell .ensures))
+    (λ w. turn-value (c .before .before .before .before .before .before .before .before .before .before .pre .1 .0 .0) (c .before .before .before .before .before .before .before .before .before .before .pre .1 .0 .1) (c .before .before .before .before .before .before .before .before .before .before .pre .1 .1 .0) (c .before .before .before .before .loop .inv) (c .before .before .before .loop-test .taken) (c .before .before .argument-at .ensures) (w .1 .given .1) (w .5 .ensures .0) (w .11 .given .1) (w .5 .ensures .1) (w .14 .ensures .0) (w .14 .ensures .1) (w .17) (w .18) (w .19) _ (c .next-cell .ensures))
+    (λ w. turn-type (c .before .before .before .before .before .before .before .before .before .before .pre .1 .0 .0) (c .before .before .before .before .before .before .before .before .before .before .pre .1 .0 .1) (c .before .before .before .before .before .before .before .before .before .before .pre .1 .1 .0) (c .before .before .before .before .loop .inv) (c .before .before .before .loop-test .taken) (c .before .before .argument-at .ensures) _ (w .1 .given .1) (w .2) (w .3) (w .4) _ (c .next-cell .ensures))
     (c .before .match .came)
 
 convert-args-sub-t17 : (t : ℕ) → convert-args-lts.Need-sub-t17 (
@@ -459,7 +460,7 @@ convert-args-returns-2 : (t : ℕ) → convert-args-lts.Need-returns-2 (
   next-cell-reads.Asked,
   next-cell-reads.Learnt,
 ) (convert-args-at t) convert-args.Post convert-args-Inv-loop convert-args-μ-loop
-convert-args-returns-2 t c = loop-end (c .before .before .before .before .before .before .before .before .before .pre .1 .0 .0) (c .before .before .before .before .before .before .before .before .before .pre .1 .0 .1) (c .before .before .before .before .before .before .before .before .before .pre .1 .1) (c .before .before .before .loop .inv) (c .before .before .loop-test .left) _ refl
+convert-args-returns-2 t c = (loop-end (c .before .before .before .before .before .before .before .before .before .pre .1 .0 .0) (c .before .before .before .before .before .before .before .before .before .pre .1 .0 .1) (c .before .before .before .before .before .before .before .before .before .pre .1 .1 .0) (c .before .before .before .loop .inv) (c .before .before .loop-test .left) _ refl, loop-end-types (c .before .before .before .before .before .before .before .before .before .pre .1 .0 .0) (c .before .before .before .before .before .before .before .before .before .pre .1 .0 .1) (c .before .before .before .before .before .before .before .before .before .pre .1 .1 .0) (c .before .before .before .loop .inv) (c .before .before .loop-test .left) _)
 
 convert-binary-operand-type-requires : (t : ℕ) → convert-binary-lts.Need-operand-type-requires (
   operand-type-reads.Asked,
@@ -471,7 +472,7 @@ convert-binary-operand-type-requires : (t : ℕ) → convert-binary-lts.Need-ope
   convert-other-below t,
   convert-other.Post,
 ) (convert-binary-at t) convert-binary.Post
-convert-binary-operand-type-requires t c κs = ((c .before .before .before .before .before .pre .1 .0 .0) .ready, ((c .before .before .before .before .before .pre .1 .1 .0), (c .before .before .before .before .before .pre .1 .1 .1)))
+convert-binary-operand-type-requires t c κs = ((c .before .before .before .before .before .pre .1 .0 .0) .ready, (((c .before .before .before .before .before .pre .1 .1 .0 .0), (c .before .before .before .before .before .pre .1 .1 .0 .1)), (c .before .before .before .before .before .pre .1 .1 .1)))
 
 convert-binary-enum-known-x : (t : ℕ) → convert-binary-lts.Need-enum-known-x (
   operand-type-reads.Asked,
@@ -507,7 +508,7 @@ convert-binary-detail-requires : (t : ℕ) → convert-binary-lts.Need-detail-re
   convert-other-below t,
   convert-other.Post,
 ) (convert-binary-at t) convert-binary.Post
-convert-binary-detail-requires t c κs = omega (arith, (c .before .before .before .before .before .before .before .before .before .before .before .pre .1 .1 .0) .below, (c .before .before .before .before .before .before .before .before .before .before .before .pre .1 .0 .0 .ready .keyed .good) .whole)
+convert-binary-detail-requires t c κs = omega (arith, (c .before .before .before .before .before .before .before .before .before .before .before .pre .1 .1 .0 .0) .below, (c .before .before .before .before .before .before .before .before .before .before .before .pre .1 .0 .0 .ready .keyed .good) .whole)
 
 convert-binary-convert-logic-requires : (t : ℕ) → convert-binary-lts.Need-convert-logic-requires (
   operand-type-reads.Asked,
@@ -519,7 +520,7 @@ convert-binary-convert-logic-requires : (t : ℕ) → convert-binary-lts.Need-co
   convert-other-below t,
   convert-other.Post,
 ) (convert-binary-at t) convert-binary.Post
-convert-binary-convert-logic-requires t c κs = (omega (arith, (c .before .before .before .before .before .before .before .before .before .before .before .before .before .before .before .pre .0)), ((fitted-converting (c .before .before .before .before .before .before .before .before .before .before .before .before .before .before .before .pre .1 .0 .0) (c .before .before .before .before .before .before .before .before .before .before .before .before .before .before .before .pre .1 .1 .0) (c .before .before .before .before .before .before .before .before .before .operand-type .ensures), (c .before .before .before .before .before .before .before .before .before .before .before .before .before .before .before .pre .1 .0 .1)), ((c .before .before .before .before .before .before .before .before .before .before .before .before .before .before .before .pre .1 .1 .0), (c .before .before .before .before .before .before .before .before .before .before .before .before .before .before .before .pre .1 .1 .1))))
+convert-binary-convert-logic-requires t c κs = (omega (arith, (c .before .before .before .before .before .before .before .before .before .before .before .before .before .before .before .pre .0)), ((fitted-converting (c .before .before .before .before .before .before .before .before .before .before .before .before .before .before .before .pre .1 .0 .0) (c .before .before .before .before .before .before .before .before .before .before .before .before .before .before .before .pre .1 .1 .0 .0) (c .before .before .before .before .before .before .before .before .before .operand-type .ensures .0), (c .before .before .before .before .before .before .before .before .before .before .before .before .before .before .before .pre .1 .0 .1)), (((c .before .before .before .before .before .before .before .before .before .before .before .before .before .before .before .pre .1 .1 .0 .0), (c .before .before .before .before .before .before .before .before .before .before .before .before .before .before .before .pre .1 .1 .0 .1)), common-in-turn (c .before .before .before .before .before .before .before .before .before .before .before .before .before .before .before .pre .1 .0 .0) (c .before .before .before .before .before .before .before .before .before .operand-type .ensures .0) (c .before .before .before .before .before .before .before .before .before .operand-type .ensures .1) (c .before .before .before .before .before .q .given .1))))
 
 convert-binary-same-length : (t : ℕ) → convert-binary-lts.Need-same-length (
   operand-type-reads.Asked,
@@ -555,7 +556,7 @@ convert-binary-returns : (t : ℕ) → convert-binary-lts.Need-returns (
   convert-other-below t,
   convert-other.Post,
 ) (convert-binary-at t) convert-binary.Post
-convert-binary-returns t c = fitted-logic (c .before .before .before .before .before .before .before .before .before .before .before .before .before .before .before .before .before .before .before .before .pre .1 .0 .0) (c .before .before .before .before .before .before .before .before .before .before .before .before .before .before .before .before .before .before .before .before .pre .1 .1 .0) (c .before .before .before .before .before .before .before .before .before .before .before .before .before .before .operand-type .ensures) (c .before .before .before .before .before .before .before .before .before .before .q .given .1) (c .before .before .before .before .before .before .before .before .detail .ensures) (c .before .before .before .before .before .before .before .if1 .taken) (c .before .before .before .before .convert-logic .ensures)
+convert-binary-returns t c = (fitted-logic (c .before .before .before .before .before .before .before .before .before .before .before .before .before .before .before .before .before .before .before .before .pre .1 .0 .0) (c .before .before .before .before .before .before .before .before .before .before .before .before .before .before .before .before .before .before .before .before .pre .1 .1 .0 .0) (c .before .before .before .before .before .before .before .before .before .before .before .before .before .before .operand-type .ensures .0) (c .before .before .before .before .before .before .before .before .before .before .q .given .1) (c .before .before .before .before .before .before .before .before .detail .ensures) (c .before .before .before .before .before .before .before .if1 .taken) (c .before .before .before .before .convert-logic .ensures .0), common-types (c .before .before .before .before .before .before .before .before .before .before .before .before .before .before .before .before .before .before .before .before .pre .1 .0 .0) (c .before .before .before .before .before .before .before .before .before .before .before .before .before .before .operand-type .ensures .0) (c .before .before .before .before .before .before .before .before .before .before .before .before .before .before .operand-type .ensures .1) (c .before .before .before .before .before .before .before .before .before .before .q .given .1) (c .before .before .before .before .convert-logic .ensures .1))
 
 convert-binary-convert-other-requires : (t : ℕ) → convert-binary-lts.Need-convert-other-requires (
   operand-type-reads.Asked,
@@ -567,7 +568,7 @@ convert-binary-convert-other-requires : (t : ℕ) → convert-binary-lts.Need-co
   convert-other-below t,
   convert-other.Post,
 ) (convert-binary-at t) convert-binary.Post
-convert-binary-convert-other-requires t c κs = (omega (arith, (c .before .before .before .before .before .before .before .before .before .before .before .before .before .before .before .pre .0)), ((fitted-converting (c .before .before .before .before .before .before .before .before .before .before .before .before .before .before .before .pre .1 .0 .0) (c .before .before .before .before .before .before .before .before .before .before .before .before .before .before .before .pre .1 .1 .0) (c .before .before .before .before .before .before .before .before .before .operand-type .ensures), (c .before .before .before .before .before .before .before .before .before .before .before .before .before .before .before .pre .1 .0 .1)), ((c .before .before .before .before .before .before .before .before .before .before .before .before .before .before .before .pre .1 .1 .0), (c .before .before .before .before .before .before .before .before .before .before .before .before .before .before .before .pre .1 .1 .1), is-typed _ _ _ ((c .before .before .before .before .before .before .before .before .before .operand-type .ensures) .typed) (c .before .before .before .before .before .q .given .1))))
+convert-binary-convert-other-requires t c κs = (omega (arith, (c .before .before .before .before .before .before .before .before .before .before .before .before .before .before .before .pre .0)), ((fitted-converting (c .before .before .before .before .before .before .before .before .before .before .before .before .before .before .before .pre .1 .0 .0) (c .before .before .before .before .before .before .before .before .before .before .before .before .before .before .before .pre .1 .1 .0 .0) (c .before .before .before .before .before .before .before .before .before .operand-type .ensures .0), (c .before .before .before .before .before .before .before .before .before .before .before .before .before .before .before .pre .1 .0 .1)), (((c .before .before .before .before .before .before .before .before .before .before .before .before .before .before .before .pre .1 .1 .0 .0), (c .before .before .before .before .before .before .before .before .before .before .before .before .before .before .before .pre .1 .1 .0 .1), is-typed _ _ _ ((c .before .before .before .before .before .before .before .before .before .operand-type .ensures .0) .typed) (c .before .before .before .before .before .q .given .1)), common-in-turn (c .before .before .before .before .before .before .before .before .before .before .before .before .before .before .before .pre .1 .0 .0) (c .before .before .before .before .before .before .before .before .before .operand-type .ensures .0) (c .before .before .before .before .before .before .before .before .before .operand-type .ensures .1) (c .before .before .before .before .before .q .given .1))))
 
 convert-binary-same-length-3 : (t : ℕ) → convert-binary-lts.Need-same-length-3 (
   operand-type-reads.Asked,
@@ -591,7 +592,7 @@ convert-binary-returns-2 : (t : ℕ) → convert-binary-lts.Need-returns-2 (
   convert-other-below t,
   convert-other.Post,
 ) (convert-binary-at t) convert-binary.Post
-convert-binary-returns-2 t c = fitted-stop (c .before .before .before .before .before .before .before .before .before .before .before .pre .1 .0 .0) (c .before .before .before .before .before .before .before .before .before .before .before .pre .1 .1 .0) (c .before .before .before .before .before .operand-type .ensures) (c .before .x .given .1)
+convert-binary-returns-2 t c = (fitted-stop (c .before .before .before .before .before .before .before .before .before .before .before .pre .1 .0 .0) (c .before .before .before .before .before .before .before .before .before .before .before .pre .1 .1 .0 .0) (c .before .before .before .before .before .operand-type .ensures .0) (c .before .x .given .1), refused-types)
 
 convert-binary-same-length-4 : (t : ℕ) → convert-binary-lts.Need-same-length-4 (
   operand-type-reads.Asked,
@@ -627,7 +628,7 @@ convert-binary-returns-3 : (t : ℕ) → convert-binary-lts.Need-returns-3 (
   convert-other-below t,
   convert-other.Post,
 ) (convert-binary-at t) convert-binary.Post
-convert-binary-returns-3 t c = fitted-other (c .before .before .before .before .before .before .before .before .before .before .before .before .before .before .before .before .before .before .before .before .pre .1 .0 .0) (c .before .before .before .before .before .before .before .before .before .before .before .before .before .before .before .before .before .before .before .before .pre .1 .1 .0) (c .before .before .before .before .before .before .before .before .before .before .before .before .before .before .operand-type .ensures) (c .before .before .before .before .before .before .before .before .before .before .q .given .1) (c .before .before .before .before .before .before .before .before .detail .ensures) (c .before .before .before .before .before .before .before .if1 .left) (c .before .before .before .before .convert-other .ensures)
+convert-binary-returns-3 t c = (fitted-other (c .before .before .before .before .before .before .before .before .before .before .before .before .before .before .before .before .before .before .before .before .pre .1 .0 .0) (c .before .before .before .before .before .before .before .before .before .before .before .before .before .before .before .before .before .before .before .before .pre .1 .1 .0 .0) (c .before .before .before .before .before .before .before .before .before .before .before .before .before .before .operand-type .ensures .0) (c .before .before .before .before .before .before .before .before .before .before .q .given .1) (c .before .before .before .before .before .before .before .before .detail .ensures) (c .before .before .before .before .before .before .before .if1 .left) (c .before .before .before .before .convert-other .ensures .0), common-types (c .before .before .before .before .before .before .before .before .before .before .before .before .before .before .before .before .before .before .before .before .pre .1 .0 .0) (c .before .before .before .before .before .before .before .before .before .before .before .before .before .before .operand-type .ensures .0) (c .before .before .before .before .before .before .before .before .before .before .before .before .before .before .operand-type .ensures .1) (c .before .before .before .before .before .before .before .before .before .before .q .given .1) (c .before .before .before .before .convert-other .ensures .1))
 
 convert-call-value-resolve-call-requires :
     (t : ℕ) → convert-call-value-lts.Need-resolve-call-requires (
@@ -638,7 +639,7 @@ convert-call-value-resolve-call-requires :
       finish-call-reads.Asked,
       finish-call-reads.Learnt,
     ) (convert-call-value-at t) convert-call-value.Post
-convert-call-value-resolve-call-requires t c κs = ((c .before .before .before .before .before .before .pre .1 .0 .0) .ready, (c .before .before .before .before .before .before .pre .1 .1 .0))
+convert-call-value-resolve-call-requires t c κs = (record { ready = (c .before .before .before .before .before .before .pre .1 .0 .0) .ready; remembers = (c .before .before .before .before .before .before .pre .1 .1 .1) }, (c .before .before .before .before .before .before .pre .1 .1 .0 .0))
 
 convert-call-value-enum-known-callee : (t : ℕ) → convert-call-value-lts.Need-enum-known-callee (
   resolve-call-reads.Asked,
@@ -668,7 +669,7 @@ convert-call-value-returns : (t : ℕ) → convert-call-value-lts.Need-returns (
   finish-call-reads.Asked,
   finish-call-reads.Learnt,
 ) (convert-call-value-at t) convert-call-value.Post
-convert-call-value-returns t c = called-stop (c .before .before .before .before .before .before .before .before .before .before .before .before .pre .1 .0 .0) (c .before .before .before .before .before .before .before .before .before .before .before .before .pre .1 .0 .1) (c .before .before .before .before .before .before .before .before .before .before .before .before .pre .1 .1 .0) (c .before .before .before .before .before .resolve-call .ensures) _ (c .before .callee .given .1)
+convert-call-value-returns t c = (called-stop (c .before .before .before .before .before .before .before .before .before .before .before .before .pre .1 .0 .0) (c .before .before .before .before .before .before .before .before .before .before .before .before .pre .1 .0 .1) (c .before .before .before .before .before .before .before .before .before .before .before .before .pre .1 .1 .0 .0) (c .before .before .before .before .before .resolve-call .ensures) _ (c .before .callee .given .1), refused-types)
 
 convert-call-value-convert-args-requires :
     (t : ℕ) → convert-call-value-lts.Need-convert-args-requires (
@@ -679,7 +680,7 @@ convert-call-value-convert-args-requires :
       finish-call-reads.Asked,
       finish-call-reads.Learnt,
     ) (convert-call-value-at t) convert-call-value.Post
-convert-call-value-convert-args-requires t c κs = (omega (arith, (c .before .before .before .before .before .before .before .before .before .before .before .before .pre .0)), ((called-converting (c .before .before .before .before .before .before .before .before .before .before .before .before .pre .1 .0 .0) (c .before .before .before .before .before .before .before .before .before .before .before .before .pre .1 .0 .1) (c .before .before .before .before .before .before .before .before .before .before .before .before .pre .1 .1 .0) (c .before .before .before .before .before .resolve-call .ensures), called-afforded (c .before .before .before .before .before .before .before .before .before .before .before .before .pre .1 .0 .0) (c .before .before .before .before .before .before .before .before .before .before .before .before .pre .1 .0 .1) (c .before .before .before .before .before .before .before .before .before .before .before .before .pre .1 .1 .0) (c .before .before .before .before .before .resolve-call .ensures)), (c .before .before .before .before .before .before .before .before .before .before .before .before .pre .1 .1 .0)))
+convert-call-value-convert-args-requires t c κs = (omega (arith, (c .before .before .before .before .before .before .before .before .before .before .before .before .pre .0)), ((called-converting (c .before .before .before .before .before .before .before .before .before .before .before .before .pre .1 .0 .0) (c .before .before .before .before .before .before .before .before .before .before .before .before .pre .1 .0 .1) (c .before .before .before .before .before .before .before .before .before .before .before .before .pre .1 .1 .0 .0) (c .before .before .before .before .before .resolve-call .ensures), called-afforded (c .before .before .before .before .before .before .before .before .before .before .before .before .pre .1 .0 .0) (c .before .before .before .before .before .before .before .before .before .before .before .before .pre .1 .0 .1) (c .before .before .before .before .before .before .before .before .before .before .before .before .pre .1 .1 .0 .0) (c .before .before .before .before .before .resolve-call .ensures)), ((c .before .before .before .before .before .before .before .before .before .before .before .before .pre .1 .1 .0 .0), called-in-turn (c .before .before .before .before .before .before .before .before .before .before .before .before .pre .1 .0 .0) (c .before .before .before .before .before .resolve-call .ensures) (c .before .before .match .keys2))))
 
 convert-call-value-enum-known-x : (t : ℕ) → convert-call-value-lts.Need-enum-known-x (
   resolve-call-reads.Asked,
@@ -710,7 +711,7 @@ convert-call-value-finish-call-requires :
       finish-call-reads.Asked,
       finish-call-reads.Learnt,
     ) (convert-call-value-at t) convert-call-value.Post
-convert-call-value-finish-call-requires t c κs = ((finish-converting (c .before .before .before .before .before .before .before .before .before .before .before .before .before .before .before .before .before .before .before .before .before .before .pre .1 .0 .0) (c .before .before .before .before .before .before .before .before .before .before .before .before .before .before .before .before .before .before .before .before .before .before .pre .1 .0 .1) (c .before .before .before .before .before .before .before .before .before .before .before .before .before .before .before .before .before .before .before .before .before .before .pre .1 .1 .0) (c .before .before .before .before .before .before .before .before .before .before .before .before .before .before .before .resolve-call .ensures) (c .before .before .before .before .before .before .before .before .before .convert-args .ensures) (c .before .before .before .count .given .1), finish-afforded (c .before .before .before .before .before .before .before .before .before .before .before .before .before .before .before .before .before .before .before .before .before .before .pre .1 .0 .0) (c .before .before .before .before .before .before .before .before .before .before .before .before .before .before .before .before .before .before .before .before .before .before .pre .1 .0 .1) (c .before .before .before .before .before .before .before .before .before .before .before .before .before .before .before .before .before .before .before .before .before .before .pre .1 .1 .0) (c .before .before .before .before .before .before .before .before .before .before .before .before .before .before .before .resolve-call .ensures) (c .before .before .before .before .before .before .before .before .before .convert-args .ensures) (c .before .before .before .count .given .1)), (c .before .before .before .before .before .before .before .before .before .before .before .before .before .before .before .before .before .before .before .before .before .before .pre .1 .1 .0, (c .before .before .before .before .before .before .before .before .before .before .before .before .before .before .before .before .before .before .before .before .before .before .pre .1 .1 .1), (c .before .before .before .before .before .before .before .before .before .before .before .before .before .before .before .resolve-call .ensures) .callee, (c .before .before .before .before .before .before .before .before .before .convert-args .ensures) .operands _ _ (c .before .before .before .count .given .1) .1))
+convert-call-value-finish-call-requires t c κs = ((finish-converting (c .before .before .before .before .before .before .before .before .before .before .before .before .before .before .before .before .before .before .before .before .before .before .pre .1 .0 .0) (c .before .before .before .before .before .before .before .before .before .before .before .before .before .before .before .before .before .before .before .before .before .before .pre .1 .0 .1) (c .before .before .before .before .before .before .before .before .before .before .before .before .before .before .before .before .before .before .before .before .before .before .pre .1 .1 .0 .0) (c .before .before .before .before .before .before .before .before .before .before .before .before .before .before .before .resolve-call .ensures) (c .before .before .before .before .before .before .before .before .before .convert-args .ensures .0) (c .before .before .before .count .given .1), finish-afforded (c .before .before .before .before .before .before .before .before .before .before .before .before .before .before .before .before .before .before .before .before .before .before .pre .1 .0 .0) (c .before .before .before .before .before .before .before .before .before .before .before .before .before .before .before .before .before .before .before .before .before .before .pre .1 .0 .1) (c .before .before .before .before .before .before .before .before .before .before .before .before .before .before .before .before .before .before .before .before .before .before .pre .1 .1 .0 .0) (c .before .before .before .before .before .before .before .before .before .before .before .before .before .before .before .resolve-call .ensures) (c .before .before .before .before .before .before .before .before .before .convert-args .ensures .0) (c .before .before .before .count .given .1)), (c .before .before .before .before .before .before .before .before .before .before .before .before .before .before .before .before .before .before .before .before .before .before .pre .1 .1 .0 .0, (c .before .before .before .before .before .before .before .before .before .before .before .before .before .before .before .before .before .before .before .before .before .before .pre .1 .1 .0 .1), (c .before .before .before .before .before .before .before .before .before .before .before .before .before .before .before .resolve-call .ensures) .callee, (c .before .before .before .before .before .before .before .before .before .convert-args .ensures .0) .operands _ _ (c .before .before .before .count .given .1) .1))
 
 convert-call-value-same-length-2 : (t : ℕ) → convert-call-value-lts.Need-same-length-2 (
   resolve-call-reads.Asked,
@@ -740,7 +741,7 @@ convert-call-value-returns-2 : (t : ℕ) → convert-call-value-lts.Need-returns
   finish-call-reads.Asked,
   finish-call-reads.Learnt,
 ) (convert-call-value-at t) convert-call-value.Post
-convert-call-value-returns-2 t c = args-stop (c .before .before .before .before .before .before .before .before .before .before .before .before .before .before .before .before .before .before .before .before .pre .1 .0 .0) (c .before .before .before .before .before .before .before .before .before .before .before .before .before .before .before .before .before .before .before .before .pre .1 .0 .1) (c .before .before .before .before .before .before .before .before .before .before .before .before .before .before .before .before .before .before .before .before .pre .1 .1 .0) (c .before .before .before .before .before .before .before .before .before .before .before .before .before .resolve-call .ensures) (c .before .before .before .before .before .before .before .convert-args .ensures) _ (c .before .before .before .before .before .before .before .before .before .before .match .keys2) (c .before .x .given .1)
+convert-call-value-returns-2 t c = (args-stop (c .before .before .before .before .before .before .before .before .before .before .before .before .before .before .before .before .before .before .before .before .pre .1 .0 .0) (c .before .before .before .before .before .before .before .before .before .before .before .before .before .before .before .before .before .before .before .before .pre .1 .0 .1) (c .before .before .before .before .before .before .before .before .before .before .before .before .before .before .before .before .before .before .before .before .pre .1 .1 .0 .0) (c .before .before .before .before .before .before .before .before .before .before .before .before .before .resolve-call .ensures) (c .before .before .before .before .before .before .before .convert-args .ensures .0) _ (c .before .before .before .before .before .before .before .before .before .before .match .keys2) (c .before .x .given .1), refused-types)
 
 convert-call-value-same-length-4 : (t : ℕ) → convert-call-value-lts.Need-same-length-4 (
   resolve-call-reads.Asked,
@@ -770,7 +771,7 @@ convert-call-value-returns-3 : (t : ℕ) → convert-call-value-lts.Need-returns
   finish-call-reads.Asked,
   finish-call-reads.Learnt,
 ) (convert-call-value-at t) convert-call-value.Post
-convert-call-value-returns-3 t c = called-next (c .before .before .before .before .before .before .before .before .before .before .before .before .before .before .before .before .before .before .before .before .before .before .before .before .before .before .before .pre .1 .0 .0) (c .before .before .before .before .before .before .before .before .before .before .before .before .before .before .before .before .before .before .before .before .before .before .before .before .before .before .before .pre .1 .0 .1) (c .before .before .before .before .before .before .before .before .before .before .before .before .before .before .before .before .before .before .before .before .before .before .before .before .before .before .before .pre .1 .1 .0) (c .before .before .before .before .before .before .before .before .before .before .before .before .before .before .before .before .before .before .before .before .resolve-call .ensures) (c .before .before .before .before .before .before .before .before .before .before .before .before .before .before .convert-args .ensures) (c .before .before .before .before .before .before .before .before .count .given .1) _ (c .before .before .before .before .before .before .before .before .before .before .before .before .before .before .before .before .before .match .keys2) (c .before .before .before .before .finish-call .ensures)
+convert-call-value-returns-3 t c = (called-next (c .before .before .before .before .before .before .before .before .before .before .before .before .before .before .before .before .before .before .before .before .before .before .before .before .before .before .before .pre .1 .0 .0) (c .before .before .before .before .before .before .before .before .before .before .before .before .before .before .before .before .before .before .before .before .before .before .before .before .before .before .before .pre .1 .0 .1) (c .before .before .before .before .before .before .before .before .before .before .before .before .before .before .before .before .before .before .before .before .before .before .before .before .before .before .before .pre .1 .1 .0 .0) (c .before .before .before .before .before .before .before .before .before .before .before .before .before .before .before .before .before .before .before .before .resolve-call .ensures) (c .before .before .before .before .before .before .before .before .before .before .before .before .before .before .convert-args .ensures .0) (c .before .before .before .before .before .before .before .before .count .given .1) _ (c .before .before .before .before .before .before .before .before .before .before .before .before .before .before .before .before .before .match .keys2) (c .before .before .before .before .finish-call .ensures .0), called-types (c .before .before .before .before .before .before .before .before .before .before .before .before .before .before .before .before .before .before .before .before .before .before .before .before .before .before .before .pre .1 .0 .0) (c .before .before .before .before .before .before .before .before .before .before .before .before .before .before .before .before .before .before .before .before .resolve-call .ensures) (c .before .before .before .before .before .before .before .before .before .before .before .before .before .before .before .before .before .match .keys2) (c .before .before .before .before .before .before .before .before .before .before .before .before .before .before .convert-args .ensures .1) (c .before .before .before .before .before .before .before .before .count .given .1) (c .before .before .before .before .finish-call .ensures .1))
 
 convert-expr-kind-requires : (t : ℕ) → convert-expr-lts.Need-kind-requires (
   kind-reads.Asked,
@@ -786,7 +787,7 @@ convert-expr-kind-requires : (t : ℕ) → convert-expr-lts.Need-kind-requires (
   convert-call-value-below t,
   convert-call-value.Post,
 ) (convert-expr-at t) convert-expr.Post
-convert-expr-kind-requires t c κs = (c .before .before .before .before .before .pre .1 .1) .inside
+convert-expr-kind-requires t c κs = (c .before .before .before .before .before .pre .1 .1 .0) .inside
 
 convert-expr-operand-requires : (t : ℕ) → convert-expr-lts.Need-operand-requires (
   kind-reads.Asked,
@@ -802,7 +803,7 @@ convert-expr-operand-requires : (t : ℕ) → convert-expr-lts.Need-operand-requ
   convert-call-value-below t,
   convert-call-value.Post,
 ) (convert-expr-at t) convert-expr.Post
-convert-expr-operand-requires t c κs = ((c .before .before .before .before .before .before .before .before .before .pre .1 .0 .0), (omega (arith, (c .before .before .before .before .before .before .before .before .before .pre .1 .0 .1) .tables), ((c .before .before .before .before .before .before .before .before .before .pre .1 .1), omega (arith, (c .before .before .before .kind .ensures), c .before .before .if1 .taken))))
+convert-expr-operand-requires t c κs = ((c .before .before .before .before .before .before .before .before .before .pre .1 .0 .0), (omega (arith, (c .before .before .before .before .before .before .before .before .before .pre .1 .0 .1) .tables), ((c .before .before .before .before .before .before .before .before .before .pre .1 .1 .0), omega (arith, (c .before .before .before .kind .ensures), c .before .before .if1 .taken))))
 
 convert-expr-same-length : (t : ℕ) → convert-expr-lts.Need-same-length (
   kind-reads.Asked,
@@ -850,7 +851,7 @@ convert-expr-returns : (t : ℕ) → convert-expr-lts.Need-returns (
   convert-call-value-below t,
   convert-call-value.Post,
 ) (convert-expr-at t) convert-expr.Post
-convert-expr-returns t c = converts-most (omega arith) (c .before .before .operand .ensures)
+convert-expr-returns t c = (converts-most (omega arith) (c .before .before .operand .ensures), leaf-types (c .before .before .before .before .before .before .before .before .before .before .before .before .pre .1 .0 .0) (c .before .before .before .before .before .before .before .before .before .before .before .before .pre .1 .1 .0) (c .before .before .before .before .before .before .kind .ensures) (c .before .before .before .before .before .if1 .taken) (c .before .before .before .before .before .before .before .before .before .before .before .before .pre .1 .1 .1))
 
 convert-expr-get-type-requires : (t : ℕ) → convert-expr-lts.Need-get-type-requires (
   kind-reads.Asked,
@@ -866,7 +867,7 @@ convert-expr-get-type-requires : (t : ℕ) → convert-expr-lts.Need-get-type-re
   convert-call-value-below t,
   convert-call-value.Post,
 ) (convert-expr-at t) convert-expr.Post
-convert-expr-get-type-requires t c κs = ((c .before .before .before .before .before .before .before .before .pre .1 .0 .0) .ready, (c .before .before .before .before .before .before .before .before .pre .1 .1))
+convert-expr-get-type-requires t c κs = (record { ready = (c .before .before .before .before .before .before .before .before .pre .1 .0 .0) .ready; remembers = (c .before .before .before .before .before .before .before .before .pre .1 .1 .1) }, (c .before .before .before .before .before .before .before .before .pre .1 .1 .0))
 
 convert-expr-enum-known-x : (t : ℕ) → convert-expr-lts.Need-enum-known-x (
   kind-reads.Asked,
@@ -914,7 +915,7 @@ convert-expr-convert-unary-requires : (t : ℕ) → convert-expr-lts.Need-conver
   convert-call-value-below t,
   convert-call-value.Post,
 ) (convert-expr-at t) convert-expr.Post
-convert-expr-convert-unary-requires t c κs = (omega (arith, (c .before .before .before .before .before .before .before .before .before .before .before .before .before .before .before .before .before .pre .0)), ((typed-converting (c .before .before .before .before .before .before .before .before .before .before .before .before .before .before .before .before .before .pre .1 .0 .0) (c .before .before .before .before .before .before .before .before .before .before .before .before .before .before .before .before .before .pre .1 .1) (c .before .before .before .before .before .before .before .before .get-type .ensures), (c .before .before .before .before .before .before .before .before .before .before .before .before .before .before .before .before .before .pre .1 .0 .1)), (is-kind _ _ (c .before .before .before .before .before .before .before .before .before .before .before .before .before .before .before .before .before .pre .1 .0 .0 .ready .keyed .good) _ _ (c .before .before .before .before .before .before .before .before .before .before .before .before .before .before .before .before .before .pre .1 .1) (c .before .before .before .before .before .before .before .before .before .before .before .kind .ensures) 9 (c .before .before .if2 .taken), is-typed _ _ _ ((c .before .before .before .before .before .before .before .before .get-type .ensures) .typed) (c .before .before .before .before .y .given .1))))
+convert-expr-convert-unary-requires t c κs = (omega (arith, (c .before .before .before .before .before .before .before .before .before .before .before .before .before .before .before .before .before .pre .0)), ((typed-converting (c .before .before .before .before .before .before .before .before .before .before .before .before .before .before .before .before .before .pre .1 .0 .0) (c .before .before .before .before .before .before .before .before .before .before .before .before .before .before .before .before .before .pre .1 .1 .0) (c .before .before .before .before .before .before .before .before .get-type .ensures), (c .before .before .before .before .before .before .before .before .before .before .before .before .before .before .before .before .before .pre .1 .0 .1)), ((is-kind _ _ (c .before .before .before .before .before .before .before .before .before .before .before .before .before .before .before .before .before .pre .1 .0 .0 .ready .keyed .good) _ _ (c .before .before .before .before .before .before .before .before .before .before .before .before .before .before .before .before .before .pre .1 .1 .0) (c .before .before .before .before .before .before .before .before .before .before .before .kind .ensures) 9 (c .before .before .if2 .taken), is-typed _ _ _ ((c .before .before .before .before .before .before .before .before .get-type .ensures) .typed) (c .before .before .before .before .y .given .1)), typed-in-turn (c .before .before .before .before .before .before .before .before .before .before .before .before .before .before .before .before .before .pre .1 .0 .0) (c .before .before .before .before .before .before .before .before .get-type .ensures) (c .before .before .before .before .y .given .1))))
 
 convert-expr-same-length-3 : (t : ℕ) → convert-expr-lts.Need-same-length-3 (
   kind-reads.Asked,
@@ -962,7 +963,7 @@ convert-expr-returns-2 : (t : ℕ) → convert-expr-lts.Need-returns-2 (
   convert-call-value-below t,
   convert-call-value.Post,
 ) (convert-expr-at t) convert-expr.Post
-convert-expr-returns-2 t c = typed-unary (c .before .before .before .before .before .before .before .before .before .before .before .before .before .before .before .before .before .before .before .before .before .before .pre .1 .0 .0) (c .before .before .before .before .before .before .before .before .before .before .before .before .before .before .before .before .before .before .before .before .before .before .pre .1 .1) (c .before .before .before .before .before .before .before .before .before .before .before .before .before .get-type .ensures) (c .before .before .before .before .before .before .before .before .before .before .before .before .before .before .before .before .kind .ensures) (c .before .before .before .before .before .before .before .before .before .y .given .1) (c .before .before .before .before .before .before .before .if2 .taken) (c .before .before .before .before .convert-unary .ensures)
+convert-expr-returns-2 t c = (typed-unary (c .before .before .before .before .before .before .before .before .before .before .before .before .before .before .before .before .before .before .before .before .before .before .pre .1 .0 .0) (c .before .before .before .before .before .before .before .before .before .before .before .before .before .before .before .before .before .before .before .before .before .before .pre .1 .1 .0) (c .before .before .before .before .before .before .before .before .before .before .before .before .before .get-type .ensures) (c .before .before .before .before .before .before .before .before .before .before .before .before .before .before .before .before .kind .ensures) (c .before .before .before .before .before .before .before .before .before .y .given .1) (c .before .before .before .before .before .before .before .if2 .taken) (c .before .before .before .before .convert-unary .ensures .0), unary-types (c .before .before .before .before .before .before .before .before .before .before .before .before .before .before .before .before .before .before .before .before .before .before .pre .1 .0 .0) (c .before .before .before .before .before .before .before .before .before .before .before .before .before .get-type .ensures) (c .before .before .before .before .before .before .before .before .before .y .given .1) (c .before .before .before .before .before .before .before .before .before .before .before .before .before .before .before .before .before .before .before .before .before .before .pre .1 .1 .0) (c .before .before .before .before .before .before .before .before .before .before .before .before .before .before .before .before .kind .ensures) (c .before .before .before .before .before .before .before .if2 .taken) (c .before .before .before .before .convert-unary .ensures .1))
 
 convert-expr-convert-binary-requires : (t : ℕ) → convert-expr-lts.Need-convert-binary-requires (
   kind-reads.Asked,
@@ -978,7 +979,7 @@ convert-expr-convert-binary-requires : (t : ℕ) → convert-expr-lts.Need-conve
   convert-call-value-below t,
   convert-call-value.Post,
 ) (convert-expr-at t) convert-expr.Post
-convert-expr-convert-binary-requires t c κs = (omega (arith, (c .before .before .before .before .before .before .before .before .before .before .before .before .before .before .before .before .before .before .pre .0)), ((typed-converting (c .before .before .before .before .before .before .before .before .before .before .before .before .before .before .before .before .before .before .pre .1 .0 .0) (c .before .before .before .before .before .before .before .before .before .before .before .before .before .before .before .before .before .before .pre .1 .1) (c .before .before .before .before .before .before .before .before .before .get-type .ensures), (c .before .before .before .before .before .before .before .before .before .before .before .before .before .before .before .before .before .before .pre .1 .0 .1)), (is-kind _ _ (c .before .before .before .before .before .before .before .before .before .before .before .before .before .before .before .before .before .before .pre .1 .0 .0 .ready .keyed .good) _ _ (c .before .before .before .before .before .before .before .before .before .before .before .before .before .before .before .before .before .before .pre .1 .1) (c .before .before .before .before .before .before .before .before .before .before .before .before .kind .ensures) 10 (c .before .before .if3 .taken), is-typed _ _ _ ((c .before .before .before .before .before .before .before .before .before .get-type .ensures) .typed) (c .before .before .before .before .before .y .given .1))))
+convert-expr-convert-binary-requires t c κs = (omega (arith, (c .before .before .before .before .before .before .before .before .before .before .before .before .before .before .before .before .before .before .pre .0)), ((typed-converting (c .before .before .before .before .before .before .before .before .before .before .before .before .before .before .before .before .before .before .pre .1 .0 .0) (c .before .before .before .before .before .before .before .before .before .before .before .before .before .before .before .before .before .before .pre .1 .1 .0) (c .before .before .before .before .before .before .before .before .before .get-type .ensures), (c .before .before .before .before .before .before .before .before .before .before .before .before .before .before .before .before .before .before .pre .1 .0 .1)), ((is-kind _ _ (c .before .before .before .before .before .before .before .before .before .before .before .before .before .before .before .before .before .before .pre .1 .0 .0 .ready .keyed .good) _ _ (c .before .before .before .before .before .before .before .before .before .before .before .before .before .before .before .before .before .before .pre .1 .1 .0) (c .before .before .before .before .before .before .before .before .before .before .before .before .kind .ensures) 10 (c .before .before .if3 .taken), is-typed _ _ _ ((c .before .before .before .before .before .before .before .before .before .get-type .ensures) .typed) (c .before .before .before .before .before .y .given .1)), typed-in-turn (c .before .before .before .before .before .before .before .before .before .before .before .before .before .before .before .before .before .before .pre .1 .0 .0) (c .before .before .before .before .before .before .before .before .before .get-type .ensures) (c .before .before .before .before .before .y .given .1))))
 
 convert-expr-same-length-5 : (t : ℕ) → convert-expr-lts.Need-same-length-5 (
   kind-reads.Asked,
@@ -1026,7 +1027,7 @@ convert-expr-returns-3 : (t : ℕ) → convert-expr-lts.Need-returns-3 (
   convert-call-value-below t,
   convert-call-value.Post,
 ) (convert-expr-at t) convert-expr.Post
-convert-expr-returns-3 t c = typed-binary (c .before .before .before .before .before .before .before .before .before .before .before .before .before .before .before .before .before .before .before .before .before .before .before .pre .1 .0 .0) (c .before .before .before .before .before .before .before .before .before .before .before .before .before .before .before .before .before .before .before .before .before .before .before .pre .1 .1) (c .before .before .before .before .before .before .before .before .before .before .before .before .before .before .get-type .ensures) (c .before .before .before .before .before .before .before .before .before .before .before .before .before .before .before .before .before .kind .ensures) (c .before .before .before .before .before .before .before .before .before .before .y .given .1) (c .before .before .before .before .before .before .before .if3 .taken) (c .before .before .before .before .convert-binary .ensures)
+convert-expr-returns-3 t c = (typed-binary (c .before .before .before .before .before .before .before .before .before .before .before .before .before .before .before .before .before .before .before .before .before .before .before .pre .1 .0 .0) (c .before .before .before .before .before .before .before .before .before .before .before .before .before .before .before .before .before .before .before .before .before .before .before .pre .1 .1 .0) (c .before .before .before .before .before .before .before .before .before .before .before .before .before .before .get-type .ensures) (c .before .before .before .before .before .before .before .before .before .before .before .before .before .before .before .before .before .kind .ensures) (c .before .before .before .before .before .before .before .before .before .before .y .given .1) (c .before .before .before .before .before .before .before .if3 .taken) (c .before .before .before .before .convert-binary .ensures .0), binary-types (c .before .before .before .before .before .before .before .before .before .before .before .before .before .before .before .before .before .before .before .before .before .before .before .pre .1 .0 .0) (c .before .before .before .before .before .before .before .before .before .before .before .before .before .before .get-type .ensures) (c .before .before .before .before .before .before .before .before .before .before .y .given .1) (c .before .before .before .before .before .before .before .before .before .before .before .before .before .before .before .before .before .before .before .before .before .before .before .pre .1 .1 .0) (c .before .before .before .before .before .before .before .before .before .before .before .before .before .before .before .before .before .kind .ensures) (c .before .before .before .before .before .before .before .if3 .taken) (c .before .before .before .before .convert-binary .ensures .1))
 
 convert-expr-convert-call-value-requires :
     (t : ℕ) → convert-expr-lts.Need-convert-call-value-requires (
@@ -1043,7 +1044,7 @@ convert-expr-convert-call-value-requires :
       convert-call-value-below t,
       convert-call-value.Post,
     ) (convert-expr-at t) convert-expr.Post
-convert-expr-convert-call-value-requires t c κs = (omega (arith, (c .before .before .before .before .before .before .before .before .before .before .before .before .before .before .before .before .before .before .pre .0)), ((typed-converting (c .before .before .before .before .before .before .before .before .before .before .before .before .before .before .before .before .before .before .pre .1 .0 .0) (c .before .before .before .before .before .before .before .before .before .before .before .before .before .before .before .before .before .before .pre .1 .1) (c .before .before .before .before .before .before .before .before .before .get-type .ensures), (c .before .before .before .before .before .before .before .before .before .before .before .before .before .before .before .before .before .before .pre .1 .0 .1)), (record { below = expr-low _ _ (c .before .before .before .before .before .before .before .before .before .before .before .before .before .before .before .before .before .before .pre .1 .0 .0 .ready .keyed .good) _ (c .before .before .before .before .before .before .before .before .before .before .before .before .before .before .before .before .before .before .pre .1 .1); kind = call-kind (c .before .before .before .before .before .before .before .before .before .before .before .before .before .before .before .before .before .before .pre .1 .1) (c .before .before .before .before .before .before .before .before .before .before .before .before .kind .ensures) (c .before .before .before .before .before .before .before .before .before .before .before .if1 .left) (c .before .before .before .if2 .left) (c .before .before .if3 .left) }, is-typed _ _ _ ((c .before .before .before .before .before .before .before .before .before .get-type .ensures) .typed) (c .before .before .before .before .before .y .given .1))))
+convert-expr-convert-call-value-requires t c κs = (omega (arith, (c .before .before .before .before .before .before .before .before .before .before .before .before .before .before .before .before .before .before .pre .0)), ((typed-converting (c .before .before .before .before .before .before .before .before .before .before .before .before .before .before .before .before .before .before .pre .1 .0 .0) (c .before .before .before .before .before .before .before .before .before .before .before .before .before .before .before .before .before .before .pre .1 .1 .0) (c .before .before .before .before .before .before .before .before .before .get-type .ensures), (c .before .before .before .before .before .before .before .before .before .before .before .before .before .before .before .before .before .before .pre .1 .0 .1)), ((record { below = expr-low _ _ (c .before .before .before .before .before .before .before .before .before .before .before .before .before .before .before .before .before .before .pre .1 .0 .0 .ready .keyed .good) _ (c .before .before .before .before .before .before .before .before .before .before .before .before .before .before .before .before .before .before .pre .1 .1 .0); kind = call-kind (c .before .before .before .before .before .before .before .before .before .before .before .before .before .before .before .before .before .before .pre .1 .1 .0) (c .before .before .before .before .before .before .before .before .before .before .before .before .kind .ensures) (c .before .before .before .before .before .before .before .before .before .before .before .if1 .left) (c .before .before .before .if2 .left) (c .before .before .if3 .left) }, is-typed _ _ _ ((c .before .before .before .before .before .before .before .before .before .get-type .ensures) .typed) (c .before .before .before .before .before .y .given .1)), typed-in-turn (c .before .before .before .before .before .before .before .before .before .before .before .before .before .before .before .before .before .before .pre .1 .0 .0) (c .before .before .before .before .before .before .before .before .before .get-type .ensures) (c .before .before .before .before .before .y .given .1))))
 
 convert-expr-same-length-7 : (t : ℕ) → convert-expr-lts.Need-same-length-7 (
   kind-reads.Asked,
@@ -1075,7 +1076,7 @@ convert-expr-returns-4 : (t : ℕ) → convert-expr-lts.Need-returns-4 (
   convert-call-value-below t,
   convert-call-value.Post,
 ) (convert-expr-at t) convert-expr.Post
-convert-expr-returns-4 t c = typed-stop (c .before .before .before .before .before .before .before .before .before .before .before .before .before .before .pre .1 .0 .0) (c .before .before .before .before .before .before .before .before .before .before .before .before .before .before .pre .1 .1) (c .before .before .before .before .before .get-type .ensures) (c .before .before .before .before .before .before .before .before .kind .ensures) (c .before .before .before .before .before .before .before .if1 .left) (c .before .x .given .1)
+convert-expr-returns-4 t c = (typed-stop (c .before .before .before .before .before .before .before .before .before .before .before .before .before .before .pre .1 .0 .0) (c .before .before .before .before .before .before .before .before .before .before .before .before .before .before .pre .1 .1 .0) (c .before .before .before .before .before .get-type .ensures) (c .before .before .before .before .before .before .before .before .kind .ensures) (c .before .before .before .before .before .before .before .if1 .left) (c .before .x .given .1), refused-types)
 
 convert-expr-same-length-8 : (t : ℕ) → convert-expr-lts.Need-same-length-8 (
   kind-reads.Asked,
@@ -1123,7 +1124,7 @@ convert-expr-returns-5 : (t : ℕ) → convert-expr-lts.Need-returns-5 (
   convert-call-value-below t,
   convert-call-value.Post,
 ) (convert-expr-at t) convert-expr.Post
-convert-expr-returns-5 t c = typed-call (c .before .before .before .before .before .before .before .before .before .before .before .before .before .before .before .before .before .before .before .before .before .before .before .pre .1 .0 .0) (c .before .before .before .before .before .before .before .before .before .before .before .before .before .before .before .before .before .before .before .before .before .before .before .pre .1 .1) (c .before .before .before .before .before .before .before .before .before .before .before .before .before .before .get-type .ensures) (c .before .before .before .before .before .before .before .before .before .before .before .before .before .before .before .before .before .kind .ensures) (c .before .before .before .before .before .before .before .before .before .before .y .given .1) (call-kind (c .before .before .before .before .before .before .before .before .before .before .before .before .before .before .before .before .before .before .before .before .before .before .before .pre .1 .1) (c .before .before .before .before .before .before .before .before .before .before .before .before .before .before .before .before .before .kind .ensures) (c .before .before .before .before .before .before .before .before .before .before .before .before .before .before .before .before .if1 .left) (c .before .before .before .before .before .before .before .before .if2 .left) (c .before .before .before .before .before .before .before .if3 .left)) (c .before .before .before .before .convert-call-value .ensures)
+convert-expr-returns-5 t c = (typed-call (c .before .before .before .before .before .before .before .before .before .before .before .before .before .before .before .before .before .before .before .before .before .before .before .pre .1 .0 .0) (c .before .before .before .before .before .before .before .before .before .before .before .before .before .before .before .before .before .before .before .before .before .before .before .pre .1 .1 .0) (c .before .before .before .before .before .before .before .before .before .before .before .before .before .before .get-type .ensures) (c .before .before .before .before .before .before .before .before .before .before .before .before .before .before .before .before .before .kind .ensures) (c .before .before .before .before .before .before .before .before .before .before .y .given .1) (call-kind (c .before .before .before .before .before .before .before .before .before .before .before .before .before .before .before .before .before .before .before .before .before .before .before .pre .1 .1 .0) (c .before .before .before .before .before .before .before .before .before .before .before .before .before .before .before .before .before .kind .ensures) (c .before .before .before .before .before .before .before .before .before .before .before .before .before .before .before .before .if1 .left) (c .before .before .before .before .before .before .before .before .if2 .left) (c .before .before .before .before .before .before .before .if3 .left)) (c .before .before .before .before .convert-call-value .ensures .0), call-types (c .before .before .before .before .before .before .before .before .before .before .before .before .before .before .before .before .before .before .before .before .before .before .before .pre .1 .0 .0) (c .before .before .before .before .before .before .before .before .before .before .before .before .before .before .get-type .ensures) (c .before .before .before .before .before .before .before .before .before .before .y .given .1) (c .before .before .before .before .before .before .before .before .before .before .before .before .before .before .before .before .before .before .before .before .before .before .before .pre .1 .1 .0) (c .before .before .before .before .before .before .before .before .before .before .before .before .before .before .before .before .before .kind .ensures) (call-kind (c .before .before .before .before .before .before .before .before .before .before .before .before .before .before .before .before .before .before .before .before .before .before .before .pre .1 .1 .0) (c .before .before .before .before .before .before .before .before .before .before .before .before .before .before .before .before .before .kind .ensures) (c .before .before .before .before .before .before .before .before .before .before .before .before .before .before .before .before .if1 .left) (c .before .before .before .before .before .before .before .before .if2 .left) (c .before .before .before .before .before .before .before .if3 .left)) (c .before .before .before .before .convert-call-value .ensures .1))
 
 convert-logic-reference-requires : (t : ℕ) → convert-logic-lts.Need-reference-requires (
   reference-reads.Asked,
@@ -1139,7 +1140,7 @@ convert-logic-reference-requires : (t : ℕ) → convert-logic-lts.Need-referenc
   as-converted-reads.Asked,
   as-converted-reads.Learnt,
 ) (convert-logic-at t) convert-logic.Post
-convert-logic-reference-requires t c κs = (omega (arith, (c .before .before .before .before .pre .1 .1 .0) .below, (c .before .before .before .before .pre .1 .0 .0 .ready .keyed .good) .whole), omega arith)
+convert-logic-reference-requires t c κs = (omega (arith, (c .before .before .before .before .pre .1 .1 .0 .0) .below, (c .before .before .before .before .pre .1 .0 .0 .ready .keyed .good) .whole), omega arith)
 
 convert-logic-reference-requires-2 : (t : ℕ) → convert-logic-lts.Need-reference-requires-2 (
   reference-reads.Asked,
@@ -1155,7 +1156,7 @@ convert-logic-reference-requires-2 : (t : ℕ) → convert-logic-lts.Need-refere
   as-converted-reads.Asked,
   as-converted-reads.Learnt,
 ) (convert-logic-at t) convert-logic.Post
-convert-logic-reference-requires-2 t c κs = (omega (arith, (c .before .before .before .before .before .pre .1 .1 .0) .below, (c .before .before .before .before .before .pre .1 .0 .0 .ready .keyed .good) .whole), omega arith)
+convert-logic-reference-requires-2 t c κs = (omega (arith, (c .before .before .before .before .before .pre .1 .1 .0 .0) .below, (c .before .before .before .before .before .pre .1 .0 .0 .ready .keyed .good) .whole), omega arith)
 
 convert-logic-begin-logic-requires : (t : ℕ) → convert-logic-lts.Need-begin-logic-requires (
   reference-reads.Asked,
@@ -1171,7 +1172,7 @@ convert-logic-begin-logic-requires : (t : ℕ) → convert-logic-lts.Need-begin-
   as-converted-reads.Asked,
   as-converted-reads.Learnt,
 ) (convert-logic-at t) convert-logic.Post
-convert-logic-begin-logic-requires t c κs = (begin-room (c .before .before .before .before .before .before .before .before .pre .1 .0 .0) (c .before .before .before .before .before .before .before .before .pre .1 .0 .1) (c .before .before .before .before .before .before .before .before .pre .1 .1 .0) (c .before .before .before .reference .ensures) (c .before .before .reference2 .ensures), omega (arith, (c .before .before .before .before .before .before .before .before .pre .1 .1 .0) .below, (c .before .before .before .before .before .before .before .before .pre .1 .0 .0 .ready .keyed .good) .few), omega (arith, (c .before .before .before .before .before .before .before .before .pre .1 .1 .1) .below, (c .before .before .before .before .before .before .before .before .pre .1 .0 .0 .ready .keyed .good) .few))
+convert-logic-begin-logic-requires t c κs = (begin-room (c .before .before .before .before .before .before .before .before .pre .1 .0 .0) (c .before .before .before .before .before .before .before .before .pre .1 .0 .1) (c .before .before .before .before .before .before .before .before .pre .1 .1 .0 .0) (c .before .before .before .reference .ensures) (c .before .before .reference2 .ensures), omega (arith, (c .before .before .before .before .before .before .before .before .pre .1 .1 .0 .0) .below, (c .before .before .before .before .before .before .before .before .pre .1 .0 .0 .ready .keyed .good) .few), omega (arith, (c .before .before .before .before .before .before .before .before .pre .1 .1 .0 .1) .below, (c .before .before .before .before .before .before .before .before .pre .1 .0 .0 .ready .keyed .good) .few))
 
 convert-logic-convert-expr-requires : (t : ℕ) → convert-logic-lts.Need-convert-expr-requires (
   reference-reads.Asked,
@@ -1187,7 +1188,7 @@ convert-logic-convert-expr-requires : (t : ℕ) → convert-logic-lts.Need-conve
   as-converted-reads.Asked,
   as-converted-reads.Learnt,
 ) (convert-logic-at t) convert-logic.Post
-convert-logic-convert-expr-requires t c κs = let h = left-side (c .before .before .before .before .before .before .before .before .before .before .before .before .before .before .before .pre .1 .0 .0 .ready .keyed .good) (c .before .before .before .before .before .before .before .before .before .before .before .before .before .before .before .pre .1 .1 .0) (c .before .before .before .before .before .before .before .before .before .before .reference .ensures) in (omega (arith, h .0, (c .before .before .before .before .before .before .before .before .before .before .before .before .before .before .before .pre .0)), ((logic-converting (c .before .before .before .before .before .before .before .before .before .before .before .before .before .before .before .pre .1 .0 .0) (c .before .before .before .before .before .before .before .before .before .before .before .before .before .before .before .pre .1 .0 .1) (c .before .before .before .before .before .before .before .before .before .before .before .before .before .before .before .pre .1 .1 .0) (c .before .before .before .before .before .before .before .before .before .before .reference .ensures) (c .before .before .before .before .before .before .before .before .before .reference2 .ensures) _ (c .before .before .before .before .before .before .begin-logic .ensures .0), logic-left-afforded (c .before .before .before .before .before .before .before .before .before .before .before .before .before .before .before .pre .1 .0 .0) (c .before .before .before .before .before .before .before .before .before .before .before .before .before .before .before .pre .1 .0 .1) (c .before .before .before .before .before .before .before .before .before .before .before .before .before .before .before .pre .1 .1 .0) (c .before .before .before .before .before .before .before .before .before .before .reference .ensures) (c .before .before .before .before .before .before .before .before .before .reference2 .ensures) _ (c .before .before .before .before .before .before .begin-logic .ensures .0)), h .1))
+convert-logic-convert-expr-requires t c κs = let h = left-side (c .before .before .before .before .before .before .before .before .before .before .before .before .before .before .before .pre .1 .0 .0 .ready .keyed .good) (c .before .before .before .before .before .before .before .before .before .before .before .before .before .before .before .pre .1 .1 .0 .0) (c .before .before .before .before .before .before .before .before .before .before .reference .ensures) in (omega (arith, h .0, (c .before .before .before .before .before .before .before .before .before .before .before .before .before .before .before .pre .0)), ((logic-converting (c .before .before .before .before .before .before .before .before .before .before .before .before .before .before .before .pre .1 .0 .0) (c .before .before .before .before .before .before .before .before .before .before .before .before .before .before .before .pre .1 .0 .1) (c .before .before .before .before .before .before .before .before .before .before .before .before .before .before .before .pre .1 .1 .0 .0) (c .before .before .before .before .before .before .before .before .before .before .reference .ensures) (c .before .before .before .before .before .before .before .before .before .reference2 .ensures) _ (c .before .before .before .before .before .before .begin-logic .ensures .0), logic-left-afforded (c .before .before .before .before .before .before .before .before .before .before .before .before .before .before .before .pre .1 .0 .0) (c .before .before .before .before .before .before .before .before .before .before .before .before .before .before .before .pre .1 .0 .1) (c .before .before .before .before .before .before .before .before .before .before .before .before .before .before .before .pre .1 .1 .0 .0) (c .before .before .before .before .before .before .before .before .before .before .reference .ensures) (c .before .before .before .before .before .before .before .before .before .reference2 .ensures) _ (c .before .before .before .before .before .before .begin-logic .ensures .0)), (h .1, (c .before .before .before .before .before .before .before .before .before .before .before .before .before .before .before .pre .1 .1 .1))))
 
 convert-logic-enum-known-x : (t : ℕ) → convert-logic-lts.Need-enum-known-x (
   reference-reads.Asked,
@@ -1235,7 +1236,7 @@ convert-logic-join-logic-requires : (t : ℕ) → convert-logic-lts.Need-join-lo
   as-converted-reads.Asked,
   as-converted-reads.Learnt,
 ) (convert-logic-at t) convert-logic.Post
-convert-logic-join-logic-requires t c κs = (logic-room (c .before .before .before .before .before .before .before .before .before .before .before .before .before .before .before .before .before .before .before .before .before .before .before .before .pre .1 .0 .0) (c .before .before .before .before .before .before .before .before .before .before .before .before .before .before .before .before .before .before .before .before .before .before .before .before .pre .1 .0 .1) (c .before .before .before .before .before .before .before .before .before .before .before .before .before .before .before .before .before .before .before .before .before .before .before .before .pre .1 .1 .0) (c .before .before .before .before .before .before .before .before .before .before .before .before .before .before .before .before .before .before .before .reference .ensures) (c .before .before .before .before .before .before .before .before .before .before .before .before .before .before .before .before .before .before .reference2 .ensures) _ (c .before .before .before .before .before .before .before .before .before .before .before .before .before .before .before .begin-logic .ensures .0) (c .before .before .before .before .before .before .before .before .convert-expr .ensures) (c .before .before .a .given .1), omega (arith, (c .before .before .before .before .before .before .before .before .before .before .before .before .before .before .before .before .before .before .before .before .before .before .before .before .pre .1 .1 .0) .below, (c .before .before .before .before .before .before .before .before .before .before .before .before .before .before .before .before .before .before .before .before .before .before .before .before .pre .1 .0 .0 .ready .keyed .good) .few), omega (arith, (c .before .before .before .before .before .before .before .before .before .before .before .before .before .before .before .before .before .before .before .before .before .before .before .before .pre .1 .1 .0) .below, (c .before .before .before .before .before .before .before .before .before .before .before .before .before .before .before .before .before .before .before .before .before .before .before .before .pre .1 .0 .0 .ready .keyed .good) .whole))
+convert-logic-join-logic-requires t c κs = (logic-room (c .before .before .before .before .before .before .before .before .before .before .before .before .before .before .before .before .before .before .before .before .before .before .before .before .pre .1 .0 .0) (c .before .before .before .before .before .before .before .before .before .before .before .before .before .before .before .before .before .before .before .before .before .before .before .before .pre .1 .0 .1) (c .before .before .before .before .before .before .before .before .before .before .before .before .before .before .before .before .before .before .before .before .before .before .before .before .pre .1 .1 .0 .0) (c .before .before .before .before .before .before .before .before .before .before .before .before .before .before .before .before .before .before .before .reference .ensures) (c .before .before .before .before .before .before .before .before .before .before .before .before .before .before .before .before .before .before .reference2 .ensures) _ (c .before .before .before .before .before .before .before .before .before .before .before .before .before .before .before .begin-logic .ensures .0) (c .before .before .before .before .before .before .before .before .convert-expr .ensures .0) (c .before .before .a .given .1), omega (arith, (c .before .before .before .before .before .before .before .before .before .before .before .before .before .before .before .before .before .before .before .before .before .before .before .before .pre .1 .1 .0 .0) .below, (c .before .before .before .before .before .before .before .before .before .before .before .before .before .before .before .before .before .before .before .before .before .before .before .before .pre .1 .0 .0 .ready .keyed .good) .few), omega (arith, (c .before .before .before .before .before .before .before .before .before .before .before .before .before .before .before .before .before .before .before .before .before .before .before .before .pre .1 .1 .0 .0) .below, (c .before .before .before .before .before .before .before .before .before .before .before .before .before .before .before .before .before .before .before .before .before .before .before .before .pre .1 .0 .0 .ready .keyed .good) .whole))
 
 convert-logic-convert-expr-requires-2 : (t : ℕ) → convert-logic-lts.Need-convert-expr-requires-2 (
   reference-reads.Asked,
@@ -1251,7 +1252,7 @@ convert-logic-convert-expr-requires-2 : (t : ℕ) → convert-logic-lts.Need-con
   as-converted-reads.Asked,
   as-converted-reads.Learnt,
 ) (convert-logic-at t) convert-logic.Post
-convert-logic-convert-expr-requires-2 t c κs = let h = right-side (c .before .before .before .before .before .before .before .before .before .before .before .before .before .before .before .before .before .before .before .before .before .before .before .before .before .before .before .before .before .pre .1 .0 .0 .ready .keyed .good) (c .before .before .before .before .before .before .before .before .before .before .before .before .before .before .before .before .before .before .before .before .before .before .before .before .before .before .before .before .before .pre .1 .1 .0) (c .before .before .before .before .before .before .before .before .before .before .before .before .before .before .before .before .before .before .before .before .before .before .before .reference2 .ensures) in (omega (arith, h .0, (c .before .before .before .before .before .before .before .before .before .before .before .before .before .before .before .before .before .before .before .before .before .before .before .before .before .before .before .before .before .pre .0)), ((logic-right-converting (c .before .before .before .before .before .before .before .before .before .before .before .before .before .before .before .before .before .before .before .before .before .before .before .before .before .before .before .before .before .pre .1 .0 .0) (c .before .before .before .before .before .before .before .before .before .before .before .before .before .before .before .before .before .before .before .before .before .before .before .before .before .before .before .before .before .pre .1 .0 .1) (c .before .before .before .before .before .before .before .before .before .before .before .before .before .before .before .before .before .before .before .before .before .before .before .before .before .before .before .before .before .pre .1 .1 .0) (c .before .before .before .before .before .before .before .before .before .before .before .before .before .before .before .before .before .before .before .before .before .before .before .before .reference .ensures) (c .before .before .before .before .before .before .before .before .before .before .before .before .before .before .before .before .before .before .before .before .before .before .before .reference2 .ensures) _ (c .before .before .before .before .before .before .before .before .before .before .before .before .before .before .before .before .before .before .before .before .begin-logic .ensures .0) (c .before .before .before .before .before .before .before .before .before .before .before .before .before .convert-expr .ensures) (c .before .before .before .before .before .before .before .a .given .1) (c .before .before .before .before .join-logic .ensures), logic-right-afforded (c .before .before .before .before .before .before .before .before .before .before .before .before .before .before .before .before .before .before .before .before .before .before .before .before .before .before .before .before .before .pre .1 .0 .0) (c .before .before .before .before .before .before .before .before .before .before .before .before .before .before .before .before .before .before .before .before .before .before .before .before .before .before .before .before .before .pre .1 .0 .1) (c .before .before .before .before .before .before .before .before .before .before .before .before .before .before .before .before .before .before .before .before .before .before .before .before .before .before .before .before .before .pre .1 .1 .0) (c .before .before .before .before .before .before .before .before .before .before .before .before .before .before .before .before .before .before .before .before .before .before .before .before .reference .ensures) (c .before .before .before .before .before .before .before .before .before .before .before .before .before .before .before .before .before .before .before .before .before .before .before .reference2 .ensures) _ (c .before .before .before .before .before .before .before .before .before .before .before .before .before .before .before .before .before .before .before .before .begin-logic .ensures .0) (c .before .before .before .before .before .before .before .before .before .before .before .before .before .convert-expr .ensures) (c .before .before .before .before .before .before .before .a .given .1) (c .before .before .before .before .join-logic .ensures)), h .1))
+convert-logic-convert-expr-requires-2 t c κs = let h = right-side (c .before .before .before .before .before .before .before .before .before .before .before .before .before .before .before .before .before .before .before .before .before .before .before .before .before .before .before .before .before .pre .1 .0 .0 .ready .keyed .good) (c .before .before .before .before .before .before .before .before .before .before .before .before .before .before .before .before .before .before .before .before .before .before .before .before .before .before .before .before .before .pre .1 .1 .0 .0) (c .before .before .before .before .before .before .before .before .before .before .before .before .before .before .before .before .before .before .before .before .before .before .before .reference2 .ensures) in (omega (arith, h .0, (c .before .before .before .before .before .before .before .before .before .before .before .before .before .before .before .before .before .before .before .before .before .before .before .before .before .before .before .before .before .pre .0)), ((logic-right-converting (c .before .before .before .before .before .before .before .before .before .before .before .before .before .before .before .before .before .before .before .before .before .before .before .before .before .before .before .before .before .pre .1 .0 .0) (c .before .before .before .before .before .before .before .before .before .before .before .before .before .before .before .before .before .before .before .before .before .before .before .before .before .before .before .before .before .pre .1 .0 .1) (c .before .before .before .before .before .before .before .before .before .before .before .before .before .before .before .before .before .before .before .before .before .before .before .before .before .before .before .before .before .pre .1 .1 .0 .0) (c .before .before .before .before .before .before .before .before .before .before .before .before .before .before .before .before .before .before .before .before .before .before .before .before .reference .ensures) (c .before .before .before .before .before .before .before .before .before .before .before .before .before .before .before .before .before .before .before .before .before .before .before .reference2 .ensures) _ (c .before .before .before .before .before .before .before .before .before .before .before .before .before .before .before .before .before .before .before .before .begin-logic .ensures .0) (c .before .before .before .before .before .before .before .before .before .before .before .before .before .convert-expr .ensures .0) (c .before .before .before .before .before .before .before .a .given .1) (c .before .before .before .before .join-logic .ensures), logic-right-afforded (c .before .before .before .before .before .before .before .before .before .before .before .before .before .before .before .before .before .before .before .before .before .before .before .before .before .before .before .before .before .pre .1 .0 .0) (c .before .before .before .before .before .before .before .before .before .before .before .before .before .before .before .before .before .before .before .before .before .before .before .before .before .before .before .before .before .pre .1 .0 .1) (c .before .before .before .before .before .before .before .before .before .before .before .before .before .before .before .before .before .before .before .before .before .before .before .before .before .before .before .before .before .pre .1 .1 .0 .0) (c .before .before .before .before .before .before .before .before .before .before .before .before .before .before .before .before .before .before .before .before .before .before .before .before .reference .ensures) (c .before .before .before .before .before .before .before .before .before .before .before .before .before .before .before .before .before .before .before .before .before .before .before .reference2 .ensures) _ (c .before .before .before .before .before .before .before .before .before .before .before .before .before .before .before .before .before .before .before .before .begin-logic .ensures .0) (c .before .before .before .before .before .before .before .before .before .before .before .before .before .convert-expr .ensures .0) (c .before .before .before .before .before .before .before .a .given .1) (c .before .before .before .before .join-logic .ensures)), (h .1, left-in-turn (c .before .before .before .before .before .before .before .before .before .before .before .before .before .before .before .before .before .before .before .before .before .before .before .before .before .before .before .before .before .pre .1 .0 .0) _ (c .before .before .before .before .before .before .before .before .before .before .before .before .before .before .before .before .before .before .before .before .before .before .before .before .reference .ensures) (c .before .before .before .before .before .before .before .before .before .before .before .before .before .convert-expr .ensures .1) (c .before .before .before .before .before .before .before .a .given .1) ((c .before .before .before .before .before .before .before .before .before .before .before .before .before .convert-expr .ensures .0) .stays))))
 
 convert-logic-enum-known-x-2 : (t : ℕ) → convert-logic-lts.Need-enum-known-x-2 (
   reference-reads.Asked,
@@ -1299,7 +1300,7 @@ convert-logic-end-logic-requires : (t : ℕ) → convert-logic-lts.Need-end-logi
   as-converted-reads.Asked,
   as-converted-reads.Learnt,
 ) (convert-logic-at t) convert-logic.Post
-convert-logic-end-logic-requires t c κs = (logic-end-room (c .before .before .before .before .before .before .before .before .before .before .before .before .before .before .before .before .before .before .before .before .before .before .before .before .before .before .before .before .before .before .before .before .before .before .before .before .before .before .pre .1 .0 .0) (c .before .before .before .before .before .before .before .before .before .before .before .before .before .before .before .before .before .before .before .before .before .before .before .before .before .before .before .before .before .before .before .before .before .before .before .before .before .before .pre .1 .0 .1) (c .before .before .before .before .before .before .before .before .before .before .before .before .before .before .before .before .before .before .before .before .before .before .before .before .before .before .before .before .before .before .before .before .before .before .before .before .before .before .pre .1 .1 .0) (c .before .before .before .before .before .before .before .before .before .before .before .before .before .before .before .before .before .before .before .before .before .before .before .before .before .before .before .before .before .before .before .before .before .reference .ensures) (c .before .before .before .before .before .before .before .before .before .before .before .before .before .before .before .before .before .before .before .before .before .before .before .before .before .before .before .before .before .before .before .before .reference2 .ensures) _ (c .before .before .before .before .before .before .before .before .before .before .before .before .before .before .before .before .before .before .before .before .before .before .before .before .before .before .before .before .before .begin-logic .ensures .0) (c .before .before .before .before .before .before .before .before .before .before .before .before .before .before .before .before .before .before .before .before .before .before .convert-expr .ensures) (c .before .before .before .before .before .before .before .before .before .before .before .before .before .before .before .before .a .given .1) (c .before .before .before .before .before .before .before .before .before .before .before .before .before .join-logic .ensures) (c .before .before .before .before .before .before .before .before .convert-expr2 .ensures) (c .before .before .b .given .1), omega (arith, (c .before .before .before .before .before .before .before .before .before .before .before .before .before .before .before .before .before .before .before .before .before .before .before .before .before .before .before .before .before .before .before .before .before .before .before .before .before .before .pre .1 .1 .0) .below, (c .before .before .before .before .before .before .before .before .before .before .before .before .before .before .before .before .before .before .before .before .before .before .before .before .before .before .before .before .before .before .before .before .before .before .before .before .before .before .pre .1 .0 .0 .ready .keyed .good) .few))
+convert-logic-end-logic-requires t c κs = (logic-end-room (c .before .before .before .before .before .before .before .before .before .before .before .before .before .before .before .before .before .before .before .before .before .before .before .before .before .before .before .before .before .before .before .before .before .before .before .before .before .before .pre .1 .0 .0) (c .before .before .before .before .before .before .before .before .before .before .before .before .before .before .before .before .before .before .before .before .before .before .before .before .before .before .before .before .before .before .before .before .before .before .before .before .before .before .pre .1 .0 .1) (c .before .before .before .before .before .before .before .before .before .before .before .before .before .before .before .before .before .before .before .before .before .before .before .before .before .before .before .before .before .before .before .before .before .before .before .before .before .before .pre .1 .1 .0 .0) (c .before .before .before .before .before .before .before .before .before .before .before .before .before .before .before .before .before .before .before .before .before .before .before .before .before .before .before .before .before .before .before .before .before .reference .ensures) (c .before .before .before .before .before .before .before .before .before .before .before .before .before .before .before .before .before .before .before .before .before .before .before .before .before .before .before .before .before .before .before .before .reference2 .ensures) _ (c .before .before .before .before .before .before .before .before .before .before .before .before .before .before .before .before .before .before .before .before .before .before .before .before .before .before .before .before .before .begin-logic .ensures .0) (c .before .before .before .before .before .before .before .before .before .before .before .before .before .before .before .before .before .before .before .before .before .before .convert-expr .ensures .0) (c .before .before .before .before .before .before .before .before .before .before .before .before .before .before .before .before .a .given .1) (c .before .before .before .before .before .before .before .before .before .before .before .before .before .join-logic .ensures) (c .before .before .before .before .before .before .before .before .convert-expr2 .ensures .0) (c .before .before .b .given .1), omega (arith, (c .before .before .before .before .before .before .before .before .before .before .before .before .before .before .before .before .before .before .before .before .before .before .before .before .before .before .before .before .before .before .before .before .before .before .before .before .before .before .pre .1 .1 .0 .0) .below, (c .before .before .before .before .before .before .before .before .before .before .before .before .before .before .before .before .before .before .before .before .before .before .before .before .before .before .before .before .before .before .before .before .before .before .before .before .before .before .pre .1 .0 .0 .ready .keyed .good) .few))
 
 convert-logic-as-converted-requires : (t : ℕ) → convert-logic-lts.Need-as-converted-requires (
   reference-reads.Asked,
@@ -1363,7 +1364,7 @@ convert-logic-returns : (t : ℕ) → convert-logic-lts.Need-returns (
   as-converted-reads.Asked,
   as-converted-reads.Learnt,
 ) (convert-logic-at t) convert-logic.Post
-convert-logic-returns t c = logic-left (c .before .before .before .before .before .before .before .before .before .before .before .before .before .before .before .before .before .before .before .before .before .before .before .pre .1 .0 .0) (c .before .before .before .before .before .before .before .before .before .before .before .before .before .before .before .before .before .before .before .before .before .before .before .pre .1 .0 .1) (c .before .before .before .before .before .before .before .before .before .before .before .before .before .before .before .before .before .before .before .before .before .before .before .pre .1 .1 .0) (c .before .before .before .before .before .before .before .before .before .before .before .before .before .before .before .before .before .before .reference .ensures) (c .before .before .before .before .before .before .before .before .before .before .before .before .before .before .before .before .before .reference2 .ensures) _ (c .before .before .before .before .before .before .before .before .before .before .before .before .before .before .begin-logic .ensures .0) (c .before .before .before .before .before .before .before .convert-expr .ensures) (c .before .x .given .1)
+convert-logic-returns t c = (logic-left (c .before .before .before .before .before .before .before .before .before .before .before .before .before .before .before .before .before .before .before .before .before .before .before .pre .1 .0 .0) (c .before .before .before .before .before .before .before .before .before .before .before .before .before .before .before .before .before .before .before .before .before .before .before .pre .1 .0 .1) (c .before .before .before .before .before .before .before .before .before .before .before .before .before .before .before .before .before .before .before .before .before .before .before .pre .1 .1 .0 .0) (c .before .before .before .before .before .before .before .before .before .before .before .before .before .before .before .before .before .before .reference .ensures) (c .before .before .before .before .before .before .before .before .before .before .before .before .before .before .before .before .before .reference2 .ensures) _ (c .before .before .before .before .before .before .before .before .before .before .before .before .before .before .begin-logic .ensures .0) (c .before .before .before .before .before .before .before .convert-expr .ensures .0) (c .before .x .given .1), refused-types)
 
 convert-logic-same-length-3 : (t : ℕ) → convert-logic-lts.Need-same-length-3 (
   reference-reads.Asked,
@@ -1379,7 +1380,7 @@ convert-logic-same-length-3 : (t : ℕ) → convert-logic-lts.Need-same-length-3
   as-converted-reads.Asked,
   as-converted-reads.Learnt,
 ) (convert-logic-at t) convert-logic.Post
-convert-logic-same-length-3 t c = omega (arith, (c .before .before .before .before .before .before .before .before .before .before .before .before .before .before .before .before .before .before .before .before .before .before .before .before .before .before .before .before .begin-logic .ensures .0) .long, (c .before .before .before .before .before .before .before .before .before .before .before .before .before .before .before .before .before .before .before .before .before .convert-expr .ensures) .meets .long, (c .before .before .before .before .before .before .before .before .before .before .before .before .join-logic .ensures) .long, (c .before .before .before .before .before .before .before .convert-expr2 .ensures) .meets .long)
+convert-logic-same-length-3 t c = omega (arith, (c .before .before .before .before .before .before .before .before .before .before .before .before .before .before .before .before .before .before .before .before .before .before .before .before .before .before .before .before .begin-logic .ensures .0) .long, (c .before .before .before .before .before .before .before .before .before .before .before .before .before .before .before .before .before .before .before .before .before .convert-expr .ensures .0) .meets .long, (c .before .before .before .before .before .before .before .before .before .before .before .before .join-logic .ensures) .long, (c .before .before .before .before .before .before .before .convert-expr2 .ensures .0) .meets .long)
 
 convert-logic-same-length-4 : (t : ℕ) → convert-logic-lts.Need-same-length-4 (
   reference-reads.Asked,
@@ -1411,7 +1412,7 @@ convert-logic-returns-2 : (t : ℕ) → convert-logic-lts.Need-returns-2 (
   as-converted-reads.Asked,
   as-converted-reads.Learnt,
 ) (convert-logic-at t) convert-logic.Post
-convert-logic-returns-2 t c = logic-right (c .before .before .before .before .before .before .before .before .before .before .before .before .before .before .before .before .before .before .before .before .before .before .before .before .before .before .before .before .before .before .before .before .before .before .before .before .before .pre .1 .0 .0) (c .before .before .before .before .before .before .before .before .before .before .before .before .before .before .before .before .before .before .before .before .before .before .before .before .before .before .before .before .before .before .before .before .before .before .before .before .before .pre .1 .0 .1) (c .before .before .before .before .before .before .before .before .before .before .before .before .before .before .before .before .before .before .before .before .before .before .before .before .before .before .before .before .before .before .before .before .before .before .before .before .before .pre .1 .1 .0) (c .before .before .before .before .before .before .before .before .before .before .before .before .before .before .before .before .before .before .before .before .before .before .before .before .before .before .before .before .before .before .before .before .reference .ensures) (c .before .before .before .before .before .before .before .before .before .before .before .before .before .before .before .before .before .before .before .before .before .before .before .before .before .before .before .before .before .before .before .reference2 .ensures) _ (c .before .before .before .before .before .before .before .before .before .before .before .before .before .before .before .before .before .before .before .before .before .before .before .before .before .before .before .before .begin-logic .ensures .0) (c .before .before .before .before .before .before .before .before .before .before .before .before .before .before .before .before .before .before .before .before .before .convert-expr .ensures) (c .before .before .before .before .before .before .before .before .before .before .before .before .before .before .before .a .given .1) (c .before .before .before .before .before .before .before .before .before .before .before .before .join-logic .ensures) (c .before .before .before .before .before .before .before .convert-expr2 .ensures) (c .before .x2 .given .1)
+convert-logic-returns-2 t c = (logic-right (c .before .before .before .before .before .before .before .before .before .before .before .before .before .before .before .before .before .before .before .before .before .before .before .before .before .before .before .before .before .before .before .before .before .before .before .before .before .pre .1 .0 .0) (c .before .before .before .before .before .before .before .before .before .before .before .before .before .before .before .before .before .before .before .before .before .before .before .before .before .before .before .before .before .before .before .before .before .before .before .before .before .pre .1 .0 .1) (c .before .before .before .before .before .before .before .before .before .before .before .before .before .before .before .before .before .before .before .before .before .before .before .before .before .before .before .before .before .before .before .before .before .before .before .before .before .pre .1 .1 .0 .0) (c .before .before .before .before .before .before .before .before .before .before .before .before .before .before .before .before .before .before .before .before .before .before .before .before .before .before .before .before .before .before .before .before .reference .ensures) (c .before .before .before .before .before .before .before .before .before .before .before .before .before .before .before .before .before .before .before .before .before .before .before .before .before .before .before .before .before .before .before .reference2 .ensures) _ (c .before .before .before .before .before .before .before .before .before .before .before .before .before .before .before .before .before .before .before .before .before .before .before .before .before .before .before .before .begin-logic .ensures .0) (c .before .before .before .before .before .before .before .before .before .before .before .before .before .before .before .before .before .before .before .before .before .convert-expr .ensures .0) (c .before .before .before .before .before .before .before .before .before .before .before .before .before .before .before .a .given .1) (c .before .before .before .before .before .before .before .before .before .before .before .before .join-logic .ensures) (c .before .before .before .before .before .before .before .convert-expr2 .ensures .0) (c .before .x2 .given .1), refused-types)
 
 convert-logic-same-length-5 : (t : ℕ) → convert-logic-lts.Need-same-length-5 (
   reference-reads.Asked,
@@ -1427,7 +1428,7 @@ convert-logic-same-length-5 : (t : ℕ) → convert-logic-lts.Need-same-length-5
   as-converted-reads.Asked,
   as-converted-reads.Learnt,
 ) (convert-logic-at t) convert-logic.Post
-convert-logic-same-length-5 t c = omega (arith, (c .before .before .before .before .before .before .before .before .before .before .before .before .before .before .before .before .before .before .before .before .before .before .before .before .before .before .before .before .before .before .before .before .before .begin-logic .ensures .0) .long, (c .before .before .before .before .before .before .before .before .before .before .before .before .before .before .before .before .before .before .before .before .before .before .before .before .before .before .convert-expr .ensures) .meets .long, (c .before .before .before .before .before .before .before .before .before .before .before .before .before .before .before .before .before .join-logic .ensures) .long, (c .before .before .before .before .before .before .before .before .before .before .before .before .convert-expr2 .ensures) .meets .long, c .before .before .before .end-logic .ensures _ (variable-type (c .before .before .before .before .before .before .before .before .before .before .before .before .before .before .before .before .before .before .before .before .before .before .before .before .before .before .before .before .before .before .before .before .before .begin-logic .ensures .1) (c .before .before .before .before .before .before .before .before .before .before .before .before .before .before .before .before .before .before .before .before .before .before .before .before .before .before .before .before .before .before .before .before .before .before .before .before .before .before .before .before .before .before .pre .1 .1 .1)) .adds .long)
+convert-logic-same-length-5 t c = omega (arith, (c .before .before .before .before .before .before .before .before .before .before .before .before .before .before .before .before .before .before .before .before .before .before .before .before .before .before .before .before .before .before .before .before .before .begin-logic .ensures .0) .long, (c .before .before .before .before .before .before .before .before .before .before .before .before .before .before .before .before .before .before .before .before .before .before .before .before .before .before .convert-expr .ensures .0) .meets .long, (c .before .before .before .before .before .before .before .before .before .before .before .before .before .before .before .before .before .join-logic .ensures) .long, (c .before .before .before .before .before .before .before .before .before .before .before .before .convert-expr2 .ensures .0) .meets .long, c .before .before .before .end-logic .ensures _ (variable-type (c .before .before .before .before .before .before .before .before .before .before .before .before .before .before .before .before .before .before .before .before .before .before .before .before .before .before .before .before .before .before .before .before .before .begin-logic .ensures .1) (c .before .before .before .before .before .before .before .before .before .before .before .before .before .before .before .before .before .before .before .before .before .before .before .before .before .before .before .before .before .before .before .before .before .before .before .before .before .before .before .before .before .before .pre .1 .1 .0 .1)) .adds .long)
 
 convert-logic-same-length-6 : (t : ℕ) → convert-logic-lts.Need-same-length-6 (
   reference-reads.Asked,
@@ -1443,7 +1444,7 @@ convert-logic-same-length-6 : (t : ℕ) → convert-logic-lts.Need-same-length-6
   as-converted-reads.Asked,
   as-converted-reads.Learnt,
 ) (convert-logic-at t) convert-logic.Post
-convert-logic-same-length-6 t c = omega (arith, (c .before .before .before .before .before .before .before .before .before .before .before .before .before .before .before .before .before .before .before .before .before .before .before .before .before .before .convert-expr .ensures) .stays .long, (c .before .before .before .before .before .before .before .before .before .before .before .before .convert-expr2 .ensures) .stays .long)
+convert-logic-same-length-6 t c = omega (arith, (c .before .before .before .before .before .before .before .before .before .before .before .before .before .before .before .before .before .before .before .before .before .before .before .before .before .before .convert-expr .ensures .0) .stays .long, (c .before .before .before .before .before .before .before .before .before .before .before .before .convert-expr2 .ensures .0) .stays .long)
 
 convert-logic-returns-3 : (t : ℕ) → convert-logic-lts.Need-returns-3 (
   reference-reads.Asked,
@@ -1459,7 +1460,7 @@ convert-logic-returns-3 : (t : ℕ) → convert-logic-lts.Need-returns-3 (
   as-converted-reads.Asked,
   as-converted-reads.Learnt,
 ) (convert-logic-at t) convert-logic.Post
-convert-logic-returns-3 t c = logic-next (c .before .before .before .before .before .before .before .before .before .before .before .before .before .before .before .before .before .before .before .before .before .before .before .before .before .before .before .before .before .before .before .before .before .before .before .before .before .before .before .before .before .before .pre .1 .0 .0) (c .before .before .before .before .before .before .before .before .before .before .before .before .before .before .before .before .before .before .before .before .before .before .before .before .before .before .before .before .before .before .before .before .before .before .before .before .before .before .before .before .before .before .pre .1 .0 .1) (c .before .before .before .before .before .before .before .before .before .before .before .before .before .before .before .before .before .before .before .before .before .before .before .before .before .before .before .before .before .before .before .before .before .before .before .before .before .before .before .before .before .before .pre .1 .1 .0) (c .before .before .before .before .before .before .before .before .before .before .before .before .before .before .before .before .before .before .before .before .before .before .before .before .before .before .before .before .before .before .before .before .before .before .before .before .before .reference .ensures) (c .before .before .before .before .before .before .before .before .before .before .before .before .before .before .before .before .before .before .before .before .before .before .before .before .before .before .before .before .before .before .before .before .before .before .before .before .reference2 .ensures) _ (c .before .before .before .before .before .before .before .before .before .before .before .before .before .before .before .before .before .before .before .before .before .before .before .before .before .before .before .before .before .before .before .before .before .begin-logic .ensures .0) (c .before .before .before .before .before .before .before .before .before .before .before .before .before .before .before .before .before .before .before .before .before .before .before .before .before .before .convert-expr .ensures) (c .before .before .before .before .before .before .before .before .before .before .before .before .before .before .before .before .before .before .before .before .a .given .1) (c .before .before .before .before .before .before .before .before .before .before .before .before .before .before .before .before .before .join-logic .ensures) (c .before .before .before .before .before .before .before .before .before .before .before .before .convert-expr2 .ensures) (c .before .before .before .before .before .before .b .given .1) (c .before .before .before .end-logic .ensures _ (variable-type (c .before .before .before .before .before .before .before .before .before .before .before .before .before .before .before .before .before .before .before .before .before .before .before .before .before .before .before .before .before .before .before .before .before .begin-logic .ensures .1) (c .before .before .before .before .before .before .before .before .before .before .before .before .before .before .before .before .before .before .before .before .before .before .before .before .before .before .before .before .before .before .before .before .before .before .before .before .before .before .before .before .before .before .pre .1 .1 .1))) (c .as-converted .ensures)
+convert-logic-returns-3 t c = (logic-next (c .before .before .before .before .before .before .before .before .before .before .before .before .before .before .before .before .before .before .before .before .before .before .before .before .before .before .before .before .before .before .before .before .before .before .before .before .before .before .before .before .before .before .pre .1 .0 .0) (c .before .before .before .before .before .before .before .before .before .before .before .before .before .before .before .before .before .before .before .before .before .before .before .before .before .before .before .before .before .before .before .before .before .before .before .before .before .before .before .before .before .before .pre .1 .0 .1) (c .before .before .before .before .before .before .before .before .before .before .before .before .before .before .before .before .before .before .before .before .before .before .before .before .before .before .before .before .before .before .before .before .before .before .before .before .before .before .before .before .before .before .pre .1 .1 .0 .0) (c .before .before .before .before .before .before .before .before .before .before .before .before .before .before .before .before .before .before .before .before .before .before .before .before .before .before .before .before .before .before .before .before .before .before .before .before .before .reference .ensures) (c .before .before .before .before .before .before .before .before .before .before .before .before .before .before .before .before .before .before .before .before .before .before .before .before .before .before .before .before .before .before .before .before .before .before .before .before .reference2 .ensures) _ (c .before .before .before .before .before .before .before .before .before .before .before .before .before .before .before .before .before .before .before .before .before .before .before .before .before .before .before .before .before .before .before .before .before .begin-logic .ensures .0) (c .before .before .before .before .before .before .before .before .before .before .before .before .before .before .before .before .before .before .before .before .before .before .before .before .before .before .convert-expr .ensures .0) (c .before .before .before .before .before .before .before .before .before .before .before .before .before .before .before .before .before .before .before .before .a .given .1) (c .before .before .before .before .before .before .before .before .before .before .before .before .before .before .before .before .before .join-logic .ensures) (c .before .before .before .before .before .before .before .before .before .before .before .before .convert-expr2 .ensures .0) (c .before .before .before .before .before .before .b .given .1) (c .before .before .before .end-logic .ensures _ (variable-type (c .before .before .before .before .before .before .before .before .before .before .before .before .before .before .before .before .before .before .before .before .before .before .before .before .before .before .before .before .before .before .before .before .before .begin-logic .ensures .1) (c .before .before .before .before .before .before .before .before .before .before .before .before .before .before .before .before .before .before .before .before .before .before .before .before .before .before .before .before .before .before .before .before .before .before .before .before .before .before .before .before .before .before .pre .1 .1 .0 .1))) (c .as-converted .ensures), sides-types (c .before .before .before .before .before .before .before .before .before .before .before .before .before .before .before .before .before .before .before .before .before .before .before .before .before .before .before .before .before .before .before .before .before .before .before .before .before .before .before .before .before .before .pre .1 .0 .0) _ (c .before .before .before .before .before .before .before .before .before .before .before .before .before .before .before .before .before .before .before .before .before .before .before .before .before .before .before .before .before .before .before .before .before .before .before .before .before .reference .ensures) (c .before .before .before .before .before .before .before .before .before .before .before .before .before .before .before .before .before .before .before .before .before .before .before .before .before .before .convert-expr .ensures .1) (c .before .before .before .before .before .before .before .before .before .before .before .before .before .before .before .before .before .before .before .before .a .given .1) ((c .before .before .before .before .before .before .before .before .before .before .before .before .before .before .before .before .before .before .before .before .before .before .before .before .before .before .convert-expr .ensures .0) .stays) (c .before .before .before .before .before .before .before .before .before .before .before .before .before .before .before .before .before .before .before .before .before .before .before .before .before .before .before .before .before .before .before .before .before .before .before .before .reference2 .ensures) (c .before .before .before .before .before .before .before .before .before .before .before .before .convert-expr2 .ensures .1) (c .before .before .before .before .before .before .b .given .1))
 
 convert-other-detail-requires : (t : ℕ) → convert-other-lts.Need-detail-requires (
   detail-reads.Asked,
@@ -1473,7 +1474,7 @@ convert-other-detail-requires : (t : ℕ) → convert-other-lts.Need-detail-requ
   as-converted-reads.Asked,
   as-converted-reads.Learnt,
 ) (convert-other-at t) convert-other.Post
-convert-other-detail-requires t c κs = omega (arith, (c .before .before .before .before .pre .1 .1 .0) .below, (c .before .before .before .before .pre .1 .0 .0 .ready .keyed .good) .whole)
+convert-other-detail-requires t c κs = omega (arith, (c .before .before .before .before .pre .1 .1 .0 .0) .below, (c .before .before .before .before .pre .1 .0 .0 .ready .keyed .good) .whole)
 
 convert-other-reference-requires : (t : ℕ) → convert-other-lts.Need-reference-requires (
   detail-reads.Asked,
@@ -1487,7 +1488,7 @@ convert-other-reference-requires : (t : ℕ) → convert-other-lts.Need-referenc
   as-converted-reads.Asked,
   as-converted-reads.Learnt,
 ) (convert-other-at t) convert-other.Post
-convert-other-reference-requires t c κs = (omega (arith, (c .before .before .before .before .before .pre .1 .1 .0) .below, (c .before .before .before .before .before .pre .1 .0 .0 .ready .keyed .good) .whole), omega arith)
+convert-other-reference-requires t c κs = (omega (arith, (c .before .before .before .before .before .pre .1 .1 .0 .0) .below, (c .before .before .before .before .before .pre .1 .0 .0 .ready .keyed .good) .whole), omega arith)
 
 convert-other-reference-requires-2 : (t : ℕ) → convert-other-lts.Need-reference-requires-2 (
   detail-reads.Asked,
@@ -1501,7 +1502,7 @@ convert-other-reference-requires-2 : (t : ℕ) → convert-other-lts.Need-refere
   as-converted-reads.Asked,
   as-converted-reads.Learnt,
 ) (convert-other-at t) convert-other.Post
-convert-other-reference-requires-2 t c κs = (omega (arith, (c .before .before .before .before .before .before .pre .1 .1 .0) .below, (c .before .before .before .before .before .before .pre .1 .0 .0 .ready .keyed .good) .whole), omega arith)
+convert-other-reference-requires-2 t c κs = (omega (arith, (c .before .before .before .before .before .before .pre .1 .1 .0 .0) .below, (c .before .before .before .before .before .before .pre .1 .0 .0 .ready .keyed .good) .whole), omega arith)
 
 convert-other-convert-expr-requires : (t : ℕ) → convert-other-lts.Need-convert-expr-requires (
   detail-reads.Asked,
@@ -1515,7 +1516,7 @@ convert-other-convert-expr-requires : (t : ℕ) → convert-other-lts.Need-conve
   as-converted-reads.Asked,
   as-converted-reads.Learnt,
 ) (convert-other-at t) convert-other.Post
-convert-other-convert-expr-requires t c κs = let h = left-side (c .before .before .before .before .before .before .before .before .before .pre .1 .0 .0 .ready .keyed .good) (c .before .before .before .before .before .before .before .before .before .pre .1 .1 .0) (c .before .before .before .reference .ensures) in (omega (arith, h .0, (c .before .before .before .before .before .before .before .before .before .pre .0)), (((c .before .before .before .before .before .before .before .before .before .pre .1 .0 .0), left-afforded (c .before .before .before .before .before .before .before .before .before .pre .1 .0 .0) (c .before .before .before .before .before .before .before .before .before .pre .1 .0 .1) (c .before .before .before .before .before .before .before .before .before .pre .1 .1 .0) (c .before .before .before .reference .ensures) (c .before .before .reference2 .ensures)), h .1))
+convert-other-convert-expr-requires t c κs = let h = left-side (c .before .before .before .before .before .before .before .before .before .pre .1 .0 .0 .ready .keyed .good) (c .before .before .before .before .before .before .before .before .before .pre .1 .1 .0 .0) (c .before .before .before .reference .ensures) in (omega (arith, h .0, (c .before .before .before .before .before .before .before .before .before .pre .0)), (((c .before .before .before .before .before .before .before .before .before .pre .1 .0 .0), left-afforded (c .before .before .before .before .before .before .before .before .before .pre .1 .0 .0) (c .before .before .before .before .before .before .before .before .before .pre .1 .0 .1) (c .before .before .before .before .before .before .before .before .before .pre .1 .1 .0 .0) (c .before .before .before .reference .ensures) (c .before .before .reference2 .ensures)), (h .1, (c .before .before .before .before .before .before .before .before .before .pre .1 .1 .1))))
 
 convert-other-enum-known-x : (t : ℕ) → convert-other-lts.Need-enum-known-x (
   detail-reads.Asked,
@@ -1557,7 +1558,7 @@ convert-other-convert-expr-requires-2 : (t : ℕ) → convert-other-lts.Need-con
   as-converted-reads.Asked,
   as-converted-reads.Learnt,
 ) (convert-other-at t) convert-other.Post
-convert-other-convert-expr-requires-2 t c κs = let h = right-side (c .before .before .before .before .before .before .before .before .before .before .before .before .before .before .before .before .before .before .before .pre .1 .0 .0 .ready .keyed .good) (c .before .before .before .before .before .before .before .before .before .before .before .before .before .before .before .before .before .before .before .pre .1 .1 .0) (c .before .before .before .before .before .before .before .before .before .before .before .before .reference2 .ensures) in (omega (arith, h .0, (c .before .before .before .before .before .before .before .before .before .before .before .before .before .before .before .before .before .before .before .pre .0)), ((converting-after (c .before .before .before .before .before .before .before .before .before .convert-expr .ensures) (c .before .before .before .a .given .1) (c .before .before .before .before .before .before .before .before .before .before .before .before .before .before .before .before .before .before .before .pre .1 .0 .0), other-afforded (c .before .before .before .before .before .before .before .before .before .before .before .before .before .before .before .before .before .before .before .pre .1 .0 .0) (c .before .before .before .before .before .before .before .before .before .before .before .before .before .before .before .before .before .before .before .pre .1 .0 .1) (c .before .before .before .before .before .before .before .before .before .before .before .before .before .before .before .before .before .before .before .pre .1 .1 .0) (c .before .before .before .before .before .before .before .before .before .before .before .before .before .reference .ensures) (c .before .before .before .before .before .before .before .before .before .before .before .before .reference2 .ensures) (c .before .before .before .before .before .before .before .before .before .convert-expr .ensures) (c .before .before .before .a .given .1)), h .1))
+convert-other-convert-expr-requires-2 t c κs = let h = right-side (c .before .before .before .before .before .before .before .before .before .before .before .before .before .before .before .before .before .before .before .pre .1 .0 .0 .ready .keyed .good) (c .before .before .before .before .before .before .before .before .before .before .before .before .before .before .before .before .before .before .before .pre .1 .1 .0 .0) (c .before .before .before .before .before .before .before .before .before .before .before .before .reference2 .ensures) in (omega (arith, h .0, (c .before .before .before .before .before .before .before .before .before .before .before .before .before .before .before .before .before .before .before .pre .0)), ((converting-after (c .before .before .before .before .before .before .before .before .before .convert-expr .ensures .0) (c .before .before .before .a .given .1) (c .before .before .before .before .before .before .before .before .before .before .before .before .before .before .before .before .before .before .before .pre .1 .0 .0), other-afforded (c .before .before .before .before .before .before .before .before .before .before .before .before .before .before .before .before .before .before .before .pre .1 .0 .0) (c .before .before .before .before .before .before .before .before .before .before .before .before .before .before .before .before .before .before .before .pre .1 .0 .1) (c .before .before .before .before .before .before .before .before .before .before .before .before .before .before .before .before .before .before .before .pre .1 .1 .0 .0) (c .before .before .before .before .before .before .before .before .before .before .before .before .before .reference .ensures) (c .before .before .before .before .before .before .before .before .before .before .before .before .reference2 .ensures) (c .before .before .before .before .before .before .before .before .before .convert-expr .ensures .0) (c .before .before .before .a .given .1)), (h .1, left-in-turn (c .before .before .before .before .before .before .before .before .before .before .before .before .before .before .before .before .before .before .before .pre .1 .0 .0) _ (c .before .before .before .before .before .before .before .before .before .before .before .before .before .reference .ensures) (c .before .before .before .before .before .before .before .before .before .convert-expr .ensures .1) (c .before .before .before .a .given .1) ((c .before .before .before .before .before .before .before .before .before .convert-expr .ensures .0) .stays))))
 
 convert-other-enum-known-x-2 : (t : ℕ) → convert-other-lts.Need-enum-known-x-2 (
   detail-reads.Asked,
@@ -1599,7 +1600,7 @@ convert-other-finish-binary-requires : (t : ℕ) → convert-other-lts.Need-fini
   as-converted-reads.Asked,
   as-converted-reads.Learnt,
 ) (convert-other-at t) convert-other.Post
-convert-other-finish-binary-requires t c κs = ((other-room (c .before .before .before .before .before .before .before .before .before .before .before .before .before .before .before .before .before .before .before .before .before .before .before .before .before .before .before .before .pre .1 .0 .0) (c .before .before .before .before .before .before .before .before .before .before .before .before .before .before .before .before .before .before .before .before .before .before .before .before .before .before .before .before .pre .1 .0 .1) (c .before .before .before .before .before .before .before .before .before .before .before .before .before .before .before .before .before .before .before .before .before .before .before .before .before .before .before .before .pre .1 .1 .0) (c .before .before .before .before .before .before .before .before .before .before .before .before .before .before .before .before .before .before .before .before .before .before .reference .ensures) (c .before .before .before .before .before .before .before .before .before .before .before .before .before .before .before .before .before .before .before .before .before .reference2 .ensures) (c .before .before .before .before .before .before .before .before .before .before .before .before .before .before .before .before .before .before .convert-expr .ensures) (c .before .before .before .before .before .before .before .before .before .before .before .before .a .given .1) (c .before .before .before .before .before .before .before .before .convert-expr2 .ensures) (c .before .before .b .given .1), omega (arith, (c .before .before .before .before .before .before .before .before .before .before .before .before .before .before .before .before .before .before .before .before .before .before .before .before .before .before .before .before .pre .1 .1 .1) .below, (c .before .before .before .before .before .before .before .before .before .before .before .before .before .before .before .before .before .before .before .before .before .before .before .before .before .before .before .before .pre .1 .0 .0 .ready .keyed .good) .few), omega (arith, (c .before .before .before .before .before .before .before .before .before .before .before .before .before .before .before .before .before .before .before .before .before .before .before .before .before .before .before .before .pre .1 .1 .2) .below, (c .before .before .before .before .before .before .before .before .before .before .before .before .before .before .before .before .before .before .before .before .before .before .before .before .before .before .before .before .pre .1 .0 .0 .ready .keyed .good) .few)), (((c .before .before .before .before .before .before .before .before .before .before .before .before .before .before .before .before .before .before .before .before .before .before .before .before .before .before .before .before .pre .1 .1 .1), (c .before .before .before .before .before .before .before .before .before .before .before .before .before .before .before .before .before .before .before .before .before .before .before .before .before .before .before .before .pre .1 .1 .2)), ((c .before .before .before .before .before .before .before .before .before .before .before .before .before .before .before .before .before .before .convert-expr .ensures) .operand _ _ (c .before .before .before .before .before .before .before .before .before .before .before .before .a .given .1), (c .before .before .before .before .before .before .before .before .convert-expr2 .ensures) .operand _ _ (c .before .before .b .given .1))))
+convert-other-finish-binary-requires t c κs = ((other-room (c .before .before .before .before .before .before .before .before .before .before .before .before .before .before .before .before .before .before .before .before .before .before .before .before .before .before .before .before .pre .1 .0 .0) (c .before .before .before .before .before .before .before .before .before .before .before .before .before .before .before .before .before .before .before .before .before .before .before .before .before .before .before .before .pre .1 .0 .1) (c .before .before .before .before .before .before .before .before .before .before .before .before .before .before .before .before .before .before .before .before .before .before .before .before .before .before .before .before .pre .1 .1 .0 .0) (c .before .before .before .before .before .before .before .before .before .before .before .before .before .before .before .before .before .before .before .before .before .before .reference .ensures) (c .before .before .before .before .before .before .before .before .before .before .before .before .before .before .before .before .before .before .before .before .before .reference2 .ensures) (c .before .before .before .before .before .before .before .before .before .before .before .before .before .before .before .before .before .before .convert-expr .ensures .0) (c .before .before .before .before .before .before .before .before .before .before .before .before .a .given .1) (c .before .before .before .before .before .before .before .before .convert-expr2 .ensures .0) (c .before .before .b .given .1), omega (arith, (c .before .before .before .before .before .before .before .before .before .before .before .before .before .before .before .before .before .before .before .before .before .before .before .before .before .before .before .before .pre .1 .1 .0 .1) .below, (c .before .before .before .before .before .before .before .before .before .before .before .before .before .before .before .before .before .before .before .before .before .before .before .before .before .before .before .before .pre .1 .0 .0 .ready .keyed .good) .few), omega (arith, (c .before .before .before .before .before .before .before .before .before .before .before .before .before .before .before .before .before .before .before .before .before .before .before .before .before .before .before .before .pre .1 .1 .0 .2) .below, (c .before .before .before .before .before .before .before .before .before .before .before .before .before .before .before .before .before .before .before .before .before .before .before .before .before .before .before .before .pre .1 .0 .0 .ready .keyed .good) .few)), (((c .before .before .before .before .before .before .before .before .before .before .before .before .before .before .before .before .before .before .before .before .before .before .before .before .before .before .before .before .pre .1 .1 .0 .1), (c .before .before .before .before .before .before .before .before .before .before .before .before .before .before .before .before .before .before .before .before .before .before .before .before .before .before .before .before .pre .1 .1 .0 .2)), ((c .before .before .before .before .before .before .before .before .before .before .before .before .before .before .before .before .before .before .convert-expr .ensures .0) .operand _ _ (c .before .before .before .before .before .before .before .before .before .before .before .before .a .given .1), (c .before .before .before .before .before .before .before .before .convert-expr2 .ensures .0) .operand _ _ (c .before .before .b .given .1))))
 
 convert-other-as-converted-requires : (t : ℕ) → convert-other-lts.Need-as-converted-requires (
   detail-reads.Asked,
@@ -1655,7 +1656,7 @@ convert-other-returns : (t : ℕ) → convert-other-lts.Need-returns (
   as-converted-reads.Asked,
   as-converted-reads.Learnt,
 ) (convert-other-at t) convert-other.Post
-convert-other-returns t c = other-left (c .before .before .before .before .before .before .before .before .before .before .before .before .before .before .before .before .before .pre .1 .0 .0) (c .before .before .before .before .before .before .before .before .before .before .before .before .before .before .before .before .before .pre .1 .0 .1) (c .before .before .before .before .before .before .before .before .before .before .before .before .before .before .before .before .before .pre .1 .1 .0) (c .before .before .before .before .before .before .before .before .before .before .before .reference .ensures) (c .before .before .before .before .before .before .before .before .before .before .reference2 .ensures) (c .before .before .before .before .before .before .before .convert-expr .ensures) _ _ (c .before .x .given .1)
+convert-other-returns t c = (other-left (c .before .before .before .before .before .before .before .before .before .before .before .before .before .before .before .before .before .pre .1 .0 .0) (c .before .before .before .before .before .before .before .before .before .before .before .before .before .before .before .before .before .pre .1 .0 .1) (c .before .before .before .before .before .before .before .before .before .before .before .before .before .before .before .before .before .pre .1 .1 .0 .0) (c .before .before .before .before .before .before .before .before .before .before .before .reference .ensures) (c .before .before .before .before .before .before .before .before .before .before .reference2 .ensures) (c .before .before .before .before .before .before .before .convert-expr .ensures .0) _ _ (c .before .x .given .1), refused-types)
 
 convert-other-same-length-3 : (t : ℕ) → convert-other-lts.Need-same-length-3 (
   detail-reads.Asked,
@@ -1697,7 +1698,7 @@ convert-other-returns-2 : (t : ℕ) → convert-other-lts.Need-returns-2 (
   as-converted-reads.Asked,
   as-converted-reads.Learnt,
 ) (convert-other-at t) convert-other.Post
-convert-other-returns-2 t c = other-right (c .before .before .before .before .before .before .before .before .before .before .before .before .before .before .before .before .before .before .before .before .before .before .before .before .before .before .before .pre .1 .0 .0) (c .before .before .before .before .before .before .before .before .before .before .before .before .before .before .before .before .before .before .before .before .before .before .before .before .before .before .before .pre .1 .0 .1) (c .before .before .before .before .before .before .before .before .before .before .before .before .before .before .before .before .before .before .before .before .before .before .before .before .before .before .before .pre .1 .1 .0) (c .before .before .before .before .before .before .before .before .before .before .before .before .before .before .before .before .before .before .before .before .before .reference .ensures) (c .before .before .before .before .before .before .before .before .before .before .before .before .before .before .before .before .before .before .before .before .reference2 .ensures) (c .before .before .before .before .before .before .before .before .before .before .before .before .before .before .before .before .before .convert-expr .ensures) (c .before .before .before .before .before .before .before .before .before .before .before .a .given .1) (c .before .before .before .before .before .before .before .convert-expr2 .ensures) _ _ (c .before .x2 .given .1)
+convert-other-returns-2 t c = (other-right (c .before .before .before .before .before .before .before .before .before .before .before .before .before .before .before .before .before .before .before .before .before .before .before .before .before .before .before .pre .1 .0 .0) (c .before .before .before .before .before .before .before .before .before .before .before .before .before .before .before .before .before .before .before .before .before .before .before .before .before .before .before .pre .1 .0 .1) (c .before .before .before .before .before .before .before .before .before .before .before .before .before .before .before .before .before .before .before .before .before .before .before .before .before .before .before .pre .1 .1 .0 .0) (c .before .before .before .before .before .before .before .before .before .before .before .before .before .before .before .before .before .before .before .before .before .reference .ensures) (c .before .before .before .before .before .before .before .before .before .before .before .before .before .before .before .before .before .before .before .before .reference2 .ensures) (c .before .before .before .before .before .before .before .before .before .before .before .before .before .before .before .before .before .convert-expr .ensures .0) (c .before .before .before .before .before .before .before .before .before .before .before .a .given .1) (c .before .before .before .before .before .before .before .convert-expr2 .ensures .0) _ _ (c .before .x2 .given .1), refused-types)
 
 convert-other-same-length-5 : (t : ℕ) → convert-other-lts.Need-same-length-5 (
   detail-reads.Asked,
@@ -1711,7 +1712,7 @@ convert-other-same-length-5 : (t : ℕ) → convert-other-lts.Need-same-length-5
   as-converted-reads.Asked,
   as-converted-reads.Learnt,
 ) (convert-other-at t) convert-other.Post
-convert-other-same-length-5 t c = omega (arith, (c .before .before .before .before .before .before .before .before .before .before .before .before .before .before .before .before .before .before .before .before .before .before .convert-expr .ensures) .meets .long, (c .before .before .before .before .before .before .before .before .before .before .before .before .convert-expr2 .ensures) .meets .long, c .before .before .before .finish-binary .ensures [] .adds .long)
+convert-other-same-length-5 t c = omega (arith, (c .before .before .before .before .before .before .before .before .before .before .before .before .before .before .before .before .before .before .before .before .before .before .convert-expr .ensures .0) .meets .long, (c .before .before .before .before .before .before .before .before .before .before .before .before .convert-expr2 .ensures .0) .meets .long, c .before .before .before .finish-binary .ensures [] .adds .long)
 
 convert-other-same-length-6 : (t : ℕ) → convert-other-lts.Need-same-length-6 (
   detail-reads.Asked,
@@ -1725,7 +1726,7 @@ convert-other-same-length-6 : (t : ℕ) → convert-other-lts.Need-same-length-6
   as-converted-reads.Asked,
   as-converted-reads.Learnt,
 ) (convert-other-at t) convert-other.Post
-convert-other-same-length-6 t c = omega (arith, (c .before .before .before .before .before .before .before .before .before .before .before .before .before .before .before .before .before .before .before .before .before .before .convert-expr .ensures) .stays .long, (c .before .before .before .before .before .before .before .before .before .before .before .before .convert-expr2 .ensures) .stays .long)
+convert-other-same-length-6 t c = omega (arith, (c .before .before .before .before .before .before .before .before .before .before .before .before .before .before .before .before .before .before .before .before .before .before .convert-expr .ensures .0) .stays .long, (c .before .before .before .before .before .before .before .before .before .before .before .before .convert-expr2 .ensures .0) .stays .long)
 
 convert-other-returns-3 : (t : ℕ) → convert-other-lts.Need-returns-3 (
   detail-reads.Asked,
@@ -1739,7 +1740,7 @@ convert-other-returns-3 : (t : ℕ) → convert-other-lts.Need-returns-3 (
   as-converted-reads.Asked,
   as-converted-reads.Learnt,
 ) (convert-other-at t) convert-other.Post
-convert-other-returns-3 t c = other-next (c .before .before .before .before .before .before .before .before .before .before .before .before .before .before .before .before .before .before .before .before .before .before .before .before .before .before .before .before .before .before .before .before .pre .1 .0 .0) (c .before .before .before .before .before .before .before .before .before .before .before .before .before .before .before .before .before .before .before .before .before .before .before .before .before .before .before .before .before .before .before .before .pre .1 .0 .1) (c .before .before .before .before .before .before .before .before .before .before .before .before .before .before .before .before .before .before .before .before .before .before .before .before .before .before .before .before .before .before .before .before .pre .1 .1 .0) (c .before .before .before .before .before .before .before .before .before .before .before .before .before .before .before .before .before .before .before .before .before .before .before .before .before .before .reference .ensures) (c .before .before .before .before .before .before .before .before .before .before .before .before .before .before .before .before .before .before .before .before .before .before .before .before .before .reference2 .ensures) (c .before .before .before .before .before .before .before .before .before .before .before .before .before .before .before .before .before .before .before .before .before .before .convert-expr .ensures) (c .before .before .before .before .before .before .before .before .before .before .before .before .before .before .before .before .a .given .1) (c .before .before .before .before .before .before .before .before .before .before .before .before .convert-expr2 .ensures) _ _ (c .before .before .before .before .before .before .before .before .before .before .before .before .before .before .before .before .before .before .before .before .before .before .before .before .before .before .before .detail .ensures) (c .before .before .before .before .before .before .b .given .1) (c .before .before .before .finish-binary .ensures _) (c .as-converted .ensures)
+convert-other-returns-3 t c = (other-next (c .before .before .before .before .before .before .before .before .before .before .before .before .before .before .before .before .before .before .before .before .before .before .before .before .before .before .before .before .before .before .before .before .pre .1 .0 .0) (c .before .before .before .before .before .before .before .before .before .before .before .before .before .before .before .before .before .before .before .before .before .before .before .before .before .before .before .before .before .before .before .before .pre .1 .0 .1) (c .before .before .before .before .before .before .before .before .before .before .before .before .before .before .before .before .before .before .before .before .before .before .before .before .before .before .before .before .before .before .before .before .pre .1 .1 .0 .0) (c .before .before .before .before .before .before .before .before .before .before .before .before .before .before .before .before .before .before .before .before .before .before .before .before .before .before .reference .ensures) (c .before .before .before .before .before .before .before .before .before .before .before .before .before .before .before .before .before .before .before .before .before .before .before .before .before .reference2 .ensures) (c .before .before .before .before .before .before .before .before .before .before .before .before .before .before .before .before .before .before .before .before .before .before .convert-expr .ensures .0) (c .before .before .before .before .before .before .before .before .before .before .before .before .before .before .before .before .a .given .1) (c .before .before .before .before .before .before .before .before .before .before .before .before .convert-expr2 .ensures .0) _ _ (c .before .before .before .before .before .before .before .before .before .before .before .before .before .before .before .before .before .before .before .before .before .before .before .before .before .before .before .detail .ensures) (c .before .before .before .before .before .before .b .given .1) (c .before .before .before .finish-binary .ensures _) (c .as-converted .ensures), sides-types (c .before .before .before .before .before .before .before .before .before .before .before .before .before .before .before .before .before .before .before .before .before .before .before .before .before .before .before .before .before .before .before .before .pre .1 .0 .0) _ (c .before .before .before .before .before .before .before .before .before .before .before .before .before .before .before .before .before .before .before .before .before .before .before .before .before .before .reference .ensures) (c .before .before .before .before .before .before .before .before .before .before .before .before .before .before .before .before .before .before .before .before .before .before .convert-expr .ensures .1) (c .before .before .before .before .before .before .before .before .before .before .before .before .before .before .before .before .a .given .1) ((c .before .before .before .before .before .before .before .before .before .before .before .before .before .before .before .before .before .before .before .before .before .before .convert-expr .ensures .0) .stays) (c .before .before .before .before .before .before .before .before .before .before .before .before .before .before .before .before .before .before .before .before .before .before .before .before .before .reference2 .ensures) (c .before .before .before .before .before .before .before .before .before .before .before .before .convert-expr2 .ensures .1) (c .before .before .before .before .before .before .b .given .1))
 
 convert-unary-detail-requires : (t : ℕ) → convert-unary-lts.Need-detail-requires (
   detail-reads.Asked,
@@ -1753,7 +1754,7 @@ convert-unary-detail-requires : (t : ℕ) → convert-unary-lts.Need-detail-requ
   as-converted-reads.Asked,
   as-converted-reads.Learnt,
 ) (convert-unary-at t) convert-unary.Post
-convert-unary-detail-requires t c κs = omega (arith, (c .before .before .before .before .pre .1 .1 .0) .below, (c .before .before .before .before .pre .1 .0 .0 .ready .keyed .good) .whole)
+convert-unary-detail-requires t c κs = omega (arith, (c .before .before .before .before .pre .1 .1 .0 .0) .below, (c .before .before .before .before .pre .1 .0 .0 .ready .keyed .good) .whole)
 
 convert-unary-reference-requires : (t : ℕ) → convert-unary-lts.Need-reference-requires (
   detail-reads.Asked,
@@ -1767,7 +1768,7 @@ convert-unary-reference-requires : (t : ℕ) → convert-unary-lts.Need-referenc
   as-converted-reads.Asked,
   as-converted-reads.Learnt,
 ) (convert-unary-at t) convert-unary.Post
-convert-unary-reference-requires t c κs = (omega (arith, (c .before .before .before .before .before .pre .1 .1 .0) .below, (c .before .before .before .before .before .pre .1 .0 .0 .ready .keyed .good) .whole), omega arith)
+convert-unary-reference-requires t c κs = (omega (arith, (c .before .before .before .before .before .pre .1 .1 .0 .0) .below, (c .before .before .before .before .before .pre .1 .0 .0 .ready .keyed .good) .whole), omega arith)
 
 convert-unary-convert-expr-requires : (t : ℕ) → convert-unary-lts.Need-convert-expr-requires (
   detail-reads.Asked,
@@ -1781,7 +1782,7 @@ convert-unary-convert-expr-requires : (t : ℕ) → convert-unary-lts.Need-conve
   as-converted-reads.Asked,
   as-converted-reads.Learnt,
 ) (convert-unary-at t) convert-unary.Post
-convert-unary-convert-expr-requires t c κs = let h = operand-side (c .before .before .before .before .before .before .before .before .pre .1 .0 .0 .ready .keyed .good) (c .before .before .before .before .before .before .before .before .pre .1 .1 .0) (c .before .before .reference .ensures) in (omega (arith, h .0, (c .before .before .before .before .before .before .before .before .pre .0)), (((c .before .before .before .before .before .before .before .before .pre .1 .0 .0), unary-part (c .before .before .before .before .before .before .before .before .pre .1 .0 .0) (c .before .before .before .before .before .before .before .before .pre .1 .0 .1) (c .before .before .before .before .before .before .before .before .pre .1 .1 .0) (c .before .before .reference .ensures)), h .1))
+convert-unary-convert-expr-requires t c κs = let h = operand-side (c .before .before .before .before .before .before .before .before .pre .1 .0 .0 .ready .keyed .good) (c .before .before .before .before .before .before .before .before .pre .1 .1 .0 .0) (c .before .before .reference .ensures) in (omega (arith, h .0, (c .before .before .before .before .before .before .before .before .pre .0)), (((c .before .before .before .before .before .before .before .before .pre .1 .0 .0), unary-part (c .before .before .before .before .before .before .before .before .pre .1 .0 .0) (c .before .before .before .before .before .before .before .before .pre .1 .0 .1) (c .before .before .before .before .before .before .before .before .pre .1 .1 .0 .0) (c .before .before .reference .ensures)), (h .1, (c .before .before .before .before .before .before .before .before .pre .1 .1 .1))))
 
 convert-unary-enum-known-x : (t : ℕ) → convert-unary-lts.Need-enum-known-x (
   detail-reads.Asked,
@@ -1823,7 +1824,7 @@ convert-unary-finish-unary-requires : (t : ℕ) → convert-unary-lts.Need-finis
   as-converted-reads.Asked,
   as-converted-reads.Learnt,
 ) (convert-unary-at t) convert-unary.Post
-convert-unary-finish-unary-requires t c κs = (unary-room (c .before .before .before .before .before .before .before .before .before .before .before .before .before .before .before .before .before .pre .1 .0 .0) (c .before .before .before .before .before .before .before .before .before .before .before .before .before .before .before .before .before .pre .1 .0 .1) (c .before .before .before .before .before .before .before .before .before .before .before .before .before .before .before .before .before .pre .1 .1 .0) (c .before .before .before .before .before .before .before .before .before .before .before .reference .ensures) (c .before .before .before .before .before .before .before .before .convert-expr .ensures) (c .before .before .src .given .1), omega (arith, (c .before .before .before .before .before .before .before .before .before .before .before .before .before .before .before .before .before .pre .1 .1 .1) .below, (c .before .before .before .before .before .before .before .before .before .before .before .before .before .before .before .before .before .pre .1 .0 .0 .ready .keyed .good) .few))
+convert-unary-finish-unary-requires t c κs = (unary-room (c .before .before .before .before .before .before .before .before .before .before .before .before .before .before .before .before .before .pre .1 .0 .0) (c .before .before .before .before .before .before .before .before .before .before .before .before .before .before .before .before .before .pre .1 .0 .1) (c .before .before .before .before .before .before .before .before .before .before .before .before .before .before .before .before .before .pre .1 .1 .0 .0) (c .before .before .before .before .before .before .before .before .before .before .before .reference .ensures) (c .before .before .before .before .before .before .before .before .convert-expr .ensures .0) (c .before .before .src .given .1), omega (arith, (c .before .before .before .before .before .before .before .before .before .before .before .before .before .before .before .before .before .pre .1 .1 .0 .1) .below, (c .before .before .before .before .before .before .before .before .before .before .before .before .before .before .before .before .before .pre .1 .0 .0 .ready .keyed .good) .few))
 
 convert-unary-as-converted-requires : (t : ℕ) → convert-unary-lts.Need-as-converted-requires (
   detail-reads.Asked,
@@ -1879,7 +1880,7 @@ convert-unary-returns : (t : ℕ) → convert-unary-lts.Need-returns (
   as-converted-reads.Asked,
   as-converted-reads.Learnt,
 ) (convert-unary-at t) convert-unary.Post
-convert-unary-returns t c = unary-stop (c .before .before .before .before .before .before .before .before .before .before .before .before .before .before .before .before .pre .1 .0 .0) (c .before .before .before .before .before .before .before .before .before .before .before .before .before .before .before .before .pre .1 .0 .1) (c .before .before .before .before .before .before .before .before .before .before .before .before .before .before .before .before .pre .1 .1 .0) (c .before .before .before .before .before .before .before .before .before .before .reference .ensures) (c .before .before .before .before .before .before .before .convert-expr .ensures) _ (c .before .x .given .1)
+convert-unary-returns t c = (unary-stop (c .before .before .before .before .before .before .before .before .before .before .before .before .before .before .before .before .pre .1 .0 .0) (c .before .before .before .before .before .before .before .before .before .before .before .before .before .before .before .before .pre .1 .0 .1) (c .before .before .before .before .before .before .before .before .before .before .before .before .before .before .before .before .pre .1 .1 .0 .0) (c .before .before .before .before .before .before .before .before .before .before .reference .ensures) (c .before .before .before .before .before .before .before .convert-expr .ensures .0) _ (c .before .x .given .1), refused-types)
 
 convert-unary-same-length-3 : (t : ℕ) → convert-unary-lts.Need-same-length-3 (
   detail-reads.Asked,
@@ -1921,7 +1922,7 @@ convert-unary-returns-2 : (t : ℕ) → convert-unary-lts.Need-returns-2 (
   as-converted-reads.Asked,
   as-converted-reads.Learnt,
 ) (convert-unary-at t) convert-unary.Post
-convert-unary-returns-2 t c = unary-next (c .before .before .before .before .before .before .before .before .before .before .before .before .before .before .before .before .before .before .before .before .before .pre .1 .0 .0) (c .before .before .before .before .before .before .before .before .before .before .before .before .before .before .before .before .before .before .before .before .before .pre .1 .0 .1) (c .before .before .before .before .before .before .before .before .before .before .before .before .before .before .before .before .before .before .before .before .before .pre .1 .1 .0) (c .before .before .before .before .before .before .before .before .before .before .before .before .before .before .before .reference .ensures) (c .before .before .before .before .before .before .before .before .before .before .before .before .convert-expr .ensures) _ (c .before .before .before .before .before .before .before .before .before .before .before .before .before .before .before .before .detail .ensures) (c .before .before .before .before .before .before .src .given .1) (c .before .before .before .finish-unary .ensures _ (c .before .before .before .before .before .before .before .before .before .before .before .before .before .before .before .before .before .before .before .before .before .pre .1 .1 .1)) (c .as-converted .ensures)
+convert-unary-returns-2 t c = (unary-next (c .before .before .before .before .before .before .before .before .before .before .before .before .before .before .before .before .before .before .before .before .before .pre .1 .0 .0) (c .before .before .before .before .before .before .before .before .before .before .before .before .before .before .before .before .before .before .before .before .before .pre .1 .0 .1) (c .before .before .before .before .before .before .before .before .before .before .before .before .before .before .before .before .before .before .before .before .before .pre .1 .1 .0 .0) (c .before .before .before .before .before .before .before .before .before .before .before .before .before .before .before .reference .ensures) (c .before .before .before .before .before .before .before .before .before .before .before .before .convert-expr .ensures .0) _ (c .before .before .before .before .before .before .before .before .before .before .before .before .before .before .before .before .detail .ensures) (c .before .before .before .before .before .before .src .given .1) (c .before .before .before .finish-unary .ensures _ (c .before .before .before .before .before .before .before .before .before .before .before .before .before .before .before .before .before .before .before .before .before .pre .1 .1 .0 .1)) (c .as-converted .ensures), operand-types (c .before .before .before .before .before .before .before .before .before .before .before .before .before .before .before .before .before .before .before .before .before .pre .1 .0 .0) _ (c .before .before .before .before .before .before .before .before .before .before .before .before .before .before .before .reference .ensures) (c .before .before .before .before .before .before .before .before .before .before .before .before .convert-expr .ensures .1) (c .before .before .before .before .before .before .src .given .1))
 
 pub +convert-args+convert-binary+convert-call-value+convert-expr+convert-logic+convert-other+convert-unary-spec :
     {M : Type 1} → statement M

@@ -94,7 +94,7 @@ same-length-2 c = c .before .loop .inv .stays 0 (omega arith) .long
 
 -- src/fits.rt:210:1
 returns : tie.Need-returns Inv-loop μ-loop
-returns c = record { adds = fit-end _ _ _ _ _ _ _ _ _ _ _ _ _ _ _ (c .before .loop .inv) (omega arith); stays = c .before .loop .inv .stays _ (omega (arith, c .before .before .before .before .before .before .before .before .before .pre .1 .0 .names)); names = names-of (c .before .loop .inv .stays _ (omega arith)) }
+returns c = (record { adds = fit-end _ _ _ _ _ _ _ _ _ _ _ _ _ _ _ (c .before .loop .inv) (omega arith); stays = c .before .loop .inv .stays _ (omega (arith, c .before .before .before .before .before .before .before .before .before .pre .1 .0 .names)); names = names-of (c .before .loop .inv .stays _ (omega arith)) }, c .before .loop .inv .turns)
 
 pub fit-args-spec : {M : Type 1} → statement M
 fit-args-spec =

@@ -17,7 +17,7 @@ fit-args-requires c κs = (c .before .before .before .before .before .before .pr
 
 -- src/fits.rt:281:5
 emit-args-requires : tie.Need-emit-args-requires
-emit-args-requires c κs = (record { room = c .before .before .before .before .before .before .fit-args .ensures .adds .next .room; affords = omega (arith, c .before .before .before .before .before .before .before .before .before .before .before .before .before .pre .1 .0 .tables, c .before .before .before .before .before .before .fit-args .ensures .adds .spent) }, (omega (arith, c .before .before .before .before .before .before .before .before .before .before .before .before .before .pre .1 .0 .stack), omega (arith, c .before .before .before .before .before .before .fit-args .ensures .stays .long, c .before .before .before .before .before .before .before .before .before .before .before .before .before .pre .0 .0 .ready .scoped .room .scratch, c .before .before .before .before .before .before .before .before .before .before .before .before .before .pre .0 .0 .ready .scoped .records-are)))
+emit-args-requires c κs = (record { room = c .before .before .before .before .before .before .fit-args .ensures .0 .adds .next .room; affords = omega (arith, c .before .before .before .before .before .before .before .before .before .before .before .before .before .pre .1 .0 .tables, c .before .before .before .before .before .before .fit-args .ensures .0 .adds .spent) }, (omega (arith, c .before .before .before .before .before .before .before .before .before .before .before .before .before .pre .1 .0 .stack), omega (arith, c .before .before .before .before .before .before .fit-args .ensures .0 .stays .long, c .before .before .before .before .before .before .before .before .before .before .before .before .before .pre .0 .0 .ready .scoped .room .scratch, c .before .before .before .before .before .before .before .before .before .before .before .before .before .pre .0 .0 .ready .scoped .records-are)))
 
 -- src/fits.rt:263:1
 same-length : tie.Need-same-length
@@ -29,7 +29,7 @@ same-length-2 c = search needs
 
 -- src/fits.rt:263:1
 returns : tie.Need-returns
-returns c = (pass-both _ _ _ _ _ _ (c .before .before .before .before .before .before .before .before .before .fit-args .ensures .adds) (c .before .before .emit-args .ensures), (c .before .before .before .before .before .before .before .before .before .fit-args .ensures .stays, c .before .before .before .before .before .before .before .before .before .fit-args .ensures .names))
+returns c = (pass-both _ _ _ _ _ _ (c .before .before .before .before .before .before .before .before .before .fit-args .ensures .0 .adds) (c .before .before .emit-args .ensures), ((c .before .before .before .before .before .before .before .before .before .fit-args .ensures .0 .stays, c .before .before .before .before .before .before .before .before .before .fit-args .ensures .0 .names), c .before .before .before .before .before .before .before .before .before .fit-args .ensures .1))
 
 pub pass-args-spec : {M : Type 1} → statement M
 pass-args-spec =

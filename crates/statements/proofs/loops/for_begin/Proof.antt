@@ -1,9 +1,10 @@
 -- The For up to its check.
 -- The first bound, its copy and where the For counts on, in a row. Assumes nothing.
+use Rattle.statements.specs.Turns.{exprTypes}
 use mathlib.Core.List.{[]}
 use native.Mathlib.Omega.{arith}
 use borrow.Author.Needs.{needs}
-use Rattle.statements.proofs.HeadLaws.{record-small, first-bound, bound-afforded, bound-room, count-room, bound-operand, begin-refused, begin-done}
+use Rattle.statements.proofs.HeadLaws.{record-small, first-bound, bound-afforded, bound-room, count-room, bound-operand, begin-refused, begin-done, refused-finished, operand-typed}
 use Rattle.statements.proofs.loops.for_begin.Statement.{statement}
 use Rattle.statements.proofs.loops.for_begin.Tie as tie
 
@@ -11,7 +12,7 @@ reference-requires : tie.Need-reference-requires
 reference-requires c κs = search needs
 
 convert-expr-requires : tie.Need-convert-expr-requires
-convert-expr-requires c κs = ((c .before .before .before .before .before .before .before .pre .0 .0, bound-afforded _ _ (c .before .before .before .before .before .before .before .pre .0 .0) (c .before .before .before .before .before .before .before .pre .0 .1) (c .before .before .reference .ensures)), first-bound (c .before .before .before .before .before .before .before .pre .0 .0 .ready .keyed .good) (c .before .before .before .before .before .before .before .pre .1 .0) (c .before .before .reference .ensures))
+convert-expr-requires c κs = ((c .before .before .before .before .before .before .before .pre .0 .0, bound-afforded _ _ (c .before .before .before .before .before .before .before .pre .0 .0) (c .before .before .before .before .before .before .before .pre .0 .1) (c .before .before .reference .ensures)), (first-bound (c .before .before .before .before .before .before .before .pre .0 .0 .ready .keyed .good) (c .before .before .before .before .before .before .before .pre .1 .0 .0) (c .before .before .reference .ensures), (c .before .before .before .before .before .before .before .pre .1 .1)))
 
 enum-known-e : tie.Need-enum-known-e
 enum-known-e c = search needs
@@ -20,10 +21,10 @@ enum-known-a : tie.Need-enum-known-a
 enum-known-a c = search needs
 
 copy-fitted-requires : tie.Need-copy-fitted-requires
-copy-fitted-requires c κs = (bound-room _ _ (c .before .before .before .before .before .before .before .before .before .before .before .before .before .before .before .before .pre .0 .0) (c .before .before .before .before .before .before .before .before .before .before .before .before .before .before .before .before .pre .0 .1) (c .before .before .before .before .before .before .before .before .before .before .before .reference .ensures) (c .before .before .before .before .before .before .before .before .convert-expr .ensures) (c .before .before .a .given .1) (omega arith), c .before .before .before .before .before .before .before .before .before .before .before .before .before .before .before .before .pre .1 .1, bound-operand _ _ (c .before .before .before .before .before .before .before .before .before .before .before .before .before .before .before .before .pre .0 .0) (c .before .before .before .before .before .before .before .before .before .before .before .before .before .before .before .before .pre .0 .1) (c .before .before .before .before .before .before .before .before .before .before .before .reference .ensures) (c .before .before .before .before .before .before .before .before .convert-expr .ensures) (c .before .before .a .given .1))
+copy-fitted-requires c κs = (bound-room _ _ (c .before .before .before .before .before .before .before .before .before .before .before .before .before .before .before .before .pre .0 .0) (c .before .before .before .before .before .before .before .before .before .before .before .before .before .before .before .before .pre .0 .1) (c .before .before .before .before .before .before .before .before .before .before .before .reference .ensures) (c .before .before .before .before .before .before .before .before .convert-expr .ensures .0) (c .before .before .a .given .1) (omega arith), c .before .before .before .before .before .before .before .before .before .before .before .before .before .before .before .before .pre .1 .0 .1, bound-operand _ _ (c .before .before .before .before .before .before .before .before .before .before .before .before .before .before .before .before .pre .0 .0) (c .before .before .before .before .before .before .before .before .before .before .before .before .before .before .before .before .pre .0 .1) (c .before .before .before .before .before .before .before .before .before .before .before .reference .ensures) (c .before .before .before .before .before .before .before .before .convert-expr .ensures .0) (c .before .before .a .given .1))
 
 count-on-requires : tie.Need-count-on-requires
-count-on-requires c κs = (count-room _ _ (c .before .before .before .before .before .before .before .before .before .before .before .before .before .before .before .before .before .before .before .before .pre .0 .0) (c .before .before .before .before .before .before .before .before .before .before .before .before .before .before .before .before .before .before .before .before .pre .0 .1) (c .before .before .before .before .before .before .before .before .before .before .before .before .before .before .before .reference .ensures) (c .before .before .before .before .before .before .before .before .before .before .before .before .convert-expr .ensures) (c .before .before .before .before .before .before .a .given .1) (c .before .before .before .copy-fitted .ensures []), record-small (c .before .before .before .before .before .before .before .before .before .before .before .before .before .before .before .before .before .before .before .before .pre .0 .0) (c .before .before .before .before .before .before .before .before .before .before .before .before .before .before .before .before .before .before .before .before .pre .1 .0), c .before .before .before .before .before .before .before .before .before .before .before .before .before .before .before .before .before .before .before .before .pre .1 .1)
+count-on-requires c κs = (count-room _ _ (c .before .before .before .before .before .before .before .before .before .before .before .before .before .before .before .before .before .before .before .before .pre .0 .0) (c .before .before .before .before .before .before .before .before .before .before .before .before .before .before .before .before .before .before .before .before .pre .0 .1) (c .before .before .before .before .before .before .before .before .before .before .before .before .before .before .before .reference .ensures) (c .before .before .before .before .before .before .before .before .before .before .before .before .convert-expr .ensures .0) (c .before .before .before .before .before .before .a .given .1) (c .before .before .before .copy-fitted .ensures []), record-small (c .before .before .before .before .before .before .before .before .before .before .before .before .before .before .before .before .before .before .before .before .pre .0 .0) (c .before .before .before .before .before .before .before .before .before .before .before .before .before .before .before .before .before .before .before .before .pre .1 .0 .0), c .before .before .before .before .before .before .before .before .before .before .before .before .before .before .before .before .before .before .before .before .pre .1 .0 .1)
 
 same-length : tie.Need-same-length
 same-length c = search needs
@@ -32,7 +33,7 @@ same-length-2 : tie.Need-same-length-2
 same-length-2 c = search needs
 
 returns : tie.Need-returns
-returns c = (begin-refused _ _ (c .before .before .before .before .before .before .before .before .before .before .reference .ensures) (c .before .before .before .before .before .before .before .convert-expr .ensures) (c .before .e .given .1), c .before .before .before .before .before .before .before .convert-expr .ensures .names)
+returns c = ((begin-refused _ _ (c .before .before .before .before .before .before .before .before .before .before .reference .ensures) (c .before .before .before .before .before .before .before .convert-expr .ensures .0) (c .before .e .given .1), c .before .before .before .before .before .before .before .convert-expr .ensures .0 .names), refused-finished)
 
 same-length-3 : tie.Need-same-length-3
 same-length-3 c = search needs
@@ -41,7 +42,7 @@ same-length-4 : tie.Need-same-length-4
 same-length-4 c = search needs
 
 returns-2 : tie.Need-returns-2
-returns-2 c = (begin-done _ _ (c .before .before .before .before .before .before .before .before .before .before .before .before .before .before .before .before .before .before .reference .ensures) (c .before .before .before .before .before .before .before .before .before .before .before .before .before .before .before .convert-expr .ensures) (c .before .before .before .before .before .before .before .before .before .a .given .1) (c .before .before .before .before .before .before .copy-fitted .ensures _) (c .before .before .count-on .ensures), c .before .before .before .before .before .before .before .before .before .before .before .before .before .before .before .convert-expr .ensures .names)
+returns-2 c = ((begin-done _ _ (c .before .before .before .before .before .before .before .before .before .before .before .before .before .before .before .before .before .before .reference .ensures) (c .before .before .before .before .before .before .before .before .before .before .before .before .before .before .before .convert-expr .ensures .0) (c .before .before .before .before .before .before .before .before .before .a .given .1) (c .before .before .before .before .before .before .copy-fitted .ensures _) (c .before .before .count-on .ensures), c .before .before .before .before .before .before .before .before .before .before .before .before .before .before .before .convert-expr .ensures .0 .names), operand-typed exprTypes (c .before .before .before .before .before .before .before .before .before .before .before .before .before .before .before .before .before .before .before .before .before .before .before .args .c) (c .before .before .before .before .before .before .before .before .before .before .before .before .before .before .before .before .before .before .reference .ensures) (c .before .before .before .before .before .before .before .before .before .before .before .before .before .before .before .convert-expr .ensures .1) (c .before .before .before .before .before .before .before .before .before .a .given .1))
 
 pub for-begin-spec : {M : Type 1} → statement M
 for-begin-spec =

@@ -1,7 +1,7 @@
 -- Both bounds of a For are checked, the second where the first is fine.
 -- By what each check owes; the scope stays. Assumes nothing.
 use Rattle.expressions.proofs.SlotLaws.{ready-frame}
-use Rattle.statements.proofs.ForLaws.{bounds-not, bounds-then}
+use Rattle.statements.proofs.ForLaws.{bounds-not, bounds-then, refused-outcome, checked-in-turn, bounds-typed}
 use Rattle.statements.proofs.HeadLaws.{first-bound, second-bound}
 use borrow.Author.Needs.{needs}
 use Rattle.statements.proofs.loops.for_bounds.Statement.{statement}
@@ -14,7 +14,7 @@ reference-requires-2 : tie.Need-reference-requires-2
 reference-requires-2 c κs = search needs
 
 check-bound-requires : tie.Need-check-bound-requires
-check-bound-requires c κs = (c .before .before .before .before .before .before .pre .0, first-bound (c .before .before .before .before .before .before .pre .0 .keyed .good) (c .before .before .before .before .before .before .pre .1) (c .before .before .reference .ensures), c .before .before .before .before .before .before .pre .2)
+check-bound-requires c κs = ((c .before .before .before .before .before .before .pre .0 .0, first-bound (c .before .before .before .before .before .before .pre .0 .0 .keyed .good) (c .before .before .before .before .before .before .pre .0 .1) (c .before .before .reference .ensures), c .before .before .before .before .before .before .pre .0 .2), (c .before .before .before .before .before .before .pre .1))
 
 enum-known-x : tie.Need-enum-known-x
 enum-known-x c = search needs
@@ -23,19 +23,19 @@ enum-told : tie.Need-enum-told
 enum-told c = search needs
 
 check-bound-requires-2 : tie.Need-check-bound-requires-2
-check-bound-requires-2 c κs = (ready-frame _ _ _ (c .before .before .before .before .before .check-bound .ensures .frame) _ _ _ (c .before .before .before .before .before .before .before .before .before .before .before .before .pre .0), second-bound (c .before .before .before .before .before .before .before .before .before .before .before .before .pre .0 .keyed .good) (c .before .before .before .before .before .before .before .before .before .before .before .before .pre .1) (c .before .before .before .before .before .before .before .reference2 .ensures), c .before .before .before .before .before .before .before .before .before .before .before .before .pre .2)
+check-bound-requires-2 c κs = ((ready-frame _ _ _ (c .before .before .before .before .before .check-bound .ensures .0 .frame) _ _ _ (c .before .before .before .before .before .before .before .before .before .before .before .before .pre .0 .0), second-bound (c .before .before .before .before .before .before .before .before .before .before .before .before .pre .0 .0 .keyed .good) (c .before .before .before .before .before .before .before .before .before .before .before .before .pre .0 .1) (c .before .before .before .before .before .before .before .reference2 .ensures), c .before .before .before .before .before .before .before .before .before .before .before .before .pre .0 .2), checked-in-turn (c .before .before .before .before .before .before .before .before .before .before .before .before .args .c) (c .before .before .before .before .before .before .before .before .before .before .before .before .pre .0 .0 .scoped) (c .before .before .before .before .before .check-bound .ensures .0) (c .before .before .before .before .before .check-bound .ensures .1) (c .before .enum-told .given .1))
 
 same-length : tie.Need-same-length
 same-length c = search needs
 
 returns : tie.Need-returns
-returns c = bounds-not _ _ _ _ _ _ (c .before .before .before .before .before .before .before .before .reference .ensures) (c .before .before .before .before .before .check-bound .ensures) (c .before .x .given .1)
+returns c = (bounds-not _ _ _ _ _ _ (c .before .before .before .before .before .before .before .before .reference .ensures) (c .before .before .before .before .before .check-bound .ensures .0) (c .before .x .given .1), refused-outcome)
 
 same-length-2 : tie.Need-same-length-2
 same-length-2 c = search needs
 
 returns-2 : tie.Need-returns-2
-returns-2 c = bounds-then _ _ _ _ _ _ (c .before .before .before .before .before .before .before .before .before .before .before .reference .ensures) (c .before .before .before .before .before .before .before .before .check-bound .ensures) (c .before .before .before .before .before .before .before .before .before .before .before .before .before .before .before .pre .0 .scoped .records-are) (c .before .before .before .before .enum-told .given .1) (c .before .before .before .before .before .before .before .before .before .before .reference2 .ensures) (c .before .before .check-bound2 .ensures)
+returns-2 c = (bounds-then _ _ _ _ _ _ (c .before .before .before .before .before .before .before .before .before .before .before .reference .ensures) (c .before .before .before .before .before .before .before .before .check-bound .ensures .0) (c .before .before .before .before .before .before .before .before .before .before .before .before .before .before .before .pre .0 .0 .scoped) (c .before .before .before .before .enum-told .given .1) (c .before .before .before .before .before .before .before .before .before .before .reference2 .ensures) (c .before .before .check-bound2 .ensures .0), bounds-typed (c .before .before .before .before .before .before .before .before .before .before .before .before .before .before .before .args .c) _ (c .before .before .before .before .before .before .before .before .before .before .before .before .before .before .before .pre .0 .0 .scoped) (c .before .before .before .before .before .before .before .before .check-bound .ensures .0) (c .before .before .before .before .before .before .before .before .check-bound .ensures .1) (c .before .before .before .before .enum-told .given .1) (c .before .before .before .before .before .before .before .before .before .before .before .reference .ensures) (c .before .before .before .before .before .before .before .before .before .before .reference2 .ensures) (c .before .before .check-bound2 .ensures .1))
 
 pub for-bounds-spec : {M : Type 1} → statement M
 for-bounds-spec =

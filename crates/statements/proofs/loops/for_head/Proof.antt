@@ -1,6 +1,7 @@
 -- A For before its body: its variable, and its turns in the scope around it.
 -- By what the two parts owe, one after the other. Assumes nothing.
-use Rattle.statements.proofs.ForLaws.{head-not, head-asks, head-turns-not, head-done}
+use Rattle.statements.proofs.PlainTurns.{refused-stated}
+use Rattle.statements.proofs.ForLaws.{head-not, head-asks, head-turns-not, head-done, head-in-turn, head-typed}
 use borrow.Author.Needs.{needs}
 use Rattle.statements.proofs.loops.for_head.Statement.{statement}
 use Rattle.statements.proofs.loops.for_head.Tie as tie
@@ -15,7 +16,7 @@ enum-known-x : tie.Need-enum-known-x
 enum-known-x c = search needs
 
 for-turns-requires : tie.Need-for-turns-requires
-for-turns-requires c κs = head-asks _ (c .before .before .before .before .before .before .before .before .before .before .before .before .before .before .before .before .pre .0 .0) (c .before .before .before .before .before .before .before .before .before .for-variable .ensures) (c .before .before .before .x .given .1) (c .before .before .before .before .before .before .before .before .before .before .before .before .before .before .before .before .pre .1) (c .before .before .before .before .before .before .before .before .before .before .before .before .before .before .before .before .pre .0 .1)
+for-turns-requires c κs = let h = head-asks _ (c .before .before .before .before .before .before .before .before .before .before .before .before .before .before .before .before .pre .0 .0) (c .before .before .before .before .before .before .before .before .before .for-variable .ensures .0) (c .before .before .before .x .given .1) (c .before .before .before .before .before .before .before .before .before .before .before .before .before .before .before .before .pre .1 .0) (c .before .before .before .before .before .before .before .before .before .before .before .before .before .before .before .before .pre .0 .1) in (h .0, (h .1, head-in-turn _ (c .before .before .before .before .before .before .before .before .before .before .before .before .before .before .before .before .pre .0 .0) (c .before .before .before .before .before .before .before .before .before .for-variable .ensures .0) (c .before .before .before .x .given .1) (c .before .before .before .before .before .before .before .before .before .for-variable .ensures .1)))
 
 enum-known-e-2 : tie.Need-enum-known-e-2
 enum-known-e-2 c = search needs
@@ -30,7 +31,7 @@ same-length-2 : tie.Need-same-length-2
 same-length-2 c = search needs
 
 returns : tie.Need-returns
-returns c = head-not _ (c .before .before .before .before .before .before .before .before .before .before .before .before .before .before .pre .0 .0) (c .before .before .before .before .before .before .before .for-variable .ensures) (c .before .e .given .1)
+returns c = (head-not _ (c .before .before .before .before .before .before .before .before .before .before .before .before .before .before .pre .0 .0) (c .before .before .before .before .before .before .before .for-variable .ensures .0) (c .before .e .given .1), refused-stated)
 
 same-length-3 : tie.Need-same-length-3
 same-length-3 c = search needs
@@ -39,7 +40,7 @@ same-length-4 : tie.Need-same-length-4
 same-length-4 c = search needs
 
 returns-2 : tie.Need-returns-2
-returns-2 c = head-turns-not _ (c .before .before .before .before .before .before .before .before .before .before .before .before .before .before .before .before .before .before .before .before .before .before .before .before .pre .0 .0) (c .before .before .before .before .before .before .before .before .before .before .before .before .before .before .before .before .before .for-variable .ensures) (c .before .before .before .before .before .before .before .before .before .before .before .x .given .1) (c .before .before .before .before .before .before .before .for-turns .ensures .0) (c .before .e2 .given .1)
+returns-2 c = (head-turns-not _ (c .before .before .before .before .before .before .before .before .before .before .before .before .before .before .before .before .before .before .before .before .before .before .before .before .pre .0 .0) (c .before .before .before .before .before .before .before .before .before .before .before .before .before .before .before .before .before .for-variable .ensures .0) (c .before .before .before .before .before .before .before .before .before .before .before .x .given .1) (c .before .before .before .before .before .before .before .for-turns .ensures .0 .0) (c .before .e2 .given .1), refused-stated)
 
 same-length-5 : tie.Need-same-length-5
 same-length-5 c = search needs
@@ -48,7 +49,7 @@ same-length-6 : tie.Need-same-length-6
 same-length-6 c = search needs
 
 returns-3 : tie.Need-returns-3
-returns-3 c = head-done _ (c .before .before .before .before .before .before .before .before .before .before .before .before .before .before .before .before .before .before .before .before .before .before .before .before .pre .0 .0) (c .before .before .before .before .before .before .before .before .before .before .before .before .before .before .before .before .before .for-variable .ensures) (c .before .before .before .before .before .before .before .before .before .before .before .x .given .1) (c .before .before .before .before .before .before .before .for-turns .ensures .0) (c .before .k1 .given .1) (c .before .before .before .before .before .before .before .for-turns .ensures .1)
+returns-3 c = (head-done _ (c .before .before .before .before .before .before .before .before .before .before .before .before .before .before .before .before .before .before .before .before .before .before .before .before .pre .0 .0) (c .before .before .before .before .before .before .before .before .before .before .before .before .before .before .before .before .before .for-variable .ensures .0) (c .before .before .before .before .before .before .before .before .before .before .before .x .given .1) (c .before .before .before .before .before .before .before .for-turns .ensures .0 .0) (c .before .k1 .given .1) (c .before .before .before .before .before .before .before .for-turns .ensures .0 .1), head-typed _ (c .before .before .before .before .before .before .before .before .before .before .before .before .before .before .before .before .before .before .before .before .before .before .before .before .pre .0 .0) (c .before .before .before .before .before .before .before .before .before .before .before .before .before .before .before .before .before .for-variable .ensures .0) (c .before .before .before .before .before .before .before .before .before .before .before .x .given .1) (c .before .before .before .before .before .before .before .before .before .before .before .before .before .before .before .before .before .for-variable .ensures .1) (c .before .k1 .given .1) (c .before .before .before .before .before .before .before .for-turns .ensures .1))
 
 pub for-head-spec : {M : Type 1} → statement M
 for-head-spec =

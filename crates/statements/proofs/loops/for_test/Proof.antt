@@ -1,8 +1,9 @@
 -- The check of the For.
 -- The second bound and its test, in a row. Assumes nothing.
+use Rattle.statements.specs.Turns.{exprTypes}
 use native.Mathlib.Omega.{arith}
 use borrow.Author.Needs.{needs}
-use Rattle.statements.proofs.HeadLaws.{record-small, second-bound, bound-afforded, bound-room, bound-operand, test-refused, test-done}
+use Rattle.statements.proofs.HeadLaws.{record-small, second-bound, bound-afforded, bound-room, bound-operand, test-refused, test-done, refused-finished, operand-typed}
 use Rattle.statements.proofs.loops.for_test.Statement.{statement}
 use Rattle.statements.proofs.loops.for_test.Tie as tie
 
@@ -10,7 +11,7 @@ reference-requires : tie.Need-reference-requires
 reference-requires c κs = search needs
 
 convert-expr-requires : tie.Need-convert-expr-requires
-convert-expr-requires c κs = ((c .before .before .before .before .before .before .before .pre .0 .0, bound-afforded _ _ (c .before .before .before .before .before .before .before .pre .0 .0) (c .before .before .before .before .before .before .before .pre .0 .1) (c .before .before .reference .ensures)), second-bound (c .before .before .before .before .before .before .before .pre .0 .0 .ready .keyed .good) (c .before .before .before .before .before .before .before .pre .1 .0) (c .before .before .reference .ensures))
+convert-expr-requires c κs = ((c .before .before .before .before .before .before .before .pre .0 .0, bound-afforded _ _ (c .before .before .before .before .before .before .before .pre .0 .0) (c .before .before .before .before .before .before .before .pre .0 .1) (c .before .before .reference .ensures)), (second-bound (c .before .before .before .before .before .before .before .pre .0 .0 .ready .keyed .good) (c .before .before .before .before .before .before .before .pre .1 .0 .0) (c .before .before .reference .ensures), (c .before .before .before .before .before .before .before .pre .1 .1)))
 
 enum-known-e : tie.Need-enum-known-e
 enum-known-e c = search needs
@@ -19,7 +20,7 @@ enum-known-b : tie.Need-enum-known-b
 enum-known-b c = search needs
 
 test-bound-requires : tie.Need-test-bound-requires
-test-bound-requires c κs = (bound-room _ _ (c .before .before .before .before .before .before .before .before .before .before .before .before .before .before .before .before .pre .0 .0) (c .before .before .before .before .before .before .before .before .before .before .before .before .before .before .before .before .pre .0 .1) (c .before .before .before .before .before .before .before .before .before .before .before .reference .ensures) (c .before .before .before .before .before .before .before .before .convert-expr .ensures) (c .before .before .b .given .1) (omega arith), record-small (c .before .before .before .before .before .before .before .before .before .before .before .before .before .before .before .before .pre .0 .0) (c .before .before .before .before .before .before .before .before .before .before .before .before .before .before .before .before .pre .1 .0), c .before .before .before .before .before .before .before .before .before .before .before .before .before .before .before .before .pre .1 .1, bound-operand _ _ (c .before .before .before .before .before .before .before .before .before .before .before .before .before .before .before .before .pre .0 .0) (c .before .before .before .before .before .before .before .before .before .before .before .before .before .before .before .before .pre .0 .1) (c .before .before .before .before .before .before .before .before .before .before .before .reference .ensures) (c .before .before .before .before .before .before .before .before .convert-expr .ensures) (c .before .before .b .given .1))
+test-bound-requires c κs = (bound-room _ _ (c .before .before .before .before .before .before .before .before .before .before .before .before .before .before .before .before .pre .0 .0) (c .before .before .before .before .before .before .before .before .before .before .before .before .before .before .before .before .pre .0 .1) (c .before .before .before .before .before .before .before .before .before .before .before .reference .ensures) (c .before .before .before .before .before .before .before .before .convert-expr .ensures .0) (c .before .before .b .given .1) (omega arith), record-small (c .before .before .before .before .before .before .before .before .before .before .before .before .before .before .before .before .pre .0 .0) (c .before .before .before .before .before .before .before .before .before .before .before .before .before .before .before .before .pre .1 .0 .0), c .before .before .before .before .before .before .before .before .before .before .before .before .before .before .before .before .pre .1 .0 .1, bound-operand _ _ (c .before .before .before .before .before .before .before .before .before .before .before .before .before .before .before .before .pre .0 .0) (c .before .before .before .before .before .before .before .before .before .before .before .before .before .before .before .before .pre .0 .1) (c .before .before .before .before .before .before .before .before .before .before .before .reference .ensures) (c .before .before .before .before .before .before .before .before .convert-expr .ensures .0) (c .before .before .b .given .1))
 
 same-length : tie.Need-same-length
 same-length c = search needs
@@ -28,7 +29,7 @@ same-length-2 : tie.Need-same-length-2
 same-length-2 c = search needs
 
 returns : tie.Need-returns
-returns c = (test-refused _ _ (c .before .before .before .before .before .before .before .before .before .before .reference .ensures) (c .before .before .before .before .before .before .before .convert-expr .ensures) (c .before .e .given .1), c .before .before .before .before .before .before .before .convert-expr .ensures .names)
+returns c = ((test-refused _ _ (c .before .before .before .before .before .before .before .before .before .before .reference .ensures) (c .before .before .before .before .before .before .before .convert-expr .ensures .0) (c .before .e .given .1), c .before .before .before .before .before .before .before .convert-expr .ensures .0 .names), refused-finished)
 
 same-length-3 : tie.Need-same-length-3
 same-length-3 c = search needs
@@ -37,7 +38,7 @@ same-length-4 : tie.Need-same-length-4
 same-length-4 c = search needs
 
 returns-2 : tie.Need-returns-2
-returns-2 c = (test-done _ _ (c .before .before .before .before .before .before .before .before .before .before .before .before .before .before .reference .ensures) (c .before .before .before .before .before .before .before .before .before .before .before .convert-expr .ensures) (c .before .before .before .before .before .b .given .1) (c .before .before .test-bound .ensures _), c .before .before .before .before .before .before .before .before .before .before .before .convert-expr .ensures .names)
+returns-2 c = ((test-done _ _ (c .before .before .before .before .before .before .before .before .before .before .before .before .before .before .reference .ensures) (c .before .before .before .before .before .before .before .before .before .before .before .convert-expr .ensures .0) (c .before .before .before .before .before .b .given .1) (c .before .before .test-bound .ensures _), c .before .before .before .before .before .before .before .before .before .before .before .convert-expr .ensures .0 .names), operand-typed exprTypes (c .before .before .before .before .before .before .before .before .before .before .before .before .before .before .before .before .before .before .before .args .c) (c .before .before .before .before .before .before .before .before .before .before .before .before .before .before .reference .ensures) (c .before .before .before .before .before .before .before .before .before .before .before .convert-expr .ensures .1) (c .before .before .before .before .before .b .given .1))
 
 pub for-test-spec : {M : Type 1} → statement M
 for-test-spec =

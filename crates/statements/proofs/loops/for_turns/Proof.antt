@@ -1,9 +1,10 @@
 -- A For from its variable on: the variable is an Int, both bounds are checked, then the first is copied and the second tested.
 -- By the form of the variable's type and what each part owes, one after the other. Assumes nothing.
+use Rattle.statements.proofs.HeadLaws.{refused-finished}
 use native.Mathlib.Omega.{arith}
 use Rattle.statements.proofs.StayLaws.{names-refl, names-then, frame-names}
 use Rattle.statements.proofs.StatedLaws.{finishes-most, finished-next, finished-converting}
-use Rattle.statements.proofs.ForLaws.{turns-not-int, checks-converting, turns-bounds-not, turns-begin-not, turns-then}
+use Rattle.statements.proofs.ForLaws.{turns-not-int, checks-converting, turns-bounds-not, turns-begin-not, turns-then, checked-in-turn, test-in-turn, turns-typed}
 use borrow.Author.Needs.{needs}
 use Rattle.statements.proofs.loops.for_turns.Statement.{statement}
 use Rattle.statements.proofs.loops.for_turns.Tie as tie
@@ -18,7 +19,7 @@ error-at-requires : tie.Need-error-at-requires
 error-at-requires c κs = search needs
 
 returns : tie.Need-returns
-returns c = (turns-not-int _ _ (c .before .before .before .before .before .before .before .before .pre .0 .0) (c .before .before .form .ensures) (c .before .if1 .taken) (c .error-at .ensures), names-refl _ _)
+returns c = ((turns-not-int _ _ (c .before .before .before .before .before .before .before .before .pre .0 .0) (c .before .before .form .ensures) (c .before .if1 .taken) (c .error-at .ensures), names-refl _ _), refused-finished)
 
 for-bounds-requires : tie.Need-for-bounds-requires
 for-bounds-requires c κs = search needs
@@ -30,7 +31,7 @@ enum-told : tie.Need-enum-told
 enum-told c = search needs
 
 for-begin-requires : tie.Need-for-begin-requires
-for-begin-requires c κs = ((checks-converting (c .before .before .before .before .before .before .before .before .before .before .before .before .before .before .before .pre .0 .0) (c .before .before .before .before .before .before .for-bounds .ensures), omega (arith, c .before .before .before .before .before .before .before .before .before .before .before .before .before .before .before .pre .0 .1)), c .before .before .before .before .before .before .before .before .before .before .before .before .before .before .before .pre .1)
+for-begin-requires c κs = ((checks-converting (c .before .before .before .before .before .before .before .before .before .before .before .before .before .before .before .pre .0 .0) (c .before .before .before .before .before .before .for-bounds .ensures .0), omega (arith, c .before .before .before .before .before .before .before .before .before .before .before .before .before .before .before .pre .0 .1)), (c .before .before .before .before .before .before .before .before .before .before .before .before .before .before .before .pre .1 .0, checked-in-turn (c .before .before .before .before .before .before .before .before .before .before .before .before .before .before .before .args .c) (c .before .before .before .before .before .before .before .before .before .before .before .before .before .before .before .pre .0 .0 .ready .scoped) (c .before .before .before .before .before .before .for-bounds .ensures .0) (c .before .before .before .before .before .before .for-bounds .ensures .1) (c .before .before .enum-told .given .1)))
 
 enum-known-e-2 : tie.Need-enum-known-e-2
 enum-known-e-2 c = search needs
@@ -39,13 +40,13 @@ enum-known-k : tie.Need-enum-known-k
 enum-known-k c = search needs
 
 for-test-requires : tie.Need-for-test-requires
-for-test-requires c κs = ((finished-converting (c .before .before .before .before .before .before .before .before .before .for-begin .ensures .0) (c .before .before .before .k .given .1) (checks-converting (c .before .before .before .before .before .before .before .before .before .before .before .before .before .before .before .before .before .before .before .before .before .before .before .before .before .pre .0 .0) (c .before .before .before .before .before .before .before .before .before .before .before .before .before .before .before .before .for-bounds .ensures)), omega (arith, c .before .before .before .before .before .before .before .before .before .before .before .before .before .before .before .before .before .before .before .before .before .before .before .before .before .pre .0 .1, finished-next (c .before .before .before .before .before .before .before .before .before .for-begin .ensures .0) (c .before .before .before .k .given .1) .spent)), c .before .before .before .before .before .before .before .before .before .before .before .before .before .before .before .before .before .before .before .before .before .before .before .before .before .pre .1)
+for-test-requires c κs = ((finished-converting (c .before .before .before .before .before .before .before .before .before .for-begin .ensures .0 .0) (c .before .before .before .k .given .1) (checks-converting (c .before .before .before .before .before .before .before .before .before .before .before .before .before .before .before .before .before .before .before .before .before .before .before .before .before .pre .0 .0) (c .before .before .before .before .before .before .before .before .before .before .before .before .before .before .before .before .for-bounds .ensures .0)), omega (arith, c .before .before .before .before .before .before .before .before .before .before .before .before .before .before .before .before .before .before .before .before .before .before .before .before .before .pre .0 .1, finished-next (c .before .before .before .before .before .before .before .before .before .for-begin .ensures .0 .0) (c .before .before .before .k .given .1) .spent)), (c .before .before .before .before .before .before .before .before .before .before .before .before .before .before .before .before .before .before .before .before .before .before .before .before .before .pre .1 .0, test-in-turn _ (c .before .before .before .before .before .before .before .before .before .before .before .before .before .before .before .before .before .before .before .before .before .before .before .before .before .pre .0 .0) (c .before .before .before .before .before .before .before .before .before .before .before .before .before .before .before .before .for-bounds .ensures .0) (c .before .before .before .before .before .before .before .before .before .for-begin .ensures .0 .0) (c .before .before .before .before .before .before .before .before .before .for-begin .ensures .1) (c .before .before .before .k .given .1)))
 
 same-length : tie.Need-same-length
 same-length c = search needs
 
 returns-2 : tie.Need-returns-2
-returns-2 c = (turns-bounds-not _ _ (c .before .before .before .before .before .before .before .before .before .before .before .before .before .before .pre .0 .0) (c .before .before .before .before .before .before .before .before .form .ensures) (c .before .before .before .before .before .before .before .if1 .left) (c .before .before .before .before .before .for-bounds .ensures) (c .before .e .given .1), frame-names (c .before .before .before .before .before .for-bounds .ensures .frame))
+returns-2 c = ((turns-bounds-not _ _ (c .before .before .before .before .before .before .before .before .before .before .before .before .before .before .pre .0 .0) (c .before .before .before .before .before .before .before .before .form .ensures) (c .before .before .before .before .before .before .before .if1 .left) (c .before .before .before .before .before .for-bounds .ensures .0) (c .before .e .given .1), frame-names (c .before .before .before .before .before .for-bounds .ensures .0 .frame)), refused-finished)
 
 same-length-2 : tie.Need-same-length-2
 same-length-2 c = search needs
@@ -54,7 +55,7 @@ same-length-3 : tie.Need-same-length-3
 same-length-3 c = search needs
 
 returns-3 : tie.Need-returns-3
-returns-3 c = (turns-begin-not _ _ (c .before .before .before .before .before .before .before .before .before .before .before .before .before .before .before .before .before .before .before .before .before .before .before .pre .0 .0) (c .before .before .before .before .before .before .before .before .before .before .before .before .before .before .before .before .before .form .ensures) (c .before .before .before .before .before .before .before .before .before .before .before .before .before .before .before .before .if1 .left) (c .before .before .before .before .before .before .before .before .before .before .before .before .before .before .for-bounds .ensures) (c .before .before .before .before .before .before .before .before .before .before .enum-told .given .1) (c .before .before .before .before .before .before .before .for-begin .ensures .0) (c .before .e2 .given .1), names-then (frame-names (c .before .before .before .before .before .before .before .before .before .before .before .before .before .before .for-bounds .ensures .frame)) (c .before .before .before .before .before .before .before .for-begin .ensures .1))
+returns-3 c = ((turns-begin-not _ _ (c .before .before .before .before .before .before .before .before .before .before .before .before .before .before .before .before .before .before .before .before .before .before .before .pre .0 .0) (c .before .before .before .before .before .before .before .before .before .before .before .before .before .before .before .before .before .form .ensures) (c .before .before .before .before .before .before .before .before .before .before .before .before .before .before .before .before .if1 .left) (c .before .before .before .before .before .before .before .before .before .before .before .before .before .before .for-bounds .ensures .0) (c .before .before .before .before .before .before .before .before .before .before .enum-told .given .1) (c .before .before .before .before .before .before .before .for-begin .ensures .0 .0) (c .before .e2 .given .1), names-then (frame-names (c .before .before .before .before .before .before .before .before .before .before .before .before .before .before .for-bounds .ensures .0 .frame)) (c .before .before .before .before .before .before .before .for-begin .ensures .0 .1)), refused-finished)
 
 same-length-4 : tie.Need-same-length-4
 same-length-4 c = search needs
@@ -63,7 +64,7 @@ same-length-5 : tie.Need-same-length-5
 same-length-5 c = search needs
 
 returns-4 : tie.Need-returns-4
-returns-4 c = (finishes-most (omega arith) (turns-then _ _ (c .before .before .before .before .before .before .before .before .before .before .before .before .before .before .before .before .before .before .before .before .before .before .before .before .before .before .before .before .before .before .pre .0 .0) (c .before .before .before .before .before .before .before .before .before .before .before .before .before .before .before .before .before .before .before .before .before .before .before .before .form .ensures) (c .before .before .before .before .before .before .before .before .before .before .before .before .before .before .before .before .before .before .before .before .before .before .before .if1 .left) (c .before .before .before .before .before .before .before .before .before .before .before .before .before .before .before .before .before .before .before .before .before .for-bounds .ensures) (c .before .before .before .before .before .before .before .before .before .before .before .before .before .before .before .before .before .enum-told .given .1) (c .before .before .before .before .before .before .before .before .before .before .before .before .before .before .for-begin .ensures .0) (c .before .before .before .before .before .before .before .before .k .given .1) (c .before .before .before .before .for-test .ensures .0)), names-then (names-then (frame-names (c .before .before .before .before .before .before .before .before .before .before .before .before .before .before .before .before .before .before .before .before .before .for-bounds .ensures .frame)) (c .before .before .before .before .before .before .before .before .before .before .before .before .before .before .for-begin .ensures .1)) (c .before .before .before .before .for-test .ensures .1))
+returns-4 c = ((finishes-most (omega arith) (turns-then _ _ (c .before .before .before .before .before .before .before .before .before .before .before .before .before .before .before .before .before .before .before .before .before .before .before .before .before .before .before .before .before .before .pre .0 .0) (c .before .before .before .before .before .before .before .before .before .before .before .before .before .before .before .before .before .before .before .before .before .before .before .before .form .ensures) (c .before .before .before .before .before .before .before .before .before .before .before .before .before .before .before .before .before .before .before .before .before .before .before .if1 .left) (c .before .before .before .before .before .before .before .before .before .before .before .before .before .before .before .before .before .before .before .before .before .for-bounds .ensures .0) (c .before .before .before .before .before .before .before .before .before .before .before .before .before .before .before .before .before .enum-told .given .1) (c .before .before .before .before .before .before .before .before .before .before .before .before .before .before .for-begin .ensures .0 .0) (c .before .before .before .before .before .before .before .before .k .given .1) (c .before .before .before .before .for-test .ensures .0 .0)), names-then (names-then (frame-names (c .before .before .before .before .before .before .before .before .before .before .before .before .before .before .before .before .before .before .before .before .before .for-bounds .ensures .0 .frame)) (c .before .before .before .before .before .before .before .before .before .before .before .before .before .before .for-begin .ensures .0 .1)) (c .before .before .before .before .for-test .ensures .0 .1)), turns-typed _ (c .before .before .before .before .before .before .before .before .before .before .before .before .before .before .before .before .before .before .before .before .before .before .before .before .before .before .before .before .before .before .pre .0 .0) (c .before .before .before .before .before .before .before .before .before .before .before .before .before .before .before .before .before .before .before .before .before .for-bounds .ensures .0) (c .before .before .before .before .before .before .before .before .before .before .before .before .before .before .for-begin .ensures .0 .0) (c .before .before .before .before .before .before .before .before .before .before .before .before .before .before .for-begin .ensures .1) (c .before .before .before .before .before .before .before .before .k .given .1) (c .before .before .before .before .before .before .before .before .before .before .before .before .before .before .before .before .before .before .before .before .before .for-bounds .ensures .1) (c .before .before .before .before .before .before .before .before .before .before .before .before .before .before .before .before .before .enum-told .given .1) (c .before .before .before .before .for-test .ensures .1))
 
 pub for-turns-spec : {M : Type 1} → statement M
 for-turns-spec =

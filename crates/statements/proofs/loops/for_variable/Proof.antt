@@ -1,6 +1,7 @@
 -- The variable of a For: declared, or one of the blocks around where its record has no type.
 -- By the word of its type. Assumes nothing.
-use Rattle.statements.proofs.ForLaws.{variable-inside, variable-typed}
+use Rattle.statements.proofs.TurnLaws.{turns-refl}
+use Rattle.statements.proofs.ForLaws.{variable-inside, variable-typed, variable-typed-none}
 use native.Mathlib.Omega.{arith}
 use borrow.Author.Needs.{needs}
 use Rattle.statements.proofs.loops.for_variable.Statement.{statement}
@@ -10,7 +11,7 @@ reference-requires : tie.Need-reference-requires
 reference-requires c κs = search needs
 
 word-requires : tie.Need-word-requires
-word-requires c κs = (variable-inside (c .before .before .before .before .before .pre .0 .0 .ready .keyed .good) (c .before .before .before .before .before .pre .1) (c .reference .ensures), omega arith)
+word-requires c κs = (variable-inside (c .before .before .before .before .before .pre .0 .0 .ready .keyed .good) (c .before .before .before .before .before .pre .1 .0) (c .reference .ensures), omega arith)
 
 for-known-requires : tie.Need-for-known-requires
 for-known-requires c κs = search needs
@@ -22,10 +23,10 @@ same-length-2 : tie.Need-same-length-2
 same-length-2 c = search needs
 
 returns : tie.Need-returns
-returns c = search needs
+returns c = (c .for-known .ensures, variable-typed-none (c .before .before .before .before .before .before .before .before .before .before .args .c) (turns-refl _ _) (c .before .before .before .before .before .before .before .before .before .before .pre .1 .1))
 
 for-declared-requires : tie.Need-for-declared-requires
-for-declared-requires c κs = (c .before .before .before .before .before .before .before .before .before .pre .0, (c .before .before .before .before .before .before .before .before .before .pre .1, c .before .before .before .before .reference .ensures, variable-typed (c .before .before .before .before .before .before .before .before .before .pre .0 .0 .ready .keyed .good) (c .before .before .before .before .before .before .before .before .before .pre .1) (c .before .before .before .before .reference .ensures) (c .before .before .before .word .ensures) (c .before .before .if1 .left)))
+for-declared-requires c κs = ((c .before .before .before .before .before .before .before .before .before .pre .0), ((c .before .before .before .before .before .before .before .before .before .pre .1 .0, c .before .before .before .before .reference .ensures, variable-typed (c .before .before .before .before .before .before .before .before .before .pre .0 .0 .ready .keyed .good) (c .before .before .before .before .before .before .before .before .before .pre .1 .0) (c .before .before .before .before .reference .ensures) (c .before .before .before .word .ensures) (c .before .before .if1 .left)), (c .before .before .before .before .before .before .before .before .before .pre .1 .1)))
 
 same-length-3 : tie.Need-same-length-3
 same-length-3 c = search needs

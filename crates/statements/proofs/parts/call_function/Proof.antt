@@ -22,7 +22,7 @@ same-length-2 : tie.Need-same-length-2
 same-length-2 c = search needs
 
 returns : tie.Need-returns
-returns c = call-adds _ _ _ _ (c .before .before .before .before .before .before .before .before .before .before .before .before .before .before .before .pre .0 .0 .ready .keyed .good) (c .before .before .before .before .before .before .before .before .before .before .before .before .before .before .before .pre .1 .0) (c .before .before .before .before .before .before .before .before .before .before .before .before .before .before .before .pre .1 .2) (c .before .before .before .before .before .before .before .before .pass-args .ensures .0) (c .before .before .before .before .before .before .before .before .pass-args .ensures .1 .0) (c .before .before .before .before .before .before .before .before .pass-args .ensures .1 .1) (omega arith) (c .before .before .emit .ensures)
+returns c = (call-adds _ _ _ _ (c .before .before .before .before .before .before .before .before .before .before .before .before .before .before .before .pre .0 .0 .ready .keyed .good) (c .before .before .before .before .before .before .before .before .before .before .before .before .before .before .before .pre .1 .0) (c .before .before .before .before .before .before .before .before .before .before .before .before .before .before .before .pre .1 .2) (c .before .before .before .before .before .before .before .before .pass-args .ensures .0) (c .before .before .before .before .before .before .before .before .pass-args .ensures .1 .0 .0) (c .before .before .before .before .before .before .before .before .pass-args .ensures .1 .0 .1) (omega arith) (c .before .before .emit .ensures), c .before .before .before .before .before .before .before .before .pass-args .ensures .1 .1)
 
 pub call-function-spec : {M : Type 1} → statement M
 call-function-spec = tie.close (tie.spec pass-args-requires cast-t18 emit-requires same-length same-length-2 returns)

@@ -4,6 +4,7 @@ use borrow.Author.Needs.{needs}
 use Rattle.ir.proofs.StepLaws.{next-in}
 use Rattle.statements.proofs.AroundLaws.{variable-type, callee-refused, callee-cast, callee-function, function-callee, finish-cast, finish-function}
 use Rattle.statements.proofs.StayLaws.{stays-refl, converting-next}
+use Rattle.statements.proofs.TurnLaws.{turns-refl}
 use native.Mathlib.Omega.{arith}
 use Rattle.statements.proofs.parts.finish_call.Statement.{statement}
 use Rattle.statements.proofs.parts.finish_call.Tie as tie
@@ -33,7 +34,7 @@ same-length : tie.Need-same-length
 same-length c = search needs
 
 returns : tie.Need-returns
-returns c = λ to m. absurd (callee-refused _ _ m (c .before .callee .given .1))
+returns c = ((λ to m. absurd (callee-refused _ _ m (c .before .callee .given .1))), turns-refl _ _)
 
 same-length-2 : tie.Need-same-length-2
 same-length-2 c = search needs
@@ -42,7 +43,7 @@ same-length-3 : tie.Need-same-length-3
 same-length-3 c = search needs
 
 returns-2 : tie.Need-returns-2
-returns-2 c = λ to m. finish-cast _ _ _ (omega arith) (c .before .before .before .before .before .before .before .before .before .before .before .new-var .ensures) (callee-cast _ _ m (c .before .before .before .before .before .enum-told .given .1)) (c .before .before .cast-first .ensures)
+returns-2 c = ((λ to m. finish-cast _ _ _ (omega arith) (c .before .before .before .before .before .before .before .before .before .before .before .new-var .ensures) (callee-cast _ _ m (c .before .before .before .before .before .enum-told .given .1)) (c .before .before .cast-first .ensures)), turns-refl _ _)
 
 same-length-4 : tie.Need-same-length-4
 same-length-4 c = search needs
@@ -51,7 +52,7 @@ same-length-5 : tie.Need-same-length-5
 same-length-5 c = search needs
 
 returns-3 : tie.Need-returns-3
-returns-3 c = λ to m. finish-function _ _ _ (omega arith) (c .before .before .before .before .before .before .before .before .before .before .before .before .before .before .new-var .ensures) _ (callee-function _ _ m (c .before .before .before .before .before .before .before .before .callee2 .given .1)) (c .before .before .before .before .call-function .ensures)
+returns-3 c = ((λ to m. finish-function _ _ _ (omega arith) (c .before .before .before .before .before .before .before .before .before .before .before .before .before .before .new-var .ensures) _ (callee-function _ _ m (c .before .before .before .before .before .before .before .before .callee2 .given .1)) (c .before .before .before .before .call-function .ensures .0)), c .before .before .before .before .call-function .ensures .1)
 
 pub finish-call-spec : {M : Type 1} → statement M
 finish-call-spec = tie.close (tie.spec cast-new-var new-var-requires enum-known-callee enum-told cast-first-requires enum-known-callee-2 call-function-requires same-length returns same-length-2 same-length-3 returns-2 same-length-4 same-length-5 returns-3)

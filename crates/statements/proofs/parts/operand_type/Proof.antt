@@ -1,7 +1,7 @@
 -- The type that both sides of a Binary are fitted to.
 -- What typing answers, by its three answers. Assumes nothing.
 use borrow.Author.Needs.{needs}
-use Rattle.statements.proofs.AroundLaws.{left-side, right-side, common-refused, common-is, common-neither}
+use Rattle.statements.proofs.AroundLaws.{left-side, right-side, common-refused, common-is, common-neither, is-types, neither-types, refused-common}
 use Rattle.statements.proofs.parts.operand_type.Statement.{statement}
 use Rattle.statements.proofs.parts.operand_type.Tie as tie
 
@@ -12,7 +12,7 @@ reference-requires-2 : tie.Need-reference-requires-2
 reference-requires-2 c κs = search needs
 
 common-type-requires : tie.Need-common-type-requires
-common-type-requires c κs = (c .before .before .before .before .before .before .before .pre .0, (left-side (c .before .before .before .before .before .before .before .pre .0 .keyed .good) (c .before .before .before .before .before .before .before .pre .1 .0) (c .before .before .reference .ensures) .1, right-side (c .before .before .before .before .before .before .before .pre .0 .keyed .good) (c .before .before .before .before .before .before .before .pre .1 .0) (c .before .reference2 .ensures) .1))
+common-type-requires c κs = (record { ready = c .before .before .before .before .before .before .before .pre .0; remembers = c .before .before .before .before .before .before .before .pre .1 .1 }, (left-side (c .before .before .before .before .before .before .before .pre .0 .keyed .good) (c .before .before .before .before .before .before .before .pre .1 .0 .0) (c .before .before .reference .ensures) .1, right-side (c .before .before .before .before .before .before .before .pre .0 .keyed .good) (c .before .before .before .before .before .before .before .pre .1 .0 .0) (c .before .reference2 .ensures) .1))
 
 enum-known-x : tie.Need-enum-known-x
 enum-known-x c = search needs
@@ -27,19 +27,19 @@ same-length : tie.Need-same-length
 same-length c = search needs
 
 returns : tie.Need-returns
-returns c = common-refused _ _ _ (c .before .before .before .before .before .before .before .before .reference .ensures) (c .before .before .before .before .before .before .before .reference2 .ensures) (c .before .before .before .before .before .common-type .ensures) _ (c .before .x .given .1)
+returns c = (common-refused _ _ _ (c .before .before .before .before .before .before .before .before .reference .ensures) (c .before .before .before .before .before .before .before .reference2 .ensures) (c .before .before .before .before .before .common-type .ensures) _ (c .before .x .given .1), refused-common)
 
 same-length-2 : tie.Need-same-length-2
 same-length-2 c = search needs
 
 returns-2 : tie.Need-returns-2
-returns-2 c = common-is _ _ _ (c .before .before .before .before .before .before .before .before .reference .ensures) (c .before .before .before .before .before .before .before .reference2 .ensures) (c .before .before .before .before .before .common-type .ensures) _ (c .before .q .given .1)
+returns-2 c = (common-is _ _ _ (c .before .before .before .before .before .before .before .before .reference .ensures) (c .before .before .before .before .before .before .before .reference2 .ensures) (c .before .before .before .before .before .common-type .ensures) _ (c .before .q .given .1), is-types (c .before .before .before .before .before .before .before .before .before .before .before .before .before .args .c) _ (c .before .before .before .before .before .before .before .before .reference .ensures) (c .before .before .before .before .before .before .before .reference2 .ensures) (c .before .before .before .before .before .common-type .ensures) _ (c .before .q .given .1) _)
 
 same-length-3 : tie.Need-same-length-3
 same-length-3 c = search needs
 
 returns-3 : tie.Need-returns-3
-returns-3 c = common-neither _ _ _ (c .before .before .before .before .before .before .before .reference .ensures) (c .before .before .before .before .before .before .reference2 .ensures) (c .before .before .before .before .common-type .ensures) (c .enum-told .given .1) (c .before .before .before .before .before .before .before .before .before .before .before .before .pre .1 .1)
+returns-3 c = (common-neither _ _ _ (c .before .before .before .before .before .before .before .reference .ensures) (c .before .before .before .before .before .before .reference2 .ensures) (c .before .before .before .before .common-type .ensures) (c .enum-told .given .1) (c .before .before .before .before .before .before .before .before .before .before .before .before .pre .1 .0 .1), neither-types (c .before .before .before .before .before .before .before .before .before .before .before .before .args .c) _ (c .before .before .before .before .before .before .before .reference .ensures) (c .before .before .before .before .before .before .reference2 .ensures) (c .before .before .before .before .common-type .ensures) (c .enum-told .given .1) _)
 
 pub operand-type-spec : {M : Type 1} → statement M
 operand-type-spec = tie.close (tie.spec reference-requires reference-requires-2 common-type-requires enum-known-x enum-known-q enum-told same-length returns same-length-2 returns-2 same-length-3 returns-3)

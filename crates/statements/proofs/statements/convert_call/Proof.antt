@@ -3,7 +3,8 @@
 use borrow.Author.Needs.{needs}
 use mathlib.Core.Path.{sym, _∙_}
 use Rattle.expressions.proofs.TypingLaws.{expr-low}
-use Rattle.statements.proofs.ReturnLaws.{called-expr, typed-stop, typed-only}
+use Rattle.statements.proofs.PlainTurns.{typing-in, refused-stated}
+use Rattle.statements.proofs.ReturnLaws.{called-expr, typed-stop, typed-only, only-types}
 use Rattle.statements.proofs.statements.convert_call.Statement.{statement}
 use Rattle.statements.proofs.statements.convert_call.Tie as tie
 
@@ -11,10 +12,10 @@ reference-requires : tie.Need-reference-requires
 reference-requires c κs = search needs
 
 kind-requires : tie.Need-kind-requires
-kind-requires c κs = called-expr (c .before .before .before .before .before .before .before .pre .0 .0 .ready .keyed .good) (c .reference .ensures) (c .before .before .before .before .before .before .before .pre .1) .inside
+kind-requires c κs = called-expr (c .before .before .before .before .before .before .before .pre .0 .0 .ready .keyed .good) (c .reference .ensures) (c .before .before .before .before .before .before .before .pre .1 .0) .inside
 
 call-statement-requires : tie.Need-call-statement-requires
-call-statement-requires c κs = (c .before .before .before .before .before .before .before .before .before .before .before .pre .0, (c .before .before .before .before .before .before .before .before .before .before .before .pre .1, record { below = expr-low _ _ (c .before .before .before .before .before .before .before .before .before .before .before .pre .0 .0 .ready .keyed .good) _ (called-expr (c .before .before .before .before .before .before .before .before .before .before .before .pre .0 .0 .ready .keyed .good) (c .before .before .before .before .reference .ensures) (c .before .before .before .before .before .before .before .before .before .before .before .pre .1)); kind = sym (c .before .before .before .kind .ensures) ∙ c .before .before .if1 .taken }, c .before .before .before .before .reference .ensures))
+call-statement-requires c κs = (c .before .before .before .before .before .before .before .before .before .before .before .pre .0, ((c .before .before .before .before .before .before .before .before .before .before .before .pre .1 .0, record { below = expr-low _ _ (c .before .before .before .before .before .before .before .before .before .before .before .pre .0 .0 .ready .keyed .good) _ (called-expr (c .before .before .before .before .before .before .before .before .before .before .before .pre .0 .0 .ready .keyed .good) (c .before .before .before .before .reference .ensures) (c .before .before .before .before .before .before .before .before .before .before .before .pre .1 .0)); kind = sym (c .before .before .before .kind .ensures) ∙ c .before .before .if1 .taken }, c .before .before .before .before .reference .ensures), c .before .before .before .before .before .before .before .before .before .before .before .pre .1 .1))
 
 same-length : tie.Need-same-length
 same-length c = search needs
@@ -23,10 +24,10 @@ same-length-2 : tie.Need-same-length-2
 same-length-2 c = search needs
 
 returns : tie.Need-returns
-returns c = search needs
+returns c = (c .before .before .before .before .call-statement .ensures .0, c .before .before .before .before .call-statement .ensures .1)
 
 get-type-requires : tie.Need-get-type-requires
-get-type-requires c κs = (c .before .before .before .before .before .before .before .before .before .before .pre .0 .0 .ready, called-expr (c .before .before .before .before .before .before .before .before .before .before .pre .0 .0 .ready .keyed .good) (c .before .before .before .reference .ensures) (c .before .before .before .before .before .before .before .before .before .before .pre .1))
+get-type-requires c κs = (typing-in (c .before .before .before .before .before .before .before .before .before .before .pre .0 .0) (c .before .before .before .before .before .before .before .before .before .before .pre .1 .1), called-expr (c .before .before .before .before .before .before .before .before .before .before .pre .0 .0 .ready .keyed .good) (c .before .before .before .reference .ensures) (c .before .before .before .before .before .before .before .before .before .before .pre .1 .0))
 
 enum-known-x : tie.Need-enum-known-x
 enum-known-x c = search needs
@@ -38,13 +39,13 @@ same-length-3 : tie.Need-same-length-3
 same-length-3 c = search needs
 
 returns-2 : tie.Need-returns-2
-returns-2 c = typed-stop (c .before .before .before .before .before .before .before .before .before .before .before .before .before .before .before .before .pre .0 .0) (c .before .before .before .before .before .before .before .before .before .before .before .before .before .before .before .before .pre .0 .1) (c .before .before .before .before .before .before .before .before .before .before .before .before .before .before .before .before .pre .1) (c .before .before .before .before .before .before .before .before .before .reference .ensures) (c .before .before .before .before .before .before .before .before .kind .ensures) (c .before .before .before .before .before .before .before .if1 .left) (c .before .before .before .before .before .get-type .ensures) (c .before .x .given .1)
+returns-2 c = (typed-stop (c .before .before .before .before .before .before .before .before .before .before .before .before .before .before .before .before .pre .0 .0) (c .before .before .before .before .before .before .before .before .before .before .before .before .before .before .before .before .pre .0 .1) (c .before .before .before .before .before .before .before .before .before .before .before .before .before .before .before .before .pre .1 .0) (c .before .before .before .before .before .before .before .before .before .reference .ensures) (c .before .before .before .before .before .before .before .before .kind .ensures) (c .before .before .before .before .before .before .before .if1 .left) (c .before .before .before .before .before .get-type .ensures) (c .before .x .given .1), refused-stated)
 
 same-length-4 : tie.Need-same-length-4
 same-length-4 c = search needs
 
 returns-3 : tie.Need-returns-3
-returns-3 c = typed-only (c .before .before .before .before .before .before .before .before .before .before .before .before .before .before .before .pre .0 .0) (c .before .before .before .before .before .before .before .before .before .before .before .before .before .before .before .pre .0 .1) (c .before .before .before .before .before .before .before .before .before .before .before .before .before .before .before .pre .1) (c .before .before .before .before .before .before .before .before .reference .ensures) (c .before .before .before .before .before .before .before .kind .ensures) (c .before .before .before .before .before .before .if1 .left) (c .before .before .before .before .get-type .ensures) (c .enum-told .given .1)
+returns-3 c = (typed-only (c .before .before .before .before .before .before .before .before .before .before .before .before .before .before .before .pre .0 .0) (c .before .before .before .before .before .before .before .before .before .before .before .before .before .before .before .pre .0 .1) (c .before .before .before .before .before .before .before .before .before .before .before .before .before .before .before .pre .1 .0) (c .before .before .before .before .before .before .before .before .reference .ensures) (c .before .before .before .before .before .before .before .kind .ensures) (c .before .before .before .before .before .before .if1 .left) (c .before .before .before .before .get-type .ensures) (c .enum-told .given .1), λ _ _ _. only-types (c .before .before .before .before .before .before .before .before .before .before .before .before .before .before .before .pre .0 .0) (c .before .before .before .before .before .before .before .before .before .before .before .before .before .before .before .pre .0 .1) (c .before .before .before .before .before .before .before .before .before .before .before .before .before .before .before .pre .1 .0) (c .before .before .before .before .before .before .before .before .reference .ensures) (c .before .before .before .before .before .before .before .kind .ensures) (c .before .before .before .before .before .before .if1 .left) (c .before .before .before .before .get-type .ensures) (c .enum-told .given .1))
 
 pub convert-call-spec : {M : Type 1} → statement M
 convert-call-spec =

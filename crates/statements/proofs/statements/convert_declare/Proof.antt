@@ -1,7 +1,8 @@
 -- A Declare: a new variable, its name, and its zero value.
 -- By the law of a name declared behind a new variable, and of the steps that follow. Assumes nothing.
 use native.Mathlib.Omega.{arith}
-use Rattle.statements.proofs.DeclareLaws.{declare-asks, zero-asks, declare-taken, declare-refused, declare-done}
+use Rattle.statements.proofs.PlainTurns.{refused-stated}
+use Rattle.statements.proofs.DeclareLaws.{declare-asks, zero-asks, declare-taken, declare-refused, declare-done, declare-types}
 use borrow.Author.Needs.{needs}
 use Rattle.statements.proofs.statements.convert_declare.Statement.{statement}
 use Rattle.statements.proofs.statements.convert_declare.Tie as tie
@@ -13,19 +14,19 @@ new-var-requires : tie.Need-new-var-requires
 new-var-requires c κs = search needs
 
 declare-name-requires : tie.Need-declare-name-requires
-declare-name-requires c κs = declare-asks (c .before .before .before .before .before .before .before .before .before .before .before .before .before .before .pre .0 .0) (c .before .before .before .before .before .before .before .before .before .before .before .before .before .before .pre .1) (c .before .before .before .before .before .before .before .before .before .before .before .before .before .before .pre .0 .1) (c .before .before .before .before .before .before .word .ensures) (omega arith) (c .before .before .before .before .before .new-var .ensures)
+declare-name-requires c κs = declare-asks (c .before .before .before .before .before .before .before .before .before .before .before .before .before .before .pre .0 .0) (c .before .before .before .before .before .before .before .before .before .before .before .before .before .before .pre .1 .0) (c .before .before .before .before .before .before .before .before .before .before .before .before .before .before .pre .0 .1) (c .before .before .before .before .before .before .word .ensures) (omega arith) (c .before .before .before .before .before .new-var .ensures)
 
 enum-told : tie.Need-enum-told
 enum-told c = search needs
 
 error-at-requires : tie.Need-error-at-requires
-error-at-requires c κs = omega (arith, c .before .before .before .before .before .before .before .before .before .before .before .before .before .before .before .before .before .before .before .pre .1 .below, c .before .before .before .before .before .before .before .before .before .before .before .before .before .before .before .before .before .before .before .pre .0 .0 .ready .keyed .good .few)
+error-at-requires c κs = omega (arith, c .before .before .before .before .before .before .before .before .before .before .before .before .before .before .before .before .before .before .before .pre .1 .0 .below, c .before .before .before .before .before .before .before .before .before .before .before .before .before .before .before .before .before .before .before .pre .0 .0 .ready .keyed .good .few)
 
 enum-known-next : tie.Need-enum-known-next
 enum-known-next c = search needs
 
 zero-value-requires : tie.Need-zero-value-requires
-zero-value-requires c κs = zero-asks (c .before .before .before .before .before .before .before .before .before .before .before .before .before .before .before .before .before .before .before .before .before .pre .0 .0) (c .before .before .before .before .before .before .before .before .before .before .before .before .before .before .before .before .before .before .before .before .before .pre .1) (c .before .before .before .before .before .before .before .before .before .before .before .before .before .before .before .before .before .before .before .before .before .pre .0 .1) (c .before .before .before .before .before .before .before .before .before .before .before .before .before .word .ensures) (omega arith) (c .before .before .before .before .before .before .before .before .before .before .before .before .new-var .ensures)
+zero-value-requires c κs = zero-asks (c .before .before .before .before .before .before .before .before .before .before .before .before .before .before .before .before .before .before .before .before .before .pre .0 .0) (c .before .before .before .before .before .before .before .before .before .before .before .before .before .before .before .before .before .before .before .before .before .pre .1 .0) (c .before .before .before .before .before .before .before .before .before .before .before .before .before .before .before .before .before .before .before .before .before .pre .0 .1) (c .before .before .before .before .before .before .before .before .before .before .before .before .before .word .ensures) (omega arith) (c .before .before .before .before .before .before .before .before .before .before .before .before .new-var .ensures)
 
 enum-known-x : tie.Need-enum-known-x
 enum-known-x c = search needs
@@ -40,7 +41,7 @@ same-length-2 : tie.Need-same-length-2
 same-length-2 c = search needs
 
 returns : tie.Need-returns
-returns c = declare-taken (c .before .before .before .before .before .before .before .before .before .before .before .before .before .before .before .before .before .before .before .before .pre .0 .0) (c .before .before .before .before .before .before .before .before .before .before .before .before .before .before .before .before .before .before .before .before .pre .1) (c .before .before .before .before .before .before .before .before .before .before .before .before .before .before .before .before .before .before .before .before .pre .0 .1) (c .before .before .before .before .before .before .before .before .before .before .before .before .word .ensures) (omega arith) (c .before .before .before .before .before .before .before .before .before .before .before .new-var .ensures) _ (c .before .before .before .before .before .declare-name .ensures) (c .before .enum-told .given .1) (c .error-at .ensures)
+returns c = (declare-taken (c .before .before .before .before .before .before .before .before .before .before .before .before .before .before .before .before .before .before .before .before .pre .0 .0) (c .before .before .before .before .before .before .before .before .before .before .before .before .before .before .before .before .before .before .before .before .pre .1 .0) (c .before .before .before .before .before .before .before .before .before .before .before .before .before .before .before .before .before .before .before .before .pre .0 .1) (c .before .before .before .before .before .before .before .before .before .before .before .before .word .ensures) (omega arith) (c .before .before .before .before .before .before .before .before .before .before .before .new-var .ensures) _ (c .before .before .before .before .before .declare-name .ensures) (c .before .enum-told .given .1) (c .error-at .ensures), refused-stated)
 
 same-length-3 : tie.Need-same-length-3
 same-length-3 c = search needs
@@ -49,7 +50,7 @@ same-length-4 : tie.Need-same-length-4
 same-length-4 c = search needs
 
 returns-2 : tie.Need-returns-2
-returns-2 c = declare-refused (c .before .before .before .before .before .before .before .before .before .before .before .before .before .before .before .before .before .before .before .before .before .before .before .before .before .before .before .pre .0 .0) (c .before .before .before .before .before .before .before .before .before .before .before .before .before .before .before .before .before .before .before .before .before .before .before .before .before .before .before .pre .1) (c .before .before .before .before .before .before .before .before .before .before .before .before .before .before .before .before .before .before .before .before .before .before .before .before .before .before .before .pre .0 .1) (c .before .before .before .before .before .before .before .before .before .before .before .before .before .before .before .before .before .before .before .word .ensures) (omega arith) (c .before .before .before .before .before .before .before .before .before .before .before .before .before .before .before .before .before .before .new-var .ensures) _ (c .before .before .before .before .before .before .before .before .before .before .before .before .declare-name .ensures) (c .before .before .before .before .before .before .before .before .next .given .1) _ (c .before .before .before .before .before .zero-value .ensures) (c .before .x .given .1)
+returns-2 c = (declare-refused (c .before .before .before .before .before .before .before .before .before .before .before .before .before .before .before .before .before .before .before .before .before .before .before .before .before .before .before .pre .0 .0) (c .before .before .before .before .before .before .before .before .before .before .before .before .before .before .before .before .before .before .before .before .before .before .before .before .before .before .before .pre .1 .0) (c .before .before .before .before .before .before .before .before .before .before .before .before .before .before .before .before .before .before .before .before .before .before .before .before .before .before .before .pre .0 .1) (c .before .before .before .before .before .before .before .before .before .before .before .before .before .before .before .before .before .before .before .word .ensures) (omega arith) (c .before .before .before .before .before .before .before .before .before .before .before .before .before .before .before .before .before .before .new-var .ensures) _ (c .before .before .before .before .before .before .before .before .before .before .before .before .declare-name .ensures) (c .before .before .before .before .before .before .before .before .next .given .1) _ (c .before .before .before .before .before .zero-value .ensures) (c .before .x .given .1), refused-stated)
 
 same-length-5 : tie.Need-same-length-5
 same-length-5 c = search needs
@@ -58,7 +59,7 @@ same-length-6 : tie.Need-same-length-6
 same-length-6 c = search needs
 
 returns-3 : tie.Need-returns-3
-returns-3 c = declare-done (c .before .before .before .before .before .before .before .before .before .before .before .before .before .before .before .before .before .before .before .before .before .before .before .before .before .before .before .pre .0 .0) (c .before .before .before .before .before .before .before .before .before .before .before .before .before .before .before .before .before .before .before .before .before .before .before .before .before .before .before .pre .1) (c .before .before .before .before .before .before .before .before .before .before .before .before .before .before .before .before .before .before .before .before .before .before .before .before .before .before .before .pre .0 .1) (c .before .before .before .before .before .before .before .before .before .before .before .before .before .before .before .before .before .before .before .word .ensures) (omega arith) (c .before .before .before .before .before .before .before .before .before .before .before .before .before .before .before .before .before .before .new-var .ensures) _ (c .before .before .before .before .before .before .before .before .before .before .before .before .declare-name .ensures) (c .before .before .before .before .before .before .before .before .next .given .1) _ (c .before .before .before .before .before .zero-value .ensures) (c .before .k2 .given .1)
+returns-3 c = (declare-done (c .before .before .before .before .before .before .before .before .before .before .before .before .before .before .before .before .before .before .before .before .before .before .before .before .before .before .before .pre .0 .0) (c .before .before .before .before .before .before .before .before .before .before .before .before .before .before .before .before .before .before .before .before .before .before .before .before .before .before .before .pre .1 .0) (c .before .before .before .before .before .before .before .before .before .before .before .before .before .before .before .before .before .before .before .before .before .before .before .before .before .before .before .pre .0 .1) (c .before .before .before .before .before .before .before .before .before .before .before .before .before .before .before .before .before .before .before .word .ensures) (omega arith) (c .before .before .before .before .before .before .before .before .before .before .before .before .before .before .before .before .before .before .new-var .ensures) _ (c .before .before .before .before .before .before .before .before .before .before .before .before .declare-name .ensures) (c .before .before .before .before .before .before .before .before .next .given .1) _ (c .before .before .before .before .before .zero-value .ensures) (c .before .k2 .given .1), λ _ _ _. declare-types (c .before .before .before .before .before .before .before .before .before .before .before .before .before .before .before .before .before .before .before .before .before .before .before .before .before .before .before .pre .0 .0) (c .before .before .before .before .before .before .before .before .before .before .before .before .before .before .before .before .before .before .before .before .before .before .before .before .before .before .before .pre .1 .0) (c .before .before .before .before .before .before .before .before .before .before .before .before .before .before .before .before .before .before .before .before .before .before .before .before .before .before .before .pre .0 .1) (c .before .before .before .before .before .before .before .before .before .before .before .before .before .before .before .before .before .before .before .word .ensures) (omega arith) (c .before .before .before .before .before .before .before .before .before .before .before .before .before .before .before .before .before .before .new-var .ensures) _ (c .before .before .before .before .before .before .before .before .before .before .before .before .declare-name .ensures) (c .before .before .before .before .before .before .before .before .next .given .1) (c .before .before .before .before .before .before .before .before .before .before .before .before .before .before .before .before .before .before .before .before .before .before .before .before .before .before .before .pre .1 .1))
 
 pub convert-declare-spec : {M : Type 1} → statement M
 convert-declare-spec =

@@ -1,0 +1,75 @@
+// What is remembered of types, so that each is worked out once (document 02, point 9): an expression's type stands at its slot, and beside it the turn in
+// which it was worked out. A turn is a statement, so that a type is only used in the scope that it was worked out in.
+ghost use mathlib.Core.Path.{_≡_};
+ghost use Prim.Native.Nat.{_+_, _*_, _≤_, _<_};
+ghost use lib.ListN.{length};
+ghost use Rattle.records.specs.Words.{records};
+ghost use Rattle.expressions.specs.Slots.{inTurn, visitsAt, afterVisit, Forgets};
+ghost use Rattle.expressions.specs.Answers.{Keepable, Keeps};
+use crate::answers::ExprType;
+use records::layout::SCRATCH;
+use records::layout::TURN_BYTES;
+use records::layout::TURNS;
+use records::layout::TYPE_SLOT_BYTES;
+use records::layout::TYPE_SLOTS;
+use records::layout::VISIT_COUNT;
+use records::words::load;
+use records::words::put_word;
+
+// Whether the type of e was worked out in this turn.
+pub(crate) fn is_typed(tree: &[u8], scratch: &[u8], turn: u32, e: usize) -> bool
+    requires { ⌜ (e < records (now tree)) × (72 * records (now tree) ≤ length (now scratch)) ⌝ }
+    ensures { λ b. ⌜ b ≡ inTurn (now (tree .entry)) turn (now (scratch .entry)) e ⌝ }
+{
+    let n = tree.len() / 32;
+    load(scratch, TURNS * n + TURN_BYTES * e) == turn
+}
+
+// A visit: the type y of e was worked out in this turn.
+fn visit(tree: &[u8], scratch: &mut [u8], turn: u32, e: usize, y: usize)
+    requires { ⌜ (e < records (now tree)) × (72 * records (now tree) ≤ length (now scratch)) × (y < 4294967296) ⌝ }
+    requires { ⌜ visitsAt (now tree) (now scratch) + 1 < 4294967296 ⌝ }
+    ensures { λ _. ⌜ now (scratch .exit) ≡ afterVisit (now (tree .entry)) turn e y (now (scratch .entry)) ⌝ }
+{
+    let n = tree.len() / 32;
+    let visits = load(scratch, VISIT_COUNT * n);
+    put_word(scratch, TYPE_SLOTS * n + TYPE_SLOT_BYTES * e, y as u32);
+    put_word(scratch, TURNS * n + TURN_BYTES * e, turn);
+    put_word(scratch, VISIT_COUNT * n, visits + 1);
+}
+
+// What working out the type of e came to: a type is kept, and the visit counted.
+pub(crate) fn keep(tree: &[u8], scratch: &mut [u8], turn: u32, e: usize, a: ExprType) -> ExprType
+    requires { ⌜ Keepable (now tree) e a (now scratch) ⌝ }
+    ensures { λ r. ⌜ Keeps (now (tree .entry)) turn e a (now (scratch .entry)) r (now (scratch .exit)) ⌝ }
+{
+    match a {
+        ExprType::Refused(x) => ExprType::Refused(x),
+        ExprType::Is(y) => {
+            visit(tree, scratch, turn, e, y);
+            ExprType::Is(y)
+        }
+    }
+}
+
+// No type is known and no visit made, whatever the scratch held.
+pub fn forget(tree: &[u8], scratch: &mut [u8])
+    requires { ⌜ 72 * records (now tree) ≤ length (now scratch) ⌝ }
+    ensures { λ _. ⌜ Forgets (now (tree .entry)) (now (scratch .entry)) (now (scratch .exit)) ⌝ }
+{
+    let n = tree.len() / 32;
+    let mut i = TURNS * n;
+    while i < SCRATCH * n {
+        scratch[i] = 0;
+        i += 1;
+    }
+}
+
+// How many visits were made.
+pub fn visits(tree: &[u8], scratch: &[u8]) -> usize
+    requires { ⌜ (0 < records (now tree)) × (72 * records (now tree) ≤ length (now scratch)) ⌝ }
+    ensures { λ v. ⌜ v ≡ visitsAt (now (tree .entry)) (now (scratch .entry)) ⌝ }
+{
+    let n = tree.len() / 32;
+    load(scratch, VISIT_COUNT * n) as usize
+}
