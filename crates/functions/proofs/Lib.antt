@@ -5,4 +5,5 @@ pub mod ParameterRegion
 pub mod ParameterRun
 pub mod Turns
 pub mod ReturnLaws
+pub mod Members
 pub mod BodyLaws
