@@ -244,7 +244,7 @@ module _ {tree text l l₀ s : List ℕ} {c : Converter} (r : ℕ) {e : ℕ} {k�
   module _ {a : Converted} {l₁ s₁ : List ℕ}
       (i : Converts tree text (condSteps tree text s (withCounters c k₀) e) (exprAmount (under (exprAt tree text e))) (withCounters c k₀) l₀ s a l₁ s₁) where
     pub while-jump-requires : IsKind tree 20 r → {o : Operand} {k : Counters} → a ≡ Converted.Is o k → RoomFor k l₁ (amount 1 0 1 0 0) × HasSlot (k .records) (named 2 r)
-    while-jump-requires {k = k} x w =
+    while-jump-requires x {k = k} w =
         let d : Condition tree text r = while-condition p x in
         let counted : r < k .records = record-counted p x (converted-next i w .spent .records ∙ g₀ .spent .records) in (
           record { room = converted-next i w .next .room; affords = omega (arith, f .tables, d .fewer, same-under tree text q, g₀ .spent, converted-next i w .spent) },

@@ -203,8 +203,7 @@ module _ (tree : List ℕ) {s s′ : List ℕ} {names operands : ℕ} (f : Stays
   stack-kept (suc count) j h i = rw (operand-kept j (omega arith) (omega arith), stack-kept count (suc j) (omega arith) (omega arith))
 
 -- a record of the tree is one of those that the tables count
-pub record-counted : {tree text l s : List ℕ} {c : Converter} {kind r : ℕ} {k : Counters} → Converting tree text l s c → IsKind tree kind r
-    → k .records ≡ c .counters .records → r < k .records
+pub record-counted : {tree text l s : List ℕ} {c : Converter} {kind r n : ℕ} → Converting tree text l s c → IsKind tree kind r → n ≡ c .counters .records → r < n
 record-counted p x e = omega (arith, x .below, p .records-are, e)
 
 -- ---- the innermost loop
