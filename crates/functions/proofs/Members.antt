@@ -38,7 +38,7 @@ module _ (tree text : List ℕ) (P : Function → Type 0) where
   below-all : (n f : ℕ) → f < n → kindOf tree f ≡ 25 → All P (functionsOf tree text (recordsBelow tree n)) → P (functionOf tree text f)
   unfolding recordsBelow
   below-all zero f h k all = absurd (omega arith)
-  below-all (suc r) f h k all = go (eqb f r) refl
+  below-all (suc r) f h k all = go (eqb f r) refl (λ l. below-all r f l k)
     where
       rest : List ℕ
       rest = pick (eqb (kindOf tree r) 25) (r ∷ []) []
@@ -46,15 +46,15 @@ module _ (tree text : List ℕ) (P : Function → Type 0) where
       two : All P (functionsOf tree text (recordsBelow tree r) ++ functionsOf tree text rest)
       two = subst (All P) (functions-append tree text (recordsBelow tree r) rest) all
 
-      go : (b : Bool) → eqb f r ≡ b → P (functionOf tree text f)
-      go true e =
+      go : (b : Bool) → eqb f r ≡ b → (f < r → All P (functionsOf tree text (recordsBelow tree r)) → P (functionOf tree text f)) → P (functionOf tree text f)
+      go true e lower =
           let here : f ≡ r = eqb-true f r e in
           subst (λ (x : ℕ). P (functionOf tree text x)) (sym here)
           (last-one r (eqb (kindOf tree r) 25) (eq-eqb (kindOf tree r) 25 (ap (kindOf tree) (sym here) ∙ k))
           (all-right P (functionsOf tree text (recordsBelow tree r)) (functionsOf tree text rest) two))
-      go false e =
+      go false e lower =
           let other : f ≡ r → ⊥ = eqb-false f r e in
-          below-all r f (omega arith) k (all-left P (functionsOf tree text (recordsBelow tree r)) (functionsOf tree text rest) two)
+          lower (omega arith) (all-left P (functionsOf tree text (recordsBelow tree r)) (functionsOf tree text rest) two)
 
   pub member : (f : ℕ) → FunctionAt tree f → All P (program tree text .functions) → P (functionOf tree text f)
   member f at all = below-all (records tree) f (at .below) (at .kind) (subst (All P) (all-functions tree text) all)
