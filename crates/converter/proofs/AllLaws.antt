@@ -59,6 +59,7 @@ nothing-held text n l = record {
   strings-hold = no-entries encodeString 8 (196 * n) l (λ x. refl);
   floats-hold = no-entries encodeFloat 16 (204 * n) l (λ x. refl);
   digests-hold = no-entries encodeDigest 4 (236 * n) l (λ x. refl);
+  slots-hold = record { has = λ i b. absurd (omega arith); number = λ i b. absurd (omega arith) };
   before = record { functions-count = refl; instructions-before = refl; variables-before = refl; labels-before = refl };
   fits = record { labels-fit = tt; strings-stand = tt; floats-fit = tt };
 }

@@ -51,7 +51,7 @@ use Rattle.statements.specs.Turns.{Turns, Visited, TurnsStay, BlockVisited}
 use Rattle.statements.specs.Answers.{blockSteps, BlockAs}
 use Rattle.statements.proofs.MeetLaws.{adds-then, adds-pure, adds-most}
 use Rattle.statements.proofs.EmitLaws.{var-adds}
-use Rattle.statements.proofs.StayLaws.{stays-refl, stays-then}
+use Rattle.statements.proofs.StayLaws.{stays-refl, stays-then, loop-outside}
 use Rattle.statements.proofs.StatedLaws.{finished-next, finished-stop}
 use Rattle.statements.proofs.TurnLaws.{turns-refl, turns-stay, turns-later, visits-stay, visited-stay, visited-later}
 use Rattle.functions.specs.declared.parameters.Parameters.{Parameters}
@@ -326,6 +326,7 @@ module _ (tree text : List ℕ) (functions f : ℕ) (s s₁ : List ℕ) where
   record Declared (sc : Scope) : Type 0 where
     pub asked : withParams (functionOf tree text f .params) 0 (emptyIn tree text f) ≡ ok (scopeAt tree text s₁ sc)
     pub ready : Ready tree text s₁ functions sc
+    pub no-loop : sc .inner ≡ none
     pub function : sc .function ≡ f
     pub names : sc .names ≡ length (functionOf tree text f .params)
 
@@ -337,7 +338,7 @@ module _ (tree text : List ℕ) (functions f : ℕ) (s s₁ : List ℕ) where
       count e = omega (arith, names-more (functionOf tree text f .params) 0 (emptyIn tree text f) (scopeAt tree text s₁ sc) e, open-count text s₁ (sc .records) (sc .names))
 
       go : ParametersMeet tree text functions f s s₁ (Parameters.Done sc) → Declared sc
-      go (ParametersMeet.done asked ready inner function bytes) = record { asked = asked; ready = ready; function = function; names = count asked }
+      go (ParametersMeet.done asked ready inner function bytes) = record { asked = asked; ready = ready; no-loop = inner; function = function; names = count asked }
 
   not-declared : {a : Parameters} → ParametersMeet tree text functions f s s₁ a → {x : ConvertError} → a ≡ Parameters.Refused x
       → withParams (functionOf tree text f .params) 0 (emptyIn tree text f) ≡ err (x .kind) (x .place)
@@ -499,7 +500,13 @@ module _ {tree text l s : List ℕ} {functions f : ℕ} {k : Counters} (keyed : 
           × ((FunctionAt tree f × (k₁ .functions < k₁ .records)) × Turns tree s₁ k₁)
       body-needs same turns = (
         (
-          record { ready = is-declared .ready; function = rw (is-declared .function) at; records-are = v .spent .records ∙ are; room = v .next .room },
+          record {
+            ready = is-declared .ready;
+            function = rw (is-declared .function) at;
+            loop = loop-outside tree (sc .inner) (is-declared .no-loop);
+            records-are = v .spent .records ∙ are;
+            room = v .next .room;
+          },
           record {
             tables = omega (arith, h .tables, v .spent, record-count);
             stack = omega (arith, h .functions, record-count, are);

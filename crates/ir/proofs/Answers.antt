@@ -2,16 +2,17 @@
 -- The tables are kept by the laws of the arena, the searches by those that read it back. Assumes nothing.
 use mathlib.Core.Path.{_≡_, refl, sym, ap, ap₂, _∙_, subst}
 use mathlib.Core.Logic.{inl, inr}
+use mathlib.Core.Bool.{Bool, true, false}
 use mathlib.Core.List.{List, [], _++_}
 use mathlib.Core.Option.{Option, none, some}
-use Prim.Native.Nat.{ℕ, _+_, _-_, _*_, _/_, _%_, _^_, _<_}
+use Prim.Native.Nat.{ℕ, _+_, _-_, _*_, _/_, _%_, _^_, _≤_, _<_}
 use native.Mathlib.Omega.{arith}
 use lib.ListN.{length, length-append}
 use Rattle.laws.specs.Splice.{splice}
 use Rattle.records.specs.Digest.{digestOf}
-use Rattle.records.specs.Words.{textAt}
+use Rattle.records.specs.Words.{wordAt, textAt}
 use Rattle.conversion.specs.Ir as Ir
-use Rattle.conversion.specs.Ir.{State, FloatEntry, emit, new-var, label-id, string-id, float-id, numbered, position, sameLabel, sameText, sameFloat}
+use Rattle.conversion.specs.Ir.{State, LabelName, FloatEntry, emit, new-var, label-id, string-id, float-id, numbered, position, sameLabel, sameText, sameFloat}
 use Rattle.conversion.specs.Written.{bytesOf, word, wide, boolNumber, encodeInstr, encodeFields, encodeVar, encodeLabel, encodeString, encodeFloat, allVars, allLabels}
 use Rattle.ir.specs.declared.structs.Counters.{Counters}
 use Rattle.ir.specs.declared.structs.Instr.{Instr}
@@ -21,15 +22,16 @@ use Rattle.ir.specs.declared.structs.LabelNumber.{LabelNumber}
 use Rattle.ir.specs.declared.pool.PoolNumber.{PoolNumber}
 use Rattle.ir.specs.Instructions.{varOf, instrOf, fieldBytes}
 use Rattle.ir.specs.Amounts.{Amount, Spent}
-use Rattle.ir.specs.Arena.{encodeDigest, TablesSoFar, Holds, Room}
+use Rattle.ir.specs.Arena.{encodeDigest, TablesSoFar, HasSlot, labelSlot, Holds, Room}
 use Rattle.records.specs.declared.words.Found.{Found}
 use Rattle.records.specs.declared.words.Found.the-variants.{At, Nothing}
-use Rattle.ir.specs.Search.{first, foundOf, pairAt, stringIs, fourAt}
+use Rattle.ir.specs.Search.{first, foundOf, labelIs, stringIs, fourAt}
 use Rattle.ir.specs.Steps.{grown, Stands, Next, NextIn, moreInstructions, moreVariables, moreLabels, moreStrings, moreFloats, Wrote, WroteTwo, Emits, AddsVar, named, NumbersLabel, stringAt, NumbersString, NumbersFloat}
 use Rattle.ir.proofs.Entries.{written-length}
-use Rattle.ir.proofs.Kept.{withLabel, withString, withFloat, no-code, emit-holds, var-holds, label-holds, string-holds, float-holds}
-use Rattle.ir.proofs.ReadBack.{labels-read, strings-read, floats-read}
+use Rattle.ir.proofs.Kept.{withLabel, withString, withFloat, no-code, emit-holds, var-holds, slot-holds, label-holds, string-holds, float-holds}
+use Rattle.ir.proofs.ReadBack.{label-here, label-nowhere, strings-read, floats-read}
 use Rattle.ir.proofs.SearchLaws.{found-some, found-none}
+use Rattle.ir.proofs.SlotLaws.{slot-written}
 use Rattle.records.proofs.WordLaws.{wide-words}
 
 instr-length : (i : Ir.Instr) → length (encodeInstr i) ≡ 32
@@ -91,43 +93,57 @@ added : (text : List ℕ) (t : TablesSoFar) (k′ : Counters) (l′ : List ℕ) 
 unfolding Stands numbered
 added text t k′ l′ o s n x e q h = subst (λ (p : Option ℕ). Stands (numbered p (t .state) s n) x text t k′ l′) (sym e) (q, h)
 
--- ---- labels
+-- ---- labels, as the code meets them: whether the label under the number at the slot is this one
 
-pub label-found : (kind opener : ℕ) (k : Counters) (l : List ℕ) (r : LabelNumber) (i : ℕ) → Room k l
-    → first (k .labels - k .«labels_before») (pairAt l (140 * k .records + 8 * k .«labels_before») kind opener) 0 ≡ some i → r .label .0 ≡ i → r .counters ≡ k
-    → NumbersLabel kind opener k l r l
-unfolding label-id
-label-found kind opener k l r i room q e ek = record {
-  next = subst (λ (k′ : Counters). Next (label-id (named kind opener)) k l (r .label .0) k′ l) (sym ek) (record {
-    room = room;
-    records = refl;
-    stands = λ text t h. found text t k l room h (position (sameLabel (named kind opener)) (t .state .labels)) (withLabel (named kind opener) (t .state))
-        (length (t .state .labels)) i (r .label .0) (sym (labels-read text t k l h kind opener) ∙ q) e;
-  });
-  spent = same-spent (omega arith) ek;
-  entry = inr (record { counts = ek; same = refl });
-}
+module _ (kind opener : ℕ) (k : Counters) (l : List ℕ) (room : Room k l) (at i : ℕ) (ea : at ≡ labelSlot (k .records) (named kind opener)) (ei : i ≡ wordAt l at) where
+  abbrev x : LabelName
+  x = named kind opener
 
-pub label-new : (kind opener : ℕ) (k : Counters) (l l′ : List ℕ) (r : LabelNumber) → Room k l → k .labels < 3 * k .records → kind < 2 ^ 32 → opener < 2 ^ 32
-    → first (k .labels - k .«labels_before») (pairAt l (140 * k .records + 8 * k .«labels_before») kind opener) 0 ≡ none
-    → r .label .0 ≡ k .labels - k .«labels_before»
-    → Wrote l (140 * k .records + 8 * k .labels) (encodeLabel (named kind opener)) (moreLabels k) (r .counters) l′ → NumbersLabel kind opener k l r l′
-unfolding label-id encodeLabel word bytesOf
-label-new kind opener k l l′ r room small hk ho q en m =
-    let e : l′ ≡ splice l (140 * k .records + 8 * k .labels) (encodeLabel (named kind opener)) = m .wrote in
-    let len : length l′ ≡ length l = written-length l (140 * k .records + 8 * k .labels) (encodeLabel (named kind opener)) l′ e (omega (arith, room .arena)) in record {
-      next = subst (λ (k′ : Counters). Next (label-id (named kind opener)) k l (r .label .0) k′ l′) (sym (m .counts)) (record {
-        room = omega (arith, room, len);
-        records = refl;
-        stands = λ text t h.
-            added text t (moreLabels k) l′ (position (sameLabel (named kind opener)) (t .state .labels)) (withLabel (named kind opener) (t .state))
-            (length (t .state .labels)) (r .label .0) (sym (labels-read text t k l h kind opener) ∙ q)
-            (omega (arith, en, h .labels-hold .count, h .before .labels-before, length-append (allLabels (t .done)) (t .state .labels)))
-            (label-holds text t k l room h (named kind opener) l′ (record { kind = hk; opener = ho }) small e);
-      });
-      spent = same-spent (omega arith) (m .counts);
-      entry = inl m;
-    }
+  slot-has : i ≡ wordAt l (labelSlot (k .records) x)
+  slot-has = ei ∙ ap (wordAt l) ea
+
+  pub label-found : (b : Bool) (r : LabelNumber) → b ≡ labelIs l k kind opener i → b ≡ true → r .label .0 ≡ i → r .counters ≡ k → NumbersLabel kind opener k l r l
+  unfolding label-id
+  label-found b r eb q e ek = record {
+    next = subst (λ (k′ : Counters). Next (label-id x) k l (r .label .0) k′ l) (sym ek) (record {
+      room = room;
+      records = refl;
+      stands = λ text t h. found text t k l room h (position (sameLabel x) (t .state .labels)) (withLabel x (t .state))
+          (length (t .state .labels)) i (r .label .0) (label-here text t k l h kind opener i slot-has (sym eb ∙ q)) e;
+    });
+    spent = same-spent (omega arith) ek;
+    entry = inr (record { counts = ek; same = refl });
+  }
+
+  pub label-new : (b : Bool) (l′ : List ℕ) (r : LabelNumber) → k .labels < 3 * k .records → HasSlot (k .records) x
+      → b ≡ labelIs l k kind opener i → b ≡ false
+      → (r .label .0 ≡ k .labels - k .«labels_before»)
+      × WroteTwo l (labelSlot (k .records) x) (word (k .labels - k .«labels_before»)) (140 * k .records + 8 * k .labels) (encodeLabel x) (moreLabels k) (r .counters) l′
+      → NumbersLabel kind opener k l r l′
+  unfolding label-id encodeLabel word bytesOf
+  label-new b l′ r small slot eb q m =
+      let n : ℕ = k .labels - k .«labels_before» in
+      let at₂ : ℕ = 140 * k .records + 8 * k .labels in
+      let vs : List ℕ = encodeLabel x in
+      let l₁ : List ℕ = splice l (labelSlot (k .records) x) (word n) in
+      let e : l′ ≡ splice l₁ at₂ vs = m .1 .wrote in
+      let fit : labelSlot (k .records) x + 4 ≤ length l = omega (arith, slot, room .arena) in
+      let first-long : length l₁ ≡ length l = written-length l (labelSlot (k .records) x) (word n) l₁ refl fit in
+      let same : length l′ ≡ length l = written-length l₁ at₂ vs l′ e (omega (arith, room .arena, first-long)) ∙ first-long in
+      let room₁ : Room k l₁ = omega (arith, room, first-long) in record {
+        next = subst (λ (k′ : Counters). Next (label-id x) k l (r .label .0) k′ l′) (sym (m .1 .counts)) (record {
+          room = omega (arith, room, same);
+          records = refl;
+          stands = λ text t h.
+              let new : position (sameLabel x) (t .state .labels) ≡ none = label-nowhere text t k l h kind opener i slot-has (sym eb ∙ q) in
+              let count : n ≡ length (t .state .labels) = omega (arith, h .labels-hold .count, h .before .labels-before, length-append (allLabels (t .done)) (t .state .labels)) in
+              added text t (moreLabels k) l′ (position (sameLabel x) (t .state .labels)) (withLabel x (t .state)) (length (t .state .labels)) (r .label .0) new (m .0 ∙ count)
+              (label-holds text t k l₁ room₁ (slot-holds text t k l room h x n l₁ slot new refl) x l′ slot
+              (slot-written (k .records) x n l l₁ refl fit (omega (arith, room)) ∙ count) small e);
+        });
+        spent = same-spent (omega arith) (m .1 .counts);
+        entry = inl (m .1);
+      }
 
 -- ---- strings
 
@@ -222,18 +238,6 @@ float-new e a b c k l l′ r room small ea eb ec q en m =
     }
 
 -- ---- as the code meets them: what a search answered
-
-module _ (kind opener : ℕ) (k : Counters) (l : List ℕ) (a : Found) (room : Room k l)
-    (e : a ≡ foundOf (first (k .labels - k .«labels_before») (pairAt l (140 * k .records + 8 * k .«labels_before») kind opener) 0)) where
-  pub label-at : (r : LabelNumber) (i : ℕ) → a ≡ At i → r .label .0 ≡ i → r .counters ≡ k → NumbersLabel kind opener k l r l
-  label-at r i q ex ek =
-      label-found kind opener k l r i room (found-some (first (k .labels - k .«labels_before») (pairAt l (140 * k .records + 8 * k .«labels_before») kind opener) 0) i a e q) ex ek
-
-  pub label-nowhere : (l′ : List ℕ) (r : LabelNumber) → k .labels < 3 * k .records → kind < 2 ^ 32 → opener < 2 ^ 32 → a ≡ Nothing
-      → (r .label .0 ≡ k .labels - k .«labels_before») × Wrote l (140 * k .records + 8 * k .labels) (encodeLabel (named kind opener)) (moreLabels k) (r .counters) l′
-      → NumbersLabel kind opener k l r l′
-  label-nowhere l′ r small hk ho q m =
-      label-new kind opener k l l′ r room small hk ho (found-none (first (k .labels - k .«labels_before») (pairAt l (140 * k .records + 8 * k .«labels_before») kind opener) 0) a e q) (m .0) (m .1)
 
 module _ (text : List ℕ) (offset len d : ℕ) (k : Counters) (l : List ℕ) (a : Found) (room : Room k l) (ed : d ≡ digestOf (textAt text offset len))
     (e : a ≡ foundOf (first (k .strings) (stringIs text l (k .records) d (textAt text offset len)) 0)) where

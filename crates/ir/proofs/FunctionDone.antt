@@ -133,6 +133,7 @@ module _ (r : ℕ) (body : Bool) (b : ℕ) (eb : b ≡ boolNumber body) (k : Cou
         strings-hold = table-behind (h .strings-hold) place words l′ e fit (omega (arith, words-length));
         floats-hold = table-behind (h .floats-hold) place words l′ e fit (omega (arith, words-length));
         digests-hold = table-behind (h .digests-hold) place words l′ e fit (omega (arith, words-length));
+        slots-hold = record { has = λ i b. absurd (omega arith); number = λ i b. absurd (omega arith) };
         before = record {
           functions-count = simp length-append (omega (arith, h .before .functions-count));
           instructions-before = h .instructions-hold .count ∙ ap length (sym code-list ∙ append-nil (allCode (t .done ++ (f ∷ []))));

@@ -2,20 +2,23 @@
 -- The entry is written at the end of its region's part, before or behind every other region's. Assumes nothing.
 use mathlib.Core.Path.{_≡_, refl, sym, ap, _∙_, subst}
 use mathlib.Core.List.{List, [], _∷_, _++_, append-nil, append-assoc}
+use mathlib.Core.Option.{none}
 use Prim.Native.Nat.{ℕ, _+_, _*_, _≤_, _<_}
 use native.Mathlib.Omega.{arith}
 use lib.ListN.{length, length-append}
 use Rattle.laws.specs.All.{All}
 use Rattle.laws.specs.Splice.{splice}
+use Rattle.records.specs.Words.{wordAt}
 use Rattle.conversion.specs.Ir as Ir
-use Rattle.conversion.specs.Ir.{State, LabelName, StringEntry, FloatEntry}
-use Rattle.conversion.specs.Written.{encodeInstr, encodeVar, encodeLabel, encodeFunctions, encodeString, encodeFloat, allCode, allVars, allLabels}
+use Rattle.conversion.specs.Ir.{State, LabelName, StringEntry, FloatEntry, position, sameLabel}
+use Rattle.conversion.specs.Written.{bytesOf, word, encodeInstr, encodeVar, encodeLabel, encodeFunctions, encodeString, encodeFloat, allCode, allVars, allLabels}
 use Rattle.conversion.proofs.Bytes.{functions-length}
 use Rattle.ir.specs.declared.structs.Counters.{Counters}
 use Rattle.conversion.specs.Fits.{StringStands, FloatFits}
-use Rattle.ir.specs.Arena.{Has, Table, encodeDigest, TablesSoFar, LabelFits, Holds, Room}
+use Rattle.ir.specs.Arena.{Has, Table, encodeDigest, TablesSoFar, LabelFits, HasSlot, labelSlot, Slots, Holds, Room}
 use Rattle.ir.specs.Steps.{grown, moreInstructions, moreVariables, moreLabels, moreStrings, moreFloats}
 use Rattle.ir.proofs.Entries.{written-length, has-before, has-behind, table-before, table-behind, table-grown}
+use Rattle.ir.proofs.SlotLaws.{slots-behind, slots-beside, slots-grown}
 
 -- a property of every entry, and of one more
 pub all-more : {X : Type 0} (P : X → Type 0) (xs : List X) (x : X) → All P xs → P x → All P (xs ++ (x ∷ []))
@@ -58,11 +61,13 @@ module _ (text : List ℕ) (t : TablesSoFar) (k : Counters) (l : List ℕ) (room
         × Table encodeString 8 (t .state .strings) (196 * k .records) (k .strings) l′
         × Table encodeFloat 16 (t .state .floats) (204 * k .records) (k .floats) l′
         × Table encodeDigest 4 (t .state .strings) (236 * k .records) (k .strings) l′
+        × Slots (k .records) (t .state .labels) l′
     back b = (
       has-behind l i vs l′ e fit (164 * k .records) (encodeFunctions 0 0 0 (t .done)) b (h .functions-hold),
       table-behind (h .strings-hold) i vs l′ e fit (omega arith),
       table-behind (h .floats-hold) i vs l′ e fit (omega arith),
       table-behind (h .digests-hold) i vs l′ e fit (omega arith),
+      slots-behind (h .slots-hold) i vs l′ e fit (omega arith),
     )
 
   -- nothing emitted
@@ -89,6 +94,7 @@ module _ (text : List ℕ) (t : TablesSoFar) (k : Counters) (l : List ℕ) (room
         strings-hold = rest .1;
         floats-hold = rest .2;
         digests-hold = rest .3;
+        slots-hold = rest .4;
         before = h .before;
         fits = h .fits;
       }
@@ -113,13 +119,36 @@ module _ (text : List ℕ) (t : TablesSoFar) (k : Counters) (l : List ℕ) (room
         strings-hold = rest .1;
         floats-hold = rest .2;
         digests-hold = rest .3;
+        slots-hold = rest .4;
         before = h .before;
         fits = h .fits;
       })
 
-  pub label-holds : (x : LabelName) (l′ : List ℕ) → LabelFits x → k .labels < 3 * k .records
-      → l′ ≡ splice l (140 * k .records + 8 * k .labels) (encodeLabel x) → Holds text (grown t [] (withLabel x (t .state))) (moreLabels k) l′
-  label-holds x l′ fits small e =
+  -- a number at the slot of a label that is not there
+  pub slot-holds : (x : LabelName) (m : ℕ) (l′ : List ℕ) → HasSlot (k .records) x → position (sameLabel x) (t .state .labels) ≡ none
+      → l′ ≡ splice l (labelSlot (k .records) x) (word m) → Holds text t k l′
+  unfolding word bytesOf
+  slot-holds x m l′ slot new e =
+      let at : ℕ = labelSlot (k .records) x in
+      let fit : at + 4 ≤ length l = omega (arith, slot, room .arena) in
+      let rest = front at (word m) l′ e fit (omega arith) in
+      record {
+        instructions-hold = rest .0;
+        variables-hold = rest .1;
+        labels-hold = rest .2;
+        functions-hold = rest .3;
+        strings-hold = table-before (h .strings-hold) at (word m) l′ e fit (omega (arith, room .strings-in));
+        floats-hold = table-before (h .floats-hold) at (word m) l′ e fit (omega (arith, room .floats-in));
+        digests-hold = table-before (h .digests-hold) at (word m) l′ e fit (omega (arith, room .strings-in));
+        slots-hold = slots-beside (h .slots-hold) x m l′ slot new e fit;
+        before = h .before;
+        fits = h .fits;
+      }
+
+  -- a label whose number stands at its slot
+  pub label-holds : (x : LabelName) (l′ : List ℕ) → HasSlot (k .records) x → wordAt l (labelSlot (k .records) x) ≡ length (t .state .labels)
+      → k .labels < 3 * k .records → l′ ≡ splice l (140 * k .records + 8 * k .labels) (encodeLabel x) → Holds text (grown t [] (withLabel x (t .state))) (moreLabels k) l′
+  label-holds x l′ slot number small e =
       let at : ℕ = 140 * k .records + 8 * k .labels in
       let vs : List ℕ = encodeLabel x in
       let w : length (encodeLabel x) ≡ 8 = h .labels-hold .width x in
@@ -137,8 +166,9 @@ module _ (text : List ℕ) (t : TablesSoFar) (k : Counters) (l : List ℕ) (room
         strings-hold = rest .1;
         floats-hold = rest .2;
         digests-hold = rest .3;
+        slots-hold = slots-behind (slots-grown (h .slots-hold) x slot number) at vs l′ e fit (omega (arith, end));
         before = h .before;
-        fits = record { labels-fit = all-more LabelFits (t .state .labels) x (h .fits .labels-fit) fits; strings-stand = h .fits .strings-stand; floats-fit = h .fits .floats-fit };
+        fits = record { labels-fit = all-more LabelFits (t .state .labels) x (h .fits .labels-fit) (omega (arith, slot, room .small)); strings-stand = h .fits .strings-stand; floats-fit = h .fits .floats-fit };
       })
 
   -- a string, and its digest
@@ -165,6 +195,7 @@ module _ (text : List ℕ) (t : TablesSoFar) (k : Counters) (l : List ℕ) (room
         strings-hold = table-before (table-grown (h .strings-hold) x at l₁ e₁ fit (omega arith)) at₂ ds l′ e₂ fit₂ (omega arith);
         floats-hold = table-before (table-behind (h .floats-hold) at vs l₁ e₁ fit end) at₂ ds l′ e₂ fit₂ (omega (arith, room .floats-in));
         digests-hold = table-grown (table-behind (h .digests-hold) at vs l₁ e₁ fit (omega (arith, end))) x at₂ l′ e₂ fit₂ (omega arith);
+        slots-hold = slots-behind (slots-behind (h .slots-hold) at vs l₁ e₁ fit (omega (arith, end))) at₂ ds l′ e₂ fit₂ (omega (arith, w₂));
         before = h .before;
         fits = record { labels-fit = h .fits .labels-fit; strings-stand = all-more (StringStands text) (t .state .strings) x (h .fits .strings-stand) fits; floats-fit = h .fits .floats-fit };
       })
@@ -185,6 +216,7 @@ module _ (text : List ℕ) (t : TablesSoFar) (k : Counters) (l : List ℕ) (room
         strings-hold = table-before (h .strings-hold) at vs l′ e fit (omega (arith, room .strings-in));
         floats-hold = table-grown (h .floats-hold) x at l′ e fit (omega arith);
         digests-hold = table-behind (h .digests-hold) at vs l′ e fit (omega (arith, w));
+        slots-hold = slots-behind (h .slots-hold) at vs l′ e fit (omega (arith, w));
         before = h .before;
         fits = record { labels-fit = h .fits .labels-fit; strings-stand = h .fits .strings-stand; floats-fit = all-more FloatFits (t .state .floats) x (h .fits .floats-fit) fits };
       })

@@ -11,6 +11,7 @@ pub mod Kept
 pub mod Operators
 pub mod ReadBack
 pub mod SearchLaws
+pub mod SlotLaws
 pub mod StepCases
 pub mod StepLaws
 pub mod StepUses

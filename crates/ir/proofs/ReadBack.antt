@@ -3,12 +3,13 @@
 use mathlib.Core.Path.{_≡_, refl, sym, ap, ap₂, _∙_}
 use mathlib.Core.Bool.{Bool, true, false, _&&_, Bool·beq}
 use mathlib.Core.List.{List, [], _∷_, _++_}
+use mathlib.Core.Option.{none, some}
 use Prim.Native.Nat.{ℕ, zero, suc, _+_, _-_, _*_, _/_, _%_, _^_, _≤_, _<_}
 use native.Mathlib.Omega.{arith}
-use lib.Dec.{eqb}
+use lib.Dec.{eqb, ltb}
 use lib.ListN.{length, getD, length-append}
 use lib.Seq.{getD-append-add}
-use borrow.Author.Tests.{eqb-true, eq-eqb}
+use borrow.Author.Tests.{eqb-true, eq-eqb, ltb-true, lt-ltb}
 use Rattle.laws.specs.All.{All}
 use Rattle.laws.proofs.Tests.{tested, and-left, and-right}
 use Rattle.records.specs.Words.{byteAt, wordAt, textAt}
@@ -19,11 +20,12 @@ use Rattle.conversion.specs.Ir.{LabelName, StringEntry, FloatEntry, position, s
 use Rattle.conversion.specs.Written.{bytesOf, word, wide, boolNumber, encodeLabel, encodeString, encodeFloat, allLabels}
 use Rattle.ir.specs.declared.structs.Counters.{Counters}
 use Rattle.conversion.specs.Fits.{StringStands, FloatFits}
-use Rattle.ir.specs.Arena.{encodeDigest, TablesSoFar, LabelFits, Holds}
+use Rattle.ir.specs.Arena.{encodeDigest, TablesSoFar, LabelFits, labelSlot, noLabel, Holds}
 use Rattle.ir.specs.Steps.{named}
-use Rattle.ir.specs.Search.{first, pairAt, sameTextAt, stringIs, fourAt}
+use Rattle.ir.specs.Search.{first, pairAt, labelIs, sameTextAt, stringIs, fourAt}
 use Rattle.ir.proofs.Entries.{table-word}
 use Rattle.ir.proofs.SearchLaws.{first-position}
+use Rattle.ir.proofs.SlotLaws.{slot-found, slot-nowhere}
 
 -- the entry at byte p is the float x: its bits, the lower word first, and its mark
 pub record FloatAt (l : List ℕ) (p : ℕ) (x : FloatEntry) : Type 0 where
@@ -118,9 +120,6 @@ marks false false = refl
 
 -- ---- the searches
 
-no-label : LabelName
-no-label = named 0 0
-
 no-string : StringEntry
 no-string = record { offset = 0; len = 0; text = [] }
 
@@ -129,34 +128,49 @@ no-float = record { bits = 0; short = false }
 
 module _ (text : List ℕ) (t : TablesSoFar) (k : Counters) (l : List ℕ) (h : Holds text t k l) where
   -- entry j of the labels of the function at hand
-  label-entry : (j : ℕ) → getD (allLabels (t .done) ++ t .state .labels) (k .«labels_before» + j) no-label ≡ getD (t .state .labels) j no-label
+  label-entry : (j : ℕ) → getD (allLabels (t .done) ++ t .state .labels) (k .«labels_before» + j) noLabel ≡ getD (t .state .labels) j noLabel
   label-entry j =
-      ap (λ (m : ℕ). getD (allLabels (t .done) ++ t .state .labels) (m + j) no-label) (h .before .labels-before)
-      ∙ getD-append-add (allLabels (t .done)) (t .state .labels) j no-label
+      ap (λ (m : ℕ). getD (allLabels (t .done) ++ t .state .labels) (m + j) noLabel) (h .before .labels-before)
+      ∙ getD-append-add (allLabels (t .done)) (t .state .labels) j noLabel
 
   labels-count : k .labels ≡ k .«labels_before» + length (t .state .labels)
   labels-count = h .labels-hold .count ∙ length-append (allLabels (t .done)) (t .state .labels) ∙ omega (arith, h .before .labels-before)
 
   label-word : (j b p : ℕ) → j < length (t .state .labels) → b + 4 ≤ 8 → p ≡ 140 * k .records + (8 * (k .«labels_before» + j) + b)
-      → wordAt l p ≡ wordAt (encodeLabel (getD (t .state .labels) j no-label)) b
+      → wordAt l p ≡ wordAt (encodeLabel (getD (t .state .labels) j noLabel)) b
   label-word j b p hj hb e =
-      table-word (h .labels-hold) no-label (k .«labels_before» + j) b p (omega (arith, labels-count)) hb e
+      table-word (h .labels-hold) noLabel (k .«labels_before» + j) b p (omega (arith, labels-count)) hb e
       ∙ ap (λ (x : LabelName). wordAt (encodeLabel x) b) (label-entry j)
 
   label-same : (kind opener j : ℕ) → j < length (t .state .labels)
-      → pairAt l (140 * k .records + 8 * k .«labels_before») kind opener j ≡ sameLabel (named kind opener) (getD (t .state .labels) j no-label)
+      → pairAt l (140 * k .records + 8 * k .«labels_before») kind opener j ≡ sameLabel (named kind opener) (getD (t .state .labels) j noLabel)
   unfolding pairAt sameLabel
   label-same kind opener j hj =
-      let f : LabelFits (getD (t .state .labels) j no-label) = all-at LabelFits (t .state .labels) no-label j (h .fits .labels-fit) hj in
+      let f : LabelFits (getD (t .state .labels) j noLabel) = all-at LabelFits (t .state .labels) noLabel j (h .fits .labels-fit) hj in
       ap₂ (λ (x y : ℕ). eqb kind x && eqb opener y)
-      (label-word j 0 (140 * k .records + 8 * k .«labels_before» + 8 * j) hj (omega arith) (omega arith) ∙ label-kind (getD (t .state .labels) j no-label) f)
-      (label-word j 4 (140 * k .records + 8 * k .«labels_before» + 8 * j + 4) hj (omega arith) (omega arith) ∙ label-opener (getD (t .state .labels) j no-label) f)
+      (label-word j 0 (140 * k .records + 8 * k .«labels_before» + 8 * j) hj (omega arith) (omega arith) ∙ label-kind (getD (t .state .labels) j noLabel) f)
+      (label-word j 4 (140 * k .records + 8 * k .«labels_before» + 8 * j + 4) hj (omega arith) (omega arith) ∙ label-opener (getD (t .state .labels) j noLabel) f)
 
-  pub labels-read : (kind opener : ℕ)
-      → first (k .labels - k .«labels_before») (pairAt l (140 * k .records + 8 * k .«labels_before») kind opener) 0 ≡ position (sameLabel (named kind opener)) (t .state .labels)
-  labels-read kind opener =
-      first-position (sameLabel (named kind opener)) no-label (pairAt l (140 * k .records + 8 * k .«labels_before») kind opener) (t .state .labels)
-      (k .labels - k .«labels_before») (omega (arith, labels-count)) (label-same kind opener)
+  -- the number at a label's slot tells where the label is: there, or nowhere
+  module _ (kind opener i : ℕ) (e : i ≡ wordAt l (labelSlot (k .records) (named kind opener))) where
+    abbrev in-reach : Bool
+    in-reach = ltb i (k .labels - k .«labels_before»)
+
+    abbrev this : Bool
+    this = pairAt l (140 * k .records + 8 * k .«labels_before») kind opener i
+
+    pub label-here : labelIs l k kind opener i ≡ true → position (sameLabel (named kind opener)) (t .state .labels) ≡ some i
+    unfolding labelIs
+    label-here q =
+        let hi : i < length (t .state .labels) = omega (arith, ltb-true i (k .labels - k .«labels_before») (and-left in-reach this q), labels-count) in
+        slot-found (h .slots-hold) (named kind opener) i e hi (sym (label-same kind opener i hi) ∙ and-right in-reach this q)
+
+    pub label-nowhere : labelIs l k kind opener i ≡ false → position (sameLabel (named kind opener)) (t .state .labels) ≡ none
+    unfolding labelIs
+    label-nowhere q =
+        slot-nowhere (h .slots-hold) (named kind opener) i e (λ hi.
+        let b : in-reach ≡ true = lt-ltb i (k .labels - k .«labels_before») (omega (arith, labels-count)) in
+        sym (label-same kind opener i hi) ∙ sym (ap (λ (c : Bool). c && this) b) ∙ q)
 
   string-same : (u : List ℕ) (j : ℕ) → j < length (t .state .strings)
       → sameTextAt text l (196 * k .records) u j ≡ sameText u (getD (t .state .strings) j no-string .text)

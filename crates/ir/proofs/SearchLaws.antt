@@ -1,20 +1,21 @@
 -- Laws of `first`: what a loop over an index shows of it, and that it is the position in the list that the table holds.
 -- By recursion over the numbers that are left. Assumes nothing.
 use mathlib.Core.Path.{_≡_, refl, sym, ap, ap₂, _∙_, subst}
-use mathlib.Core.Bool.{Bool, true, false, _&&_}
+use mathlib.Core.Bool.{Bool, true, false, _&&_, false≢true}
 use mathlib.Core.List.{List, [], _∷_}
 use mathlib.Core.Option.{Option, none, some}
 use Prim.Native.Nat.{ℕ, zero, suc, _+_, _-_, _*_, _≤_, _<_}
 use native.Mathlib.Numerals.{add-one}
 use native.Mathlib.Omega.{arith}
 use lib.ListN.{length, getD}
-use borrow.Author.Tests.{eq-eqb, ne-eqb}
+use borrow.Author.Tests.{eq-eqb, ne-eqb, lt-ltb, le-ltb}
 use Rattle.laws.specs.Fix.{pick}
 use Rattle.records.specs.Words.{wordAt, textAt}
 use Rattle.conversion.specs.Ir.{position, sameText}
 use Rattle.records.specs.declared.words.Found.{Found}
 use Rattle.records.specs.declared.words.Found.the-variants.{At, Nothing}
-use Rattle.ir.specs.Search.{first, foundOf, sameTextAt, stringIs}
+use Rattle.ir.specs.declared.structs.Counters.{Counters}
+use Rattle.ir.specs.Search.{first, foundOf, pairAt, labelIs, sameTextAt, stringIs}
 
 module _ (n : ℕ) (f : ℕ → Bool) where
   -- what was asked equals what is left from i on
@@ -103,6 +104,39 @@ unfolding position
 position-hit p d [] i e = absurd (let z : _≡_ {A = ℕ} 0 1 = cc in omega arith)
 position-hit p d (x ∷ xs) i e = hit-by p d x xs i (position-hit p d xs) (p x) refl e
 
+-- nothing is found where the test holds of nothing
+rest-none : (o : Option ℕ) → _≡_ {A = Option ℕ} (elim o [ none ↦ none | some j ↦ some (suc j) ]) none → o ≡ none
+rest-none none e = refl
+rest-none (some j) e = absurd (let z : _≡_ {A = ℕ} 0 1 = cc in omega arith)
+
+none-by : {X : Type 0} (p : X → Bool) (d x : X) (xs : List X) → (position p xs ≡ none → (j : ℕ) → j < length xs → p (getD xs j d) ≡ false) → (b : Bool) → p x ≡ b
+    → position p (x ∷ xs) ≡ none → (j : ℕ) → j < length (x ∷ xs) → p (getD (x ∷ xs) j d) ≡ false
+none-by p d x xs rest true q e j h =
+    let w : _≡_ {A = Option ℕ} (some 0) none = sym (position-by p x xs true q) ∙ e in
+    absurd (let z : _≡_ {A = ℕ} 0 1 = cc in omega arith)
+none-by p d x xs rest false q e zero h = q
+none-by p d x xs rest false q e (suc j) h = rest (rest-none (position p xs) (sym (position-by p x xs false q) ∙ e)) j (omega arith)
+
+pub position-none : {X : Type 0} (p : X → Bool) (d : X) (xs : List X) → position p xs ≡ none → (j : ℕ) → j < length xs → p (getD xs j d) ≡ false
+position-none p d [] e j h = absurd (omega arith)
+position-none p d (x ∷ xs) e j h = none-by p d x xs (position-none p d xs) (p x) refl e j h
+
+-- the position of the only element of which the test holds; and none where it holds of none
+pub position-only : {X : Type 0} (p : X → Bool) (d : X) (xs : List X) (i : ℕ) → i < length xs → p (getD xs i d) ≡ true
+    → ((j : ℕ) → j < length xs → p (getD xs j d) ≡ true → j ≡ i) → position p xs ≡ some i
+position-only p d xs i h q only = go (position p xs) refl
+  where
+    go : (o : Option ℕ) → position p xs ≡ o → position p xs ≡ some i
+    go none e = absurd (false≢true (sym (position-none p d xs e i h) ∙ q))
+    go (some j) e = let hit = position-hit p d xs j e in e ∙ ap some (only j (hit .below) (hit .holds))
+
+pub position-nowhere : {X : Type 0} (p : X → Bool) (d : X) (xs : List X) → ((j : ℕ) → j < length xs → p (getD xs j d) ≡ true → ⊥) → position p xs ≡ none
+position-nowhere p d xs never = go (position p xs) refl
+  where
+    go : (o : Option ℕ) → position p xs ≡ o → position p xs ≡ none
+    go none e = e
+    go (some j) e = let hit = position-hit p d xs j e in absurd (never j (hit .below) (hit .holds))
+
 -- what is found is below the end
 first-in : (n : ℕ) (f : ℕ → Bool) (i r : ℕ) → (first n f (suc i) ≡ some r → r < suc i + n) → (b : Bool) → f i ≡ b
     → first (suc n) f i ≡ some r → r < i + suc n
@@ -126,6 +160,21 @@ found-none (some j) a e q = absurd (let z : _≡_ {A = ℕ} 0 1 = cc in omega ar
 
 pub found-small : (n : ℕ) (f : ℕ → Bool) (r : ℕ) (a : Found) → a ≡ foundOf (first n f 0) → a ≡ At r → r < n
 found-small n f r a e q = omega (arith, first-below n f 0 r (found-some (first n f 0) r a e q))
+
+-- ---- a label by its number
+
+module _ (l : List ℕ) (k : Counters) (kind opener j i : ℕ) (e : i ≡ j) where
+  pub label-beyond : k .labels - k .«labels_before» ≤ i → false ≡ labelIs l k kind opener j
+  unfolding labelIs
+  label-beyond h =
+      ap (λ (b : Bool). b && pairAt l (140 * k .records + 8 * k .«labels_before») kind opener j) (sym (le-ltb j (k .labels - k .«labels_before») (omega arith)))
+
+  pub label-within : i < k .labels - k .«labels_before» → (b : Bool) → b ≡ pairAt l (140 * k .records + 8 * k .«labels_before») kind opener i
+      → b ≡ labelIs l k kind opener j
+  unfolding labelIs
+  label-within h b eb =
+      eb ∙ ap (pairAt l (140 * k .records + 8 * k .«labels_before») kind opener) e
+      ∙ ap (λ (c : Bool). c && pairAt l (140 * k .records + 8 * k .«labels_before») kind opener j) (sym (lt-ltb j (k .labels - k .«labels_before») (omega arith)))
 
 -- ---- a string by its digest and its text
 

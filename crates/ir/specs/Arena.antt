@@ -1,14 +1,15 @@
 -- The arena: one lent buffer that holds all six tables while a tree of n records is converted, each in a region of its own, and behind them what they are searched by. It is the
 -- instruction buffer (320n bytes), whose first 128n bytes are the instructions' own place. Assumes nothing: these are definitions.
 use mathlib.Core.Path.{_≡_}
-use Prim.Native.Nat.{ℕ, _+_, _*_, _^_, _≤_, _<_}
+use Prim.Native.Nat.{ℕ, _+_, _-_, _*_, _^_, _≤_, _<_}
 use mathlib.Core.Bool.{Bool, _&&_}
 use mathlib.Core.List.{List, [], _∷_, _++_}
 use lib.Dec.{leb}
-use lib.ListN.{length, take, drop}
+use lib.ListN.{length, take, drop, getD}
 use Rattle.laws.specs.All.{All}
 use Rattle.records.specs.Digest.{digestOf}
 use Rattle.records.specs.Layout.{Region}
+use Rattle.records.specs.Words.{wordAt}
 use Rattle.conversion.specs.Ir as Ir
 use Rattle.conversion.specs.Ir.{LabelName, StringEntry, FloatEntry, State, IrFunction}
 use Rattle.conversion.specs.Fits.{StringStands, FloatFits}
@@ -45,12 +46,16 @@ floats = record { from = 204; each = 32 }
 abbrev pub stringDigests : Region
 stringDigests = record { from = 236; each = 4 }
 
+-- 7n numbers of 4, of the labels of the function at hand, a word for each kind at each record, by which a label is looked for: they are in no table
+abbrev pub labelSlots : Region
+labelSlots = record { from = 240; each = 28 }
+
 -- 'instructions 320n bytes'
 abbrev pub arenaEach : ℕ
 arenaEach = 320
 
 abbrev pub arena : List Region
-arena = instructions ∷ variables ∷ labels ∷ functions ∷ strings ∷ floats ∷ stringDigests ∷ []
+arena = instructions ∷ variables ∷ labels ∷ functions ∷ strings ∷ floats ∷ stringDigests ∷ labelSlots ∷ []
 
 -- each region starts behind the one before, and the last ends within so many bytes a record
 unfoldable pub fitsWithin : ℕ → ℕ → List Region → Bool
@@ -85,6 +90,23 @@ pub record LabelFits (l : LabelName) : Type 0 where
   pub kind : l .kind < 2 ^ 32
   pub opener : l .opener < 2 ^ 32
 
+-- a label has a slot in the tables of n records: its kind is one of document 01's seven, its opener one of the records
+pub record HasSlot (n : ℕ) (x : LabelName) : Type 0 where
+  pub least : 1 ≤ x .kind
+  pub most : x .kind ≤ 7
+  pub opener : x .opener < n
+
+abbrev pub labelSlot : ℕ → LabelName → ℕ
+labelSlot n x = labelSlots .from * n + labelSlots .each * x .opener + 4 * (x .kind - 1)
+
+abbrev pub noLabel : LabelName
+noLabel = record { kind = 0; opener = 0 }
+
+-- each of these labels has a slot, and its number stands there; the other slots may have anything
+pub record Slots (n : ℕ) (xs : List LabelName) (l : List ℕ) : Type 0 where
+  pub has : (i : ℕ) → i < length xs → HasSlot n (getD xs i noLabel)
+  pub number : (i : ℕ) → i < length xs → wordAt l (labelSlot n (getD xs i noLabel)) ≡ i
+
 -- how many functions are done, and how many instructions, variables and labels they have
 pub record Before (done : List IrFunction) (functions instructions variables labels : ℕ) : Type 0 where
   pub functions-count : functions ≡ length done
@@ -107,6 +129,7 @@ pub record Holds (text : List ℕ) (t : TablesSoFar) (k : Counters) (l : List �
   pub strings-hold : Table encodeString 8 (t .state .strings) (strings .from * k .records) (k .strings) l
   pub floats-hold : Table encodeFloat 16 (t .state .floats) (floats .from * k .records) (k .floats) l
   pub digests-hold : Table encodeDigest 4 (t .state .strings) (stringDigests .from * k .records) (k .strings) l
+  pub slots-hold : Slots (k .records) (t .state .labels) l
   pub before : Before (t .done) (k .functions) (k .«instructions_before») (k .«variables_before») (k .«labels_before»)
   pub fits : Fits text (t .state .labels) (t .state .strings) (t .state .floats)
 

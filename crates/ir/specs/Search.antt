@@ -1,14 +1,15 @@
 -- A search through a table: the first of so many numbers of which a test holds, and the tests by which labels, strings and floats are
 -- found. Assumes nothing: these are definitions.
-use Prim.Native.Nat.{ℕ, zero, suc, _+_, _*_}
+use Prim.Native.Nat.{ℕ, zero, suc, _+_, _-_, _*_}
 use mathlib.Core.Bool.{Bool, _&&_}
 use mathlib.Core.List.{List}
 use mathlib.Core.Option.{Option, none, some}
-use lib.Dec.{eqb}
+use lib.Dec.{eqb, ltb}
 use Rattle.laws.specs.Fix.{pick}
 use Rattle.records.specs.Words.{wordAt, textAt}
 use Rattle.conversion.specs.Ir.{sameText}
-use Rattle.ir.specs.Arena.{strings, stringDigests}
+use Rattle.ir.specs.declared.structs.Counters.{Counters}
+use Rattle.ir.specs.Arena.{labels, strings, stringDigests}
 use Rattle.records.specs.declared.words.Found.{Found}
 use Rattle.records.specs.declared.words.Found.the-variants.{At, Nothing}
 
@@ -25,6 +26,11 @@ foundOf (some i) = At i
 -- entry j of the table at byte `at` is the two words a and b
 unfoldable pub pairAt : List ℕ → ℕ → ℕ → ℕ → ℕ → Bool
 pairAt l at a b j = eqb a (wordAt l (at + 8 * j)) && eqb b (wordAt l (at + 8 * j + 4))
+
+-- label j of the function at hand, if it has so many, is of this kind and opened by this record
+unfoldable pub labelIs : List ℕ → Counters → ℕ → ℕ → ℕ → Bool
+unfolding pairAt
+labelIs l k kind opener j = ltb j (k .labels - k .«labels_before») && pairAt l (labels .from * k .records + 8 * k .«labels_before») kind opener j
 
 -- its two words are the place of a text that is the same as t
 unfoldable pub sameTextAt : List ℕ → List ℕ → ℕ → List ℕ → ℕ → Bool

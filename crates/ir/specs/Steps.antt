@@ -12,7 +12,7 @@ use Rattle.records.specs.Words.{textAt}
 use Rattle.conversion.specs.ConvertError.{ConvertErrorKind}
 use Rattle.conversion.specs.Ir as Ir
 use Rattle.conversion.specs.Ir.{State, Out, made, failed, M, LabelName, StringEntry, FloatEntry}
-use Rattle.conversion.specs.Written.{encodeInstr, encodeVar, encodeLabel, encodeString, encodeFloat}
+use Rattle.conversion.specs.Written.{word, encodeInstr, encodeVar, encodeLabel, encodeString, encodeFloat}
 use Rattle.ir.specs.declared.structs.Counters.{Counters}
 use Rattle.ir.specs.declared.structs.Instr.{Instr}
 use Rattle.ir.specs.declared.structs.NewVariable.{NewVariable}
@@ -20,7 +20,7 @@ use Rattle.ir.specs.declared.structs.LabelNumber.{LabelNumber}
 use Rattle.ir.specs.declared.pool.PoolNumber.{PoolNumber}
 use Rattle.ir.specs.Instructions.{varOf, instrOf}
 use Rattle.ir.specs.Amounts.{amount, Spent}
-use Rattle.ir.specs.Arena.{variables, labels, strings, floats, stringDigests, encodeDigest, TablesSoFar, Holds, Room}
+use Rattle.ir.specs.Arena.{variables, labels, strings, floats, stringDigests, encodeDigest, labelSlot, TablesSoFar, Holds, Room}
 
 -- the tables after a step that emits c and leaves the state s
 abbrev pub grown : TablesSoFar → List Ir.Instr → State → TablesSoFar
@@ -102,7 +102,9 @@ named kind opener = record { kind = kind; opener = opener }
 pub record NumbersLabel (kind opener : ℕ) (k : Counters) (l : List ℕ) (r : LabelNumber) (l′ : List ℕ) : Type 0 where
   pub next : Next (Ir.label-id (named kind opener)) k l (r .label .0) (r .counters) l′
   pub spent : Spent k (r .counters) (amount 0 0 1 0 0)
-  pub entry : Wrote l (labels .from * k .records + 8 * k .labels) (encodeLabel (named kind opener)) (moreLabels k) (r .counters) l′ ⊎ TablesStay k l (r .counters) l′
+  pub entry : WroteTwo l (labelSlot (k .records) (named kind opener)) (word (k .labels - k .«labels_before»))
+      (labels .from * k .records + 8 * k .labels) (encodeLabel (named kind opener)) (moreLabels k) (r .counters) l′
+      ⊎ TablesStay k l (r .counters) l′
 
 pub record NumbersString (text : List ℕ) (e : StringEntry) (k : Counters) (l : List ℕ) (r : PoolNumber) (l′ : List ℕ) : Type 0 where
   pub next : NextIn text (Ir.string-id e) k l (r .number) (r .counters) l′

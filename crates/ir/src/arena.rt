@@ -11,3 +11,8 @@ pub const FLOATS: usize = 204;
 
 // Behind the tables: the digests of the strings' texts.
 pub const STRING_DIGESTS: usize = 236;
+
+// And the numbers of the function's labels, a word for each of the seven kinds at each record.
+pub const LABEL_SLOTS: usize = 240;
+
+pub const LABEL_SLOT_BYTES: usize = 28;

@@ -7,28 +7,14 @@ use records::words::Found;
 use records::words::Four;
 use records::words::load;
 
-fn is_pair(s: &[u8], at: usize, j: usize, a: u32, b: u32) -> bool
+// Whether entry j of two words is a and b.
+pub fn is_pair(s: &[u8], at: usize, j: usize, a: u32, b: u32) -> bool
     requires { ⌜ at + 8 * j + 8 ≤ length (now s) ⌝ }
     ensures { λ r. ⌜ r ≡ pairAt (now (s .entry)) at a b j ⌝ }
 {
     let x = load(s, at + 8 * j);
     let y = load(s, at + 8 * j + 4);
     (a == x) & (b == y)
-}
-
-// The first of `count` entries of two words that is a and b.
-pub fn find_pair(s: &[u8], at: usize, count: usize, a: u32, b: u32) -> Found
-    requires { ⌜ at + 8 * count ≤ length (now s) ⌝ }
-    ensures { λ r. ⌜ r ≡ foundOf (first count (pairAt (now (s .entry)) at a b) 0) ⌝ }
-{
-    let mut j = 0;
-    while j < count {
-        if is_pair(s, at, j, a, b) {
-            return Found::At(j);
-        }
-        j += 1;
-    }
-    Found::Nothing
 }
 
 fn is_four(s: &[u8], at: usize, j: usize, w: Four) -> bool

@@ -7,8 +7,8 @@ ghost use Rattle.laws.specs.Splice.{splice};
 ghost use Rattle.syntax.specs.Syntax.{unaryOps, binaryOps, unaryNumber, binaryNumber, Neg, Or};
 ghost use Rattle.conversion.specs.Written.{tag, operandValue, encodeInstr};
 ghost use Rattle.ir.specs.Instructions.{operandOf, instrOf, fieldBytes, oneBytes, noneBytes, twoBytes};
-ghost use Rattle.ir.specs.Arena.{Room};
-ghost use Rattle.ir.specs.Steps.{Emits, AddsVar, NumbersLabel, Closes};
+ghost use Rattle.ir.specs.Arena.{HasSlot, Room};
+ghost use Rattle.ir.specs.Steps.{named, Emits, AddsVar, NumbersLabel, Closes};
 use crate::arena::FUNCTIONS;
 use crate::counter;
 use records::numbers::BINARY_OPS;
@@ -323,7 +323,7 @@ pub fn new_var(arena: &mut [u8], k: Counters, ty: u32) -> NewVariable
 
 // The label of this kind that this record opens: its number is its index among its function's labels, added the first time it is asked.
 pub fn label_id(arena: &mut [u8], k: Counters, kind: u32, opener: u32) -> LabelNumber
-    requires { ⌜ Room k (now arena) × (k .labels < 3 * k .records) ⌝ }
+    requires { ⌜ Room k (now arena) × (k .labels < 3 * k .records) × HasSlot (k .records) (named kind opener) ⌝ }
     ensures { λ r. ⌜ NumbersLabel kind opener k (now (arena .entry)) r (now (arena .exit)) ⌝ }
 {
     let mut f = k;

@@ -399,6 +399,7 @@ module _ {tree text l₀ s₀ : List ℕ} {c : Converter} {e : ℕ} (p : Convert
                   let h = converting-after n u (i .converting) in record {
                     ready = ready-stays tree (put-stays (at .scope .names) (at .operands) (omega arith) names-in) text (at .functions) (at .scope) (omega arith) (h .ready);
                     function = h .function;
+                    loop = h .loop;
                     records-are = h .records-are;
                     room = h .room;
                   }

@@ -47,7 +47,7 @@ use Rattle.statements.specs.Parts.{loopBack}
 use Rattle.statements.specs.Answers.{statedWith, Leaves, States, Finishes, scopeIn, statementSteps, blockSteps, declareSteps, initSteps, returnSteps, callStatementSteps, breakSteps, continueSteps, plainSteps, jumpSteps, ifSteps, whileSteps, forSteps, StatesAs, FinishesAs, StatementAs, BlockAs}
 use Rattle.statements.proofs.MeetLaws.{adds-in, adds-seq, adds-pure, adds-most, meets-gave, meets-refused, meets-same, meets-most, meets-drop}
 use Rattle.statements.proofs.EmitLaws.{emit-adds}
-use Rattle.statements.proofs.StayLaws.{stays-refl, converting-next}
+use Rattle.statements.proofs.StayLaws.{stays-refl, converting-next, loop-within}
 use Rattle.statements.proofs.StatedLaws.{states-same, finished-next, finished-stop, scope-later, leaves-same, seq-then}
 
 -- ---- by kind: the plain statements, and Break and Continue
@@ -138,7 +138,7 @@ module _ {tree text l s : List ℕ} {c : Converter} {r : ℕ} (p : Converting tr
   pub comment-converting : Converting tree text l₁ s (begun c k)
   comment-converting =
       let q = converting-next p (next-in text (i .next)) (stays-refl (records tree) (c .scope .names) (c .operands) s) in
-      record { ready = q .ready; function = q .function; records-are = q .records-are; room = q .room }
+      record { ready = q .ready; function = q .function; loop = q .loop; records-are = q .records-are; room = q .room }
 
   pub comment-afforded : BehindAfforded tree text (begun c k) r
   comment-afforded = omega (arith, f, i .spent)
@@ -148,7 +148,7 @@ module _ {tree text l s : List ℕ} {c : Converter} {r : ℕ} (p : Converting tr
         → StatementAs statementSteps c r tree text l s a l₂ s₂
     commented {m} e q = states-same (sym e) (record {
       meets = meets-most text (seq-then text m long (adds-in text (emit-adds long i)) (q .meets)) (omega arith);
-      leaves = λ sc j d. let y = q .leaves sc j d in record { ready = y .ready; function = y .function; least = y .least; most = y .most };
+      leaves = λ sc j d. let y = q .leaves sc j d in record { ready = y .ready; function = y .function; inner = y .inner; least = y .least; most = y .most };
       stays = q .stays;
     })
 
@@ -249,6 +249,7 @@ module _ {tree text l s : List ℕ} (c : Converter) {r : ℕ} {sc inner : Scope}
       };
     };
     function = p .function;
+    loop = loop-within tree r h;
     records-are = p .records-are;
     room = p .room;
   })

@@ -4,7 +4,7 @@ use mathlib.Core.Path.{_≡_, refl, sym, ap, _∙_, subst}
 use mathlib.Core.Bool.{Bool, true, false}
 use mathlib.Core.List.{List}
 use mathlib.Core.Option.{Option, none, some}
-use Prim.Native.Nat.{ℕ, _+_, _≤_}
+use Prim.Native.Nat.{ℕ, _+_, _≤_, _<_}
 use native.Mathlib.Omega.{arith}
 use denote.Enum.Declared.{tagOf}
 use Rattle.laws.specs.Fix.{pick}
@@ -40,11 +40,11 @@ use Rattle.statements.specs.declared.answers.Finished.{Finished}
 use Rattle.statements.specs.declared.answers.Finished.the-variants as Finished
 use Rattle.statements.proofs.answers.Finished.{the-type}
 use Rattle.statements.specs.Meets.{StepAnswer, gave, Adds, AddsIn, Meets}
-use Rattle.statements.specs.Converting.{Converting, withCounters, RoomFor, BehindAfforded, BlockAfforded, StaysFor, blockAmount, headAmount, forHeadAmount}
+use Rattle.statements.specs.Converting.{Converting, withCounters, RoomFor, BehindAfforded, BlockAfforded, StaysFor, blockAmount, headAmount, forHeadAmount, LoopIn}
 use Rattle.statements.specs.Parts.{placeLabel, ifHead, ifMiddle, loopBack, forHead, forVariable, forTurns, forBounds, forBegin, forTest, knownVariable}
 use Rattle.statements.specs.Answers.{statedOf, blockSteps, ifSteps, whileSteps, forSteps, ifHeadSteps, whileHeadSteps, forHeadSteps, FinishesAs, HeadAs, ForHeadAs, boundsUnder, BlockAs, Finishes}
 use Rattle.statements.proofs.MeetLaws.{adds-in, meets-refused, meets-same, meets-most, meets-then}
-use Rattle.statements.proofs.StayLaws.{stays-refl, stays-then, converting-next}
+use Rattle.statements.proofs.StayLaws.{stays-refl, stays-then, converting-next, record-counted}
 use Rattle.statements.proofs.StatedLaws.{finished-next, finished-stop, finished-converting, scope-later, seq-then, seq-not}
 use Rattle.statements.proofs.PartLaws.{if-parts, if-else-parts, while-parts, for-parts}
 use Rattle.statements.proofs.BlockLaws.{placed, bodyIn, bodySize, block-as, block-stop, block-then, end-meets, opened-low, opened-at, inner-converting, inner-names, looped-stop, looped-then, looped-room}
@@ -99,10 +99,12 @@ module _ {tree text l s : List ℕ} {c : Converter} {r : ℕ} (p : Converting tr
         }
 
         module _ {k₁ : Counters} (u : b ≡ Finished.Done k₁) where
-          pub while-room : RoomFor k₁ l₂ (amount 2 0 2 0 0)
+          pub while-room : RoomFor k₁ l₂ (amount 2 0 2 0 0) × (r < k₁ .records)
           while-room =
-              let j = looped-room c (finished-converting h q p) (x .below) e ev (scope-later p (h .stays)) g u in
-              record { room = j .next .room; affords = omega (arith, f .tables, while-count, finished-next h q .spent, j .spent) }
+              let j = looped-room c (finished-converting h q p) (x .below) e ev (scope-later p (h .stays)) g u in (
+                record { room = j .next .room; affords = omega (arith, f .tables, while-count, finished-next h q .spent, j .spent) },
+                record-counted p x (j .spent .records ∙ finished-next h q .spent .records),
+              )
 
           pub while-next : {k₂ : Counters} {l₃ : List ℕ} → Adds (loopBack r) (amount 2 0 2 0 0) k₁ l₂ tt k₂ l₃ → FinishesAs whileSteps c r tree text l s (Finished.Done k₂) l₃ s₂
           while-next i = record {
@@ -201,6 +203,7 @@ module _ {tree text l s : List ℕ} {c : Converter} {r : ℕ} (p : Converting tr
           let le = h .leaves sc k q in record {
             ready = le .ready;
             function = subst (λ (z : ℕ). FunctionAt tree z) (sym (le .function)) (p .function);
+            loop = subst (LoopIn tree) (sym (le .inner)) (p .loop);
             records-are = headed .next .records ∙ p .records-are;
             room = headed .next .room;
           }
@@ -227,10 +230,12 @@ module _ {tree text l s : List ℕ} {c : Converter} {r : ℕ} (p : Converting tr
           }
 
           module _ {k₁ : Counters} (u : b ≡ Finished.Done k₁) where
-            pub for-room : RoomFor k₁ l₂ (amount 2 0 2 0 0)
+            pub for-room : RoomFor k₁ l₂ (amount 2 0 2 0 0) × (r < k₁ .records)
             for-room =
-                let j = looped-room c headed-converting (x .below) e ev refl g u in
-                record { room = j .next .room; affords = omega (arith, f .tables, for-count, headed .spent, j .spent) }
+                let j = looped-room c headed-converting (x .below) e ev refl g u in (
+                  record { room = j .next .room; affords = omega (arith, f .tables, for-count, headed .spent, j .spent) },
+                  record-counted p x (j .spent .records ∙ headed .spent .records),
+                )
 
             pub for-next : {k₂ : Counters} {l₃ : List ℕ} → Adds (loopBack r) (amount 2 0 2 0 0) k₁ l₂ tt k₂ l₃ → FinishesAs forSteps c r tree text l s (Finished.Done k₂) l₃ s₂
             for-next i = record {
@@ -333,9 +338,15 @@ module _ {tree text l s : List ℕ} {c : Converter} {r : ℕ} (p : Converting tr
         }
 
         module _ {k₁ : Counters} (u : b ≡ Finished.Done k₁) {has : Bool} (eh : has ≡ otherwise) where
+          then-records : k₁ .records ≡ c .counters .records
+          then-records = finished-next first u .spent .records ∙ finished-next h q .spent .records
+
           module _ (none : has ≡ false) where
-            pub if-room : RoomFor k₁ l₂ (amount 1 0 1 0 0)
-            if-room = record { room = finished-next first u .next .room; affords = omega (arith, f .tables, if-count (sym eh ∙ none), finished-next h q .spent, finished-next first u .spent) }
+            pub if-room : RoomFor k₁ l₂ (amount 1 0 1 0 0) × (r < k₁ .records)
+            if-room = (
+              record { room = finished-next first u .next .room; affords = omega (arith, f .tables, if-count (sym eh ∙ none), finished-next h q .spent, finished-next first u .spent) },
+              record-counted p x then-records,
+            )
 
             pub if-next : {k₂ : Counters} {l₃ : List ℕ} → Adds (placeLabel (conditionEnd r)) (amount 1 0 1 0 0) k₁ l₂ tt k₂ l₃ → FinishesAs ifSteps c r tree text l s (Finished.Done k₂) l₃ s₂
             unfolding pick
@@ -346,8 +357,11 @@ module _ {tree text l s : List ℕ} {c : Converter} {r : ℕ} (p : Converting tr
             }
 
           module _ (some : has ≡ true) where
-            pub middle-room : RoomFor k₁ l₂ (amount 2 0 2 0 0)
-            middle-room = record { room = finished-next first u .next .room; affords = omega (arith, f .tables, else-count (sym eh ∙ some), finished-next h q .spent, finished-next first u .spent) }
+            pub middle-room : RoomFor k₁ l₂ (amount 2 0 2 0 0) × (r < k₁ .records)
+            middle-room = (
+              record { room = finished-next first u .next .room; affords = omega (arith, f .tables, else-count (sym eh ∙ some), finished-next h q .spent, finished-next first u .spent) },
+              record-counted p x then-records,
+            )
 
             module _ {k₂ : Counters} {l₃ : List ℕ} {o : ℕ} (i : Adds (ifMiddle r) (amount 2 0 2 0 0) k₁ l₂ tt k₂ l₃) (eo : o ≡ wordOf tree r C) where
               pub other-converting : Converting tree text l₃ s₂ (withCounters c k₂)
@@ -379,11 +393,14 @@ module _ {tree text l s : List ℕ} {c : Converter} {r : ℕ} (p : Converting tr
                 }
 
                 module _ {k₃ : Counters} (w : d ≡ Finished.Done k₃) where
-                  pub other-room : RoomFor k₃ l₄ (amount 1 0 1 0 0)
-                  other-room = record {
-                    room = finished-next second w .next .room;
-                    affords = omega (arith, f .tables, else-count (sym eh ∙ some), finished-next h q .spent, finished-next first u .spent, i .spent, finished-next second w .spent);
-                  }
+                  pub other-room : RoomFor k₃ l₄ (amount 1 0 1 0 0) × (r < k₃ .records)
+                  other-room = (
+                    record {
+                      room = finished-next second w .next .room;
+                      affords = omega (arith, f .tables, else-count (sym eh ∙ some), finished-next h q .spent, finished-next first u .spent, i .spent, finished-next second w .spent);
+                    },
+                    record-counted p x (finished-next second w .spent .records ∙ i .spent .records ∙ then-records),
+                  )
 
                   pub if-else-next : {k₄ : Counters} {l₅ : List ℕ} → Adds (placeLabel (conditionEnd r)) (amount 1 0 1 0 0) k₃ l₄ tt k₄ l₅
                       → FinishesAs ifSteps c r tree text l s (Finished.Done k₄) l₅ s₃

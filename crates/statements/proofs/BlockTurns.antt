@@ -32,7 +32,7 @@ use Rattle.statements.specs.declared.answers.Stated.the-variants as Stat
 use Rattle.statements.specs.declared.answers.Finished.{Finished}
 use Rattle.statements.specs.declared.answers.Finished.the-variants as Finished
 use Rattle.statements.specs.Meets.{AddsIn}
-use Rattle.statements.specs.Converting.{Converting, BlockAfforded, StatementAfforded, StaysFor, blockAmount, statementAmount}
+use Rattle.statements.specs.Converting.{Converting, BlockAfforded, StatementAfforded, StaysFor, blockAmount, statementAmount, LoopIn}
 use Rattle.statements.specs.Answers.{statedOf, scopeIn, blockSteps, statementSteps, StatementAs, BlockAs}
 use Rattle.statements.specs.Turns.{Turns, Visited, StatementVisited, BlockVisited}
 use Rattle.statements.proofs.TurnLaws.{turns-refl, visited-stay, visited-next}
@@ -174,6 +174,7 @@ module _ {tree text l₀ s₀ : List ℕ} {c : Converter} {first : ℕ} (p : Con
                 let le = n .leaves sc k u in record {
                   ready = le .ready;
                   function = subst (λ (z : ℕ). FunctionAt tree z) (sym (le .function)) (i .converting .function);
+                  loop = subst (LoopIn tree) (sym (le .inner)) (i .converting .loop);
                   records-are = added .next .records ∙ i .converting .records-are;
                   room = added .next .room;
                 }

@@ -37,6 +37,7 @@ use Rattle.ir.specs.declared.structs.Operand.the-variants as Operand
 use Rattle.ir.specs.declared.structs.VarId.{VarId}
 use Rattle.ir.specs.declared.pool.PoolNumber.{PoolNumber}
 use Rattle.ir.specs.Amounts.{Amount, amount, both}
+use Rattle.ir.specs.Arena.{HasSlot}
 use Rattle.ir.specs.Floats.{entry}
 use Rattle.ir.specs.Instructions.{varOf, operandOf, instrOf}
 use Rattle.ir.specs.Steps.{Next, Emits, AddsVar, NumbersFloat, named}
@@ -138,6 +139,7 @@ module _ {tree text l s : List ℕ} {c : Converter} (p : Converting tree text l 
           };
         };
         function = rw (a .scope);
+        inner = rw (a .scope);
         least = rw (a .scope) (omega arith);
         most = rw (a .scope) (omega arith);
       }
@@ -409,6 +411,13 @@ module _ {tree text l s : List ℕ} {c : Converter} (p : Converting tree text l 
   module _ (o : InLoop) (m : loopOf o ≡ loopNumber (c .scope .inner)) where
     loop-is : {x : Option ℕ} → loopOf o ≡ x → scope .inLoop ≡ x
     loop-is q = in-loop tree text s (c .scope) o m ∙ q
+
+    -- what the jump asks: the loop is one of the records that the tables count
+    pub jump-asks : {x : ℕ} (kind : ℕ) → 1 ≤ kind → kind ≤ 7 → BehindAfforded tree text c r → o ≡ InLoop.Of x
+        → RoomFor (c .counters) l (amount 1 0 1 0 0) × HasSlot (c .counters .records) (named kind x)
+    jump-asks {x = x} kind least most f q =
+        let h : x < records tree = p .loop x (sym m ∙ ap loopOf q) in
+        (record { room = p .room; affords = omega (arith, f .tables) }, omega (arith, p .records-are))
 
     pub break-outside : {z : ConvertError} → o ≡ InLoop.Outside → z ≡ record { kind = BreakOutOfLoop; place = r } → StatesAs breakSteps c r tree text l s (Stated.Refused z) l s
     unfolding convert-break

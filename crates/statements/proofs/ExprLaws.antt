@@ -53,7 +53,7 @@ use Rattle.statements.specs.Parts.{operandType, finishUnary, beginLogic,
 use Rattle.statements.specs.Answers.{Converts, FitAdds, OperandTyped, exprSteps, unarySteps, logicSteps, otherSteps, binarySteps, callSteps}
 use Rattle.statements.proofs.PartLaws.{unary-parts, and-parts, or-parts, other-parts}
 use Rattle.statements.proofs.MeetLaws.{meets-lift, meets-lift-stop, adds-in}
-use Rattle.statements.proofs.StayLaws.{stays-refl, stays-then, frame-stays, frame-names, names-then, scope-stays, converting-next, converting-frame}
+use Rattle.statements.proofs.StayLaws.{stays-refl, stays-then, frame-stays, frame-names, names-then, scope-stays, converting-next, converting-frame, record-counted}
 use Rattle.statements.proofs.ConvertLaws.{converts-same, converts-most, converts-after, converts-seq, converted-next, converting-after, converts-stop, converts-next, converts-fit}
 
 -- ---- steps in a scope
@@ -359,8 +359,8 @@ module _ {tree text l s : List ℕ} {c : Converter} {e : ℕ} (p : Converting tr
   pub left-afforded : ExprAfforded tree text c a
   left-afforded = omega (arith, f, binary-under, under-a)
 
-  pub begin-room : RoomFor (c .counters) l (amount 0 1 2 0 0)
-  begin-room = record { room = p .room; affords = omega (arith, f .tables, binary-under) }
+  pub begin-room : RoomFor (c .counters) l (amount 0 1 2 0 0) × (e < c .counters .records)
+  begin-room = (record { room = p .room; affords = omega (arith, f .tables, binary-under) }, record-counted p x refl)
 
   -- any other: the left side, then the right
   module _ {g : Converted} {l₁ s₁ : List ℕ} (m : Converts tree text (exprSteps tree text s c a) (exprAmount (under (exprAt tree text a))) c l s g l₁ s₁) where
@@ -434,11 +434,14 @@ module _ {tree text l s : List ℕ} {c : Converter} {e : ℕ} (p : Converting tr
       logic-left w = converts-most (omega (arith, binary-under)) (whole (converts-stop logic-left-of {n = amount 0 0 0 0 0} (behind (varOf dest)) w))
 
       module _ {o : Operand} {k₂ : Counters} (w : g ≡ Converted.Is o k₂) where
-        pub logic-room : RoomFor k₂ l₂ (amount 4 0 3 0 0)
-        logic-room = record {
-          room = converted-next m w .next .room;
-          affords = omega (arith, f .tables, binary-under, under-a, begun .spent, converted-next m w .spent);
-        }
+        pub logic-room : RoomFor k₂ l₂ (amount 4 0 3 0 0) × (e < k₂ .records)
+        logic-room = (
+          record {
+            room = converted-next m w .next .room;
+            affords = omega (arith, f .tables, binary-under, under-a, begun .spent, converted-next m w .spent);
+          },
+          record-counted p x (converted-next m w .spent .records ∙ begun .spent .records),
+        )
 
         module _ {k₃ : Counters} {l₃ : List ℕ}
             (j : Adds (pick (eqb (detailOf tree e) 1) (joinAnd e (varOf dest) (operandOf o)) (joinOr e (varOf dest) (operandOf o))) (amount 4 0 3 0 0) k₂ l₂ tt k₃ l₃) where
@@ -458,11 +461,14 @@ module _ {tree text l s : List ℕ} {c : Converter} {e : ℕ} (p : Converting tr
             logic-right v = converts-most (omega (arith, binary-under)) (whole (converts-next logic-left-of (behind (varOf dest)) w
                 (converts-seq (R >>= (λ w. endLogic e (varOf dest) w)) j (converts-stop logic-right-of {n = amount 0 0 0 0 0} (λ w. endLogic e (varOf dest) w) v))))
 
-            pub logic-end-room : {o₂ : Operand} {k₄ : Counters} → h ≡ Converted.Is o₂ k₄ → RoomFor k₄ l₄ (amount 2 0 1 0 0)
-            logic-end-room v = record {
-              room = converted-next n v .next .room;
-              affords = omega (arith, f .tables, binary-under, under-a, under-b, begun .spent, converted-next m w .spent, j .spent, converted-next n v .spent);
-            }
+            pub logic-end-room : {o₂ : Operand} {k₄ : Counters} → h ≡ Converted.Is o₂ k₄ → RoomFor k₄ l₄ (amount 2 0 1 0 0) × (e < k₄ .records)
+            logic-end-room v = (
+              record {
+                room = converted-next n v .next .room;
+                affords = omega (arith, f .tables, binary-under, under-a, under-b, begun .spent, converted-next m w .spent, j .spent, converted-next n v .spent);
+              },
+              record-counted p x (converted-next n v .spent .records ∙ j .spent .records ∙ converted-next m w .spent .records ∙ begun .spent .records),
+            )
 
             pub logic-next : {o₂ : Operand} {k₄ : Counters} {t : Fitted} {r : Converted} {l₅ : List ℕ} → h ≡ Converted.Is o₂ k₄
                 → FitAdds tree (endLogic e (varOf dest) (operandOf o₂)) (amount 2 0 1 0 0) k₄ l₄ t l₅ → r ≡ Converted.Is (t .operand) (t .counters)

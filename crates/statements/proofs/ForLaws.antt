@@ -478,6 +478,7 @@ module _ {tree text l s l₁ s₁ : List ℕ} {c : Converter} (r : ℕ) (p : Con
           (record {
             ready = ready-stays tree names text (c .functions) inner (omega arith) (h .ready);
             function = h .function;
+            inner = h .inner;
             least = h .least;
             most = h .most;
           }) head-stays

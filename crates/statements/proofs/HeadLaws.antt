@@ -32,6 +32,7 @@ use Rattle.ir.specs.declared.structs.Operand.the-variants.{Var as var, Int as i
 use Rattle.ir.specs.declared.structs.Instr.the-variants.{Binary as binary}
 use Rattle.ir.specs.declared.structs.NewVariable.{NewVariable}
 use Rattle.ir.specs.Amounts.{Amount, amount, both}
+use Rattle.ir.specs.Arena.{HasSlot}
 use Rattle.ir.specs.Instructions.{operandOf, varOf}
 use Rattle.ir.specs.Steps.{Emits, AddsVar, named}
 use Rattle.ir.proofs.StepLaws.{next-in}
@@ -47,7 +48,7 @@ use Rattle.statements.specs.Parts.{jumpTo, jumpIfNot, placeLabel, copyFi
 use Rattle.statements.specs.Answers.{FitAdds, Converts, Finishes, exprSteps, condSteps, ifHeadSteps, whileHeadSteps, forBeginSteps, forTestSteps}
 use Rattle.statements.specs.Turns.{TypesAt, TypedIn, ConvertsTyped}
 use Rattle.statements.proofs.MeetLaws.{Most, adds-in, adds-then, adds-seq, adds-most, adds-same, meets-gave}
-use Rattle.statements.proofs.StayLaws.{stays-refl, converting-next}
+use Rattle.statements.proofs.StayLaws.{stays-refl, record-counted, converting-next}
 use Rattle.statements.proofs.EmitLaws.{emit-adds, var-adds}
 use Rattle.statements.proofs.ConvertLaws.{converted-next}
 use Rattle.statements.proofs.StatedLaws.{finishes-most, operand-then, operand-not, seq-then}
@@ -58,6 +59,11 @@ not-label : (b : Bool) (r : ℕ) → named (pick b 4 5) r ≡ pick b (otherwiseL
 unfolding pick
 not-label true r = refl
 not-label false r = refl
+
+not-slot : (b : Bool) {n r label : ℕ} → label ≡ pick b 4 5 → r < n → HasSlot n (named label r)
+unfolding pick
+not-slot true e h = omega arith
+not-slot false e h = omega arith
 
 -- ---- labels and jumps in a row
 
@@ -107,10 +113,6 @@ test-adds P r {x = x} b {a = a} {v = v} u h p h′ i j =
     (adds-seq (jumpIfNot (OVar (varOf (v .var))) (loopEnd r)) (emit-adds h′ i) j))) (omega arith)
 
 -- ---- the condition of an If or a While, and a bound of a For
-
--- the record is below the number that a label takes
-pub record-small : {tree text l s : List ℕ} {c : Converter} {n r : ℕ} → Converting tree text l s c → IsKind tree n r → r < 4294967296
-record-small p x = omega (arith, x .below, p .ready .keyed .good .few)
 
 pub record-inside : {tree text l s : List ℕ} {c : Converter} {n r : ℕ} → Converting tree text l s c → IsKind tree n r → r * 32 + 32 ≤ length tree
 record-inside p x = omega (arith, x .below, p .ready .keyed .good .whole)
@@ -201,10 +203,13 @@ module _ {tree text l s : List ℕ} {c : Converter} (r : ℕ) {e : ℕ} (p : Con
       ((p, omega (arith, f, d .fewer, same-under tree text q)), subst (λ (z : ℕ). IsExpr tree z) (sym q) (d .expression))
 
   module _ {a : Converted} {l₁ s₁ : List ℕ} (i : Converts tree text (condSteps tree text s c e) (exprAmount (under (exprAt tree text e))) c l s a l₁ s₁) where
-    pub if-jump-requires : IsKind tree 19 r → {o : Operand} {k : Counters} → a ≡ Converted.Is o k → RoomFor k l₁ (amount 1 0 1 0 0) × (r < 4294967296)
-    if-jump-requires x w =
-        let d : Condition tree text r = if-condition p x in
-        (record { room = converted-next i w .next .room; affords = omega (arith, f .tables, d .fewer, same-under tree text q, converted-next i w .spent) }, record-small p x)
+    pub if-jump-requires : IsKind tree 19 r → {label : ℕ} {o : Operand} {k : Counters} → label ≡ pick (bit 1 (detailOf tree r)) 4 5 → a ≡ Converted.Is o k
+        → RoomFor k l₁ (amount 1 0 1 0 0) × HasSlot (k .records) (named label r)
+    if-jump-requires x el w =
+        let d : Condition tree text r = if-condition p x in (
+          record { room = converted-next i w .next .room; affords = omega (arith, f .tables, d .fewer, same-under tree text q, converted-next i w .spent) },
+          not-slot (bit 1 (detailOf tree r)) el (record-counted p x (converted-next i w .spent .records)),
+        )
 
 module _ {tree text l s l₁ s₁ : List ℕ} {c : Converter} (r : ℕ) {e : ℕ} {a : Converted} (q : e ≡ wordOf tree r A)
     (i : Converts tree text (condSteps tree text s c e) (exprAmount (under (exprAt tree text e))) c l s a l₁ s₁) where
@@ -238,10 +243,13 @@ module _ {tree text l l₀ s : List ℕ} {c : Converter} (r : ℕ) {e : ℕ} {k�
 
   module _ {a : Converted} {l₁ s₁ : List ℕ}
       (i : Converts tree text (condSteps tree text s (withCounters c k₀) e) (exprAmount (under (exprAt tree text e))) (withCounters c k₀) l₀ s a l₁ s₁) where
-    pub while-jump-requires : IsKind tree 20 r → {o : Operand} {k : Counters} → a ≡ Converted.Is o k → RoomFor k l₁ (amount 1 0 1 0 0) × (r < 4294967296)
-    while-jump-requires x w =
+    pub while-jump-requires : IsKind tree 20 r → {o : Operand} {k : Counters} → a ≡ Converted.Is o k → RoomFor k l₁ (amount 1 0 1 0 0) × HasSlot (k .records) (named 2 r)
+    while-jump-requires x {k = k} w =
         let d : Condition tree text r = while-condition p x in
-        (record { room = converted-next i w .next .room; affords = omega (arith, f .tables, d .fewer, same-under tree text q, g₀ .spent, converted-next i w .spent) }, record-small p x)
+        let counted : r < k .records = record-counted p x (converted-next i w .spent .records ∙ g₀ .spent .records) in (
+          record { room = converted-next i w .next .room; affords = omega (arith, f .tables, d .fewer, same-under tree text q, g₀ .spent, converted-next i w .spent) },
+          omega arith,
+        )
 
 module _ {tree text l l₀ s l₁ s₁ : List ℕ} {c : Converter} (r : ℕ) {e : ℕ} {k₀ : Counters} {a : Converted} (q : e ≡ wordOf tree r A)
     (g₀ : Adds (placeLabel (named 1 r)) (amount 1 0 1 0 0) (c .counters) l tt k₀ l₀)

@@ -340,7 +340,7 @@ module _ {tree text l s : List ℕ} {c : Converter} {r : ℕ} (p : Converting tr
             (meets-same text (ap (λ (S : Def.Scope). declared S y (operandOf o)) (scope-later typed (m .stays))) (i .meets)))) (omega (arith, value-records (p .ready .keyed .good) x ee));
         leaves = λ sc k′ h.
             let g = i .leaves sc k′ h in
-            record { ready = g .ready; function = g .function; least = g .least; most = omega (arith, g .most, value-records (p .ready .keyed .good) x ee) };
+            record { ready = g .ready; function = g .function; inner = g .inner; least = g .least; most = omega (arith, g .most, value-records (p .ready .keyed .good) x ee) };
         stays = stays-then (omega arith) (omega arith) value-stays (i .stays);
       }
 

@@ -79,7 +79,7 @@ module _ {tree text l l′ s s′ : List ℕ} {m : M Def.Scope} {n : Amount} {q 
   pub states-most : {n′ : Amount} {q′ : ℕ} {a : Stated} → Most n n′ → q ≤ q′ → States tree text m n q c l s a l′ s′ → States tree text m n′ q′ c l s a l′ s′
   states-most h i p = record {
     meets = meets-most text (p .meets) h;
-    leaves = λ sc k e. let x = p .leaves sc k e in record { ready = x .ready; function = x .function; least = x .least; most = omega (arith, i, x .most) };
+    leaves = λ sc k e. let x = p .leaves sc k e in record { ready = x .ready; function = x .function; inner = x .inner; least = x .least; most = omega (arith, i, x .most) };
     stays = p .stays;
   }
 
@@ -121,6 +121,7 @@ module _ {tree text l s s′ : List ℕ} {c : Converter} (p : Converting tree te
   leaves-same = record {
     ready = ready-stays tree st text (c .functions) (c .scope) (omega arith) (p .ready);
     function = refl;
+    inner = refl;
     least = omega arith;
     most = omega arith;
   }

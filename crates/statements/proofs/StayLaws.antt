@@ -2,20 +2,25 @@
 -- Byte by byte: each writer stays in its own region. Assumes nothing.
 use mathlib.Core.Path.{_≡_, refl, sym, ap, _∙_, subst}
 use mathlib.Core.Logic.{_⊎_, inl, inr}
+use mathlib.Core.Bool.{Bool, true, false}
 use mathlib.Core.List.{List, []}
+use mathlib.Core.Option.{Option, none, some}
 use Prim.Native.Nat.{ℕ, zero, suc, _+_, _*_, _/_, _≤_, _<_}
 use native.Mathlib.Omega.{arith}
 use native.Mathlib.Numerals.{add-one}
+use lib.Dec.{eqb}
 use lib.ListN.{length, getD}
+use Rattle.laws.specs.Fix.{pick}
 use Rattle.laws.specs.Splice.{splice}
 use Rattle.laws.proofs.Splices.{length-splice}
+use Rattle.records.specs.Words as Words
 use Rattle.records.specs.Words.{byteAt, wordAt, records}
-use Rattle.syntax.specs.Places.{TypeAt}
+use Rattle.syntax.specs.Places.{IsKind, TypeAt}
 use Rattle.conversion.specs.Ir.{Operand, M}
 use Rattle.ir.specs.declared.structs.Counters.{Counters}
 use Rattle.ir.specs.Steps.{NextIn}
 use Rattle.scope.specs.declared.Scope.{Scope}
-use Rattle.scope.specs.Open.{scopeAt}
+use Rattle.scope.specs.Open.{loopNumber, scopeAt}
 use Rattle.records.proofs.Apart.{byte-apart, word-same}
 use Rattle.scope.proofs.ScopeLaws.{Kept, scope-kept}
 use Rattle.keys.specs.Keys.{Listed, keySlotAt, keyDigestAt, Keyed}
@@ -29,7 +34,7 @@ use Rattle.expressions.proofs.SlotLaws.{ready-frame}
 use Rattle.keys.proofs.KeySearch.{records-most}
 use Rattle.statements.specs.declared.answers.Converter.{Converter}
 use Rattle.statements.specs.Stack.{entryAt, operandFrom, operandAt, stackAt}
-use Rattle.statements.specs.Converting.{Converting, withCounters, Stays, StaysFor, NamesStay}
+use Rattle.statements.specs.Converting.{LoopIn, Converting, withCounters, Stays, StaysFor, NamesStay}
 
 -- ---- one writer after another
 
@@ -197,6 +202,27 @@ module _ (tree : List ℕ) {s s′ : List ℕ} {names operands : ℕ} (f : Stays
   stack-kept zero j h i = refl
   stack-kept (suc count) j h i = rw (operand-kept j (omega arith) (omega arith), stack-kept count (suc j) (omega arith) (omega arith))
 
+-- a record of the tree is one of those that the tables count
+pub record-counted : {tree text l s : List ℕ} {c : Converter} {kind r n : ℕ} → Converting tree text l s c → IsKind tree kind r → n ≡ c .counters .records → r < n
+record-counted p x e = omega (arith, x .below, p .records-are, e)
+
+-- ---- the innermost loop
+
+-- a loop's record, and what stands for none
+pub loop-within : (tree : List ℕ) (w : ℕ) → w < records tree → LoopIn tree w
+unfolding loopNumber pick
+loop-within tree w h r = go (eqb w Words.none)
+  where
+    go : (b : Bool) → pick b none (some w) ≡ some r → r < records tree
+    go true e = let z : _≡_ {A = ℕ} 0 1 = cc in absurd (omega arith)
+    go false e = let z : w ≡ r = cc in omega arith
+
+pub loop-outside : (tree : List ℕ) (w : ℕ) → w ≡ Words.none → LoopIn tree w
+unfolding loopNumber pick
+loop-outside tree w e r q =
+    let y : _≡_ {A = Option ℕ} none (some r) = sym (ap loopNumber e) ∙ q in
+    let z : _≡_ {A = ℕ} 0 1 = cc in absurd (omega arith)
+
 -- ---- further on in the tables, with what stays
 
 pub converting-next : {A : Type 0} {tree text l s l′ s′ : List ℕ} {c : Converter} {k : Counters} {m : M A} {a : A}
@@ -204,6 +230,7 @@ pub converting-next : {A : Type 0} {tree text l s l′ s′ : List ℕ} {c : Con
 converting-next {tree = tree} {text = text} {c = c} p q f = record {
   ready = ready-stays tree f text (c .functions) (c .scope) (omega arith) (p .ready);
   function = p .function;
+  loop = p .loop;
   records-are = q .records ∙ p .records-are;
   room = q .room;
 }
@@ -213,6 +240,7 @@ pub converting-frame : {tree text l s s′ : List ℕ} {c : Converter} → Conve
 converting-frame {tree = tree} {text = text} {s = s} {s′ = s′} {c = c} p f = record {
   ready = ready-frame tree s s′ f text (c .functions) (c .scope) (p .ready);
   function = p .function;
+  loop = p .loop;
   records-are = p .records-are;
   room = p .room;
 }

@@ -113,10 +113,11 @@ pub record ConvertsArgs (tree text : List ℕ) (m : M (List Ir.Operand)) (n : Am
   pub stays : StaysFor tree c s s′
   pub names : NamesStay tree s s′
 
--- the scope that a statement leaves: at most q names more, in the same function
+-- the scope that a statement leaves: at most q names more, in the same function and loop
 pub record Leaves (tree text : List ℕ) (q : ℕ) (c : Converter) (s′ : List ℕ) (sc : Scope) : Type 0 where
   pub ready : Ready tree text s′ (c .functions) sc
   pub function : sc .function ≡ c .scope .function
+  pub inner : sc .inner ≡ c .scope .inner
   pub least : c .scope .names ≤ sc .names
   pub most : sc .names ≤ c .scope .names + q
 

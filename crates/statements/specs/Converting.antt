@@ -3,6 +3,7 @@
 use mathlib.Core.Path.{_≡_}
 use Prim.Native.Nat.{ℕ, _+_, _*_, _≤_, _<_}
 use mathlib.Core.List.{List}
+use mathlib.Core.Option.{some}
 use lib.ListN.{length}
 use Rattle.records.specs.Words.{byteAt, wordOf, records}
 use Rattle.syntax.specs.Count.{under, argsUnder, argsValues, statementRecords, blockRecords}
@@ -14,14 +15,20 @@ use Rattle.ir.specs.declared.structs.Operand.{Operand}
 use Rattle.ir.specs.Instructions.{operandOf}
 use Rattle.ir.specs.Arena.{Room}
 use Rattle.ir.specs.Amounts.{Amount, amount, Affords}
+use Rattle.scope.specs.Open.{loopNumber}
 use Rattle.expressions.specs.Slots.{Ready}
 use Rattle.statements.specs.declared.answers.Converter.{Converter}
 use Rattle.statements.specs.Stack.{operandAt}
+
+-- the innermost loop of a scope, where there is one, is a record of the tree
+abbrev pub LoopIn : List ℕ → ℕ → Type 0
+LoopIn tree w = (r : ℕ) → loopNumber w ≡ some r → r < records tree
 
 -- the functions by key and the scope stand in scratch, the tables in the arena
 pub record Converting (tree text l s : List ℕ) (c : Converter) : Type 0 where
   pub ready : Ready tree text s (c .functions) (c .scope)
   pub function : FunctionAt tree (c .scope .function)
+  pub loop : LoopIn tree (c .scope .inner)
   pub records-are : c .counters .records ≡ records tree
   pub room : Room (c .counters) l
 

@@ -1,6 +1,6 @@
 // Jumps to labels and labels placed: a label is asked for by its kind and the record that opens it, and then written.
-ghost use Prim.Native.Nat.{_<_};
 ghost use Rattle.ir.specs.Amounts.{amount};
+ghost use Rattle.ir.specs.Arena.{HasSlot};
 ghost use Rattle.ir.specs.Instructions.{operandOf};
 ghost use Rattle.ir.specs.Steps.{named};
 ghost use Rattle.statements.specs.Converting.{RoomFor};
@@ -13,7 +13,7 @@ use ir::structs::emit;
 use ir::structs::label_id;
 
 pub(crate) fn jump(arena: &mut [u8], k: Counters, kind: u32, opener: usize) -> Counters
-    requires { ⌜ RoomFor k (now arena) (amount 1 0 1 0 0) × (opener < 4294967296) ⌝ }
+    requires { ⌜ RoomFor k (now arena) (amount 1 0 1 0 0) × HasSlot (k .records) (named kind opener) ⌝ }
     ensures { λ r. ⌜ Adds (jumpTo (named kind opener)) (amount 1 0 1 0 0) k (now (arena .entry)) tt r (now (arena .exit)) ⌝ }
 {
     let found = label_id(arena, k, kind, opener as u32);
@@ -29,7 +29,7 @@ pub(crate) fn jump_if_not(
     kind: u32,
     opener: usize,
 ) -> Counters
-    requires { ⌜ RoomFor k (now arena) (amount 1 0 1 0 0) × (opener < 4294967296) ⌝ }
+    requires { ⌜ RoomFor k (now arena) (amount 1 0 1 0 0) × HasSlot (k .records) (named kind opener) ⌝ }
     ensures { λ r. ⌜ Adds (jumpIfNot (operandOf cond) (named kind opener)) (amount 1 0 1 0 0) k (now (arena .entry)) tt r (now (arena .exit)) ⌝ }
 {
     let found = label_id(arena, k, kind, opener as u32);
@@ -40,7 +40,7 @@ pub(crate) fn jump_if_not(
 
 // The label stands here.
 pub(crate) fn place_label(arena: &mut [u8], k: Counters, kind: u32, opener: usize) -> Counters
-    requires { ⌜ RoomFor k (now arena) (amount 1 0 1 0 0) × (opener < 4294967296) ⌝ }
+    requires { ⌜ RoomFor k (now arena) (amount 1 0 1 0 0) × HasSlot (k .records) (named kind opener) ⌝ }
     ensures { λ r. ⌜ Adds (placeLabel (named kind opener)) (amount 1 0 1 0 0) k (now (arena .entry)) tt r (now (arena .exit)) ⌝ }
 {
     let found = label_id(arena, k, kind, opener as u32);

@@ -112,7 +112,7 @@ pub(crate) fn if_head(
 
 // Between the blocks of the If r.
 pub(crate) fn if_middle(arena: &mut [u8], k: Counters, r: usize) -> Counters
-    requires { ⌜ RoomFor k (now arena) (amount 2 0 2 0 0) × (r < 4294967296) ⌝ }
+    requires { ⌜ RoomFor k (now arena) (amount 2 0 2 0 0) × (r < k .records) ⌝ }
     ensures { λ k′. ⌜ Adds (ifMiddle r) (amount 2 0 2 0 0) k (now (arena .entry)) tt k′ (now (arena .exit)) ⌝ }
 {
     let k1 = jump(arena, k, CONDITION_END, r);
@@ -121,7 +121,7 @@ pub(crate) fn if_middle(arena: &mut [u8], k: Counters, r: usize) -> Counters
 
 // Behind the last block of the If r.
 pub(crate) fn if_end(arena: &mut [u8], k: Counters, r: usize) -> Counters
-    requires { ⌜ RoomFor k (now arena) (amount 1 0 1 0 0) × (r < 4294967296) ⌝ }
+    requires { ⌜ RoomFor k (now arena) (amount 1 0 1 0 0) × (r < k .records) ⌝ }
     ensures { λ k′. ⌜ Adds (placeLabel (conditionEnd r)) (amount 1 0 1 0 0) k (now (arena .entry)) tt k′ (now (arena .exit)) ⌝ }
 {
     place_label(arena, k, CONDITION_END, r)
@@ -155,7 +155,7 @@ pub(crate) fn while_head(
 
 // Behind the body of the While or For r.
 pub(crate) fn loop_end(arena: &mut [u8], k: Counters, r: usize) -> Counters
-    requires { ⌜ RoomFor k (now arena) (amount 2 0 2 0 0) × (r < 4294967296) ⌝ }
+    requires { ⌜ RoomFor k (now arena) (amount 2 0 2 0 0) × (r < k .records) ⌝ }
     ensures { λ k′. ⌜ Adds (loopBack r) (amount 2 0 2 0 0) k (now (arena .entry)) tt k′ (now (arena .exit)) ⌝ }
 {
     let k1 = jump(arena, k, LOOP_START, r);
@@ -283,7 +283,7 @@ fn for_bounds(
 
 // Where the For r counts on: at its start, which the first turn passes by, and then the check.
 fn count_on(tree: &[u8], arena: &mut [u8], k: Counters, r: usize, x: VarId) -> Counters
-    requires { ⌜ RoomFor k (now arena) (amount 4 0 3 0 0) × (r < 4294967296) × TypeAt (now tree) (x .1) ⌝ }
+    requires { ⌜ RoomFor k (now arena) (amount 4 0 3 0 0) × (r < k .records) × TypeAt (now tree) (x .1) ⌝ }
     ensures { λ k′. ⌜ Adds (countOn r (varOf x) (bit 16 (detailOf (now (tree .entry)) (x .1))) (bit 32 (detailOf (now (tree .entry)) (x .1)))) (amount 4 0 3 0 0) k (now (arena .entry)) tt k′ (now (arena .exit)) ⌝ }
 {
     let y = x.1 as usize;
@@ -329,7 +329,7 @@ fn test_bound(
     x: VarId,
     until: Operand,
 ) -> Counters
-    requires { ⌜ RoomFor k (now arena) (amount 3 2 1 0 1) × (r < 4294967296) × TypeAt (now tree) (x .1) × OperandIn (now tree) (operandOf until) ⌝ }
+    requires { ⌜ RoomFor k (now arena) (amount 3 2 1 0 1) × (r < k .records) × TypeAt (now tree) (x .1) × OperandIn (now tree) (operandOf until) ⌝ }
     ensures { λ k′. ⌜ ((text : List ℕ) → Adds (testBound (program (now (tree .entry)) text) r (varOf x) (operandOf until)) (amount 3 2 1 0 1) k (now (arena .entry)) tt k′ (now (arena .exit))) ⌝ }
 {
     let b = fit_operand(tree, arena, k, until, x.1 as usize);

@@ -66,7 +66,7 @@ pub(crate) fn finish_unary(arena: &mut [u8], k: Counters, op: u8, src: Operand, 
 
 // The variable of the And or Or e, of type y. Both labels are numbered now: one inside a side takes later numbers.
 pub(crate) fn begin_logic(arena: &mut [u8], k: Counters, e: usize, y: usize) -> NewVariable
-    requires { ⌜ RoomFor k (now arena) (amount 0 1 2 0 0) × (e < 4294967296) × (y < 4294967296) ⌝ }
+    requires { ⌜ RoomFor k (now arena) (amount 0 1 2 0 0) × (e < k .records) × (y < 4294967296) ⌝ }
     ensures adds { λ r. ⌜ Adds (beginLogic e y) (amount 0 1 2 0 0) k (now (arena .entry)) (varOf (r .var)) (r .counters) (now (arena .exit)) ⌝ }
     ensures typed { λ r. ⌜ r .var .1 ≡ y ⌝ }
 {
@@ -91,7 +91,7 @@ pub(crate) fn join_and(
     dest: VarId,
     left: Operand,
 ) -> Counters
-    requires { ⌜ RoomFor k (now arena) (amount 2 0 1 0 0) × (e < 4294967296) ⌝ }
+    requires { ⌜ RoomFor k (now arena) (amount 2 0 1 0 0) × (e < k .records) ⌝ }
     ensures { λ r. ⌜ Adds (joinAnd e (varOf dest) (operandOf left)) (amount 2 0 1 0 0) k (now (arena .entry)) tt r (now (arena .exit)) ⌝ }
 {
     let k1 = emit(arena, k, Instr::Copy(dest, left));
@@ -106,7 +106,7 @@ pub(crate) fn join_or(
     dest: VarId,
     left: Operand,
 ) -> Counters
-    requires { ⌜ RoomFor k (now arena) (amount 4 0 3 0 0) × (e < 4294967296) ⌝ }
+    requires { ⌜ RoomFor k (now arena) (amount 4 0 3 0 0) × (e < k .records) ⌝ }
     ensures { λ r. ⌜ Adds (joinOr e (varOf dest) (operandOf left)) (amount 4 0 3 0 0) k (now (arena .entry)) tt r (now (arena .exit)) ⌝ }
 {
     let k1 = emit(arena, k, Instr::Copy(dest, left));
@@ -124,7 +124,7 @@ pub(crate) fn join_logic(
     dest: VarId,
     left: Operand,
 ) -> Counters
-    requires { ⌜ RoomFor k (now arena) (amount 4 0 3 0 0) × (e < 4294967296) × (e * 32 + 32 ≤ length (now tree)) ⌝ }
+    requires { ⌜ RoomFor k (now arena) (amount 4 0 3 0 0) × (e < k .records) × (e * 32 + 32 ≤ length (now tree)) ⌝ }
     ensures { λ r. ⌜ Adds (pick (eqb (detailOf (now (tree .entry)) e) 1) (joinAnd e (varOf dest) (operandOf left)) (joinOr e (varOf dest) (operandOf left))) (amount 4 0 3 0 0) k (now (arena .entry)) tt r (now (arena .exit)) ⌝ }
 {
     if detail(tree, e) == AND {
@@ -140,7 +140,7 @@ pub(crate) fn end_logic(
     dest: VarId,
     right: Operand,
 ) -> Fitted
-    requires { ⌜ RoomFor k (now arena) (amount 2 0 1 0 0) × (e < 4294967296) ⌝ }
+    requires { ⌜ RoomFor k (now arena) (amount 2 0 1 0 0) × (e < k .records) ⌝ }
     ensures { λ r. ⌜ ((tree : List ℕ) → TypeAt tree (dest .1) → FitAdds tree (endLogic e (varOf dest) (operandOf right)) (amount 2 0 1 0 0) k (now (arena .entry)) r (now (arena .exit))) ⌝ }
 {
     let k1 = emit(arena, k, Instr::Copy(dest, right));

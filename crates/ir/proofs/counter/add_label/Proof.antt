@@ -1,48 +1,78 @@
--- A label more.
--- From what `put_pair` wrote. Assumes nothing.
+-- A label more: its number at its slot, and its entry behind the others.
+-- The two writes one after the other. Assumes nothing.
+use mathlib.Core.Path.{refl}
 use borrow.Author.Needs.{needs}
-use Rattle.conversion.specs.Written.{encodeLabel}
+use Rattle.ir.proofs.SlotLaws.{label-writes}
 use Rattle.ir.proofs.counter.add_label.Statement.{statement}
 use Rattle.ir.proofs.counter.add_label.Tie as tie
 use Rattle.ir.proofs.counter.add_label.Reads as reads
 use Rattle.ir.proofs.counter.add_label.Lts as lts
+use Rattle.ir.proofs.counter.label_slot.Reads as label-slot-reads
 use Rattle.records.proofs.words.put_pair.Reads as put-pair-reads
+use Rattle.records.proofs.words.put_word.Reads as put-word-reads
 
-sub-t8 : tie.Need-sub-t8
-sub-t8 c = search needs
+-- src/counter.rt:54:19
+sub-number : tie.Need-sub-number
+sub-number c = search needs
 
-cast-t9 : tie.Need-cast-t9
-cast-t9 c = search needs
+-- src/counter.rt:54:18
+cast-number : tie.Need-cast-number
+cast-number c = search needs
 
+-- src/counter.rt:55:9
+label-slot-requires : tie.Need-label-slot-requires
+label-slot-requires c κs = search needs
+
+-- src/counter.rt:57:19
 add-next : tie.Need-add-next
 add-next c = search needs
 
+-- src/counter.rt:58:5
+put-word-requires : tie.Need-put-word-requires
+put-word-requires c κs = search needs
+
+-- src/counter.rt:59:21
 mul-put-pair : tie.Need-mul-put-pair
 mul-put-pair c = search needs
 
+-- src/counter.rt:59:42
 mul-put-pair-2 : tie.Need-mul-put-pair-2
 mul-put-pair-2 c = search needs
 
+-- src/counter.rt:59:21
 add-put-pair : tie.Need-add-put-pair
 add-put-pair c = search needs
 
+-- src/counter.rt:59:5
 put-pair-requires : tie.Need-put-pair-requires
 put-pair-requires c κs = search needs
 
+-- src/counter.rt:49:1
 same-length : tie.Need-same-length
 same-length c = search needs
 
+-- src/counter.rt:49:1
 returns : tie.Need-returns
-unfolding encodeLabel
-returns c = search needs
+returns c = (
+  search needs,
+  record {
+    counts = refl;
+    wrote = label-writes _ _ _ _ _ _ _ _ _
+        (c .before .before .before .before .before .before .before .before .before .label-slot .ensures)
+        (c .before .before .before .before .before .before .before .put-word .ensures)
+        (c .before .before .put-pair .ensures);
+  },
+)
 
 pub add-label-spec : {M : Type 1} → statement M
 add-label-spec =
     tie.close
     (tie.spec
-    sub-t8
-    cast-t9
+    sub-number
+    cast-number
+    label-slot-requires
     add-next
+    put-word-requires
     mul-put-pair
     mul-put-pair-2
     add-put-pair

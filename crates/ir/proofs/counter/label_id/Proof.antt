@@ -41,8 +41,8 @@ use denote.Triple.Table.{entered, cited}
 use denote.Triple.Walked.{says, needs, Stays, stay-ref, stay-none, gave-slice, walkOf, goes-ref, goes-none, goes-gave-slice, Walks, ends-at, walked, walk-meets}
 use denote.Exit.{yes}
 use denote.Signature.{plain}
-use Rattle.ir.specs.Arena.{Room}
-use Rattle.ir.specs.Steps.{NumbersLabel}
+use Rattle.ir.specs.Arena.{HasSlot, Room}
+use Rattle.ir.specs.Steps.{named as label, NumbersLabel}
 use Rattle.ir.specs.declared.structs.Counters.{Counters}
 use Rattle.ir.specs.declared.structs.LabelNumber.{LabelNumber}
 use Rattle.ir.specs.declared.structs.Label.{Label}
@@ -65,8 +65,8 @@ abbrev stayed : Stays (label-id.ended .signature .params) (label-id.ended .kept)
 stayed = (gave-slice (0 ∷ []) tt (plain (λ _. u8)), (stay-ref (1 ∷ []) tt (plain (λ _. K.the-row)), (stay-none (λ _. u32) yes, (stay-none (λ _. u32) yes, tt))))
 
 -- what the core asks
-abbrev Asks : Counters → List ℕ → Type 0
-Asks h ys = Room h ys × (h .labels < 3 * h .records)
+abbrev Asks : Counters → List ℕ → ℕ → ℕ → Type 0
+Asks h ys y z = Room h ys × (h .labels < 3 * h .records) × HasSlot (h .records) (label y z)
 
 -- the contract that the proof cites
 abbrev NumberLabel : {M : Type 1} (𝓤 : URA M) (H : Heap 𝓤) (A : Atoms 𝓤) (mem : Memory → SProp 𝓤) (run : Routine → Fun 𝓤) → Contract 𝓤
@@ -83,7 +83,7 @@ machR r = LL.val R.the-type R′.the-laws r
 parts : (r : LabelNumber) (w : Val) → Is N.the-row r (w ∷ []) → Is R.the-row (r .label) (machR (r .label) ∷ []) × Is K.the-row (r .counters) (mach (r .counters) ∷ [])
 parts r w is = let both = LL.owed N.the-type N′.the-laws r _ is in (both .0, both .1 .0)
 
-module _ {M : Type 1} (𝓤 : URA M) (H : Heap 𝓤) (A : Atoms 𝓤) (W : Given 𝓤 H A) (at-mem : Memory → SProp 𝓤) (run : Routine → Fun 𝓤) (κ κ′ : Lft) (q q′ : Share) (b o : ℕ) (γ : GName) (ys : List ℕ) (b′ o′ : ℕ) (γ′ : GName) (h : Counters) (y z : ℕ) (y-fits : y < 2 ^ 32) (z-fits : z < 2 ^ 32) (asks : Asks h ys) where
+module _ {M : Type 1} (𝓤 : URA M) (H : Heap 𝓤) (A : Atoms 𝓤) (W : Given 𝓤 H A) (at-mem : Memory → SProp 𝓤) (run : Routine → Fun 𝓤) (κ κ′ : Lft) (q q′ : Share) (b o : ℕ) (γ : GName) (ys : List ℕ) (b′ o′ : ℕ) (γ′ : GName) (h : Counters) (y z : ℕ) (y-fits : y < 2 ^ 32) (z-fits : z < 2 ^ 32) (asks : Asks h ys y z) where
   abbrev x : RefT (List ℕ)
   x = record { ptr = (b, o); name = γ; now = ys }
 
@@ -164,7 +164,7 @@ module _ {M : Type 1} (𝓤 : URA M) (H : Heap 𝓤) (A : Atoms 𝓤) (W : Given
   label-id-walks : (C : Calls 𝓤 H) (Λ : Loops 𝓤 H) → FmC 𝓤 H (W .laws) C → Triple 𝓤 (C #ir·counter·number-label) (NumberLabel 𝓤 H A mem run) → Walks 𝓤 H A label-id.ended stayed (WpFn 𝓤 H C Λ code.function) (label-id.clauses 𝓤 H A mem run)
   label-id-walks C Λ fm known = walked 𝓤 H A label-id.ended stayed (label-id.clauses 𝓤 H A mem run) (WpFn 𝓤 H C Λ code.function)
       (λ κs. (slice-vals, (ptr-vals, (uint-vals w32, (uint-vals w32, tt))))) (λ κs. (mut-slice-tells (named 0) (κs .0) u8, (mut-tells (named 1) (κs .1 .0) K.the-row, (uint-tells w32, (uint-tells w32, tt)))))
-      (λ κs qs bounds a g are. needs 𝓤 (Asks (a .1 .0 .now) (a .0 .now)) _ (λ asks.
+      (λ κs qs bounds a g are. needs 𝓤 (Asks (a .1 .0 .now) (a .0 .now) (a .1 .1 .0) (a .1 .1 .1 .0)) _ (λ asks.
       walk 𝓤 H A W mem run (κs .0) (κs .1 .0) (qs .0) (qs .1 .0) (a .0 .ptr .0) (a .0 .ptr .1) (a .0 .name) (a .0 .now) (a .1 .0 .ptr .0) (a .1 .0 .ptr .1) (a .1 .0 .name) (a .1 .0 .now) (a .1 .1 .0) (a .1 .1 .1 .0) (are .1 .1 .0 .1) (are .1 .1 .1 .0 .1) asks C Λ fm known (are .0 .0 .1)))
 
 label-id-meets : {M : Type 1} (𝓤 : URA M) (H : Heap 𝓤) (A : Atoms 𝓤) → Given 𝓤 H A → (mem : Memory → SProp 𝓤) (run : Routine → Fun 𝓤) (𝓣 : Tables 𝓤 H) → Triple 𝓤 (𝓣 .C #ir·counter·number-label) (NumberLabel 𝓤 H A mem run)

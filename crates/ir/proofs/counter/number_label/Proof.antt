@@ -1,69 +1,63 @@
 -- The label of a kind and a record.
--- What the search found, or a label more. Assumes nothing.
+-- It is the one under the number at its slot, or a label more. Assumes nothing.
+use mathlib.Core.Path.{refl}
 use borrow.Author.Needs.{needs}
-use native.Mathlib.Omega.{arith}
-use Rattle.ir.proofs.SearchLaws.{found-small}
-use Rattle.ir.proofs.Answers.{label-at, label-nowhere}
+use Rattle.ir.proofs.Answers.{label-found, label-new}
 use Rattle.ir.proofs.counter.number_label.Statement.{statement}
 use Rattle.ir.proofs.counter.number_label.Tie as tie
 use Rattle.ir.proofs.counter.number_label.Reads as reads
 use Rattle.ir.proofs.counter.number_label.Lts as lts
 use Rattle.ir.proofs.counter.add_label.Reads as add-label-reads
-use Rattle.ir.proofs.search.find_pair.Reads as find-pair-reads
+use Rattle.ir.proofs.counter.is_label.Reads as is-label-reads
+use Rattle.ir.proofs.counter.label_slot.Reads as label-slot-reads
+use Rattle.records.proofs.words.load.Reads as load-reads
 
-mul-at : tie.Need-mul-at
-mul-at c = search needs
+-- src/counter.rt:84:30
+label-slot-requires : tie.Need-label-slot-requires
+label-slot-requires c κs = search needs
 
-mul-at-2 : tie.Need-mul-at-2
-mul-at-2 c = search needs
+-- src/counter.rt:84:9
+load-requires : tie.Need-load-requires
+load-requires c κs = search needs
 
-add-at : tie.Need-add-at
-add-at c = search needs
+-- src/counter.rt:85:8
+is-label-requires : tie.Need-is-label-requires
+is-label-requires c κs = search needs
 
-sub-find-pair : tie.Need-sub-find-pair
-sub-find-pair c = search needs
-
-find-pair-requires : tie.Need-find-pair-requires
-find-pair-requires c κs = search needs
-
-enum-known-i : tie.Need-enum-known-i
-enum-known-i c = search needs
-
-cast-t13 : tie.Need-cast-t13
-cast-t13 c = omega (arith, found-small _ _ _ _ (c .before .before .before .find-pair .ensures) (c .before .i .given .1))
-
-enum-told : tie.Need-enum-told
-enum-told c = search needs
-
-add-label-requires : tie.Need-add-label-requires
-add-label-requires c κs = search needs
-
+-- src/counter.rt:86:9
 same-length : tie.Need-same-length
 same-length c = search needs
 
+-- src/counter.rt:86:9
 returns : tie.Need-returns
-returns c = search label-at
+returns c =
+    label-found _ _ _ _ (c .before .before .before .before .before .before .before .pre .0) _ _ (c .before .before .before .before .label-slot .ensures) (c .before .before .before .load .ensures)
+    _ _ (c .before .is-label .ensures) (c .if1 .taken) refl refl
 
+-- src/counter.rt:91:5
+add-label-requires : tie.Need-add-label-requires
+add-label-requires c κs = search needs
+
+-- src/counter.rt:80:1
 same-length-2 : tie.Need-same-length-2
 same-length-2 c = search needs
 
+-- src/counter.rt:80:1
 returns-2 : tie.Need-returns-2
-returns-2 c = search label-nowhere
+returns-2 c =
+    let first = c .before .before .before .before .before .before .before .before .before .before .before in
+    label-new _ _ _ _ (first .pre .0) _ _ (c .before .before .before .before .before .before .before .before .label-slot .ensures) (c .before .before .before .before .before .before .before .load .ensures)
+    _ _ _ (first .pre .1) (first .pre .2) (c .before .before .before .before .before .is-label .ensures) (c .before .before .before .before .if1 .left) (c .before .before .add-label .ensures)
 
 pub number-label-spec : {M : Type 1} → statement M
 number-label-spec =
     tie.close
     (tie.spec
-    mul-at
-    mul-at-2
-    add-at
-    sub-find-pair
-    find-pair-requires
-    enum-known-i
-    cast-t13
-    enum-told
-    add-label-requires
+    label-slot-requires
+    load-requires
+    is-label-requires
     same-length
     returns
+    add-label-requires
     same-length-2
     returns-2)

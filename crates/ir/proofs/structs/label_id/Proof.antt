@@ -43,8 +43,8 @@ use denote.Triple.Walked.{says, needs, Stays, stay-none, gave-slice, walkOf, goe
 use denote.Exit.{yes}
 use denote.Signature.{plain}
 use borrow.Table.OneValue.{part-in-at, part-out-at}
-use Rattle.ir.specs.Arena.{Room}
-use Rattle.ir.specs.Steps.{NumbersLabel}
+use Rattle.ir.specs.Arena.{HasSlot, Room}
+use Rattle.ir.specs.Steps.{named as label, NumbersLabel}
 use Rattle.ir.specs.declared.structs.Counters.{Counters}
 use Rattle.ir.specs.declared.structs.LabelNumber.{LabelNumber}
 use Rattle.ir.specs.declared.structs.Label.{Label}
@@ -67,8 +67,8 @@ abbrev stayed : Stays (label-id.ended .signature .params) (label-id.ended .kept)
 stayed = (gave-slice (0 ∷ []) tt (plain (λ _. u8)), (stay-none (λ _. K.the-row) yes, (stay-none (λ _. u32) yes, (stay-none (λ _. u32) yes, tt))))
 
 -- what the function asks
-abbrev Asks : Counters → List ℕ → Type 0
-Asks h ys = Room h ys × (h .labels < 3 * h .records)
+abbrev Asks : Counters → List ℕ → ℕ → ℕ → Type 0
+Asks h ys y z = Room h ys × (h .labels < 3 * h .records) × HasSlot (h .records) (label y z)
 
 -- the contract that the proof cites
 abbrev Thin : {M : Type 1} (𝓤 : URA M) (H : Heap 𝓤) (A : Atoms 𝓤) (mem : Memory → SProp 𝓤) (run : Routine → Fun 𝓤) → Contract 𝓤
@@ -88,7 +88,7 @@ both r k = record { label = r; counters = k }
 is-both : (r : Label) (w : Val) (k : Counters) (v : Val) → Is R.the-row r (w ∷ []) → Is K.the-row k (v ∷ []) → Is N.the-row (both r k) (machN (both r k) ∷ [])
 is-both r w k v is g = LL.owes N.the-type N′.the-laws (both r k) (LL.owes R.the-type R′.the-laws r (LL.owed R.the-type R′.the-laws r _ is), (LL.owes K.the-type K′.the-laws k (LL.owed K.the-type K′.the-laws k _ g), tt))
 
-module _ {M : Type 1} (𝓤 : URA M) (H : Heap 𝓤) (A : Atoms 𝓤) (W : Given 𝓤 H A) (at-mem : Memory → SProp 𝓤) (run : Routine → Fun 𝓤) (κ : Lft) (q : Share) (b o : ℕ) (γ : GName) (ys : List ℕ) (h : Counters) (y z : ℕ) (g : Is K.the-row h (mach h ∷ [])) (y-fits : y < 2 ^ 32) (z-fits : z < 2 ^ 32) (asks : Asks h ys) where
+module _ {M : Type 1} (𝓤 : URA M) (H : Heap 𝓤) (A : Atoms 𝓤) (W : Given 𝓤 H A) (at-mem : Memory → SProp 𝓤) (run : Routine → Fun 𝓤) (κ : Lft) (q : Share) (b o : ℕ) (γ : GName) (ys : List ℕ) (h : Counters) (y z : ℕ) (g : Is K.the-row h (mach h ∷ [])) (y-fits : y < 2 ^ 32) (z-fits : z < 2 ^ 32) (asks : Asks h ys y z) where
   abbrev x : RefT (List ℕ)
   x = record { ptr = (b, o); name = γ; now = ys }
 
@@ -175,7 +175,7 @@ module _ {M : Type 1} (𝓤 : URA M) (H : Heap 𝓤) (A : Atoms 𝓤) (W : Given
   label-id-walks : (C : Calls 𝓤 H) (Λ : Loops 𝓤 H) → FmC 𝓤 H (W .laws) C → Triple 𝓤 (C #ir·counter·label-id) (Thin 𝓤 H A mem run) → Walks 𝓤 H A label-id.ended stayed (WpFn 𝓤 H C Λ code.function) (label-id.clauses 𝓤 H A mem run)
   label-id-walks C Λ fm known = walked 𝓤 H A label-id.ended stayed (label-id.clauses 𝓤 H A mem run) (WpFn 𝓤 H C Λ code.function)
       (λ κs. (slice-vals, (LL.vals K.the-type K′.the-laws, (uint-vals w32, (uint-vals w32, tt))))) (λ κs. (mut-slice-tells (named 0) (κs .0) u8, (LL.tells K.the-type K′.the-laws, (uint-tells w32, (uint-tells w32, tt)))))
-      (λ κs qs bounds a g are. needs 𝓤 (Asks (a .1 .0) (a .0 .now)) _ (λ asks.
+      (λ κs qs bounds a g are. needs 𝓤 (Asks (a .1 .0) (a .0 .now) (a .1 .1 .0) (a .1 .1 .1 .0)) _ (λ asks.
       walk 𝓤 H A W mem run (κs .0) (qs .0) (a .0 .ptr .0) (a .0 .ptr .1) (a .0 .name) (a .0 .now) (a .1 .0) (a .1 .1 .0) (a .1 .1 .1 .0) (are .1 .0) (are .1 .1 .0 .1) (are .1 .1 .1 .0 .1) asks C Λ fm known (are .0 .0 .1)))
 
 label-id-meets : {M : Type 1} (𝓤 : URA M) (H : Heap 𝓤) (A : Atoms 𝓤) → Given 𝓤 H A → (mem : Memory → SProp 𝓤) (run : Routine → Fun 𝓤) (𝓣 : Tables 𝓤 H) → Triple 𝓤 (𝓣 .C #ir·counter·label-id) (Thin 𝓤 H A mem run)

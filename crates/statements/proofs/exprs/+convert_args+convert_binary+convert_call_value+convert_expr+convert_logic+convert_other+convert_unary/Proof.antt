@@ -1172,7 +1172,7 @@ convert-logic-begin-logic-requires : (t : ℕ) → convert-logic-lts.Need-begin-
   as-converted-reads.Asked,
   as-converted-reads.Learnt,
 ) (convert-logic-at t) convert-logic.Post
-convert-logic-begin-logic-requires t c κs = (begin-room (c .before .before .before .before .before .before .before .before .pre .1 .0 .0) (c .before .before .before .before .before .before .before .before .pre .1 .0 .1) (c .before .before .before .before .before .before .before .before .pre .1 .1 .0 .0) (c .before .before .before .reference .ensures) (c .before .before .reference2 .ensures), omega (arith, (c .before .before .before .before .before .before .before .before .pre .1 .1 .0 .0) .below, (c .before .before .before .before .before .before .before .before .pre .1 .0 .0 .ready .keyed .good) .few), omega (arith, (c .before .before .before .before .before .before .before .before .pre .1 .1 .0 .1) .below, (c .before .before .before .before .before .before .before .before .pre .1 .0 .0 .ready .keyed .good) .few))
+convert-logic-begin-logic-requires t c κs = let h = begin-room (c .before .before .before .before .before .before .before .before .pre .1 .0 .0) (c .before .before .before .before .before .before .before .before .pre .1 .0 .1) (c .before .before .before .before .before .before .before .before .pre .1 .1 .0 .0) (c .before .before .before .reference .ensures) (c .before .before .reference2 .ensures) in (h .0, h .1, omega (arith, (c .before .before .before .before .before .before .before .before .pre .1 .1 .0 .1) .below, (c .before .before .before .before .before .before .before .before .pre .1 .0 .0 .ready .keyed .good) .few))
 
 convert-logic-convert-expr-requires : (t : ℕ) → convert-logic-lts.Need-convert-expr-requires (
   reference-reads.Asked,
@@ -1236,7 +1236,7 @@ convert-logic-join-logic-requires : (t : ℕ) → convert-logic-lts.Need-join-lo
   as-converted-reads.Asked,
   as-converted-reads.Learnt,
 ) (convert-logic-at t) convert-logic.Post
-convert-logic-join-logic-requires t c κs = (logic-room (c .before .before .before .before .before .before .before .before .before .before .before .before .before .before .before .before .before .before .before .before .before .before .before .before .pre .1 .0 .0) (c .before .before .before .before .before .before .before .before .before .before .before .before .before .before .before .before .before .before .before .before .before .before .before .before .pre .1 .0 .1) (c .before .before .before .before .before .before .before .before .before .before .before .before .before .before .before .before .before .before .before .before .before .before .before .before .pre .1 .1 .0 .0) (c .before .before .before .before .before .before .before .before .before .before .before .before .before .before .before .before .before .before .before .reference .ensures) (c .before .before .before .before .before .before .before .before .before .before .before .before .before .before .before .before .before .before .reference2 .ensures) _ (c .before .before .before .before .before .before .before .before .before .before .before .before .before .before .before .begin-logic .ensures .0) (c .before .before .before .before .before .before .before .before .convert-expr .ensures .0) (c .before .before .a .given .1), omega (arith, (c .before .before .before .before .before .before .before .before .before .before .before .before .before .before .before .before .before .before .before .before .before .before .before .before .pre .1 .1 .0 .0) .below, (c .before .before .before .before .before .before .before .before .before .before .before .before .before .before .before .before .before .before .before .before .before .before .before .before .pre .1 .0 .0 .ready .keyed .good) .few), omega (arith, (c .before .before .before .before .before .before .before .before .before .before .before .before .before .before .before .before .before .before .before .before .before .before .before .before .pre .1 .1 .0 .0) .below, (c .before .before .before .before .before .before .before .before .before .before .before .before .before .before .before .before .before .before .before .before .before .before .before .before .pre .1 .0 .0 .ready .keyed .good) .whole))
+convert-logic-join-logic-requires t c κs = let h = logic-room (c .before .before .before .before .before .before .before .before .before .before .before .before .before .before .before .before .before .before .before .before .before .before .before .before .pre .1 .0 .0) (c .before .before .before .before .before .before .before .before .before .before .before .before .before .before .before .before .before .before .before .before .before .before .before .before .pre .1 .0 .1) (c .before .before .before .before .before .before .before .before .before .before .before .before .before .before .before .before .before .before .before .before .before .before .before .before .pre .1 .1 .0 .0) (c .before .before .before .before .before .before .before .before .before .before .before .before .before .before .before .before .before .before .before .reference .ensures) (c .before .before .before .before .before .before .before .before .before .before .before .before .before .before .before .before .before .before .reference2 .ensures) _ (c .before .before .before .before .before .before .before .before .before .before .before .before .before .before .before .begin-logic .ensures .0) (c .before .before .before .before .before .before .before .before .convert-expr .ensures .0) (c .before .before .a .given .1) in (h .0, h .1, omega (arith, (c .before .before .before .before .before .before .before .before .before .before .before .before .before .before .before .before .before .before .before .before .before .before .before .before .pre .1 .1 .0 .0) .below, (c .before .before .before .before .before .before .before .before .before .before .before .before .before .before .before .before .before .before .before .before .before .before .before .before .pre .1 .0 .0 .ready .keyed .good) .whole))
 
 convert-logic-convert-expr-requires-2 : (t : ℕ) → convert-logic-lts.Need-convert-expr-requires-2 (
   reference-reads.Asked,
@@ -1300,7 +1300,7 @@ convert-logic-end-logic-requires : (t : ℕ) → convert-logic-lts.Need-end-logi
   as-converted-reads.Asked,
   as-converted-reads.Learnt,
 ) (convert-logic-at t) convert-logic.Post
-convert-logic-end-logic-requires t c κs = (logic-end-room (c .before .before .before .before .before .before .before .before .before .before .before .before .before .before .before .before .before .before .before .before .before .before .before .before .before .before .before .before .before .before .before .before .before .before .before .before .before .before .pre .1 .0 .0) (c .before .before .before .before .before .before .before .before .before .before .before .before .before .before .before .before .before .before .before .before .before .before .before .before .before .before .before .before .before .before .before .before .before .before .before .before .before .before .pre .1 .0 .1) (c .before .before .before .before .before .before .before .before .before .before .before .before .before .before .before .before .before .before .before .before .before .before .before .before .before .before .before .before .before .before .before .before .before .before .before .before .before .before .pre .1 .1 .0 .0) (c .before .before .before .before .before .before .before .before .before .before .before .before .before .before .before .before .before .before .before .before .before .before .before .before .before .before .before .before .before .before .before .before .before .reference .ensures) (c .before .before .before .before .before .before .before .before .before .before .before .before .before .before .before .before .before .before .before .before .before .before .before .before .before .before .before .before .before .before .before .before .reference2 .ensures) _ (c .before .before .before .before .before .before .before .before .before .before .before .before .before .before .before .before .before .before .before .before .before .before .before .before .before .before .before .before .before .begin-logic .ensures .0) (c .before .before .before .before .before .before .before .before .before .before .before .before .before .before .before .before .before .before .before .before .before .before .convert-expr .ensures .0) (c .before .before .before .before .before .before .before .before .before .before .before .before .before .before .before .before .a .given .1) (c .before .before .before .before .before .before .before .before .before .before .before .before .before .join-logic .ensures) (c .before .before .before .before .before .before .before .before .convert-expr2 .ensures .0) (c .before .before .b .given .1), omega (arith, (c .before .before .before .before .before .before .before .before .before .before .before .before .before .before .before .before .before .before .before .before .before .before .before .before .before .before .before .before .before .before .before .before .before .before .before .before .before .before .pre .1 .1 .0 .0) .below, (c .before .before .before .before .before .before .before .before .before .before .before .before .before .before .before .before .before .before .before .before .before .before .before .before .before .before .before .before .before .before .before .before .before .before .before .before .before .before .pre .1 .0 .0 .ready .keyed .good) .few))
+convert-logic-end-logic-requires t c κs = logic-end-room (c .before .before .before .before .before .before .before .before .before .before .before .before .before .before .before .before .before .before .before .before .before .before .before .before .before .before .before .before .before .before .before .before .before .before .before .before .before .before .pre .1 .0 .0) (c .before .before .before .before .before .before .before .before .before .before .before .before .before .before .before .before .before .before .before .before .before .before .before .before .before .before .before .before .before .before .before .before .before .before .before .before .before .before .pre .1 .0 .1) (c .before .before .before .before .before .before .before .before .before .before .before .before .before .before .before .before .before .before .before .before .before .before .before .before .before .before .before .before .before .before .before .before .before .before .before .before .before .before .pre .1 .1 .0 .0) (c .before .before .before .before .before .before .before .before .before .before .before .before .before .before .before .before .before .before .before .before .before .before .before .before .before .before .before .before .before .before .before .before .before .reference .ensures) (c .before .before .before .before .before .before .before .before .before .before .before .before .before .before .before .before .before .before .before .before .before .before .before .before .before .before .before .before .before .before .before .before .reference2 .ensures) _ (c .before .before .before .before .before .before .before .before .before .before .before .before .before .before .before .before .before .before .before .before .before .before .before .before .before .before .before .before .before .begin-logic .ensures .0) (c .before .before .before .before .before .before .before .before .before .before .before .before .before .before .before .before .before .before .before .before .before .before .convert-expr .ensures .0) (c .before .before .before .before .before .before .before .before .before .before .before .before .before .before .before .before .a .given .1) (c .before .before .before .before .before .before .before .before .before .before .before .before .before .join-logic .ensures) (c .before .before .before .before .before .before .before .before .convert-expr2 .ensures .0) (c .before .before .b .given .1)
 
 convert-logic-as-converted-requires : (t : ℕ) → convert-logic-lts.Need-as-converted-requires (
   reference-reads.Asked,

@@ -25,7 +25,7 @@ emit-requires : tie.Need-emit-requires
 emit-requires c κs = (c .before .before .before .place-label .ensures .next .room, omega (arith, c .before .before .before .before .before .before .before .before .before .before .before .before .before .before .pre .0 .affords, c .before .before .before .before .before .before .before .jump .ensures .spent, c .before .before .before .place-label .ensures .spent))
 
 place-label-requires-2 : tie.Need-place-label-requires-2
-place-label-requires-2 c κs = (record { room = c .before .before .before .emit .ensures .next .room; affords = omega (arith, c .before .before .before .before .before .before .before .before .before .before .before .before .before .before .before .before .before .before .pre .0 .affords, c .before .before .before .before .before .before .before .before .before .before .before .jump .ensures .spent, c .before .before .before .before .before .before .before .place-label .ensures .spent, c .before .before .before .emit .ensures .spent) }, c .before .before .before .before .before .before .before .before .before .before .before .before .before .before .before .before .before .before .pre .1)
+place-label-requires-2 c κs = (record { room = c .before .before .before .emit .ensures .next .room; affords = omega (arith, c .before .before .before .before .before .before .before .before .before .before .before .before .before .before .before .before .before .before .pre .0 .affords, c .before .before .before .before .before .before .before .before .before .before .before .jump .ensures .spent, c .before .before .before .before .before .before .before .place-label .ensures .spent, c .before .before .before .emit .ensures .spent) }, omega (arith, c .before .before .before .before .before .before .before .before .before .before .before .before .before .before .before .before .before .before .pre .1, c .before .before .before .before .before .before .before .before .before .before .before .jump .ensures .spent, c .before .before .before .before .before .before .before .place-label .ensures .spent, c .before .before .before .emit .ensures .spent))
 
 same-length : tie.Need-same-length
 same-length c = search needs

@@ -1,10 +1,13 @@
 -- The For up to its check.
 -- The first bound, its copy and where the For counts on, in a row. Assumes nothing.
 use Rattle.statements.specs.Turns.{exprTypes}
+use mathlib.Core.Path.{_∙_}
 use mathlib.Core.List.{[]}
 use native.Mathlib.Omega.{arith}
 use borrow.Author.Needs.{needs}
-use Rattle.statements.proofs.HeadLaws.{record-small, first-bound, bound-afforded, bound-room, count-room, bound-operand, begin-refused, begin-done, refused-finished, operand-typed}
+use Rattle.statements.proofs.ConvertLaws.{converted-next}
+use Rattle.statements.proofs.StayLaws.{record-counted}
+use Rattle.statements.proofs.HeadLaws.{first-bound, bound-afforded, bound-room, count-room, bound-operand, begin-refused, begin-done, refused-finished, operand-typed}
 use Rattle.statements.proofs.loops.for_begin.Statement.{statement}
 use Rattle.statements.proofs.loops.for_begin.Tie as tie
 
@@ -24,7 +27,7 @@ copy-fitted-requires : tie.Need-copy-fitted-requires
 copy-fitted-requires c κs = (bound-room _ _ (c .before .before .before .before .before .before .before .before .before .before .before .before .before .before .before .before .pre .0 .0) (c .before .before .before .before .before .before .before .before .before .before .before .before .before .before .before .before .pre .0 .1) (c .before .before .before .before .before .before .before .before .before .before .before .reference .ensures) (c .before .before .before .before .before .before .before .before .convert-expr .ensures .0) (c .before .before .a .given .1) (omega arith), c .before .before .before .before .before .before .before .before .before .before .before .before .before .before .before .before .pre .1 .0 .1, bound-operand _ _ (c .before .before .before .before .before .before .before .before .before .before .before .before .before .before .before .before .pre .0 .0) (c .before .before .before .before .before .before .before .before .before .before .before .before .before .before .before .before .pre .0 .1) (c .before .before .before .before .before .before .before .before .before .before .before .reference .ensures) (c .before .before .before .before .before .before .before .before .convert-expr .ensures .0) (c .before .before .a .given .1))
 
 count-on-requires : tie.Need-count-on-requires
-count-on-requires c κs = (count-room _ _ (c .before .before .before .before .before .before .before .before .before .before .before .before .before .before .before .before .before .before .before .before .pre .0 .0) (c .before .before .before .before .before .before .before .before .before .before .before .before .before .before .before .before .before .before .before .before .pre .0 .1) (c .before .before .before .before .before .before .before .before .before .before .before .before .before .before .before .reference .ensures) (c .before .before .before .before .before .before .before .before .before .before .before .before .convert-expr .ensures .0) (c .before .before .before .before .before .before .a .given .1) (c .before .before .before .copy-fitted .ensures []), record-small (c .before .before .before .before .before .before .before .before .before .before .before .before .before .before .before .before .before .before .before .before .pre .0 .0) (c .before .before .before .before .before .before .before .before .before .before .before .before .before .before .before .before .before .before .before .before .pre .1 .0 .0), c .before .before .before .before .before .before .before .before .before .before .before .before .before .before .before .before .before .before .before .before .pre .1 .0 .1)
+count-on-requires c κs = (count-room _ _ (c .before .before .before .before .before .before .before .before .before .before .before .before .before .before .before .before .before .before .before .before .pre .0 .0) (c .before .before .before .before .before .before .before .before .before .before .before .before .before .before .before .before .before .before .before .before .pre .0 .1) (c .before .before .before .before .before .before .before .before .before .before .before .before .before .before .before .reference .ensures) (c .before .before .before .before .before .before .before .before .before .before .before .before .convert-expr .ensures .0) (c .before .before .before .before .before .before .a .given .1) (c .before .before .before .copy-fitted .ensures []), record-counted (c .before .before .before .before .before .before .before .before .before .before .before .before .before .before .before .before .before .before .before .before .pre .0 .0) (c .before .before .before .before .before .before .before .before .before .before .before .before .before .before .before .before .before .before .before .before .pre .1 .0 .0) (c .before .before .before .copy-fitted .ensures [] .spent .records ∙ converted-next (c .before .before .before .before .before .before .before .before .before .before .before .before .convert-expr .ensures .0) (c .before .before .before .before .before .before .a .given .1) .spent .records), c .before .before .before .before .before .before .before .before .before .before .before .before .before .before .before .before .before .before .before .before .pre .1 .0 .1)
 
 same-length : tie.Need-same-length
 same-length c = search needs

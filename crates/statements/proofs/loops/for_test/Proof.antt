@@ -3,7 +3,9 @@
 use Rattle.statements.specs.Turns.{exprTypes}
 use native.Mathlib.Omega.{arith}
 use borrow.Author.Needs.{needs}
-use Rattle.statements.proofs.HeadLaws.{record-small, second-bound, bound-afforded, bound-room, bound-operand, test-refused, test-done, refused-finished, operand-typed}
+use Rattle.statements.proofs.ConvertLaws.{converted-next}
+use Rattle.statements.proofs.StayLaws.{record-counted}
+use Rattle.statements.proofs.HeadLaws.{second-bound, bound-afforded, bound-room, bound-operand, test-refused, test-done, refused-finished, operand-typed}
 use Rattle.statements.proofs.loops.for_test.Statement.{statement}
 use Rattle.statements.proofs.loops.for_test.Tie as tie
 
@@ -20,7 +22,7 @@ enum-known-b : tie.Need-enum-known-b
 enum-known-b c = search needs
 
 test-bound-requires : tie.Need-test-bound-requires
-test-bound-requires c κs = (bound-room _ _ (c .before .before .before .before .before .before .before .before .before .before .before .before .before .before .before .before .pre .0 .0) (c .before .before .before .before .before .before .before .before .before .before .before .before .before .before .before .before .pre .0 .1) (c .before .before .before .before .before .before .before .before .before .before .before .reference .ensures) (c .before .before .before .before .before .before .before .before .convert-expr .ensures .0) (c .before .before .b .given .1) (omega arith), record-small (c .before .before .before .before .before .before .before .before .before .before .before .before .before .before .before .before .pre .0 .0) (c .before .before .before .before .before .before .before .before .before .before .before .before .before .before .before .before .pre .1 .0 .0), c .before .before .before .before .before .before .before .before .before .before .before .before .before .before .before .before .pre .1 .0 .1, bound-operand _ _ (c .before .before .before .before .before .before .before .before .before .before .before .before .before .before .before .before .pre .0 .0) (c .before .before .before .before .before .before .before .before .before .before .before .before .before .before .before .before .pre .0 .1) (c .before .before .before .before .before .before .before .before .before .before .before .reference .ensures) (c .before .before .before .before .before .before .before .before .convert-expr .ensures .0) (c .before .before .b .given .1))
+test-bound-requires c κs = (bound-room _ _ (c .before .before .before .before .before .before .before .before .before .before .before .before .before .before .before .before .pre .0 .0) (c .before .before .before .before .before .before .before .before .before .before .before .before .before .before .before .before .pre .0 .1) (c .before .before .before .before .before .before .before .before .before .before .before .reference .ensures) (c .before .before .before .before .before .before .before .before .convert-expr .ensures .0) (c .before .before .b .given .1) (omega arith), record-counted (c .before .before .before .before .before .before .before .before .before .before .before .before .before .before .before .before .pre .0 .0) (c .before .before .before .before .before .before .before .before .before .before .before .before .before .before .before .before .pre .1 .0 .0) (converted-next (c .before .before .before .before .before .before .before .before .convert-expr .ensures .0) (c .before .before .b .given .1) .spent .records), c .before .before .before .before .before .before .before .before .before .before .before .before .before .before .before .before .pre .1 .0 .1, bound-operand _ _ (c .before .before .before .before .before .before .before .before .before .before .before .before .before .before .before .before .pre .0 .0) (c .before .before .before .before .before .before .before .before .before .before .before .before .before .before .before .before .pre .0 .1) (c .before .before .before .before .before .before .before .before .before .before .before .reference .ensures) (c .before .before .before .before .before .before .before .before .convert-expr .ensures .0) (c .before .before .b .given .1))
 
 same-length : tie.Need-same-length
 same-length c = search needs

@@ -22,7 +22,7 @@ enum-known-cond : tie.Need-enum-known-cond
 enum-known-cond c = search needs
 
 jump-if-not-requires : tie.Need-jump-if-not-requires
-jump-if-not-requires c κs = if-jump-requires _ (c .before .before .before .before .before .before .before .before .before .before .before .before .before .before .before .before .before .pre .0 .0) (c .before .before .before .before .before .before .before .before .before .before .before .before .before .before .before .before .before .pre .0 .1) (c .before .before .before .before .before .before .before .before .before .before .before .before .reference .ensures) (c .before .before .before .before .before .before .before .before .convert-cond .ensures .0) (c .before .before .before .before .before .before .before .before .before .before .before .before .before .before .before .before .before .pre .1 .0) (c .before .before .cond .given .1)
+jump-if-not-requires c κs = if-jump-requires _ (c .before .before .before .before .before .before .before .before .before .before .before .before .before .before .before .before .before .pre .0 .0) (c .before .before .before .before .before .before .before .before .before .before .before .before .before .before .before .before .before .pre .0 .1) (c .before .before .before .before .before .before .before .before .before .before .before .before .reference .ensures) (c .before .before .before .before .before .before .before .before .convert-cond .ensures .0) (c .before .before .before .before .before .before .before .before .before .before .before .before .before .before .before .before .before .pre .1 .0) (c .before .before .before .before .before .before .before .before .before .before .before .if-not-label .ensures) (c .before .before .cond .given .1)
 
 same-length : tie.Need-same-length
 same-length c = search needs

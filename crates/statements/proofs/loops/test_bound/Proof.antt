@@ -24,7 +24,7 @@ emit-requires : tie.Need-emit-requires
 emit-requires c κs = (c .before .before .before .before .before .new-var .ensures .next .room, omega (arith, c .before .before .before .before .before .before .before .before .before .before .before .before .before .before .before .pre .0 .affords, c .before .before .before .before .before .before .before .before .before .before .fit-operand .ensures [] .adds .spent, c .before .before .before .before .before .new-var .ensures .spent))
 
 jump-if-not-requires : tie.Need-jump-if-not-requires
-jump-if-not-requires c κs = (record { room = c .before .before .before .emit .ensures .next .room; affords = omega (arith, c .before .before .before .before .before .before .before .before .before .before .before .before .before .before .before .before .before .before .before .pre .0 .affords, c .before .before .before .before .before .before .before .before .before .before .before .before .before .before .fit-operand .ensures [] .adds .spent, c .before .before .before .before .before .before .before .before .before .new-var .ensures .spent, c .before .before .before .emit .ensures .spent) }, c .before .before .before .before .before .before .before .before .before .before .before .before .before .before .before .before .before .before .before .pre .1)
+jump-if-not-requires c κs = (record { room = c .before .before .before .emit .ensures .next .room; affords = omega (arith, c .before .before .before .before .before .before .before .before .before .before .before .before .before .before .before .before .before .before .before .pre .0 .affords, c .before .before .before .before .before .before .before .before .before .before .before .before .before .before .fit-operand .ensures [] .adds .spent, c .before .before .before .before .before .before .before .before .before .new-var .ensures .spent, c .before .before .before .emit .ensures .spent) }, omega (arith, c .before .before .before .before .before .before .before .before .before .before .before .before .before .before .before .before .before .before .before .pre .1, c .before .before .before .before .before .before .before .before .before .before .before .before .before .before .fit-operand .ensures [] .adds .spent, c .before .before .before .before .before .before .before .before .before .new-var .ensures .spent, c .before .before .before .emit .ensures .spent))
 
 same-length : tie.Need-same-length
 same-length c = omega (arith, c .before .before .before .before .before .before .before .before .before .before .before .before .before .before .before .before .before .fit-operand .ensures [] .adds .long, c .before .before .before .before .before .before .before .before .before .before .before .arena2 .given, c .before .before .before .before .before .arena3 .given, c .before .before .jump-if-not .ensures .long)

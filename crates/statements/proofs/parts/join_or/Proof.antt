@@ -16,7 +16,7 @@ jump-requires : tie.Need-jump-requires
 jump-requires c κs = search needs
 
 place-label-requires : tie.Need-place-label-requires
-place-label-requires c κs = (record { room = c .before .before .before .jump .ensures .next .room; affords = omega (arith, c .before .before .before .before .before .before .before .before .before .before .before .before .before .before .pre .0 .affords, c .before .before .before .before .before .before .before .before .before .before .before .emit .ensures .spent, c .before .before .before .before .before .before .before .jump-if-not .ensures .spent, c .before .before .before .jump .ensures .spent) }, c .before .before .before .before .before .before .before .before .before .before .before .before .before .before .pre .1)
+place-label-requires c κs = (record { room = c .before .before .before .jump .ensures .next .room; affords = omega (arith, c .before .before .before .before .before .before .before .before .before .before .before .before .before .before .pre .0 .affords, c .before .before .before .before .before .before .before .before .before .before .before .emit .ensures .spent, c .before .before .before .before .before .before .before .jump-if-not .ensures .spent, c .before .before .before .jump .ensures .spent) }, omega (arith, c .before .before .before .before .before .before .before .before .before .before .before .before .before .before .pre .1, c .before .before .before .before .before .before .before .before .before .before .before .emit .ensures .spent, c .before .before .before .before .before .before .before .jump-if-not .ensures .spent, c .before .before .before .jump .ensures .spent))
 
 same-length : tie.Need-same-length
 same-length c = search needs

@@ -1,6 +1,7 @@
 -- A Break jumps to the end of the innermost loop; outside of all it is refused.
 -- By what `in_loop` answers. Assumes nothing.
-use Rattle.statements.proofs.DeclareLaws.{break-outside, break-jumps}
+use Rattle.statements.proofs.DeclareLaws.{jump-asks, break-outside, break-jumps}
+use native.Mathlib.Omega.{arith}
 use borrow.Author.Needs.{needs}
 use Rattle.statements.proofs.statements.convert_break.Statement.{statement}
 use Rattle.statements.proofs.statements.convert_break.Tie as tie
@@ -21,7 +22,7 @@ cast-jump : tie.Need-cast-jump
 cast-jump c = search needs
 
 jump-requires : tie.Need-jump-requires
-jump-requires c κs = search needs
+jump-requires c κs = jump-asks (c .before .before .before .before .before .before .before .before .before .before .before .pre .0 .0) _ _ (c .before .before .before .before .in-loop .ensures) 2 (omega arith) (omega arith) (c .before .before .before .before .before .before .before .before .before .before .before .pre .0 .1) (c .before .before .l .given .1)
 
 returns : tie.Need-returns
 returns c = break-outside (c .before .before .before .before .before .before .before .before .before .before .pre .0 .0) _ _ (c .before .before .before .in-loop .ensures) (c .before .enum-told .given .1) (c .error-at .ensures)

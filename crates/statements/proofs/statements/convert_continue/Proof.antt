@@ -1,6 +1,7 @@
 -- A Continue jumps to the start of the innermost loop; outside of all it is refused.
 -- By what `in_loop` answers. Assumes nothing.
-use Rattle.statements.proofs.DeclareLaws.{continue-outside, continue-jumps}
+use Rattle.statements.proofs.DeclareLaws.{jump-asks, continue-outside, continue-jumps}
+use native.Mathlib.Omega.{arith}
 use borrow.Author.Needs.{needs}
 use Rattle.statements.proofs.statements.convert_continue.Statement.{statement}
 use Rattle.statements.proofs.statements.convert_continue.Tie as tie
@@ -21,7 +22,7 @@ cast-jump : tie.Need-cast-jump
 cast-jump c = search needs
 
 jump-requires : tie.Need-jump-requires
-jump-requires c κs = search needs
+jump-requires c κs = jump-asks (c .before .before .before .before .before .before .before .before .before .before .before .pre .0 .0) _ _ (c .before .before .before .before .in-loop .ensures) 1 (omega arith) (omega arith) (c .before .before .before .before .before .before .before .before .before .before .before .pre .0 .1) (c .before .before .l .given .1)
 
 returns : tie.Need-returns
 returns c = continue-outside (c .before .before .before .before .before .before .before .before .before .before .pre .0 .0) _ _ (c .before .before .before .in-loop .ensures) (c .before .enum-told .given .1) (c .error-at .ensures)
