@@ -23,18 +23,18 @@ use Rattle.judge.specs.Inner.{capped, classIn, depthIn, countIn, kindIn,
 use Rattle.judge.proofs.CapLaws.{cap-low, cap-high, cap-small, cap-cap}
 
 -- a count that nothing is added to
-cap-plus : (x z : ℕ) → z ≡ 0 → capped 2 x ≡ capped 2 (x + z)
+pub cap-plus : (x z : ℕ) → z ≡ 0 → capped 2 x ≡ capped 2 (x + z)
 cap-plus x z e = let s : x ≡ x + z = omega arith in ap (capped 2) s
 
 pub refers-not : (role : Role) (w k : ℕ) → refers role ≡ false → refersTo role w k ≡ 0
 unfolding refersTo pick
 refers-not role w k e = rw e refl
 
-refers-other : (role : Role) (w k : ℕ) → (w ≡ k → ⊥) → refersTo role w k ≡ 0
+pub refers-other : (role : Role) (w k : ℕ) → (w ≡ k → ⊥) → refersTo role w k ≡ 0
 unfolding refersTo pick
 refers-other role w k h = tested (refers role) (λ t. rw (t, ne-eqb w k h) refl) (λ t. rw t refl)
 
-refers-same : (role : Role) (w : ℕ) → refers role ≡ true → refersTo role w w ≡ 1
+pub refers-same : (role : Role) (w : ℕ) → refers role ≡ true → refersTo role w w ≡ 1
 unfolding refersTo pick
 refers-same role w e = rw (e, eq-eqb w w refl) refl
 

@@ -128,7 +128,7 @@ fn take_words(tree: &[u8], bytes: usize, r: usize, row: Row, words: Words, known
     }
 }
 
-fn words_of(tree: &[u8], r: usize) -> Words
+pub(crate) fn words_of(tree: &[u8], r: usize) -> Words
     requires { ⌜ r * 32 + 32 ≤ length (now tree) ⌝ }
     ensures { λ v. ⌜ WordsOf (now (tree .entry)) r v ⌝ }
 {
@@ -142,7 +142,7 @@ fn words_of(tree: &[u8], r: usize) -> Words
 }
 
 // The bytes of record r.
-fn put_known(known: &mut [u8], r: usize, class: u8, depth: u8, k: u8)
+pub(crate) fn put_known(known: &mut [u8], r: usize, class: u8, depth: u8, k: u8)
     requires { ⌜ r * 4 + 8 ≤ length (now known) ⌝ }
     ensures { λ _. ⌜ now (known .exit) ≡ stored (now (known .entry)) r class depth k ⌝ }
 {
