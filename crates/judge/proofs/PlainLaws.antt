@@ -9,16 +9,17 @@ use native.Mathlib.Omega.{arith}
 use lib.Dec.{eqb, leb, ltb}
 use lib.ListN.{length, getD, set, length-set}
 use lib.Seq.{getD-set-same, getD-set-other}
-use borrow.Author.Tests.{eqb-true, eqb-false, leb-true, le-leb, eq-eqb}
+use borrow.Author.Tests.{eqb-true, eqb-false, leb-true, le-leb, eq-eqb, ne-eqb}
 use Rattle.laws.specs.Below.{allBelow}
 use Rattle.laws.proofs.AllBelow.{all-at}
+use Rattle.laws.proofs.FixLaws.{pick-yes, pick-no}
 use Rattle.laws.proofs.Tests.{tested, and-left, and-right}
 use Rattle.records.specs.declared.shape.Role.{Role}
 use Rattle.records.specs.declared.shape.Role.the-variants.{Unused, Number, Text, Length, Expr, TypeRef, TypeOrNone, Name, Variable, Arguments, Parameters, Body, Item, Rest}
 use Rattle.records.specs.Rules.{wordOk, refersTo}
 use Rattle.records.specs.Depth.{depthBelow}
-use Rattle.records.specs.Words.{none, boolNumber}
-use Rattle.records.specs.Shapes.{refers, rowOf}
+use Rattle.records.specs.Words.{kindOf, detailOf, none, boolNumber}
+use Rattle.records.specs.Shapes.{refers, rowOf, rowAt, shapeOf}
 use Rattle.judge.specs.Inner.{capped, shallowDepth, classIn, depthIn, countIn, kindIn, listNumber, lowKey, highKey, noneOk, Known, Counting, Counted}
 use Rattle.judge.proofs.CapLaws.{cap-high}
 use Rattle.judge.proofs.CountLaws.{refers-not, refers-other, refers-same, cap-plus}
@@ -228,3 +229,53 @@ module _ (tree : List ℕ) (r : ℕ) (l l′ : List ℕ) (o : Owned l l′) wher
 
   pub counting-owned : Counting tree r l → Counting tree r l′
   counting-owned c = record { counts = λ i h n. ap (capped 2) (o .others (i * 4 + 5) (omega arith)) ∙ c .counts i h n }
+
+-- ---- the row of a kind
+
+seven : (a b c d e f g : Bool) → (a && b && c && d && e && f && g) ≡ true → (a ≡ true) × (b ≡ true) × (c ≡ true) × (d ≡ true) × (e ≡ true) × (f ≡ true) × (g ≡ true)
+seven a b c d e f g h =
+    let s = six a b c d e f (and-left (a && b && c && d && e && f) g h) in
+    (s .0, s .1, s .2, s .3, s .4, s .5, and-right (a && b && c && d && e && f) g h)
+
+either : (a b : Bool) → (a || b) ≡ true → a ≡ false → b ≡ true
+either true b e f = absurd (false≢true (sym f))
+either false b e f = e
+
+flipped : (b : Bool) → not b ≡ true → b ≡ false
+flipped true e = absurd (false≢true e)
+flipped false e = refl
+
+-- what the twenty numbers of a kind say of its row
+pub record RowFacts (rules : List ℕ) (k : ℕ) : Type 0 where
+  pub a : RuleFacts rules (k * 20) (rowOf k .a)
+  pub b : RuleFacts rules (k * 20 + 5) (rowOf k .b)
+  pub c : RuleFacts rules (k * 20 + 10) (rowOf k .c)
+  pub textIs : getD rules (k * 20 + 15) 0 ≡ boolNumber (isText (rowOf k .a))
+  pub noTextB : isText (rowOf k .b) ≡ false
+  pub noTextC : isText (rowOf k .c) ≡ false
+  pub limited : (getD rules (k * 20 + 16) 0 ≡ 0 → ⊥) → (getD rules (k * 20 + 16) 0 ≡ rowOf k .limit) × (k ≡ 1 → ⊥) × (isUnused (rowOf k .d) ≡ true) × (isUnused (rowOf k .e) ≡ true)
+
+pub row-facts : (k : ℕ) → k < 26 → RowFacts plainRules k
+unfolding rowFits
+row-facts k h =
+    let limit = getD plainRules (k * 20 + 16) 0 in
+    let used : Bool = eqb limit (rowOf k .limit) && not (eqb k 1) && isUnused (rowOf k .d) && isUnused (rowOf k .e) in
+    let f = seven (ruleFits plainRules (k * 20) (rowOf k .a)) (ruleFits plainRules (k * 20 + 5) (rowOf k .b)) (ruleFits plainRules (k * 20 + 10) (rowOf k .c)) (eqb (getD plainRules (k * 20 + 15) 0) (boolNumber (isText (rowOf k .a)))) (not (isText (rowOf k .b))) (not (isText (rowOf k .c))) (eqb limit 0 || used) (row-fits k h) in
+    record {
+      a = rule-facts plainRules (k * 20) (rowOf k .a) (f .0);
+      b = rule-facts plainRules (k * 20 + 5) (rowOf k .b) (f .1);
+      c = rule-facts plainRules (k * 20 + 10) (rowOf k .c) (f .2);
+      textIs = eqb-true _ _ (f .3);
+      noTextB = flipped (isText (rowOf k .b)) (f .4);
+      noTextC = flipped (isText (rowOf k .c)) (f .5);
+      limited = λ n.
+          let g = six true true (eqb limit (rowOf k .limit)) (not (eqb k 1)) (isUnused (rowOf k .d)) (isUnused (rowOf k .e)) (either (eqb limit 0) used (f .6) (ne-eqb limit 0 n)) in
+          (eqb-true limit (rowOf k .limit) (g .2), eqb-false k 1 (flipped (eqb k 1) (g .3)), g .4, g .5);
+    }
+
+-- the row of a record of this kind is the kind's
+pub plain-row : (tree : List ℕ) (r k : ℕ) → k ≡ kindOf tree r → k < 26 → (k ≡ 1 → ⊥) → rowOf k ≡ rowAt tree r
+unfolding rowAt shapeOf
+plain-row tree r k e h n =
+    let shape : shapeOf k (detailOf tree r) ≡ k = pick-no (eqb k 1) _ _ (ne-eqb k 1 n) ∙ pick-yes (leb k 25) k 0 (le-leb k 25 (omega arith)) in
+    ap rowOf (sym shape ∙ ap (λ (x : ℕ). shapeOf x (detailOf tree r)) e)

@@ -44,7 +44,7 @@ capped most x = pick (ltb x most) x most
 abbrev pub shallowDepth : List ℕ → ℕ → ℕ
 shallowDepth tree r = capped 65 (depth tree r)
 
--- ---- the bytes of record k
+-- ---- the bytes of record k, behind four that belong to no record: depth, count, list, kind
 
 abbrev pub classIn : List ℕ → ℕ → ℕ
 classIn l k = getD l (k * 4 + 6) 0

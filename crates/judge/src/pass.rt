@@ -141,7 +141,7 @@ pub(crate) fn words_of(tree: &[u8], r: usize) -> Words
     }
 }
 
-// The bytes of record r.
+// The bytes of record r, behind four that belong to no record.
 pub(crate) fn put_known(known: &mut [u8], r: usize, class: u8, depth: u8, k: u8)
     requires { ⌜ r * 4 + 8 ≤ length (now known) ⌝ }
     ensures { λ _. ⌜ now (known .exit) ≡ stored (now (known .entry)) r class depth k ⌝ }
