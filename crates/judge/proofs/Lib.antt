@@ -5,6 +5,7 @@ pub mod EqualLaws
 pub mod FaultLaws
 pub mod KeyLaws
 pub mod ListClass
+pub mod PlainLaws
 pub mod RoleCases
 pub mod RowLaws
 pub mod TakeLaws

@@ -78,7 +78,7 @@ fn take_word(
     next: u32,
     known: &mut [u8],
 ) -> Told
-    requires { ⌜ (r < mostRecords) × (r * 4 ≤ length (now known)) × Known (now tree) r (now known) ⌝ }
+    requires { ⌜ (r < mostRecords) × (r * 4 + 4 ≤ length (now known)) × Known (now tree) r (now known) ⌝ }
     ensures { λ t. ⌜ Took (now (tree .entry)) bytes r role w next (now (known .entry)) (now (known .exit)) (t .ok) (t .depth) ⌝ }
 {
     if refers_to(role) {
@@ -92,7 +92,7 @@ fn take_word(
 
 // The five words of record r. Most kinds use A and B alone, and the other three are zero then.
 fn take_words(tree: &[u8], bytes: usize, r: usize, row: Row, words: Words, known: &mut [u8]) -> Told
-    requires { ⌜ (r < mostRecords) × (r * 4 ≤ length (now known)) × Known (now tree) r (now known) ⌝ }
+    requires { ⌜ (r < mostRecords) × (r * 4 + 4 ≤ length (now known)) × Known (now tree) r (now known) ⌝ }
     requires { ⌜ (row ≡ rowAt (now tree) r) × WordsOf (now tree) r words ⌝ }
     ensures { λ t. ⌜ TookWords (now (tree .entry)) bytes r (now (known .entry)) (now (known .exit)) (t .ok) (t .depth) ⌝ }
 {
@@ -128,7 +128,7 @@ fn take_words(tree: &[u8], bytes: usize, r: usize, row: Row, words: Words, known
     }
 }
 
-fn five_words(tree: &[u8], r: usize) -> Words
+pub(crate) fn five_words(tree: &[u8], r: usize) -> Words
     requires { ⌜ r * 32 + 32 ≤ length (now tree) ⌝ }
     ensures { λ v. ⌜ WordsOf (now (tree .entry)) r v ⌝ }
 {
@@ -141,16 +141,16 @@ fn five_words(tree: &[u8], r: usize) -> Words
     }
 }
 
-// The bytes of record r.
-fn put_known(known: &mut [u8], r: usize, class: u8, depth: u8, k: u8)
-    requires { ⌜ r * 4 + 4 ≤ length (now known) ⌝ }
+// The bytes of record r, behind four that belong to no record.
+pub(crate) fn put_known(known: &mut [u8], r: usize, class: u8, depth: u8, k: u8)
+    requires { ⌜ r * 4 + 8 ≤ length (now known) ⌝ }
     ensures { λ _. ⌜ now (known .exit) ≡ stored (now (known .entry)) r class depth k ⌝ }
 {
     let at = r * 4;
-    known[at] = class;
-    known[at + 1] = depth;
-    known[at + 2] = 0;
-    known[at + 3] = k;
+    known[at + 4] = depth;
+    known[at + 5] = 0;
+    known[at + 6] = class;
+    known[at + 7] = k;
 }
 
 // Record r against every rule but two: that no two types are equal, and that it is referred to once.
