@@ -14,6 +14,8 @@ ghost use Rattle.judge.specs.Inner.{Lowest, Passing, Known, Counting, To
 use crate::equal::first_equal;
 use crate::nesting::depth_over;
 use crate::nesting::max;
+use crate::plain::RULES;
+use crate::plain::take_plain;
 use crate::references::Told;
 use crate::references::lowest_miscounted;
 use crate::references::take_reference;
@@ -22,6 +24,7 @@ use crate::rules::is_unused;
 use crate::rules::marks_ok;
 use crate::types::is_first_type;
 use crate::types::leading_types;
+use records::numbers::KIND_FUNCTION;
 use records::numbers::KIND_TYPE;
 use records::shape::Role;
 use records::shape::Row;
@@ -141,7 +144,7 @@ pub(crate) fn five_words(tree: &[u8], r: usize) -> Words
     }
 }
 
-// The bytes of record r, behind four that belong to no record.
+// The bytes of record r.
 pub(crate) fn put_known(known: &mut [u8], r: usize, class: u8, depth: u8, k: u8)
     requires { ⌜ r * 4 + 8 ≤ length (now known) ⌝ }
     ensures { λ _. ⌜ now (known .exit) ≡ stored (now (known .entry)) r class depth k ⌝ }
@@ -153,8 +156,8 @@ pub(crate) fn put_known(known: &mut [u8], r: usize, class: u8, depth: u8, k: u8)
     known[at + 7] = k;
 }
 
-// Record r against every rule but two: that no two types are equal, and that it is referred to once.
-fn take_record(tree: &[u8], bytes: usize, r: usize, types: usize, known: &mut [u8]) -> Told
+// Record r of any kind, against every rule but two: that no two types are equal, and that it is referred to once.
+fn take_any(tree: &[u8], bytes: usize, r: usize, types: usize, known: &mut [u8]) -> Told
     requires { ⌜ (r < records (now tree)) × Passing (now tree) (records (now tree)) types (now known) ⌝ }
     requires { ⌜ Known (now tree) r (now known) × Counting (now tree) r (now known) ⌝ }
     ensures { λ t. ⌜ TookRecord (now (tree .entry)) bytes r (now (known .entry)) (now (known .exit)) (t .ok) (t .depth) ⌝ }
@@ -175,6 +178,28 @@ fn take_record(tree: &[u8], bytes: usize, r: usize, types: usize, known: &mut [u
         ok: form & marks & first & lead,
         depth,
     }
+}
+
+fn take_record(
+    tree: &[u8],
+    bytes: usize,
+    r: usize,
+    types: usize,
+    known: &mut [u8],
+    rules: &[u8; 520],
+) -> Told {
+    let k = kind(tree, r);
+    if k > KIND_FUNCTION {
+        return take_any(tree, bytes, r, types, known);
+    }
+    if r < 12 {
+        return take_any(tree, bytes, r, types, known);
+    }
+    let told = take_plain(tree, bytes, r, k, known, rules);
+    if told.ok {
+        return told;
+    }
+    take_any(tree, bytes, r, types, known)
 }
 
 // The lowest so far, with record r: `found` is below r, or there was none.
@@ -199,8 +224,9 @@ fn pass(tree: &[u8], bytes: usize, n: usize, types: usize, known: &mut [u8]) -> 
     let mut fault = 0;
     let mut deep = 0;
     let mut r = 0;
+    let rules = RULES;
     while r < n {
-        let told = take_record(tree, bytes, r, types, known);
+        let told = take_record(tree, bytes, r, types, known, &rules);
         let ok = told.ok;
         let low = told.depth <= DEEPEST;
         fault = next_lowest(fault, r, ok);

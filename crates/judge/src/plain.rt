@@ -8,7 +8,13 @@ ghost use lib.ListN.{length, getD, set};
 ghost use Rattle.records.specs.Words.{kindOf};
 ghost use Rattle.judge.specs.Inner.{Known, Counting};
 ghost use Rattle.judge.specs.Plain.{plainRules, Owned, PlainForm, TookPlain};
+use crate::nesting::depth_over;
+use crate::nesting::max;
 use crate::pass::Words;
+use crate::pass::put_known;
+use crate::pass::five_words;
+use crate::references::Told;
+use crate::rules::class_at;
 use crate::rules::marks_ok;
 use records::words::detail;
 use records::words::index;
@@ -624,4 +630,55 @@ fn form_ok(tree: &[u8], bytes: usize, r: usize, k: u8, words: Words, rules: &[u8
         return false;
     }
     marks_ok(k, found, words.c, words.e)
+}
+
+// Record r of kind k, if it is right and uses A, B and C alone: then it is taken. Else only slot 0 was written.
+pub(crate) fn take_plain(
+    tree: &[u8],
+    bytes: usize,
+    r: usize,
+    k: u8,
+    known: &mut [u8],
+    rules: &[u8; 520],
+) -> Told
+    requires { ⌜ (r * 32 + 32 ≤ length (now tree)) × (12 ≤ r) × (r < 2048) × (r * 4 + 8 ≤ length (now known)) × (k ≡ kindOf (now tree) r) × (k < 26) × (now rules ≡ plainRules) ⌝ }
+    requires { ⌜ Known (now tree) r (now known) × Counting (now tree) r (now known) ⌝ }
+    ensures { λ t. ⌜ TookPlain (now (tree .entry)) bytes r (now (known .entry)) (now (known .exit)) (t .ok) (t .depth) ⌝ }
+{
+    let row = k as usize * 20;
+    let words = five_words(tree, r);
+    let a = words.a;
+    let b = words.b;
+    let c = words.c;
+    let pa = place_of(a, rules, row);
+    let pb = place_of(b, rules, row + 5);
+    let pc = place_of(c, rules, row + 10);
+    let form = form_ok(tree, bytes, r, k, words, rules);
+    let places = place_ok(pa, r, rules, row)
+        & place_ok(pb, r, rules, row + 5)
+        & place_ok(pc, r, rules, row + 10);
+    if !(form & places) {
+        return Told {
+            ok: false,
+            depth: 0,
+        };
+    }
+    put_own(known, rules[row + 17], rules[row + 18]);
+    let keys = key_ok(known, pa, rules, row)
+        & key_ok(known, pb, rules, row + 5)
+        & key_ok(known, pc, rules, row + 10);
+    let below = max(known[pa * 4], max(known[pb * 4], known[pc * 4]));
+    if !(keys & (below <= DEEPEST_BELOW)) {
+        return Told {
+            ok: false,
+            depth: 0,
+        };
+    }
+    count_one(known, pa);
+    count_one(known, pb);
+    count_one(known, pc);
+    let class = class_at(tree, r, k, a, b, known);
+    let depth = depth_over(k, below);
+    put_known(known, r, class, depth, k);
+    Told { ok: true, depth }
 }
