@@ -6,6 +6,7 @@ pub mod FaultLaws
 pub mod KeyLaws
 pub mod ListClass
 pub mod PlainLaws
+pub mod PlainTaken
 pub mod RoleCases
 pub mod RowLaws
 pub mod TakeLaws

@@ -63,7 +63,7 @@ took-next tree bytes r role w next l l′ ok d ready t = (ready .0, rw (t .count
 
 -- ---- five words
 
-unused-took : (tree : List ℕ) (bytes r : ℕ) (role : Role) (w next : ℕ) (l : List ℕ) → role ≡ Unused → Took tree bytes r role w next l l (eqb w 0) 0
+pub unused-took : (tree : List ℕ) (bytes r : ℕ) (role : Role) (w next : ℕ) (l : List ℕ) → role ≡ Unused → Took tree bytes r role w next l l (eqb w 0) 0
 unfolding wordOk
 unused-took tree bytes r role w next l e = rw e (took-plain tree bytes r Unused w next l refl (eqb w 0) refl)
 

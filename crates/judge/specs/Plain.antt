@@ -8,10 +8,10 @@ use lib.ListN.{length, getD}
 use Rattle.laws.specs.Below.{allBelow}
 use Rattle.records.specs.declared.shape.Role.{Role}
 use Rattle.records.specs.declared.shape.Role.the-variants.{Unused, Number, Text, Length, Expr, TypeRef, TypeOrNone, Name, Variable, Arguments, Parameters, Body, Item, Rest}
-use Rattle.records.specs.Words.{detailOf, padOf, none, boolNumber}
+use Rattle.records.specs.Words.{mostRecords, kindOf, detailOf, padOf, none, boolNumber}
 use Rattle.records.specs.Shapes.{rowOf, refers}
 use Rattle.judge.specs.declared.pass.Words.{Words}
-use Rattle.judge.specs.Inner.{lowKey, highKey, noneOk, TypesLead, Known, Counting, TookRecord}
+use Rattle.judge.specs.Inner.{lowKey, highKey, noneOk, TypesLead, Known, Counting, WordsOf, TookRecord}
 
 -- twenty numbers for each kind
 abbrev pub plainRules : List ℕ
@@ -121,6 +121,32 @@ pub record PlainForm (tree : List ℕ) (bytes r k : ℕ) (words : Words) (rules 
   pub text : (words .a + words .b) * getD rules (k * 20 + 15) 0 ≤ bytes
   pub limit : detailOf tree r < getD rules (k * 20 + 16) 0
   pub marks : (not (eqb k 19) || eqb (detailOf tree r) 1 || eqb (words .c) none) ≡ true
+
+-- record r of kind k and the table of rules are at hand, with what is known of the records below it; the first twelve records are taken otherwise
+pub record PlainReady (tree : List ℕ) (r k : ℕ) (l rules : List ℕ) : Type 0 where
+  pub whole : r * 32 + 32 ≤ length tree
+  pub past : 12 ≤ r
+  pub few : r < mostRecords
+  pub room : r * 4 + 8 ≤ length l
+  pub kind : k ≡ kindOf tree r
+  pub small : k < 26
+  pub table : rules ≡ plainRules
+  pub known : Known tree r l
+  pub counting : Counting tree r l
+
+-- and its words lead to slots
+pub record Slots (tree : List ℕ) (r k : ℕ) (words : Words) (pa pb pc : ℕ) (l rules : List ℕ) : Type 0 where
+  pub ready : PlainReady tree r k l rules
+  pub of : WordsOf tree r words
+  pub a : Place r (rowOf k .a) (words .a) pa
+  pub b : Place r (rowOf k .b) (words .b) pb
+  pub c : Place r (rowOf k .c) (words .c) pc
+
+-- record r was taken, where what it refers to was right; else only slot 0 was written
+pub record TookSlots (tree : List ℕ) (r k : ℕ) (words : Words) (rules l l′ : List ℕ) (ok : Bool) (deep : ℕ) : Type 0 where
+  pub took : ok ≡ true → (bytes n types : ℕ) → PlainForm tree bytes r k words rules → TypesLead tree n types → r < n → TookRecord tree bytes r l l′ true deep
+  pub left : ok ≡ false → Known tree r l′ × Counting tree r l′
+  pub same : length l′ ≡ length l
 
 -- record r was taken, where it was right; else only slot 0 was written
 pub record TookPlain (tree : List ℕ) (bytes r : ℕ) (l l′ : List ℕ) (ok : Bool) (deep : ℕ) : Type 0 where

@@ -10,6 +10,7 @@ ghost use Rattle.records.specs.Words.{records, mostRecords};
 ghost use Rattle.records.specs.Shapes.{rowAt, refers};
 ghost use Rattle.records.specs.Rules.{wordOk, recordOk};
 ghost use Rattle.records.specs.Depth.{depth as depthOf};
+ghost use Rattle.judge.specs.Plain.{plainRules};
 ghost use Rattle.judge.specs.Inner.{Lowest, Passing, Known, Counting, Took, TookWords, WordsOf, TookRecord, TookAll, stored};
 use crate::equal::first_equal;
 use crate::nesting::depth_over;
@@ -180,6 +181,7 @@ fn take_any(tree: &[u8], bytes: usize, r: usize, types: usize, known: &mut [u8])
     }
 }
 
+// Record r against the same rules. Most are right, and taken by the table; what is wrong with another is found by `take_any`.
 fn take_record(
     tree: &[u8],
     bytes: usize,
@@ -187,7 +189,11 @@ fn take_record(
     types: usize,
     known: &mut [u8],
     rules: &[u8; 520],
-) -> Told {
+) -> Told
+    requires { ⌜ (r < records (now tree)) × Passing (now tree) (records (now tree)) types (now known) × (now rules ≡ plainRules) ⌝ }
+    requires { ⌜ Known (now tree) r (now known) × Counting (now tree) r (now known) ⌝ }
+    ensures { λ t. ⌜ TookRecord (now (tree .entry)) bytes r (now (known .entry)) (now (known .exit)) (t .ok) (t .depth) ⌝ }
+{
     let k = kind(tree, r);
     if k > KIND_FUNCTION {
         return take_any(tree, bytes, r, types, known);

@@ -5,9 +5,8 @@ ghost use mathlib.Core.Bool.{true, false, _&&_};
 ghost use Prim.Native.Nat.{_+_, _*_, _/_, _%_, _≤_, _<_};
 ghost use lib.Dec.{leb};
 ghost use lib.ListN.{length, getD, set};
-ghost use Rattle.records.specs.Words.{kindOf};
-ghost use Rattle.judge.specs.Inner.{Known, Counting};
-ghost use Rattle.judge.specs.Plain.{plainRules, Owned, PlainForm, TookPlain};
+ghost use Rattle.records.specs.Words.{mostRecords};
+ghost use Rattle.judge.specs.Plain.{Owned, PlainForm, Slots, TookSlots, PlainReady, TookPlain};
 use crate::nesting::depth_over;
 use crate::nesting::max;
 use crate::pass::Words;
@@ -579,7 +578,7 @@ fn place_ok(p: usize, r: usize, rules: &[u8; 520], at: usize) -> bool
 
 // The record in slot p is one that such a word may refer to.
 fn key_ok(known: &[u8], p: usize, rules: &[u8; 520], at: usize) -> bool
-    requires { ⌜ (at < 516) × (p ≤ 2048) × (p * 4 + 4 ≤ length (now known)) ⌝ }
+    requires { ⌜ (at < 516) × (p ≤ mostRecords) × (p * 4 + 4 ≤ length (now known)) ⌝ }
     ensures { λ v. ⌜ v ≡ (leb (getD (now (rules .entry)) (at + 2) 0) (getD (now (known .entry)) (p * 4 + 3) 0 * 4 + getD (now (known .entry)) (p * 4 + 2) 0) && leb (getD (now (known .entry)) (p * 4 + 3) 0 * 4 + getD (now (known .entry)) (p * 4 + 2) 0) (getD (now (rules .entry)) (at + 3) 0)) ⌝ }
 {
     let key = wide(known[p * 4 + 3]) * 4 + wide(known[p * 4 + 2]);
@@ -588,7 +587,7 @@ fn key_ok(known: &[u8], p: usize, rules: &[u8; 520], at: usize) -> bool
 
 // One more reference to the record in slot p: 1 after 0, and 2 or more after that.
 fn count_one(known: &mut [u8], p: usize)
-    requires { ⌜ (p ≤ 2048) × (p * 4 + 4 ≤ length (now known)) ⌝ }
+    requires { ⌜ (p ≤ mostRecords) × (p * 4 + 4 ≤ length (now known)) ⌝ }
     ensures { λ _. ⌜ now (known .exit) ≡ set (now (known .entry)) (p * 4 + 1) ((getD (now (known .entry)) (p * 4 + 1) 0 + 3) / 2) ⌝ }
 {
     let count = wide(known[p * 4 + 1]);
@@ -632,37 +631,22 @@ fn form_ok(tree: &[u8], bytes: usize, r: usize, k: u8, words: Words, rules: &[u8
     marks_ok(k, found, words.c, words.e)
 }
 
-// Record r of kind k, if it is right and uses A, B and C alone: then it is taken. Else only slot 0 was written.
-pub(crate) fn take_plain(
+// Record r, right aside from what it refers to, whose words A, B and C lead to the slots pa, pb and pc: taken, if what it refers to is right.
+fn take_slots(
     tree: &[u8],
-    bytes: usize,
     r: usize,
     k: u8,
+    words: Words,
+    pa: usize,
+    pb: usize,
+    pc: usize,
     known: &mut [u8],
     rules: &[u8; 520],
 ) -> Told
-    requires { ⌜ (r * 32 + 32 ≤ length (now tree)) × (12 ≤ r) × (r < 2048) × (r * 4 + 8 ≤ length (now known)) × (k ≡ kindOf (now tree) r) × (k < 26) × (now rules ≡ plainRules) ⌝ }
-    requires { ⌜ Known (now tree) r (now known) × Counting (now tree) r (now known) ⌝ }
-    ensures { λ t. ⌜ TookPlain (now (tree .entry)) bytes r (now (known .entry)) (now (known .exit)) (t .ok) (t .depth) ⌝ }
+    requires { ⌜ Slots (now tree) r k words pa pb pc (now known) (now rules) ⌝ }
+    ensures { λ t. ⌜ TookSlots (now (tree .entry)) r k words (now (rules .entry)) (now (known .entry)) (now (known .exit)) (t .ok) (t .depth) ⌝ }
 {
     let row = k as usize * 20;
-    let words = five_words(tree, r);
-    let a = words.a;
-    let b = words.b;
-    let c = words.c;
-    let pa = place_of(a, rules, row);
-    let pb = place_of(b, rules, row + 5);
-    let pc = place_of(c, rules, row + 10);
-    let form = form_ok(tree, bytes, r, k, words, rules);
-    let places = place_ok(pa, r, rules, row)
-        & place_ok(pb, r, rules, row + 5)
-        & place_ok(pc, r, rules, row + 10);
-    if !(form & places) {
-        return Told {
-            ok: false,
-            depth: 0,
-        };
-    }
     put_own(known, rules[row + 17], rules[row + 18]);
     let keys = key_ok(known, pa, rules, row)
         & key_ok(known, pb, rules, row + 5)
@@ -677,8 +661,38 @@ pub(crate) fn take_plain(
     count_one(known, pa);
     count_one(known, pb);
     count_one(known, pc);
-    let class = class_at(tree, r, k, a, b, known);
+    let class = class_at(tree, r, k, words.a, words.b, known);
     let depth = depth_over(k, below);
     put_known(known, r, class, depth, k);
     Told { ok: true, depth }
+}
+
+// Record r of kind k, if it is right and uses A, B and C alone: then it is taken. Else only slot 0 was written, if at all.
+pub(crate) fn take_plain(
+    tree: &[u8],
+    bytes: usize,
+    r: usize,
+    k: u8,
+    known: &mut [u8],
+    rules: &[u8; 520],
+) -> Told
+    requires { ⌜ PlainReady (now tree) r k (now known) (now rules) ⌝ }
+    ensures { λ t. ⌜ TookPlain (now (tree .entry)) bytes r (now (known .entry)) (now (known .exit)) (t .ok) (t .depth) ⌝ }
+{
+    let row = k as usize * 20;
+    let words = five_words(tree, r);
+    let pa = place_of(words.a, rules, row);
+    let pb = place_of(words.b, rules, row + 5);
+    let pc = place_of(words.c, rules, row + 10);
+    let form = form_ok(tree, bytes, r, k, words, rules);
+    let placed = place_ok(pa, r, rules, row)
+        & place_ok(pb, r, rules, row + 5)
+        & place_ok(pc, r, rules, row + 10);
+    if !(form & placed) {
+        return Told {
+            ok: false,
+            depth: 0,
+        };
+    }
+    take_slots(tree, r, k, words, pa, pb, pc, known, rules)
 }
