@@ -1,13 +1,13 @@
 -- A record that the table takes is right, as deep as it says, and counted: what its slots and its form say of it.
 -- Each word is taken by its slot, D and E are unused; the rest is what holds of every record taken. Assumes nothing.
 use mathlib.Core.Path.{_≡_, refl, sym, ap, _∙_}
-use Prim.Native.Nat.{ℕ, _+_, _*_, _/_, _≤_, _<_}
+use Prim.Native.Nat.{ℕ, _+_, _*_, _/_, _%_, _≤_, _<_}
 use mathlib.Core.Bool.{Bool, true, false, not, _&&_, _||_, false≢true}
 use mathlib.Core.List.{List}
 use native.Mathlib.Omega.{arith}
 use lib.Dec.{eqb, leb, ltb}
-use lib.ListN.{length, getD, set}
-use borrow.Author.Tests.{eq-eqb, ne-eqb, le-leb, leb-true, lt-ltb}
+use lib.ListN.{length, getD, set, length-set}
+use borrow.Author.Tests.{eq-eqb, ne-eqb, le-leb, leb-true, lt-ltb, not-false}
 use Rattle.laws.specs.Fix.{pick}
 use Rattle.laws.proofs.Tests.{and-left, and-right}
 use Rattle.records.specs.declared.shape.Role.{Role}
@@ -17,11 +17,12 @@ use Rattle.records.specs.Shapes.{rowOf, rowAt}
 use Rattle.records.specs.Rules.{wordsOk, isFirstType}
 use Rattle.records.specs.Depth.{larger}
 use Rattle.judge.specs.declared.pass.Words.{Words}
-use Rattle.judge.specs.Inner.{TypesLead, capped, classIn, stored, classAt, Known, Counting, Took, TookWords, otherRules, TookRecord}
+use Rattle.judge.specs.Inner.{TypesLead, capped, classIn, stored, classAt, Known, Counting, WordsOf, Took, TookWords, otherRules, TookRecord}
 use Rattle.judge.specs.Plain.{isUnused, isText, Place, Owned, PlainForm, PlainReady, Slots, TookSlots, TookPlain}
 use Rattle.judge.proofs.CapLaws.{larger-none}
+use Rattle.judge.proofs.CountLaws.{stored-length}
 use Rattle.judge.proofs.TakeLaws.{unused-took, took-words, rules-told, bytes-told}
-use Rattle.judge.proofs.PlainLaws.{RuleFacts, RowFacts, row-facts, plain-row, counted-slot, slot-depth, slot-right, known-owned, counting-owned}
+use Rattle.judge.proofs.PlainLaws.{RuleFacts, RowFacts, row-facts, plain-row, placed, counted-slot, slot-depth, slot-right, known-owned, counting-owned}
 
 unused-role : (role : Role) → isUnused role ≡ true → role ≡ Unused
 unused-role Unused e = refl
@@ -40,14 +41,21 @@ unused-role Item e = absurd (false≢true e)
 unused-role Rest e = absurd (false≢true e)
 
 -- the key of the record in slot p is one that the rule at `at` allows
-abbrev pub keyAllowed : List ℕ → ℕ → List ℕ → ℕ → Bool
+abbrev keyAllowed : List ℕ → ℕ → List ℕ → ℕ → Bool
 keyAllowed rules at l p =
     leb (getD rules (at + 2) 0) (getD l (p * 4 + 3) 0 * 4 + getD l (p * 4 + 2) 0)
     && leb (getD l (p * 4 + 3) 0 * 4 + getD l (p * 4 + 2) 0) (getD rules (at + 3) 0)
 
 -- one more reference to the record in slot p
-abbrev pub counted : List ℕ → ℕ → List ℕ
+abbrev counted : List ℕ → ℕ → List ℕ
 counted l p = set l (p * 4 + 1) ((getD l (p * 4 + 1) 0 + 3) / 2)
+
+counted-length : (l l′ : List ℕ) (p : ℕ) → l′ ≡ counted l p → length l′ ≡ length l
+counted-length l l′ p e = ap length e ∙ length-set l (p * 4 + 1) ((getD l (p * 4 + 1) 0 + 3) / 2)
+
+-- such a record is not deep
+pub shallow : (keys : Bool) (below : ℕ) → not (keys && leb below 63) ≡ false → below ≤ 65
+shallow keys below e = omega (arith, leb-true below 63 (and-right keys (leb below 63) (not-false (keys && leb below 63) e)))
 
 slot-took : (tree : List ℕ) (bytes r : ℕ) (rules : List ℕ) (at : ℕ) (role : Role) (w next p : ℕ) → RuleFacts rules at role → Place r role w p → r < mostRecords
     → (l : List ℕ) → Known tree r l → getD l 0 0 ≡ 0 → (m m′ : List ℕ) → p * 4 + 4 ≤ length m → m′ ≡ counted m p
@@ -73,6 +81,20 @@ module _ (tree : List ℕ) (r k : ℕ) (words : Words) (pa pb pc : ℕ) (rules l
   -- what it refers to is not right
   pub slots-left : TookSlots tree r k words rules l l₀ false 0
   slots-left = record { took = λ e. absurd (false≢true e); left = λ e. (known-own, counting-own); same = own .same }
+
+  -- the third may be counted
+  pub third-room : (l₁ l₂ : List ℕ) → l₁ ≡ counted l₀ pa → l₂ ≡ counted l₁ pb → (pc ≤ mostRecords) × (pc * 4 + 4 ≤ length l₂)
+  third-room l₁ l₂ one two =
+      (omega (arith, s .c .within, s .ready .few), omega (arith, s .c .within, s .ready .room, own .same, counted-length l₀ l₁ pa one, counted-length l₁ l₂ pb two))
+
+  module _ (l₁ l₂ l₃ : List ℕ) (one : l₁ ≡ counted l₀ pa) (two : l₂ ≡ counted l₁ pb) (three : l₃ ≡ counted l₂ pc) where
+    pub slots-room : r * 4 + 8 ≤ length l₃
+    slots-room =
+        omega (arith, s .ready .room, own .same, counted-length l₀ l₁ pa one, counted-length l₁ l₂ pb two, counted-length l₂ l₃ pc three)
+
+    pub slots-length : (m : List ℕ) (class d : ℕ) → m ≡ stored l₃ r class d k → length m ≡ length l
+    slots-length m class d e =
+        ap length e ∙ stored-length l₃ r class d k slots-room ∙ counted-length l₂ l₃ pc three ∙ counted-length l₁ l₂ pb two ∙ counted-length l₀ l₁ pa one ∙ own .same
 
   module _ (l₁ l₂ l₃ : List ℕ) (one : l₁ ≡ counted l₀ pa) (two : l₂ ≡ counted l₁ pb) (three : l₃ ≡ counted l₂ pc)
       (keyA : keyAllowed rules (k * 20) l₀ pa ≡ true) (keyB : keyAllowed rules (k * 20 + 5) l₀ pb ≡ true) (keyC : keyAllowed rules (k * 20 + 10) l₀ pc ≡ true)
@@ -142,19 +164,19 @@ module _ (tree : List ℕ) (r k : ℕ) (words : Words) (pa pb pc : ℕ) (rules l
 
   -- as the code meets it
   pub slots-took : (ka kb kc : Bool) (below last : ℕ) → ka ≡ keyAllowed rules (k * 20) l₀ pa → kb ≡ keyAllowed rules (k * 20 + 5) l₀ pb → kc ≡ keyAllowed rules (k * 20 + 10) l₀ pc
-      → ((ka && kb && kc) && leb below 63) ≡ true
+      → not ((ka && kb && kc) && leb below 63) ≡ false
       → last ≡ larger (getD l₀ (pb * 4) 0) (getD l₀ (pc * 4) 0) → below ≡ larger (getD l₀ (pa * 4) 0) last
       → (l₁ l₂ l₃ m : List ℕ) → l₁ ≡ counted l₀ pa → l₂ ≡ counted l₁ pb → l₃ ≡ counted l₂ pc
       → (class d : ℕ) → class ≡ classAt tree (classIn l₃) r k (words .a) (words .b) → d ≡ pick (eqb k 12) below (capped 65 (below + 1)) → m ≡ stored l₃ r class d k
-      → length m ≡ length l → TookSlots tree r k words rules l m true d
-  slots-took ka kb kc below last a b c ok lastIs belowIs l₁ l₂ l₃ m one two three class d classIs dIs mIs same =
-      let keys : (ka && kb && kc) ≡ true = and-left (ka && kb && kc) (leb below 63) ok in
+      → TookSlots tree r k words rules l m true d
+  slots-took ka kb kc below last a b c ok lastIs belowIs l₁ l₂ l₃ m one two three class d classIs dIs mIs =
+      let keys : (ka && kb && kc) ≡ true = and-left (ka && kb && kc) (leb below 63) (not-false ((ka && kb && kc) && leb below 63) ok) in
       let kab : (ka && kb) ≡ true = and-left (ka && kb) kc keys in
       record {
         took = λ e bytes n types form lead h.
             record-took l₁ l₂ l₃ one two three (sym a ∙ and-left ka kb kab) (sym b ∙ and-right ka kb kab) (sym c ∙ and-right (ka && kb) kc keys) below last lastIs belowIs bytes form n types lead h class d m classIs dIs mIs;
         left = λ e. absurd (false≢true (sym e));
-        same = same;
+        same = slots-length l₁ l₂ l₃ one two three m class d mIs;
       }
 
 -- ---- the whole record
@@ -164,9 +186,33 @@ pub plain-left : (tree : List ℕ) (bytes r k : ℕ) (l rules : List ℕ) → Pl
 plain-left tree bytes r k l rules ready =
     record { took = λ e. absurd (false≢true e); left = λ e. (ready .known, ready .counting); same = refl }
 
-pub plain-took : (tree : List ℕ) (bytes r k : ℕ) (words : Words) (rules l l′ : List ℕ) (ok : Bool) (d : ℕ) → PlainForm tree bytes r k words rules → TookSlots tree r k words rules l l′ ok d → TookPlain tree bytes r l l′ ok d
-plain-took tree bytes r k words rules l l′ ok d form t =
-    record { took = λ e n types lead h. t .took e bytes n types form lead h; left = t .left; same = t .same }
+-- both are right
+pub slots-ready : (tree : List ℕ) (r k : ℕ) (words : Words) (pa pb pc : ℕ) (l rules : List ℕ) → PlainReady tree r k l rules → WordsOf tree r words
+    → (pa ≡ (words .a + 1) % 4294967296 * getD rules (k * 20) 0) × (words .a < 4294967296)
+    → (pb ≡ (words .b + 1) % 4294967296 * getD rules (k * 20 + 5) 0) × (words .b < 4294967296)
+    → (pc ≡ (words .c + 1) % 4294967296 * getD rules (k * 20 + 10) 0) × (words .c < 4294967296)
+    → (form qa qb qc : Bool) → qa ≡ (leb (getD rules (k * 20 + 1) 0) pa && leb pa r) → qb ≡ (leb (getD rules (k * 20 + 5 + 1) 0) pb && leb pb r) → qc ≡ (leb (getD rules (k * 20 + 10 + 1) 0) pc && leb pc r)
+    → not (form && (qa && qb && qc)) ≡ false → Slots tree r k words pa pb pc l rules
+slots-ready tree r k words pa pb pc l rules ready of a b c form qa qb qc ea eb ec ok =
+    let facts : RowFacts rules k = rw (ready .table) (row-facts k (ready .small)) in
+    let all : (qa && qb && qc) ≡ true = and-right form (qa && qb && qc) (not-false (form && (qa && qb && qc)) ok) in
+    let two : (qa && qb) ≡ true = and-left (qa && qb) qc all in
+    record {
+      ready = ready;
+      of = of;
+      a = placed rules (k * 20) (rowOf k .a) (facts .a) r (words .a) pa (a .1) (a .0) (sym ea ∙ and-left qa qb two);
+      b = placed rules (k * 20 + 5) (rowOf k .b) (facts .b) r (words .b) pb (b .1) (b .0) (sym eb ∙ and-right qa qb two);
+      c = placed rules (k * 20 + 10) (rowOf k .c) (facts .c) r (words .c) pc (c .1) (c .0) (sym ec ∙ and-right (qa && qb) qc all);
+    }
+
+pub plain-took : (tree : List ℕ) (bytes r k : ℕ) (words : Words) (rules l l′ : List ℕ) (ok : Bool) (d : ℕ) (form rest : Bool)
+    → not (form && rest) ≡ false → (form ≡ true → PlainForm tree bytes r k words rules) → TookSlots tree r k words rules l l′ ok d → TookPlain tree bytes r l l′ ok d
+plain-took tree bytes r k words rules l l′ ok d form rest e told t =
+    record { took = λ q n types lead h. t .took q bytes n types (told (and-left form rest (not-false (form && rest) e))) lead h; left = t .left; same = t .same }
+
+-- a record that was taken so
+pub plain-record : (tree : List ℕ) (bytes r : ℕ) (l l′ : List ℕ) (ok : Bool) (d n types : ℕ) → TookPlain tree bytes r l l′ ok d → ok ≡ true → TypesLead tree n types → r < n → TookRecord tree bytes r l l′ ok d
+plain-record tree bytes r l l′ ok d n types t e lead h = rw e (t .took e n types lead h)
 
 -- the record is taken again, by the rules
 pub took-after : (tree : List ℕ) (bytes r : ℕ) (l m l′ : List ℕ) (ok : Bool) (d : ℕ) → length m ≡ length l → TookRecord tree bytes r m l′ ok d → TookRecord tree bytes r l l′ ok d

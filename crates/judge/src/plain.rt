@@ -10,8 +10,8 @@ ghost use Rattle.judge.specs.Plain.{Owned, PlainForm, Slots, TookSlots, 
 use crate::nesting::depth_over;
 use crate::nesting::max;
 use crate::pass::Words;
-use crate::pass::put_known;
 use crate::pass::five_words;
+use crate::pass::put_known;
 use crate::references::Told;
 use crate::rules::class_at;
 use crate::rules::marks_ok;

@@ -1,81 +1,64 @@
+-- A record that is right and uses A, B and C alone is taken.
+-- By the laws of `PlainTaken`, over what the calls ensure. Assumes nothing.
+use mathlib.Core.Bool.{_&&_}
+use Rattle.judge.proofs.PlainTaken.{plain-left, slots-ready, plain-took}
 use borrow.Author.Needs.{needs}
 use Rattle.judge.proofs.plain.take_plain.Statement.{statement}
 use Rattle.judge.proofs.plain.take_plain.Tie as tie
-use Rattle.judge.proofs.plain.take_plain.Reads as reads
-use Rattle.judge.proofs.plain.take_plain.Lts as lts
-use Rattle.judge.proofs.pass.five_words.Reads as five-words-reads
-use Rattle.judge.proofs.plain.form_ok.Reads as form-ok-reads
-use Rattle.judge.proofs.plain.place_of.Reads as place-of-reads
-use Rattle.judge.proofs.plain.place_ok.Reads as place-ok-reads
-use Rattle.judge.proofs.plain.take_slots.Reads as take-slots-reads
 
--- src/plain.rt:682:15
 mul-row : tie.Need-mul-row
 mul-row c = search needs
 
--- src/plain.rt:683:9
 five-words-requires : tie.Need-five-words-requires
 five-words-requires c κs = search needs
 
--- src/plain.rt:684:9
 place-of-requires : tie.Need-place-of-requires
 place-of-requires c κs = search needs
 
--- src/plain.rt:685:39
 add-place-of : tie.Need-add-place-of
 add-place-of c = search needs
 
--- src/plain.rt:685:9
 place-of-requires-2 : tie.Need-place-of-requires-2
 place-of-requires-2 c κs = search needs
 
--- src/plain.rt:686:39
 add-place-of-2 : tie.Need-add-place-of-2
 add-place-of-2 c = search needs
 
--- src/plain.rt:686:9
 place-of-requires-3 : tie.Need-place-of-requires-3
 place-of-requires-3 c κs = search needs
 
--- src/plain.rt:687:9
 form-ok-requires : tie.Need-form-ok-requires
 form-ok-requires c κs = search needs
 
--- src/plain.rt:688:18
 place-ok-requires : tie.Need-place-ok-requires
 place-ok-requires c κs = search needs
 
--- src/plain.rt:689:34
 add-place-ok : tie.Need-add-place-ok
 add-place-ok c = search needs
 
--- src/plain.rt:689:11
 place-ok-requires-2 : tie.Need-place-ok-requires-2
 place-ok-requires-2 c κs = search needs
 
--- src/plain.rt:690:34
 add-place-ok-2 : tie.Need-add-place-ok-2
 add-place-ok-2 c = search needs
 
--- src/plain.rt:690:11
 place-ok-requires-3 : tie.Need-place-ok-requires-3
 place-ok-requires-3 c κs = search needs
 
--- src/plain.rt:692:9
 returns : tie.Need-returns
-returns c = ?
+returns c =
+    plain-left _ _ _ _ _ _ (c .before .before .before .before .before .before .before .before .before .before .before .pre)
 
--- src/plain.rt:697:5
 take-slots-requires : tie.Need-take-slots-requires
-take-slots-requires c κs = ?
+take-slots-requires c κs =
+    slots-ready _ _ _ _ _ _ _ _ _ (c .before .before .before .before .before .before .before .before .before .before .before .before .pre) (c .before .before .before .before .before .before .before .before .before .five-words .ensures) (c .before .before .before .before .before .before .before .before .place-of .ensures) (c .before .before .before .before .before .before .before .place-of2 .ensures) (c .before .before .before .before .before .before .place-of3 .ensures) (c .before .before .before .before .before .form-ok .result) _ _ _ (c .before .before .before .before .place-ok .ensures) (c .before .before .before .place-ok2 .ensures) (c .before .before .place-ok3 .ensures) (c .before .if1 .left)
 
--- src/plain.rt:671:1
 same-length : tie.Need-same-length
 same-length c = search needs
 
--- src/plain.rt:671:1
 returns-2 : tie.Need-returns-2
-returns-2 c = ?
+returns-2 c =
+    plain-took _ _ _ _ _ _ _ _ _ _ (c .before .before .before .before .before .before .before .before .form-ok .result) (c .before .before .before .before .before .before .before .place-ok .result && c .before .before .before .before .before .before .place-ok2 .result && c .before .before .before .before .before .place-ok3 .result) (c .before .before .before .before .if1 .left) (c .before .before .before .before .before .before .before .before .form-ok .ensures) (c .before .before .take-slots .ensures)
 
 pub take-plain-spec : {M : Type 1} → statement M
 take-plain-spec =
