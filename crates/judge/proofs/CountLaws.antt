@@ -23,39 +23,39 @@ use Rattle.judge.specs.Inner.{capped, classIn, depthIn, countIn, kindIn,
 use Rattle.judge.proofs.CapLaws.{cap-low, cap-high, cap-small, cap-cap}
 
 -- a count that nothing is added to
-cap-plus : (x z : ℕ) → x ≤ 2 → z ≡ 0 → x ≡ capped 2 (x + z)
-cap-plus x z h e = let s : x + z ≡ x = omega arith in sym (ap (capped 2) s ∙ cap-low 2 x h)
+pub cap-plus : (x z : ℕ) → z ≡ 0 → capped 2 x ≡ capped 2 (x + z)
+cap-plus x z e = let s : x ≡ x + z = omega arith in ap (capped 2) s
 
 pub refers-not : (role : Role) (w k : ℕ) → refers role ≡ false → refersTo role w k ≡ 0
 unfolding refersTo pick
 refers-not role w k e = rw e refl
 
-refers-other : (role : Role) (w k : ℕ) → (w ≡ k → ⊥) → refersTo role w k ≡ 0
+pub refers-other : (role : Role) (w k : ℕ) → (w ≡ k → ⊥) → refersTo role w k ≡ 0
 unfolding refersTo pick
 refers-other role w k h = tested (refers role) (λ t. rw (t, ne-eqb w k h) refl) (λ t. rw t refl)
 
-refers-same : (role : Role) (w : ℕ) → refers role ≡ true → refersTo role w w ≡ 1
+pub refers-same : (role : Role) (w : ℕ) → refers role ≡ true → refersTo role w w ≡ 1
 unfolding refersTo pick
 refers-same role w e = rw (e, eq-eqb w w refl) refl
 
 -- nothing is counted
-pub counted-none : (r : ℕ) (more : ℕ → ℕ) (l : List ℕ) → ((k : ℕ) → k < r → more k ≡ 0) → Counted r more l l
-counted-none r more l z =
+pub counted-none : (tree : List ℕ) (r : ℕ) (more : ℕ → ℕ) (l : List ℕ) → ((k : ℕ) → k < r → more k ≡ 0) → Counted tree r more l l
+counted-none tree r more l z =
     record {
       same = refl;
-      grown = λ k hk h. cap-plus (countIn l k) (more k) h (z k hk);
+      grown = λ k hk h. cap-plus (countIn l k) (more k) (z k hk);
       classes = λ k. refl;
       depths = λ k. refl;
       kinds = λ k. refl;
     }
 
 -- one word that refers to record i
-module _ (role : Role) (w r i : ℕ) (l : List ℕ) (same : i ≡ w) where
-  pub word-out : r ≤ i → Counted r (refersTo role w) l l
-  word-out h = counted-none r (refersTo role w) l (λ k hk. refers-other role w k (λ e. omega arith))
+module _ (tree : List ℕ) (role : Role) (w r i : ℕ) (l : List ℕ) (same : i ≡ w) where
+  pub word-out : r ≤ i → Counted tree r (refersTo role w) l l
+  word-out h = counted-none tree r (refersTo role w) l (λ k hk. refers-other role w k (λ e. omega arith))
 
   module _ (yes : refers role ≡ true) where
-    pub word-full : 2 ≤ countIn l i → Counted r (refersTo role w) l l
+    pub word-full : 2 ≤ countIn l i → Counted tree r (refersTo role w) l l
     word-full c =
         record {
           same = refl;
@@ -64,16 +64,16 @@ module _ (role : Role) (w r i : ℕ) (l : List ℕ) (same : i ≡ w) where
               (λ t.
               let q : i ≡ k = same ∙ eqb-true w k t in
               let f : 2 ≤ countIn l k = rw q at c in
-              sym (cap-high 2 (countIn l k + refersTo role w k) (omega arith) ∙ omega arith))
-              (λ t. cap-plus (countIn l k) (refersTo role w k) h (refers-other role w k (eqb-false w k t)));
+              cap-high 2 (countIn l k) f ∙ sym (cap-high 2 (countIn l k + refersTo role w k) (omega arith)))
+              (λ t. cap-plus (countIn l k) (refersTo role w k) (refers-other role w k (eqb-false w k t)));
           classes = λ k. refl;
           depths = λ k. refl;
           kinds = λ k. refl;
         }
 
-    pub word-more : i * 4 + 2 < length l → countIn l i < 2 → Counted r (refersTo role w) l (set l (i * 4 + 2) (countIn l i + 1))
+    pub word-more : i * 4 + 5 < length l → countIn l i < 2 → Counted tree r (refersTo role w) l (set l (i * 4 + 5) (countIn l i + 1))
     word-more hl c =
-        let at = i * 4 + 2 in
+        let at = i * 4 + 5 in
         let v = countIn l i + 1 in
         record {
           same = length-set l at v;
@@ -83,25 +83,26 @@ module _ (role : Role) (w r i : ℕ) (l : List ℕ) (same : i ≡ w) where
               let q : k ≡ i = sym (same ∙ eqb-true w k t) in
               let once : refersTo role w i ≡ 1 = rw same (refers-same role w yes) in
               rw q
-              (getD-set-same l at v 0 hl
-              ∙ sym (ap (λ (x : ℕ). capped 2 (countIn l i + x)) once ∙ cap-low 2 (countIn l i + 1) (omega arith))))
+              (ap (capped 2) (getD-set-same l at v 0 hl)
+              ∙ sym (ap (λ (x : ℕ). capped 2 (countIn l i + x)) once)))
               (λ t.
               let n : w ≡ k → ⊥ = eqb-false w k t in
-              getD-set-other l at (k * 4 + 2) v 0 (λ e. n (omega arith))
-              ∙ cap-plus (countIn l k) (refersTo role w k) h (refers-other role w k n));
-          classes = λ k. getD-set-other l at (k * 4) v 0 (λ e. omega arith);
-          depths = λ k. getD-set-other l at (k * 4 + 1) v 0 (λ e. omega arith);
-          kinds = λ k. getD-set-other l at (k * 4 + 3) v 0 (λ e. omega arith);
+              ap (capped 2) (getD-set-other l at (k * 4 + 5) v 0 (λ e. n (omega arith)))
+              ∙ cap-plus (countIn l k) (refersTo role w k) (refers-other role w k n));
+          classes = λ k. getD-set-other l at (k * 4 + 6) v 0 (λ e. omega arith);
+          depths = λ k. getD-set-other l at (k * 4 + 4) v 0 (λ e. omega arith);
+          kinds = λ k. getD-set-other l at (k * 4 + 7) v 0 (λ e. omega arith);
         }
 
 -- what is counted first, and then more
-counted-more : (r : ℕ) (f g : ℕ → ℕ) (l m p : List ℕ) → Counted r f l m → Counted r g m p → Counted r (λ k. f k + g k) l p
-counted-more r f g l m p a b =
+counted-more : (tree : List ℕ) (r : ℕ) (f g : ℕ → ℕ) (l m p : List ℕ) → Counted tree r f l m → Counted tree r g m p → Counted tree r (λ k. f k + g k) l p
+counted-more tree r f g l m p a b =
     record {
       same = b .same ∙ a .same;
       grown = λ k hk h.
-          let e : countIn m k ≡ capped 2 (countIn l k + f k) = a .grown k hk h in
-          b .grown k hk (omega (arith, cap-small 2 (countIn l k + f k)))
+          let e : capped 2 (countIn m k) ≡ capped 2 (countIn l k + f k) = a .grown k hk h in
+          b .grown k hk h
+          ∙ sym (cap-cap 2 (countIn m k) (g k))
           ∙ ap (λ (x : ℕ). capped 2 (x + g k)) e
           ∙ cap-cap 2 (countIn l k + f k) (g k)
           ∙ ap (capped 2) (omega arith);
@@ -110,8 +111,8 @@ counted-more r f g l m p a b =
       kinds = λ k. b .kinds k ∙ a .kinds k;
     }
 
-counted-as : (r : ℕ) (f g : ℕ → ℕ) (l m : List ℕ) → ((k : ℕ) → f k ≡ g k) → Counted r f l m → Counted r g l m
-counted-as r f g l m e a =
+counted-as : (tree : List ℕ) (r : ℕ) (f g : ℕ → ℕ) (l m : List ℕ) → ((k : ℕ) → f k ≡ g k) → Counted tree r f l m → Counted tree r g l m
+counted-as tree r f g l m e a =
     record {
       same = a .same;
       grown = λ k hk h. a .grown k hk h ∙ ap (λ (x : ℕ). capped 2 (countIn l k + x)) (e k);
@@ -135,7 +136,7 @@ pub counting-none : (tree l : List ℕ) → Counting tree 0 l
 counting-none tree l = record { counts = λ k h. absurd (omega arith) }
 
 -- counting changes nothing that is known
-pub known-counted : (tree : List ℕ) (r : ℕ) (more : ℕ → ℕ) (l l′ : List ℕ) → Known tree r l → Counted r more l l′ → Known tree r l′
+pub known-counted : (tree : List ℕ) (r : ℕ) (more : ℕ → ℕ) (l l′ : List ℕ) → Known tree r l → Counted tree r more l l′ → Known tree r l′
 known-counted tree r more l l′ k c =
     record {
       lists = λ role i h. k .lists role i h ∙ ap (λ (x : ℕ). eqb x (listNumber role)) (sym (c .classes i));
@@ -163,15 +164,15 @@ from-words tree r k row va vb vc vd ve w wa wb wc wd we = rw (wa, wb, wc, wd, we
 pub counted-words : (tree : List ℕ) (r : ℕ) (row : Row) (va vb vc vd ve : ℕ) (l la lb lc ld le : List ℕ)
     → row ≡ rowAt tree r
     → va ≡ wordOf tree r A → vb ≡ wordOf tree r B → vc ≡ wordOf tree r C → vd ≡ wordOf tree r D → ve ≡ wordOf tree r E
-    → Counted r (refersTo (row .a) va) l la
-    → Counted r (refersTo (row .b) vb) la lb
-    → Counted r (refersTo (row .c) vc) lb lc
-    → Counted r (refersTo (row .d) vd) lc ld
-    → Counted r (refersTo (row .e) ve) ld le
-    → Counted r (λ k. refersFrom tree k r) l le
+    → Counted tree r (refersTo (row .a) va) l la
+    → Counted tree r (refersTo (row .b) vb) la lb
+    → Counted tree r (refersTo (row .c) vc) lb lc
+    → Counted tree r (refersTo (row .d) vd) lc ld
+    → Counted tree r (refersTo (row .e) ve) ld le
+    → Counted tree r (λ k. refersFrom tree k r) l le
 counted-words tree r row va vb vc vd ve l la lb lc ld le w wa wb wc wd we a b c d e =
-    counted-as r _ (λ k. refersFrom tree k r) l le (λ k. from-words tree r k row va vb vc vd ve w wa wb wc wd we)
-    (counted-more r _ _ l ld le (counted-more r _ _ l lc ld (counted-more r _ _ l lb lc (counted-more r _ _ l la lb a b) c) d) e)
+    counted-as tree r _ (λ k. refersFrom tree k r) l le (λ k. from-words tree r k row va vb vc vd ve w wa wb wc wd we)
+    (counted-more tree r _ _ l ld le (counted-more tree r _ _ l lc ld (counted-more tree r _ _ l lb lc (counted-more tree r _ _ l la lb a b) c) d) e)
 
 -- no record up to k is behind k
 none-later : (tree : List ℕ) (n k : ℕ) → n ≤ k + 1 → sumBelow n (laterRefs tree k) ≡ 0
@@ -182,15 +183,15 @@ none-later tree (suc n) k h =
 
 -- ---- the bytes of record r are written
 
-module _ (l : List ℕ) (r class depth kind : ℕ) (room : r * 4 + 4 ≤ length l) where
+module _ (l : List ℕ) (r class depth kind : ℕ) (room : r * 4 + 8 ≤ length l) where
   abbrev l₁ : List ℕ
-  l₁ = set l (r * 4) class
+  l₁ = set l (r * 4 + 4) depth
 
   abbrev l₂ : List ℕ
-  l₂ = set l₁ (r * 4 + 1) depth
+  l₂ = set l₁ (r * 4 + 5) 0
 
   abbrev l₃ : List ℕ
-  l₃ = set l₂ (r * 4 + 2) 0
+  l₃ = set l₂ (r * 4 + 6) class
 
   abbrev after : List ℕ
   after = stored l r class depth kind
@@ -208,31 +209,31 @@ module _ (l : List ℕ) (r class depth kind : ℕ) (room : r * 4 + 4 ≤ length 
   three = simp length-set
 
   -- what the last two stores leave
-  kept : (x : ℕ) → (x ≡ r * 4 + 3 → ⊥) → (x ≡ r * 4 + 2 → ⊥) → getD after x 0 ≡ getD l₂ x 0
-  kept x a b = getD-set-other l₃ (r * 4 + 3) x kind 0 a ∙ getD-set-other l₂ (r * 4 + 2) x 0 0 b
+  kept : (x : ℕ) → (x ≡ r * 4 + 7 → ⊥) → (x ≡ r * 4 + 6 → ⊥) → getD after x 0 ≡ getD l₂ x 0
+  kept x a b = getD-set-other l₃ (r * 4 + 7) x kind 0 a ∙ getD-set-other l₂ (r * 4 + 6) x class 0 b
 
-  stored-below : (x : ℕ) → x < r * 4 → getD after x 0 ≡ getD l x 0
+  stored-below : (x : ℕ) → x < r * 4 + 4 → getD after x 0 ≡ getD l x 0
   stored-below x h =
       kept x (λ e. omega arith) (λ e. omega arith)
-      ∙ getD-set-other l₁ (r * 4 + 1) x depth 0 (λ e. omega arith)
-      ∙ getD-set-other l (r * 4) x class 0 (λ e. omega arith)
+      ∙ getD-set-other l₁ (r * 4 + 5) x 0 0 (λ e. omega arith)
+      ∙ getD-set-other l (r * 4 + 4) x depth 0 (λ e. omega arith)
 
   stored-class : classIn after r ≡ class
   stored-class =
-      kept (r * 4) (λ e. omega arith) (λ e. omega arith)
-      ∙ getD-set-other l₁ (r * 4 + 1) (r * 4) depth 0 (λ e. omega arith)
-      ∙ getD-set-same l (r * 4) class 0 (omega arith)
+      getD-set-other l₃ (r * 4 + 7) (r * 4 + 6) kind 0 (λ e. omega arith) ∙ getD-set-same l₂ (r * 4 + 6) class 0 (omega (arith, two))
 
   stored-depth : depthIn after r ≡ depth
   stored-depth =
-      kept (r * 4 + 1) (λ e. omega arith) (λ e. omega arith) ∙ getD-set-same l₁ (r * 4 + 1) depth 0 (omega (arith, one))
+      kept (r * 4 + 4) (λ e. omega arith) (λ e. omega arith)
+      ∙ getD-set-other l₁ (r * 4 + 5) (r * 4 + 4) 0 0 (λ e. omega arith)
+      ∙ getD-set-same l (r * 4 + 4) depth 0 (omega arith)
 
   stored-count : countIn after r ≡ 0
   stored-count =
-      getD-set-other l₃ (r * 4 + 3) (r * 4 + 2) kind 0 (λ e. omega arith) ∙ getD-set-same l₂ (r * 4 + 2) 0 0 (omega (arith, two))
+      kept (r * 4 + 5) (λ e. omega arith) (λ e. omega arith) ∙ getD-set-same l₁ (r * 4 + 5) 0 0 (omega (arith, one))
 
   stored-kind : kindIn after r ≡ kind
-  stored-kind = getD-set-same l₃ (r * 4 + 3) kind 0 (omega (arith, three))
+  stored-kind = getD-set-same l₃ (r * 4 + 7) kind 0 (omega (arith, three))
 
   -- of each record below r + 1, where it holds of those below r and of r
   grow : (P : ℕ → Type 0) → ((k : ℕ) → k < r → P k) → P r → (k : ℕ) → k < r + 1 → P k
@@ -244,25 +245,26 @@ module _ (l : List ℕ) (r class depth kind : ℕ) (room : r * 4 + 4 ≤ length 
       → Known tree (r + 1) after
   known-stored tree k lists small cells deep is =
       record {
-        lists = λ role. grow (λ i. fix false (listStep tree role) i ≡ eqb (classIn after i) (listNumber role)) (λ i h. k .lists role i h ∙ ap (λ (x : ℕ). eqb x (listNumber role)) (sym (stored-below (i * 4) (omega arith)))) (lists role ∙ ap (λ (x : ℕ). eqb x (listNumber role)) (sym stored-class));
-        small = grow (λ i. classIn after i ≤ 3) (λ i h. rw (stored-below (i * 4) (omega arith)) (k .small i h)) (rw stored-class small);
-        cells = grow (λ i. (kindOf tree i ≡ 12 → ⊥) → classIn after i ≡ 0) (λ i h n. stored-below (i * 4) (omega arith) ∙ k .cells i h n) (λ n. stored-class ∙ cells n);
-        depths = grow (λ i. depthIn after i ≡ shallowDepth tree i) (λ i h. stored-below (i * 4 + 1) (omega arith) ∙ k .depths i h) (stored-depth ∙ deep);
-        kinds = grow (λ i. kindIn after i ≡ kindOf tree i) (λ i h. stored-below (i * 4 + 3) (omega arith) ∙ k .kinds i h) (stored-kind ∙ is);
+        lists = λ role. grow (λ i. fix false (listStep tree role) i ≡ eqb (classIn after i) (listNumber role)) (λ i h. k .lists role i h ∙ ap (λ (x : ℕ). eqb x (listNumber role)) (sym (stored-below (i * 4 + 6) (omega arith)))) (lists role ∙ ap (λ (x : ℕ). eqb x (listNumber role)) (sym stored-class));
+        small = grow (λ i. classIn after i ≤ 3) (λ i h. rw (stored-below (i * 4 + 6) (omega arith)) (k .small i h)) (rw stored-class small);
+        cells = grow (λ i. (kindOf tree i ≡ 12 → ⊥) → classIn after i ≡ 0) (λ i h n. stored-below (i * 4 + 6) (omega arith) ∙ k .cells i h n) (λ n. stored-class ∙ cells n);
+        depths = grow (λ i. depthIn after i ≡ shallowDepth tree i) (λ i h. stored-below (i * 4 + 4) (omega arith) ∙ k .depths i h) (stored-depth ∙ deep);
+        kinds = grow (λ i. kindIn after i ≡ kindOf tree i) (λ i h. stored-below (i * 4 + 7) (omega arith) ∙ k .kinds i h) (stored-kind ∙ is);
       }
 
   -- the references of record r were counted before
-  pub counting-stored : (tree l₀ : List ℕ) → Counting tree r l₀ → Counted r (λ k. refersFrom tree k r) l₀ l → Counting tree (r + 1) after
+  pub counting-stored : (tree l₀ : List ℕ) → Counting tree r l₀ → Counted tree r (λ k. refersFrom tree k r) l₀ l → Counting tree (r + 1) after
   unfolding laterRefs
   counting-stored tree l₀ before now =
       record {
-        counts = grow (λ i. countIn after i ≡ capped 2 (sumBelow (r + 1) (laterRefs tree i)))
-            (λ i h.
-            stored-below (i * 4 + 2) (omega arith)
-            ∙ now .grown i h (omega (arith, cap-small 2 (sumBelow r (laterRefs tree i)), before .counts i h))
-            ∙ ap (λ (x : ℕ). capped 2 (x + refersFrom tree i r)) (before .counts i h)
+        counts = grow (λ i. (kindOf tree i ≡ 1 → ⊥) → capped 2 (countIn after i) ≡ capped 2 (sumBelow (r + 1) (laterRefs tree i)))
+            (λ i h n.
+            ap (capped 2) (stored-below (i * 4 + 5) (omega arith))
+            ∙ now .grown i h n
+            ∙ sym (cap-cap 2 (countIn l₀ i) (refersFrom tree i r))
+            ∙ ap (λ (x : ℕ). capped 2 (x + refersFrom tree i r)) (before .counts i h n)
             ∙ cap-cap 2 (sumBelow r (laterRefs tree i)) (refersFrom tree i r)
             ∙ ap (λ (x : ℕ). capped 2 (sumBelow r (laterRefs tree i) + x)) (sym (pick-yes (ltb i r) (refersFrom tree i r) 0 (lt-ltb i r h)))
             ∙ sym (ap (capped 2) (sumBelow-more r (laterRefs tree i))))
-            (stored-count ∙ sym (ap (capped 2) (none-later tree (r + 1) r (omega arith)) ∙ cap-low 2 0 (omega arith)));
+            (λ n. ap (capped 2) (stored-count ∙ sym (none-later tree (r + 1) r (omega arith))));
       }

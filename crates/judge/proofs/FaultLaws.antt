@@ -97,8 +97,8 @@ module _ (tree : List ℕ) (bytes n fault : ℕ) (whole : n * 32 ≡ length tree
   counts-told l c =
       let q : length tree / 32 ≡ n = omega arith in
       record {
-        counts = λ k h.
-            c .counts k (omega (arith, low .within)) ∙ ap (capped 2) (sum-same n _ _ (λ i hi. later k h i) ∙ ap (λ (x : ℕ). sumBelow x (refersFrom tree k)) (sym q));
+        counts = λ k h other.
+            c .counts k (omega (arith, low .within)) other ∙ ap (capped 2) (sum-same n _ _ (λ i hi. later k h i) ∙ ap (λ (x : ℕ). sumBelow x (refersFrom tree k)) (sym q));
       }
 
   module _ (text : List ℕ) (bytesIs : bytes ≡ length text) (types : ℕ) (lead : TypesLead tree n types) (once equal : ℕ)
@@ -181,7 +181,10 @@ module _ (tree : List ℕ) (bytes n fault : ℕ) (whole : n * 32 ≡ length tree
 pub once-told : (tree : List ℕ) (n r k : ℕ) (l : List ℕ) → ReferenceCounts tree n l → r < n → k ≡ kindOf tree r
     → (eqb k 1 || eqb k 25 || eqb (countIn l r) 1) ≡ referredOnce tree r
 unfolding referredOnce
-once-told tree n r k l c h e = rw (e, c .counts r h, cap-one (references tree r)) refl
+once-told tree n r k l c h e =
+    tested (eqb (kindOf tree r) 1)
+    (λ t. rw (e, t) refl)
+    (λ t. rw (e, sym (cap-one (countIn l r)), c .counts r h (eqb-false (kindOf tree r) 1 t), cap-one (references tree r)) refl)
 
 -- two tests of one number, as the code makes them
 module _ (a b c : ℕ) where

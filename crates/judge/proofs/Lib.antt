@@ -5,6 +5,8 @@ pub mod EqualLaws
 pub mod FaultLaws
 pub mod KeyLaws
 pub mod ListClass
+pub mod PlainLaws
+pub mod PlainTaken
 pub mod RoleCases
 pub mod RowLaws
 pub mod TakeLaws

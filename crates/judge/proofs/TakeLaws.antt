@@ -34,7 +34,7 @@ module _ (tree : List ℕ) (bytes r : ℕ) (role : Role) (w next : ℕ) (l : Lis
       record {
         right = q;
         depth = below-none (shallowDepth tree) r role w e;
-        counted = counted-none r (refersTo role w) l (λ k hk. refers-not role w k e);
+        counted = counted-none tree r (refersTo role w) l (λ k hk. refers-not role w k e);
       }
 
   module _ (e : refers role ≡ true) (i : ℕ) (same : i ≡ w) where
@@ -43,11 +43,11 @@ module _ (tree : List ℕ) (bytes r : ℕ) (role : Role) (w next : ℕ) (l : Lis
         record {
           right = rw q (sym (reference-out tree bytes r role w next e (omega arith)));
           depth = below-later (shallowDepth tree) r role w i same e h;
-          counted = word-out role w r i l same h;
+          counted = word-out tree role w r i l same h;
         }
 
     pub took-in : Known tree r l → r < 2048 → i < r → (k c low high : ℕ) → (k ≡ kindIn l i) × (k < 256) → c ≡ classIn l i → low ≡ lowKey role → high ≡ highKey role
-        → (l′ : List ℕ) → Counted r (refersTo role w) l l′
+        → (l′ : List ℕ) → Counted tree r (refersTo role w) l l′
         → Took tree bytes r role w next l l′ (leb low (k * 4 + c) && leb (k * 4 + c) high) (depthIn l i)
     took-in known few h k c low high kIs cIs lIs hIs l′ n =
         record {
@@ -57,13 +57,13 @@ module _ (tree : List ℕ) (bytes r : ℕ) (role : Role) (w next : ℕ) (l : Lis
         }
 
 -- what the next word needs
-pub took-next : (tree : List ℕ) (bytes r : ℕ) (role : Role) (w next : ℕ) (l l′ : List ℕ) (ok : Bool) (d : ℕ) → (r < 2048) × (r * 4 ≤ length l) × Known tree r l
-    → Took tree bytes r role w next l l′ ok d → (r < 2048) × (r * 4 ≤ length l′) × Known tree r l′
+pub took-next : (tree : List ℕ) (bytes r : ℕ) (role : Role) (w next : ℕ) (l l′ : List ℕ) (ok : Bool) (d : ℕ) → (r < 2048) × (r * 4 + 4 ≤ length l) × Known tree r l
+    → Took tree bytes r role w next l l′ ok d → (r < 2048) × (r * 4 + 4 ≤ length l′) × Known tree r l′
 took-next tree bytes r role w next l l′ ok d ready t = (ready .0, rw (t .counted .same) (ready .1), known-counted tree r _ l l′ (ready .2) (t .counted))
 
 -- ---- five words
 
-unused-took : (tree : List ℕ) (bytes r : ℕ) (role : Role) (w next : ℕ) (l : List ℕ) → role ≡ Unused → Took tree bytes r role w next l l (eqb w 0) 0
+pub unused-took : (tree : List ℕ) (bytes r : ℕ) (role : Role) (w next : ℕ) (l : List ℕ) → role ≡ Unused → Took tree bytes r role w next l l (eqb w 0) 0
 unfolding wordOk
 unused-took tree bytes r role w next l e = rw e (took-plain tree bytes r Unused w next l refl (eqb w 0) refl)
 
@@ -128,11 +128,11 @@ module _ (tree : List ℕ) (n types r : ℕ) (lead : TypesLead tree n types) (h 
     pub bytes-told : (l₀ l₁ m : List ℕ) (ok : Bool) (deep class d : ℕ) → Known tree r l₀ → Counting tree r l₀ → TookWords tree bytes r l₀ l₁ ok deep
         → class ≡ classAt tree (classIn l₁) r k (words .a) (words .b)
         → d ≡ pick (eqb k 12) deep (capped 65 (deep + 1))
-        → r * 4 + 4 ≤ length l₀ → m ≡ stored l₁ r class d k
+        → r * 4 + 8 ≤ length l₀ → m ≡ stored l₁ r class d k
         → (right : Bool) → right ≡ otherRules tree bytes r
         → TookRecord tree bytes r l₀ m right d
     bytes-told l₀ l₁ m ok deep class d known counting took classIs dIs room mIs right rightIs =
-        let room₁ : r * 4 + 4 ≤ length l₁ = rw (took .counted .same) room in
+        let room₁ : r * 4 + 8 ≤ length l₁ = rw (took .counted .same) room in
         let known₁ = known-counted tree r _ l₀ l₁ known (took .counted) in
         let deepIs = depth-told tree r deep k d (took .depth) kIs dIs in
         rw mIs

@@ -44,23 +44,23 @@ capped most x = pick (ltb x most) x most
 abbrev pub shallowDepth : List ℕ → ℕ → ℕ
 shallowDepth tree r = capped 65 (depth tree r)
 
--- ---- the bytes of record k
+-- ---- the bytes of record k, behind four that belong to no record: depth, count, list, kind
 
 abbrev pub classIn : List ℕ → ℕ → ℕ
-classIn l k = getD l (k * 4) 0
+classIn l k = getD l (k * 4 + 6) 0
 
 abbrev pub depthIn : List ℕ → ℕ → ℕ
-depthIn l k = getD l (k * 4 + 1) 0
+depthIn l k = getD l (k * 4 + 4) 0
 
 abbrev pub countIn : List ℕ → ℕ → ℕ
-countIn l k = getD l (k * 4 + 2) 0
+countIn l k = getD l (k * 4 + 5) 0
 
 abbrev pub kindIn : List ℕ → ℕ → ℕ
-kindIn l k = getD l (k * 4 + 3) 0
+kindIn l k = getD l (k * 4 + 7) 0
 
 -- the bytes of record r are written, with a count of 0
 abbrev pub stored : List ℕ → ℕ → ℕ → ℕ → ℕ → List ℕ
-stored l r class depth kind = set (set (set (set l (r * 4) class) (r * 4 + 1) depth) (r * 4 + 2) 0) (r * 4 + 3) kind
+stored l r class depth kind = set (set (set (set l (r * 4 + 4) depth) (r * 4 + 5) 0) (r * 4 + 6) class) (r * 4 + 7) kind
 
 -- ---- what a list holds
 
@@ -164,20 +164,20 @@ unfoldable pub laterRefs : List ℕ → ℕ → ℕ → ℕ
 unfolding pick refersFrom
 laterRefs tree k i = pick (ltb k i) (refersFrom tree k i) 0
 
--- of each record below r: how often the records below r and behind it refer to it, up to 2
+-- of each record below r but types, which may be referred to at will: how often the records below r and behind it refer to it, told apart up to 2
 pub record Counting (tree : List ℕ) (r : ℕ) (l : List ℕ) : Type 0 where
-  pub counts : (k : ℕ) → k < r → countIn l k ≡ capped 2 (sumBelow r (laterRefs tree k))
+  pub counts : (k : ℕ) → k < r → (kindOf tree k ≡ kindType → ⊥) → capped 2 (countIn l k) ≡ capped 2 (sumBelow r (laterRefs tree k))
 
--- of each of the first n records: how often it is referred to, up to 2
+-- of each of the first n records but types: how often it is referred to, told apart up to 2
 pub record ReferenceCounts (tree : List ℕ) (n : ℕ) (l : List ℕ) : Type 0 where
-  pub counts : (k : ℕ) → k < n → countIn l k ≡ capped 2 (references tree k)
+  pub counts : (k : ℕ) → k < n → (kindOf tree k ≡ kindType → ⊥) → capped 2 (countIn l k) ≡ capped 2 (references tree k)
 
 -- ---- what a step does
 
--- each count below r, at most 2 at entry, has grown by what `more` says, up to 2; the other bytes are as they were
-pub record Counted (r : ℕ) (more : ℕ → ℕ) (l l′ : List ℕ) : Type 0 where
+-- each count below r but those of types has grown by what `more` says, where counts are told apart up to 2; the other bytes are as they were
+pub record Counted (tree : List ℕ) (r : ℕ) (more : ℕ → ℕ) (l l′ : List ℕ) : Type 0 where
   pub same : length l′ ≡ length l
-  pub grown : (k : ℕ) → k < r → countIn l k ≤ 2 → countIn l′ k ≡ capped 2 (countIn l k + more k)
+  pub grown : (k : ℕ) → k < r → (kindOf tree k ≡ kindType → ⊥) → capped 2 (countIn l′ k) ≡ capped 2 (countIn l k + more k)
   pub classes : (k : ℕ) → classIn l′ k ≡ classIn l k
   pub depths : (k : ℕ) → depthIn l′ k ≡ depthIn l k
   pub kinds : (k : ℕ) → kindIn l′ k ≡ kindIn l k
@@ -186,7 +186,7 @@ pub record Counted (r : ℕ) (more : ℕ → ℕ) (l l′ : List ℕ) : Type 0 w
 pub record Took (tree : List ℕ) (bytes r : ℕ) (role : Role) (w next : ℕ) (l l′ : List ℕ) (ok : Bool) (deep : ℕ) : Type 0 where
   pub right : ok ≡ wordOk tree bytes r role w next
   pub depth : deep ≡ depthBelow (shallowDepth tree) r role w
-  pub counted : Counted r (refersTo role w) l l′
+  pub counted : Counted tree r (refersTo role w) l l′
 
 -- the words of record r
 pub record WordsOf (tree : List ℕ) (r : ℕ) (words : Words) : Type 0 where
@@ -200,7 +200,7 @@ pub record WordsOf (tree : List ℕ) (r : ℕ) (words : Words) : Type 0 where
 pub record TookWords (tree : List ℕ) (bytes r : ℕ) (l l′ : List ℕ) (ok : Bool) (deep : ℕ) : Type 0 where
   pub right : ok ≡ wordsOk tree bytes r (rowAt tree r)
   pub depth : deep ≡ deepest tree (shallowDepth tree) r
-  pub counted : Counted r (λ k. refersFrom tree k r) l l′
+  pub counted : Counted tree r (λ k. refersFrom tree k r) l l′
 
 -- record r breaks no rule but perhaps two: that no two types are equal, and that it is referred to once
 unfoldable pub otherRules : List ℕ → ℕ → ℕ → Bool

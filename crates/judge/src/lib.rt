@@ -13,6 +13,7 @@ use records::words::NONE;
 mod equal;
 mod nesting;
 mod pass;
+mod plain;
 mod references;
 mod rules;
 mod types;

@@ -10,10 +10,13 @@ ghost use Rattle.records.specs.Words.{records, mostRecords};
 ghost use Rattle.records.specs.Shapes.{rowAt, refers};
 ghost use Rattle.records.specs.Rules.{wordOk, recordOk};
 ghost use Rattle.records.specs.Depth.{depth as depthOf};
+ghost use Rattle.judge.specs.Plain.{plainRules};
 ghost use Rattle.judge.specs.Inner.{Lowest, Passing, Known, Counting, Took, TookWords, WordsOf, TookRecord, TookAll, stored};
 use crate::equal::first_equal;
 use crate::nesting::depth_over;
 use crate::nesting::max;
+use crate::plain::RULES;
+use crate::plain::take_plain;
 use crate::references::Told;
 use crate::references::lowest_miscounted;
 use crate::references::take_reference;
@@ -22,6 +25,7 @@ use crate::rules::is_unused;
 use crate::rules::marks_ok;
 use crate::types::is_first_type;
 use crate::types::leading_types;
+use records::numbers::KIND_FUNCTION;
 use records::numbers::KIND_TYPE;
 use records::shape::Role;
 use records::shape::Row;
@@ -78,7 +82,7 @@ fn take_word(
     next: u32,
     known: &mut [u8],
 ) -> Told
-    requires { ⌜ (r < mostRecords) × (r * 4 ≤ length (now known)) × Known (now tree) r (now known) ⌝ }
+    requires { ⌜ (r < mostRecords) × (r * 4 + 4 ≤ length (now known)) × Known (now tree) r (now known) ⌝ }
     ensures { λ t. ⌜ Took (now (tree .entry)) bytes r role w next (now (known .entry)) (now (known .exit)) (t .ok) (t .depth) ⌝ }
 {
     if refers_to(role) {
@@ -92,7 +96,7 @@ fn take_word(
 
 // The five words of record r. Most kinds use A and B alone, and the other three are zero then.
 fn take_words(tree: &[u8], bytes: usize, r: usize, row: Row, words: Words, known: &mut [u8]) -> Told
-    requires { ⌜ (r < mostRecords) × (r * 4 ≤ length (now known)) × Known (now tree) r (now known) ⌝ }
+    requires { ⌜ (r < mostRecords) × (r * 4 + 4 ≤ length (now known)) × Known (now tree) r (now known) ⌝ }
     requires { ⌜ (row ≡ rowAt (now tree) r) × WordsOf (now tree) r words ⌝ }
     ensures { λ t. ⌜ TookWords (now (tree .entry)) bytes r (now (known .entry)) (now (known .exit)) (t .ok) (t .depth) ⌝ }
 {
@@ -128,7 +132,7 @@ fn take_words(tree: &[u8], bytes: usize, r: usize, row: Row, words: Words, known
     }
 }
 
-fn five_words(tree: &[u8], r: usize) -> Words
+pub(crate) fn five_words(tree: &[u8], r: usize) -> Words
     requires { ⌜ r * 32 + 32 ≤ length (now tree) ⌝ }
     ensures { λ v. ⌜ WordsOf (now (tree .entry)) r v ⌝ }
 {
@@ -142,19 +146,19 @@ fn five_words(tree: &[u8], r: usize) -> Words
 }
 
 // The bytes of record r.
-fn put_known(known: &mut [u8], r: usize, class: u8, depth: u8, k: u8)
-    requires { ⌜ r * 4 + 4 ≤ length (now known) ⌝ }
+pub(crate) fn put_known(known: &mut [u8], r: usize, class: u8, depth: u8, k: u8)
+    requires { ⌜ r * 4 + 8 ≤ length (now known) ⌝ }
     ensures { λ _. ⌜ now (known .exit) ≡ stored (now (known .entry)) r class depth k ⌝ }
 {
     let at = r * 4;
-    known[at] = class;
-    known[at + 1] = depth;
-    known[at + 2] = 0;
-    known[at + 3] = k;
+    known[at + 4] = depth;
+    known[at + 5] = 0;
+    known[at + 6] = class;
+    known[at + 7] = k;
 }
 
-// Record r against every rule but two: that no two types are equal, and that it is referred to once.
-fn take_record(tree: &[u8], bytes: usize, r: usize, types: usize, known: &mut [u8]) -> Told
+// Record r of any kind, against every rule but two: that no two types are equal, and that it is referred to once.
+fn take_any(tree: &[u8], bytes: usize, r: usize, types: usize, known: &mut [u8]) -> Told
     requires { ⌜ (r < records (now tree)) × Passing (now tree) (records (now tree)) types (now known) ⌝ }
     requires { ⌜ Known (now tree) r (now known) × Counting (now tree) r (now known) ⌝ }
     ensures { λ t. ⌜ TookRecord (now (tree .entry)) bytes r (now (known .entry)) (now (known .exit)) (t .ok) (t .depth) ⌝ }
@@ -175,6 +179,33 @@ fn take_record(tree: &[u8], bytes: usize, r: usize, types: usize, known: &mut [u
         ok: form & marks & first & lead,
         depth,
     }
+}
+
+// Record r against the same rules. Most are right, and taken by the table; what is wrong with another is found by `take_any`.
+fn take_record(
+    tree: &[u8],
+    bytes: usize,
+    r: usize,
+    types: usize,
+    known: &mut [u8],
+    rules: &[u8; 520],
+) -> Told
+    requires { ⌜ (r < records (now tree)) × Passing (now tree) (records (now tree)) types (now known) × (now rules ≡ plainRules) ⌝ }
+    requires { ⌜ Known (now tree) r (now known) × Counting (now tree) r (now known) ⌝ }
+    ensures { λ t. ⌜ TookRecord (now (tree .entry)) bytes r (now (known .entry)) (now (known .exit)) (t .ok) (t .depth) ⌝ }
+{
+    let k = kind(tree, r);
+    if k > KIND_FUNCTION {
+        return take_any(tree, bytes, r, types, known);
+    }
+    if r < 12 {
+        return take_any(tree, bytes, r, types, known);
+    }
+    let told = take_plain(tree, bytes, r, k, known, rules);
+    if told.ok {
+        return told;
+    }
+    take_any(tree, bytes, r, types, known)
 }
 
 // The lowest so far, with record r: `found` is below r, or there was none.
@@ -199,8 +230,9 @@ fn pass(tree: &[u8], bytes: usize, n: usize, types: usize, known: &mut [u8]) -> 
     let mut fault = 0;
     let mut deep = 0;
     let mut r = 0;
+    let rules = RULES;
     while r < n {
-        let told = take_record(tree, bytes, r, types, known);
+        let told = take_record(tree, bytes, r, types, known, &rules);
         let ok = told.ok;
         let low = told.depth <= DEEPEST;
         fault = next_lowest(fault, r, ok);

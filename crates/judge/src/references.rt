@@ -27,7 +27,7 @@ pub struct Told {
 // Word w of record r, which refers: judged, and one more for a lower record that it refers to, up to 2. More than once is all that matters. What is
 // not lower has no bytes yet, and its count never matters: record r is at fault then, and it is not the higher of the two.
 pub(crate) fn take_reference(tree: &[u8], r: usize, role: Role, w: u32, known: &mut [u8]) -> Told
-    requires { ⌜ (r < mostRecords) × (r * 4 ≤ length (now known)) × Known (now tree) r (now known) × (refers role ≡ true) ⌝ }
+    requires { ⌜ (r < mostRecords) × (r * 4 + 4 ≤ length (now known)) × Known (now tree) r (now known) × (refers role ≡ true) ⌝ }
     ensures { λ t. ⌜ ((bytes next : ℕ) → Took (now (tree .entry)) bytes r role w next (now (known .entry)) (now (known .exit)) (t .ok) (t .depth)) ⌝ }
 {
     let i = index(w);
@@ -37,26 +37,26 @@ pub(crate) fn take_reference(tree: &[u8], r: usize, role: Role, w: u32, known: &
             depth: 0,
         };
     }
-    let key = wide(known[i * 4 + 3]) * 4 + wide(known[i * 4]);
+    let key = wide(known[i * 4 + 7]) * 4 + wide(known[i * 4 + 6]);
     let ok = (low_key(role) <= key) & (key <= high_key(role));
-    let depth = known[i * 4 + 1];
-    let count = known[i * 4 + 2];
+    let depth = known[i * 4 + 4];
+    let count = known[i * 4 + 5];
     if count >= 2 {
         return Told { ok, depth };
     }
-    known[i * 4 + 2] = count + 1;
+    known[i * 4 + 5] = count + 1;
     Told { ok, depth }
 }
 
 // The lowest of n records that is neither type nor function and not referred to exactly once, or n.
 pub(crate) fn lowest_miscounted(tree: &[u8], n: usize, known: &[u8]) -> usize
-    requires { ⌜ (n * 32 ≤ length (now tree)) × (n * 4 ≤ length (now known)) × ReferenceCounts (now tree) n (now known) ⌝ }
+    requires { ⌜ (n * 32 ≤ length (now tree)) × (n * 64 ≤ length (now known)) × ReferenceCounts (now tree) n (now known) ⌝ }
     ensures { λ v. ⌜ Lowest n (λ k. not (referredOnce (now (tree .entry)) k)) v ⌝ }
 {
     let mut r = 0;
     while r < n {
         let k = kind(tree, r);
-        let count = known[r * 4 + 2];
+        let count = known[r * 4 + 5];
         if !((k == KIND_TYPE) | (k == KIND_FUNCTION) | (count == 1)) {
             return r;
         }

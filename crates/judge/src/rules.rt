@@ -35,12 +35,12 @@ const STATEMENTS: u8 = 3;
 
 // What the lower list holds that a word refers to.
 fn class_below(known: &[u8], r: usize, w: u32) -> u8
-    requires { ⌜ r * 4 ≤ length (now known) ⌝ }
+    requires { ⌜ r * 4 + 4 ≤ length (now known) ⌝ }
     ensures { λ v. ⌜ v ≡ below (classIn (now (known .entry))) r w 0 ⌝ }
 {
     let i = index(w);
     if i < r {
-        return known[i * 4];
+        return known[i * 4 + 6];
     }
     MIXED
 }
@@ -68,7 +68,7 @@ fn item_class(tree: &[u8], a: usize) -> u8
 
 // What the list holds whose first cell is record r, with the words a and b: its item, where the rest holds the same.
 fn cell_class(tree: &[u8], r: usize, a: u32, b: u32, known: &[u8]) -> u8
-    requires { ⌜ (r * 32 ≤ length (now tree)) × (r * 4 ≤ length (now known)) ⌝ }
+    requires { ⌜ (r * 32 ≤ length (now tree)) × (r * 4 + 4 ≤ length (now known)) ⌝ }
     ensures { λ v. ⌜ v ≡ cellClass (now (tree .entry)) (classIn (now (known .entry))) r a b ⌝ }
 {
     let item = index(a);
@@ -87,7 +87,7 @@ fn cell_class(tree: &[u8], r: usize, a: u32, b: u32, known: &[u8]) -> u8
 
 // What the list holds whose first cell is record r; 0 where it is no cell.
 pub(crate) fn class_at(tree: &[u8], r: usize, k: u8, a: u32, b: u32, known: &[u8]) -> u8
-    requires { ⌜ (r * 32 ≤ length (now tree)) × (r * 4 ≤ length (now known)) ⌝ }
+    requires { ⌜ (r * 32 ≤ length (now tree)) × (r * 4 + 4 ≤ length (now known)) ⌝ }
     ensures { λ v. ⌜ v ≡ classAt (now (tree .entry)) (classIn (now (known .entry))) r k a b ⌝ }
 {
     if k == KIND_LIST {

@@ -16,11 +16,11 @@ use Rattle.judge.proofs.pass.pass.Statement.{statement}
 use Rattle.judge.proofs.pass.pass.Tie as tie
 
 abbrev Inv-loop : tie.InvT-loop
-Inv-loop tree bytes n types known₀ fault₀ deep₀ r₀ known fault deep r =
+Inv-loop tree bytes n types known₀ fault₀ deep₀ r₀ rules known fault deep r =
     (r ≤ n) × (length known ≡ length known₀) × Known tree r known × Counting tree r known × Lowest r (λ k. not (otherRules tree bytes k)) fault × Lowest r (λ k. ltb 64 (depth tree k)) deep
 
 abbrev μ-loop : tie.MeasureT-loop
-μ-loop tree bytes n types known₀ fault₀ deep₀ r₀ known fault deep r =
+μ-loop tree bytes n types known₀ fault₀ deep₀ r₀ rules known fault deep r =
     n - r
 
 loop-holds : tie.Need-loop-holds Inv-loop μ-loop
@@ -29,30 +29,29 @@ loop-holds c =
 
 take-record-requires : tie.Need-take-record-requires Inv-loop μ-loop
 take-record-requires c κs =
-    let start = c .before .before .before .before .before in
-    let h = start .pre in
-    let n = records-told (start .args .tree .now) (start .args .n) (h .whole) in
-    ((rw n (c .before .loop-test .taken), rw n (record { whole = h .whole; few = h .few; room = omega (arith, c .before .before .loop .inv .1, h .room); lead = h .lead })), (c .before .before .loop .inv .2, c .before .before .loop .inv .3))
+    let h = c .before .before .before .before .before .before .pre in
+    let n = records-told (c .before .before .before .before .before .before .args .tree .now) (c .before .before .before .before .before .before .args .n) (h .whole) in
+    ((rw n (c .before .before .loop-test .taken), rw n (record { whole = h .whole; few = h .few; room = omega (arith, c .before .before .before .loop .inv .1, h .room); lead = h .lead }), refl), (c .before .before .before .loop .inv .2, c .before .before .before .loop .inv .3))
 
 next-lowest-requires : tie.Need-next-lowest-requires Inv-loop μ-loop
 next-lowest-requires c κs =
-    omega (arith, c .before .before .before .before .before .loop-test .taken, c .before .before .before .before .before .before .before .before .before .pre .few)
+    omega (arith, c .before .before .before .before .before .before .loop-test .taken, c .before .before .before .before .before .before .before .before .before .before .pre .few)
 
 next-lowest-requires-2 : tie.Need-next-lowest-requires-2 Inv-loop μ-loop
 next-lowest-requires-2 c κs =
-    omega (arith, c .before .before .before .before .before .before .loop-test .taken, c .before .before .before .before .before .before .before .before .before .before .pre .few)
+    omega (arith, c .before .before .before .before .before .before .before .loop-test .taken, c .before .before .before .before .before .before .before .before .before .before .before .pre .few)
 
 add-r : tie.Need-add-r Inv-loop μ-loop
 add-r c =
-    omega (arith, c .before .before .before .before .before .before .before .loop-test .taken, c .before .before .before .before .before .before .before .before .before .before .before .pre .few)
+    omega (arith, c .before .before .before .before .before .before .before .before .loop-test .taken, c .before .before .before .before .before .before .before .before .before .before .before .before .pre .few)
 
 loop-less : tie.Need-loop-less Inv-loop μ-loop
 loop-less c =
-    omega (arith, c .before .before .before .before .before .before .before .loop-test .taken)
+    omega (arith, c .before .before .before .before .before .before .before .before .loop-test .taken)
 
 loop-again : tie.Need-loop-again Inv-loop μ-loop
 loop-again c =
-    (omega (arith, c .before .before .before .before .before .before .before .loop-test .taken), c .before .before .before .before .before .take-record .ensures .same ∙ c .before .before .before .before .before .before .before .before .loop .inv .1, c .before .before .before .before .before .take-record .ensures .known, c .before .before .before .before .before .take-record .ensures .counting, c .before .next-lowest .ensures _ (c .before .before .before .before .before .before .before .before .loop .inv .4) (ap not (c .before .before .before .before .before .take-record .ensures .right)), c .next-lowest2 .ensures _ (c .before .before .before .before .before .before .before .before .loop .inv .5) (deep-told _ _ (c .before .before .before .before .before .take-record .ensures .depth)))
+    (omega (arith, c .before .before .before .before .before .before .before .before .loop-test .taken), c .before .before .before .before .before .take-record .ensures .same ∙ c .before .before .before .before .before .before .before .before .before .loop .inv .1, c .before .before .before .before .before .take-record .ensures .known, c .before .before .before .before .before .take-record .ensures .counting, c .before .next-lowest .ensures _ (c .before .before .before .before .before .before .before .before .before .loop .inv .4) (ap not (c .before .before .before .before .before .take-record .ensures .right)), c .next-lowest2 .ensures _ (c .before .before .before .before .before .before .before .before .before .loop .inv .5) (deep-told _ _ (c .before .before .before .before .before .take-record .ensures .depth)))
 
 same-length : tie.Need-same-length Inv-loop μ-loop
 same-length c =

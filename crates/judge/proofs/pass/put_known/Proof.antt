@@ -9,25 +9,28 @@ use Rattle.judge.proofs.pass.put_known.Tie as tie
 mul-at : tie.Need-mul-at
 mul-at c = search needs
 
+add-known : tie.Need-add-known
+add-known c = search needs
+
 slice-write-known : tie.Need-slice-write-known
 slice-write-known c = search needs
 
-add-known : tie.Need-add-known
-add-known c = search needs
+add-known-2 : tie.Need-add-known-2
+add-known-2 c = search needs
 
 slice-write-known-2 : tie.Need-slice-write-known-2
 slice-write-known-2 c =
     simp length-set (omega arith)
 
-add-known-2 : tie.Need-add-known-2
-add-known-2 c = search needs
+add-known-3 : tie.Need-add-known-3
+add-known-3 c = search needs
 
 slice-write-known-3 : tie.Need-slice-write-known-3
 slice-write-known-3 c =
     simp length-set (omega arith)
 
-add-known-3 : tie.Need-add-known-3
-add-known-3 c = search needs
+add-known-4 : tie.Need-add-known-4
+add-known-4 c = search needs
 
 slice-write-known-4 : tie.Need-slice-write-known-4
 slice-write-known-4 c =
@@ -44,12 +47,13 @@ put-known-spec =
     tie.close
     (tie.spec
     mul-at
-    slice-write-known
     add-known
-    slice-write-known-2
+    slice-write-known
     add-known-2
-    slice-write-known-3
+    slice-write-known-2
     add-known-3
+    slice-write-known-3
+    add-known-4
     slice-write-known-4
     same-length
     returns)

@@ -1,77 +1,67 @@
--- A record is taken: its words, its own tests, and its four bytes.
--- Two laws over what the calls ensure. Assumes nothing.
-use borrow.Author.Needs.{needs}
+-- A record is taken by the table where that finds it right, and else by the rules.
+-- By which of the two took it. Assumes nothing.
 use native.Mathlib.Omega.{arith}
-use Rattle.judge.proofs.CountLaws.{row-told}
-use Rattle.judge.proofs.DepthLaws.{depth-small}
-use Rattle.judge.proofs.TakeLaws.{rules-told, bytes-told}
+use Rattle.judge.proofs.PlainTaken.{plain-record, took-after}
+use borrow.Author.Needs.{needs}
 use Rattle.judge.proofs.pass.take_record.Statement.{statement}
 use Rattle.judge.proofs.pass.take_record.Tie as tie
 
 kind-requires : tie.Need-kind-requires
 kind-requires c κs = search needs
 
-detail-requires : tie.Need-detail-requires
-detail-requires c κs = search needs
-
-shape-of-requires : tie.Need-shape-of-requires
-shape-of-requires c κs = search needs
-
-row-of-requires : tie.Need-row-of-requires
-row-of-requires c κs = search needs
-
-five-words-requires : tie.Need-five-words-requires
-five-words-requires c κs = search needs
-
-take-words-requires : tie.Need-take-words-requires
-take-words-requires c κs =
-    ((omega arith, omega arith, c .before .before .before .before .before .before .before .before .pre .1 .0), (row-told _ _ _ _ _ _ (c .before .before .before .before .before .kind .ensures) (c .before .before .before .before .detail .ensures) (c .before .before .before .shape-of .ensures .0) (c .before .before .row-of .ensures), c .before .five-words .ensures))
-
-pad-requires : tie.Need-pad-requires
-pad-requires c κs = search needs
-
-marks-ok-requires : tie.Need-marks-ok-requires
-marks-ok-requires c κs = search needs
-
-is-first-type-requires : tie.Need-is-first-type-requires
-is-first-type-requires c κs =
-    omega (arith, c .before .before .before .before .before .before .before .before .before .before .before .before .before .before .before .pre .0 .1 .whole, c .before .before .before .before .before .before .before .before .before .before .before .before .before .before .before .pre .0 .0)
-
-class-at-requires : tie.Need-class-at-requires
-class-at-requires c κs =
-    (omega (arith, c .before .before .before .before .before .before .before .before .before .before .before .before .before .before .before .before .before .pre .0 .1 .whole, c .before .before .before .before .before .before .before .before .before .before .before .before .before .before .before .before .before .pre .0 .0), rw (c .before .before .before .before .before .before .before .before .take-words .ensures .counted .same) (omega (arith, c .before .before .before .before .before .before .before .before .before .before .before .before .before .before .before .before .before .pre .0 .0, c .before .before .before .before .before .before .before .before .before .before .before .before .before .before .before .before .before .pre .0 .1 .room)))
-
-depth-over-requires : tie.Need-depth-over-requires
-depth-over-requires c κs =
-    depth-small _ _ _ (c .before .before .before .before .before .before .before .before .before .take-words .ensures .depth)
-
-put-known-requires : tie.Need-put-known-requires
-put-known-requires c κs =
-    rw (c .before .before .before .before .before .before .before .before .before .before .before .take-words .ensures .counted .same) (omega (arith, c .before .before .before .before .before .before .before .before .before .before .before .before .before .before .before .before .before .before .before .before .pre .0 .0, c .before .before .before .before .before .before .before .before .before .before .before .before .before .before .before .before .before .before .before .before .pre .0 .1 .room))
+take-any-requires : tie.Need-take-any-requires
+take-any-requires c κs = search needs
 
 same-length : tie.Need-same-length
 same-length c = search needs
 
 returns : tie.Need-returns
-returns c =
-    bytes-told _ _ _ _ (c .before .before .before .before .before .before .before .before .before .before .before .before .before .before .before .before .before .before .before .before .before .before .before .pre .0 .1 .lead) (c .before .before .before .before .before .before .before .before .before .before .before .before .before .before .before .before .before .before .before .before .before .before .before .pre .0 .0) _ _ _ _ _ _ (c .before .before .before .before .before .before .before .before .before .before .before .before .before .before .before .before .before .before .before .before .kind .ensures) (c .before .before .before .before .before .before .before .before .before .before .before .before .before .before .before .before .before .before .before .detail .ensures) (row-told _ _ _ _ _ _ (c .before .before .before .before .before .before .before .before .before .before .before .before .before .before .before .before .before .before .before .before .kind .ensures) (c .before .before .before .before .before .before .before .before .before .before .before .before .before .before .before .before .before .before .before .detail .ensures) (c .before .before .before .before .before .before .before .before .before .before .before .before .before .before .before .before .before .before .shape-of .ensures .0) (c .before .before .before .before .before .before .before .before .before .before .before .before .before .before .before .before .before .row-of .ensures)) (c .before .before .before .before .before .before .before .before .before .before .before .before .before .before .before .before .five-words .ensures) (c .before .before .before .before .before .before .before .before .before .before .before .pad .ensures) _ _ _ _ _ _ _ (c .before .before .before .before .before .before .before .before .before .before .before .before .before .before .before .before .before .before .before .before .before .before .before .pre .1 .0) (c .before .before .before .before .before .before .before .before .before .before .before .before .before .before .before .before .before .before .before .before .before .before .before .pre .1 .1) (c .before .before .before .before .before .before .before .before .before .before .before .before .before .before .take-words .ensures) (c .before .before .before .before .before .class-at .ensures) (c .before .before .before .before .depth-over .ensures) (omega (arith, c .before .before .before .before .before .before .before .before .before .before .before .before .before .before .before .before .before .before .before .before .before .before .before .pre .0 .0, c .before .before .before .before .before .before .before .before .before .before .before .before .before .before .before .before .before .before .before .before .before .before .before .pre .0 .1 .room)) (c .before .before .put-known .ensures) _
-    (rules-told _ _ _ _ (c .before .before .before .before .before .before .before .before .before .before .before .before .before .before .before .before .before .before .before .before .before .before .before .pre .0 .1 .lead) (c .before .before .before .before .before .before .before .before .before .before .before .before .before .before .before .before .before .before .before .before .before .before .before .pre .0 .0) _ _ _ _ _ _ (c .before .before .before .before .before .before .before .before .before .before .before .before .before .before .before .before .before .before .before .before .kind .ensures) (c .before .before .before .before .before .before .before .before .before .before .before .before .before .before .before .before .before .before .before .detail .ensures) (row-told _ _ _ _ _ _ (c .before .before .before .before .before .before .before .before .before .before .before .before .before .before .before .before .before .before .before .before .kind .ensures) (c .before .before .before .before .before .before .before .before .before .before .before .before .before .before .before .before .before .before .before .detail .ensures) (c .before .before .before .before .before .before .before .before .before .before .before .before .before .before .before .before .before .before .shape-of .ensures .0) (c .before .before .before .before .before .before .before .before .before .before .before .before .before .before .before .before .before .row-of .ensures)) (c .before .before .before .before .before .before .before .before .before .before .before .before .before .before .before .before .five-words .ensures) (c .before .before .before .before .before .before .before .before .before .before .before .pad .ensures) _ _ _ (c .before .before .before .before .before .before .before .before .before .before .before .before .before .before .take-words .ensures .right) (c .before .before .before .before .before .before .before .before .marks-ok .ensures) (c .before .before .before .before .before .before .before .is-first-type .ensures))
+returns c = search needs
+
+take-any-requires-2 : tie.Need-take-any-requires-2
+take-any-requires-2 c κs = search needs
+
+same-length-2 : tie.Need-same-length-2
+same-length-2 c = search needs
+
+returns-2 : tie.Need-returns-2
+returns-2 c = search needs
+
+take-plain-requires : tie.Need-take-plain-requires
+take-plain-requires c κs = search needs
+
+same-length-3 : tie.Need-same-length-3
+same-length-3 c = search needs
+
+returns-3 : tie.Need-returns-3
+returns-3 c =
+    plain-record _ _ _ _ _ _ _ _ _ (c .before .before .before .take-plain .ensures) (c .if3 .taken) (c .before .before .before .before .before .before .before .before .before .before .pre .0 .1 .lead) (c .before .before .before .before .before .before .before .before .before .before .pre .0 .0)
+
+take-any-requires-3 : tie.Need-take-any-requires-3
+take-any-requires-3 c κs =
+    ((c .before .before .before .before .before .before .before .before .before .before .before .pre .0 .0, record { whole = c .before .before .before .before .before .before .before .before .before .before .before .pre .0 .1 .whole; few = c .before .before .before .before .before .before .before .before .before .before .before .pre .0 .1 .few; room = omega (arith, c .before .before .before .before .take-plain .ensures .same, c .before .before .before .before .before .before .before .before .before .before .before .pre .0 .1 .room); lead = c .before .before .before .before .before .before .before .before .before .before .before .pre .0 .1 .lead }), c .before .before .before .before .take-plain .ensures .left (c .before .if3 .left))
+
+same-length-4 : tie.Need-same-length-4
+same-length-4 c = search needs
+
+returns-4 : tie.Need-returns-4
+returns-4 c =
+    took-after _ _ _ _ _ _ _ _ (c .before .before .before .before .before .before .before .take-plain .ensures .same) (c .before .before .take-any3 .ensures)
 
 pub take-record-spec : {M : Type 1} → statement M
 take-record-spec =
     tie.close
     (tie.spec
     kind-requires
-    detail-requires
-    shape-of-requires
-    row-of-requires
-    five-words-requires
-    take-words-requires
-    pad-requires
-    marks-ok-requires
-    is-first-type-requires
-    class-at-requires
-    depth-over-requires
-    put-known-requires
+    take-any-requires
     same-length
-    returns)
+    returns
+    take-any-requires-2
+    same-length-2
+    returns-2
+    take-plain-requires
+    same-length-3
+    returns-3
+    take-any-requires-3
+    same-length-4
+    returns-4)

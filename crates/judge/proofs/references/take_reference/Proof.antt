@@ -35,6 +35,9 @@ mul-key c = search needs
 mul-wide-2 : tie.Need-mul-wide-2
 mul-wide-2 c = search needs
 
+add-wide-2 : tie.Need-add-wide-2
+add-wide-2 c = search needs
+
 slice-read-wide-2 : tie.Need-slice-read-wide-2
 slice-read-wide-2 c = search needs
 
@@ -70,7 +73,7 @@ slice-read-count c = search needs
 
 returns-2 : tie.Need-returns-2
 returns-2 c =
-    λ bytes next. took-in _ _ _ _ _ _ _ (c .before .before .before .before .before .before .before .before .before .before .before .before .before .pre .3) _ (c .before .before .before .before .before .before .before .before .before .before .index .ensures) (c .before .before .before .before .before .before .before .before .before .before .before .before .before .pre .2) (c .before .before .before .before .before .before .before .before .before .before .before .before .before .pre .0) (c .before .before .before .before .before .before .before .before .before .if1 .left) _ _ _ _ (c .before .before .before .before .before .before .before .wide .ensures) (c .before .before .before .before .before .wide2 .ensures .0) (c .before .before .before .before .low-key .ensures) (c .before .before .before .high-key .ensures) _ (word-full _ _ _ _ _ (c .before .before .before .before .before .before .before .before .before .before .index .ensures) (c .before .before .before .before .before .before .before .before .before .before .before .before .before .pre .3) (c .if2 .taken))
+    λ bytes next. took-in _ _ _ _ _ _ _ (c .before .before .before .before .before .before .before .before .before .before .before .before .before .pre .3) _ (c .before .before .before .before .before .before .before .before .before .before .index .ensures) (c .before .before .before .before .before .before .before .before .before .before .before .before .before .pre .2) (c .before .before .before .before .before .before .before .before .before .before .before .before .before .pre .0) (c .before .before .before .before .before .before .before .before .before .if1 .left) _ _ _ _ (c .before .before .before .before .before .before .before .wide .ensures) (c .before .before .before .before .before .wide2 .ensures .0) (c .before .before .before .before .low-key .ensures) (c .before .before .before .high-key .ensures) _ (word-full _ _ _ _ _ _ (c .before .before .before .before .before .before .before .before .before .before .index .ensures) (c .before .before .before .before .before .before .before .before .before .before .before .before .before .pre .3) (c .if2 .taken))
 
 add-known : tie.Need-add-known
 add-known c = search needs
@@ -89,7 +92,7 @@ same-length c = search needs
 
 returns-3 : tie.Need-returns-3
 returns-3 c =
-    λ bytes next. took-in _ _ _ _ _ _ _ (c .before .before .before .before .before .before .before .before .before .before .before .before .before .pre .3) _ (c .before .before .before .before .before .before .before .before .before .before .index .ensures) (c .before .before .before .before .before .before .before .before .before .before .before .before .before .pre .2) (c .before .before .before .before .before .before .before .before .before .before .before .before .before .pre .0) (c .before .before .before .before .before .before .before .before .before .if1 .left) _ _ _ _ (c .before .before .before .before .before .before .before .wide .ensures) (c .before .before .before .before .before .wide2 .ensures .0) (c .before .before .before .before .low-key .ensures) (c .before .before .before .high-key .ensures) _ (word-more _ _ _ _ _ (c .before .before .before .before .before .before .before .before .before .before .index .ensures) (c .before .before .before .before .before .before .before .before .before .before .before .before .before .pre .3) (omega arith) (c .if2 .left))
+    λ bytes next. took-in _ _ _ _ _ _ _ (c .before .before .before .before .before .before .before .before .before .before .before .before .before .pre .3) _ (c .before .before .before .before .before .before .before .before .before .before .index .ensures) (c .before .before .before .before .before .before .before .before .before .before .before .before .before .pre .2) (c .before .before .before .before .before .before .before .before .before .before .before .before .before .pre .0) (c .before .before .before .before .before .before .before .before .before .if1 .left) _ _ _ _ (c .before .before .before .before .before .before .before .wide .ensures) (c .before .before .before .before .before .wide2 .ensures .0) (c .before .before .before .before .low-key .ensures) (c .before .before .before .high-key .ensures) _ (word-more _ _ _ _ _ _ (c .before .before .before .before .before .before .before .before .before .before .index .ensures) (c .before .before .before .before .before .before .before .before .before .before .before .before .before .pre .3) (omega arith) (c .if2 .left))
 
 pub take-reference-spec : {M : Type 1} → statement M
 take-reference-spec =
@@ -104,6 +107,7 @@ take-reference-spec =
     wide-requires
     mul-key
     mul-wide-2
+    add-wide-2
     slice-read-wide-2
     wide-requires-2
     add-key

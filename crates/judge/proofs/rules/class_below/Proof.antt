@@ -11,6 +11,9 @@ index-requires c κs = search needs
 mul-result : tie.Need-mul-result
 mul-result c = search needs
 
+add-result : tie.Need-add-result
+add-result c = search needs
+
 shared-slice-read-result : tie.Need-shared-slice-read-result
 shared-slice-read-result c = search needs
 
@@ -24,4 +27,4 @@ returns-2 c =
 
 pub class-below-spec : {M : Type 1} → statement M
 class-below-spec =
-    tie.close (tie.spec index-requires mul-result shared-slice-read-result returns returns-2)
+    tie.close (tie.spec index-requires mul-result add-result shared-slice-read-result returns returns-2)

@@ -1,0 +1,155 @@
+-- The table by which a record that uses A, B and C alone is taken, what each of its numbers stands for, and what the parts of that say. Assumes nothing: these are definitions.
+use mathlib.Core.Path.{_≡_}
+use Prim.Native.Nat.{ℕ, _+_, _*_, _≤_, _<_}
+use mathlib.Core.Bool.{Bool, true, false, not, _&&_, _||_}
+use mathlib.Core.List.{List, [], _∷_}
+use lib.Dec.{eqb, leb}
+use lib.ListN.{length, getD}
+use Rattle.laws.specs.Below.{allBelow}
+use Rattle.records.specs.declared.shape.Role.{Role}
+use Rattle.records.specs.declared.shape.Role.the-variants.{Unused, Number, Text, Length, Expr, TypeRef, TypeOrNone, Name, Variable, Arguments, Parameters, Body, Item, Rest}
+use Rattle.records.specs.Words.{mostRecords, kindOf, detailOf, padOf, none, boolNumber}
+use Rattle.records.specs.Shapes.{rowOf, refers}
+use Rattle.judge.specs.declared.pass.Words.{Words}
+use Rattle.judge.specs.Inner.{lowKey, highKey, noneOk, TypesLead, Known, Counting, WordsOf, TookRecord}
+
+-- twenty numbers for each kind
+abbrev pub plainRules : List ℕ
+plainRules =
+    0 ∷ 0 ∷ 0 ∷ 255 ∷ 1 ∷ 0 ∷ 0 ∷ 0 ∷ 255 ∷ 1 ∷ 0 ∷ 0 ∷ 0 ∷ 255 ∷ 1 ∷ 0 ∷ 0 ∷ 0 ∷ 0 ∷ 0 ∷
+    0 ∷ 0 ∷ 0 ∷ 255 ∷ 1 ∷ 0 ∷ 0 ∷ 0 ∷ 255 ∷ 1 ∷ 0 ∷ 0 ∷ 0 ∷ 255 ∷ 1 ∷ 0 ∷ 0 ∷ 0 ∷ 0 ∷ 0 ∷
+    0 ∷ 0 ∷ 0 ∷ 255 ∷ 0 ∷ 0 ∷ 0 ∷ 0 ∷ 255 ∷ 0 ∷ 0 ∷ 0 ∷ 0 ∷ 255 ∷ 1 ∷ 0 ∷ 4 ∷ 0 ∷ 0 ∷ 0 ∷
+    0 ∷ 0 ∷ 0 ∷ 255 ∷ 0 ∷ 0 ∷ 0 ∷ 0 ∷ 255 ∷ 0 ∷ 0 ∷ 0 ∷ 0 ∷ 255 ∷ 1 ∷ 0 ∷ 2 ∷ 0 ∷ 0 ∷ 0 ∷
+    0 ∷ 0 ∷ 0 ∷ 255 ∷ 0 ∷ 0 ∷ 0 ∷ 0 ∷ 255 ∷ 0 ∷ 0 ∷ 0 ∷ 0 ∷ 255 ∷ 1 ∷ 1 ∷ 1 ∷ 0 ∷ 0 ∷ 0 ∷
+    0 ∷ 0 ∷ 0 ∷ 255 ∷ 1 ∷ 0 ∷ 0 ∷ 0 ∷ 255 ∷ 1 ∷ 0 ∷ 0 ∷ 0 ∷ 255 ∷ 1 ∷ 0 ∷ 2 ∷ 0 ∷ 0 ∷ 0 ∷
+    0 ∷ 0 ∷ 0 ∷ 255 ∷ 0 ∷ 0 ∷ 0 ∷ 0 ∷ 255 ∷ 0 ∷ 0 ∷ 0 ∷ 0 ∷ 255 ∷ 1 ∷ 1 ∷ 1 ∷ 0 ∷ 0 ∷ 0 ∷
+    0 ∷ 0 ∷ 0 ∷ 255 ∷ 1 ∷ 0 ∷ 0 ∷ 0 ∷ 255 ∷ 1 ∷ 0 ∷ 0 ∷ 0 ∷ 255 ∷ 1 ∷ 0 ∷ 1 ∷ 0 ∷ 0 ∷ 0 ∷
+    1 ∷ 1 ∷ 4 ∷ 7 ∷ 0 ∷ 0 ∷ 0 ∷ 0 ∷ 255 ∷ 1 ∷ 0 ∷ 0 ∷ 0 ∷ 255 ∷ 1 ∷ 0 ∷ 1 ∷ 0 ∷ 0 ∷ 0 ∷
+    1 ∷ 1 ∷ 8 ∷ 47 ∷ 0 ∷ 0 ∷ 0 ∷ 0 ∷ 255 ∷ 1 ∷ 0 ∷ 0 ∷ 0 ∷ 255 ∷ 1 ∷ 0 ∷ 3 ∷ 0 ∷ 0 ∷ 0 ∷
+    1 ∷ 1 ∷ 8 ∷ 47 ∷ 0 ∷ 1 ∷ 1 ∷ 8 ∷ 47 ∷ 0 ∷ 0 ∷ 0 ∷ 0 ∷ 255 ∷ 1 ∷ 0 ∷ 18 ∷ 0 ∷ 0 ∷ 0 ∷
+    0 ∷ 0 ∷ 0 ∷ 255 ∷ 0 ∷ 0 ∷ 0 ∷ 0 ∷ 255 ∷ 0 ∷ 1 ∷ 0 ∷ 49 ∷ 49 ∷ 0 ∷ 1 ∷ 1 ∷ 1 ∷ 12 ∷ 0 ∷
+    1 ∷ 1 ∷ 0 ∷ 255 ∷ 0 ∷ 1 ∷ 0 ∷ 48 ∷ 51 ∷ 0 ∷ 0 ∷ 0 ∷ 0 ∷ 255 ∷ 1 ∷ 0 ∷ 1 ∷ 0 ∷ 12 ∷ 0 ∷
+    1 ∷ 1 ∷ 8 ∷ 47 ∷ 0 ∷ 0 ∷ 0 ∷ 0 ∷ 255 ∷ 1 ∷ 0 ∷ 0 ∷ 0 ∷ 255 ∷ 1 ∷ 0 ∷ 1 ∷ 0 ∷ 0 ∷ 0 ∷
+    1 ∷ 1 ∷ 4 ∷ 7 ∷ 0 ∷ 0 ∷ 0 ∷ 0 ∷ 255 ∷ 1 ∷ 0 ∷ 0 ∷ 0 ∷ 255 ∷ 1 ∷ 0 ∷ 1 ∷ 0 ∷ 0 ∷ 0 ∷
+    0 ∷ 0 ∷ 0 ∷ 255 ∷ 0 ∷ 0 ∷ 0 ∷ 0 ∷ 255 ∷ 0 ∷ 1 ∷ 1 ∷ 4 ∷ 7 ∷ 0 ∷ 1 ∷ 1 ∷ 0 ∷ 0 ∷ 0 ∷
+    0 ∷ 0 ∷ 0 ∷ 255 ∷ 0 ∷ 0 ∷ 0 ∷ 0 ∷ 255 ∷ 0 ∷ 1 ∷ 1 ∷ 8 ∷ 47 ∷ 0 ∷ 1 ∷ 2 ∷ 0 ∷ 0 ∷ 0 ∷
+    1 ∷ 1 ∷ 8 ∷ 47 ∷ 0 ∷ 0 ∷ 0 ∷ 0 ∷ 255 ∷ 1 ∷ 0 ∷ 0 ∷ 0 ∷ 255 ∷ 1 ∷ 0 ∷ 1 ∷ 0 ∷ 0 ∷ 0 ∷
+    1 ∷ 1 ∷ 8 ∷ 47 ∷ 0 ∷ 0 ∷ 0 ∷ 0 ∷ 255 ∷ 1 ∷ 0 ∷ 0 ∷ 0 ∷ 255 ∷ 1 ∷ 0 ∷ 1 ∷ 0 ∷ 0 ∷ 0 ∷
+    1 ∷ 1 ∷ 8 ∷ 47 ∷ 0 ∷ 1 ∷ 0 ∷ 51 ∷ 51 ∷ 0 ∷ 1 ∷ 0 ∷ 51 ∷ 51 ∷ 0 ∷ 0 ∷ 2 ∷ 3 ∷ 12 ∷ 0 ∷
+    1 ∷ 1 ∷ 8 ∷ 47 ∷ 0 ∷ 1 ∷ 0 ∷ 51 ∷ 51 ∷ 0 ∷ 0 ∷ 0 ∷ 0 ∷ 255 ∷ 1 ∷ 0 ∷ 1 ∷ 3 ∷ 12 ∷ 0 ∷
+    1 ∷ 1 ∷ 96 ∷ 99 ∷ 0 ∷ 1 ∷ 1 ∷ 8 ∷ 47 ∷ 0 ∷ 1 ∷ 1 ∷ 8 ∷ 47 ∷ 0 ∷ 0 ∷ 0 ∷ 0 ∷ 0 ∷ 0 ∷
+    0 ∷ 0 ∷ 0 ∷ 255 ∷ 1 ∷ 0 ∷ 0 ∷ 0 ∷ 255 ∷ 1 ∷ 0 ∷ 0 ∷ 0 ∷ 255 ∷ 1 ∷ 0 ∷ 1 ∷ 0 ∷ 0 ∷ 0 ∷
+    0 ∷ 0 ∷ 0 ∷ 255 ∷ 1 ∷ 0 ∷ 0 ∷ 0 ∷ 255 ∷ 1 ∷ 0 ∷ 0 ∷ 0 ∷ 255 ∷ 1 ∷ 0 ∷ 1 ∷ 0 ∷ 0 ∷ 0 ∷
+    0 ∷ 0 ∷ 0 ∷ 255 ∷ 0 ∷ 0 ∷ 0 ∷ 0 ∷ 255 ∷ 0 ∷ 1 ∷ 0 ∷ 4 ∷ 7 ∷ 0 ∷ 1 ∷ 1 ∷ 0 ∷ 1 ∷ 0 ∷
+    1 ∷ 1 ∷ 24 ∷ 27 ∷ 0 ∷ 1 ∷ 1 ∷ 24 ∷ 27 ∷ 0 ∷ 1 ∷ 0 ∷ 50 ∷ 50 ∷ 0 ∷ 0 ∷ 0 ∷ 0 ∷ 0 ∷ 0 ∷ []
+
+abbrev pub isUnused : Role → Bool
+isUnused Unused = true
+isUnused Number = false
+isUnused Text = false
+isUnused Length = false
+isUnused Expr = false
+isUnused TypeRef = false
+isUnused TypeOrNone = false
+isUnused Name = false
+isUnused Variable = false
+isUnused Arguments = false
+isUnused Parameters = false
+isUnused Body = false
+isUnused Item = false
+isUnused Rest = false
+
+abbrev pub isText : Role → Bool
+isText Unused = false
+isText Number = false
+isText Text = true
+isText Length = false
+isText Expr = false
+isText TypeRef = false
+isText TypeOrNone = false
+isText Name = false
+isText Variable = false
+isText Arguments = false
+isText Parameters = false
+isText Body = false
+isText Item = false
+isText Rest = false
+
+-- the five numbers of a word are right for its role: whether it refers, whether it must, keys that are right where it refers, whether it must be zero
+unfoldable pub ruleFits : List ℕ → ℕ → Role → Bool
+unfolding boolNumber
+ruleFits rules at role =
+    eqb (getD rules at 0) (boolNumber (refers role))
+    && eqb (getD rules (at + 1) 0) (boolNumber (refers role && not (noneOk role)))
+    && (not (refers role) || leb (lowKey role) (getD rules (at + 2) 0))
+    && (not (refers role) || leb (getD rules (at + 3) 0) (highKey role))
+    && eqb (getD rules (at + 4) 0) (boolNumber (isUnused role))
+    && leb (getD rules (at + 3) 0) 255
+
+-- the numbers of kind k are right for its row: B and C are no texts; where details are allowed the kind is no type, and D and E are unused
+unfoldable pub rowFits : List ℕ → ℕ → Bool
+unfolding ruleFits rowOf boolNumber
+rowFits rules k =
+    ruleFits rules (k * 20) (rowOf k .a)
+    && ruleFits rules (k * 20 + 5) (rowOf k .b)
+    && ruleFits rules (k * 20 + 10) (rowOf k .c)
+    && eqb (getD rules (k * 20 + 15) 0) (boolNumber (isText (rowOf k .a)))
+    && not (isText (rowOf k .b))
+    && not (isText (rowOf k .c))
+    && (eqb (getD rules (k * 20 + 16) 0) 0 || (eqb (getD rules (k * 20 + 16) 0) (rowOf k .limit) && not (eqb k 1) && isUnused (rowOf k .d) && isUnused (rowOf k .e)))
+
+-- word w of record r leads to slot p: slot 0 where it does not refer, or is none and may be; else the slot of the lower record w
+pub record Place (r : ℕ) (role : Role) (w p : ℕ) : Type 0 where
+  pub within : p ≤ r
+  pub lower : (i : ℕ) → p ≡ i + 1 → (refers role ≡ true) × (i ≡ w)
+  pub own : p ≡ 0 → refers role ≡ true → (w ≡ none) × (noneOk role ≡ true)
+
+-- slot 0 was written, of no depth; the other slots are as they were
+pub record Owned (l l′ : List ℕ) : Type 0 where
+  pub same : length l′ ≡ length l
+  pub depth : getD l′ 0 0 ≡ 0
+  pub others : (x : ℕ) → 4 ≤ x → getD l′ x 0 ≡ getD l x 0
+
+-- record r of kind k is right aside from what it refers to
+pub record PlainForm (tree : List ℕ) (bytes r k : ℕ) (words : Words) (rules : List ℕ) : Type 0 where
+  pub zeroA : words .a * getD rules (k * 20 + 4) 0 ≡ 0
+  pub zeroB : words .b * getD rules (k * 20 + 9) 0 ≡ 0
+  pub zeroC : words .c * getD rules (k * 20 + 14) 0 ≡ 0
+  pub zeroD : words .d ≡ 0
+  pub zeroE : words .e ≡ 0
+  pub pad : padOf tree r ≡ 0
+  pub text : (words .a + words .b) * getD rules (k * 20 + 15) 0 ≤ bytes
+  pub limit : detailOf tree r < getD rules (k * 20 + 16) 0
+  pub marks : (not (eqb k 19) || eqb (detailOf tree r) 1 || eqb (words .c) none) ≡ true
+
+-- record r of kind k and the table of rules are at hand, with what is known of the records below it; the first twelve records are taken otherwise
+pub record PlainReady (tree : List ℕ) (r k : ℕ) (l rules : List ℕ) : Type 0 where
+  pub whole : r * 32 + 32 ≤ length tree
+  pub past : 12 ≤ r
+  pub few : r < mostRecords
+  pub room : r * 4 + 8 ≤ length l
+  pub kind : k ≡ kindOf tree r
+  pub small : k < 26
+  pub table : rules ≡ plainRules
+  pub known : Known tree r l
+  pub counting : Counting tree r l
+
+-- and its words lead to slots
+pub record Slots (tree : List ℕ) (r k : ℕ) (words : Words) (pa pb pc : ℕ) (l rules : List ℕ) : Type 0 where
+  pub ready : PlainReady tree r k l rules
+  pub of : WordsOf tree r words
+  pub a : Place r (rowOf k .a) (words .a) pa
+  pub b : Place r (rowOf k .b) (words .b) pb
+  pub c : Place r (rowOf k .c) (words .c) pc
+
+-- record r was taken, where what it refers to was right; else only slot 0 was written
+pub record TookSlots (tree : List ℕ) (r k : ℕ) (words : Words) (rules l l′ : List ℕ) (ok : Bool) (deep : ℕ) : Type 0 where
+  pub took : ok ≡ true → (bytes n types : ℕ) → PlainForm tree bytes r k words rules → TypesLead tree n types → r < n → TookRecord tree bytes r l l′ true deep
+  pub left : ok ≡ false → Known tree r l′ × Counting tree r l′
+  pub same : length l′ ≡ length l
+
+-- record r was taken, where it was right; else only slot 0 was written
+pub record TookPlain (tree : List ℕ) (bytes r : ℕ) (l l′ : List ℕ) (ok : Bool) (deep : ℕ) : Type 0 where
+  pub took : ok ≡ true → (n types : ℕ) → TypesLead tree n types → r < n → TookRecord tree bytes r l l′ true deep
+  pub left : ok ≡ false → Known tree r l′ × Counting tree r l′
+  pub same : length l′ ≡ length l

@@ -1,0 +1,698 @@
+// A record that is right and of a kind that uses A, B and C alone, taken without a jump by what it is. Each word leads to a slot of four bytes: that of a lower
+// record, or slot 0 where the word is none or does not refer. Only what is wrong branches; it is taken again, by `take_any`.
+ghost use mathlib.Core.Path.{_≡_};
+ghost use mathlib.Core.Bool.{true, false, _&&_};
+ghost use Prim.Native.Nat.{_+_, _*_, _/_, _%_, _≤_, _<_};
+ghost use lib.Dec.{leb};
+ghost use lib.ListN.{length, getD, set};
+ghost use Rattle.records.specs.Words.{mostRecords};
+ghost use Rattle.judge.specs.Plain.{Owned, PlainForm, Slots, TookSlots, PlainReady, TookPlain};
+use crate::nesting::depth_over;
+use crate::nesting::max;
+use crate::pass::Words;
+use crate::pass::five_words;
+use crate::pass::put_known;
+use crate::references::Told;
+use crate::rules::class_at;
+use crate::rules::marks_ok;
+use records::words::detail;
+use records::words::index;
+use records::words::pad;
+use records::words::wide;
+
+// Words are numbers below this; none is the last of them.
+const WORDS: usize = 4294967296;
+
+// As deep as what a right record refers to may be.
+const DEEPEST_BELOW: u8 = 63;
+
+// Twenty numbers for each kind. For each of the words A, B and C: whether it refers to a record, whether it must, the keys that it may refer to, lowest and
+// highest, whether it must be zero. Then whether A is a text, the limit of the details (0 where D or E is used), and what stands in slot 0, class and kind: a
+// key that its words which may be none may refer to.
+pub(crate) const RULES: [u8; 520] = [
+    0,
+    0,
+    0,
+    255,
+    1,
+    0,
+    0,
+    0,
+    255,
+    1,
+    0,
+    0,
+    0,
+    255,
+    1,
+    0,
+    0,
+    0,
+    0,
+    0,
+    0,
+    0,
+    0,
+    255,
+    1,
+    0,
+    0,
+    0,
+    255,
+    1,
+    0,
+    0,
+    0,
+    255,
+    1,
+    0,
+    0,
+    0,
+    0,
+    0,
+    0,
+    0,
+    0,
+    255,
+    0,
+    0,
+    0,
+    0,
+    255,
+    0,
+    0,
+    0,
+    0,
+    255,
+    1,
+    0,
+    4,
+    0,
+    0,
+    0,
+    0,
+    0,
+    0,
+    255,
+    0,
+    0,
+    0,
+    0,
+    255,
+    0,
+    0,
+    0,
+    0,
+    255,
+    1,
+    0,
+    2,
+    0,
+    0,
+    0,
+    0,
+    0,
+    0,
+    255,
+    0,
+    0,
+    0,
+    0,
+    255,
+    0,
+    0,
+    0,
+    0,
+    255,
+    1,
+    1,
+    1,
+    0,
+    0,
+    0,
+    0,
+    0,
+    0,
+    255,
+    1,
+    0,
+    0,
+    0,
+    255,
+    1,
+    0,
+    0,
+    0,
+    255,
+    1,
+    0,
+    2,
+    0,
+    0,
+    0,
+    0,
+    0,
+    0,
+    255,
+    0,
+    0,
+    0,
+    0,
+    255,
+    0,
+    0,
+    0,
+    0,
+    255,
+    1,
+    1,
+    1,
+    0,
+    0,
+    0,
+    0,
+    0,
+    0,
+    255,
+    1,
+    0,
+    0,
+    0,
+    255,
+    1,
+    0,
+    0,
+    0,
+    255,
+    1,
+    0,
+    1,
+    0,
+    0,
+    0,
+    1,
+    1,
+    4,
+    7,
+    0,
+    0,
+    0,
+    0,
+    255,
+    1,
+    0,
+    0,
+    0,
+    255,
+    1,
+    0,
+    1,
+    0,
+    0,
+    0,
+    1,
+    1,
+    8,
+    47,
+    0,
+    0,
+    0,
+    0,
+    255,
+    1,
+    0,
+    0,
+    0,
+    255,
+    1,
+    0,
+    3,
+    0,
+    0,
+    0,
+    1,
+    1,
+    8,
+    47,
+    0,
+    1,
+    1,
+    8,
+    47,
+    0,
+    0,
+    0,
+    0,
+    255,
+    1,
+    0,
+    18,
+    0,
+    0,
+    0,
+    0,
+    0,
+    0,
+    255,
+    0,
+    0,
+    0,
+    0,
+    255,
+    0,
+    1,
+    0,
+    49,
+    49,
+    0,
+    1,
+    1,
+    1,
+    12,
+    0,
+    1,
+    1,
+    0,
+    255,
+    0,
+    1,
+    0,
+    48,
+    51,
+    0,
+    0,
+    0,
+    0,
+    255,
+    1,
+    0,
+    1,
+    0,
+    12,
+    0,
+    1,
+    1,
+    8,
+    47,
+    0,
+    0,
+    0,
+    0,
+    255,
+    1,
+    0,
+    0,
+    0,
+    255,
+    1,
+    0,
+    1,
+    0,
+    0,
+    0,
+    1,
+    1,
+    4,
+    7,
+    0,
+    0,
+    0,
+    0,
+    255,
+    1,
+    0,
+    0,
+    0,
+    255,
+    1,
+    0,
+    1,
+    0,
+    0,
+    0,
+    0,
+    0,
+    0,
+    255,
+    0,
+    0,
+    0,
+    0,
+    255,
+    0,
+    1,
+    1,
+    4,
+    7,
+    0,
+    1,
+    1,
+    0,
+    0,
+    0,
+    0,
+    0,
+    0,
+    255,
+    0,
+    0,
+    0,
+    0,
+    255,
+    0,
+    1,
+    1,
+    8,
+    47,
+    0,
+    1,
+    2,
+    0,
+    0,
+    0,
+    1,
+    1,
+    8,
+    47,
+    0,
+    0,
+    0,
+    0,
+    255,
+    1,
+    0,
+    0,
+    0,
+    255,
+    1,
+    0,
+    1,
+    0,
+    0,
+    0,
+    1,
+    1,
+    8,
+    47,
+    0,
+    0,
+    0,
+    0,
+    255,
+    1,
+    0,
+    0,
+    0,
+    255,
+    1,
+    0,
+    1,
+    0,
+    0,
+    0,
+    1,
+    1,
+    8,
+    47,
+    0,
+    1,
+    0,
+    51,
+    51,
+    0,
+    1,
+    0,
+    51,
+    51,
+    0,
+    0,
+    2,
+    3,
+    12,
+    0,
+    1,
+    1,
+    8,
+    47,
+    0,
+    1,
+    0,
+    51,
+    51,
+    0,
+    0,
+    0,
+    0,
+    255,
+    1,
+    0,
+    1,
+    3,
+    12,
+    0,
+    1,
+    1,
+    96,
+    99,
+    0,
+    1,
+    1,
+    8,
+    47,
+    0,
+    1,
+    1,
+    8,
+    47,
+    0,
+    0,
+    0,
+    0,
+    0,
+    0,
+    0,
+    0,
+    0,
+    255,
+    1,
+    0,
+    0,
+    0,
+    255,
+    1,
+    0,
+    0,
+    0,
+    255,
+    1,
+    0,
+    1,
+    0,
+    0,
+    0,
+    0,
+    0,
+    0,
+    255,
+    1,
+    0,
+    0,
+    0,
+    255,
+    1,
+    0,
+    0,
+    0,
+    255,
+    1,
+    0,
+    1,
+    0,
+    0,
+    0,
+    0,
+    0,
+    0,
+    255,
+    0,
+    0,
+    0,
+    0,
+    255,
+    0,
+    1,
+    0,
+    4,
+    7,
+    0,
+    1,
+    1,
+    0,
+    1,
+    0,
+    1,
+    1,
+    24,
+    27,
+    0,
+    1,
+    1,
+    24,
+    27,
+    0,
+    1,
+    0,
+    50,
+    50,
+    0,
+    0,
+    0,
+    0,
+    0,
+    0,
+];
+
+// As much as a rule says: all of x, or nothing.
+fn scaled(x: usize, by: u8) -> usize
+    requires { ⌜ x ≤ 8589934592 ⌝ }
+    ensures { λ v. ⌜ (v ≡ x * by) × (v ≤ 2190433320960) ⌝ }
+{
+    x * index(wide(by))
+}
+
+// The slot that word w leads to, by the rule that starts at `at`.
+fn place_of(w: u32, rules: &[u8; 520], at: usize) -> usize
+    requires { ⌜ at < 516 ⌝ }
+    ensures { λ v. ⌜ (v ≡ (w + 1) % 4294967296 * getD (now (rules .entry)) at 0) × (w < 4294967296) ⌝ }
+{
+    scaled((index(w) + 1) % WORDS, rules[at])
+}
+
+// Slot p is one that such a word of record r may lead to.
+fn place_ok(p: usize, r: usize, rules: &[u8; 520], at: usize) -> bool
+    requires { ⌜ at < 516 ⌝ }
+    ensures { λ v. ⌜ v ≡ (leb (getD (now (rules .entry)) (at + 1) 0) p && leb p r) ⌝ }
+{
+    (index(wide(rules[at + 1])) <= p) & (p <= r)
+}
+
+// The record in slot p is one that such a word may refer to.
+fn key_ok(known: &[u8], p: usize, rules: &[u8; 520], at: usize) -> bool
+    requires { ⌜ (at < 516) × (p ≤ mostRecords) × (p * 4 + 4 ≤ length (now known)) ⌝ }
+    ensures { λ v. ⌜ v ≡ (leb (getD (now (rules .entry)) (at + 2) 0) (getD (now (known .entry)) (p * 4 + 3) 0 * 4 + getD (now (known .entry)) (p * 4 + 2) 0) && leb (getD (now (known .entry)) (p * 4 + 3) 0 * 4 + getD (now (known .entry)) (p * 4 + 2) 0) (getD (now (rules .entry)) (at + 3) 0)) ⌝ }
+{
+    let key = wide(known[p * 4 + 3]) * 4 + wide(known[p * 4 + 2]);
+    (wide(rules[at + 2]) <= key) & (key <= wide(rules[at + 3]))
+}
+
+// One more reference to the record in slot p: 1 after 0, and 2 or more after that.
+fn count_one(known: &mut [u8], p: usize)
+    requires { ⌜ (p ≤ mostRecords) × (p * 4 + 4 ≤ length (now known)) ⌝ }
+    ensures { λ _. ⌜ now (known .exit) ≡ set (now (known .entry)) (p * 4 + 1) ((getD (now (known .entry)) (p * 4 + 1) 0 + 3) / 2) ⌝ }
+{
+    let count = wide(known[p * 4 + 1]);
+    known[p * 4 + 1] = ((count + 3) / 2) as u8;
+}
+
+// Slot 0, of no depth.
+fn put_own(known: &mut [u8], class: u8, k: u8)
+    requires { ⌜ 4 ≤ length (now known) ⌝ }
+    ensures { λ _. ⌜ Owned (now (known .entry)) (now (known .exit)) ⌝ }
+{
+    known[0] = 0;
+    known[2] = class;
+    known[3] = k;
+}
+
+// What a record must be aside from what it refers to, by the row of its kind.
+fn form_ok(tree: &[u8], bytes: usize, r: usize, k: u8, words: Words, rules: &[u8; 520]) -> bool
+    requires { ⌜ (r * 32 + 32 ≤ length (now tree)) × (k < 26) ⌝ }
+    ensures { λ v. ⌜ (v ≡ true → PlainForm (now (tree .entry)) bytes r k words (now (rules .entry))) ⌝ }
+{
+    let row = k as usize * 20;
+    let a = index(words.a);
+    let b = index(words.b);
+    let c = index(words.c);
+    let za = scaled(a, rules[row + 4]);
+    let zb = scaled(b, rules[row + 9]);
+    let zc = scaled(c, rules[row + 14]);
+    let zero = za + zb + zc + index(words.d) + index(words.e) + index(pad(tree, r));
+    let text = scaled(a + b, rules[row + 15]);
+    let found = detail(tree, r);
+    if zero != 0 {
+        return false;
+    }
+    if text > bytes {
+        return false;
+    }
+    if found >= rules[row + 16] {
+        return false;
+    }
+    marks_ok(k, found, words.c, words.e)
+}
+
+// Record r, right aside from what it refers to, whose words A, B and C lead to the slots pa, pb and pc: taken, if what it refers to is right.
+fn take_slots(
+    tree: &[u8],
+    r: usize,
+    k: u8,
+    words: Words,
+    pa: usize,
+    pb: usize,
+    pc: usize,
+    known: &mut [u8],
+    rules: &[u8; 520],
+) -> Told
+    requires { ⌜ Slots (now tree) r k words pa pb pc (now known) (now rules) ⌝ }
+    ensures { λ t. ⌜ TookSlots (now (tree .entry)) r k words (now (rules .entry)) (now (known .entry)) (now (known .exit)) (t .ok) (t .depth) ⌝ }
+{
+    let row = k as usize * 20;
+    put_own(known, rules[row + 17], rules[row + 18]);
+    let keys = key_ok(known, pa, rules, row)
+        & key_ok(known, pb, rules, row + 5)
+        & key_ok(known, pc, rules, row + 10);
+    let below = max(known[pa * 4], max(known[pb * 4], known[pc * 4]));
+    if !(keys & (below <= DEEPEST_BELOW)) {
+        return Told {
+            ok: false,
+            depth: 0,
+        };
+    }
+    count_one(known, pa);
+    count_one(known, pb);
+    count_one(known, pc);
+    let class = class_at(tree, r, k, words.a, words.b, known);
+    let depth = depth_over(k, below);
+    put_known(known, r, class, depth, k);
+    Told { ok: true, depth }
+}
+
+// Record r of kind k, if it is right and uses A, B and C alone: then it is taken. Else only slot 0 was written, if at all.
+pub(crate) fn take_plain(
+    tree: &[u8],
+    bytes: usize,
+    r: usize,
+    k: u8,
+    known: &mut [u8],
+    rules: &[u8; 520],
+) -> Told
+    requires { ⌜ PlainReady (now tree) r k (now known) (now rules) ⌝ }
+    ensures { λ t. ⌜ TookPlain (now (tree .entry)) bytes r (now (known .entry)) (now (known .exit)) (t .ok) (t .depth) ⌝ }
+{
+    let row = k as usize * 20;
+    let words = five_words(tree, r);
+    let pa = place_of(words.a, rules, row);
+    let pb = place_of(words.b, rules, row + 5);
+    let pc = place_of(words.c, rules, row + 10);
+    let form = form_ok(tree, bytes, r, k, words, rules);
+    let placed = place_ok(pa, r, rules, row)
+        & place_ok(pb, r, rules, row + 5)
+        & place_ok(pc, r, rules, row + 10);
+    if !(form & placed) {
+        return Told {
+            ok: false,
+            depth: 0,
+        };
+    }
+    take_slots(tree, r, k, words, pa, pb, pc, known, rules)
+}
