@@ -28,16 +28,20 @@ index-requires : tie.Need-index-requires
 index-requires c κs = search needs
 
 returns : tie.Need-returns
-returns c = ?
+returns c = said-far _ _ _ _ _ _ _ (c .before .index .ensures ∙ c .before .before .load .ensures) (c .if1 .taken)
 
 entry-is-requires : tie.Need-entry-is-requires
 entry-is-requires c κs = omega arith
 
 returns-2 : tie.Need-returns-2
-returns-2 c = ?
+returns-2 c =
+    said-this _ _ _ _ _ _ _ (c .before .before .before .index .ensures ∙ c .before .before .before .before .load .ensures) (omega arith)
+    (sym (c .before .entry-is .ensures) ∙ c .if2 .taken)
 
 returns-3 : tie.Need-returns-3
-returns-3 c = ?
+returns-3 c =
+    said-other _ _ _ _ _ _ _ (c .before .before .before .index .ensures ∙ c .before .before .before .before .load .ensures) (omega arith)
+    (sym (c .before .entry-is .ensures) ∙ c .if2 .left)
 
 pub open-at-spec : {M : Type 1} → statement M
 open-at-spec =

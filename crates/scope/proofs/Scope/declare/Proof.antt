@@ -27,14 +27,14 @@ returns c = λ text told tells. search declare-at
 enum-told-2 : tie.Need-enum-told-2
 enum-told-2 c = search needs
 
-mul-t15 : tie.Need-mul-t15
-mul-t15 c = search needs
+mul-t16 : tie.Need-mul-t16
+mul-t16 c = search needs
 
 mark-requires : tie.Need-mark-requires
 mark-requires c κs = search needs
 
-add-t17 : tie.Need-add-t17
-add-t17 c = omega (arith, mark-one _ _ (c .mark .ensures))
+add-t18 : tie.Need-add-t18
+add-t18 c = omega (arith, mark-one _ _ (c .mark .ensures))
 
 add-next : tie.Need-add-next
 add-next c = search needs
@@ -81,9 +81,9 @@ declare-spec =
     same-length
     returns
     enum-told-2
-    mul-t15
+    mul-t16
     mark-requires
-    add-t17
+    add-t18
     add-next
     mul-put-four
     mul-put-four-2
