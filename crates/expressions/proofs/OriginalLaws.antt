@@ -110,8 +110,12 @@ module _ {tree text s : List ℕ} {sc : Scope} {r : ℕ} (q : Asked tree text s 
     number-is : o ≡ originalOf tree s r
     number-is = eo ∙ ap (λ (n : ℕ). wordAt s (originalAt n r)) (q .scoped .records-are)
 
-    pub number-below : o < records tree
-    number-below = rw (number-is ∙ q .numbered .number r (q .below) (q .has-text)) (original-below tree text r (q .below) (q .has-text))
+    number-below : o < records tree
+    number-below = rw number-is origin-below
+
+    -- so its slot can be asked
+    pub slot-inside : o < sc .records
+    slot-inside = rw (q .scoped .records-are) number-below
 
     pub origin-inside : o * 32 + 32 ≤ length tree
     origin-inside = inside tree text (q .good) o number-below
