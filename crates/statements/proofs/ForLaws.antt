@@ -51,7 +51,7 @@ use Rattle.expressions.specs.declared.answers.ExprType.the-variants as ExprType
 use Rattle.expressions.specs.declared.answers.Outcome.{Outcome}
 use Rattle.expressions.specs.declared.answers.Outcome.the-variants as Outcome
 use Rattle.texts.specs.Texts.{hasText}
-use Rattle.expressions.specs.Slots.{originalWord, Asked, Ready, Scoped, typeIn}
+use Rattle.expressions.specs.Slots.{originalOf, originalWord, Asked, Ready, Scoped, typeIn}
 use Rattle.expressions.proofs.OriginalLaws.{kind-asked}
 use Rattle.expressions.specs.Answers.{refusal, outcomeOf, TypeMeets}
 use Rattle.expressions.proofs.SlotLaws.{scope-frame, frame-trans}

@@ -43,7 +43,7 @@ use Rattle.ir.specs.Instructions.{operandOf, varOf}
 use Rattle.ir.specs.Steps.{Emits, AddsVar}
 use Rattle.scope.specs.declared.Scope.{Scope}
 use Rattle.texts.specs.Texts.{hasText}
-use Rattle.expressions.specs.Slots.{originalWord, Asked, Ready}
+use Rattle.expressions.specs.Slots.{originalOf, originalWord, Asked, Ready}
 use Rattle.expressions.proofs.OriginalLaws.{kind-asked}
 use Rattle.scope.specs.declared.Known.{Known}
 use Rattle.scope.specs.declared.Known.the-variants as Known

@@ -148,7 +148,7 @@ module _ (tree : List ℕ) {s s′ : List ℕ} {names operands : ℕ} (f : Stays
   pub keyed-stays : (text : List ℕ) (count : ℕ) → Keyed tree text s count → Keyed tree text s′ count
   keyed-stays text count r = record {
     good = r .good;
-    numbered = numbered-stays tree text s s′ number-word (λ t h. byte-word (textDigestAt (records tree) t) (λ j q e k. f .behind q (omega arith))) (r .numbered);
+    numbered = numbered-stays tree text s s′ number-word (λ t h. byte-word (textDigestAt (records tree) t) (λ j q e k. f .behind q (omega arith) (omega arith))) (r .numbered);
     distinct = r .distinct;
     listed = record {
       room = omega (arith, r .listed .room, f .long);
@@ -158,7 +158,7 @@ module _ (tree : List ℕ) {s s′ : List ℕ} {names operands : ℕ} (f : Stays
     slots = slots-stay tree text s s′ (λ o h. byte-word (keySlotAt (records tree) o) (λ j q e k. f .behind q (omega arith) (omega arith))) _ (r .slots);
     digests =
         digests-stay tree text s s′ count (λ j q. listed-word (4 * j) (omega (arith, r .listed .counted, records-most tree (records tree))))
-        (λ j h. byte-word (keyDigestAt (records tree) j) (λ i q e k. f .behind q (omega arith) (omega arith))) (r .digests);
+        (λ j h. byte-word (keyDigestAt (records tree) j) (λ i q e k. f .behind q (omega arith) (omega (arith, r .listed .counted, records-most tree (records tree))))) (r .digests);
   }
 
   pub scoped-stays : (sc : Scope) → sc .names ≤ names → Scoped tree s sc → Scoped tree s′ sc
