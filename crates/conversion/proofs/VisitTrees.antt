@@ -6,7 +6,7 @@ use mathlib.Core.Bool.{false}
 use mathlib.Core.List.{List, [], _∷_}
 use mathlib.Core.Option.{none, some}
 use lib.IntN.{pos}
-use Rattle.syntax.specs.Syntax.{Text, Add, And, Expr, EInt, EName, EBinary, ECall, noArgs, Value, SDeclare, SInit, SReturn, SCall, Block, done, next, Function}
+use Rattle.syntax.specs.Syntax.{Text, Not, Add, And, Expr, EInt, EName, EUnary, EBinary, ECall, noArgs, Value, ToType, SDeclare, SInit, SReturn, SCall, SIfElse, SFor, Block, done, next, Function}
 use Rattle.syntax.specs.Exprs.{expressionRecords}
 use Rattle.conversion.specs.Visits.{visits, functionsVisits}
 
@@ -59,12 +59,25 @@ unfoldable five : Block
 unfolding int
 five = next (SInit 7 false (120 ∷ []) (EBinary 6 Add (EBinary 4 Add (EBinary 2 Add (int 0 1) (int 1 1)) (int 3 1)) (int 5 1))) done
 
+-- (6) a For from 1 + 2 until f(3): both bounds
+unfoldable six : Block
+unfolding int call ga
+six = next (SFor 6 ga none (EBinary 2 Add (int 0 1) (int 1 2)) (call 5 4 (int 3 3)) done) done
+
+-- (7) if not p: return 1, and behind that the statement 2 + 3; otherwise x = a cast with a type and two values, of which the second is dropped
+unfoldable seven : Block
+unfolding int
+seven =
+    next (SIfElse 17 (EUnary 1 Not (EName 0 (112 ∷ [])))
+    (next (SReturn 3 (int 2 1)) (next (SCall 7 (EBinary 6 Add (int 4 2) (int 5 3))) done))
+    (next (SInit 14 false (120 ∷ []) (ECall 13 (102 ∷ []) (ToType 8 0 (Value 10 (int 9 4) (Value 12 (int 11 5) noArgs))))) done)) done
+
 pub computed : List Counted
-unfolding count one two three four five
-computed = count one ∷ count two ∷ count three ∷ count four ∷ count five ∷ []
+unfolding count one two three four five six seven
+computed = count one ∷ count two ∷ count three ∷ count four ∷ count five ∷ count six ∷ count seven ∷ []
 
 pub expected : List Counted
-expected = counts 3 3 4 ∷ counts 3 3 3 ∷ counts 4 4 4 ∷ counts 3 3 3 ∷ counts 7 7 7 ∷ []
+expected = counts 3 3 4 ∷ counts 3 3 3 ∷ counts 4 4 4 ∷ counts 3 3 3 ∷ counts 7 7 7 ∷ counts 5 5 5 ∷ counts 9 9 9 ∷ []
 
 pub visits-counted : computed ≡ expected
 unfolding computed expected

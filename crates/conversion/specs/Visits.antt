@@ -1,6 +1,7 @@
 -- Document 02, point 9: 'Count a visit each time that an expression record's type is worked out'. Which records the Rust works out the type of, for
 -- a tree that converts: a list for each definition of Expressions.antt and Statements.antt, line by line, a record as often as it is typed there; and
--- how many different ones they are. Assumes nothing: these are definitions.
+-- how many different ones they are. (statements.rs types a Str or SizeOf once more where it converts it, which cannot fail and which the definitions leave
+-- out; its statement has typed it by then, so that it is among the different ones all the same.) Assumes nothing: these are definitions.
 use Prim.Native.Nat.{ℕ, _+_}
 use mathlib.Core.List.{List, [], _∷_, _++_}
 use mathlib.Core.Option.{Option, none, some}
@@ -17,7 +18,7 @@ use Rattle.conversion.specs.Statements.{asCall}
 unfoldable mutual
   unfolding exprs
 
-  -- `convert-expr`: a leaf is not typed, the others are, before they are converted
+  -- `convert-expr`: a leaf is not typed (again), the others are, before they are converted
   pub typedExpr : Expr → List ℕ
   typedExpr (EInt r v s u) = []
   typedExpr (EFloat r b s) = []

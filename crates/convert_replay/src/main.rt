@@ -177,7 +177,7 @@ fn replay_case(head: &[u8], tree: &[u8], text: &[u8], tables: &[u8]) -> bool
     let mut functions = [byte; 65700];
     let mut strings = [byte; 16500];
     let mut floats = [byte; 65700];
-    let mut scratch = [byte; 131300];
+    let mut scratch = [byte; 147700];
     let a = lent_of(head, 0, &instructions);
     let b = lent_of(head, 1, &variables);
     let c = lent_of(head, 2, &labels);

@@ -160,8 +160,8 @@ module _ (tree text l₀ s₀ : List ℕ) (count : ℕ) (k : Counters) (j : ℕ)
         affords = spent-left k′ (d .spent);
         holds = stands;
         asked = asked-next ∙ ap (λ (x : Result (IrFunction × Pool)). x >>= λ y. convertAll (program tree text) (allKeys tree text) (from tree text (j + 1)) (w .converted ++ (y .0 ∷ [])) (y .1)) e;
-        turns = p k′ z .turns;
-        visits = omega (arith, w .visits, visits-left, p k′ z .visits);
+        turns = p .visited k′ z .turns;
+        visits = omega (arith, w .visits, visits-left, p .visited k′ z .visits);
         long = m .long ∙ w .long;
         scratch-long = m .stays .long ∙ w .scratch-long;
       }

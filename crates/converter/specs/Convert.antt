@@ -1,5 +1,5 @@
 -- What the call owes: its answer in document 01's words, the tables that a conversion leaves in the arena, and the promise itself, which is the
--- one definition of the call and the three demands. Assumes nothing: these are definitions.
+-- one definition of the call, the three demands and what is said of visits. Assumes nothing: these are definitions.
 use mathlib.Core.Path.{_≡_}
 use Prim.Native.Nat.{ℕ, _*_, _≤_}
 use mathlib.Core.Bool.{Bool}
@@ -138,7 +138,7 @@ answerFrom tree (Answer.Converted c) = Call.Counted (countsFrom c) (c .visits)
 answerFrom tree (Answer.Refused e) = Call.Refusal (wordsOf tree e)
 
 -- THE PROMISE: a tree is bytes; the answer and each byte of the seven buffers are those of the one definition of the call; and with it
--- the three demands hold, the third for runs over natural numbers (over every type of values: `promised-everywhere` in proofs/Everywhere.antt)
+-- the three demands hold, with what is said of visits, the third for runs over natural numbers (over every type of values: `promised-everywhere` in proofs/Everywhere.antt)
 pub record Promised (tree text : List ℕ) (needsMain : Bool) (before : Buffers) (answer : Answer) (after : Buffers) : Type 0 where
   pub bytes : All Byte tree
   pub calls : Calls tree text needsMain before (answerFrom tree answer) after

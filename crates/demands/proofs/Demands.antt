@@ -28,7 +28,7 @@ use Rattle.tables.specs.Bytes.{Byte}
 use Rattle.tables.specs.Read.{Begin}
 use Rattle.demands.specs.Demand3.{RunsAlike}
 use Rattle.demands.specs.Call.{CallOutcome, RefusedAt, Success, visitsIn, conversionRow, judgedRows, callOf, Answer, Counted, answerOf, filled, buffersAfter, Calls}
-use Rattle.demands.specs.Demands.{allZero, spanless, PastBuffers, Left, untouched, zeroed, SameLengths, Sound, InLimits, ByRows, AsTheRust, outputsOf, AllRunAlike, Visited, OfEveryCall}
+use Rattle.demands.specs.Demands.{allZero, spanless, PastBuffers, Left, untouched, zeroed, SameLengths, Sound, InLimits, ByRows, AsTheRust, outputsOf, AllRunAlike, VisitsCounted, OfEveryCall}
 use Rattle.demands.proofs.GoodLaws.{good-fits, good-visits, good-at-most}
 use Rattle.demands.proofs.Demand3.{good-demand3}
 use Rattle.demands.proofs.Accepted.{passed-good, passed-lent}
@@ -232,11 +232,11 @@ module _ (tree text : List ℕ) (needsMain : Bool) (before : Buffers) where
             (subst (λ x. Begin t (outputsOf x)) (sym l) (success-begins d n t before)) i f b
 
     -- VISITS: a tree that was converted is good
-    pub call-visits : (c : Counts) (m : ℕ) → answer ≡ Counted c m → Visited tree text m
+    pub call-visits : (c : Counts) (m : ℕ) → answer ≡ Counted c m → VisitsCounted tree text m
     unfolding answerOf verdictIn
     call-visits c m h = go (callOf tree text needsMain before) refl (calls .answers)
       where
-        go : (o : CallOutcome) → callOf tree text needsMain before ≡ o → answer ≡ answerOf o → Visited tree text m
+        go : (o : CallOutcome) → callOf tree text needsMain before ≡ o → answer ≡ answerOf o → VisitsCounted tree text m
         go (RefusedAt row w) e a = let z : _≡_ {A = ℕ} 0 1 = cc in absurd (omega arith)
         go (Success d n t) e a =
             let from = success-from tree text needsMain before d n t e in
@@ -254,7 +254,7 @@ every-call W tree text needsMain before answer after calls = record {
   demand1 = (call-sound tree text needsMain before answer after calls, call-by-rows tree text needsMain before answer after calls);
   demand2 = call-as-rust tree text needsMain before answer after calls;
   demand3 = call-runs-alike tree text needsMain before answer after calls W;
-  visited = call-visits tree text needsMain before answer after calls;
+  visitsCounted = call-visits tree text needsMain before answer after calls;
 }
 
 -- ---- nothing is lost on the page: what keeps demands 1 and 2 is a run of the call

@@ -129,9 +129,10 @@ AllRunAlike W tree text counts after = (i : ℕ) (f : Function) (b : Block) → 
 
 -- ---- VISITS, document 02, point 9: 'For a function whose tree holds e such records, the visits shall be at most e; their total, a seventh count in the
 -- answer, unprinted, is the number of those that the Rust, as amended, types at least once.' On a refusal there is no count. `bodyVisits` are those that
--- `convert_func` makes, which its contract says (`FunctionVisited` in functions/specs/Bodies.antt); `visits` speaks of no code.
+-- `convert_func` makes, which its contract says with the bound (`FunctionVisited` in functions/specs/Bodies.antt); `visits` speaks of no code. That the
+-- sum over statements (`total`) is the number of different records (`typed`) says that no record is visited twice.
 
-pub record Visited (tree text : List ℕ) (seventh : ℕ) : Type 0 where
+pub record VisitsCounted (tree text : List ℕ) (seventh : ℕ) : Type 0 where
   pub atMost : All (λ f. bodyVisits (records tree) (f .body) ≤ expressionRecords (records tree) f) (program tree text .functions)
   pub total : seventh ≡ functionsVisits (records tree) (program tree text .functions)
   pub typed : seventh ≡ visits (records tree) (program tree text .functions)
@@ -143,7 +144,7 @@ pub record Demands (W : Type 0) (tree text : List ℕ) (needsMain : Bool) (befor
   pub demand1 : Sound before answer after × ByRows tree text before answer after
   pub demand2 : InLimits tree text before → AsTheRust tree text needsMain before answer after
   pub demand3 : All Byte tree → (counts : Counts) (seventh : ℕ) → answer ≡ Counted counts seventh → AllRunAlike W tree text counts after
-  pub visited : (counts : Counts) (seventh : ℕ) → answer ≡ Counted counts seventh → Visited tree text seventh
+  pub visitsCounted : (counts : Counts) (seventh : ℕ) → answer ≡ Counted counts seventh → VisitsCounted tree text seventh
 
 abbrev pub OfEveryCall : Type 1
 OfEveryCall = (W : Type 0) (tree text : List ℕ) (needsMain : Bool) (before : Buffers) (answer : Answer) (after : Buffers)

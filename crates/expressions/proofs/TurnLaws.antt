@@ -25,7 +25,7 @@ use Rattle.syntax.specs.Exprs.{exprs, partsExprs}
 use Rattle.syntax.specs.Places.{IsExpr, TypeAt, exprAt}
 use Rattle.scope.specs.declared.Scope.{Scope}
 use Rattle.scope.specs.Open.{scopeAt}
-use Rattle.expressions.specs.Slots.{slotAt, turnAt, visitsAt, inTurn, made, visited, Frame, typeIn, RightAt, Remembers, Typed, Typing}
+use Rattle.expressions.specs.Slots.{slotAt, turnAt, visitsAt, inTurn, made, afterVisit, Frame, typeIn, RightAt, Remembers, Typed, Typing}
 use Rattle.expressions.specs.declared.answers.ExprType.{ExprType}
 use Rattle.expressions.specs.declared.answers.ExprType.the-variants as ExprType
 use Rattle.expressions.specs.Answers.{typeResult, TypeMeets}
@@ -112,8 +112,8 @@ module _ (tree s : List ℕ) (turn e y : ℕ) (low : e < records tree) (room : 7
   room₂ : 68 * records tree + 4 ≤ length s₂
   room₂ = rw long₂ (omega arith)
 
-  pub visited-frame : Frame tree s (visited tree turn e y s)
-  unfolding visited
+  pub visited-frame : Frame tree s (afterVisit tree turn e y s)
+  unfolding afterVisit
   visited-frame = record {
     same-length = put-long s₂ (68 * records tree) (visitsAt tree s + 1) room₂ ∙ long₂;
     outside = λ i h.
@@ -131,28 +131,28 @@ module _ (tree s : List ℕ) (turn e y : ℕ) (low : e < records tree) (room : 7
       away i (inr h) = inr (omega (arith, h .0))
 
   -- a word apart from the turns' and the count
-  in-slots : (q : ℕ) → q + 4 ≤ 64 * records tree → wordAt (visited tree turn e y s) q ≡ wordAt s₁ q
-  unfolding visited
+  in-slots : (q : ℕ) → q + 4 ≤ 64 * records tree → wordAt (afterVisit tree turn e y s) q ≡ wordAt s₁ q
+  unfolding afterVisit
   in-slots q h =
       put-other s₂ (68 * records tree) (visitsAt tree s + 1) room₂ q (inl (omega arith))
       ∙ put-other s₁ turnPlace turn room₁ q (inl (omega arith))
 
-  pub visited-slot : y < 2 ^ 32 → slotAt tree (visited tree turn e y s) e ≡ y
+  pub visited-slot : y < 2 ^ 32 → slotAt tree (afterVisit tree turn e y s) e ≡ y
   unfolding slotAt
   visited-slot h = in-slots slotPlace (omega arith) ∙ put-here s slotPlace y room₀ h
 
-  pub visited-turn : turn < 2 ^ 32 → turnAt tree (visited tree turn e y s) e ≡ turn
-  unfolding turnAt visited
+  pub visited-turn : turn < 2 ^ 32 → turnAt tree (afterVisit tree turn e y s) e ≡ turn
+  unfolding turnAt afterVisit
   visited-turn h =
       put-other s₂ (68 * records tree) (visitsAt tree s + 1) room₂ turnPlace (inl (omega arith))
       ∙ put-here s₁ turnPlace turn room₁ h
 
-  pub visited-visits : visitsAt tree s + 1 < 2 ^ 32 → visitsAt tree (visited tree turn e y s) ≡ visitsAt tree s + 1
-  unfolding visited visitsAt
+  pub visited-visits : visitsAt tree s + 1 < 2 ^ 32 → visitsAt tree (afterVisit tree turn e y s) ≡ visitsAt tree s + 1
+  unfolding afterVisit visitsAt
   visited-visits h = put-here s₂ (68 * records tree) (visitsAt tree s + 1) room₂ h
 
   module _ (d : ℕ) (inside : d < records tree) (apart : d ≡ e → ⊥) where
-    pub other-slot : slotAt tree (visited tree turn e y s) d ≡ slotAt tree s d
+    pub other-slot : slotAt tree (afterVisit tree turn e y s) d ≡ slotAt tree s d
     unfolding slotAt
     other-slot = in-slots (4 * records tree + 4 * d) (omega arith) ∙ put-other s slotPlace y room₀ (4 * records tree + 4 * d) (away (side d e apart))
       where
@@ -160,8 +160,8 @@ module _ (tree s : List ℕ) (turn e y : ℕ) (low : e < records tree) (room : 7
         away (inl h) = inl (omega arith)
         away (inr h) = inr (omega arith)
 
-    pub other-turn : turnAt tree (visited tree turn e y s) d ≡ turnAt tree s d
-    unfolding turnAt visited
+    pub other-turn : turnAt tree (afterVisit tree turn e y s) d ≡ turnAt tree s d
+    unfolding turnAt afterVisit
     other-turn =
         put-other s₂ (68 * records tree) (visitsAt tree s + 1) room₂ (64 * records tree + 4 * d) (inl (omega arith))
         ∙ put-other s₁ turnPlace turn room₁ (64 * records tree + 4 * d) (away (side d e apart))
@@ -173,8 +173,8 @@ module _ (tree s : List ℕ) (turn e y : ℕ) (low : e < records tree) (room : 7
 
 -- the three words one after the other
 pub visit-is : (tree s : List ℕ) (turn e y v : ℕ) → v ≡ visitsAt tree s → (s₁ s₂ s₃ : List ℕ) → s₁ ≡ splice s (4 * records tree + 4 * e) (word y)
-    → s₂ ≡ splice s₁ (64 * records tree + 4 * e) (word turn) → s₃ ≡ splice s₂ (68 * records tree) (word (v + 1)) → s₃ ≡ visited tree turn e y s
-unfolding visited
+    → s₂ ≡ splice s₁ (64 * records tree + 4 * e) (word turn) → s₃ ≡ splice s₂ (68 * records tree) (word (v + 1)) → s₃ ≡ afterVisit tree turn e y s
+unfolding afterVisit
 visit-is tree s turn e y v ev s₁ s₂ s₃ e₁ e₂ e₃ = rw (e₃, e₂, e₁, ev)
 
 -- ---- what was typed
@@ -249,7 +249,7 @@ module _ (tree text : List ℕ) (S : Def.Scope) (turn : ℕ) where
 
     module _ (y : ℕ) (fit : turn < 4294967296) (is : typeIn tree text S e ≡ ok y) (at : TypeAt tree y) where
       abbrev after : List ℕ
-      after = visited tree turn e y s₁
+      after = afterVisit tree turn e y s₁
 
       here-slot : slotAt tree after e ≡ y
       here-slot = visited-slot tree s₁ turn e y low room (omega (arith, at .below, good .few))

@@ -31,7 +31,7 @@ use Rattle.expressions.specs.declared.answers.Resolved.{Resolved}
 use Rattle.expressions.specs.declared.answers.Resolved.the-variants as Resolved
 use Rattle.syntax.specs.Places.{IsExpr, IsKind, TypeAt, exprAt, argsAt}
 use Rattle.keys.specs.Keys.{allKeys}
-use Rattle.expressions.specs.Slots.{slotAt, inTurn, visited, slotted, typeIn, Typed, Typing}
+use Rattle.expressions.specs.Slots.{slotAt, inTurn, afterVisit, slotted, typeIn, Typed, Typing}
 use Rattle.expressions.specs.Calls.{typedAt}
 use Rattle.expressions.specs.declared.operands.Sides.{Sides}
 use Rattle.expressions.specs.Answers.{refusal, typeResult, doneWith, calleeOf, valueResult, IsTyped, IsCallee, TypeIs, CalleeIs, binaryTypeAt, WorksOut, Keepable, Keeps, TypeMeets, ArgsMeet, CallMeets}
@@ -85,11 +85,11 @@ keeps-refusal tree turn e a s r q = record { same = sym q; type = λ y w. absurd
 type-same : (y z : ℕ) → ExprType.Is y ≡ ExprType.Is z → y ≡ z
 type-same y z e = cc
 
-pub keeps-type : (tree : List ℕ) (turn e : ℕ) (a : ExprType) (s : List ℕ) (y : ℕ) → a ≡ ExprType.Is y → (s′ : List ℕ) → s′ ≡ visited tree turn e y s
+pub keeps-type : (tree : List ℕ) (turn e : ℕ) (a : ExprType) (s : List ℕ) (y : ℕ) → a ≡ ExprType.Is y → (s′ : List ℕ) → s′ ≡ afterVisit tree turn e y s
     → Keeps tree turn e a s (ExprType.Is y) s′
 keeps-type tree turn e a s y q s′ w = record {
   same = sym q;
-  type = λ z v. w ∙ ap (λ (x : ℕ). visited tree turn e x s) (type-same y z (sym q ∙ v));
+  type = λ z v. w ∙ ap (λ (x : ℕ). afterVisit tree turn e x s) (type-same y z (sym q ∙ v));
   refused = λ r v. absurd (refused-is r y (sym v ∙ q));
 }
 
@@ -325,7 +325,7 @@ module _ (tree text : List ℕ) (good : Good tree text) where
         );
       }
 
-      kept-type : turn < 4294967296 → (y : ℕ) → a ≡ ExprType.Is y → TypeMeets tree text s sc turn e (ExprType.Is y) (visited tree turn e y s₁)
+      kept-type : turn < 4294967296 → (y : ℕ) → a ≡ ExprType.Is y → TypeMeets tree text s sc turn e (ExprType.Is y) (afterVisit tree turn e y s₁)
       unfolding typeResult
       kept-type fit y q = record {
         frame = frame-trans (m .frame) (visited-frame tree s₁ turn e y (expr-low tree text good e x) room);

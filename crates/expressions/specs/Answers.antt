@@ -35,7 +35,7 @@ use Rattle.expressions.specs.declared.arguments.Argument.{Argument}
 use Rattle.expressions.specs.declared.arguments.Argument.the-variants as Argument
 use Rattle.syntax.specs.Places.{IsExpr, TypeAt, FunctionAt, functionOf, exprAt, argsAt}
 use Rattle.keys.specs.Keys.{allKeys}
-use Rattle.expressions.specs.Slots.{visitsAt, visited, slotted, ArgsTyped, Frame, Typed, typeIn}
+use Rattle.expressions.specs.Slots.{visitsAt, afterVisit, slotted, ArgsTyped, Frame, Typed, typeIn}
 
 -- a refusal
 unfoldable pub refusal : {A : Type 0} → ConvertError → Result A
@@ -207,7 +207,7 @@ pub record Keepable (tree : List ℕ) (e : ℕ) (a : ExprType) (s : List ℕ) : 
 
 pub record Keeps (tree : List ℕ) (turn e : ℕ) (a : ExprType) (s : List ℕ) (r : ExprType) (s′ : List ℕ) : Type 0 where
   pub same : r ≡ a
-  pub type : (y : ℕ) → a ≡ ExprType.Is y → s′ ≡ visited tree turn e y s
+  pub type : (y : ℕ) → a ≡ ExprType.Is y → s′ ≡ afterVisit tree turn e y s
   pub refused : (x : ConvertError) → a ≡ ExprType.Refused x → s′ ≡ s
 
 -- `get_type` of the expression at record e

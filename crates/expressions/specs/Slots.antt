@@ -57,9 +57,9 @@ module _ (tree : List ℕ) where
   made turn s = sumBelow (records tree) (λ e. pick (inTurn turn s e) 1 0)
 
   -- a visit: the type y of record e is worked out in this turn
-  unfoldable pub visited : ℕ → ℕ → ℕ → List ℕ → List ℕ
+  unfoldable pub afterVisit : ℕ → ℕ → ℕ → List ℕ → List ℕ
   unfolding visitsAt splice word
-  visited turn e y s =
+  afterVisit turn e y s =
       splice (splice (splice s (4 * records tree + 4 * e) (word y)) (64 * records tree + 4 * e) (word turn)) (68 * records tree) (word (visitsAt s + 1))
 
   -- the arguments with the types that the slots have

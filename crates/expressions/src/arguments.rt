@@ -15,8 +15,8 @@ ghost use Rattle.expressions.specs.Slots.{slotAt, FirstType};
 ghost use Rattle.expressions.specs.Answers.{ArgumentIs, foundNumber, TypeFound};
 use keys::parts::Part;
 use keys::parts::text_part;
-use records::layout::EXPR_TYPE_BYTES;
-use records::layout::EXPR_TYPES;
+use records::layout::TYPE_SLOT_BYTES;
+use records::layout::TYPE_SLOTS;
 use records::numbers::KIND_VALUE;
 use records::words::Found;
 use records::words::WORD_A;
@@ -74,7 +74,7 @@ pub(crate) fn slot(tree: &[u8], scratch: &[u8], e: usize) -> usize
     ensures { λ y. ⌜ y ≡ slotAt (now (tree .entry)) (now (scratch .entry)) e ⌝ }
 {
     let n = tree.len() / 32;
-    load(scratch, EXPR_TYPES * n + EXPR_TYPE_BYTES * e) as usize
+    load(scratch, TYPE_SLOTS * n + TYPE_SLOT_BYTES * e) as usize
 }
 
 // The type of the argument in a cell.

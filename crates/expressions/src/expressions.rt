@@ -1,6 +1,6 @@
 // expressions.rs: the type of an expression and what a call runs. Typing an expression, resolving a call and typing its arguments call each
-// other; the record's number falls. Lists are walked by a loop, and recursion goes only into items. Document 02, point 9: a type is worked out once in a
-// turn.
+// other; the record's number falls. Lists are walked by a loop, and recursion goes only into items. For document 02, point 9, a type is worked out once
+// in a turn (`turns.rt`).
 ghost use mathlib.Core.Path.{_≡_};
 ghost use mathlib.Core.Bool.{false};
 ghost use Rattle.records.specs.Words as Words;

@@ -1,18 +1,18 @@
-// What is remembered of types, as document 02 has it: an expression's type stands at its slot, and beside it the turn in which it was worked out. A turn
-// is a statement, so that a type is only used in the scope that it was worked out in.
+// What is remembered of types, so that each is worked out once (document 02, point 9): an expression's type stands at its slot, and beside it the turn in
+// which it was worked out. A turn is a statement, so that a type is only used in the scope that it was worked out in.
 ghost use mathlib.Core.Path.{_≡_};
 ghost use Prim.Native.Nat.{_+_, _*_, _≤_, _<_};
 ghost use lib.ListN.{length};
 ghost use Rattle.records.specs.Words.{records};
-ghost use Rattle.expressions.specs.Slots.{inTurn, visitsAt, visited, Forgets};
+ghost use Rattle.expressions.specs.Slots.{inTurn, visitsAt, afterVisit, Forgets};
 ghost use Rattle.expressions.specs.Answers.{Keepable, Keeps};
 use crate::answers::ExprType;
-use records::layout::EXPR_TYPE_BYTES;
-use records::layout::EXPR_TYPES;
 use records::layout::SCRATCH;
 use records::layout::TURN_BYTES;
 use records::layout::TURNS;
-use records::layout::VISITS;
+use records::layout::TYPE_SLOT_BYTES;
+use records::layout::TYPE_SLOTS;
+use records::layout::VISIT_COUNT;
 use records::words::load;
 use records::words::put_word;
 
@@ -29,13 +29,13 @@ pub(crate) fn is_typed(tree: &[u8], scratch: &[u8], turn: u32, e: usize) -> bool
 fn visit(tree: &[u8], scratch: &mut [u8], turn: u32, e: usize, y: usize)
     requires { ⌜ (e < records (now tree)) × (72 * records (now tree) ≤ length (now scratch)) × (y < 4294967296) ⌝ }
     requires { ⌜ visitsAt (now tree) (now scratch) + 1 < 4294967296 ⌝ }
-    ensures { λ _. ⌜ now (scratch .exit) ≡ visited (now (tree .entry)) turn e y (now (scratch .entry)) ⌝ }
+    ensures { λ _. ⌜ now (scratch .exit) ≡ afterVisit (now (tree .entry)) turn e y (now (scratch .entry)) ⌝ }
 {
     let n = tree.len() / 32;
-    let visits = load(scratch, VISITS * n);
-    put_word(scratch, EXPR_TYPES * n + EXPR_TYPE_BYTES * e, y as u32);
+    let visits = load(scratch, VISIT_COUNT * n);
+    put_word(scratch, TYPE_SLOTS * n + TYPE_SLOT_BYTES * e, y as u32);
     put_word(scratch, TURNS * n + TURN_BYTES * e, turn);
-    put_word(scratch, VISITS * n, visits + 1);
+    put_word(scratch, VISIT_COUNT * n, visits + 1);
 }
 
 // What working out the type of e came to: a type is kept, and the visit counted.
@@ -71,5 +71,5 @@ pub fn visits(tree: &[u8], scratch: &[u8]) -> usize
     ensures { λ v. ⌜ v ≡ visitsAt (now (tree .entry)) (now (scratch .entry)) ⌝ }
 {
     let n = tree.len() / 32;
-    load(scratch, VISITS * n) as usize
+    load(scratch, VISIT_COUNT * n) as usize
 }

@@ -1,7 +1,6 @@
 -- A function as the code converts it: whether it has a body, its parameters' variables, its body with MissingReturn behind it, and its entry.
 -- By the laws of steps in a row; what declares the parameters emits nothing and numbers them from 0, as the variables' table does. Assumes nothing.
 use mathlib.Core.Path.{_≡_, refl, sym, ap, _∙_, subst}
-use mathlib.Core.Logic.{inl, inr}
 use mathlib.Core.Bool.{Bool, true, false, not, _&&_, true≢false}
 use mathlib.Core.List.{List, [], _∷_, _++_, append-nil, append-assoc, map}
 use mathlib.Core.Option.{Option, none as nothing, some}
@@ -57,6 +56,7 @@ use Rattle.statements.proofs.TurnLaws.{turns-refl, turns-stay, turns-later, vis
 use Rattle.functions.specs.declared.parameters.Parameters.{Parameters}
 use Rattle.functions.specs.declared.parameters.Parameters.the-variants as Parameters
 use Rattle.functions.specs.Parameters.{parameterOf, withParams, emptyIn, ParametersMeet}
+use Rattle.functions.proofs.Members.{function-at-most}
 use Rattle.functions.specs.Bodies.{newVars, begun, FunctionsAfforded, FunctionSpent, FunctionStands, FunctionDone, ConvertsFunction, bodySteps, BodyStands, BodyDone, ConvertsBody, BodyAs, FunctionVisited}
 use Rattle.functions.proofs.ParameterRun.{withTypes, run-made, run-failed}
 use Rattle.functions.proofs.ParameterLaws.{names-only, only-stays}
@@ -413,6 +413,14 @@ function-stands text before p ps g f k l (made u c s) e h =
     subst (λ (r : ℕ). Holds text (begun (before ++ (record { func = r; body = some c; vars = s .vars; labels = s .labels } ∷ [])) (record { strings = s .strings; floats = s .floats })) k l) (sym e) h
 function-stands text before p ps g f k l (failed x r) e h = h
 
+-- visits that are those of the body are at most the function's expression records
+pub counted : {tree text s s′ : List ℕ} {f : ℕ} {a : Finished} → Good tree text → FunctionAt tree f
+    → ((k : Counters) → a ≡ Finished.Done k → Visited tree s (bodyVisits (records tree) (functionOf tree text f .body)) k s′) → FunctionVisited f tree text s a s′
+counted {tree} {text} {f = f} good at v = record {
+  visited = v;
+  at-most = λ k e. omega (arith, v k e .visits, function-at-most tree text good f at);
+}
+
 module _ {tree text l s : List ℕ} {functions f : ℕ} {k : Counters} (keyed : Keyed tree text s functions) (at : FunctionAt tree f) (room : Room k l)
     (are : k .records ≡ records tree) (h : FunctionsAfforded k (functionRecords (functionOf tree text f))) where
   pub function-room : Room k l × (k .functions < k .records)
@@ -438,9 +446,10 @@ module _ {tree text l s : List ℕ} {functions f : ℕ} {k : Counters} (keyed : 
       → FunctionVisited f tree text s (Finished.Done k′) s
   unfolding bodyVisits
   bare-visited turns eb q p =
-      λ z e.
+      counted (keyed .good) at
+      (λ z e.
       subst (λ (o : Option Block). Visited tree s (bodyVisits (records tree) o) z s) (sym (body-missing (keyed .good) at eb q))
-      (visited-later k z (closed-instructions p e) (visited-stay (turns-refl tree s) turns))
+      (visited-later k z (closed-instructions p e) (visited-stay (turns-refl tree s) turns)))
 
   pub vars-room : RoomFor k l (amount 0 (length (functionOf tree text f .params)) 0 0 0)
   unfolding functionRecords
@@ -463,9 +472,10 @@ module _ {tree text l s : List ℕ} {functions f : ℕ} {k : Counters} (keyed : 
     pub function-visited : {s₂ : List ℕ} {z : Finished} → TurnsStay tree s s₁ → BlockVisited (wordOf tree f E) tree text s₁ z s₂ → FunctionVisited f tree text s z s₂
     unfolding bodyVisits
     function-visited {s₂} same v =
-        λ k′ e.
+        counted (keyed .good) at
+        (λ k′ e.
         subst (λ (o : Option Block). Visited tree s (bodyVisits (records tree) o) k′ s₂) (sym the-body)
-        (record { turns = v k′ e .turns; visits = omega (arith, visits-stay same, v k′ e .visits) })
+        (record { turns = v k′ e .turns; visits = omega (arith, visits-stay same, v k′ e .visits) }))
 
     module _ {sc : Scope} (d : a ≡ Parameters.Done sc) {k₁ : Counters} {l₁ : List ℕ} (v : VarsAdd (functionOf tree text f .params) k l k₁ l₁) where
       abbrev inner : Converter

@@ -4,4 +4,5 @@ pub mod ParameterLaws
 pub mod ParameterRun
 pub mod Turns
 pub mod ReturnLaws
+pub mod Members
 pub mod BodyLaws

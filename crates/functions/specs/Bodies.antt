@@ -11,6 +11,7 @@ use Rattle.records.specs.declared.convert_error.ConvertError.{ConvertError}
 use Rattle.syntax.specs.Syntax.{Param}
 use Rattle.syntax.specs.Decode.{program}
 use Rattle.syntax.specs.Count.{functionRecords, blockRecords}
+use Rattle.syntax.specs.Exprs.{expressionRecords}
 use Rattle.syntax.specs.Places.{functionOf, blockAt}
 use Rattle.conversion.specs.ConvertError.{Result, ok, err, MissingReturn}
 use Rattle.conversion.specs.Ir.{Out, made, failed, M, _>>=_, pure, fail, new-var, IrFunction}
@@ -25,6 +26,7 @@ use Rattle.ir.specs.Arena.{TablesSoFar, Holds, Room}
 use Rattle.ir.specs.Steps.{grown, closed, StopsIn}
 use Rattle.scope.specs.Open.{scopeAt}
 use Rattle.keys.specs.Keys.{allKeys}
+use Rattle.expressions.specs.Slots.{visitsAt}
 use Rattle.statements.specs.declared.answers.Finished.{Finished}
 use Rattle.statements.specs.declared.answers.Finished.the-variants as Finished
 use Rattle.statements.specs.declared.answers.Converter.{Converter}
@@ -79,9 +81,10 @@ pub record ConvertsFunction (tree text : List ℕ) (f : ℕ) (k : Counters) (l s
   pub stops : (e : ConvertError) → a ≡ Finished.Refused e → (before : List IrFunction) (p : Pool) → Holds text (begun before p) k l
       → convert-func (program tree text) (allKeys tree text) (functionOf tree text f) p ≡ err (e .kind) (e .place)
 
--- where it refuses nothing: the visits of its body
-abbrev pub FunctionVisited : ℕ → List ℕ → List ℕ → List ℕ → Finished → List ℕ → Type 0
-FunctionVisited f tree text s a s′ = (k : Counters) → a ≡ Finished.Done k → Visited tree s (bodyVisits (records tree) (functionOf tree text f .body)) k s′
+-- where it refuses nothing: the visits of its body; and document 02, point 9, 'For a function whose tree holds e such records, the visits shall be at most e'
+pub record FunctionVisited (f : ℕ) (tree text s : List ℕ) (a : Finished) (s′ : List ℕ) : Type 0 where
+  pub visited : (k : Counters) → a ≡ Finished.Done k → Visited tree s (bodyVisits (records tree) (functionOf tree text f .body)) k s′
+  pub at-most : (k : Counters) → a ≡ Finished.Done k → visitsAt tree s′ ≤ visitsAt tree s + expressionRecords (records tree) (functionOf tree text f)
 
 -- ---- a function's body, in the scope of its parameters
 

@@ -16,8 +16,8 @@ abbrev pub judging : Region
 judging = record { from = 0; each = 4 }
 
 -- the types of expressions: a word at the slot of the expression's record
-abbrev pub exprTypes : Region
-exprTypes = record { from = 4; each = 4 }
+abbrev pub typeSlots : Region
+typeSlots = record { from = 4; each = 4 }
 
 -- the open names, the innermost last: four words each (offset and length of the lowest record with the name, variable, twice its type and 1 if constant)
 abbrev pub openNames : Region
@@ -56,11 +56,11 @@ abbrev pub turns : Region
 turns = record { from = 64; each = 4 }
 
 -- how many visits were made, in the first word
-abbrev pub visited : Region
-visited = record { from = 68; each = 4 }
+abbrev pub visitCount : Region
+visitCount = record { from = 68; each = 4 }
 
 abbrev pub layout : List Region
-layout = judging ∷ exprTypes ∷ openNames ∷ operands ∷ originals ∷ keySlots ∷ keyDigests ∷ textDigests ∷ nameSlots ∷ unused ∷ turns ∷ visited ∷ []
+layout = judging ∷ typeSlots ∷ openNames ∷ operands ∷ originals ∷ keySlots ∷ keyDigests ∷ textDigests ∷ nameSlots ∷ unused ∷ turns ∷ visitCount ∷ []
 
 -- document 02, point 9: 'Scratch grows to 72n bytes'
 abbrev pub scratchEach : ℕ

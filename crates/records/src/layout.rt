@@ -1,9 +1,9 @@
 // Where the regions of scratch begin, in bytes a record, and how long an entry of each is: `records/specs/Layout.antt`.
 
 // The types of expressions, a word each.
-pub const EXPR_TYPES: usize = 4;
+pub const TYPE_SLOTS: usize = 4;
 
-pub const EXPR_TYPE_BYTES: usize = 4;
+pub const TYPE_SLOT_BYTES: usize = 4;
 
 // The open names.
 pub const OPEN_NAMES: usize = 8;
@@ -46,7 +46,7 @@ pub const TURNS: usize = 64;
 pub const TURN_BYTES: usize = 4;
 
 // How many visits were made, one word.
-pub const VISITS: usize = 68;
+pub const VISIT_COUNT: usize = 68;
 
 // All regions together.
 pub const SCRATCH: usize = 72;

@@ -76,7 +76,8 @@ pub extern "C" fn rudderplum_judge(
     1
 }
 
-// A count as a word: a table has at most four entries for each record of the tree, and a record is visited at most once, so nothing is cut off.
+// A count as a word: a table has at most four entries for each record of the tree, and a record is visited at most once, so nothing is cut off: the sizes
+// that suffice and `different-most` in laws/proofs/DifferentLaws.antt say so, not this contract.
 fn count_word(n: usize) -> u32
     ensures { λ r. ⌜ r ≡ n % 4294967296 ⌝ }
 {

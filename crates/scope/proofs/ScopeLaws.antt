@@ -1,6 +1,6 @@
 -- What callers cite: the scope that the bytes stand for stays while the bytes of its names do, so also when a block is left; and `declare`,
 -- `find_variable` and the loop are the definition's. By recursion over the entries, byte for byte, and by unfolding. Assumes nothing.
-use mathlib.Core.Path.{_≡_, refl, sym, ap, ap₂, _∙_, subst}
+use mathlib.Core.Path.{_≡_, refl, sym, ap, ap₂, _∙_}
 use Prim.Native.Nat.{ℕ, zero, suc, _+_, _*_, _≤_, _<_}
 use mathlib.Core.Bool.{Bool}
 use mathlib.Core.Logic.{inl, inr}
@@ -37,10 +37,6 @@ pub record Kept (n m : ℕ) (s s′ : List ℕ) : Type 0 where
 
 pub kept-refl : (n m : ℕ) (s : List ℕ) → Kept n m s s
 kept-refl n m s = record { bytes = λ j a b. refl; long = refl }
-
--- the first m names are kept, and then those and more
-pub kept-then : (n m m′ : ℕ) (s s₁ s₂ : List ℕ) → m ≤ m′ → Kept n m s s₁ → Kept n m′ s₁ s₂ → Kept n m s s₂
-kept-then n m m′ s s₁ s₂ h p q = record { bytes = λ j a b. q .bytes j a (omega arith) ∙ p .bytes j a b; long = q .long ∙ p .long }
 
 -- a run written before all names, and one behind the first m
 module _ (n m : ℕ) (s : List ℕ) (i : ℕ) (vs s′ : List ℕ) (e : s′ ≡ splice s i vs) (fit : i + length vs ≤ length s) where

@@ -60,7 +60,7 @@ use Rattle.statements.specs.Converting.{Converting, withCounters, Afford
 use Rattle.statements.specs.Meets.{AddsIn}
 use Rattle.statements.specs.Parts.{finishCall}
 use Rattle.statements.specs.Answers.{convertedOf, argsOf, Converts, ConvertsArgs, exprSteps, argsSteps, callSteps}
-use Rattle.statements.specs.Turns.{InTurn, TypedIn, exprTypes, argsTypes, ConvertsTyped, ArgsTyped}
+use Rattle.statements.specs.Turns.{InTurn, TypedIn, exprTypes, argsTypes, ConvertsTyped, ArgumentsTyped}
 use Rattle.statements.proofs.MeetLaws.{meets-gave, meets-refused, meets-most, meets-then, meets-stop, meets-lift, meets-lift-stop}
 use Rattle.statements.proofs.StayLaws.{stays-refl, names-refl, names-then, names-of, frame-names, stays-then, frame-stays, operand-stays, scope-stays, ready-stays, operand-kept, stack-kept, converting-next, converting-frame}
 use Rattle.statements.proofs.StackLaws.{operand-long, stack-last}
@@ -267,7 +267,7 @@ module _ {tree text l₀ s₀ : List ℕ} {c : Converter} {e : ℕ} (p : Convert
         }
 
     -- all were typed
-    pub loop-end-types : w ≡ none → (a : ConvertedArgs) → ArgsTyped argsTypes c opening tree text s₀ a s
+    pub loop-end-types : w ≡ none → (a : ConvertedArgs) → ArgumentsTyped argsTypes c opening tree text s₀ a s
     unfolding typedArgs
     loop-end-types q a count k h =
         let over : argsTypes tree text w ≡ [] = ap (argsTypes tree text) q ∙ ap typedArgs (args-end tree text good) in

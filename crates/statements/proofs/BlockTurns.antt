@@ -41,8 +41,8 @@ use Rattle.statements.proofs.StayLaws.{stays-refl, stays-then}
 use Rattle.statements.proofs.BlockLaws.{placed, bodyIn, bodySize}
 
 -- the visits of the block that word w opens
-abbrev pub bodyVisits : List ℕ → List ℕ → ℕ → ℕ
-bodyVisits tree text w = blockVisits (records tree) (blockAt tree text w)
+abbrev pub visitsFrom : List ℕ → List ℕ → ℕ → ℕ
+visitsFrom tree text w = blockVisits (records tree) (blockAt tree text w)
 
 -- of the block that word `first` opens the statements from cell w on are left
 pub record BlockLeft (tree text l₀ s₀ : List ℕ) (c : Converter) (first : ℕ) (l s : List ℕ) (w : ℕ) (at : Converter) : Type 0 where
@@ -64,7 +64,7 @@ pub record BlockLeft (tree text l₀ s₀ : List ℕ) (c : Converter) (first : �
       → StopsIn text (bodyIn tree text first (scopeIn tree text s₀ c)) (c .counters) l₀ k r
   pub seen : ℕ
   pub visited : Visited tree s₀ seen (at .counters) s
-  pub seen-is : seen + bodyVisits tree text w ≡ bodyVisits tree text first
+  pub seen-is : seen + visitsFrom tree text w ≡ visitsFrom tree text first
 
 module _ {tree text l₀ s₀ : List ℕ} {c : Converter} {first : ℕ} (p : Converting tree text l₀ s₀ c) (f : BlockAfforded tree text c first) (x : BodyAt tree first) where
   pub block-start : Turns tree s₀ (c .counters) → BlockLeft tree text l₀ s₀ c first l₀ s₀ first c
@@ -111,10 +111,10 @@ module _ {tree text l₀ s₀ : List ℕ} {c : Converter} {first : ℕ} (p : Con
     pub block-visited : w ≡ none → BlockVisited first tree text s₀ (Finished.Done (at .counters)) s
     unfolding blockVisits
     block-visited q k e =
-        let over : bodyVisits tree text w ≡ 0 = ap (λ (z : ℕ). bodyVisits tree text z) q ∙ ap (blockVisits (records tree)) (block-end tree text good) in
+        let over : visitsFrom tree text w ≡ 0 = ap (λ (z : ℕ). visitsFrom tree text z) q ∙ ap (blockVisits (records tree)) (block-end tree text good) in
         let same : at .counters ≡ k = cc in
-        let all : i .seen ≡ bodyVisits tree text first = omega (arith, i .seen-is, over) in
-        subst (λ (j : Counters). Visited tree s₀ (bodyVisits tree text first) j s) same (subst (λ (v : ℕ). Visited tree s₀ v (at .counters) s) all (i .visited))
+        let all : i .seen ≡ visitsFrom tree text first = omega (arith, i .seen-is, over) in
+        subst (λ (j : Counters). Visited tree s₀ (visitsFrom tree text first) j s) same (subst (λ (v : ℕ). Visited tree s₀ v (at .counters) s) all (i .visited))
 
     module _ (more : w ≡ none → ⊥) where
       cell : Cell tree text good Body w
@@ -133,7 +133,7 @@ module _ {tree text l₀ s₀ : List ℕ} {c : Converter} {first : ℕ} (p : Con
       unfolding blockRecords
       size-is = ap blockRecords opens
 
-      visits-is : bodyVisits tree text w ≡ statementVisits (records tree) (statementAt tree text (wordOf tree w A)) + bodyVisits tree text (wordOf tree w B)
+      visits-is : visitsFrom tree text w ≡ statementVisits (records tree) (statementAt tree text (wordOf tree w A)) + visitsFrom tree text (wordOf tree w B)
       unfolding blockVisits
       visits-is = ap (blockVisits (records tree)) opens
 

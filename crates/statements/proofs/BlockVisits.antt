@@ -35,7 +35,7 @@ use Rattle.statements.proofs.TurnLaws.{turns-refl, stay-typed, fresh-be
 use Rattle.statements.proofs.StatedLaws.{finished-next}
 use Rattle.statements.proofs.HeadLaws.{refused-finished}
 use Rattle.statements.proofs.BlockLaws.{begun}
-use Rattle.statements.proofs.BlockTurns.{bodyVisits}
+use Rattle.statements.proofs.BlockTurns.{visitsFrom}
 
 -- ---- by kind
 
@@ -61,20 +61,20 @@ module _ (tree text : List ℕ) (good : Good tree text) (r : ℕ) (h : r < recor
   jump-by (suc zero) b e = rw (statement-continue tree text r e)
   jump-by (suc (suc i)) b e = absurd (omega arith)
 
-  if-visits : kindOf tree r ≡ 19 → bit 1 (detailOf tree r) ≡ false → different (records tree) (headTypes tree text r) + bodyVisits tree text (wordOf tree r B) ≡ all
+  if-visits : kindOf tree r ≡ 19 → bit 1 (detailOf tree r) ≡ false → different (records tree) (headTypes tree text r) + visitsFrom tree text (wordOf tree r B) ≡ all
   unfolding statementVisits typedOwn
   if-visits e b = rw (statement-if tree text good r h e b)
 
   else-visits : kindOf tree r ≡ 19 → bit 1 (detailOf tree r) ≡ true
-      → different (records tree) (headTypes tree text r) + (bodyVisits tree text (wordOf tree r B) + bodyVisits tree text (wordOf tree r C)) ≡ all
+      → different (records tree) (headTypes tree text r) + (visitsFrom tree text (wordOf tree r B) + visitsFrom tree text (wordOf tree r C)) ≡ all
   unfolding statementVisits typedOwn
   else-visits e b = rw (statement-ifElse tree text good r h e b)
 
-  while-visits : kindOf tree r ≡ 20 → different (records tree) (headTypes tree text r) + bodyVisits tree text (wordOf tree r B) ≡ all
+  while-visits : kindOf tree r ≡ 20 → different (records tree) (headTypes tree text r) + visitsFrom tree text (wordOf tree r B) ≡ all
   unfolding statementVisits typedOwn
   while-visits e = rw (statement-while tree text good r h e)
 
-  for-visits : kindOf tree r ≡ 21 → different (records tree) (forTypes tree text r) + bodyVisits tree text (wordOf tree r D) ≡ all
+  for-visits : kindOf tree r ≡ 21 → different (records tree) (forTypes tree text r) + visitsFrom tree text (wordOf tree r D) ≡ all
   unfolding statementVisits typedOwn
   for-visits e = rw (statement-for tree text good r h e)
 
@@ -126,17 +126,17 @@ refused-visited (Finished.Refused z) t k q = refused-finished k q
 
 -- a block behind what was visited, and then steps that only add instructions
 module _ {tree s s₁ s₂ : List ℕ} {k k₁ : Counters} {n : ℕ} (text : List ℕ) {v w : ℕ} {b : Finished} (h : Visited tree s n k s₁) (e : v ≡ w) (g : BlockVisited v tree text s₁ b s₂) (u : b ≡ Finished.Done k₁) where
-  block-next : Visited tree s (n + bodyVisits tree text w) k₁ s₂
-  block-next = subst (λ (z : ℕ). Visited tree s (n + bodyVisits tree text z) k₁ s₂) e (visited-next h (g k₁ u))
+  block-next : Visited tree s (n + visitsFrom tree text w) k₁ s₂
+  block-next = subst (λ (z : ℕ). Visited tree s (n + visitsFrom tree text z) k₁ s₂) e (visited-next h (g k₁ u))
 
   module _ {X : Type 0} {m : M X} {a : Amount} {l l₁ : List ℕ} {y : X} {k₂ : Counters} (i : Adds m a k₁ l y k₂ l₁) where
-    then-steps : Visited tree s (n + bodyVisits tree text w) k₂ s₂
+    then-steps : Visited tree s (n + visitsFrom tree text w) k₂ s₂
     then-steps = visited-later k₁ k₂ (i .spent .instructions-stay) block-next
 
-    then-end : (r : ℕ) → n + bodyVisits tree text w ≡ statementVisits (records tree) (statementAt tree text r) → FinishedVisited r tree text s (Finished.Done k₂) s₂
+    then-end : (r : ℕ) → n + visitsFrom tree text w ≡ statementVisits (records tree) (statementAt tree text r) → FinishedVisited r tree text s (Finished.Done k₂) s₂
     then-end r same k′ q =
         let done : k₂ ≡ k′ = cc in
-        subst (λ (z : ℕ). Visited tree s z k′ s₂) same (subst (λ (j : Counters). Visited tree s (n + bodyVisits tree text w) j s₂) done then-steps)
+        subst (λ (z : ℕ). Visited tree s z k′ s₂) same (subst (λ (j : Counters). Visited tree s (n + visitsFrom tree text w) j s₂) done then-steps)
 
 module _ {tree text l s : List ℕ} {c : Converter} {kind r : ℕ} (p : Converting tree text l s c) (x : IsKind tree kind r) (b : Fresh tree s c) where
   -- nothing was typed in the turn before

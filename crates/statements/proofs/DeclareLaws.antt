@@ -5,7 +5,6 @@ use mathlib.Core.Bool.{Bool, true, false}
 use mathlib.Core.List.{List, []}
 use mathlib.Core.Option.{Option, some}
 use Prim.Native.Nat.{ℕ, zero, suc, _+_, _*_, _/_, _%_, _≤_, _<_}
-use native.Mathlib.Decide.{decLt}
 use native.Mathlib.Omega.{arith}
 use lib.Dec.{ltb}
 use lib.ListN.{length, getD}
@@ -48,11 +47,11 @@ use Rattle.scope.specs.declared.Declared.{Declared}
 use Rattle.scope.specs.declared.Declared.the-variants as Declared
 use Rattle.scope.specs.declared.InLoop.{InLoop}
 use Rattle.scope.specs.declared.InLoop.the-variants as InLoop
-use Rattle.scope.specs.Open.{variable, NameAfforded, Added, Taken, DeclareMeets, IsFound, FindMeets, variableAt, variablesAt, variablesOf, loopOf, loopNumber, scopeAt, nameEntry}
+use Rattle.scope.specs.Open.{variable, NameAfforded, Added, Taken, DeclareMeets, IsFound, FindMeets, variableAt, variablesAt, variablesOf, loopOf, loopNumber, scopeAt}
 use Rattle.scope.proofs.ScopeLaws.{declare-ok, declare-err, in-loop}
 use Rattle.keys.specs.Keys.{allKeys}
 use Rattle.texts.specs.Texts.{hasText}
-use Rattle.expressions.specs.Slots.{originalOf, originalWord, Asked, Ready}
+use Rattle.expressions.specs.Slots.{originalOf, originalWord, Asked}
 use Rattle.expressions.proofs.OriginalLaws.{origin-text, kind-asked}
 use Rattle.expressions.proofs.TakeLaws.{as-type}
 use Rattle.statements.specs.declared.answers.Converter.{Converter}

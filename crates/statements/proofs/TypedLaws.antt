@@ -36,7 +36,7 @@ use Rattle.statements.specs.declared.answers.ConvertedArgs.{ConvertedArg
 use Rattle.statements.specs.declared.answers.ConvertedArgs.the-variants as ConvertedArgs
 use Rattle.statements.specs.Converting.{Converting, StaysFor}
 use Rattle.statements.specs.Answers.{OperandTyped}
-use Rattle.statements.specs.Turns.{InTurn, TypedIn, TurnsStay, exprTypes, unaryTypes, sidesTypes, binaryTypes, argsTypes, callTypes, ConvertsTyped, ArgsTyped, CommonTyped}
+use Rattle.statements.specs.Turns.{InTurn, TypedIn, TurnsStay, exprTypes, unaryTypes, sidesTypes, binaryTypes, argsTypes, callTypes, ConvertsTyped, ArgumentsTyped, CommonTyped}
 use Rattle.statements.proofs.StatedLaws.{scope-later}
 use Rattle.statements.proofs.TurnLaws.{in-turn-next, typed-next, typed-stay}
 use Rattle.statements.proofs.ArgsLaws.{callee-is}
@@ -142,6 +142,6 @@ module _ {tree text l s : List ℕ} {c : Converter} (p : Converting tree text l 
     pub called-in-turn : InTurn tree text s₁ c
     called-in-turn = in-turn-next c (same-frame (m .frame)) callee-typed
 
-    pub called-types : {a : ConvertedArgs} {s₂ s₃ : List ℕ} → ArgsTyped argsTypes c (wordOf tree e C) tree text s₁ a s₂ → {count : ℕ} {k : Counters} → a ≡ ConvertedArgs.Done count k
+    pub called-types : {a : ConvertedArgs} {s₂ s₃ : List ℕ} → ArgumentsTyped argsTypes c (wordOf tree e C) tree text s₁ a s₂ → {count : ℕ} {k : Counters} → a ≡ ConvertedArgs.Done count k
         → TurnsStay tree s₂ s₃ → {b : Converted} → ConvertsTyped callTypes c e tree text s b s₃
     called-types u {count = count} {k = k} w f o k′ h = typed-stay c (then-types (same-frame (m .frame)) refl callee-typed (u count k w)) f

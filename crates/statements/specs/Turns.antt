@@ -136,8 +136,8 @@ ownTypes tree text r = typedOwn (statementAt tree text r)
 abbrev pub ConvertsTyped : TypesAt → Converter → ℕ → List ℕ → List ℕ → List ℕ → Converted → List ℕ → Type 0
 ConvertsTyped types c e tree text s a s′ = (o : Operand) (k : Counters) → a ≡ Converted.Is o k → TypedIn tree text c s (types tree text e) s′
 
-abbrev pub ArgsTyped : TypesAt → Converter → ℕ → List ℕ → List ℕ → List ℕ → ConvertedArgs → List ℕ → Type 0
-ArgsTyped types c w tree text s a s′ = (count : ℕ) (k : Counters) → a ≡ ConvertedArgs.Done count k → TypedIn tree text c s (types tree text w) s′
+abbrev pub ArgumentsTyped : TypesAt → Converter → ℕ → List ℕ → List ℕ → List ℕ → ConvertedArgs → List ℕ → Type 0
+ArgumentsTyped types c w tree text s a s′ = (count : ℕ) (k : Counters) → a ≡ ConvertedArgs.Done count k → TypedIn tree text c s (types tree text w) s′
 
 abbrev pub StatesTyped : TypesAt → Converter → ℕ → List ℕ → List ℕ → List ℕ → Stated → List ℕ → Type 0
 StatesTyped types c r tree text s a s′ = (sc : Scope) (k : Counters) → a ≡ Stated.Done sc k → TypedIn tree text c s (types tree text r) s′

@@ -7,7 +7,7 @@ ghost use Rattle.records.specs.Kinds.{kindUnary, kindBinary, kindCall};
 ghost use Rattle.syntax.specs.Places.{IsExpr, IsKind, TypeAt};
 ghost use Rattle.statements.specs.Converting.{Converting, ExprAfforded, ArgsAfforded};
 ghost use Rattle.statements.specs.Answers.{exprSteps, unarySteps, logicSteps, otherSteps, binarySteps, callSteps, argsSteps, ConvertsAs, ArgsAs};
-ghost use Rattle.statements.specs.Turns.{InTurn, exprTypes, unaryTypes, sidesTypes, binaryTypes, argsTypes, callTypes, ConvertsTyped, ArgsTyped};
+ghost use Rattle.statements.specs.Turns.{InTurn, exprTypes, unaryTypes, sidesTypes, binaryTypes, argsTypes, callTypes, ConvertsTyped, ArgumentsTyped};
 use crate::answers::Converted;
 use crate::answers::ConvertedArgs;
 use crate::answers::Converter;
@@ -248,7 +248,7 @@ pub(crate) fn convert_args(
     requires { ⌜ IsKind (now tree) kindCall e ⌝ }
     requires { ⌜ InTurn (now tree) (now text) (now scratch) c ⌝ }
     ensures { λ a. ⌜ ArgsAs argsSteps c (wordOf (now (tree .entry)) e Words.C) (now (tree .entry)) (now (text .entry)) (now (arena .entry)) (now (scratch .entry)) a (now (arena .exit)) (now (scratch .exit)) ⌝ }
-    ensures types { λ a. ⌜ ArgsTyped argsTypes c (wordOf (now (tree .entry)) e Words.C) (now (tree .entry)) (now (text .entry)) (now (scratch .entry)) a (now (scratch .exit)) ⌝ }
+    ensures types { λ a. ⌜ ArgumentsTyped argsTypes c (wordOf (now (tree .entry)) e Words.C) (now (tree .entry)) (now (text .entry)) (now (scratch .entry)) a (now (scratch .exit)) ⌝ }
 {
     let n = tree.len() / 32;
     let first = c.operands;

@@ -7,7 +7,7 @@ use Rattle.laws.specs.Different.{different}
 use Rattle.syntax.specs.Syntax.{Expr, EInt, EFloat, EStr, EBool, EName, ENull, ESizeOf, EUnary, EBinary, ECall, Args, noArgs, Value, ToType, Statement, SDeclare, SInit, SReturn, SCall, SIf, SIfElse, SWhile, SFor, SBreak, SContinue, Block, done, next, Function}
 
 unfoldable mutual
-  -- of an expression: its own and those of its parts, all of which `get-type` types. 'Type arguments and SizeOf's type are no expressions'
+  -- of an expression: its own and those of its parts, all of which `get-type` types. A type argument and SizeOf's type are no expressions
   pub exprs : Expr → List ℕ
   exprs (EInt r v s u) = r ∷ []
   exprs (EFloat r b s) = r ∷ []

@@ -73,7 +73,7 @@ lent-of-requires-6 : tie.Need-lent-of-requires-6
 lent-of-requires-6 c κs = (c .before .before .before .before .before .before .before .before .before .before .before .before .before .before .before .before .pre, below-5)
 
 slice-aggregate-lent-of-7 : tie.Need-slice-aggregate-lent-of-7
-slice-aggregate-lent-of-7 c = filled 131300 (getD (c .before .before .before .before .before .before .before .before .before .before .before .before .before .before .before .before .before .before .args .head .now) 40 0)
+slice-aggregate-lent-of-7 c = filled 147700 (getD (c .before .before .before .before .before .before .before .before .before .before .before .before .before .before .before .before .before .before .args .head .now) 40 0)
 
 lent-of-requires-7 : tie.Need-lent-of-requires-7
 lent-of-requires-7 c κs = (c .before .before .before .before .before .before .before .before .before .before .before .before .before .before .before .before .before .before .pre, below-6)

@@ -1,5 +1,7 @@
 -- A good tree is converted as the definition converts its program: the functions by key, `main`, then each function, once all types are forgotten.
 -- The laws of the three steps; a refusal of one is the definition's. Assumes nothing.
+use mathlib.Core.Path.{_∙_}
+use native.Mathlib.Omega.{arith}
 use borrow.Author.Needs.{needs}
 use Rattle.converter.proofs.AllLaws.{forgets-keyed, forgets-turns, keys-done, listed-room, tree-unkeyed, tree-mainless, tree-all, room-numbered, tree-numbered}
 use Rattle.converter.proofs.convert_tree.Statement.{statement}
@@ -42,10 +44,19 @@ digest-keys-requires c κs =
     keys-done _ _ _ _ _ (listing .get-all-functions .ensures) _ (c .before .before .before .before .before .before .count .given .1)
 
 forget-requires : tie.Need-forget-requires
-forget-requires c κs = ?
+forget-requires c κs =
+    let start = c .before .before .before .before .before .before .before .before .before .before .before .before .before .before .before .before .before .before .before .before .before .before .before .before in
+    let numbered = c .before .before .before .before .before .before .before .before .before .before .before .before .before .before .before .before .before .before .number-texts .ensures .1 in
+    let listing = c .before .before .before .before .before .before .before .before .before .before .before .before .before .before in
+    let room = listed-room _ _ _ _ _ (listing .get-all-functions .ensures) (start .pre .0) (room-numbered numbered (start .pre .2)) in
+    omega (arith, room, c .before .before .scratch3 .given)
 
 convert-all-requires : tie.Need-convert-all-requires
-convert-all-requires c κs = ?
+convert-all-requires c κs =
+    let start = c .before .before .before .before .before .before .before .before .before .before .before .before .before .before .before .before .before .before .before .before .before .before .before .before .before .before .before .before .before in
+    let forgot = c .before .before .before .before in
+    let digests = c .before .before .before .before .before .before .before .before in
+    ((forgets-keyed _ _ _ (forgot .forget .ensures) _ _ (digests .digest-keys .ensures), start .pre .1), forgets-turns _ _ _ (forgot .forget .ensures) (start .pre .3))
 
 same-length : tie.Need-same-length
 same-length c = search needs
@@ -78,7 +89,17 @@ same-length-4 c = search needs
 
 returns-3 : tie.Need-returns-3
 returns-3 c =
-    ?
+    let start = c .before .before .before .before .before .before .before .before .before .before .before .before .before .before .before .before .before .before .before .before .before .before .before .before .before .before .before .before .before .before .before .before .before .before in
+    let numbered = c .before .before .before .before .before .before .before .before .before .before .before .before .before .before .before .before .before .before .before .before .before .before .before .before .before .before .before .before .number-texts .ensures .1 in
+    let listing = c .before .before .before .before .before .before .before .before .before .before .before .before .before .before .before .before .before .before .before .before .before .before .before .before in
+    let checking = c .before .before .before .before .before .before .before .before .before .before .before .before .before .before .before .before .before in
+    let told = c .before .before .before .before .before .before .before .before .before .before .before .before .before .before .before in
+    let digests = c .before .before .before .before .before .before .before .before .before .before .before .before in
+    let forgot = c .before .before .before .before .before .before .before .before .before in
+    let converting = c .before .before .before .before in
+    tree-numbered numbered
+    (tree-all _ _ _ _ _ (listing .get-all-functions .ensures) (start .pre .0) (room-numbered numbered (start .pre .2)) _ _ (c .before .before .before .before .before .before .before .before .before .before .before .before .before .before .before .before .before .before .before .before .count .given .1) _ (checking .check-main .ensures) (told .enum-told .given .1)
+    _ (forgot .forget .ensures .same-length ∙ digests .scratch3 .given) _ _ _ _ (converting .convert-all .ensures))
 
 pub convert-tree-spec : {M : Type 1} → statement M
 convert-tree-spec =

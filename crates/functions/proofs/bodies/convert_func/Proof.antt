@@ -51,7 +51,7 @@ same-length-2 c = search needs
 returns-2 : tie.Need-returns-2
 returns-2 c =
     let first = c .before .before .before .before .before .before .before .before .before .before .before .before .before in
-    (function-refused (first .pre .0 .0) (first .pre .0 .1) (first .pre .1 .0 .0) (first .pre .1 .0 .1) (first .pre .1 .0 .2) (c .before .before .before .before .before .before .before .before .has-body .ensures) (c .before .before .before .before .before .before .before .if1 .left) (c .before .before .before .before .before .declare-parameters .ensures .0) (c .before .x .given .1), λ k q. refused-finished k q)
+    (function-refused (first .pre .0 .0) (first .pre .0 .1) (first .pre .1 .0 .0) (first .pre .1 .0 .1) (first .pre .1 .0 .2) (c .before .before .before .before .before .before .before .before .has-body .ensures) (c .before .before .before .before .before .before .before .if1 .left) (c .before .before .before .before .before .declare-parameters .ensures .0) (c .before .x .given .1), record { visited = λ k q. refused-finished k q; at-most = λ k q. refused-finished k q })
 
 same-length-3 : tie.Need-same-length-3
 same-length-3 c = search needs
