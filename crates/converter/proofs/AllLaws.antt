@@ -215,13 +215,14 @@ module _ (tree text l₀ s₀ : List ℕ) (count : ℕ) (k : Counters) (j : ℕ)
 -- ---- forgetting, before the first function
 
 module _ (tree s s′ : List ℕ) (g : Forgets tree s s′) where
-  forgets-stays : Stays (records tree) 0 0 s s′
+  forgets-stays : Stays tree 0 0 s s′
   forgets-stays = record {
     long = g .same-length;
     listed = λ i h. g .below i (omega arith);
     open-names = λ i a b d. g .below i (omega arith);
     stack = λ i a b d. g .below i (omega arith);
-    behind = λ i a b. g .below i b;
+    behind = λ i a b. g .below i (omega arith);
+    told = λ j h. absurd (omega (arith, h));
   }
 
   -- the functions by key are as they were

@@ -1,5 +1,5 @@
--- Names by the lowest record with the text: its words A and B say the name's text, and tell it from the open names; so what a search for the words finds, or declaring
--- them leaves, is that of the name. By the laws of the texts' numbers. Assumes nothing.
+-- Names by the lowest record with the text: its words A and B say the name's text, and tell it from the open names, and its slot tells where it stands; so what is
+-- found by them, or declaring them leaves, is that of the name. By the laws of the texts' numbers. Assumes nothing.
 use mathlib.Core.Path.{_≡_, refl, sym, ap, _∙_, subst}
 use mathlib.Core.Bool.{Bool, true, _&&_}
 use mathlib.Core.List.{List}
@@ -7,6 +7,8 @@ use Prim.Native.Nat.{ℕ, _+_, _*_, _≤_, _<_}
 use native.Mathlib.Omega.{arith}
 use lib.Dec.{eqb}
 use lib.ListN.{length}
+use borrow.Author.Tests.{eqb-true}
+use Rattle.laws.proofs.Tests.{and-left, and-right}
 use Rattle.records.specs.Words.{kindOf, wordAt, wordOf, textAt, sameText, records, A, B}
 use Rattle.records.specs.Kinds.{kindName}
 use Rattle.records.specs.Good.{Good}
@@ -14,27 +16,32 @@ use Rattle.records.proofs.GoodLaws.{inside}
 use Rattle.syntax.specs.Decode.{textOf}
 use Rattle.syntax.specs.Places.{IsKind}
 use Rattle.texts.specs.Texts.{hasOwn, hasText, ownText, original, originalAt, Numbered}
-use Rattle.texts.proofs.TextLaws.{original-below, original-text, words-tell}
+use Rattle.texts.proofs.TextLaws.{original-below, original-text, same-original, words-tell}
 use Rattle.ir.specs.declared.structs.VarId.{VarId}
 use Rattle.scope.specs.declared.Scope.{Scope}
 use Rattle.scope.specs.declared.Known.{Known}
 use Rattle.scope.specs.declared.Declared.{Declared}
-use Rattle.scope.specs.Open.{nameIs, wordsAre, Told, FindMeets, FindsTold, DeclareMeets, DeclaresTold}
-use Rattle.expressions.specs.Slots.{originalWord, Original, Scoped, Asked, Ready}
+use Rattle.scope.specs.Open.{nameIs, wordsAre, nameSlotAt, Told, SlotTells, FindMeets, FindsTold, DeclareMeets, DeclaresTold}
+use Rattle.expressions.specs.Slots.{originalOf, originalWord, Original, Scoped, Asked, Ready}
 
 -- ---- numbers that stay
 
-module _ (tree s s′ : List ℕ) (same : (r : ℕ) → r < records tree → wordAt s′ (originalAt (records tree) r) ≡ wordAt s (originalAt (records tree) r)) where
+module _ (tree s s′ : List ℕ) (same : (r : ℕ) → r < records tree → originalOf tree s′ r ≡ originalOf tree s r) where
   pub word-stays : (r k : ℕ) → r < records tree → originalWord tree s′ r k ≡ originalWord tree s r k
   word-stays r k h = ap (λ (z : ℕ). wordOf tree z k) (same r h)
 
-  pub original-stays : (p : ℕ) → wordAt s′ p ≡ wordAt s p → wordAt s′ (p + 4) ≡ wordAt s (p + 4) → Original tree s p → Original tree s′ p
-  original-stays p a b x = record {
+  -- an open name whose words and whose slot stay
+  pub original-stays : (j : ℕ) (x : Original tree s j) → wordAt s′ (8 * records tree + 16 * j) ≡ wordAt s (8 * records tree + 16 * j)
+      → wordAt s′ (8 * records tree + 16 * j + 4) ≡ wordAt s (8 * records tree + 16 * j + 4)
+      → wordAt s′ (nameSlotAt (records tree) (originalOf tree s (x .of))) ≡ wordAt s (nameSlotAt (records tree) (originalOf tree s (x .of))) → Original tree s′ j
+  original-stays j x a b e = record {
     of = x .of;
     below = x .below;
     has-text = x .has-text;
+    inside = rw (same (x .of) (x .below)) (x .inside);
     offset = a ∙ x .offset ∙ sym (word-stays (x .of) A (x .below));
     len = b ∙ x .len ∙ sym (word-stays (x .of) B (x .below));
+    slot = ap (λ (o : ℕ). wordAt s′ (nameSlotAt (records tree) o)) (same (x .of) (x .below)) ∙ e ∙ x .slot;
   }
 
 -- ---- the words of a record's text
@@ -77,12 +84,38 @@ module _ {tree text s : List ℕ} {sc : Scope} {r : ℕ} (q : Asked tree text s 
       rw (q .scoped .records-are, x .offset, x .len, origin-says tree text s (q .numbered) r (q .below) (q .has-text), origin-says tree text s (q .numbered) (x .of) (x .below) (x .has-text))
       (words-tell tree text r (x .of) (q .below) (x .below) (q .has-text) (x .has-text) s (q .numbered) _ _ refl refl)
 
+  -- an open name with these words is the one that the slot of the number says: its own record has the same number
+  told-slot : SlotTells s sc (originalOf tree s r) (originalWord tree s r A) (originalWord tree s r B)
+  unfolding wordsAre
+  told-slot j h t =
+      let x = q .scoped .named j h in
+      let E = eqb (originalWord tree s r A) (wordAt s (8 * sc .records + 16 * j)) in
+      let a : originalWord tree s r A ≡ originalWord tree s (x .of) A =
+      eqb-true _ _ (and-left E _ t) ∙ ap (λ (n : ℕ). wordAt s (8 * n + 16 * j)) (q .scoped .records-are) ∙ x .offset in
+      let b : originalWord tree s r B ≡ originalWord tree s (x .of) B =
+      eqb-true _ _ (and-right E _ t) ∙ ap (λ (n : ℕ). wordAt s (8 * n + 16 * j + 4)) (q .scoped .records-are) ∙ x .len in
+      let same : ownText tree text r ≡ ownText tree text (x .of) =
+      sym (origin-says tree text s (q .numbered) r (q .below) (q .has-text)) ∙ ap (λ (z : ℕ). textAt text z (originalWord tree s r B)) a
+      ∙ ap (textAt text (originalWord tree s (x .of) A)) b ∙ origin-says tree text s (q .numbered) (x .of) (x .below) (x .has-text) in
+      let number : originalOf tree s r ≡ originalOf tree s (x .of) =
+      q .numbered .number r (q .below) (q .has-text) ∙ same-original tree text r (x .of) (x .below) (x .has-text) same
+      ∙ sym (q .numbered .number (x .of) (x .below) (x .has-text)) in
+      ap (λ (n : ℕ). wordAt s (nameSlotAt n (originalOf tree s r))) (q .scoped .records-are)
+      ∙ ap (λ (o : ℕ). wordAt s (nameSlotAt (records tree) o)) number ∙ x .slot
+
+  pub origin-below : originalOf tree s r < records tree
+  origin-below = rw (q .numbered .number r (q .below) (q .has-text)) (original-below tree text r (q .below) (q .has-text))
+
   module _ {o : ℕ} (eo : o ≡ wordAt s (originalAt (sc .records) r)) where
-    number-is : o ≡ wordAt s (originalAt (records tree) r)
+    number-is : o ≡ originalOf tree s r
     number-is = eo ∙ ap (λ (n : ℕ). wordAt s (originalAt n r)) (q .scoped .records-are)
 
-    pub number-below : o < records tree
-    number-below = rw (number-is ∙ q .numbered .number r (q .below) (q .has-text)) (original-below tree text r (q .below) (q .has-text))
+    number-below : o < records tree
+    number-below = rw number-is origin-below
+
+    -- so its slot can be asked
+    pub slot-inside : o < sc .records
+    slot-inside = rw (q .scoped .records-are) number-below
 
     pub origin-inside : o * 32 + 32 ≤ length tree
     origin-inside = inside tree text (q .good) o number-below
@@ -94,11 +127,11 @@ module _ {tree text s : List ℕ} {sc : Scope} {r : ℕ} (q : Asked tree text s 
       is-length : n ≡ originalWord tree s r B
       is-length = en ∙ ap (λ (z : ℕ). wordOf tree z B) number-is
 
-      pub origin-found : (k : Known) → FindsTold s sc a n k → FindMeets text s sc (textOf tree text r A) k
+      pub origin-found : (k : Known) → FindsTold s sc o a n k → FindMeets text s sc (textOf tree text r A) k
       origin-found k m =
           subst (λ (u : List ℕ). FindMeets text s sc u k) origin-text
-          ((rw (is-offset, is-length) at m) text told-words)
+          ((rw (number-is, is-offset, is-length) at m) text told-words told-slot)
 
-      pub origin-declared : (v : VarId) (constant : Bool) (s′ : List ℕ) (d : Declared) → DeclaresTold a n v constant sc s s′ d
-          → DeclareMeets text (originalWord tree s r A) (originalWord tree s r B) v constant sc s s′ d
-      origin-declared v constant s′ d m = (rw (is-offset, is-length) at m) text told-words
+      pub origin-declared : (v : VarId) (constant : Bool) (s′ : List ℕ) (d : Declared) → DeclaresTold o a n v constant sc s s′ d
+          → DeclareMeets text (originalOf tree s r) (originalWord tree s r A) (originalWord tree s r B) v constant sc s s′ d
+      origin-declared v constant s′ d m = (rw (number-is, is-offset, is-length) at m) text told-words told-slot

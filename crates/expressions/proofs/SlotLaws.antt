@@ -11,7 +11,7 @@ use Rattle.laws.proofs.Splices.{length-splice}
 use Rattle.records.specs.Words.{byteAt, wordAt, records}
 use Rattle.conversion.specs.Written.{bytesOf, word}
 use Rattle.scope.specs.declared.Scope.{Scope}
-use Rattle.scope.specs.Open.{scopeAt}
+use Rattle.scope.specs.Open.{nameSlotAt, scopeAt}
 use Rattle.records.proofs.Apart.{byte-apart, word-apart, word-there, word-same, word-back}
 use Rattle.scope.proofs.ScopeLaws.{Kept, scope-kept}
 use Rattle.syntax.specs.Places.{TypeAt}
@@ -21,7 +21,7 @@ use Rattle.keys.proofs.SlotLaws.{slots-stay}
 use Rattle.texts.specs.Texts.{originalAt, textDigestAt}
 use Rattle.texts.proofs.TextLaws.{numbered-stays}
 use Rattle.expressions.proofs.OriginalLaws.{original-stays}
-use Rattle.expressions.specs.Slots.{Scoped, Frame, Ready}
+use Rattle.expressions.specs.Slots.{originalOf, Original, Scoped, Frame, Ready}
 use Rattle.keys.proofs.KeySearch.{records-most}
 
 -- ---- a word that is written
@@ -89,13 +89,20 @@ module _ (tree s s′ : List ℕ) (f : Frame tree s s′) where
   number-frame : (r : ℕ) → r < records tree → wordAt s′ (originalAt (records tree) r) ≡ wordAt s (originalAt (records tree) r)
   number-frame r h = frame-word (originalAt (records tree) r) (inr (omega arith, omega arith))
 
+  -- an open name, whose slot lies there too
+  pub original-frame : (j : ℕ) → j < records tree → Original tree s j → Original tree s′ j
+  original-frame j h x =
+      original-stays tree s s′ number-frame j x
+      (frame-word (8 * records tree + 16 * j) (inr (omega arith, omega arith)))
+      (frame-word (8 * records tree + 16 * j + 4) (inr (omega arith, omega arith)))
+      (frame-word (nameSlotAt (records tree) (originalOf tree s (x .of))) (inr (omega arith, omega (arith, x .inside))))
+
   pub scoped-frame : (sc : Scope) → Scoped tree s sc → Scoped tree s′ sc
   scoped-frame sc k = record {
     records-are = k .records-are;
     room = record { scratch = omega (arith, k .room .scratch, f .same-length); names-in = k .room .names-in };
     types = λ j h. subst (λ (w : ℕ). TypeAt tree (w / 2)) (sym (name-word j 12 (8 * records tree + 16 * j + 12) h (omega arith) (omega arith))) (k .types j h);
-    named = λ j h. original-stays tree s s′ number-frame (8 * records tree + 16 * j) (name-word j 0 (8 * records tree + 16 * j) h (omega arith) (omega arith))
-        (name-word j 4 (8 * records tree + 16 * j + 4) h (omega arith) (omega arith)) (k .named j h);
+    named = λ j h. original-frame j (omega (arith, h, k .records-are, k .room .names-in)) (k .named j h);
   }
     where
       name-word : (j i p : ℕ) → j < sc .names → i ≤ 12 → p ≡ 8 * records tree + 16 * j + i → wordAt s′ p ≡ wordAt s p

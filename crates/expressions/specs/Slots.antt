@@ -22,7 +22,7 @@ use Rattle.conversion.specs.Scope as Def
 use Rattle.conversion.specs.Expressions.{TypedArg, get-type}
 use Rattle.conversion.specs.Written.{word}
 use Rattle.scope.specs.declared.Scope.{Scope}
-use Rattle.scope.specs.Open.{NamesRoom, scopeAt}
+use Rattle.scope.specs.Open.{NamesRoom, nameSlotAt, scopeAt}
 use Rattle.syntax.specs.Places.{IsExpr, TypeAt, exprAt}
 use Rattle.texts.specs.Texts.{hasOwn, originalAt, Numbered}
 use Rattle.keys.specs.Keys.{allKeys, Keyed}
@@ -76,24 +76,30 @@ module _ (tree : List ℕ) where
   ArgsTyped s (Value r e l) = TypeAt tree (slotAt s (place e)) × ArgsTyped s l
   ArgsTyped s (ToType r y l) = ArgsTyped s l
 
-  -- word k of the lowest record with the text of record r, whose number the scratch has
-  abbrev pub originalWord : List ℕ → ℕ → ℕ → ℕ
-  originalWord s r k = wordOf tree (wordAt s (originalAt (records tree) r)) k
+  -- the number of record r's text, as the scratch has it; word k of the record so named, the lowest with the text
+  abbrev pub originalOf : List ℕ → ℕ → ℕ
+  originalOf s r = wordAt s (originalAt (records tree) r)
 
-  -- the two words at byte p are words A and B of such a record
-  pub record Original (s : List ℕ) (p : ℕ) : Type 0 where
+  abbrev pub originalWord : List ℕ → ℕ → ℕ → ℕ
+  originalWord s r k = wordOf tree (originalOf s r) k
+
+  -- the two words of open name j are words A and B of such a record, and the slot of its number says j
+  pub record Original (s : List ℕ) (j : ℕ) : Type 0 where
     pub of : ℕ
     pub below : of < records tree
     pub has-text : hasOwn tree of ≡ true
-    pub offset : wordAt s p ≡ originalWord s of A
-    pub len : wordAt s (p + 4) ≡ originalWord s of B
+    pub inside : originalOf s of < records tree
+    pub offset : wordAt s (8 * records tree + 16 * j) ≡ originalWord s of A
+    pub len : wordAt s (8 * records tree + 16 * j + 4) ≡ originalWord s of B
+    pub slot : wordAt s (nameSlotAt (records tree) (originalOf s of)) ≡ j
 
-  -- the scope is one of this tree, the open names' types are types of this tree, and their words say texts by the lowest record that has them
+  -- the scope is one of this tree, the open names' types are types of this tree, and each says its text by the lowest record that has it and is found
+  -- at the slot of that record
   pub record Scoped (s : List ℕ) (sc : Scope) : Type 0 where
     pub records-are : sc .records ≡ records tree
     pub room : NamesRoom sc s
     pub types : (j : ℕ) → j < sc .names → TypeAt tree (wordAt s (8 * records tree + 16 * j + 12) / 2)
-    pub named : (j : ℕ) → j < sc .names → Original s (8 * records tree + 16 * j)
+    pub named : (j : ℕ) → j < sc .names → Original s j
 
   -- below byte 64n only the region of the slots, from byte 4n to byte 8n, may differ
   pub record Frame (s s′ : List ℕ) : Type 0 where

@@ -243,7 +243,7 @@ fn name_type(tree: &[u8], text: &[u8], scratch: &[u8], scope: Scope, e: usize) -
     let o = original(scratch, scope.records, e);
     let offset = word(tree, o, WORD_A);
     let len = word(tree, o, WORD_B);
-    match scope.find_variable(scratch, offset, len) {
+    match scope.find_variable(scratch, o, offset, len) {
         Known::Is(v, _) => ExprType::Is(v.1 as usize),
         Known::Unknown => refuse(ConvertErrorKind::UnknownVariable, e),
     }

@@ -1,7 +1,6 @@
 -- A function as the code converts it: whether it has a body, its parameters' variables, its body with MissingReturn behind it, and its entry.
 -- By the laws of steps in a row; what declares the parameters emits nothing and numbers them from 0, as the variables' table does. Assumes nothing.
 use mathlib.Core.Path.{_≡_, refl, sym, ap, _∙_, subst}
-use mathlib.Core.Logic.{inl, inr}
 use mathlib.Core.Bool.{Bool, true, false, not, _&&_, true≢false}
 use mathlib.Core.List.{List, [], _∷_, _++_, append-nil, append-assoc, map}
 use mathlib.Core.Option.{Option, none as nothing, some}
@@ -60,7 +59,7 @@ use Rattle.functions.specs.Parameters.{parameterOf, withParams, emptyIn,
 use Rattle.functions.proofs.Members.{function-at-most}
 use Rattle.functions.specs.Bodies.{newVars, begun, FunctionsAfforded, FunctionSpent, FunctionStands, FunctionDone, ConvertsFunction, bodySteps, BodyStands, BodyDone, ConvertsBody, BodyAs, FunctionVisited}
 use Rattle.functions.proofs.ParameterRun.{withTypes, run-made, run-failed}
-use Rattle.functions.proofs.ParameterRegion.{NamesOnly, names-only}
+use Rattle.functions.proofs.ParameterLaws.{names-only, only-stays}
 
 -- ---- what the record says
 
@@ -295,15 +294,6 @@ body-visited tree text {s} {s₁} f {k = k} ew v q p =
 
 -- ---- the parameters' names
 
-names-stay : {tree s s′ : List ℕ} → NamesOnly tree s s′ → Stays (records tree) 0 0 s s′
-names-stay n = record {
-  long = n .same-length;
-  listed = λ i h. n .outside i (inl (omega arith));
-  open-names = λ i a b d. absurd (omega arith);
-  stack = λ i a b d. absurd (omega arith);
-  behind = λ i h j. n .outside i (inr (omega arith));
-}
-
 -- as many names as parameters
 names-more : (l : List Param) (k : ℕ) (S T : Def.Scope) → withParams l k S ≡ ok T → length (T .variables) ≡ length l + length (S .variables)
 unfolding withParams withVariable pick
@@ -338,7 +328,7 @@ module _ (tree text : List ℕ) (functions f : ℕ) (s s₁ : List ℕ) where
       count e = omega (arith, names-more (functionOf tree text f .params) 0 (emptyIn tree text f) (scopeAt tree text s₁ sc) e, open-count text s₁ (sc .records) (sc .names))
 
       go : ParametersMeet tree text functions f s s₁ (Parameters.Done sc) → Declared sc
-      go (ParametersMeet.done asked ready inner function bytes) = record { asked = asked; ready = ready; no-loop = inner; function = function; names = count asked }
+      go (ParametersMeet.done asked ready inner function only bytes) = record { asked = asked; ready = ready; no-loop = inner; function = function; names = count asked }
 
   not-declared : {a : Parameters} → ParametersMeet tree text functions f s s₁ a → {x : ConvertError} → a ≡ Parameters.Refused x
       → withParams (functionOf tree text f .params) 0 (emptyIn tree text f) ≡ err (x .kind) (x .place)
@@ -346,12 +336,12 @@ module _ (tree text : List ℕ) (functions f : ℕ) (s s₁ : List ℕ) where
   not-declared p {x} q = go (subst (ParametersMeet tree text functions f s s₁) q p)
     where
       go : ParametersMeet tree text functions f s s₁ (Parameters.Refused x) → withParams (functionOf tree text f .params) 0 (emptyIn tree text f) ≡ err (x .kind) (x .place)
-      go (ParametersMeet.refused asked bytes) = asked
+      go (ParametersMeet.refused asked only bytes) = asked
 
 -- ---- the function
 
 -- the answers
-module _ {tree text l l′ s s′ : List ℕ} {f : ℕ} {k : Counters} (long : length l′ ≡ length l) (stays : Stays (records tree) 0 0 s s′) where
+module _ {tree text l l′ s s′ : List ℕ} {f : ℕ} {k : Counters} (long : length l′ ≡ length l) (stays : Stays tree 0 0 s s′) where
   function-gives : {k′ : Counters} → FunctionDone tree text f k l k′ l′ → ConvertsFunction tree text f k l s (Finished.Done k′) l′ s′
   function-gives {k′} p = record {
     long = long;
@@ -443,7 +433,7 @@ module _ {tree text l s : List ℕ} {functions f : ℕ} {k : Counters} (keyed : 
       → ConvertsFunction tree text f k l s (Finished.Done k′) l′ s
   unfolding FunctionStands functionRecords pick
   function-bare {b} {k′} {l′} eb q long p =
-      function-gives long (stays-refl (records tree) 0 0 s) (record {
+      function-gives long (stays-refl tree 0 0 s) (record {
         room = p .room;
         spent = subst (λ (x : Counters). FunctionSpent k x (functionRecords (functionOf tree text f))) (sym (p .counts)) (omega arith);
         stands = λ before pool held.
@@ -476,7 +466,7 @@ module _ {tree text l s : List ℕ} {functions f : ℕ} {k : Counters} (keyed : 
 
     pub function-refused : {x : ConvertError} → a ≡ Parameters.Refused x → ConvertsFunction tree text f k l s (Finished.Refused x) l s₁
     function-refused {x} d =
-        function-stops refl (names-stay (names-only tree text functions f s s₁ keyed at a p))
+        function-stops refl (only-stays (names-only p))
         (λ before pool held. refused-run tree text f pool the-body (not-declared tree text functions f s s₁ p d))
 
     -- the visits are those of its body, which begins where nothing was typed yet
@@ -521,7 +511,7 @@ module _ {tree text l s : List ℕ} {functions f : ℕ} {k : Counters} (keyed : 
       unfolding finished
       function-as {l₂} {s₂} {z} i = record {
         long = i .long ∙ v .long;
-        stays = stays-then (omega arith) (omega arith) (names-stay (names-only tree text functions f s s₁ keyed at a p)) (i .stays);
+        stays = stays-then (omega arith) (omega arith) (only-stays (names-only p)) (i .stays);
         gives = λ k′ e. let y = i .gives k′ e in record {
           room = y .room;
           spent = omega (arith, v .spent, y .spent, record-count);

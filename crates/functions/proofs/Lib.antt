@@ -1,7 +1,6 @@
 pub mod FunctionCases
 pub mod Listing
 pub mod ParameterLaws
-pub mod ParameterRegion
 pub mod ParameterRun
 pub mod Turns
 pub mod ReturnLaws

@@ -76,7 +76,7 @@ pub record FunctionDone (tree text : List ℕ) (f : ℕ) (k : Counters) (l : Lis
 
 pub record ConvertsFunction (tree text : List ℕ) (f : ℕ) (k : Counters) (l s : List ℕ) (a : Finished) (l′ s′ : List ℕ) : Type 0 where
   pub long : length l′ ≡ length l
-  pub stays : Stays (records tree) 0 0 s s′
+  pub stays : Stays tree 0 0 s s′
   pub gives : (k′ : Counters) → a ≡ Finished.Done k′ → FunctionDone tree text f k l k′ l′
   pub stops : (e : ConvertError) → a ≡ Finished.Refused e → (before : List IrFunction) (p : Pool) → Holds text (begun before p) k l
       → convert-func (program tree text) (allKeys tree text) (functionOf tree text f) p ≡ err (e .kind) (e .place)

@@ -1,13 +1,14 @@
 -- The parameters of a function in the scope of its body: the first lines of `convert_func`. Assumes nothing: these are definitions.
 use mathlib.Core.Path.{_≡_}
-use Prim.Native.Nat.{ℕ, suc, _+_, _*_}
+use Prim.Native.Nat.{ℕ, suc, _+_, _*_, _≤_, _<_}
 use mathlib.Core.Bool.{true, false}
 use mathlib.Core.List.{List, [], _∷_, _++_}
 use mathlib.Core.Option.{none}
+use lib.ListN.{length}
 use Rattle.laws.specs.Fix.{pick}
 use Rattle.laws.specs.Splice.{splice}
 use Rattle.records.specs.Words as Words
-use Rattle.records.specs.Words.{wordAt, wordOf, records, A, B, C}
+use Rattle.records.specs.Words.{byteAt, wordAt, wordOf, records, A, B, C}
 use Rattle.records.specs.declared.convert_error.ConvertError.{ConvertError}
 use Rattle.syntax.specs.Syntax.{Param}
 use Rattle.syntax.specs.Decode.{textOf}
@@ -17,11 +18,11 @@ use Rattle.conversion.specs.Scope as Def
 use Rattle.conversion.specs.Scope.{Variable, find-variable, withVariable}
 use Rattle.conversion.specs.Written.{word}
 use Rattle.scope.specs.declared.Scope.{Scope}
-use Rattle.scope.specs.Open.{more, scopeAt}
+use Rattle.scope.specs.Open.{more, nameSlotAt, scopeAt}
 use Rattle.functions.specs.declared.parameters.Parameters.{Parameters}
 use Rattle.functions.specs.declared.parameters.Parameters.the-variants as Parameters
 use Rattle.syntax.specs.Places.{functionOf}
-use Rattle.expressions.specs.Slots.{originalWord, Ready}
+use Rattle.expressions.specs.Slots.{originalOf, originalWord, Ready}
 use Rattle.expressions.specs.Answers.{refusal}
 
 -- the parameter in a cell
@@ -56,28 +57,39 @@ untilTaken (p ∷ l) k S = pick (isSome (find-variable (p .name) S)) [] (p ∷ u
 abbrev pub parameterEntry : List ℕ → List ℕ → Param → ℕ → List ℕ
 parameterEntry tree s p k = word (originalWord tree s (p .recOf) A) ++ word (originalWord tree s (p .recOf) B) ++ word k ++ word (2 * p .ty)
 
--- the entries of parameters, numbered from k on, one behind the other
-unfoldable pub entries : List ℕ → List ℕ → List Param → ℕ → List ℕ
-unfolding word wordOf wordAt
-entries tree s [] k = []
-entries tree s (p ∷ l) k = parameterEntry tree s p k ++ entries tree s l (suc k)
+-- the scratch x with it: the entry behind those before, and its place at the slot of its name's number
+abbrev pub parameterAdded : List ℕ → List ℕ → Param → ℕ → List ℕ → List ℕ
+parameterAdded tree s p k x =
+    splice (splice x (8 * records tree + 16 * k) (parameterEntry tree s p k)) (nameSlotAt (records tree) (originalOf tree s (p .recOf))) (word k)
+
+-- with parameters numbered from k on, one after the other
+unfoldable pub parametersAdded : List ℕ → List ℕ → List Param → ℕ → List ℕ → List ℕ
+unfolding word wordOf wordAt splice
+parametersAdded tree s [] k x = x
+parametersAdded tree s (p ∷ l) k x = parametersAdded tree s l (suc k) (parameterAdded tree s p k x)
+
+-- only the regions of the open names, from byte 8n to byte 24n, and of their slots, from byte 56n to byte 60n, may differ
+pub record NamesOnly (tree s s′ : List ℕ) : Type 0 where
+  pub same-length : length s′ ≡ length s
+  pub before : (i : ℕ) → i < 8 * records tree → byteAt s′ i ≡ byteAt s i
+  pub between : (i : ℕ) → 24 * records tree ≤ i → i < 56 * records tree → byteAt s′ i ≡ byteAt s i
+  pub behind : (i : ℕ) → 60 * records tree ≤ i → byteAt s′ i ≡ byteAt s i
 
 -- one parameter more, or its name is taken
 pub data OneMore (tree text : List ℕ) (functions : ℕ) (sc : Scope) (p : Param) (s s′ : List ℕ) : Parameters → Type 0 where
   done : {sc′ : Scope} → Ready tree text s′ functions sc′ → sc′ ≡ more sc
       → isSome (find-variable (p .name) (scopeAt tree text s sc)) ≡ false
       → scopeAt tree text s′ sc′ ≡ withVariable (parameterOf p (sc .names)) (scopeAt tree text s sc)
-      → s′ ≡ splice s (8 * records tree + 16 * sc .names) (parameterEntry tree s p (sc .names)) → OneMore tree text functions sc p s s′ (Parameters.Done sc′)
+      → NamesOnly tree s s′ → s′ ≡ parameterAdded tree s p (sc .names) s → OneMore tree text functions sc p s s′ (Parameters.Done sc′)
   refused : {e : ConvertError} → e ≡ record { kind = AlreadyDeclared; place = p .recOf }
       → isSome (find-variable (p .name) (scopeAt tree text s sc)) ≡ true
       → s′ ≡ s → OneMore tree text functions sc p s s′ (Parameters.Refused e)
 
--- the scope of function f's body; only the entries are written, from byte 8n on: of all parameters or, where a name is taken, of those before
--- (they end by byte 24n: `names-only` in proofs/ParameterRegion.antt)
+-- the scope of function f's body; only the entries and their slots are written: of all parameters or, where a name is taken, of those before
 pub data ParametersMeet (tree text : List ℕ) (functions f : ℕ) (s s′ : List ℕ) : Parameters → Type 0 where
   done : {sc : Scope} → withParams (functionOf tree text f .params) 0 (emptyIn tree text f) ≡ ok (scopeAt tree text s′ sc)
       → Ready tree text s′ functions sc → sc .inner ≡ Words.none → sc .function ≡ f
-      → s′ ≡ splice s (8 * records tree) (entries tree s (functionOf tree text f .params) 0) → ParametersMeet tree text functions f s s′ (Parameters.Done sc)
+      → NamesOnly tree s s′ → s′ ≡ parametersAdded tree s (functionOf tree text f .params) 0 s → ParametersMeet tree text functions f s s′ (Parameters.Done sc)
   refused : {e : ConvertError} → withParams (functionOf tree text f .params) 0 (emptyIn tree text f) ≡ refusal e
-      → s′ ≡ splice s (8 * records tree) (entries tree s (untilTaken (functionOf tree text f .params) 0 (emptyIn tree text f)) 0)
+      → NamesOnly tree s s′ → s′ ≡ parametersAdded tree s (untilTaken (functionOf tree text f .params) 0 (emptyIn tree text f)) 0 s
       → ParametersMeet tree text functions f s s′ (Parameters.Refused e)

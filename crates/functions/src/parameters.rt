@@ -61,7 +61,7 @@ fn declare_parameter(
     let o = original(scratch, scope.records, p);
     let offset = word(tree, o, WORD_A);
     let len = word(tree, o, WORD_B);
-    match scope.declare(scratch, offset, len, v, false) {
+    match scope.declare(scratch, o, offset, len, v, false) {
         Declared::Done(next) => Parameters::Done(next),
         Declared::Taken => taken(p),
     }

@@ -43,9 +43,13 @@ keyDigests = record { from = 48; each = 4 }
 abbrev pub textDigests : Region
 textDigests = record { from = 52; each = 4 }
 
+-- the open names by text: at the slot of a text's number the place among the open names where the text was last declared, a word
+abbrev pub nameSlots : Region
+nameSlots = record { from = 56; each = 4 }
+
 -- left for later
 abbrev pub unused : Region
-unused = record { from = 56; each = 8 }
+unused = record { from = 60; each = 4 }
 
 -- for each expression the turn in which its type was worked out: a word at the slot of its record
 abbrev pub turns : Region
@@ -56,7 +60,7 @@ abbrev pub visitCount : Region
 visitCount = record { from = 68; each = 4 }
 
 abbrev pub layout : List Region
-layout = judging ∷ typeSlots ∷ openNames ∷ operands ∷ originals ∷ keySlots ∷ keyDigests ∷ textDigests ∷ unused ∷ turns ∷ visitCount ∷ []
+layout = judging ∷ typeSlots ∷ openNames ∷ operands ∷ originals ∷ keySlots ∷ keyDigests ∷ textDigests ∷ nameSlots ∷ unused ∷ turns ∷ visitCount ∷ []
 
 -- document 02, point 9: 'Scratch grows to 72n bytes'
 abbrev pub scratchEach : ℕ

@@ -35,6 +35,11 @@ pub const TEXT_DIGESTS: usize = 52;
 
 pub const TEXT_DIGEST_BYTES: usize = 4;
 
+// Where the open name with each text was put last, by the text's number.
+pub const NAME_SLOTS: usize = 56;
+
+pub const NAME_SLOT_BYTES: usize = 4;
+
 // The turns in which the types of expressions were worked out, a word each.
 pub const TURNS: usize = 64;
 

@@ -1,18 +1,20 @@
--- Open names: the search is the definition's, and a name more stands above the others.
+-- Open names: what a slot says is what the definition finds, and a name more stands above the others.
 -- By recursion over the entries, and by the words of one. Assumes nothing.
 use mathlib.Core.Path.{_≡_, refl, sym, ap, ap₂, _∙_, subst}
-use Prim.Native.Nat.{ℕ, zero, suc, _+_, _-_, _*_, _/_, _%_, _^_, _≤_, _<_}
-use mathlib.Core.Bool.{Bool, true, false}
+use Prim.Native.Nat.{ℕ, zero, suc, _+_, _*_, _/_, _%_, _^_, _≤_, _<_}
+use mathlib.Core.Bool.{Bool, true, false, _&&_, false≢true}
 use mathlib.Core.List.{List, _∷_, _++_}
 use mathlib.Core.Option.{Option, none, some}
+use native.Mathlib.Decide.{decLt}
 use native.Mathlib.Numerals.{add-one}
 use native.Mathlib.Omega.{arith}
-use lib.Dec.{eqb}
+use lib.Dec.{eqb, ltb}
 use lib.ListN.{length}
-use borrow.Author.Tests.{eq-eqb, ne-eqb}
+use borrow.Author.Tests.{eq-eqb, ne-eqb, lt-ltb, le-ltb, ltb-true}
 use Rattle.laws.specs.Fix.{pick}
 use Rattle.laws.specs.Below.{last}
 use Rattle.laws.specs.Splice.{splice}
+use Rattle.laws.proofs.Tests.{tested, and-left, and-right}
 use Rattle.records.specs.Words.{byteAt, wordAt, textAt}
 use Rattle.records.proofs.Apart.{word-back, word-there}
 use Rattle.conversion.specs.Ir.{sameText}
@@ -27,26 +29,8 @@ use Rattle.scope.specs.declared.Scope.{Scope}
 use Rattle.scope.specs.declared.Known.{Known}
 use Rattle.scope.specs.declared.Known.the-variants as Known
 use Rattle.scope.specs.declared.Declared.the-variants as Declared
-use Rattle.scope.specs.Open.{variableAt, variablesAt, variablesOf, NamesRoom, nameIs, wordsAre, Told, VariableAt, IsFound, FindMeets, more, variable, nameEntry, NameAfforded, DeclareMeets}
-use Rattle.scope.proofs.ScopeLaws.{kept-above, variables-kept, entry-long}
-
--- ---- the loop
-
-module _ (n : ℕ) (f : ℕ → Bool) where
-  pub last-more : (j : ℕ) → 0 < j → f (j - 1) ≡ false → last n f ≡ last j f → last n f ≡ last (j - 1) f
-  unfolding last pick
-  last-more zero h e w = absurd (omega arith)
-  last-more (suc j) h e w = let z : suc j - 1 ≡ j = omega arith in w ∙ rw z (rw (rw z at e))
-
-  pub last-hit : (j : ℕ) → 0 < j → f (j - 1) ≡ true → last n f ≡ last j f → At (j - 1) ≡ foundOf (last n f)
-  unfolding last pick
-  last-hit zero h e w = absurd (omega arith)
-  last-hit (suc j) h e w = let z : suc j - 1 ≡ j = omega arith in rw (w, z) (rw (rw z at e))
-
-  pub last-end : (j : ℕ) → j ≤ 0 → last n f ≡ last j f → Nothing ≡ foundOf (last n f)
-  unfolding last
-  last-end zero h w = rw w
-  last-end (suc j) h w = absurd (omega arith)
+use Rattle.scope.specs.Open.{variableAt, variablesAt, variablesOf, NamesRoom, nameIs, wordsAre, nameSlotAt, openAt, Told, SlotTells, VariableAt, IsFound, FindMeets, more, variable, nameEntry, nameAdded, NameAfforded, DeclareMeets}
+use Rattle.scope.proofs.ScopeLaws.{Kept, kept-above, word-kept, variables-kept, withEntry, entry-fits, slot-fits, slot-keeps}
 
 -- ---- the search is the definition's
 
@@ -87,16 +71,86 @@ pub find-none : (text s : List ℕ) (sc : Scope) (u : List ℕ) → last (sc .na
 unfolding IsFound
 find-none text s sc u e = subst (λ (m : Option Variable). IsFound Known.Unknown m) (sym (looked text s sc u none e)) tt
 
--- what is found is below the count
-below-by : (n : ℕ) (f : ℕ → Bool) (r : ℕ) → (last n f ≡ some r → r < n) → (b : Bool) → f n ≡ b → last (suc n) f ≡ some r → r < suc n
-unfolding last pick
-below-by n f r rest true q e = let z : some n ≡ some r = (rw q at e) in let w : n ≡ r = cc in omega arith
-below-by n f r rest false q e = omega (arith, rest (rw q at e))
+-- ---- the last hit
 
-pub last-below : (n : ℕ) (f : ℕ → Bool) (r : ℕ) → last n f ≡ some r → r < n
+-- what is found is below the count, and the test holds of it
+hit-by : (n : ℕ) (f : ℕ → Bool) (r : ℕ) → (last n f ≡ some r → (r < n) × (f r ≡ true)) → (b : Bool) → f n ≡ b → last (suc n) f ≡ some r
+    → (r < suc n) × (f r ≡ true)
+unfolding last pick
+hit-by n f r rest true q e = let z : some n ≡ some r = (rw q at e) in let w : n ≡ r = cc in (omega arith, ap f (sym w) ∙ q)
+hit-by n f r rest false q e = let h = rest (rw q at e) in (omega (arith, h .0), h .1)
+
+last-holds : (n : ℕ) (f : ℕ → Bool) (r : ℕ) → last n f ≡ some r → (r < n) × (f r ≡ true)
 unfolding last
-last-below zero f r e = absurd (let z : _≡_ {A = ℕ} 0 1 = cc in omega arith)
-last-below (suc n) f r e = below-by n f r (last-below n f r) (f n) refl e
+last-holds zero f r e = absurd (let z : _≡_ {A = ℕ} 0 1 = cc in omega arith)
+last-holds (suc n) f r e = hit-by n f r (last-holds n f r) (f n) refl e
+
+-- where nothing is found the test holds of none
+miss-by : (n : ℕ) (f : ℕ → Bool) (j : ℕ) → (last n f ≡ none → j < n → f j ≡ false) → (b : Bool) → f n ≡ b → last (suc n) f ≡ none → j < suc n
+    → Dec (j < n) → f j ≡ false
+unfolding last pick
+miss-by n f j rest true q e h d = absurd (let z : some n ≡ none = (rw q at e) in let w : _≡_ {A = ℕ} 0 1 = cc in omega arith)
+miss-by n f j rest false q e h (yes i) = rest (rw q at e) i
+miss-by n f j rest false q e h (no i) = let z : j ≡ n = omega (arith, h, i) in ap f z ∙ q
+
+last-missed : (n : ℕ) (f : ℕ → Bool) (j : ℕ) → last n f ≡ none → j < n → f j ≡ false
+unfolding last
+last-missed zero f j e h = absurd (omega (arith, h))
+last-missed (suc n) f j e h = miss-by n f j (last-missed n f j) (f n) refl e h (decLt j n)
+
+-- tests that agree below a number have the same last hit below it
+last-same : (n : ℕ) (f g : ℕ → Bool) → ((j : ℕ) → j < n → f j ≡ g j) → last n f ≡ last n g
+unfolding last
+last-same zero f g e = refl
+last-same (suc n) f g e = rw (e n (omega arith), last-same n f g (λ j h. e j (omega arith)))
+
+-- ---- the entry that a slot says
+
+module _ (s : List ℕ) (n count o offset len : ℕ) where
+  abbrev said : ℕ
+  said = wordAt s (nameSlotAt n o)
+
+  -- as the code tests it
+  module _ (j : ℕ) (ej : j ≡ said) where
+    pub said-far : count ≤ j → Nothing ≡ foundOf (openAt s n count o offset len)
+    unfolding openAt pick
+    said-far h = rw (← ej, le-ltb j count h)
+
+    pub said-other : j < count → wordsAre s n offset len j ≡ false → Nothing ≡ foundOf (openAt s n count o offset len)
+    unfolding openAt pick
+    said-other h e = rw (← ej, lt-ltb j count h, e)
+
+    pub said-this : j < count → wordsAre s n offset len j ≡ true → At j ≡ foundOf (openAt s n count o offset len)
+    unfolding openAt pick
+    said-this h e = rw (← ej, lt-ltb j count h, e)
+
+  open-holds : (j : ℕ) → openAt s n count o offset len ≡ some j → (j < count) × (wordsAre s n offset len j ≡ true)
+  unfolding openAt pick
+  open-holds j = go (ltb said count && wordsAre s n offset len said) refl
+    where
+      go : (b : Bool) → (ltb said count && wordsAre s n offset len said) ≡ b → pick b (some said) none ≡ some j → (j < count) × (wordsAre s n offset len j ≡ true)
+      go true q e =
+          let z : said ≡ j = cc in (
+            omega (arith, ltb-true said count (and-left (ltb said count) _ q)),
+            ap (wordsAre s n offset len) (sym z) ∙ and-right (ltb said count) _ q,
+          )
+      go false q e = absurd (let z : _≡_ {A = ℕ} 0 1 = cc in omega arith)
+
+  -- where the slot tells, it is the last with the words
+  open-is-last : ((j : ℕ) → j < count → wordsAre s n offset len j ≡ true → said ≡ j) → openAt s n count o offset len ≡ last count (wordsAre s n offset len)
+  unfolding openAt pick
+  open-is-last tells = go (last count (wordsAre s n offset len)) refl
+    where
+      go : (l : Option ℕ) → last count (wordsAre s n offset len) ≡ l → pick (ltb said count && wordsAre s n offset len said) (some said) none ≡ l
+      go (some j) e =
+          let h = last-holds count (wordsAre s n offset len) j e in
+          let z : said ≡ j = tells j (h .0) (h .1) in
+          rw (z, lt-ltb j count (h .0), h .1)
+      go none e =
+          tested (ltb said count && wordsAre s n offset len said)
+          (λ t.
+          absurd (false≢true (sym (last-missed count (wordsAre s n offset len) said e (ltb-true said count (and-left (ltb said count) _ t))) ∙ and-right (ltb said count) _ t)))
+          (λ t. rw t)
 
 -- ---- a name more
 
@@ -115,33 +169,47 @@ unfolding boolNumber
 mark-small y true h = omega arith
 mark-small y false h = omega arith
 
-module _ (text : List ℕ) (offset len : ℕ) (v : VarId) (constant : Bool) (sc : Scope) (s s′ : List ℕ) (room : NamesRoom sc s) (afforded : NameAfforded sc v) where
-  abbrev bytes : List ℕ
-  bytes = nameEntry offset len v constant
-
+module _ (text : List ℕ) (o offset len : ℕ) (v : VarId) (constant : Bool) (sc : Scope) (s s′ : List ℕ) (room : NamesRoom sc s) (afforded : NameAfforded sc v)
+    (inside : o < sc .records) where
   abbrev place : ℕ
   place = 8 * sc .records + 16 * sc .names
 
-  module _ (ho : offset < 2 ^ 32) (hn : len < 2 ^ 32) (hv : v .0 < 2 ^ 32) (e : s′ ≡ splice s place bytes) where
-    fit : place + length bytes ≤ length s
-    fit = omega (arith, entry-long offset len v constant, room .scratch, afforded .names)
+  module _ (ho : offset < 2 ^ 32) (hn : len < 2 ^ 32) (hv : v .0 < 2 ^ 32) (e : s′ ≡ nameAdded o offset len v constant sc s) where
+    abbrev s₁ : List ℕ
+    s₁ = withEntry o offset len v constant sc s room afforded
+
+    fit : place + length (nameEntry offset len v constant) ≤ length s
+    fit = entry-fits o offset len v constant sc s room afforded
+
+    kept : Kept (sc .records) (sc .names + 1) s₁ s′
+    kept = slot-keeps o offset len v constant sc s room afforded inside s′ e
 
     word₀ : wordAt s′ place ≡ offset
     unfolding word bytesOf wordAt byteAt
-    word₀ = ap (λ (x : List ℕ). wordAt x place) e ∙ word-there s place bytes fit 0 place (omega arith) (omega arith) ∙ word-back offset ho
+    word₀ = word-kept text s₁ s′ (sc .records) (sc .names + 1) kept place (omega arith) (omega arith)
+        ∙ word-there s place (nameEntry offset len v constant) fit 0 place (omega arith) (omega arith) ∙ word-back offset ho
 
     word₁ : wordAt s′ (place + 4) ≡ len
     unfolding word bytesOf wordAt byteAt
-    word₁ = ap (λ (x : List ℕ). wordAt x (place + 4)) e ∙ word-there s place bytes fit 4 (place + 4) refl (omega arith) ∙ word-back len hn
+    word₁ = word-kept text s₁ s′ (sc .records) (sc .names + 1) kept (place + 4) (omega arith) (omega arith)
+        ∙ word-there s place (nameEntry offset len v constant) fit 4 (place + 4) refl (omega arith) ∙ word-back len hn
 
     word₂ : wordAt s′ (place + 8) ≡ v .0
     unfolding word bytesOf wordAt byteAt
-    word₂ = ap (λ (x : List ℕ). wordAt x (place + 8)) e ∙ word-there s place bytes fit 8 (place + 8) refl (omega arith) ∙ word-back (v .0) hv
+    word₂ = word-kept text s₁ s′ (sc .records) (sc .names + 1) kept (place + 8) (omega arith) (omega arith)
+        ∙ word-there s place (nameEntry offset len v constant) fit 8 (place + 8) refl (omega arith) ∙ word-back (v .0) hv
 
     word₃ : wordAt s′ (place + 12) ≡ 2 * v .1 + boolNumber constant
     unfolding word bytesOf wordAt byteAt
-    word₃ = ap (λ (x : List ℕ). wordAt x (place + 12)) e ∙ word-there s place bytes fit 12 (place + 12) refl (omega arith)
+    word₃ = word-kept text s₁ s′ (sc .records) (sc .names + 1) kept (place + 12) (omega arith) (omega arith)
+        ∙ word-there s place (nameEntry offset len v constant) fit 12 (place + 12) refl (omega arith)
         ∙ word-back (2 * v .1 + boolNumber constant) (mark-small (v .1) constant (afforded .type))
+
+    slot-word : wordAt s′ (nameSlotAt (sc .records) o) ≡ sc .names
+    unfolding word bytesOf wordAt byteAt
+    slot-word = ap (λ (x : List ℕ). wordAt x (nameSlotAt (sc .records) o)) e
+        ∙ word-there s₁ (nameSlotAt (sc .records) o) (word (sc .names)) (slot-fits o offset len v constant sc s room afforded inside) 0 (nameSlotAt (sc .records) o) (omega arith) (omega arith)
+        ∙ word-back (sc .names) (afforded .place)
 
     entry-is : variableAt text s′ place ≡ variable text offset len v constant
     entry-is = rw (word₀, word₁, word₂, word₃, ← typed-mark (v .1) constant, ← fixed-mark (v .1) constant)
@@ -151,26 +219,30 @@ module _ (text : List ℕ) (offset len : ℕ) (v : VarId) (constant : Bool) (sc 
     added-is =
         ap (variablesAt text s′ (sc .records)) (add-one (sc .names))
         ∙ ap₂ (λ (x : Variable) (l : List Variable). x ∷ l) entry-is
-        (variables-kept text s s′ (sc .records) (sc .names)
-        (kept-above (sc .records) (sc .names) s place bytes s′ e fit (omega arith)) (sc .names) (omega arith))
+        (variables-kept text s₁ s′ (sc .records) (sc .names + 1) kept (sc .names) (omega arith)
+        ∙ variables-kept text s s₁ (sc .records) (sc .names)
+        (kept-above (sc .records) (sc .names) s place (nameEntry offset len v constant) s₁ refl fit (omega arith)) (sc .names) (omega arith))
 
     pub declare-done : last (sc .names) (nameIs text s (sc .records) (textAt text offset len)) ≡ none
-        → DeclareMeets text offset len v constant sc s s′ (Declared.Done (more sc))
+        → last (sc .names) (wordsAre s (sc .records) offset len) ≡ none
+        → DeclareMeets text o offset len v constant sc s s′ (Declared.Done (more sc))
     unfolding DeclareMeets
-    declare-done q = record {
+    declare-done q w = record {
       scope = refl;
       written = e;
       free = looked text s sc (textAt text offset len) none q;
+      new = λ j h. last-missed (sc .names) (wordsAre s (sc .records) offset len) j w h;
       offset-is = word₀;
       length-is = word₁;
+      slot-is = slot-word;
       added = added-is;
     }
 
-pub declare-taken : (text : List ℕ) (offset len : ℕ) (v : VarId) (constant : Bool) (sc : Scope) (s : List ℕ) (j : ℕ)
+pub declare-taken : (text : List ℕ) (o offset len : ℕ) (v : VarId) (constant : Bool) (sc : Scope) (s : List ℕ) (j : ℕ)
     → last (sc .names) (nameIs text s (sc .records) (textAt text offset len)) ≡ some j
-    → DeclareMeets text offset len v constant sc s s Declared.Taken
+    → DeclareMeets text o offset len v constant sc s s Declared.Taken
 unfolding DeclareMeets
-declare-taken text offset len v constant sc s j q = record {
+declare-taken text o offset len v constant sc s j q = record {
   same = refl;
   holder = variableAt text s (8 * sc .records + 16 * j);
   found = looked text s sc (textAt text offset len) (some j) q;
@@ -181,25 +253,22 @@ unfolding boolNumber
 mark-one b true e = omega arith
 mark-one b false e = omega arith
 
--- ---- as the code meets them: what the search answered
+-- ---- as the code meets them: what the slot answered
 
--- tests that agree below a number have the same last hit below it
-last-same : (n : ℕ) (f g : ℕ → Bool) → ((j : ℕ) → j < n → f j ≡ g j) → last n f ≡ last n g
-unfolding last
-last-same zero f g e = refl
-last-same (suc n) f g e = rw (e n (omega arith), last-same n f g (λ j h. e j (omega arith)))
-
-module _ (s : List ℕ) (sc : Scope) (offset len : ℕ) (a : Found) (e : a ≡ foundOf (last (sc .names) (wordsAre s (sc .records) offset len))) where
+module _ (s : List ℕ) (sc : Scope) (o offset len : ℕ) (a : Found) (e : a ≡ foundOf (openAt s (sc .records) (sc .names) o offset len)) where
   pub found-below : (j : ℕ) → a ≡ At j → j < sc .names
   found-below j q =
-      last-below (sc .names) (wordsAre s (sc .records) offset len) j (found-some (last (sc .names) (wordsAre s (sc .records) offset len)) j a e q)
+      open-holds s (sc .records) (sc .names) o offset len j (found-some (openAt s (sc .records) (sc .names) o offset len) j a e q) .0
 
-  module _ (text : List ℕ) (told : Told text s sc offset len) where
+  module _ (text : List ℕ) (told : Told text s sc offset len) (tells : SlotTells s sc o offset len) where
     abbrev search-of : Option ℕ
     search-of = last (sc .names) (nameIs text s (sc .records) (textAt text offset len))
 
+    words-search : a ≡ foundOf (last (sc .names) (wordsAre s (sc .records) offset len))
+    words-search = e ∙ ap foundOf (open-is-last s (sc .records) (sc .names) o offset len tells)
+
     told-search : a ≡ foundOf search-of
-    told-search = e ∙ ap foundOf (sym (last-same (sc .names) (nameIs text s (sc .records) (textAt text offset len)) (wordsAre s (sc .records) offset len) told))
+    told-search = words-search ∙ ap foundOf (sym (last-same (sc .names) (nameIs text s (sc .records) (textAt text offset len)) (wordsAre s (sc .records) offset len) told))
 
     pub find-at : (r : Known) (j : ℕ) → a ≡ At j → VariableAt s (8 * sc .records + 16 * j) r → FindMeets text s sc (textAt text offset len) r
     find-at r j q w = find-hit text s sc (textAt text offset len) r j (found-some search-of j a told-search q) w
@@ -207,14 +276,17 @@ module _ (s : List ℕ) (sc : Scope) (offset len : ℕ) (a : Found) (e : a ≡ f
     pub find-nowhere : a ≡ Nothing → FindMeets text s sc (textAt text offset len) Known.Unknown
     find-nowhere q = find-none text s sc (textAt text offset len) (found-none search-of a told-search q)
 
-    pub declare-at : (v : VarId) (constant : Bool) (j : ℕ) → a ≡ At j → DeclareMeets text offset len v constant sc s s Declared.Taken
-    declare-at v constant j q = declare-taken text offset len v constant sc s j (found-some search-of j a told-search q)
+    pub declare-at : (v : VarId) (constant : Bool) (j : ℕ) → a ≡ At j → DeclareMeets text o offset len v constant sc s s Declared.Taken
+    declare-at v constant j q = declare-taken text o offset len v constant sc s j (found-some search-of j a told-search q)
 
-    pub declare-new : (v : VarId) (constant : Bool) (b : ℕ) (s′ : List ℕ) → NamesRoom sc s → NameAfforded sc v → offset < 2 ^ 32 → len < 2 ^ 32 → v .0 < 2 ^ 32
-        → b ≡ boolNumber constant → a ≡ Nothing
-        → s′ ≡ splice s (8 * sc .records + 16 * sc .names) (word offset ++ word len ++ word (v .0) ++ word (2 * v .1 + b))
-        → DeclareMeets text offset len v constant sc s s′ (Declared.Done (more sc))
-    declare-new v constant b s′ room afforded ho hn hv eb q w =
-        declare-done text offset len v constant sc s s′ room afforded ho hn hv
-        (w ∙ ap (λ (x : ℕ). splice s (8 * sc .records + 16 * sc .names) (word offset ++ word len ++ word (v .0) ++ word (2 * v .1 + x))) eb)
+    pub declare-new : (v : VarId) (constant : Bool) (b : ℕ) (s₁ s′ : List ℕ) → NamesRoom sc s → NameAfforded sc v → o < sc .records
+        → offset < 2 ^ 32 → len < 2 ^ 32 → v .0 < 2 ^ 32 → b ≡ boolNumber constant → a ≡ Nothing
+        → s₁ ≡ splice s (8 * sc .records + 16 * sc .names) (word offset ++ word len ++ word (v .0) ++ word (2 * v .1 + b))
+        → s′ ≡ splice s₁ (nameSlotAt (sc .records) o) (word (sc .names))
+        → DeclareMeets text o offset len v constant sc s s′ (Declared.Done (more sc))
+    declare-new v constant b s₁ s′ room afforded inside ho hn hv eb q w₁ w =
+        declare-done text o offset len v constant sc s s′ room afforded inside ho hn hv
+        (w ∙ ap (λ (x : List ℕ). splice x (nameSlotAt (sc .records) o) (word (sc .names)))
+        (w₁ ∙ ap (λ (x : ℕ). splice s (8 * sc .records + 16 * sc .names) (word offset ++ word len ++ word (v .0) ++ word (2 * v .1 + x))) eb))
         (found-none search-of a told-search q)
+        (found-none (last (sc .names) (wordsAre s (sc .records) offset len)) a words-search q)

@@ -1,6 +1,6 @@
 -- What callers cite: the scope that the bytes stand for stays while the bytes of its names do, so also when a block is left; and `declare`,
 -- `find_variable` and the loop are the definition's. By recursion over the entries, byte for byte, and by unfolding. Assumes nothing.
-use mathlib.Core.Path.{_≡_, refl, sym, ap, ap₂, _∙_, subst}
+use mathlib.Core.Path.{_≡_, refl, sym, ap, ap₂, _∙_}
 use Prim.Native.Nat.{ℕ, zero, suc, _+_, _*_, _≤_, _<_}
 use mathlib.Core.Bool.{Bool}
 use mathlib.Core.Logic.{inl, inr}
@@ -25,7 +25,7 @@ use Rattle.scope.specs.declared.Scope.{Scope}
 use Rattle.scope.specs.declared.Known.the-variants as Known
 use Rattle.scope.specs.declared.InLoop.{InLoop}
 use Rattle.scope.specs.declared.InLoop.the-variants as InLoop
-use Rattle.scope.specs.Open.{variableAt, variablesAt, variablesOf, loopNumber, scopeAt, NamesRoom, IsFound, FindMeets, variable, nameEntry, NameAfforded, Added, Taken, within, loopOf}
+use Rattle.scope.specs.Open.{variableAt, variablesAt, variablesOf, loopNumber, scopeAt, NamesRoom, IsFound, FindMeets, variable, nameSlotAt, nameEntry, nameAdded, NameAfforded, Added, Taken, within, loopOf}
 use Rattle.records.proofs.Apart.{byte-apart, word-same}
 
 -- ---- bytes that stay
@@ -37,10 +37,6 @@ pub record Kept (n m : ℕ) (s s′ : List ℕ) : Type 0 where
 
 pub kept-refl : (n m : ℕ) (s : List ℕ) → Kept n m s s
 kept-refl n m s = record { bytes = λ j a b. refl; long = refl }
-
--- the first m names are kept, and then those and more
-pub kept-then : (n m m′ : ℕ) (s s₁ s₂ : List ℕ) → m ≤ m′ → Kept n m s s₁ → Kept n m′ s₁ s₂ → Kept n m s s₂
-kept-then n m m′ s s₁ s₂ h p q = record { bytes = λ j a b. q .bytes j a (omega arith) ∙ p .bytes j a b; long = q .long ∙ p .long }
 
 -- a run written before all names, and one behind the first m
 module _ (n m : ℕ) (s : List ℕ) (i : ℕ) (vs s′ : List ℕ) (e : s′ ≡ splice s i vs) (fit : i + length vs ≤ length s) where
@@ -95,31 +91,43 @@ pub entry-long : (offset len : ℕ) (v : VarId) (constant : Bool) → length (na
 unfolding word bytesOf
 entry-long offset len v constant = refl
 
-module _ (tree text : List ℕ) (offset len : ℕ) (v : VarId) (constant : Bool) (sc : Scope) (s s′ : List ℕ) where
+pub place-long : (w : ℕ) → length (word w) ≡ 4
+unfolding word bytesOf
+place-long w = refl
+
+-- the entry is written behind the others, and then the slot of o
+module _ (o offset len : ℕ) (v : VarId) (constant : Bool) (sc : Scope) (s : List ℕ) (r : NamesRoom sc s) (f : NameAfforded sc v) where
+  -- the scratch with the entry alone
+  abbrev pub withEntry : List ℕ
+  withEntry = splice s (8 * sc .records + 16 * sc .names) (nameEntry offset len v constant)
+
+  pub entry-fits : 8 * sc .records + 16 * sc .names + length (nameEntry offset len v constant) ≤ length s
+  entry-fits = omega (arith, entry-long offset len v constant, r .scratch, f .names)
+
+  pub with-long : length withEntry ≡ length s
+  with-long = length-splice s (8 * sc .records + 16 * sc .names) (nameEntry offset len v constant) entry-fits
+
+  module _ (ho : o < sc .records) where
+    pub slot-fits : nameSlotAt (sc .records) o + length (word (sc .names)) ≤ length withEntry
+    slot-fits = omega (arith, place-long (sc .names), with-long, r .scratch)
+
+    -- the slot lies behind all names
+    pub slot-keeps : (s′ : List ℕ) → s′ ≡ nameAdded o offset len v constant sc s → Kept (sc .records) (sc .names + 1) withEntry s′
+    slot-keeps s′ e =
+        kept-above (sc .records) (sc .names + 1) withEntry (nameSlotAt (sc .records) o) (word (sc .names)) s′ e slot-fits (omega (arith, f .names))
+
+    pub added-long : (s′ : List ℕ) → s′ ≡ nameAdded o offset len v constant sc s → length s′ ≡ length s
+    added-long s′ e = slot-keeps s′ e .long ∙ with-long
+
+module _ (tree text : List ℕ) (o offset len : ℕ) (v : VarId) (constant : Bool) (sc : Scope) (s s′ : List ℕ) where
   abbrev new : Variable
   new = variable text offset len v constant
 
-  module _ (sc′ : Scope) (a : Added text offset len v constant sc s s′ sc′) where
-    -- what was written lies inside the scratch
-    pub added-fits : NamesRoom sc s → NameAfforded sc v → 8 * sc .records + 16 * sc .names + length (nameEntry offset len v constant) ≤ length s
-    added-fits r f = omega (arith, entry-long offset len v constant, r .scratch, f .names)
-
-    pub added-long : NamesRoom sc s → NameAfforded sc v → length s′ ≡ length s
-    added-long r f = ap length (a .written) ∙ length-splice s (8 * sc .records + 16 * sc .names) (nameEntry offset len v constant) (added-fits r f)
-
-    pub added-room : NamesRoom sc s → NameAfforded sc v → NamesRoom sc′ s′
-    added-room r f = rw (a .scope) (record { scratch = omega (arith, added-long r f, r .scratch); names-in = omega (arith, f .names) })
-
-    -- the names from before stay
-    pub added-keeps : NamesRoom sc s → NameAfforded sc v → Kept (sc .records) (sc .names) s s′
-    added-keeps r f =
-        kept-above (sc .records) (sc .names) s (8 * sc .records + 16 * sc .names) (nameEntry offset len v constant) s′ (a .written) (added-fits r f) (omega arith)
-
-    -- a block is left: a name was declared, and then what follows kept it with those before; those before stay
-    pub block-keeps : (s₂ : List ℕ) → NamesRoom sc s → NameAfforded sc v → Kept (sc′ .records) (sc′ .names) s′ s₂ → Kept (sc .records) (sc .names) s s₂
-    block-keeps s₂ r f k =
-        kept-then (sc .records) (sc .names) (sc .names + 1) s s′ s₂ (omega arith) (added-keeps r f)
-        (subst (λ (x : Scope). Kept (x .records) (x .names) s′ s₂) (a .scope) k)
+  module _ (sc′ : Scope) (a : Added text o offset len v constant sc s s′ sc′) where
+    pub added-room : NamesRoom sc s → NameAfforded sc v → o < sc .records → NamesRoom sc′ s′
+    added-room r f h =
+        rw (a .scope)
+        (record { scratch = omega (arith, added-long o offset len v constant sc s r f h s′ (a .written), r .scratch); names-in = omega (arith, f .names) })
 
     -- the entry behind the others is the variable's
     pub added-entry : variableAt text s′ (8 * sc .records + 16 * sc .names) ≡ new
@@ -140,7 +148,7 @@ module _ (tree text : List ℕ) (offset len : ℕ) (v : VarId) (constant : Bool)
     declare-ok p = rw (a .free) (ap (λ (x : Defined.Scope). ok x) (sym scope-more))
 
   -- taken: the definition's error, at the place that is asked for
-  pub declare-err : Taken text offset len v constant sc s s′ → (p : ℕ) → declare new p (scopeAt tree text s sc) ≡ err AlreadyDeclared p
+  pub declare-err : Taken text o offset len v constant sc s s′ → (p : ℕ) → declare new p (scopeAt tree text s sc) ≡ err AlreadyDeclared p
   unfolding declare declareNew find-variable scopeAt
   declare-err t p = rw (t .found)
 

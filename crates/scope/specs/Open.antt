@@ -2,13 +2,14 @@
 -- nothing: these are definitions.
 use mathlib.Core.Path.{_≡_}
 use Prim.Native.Nat.{ℕ, zero, suc, _+_, _*_, _/_, _%_, _≤_, _<_}
-use mathlib.Core.Bool.{Bool, _&&_}
+use mathlib.Core.Bool.{Bool, true, false, _&&_}
 use mathlib.Core.List.{List, [], _∷_, _++_}
 use mathlib.Core.Option.{Option, none, some}
-use lib.Dec.{eqb}
+use lib.Dec.{eqb, ltb}
 use lib.ListN.{length}
 use Rattle.laws.specs.Fix.{pick}
 use Rattle.laws.specs.Splice.{splice}
+use Rattle.records.specs.Layout.{nameSlots}
 use Rattle.records.specs.Words as Words
 use Rattle.records.specs.Words.{wordAt, textAt}
 use Rattle.syntax.specs.Places.{functionOf}
@@ -73,9 +74,24 @@ nameIs text s n u j = sameText u (textAt text (wordAt s (8 * n + 16 * j)) (wordA
 unfoldable pub wordsAre : List ℕ → ℕ → ℕ → ℕ → ℕ → Bool
 wordsAre s n offset len j = eqb offset (wordAt s (8 * n + 16 * j)) && eqb len (wordAt s (8 * n + 16 * j + 4))
 
+-- where the slot of the text with number o stands in the scratch of n records
+abbrev pub nameSlotAt : ℕ → ℕ → ℕ
+nameSlotAt n o = nameSlots .from * n + nameSlots .each * o
+
+-- the entry that the slot of o says, where it is one of the first `count` and has the two words
+unfoldable pub openAt : List ℕ → ℕ → ℕ → ℕ → ℕ → ℕ → Option ℕ
+unfolding pick wordsAre
+openAt s n count o offset len =
+    let j = wordAt s (nameSlotAt n o) in
+    pick (ltb j count && wordsAre s n offset len j) (some j) none
+
 -- the two words tell the text that they say from those of the open names: an entry has the text exactly where it has the words
 abbrev pub Told : List ℕ → List ℕ → Scope → ℕ → ℕ → Type 0
 Told text s sc offset len = (j : ℕ) → j < sc .names → nameIs text s (sc .records) (textAt text offset len) j ≡ wordsAre s (sc .records) offset len j
+
+-- the slot of o tells where they stand: an open name with the two words is the one that it says
+abbrev pub SlotTells : List ℕ → Scope → ℕ → ℕ → ℕ → Type 0
+SlotTells s sc o offset len = (j : ℕ) → j < sc .names → wordsAre s (sc .records) offset len j ≡ true → wordAt s (nameSlotAt (sc .records) o) ≡ j
 
 unfoldable pub VariableAt : List ℕ → ℕ → Known → Type 0
 VariableAt s p (Known.Is v c) = (varOf v ≡ varAt s p) × (c ≡ constantAt s p)
@@ -92,9 +108,10 @@ IsFound Known.Unknown none = Unit {0}
 abbrev pub FindMeets : List ℕ → List ℕ → Scope → List ℕ → Known → Type 0
 FindMeets text s sc u r = IsFound r (findIn u (variablesOf text s sc))
 
--- the same of two words, in every text where they tell the name
-abbrev pub FindsTold : List ℕ → Scope → ℕ → ℕ → Known → Type 0
-FindsTold s sc offset len r = (text : List ℕ) → Told text s sc offset len → FindMeets text s sc (textAt text offset len) r
+-- the same of a number and two words, in every text where the words tell the name and the slot its place
+abbrev pub FindsTold : List ℕ → Scope → ℕ → ℕ → ℕ → Known → Type 0
+FindsTold s sc o offset len r =
+    (text : List ℕ) → Told text s sc offset len → SlotTells s sc o offset len → FindMeets text s sc (textAt text offset len) r
 
 -- ---- one name more
 
@@ -108,19 +125,28 @@ variable text offset len v constant = record { name = textAt text offset len; co
 abbrev pub nameEntry : ℕ → ℕ → VarId → Bool → List ℕ
 nameEntry offset len v constant = word offset ++ word len ++ word (v .0) ++ word (2 * v .1 + boolNumber constant)
 
--- a name more is afforded, and its type has room beside the mark
+-- the scratch with that entry behind the others, and its place at the slot of o
+abbrev pub nameAdded : ℕ → ℕ → ℕ → VarId → Bool → Scope → List ℕ → List ℕ
+nameAdded o offset len v constant sc s =
+    splice (splice s (8 * sc .records + 16 * sc .names) (nameEntry offset len v constant)) (nameSlotAt (sc .records) o) (word (sc .names))
+
+-- a name more is afforded, its place fits a word, and its type has room beside the mark
 pub record NameAfforded (sc : Scope) (v : VarId) : Type 0 where
   pub names : sc .names < sc .records
+  pub place : sc .names < 4294967296
   pub type : v .1 < 2147483648
 
-module _ (text : List ℕ) (offset len : ℕ) (v : VarId) (constant : Bool) (sc : Scope) (s s′ : List ℕ) where
-  -- the name was free; its entry stands behind the others, with the two words, and the variable is the innermost
+module _ (text : List ℕ) (o offset len : ℕ) (v : VarId) (constant : Bool) (sc : Scope) (s s′ : List ℕ) where
+  -- the name was free, and its words no open name's; its entry stands behind the others, with the two words, its place at the slot of o, and the variable
+  -- is the innermost
   pub record Added (sc′ : Scope) : Type 0 where
     pub scope : sc′ ≡ more sc
-    pub written : s′ ≡ splice s (8 * sc .records + 16 * sc .names) (nameEntry offset len v constant)
+    pub written : s′ ≡ nameAdded o offset len v constant sc s
     pub free : findIn (textAt text offset len) (variablesOf text s sc) ≡ none
+    pub new : (j : ℕ) → j < sc .names → wordsAre s (sc .records) offset len j ≡ false
     pub offset-is : wordAt s′ (8 * sc .records + 16 * sc .names) ≡ offset
     pub length-is : wordAt s′ (8 * sc .records + 16 * sc .names + 4) ≡ len
+    pub slot-is : wordAt s′ (nameSlotAt (sc .records) o) ≡ sc .names
     pub added : variablesOf text s′ sc′ ≡ variable text offset len v constant ∷ variablesOf text s sc
 
   -- some variable has the name, and nothing is written
@@ -133,9 +159,10 @@ module _ (text : List ℕ) (offset len : ℕ) (v : VarId) (constant : Bool) (sc 
   DeclareMeets (Declared.Done sc′) = Added sc′
   DeclareMeets Declared.Taken = Taken
 
--- `declare` of two words, in every text where they tell the name
-abbrev pub DeclaresTold : ℕ → ℕ → VarId → Bool → Scope → List ℕ → List ℕ → Declared → Type 0
-DeclaresTold offset len v constant sc s s′ r = (text : List ℕ) → Told text s sc offset len → DeclareMeets text offset len v constant sc s s′ r
+-- `declare` of a number and two words, in every text where the words tell the name and the slot its place
+abbrev pub DeclaresTold : ℕ → ℕ → ℕ → VarId → Bool → Scope → List ℕ → List ℕ → Declared → Type 0
+DeclaresTold o offset len v constant sc s s′ r =
+    (text : List ℕ) → Told text s sc offset len → SlotTells s sc o offset len → DeclareMeets text o offset len v constant sc s s′ r
 
 -- ---- loops
 

@@ -1,21 +1,25 @@
 // scope.rs: the names that are known at a place. They stand in scratch, the innermost last; the scope is a cursor by value that says how
 // many are open. Leaving a block is going on with the scope from before it. Names are told apart by two words, offset and length: callers take
-// those of the lowest record with the text, so no text is compared.
+// those of the lowest record with the text, so no text is compared. The number of that record has a slot, which says where the text was declared
+// last, so no name is searched for.
 ghost use mathlib.Core.Path.{_≡_};
-ghost use Prim.Native.Nat.{_+_, _*_, _≤_};
+ghost use Prim.Native.Nat.{_+_, _*_, _≤_, _<_};
 ghost use lib.ListN.{length};
 ghost use Rattle.ir.specs.Search.{foundOf};
-ghost use Rattle.laws.specs.Below.{last};
-ghost use Rattle.scope.specs.Open.{wordsAre, NamesRoom, VariableAt, FindsTold, NameAfforded, DeclaresTold, within, loopNumber, loopOf};
+ghost use Rattle.scope.specs.Open.{wordsAre, openAt, NamesRoom, VariableAt, FindsTold, NameAfforded, DeclaresTold, within, loopNumber, loopOf};
 use ir::structs::VarId;
+use records::layout::NAME_SLOT_BYTES;
+use records::layout::NAME_SLOTS;
 use records::layout::OPEN_NAME_BYTES;
 use records::layout::OPEN_NAMES;
 use records::words::Found;
 use records::words::Four;
 use records::words::NONE;
+use records::words::index;
 use records::words::load;
 use records::words::mark;
 use records::words::put_four;
+use records::words::put_word;
 
 // For a tree of so many records: how many names are open, the record of the innermost loop (or NONE), and the function's record.
 pub struct Scope {
@@ -53,18 +57,18 @@ fn entry_is(scratch: &[u8], records: usize, j: usize, offset: u32, len: u32) -> 
     (offset == a) & (len == n)
 }
 
-// The last of `count` open names that these two words say.
-fn last_open(scratch: &[u8], records: usize, count: usize, offset: u32, len: u32) -> Found
-    requires { ⌜ 8 * records + 16 * count ≤ length (now scratch) ⌝ }
-    ensures { λ r. ⌜ r ≡ foundOf (last count (wordsAre (now (scratch .entry)) records offset len)) ⌝ }
+// The one of `count` open names that these two words say, with the text of number o: it stands where the slot says that the text was declared last. A
+// slot outlives its name's block and is never cleared, so the entry there is held against the count and the words.
+fn open_at(scratch: &[u8], records: usize, count: usize, o: usize, offset: u32, len: u32) -> Found
+    requires { ⌜ (72 * records ≤ length (now scratch)) × (count ≤ records) × (o < records) ⌝ }
+    ensures { λ r. ⌜ r ≡ foundOf (openAt (now (scratch .entry)) records count o offset len) ⌝ }
 {
-    let mut j = count;
-    while 0 < j {
-        let i = j - 1;
-        if entry_is(scratch, records, i, offset, len) {
-            return Found::At(i);
-        }
-        j = i;
+    let j = index(load(scratch, NAME_SLOTS * records + NAME_SLOT_BYTES * o));
+    if count <= j {
+        return Found::Nothing;
+    }
+    if entry_is(scratch, records, j, offset, len) {
+        return Found::At(j);
     }
     Found::Nothing
 }
@@ -79,14 +83,16 @@ fn variable_at(scratch: &[u8], records: usize, j: usize) -> Known
 }
 
 impl Scope {
-    // The variable of this name, in this block or those around it, in any text where the two words tell it from the open ones.
-    pub fn find_variable(self, scratch: &[u8], offset: u32, len: u32) -> Known
+    // The variable of this name, in this block or those around it, in any text where the two words tell it from the open ones, and where the slot of its
+    // number o says where it stands.
+    pub fn find_variable(self, scratch: &[u8], o: usize, offset: u32, len: u32) -> Known
         requires { ⌜ NamesRoom self (now scratch) ⌝ }
-        ensures { λ r. ⌜ FindsTold (now (scratch .entry)) self offset len r ⌝ }
+        requires { ⌜ o < self .records ⌝ }
+        ensures { λ r. ⌜ FindsTold (now (scratch .entry)) self o offset len r ⌝ }
     {
         let n = self.records;
         let count = self.names;
-        match last_open(scratch, n, count, offset, len) {
+        match open_at(scratch, n, count, o, offset, len) {
             Found::At(j) => variable_at(scratch, n, j),
             Found::Nothing => Known::Unknown,
         }
@@ -97,6 +103,7 @@ impl Scope {
     pub fn declare(
         self,
         scratch: &mut [u8],
+        o: usize,
         offset: u32,
         len: u32,
         v: VarId,
@@ -104,18 +111,20 @@ impl Scope {
     ) -> Declared
         requires { ⌜ NamesRoom self (now scratch) ⌝ }
         requires { ⌜ NameAfforded self v ⌝ }
-        ensures { λ r. ⌜ DeclaresTold offset len v constant self (now (scratch .entry)) (now (scratch .exit)) r ⌝ }
+        requires { ⌜ o < self .records ⌝ }
+        ensures { λ r. ⌜ DeclaresTold o offset len v constant self (now (scratch .entry)) (now (scratch .exit)) r ⌝ }
     {
         let n = self.records;
         let count = self.names;
         let ty = v.1;
-        if let Found::At(_) = last_open(scratch, n, count, offset, len) {
+        if let Found::At(_) = open_at(scratch, n, count, o, offset, len) {
             return Declared::Taken;
         }
         let w = Four(offset, len, v.0, 2 * ty + mark(constant));
         let mut next = self;
         next.names = count + 1;
         put_four(scratch, OPEN_NAMES * n + OPEN_NAME_BYTES * count, w);
+        put_word(scratch, NAME_SLOTS * n + NAME_SLOT_BYTES * o, count as u32);
         Declared::Done(next)
     }
 

@@ -228,7 +228,7 @@ module _ {tree text l₀ s₀ : List ℕ} {c : Converter} {e : ℕ} (p : Convert
     cells = call-list tree text good e x;
     low = first-low;
     long = refl;
-    stays = stays-refl (records tree) (c .scope .names) (c .operands) s₀;
+    stays = stays-refl tree (c .scope .names) (c .operands) s₀;
     names = names-refl tree s₀;
     typed = λ i a b. absurd (omega arith);
     below-is = omega arith;
@@ -383,15 +383,15 @@ module _ {tree text l₀ s₀ : List ℕ} {c : Converter} {e : ℕ} (p : Convert
               abbrev pushed : Converter
               pushed = record { functions = at .functions; scope = at .scope; counters = k; operands = at .operands + 1; turn = at .turn }
 
-              put-stays : (names operands : ℕ) → operands ≤ at .operands → names ≤ records tree → Stays (records tree) names operands s₁ s₂
+              put-stays : (names operands : ℕ) → operands ≤ at .operands → names ≤ records tree → Stays tree names operands s₁ s₂
               put-stays names operands h m =
-                  operand-stays (records tree) names operands s₁ s₂ (operandBytes (operandOf o)) (entryAt (records tree) (at .operands)) put (operand-long (operandOf o))
-                  (omega (arith, n .stays .long, i .converting .ready .keyed .listed .room)) (at .operands) refl h value-room m
+                  operand-stays tree names operands s₁ s₂ (operandBytes (operandOf o)) (entryAt (records tree) (at .operands)) put (operand-long (operandOf o))
+                  (omega (arith, n .stays .long, i .converting .ready .keyed .listed .room)) (at .operands) refl h value-room
 
               names-in : at .scope .names ≤ records tree
               names-in = omega (arith, f .names, names-same)
 
-              after : Stays (records tree) (at .scope .names) (at .operands) s s₂
+              after : Stays tree (at .scope .names) (at .operands) s s₂
               after = stays-then (omega arith) (omega arith) (n .stays) (put-stays (at .scope .names) (at .operands) (omega arith) names-in)
 
               pushed-converting : Converting tree text l₁ s₂ pushed

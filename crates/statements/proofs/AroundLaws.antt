@@ -208,7 +208,7 @@ module _ {tree text l s : List ℕ} {c : Converter} (e : ℕ) (dest : VarId) whe
   cast-none {x = x} h q =
       converts-same (ap (λ (z : ℕ). castFirst e (varOf dest) (stackAt s (records tree) (c .operands) z)) (sym h))
       (converts-refused refl (subst (λ (z : ConvertError). StopsIn text (castFirst e (varOf dest) []) (c .counters) l (z .kind) (z .place)) (sym q)
-      (fail-stops text (c .counters) l WouldPanic e)) (stays-refl (records tree) (c .scope .names) (c .operands) s) (names-refl tree s))
+      (fail-stops text (c .counters) l WouldPanic e)) (stays-refl tree (c .scope .names) (c .operands) s) (names-refl tree s))
 
   pub cast-some : (count : ℕ) {first : Operand} {k : Counters} {l′ : List ℕ} → (count ≡ 0 → ⊥) → operandOf first ≡ operandAt s (records tree) (c .operands)
       → length l′ ≡ length l → Emits (cast dest first) (c .counters) l k l′ → TypeAt tree (dest .1)
@@ -218,7 +218,7 @@ module _ {tree text l s : List ℕ} {c : Converter} (e : ℕ) (dest : VarId) whe
   cast-some (suc count) {k = k} {l′ = l′} n q h p t =
       converts-gave h (adds-in text (adds-most (adds-seq (pure (OVar (varOf dest)))
       (subst (λ (o : Ir.Operand). Adds (emit (Cast (varOf dest) o)) (amount 1 0 0 0 0) (c .counters) l tt k l′) q (emit-adds h p))
-      (adds-pure (OVar (varOf dest)) k l′ (p .next .room))) (omega arith))) t (stays-refl (records tree) (c .scope .names) (c .operands) s) (names-refl tree s)
+      (adds-pure (OVar (varOf dest)) k l′ (p .next .room))) (omega arith))) t (stays-refl tree (c .scope .names) (c .operands) s) (names-refl tree s)
 
 call-parts : (P : Program) (F : Functions) (r : ℕ) (dest : Ir.VarId) (f : Function) (given : Args) (operands : List Ir.Operand)
     → (passArgs P f given operands >> emit (Call (some dest) (f .recOf))) >> pure (OVar dest) ≡ callValue P F r dest given operands (CallFunction f)

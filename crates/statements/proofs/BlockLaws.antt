@@ -137,7 +137,7 @@ module _ {tree text l s : List ℕ} {c : Converter} {r : ℕ} (p : Converting tr
 
   pub comment-converting : Converting tree text l₁ s (begun c k)
   comment-converting =
-      let q = converting-next p (next-in text (i .next)) (stays-refl (records tree) (c .scope .names) (c .operands) s) in
+      let q = converting-next p (next-in text (i .next)) (stays-refl tree (c .scope .names) (c .operands) s) in
       record { ready = q .ready; function = q .function; loop = q .loop; records-are = q .records-are; room = q .room }
 
   pub comment-afforded : BehindAfforded tree text (begun c k) r

@@ -366,7 +366,7 @@ module _ {tree text l s : List ℕ} {c : Converter} {r : ℕ} (p : Converting tr
             module _ {k₂ : Counters} {l₃ : List ℕ} {o : ℕ} (i : Adds (ifMiddle r) (amount 2 0 2 0 0) k₁ l₂ tt k₂ l₃) (eo : o ≡ wordOf tree r C) where
               pub other-converting : Converting tree text l₃ s₂ (withCounters c k₂)
               other-converting =
-                  converting-next (finished-converting g u (finished-converting h q p)) (next-in text (i .next)) (stays-refl (records tree) (c .scope .names) (c .operands) s₂)
+                  converting-next (finished-converting g u (finished-converting h q p)) (next-in text (i .next)) (stays-refl tree (c .scope .names) (c .operands) s₂)
 
               pub other-afforded : BlockAfforded tree text (withCounters c k₂) o
               other-afforded =

@@ -76,7 +76,7 @@ module _ {tree text l₀ s₀ : List ℕ} {c : Converter} {first : ℕ} (p : Con
     cells = x;
     low = omega arith;
     long = refl;
-    stays = stays-refl (records tree) (c .scope .names) (c .operands) s₀;
+    stays = stays-refl tree (c .scope .names) (c .operands) s₀;
     least = omega arith;
     most = omega arith;
     passed-is = omega arith;

@@ -1,11 +1,10 @@
 -- A name declared behind a new variable: the scope with one name more, what stays of the scratch, and the steps up to there. The zero of a type, by its form.
--- By what `declare` owes: its entry stands behind the open names, and the variable's type is one of the tree's. Assumes nothing.
+-- By what `declare` owes, and the variable's type is one of the tree's. Assumes nothing.
 use mathlib.Core.Path.{_≡_, refl, sym, ap, _∙_, subst}
 use mathlib.Core.Bool.{Bool, true, false}
 use mathlib.Core.List.{List, []}
 use mathlib.Core.Option.{Option, some}
 use Prim.Native.Nat.{ℕ, zero, suc, _+_, _*_, _/_, _%_, _≤_, _<_}
-use native.Mathlib.Decide.{decLt}
 use native.Mathlib.Omega.{arith}
 use lib.Dec.{ltb}
 use lib.ListN.{length, getD}
@@ -49,11 +48,11 @@ use Rattle.scope.specs.declared.Declared.{Declared}
 use Rattle.scope.specs.declared.Declared.the-variants as Declared
 use Rattle.scope.specs.declared.InLoop.{InLoop}
 use Rattle.scope.specs.declared.InLoop.the-variants as InLoop
-use Rattle.scope.specs.Open.{variable, NameAfforded, Added, Taken, DeclareMeets, IsFound, FindMeets, variableAt, variablesAt, variablesOf, loopOf, loopNumber, scopeAt, nameEntry}
-use Rattle.scope.proofs.ScopeLaws.{entry-long, added-entry, added-room, declare-ok, declare-err, in-loop}
+use Rattle.scope.specs.Open.{variable, NameAfforded, Added, Taken, DeclareMeets, IsFound, FindMeets, variableAt, variablesAt, variablesOf, loopOf, loopNumber, scopeAt}
+use Rattle.scope.proofs.ScopeLaws.{declare-ok, declare-err, in-loop}
 use Rattle.keys.specs.Keys.{allKeys}
 use Rattle.texts.specs.Texts.{hasText}
-use Rattle.expressions.specs.Slots.{originalWord, Original, Asked, Ready}
+use Rattle.expressions.specs.Slots.{originalOf, originalWord, Asked}
 use Rattle.expressions.proofs.OriginalLaws.{origin-text, kind-asked}
 use Rattle.expressions.proofs.TakeLaws.{as-type}
 use Rattle.statements.specs.declared.answers.Converter.{Converter}
@@ -66,8 +65,9 @@ use Rattle.statements.specs.Parts.{jumpTo, zeroFloat}
 use Rattle.statements.specs.Answers.{finishedOf, Leaves, States, StatesAs, declareSteps, breakSteps, continueSteps}
 use Rattle.statements.specs.Turns.{InTurn, TypedIn, TurnsStay}
 use Rattle.statements.proofs.MeetLaws.{adds-in, adds-then, adds-seq, adds-pure, adds-most, adds-same, meets-gave, meets-refused, meets-same, meets-then, meets-lift}
-use Rattle.statements.proofs.StayLaws.{stays-refl, name-stays, original-word, ready-stays}
-use Rattle.statements.proofs.TurnLaws.{turns-entry, stay-typed}
+use Rattle.statements.proofs.AddedLaws.{added-stays, added-turns, added-ready}
+use Rattle.statements.proofs.StayLaws.{stays-refl}
+use Rattle.statements.proofs.TurnLaws.{stay-typed}
 use Rattle.statements.proofs.FitLaws.{forms, type-is}
 use Rattle.statements.proofs.EmitLaws.{emit-adds, var-adds}
 use Rattle.statements.proofs.StatedLaws.{states-gave, states-refused, states-same, states-most, seq-then, seq-not, leaves-same}
@@ -82,6 +82,7 @@ module _ {tree text l s : List ℕ} {c : Converter} (p : Converting tree text l 
   pub name-afforded : NameAfforded (c .scope) v
   name-afforded = record {
     names = omega (arith, few, p .ready .scoped .records-are);
+    place = omega (arith, few, p .ready .keyed .good .few);
     type = omega (arith, typed .below, p .ready .keyed .good .few);
   }
 
@@ -90,76 +91,32 @@ module _ {tree text l s : List ℕ} {c : Converter} (p : Converting tree text l 
     by-name : variable text (originalWord tree s r A) (originalWord tree s r B) v constant ≡ namedBy tree text r v constant
     by-name = rw (origin-text asked)
 
-    module _ {sc′ : Scope} (a : Added text (originalWord tree s r A) (originalWord tree s r B) v constant (c .scope) s s′ sc′) where
-      added-stays : StaysFor tree c s s′
-      added-stays =
-          name-stays (records tree) (c .scope .names) (c .operands) s s′ (nameEntry (originalWord tree s r A) (originalWord tree s r B) v constant) (8 * c .scope .records + 16 * c .scope .names)
-          (a .written) (entry-long (originalWord tree s r A) (originalWord tree s r B) v constant) (omega (arith, p .ready .scoped .room .scratch, p .ready .scoped .records-are))
-          (omega (arith, p .ready .scoped .records-are)) few
-
-      added-turns : TurnsStay tree s s′
-      added-turns =
-          turns-entry tree s s′ (nameEntry (originalWord tree s r A) (originalWord tree s r B) v constant) (8 * c .scope .records + 16 * c .scope .names) (a .written)
-          (entry-long (originalWord tree s r A) (originalWord tree s r B) v constant) (omega (arith, p .ready .scoped .records-are)) (omega (arith, p .ready .scoped .records-are))
-          (omega (arith, p .ready .scoped .room .scratch, p .ready .scoped .records-are))
-
-      kept : Ready tree text s′ (c .functions) (c .scope)
-      kept = ready-stays tree added-stays text (c .functions) (c .scope) (omega arith) (p .ready)
-
-      last-type : wordAt s′ (8 * records tree + 16 * c .scope .names + 12) / 2 ≡ v .1
-      last-type = rw (← p .ready .scoped .records-are) (ap (λ (x : Variable). x .var-id .ty) (added-entry tree text (originalWord tree s r A) (originalWord tree s r B) v constant (c .scope) s s′ sc′ a))
-
-      types-more : (j : ℕ) → j < c .scope .names + 1 → Dec (j < c .scope .names) → TypeAt tree (wordAt s′ (8 * records tree + 16 * j + 12) / 2)
-      types-more j h (yes i) = kept .scoped .types j i
-      types-more j h (no i) = let z : j ≡ c .scope .names = omega (arith, h, i) in rw (z, last-type) typed
-
-      -- the innermost's words are those of the lowest record with its text
-      last-named : Original tree s′ (8 * records tree + 16 * c .scope .names)
-      last-named = record {
-        of = r;
-        below = asked .below;
-        has-text = asked .has-text;
-        offset = ap (λ (z : ℕ). wordAt s′ (8 * z + 16 * c .scope .names)) (sym (p .ready .scoped .records-are)) ∙ a .offset-is ∙ sym (original-word tree added-stays r A (asked .below));
-        len = ap (λ (z : ℕ). wordAt s′ (8 * z + 16 * c .scope .names + 4)) (sym (p .ready .scoped .records-are)) ∙ a .length-is ∙ sym (original-word tree added-stays r B (asked .below));
-      }
-
-      named-more : (j : ℕ) → j < c .scope .names + 1 → Dec (j < c .scope .names) → Original tree s′ (8 * records tree + 16 * j)
-      named-more j h (yes i) = kept .scoped .named j i
-      named-more j h (no i) = let z : j ≡ c .scope .names = omega (arith, h, i) in subst (λ (m : ℕ). Original tree s′ (8 * records tree + 16 * m)) (sym z) last-named
-
+    module _ {sc′ : Scope} (a : Added text (originalOf tree s r) (originalWord tree s r A) (originalWord tree s r B) v constant (c .scope) s s′ sc′) where
       added-leaves : Leaves tree text 1 c s′ sc′
       added-leaves = record {
-        ready = record {
-          keyed = kept .keyed;
-          scoped = record {
-            records-are = rw (a .scope) (p .ready .scoped .records-are);
-            room = added-room tree text (originalWord tree s r A) (originalWord tree s r B) v constant (c .scope) s s′ sc′ a (p .ready .scoped .room) name-afforded;
-            types = λ j h. types-more j (rw (a .scope) at h) (decLt j (c .scope .names));
-            named = λ j h. named-more j (rw (a .scope) at h) (decLt j (c .scope .names));
-          };
-        };
+        ready = added-ready asked name-afforded a typed (p .ready);
         function = rw (a .scope);
         inner = rw (a .scope);
         least = rw (a .scope) (omega arith);
         most = rw (a .scope) (omega arith);
       }
 
-    module _ {d : Declared} (m : DeclareMeets text (originalWord tree s r A) (originalWord tree s r B) v constant (c .scope) s s′ d) where
-      was-added : {sc′ : Scope} → d ≡ Declared.Done sc′ → Added text (originalWord tree s r A) (originalWord tree s r B) v constant (c .scope) s s′ sc′
+    module _ {d : Declared} (m : DeclareMeets text (originalOf tree s r) (originalWord tree s r A) (originalWord tree s r B) v constant (c .scope) s s′ d) where
+      was-added : {sc′ : Scope} → d ≡ Declared.Done sc′ → Added text (originalOf tree s r) (originalWord tree s r A) (originalWord tree s r B) v constant (c .scope) s s′ sc′
       unfolding DeclareMeets
-      was-added q = subst (λ (x : Declared). DeclareMeets text (originalWord tree s r A) (originalWord tree s r B) v constant (c .scope) s s′ x) q m
+      was-added q = subst (λ (x : Declared). DeclareMeets text (originalOf tree s r) (originalWord tree s r A) (originalWord tree s r B) v constant (c .scope) s s′ x) q m
 
-      was-taken : d ≡ Declared.Taken → Taken text (originalWord tree s r A) (originalWord tree s r B) v constant (c .scope) s s′
+      was-taken : d ≡ Declared.Taken → Taken text (originalOf tree s r) (originalWord tree s r A) (originalWord tree s r B) v constant (c .scope) s s′
       unfolding DeclareMeets
-      was-taken q = subst (λ (x : Declared). DeclareMeets text (originalWord tree s r A) (originalWord tree s r B) v constant (c .scope) s s′ x) q m
+      was-taken q = subst (λ (x : Declared). DeclareMeets text (originalOf tree s r) (originalWord tree s r A) (originalWord tree s r B) v constant (c .scope) s s′ x) q m
 
       -- done: what stays, the scope that is left, and the definition's scope
       pub declared-stays : {sc′ : Scope} → d ≡ Declared.Done sc′ → StaysFor tree c s s′
-      declared-stays q = added-stays (was-added q)
+      declared-stays q = added-stays asked name-afforded (was-added q) (c .operands)
 
       -- nothing was typed
       pub declared-turns : {sc′ : Scope} → d ≡ Declared.Done sc′ → TurnsStay tree s s′
-      declared-turns q = added-turns (was-added q)
+      declared-turns q = added-turns asked name-afforded (was-added q)
 
       pub declared-types : {sc′ : Scope} → d ≡ Declared.Done sc′ → InTurn tree text s c → TypedIn tree text c s [] s′
       declared-types q i = stay-typed (declared-turns q) text (scopeAt tree text s (c .scope)) (c .turn) i
@@ -169,18 +126,18 @@ module _ {tree text l s : List ℕ} {c : Converter} (p : Converting tree text l 
 
       pub declared-ok : {sc′ : Scope} → d ≡ Declared.Done sc′ → (place : ℕ)
           → declare (namedBy tree text r v constant) place (scopeAt tree text s (c .scope)) ≡ ok (scopeAt tree text s′ sc′)
-      declared-ok {sc′ = sc′} q place = ap (λ (x : Variable). declare x place (scopeAt tree text s (c .scope))) (sym by-name) ∙ declare-ok tree text (originalWord tree s r A) (originalWord tree s r B) v constant (c .scope) s s′ sc′ (was-added q) place
+      declared-ok {sc′ = sc′} q place = ap (λ (x : Variable). declare x place (scopeAt tree text s (c .scope))) (sym by-name) ∙ declare-ok tree text (originalOf tree s r) (originalWord tree s r A) (originalWord tree s r B) v constant (c .scope) s s′ sc′ (was-added q) place
 
       -- taken: nothing is written, and the definition's error
       pub taken-same : d ≡ Declared.Taken → s′ ≡ s
       taken-same q = was-taken q .same
 
       pub taken-stays : d ≡ Declared.Taken → StaysFor tree c s s′
-      taken-stays q = rw (taken-same q) (stays-refl (records tree) (c .scope .names) (c .operands) s)
+      taken-stays q = rw (taken-same q) (stays-refl tree (c .scope .names) (c .operands) s)
 
       pub declared-err : d ≡ Declared.Taken → (place : ℕ)
           → declare (namedBy tree text r v constant) place (scopeAt tree text s (c .scope)) ≡ err AlreadyDeclared place
-      declared-err q place = ap (λ (x : Variable). declare x place (scopeAt tree text s (c .scope))) (sym by-name) ∙ declare-err tree text (originalWord tree s r A) (originalWord tree s r B) v constant (c .scope) s s′ (was-taken q) place
+      declared-err q place = ap (λ (x : Variable). declare x place (scopeAt tree text s (c .scope))) (sym by-name) ∙ declare-err tree text (originalOf tree s r) (originalWord tree s r A) (originalWord tree s r B) v constant (c .scope) s s′ (was-taken q) place
 
 -- ---- a new variable of type y, and its name: with what follows, and refused
 
@@ -198,7 +155,7 @@ module _ {tree text l s : List ℕ} {c : Converter} (p : Converting tree text l 
   pub var-afforded : NameAfforded (c .scope) (made .var)
   var-afforded = name-afforded p (made .var) few var-typed
 
-  module _ (r : ℕ) (asked : Asked tree text s (c .scope) r) (constant : Bool) (s′ : List ℕ) {d : Declared} (m : DeclareMeets text (originalWord tree s r A) (originalWord tree s r B) (made .var) constant (c .scope) s s′ d)
+  module _ (r : ℕ) (asked : Asked tree text s (c .scope) r) (constant : Bool) (s′ : List ℕ) {d : Declared} (m : DeclareMeets text (originalOf tree s r) (originalWord tree s r A) (originalWord tree s r B) (made .var) constant (c .scope) s s′ d)
       {X : Type 0} (place : ℕ) (f : Ir.VarId → Def.Scope → M X) where
     pub variable-then : {sc′ : Scope} {n : Amount} {l′ : List ℕ} {a : StepAnswer X} → d ≡ Declared.Done sc′
         → Meets text (f (varOf (made .var)) (scopeAt tree text s′ sc′)) n (made .counters) l₁ l′ a
@@ -339,7 +296,7 @@ module _ {tree text l s : List ℕ} {c : Converter} (p : Converting tree text l 
       omega (arith, i .below, p .ready .keyed .good .few),
     )
 
-    module _ (s′ : List ℕ) {d : Declared} (m : DeclareMeets text (originalWord tree s r A) (originalWord tree s r B) (made .var) false (c .scope) s s′ d) where
+    module _ (s′ : List ℕ) {d : Declared} (m : DeclareMeets text (originalOf tree s r) (originalWord tree s r A) (originalWord tree s r B) (made .var) false (c .scope) s s′ d) where
       pub declare-taken : {z : ConvertError} → d ≡ Declared.Taken → z ≡ record { kind = AlreadyDeclared; place = r }
           → StatesAs declareSteps c r tree text l s (Stated.Refused z) l₁ s′
       unfolding convert-declare program
@@ -398,13 +355,13 @@ module _ {tree text l s : List ℕ} {c : Converter} (p : Converting tree text l 
   outside-stops : {z : ConvertError} {steps : M Def.Scope} {kind : ConvertErrorKind} → steps ≡ fail kind r → z ≡ record { kind = kind; place = r }
       → States tree text steps (behindAmount (statementRecords (statementAt tree text r))) (statementRecords (statementAt tree text r)) c l s (Stated.Refused z) l s
   outside-stops {kind = kind} e w =
-      states-same (sym e) (states-refused refl (rw w (fail-stops text (c .counters) l kind r)) (stays-refl (records tree) (c .scope .names) (c .operands) s))
+      states-same (sym e) (states-refused refl (rw w (fail-stops text (c .counters) l kind r)) (stays-refl tree (c .scope .names) (c .operands) s))
 
   jump-states : {k : Counters} {l′ : List ℕ} {steps : M Def.Scope} (n : LabelName) → steps ≡ Ir.label-id n >>= (λ (i : ℕ). Ir.emit (Ir.Jump i) >> pure scope)
       → Adds (jumpTo n) (amount 1 0 1 0 0) (c .counters) l tt k l′
       → States tree text steps (behindAmount (statementRecords (statementAt tree text r))) (statementRecords (statementAt tree text r)) c l s (Stated.Done (c .scope) k) l′ s
   jump-states {k = k} {l′ = l′} n e a =
-      let stays = stays-refl (records tree) (c .scope .names) (c .operands) s in
+      let stays = stays-refl tree (c .scope .names) (c .operands) s in
       states-same (jumps-on n scope ∙ sym e)
       (states-gave (a .long) (adds-in text (adds-most (adds-seq (pure scope) a (adds-pure scope k l′ (a .next .room))) (omega arith))) (leaves-same p stays) stays)
 

@@ -408,7 +408,7 @@ module _ {tree text l s : List ℕ} {c : Converter} {e : ℕ} (p : Converting tr
   -- And and Or: the variable and its labels, the left side, what decides, the right side
   module _ (y : ℕ) {dest : VarId} {k₁ : Counters} {l₁ : List ℕ} (begun : Adds (beginLogic e y) (amount 0 1 2 0 0) (c .counters) l (varOf dest) k₁ l₁) where
     pub logic-converting : Converting tree text l₁ s (withCounters c k₁)
-    logic-converting = converting-next p (adds-in text begun .next) (stays-refl (records tree) (c .scope .names) (c .operands) s)
+    logic-converting = converting-next p (adds-in text begun .next) (stays-refl tree (c .scope .names) (c .operands) s)
 
     pub logic-left-afforded : ExprAfforded tree text (withCounters c k₁) a
     logic-left-afforded = omega (arith, f, binary-under, under-a, begun .spent)
@@ -446,7 +446,7 @@ module _ {tree text l s : List ℕ} {c : Converter} {e : ℕ} (p : Converting tr
         module _ {k₃ : Counters} {l₃ : List ℕ}
             (j : Adds (pick (eqb (detailOf tree e) 1) (joinAnd e (varOf dest) (operandOf o)) (joinOr e (varOf dest) (operandOf o))) (amount 4 0 3 0 0) k₂ l₂ tt k₃ l₃) where
           pub logic-right-converting : Converting tree text l₃ s₂ (withCounters c k₃)
-          logic-right-converting = converting-next (converting-after m w logic-converting) (adds-in text j .next) (stays-refl (records tree) (c .scope .names) (c .operands) s₂)
+          logic-right-converting = converting-next (converting-after m w logic-converting) (adds-in text j .next) (stays-refl tree (c .scope .names) (c .operands) s₂)
 
           pub logic-right-afforded : ExprAfforded tree text (withCounters c k₃) b
           logic-right-afforded = omega (arith, f, binary-under, under-a, under-b, begun .spent, converted-next m w .spent, j .spent)

@@ -126,7 +126,7 @@ pub record FitLeft (tree text s₀ : List ℕ) (given : Args) (f : Function) (fi
   pub params : ParamsAt tree parameter
   pub types : (i : ℕ) → expectedType (paramsAt tree text parameter) (argsAt tree text argument) i ≡ expectedType (f .params) given (j + i)
   pub operands : (i : ℕ) → first + j ≤ i → i < first + count → OperandIn tree (operandAt s (records tree) i)
-  pub stays : (names : ℕ) → names ≤ records tree → Stays (records tree) names first s₀ s
+  pub stays : (names : ℕ) → names ≤ records tree → Stays tree names first s₀ s
   pub turns : TurnsStay tree s₀ s
   pub rest : (k′ : Counters) (l′ : List ℕ) (os : List Ir.Operand)
       → Adds (fitFrom (program tree text) j (stackAt s (records tree) (first + j) (count - j)) given f) (amount (count - j) (count - j) 0 0 (count - j)) k l os k′ l′
@@ -144,7 +144,7 @@ module _ (tree text s₀ : List ℕ) (given : Args) (f : Function) (first count 
     types = λ i. let z : i ≡ 0 + i = omega arith in ap (λ ps. expectedType ps (argsAt tree text argument) i) (sym ep)
         ∙ ap (λ (l : Args). expectedType (f .params) l i) (sym ea) ∙ ap (expectedType (f .params) given) z;
     operands = λ i a b. ops i (omega arith) b;
-    stays = λ names a. stays-refl (records tree) names first s₀;
+    stays = λ names a. stays-refl tree names first s₀;
     turns = turns-refl tree s₀;
     rest = λ k′ l′ os a. adds-most (adds-same (ap (λ z. fitFrom (program tree text) 0 z given f) (whole s₀ (records tree) first count)) a) (omega arith);
   }
@@ -177,9 +177,9 @@ module _ (tree text s₀ : List ℕ) (given : Args) (f : Function) (first count 
               let t : y ≡ expectedType (f .params) given j = ey ∙ here .first ∙ x .types 0 ∙ ap (expectedType (f .params) given) z in
               adds-same (ap (λ (v : Ir.Operand). fit-operand (program tree text) v y) eo ∙ ap (fit-operand (program tree text) (operandAt s (records tree) (first + j))) t) (a .adds)
 
-          written : (names : ℕ) → names ≤ records tree → Stays (records tree) names (first + j) s s₁
-          written names h = operand-stays (records tree) names (first + j) s s₁ (operandBytes (operandOf (r .operand))) (entryAt (records tree) (first + j)) put
-              (operand-long (operandOf (r .operand))) scratch-long (first + j) refl (omega arith) (omega arith) h
+          written : (names : ℕ) → names ≤ records tree → Stays tree names (first + j) s s₁
+          written names h = operand-stays tree names (first + j) s s₁ (operandBytes (operandOf (r .operand))) (entryAt (records tree) (first + j)) put
+              (operand-long (operandOf (r .operand))) scratch-long (first + j) refl (omega arith) (omega arith)
 
           -- what is fitted now, with this one
           grown : (os : List Ir.Operand) → stackAt s (records tree) first j ++ (operandOf (r .operand) ∷ os) ≡ stackAt s₁ (records tree) first (j + 1) ++ os

@@ -51,7 +51,7 @@ use Rattle.expressions.specs.declared.answers.ExprType.the-variants as ExprType
 use Rattle.expressions.specs.declared.answers.Outcome.{Outcome}
 use Rattle.expressions.specs.declared.answers.Outcome.the-variants as Outcome
 use Rattle.texts.specs.Texts.{hasText}
-use Rattle.expressions.specs.Slots.{originalWord, Asked, Ready, Scoped, typeIn}
+use Rattle.expressions.specs.Slots.{originalOf, originalWord, Asked, Ready, Scoped, typeIn}
 use Rattle.expressions.proofs.OriginalLaws.{kind-asked}
 use Rattle.expressions.specs.Answers.{refusal, outcomeOf, TypeMeets}
 use Rattle.expressions.proofs.SlotLaws.{scope-frame, frame-trans}
@@ -252,7 +252,7 @@ module _ {tree text l s : List ℕ} {c : Converter} (r : ℕ) {v : ℕ} (p : Con
 
   refuses : {d : ConvertErrorKind} {x : ConvertError} → forVariableSteps tree text s c r ≡ fail d r → x ≡ record { kind = d; place = r }
       → FindsVariable tree text (forVariableSteps tree text s c r) c l s (ForVariable.Refused x) l s
-  refuses e w = variable-refused refl (stop-of e (fails-as text w)) (stays-refl (records tree) (c .scope .names) (c .operands) s)
+  refuses e w = variable-refused refl (stop-of e (fails-as text w)) (stays-refl tree (c .scope .names) (c .operands) s)
 
   pub known-not : {x : ConvertError} → a ≡ Known.Unknown → x ≡ record { kind = UnknownVariable; place = r }
       → FindsVariable tree text (forVariableSteps tree text s c r) c l s (ForVariable.Refused x) l s
@@ -279,7 +279,7 @@ module _ {tree text l s : List ℕ} {c : Converter} (r : ℕ) {v : ℕ} (p : Con
         (adds-in text (adds-same (sym (found-steps ∙ skipped b (fail AssignToConstant r) (pure (varOf x, scopeIn tree text s c)) h))
         (adds-most (adds-pure (varOf x, scopeIn tree text s c) (c .counters) l (p .room)) (omega arith))))
         (found-typed p (textOf tree text v A) x b (met (Known.Is x b) q))
-        (leaves-same p (stays-refl (records tree) (c .scope .names) (c .operands) s)) (stays-refl (records tree) (c .scope .names) (c .operands) s)
+        (leaves-same p (stays-refl tree (c .scope .names) (c .operands) s)) (stays-refl tree (c .scope .names) (c .operands) s)
 
 -- ---- the variable that it declares
 
@@ -308,7 +308,7 @@ module _ {tree text l s : List ℕ} {c : Converter} {r v : ℕ} (p : Converting 
         ∙ rw (skipped (eqb (wordOf tree v C) none) nothing (some (wordOf tree v C)) (ne-eqb (wordOf tree v C) none (λ e. omega (arith, t .below, p .ready .keyed .good .few))))
         (ap (λ (z : ℕ). declaredThen tree text v false r z (scopeIn tree text s c) declared) (sym ey)))
 
-    module _ (s′ : List ℕ) {d : Declared} (m : DeclareMeets text (originalWord tree s v A) (originalWord tree s v B) (made .var) false (c .scope) s s′ d) where
+    module _ (s′ : List ℕ) {d : Declared} (m : DeclareMeets text (originalOf tree s v) (originalWord tree s v A) (originalWord tree s v B) (made .var) false (c .scope) s s′ d) where
       pub for-taken : {e : ConvertError} → d ≡ Declared.Taken → e ≡ record { kind = AlreadyDeclared; place = r }
           → FindsVariable tree text (forVariableSteps tree text s c r) c l s (ForVariable.Refused e) l₁ s′
       for-taken q w = record {
@@ -350,7 +350,7 @@ module _ {tree text l s : List ℕ} {c : Converter} (x : VarId) (r : ℕ) (p : C
   unfolding forTurns program
   turns-not-int h w = finishes-refused refl
       (stop-of (no-int (typeAt tree text (x .1)) (fail NotInteger r) marked (forms-are tree text (x .1) f ef .0 ∙ ne-eqb f 1 h)) (fails-as text w))
-      (stays-refl (records tree) (c .scope .names) (c .operands) s)
+      (stays-refl tree (c .scope .names) (c .operands) s)
 
   module _ (i : f ≡ 1) {o : Outcome} {s₁ : List ℕ} (b : Checks tree (forBoundsSteps tree text s c r (x .1)) s o s₁) where
     int-steps : forTurnsSteps tree text s c x r ≡ lift (outcomeOf o) >> turns
@@ -469,8 +469,8 @@ module _ {tree text l s l₁ s₁ : List ℕ} {c : Converter} (r : ℕ) (p : Con
           → States tree text (forHeadSteps tree text s c r) (both (amount 0 1 0 0 0) n) 1 c l s (Stated.Done inner k₁) l₂ s₂
       head-done {k₁} d q =
           let h = m .variable x inner k w .1 in
-          let names : Stays (records tree) (inner .names) (c .operands) s₁ s₂ =
-          stays-more (inner .names) (omega (arith, h .ready .scoped .room .names-in, h .ready .scoped .records-are)) (t .stays) q in
+          let names : Stays tree (inner .names) (c .operands) s₁ s₂ =
+          stays-more (inner .names) (t .stays) q in
           states-gave (t .meets .long ∙ m .meets .long)
           (head-scope (meets-most text (seq-then text (pure (scopeAt tree text s₁ inner)) (t .meets .long) (finished-next t d)
           (meets-gave text refl (adds-in text (adds-pure (scopeAt tree text s₁ inner) k₁ l₂ (finished-next t d .next .room))))) (omega arith))

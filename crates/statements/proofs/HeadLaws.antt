@@ -235,7 +235,7 @@ module _ {tree text l l₀ s : List ℕ} {c : Converter} (r : ℕ) {e : ℕ} {k�
   while-cond-requires x =
       let d : Condition tree text r = while-condition p x in (
         (
-          converting-next p (next-in text (g₀ .next)) (stays-refl (records tree) (c .scope .names) (c .operands) s),
+          converting-next p (next-in text (g₀ .next)) (stays-refl tree (c .scope .names) (c .operands) s),
           omega (arith, f, d .fewer, same-under tree text q, g₀ .spent),
         ),
         subst (λ (z : ℕ). IsExpr tree z) (sym q) (d .expression),

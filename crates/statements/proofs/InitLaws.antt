@@ -43,7 +43,7 @@ use Rattle.ir.specs.Instructions.{operandOf, varOf}
 use Rattle.ir.specs.Steps.{Emits, AddsVar}
 use Rattle.scope.specs.declared.Scope.{Scope}
 use Rattle.texts.specs.Texts.{hasText}
-use Rattle.expressions.specs.Slots.{originalWord, Asked, Ready}
+use Rattle.expressions.specs.Slots.{originalOf, originalWord, Asked, Ready}
 use Rattle.expressions.proofs.OriginalLaws.{kind-asked}
 use Rattle.scope.specs.declared.Known.{Known}
 use Rattle.scope.specs.declared.Known.the-variants as Known
@@ -203,7 +203,7 @@ module _ {tree text l s : List ℕ} {c : Converter} (r : ℕ) (v : VarId) {const
   unfolding convert-assign pick
   assign-constant {z} h w =
       states-stop (meets-same text (ap (λ (b : Bool). assignSteps tree text s c r v b) (sym h))
-      (meets-refused text refl (fails-as text w))) (stays-refl (records tree) (c .scope .names) (c .operands) s)
+      (meets-refused text refl (fails-as text w))) (stays-refl tree (c .scope .names) (c .operands) s)
 
   pub assign-plain : {a : Stated} {l′ s′ : List ℕ} → constant ≡ false → StatesAs (λ t u i k j. assignToSteps t u i k j v) c r tree text l s a l′ s′
       → StatesAs (λ t u i k j. assignSteps t u i k j v constant) c r tree text l s a l′ s′
@@ -259,7 +259,7 @@ module _ {tree text l s : List ℕ} {c : Converter} {r y : ℕ} (p : Converting 
     new-requires = (init-asked (p .ready) x, var-afforded p long new more-names new-type)
 
     module _ (src : Operand) {d : ℕ} (ed : d ≡ detailOf tree r) {s′ : List ℕ} {g : Declared}
-        (m : DeclareMeets text (originalWord tree s r A) (originalWord tree s r B) (made .var) (eqb d 1) (c .scope) s s′ g) where
+        (m : DeclareMeets text (originalOf tree s r) (originalWord tree s r A) (originalWord tree s r B) (made .var) (eqb d 1) (c .scope) s s′ g) where
       pub new-taken : {e : ConvertError} → g ≡ Declared.Taken → e ≡ record { kind = AlreadyDeclared; place = r }
           → DeclaresAs (λ t u i k j. declareInitSteps t u i k j y src) c r tree text l s (Stated.Refused e) l₁ s′
       new-taken q w =

@@ -3,6 +3,7 @@ pub mod PlainTurns
 pub mod PartLaws
 pub mod MeetLaws
 pub mod StayLaws
+pub mod AddedLaws
 pub mod StatedLaws
 pub mod JumpLaws
 pub mod StackLaws

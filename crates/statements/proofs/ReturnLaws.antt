@@ -201,7 +201,7 @@ module _ {tree text l s : List ℕ} {c : Converter} {r e : ℕ} (p : Converting 
     module _ (o : Outcome) (q : fitsIn ≡ lift (outcomeOf o)) where
       pub return-unfit : {z : ConvertError} → o ≡ Outcome.Refused z → StatesAs (λ t x s k q. returnAsSteps t x s k q y expected) c r tree text l s (Stated.Refused z) l s
       unfolding returnAs
-      return-unfit w = as-return (amount 0 0 0 0 0) (omega arith) (states-stop (checked-not o q valued text w) (stays-refl (records tree) (c .scope .names) (c .operands) s))
+      return-unfit w = as-return (amount 0 0 0 0 0) (omega arith) (states-stop (checked-not o q valued text w) (stays-refl tree (c .scope .names) (c .operands) s))
 
       module _ (fine : o ≡ Outcome.Done) {v : Converted} {l₁ s₁ : List ℕ}
           (m : Converts tree text (exprSteps tree text s c e) (exprAmount (under (exprAt tree text e))) c l s v l₁ s₁) where
@@ -261,7 +261,7 @@ module _ {tree text l s : List ℕ} {c : Converter} {r e : ℕ} (p : Converting 
       return-none q h = typed-states p typed byFunction w
           (states-same (ap (λ (o : Option ℕ). returnAs (program tree text) (allKeys tree text) r (exprAt tree text (wordOf tree r A)) y (scopeAt tree text s₁ (c .scope)) o)
           (sym (function-type s₁ ∙ picked (eqb expected none) nothing (some expected) (eq-eqb expected none q))))
-          (states-stop (meets-refused text refl (fails-as text h)) (stays-refl (records tree) (c .scope .names) (c .operands) s₁)))
+          (states-stop (meets-refused text refl (fails-as text h)) (stays-refl tree (c .scope .names) (c .operands) s₁)))
 
       pub return-some : {a : Stated} {l₁ s₂ : List ℕ} → (expected ≡ none → ⊥)
           → StatesAs (λ t x s k q. returnAsSteps t x s k q y expected) c r tree text l s₁ a l₁ s₂ → StatesAs returnSteps c r tree text l s a l₁ s₂

@@ -1,4 +1,4 @@
--- What stays of the scratch keeps the scope, the functions by key and the operands that wait; typing, a name more and an operand more leave the rest.
+-- What stays of the scratch keeps the scope, the functions by key and the operands that wait; typing and an operand more leave the rest.
 -- Byte by byte: each writer stays in its own region. Assumes nothing.
 use mathlib.Core.Path.{_≡_, refl, sym, ap, _∙_, subst}
 use mathlib.Core.Logic.{_⊎_, inl, inr}
@@ -20,17 +20,17 @@ use Rattle.conversion.specs.Ir.{Operand, M}
 use Rattle.ir.specs.declared.structs.Counters.{Counters}
 use Rattle.ir.specs.Steps.{NextIn}
 use Rattle.scope.specs.declared.Scope.{Scope}
-use Rattle.scope.specs.Open.{loopNumber, scopeAt}
-use Rattle.records.proofs.Apart.{byte-apart, word-same}
+use Rattle.scope.specs.Open.{loopNumber, nameSlotAt, scopeAt}
+use Rattle.records.proofs.Apart.{byte-apart, word-apart, word-same}
 use Rattle.scope.proofs.ScopeLaws.{Kept, scope-kept}
 use Rattle.keys.specs.Keys.{Listed, keySlotAt, keyDigestAt, Keyed}
 use Rattle.keys.proofs.KeyDigestLaws.{digests-stay}
 use Rattle.keys.proofs.SlotLaws.{slots-stay}
 use Rattle.texts.specs.Texts.{originalAt, textDigestAt}
 use Rattle.texts.proofs.TextLaws.{numbered-stays}
-use Rattle.expressions.specs.Slots.{originalWord, Frame, Scoped, Ready}
+use Rattle.expressions.specs.Slots.{originalOf, originalWord, Frame, Scoped, Ready}
 use Rattle.expressions.proofs.OriginalLaws.{word-stays, original-stays}
-use Rattle.expressions.proofs.SlotLaws.{ready-frame}
+use Rattle.expressions.proofs.SlotLaws.{original-frame, ready-frame}
 use Rattle.keys.proofs.KeySearch.{records-most}
 use Rattle.statements.specs.declared.answers.Converter.{Converter}
 use Rattle.statements.specs.Stack.{entryAt, operandFrom, operandAt, stackAt}
@@ -38,91 +38,86 @@ use Rattle.statements.specs.Converting.{LoopIn, Converting, withCounters
 
 -- ---- one writer after another
 
-pub stays-refl : (n names operands : ℕ) (s : List ℕ) → Stays n names operands s s
-stays-refl n names operands s = record { long = refl; listed = λ i h. refl; open-names = λ i a b d. refl; stack = λ i a b d. refl; behind = λ i h j. refl }
+pub stays-refl : (tree : List ℕ) (names operands : ℕ) (s : List ℕ) → Stays tree names operands s s
+stays-refl tree names operands s =
+    record { long = refl; listed = λ i h. refl; open-names = λ i a b d. refl; stack = λ i a b d. refl; behind = λ i h j. refl; told = λ j h i x. x }
 
 -- what stays of more stays of less
-pub stays-then : {n names operands names′ operands′ : ℕ} {s s₁ s₂ : List ℕ} → names ≤ names′ → operands ≤ operands′
-    → Stays n names operands s s₁ → Stays n names′ operands′ s₁ s₂ → Stays n names operands s s₂
+pub stays-then : {tree : List ℕ} {names operands names′ operands′ : ℕ} {s s₁ s₂ : List ℕ} → names ≤ names′ → operands ≤ operands′
+    → Stays tree names operands s s₁ → Stays tree names′ operands′ s₁ s₂ → Stays tree names operands s s₂
 stays-then hn ho p q = record {
   long = q .long ∙ p .long;
   listed = λ i h. q .listed i h ∙ p .listed i h;
   open-names = λ i a b d. q .open-names i a (omega arith) d ∙ p .open-names i a b d;
   stack = λ i a b d. q .stack i a (omega arith) d ∙ p .stack i a b d;
   behind = λ i h j. q .behind i h j ∙ p .behind i h j;
+  told = λ j h i x. q .told j (omega arith) i (p .told j h i x);
 }
 
--- ---- writers: typing, a name, an operand
+-- ---- writers: typing, an operand
 
-pub frame-stays : {tree s s′ : List ℕ} (names operands : ℕ) → Frame tree s s′ → Stays (records tree) names operands s s′
-frame-stays names operands f = record {
+pub frame-stays : {tree s s′ : List ℕ} (names operands : ℕ) → Frame tree s s′ → Stays tree names operands s s′
+frame-stays {tree = tree} {s = s} {s′ = s′} names operands f = record {
   long = f .same-length;
   listed = λ i h. f .outside i (inl h);
   open-names = λ i a b d. f .outside i (inr (a, omega arith));
   stack = λ i a b d. f .outside i (inr (omega arith, omega arith));
-  behind = λ i h j. f .outside i (inr (omega arith, j));
+  behind = λ i h j. f .outside i (inr (omega arith, omega arith));
+  told = λ j h i x. original-frame tree s s′ f j i x;
 }
 
-module _ (n names operands : ℕ) (s s′ vs : List ℕ) (i : ℕ) (e : s′ ≡ splice s i vs) (long : length vs ≡ 16) (fits : 72 * n ≤ length s) where
-  before : i + 16 ≤ length s → (j : ℕ) → j < i → byteAt s′ j ≡ byteAt s j
+-- the entry of an operand behind those that wait
+module _ (tree : List ℕ) (names operands : ℕ) (s s′ vs : List ℕ) (i : ℕ) (e : s′ ≡ splice s i vs) (long : length vs ≡ 16) (fits : 72 * records tree ≤ length s) where
+  pub operand-stays : (j : ℕ) → i ≡ entryAt (records tree) j → operands ≤ j → j < records tree → Stays tree names operands s s′
   unfolding byteAt
-  before h j k = ap (λ (x : List ℕ). getD x j 0) e ∙ byte-apart s i vs (omega arith) j (inl k)
-
-  after : i + 16 ≤ length s → (j : ℕ) → i + 16 ≤ j → byteAt s′ j ≡ byteAt s j
-  unfolding byteAt
-  after h j k = ap (λ (x : List ℕ). getD x j 0) e ∙ byte-apart s i vs (omega arith) j (inr (omega arith))
-
-  same-long : i + 16 ≤ length s → length s′ ≡ length s
-  same-long h = ap length e ∙ length-splice s i vs (omega arith)
-
-  -- the entry of a name behind the open ones
-  pub name-stays : i ≡ 8 * n + 16 * names → names < n → Stays n names operands s s′
-  name-stays q h = record {
-    long = same-long (omega arith);
-    listed = λ j k. before (omega arith) j (omega arith);
-    open-names = λ j a b d. before (omega arith) j (omega arith);
-    stack = λ j a b d. after (omega arith) j (omega arith);
-    behind = λ j k z. after (omega arith) j (omega arith);
+  operand-stays x q h low = record {
+    long = ap length e ∙ length-splice s i vs (omega arith);
+    listed = λ j k. before j (omega arith);
+    open-names = λ j a b d. before j (omega arith);
+    stack = λ j a b d. before j (omega arith);
+    behind = λ j k z. after j (omega arith);
+    told = λ j k m y. original-stays tree s s′ (λ r l. word (originalAt (records tree) r) (inr (omega arith))) j y
+        (word (8 * records tree + 16 * j) (inl (omega arith))) (word (8 * records tree + 16 * j + 4) (inl (omega arith)))
+        (word (nameSlotAt (records tree) (originalOf tree s (y .of))) (inr (omega arith)));
   }
+    where
+      before : (j : ℕ) → j < i → byteAt s′ j ≡ byteAt s j
+      before j k = ap (λ (x : List ℕ). getD x j 0) e ∙ byte-apart s i vs (omega arith) j (inl k)
 
-  -- the entry of an operand behind those that wait
-  pub operand-stays : (j : ℕ) → i ≡ entryAt n j → operands ≤ j → j < n → names ≤ n → Stays n names operands s s′
-  operand-stays x q h low m = record {
-    long = same-long (omega arith);
-    listed = λ j k. before (omega arith) j (omega arith);
-    open-names = λ j a b d. before (omega arith) j (omega arith);
-    stack = λ j a b d. before (omega arith) j (omega arith);
-    behind = λ j k z. after (omega arith) j (omega arith);
-  }
+      after : (j : ℕ) → i + 16 ≤ j → byteAt s′ j ≡ byteAt s j
+      after j k = ap (λ (x : List ℕ). getD x j 0) e ∙ byte-apart s i vs (omega arith) j (inr (omega arith))
+
+      word : (p : ℕ) → (p + 4 ≤ i) ⊎ (i + 16 ≤ p) → wordAt s′ p ≡ wordAt s p
+      word p k = ap (λ (x : List ℕ). wordAt x p) e ∙ word-apart s i vs (omega arith) p (rw long k)
 
 -- ---- all names
 
 pub names-refl : (tree s : List ℕ) → NamesStay tree s s
-names-refl tree s = record { bytes = λ i a b. refl }
+names-refl tree s = record { bytes = λ i a b. refl; told = λ j h x. x }
 
 pub names-then : {tree s s₁ s₂ : List ℕ} → NamesStay tree s s₁ → NamesStay tree s₁ s₂ → NamesStay tree s s₂
-names-then p q = record { bytes = λ i a b. q .bytes i a b ∙ p .bytes i a b }
+names-then p q = record { bytes = λ i a b. q .bytes i a b ∙ p .bytes i a b; told = λ j h x. q .told j h (p .told j h x) }
+
+pub names-of : {tree s s′ : List ℕ} {operands : ℕ} → Stays tree (records tree) operands s s′ → NamesStay tree s s′
+names-of p = record { bytes = λ i a b. p .open-names i a (omega arith) b; told = λ j h x. p .told j h h x }
 
 pub frame-names : {tree s s′ : List ℕ} → Frame tree s s′ → NamesStay tree s s′
-frame-names f = record { bytes = λ i a b. f .outside i (inr (a, omega arith)) }
-
-pub names-of : {tree s s′ : List ℕ} {operands : ℕ} → Stays (records tree) (records tree) operands s s′ → NamesStay tree s s′
-names-of p = record { bytes = λ i a b. p .open-names i a (omega arith) b }
+frame-names {tree = tree} f = names-of (frame-stays (records tree) 0 f)
 
 -- so a name more
-pub stays-more : {tree s s′ : List ℕ} {names operands : ℕ} (more : ℕ) → more ≤ records tree → Stays (records tree) names operands s s′ → NamesStay tree s s′
-    → Stays (records tree) more operands s s′
-stays-more more h p q = record {
+pub stays-more : {tree s s′ : List ℕ} {names operands : ℕ} (more : ℕ) → Stays tree names operands s s′ → NamesStay tree s s′ → Stays tree more operands s s′
+stays-more more p q = record {
   long = p .long;
   listed = p .listed;
   open-names = λ i a b d. q .bytes i a d;
   stack = p .stack;
   behind = p .behind;
+  told = λ j h i x. q .told j i x;
 }
 
 -- ---- what is kept
 
-module _ (tree : List ℕ) {s s′ : List ℕ} {names operands : ℕ} (f : Stays (records tree) names operands s s′) where
+module _ (tree : List ℕ) {s s′ : List ℕ} {names operands : ℕ} (f : Stays tree names operands s s′) where
   byte-word : (p : ℕ) → ((j q : ℕ) → q ≡ p + j → j < 4 → byteAt s′ q ≡ byteAt s q) → wordAt s′ p ≡ wordAt s p
   unfolding byteAt
   byte-word p at = word-same s′ p s p
@@ -148,7 +143,7 @@ module _ (tree : List ℕ) {s s′ : List ℕ} {names operands : ℕ} (f : Stays
   pub scope-stays : (text : List ℕ) (sc : Scope) → Scoped tree s sc → sc .names ≤ names → scopeAt tree text s′ sc ≡ scopeAt tree text s sc
   scope-stays text sc k h = scope-kept tree text s s′ sc (names-kept sc (k .records-are) h (k .room .names-in))
 
-  number-word : (r : ℕ) → r < records tree → wordAt s′ (originalAt (records tree) r) ≡ wordAt s (originalAt (records tree) r)
+  pub number-word : (r : ℕ) → r < records tree → wordAt s′ (originalAt (records tree) r) ≡ wordAt s (originalAt (records tree) r)
   number-word r h = byte-word (originalAt (records tree) r) (λ j q e k. f .behind q (omega arith) (omega arith))
 
   -- words A and B of the lowest record with a text
@@ -171,20 +166,19 @@ module _ (tree : List ℕ) {s s′ : List ℕ} {names operands : ℕ} (f : Stays
         (λ j h. byte-word (keyDigestAt (records tree) j) (λ i q e k. f .behind q (omega arith) (omega (arith, r .listed .counted, records-most tree (records tree))))) (r .digests);
   }
 
-  pub ready-stays : (text : List ℕ) (count : ℕ) (sc : Scope) → sc .names ≤ names → Ready tree text s count sc → Ready tree text s′ count sc
-  ready-stays text count sc h r =
-      record {
-        keyed = keyed-stays text count (r .keyed);
-        scoped = record {
-          records-are = r .scoped .records-are;
-          room = record { scratch = omega (arith, r .scoped .room .scratch, f .long); names-in = r .scoped .room .names-in };
-          types = λ j q. subst (λ (w : ℕ). TypeAt tree (w / 2)) (sym (name-word (8 * records tree + 16 * j + 12) (omega arith) (omega arith) (low j q))) (r .scoped .types j q);
-          named = λ j q. original-stays tree s s′ number-word _ (name-word (8 * records tree + 16 * j) (omega arith) (omega arith) (omega (arith, low j q))) (name-word (8 * records tree + 16 * j + 4) (omega arith) (omega arith) (omega (arith, low j q))) (r .scoped .named j q);
-        };
-      }
+  pub scoped-stays : (sc : Scope) → sc .names ≤ names → Scoped tree s sc → Scoped tree s′ sc
+  scoped-stays sc h r = record {
+    records-are = r .records-are;
+    room = record { scratch = omega (arith, r .room .scratch, f .long); names-in = r .room .names-in };
+    types = λ j q. subst (λ (w : ℕ). TypeAt tree (w / 2)) (sym (name-word (8 * records tree + 16 * j + 12) (omega arith) (omega arith) (omega (arith, low j q)))) (r .types j q);
+    named = λ j q. f .told j (omega arith) (low j q) (r .named j q);
+  }
     where
-      low : (j : ℕ) → j < sc .names → 8 * records tree + 16 * j + 12 + 4 ≤ 24 * records tree
-      low j q = omega (arith, q, r .scoped .room .names-in, r .scoped .records-are)
+      low : (j : ℕ) → j < sc .names → j < records tree
+      low j q = omega (arith, q, r .room .names-in, r .records-are)
+
+  pub ready-stays : (text : List ℕ) (count : ℕ) (sc : Scope) → sc .names ≤ names → Ready tree text s count sc → Ready tree text s′ count sc
+  ready-stays text count sc h r = record { keyed = keyed-stays text count (r .keyed); scoped = scoped-stays sc h (r .scoped) }
 
   pub operand-kept : (j : ℕ) → j < operands → j < records tree → operandAt s′ (records tree) j ≡ operandAt s (records tree) j
   unfolding operandAt

@@ -16,7 +16,7 @@ use Rattle.ir.specs.Instructions.{operandOf}
 use Rattle.ir.specs.Arena.{Room}
 use Rattle.ir.specs.Amounts.{Amount, amount, Affords}
 use Rattle.scope.specs.Open.{loopNumber}
-use Rattle.expressions.specs.Slots.{Ready}
+use Rattle.expressions.specs.Slots.{Original, Ready}
 use Rattle.statements.specs.declared.answers.Converter.{Converter}
 use Rattle.statements.specs.Stack.{operandAt}
 
@@ -119,18 +119,21 @@ BlockAfforded tree text c w =
 
 -- ---- what stays of the scratch
 
--- with n records: the functions' records, the first `names` open names, the first `operands` of the stack, and the regions behind it.
--- Only slots of types and their turns, names that were not open and operands that did not wait may differ
-pub record Stays (n names operands : ℕ) (s s′ : List ℕ) : Type 0 where
+-- the functions' records, the first `names` open names, the first `operands` of the stack, and the regions behind it up to the slots of names; each of those
+-- names that its slot tells is told by it still. Only slots of types and their turns, names that were not open, slots of texts that no open name has and
+-- operands that did not wait may differ
+pub record Stays (tree : List ℕ) (names operands : ℕ) (s s′ : List ℕ) : Type 0 where
   pub long : length s′ ≡ length s
-  pub listed : (i : ℕ) → i < 4 * n → byteAt s′ i ≡ byteAt s i
-  pub open-names : (i : ℕ) → 8 * n ≤ i → i < 8 * n + 16 * names → i < 24 * n → byteAt s′ i ≡ byteAt s i
-  pub stack : (i : ℕ) → 24 * n ≤ i → i < 24 * n + 16 * operands → i < 40 * n → byteAt s′ i ≡ byteAt s i
-  pub behind : (i : ℕ) → 40 * n ≤ i → i < 64 * n → byteAt s′ i ≡ byteAt s i
+  pub listed : (i : ℕ) → i < 4 * records tree → byteAt s′ i ≡ byteAt s i
+  pub open-names : (i : ℕ) → 8 * records tree ≤ i → i < 8 * records tree + 16 * names → i < 24 * records tree → byteAt s′ i ≡ byteAt s i
+  pub stack : (i : ℕ) → 24 * records tree ≤ i → i < 24 * records tree + 16 * operands → i < 40 * records tree → byteAt s′ i ≡ byteAt s i
+  pub behind : (i : ℕ) → 40 * records tree ≤ i → i < 56 * records tree → byteAt s′ i ≡ byteAt s i
+  pub told : (j : ℕ) → j < names → j < records tree → Original tree s j → Original tree s′ j
 
--- the region of the names: an expression declares none
+-- the region of the names, and each that its slot tells: an expression declares none
 pub record NamesStay (tree s s′ : List ℕ) : Type 0 where
   pub bytes : (i : ℕ) → 8 * records tree ≤ i → i < 24 * records tree → byteAt s′ i ≡ byteAt s i
+  pub told : (j : ℕ) → j < records tree → Original tree s j → Original tree s′ j
 
 abbrev pub StaysFor : List ℕ → Converter → List ℕ → List ℕ → Type 0
-StaysFor tree c s s′ = Stays (records tree) (c .scope .names) (c .operands) s s′
+StaysFor tree c s s′ = Stays tree (c .scope .names) (c .operands) s s′

@@ -187,7 +187,7 @@ fn name_operand(
     let o = original(scratch, scope.records, e);
     let offset = word(tree, o, WORD_A);
     let len = word(tree, o, WORD_B);
-    match scope.find_variable(scratch, offset, len) {
+    match scope.find_variable(scratch, o, offset, len) {
         Known::Is(v, _) => Converted::Is(Operand::Var(v), k),
         Known::Unknown => Converted::Refused(error_at(ConvertErrorKind::UnknownVariable, e)),
     }

@@ -18,7 +18,7 @@ ghost use Rattle.types.specs.Fits.{IsType};
 ghost use Rattle.ir.specs.Amounts.{amount};
 ghost use Rattle.ir.specs.Instructions.{operandOf, varOf};
 ghost use Rattle.scope.specs.Open.{NameAfforded, FindMeets, DeclareMeets};
-ghost use Rattle.expressions.specs.Slots.{originalWord, Asked};
+ghost use Rattle.expressions.specs.Slots.{originalOf, originalWord, Asked};
 ghost use Rattle.statements.specs.Converting.{Converting, RoomFor, OperandIn, Afforded, ExprAfforded, BehindAfforded};
 ghost use Rattle.statements.specs.Meets.{Adds, Meets};
 ghost use Rattle.statements.specs.Parts.{copyFitted, zeroFloat};
@@ -117,12 +117,12 @@ pub(crate) fn declare_name(
     constant: bool,
 ) -> Declared
     requires { ⌜ Asked (now tree) (now text) (now scratch) scope r × NameAfforded scope v ⌝ }
-    ensures { λ a. ⌜ DeclareMeets (now (text .entry)) (originalWord (now (tree .entry)) (now (scratch .entry)) r Words.A) (originalWord (now (tree .entry)) (now (scratch .entry)) r Words.B) v constant scope (now (scratch .entry)) (now (scratch .exit)) a ⌝ }
+    ensures { λ a. ⌜ DeclareMeets (now (text .entry)) (originalOf (now (tree .entry)) (now (scratch .entry)) r) (originalWord (now (tree .entry)) (now (scratch .entry)) r Words.A) (originalWord (now (tree .entry)) (now (scratch .entry)) r Words.B) v constant scope (now (scratch .entry)) (now (scratch .exit)) a ⌝ }
 {
     let o = original(scratch, scope.records, r);
     let offset = word(tree, o, WORD_A);
     let len = word(tree, o, WORD_B);
-    scope.declare(scratch, offset, len, v, constant)
+    scope.declare(scratch, o, offset, len, v, constant)
 }
 
 // The variable of the name in words A and B of record r, looked for by those of the lowest record with the text.
@@ -133,7 +133,7 @@ pub(crate) fn find_name(tree: &[u8], text: &[u8], scratch: &[u8], scope: Scope, 
     let o = original(scratch, scope.records, r);
     let offset = word(tree, o, WORD_A);
     let len = word(tree, o, WORD_B);
-    scope.find_variable(scratch, offset, len)
+    scope.find_variable(scratch, o, offset, len)
 }
 
 fn zero_float(arena: &mut [u8], k: Counters, v: VarId, short: bool) -> Counters

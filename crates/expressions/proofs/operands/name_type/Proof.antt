@@ -2,7 +2,7 @@
 -- By what the search for the words of the lowest record with the text finds, whatever variables the scope stands for. Assumes nothing.
 use native.Mathlib.Omega.{arith}
 use Rattle.expressions.proofs.LeafLaws.{name-known, name-unknown}
-use Rattle.expressions.proofs.OriginalLaws.{name-asked, number-inside, origin-inside, origin-found}
+use Rattle.expressions.proofs.OriginalLaws.{name-asked, number-inside, origin-inside, slot-inside, origin-found}
 use borrow.Author.Needs.{needs}
 use Rattle.expressions.proofs.operands.name_type.Statement.{statement}
 use Rattle.expressions.proofs.operands.name_type.Tie as tie
@@ -17,7 +17,9 @@ word-requires-2 : tie.Need-word-requires-2
 word-requires-2 c κs = (origin-inside (name-asked (c .before .before .before .before .before .pre .0) (c .before .before .before .before .before .pre .1 .0) (c .before .before .before .before .before .pre .1 .1)) (c .before .original .ensures), omega arith)
 
 find-variable-requires : tie.Need-find-variable-requires
-find-variable-requires c κs = c .before .before .before .before .before .before .pre .1 .0 .room
+find-variable-requires c κs =
+    let first = c .before .before .before .before .before .before in
+    (first .pre .1 .0 .room, slot-inside (name-asked (first .pre .0) (first .pre .1 .0) (first .pre .1 .1)) (c .before .before .original .ensures))
 
 enum-known-v : tie.Need-enum-known-v
 enum-known-v c = search needs

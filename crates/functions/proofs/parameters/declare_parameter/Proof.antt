@@ -3,7 +3,7 @@
 use native.Mathlib.Omega.{arith}
 use mathlib.Core.Path.{refl}
 use borrow.Author.Needs.{needs}
-use Rattle.expressions.proofs.OriginalLaws.{number-inside, origin-inside, origin-declared}
+use Rattle.expressions.proofs.OriginalLaws.{number-inside, origin-inside, slot-inside, origin-declared}
 use Rattle.functions.proofs.ParameterLaws.{place-inside, place-word, place-asked, met-room, met-done, met-taken, one-more-turns}
 use Rattle.functions.proofs.parameters.declare_parameter.Statement.{statement}
 use Rattle.functions.proofs.parameters.declare_parameter.Tie as tie
@@ -44,7 +44,10 @@ declare-requires : tie.Need-declare-requires
 declare-requires c κs =
     let first = c .before .before .before .before .before .before .before .before .before .before .before in (
       first .pre .0 .scoped .room,
-      met-room _ _ _ _ _ (first .pre .0) _ (first .pre .1 .0) (first .pre .1 .1 .0) (first .pre .1 .1 .1) _ (c .before .before .before .before .before .before .before .reference .ensures) _ (c .before .before .before .before .before .word .ensures) _ refl refl,
+      (
+        met-room _ _ _ _ _ (first .pre .0) _ (first .pre .1 .0) (first .pre .1 .1 .0) (first .pre .1 .1 .1) _ (c .before .before .before .before .before .before .before .reference .ensures) _ (c .before .before .before .before .before .word .ensures) _ refl refl,
+        slot-inside (place-asked _ _ _ _ _ (first .pre .0) _ (first .pre .1 .0) (first .pre .1 .1 .0) (first .pre .1 .1 .1) _ (c .before .before .before .before .before .before .before .reference .ensures)) (c .before .before .before .original .ensures),
+      ),
     )
 
 enum-known-next : tie.Need-enum-known-next
@@ -70,7 +73,7 @@ returns c =
     let asked = place-asked _ _ _ _ _ (first .pre .0) _ (first .pre .1 .0) (first .pre .1 .1 .0) (first .pre .1 .1 .1) _ (read .reference .ensures) in
     let met = met-done _ _ _ _ _ (first .pre .0) _ (first .pre .1 .0) (first .pre .1 .1 .0) (first .pre .1 .1 .1) _ (read .reference .ensures) _ (words .before .before .before .before .word .ensures) _ refl refl _ _
     (origin-declared asked (words .before .before .original .ensures) (words .before .word2 .ensures) (words .word3 .ensures) _ _ _ _ (got .declare .ensures)) _ (c .before .next .given .1) in
-    (met, one-more-turns (first .pre .0 .keyed .listed .room) (omega (arith, first .pre .1 .1 .1)) met)
+    (met, one-more-turns met)
 
 same-length-2 : tie.Need-same-length-2
 same-length-2 c = search needs
@@ -84,7 +87,7 @@ returns-2 c =
     let asked = place-asked _ _ _ _ _ (first .pre .0) _ (first .pre .1 .0) (first .pre .1 .1 .0) (first .pre .1 .1 .1) _ (read .reference .ensures) in
     let met = met-taken _ _ _ _ _ (first .pre .0) _ (first .pre .1 .0) (first .pre .1 .1 .0) (first .pre .1 .1 .1) _ (read .reference .ensures) _ (words .before .before .before .before .word .ensures) _ refl refl _ _
     (origin-declared asked (words .before .before .original .ensures) (words .before .word2 .ensures) (words .word3 .ensures) _ _ _ _ (got .declare .ensures)) (c .before .enum-told .given .1) _ (c .taken .ensures) in
-    (met, one-more-turns (first .pre .0 .keyed .listed .room) (omega (arith, first .pre .1 .1 .1)) met)
+    (met, one-more-turns met)
 
 pub declare-parameter-spec : {M : Type 1} → statement M
 declare-parameter-spec =

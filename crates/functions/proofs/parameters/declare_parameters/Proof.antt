@@ -4,8 +4,7 @@ use native.Mathlib.Omega.{arith}
 use mathlib.Core.Path.{refl}
 use borrow.Author.Needs.{needs}
 use Rattle.syntax.proofs.Lists.{left, next-falls}
-use Rattle.functions.proofs.ParameterLaws.{Turn, start, turn-end, still-few, turn-refused, turn-next}
-use Rattle.functions.proofs.ParameterRegion.{parameters-turns}
+use Rattle.functions.proofs.ParameterLaws.{names-only, only-turns, Turn, start, turn-end, still-few, turn-refused, turn-next}
 use Rattle.functions.proofs.parameters.declare_parameters.Statement.{statement}
 use Rattle.functions.proofs.parameters.declare_parameters.Tie as tie
 use Rattle.functions.proofs.parameters.declare_parameters.Reads as reads
@@ -53,7 +52,7 @@ returns : tie.Need-returns Inv-loop μ-loop
 returns c =
     let loop = c .before .before .before .before .before .before .before .before in
     let met = turn-refused _ _ _ _ _ _ _ _ (loop .loop .inv) (c .before .before .before .before .before .before .before .loop-test .taken) _ _ (rw (c .before .e .given .1) at (c .before .before .before .before .before .declare-parameter .ensures .0)) .0 in
-    (met, parameters-turns _ _ _ _ _ _ (loop .before .before .before .before .before .pre .0) (loop .before .before .before .before .before .pre .1) met)
+    (met, only-turns (names-only met))
 
 -- src/parameters.rt:86:30
 enum-known-next : tie.Need-enum-known-next Inv-loop μ-loop
@@ -79,13 +78,13 @@ loop-again c =
 
 -- src/parameters.rt:65:1
 same-length-2 : tie.Need-same-length-2 Inv-loop μ-loop
-same-length-2 c = c .before .loop .inv .same-length
+same-length-2 c = c .before .loop .inv .only .same-length
 
 -- src/parameters.rt:65:1
 returns-2 : tie.Need-returns-2 Inv-loop μ-loop
 returns-2 c =
     let met = turn-end _ _ _ _ _ _ _ _ (c .before .loop .inv) (c .loop-test .left) in
-    (met, parameters-turns _ _ _ _ _ _ (c .before .before .before .before .before .before .pre .0) (c .before .before .before .before .before .before .pre .1) met)
+    (met, only-turns (names-only met))
 
 pub declare-parameters-spec : {M : Type 1} → statement M
 declare-parameters-spec =

@@ -1,7 +1,7 @@
 -- A name's operand: its variable, or a refusal at the name.
 -- By what the search for the words of the lowest record with the text finds. Assumes nothing.
 use native.Mathlib.Omega.{arith}
-use Rattle.expressions.proofs.OriginalLaws.{number-inside, origin-inside, origin-found}
+use Rattle.expressions.proofs.OriginalLaws.{number-inside, origin-inside, slot-inside, origin-found}
 use Rattle.statements.proofs.LeafLaws.{name-ready, name-gives, name-refuses}
 use borrow.Author.Needs.{needs}
 use Rattle.statements.proofs.operands.name_operand.Statement.{statement}
@@ -22,7 +22,9 @@ word-requires-2 : tie.Need-word-requires-2
 word-requires-2 c κs = (origin-inside (name-ready (c .before .before .before .before .before .before .before .before .pre .0) (c .before .before .before .before .before .before .before .before .pre .1)) (c .before .original .ensures), omega arith)
 
 find-variable-requires : tie.Need-find-variable-requires
-find-variable-requires c κs = search needs
+find-variable-requires c κs =
+    let first = c .before .before .before .before .before .before .before .before .before in
+    (first .pre .0 .ready .scoped .room, slot-inside (name-ready (first .pre .0) (first .pre .1)) (c .before .before .original .ensures))
 
 enum-known-v : tie.Need-enum-known-v
 enum-known-v c = search needs

@@ -1,7 +1,7 @@
 -- The name of a record declared.
 -- By what `declare` owes of the words of the lowest record with the text. Assumes nothing.
 use native.Mathlib.Omega.{arith}
-use Rattle.expressions.proofs.OriginalLaws.{number-inside, origin-inside, origin-declared}
+use Rattle.expressions.proofs.OriginalLaws.{number-inside, origin-inside, slot-inside, origin-declared}
 use borrow.Author.Needs.{needs}
 use Rattle.statements.proofs.statements.declare_name.Statement.{statement}
 use Rattle.statements.proofs.statements.declare_name.Tie as tie
@@ -16,7 +16,9 @@ word-requires-2 : tie.Need-word-requires-2
 word-requires-2 c κs = (origin-inside (c .before .before .before .before .before .before .pre .0) (c .before .original .ensures), omega arith)
 
 declare-requires : tie.Need-declare-requires
-declare-requires c κs = (c .before .before .before .before .before .before .before .before .pre .0 .scoped .room, c .before .before .before .before .before .before .before .before .pre .1)
+declare-requires c κs =
+    let first = c .before .before .before .before .before .before .before .before in
+    (first .pre .0 .scoped .room, (first .pre .1, slot-inside (first .pre .0) (c .before .before .before .original .ensures)))
 
 same-length : tie.Need-same-length
 same-length c = search needs
