@@ -2,7 +2,7 @@
 -- By the laws of links; equal floats have one bucket, and no two of those written are equal. Assumes nothing.
 use mathlib.Core.Path.{_≡_, refl, sym, ap, ap₂, _∙_, subst}
 use mathlib.Core.Logic.{_⊎_, inl, inr}
-use mathlib.Core.Bool.{Bool, true, false, Bool·beq, false≢true}
+use mathlib.Core.Bool.{Bool, true, false, _&&_, Bool·beq, false≢true}
 use mathlib.Core.List.{List, [], _∷_, _++_}
 use mathlib.Core.Option.{none, some}
 use Prim.Native.Nat.{ℕ, _+_, _*_, _≤_, _<_}
@@ -10,7 +10,8 @@ use native.Mathlib.Omega.{arith}
 use lib.Dec.{eqb, ltb}
 use lib.ListN.{length, getD, length-append, List·getD-append}
 use lib.Seq.{getD-append-add}
-use borrow.Author.Tests.{eqb-true, ltb-true, ltb-false}
+use borrow.Author.Tests.{eqb-true, eq-eqb, ne-eqb, ltb-true, ltb-false, lt-ltb, le-ltb}
+use Rattle.laws.specs.Fix.{pick}
 use Rattle.laws.specs.Splice.{splice}
 use Rattle.laws.proofs.Tests.{tested, and-left, and-right}
 use Rattle.records.specs.Words.{wordAt}
@@ -18,9 +19,9 @@ use Rattle.records.specs.declared.words.Found.{Found}
 use Rattle.records.specs.declared.words.Found.the-variants.{At, Nothing}
 use Rattle.records.proofs.Apart.{word-apart}
 use Rattle.conversion.specs.Ir.{FloatEntry, position, sameFloat}
-use Rattle.ir.specs.Arena.{Linked, LinkedFloats, entryBucket, noFloat}
+use Rattle.ir.specs.Arena.{Linked, LinkedFloats, floatBucket, entryBucket, noFloat}
 use Rattle.ir.specs.Floats.{entry}
-use Rattle.ir.specs.Search.{Walks}
+use Rattle.ir.specs.Search.{Walks, bucketAt, headFor}
 use Rattle.ir.proofs.LinkLaws.{Start, start-same, Told, walk-tells, linked-words, linked-same, linked-more}
 use Rattle.ir.proofs.SearchLaws.{numbered-more, position-none, position-only, position-nowhere}
 
@@ -113,3 +114,28 @@ module _ {n : ℕ} {xs : List FloatEntry} {l : List ℕ} (h : LinkedFloats n xs 
           (λ i lt. ap (sameFloat e) (before i lt) ∙ position-none (sameFloat e) noFloat xs new i lt)
           j hj i;
     }
+
+-- ---- where a walk begins, as the code reads it
+
+module _ (l : List ℕ) (n m b i : ℕ) (e : i ≡ wordAt l (276 * n + 4 * b)) where
+  head-test : (t : Bool) → (ltb i m && eqb (bucketAt l n i) b) ≡ t → headFor l n m b ≡ pick t (i + 1) 0
+  unfolding headFor
+  head-test t q = ap (λ (x : ℕ). pick (ltb x m && eqb (bucketAt l n x) b) (x + 1) 0) (sym e) ∙ ap (λ (u : Bool). pick u (i + 1) 0) q
+
+  pub head-beyond : m ≤ i → 0 ≡ headFor l n m b
+  unfolding pick
+  head-beyond h = sym (head-test false (ap (λ (u : Bool). u && eqb (bucketAt l n i) b) (le-ltb i m h)))
+
+  module _ (h : i < m) (x y z p : ℕ) (ex : x ≡ wordAt l (204 * n + 16 * i)) (ey : y ≡ wordAt l (204 * n + 16 * i + 4)) (ez : z ≡ wordAt l (204 * n + 16 * i + 8))
+      (ep : (p ≡ floatBucket n x y z) × (p < n)) where
+    at-bucket : bucketAt l n i ≡ p
+    unfolding bucketAt
+    at-bucket = sym (ep .0 ∙ rw (ex, ey, ez) refl)
+
+    pub head-other : (p ≡ b → ⊥) → 0 ≡ headFor l n m b
+    unfolding pick
+    head-other ne = sym (head-test false (ap₂ (λ (u v : Bool). u && v) (lt-ltb i m h) (ne-eqb (bucketAt l n i) b (λ q. ne (sym at-bucket ∙ q)))))
+
+    pub head-own : p ≡ b → i + 1 ≡ headFor l n m b
+    unfolding pick
+    head-own q = sym (head-test true (ap₂ (λ (u v : Bool). u && v) (lt-ltb i m h) (eq-eqb (bucketAt l n i) b (at-bucket ∙ q))))

@@ -30,11 +30,14 @@ module _ {link : ℕ → ℕ} {f : ℕ → Bool} where
     pub walk-here : f j ≡ true → Walks link f v (At j)
     walk-here q = subst (λ (u : ℕ). Walks link f u (At j)) (one-past v j some e) (here q)
 
-    pub walk-further : (r : Found) → f j ≡ false → link j ≤ j → Walks link f (link j) r → Walks link f v r
-    walk-further r q h w = subst (λ (u : ℕ). Walks link f u r) (one-past v j some e) (further q h w)
+    module _ (next : ℕ) (is : next ≡ link j) (other : f j ≡ false) where
+      pub walk-further : next ≤ j → (r : Found) → Walks link f next r → Walks link f v r
+      walk-further h r w =
+          let low : link j ≤ j = subst (λ (x : ℕ). x ≤ j) is h in
+          subst (λ (u : ℕ). Walks link f u r) (one-past v j some e) (further other low (subst (λ (x : ℕ). Walks link f x r) is w))
 
-    pub walk-astray : f j ≡ false → j < link j → Walks link f v Nothing
-    walk-astray q h = subst (λ (u : ℕ). Walks link f u Nothing) (one-past v j some e) (astray q h)
+      pub walk-astray : j < next → Walks link f v Nothing
+      walk-astray h = subst (λ (u : ℕ). Walks link f u Nothing) (one-past v j some e) (astray other (subst (λ (x : ℕ). j < x) is h))
 
   pub walk-below : {v : ℕ} {r : Found} → Walks link f v r → (i : ℕ) → r ≡ At i → i < v
   walk-below ended i e = absurd (let z : _≡_ {A = ℕ} 0 1 = cc in omega arith)
@@ -72,11 +75,11 @@ module _ {head link bucket : ℕ → ℕ} {m : ℕ} (c : Linked head link bucket
     }
 
     start-none : (i < m → bucket i ≡ b → ⊥) → Start bucket m b 0
-    start-none no = record {
+    start-none never = record {
       at = λ j z. absurd (omega arith);
       all = λ j hj qj.
           let h : head b < m = subst (λ (x : ℕ). head x < m) qj (c .head-in j hj) in
-          absurd (no (omega (arith, e)) (ap bucket e ∙ ap (λ (x : ℕ). bucket (head x)) (sym qj) ∙ c .head-of j hj ∙ qj));
+          absurd (never (omega (arith, e)) (ap bucket e ∙ ap (λ (x : ℕ). bucket (head x)) (sym qj) ∙ c .head-of j hj ∙ qj));
     }
 
     pub start : (t : Bool) → t ≡ (ltb i m && eqb (bucket i) b) → Start bucket m b (pick t (i + 1) 0)
@@ -94,8 +97,8 @@ module _ {head link bucket : ℕ → ℕ} {m : ℕ} (c : Linked head link bucket
     walk-tells (further {j} q low w) at all =
         let is-in : j < m = at j refl .0 in
         let lower : (i : ℕ) → i < m → f i ≡ true → i < j = λ i h p.
-            tested (eqb i j) (λ t. absurd (false≢true (sym q ∙ ap f (sym (eqb-true i j t)) ∙ p)))
-            (λ t. let ne : i ≡ j → ⊥ = eqb-false i j t in omega (arith, all i h p)) in
+        tested (eqb i j) (λ t. absurd (false≢true (sym q ∙ ap f (sym (eqb-true i j t)) ∙ p)))
+        (λ t. let ne : i ≡ j → ⊥ = eqb-false i j t in omega (arith, all i h p)) in
         walk-tells w (λ i z. (omega (arith, low, z), c .link-of j i is-in z ∙ at j refl .1))
         (λ i h p. c .link-last j i is-in (lower i h p) (in-bucket i h p ∙ sym (at j refl .1)))
     walk-tells (astray {j} q low) at all = absurd (omega (arith, low, c .link-low j (at j refl .0)))
