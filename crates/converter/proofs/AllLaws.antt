@@ -60,6 +60,17 @@ nothing-held text n l = record {
   floats-hold = no-entries encodeFloat 16 (204 * n) l (λ x. refl);
   digests-hold = no-entries encodeDigest 4 (236 * n) l (λ x. refl);
   slots-hold = record { has = λ i b. absurd (omega arith); number = λ i b. absurd (omega arith) };
+  links-hold = record {
+    linked = record {
+      head-in = λ i b. absurd (omega arith);
+      head-of = λ i b. absurd (omega arith);
+      head-last = λ i b. absurd (omega arith);
+      link-low = λ i b. absurd (omega arith);
+      link-of = λ i j b. absurd (omega arith);
+      link-last = λ i j b. absurd (omega arith);
+    };
+    distinct = λ i j b. absurd (omega arith);
+  };
   before = record { functions-count = refl; instructions-before = refl; variables-before = refl; labels-before = refl };
   fits = record { labels-fit = tt; strings-stand = tt; floats-fit = tt };
 }

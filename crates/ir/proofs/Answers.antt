@@ -22,16 +22,15 @@ use Rattle.ir.specs.declared.structs.LabelNumber.{LabelNumber}
 use Rattle.ir.specs.declared.pool.PoolNumber.{PoolNumber}
 use Rattle.ir.specs.Instructions.{varOf, instrOf, fieldBytes}
 use Rattle.ir.specs.Amounts.{Amount, Spent}
-use Rattle.ir.specs.Arena.{encodeDigest, TablesSoFar, HasSlot, labelSlot, Holds, Room}
+use Rattle.ir.specs.Arena.{encodeDigest, TablesSoFar, HasSlot, labelSlot, floatBucket, entryBucket, Holds, Room}
 use Rattle.records.specs.declared.words.Found.{Found}
 use Rattle.records.specs.declared.words.Found.the-variants.{At, Nothing}
-use Rattle.ir.specs.Search.{first, foundOf, labelIs, stringIs, fourAt}
-use Rattle.ir.specs.Steps.{grown, Stands, Next, NextIn, moreInstructions, moreVariables, moreLabels, moreStrings, moreFloats, Wrote, WroteTwo, Emits, AddsVar, named, NumbersLabel, stringAt, NumbersString, NumbersFloat}
+use Rattle.ir.specs.Search.{first, foundOf, labelIs, stringIs, fourAt, Walks, headFor}
+use Rattle.ir.specs.Steps.{grown, Stands, Next, NextIn, moreInstructions, moreVariables, moreLabels, moreStrings, moreFloats, WroteTwo, WroteThree, Emits, AddsVar, named, NumbersLabel, stringAt, NumbersString, NumbersFloat}
 use Rattle.ir.proofs.Entries.{written-length}
-use Rattle.ir.proofs.Kept.{withLabel, withString, withFloat, no-code, emit-holds, var-holds, slot-holds, label-holds, string-holds, float-holds}
-use Rattle.ir.proofs.ReadBack.{label-here, label-nowhere, strings-read, floats-read}
+use Rattle.ir.proofs.Kept.{withLabel, withString, withFloat, no-code, emit-holds, var-holds, slot-holds, label-holds, string-holds, float-holds, written-word}
+use Rattle.ir.proofs.ReadBack.{label-here, label-nowhere, strings-read, float-start, float-here, float-gone}
 use Rattle.ir.proofs.SearchLaws.{found-some, found-none}
-use Rattle.ir.proofs.SlotLaws.{slot-written}
 use Rattle.records.proofs.WordLaws.{wide-words}
 
 instr-length : (i : Ir.Instr) → length (encodeInstr i) ≡ 32
@@ -139,7 +138,7 @@ module _ (kind opener : ℕ) (k : Counters) (l : List ℕ) (room : Room k l) (at
               let count : n ≡ length (t .state .labels) = omega (arith, h .labels-hold .count, h .before .labels-before, length-append (allLabels (t .done)) (t .state .labels)) in
               added text t (moreLabels k) l′ (position (sameLabel x) (t .state .labels)) (withLabel x (t .state)) (length (t .state .labels)) (r .label .0) new (m .0 ∙ count)
               (label-holds text t k l₁ room₁ (slot-holds text t k l room h x n l₁ slot new refl) x l′ slot
-              (slot-written (k .records) x n l l₁ refl fit (omega (arith, room)) ∙ count) small e);
+              (written-word n l l₁ (labelSlot (k .records) x) refl fit (omega (arith, room)) ∙ count) small e);
         });
         spent = same-spent (omega arith) (m .1 .counts);
         entry = inl (m .1);
@@ -190,21 +189,6 @@ module _ (text : List ℕ) (offset len d : ℕ) (ed : d ≡ digestOf (textAt tex
 
 -- ---- floats
 
-pub float-found : (e : FloatEntry) (a b c i : ℕ) (r : PoolNumber) (k : Counters) (l : List ℕ) → Room k l
-    → a ≡ e .bits % 4294967296 → b ≡ e .bits / 4294967296 → c ≡ boolNumber (e .short)
-    → first (k .floats) (fourAt l (204 * k .records) a b c) 0 ≡ some i → r .number ≡ i → r .counters ≡ k → NumbersFloat e k l r l
-unfolding float-id
-float-found e a b c i r k l room ea eb ec q ex ek = record {
-  next = subst (λ (k′ : Counters). Next (float-id e) k l (r .number) k′ l) (sym ek) (record {
-    room = room;
-    records = refl;
-    stands = λ text t h. found text t k l room h (position (sameFloat e) (t .state .floats)) (withFloat e (t .state)) (length (t .state .floats)) i (r .number)
-        (sym (floats-read text t k l h e) ∙ rw (← ea, ← eb, ← ec) q) ex;
-  });
-  spent = same-spent (omega arith) ek;
-  entry = inr (record { counts = ek; same = refl });
-}
-
 float-bytes : (e : FloatEntry) (a b c : ℕ) → a ≡ e .bits % 4294967296 → b ≡ e .bits / 4294967296 → c ≡ boolNumber (e .short)
     → word a ++ word b ++ word c ++ word 0 ≡ encodeFloat e
 unfolding encodeFloat
@@ -214,28 +198,6 @@ float-bytes e a b c ea eb ec =
 float-length : (e : FloatEntry) → length (encodeFloat e) ≡ 16
 unfolding encodeFloat word wide bytesOf
 float-length e = refl
-
-pub float-new : (e : FloatEntry) (a b c : ℕ) (k : Counters) (l l′ : List ℕ) (r : PoolNumber) → Room k l → k .floats < 2 * k .records
-    → a ≡ e .bits % 4294967296 → (b ≡ e .bits / 4294967296) × (b < 4294967296) → c ≡ boolNumber (e .short)
-    → first (k .floats) (fourAt l (204 * k .records) a b c) 0 ≡ none → r .number ≡ k .floats
-    → Wrote l (204 * k .records + 16 * k .floats) (word a ++ word b ++ word c ++ word 0) (moreFloats k) (r .counters) l′ → NumbersFloat e k l r l′
-unfolding float-id
-float-new e a b c k l l′ r room small ea eb ec q en m =
-    let w : l′ ≡ splice l (204 * k .records + 16 * k .floats) (encodeFloat e) =
-    m .wrote ∙ ap (splice l (204 * k .records + 16 * k .floats)) (float-bytes e a b c ea (eb .0) ec) in
-    let len : length l′ ≡ length l =
-    written-length l (204 * k .records + 16 * k .floats) (encodeFloat e) l′ w (omega (arith, float-length e, room .arena)) in record {
-      next = subst (λ (k′ : Counters). Next (float-id e) k l (r .number) k′ l′) (sym (m .counts)) (record {
-        room = omega (arith, room, len);
-        records = refl;
-        stands = λ text t h.
-            added text t (moreFloats k) l′ (position (sameFloat e) (t .state .floats)) (withFloat e (t .state)) (length (t .state .floats)) (r .number)
-            (sym (floats-read text t k l h e) ∙ rw (← ea, ← eb .0, ← ec) q) (en ∙ h .floats-hold .count)
-            (float-holds text t k l room h e l′ (record { bits = omega (arith, eb .0, eb .1) }) small w);
-      });
-      spent = same-spent (omega arith) (m .counts);
-      entry = inl (record { counts = m .counts; wrote = w });
-    }
 
 -- ---- as the code meets them: what a search answered
 
@@ -252,17 +214,69 @@ module _ (text : List ℕ) (offset len d : ℕ) (k : Counters) (l : List ℕ) (a
   string-nowhere l′ r small ho hn q m =
       string-new text offset len d ed k l r room l′ small ho hn (found-none (first (k .strings) (stringIs text l (k .records) d (textAt text offset len)) 0) a e q) (m .0) (m .1)
 
-module _ (f e : FloatEntry) (same : e ≡ f) (b c d : ℕ) (k : Counters) (l : List ℕ) (a : Found) (room : Room k l)
+-- what a walk from the head of its bucket answered
+module _ (f e : FloatEntry) (same : e ≡ f) (b c d p v : ℕ) (k : Counters) (l : List ℕ) (a : Found) (room : Room k l)
     (eb : b ≡ e .bits % 4294967296) (ec : (c ≡ e .bits / 4294967296) × (c < 4294967296)) (ed : d ≡ boolNumber (e .short))
-    (es : a ≡ foundOf (first (k .floats) (fourAt l (204 * k .records) b c d) 0)) where
+    (ep : (p ≡ floatBucket (k .records) b c d) × (p < k .records)) (ev : (v ≡ headFor l (k .records) (k .floats) p) × (v ≤ k .floats))
+    (es : Walks (λ j. wordAt l (268 * k .records + 4 * j)) (fourAt l (204 * k .records) b c d) v a) where
+  bucket-is : p ≡ entryBucket (k .records) e
+  bucket-is = ep .0 ∙ rw (eb, ec .0, ed) refl
+
+  head-is : v ≡ headFor l (k .records) (k .floats) (entryBucket (k .records) e)
+  head-is = ev .0 ∙ ap (headFor l (k .records) (k .floats)) bucket-is
+
+  walked : (r : Found) → a ≡ r → Walks (λ j. wordAt l (268 * k .records + 4 * j)) (fourAt l (204 * k .records) (e .bits % 4294967296) (e .bits / 4294967296) (boolNumber (e .short)))
+      (headFor l (k .records) (k .floats) (entryBucket (k .records) e)) r
+  walked r q =
+      subst (λ (z : Found). Walks (λ j. wordAt l (268 * k .records + 4 * j)) (fourAt l (204 * k .records) (e .bits % 4294967296) (e .bits / 4294967296) (boolNumber (e .short)))
+      (headFor l (k .records) (k .floats) (entryBucket (k .records) e)) z) q
+      (subst (λ (u : ℕ). Walks (λ j. wordAt l (268 * k .records + 4 * j)) (fourAt l (204 * k .records) (e .bits % 4294967296) (e .bits / 4294967296) (boolNumber (e .short))) u a) head-is
+      (rw (← eb, ← ec .0, ← ed) es))
+
   pub float-at : (r : PoolNumber) (i : ℕ) → a ≡ At i → r .number ≡ i → r .counters ≡ k → NumbersFloat f k l r l
-  float-at r i q ex ek =
-      subst (λ (g : FloatEntry). NumbersFloat g k l r l) same
-      (float-found e b c d i r k l room eb (ec .0) ed (found-some (first (k .floats) (fourAt l (204 * k .records) b c d) 0) i a es q) ex ek)
+  unfolding float-id
+  float-at r i q ex ek = subst (λ (g : FloatEntry). NumbersFloat g k l r l) same (record {
+    next = subst (λ (k′ : Counters). Next (float-id e) k l (r .number) k′ l) (sym ek) (record {
+      room = room;
+      records = refl;
+      stands = λ text t h. found text t k l room h (position (sameFloat e) (t .state .floats)) (withFloat e (t .state)) (length (t .state .floats)) i (r .number)
+          (float-here text t k l h e i (walked (At i) q)) ex;
+    });
+    spent = same-spent (omega arith) ek;
+    entry = inr (record { counts = ek; same = refl });
+  })
 
   pub float-nowhere : (l′ : List ℕ) (r : PoolNumber) → k .floats < 2 * k .records → a ≡ Nothing
-      → (r .number ≡ k .floats) × Wrote l (204 * k .records + 16 * k .floats) (word b ++ word c ++ word d ++ word 0) (moreFloats k) (r .counters) l′
+      → (r .number ≡ k .floats)
+      × WroteThree l (204 * k .records + 16 * k .floats) (word b ++ word c ++ word d ++ word 0) (268 * k .records + 4 * k .floats) (word v)
+      (276 * k .records + 4 * p) (word (k .floats)) (moreFloats k) (r .counters) l′
       → NumbersFloat f k l r l′
+  unfolding float-id word bytesOf
   float-nowhere l′ r small q m =
-      subst (λ (g : FloatEntry). NumbersFloat g k l r l′) same
-      (float-new e b c d k l l′ r room small eb ec ed (found-none (first (k .floats) (fourAt l (204 * k .records) b c d) 0) a es q) (m .0) (m .1))
+      let n : ℕ = k .records in
+      let bucket : ℕ = entryBucket (k .records) e in
+      let head : ℕ = headFor l (k .records) (k .floats) bucket in
+      let at : ℕ = 204 * n + 16 * k .floats in
+      let at₂ : ℕ = 268 * n + 4 * k .floats in
+      let l₁ : List ℕ = splice l at (encodeFloat e) in
+      let l₂ : List ℕ = splice l₁ at₂ (word head) in
+      let w : l′ ≡ splice l₂ (276 * n + 4 * bucket) (word (k .floats)) =
+      m .1 .wrote
+      ∙ ap (λ (z : List ℕ). splice (splice (splice l at z) at₂ (word v)) (276 * n + 4 * p) (word (k .floats))) (float-bytes e b c d eb (ec .0) ed)
+      ∙ ap₂ (λ (y x : ℕ). splice (splice l₁ at₂ (word y)) (276 * n + 4 * x) (word (k .floats))) head-is bucket-is in
+      let inside : bucket < n = omega (arith, ep .1, bucket-is) in
+      let long₁ : length l₁ ≡ length l = written-length l at (encodeFloat e) l₁ refl (omega (arith, float-length e, room .arena)) in
+      let long₂ : length l₂ ≡ length l₁ = written-length l₁ at₂ (word head) l₂ refl (omega (arith, long₁, room .arena)) in
+      let long : length l′ ≡ length l₂ = written-length l₂ (276 * n + 4 * bucket) (word (k .floats)) l′ w (omega (arith, long₁, long₂, room .arena)) in
+      subst (λ (g : FloatEntry). NumbersFloat g k l r l′) same (record {
+        next = subst (λ (k′ : Counters). Next (float-id e) k l (r .number) k′ l′) (sym (m .1 .counts)) (record {
+          room = omega (arith, room, long₁, long₂, long);
+          records = refl;
+          stands = λ text t h.
+              let new : position (sameFloat e) (t .state .floats) ≡ none = float-gone text t k l h e (walked Nothing q) in
+              added text t (moreFloats k) l′ (position (sameFloat e) (t .state .floats)) (withFloat e (t .state)) (length (t .state .floats)) (r .number) new (m .0 ∙ h .floats-hold .count)
+              (float-holds text t k l room h e head l₁ l₂ l′ (record { bits = omega (arith, ec .0, ec .1) }) small inside (float-start text t k l h bucket) new refl refl w);
+        });
+        spent = same-spent (omega arith) (m .1 .counts);
+        entry = inl (record { counts = m .1 .counts; wrote = w });
+      })

@@ -16,13 +16,14 @@ use Rattle.conversion.specs.Ir.{FloatEntry, position, numbered, sameFloat, floa
 use Rattle.conversion.specs.Written.{boolNumber}
 use Rattle.ir.specs.declared.structs.Counters.{Counters}
 use Rattle.ir.specs.declared.pool.PoolNumber.{PoolNumber}
-use Rattle.ir.specs.Arena.{TablesSoFar, Holds, Room}
+use Rattle.ir.specs.Arena.{TablesSoFar, noFloat, Holds, Room}
 use Rattle.ir.specs.Floats.{bitsOf, entry, entryOfFloat}
 use Rattle.ir.specs.declared.floats.FloatEntry as Code
 use Rattle.ir.specs.declared.floats.FloatBits.the-variants.{Number, Nan}
 use Rattle.ir.specs.Steps.{grown, Stands, Next, NumbersFloat}
+use Rattle.ir.proofs.FloatLinks.{same-entry}
 use Rattle.ir.proofs.Kept.{withFloat, no-code}
-use Rattle.ir.proofs.ReadBack.{FloatAt, no-float, floats-at}
+use Rattle.ir.proofs.ReadBack.{FloatAt, floats-at}
 use Rattle.ir.proofs.SearchLaws.{position-hit}
 
 -- ---- the bits and the mark, from the words
@@ -38,14 +39,14 @@ mark-is false = refl
 pub short-read : (l : List ℕ) (p : ℕ) (x : FloatEntry) → FloatAt l p x → eqb (wordAt l (p + 8)) 1 ≡ x .short
 short-read l p x a = ap (λ (w : ℕ). eqb w 1) (a .mark) ∙ mark-is (x .short)
 
-past-end : (l : List FloatEntry) (i : ℕ) → length l ≤ i → getD l i no-float ≡ no-float
+past-end : (l : List FloatEntry) (i : ℕ) → length l ≤ i → getD l i noFloat ≡ noFloat
 past-end [] i h = refl
 past-end (x ∷ l) zero h = absurd (omega arith)
 past-end (x ∷ l) (suc i) h = past-end l i (omega arith)
 
 -- `floatBits` of an entry that is counted: its first two words; past the last it is 0
 module _ (k : Counters) (l : List ℕ) (i : ℕ) (room : Room k l) where
-  bits-are : (b : ℕ) → ((text : List ℕ) (t : TablesSoFar) → Holds text t k l → b ≡ getD (t .state .floats) i no-float .bits) → Next (floatBits i) k l b k l
+  bits-are : (b : ℕ) → ((text : List ℕ) (t : TablesSoFar) → Holds text t k l → b ≡ getD (t .state .floats) i noFloat .bits) → Next (floatBits i) k l b k l
   unfolding Stands floatBits
   bits-are b f = record {
     room = room;
@@ -54,7 +55,7 @@ module _ (k : Counters) (l : List ℕ) (i : ℕ) (room : Room k l) where
   }
 
   pub bits-next : i < k .floats → Next (floatBits i) k l (wordAt l (204 * k .records + 16 * i) + wordAt l (204 * k .records + 16 * i + 4) * 4294967296) k l
-  bits-next h = bits-are _ (λ text t holds. bits-read l (204 * k .records + 16 * i) (getD (t .state .floats) i no-float)
+  bits-next h = bits-are _ (λ text t holds. bits-read l (204 * k .records + 16 * i) (getD (t .state .floats) i noFloat)
       (floats-at text t k l holds i (omega (arith, holds .floats-hold .count))))
 
   -- as the code loads them
@@ -67,35 +68,22 @@ module _ (k : Counters) (l : List ℕ) (i : ℕ) (room : Room k l) where
 
 -- ---- what `float_id` wrote, or found
 
-same-mark : (a b : Bool) → Bool·beq a b ≡ true → a ≡ b
-same-mark true true e = refl
-same-mark true false e = absurd (let z : _≡_ {A = ℕ} 0 1 = cc in omega arith)
-same-mark false true e = absurd (let z : _≡_ {A = ℕ} 0 1 = cc in omega arith)
-same-mark false false e = refl
-
-same-entry : (a b : FloatEntry) → sameFloat a b ≡ true → b ≡ a
-unfolding sameFloat
-same-entry a b e =
-    ap₂ entry
-    (sym (eqb-true (a .bits) (b .bits) (and-left (eqb (a .bits) (b .bits)) (Bool·beq (a .short) (b .short)) e)))
-    (sym (same-mark (a .short) (b .short) (and-right (eqb (a .bits) (b .bits)) (Bool·beq (a .short) (b .short)) e)))
-
 module _ (e : FloatEntry) (text : List ℕ) (t : TablesSoFar) (x : ℕ) (k′ : Counters) (l′ : List ℕ) where
   abbrev fs : List FloatEntry
   fs = t .state .floats
 
-  last-entry : getD (fs ++ (e ∷ [])) (length fs) no-float ≡ e
+  last-entry : getD (fs ++ (e ∷ [])) (length fs) noFloat ≡ e
   last-entry =
       let z : length fs ≡ length fs + 0 = omega arith in
-      ap (λ (m : ℕ). getD (fs ++ (e ∷ [])) m no-float) z ∙ getD-append-add fs (e ∷ []) 0 no-float
+      ap (λ (m : ℕ). getD (fs ++ (e ∷ [])) m noFloat) z ∙ getD-append-add fs (e ∷ []) 0 noFloat
 
   numbered-at : (o : Option ℕ) → position (sameFloat e) fs ≡ o → Stands (numbered o (t .state) (withFloat e (t .state)) (length fs)) x text t k′ l′
       → FloatAt l′ (204 * k′ .records + 16 * x) e
   unfolding Stands numbered
   numbered-at (some i) q h =
-      let hit = position-hit (sameFloat e) no-float fs i q in
+      let hit = position-hit (sameFloat e) noFloat fs i q in
       subst (λ (m : ℕ). FloatAt l′ (204 * k′ .records + 16 * m) e) (sym (h .0))
-      (subst (FloatAt l′ (204 * k′ .records + 16 * i)) (same-entry e (getD fs i no-float) (hit .holds))
+      (subst (FloatAt l′ (204 * k′ .records + 16 * i)) (same-entry e (getD fs i noFloat) (hit .holds))
       (floats-at text (grown t [] (t .state)) k′ l′ (h .1) i (hit .below)))
   numbered-at none q h =
       subst (λ (m : ℕ). FloatAt l′ (204 * k′ .records + 16 * m) e) (sym (h .0))

@@ -5,9 +5,11 @@ pub mod CutLaws
 pub mod Entries
 pub mod FieldLaws
 pub mod FloatLaws
+pub mod FloatLinks
 pub mod FloatRead
 pub mod FunctionDone
 pub mod Kept
+pub mod LinkLaws
 pub mod Operators
 pub mod ReadBack
 pub mod SearchLaws

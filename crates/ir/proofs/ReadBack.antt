@@ -16,14 +16,18 @@ use Rattle.records.specs.Words.{byteAt, wordAt, textAt}
 use Rattle.records.specs.Digest.{digestOf}
 use Rattle.records.proofs.Apart.{word-back}
 use Rattle.records.proofs.DigestLaws.{digest-small, same-equal}
+use Rattle.records.specs.declared.words.Found.{Found}
+use Rattle.records.specs.declared.words.Found.the-variants.{At, Nothing}
 use Rattle.conversion.specs.Ir.{LabelName, StringEntry, FloatEntry, position, sameLabel, sameText, sameFloat}
 use Rattle.conversion.specs.Written.{bytesOf, word, wide, boolNumber, encodeLabel, encodeString, encodeFloat, allLabels}
 use Rattle.ir.specs.declared.structs.Counters.{Counters}
 use Rattle.conversion.specs.Fits.{StringStands, FloatFits}
-use Rattle.ir.specs.Arena.{encodeDigest, TablesSoFar, LabelFits, labelSlot, noLabel, Holds}
+use Rattle.ir.specs.Arena.{encodeDigest, TablesSoFar, LabelFits, labelSlot, noLabel, entryBucket, noFloat, Holds}
 use Rattle.ir.specs.Steps.{named}
-use Rattle.ir.specs.Search.{first, pairAt, labelIs, sameTextAt, stringIs, fourAt}
+use Rattle.ir.specs.Search.{first, pairAt, labelIs, sameTextAt, stringIs, fourAt, Walks, bucketAt, headFor}
 use Rattle.ir.proofs.Entries.{table-word}
+use Rattle.ir.proofs.FloatLinks.{buckets, float-there, float-missing}
+use Rattle.ir.proofs.LinkLaws.{Start, start}
 use Rattle.ir.proofs.SearchLaws.{first-position}
 use Rattle.ir.proofs.SlotLaws.{slot-found, slot-nowhere}
 
@@ -123,9 +127,6 @@ marks false false = refl
 no-string : StringEntry
 no-string = record { offset = 0; len = 0; text = [] }
 
-abbrev pub no-float : FloatEntry
-no-float = record { bits = 0; short = false }
-
 module _ (text : List ℕ) (t : TablesSoFar) (k : Counters) (l : List ℕ) (h : Holds text t k l) where
   -- entry j of the labels of the function at hand
   label-entry : (j : ℕ) → getD (allLabels (t .done) ++ t .state .labels) (k .«labels_before» + j) noLabel ≡ getD (t .state .labels) j noLabel
@@ -202,28 +203,53 @@ module _ (text : List ℕ) (t : TablesSoFar) (k : Counters) (l : List ℕ) (h : 
       (k .strings) (h .strings-hold .count) (string-told u d ed)
 
   -- entry j of the floats
-  pub floats-at : (j : ℕ) → j < length (t .state .floats) → FloatAt l (204 * k .records + 16 * j) (getD (t .state .floats) j no-float)
+  pub floats-at : (j : ℕ) → j < length (t .state .floats) → FloatAt l (204 * k .records + 16 * j) (getD (t .state .floats) j noFloat)
   floats-at j hj =
-      let x : FloatEntry = getD (t .state .floats) j no-float in
-      let f : FloatFits x = all-at FloatFits (t .state .floats) no-float j (h .fits .floats-fit) hj in
+      let x : FloatEntry = getD (t .state .floats) j noFloat in
+      let f : FloatFits x = all-at FloatFits (t .state .floats) noFloat j (h .fits .floats-fit) hj in
       let c : j < k .floats = omega (arith, h .floats-hold .count) in record {
-        low = table-word (h .floats-hold) no-float j 0 (204 * k .records + 16 * j) c (omega arith) (omega arith) ∙ float-low x;
-        high = table-word (h .floats-hold) no-float j 4 (204 * k .records + 16 * j + 4) c (omega arith) (omega arith) ∙ float-high x f;
-        mark = table-word (h .floats-hold) no-float j 8 (204 * k .records + 16 * j + 8) c (omega arith) (omega arith) ∙ float-mark x;
+        low = table-word (h .floats-hold) noFloat j 0 (204 * k .records + 16 * j) c (omega arith) (omega arith) ∙ float-low x;
+        high = table-word (h .floats-hold) noFloat j 4 (204 * k .records + 16 * j + 4) c (omega arith) (omega arith) ∙ float-high x f;
+        mark = table-word (h .floats-hold) noFloat j 8 (204 * k .records + 16 * j + 8) c (omega arith) (omega arith) ∙ float-mark x;
       }
 
   float-same : (e : FloatEntry) (j : ℕ) → j < length (t .state .floats)
-      → fourAt l (204 * k .records) (e .bits % 4294967296) (e .bits / 4294967296) (boolNumber (e .short)) j ≡ sameFloat e (getD (t .state .floats) j no-float)
+      → fourAt l (204 * k .records) (e .bits % 4294967296) (e .bits / 4294967296) (boolNumber (e .short)) j ≡ sameFloat e (getD (t .state .floats) j noFloat)
   unfolding fourAt sameFloat
   float-same e j hj =
-      let x : FloatEntry = getD (t .state .floats) j no-float in
+      let x : FloatEntry = getD (t .state .floats) j noFloat in
       let a : FloatAt l (204 * k .records + 16 * j) x = floats-at j hj in
       ap₂ (λ (p q : Bool). p && q)
       (ap₂ (λ (p q : ℕ). eqb (e .bits % 4294967296) p && eqb (e .bits / 4294967296) q) (a .low) (a .high) ∙ halves (e .bits) (x .bits))
       (ap (eqb (boolNumber (e .short))) (a .mark) ∙ marks (e .short) (x .short))
 
-  pub floats-read : (e : FloatEntry)
-      → first (k .floats) (fourAt l (204 * k .records) (e .bits % 4294967296) (e .bits / 4294967296) (boolNumber (e .short))) 0 ≡ position (sameFloat e) (t .state .floats)
-  floats-read e =
-      first-position (sameFloat e) no-float (fourAt l (204 * k .records) (e .bits % 4294967296) (e .bits / 4294967296) (boolNumber (e .short)))
-      (t .state .floats) (k .floats) (h .floats-hold .count) (float-same e)
+  -- the bucket of entry j is its float's, and so a walk begins where the links say
+  float-bucket : (j : ℕ) → j < length (t .state .floats) → bucketAt l (k .records) j ≡ buckets (k .records) (t .state .floats) j
+  unfolding bucketAt
+  float-bucket j hj = let a : FloatAt l (204 * k .records + 16 * j) (getD (t .state .floats) j noFloat) = floats-at j hj in rw (a .low, a .high, a .mark) refl
+
+  head-tests : (i b : ℕ) → (ltb i (k .floats) && eqb (bucketAt l (k .records) i) b) ≡ (ltb i (length (t .state .floats)) && eqb (buckets (k .records) (t .state .floats) i) b)
+  head-tests i b =
+      ap (λ (c : ℕ). ltb i c && eqb (bucketAt l (k .records) i) b) (h .floats-hold .count)
+      ∙ tested (ltb i (length (t .state .floats)))
+      (λ q. ap (λ (z : ℕ). ltb i (length (t .state .floats)) && eqb z b) (float-bucket i (ltb-true i (length (t .state .floats)) q)))
+      (λ q. ap (λ (c : Bool). c && eqb (bucketAt l (k .records) i) b) q ∙ sym (ap (λ (c : Bool). c && eqb (buckets (k .records) (t .state .floats) i) b) q))
+
+  pub float-start : (b : ℕ) → Start (buckets (k .records) (t .state .floats)) (length (t .state .floats)) b (headFor l (k .records) (k .floats) b)
+  unfolding headFor
+  float-start b =
+      let i : ℕ = wordAt l (276 * k .records + 4 * b) in
+      start (h .links-hold .linked) b i refl (ltb i (k .floats) && eqb (bucketAt l (k .records) i) b) (head-tests i b)
+
+  module _ (e : FloatEntry) where
+    abbrev test : ℕ → Bool
+    test = fourAt l (204 * k .records) (e .bits % 4294967296) (e .bits / 4294967296) (boolNumber (e .short))
+
+    abbrev from-head : Found → Type 0
+    from-head r = Walks (λ j. wordAt l (268 * k .records + 4 * j)) test (headFor l (k .records) (k .floats) (entryBucket (k .records) e)) r
+
+    pub float-here : (i : ℕ) → from-head (At i) → position (sameFloat e) (t .state .floats) ≡ some i
+    float-here i w = float-there (h .links-hold) e test (float-same e) (float-start (entryBucket (k .records) e)) i w
+
+    pub float-gone : from-head Nothing → position (sameFloat e) (t .state .floats) ≡ none
+    float-gone w = float-missing (h .links-hold) e test (float-same e) (float-start (entryBucket (k .records) e)) w

@@ -2,12 +2,14 @@
 -- By recursion over the numbers that are left. Assumes nothing.
 use mathlib.Core.Path.{_≡_, refl, sym, ap, ap₂, _∙_, subst}
 use mathlib.Core.Bool.{Bool, true, false, _&&_, false≢true}
-use mathlib.Core.List.{List, [], _∷_}
+use mathlib.Core.List.{List, [], _∷_, _++_}
 use mathlib.Core.Option.{Option, none, some}
 use Prim.Native.Nat.{ℕ, zero, suc, _+_, _-_, _*_, _≤_, _<_}
 use native.Mathlib.Numerals.{add-one}
 use native.Mathlib.Omega.{arith}
-use lib.ListN.{length, getD}
+use lib.ListN.{length, getD, length-append, List·getD-append}
+use lib.Seq.{getD-append-add}
+use borrow.Author.Count.{below-more}
 use borrow.Author.Tests.{eq-eqb, ne-eqb, lt-ltb, le-ltb}
 use Rattle.laws.specs.Fix.{pick}
 use Rattle.records.specs.Words.{wordAt, textAt}
@@ -78,6 +80,16 @@ pub first-position : {X : Type 0} (p : X → Bool) (d : X) (f : ℕ → Bool) (x
     → ((j : ℕ) → j < length xs → f j ≡ p (getD xs j d)) → first n f 0 ≡ position p xs
 first-position p d f xs n e h =
     rw e (first-shift p d f xs 0 (λ j hj. let z : 0 + j ≡ j = omega arith in ap f z ∙ h j hj) ∙ shift-zero (position p xs))
+
+-- a property of each entry and its number, and of one more
+pub numbered-more : {X : Type 0} (d : X) (xs : List X) (x : X) (P : X → ℕ → Type 0) → ((j : ℕ) → j < length xs → P (getD xs j d) j) → P x (length xs)
+    → (j : ℕ) → j < length (xs ++ (x ∷ [])) → P (getD (xs ++ (x ∷ [])) j d) j
+numbered-more d xs x P p q j hj =
+    let z : length xs ≡ length xs + 0 = omega arith in
+    below-more (λ (i : ℕ). P (getD (xs ++ (x ∷ [])) i d) i) (length xs)
+    (λ i h. subst (λ (y : _). P y i) (sym (List·getD-append xs (x ∷ []) d i h)) (p i h))
+    (subst (λ (y : _). P y (length xs)) (sym (ap (λ (i : ℕ). getD (xs ++ (x ∷ [])) i d) z ∙ getD-append-add xs (x ∷ []) 0 d)) q)
+    j (omega (arith, length-append xs (x ∷ [])))
 
 -- what is found is in the list, and the test holds of it
 pub record Hit {X : Type 0} (p : X → Bool) (d : X) (xs : List X) (i : ℕ) : Type 0 where

@@ -1,6 +1,6 @@
 -- The slots of a function's labels: what a write before them leaves, what a label more needs, and that a label is found by its slot alone.
 -- Slots of two labels lie apart, and a number that stands at a slot is the only one that its label has. Assumes nothing.
-use mathlib.Core.Path.{_≡_, refl, sym, ap, _∙_, subst}
+use mathlib.Core.Path.{_≡_, sym, ap, _∙_}
 use mathlib.Core.Logic.{_⊎_, inl, inr}
 use mathlib.Core.Bool.{Bool, true, false, _&&_, false≢true}
 use mathlib.Core.List.{List, [], _∷_, _++_}
@@ -8,18 +8,17 @@ use mathlib.Core.Option.{Option, none, some}
 use Prim.Native.Nat.{ℕ, _+_, _-_, _*_, _^_, _≤_, _<_}
 use native.Mathlib.Omega.{arith}
 use lib.Dec.{eqb, leb}
-use lib.ListN.{length, getD, length-append, List·getD-append}
-use lib.Seq.{getD-append-add}
+use lib.ListN.{length, getD}
 use borrow.Author.Tests.{eqb-true, leb-true, leb-false, eq-eqb}
 use Rattle.laws.specs.Splice.{splice}
 use Rattle.laws.proofs.Tests.{tested, and-left, and-right}
-use Rattle.records.specs.Words.{byteAt, wordAt}
-use Rattle.records.proofs.Apart.{word-back, word-apart, word-there}
+use Rattle.records.specs.Words.{wordAt}
+use Rattle.records.proofs.Apart.{word-apart}
 use Rattle.conversion.specs.Ir.{LabelName, position, sameLabel}
 use Rattle.conversion.specs.Written.{bytesOf, word, encodeLabel}
 use Rattle.ir.specs.Arena.{HasSlot, labelSlot, noLabel, Slots}
 use Rattle.ir.specs.Steps.{named}
-use Rattle.ir.proofs.SearchLaws.{position-none, position-only, position-nowhere}
+use Rattle.ir.proofs.SearchLaws.{numbered-more, position-none, position-only, position-nowhere}
 
 -- labels that are the same have one slot
 same-slot : (n : ℕ) (x y : LabelName) → sameLabel x y ≡ true → labelSlot n y ≡ labelSlot n x
@@ -51,15 +50,6 @@ unfolding encodeLabel
 label-writes n kind opener m slot at l l₁ l₂ es e₁ e₂ =
     e₂ ∙ ap (λ (r : List ℕ). splice r at (word kind ++ word opener)) (e₁ ∙ ap (λ (p : ℕ). splice l p (word m)) es)
 
--- the number that was written at a slot
-pub slot-written : (n : ℕ) (x : LabelName) (m : ℕ) (l l′ : List ℕ) → l′ ≡ splice l (labelSlot n x) (word m) → labelSlot n x + 4 ≤ length l → m < 2 ^ 32
-    → wordAt l′ (labelSlot n x) ≡ m
-unfolding word bytesOf wordAt byteAt
-slot-written n x m l l′ e fit small =
-    ap (λ (r : List ℕ). wordAt r (labelSlot n x)) e
-    ∙ word-there l (labelSlot n x) (word m) fit 0 (labelSlot n x) (omega arith) (omega arith)
-    ∙ word-back m small
-
 module _ {n : ℕ} {xs : List LabelName} {l : List ℕ} (h : Slots n xs l) where
   -- a write before the slots leaves them
   pub slots-behind : (i : ℕ) (vs l′ : List ℕ) → l′ ≡ splice l i vs → i + length vs ≤ length l → i + length vs ≤ 240 * n → Slots n xs l′
@@ -84,25 +74,11 @@ module _ {n : ℕ} {xs : List LabelName} {l : List ℕ} (h : Slots n xs l) where
   }
 
   -- a label more, whose number stands at its slot
-  module _ (x : LabelName) where
-    by-number : (P : LabelName → ℕ → Type 0) → ((j : ℕ) → j < length xs → P (getD xs j noLabel) j) → P x (length xs)
-        → (j : ℕ) → j < length (xs ++ (x ∷ [])) → P (getD (xs ++ (x ∷ [])) j noLabel) j
-    by-number P p q j hj =
-        tested (leb (length xs) j)
-        (λ a.
-        let z : j ≡ length xs = omega (arith, leb-true (length xs) j a, length-append xs (x ∷ [])) in
-        let w : length xs ≡ length xs + 0 = omega arith in
-        subst (λ (i : ℕ). P (getD (xs ++ (x ∷ [])) i noLabel) i) (sym z)
-        (subst (λ (y : LabelName). P y (length xs)) (sym (ap (λ (i : ℕ). getD (xs ++ (x ∷ [])) i noLabel) w ∙ getD-append-add xs (x ∷ []) 0 noLabel)) q))
-        (λ a.
-        let b : j < length xs = leb-false (length xs) j a in
-        subst (λ (y : LabelName). P y j) (sym (List·getD-append xs (x ∷ []) noLabel j b)) (p j b))
-
-    pub slots-grown : HasSlot n x → wordAt l (labelSlot n x) ≡ length xs → Slots n (xs ++ (x ∷ [])) l
-    slots-grown f e = record {
-      has = by-number (λ y i. HasSlot n y) (h .has) f;
-      number = by-number (λ y i. wordAt l (labelSlot n y) ≡ i) (h .number) e;
-    }
+  pub slots-grown : (x : LabelName) → HasSlot n x → wordAt l (labelSlot n x) ≡ length xs → Slots n (xs ++ (x ∷ [])) l
+  slots-grown x f e = record {
+    has = numbered-more noLabel xs x (λ y i. HasSlot n y) (h .has) f;
+    number = numbered-more noLabel xs x (λ y i. wordAt l (labelSlot n y) ≡ i) (h .number) e;
+  }
 
   -- the number at a label's slot is its own, if it has one: where the label of that number is this one, it is found there, and else nowhere
   module _ (x : LabelName) (i : ℕ) (e : i ≡ wordAt l (labelSlot n x)) where

@@ -1,8 +1,8 @@
 -- The arena: one lent buffer that holds all six tables while a tree of n records is converted, each in a region of its own, and behind them what they are searched by. It is the
 -- instruction buffer (320n bytes), whose first 128n bytes are the instructions' own place. Assumes nothing: these are definitions.
 use mathlib.Core.Path.{_≡_}
-use Prim.Native.Nat.{ℕ, _+_, _-_, _*_, _^_, _≤_, _<_}
-use mathlib.Core.Bool.{Bool, _&&_}
+use Prim.Native.Nat.{ℕ, suc, _+_, _-_, _*_, _/_, _%_, _^_, _≤_, _<_}
+use mathlib.Core.Bool.{Bool, false, _&&_}
 use mathlib.Core.List.{List, [], _∷_, _++_}
 use lib.Dec.{leb}
 use lib.ListN.{length, take, drop, getD}
@@ -11,9 +11,9 @@ use Rattle.records.specs.Digest.{digestOf}
 use Rattle.records.specs.Layout.{Region}
 use Rattle.records.specs.Words.{wordAt}
 use Rattle.conversion.specs.Ir as Ir
-use Rattle.conversion.specs.Ir.{LabelName, StringEntry, FloatEntry, State, IrFunction}
+use Rattle.conversion.specs.Ir.{LabelName, StringEntry, FloatEntry, State, IrFunction, sameFloat}
 use Rattle.conversion.specs.Fits.{StringStands, FloatFits}
-use Rattle.conversion.specs.Written.{word, encodeAll, encodeInstr, encodeVar, encodeLabel, encodeFunctions, encodeString, encodeFloat, allCode, allVars, allLabels}
+use Rattle.conversion.specs.Written.{word, boolNumber, encodeAll, encodeInstr, encodeVar, encodeLabel, encodeFunctions, encodeString, encodeFloat, allCode, allVars, allLabels}
 use Rattle.ir.specs.declared.structs.Counters.{Counters}
 
 -- ---- regions, each at a multiple of n bytes
@@ -50,12 +50,19 @@ stringDigests = record { from = 236; each = 4 }
 abbrev pub labelSlots : Region
 labelSlots = record { from = 240; each = 28 }
 
+-- 2n links of 4, of the floats, and n heads of 4, of their buckets, by which a float is looked for: they are in no table
+abbrev pub floatLinks : Region
+floatLinks = record { from = 268; each = 8 }
+
+abbrev pub floatHeads : Region
+floatHeads = record { from = 276; each = 4 }
+
 -- 'instructions 320n bytes'
 abbrev pub arenaEach : ℕ
 arenaEach = 320
 
 abbrev pub arena : List Region
-arena = instructions ∷ variables ∷ labels ∷ functions ∷ strings ∷ floats ∷ stringDigests ∷ labelSlots ∷ []
+arena = instructions ∷ variables ∷ labels ∷ functions ∷ strings ∷ floats ∷ stringDigests ∷ labelSlots ∷ floatLinks ∷ floatHeads ∷ []
 
 -- each region starts behind the one before, and the last ends within so many bytes a record
 unfoldable pub fitsWithin : ℕ → ℕ → List Region → Bool
@@ -107,6 +114,31 @@ pub record Slots (n : ℕ) (xs : List LabelName) (l : List ℕ) : Type 0 where
   pub has : (i : ℕ) → i < length xs → HasSlot n (getD xs i noLabel)
   pub number : (i : ℕ) → i < length xs → wordAt l (labelSlot n (getD xs i noLabel)) ≡ i
 
+-- the numbers below m, each in a bucket, are linked: the head of a bucket that has some of them is the last, and the link of each is one past the last before it
+-- in its bucket, or 0 where it is the first. The head of a bucket that has none may be anything
+pub record Linked (head link bucket : ℕ → ℕ) (m : ℕ) : Type 0 where
+  pub head-in : (i : ℕ) → i < m → head (bucket i) < m
+  pub head-of : (i : ℕ) → i < m → bucket (head (bucket i)) ≡ bucket i
+  pub head-last : (i : ℕ) → i < m → i ≤ head (bucket i)
+  pub link-low : (i : ℕ) → i < m → link i ≤ i
+  pub link-of : (i j : ℕ) → i < m → link i ≡ suc j → bucket j ≡ bucket i
+  pub link-last : (i j : ℕ) → i < m → j < i → bucket j ≡ bucket i → j < link i
+
+-- the bucket, one of n, of a float of these words: the high bits of a product depend on all bits of its factors
+unfoldable pub floatBucket : ℕ → ℕ → ℕ → ℕ → ℕ
+floatBucket n low high mark = (low * 1640531527 + high * 1013904223 + mark) / 4294967296 % n
+
+abbrev pub entryBucket : ℕ → FloatEntry → ℕ
+entryBucket n x = floatBucket n (x .bits % 4294967296) (x .bits / 4294967296) (boolNumber (x .short))
+
+abbrev pub noFloat : FloatEntry
+noFloat = record { bits = 0; short = false }
+
+-- the floats are linked, and no two are the same
+pub record LinkedFloats (n : ℕ) (xs : List FloatEntry) (l : List ℕ) : Type 0 where
+  pub linked : Linked (λ b. wordAt l (floatHeads .from * n + 4 * b)) (λ i. wordAt l (floatLinks .from * n + 4 * i)) (λ i. entryBucket n (getD xs i noFloat)) (length xs)
+  pub distinct : (i j : ℕ) → j < length xs → i < j → sameFloat (getD xs j noFloat) (getD xs i noFloat) ≡ false
+
 -- how many functions are done, and how many instructions, variables and labels they have
 pub record Before (done : List IrFunction) (functions instructions variables labels : ℕ) : Type 0 where
   pub functions-count : functions ≡ length done
@@ -130,6 +162,7 @@ pub record Holds (text : List ℕ) (t : TablesSoFar) (k : Counters) (l : List �
   pub floats-hold : Table encodeFloat 16 (t .state .floats) (floats .from * k .records) (k .floats) l
   pub digests-hold : Table encodeDigest 4 (t .state .strings) (stringDigests .from * k .records) (k .strings) l
   pub slots-hold : Slots (k .records) (t .state .labels) l
+  pub links-hold : LinkedFloats (k .records) (t .state .floats) l
   pub before : Before (t .done) (k .functions) (k .«instructions_before») (k .«variables_before») (k .«labels_before»)
   pub fits : Fits text (t .state .labels) (t .state .strings) (t .state .floats)
 

@@ -1,7 +1,8 @@
--- A search through a table: the first of so many numbers of which a test holds, and the tests by which labels, strings and floats are
--- found. Assumes nothing: these are definitions.
-use Prim.Native.Nat.{ℕ, zero, suc, _+_, _-_, _*_}
-use mathlib.Core.Bool.{Bool, _&&_}
+-- A search through a table: the first of so many numbers of which a test holds, or of those that a chain leads through, and the tests by which labels, strings
+-- and floats are found. Assumes nothing: these are definitions.
+use mathlib.Core.Path.{_≡_}
+use Prim.Native.Nat.{ℕ, zero, suc, _+_, _-_, _*_, _≤_, _<_}
+use mathlib.Core.Bool.{Bool, true, false, _&&_}
 use mathlib.Core.List.{List}
 use mathlib.Core.Option.{Option, none, some}
 use lib.Dec.{eqb, ltb}
@@ -9,7 +10,7 @@ use Rattle.laws.specs.Fix.{pick}
 use Rattle.records.specs.Words.{wordAt, textAt}
 use Rattle.conversion.specs.Ir.{sameText}
 use Rattle.ir.specs.declared.structs.Counters.{Counters}
-use Rattle.ir.specs.Arena.{labels, strings, stringDigests}
+use Rattle.ir.specs.Arena.{labels, strings, floats, stringDigests, floatHeads, floatBucket}
 use Rattle.records.specs.declared.words.Found.{Found}
 use Rattle.records.specs.declared.words.Found.the-variants.{At, Nothing}
 
@@ -46,3 +47,21 @@ stringIs text l n digest t j = eqb digest (wordAt l (stringDigests .from * n + s
 unfoldable pub fourAt : List ℕ → ℕ → ℕ → ℕ → ℕ → ℕ → Bool
 fourAt l at a b c j =
     (eqb a (wordAt l (at + 16 * j)) && eqb b (wordAt l (at + 16 * j + 4))) && eqb c (wordAt l (at + 16 * j + 8))
+
+-- a walk down a chain, from one past a number on, and what it finds: the first number of which f holds. A link is one past the next number, or 0 at the end; one that
+-- does not lead lower ends the walk
+pub data Walks (link : ℕ → ℕ) (f : ℕ → Bool) : ℕ → Found → Type 0 where
+  ended : Walks link f 0 Nothing
+  here : {j : ℕ} → f j ≡ true → Walks link f (suc j) (At j)
+  further : {j : ℕ} {r : Found} → f j ≡ false → link j ≤ j → Walks link f (link j) r → Walks link f (suc j) r
+  astray : {j : ℕ} → f j ≡ false → j < link j → Walks link f (suc j) Nothing
+
+-- the bucket, one of n, of entry j of the floats
+unfoldable pub bucketAt : List ℕ → ℕ → ℕ → ℕ
+unfolding floatBucket
+bucketAt l n j = floatBucket n (wordAt l (floats .from * n + 16 * j)) (wordAt l (floats .from * n + 16 * j + 4)) (wordAt l (floats .from * n + 16 * j + 8))
+
+-- where a walk through bucket b begins, with m floats written: what stands at its head counts where it is the number of one of them, and of that bucket
+unfoldable pub headFor : List ℕ → ℕ → ℕ → ℕ → ℕ
+unfolding bucketAt pick
+headFor l n m b = let i = wordAt l (floatHeads .from * n + 4 * b) in pick (ltb i m && eqb (bucketAt l n i) b) (i + 1) 0

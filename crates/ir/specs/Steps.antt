@@ -20,7 +20,8 @@ use Rattle.ir.specs.declared.structs.LabelNumber.{LabelNumber}
 use Rattle.ir.specs.declared.pool.PoolNumber.{PoolNumber}
 use Rattle.ir.specs.Instructions.{varOf, instrOf}
 use Rattle.ir.specs.Amounts.{amount, Spent}
-use Rattle.ir.specs.Arena.{variables, labels, strings, floats, stringDigests, encodeDigest, labelSlot, TablesSoFar, Holds, Room}
+use Rattle.ir.specs.Search.{headFor}
+use Rattle.ir.specs.Arena.{variables, labels, strings, floats, stringDigests, floatLinks, floatHeads, encodeDigest, labelSlot, entryBucket, TablesSoFar, Holds, Room}
 
 -- the tables after a step that emits c and leaves the state s
 abbrev pub grown : TablesSoFar → List Ir.Instr → State → TablesSoFar
@@ -77,6 +78,11 @@ pub record WroteTwo (l : List ℕ) (i : ℕ) (vs : List ℕ) (j : ℕ) (ws : Lis
   pub counts : k′ ≡ want
   pub wrote : l′ ≡ splice (splice l i vs) j ws
 
+-- and of three
+pub record WroteThree (l : List ℕ) (i : ℕ) (vs : List ℕ) (j : ℕ) (ws : List ℕ) (p : ℕ) (us : List ℕ) (want k′ : Counters) (l′ : List ℕ) : Type 0 where
+  pub counts : k′ ≡ want
+  pub wrote : l′ ≡ splice (splice (splice l i vs) j ws) p us
+
 -- nothing changed
 pub record TablesStay (k : Counters) (l : List ℕ) (k′ : Counters) (l′ : List ℕ) : Type 0 where
   pub counts : k′ ≡ k
@@ -115,7 +121,10 @@ pub record NumbersString (text : List ℕ) (e : StringEntry) (k : Counters) (l :
 pub record NumbersFloat (e : FloatEntry) (k : Counters) (l : List ℕ) (r : PoolNumber) (l′ : List ℕ) : Type 0 where
   pub next : Next (Ir.float-id e) k l (r .number) (r .counters) l′
   pub spent : Spent k (r .counters) (amount 0 0 0 0 1)
-  pub entry : Wrote l (floats .from * k .records + 16 * k .floats) (encodeFloat e) (moreFloats k) (r .counters) l′ ⊎ TablesStay k l (r .counters) l′
+  pub entry : WroteThree l (floats .from * k .records + 16 * k .floats) (encodeFloat e)
+      (floatLinks .from * k .records + 4 * k .floats) (word (headFor l (k .records) (k .floats) (entryBucket (k .records) e)))
+      (floatHeads .from * k .records + 4 * entryBucket (k .records) e) (word (k .floats)) (moreFloats k) (r .counters) l′
+      ⊎ TablesStay k l (r .counters) l′
 
 -- ---- a function is done
 

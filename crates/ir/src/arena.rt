@@ -16,3 +16,8 @@ pub const STRING_DIGESTS: usize = 236;
 pub const LABEL_SLOTS: usize = 240;
 
 pub const LABEL_SLOT_BYTES: usize = 28;
+
+// And the floats' links, and the heads of their buckets.
+pub const FLOAT_LINKS: usize = 268;
+
+pub const FLOAT_HEADS: usize = 276;

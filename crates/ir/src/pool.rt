@@ -7,22 +7,25 @@ ghost use Rattle.records.specs.Digest.{digestOf};
 ghost use Rattle.records.specs.Words.{textAt};
 ghost use Rattle.conversion.specs.Ir.{floatBits};
 ghost use Rattle.conversion.specs.Written.{word};
-ghost use Rattle.ir.specs.Arena.{strings, floats, stringDigests, Room};
+ghost use Rattle.ir.specs.Arena.{strings, floats, stringDigests, floatLinks, floatHeads, floatBucket, Room};
 ghost use Rattle.ir.specs.Floats.{entry, entryOfFloat};
-ghost use Rattle.ir.specs.Search.{first, foundOf, stringIs};
-ghost use Rattle.ir.specs.Steps.{stringAt, moreStrings, moreFloats, Wrote, WroteTwo, NumbersString, NumbersFloat, Next};
+ghost use Rattle.ir.specs.Search.{first, foundOf, stringIs, headFor};
+ghost use Rattle.ir.specs.Steps.{stringAt, moreStrings, moreFloats, WroteTwo, WroteThree, NumbersString, NumbersFloat, Next};
+use crate::arena::FLOAT_HEADS;
+use crate::arena::FLOAT_LINKS;
 use crate::arena::FLOATS;
 use crate::arena::STRING_DIGESTS;
 use crate::arena::STRINGS;
 use crate::floats::FloatBits;
 use crate::floats::entry_bits;
-use crate::search::find_four;
+use crate::search::walk_four;
 use crate::structs::Counters;
 use records::texts::same_text;
 use records::texts::text_digest;
 use records::words::Found;
 use records::words::Four;
 use records::words::high;
+use records::words::index;
 use records::words::load;
 use records::words::low;
 use records::words::mark;
@@ -96,33 +99,66 @@ pub fn string_id(text: &[u8], arena: &mut [u8], k: Counters, offset: u32, len: u
     }
 }
 
-fn add_float(arena: &mut [u8], k: Counters, w: Four) -> PoolNumber
-    requires { ⌜ Room k (now arena) × (k .floats < 2 * k .records) ⌝ }
-    ensures { λ r. ⌜ (r .number ≡ k .floats) × Wrote (now (arena .entry)) (floats .from * k .records + 16 * k .floats) (word (w .0) ++ word (w .1) ++ word (w .2) ++ word (w .3)) (moreFloats k) (r .counters) (now (arena .exit)) ⌝ }
+// Which of n buckets a float with these words is in.
+fn bucket_of(n: usize, w: Four) -> usize
+    requires { ⌜ 0 < n ⌝ }
+    ensures { λ r. ⌜ (r ≡ floatBucket n (w .0) (w .1) (w .2)) × (r < n) ⌝ }
+{
+    let d = w.0 as u64 * 1640531527 + w.1 as u64 * 1013904223 + w.2 as u64;
+    (d / 4294967296) as usize % n
+}
+
+// Where a walk through bucket b begins: one past the number of its last float, or 0. The head of a bucket without floats may have anything: it counts where the float
+// under the number is one of this bucket.
+fn float_head(arena: &[u8], k: Counters, b: usize) -> usize
+    requires { ⌜ Room k (now arena) × (b < k .records) ⌝ }
+    ensures { λ r. ⌜ (r ≡ headFor (now (arena .entry)) (k .records) (k .floats) b) × (r ≤ k .floats) ⌝ }
+{
+    let n = k.records;
+    let i = index(load(arena, FLOAT_HEADS * n + 4 * b));
+    if i >= k.floats {
+        return 0;
+    }
+    let at = FLOATS * n + 16 * i;
+    let w = Four(load(arena, at), load(arena, at + 4), load(arena, at + 8), 0);
+    if bucket_of(n, w) != b {
+        return 0;
+    }
+    i + 1
+}
+
+// A float more, before the others of its bucket b, of which `last` is one past the last.
+fn add_float(arena: &mut [u8], k: Counters, w: Four, b: usize, last: usize) -> PoolNumber
+    requires { ⌜ Room k (now arena) × (k .floats < 2 * k .records) × (b < k .records) × (last ≤ k .floats) ⌝ }
+    ensures { λ r. ⌜ (r .number ≡ k .floats) × WroteThree (now (arena .entry)) (floats .from * k .records + 16 * k .floats) (word (w .0) ++ word (w .1) ++ word (w .2) ++ word (w .3)) (floatLinks .from * k .records + 4 * k .floats) (word last) (floatHeads .from * k .records + 4 * b) (word (k .floats)) (moreFloats k) (r .counters) (now (arena .exit)) ⌝ }
 {
     let v = k.floats;
     let mut next = k;
     next.floats = v + 1;
     put_four(arena, FLOATS * k.records + 16 * v, w);
+    put_word(arena, FLOAT_LINKS * k.records + 4 * v, last as u32);
+    put_word(arena, FLOAT_HEADS * k.records + 4 * b, v as u32);
     PoolNumber {
         number: v as u32,
         counters: next,
     }
 }
 
-// The float with these bits and this mark.
+// The float with these bits and this mark, looked for among those of its bucket.
 pub fn float_id(arena: &mut [u8], k: Counters, f: FloatBits) -> PoolNumber
     requires { ⌜ Room k (now arena) × (k .floats < 2 * k .records) ⌝ }
     ensures { λ r. ⌜ NumbersFloat (entryOfFloat f) k (now (arena .entry)) r (now (arena .exit)) ⌝ }
 {
     let e = entry_bits(f);
     let w = Four(low(e.bits), high(e.bits), mark(e.short), 0);
-    match find_four(arena, FLOATS * k.records, k.floats, w) {
+    let b = bucket_of(k.records, w);
+    let last = float_head(arena, k, b);
+    match walk_four(arena, FLOATS * k.records, FLOAT_LINKS * k.records, last, w) {
         Found::At(i) => PoolNumber {
             number: i as u32,
             counters: k,
         },
-        Found::Nothing => add_float(arena, k, w),
+        Found::Nothing => add_float(arena, k, w, b, last),
     }
 }
 

@@ -1,75 +1,106 @@
--- The float of these bits and this mark.
--- What the search found, or a float more. Assumes nothing.
-use borrow.Author.Needs.{needs}
+-- The float with these bits and this mark.
+-- What a walk through its bucket found, or a float more. Assumes nothing.
+use mathlib.Core.Path.{refl}
 use native.Mathlib.Omega.{arith}
-use Rattle.ir.proofs.SearchLaws.{found-small}
+use borrow.Author.Needs.{needs}
 use Rattle.ir.proofs.Answers.{float-at, float-nowhere}
+use Rattle.ir.proofs.LinkLaws.{walk-below}
 use Rattle.ir.proofs.pool.float_id.Statement.{statement}
 use Rattle.ir.proofs.pool.float_id.Tie as tie
 use Rattle.ir.proofs.pool.float_id.Reads as reads
 use Rattle.ir.proofs.pool.float_id.Lts as lts
 use Rattle.ir.proofs.floats.entry_bits.Reads as entry-bits-reads
 use Rattle.ir.proofs.pool.add_float.Reads as add-float-reads
-use Rattle.ir.proofs.search.find_four.Reads as find-four-reads
+use Rattle.ir.proofs.pool.bucket_of.Reads as bucket-of-reads
+use Rattle.ir.proofs.pool.float_head.Reads as float-head-reads
+use Rattle.ir.proofs.search.walk_four.Reads as walk-four-reads
 use Rattle.records.proofs.words.high.Reads as high-reads
 use Rattle.records.proofs.words.low.Reads as low-reads
 use Rattle.records.proofs.words.mark.Reads as mark-reads
 
--- src/pool.rt:104:9
+-- src/pool.rt:152:9
 entry-bits-requires : tie.Need-entry-bits-requires
 entry-bits-requires c κs = search needs
 
--- src/pool.rt:105:18
+-- src/pool.rt:153:18
 low-requires : tie.Need-low-requires
 low-requires c κs = search needs
 
--- src/pool.rt:105:31
+-- src/pool.rt:153:31
 high-requires : tie.Need-high-requires
 high-requires c κs = search needs
 
--- src/pool.rt:105:45
+-- src/pool.rt:153:45
 mark-requires : tie.Need-mark-requires
 mark-requires c κs = search needs
 
--- src/pool.rt:106:28
-mul-find-four : tie.Need-mul-find-four
-mul-find-four c = search needs
+-- src/pool.rt:154:9
+bucket-of-requires : tie.Need-bucket-of-requires
+bucket-of-requires c κs = search needs
 
--- src/pool.rt:106:11
-find-four-requires : tie.Need-find-four-requires
-find-four-requires c κs = search needs
+-- src/pool.rt:155:9
+float-head-requires : tie.Need-float-head-requires
+float-head-requires c κs = search needs
 
--- src/pool.rt:107:19
+-- src/pool.rt:156:28
+mul-walk-four : tie.Need-mul-walk-four
+mul-walk-four c = search needs
+
+-- src/pool.rt:156:48
+mul-walk-four-2 : tie.Need-mul-walk-four-2
+mul-walk-four-2 c = search needs
+
+-- src/pool.rt:156:11
+walk-four-requires : tie.Need-walk-four-requires
+walk-four-requires c κs = search needs
+
+-- src/pool.rt:157:19
 enum-known-i : tie.Need-enum-known-i
 enum-known-i c = search needs
 
--- src/pool.rt:108:21
-cast-t15 : tie.Need-cast-t15
-cast-t15 c = omega (arith, found-small _ _ _ _ (c .before .before .before .find-four .ensures) (c .before .i .given .1))
+-- src/pool.rt:158:21
+cast-t20 : tie.Need-cast-t20
+cast-t20 c = omega (arith, walk-below (c .before .before .before .walk-four .ensures) _ (c .before .i .given .1), c .before .before .before .before .before .before .before .float-head .ensures .1, c .before .before .before .before .before .before .before .before .before .before .before .before .before .before .before .pre .0 .floats-in, c .before .before .before .before .before .before .before .before .before .before .before .before .before .before .before .pre .0 .small)
 
--- src/pool.rt:111:37
+-- src/pool.rt:161:37
 enum-told : tie.Need-enum-told
 enum-told c = search needs
 
--- src/pool.rt:111:27
+-- src/pool.rt:161:27
 add-float-requires : tie.Need-add-float-requires
 add-float-requires c κs = search needs
 
--- src/pool.rt:100:1
+-- src/pool.rt:148:1
 same-length : tie.Need-same-length
 same-length c = search needs
 
--- src/pool.rt:100:1
+-- src/pool.rt:148:1
 returns : tie.Need-returns
-returns c = search float-at
+returns c =
+    float-at _ _ (c .before .before .before .before .before .before .before .before .before .before .before .before .before .entry-bits .ensures) _ _ _ _ _ _ _ _ (c .before .before .before .before .before .before .before .before .before .before .before .before .before .before .before .pre .0)
+    (c .before .before .before .before .before .before .before .before .before .before .before .before .low .ensures)
+    (c .before .before .before .before .before .before .before .before .before .before .before .high .ensures)
+    (c .before .before .before .before .before .before .before .before .before .before .mark .ensures)
+    (c .before .before .before .before .before .before .before .before .before .bucket-of .ensures)
+    (c .before .before .before .before .before .before .before .float-head .ensures)
+    (c .before .before .before .walk-four .ensures)
+    _ _ (c .before .i .given .1) refl refl
 
--- src/pool.rt:100:1
+-- src/pool.rt:148:1
 same-length-2 : tie.Need-same-length-2
 same-length-2 c = search needs
 
--- src/pool.rt:100:1
+-- src/pool.rt:148:1
 returns-2 : tie.Need-returns-2
-returns-2 c = search float-nowhere
+returns-2 c =
+    float-nowhere _ _ (c .before .before .before .before .before .before .before .before .before .before .before .before .before .before .before .before .entry-bits .ensures) _ _ _ _ _ _ _ _ (c .before .before .before .before .before .before .before .before .before .before .before .before .before .before .before .before .before .before .pre .0)
+    (c .before .before .before .before .before .before .before .before .before .before .before .before .before .before .before .low .ensures)
+    (c .before .before .before .before .before .before .before .before .before .before .before .before .before .before .high .ensures)
+    (c .before .before .before .before .before .before .before .before .before .before .before .before .before .mark .ensures)
+    (c .before .before .before .before .before .before .before .before .before .before .before .before .bucket-of .ensures)
+    (c .before .before .before .before .before .before .before .before .before .before .float-head .ensures)
+    (c .before .before .before .before .before .before .walk-four .ensures)
+    _ _ (c .before .before .before .before .before .before .before .before .before .before .before .before .before .before .before .before .before .before .pre .1) (c .before .before .before .before .enum-told .given .1) (c .before .before .add-float .ensures)
 
 pub float-id-spec : {M : Type 1} → statement M
 float-id-spec =
@@ -79,10 +110,13 @@ float-id-spec =
     low-requires
     high-requires
     mark-requires
-    mul-find-four
-    find-four-requires
+    bucket-of-requires
+    float-head-requires
+    mul-walk-four
+    mul-walk-four-2
+    walk-four-requires
     enum-known-i
-    cast-t15
+    cast-t20
     enum-told
     add-float-requires
     same-length

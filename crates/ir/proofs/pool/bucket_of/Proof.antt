@@ -1,0 +1,51 @@
+-- The bucket of a float's words.
+-- It is the definition's, and a remainder is below the divisor. Assumes nothing.
+use mathlib.Core.Path.{refl}
+use native.Mathlib.Nat.{mod-lt}
+use borrow.Author.Needs.{needs}
+use Rattle.ir.specs.Arena.{floatBucket}
+use Rattle.ir.proofs.pool.bucket_of.Statement.{statement}
+use Rattle.ir.proofs.pool.bucket_of.Tie as tie
+use Rattle.ir.proofs.pool.bucket_of.Reads as reads
+use Rattle.ir.proofs.pool.bucket_of.Lts as lts
+
+-- src/pool.rt:107:13
+cast-d : tie.Need-cast-d
+cast-d c = search needs
+
+-- src/pool.rt:107:13
+mul-d : tie.Need-mul-d
+mul-d c = search needs
+
+-- src/pool.rt:107:39
+cast-d-2 : tie.Need-cast-d-2
+cast-d-2 c = search needs
+
+-- src/pool.rt:107:39
+mul-d-2 : tie.Need-mul-d-2
+mul-d-2 c = search needs
+
+-- src/pool.rt:107:13
+add-d : tie.Need-add-d
+add-d c = search needs
+
+-- src/pool.rt:107:65
+cast-d-3 : tie.Need-cast-d-3
+cast-d-3 c = search needs
+
+-- src/pool.rt:107:13
+add-d-2 : tie.Need-add-d-2
+add-d-2 c = search needs
+
+-- src/pool.rt:108:5
+rem-result : tie.Need-rem-result
+rem-result c = search needs
+
+-- src/pool.rt:103:1
+returns : tie.Need-returns
+unfolding floatBucket
+returns c = (refl, mod-lt _ (c .before .before .before .pre))
+
+pub bucket-of-spec : {M : Type 1} → statement M
+bucket-of-spec =
+    tie.close (tie.spec cast-d mul-d cast-d-2 mul-d-2 add-d cast-d-3 add-d-2 rem-result returns)
