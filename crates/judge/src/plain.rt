@@ -14,7 +14,8 @@ use crate::pass::five_words;
 use crate::pass::put_known;
 use crate::references::Told;
 use crate::rules::class_at;
-use crate::rules::marks_ok;
+use records::numbers::KIND_IF;
+use records::words::NONE;
 use records::words::detail;
 use records::words::index;
 use records::words::pad;
@@ -604,7 +605,7 @@ fn put_own(known: &mut [u8], class: u8, k: u8)
     known[3] = k;
 }
 
-// What a record must be aside from what it refers to, by the row of its kind.
+// What a record must be aside from what it refers to, by the row of its kind; an If without the mark has no otherwise.
 fn form_ok(tree: &[u8], bytes: usize, r: usize, k: u8, words: Words, rules: &[u8; 520]) -> bool
     requires { ⌜ (r * 32 + 32 ≤ length (now tree)) × (k < 26) ⌝ }
     ensures { λ v. ⌜ (v ≡ true → PlainForm (now (tree .entry)) bytes r k words (now (rules .entry))) ⌝ }
@@ -628,7 +629,7 @@ fn form_ok(tree: &[u8], bytes: usize, r: usize, k: u8, words: Words, rules: &[u8
     if found >= rules[row + 16] {
         return false;
     }
-    marks_ok(k, found, words.c, words.e)
+    (k != KIND_IF) | (found == 1) | (words.c == NONE)
 }
 
 // Record r, right aside from what it refers to, whose words A, B and C lead to the slots pa, pb and pc: taken, if what it refers to is right.
