@@ -13,12 +13,8 @@ use crate::pass::Words;
 use crate::pass::five_words;
 use crate::pass::put_known;
 use crate::references::Told;
-use records::words::WORD_C;
-use records::words::word;
-use records::numbers::KIND_FUNCTION;
+use crate::rules::class_at;
 use records::numbers::KIND_IF;
-use records::numbers::KIND_LIST;
-use records::numbers::KIND_VARIABLE;
 use records::words::NONE;
 use records::words::detail;
 use records::words::index;
@@ -314,47 +310,47 @@ pub(crate) const RULES: [u8; 520] = [
     1,
     0,
     0,
-    1,
-    1,
-    1,
-    4,
-    7,
-    0,
-    0,
-    0,
-    0,
-    255,
-    1,
-    0,
-    0,
-    0,
-    255,
-    1,
-    0,
-    1,
-    0,
-    0,
-    1,
-    0,
-    0,
-    0,
-    255,
-    0,
-    0,
-    0,
-    0,
-    255,
     0,
     1,
     1,
     4,
     7,
     0,
+    0,
+    0,
+    0,
+    255,
+    1,
+    0,
+    0,
+    0,
+    255,
+    1,
+    0,
+    1,
+    0,
+    0,
+    0,
+    0,
+    0,
+    0,
+    255,
+    0,
+    0,
+    0,
+    0,
+    255,
+    0,
+    1,
+    1,
+    4,
+    7,
+    0,
     1,
     1,
     0,
     0,
-    3,
+    0,
     0,
     0,
     0,
@@ -374,27 +370,7 @@ pub(crate) const RULES: [u8; 520] = [
     2,
     0,
     0,
-    3,
-    1,
-    1,
-    8,
-    47,
     0,
-    0,
-    0,
-    0,
-    255,
-    1,
-    0,
-    0,
-    0,
-    255,
-    1,
-    0,
-    1,
-    0,
-    0,
-    3,
     1,
     1,
     8,
@@ -414,7 +390,27 @@ pub(crate) const RULES: [u8; 520] = [
     1,
     0,
     0,
-    3,
+    0,
+    1,
+    1,
+    8,
+    47,
+    0,
+    0,
+    0,
+    0,
+    255,
+    1,
+    0,
+    0,
+    0,
+    255,
+    1,
+    0,
+    1,
+    0,
+    0,
+    0,
     1,
     1,
     8,
@@ -434,7 +430,7 @@ pub(crate) const RULES: [u8; 520] = [
     2,
     3,
     12,
-    3,
+    0,
     1,
     1,
     8,
@@ -454,7 +450,7 @@ pub(crate) const RULES: [u8; 520] = [
     1,
     3,
     12,
-    3,
+    0,
     1,
     1,
     96,
@@ -474,27 +470,7 @@ pub(crate) const RULES: [u8; 520] = [
     0,
     0,
     0,
-    3,
     0,
-    0,
-    0,
-    255,
-    1,
-    0,
-    0,
-    0,
-    255,
-    1,
-    0,
-    0,
-    0,
-    255,
-    1,
-    0,
-    1,
-    0,
-    0,
-    3,
     0,
     0,
     0,
@@ -514,7 +490,27 @@ pub(crate) const RULES: [u8; 520] = [
     1,
     0,
     0,
-    3,
+    0,
+    0,
+    0,
+    0,
+    255,
+    1,
+    0,
+    0,
+    0,
+    255,
+    1,
+    0,
+    0,
+    0,
+    255,
+    1,
+    0,
+    1,
+    0,
+    0,
+    0,
     0,
     0,
     0,
@@ -534,7 +530,7 @@ pub(crate) const RULES: [u8; 520] = [
     1,
     0,
     1,
-    2,
+    0,
     1,
     1,
     24,
@@ -636,33 +632,6 @@ fn form_ok(tree: &[u8], bytes: usize, r: usize, k: u8, words: Words, rules: &[u8
     (k != KIND_IF) | (found == 1) | (words.c == NONE)
 }
 
-fn item_of(tree: &[u8], a: usize, k: u8, rules: &[u8; 520]) -> u8
-{
-    if k > KIND_FUNCTION {
-        return 0;
-    }
-    if k == KIND_VARIABLE {
-        if word(tree, a, WORD_C) == NONE {
-            return 0;
-        }
-        return 2;
-    }
-    rules[k as usize * 20 + 19]
-}
-
-fn class_of(tree: &[u8], k: u8, a: u32, pa: usize, pb: usize, known: &[u8], rules: &[u8; 520]) -> u8
-{
-    if k != KIND_LIST {
-        return 0;
-    }
-    let item = item_of(tree, index(a), known[pa * 4 + 3], rules);
-    let rest = known[pb * 4 + 2];
-    if (pb != 0) & (rest != item) {
-        return 0;
-    }
-    item
-}
-
 // Record r, right aside from what it refers to, whose words A, B and C lead to the slots pa, pb and pc: taken, if what it refers to is right.
 fn take_slots(
     tree: &[u8],
@@ -693,7 +662,7 @@ fn take_slots(
     count_one(known, pa);
     count_one(known, pb);
     count_one(known, pc);
-    let class = class_of(tree, k, words.a, pa, pb, known, rules);
+    let class = class_at(tree, r, k, words.a, words.b, known);
     let depth = depth_over(k, below);
     put_known(known, r, class, depth, k);
     Told { ok: true, depth }
