@@ -5,6 +5,7 @@ pub mod EqualLaws
 pub mod FaultLaws
 pub mod KeyLaws
 pub mod ListClass
+pub mod PlainClass
 pub mod PlainLaws
 pub mod PlainTaken
 pub mod RoleCases

@@ -1,7 +1,7 @@
 -- A record that the table takes is right, as deep as it says, and counted: what its slots and its form say of it.
 -- Each word is taken by its slot, D and E are unused; the rest is what holds of every record taken. Assumes nothing.
 use mathlib.Core.Path.{_≡_, refl, sym, ap, _∙_}
-use Prim.Native.Nat.{ℕ, _+_, _*_, _/_, _%_, _≤_, _<_}
+use Prim.Native.Nat.{ℕ, zero, suc, _+_, _*_, _/_, _%_, _≤_, _<_}
 use mathlib.Core.Bool.{Bool, true, false, not, _&&_, _||_, false≢true}
 use mathlib.Core.List.{List}
 use native.Mathlib.Omega.{arith}
@@ -18,9 +18,9 @@ use Rattle.records.specs.Rules.{wordsOk, isFirstType}
 use Rattle.records.specs.Depth.{larger}
 use Rattle.judge.specs.declared.pass.Words.{Words}
 use Rattle.judge.specs.Inner.{TypesLead, capped, classIn, stored, classAt, Known, Counting, WordsOf, Took, TookWords, otherRules, TookRecord}
-use Rattle.judge.specs.Plain.{isUnused, isText, Place, Owned, PlainForm, PlainReady, Slots, TookSlots, TookPlain}
+use Rattle.judge.specs.Plain.{isUnused, isText, Place, Cells, Owned, PlainForm, PlainReady, Slots, TookSlots, TookPlain}
 use Rattle.judge.proofs.CapLaws.{larger-none}
-use Rattle.judge.proofs.CountLaws.{stored-length}
+use Rattle.judge.proofs.CountLaws.{known-counted, stored-length}
 use Rattle.judge.proofs.TakeLaws.{unused-took, took-words, rules-told, bytes-told}
 use Rattle.judge.proofs.PlainLaws.{RuleFacts, RowFacts, row-facts, plain-row, placed, counted-slot, slot-depth, slot-right, known-owned, counting-owned}
 
@@ -61,9 +61,9 @@ slot-took : (tree : List ℕ) (bytes r : ℕ) (rules : List ℕ) (at : ℕ) (rol
     → (l : List ℕ) → Known tree r l → getD l 0 0 ≡ 0 → (m m′ : List ℕ) → p * 4 + 4 ≤ length m → m′ ≡ counted m p
     → keyAllowed rules at l p ≡ true → w * getD rules (at + 4) 0 ≡ 0 → (isText role ≡ true → w + next ≤ bytes)
     → Took tree bytes r role w next m m′ true (getD l (p * 4) 0)
-slot-took tree bytes r rules at role w next p facts place few l known free m m′ room e key zero text =
+slot-took tree bytes r rules at role w next p facts place few l known free m m′ room e key free₂ text =
     record {
-      right = slot-right rules at role facts r w p place l tree few known bytes next key zero text;
+      right = slot-right rules at role facts r w p place l tree few known bytes next key free₂ text;
       depth = slot-depth rules at role facts r w p place l tree few known free;
       counted = rw e (counted-slot rules at role facts r w p place m tree few room);
     }
@@ -82,6 +82,18 @@ module _ (tree : List ℕ) (r k : ℕ) (words : Words) (pa pb pc : ℕ) (rules l
   pub slots-left : TookSlots tree r k words rules l l₀ false 0
   slots-left = record { took = λ e. absurd (false≢true e); left = λ e. (known-own, counting-own); same = own .same }
 
+  -- a cell refers to its item
+  cell-item : k ≡ 12 → Place r Item (words .a) pa
+  unfolding rowOf
+  cell-item e = rw e at (s .a)
+
+  pub item-lower : k ≡ 12 → (words .a < r) × (pa ≡ words .a + 1)
+  item-lower e = go pa refl
+    where
+      go : (x : ℕ) → pa ≡ x → (words .a < r) × (pa ≡ words .a + 1)
+      go zero q = absurd (false≢true (cell-item e .own q refl .1))
+      go (suc x) q = let y : x ≡ words .a = cell-item e .lower x (omega arith) .1 in (omega (arith, cell-item e .within), omega arith)
+
   -- the third may be counted
   pub third-room : (l₁ l₂ : List ℕ) → l₁ ≡ counted l₀ pa → l₂ ≡ counted l₁ pb → (pc ≤ mostRecords) × (pc * 4 + 4 ≤ length l₂)
   third-room l₁ l₂ one two =
@@ -91,6 +103,26 @@ module _ (tree : List ℕ) (r k : ℕ) (words : Words) (pa pb pc : ℕ) (rules l
     pub slots-room : r * 4 + 8 ≤ length l₃
     slots-room =
         omega (arith, s .ready .room, own .same, counted-length l₀ l₁ pa one, counted-length l₁ l₂ pb two, counted-length l₂ l₃ pc three)
+
+    known-three : Known tree r l₃
+    known-three =
+        let f = facts in
+        let room₀ : pa * 4 + 4 ≤ length l₀ = omega (arith, s .a .within, s .ready .room, own .same) in
+        let room₁ : pb * 4 + 4 ≤ length l₁ = omega (arith, s .b .within, s .ready .room, own .same, counted-length l₀ l₁ pa one) in
+        let room₂ : pc * 4 + 4 ≤ length l₂ = omega (arith, s .c .within, s .ready .room, own .same, counted-length l₀ l₁ pa one, counted-length l₁ l₂ pb two) in
+        let k₁ : Known tree r l₁ = rw one (known-counted tree r _ l₀ (counted l₀ pa) known-own (counted-slot rules (k * 20) (rowOf k .a) (f .a) r (words .a) pa (s .a) l₀ tree (s .ready .few) room₀)) in
+        let k₂ : Known tree r l₂ = rw two (known-counted tree r _ l₁ (counted l₁ pb) k₁ (counted-slot rules (k * 20 + 5) (rowOf k .b) (f .b) r (words .b) pb (s .b) l₁ tree (s .ready .few) room₁)) in
+        rw three (known-counted tree r _ l₂ (counted l₂ pc) k₂ (counted-slot rules (k * 20 + 10) (rowOf k .c) (f .c) r (words .c) pc (s .c) l₂ tree (s .ready .few) room₂))
+
+    pub slots-cells : Cells tree k (words .a) pa pb l₃ rules
+    slots-cells =
+        record {
+          item = λ e. omega (arith, item-lower e .0, s .ready .whole);
+          kind = λ e. let q : pa * 4 + 3 ≡ words .a * 4 + 7 = omega (arith, item-lower e .1) in rw q (known-three .kinds (words .a) (item-lower e .0));
+          few = (omega (arith, s .a .within, s .ready .few), omega (arith, s .b .within, s .ready .few));
+          room = (omega (arith, s .a .within, slots-room), omega (arith, s .b .within, slots-room));
+          table = s .ready .table;
+        }
 
     pub slots-length : (m : List ℕ) (class d : ℕ) → m ≡ stored l₃ r class d k → length m ≡ length l
     slots-length m class d e =
@@ -167,14 +199,14 @@ module _ (tree : List ℕ) (r k : ℕ) (words : Words) (pa pb pc : ℕ) (rules l
       → not ((ka && kb && kc) && leb below 63) ≡ false
       → last ≡ larger (getD l₀ (pb * 4) 0) (getD l₀ (pc * 4) 0) → below ≡ larger (getD l₀ (pa * 4) 0) last
       → (l₁ l₂ l₃ m : List ℕ) → l₁ ≡ counted l₀ pa → l₂ ≡ counted l₁ pb → l₃ ≡ counted l₂ pc
-      → (class d : ℕ) → class ≡ classAt tree (classIn l₃) r k (words .a) (words .b) → d ≡ pick (eqb k 12) below (capped 65 (below + 1)) → m ≡ stored l₃ r class d k
+      → (class d : ℕ) → ((x b : ℕ) → x < mostRecords → (k ≡ 12 → words .a < x) → Place x (rowOf k .b) b pb → class ≡ classAt tree (classIn l₃) x k (words .a) b) → d ≡ pick (eqb k 12) below (capped 65 (below + 1)) → m ≡ stored l₃ r class d k
       → TookSlots tree r k words rules l m true d
   slots-took ka kb kc below last a b c ok lastIs belowIs l₁ l₂ l₃ m one two three class d classIs dIs mIs =
       let keys : (ka && kb && kc) ≡ true = and-left (ka && kb && kc) (leb below 63) (not-false ((ka && kb && kc) && leb below 63) ok) in
       let kab : (ka && kb) ≡ true = and-left (ka && kb) kc keys in
       record {
         took = λ e bytes n types form lead h.
-            record-took l₁ l₂ l₃ one two three (sym a ∙ and-left ka kb kab) (sym b ∙ and-right ka kb kab) (sym c ∙ and-right (ka && kb) kc keys) below last lastIs belowIs bytes form n types lead h class d m classIs dIs mIs;
+            record-took l₁ l₂ l₃ one two three (sym a ∙ and-left ka kb kab) (sym b ∙ and-right ka kb kab) (sym c ∙ and-right (ka && kb) kc keys) below last lastIs belowIs bytes form n types lead h class d m (classIs r (words .b) (s .ready .few) (λ q. item-lower q .0) (s .b)) dIs mIs;
         left = λ e. absurd (false≢true (sym e));
         same = slots-length l₁ l₂ l₃ one two three m class d mIs;
       }

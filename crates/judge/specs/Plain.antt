@@ -5,10 +5,12 @@ use mathlib.Core.Bool.{Bool, true, false, not, _&&_, _||_}
 use mathlib.Core.List.{List, [], _∷_}
 use lib.Dec.{eqb, leb}
 use lib.ListN.{length, getD}
+use Rattle.laws.specs.Fix.{pick}
 use Rattle.laws.specs.Below.{allBelow}
 use Rattle.records.specs.declared.shape.Role.{Role}
 use Rattle.records.specs.declared.shape.Role.the-variants.{Unused, Number, Text, Length, Expr, TypeRef, TypeOrNone, Name, Variable, Arguments, Parameters, Body, Item, Rest}
 use Rattle.records.specs.Words.{mostRecords, kindOf, detailOf, padOf, none, boolNumber}
+use Rattle.records.specs.Kinds.{kindList}
 use Rattle.records.specs.Shapes.{rowOf, refers}
 use Rattle.judge.specs.declared.pass.Words.{Words}
 use Rattle.judge.specs.Inner.{lowKey, highKey, noneOk, TypesLead, Known, Counting, WordsOf, TookRecord}
@@ -29,18 +31,18 @@ plainRules =
     1 ∷ 1 ∷ 8 ∷ 47 ∷ 0 ∷ 1 ∷ 1 ∷ 8 ∷ 47 ∷ 0 ∷ 0 ∷ 0 ∷ 0 ∷ 255 ∷ 1 ∷ 0 ∷ 18 ∷ 0 ∷ 0 ∷ 0 ∷
     0 ∷ 0 ∷ 0 ∷ 255 ∷ 0 ∷ 0 ∷ 0 ∷ 0 ∷ 255 ∷ 0 ∷ 1 ∷ 0 ∷ 49 ∷ 49 ∷ 0 ∷ 1 ∷ 1 ∷ 1 ∷ 12 ∷ 0 ∷
     1 ∷ 1 ∷ 0 ∷ 255 ∷ 0 ∷ 1 ∷ 0 ∷ 48 ∷ 51 ∷ 0 ∷ 0 ∷ 0 ∷ 0 ∷ 255 ∷ 1 ∷ 0 ∷ 1 ∷ 0 ∷ 12 ∷ 0 ∷
-    1 ∷ 1 ∷ 8 ∷ 47 ∷ 0 ∷ 0 ∷ 0 ∷ 0 ∷ 255 ∷ 1 ∷ 0 ∷ 0 ∷ 0 ∷ 255 ∷ 1 ∷ 0 ∷ 1 ∷ 0 ∷ 0 ∷ 0 ∷
-    1 ∷ 1 ∷ 4 ∷ 7 ∷ 0 ∷ 0 ∷ 0 ∷ 0 ∷ 255 ∷ 1 ∷ 0 ∷ 0 ∷ 0 ∷ 255 ∷ 1 ∷ 0 ∷ 1 ∷ 0 ∷ 0 ∷ 0 ∷
-    0 ∷ 0 ∷ 0 ∷ 255 ∷ 0 ∷ 0 ∷ 0 ∷ 0 ∷ 255 ∷ 0 ∷ 1 ∷ 1 ∷ 4 ∷ 7 ∷ 0 ∷ 1 ∷ 1 ∷ 0 ∷ 0 ∷ 0 ∷
-    0 ∷ 0 ∷ 0 ∷ 255 ∷ 0 ∷ 0 ∷ 0 ∷ 0 ∷ 255 ∷ 0 ∷ 1 ∷ 1 ∷ 8 ∷ 47 ∷ 0 ∷ 1 ∷ 2 ∷ 0 ∷ 0 ∷ 0 ∷
-    1 ∷ 1 ∷ 8 ∷ 47 ∷ 0 ∷ 0 ∷ 0 ∷ 0 ∷ 255 ∷ 1 ∷ 0 ∷ 0 ∷ 0 ∷ 255 ∷ 1 ∷ 0 ∷ 1 ∷ 0 ∷ 0 ∷ 0 ∷
-    1 ∷ 1 ∷ 8 ∷ 47 ∷ 0 ∷ 0 ∷ 0 ∷ 0 ∷ 255 ∷ 1 ∷ 0 ∷ 0 ∷ 0 ∷ 255 ∷ 1 ∷ 0 ∷ 1 ∷ 0 ∷ 0 ∷ 0 ∷
-    1 ∷ 1 ∷ 8 ∷ 47 ∷ 0 ∷ 1 ∷ 0 ∷ 51 ∷ 51 ∷ 0 ∷ 1 ∷ 0 ∷ 51 ∷ 51 ∷ 0 ∷ 0 ∷ 2 ∷ 3 ∷ 12 ∷ 0 ∷
-    1 ∷ 1 ∷ 8 ∷ 47 ∷ 0 ∷ 1 ∷ 0 ∷ 51 ∷ 51 ∷ 0 ∷ 0 ∷ 0 ∷ 0 ∷ 255 ∷ 1 ∷ 0 ∷ 1 ∷ 3 ∷ 12 ∷ 0 ∷
-    1 ∷ 1 ∷ 96 ∷ 99 ∷ 0 ∷ 1 ∷ 1 ∷ 8 ∷ 47 ∷ 0 ∷ 1 ∷ 1 ∷ 8 ∷ 47 ∷ 0 ∷ 0 ∷ 0 ∷ 0 ∷ 0 ∷ 0 ∷
-    0 ∷ 0 ∷ 0 ∷ 255 ∷ 1 ∷ 0 ∷ 0 ∷ 0 ∷ 255 ∷ 1 ∷ 0 ∷ 0 ∷ 0 ∷ 255 ∷ 1 ∷ 0 ∷ 1 ∷ 0 ∷ 0 ∷ 0 ∷
-    0 ∷ 0 ∷ 0 ∷ 255 ∷ 1 ∷ 0 ∷ 0 ∷ 0 ∷ 255 ∷ 1 ∷ 0 ∷ 0 ∷ 0 ∷ 255 ∷ 1 ∷ 0 ∷ 1 ∷ 0 ∷ 0 ∷ 0 ∷
-    0 ∷ 0 ∷ 0 ∷ 255 ∷ 0 ∷ 0 ∷ 0 ∷ 0 ∷ 255 ∷ 0 ∷ 1 ∷ 0 ∷ 4 ∷ 7 ∷ 0 ∷ 1 ∷ 1 ∷ 0 ∷ 1 ∷ 0 ∷
+    1 ∷ 1 ∷ 8 ∷ 47 ∷ 0 ∷ 0 ∷ 0 ∷ 0 ∷ 255 ∷ 1 ∷ 0 ∷ 0 ∷ 0 ∷ 255 ∷ 1 ∷ 0 ∷ 1 ∷ 0 ∷ 0 ∷ 1 ∷
+    1 ∷ 1 ∷ 4 ∷ 7 ∷ 0 ∷ 0 ∷ 0 ∷ 0 ∷ 255 ∷ 1 ∷ 0 ∷ 0 ∷ 0 ∷ 255 ∷ 1 ∷ 0 ∷ 1 ∷ 0 ∷ 0 ∷ 1 ∷
+    0 ∷ 0 ∷ 0 ∷ 255 ∷ 0 ∷ 0 ∷ 0 ∷ 0 ∷ 255 ∷ 0 ∷ 1 ∷ 1 ∷ 4 ∷ 7 ∷ 0 ∷ 1 ∷ 1 ∷ 0 ∷ 0 ∷ 3 ∷
+    0 ∷ 0 ∷ 0 ∷ 255 ∷ 0 ∷ 0 ∷ 0 ∷ 0 ∷ 255 ∷ 0 ∷ 1 ∷ 1 ∷ 8 ∷ 47 ∷ 0 ∷ 1 ∷ 2 ∷ 0 ∷ 0 ∷ 3 ∷
+    1 ∷ 1 ∷ 8 ∷ 47 ∷ 0 ∷ 0 ∷ 0 ∷ 0 ∷ 255 ∷ 1 ∷ 0 ∷ 0 ∷ 0 ∷ 255 ∷ 1 ∷ 0 ∷ 1 ∷ 0 ∷ 0 ∷ 3 ∷
+    1 ∷ 1 ∷ 8 ∷ 47 ∷ 0 ∷ 0 ∷ 0 ∷ 0 ∷ 255 ∷ 1 ∷ 0 ∷ 0 ∷ 0 ∷ 255 ∷ 1 ∷ 0 ∷ 1 ∷ 0 ∷ 0 ∷ 3 ∷
+    1 ∷ 1 ∷ 8 ∷ 47 ∷ 0 ∷ 1 ∷ 0 ∷ 51 ∷ 51 ∷ 0 ∷ 1 ∷ 0 ∷ 51 ∷ 51 ∷ 0 ∷ 0 ∷ 2 ∷ 3 ∷ 12 ∷ 3 ∷
+    1 ∷ 1 ∷ 8 ∷ 47 ∷ 0 ∷ 1 ∷ 0 ∷ 51 ∷ 51 ∷ 0 ∷ 0 ∷ 0 ∷ 0 ∷ 255 ∷ 1 ∷ 0 ∷ 1 ∷ 3 ∷ 12 ∷ 3 ∷
+    1 ∷ 1 ∷ 96 ∷ 99 ∷ 0 ∷ 1 ∷ 1 ∷ 8 ∷ 47 ∷ 0 ∷ 1 ∷ 1 ∷ 8 ∷ 47 ∷ 0 ∷ 0 ∷ 0 ∷ 0 ∷ 0 ∷ 3 ∷
+    0 ∷ 0 ∷ 0 ∷ 255 ∷ 1 ∷ 0 ∷ 0 ∷ 0 ∷ 255 ∷ 1 ∷ 0 ∷ 0 ∷ 0 ∷ 255 ∷ 1 ∷ 0 ∷ 1 ∷ 0 ∷ 0 ∷ 3 ∷
+    0 ∷ 0 ∷ 0 ∷ 255 ∷ 1 ∷ 0 ∷ 0 ∷ 0 ∷ 255 ∷ 1 ∷ 0 ∷ 0 ∷ 0 ∷ 255 ∷ 1 ∷ 0 ∷ 1 ∷ 0 ∷ 0 ∷ 3 ∷
+    0 ∷ 0 ∷ 0 ∷ 255 ∷ 0 ∷ 0 ∷ 0 ∷ 0 ∷ 255 ∷ 0 ∷ 1 ∷ 0 ∷ 4 ∷ 7 ∷ 0 ∷ 1 ∷ 1 ∷ 0 ∷ 1 ∷ 2 ∷
     1 ∷ 1 ∷ 24 ∷ 27 ∷ 0 ∷ 1 ∷ 1 ∷ 24 ∷ 27 ∷ 0 ∷ 1 ∷ 0 ∷ 50 ∷ 50 ∷ 0 ∷ 0 ∷ 0 ∷ 0 ∷ 0 ∷ 0 ∷ []
 
 abbrev pub isUnused : Role → Bool
@@ -121,6 +123,19 @@ pub record PlainForm (tree : List ℕ) (bytes r k : ℕ) (words : Words) (rules 
   pub text : (words .a + words .b) * getD rules (k * 20 + 15) 0 ≤ bytes
   pub limit : detailOf tree r < getD rules (k * 20 + 16) 0
   pub marks : (not (eqb k 19) || eqb (detailOf tree r) 1 || eqb (words .c) none) ≡ true
+
+-- the list that a record of kind k may stand in; a variable only where it has a type
+unfoldable pub itemNumber : ℕ → ℕ
+unfolding pick
+itemNumber k = pick (eqb k 13 || eqb k 14) 1 (pick (leb 15 k && leb k 23) 3 (pick (eqb k 24) 2 0))
+
+-- a record of kind k with the word a, whose words A and B lead to slots; where it is a cell its item is known
+pub record Cells (tree : List ℕ) (k a pa pb : ℕ) (l rules : List ℕ) : Type 0 where
+  pub item : k ≡ kindList → a * 32 + 32 ≤ length tree
+  pub kind : k ≡ kindList → getD l (pa * 4 + 3) 0 ≡ kindOf tree a
+  pub few : (pa ≤ mostRecords) × (pb ≤ mostRecords)
+  pub room : (pa * 4 + 4 ≤ length l) × (pb * 4 + 4 ≤ length l)
+  pub table : rules ≡ plainRules
 
 -- record r of kind k and the table of rules are at hand, with what is known of the records below it; the first twelve records are taken otherwise
 pub record PlainReady (tree : List ℕ) (r k : ℕ) (l rules : List ℕ) : Type 0 where

@@ -2,23 +2,31 @@
 // record, or slot 0 where the word is none or does not refer. Only what is wrong branches; it is taken again, by `take_any`.
 ghost use mathlib.Core.Path.{_≡_};
 ghost use mathlib.Core.Bool.{true, false, _&&_};
-ghost use Prim.Native.Nat.{_+_, _*_, _/_, _%_, _≤_, _<_};
+ghost use Prim.Native.Nat.{ℕ, _+_, _*_, _/_, _%_, _≤_, _<_};
 ghost use lib.Dec.{leb};
 ghost use lib.ListN.{length, getD, set};
-ghost use Rattle.records.specs.Words.{mostRecords};
-ghost use Rattle.judge.specs.Plain.{Owned, PlainForm, Slots, TookSlots, PlainReady, TookPlain};
+ghost use Rattle.records.specs.Words.{mostRecords, kindOf};
+ghost use Rattle.records.specs.Kinds.{kindList};
+ghost use Rattle.records.specs.Shapes.{rowOf};
+ghost use Rattle.judge.specs.Inner.{classIn, itemClass, classAt};
+ghost use Rattle.judge.specs.Plain.{plainRules, Place, Cells, Owned, PlainForm, Slots, TookSlots, PlainReady, TookPlain};
 use crate::nesting::depth_over;
 use crate::nesting::max;
 use crate::pass::Words;
 use crate::pass::five_words;
 use crate::pass::put_known;
 use crate::references::Told;
-use crate::rules::class_at;
-use crate::rules::marks_ok;
+use records::numbers::KIND_FUNCTION;
+use records::numbers::KIND_IF;
+use records::numbers::KIND_LIST;
+use records::numbers::KIND_VARIABLE;
+use records::words::NONE;
+use records::words::WORD_C;
 use records::words::detail;
 use records::words::index;
 use records::words::pad;
 use records::words::wide;
+use records::words::word;
 
 // Words are numbers below this; none is the last of them.
 const WORDS: usize = 4294967296;
@@ -28,7 +36,7 @@ const DEEPEST_BELOW: u8 = 63;
 
 // Twenty numbers for each kind. For each of the words A, B and C: whether it refers to a record, whether it must, the keys that it may refer to, lowest and
 // highest, whether it must be zero. Then whether A is a text, the limit of the details (0 where D or E is used), and what stands in slot 0, class and kind: a
-// key that its words which may be none may refer to.
+// key that its words which may be none may refer to; and which list such a record may stand in.
 pub(crate) const RULES: [u8; 520] = [
     0,
     0,
@@ -309,47 +317,47 @@ pub(crate) const RULES: [u8; 520] = [
     1,
     0,
     0,
+    1,
+    1,
+    1,
+    4,
+    7,
+    0,
+    0,
+    0,
+    0,
+    255,
+    1,
+    0,
+    0,
+    0,
+    255,
+    1,
+    0,
+    1,
+    0,
+    0,
+    1,
+    0,
+    0,
+    0,
+    255,
+    0,
+    0,
+    0,
+    0,
+    255,
     0,
     1,
     1,
     4,
     7,
     0,
-    0,
-    0,
-    0,
-    255,
-    1,
-    0,
-    0,
-    0,
-    255,
-    1,
-    0,
-    1,
-    0,
-    0,
-    0,
-    0,
-    0,
-    0,
-    255,
-    0,
-    0,
-    0,
-    0,
-    255,
-    0,
-    1,
-    1,
-    4,
-    7,
-    0,
     1,
     1,
     0,
     0,
-    0,
+    3,
     0,
     0,
     0,
@@ -369,7 +377,7 @@ pub(crate) const RULES: [u8; 520] = [
     2,
     0,
     0,
-    0,
+    3,
     1,
     1,
     8,
@@ -389,7 +397,7 @@ pub(crate) const RULES: [u8; 520] = [
     1,
     0,
     0,
-    0,
+    3,
     1,
     1,
     8,
@@ -409,7 +417,7 @@ pub(crate) const RULES: [u8; 520] = [
     1,
     0,
     0,
-    0,
+    3,
     1,
     1,
     8,
@@ -429,7 +437,7 @@ pub(crate) const RULES: [u8; 520] = [
     2,
     3,
     12,
-    0,
+    3,
     1,
     1,
     8,
@@ -449,7 +457,7 @@ pub(crate) const RULES: [u8; 520] = [
     1,
     3,
     12,
-    0,
+    3,
     1,
     1,
     96,
@@ -469,27 +477,7 @@ pub(crate) const RULES: [u8; 520] = [
     0,
     0,
     0,
-    0,
-    0,
-    0,
-    0,
-    255,
-    1,
-    0,
-    0,
-    0,
-    255,
-    1,
-    0,
-    0,
-    0,
-    255,
-    1,
-    0,
-    1,
-    0,
-    0,
-    0,
+    3,
     0,
     0,
     0,
@@ -509,7 +497,27 @@ pub(crate) const RULES: [u8; 520] = [
     1,
     0,
     0,
+    3,
     0,
+    0,
+    0,
+    255,
+    1,
+    0,
+    0,
+    0,
+    255,
+    1,
+    0,
+    0,
+    0,
+    255,
+    1,
+    0,
+    1,
+    0,
+    0,
+    3,
     0,
     0,
     0,
@@ -529,7 +537,7 @@ pub(crate) const RULES: [u8; 520] = [
     1,
     0,
     1,
-    0,
+    2,
     1,
     1,
     24,
@@ -604,7 +612,7 @@ fn put_own(known: &mut [u8], class: u8, k: u8)
     known[3] = k;
 }
 
-// What a record must be aside from what it refers to, by the row of its kind.
+// What a record must be aside from what it refers to, by the row of its kind; an If without the mark has no otherwise.
 fn form_ok(tree: &[u8], bytes: usize, r: usize, k: u8, words: Words, rules: &[u8; 520]) -> bool
     requires { ⌜ (r * 32 + 32 ≤ length (now tree)) × (k < 26) ⌝ }
     ensures { λ v. ⌜ (v ≡ true → PlainForm (now (tree .entry)) bytes r k words (now (rules .entry))) ⌝ }
@@ -628,7 +636,40 @@ fn form_ok(tree: &[u8], bytes: usize, r: usize, k: u8, words: Words, rules: &[u8
     if found >= rules[row + 16] {
         return false;
     }
-    marks_ok(k, found, words.c, words.e)
+    (k != KIND_IF) | (found == 1) | (words.c == NONE)
+}
+
+// Which list the record a of kind k may stand in.
+fn item_of(tree: &[u8], a: usize, k: u8, rules: &[u8; 520]) -> u8
+    requires { ⌜ (a * 32 + 32 ≤ length (now tree)) × (k ≡ kindOf (now tree) a) × (now rules ≡ plainRules) ⌝ }
+    ensures { λ v. ⌜ v ≡ itemClass (now (tree .entry)) a ⌝ }
+{
+    if k > KIND_FUNCTION {
+        return 0;
+    }
+    if k == KIND_VARIABLE {
+        if word(tree, a, WORD_C) == NONE {
+            return 0;
+        }
+        return 2;
+    }
+    rules[k as usize * 20 + 19]
+}
+
+// What the list holds whose first cell is a record of kind k with the word a, where A and B lead to the slots pa and pb; 0 where it is no cell.
+fn class_of(tree: &[u8], k: u8, a: u32, pa: usize, pb: usize, known: &[u8], rules: &[u8; 520]) -> u8
+    requires { ⌜ Cells (now tree) k a pa pb (now known) (now rules) ⌝ }
+    ensures { λ v. ⌜ ((r b : ℕ) → r < mostRecords → (k ≡ kindList → a < r) → Place r (rowOf k .b) b pb → v ≡ classAt (now (tree .entry)) (classIn (now (known .entry))) r k a b) ⌝ }
+{
+    if k != KIND_LIST {
+        return 0;
+    }
+    let item = item_of(tree, index(a), known[pa * 4 + 3], rules);
+    let rest = known[pb * 4 + 2];
+    if (pb != 0) & (rest != item) {
+        return 0;
+    }
+    item
 }
 
 // Record r, right aside from what it refers to, whose words A, B and C lead to the slots pa, pb and pc: taken, if what it refers to is right.
@@ -661,7 +702,7 @@ fn take_slots(
     count_one(known, pa);
     count_one(known, pb);
     count_one(known, pc);
-    let class = class_at(tree, r, k, words.a, words.b, known);
+    let class = class_of(tree, k, words.a, pa, pb, known, rules);
     let depth = depth_over(k, below);
     put_known(known, r, class, depth, k);
     Told { ok: true, depth }

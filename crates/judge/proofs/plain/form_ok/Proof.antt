@@ -8,150 +8,105 @@ use mathlib.Core.Bool.{not, _&&_, _||_, false≢true}
 use lib.Dec.{eqb, leb}
 use Rattle.records.specs.Words.{none}
 use native.Mathlib.Omega.{arith}
-use Rattle.laws.proofs.Tests.{and-left}
 use Rattle.judge.proofs.plain.form_ok.Statement.{statement}
 use Rattle.judge.proofs.plain.form_ok.Tie as tie
-use Rattle.judge.proofs.plain.form_ok.Reads as reads
-use Rattle.judge.proofs.plain.form_ok.Lts as lts
-use Rattle.judge.proofs.plain.scaled.Reads as scaled-reads
-use Rattle.judge.proofs.rules.marks_ok.Reads as marks-ok-reads
-use Rattle.records.proofs.words.detail.Reads as detail-reads
-use Rattle.records.proofs.words.index.Reads as index-reads
-use Rattle.records.proofs.words.pad.Reads as pad-reads
 
--- src/plain.rt:119:15
 mul-row : tie.Need-mul-row
 mul-row c = search needs
 
--- src/plain.rt:120:9
 index-requires : tie.Need-index-requires
 index-requires c κs = search needs
 
--- src/plain.rt:121:9
 index-requires-2 : tie.Need-index-requires-2
 index-requires-2 c κs = search needs
 
--- src/plain.rt:122:9
 index-requires-3 : tie.Need-index-requires-3
 index-requires-3 c κs = search needs
 
--- src/plain.rt:123:30
 add-scaled : tie.Need-add-scaled
 add-scaled c = search needs
 
--- src/plain.rt:123:24
 element-copy-out-scaled : tie.Need-element-copy-out-scaled
 element-copy-out-scaled c = search needs
 
--- src/plain.rt:123:9
 scaled-requires : tie.Need-scaled-requires
 scaled-requires c κs = search needs
 
--- src/plain.rt:124:30
 add-scaled-2 : tie.Need-add-scaled-2
 add-scaled-2 c = search needs
 
--- src/plain.rt:124:24
 element-copy-out-scaled-2 : tie.Need-element-copy-out-scaled-2
 element-copy-out-scaled-2 c = search needs
 
--- src/plain.rt:124:9
 scaled-requires-2 : tie.Need-scaled-requires-2
 scaled-requires-2 c κs = search needs
 
--- src/plain.rt:125:30
 add-scaled-3 : tie.Need-add-scaled-3
 add-scaled-3 c = search needs
 
--- src/plain.rt:125:24
 element-copy-out-scaled-3 : tie.Need-element-copy-out-scaled-3
 element-copy-out-scaled-3 c = search needs
 
--- src/plain.rt:125:9
 scaled-requires-3 : tie.Need-scaled-requires-3
 scaled-requires-3 c κs = search needs
 
--- src/plain.rt:126:16
 add-zero : tie.Need-add-zero
 add-zero c = search needs
 
--- src/plain.rt:126:16
 add-zero-2 : tie.Need-add-zero-2
 add-zero-2 c = search needs
 
--- src/plain.rt:126:31
 index-requires-4 : tie.Need-index-requires-4
 index-requires-4 c κs = search needs
 
--- src/plain.rt:126:16
 add-zero-3 : tie.Need-add-zero-3
 add-zero-3 c = search needs
 
--- src/plain.rt:126:48
 index-requires-5 : tie.Need-index-requires-5
 index-requires-5 c κs = search needs
 
--- src/plain.rt:126:16
 add-zero-4 : tie.Need-add-zero-4
 add-zero-4 c = search needs
 
--- src/plain.rt:126:71
 pad-requires : tie.Need-pad-requires
 pad-requires c κs = search needs
 
--- src/plain.rt:126:65
 index-requires-6 : tie.Need-index-requires-6
 index-requires-6 c κs = search needs
 
--- src/plain.rt:126:16
 add-zero-5 : tie.Need-add-zero-5
 add-zero-5 c = search needs
 
--- src/plain.rt:127:23
 add-scaled-4 : tie.Need-add-scaled-4
 add-scaled-4 c = search needs
 
--- src/plain.rt:127:36
 add-scaled-5 : tie.Need-add-scaled-5
 add-scaled-5 c = search needs
 
--- src/plain.rt:127:30
 element-copy-out-scaled-4 : tie.Need-element-copy-out-scaled-4
 element-copy-out-scaled-4 c = search needs
 
--- src/plain.rt:127:9
 scaled-requires-4 : tie.Need-scaled-requires-4
 scaled-requires-4 c κs = search needs
 
--- src/plain.rt:128:9
 detail-requires : tie.Need-detail-requires
 detail-requires c κs = search needs
 
--- src/plain.rt:130:9
 returns : tie.Need-returns
 returns c h = absurd (false≢true h)
 
--- src/plain.rt:133:9
 returns-2 : tie.Need-returns-2
 returns-2 c h = absurd (false≢true h)
 
--- src/plain.rt:135:23
 add-if3 : tie.Need-add-if3
 add-if3 c = search needs
 
--- src/plain.rt:135:17
 element-copy-out-if3 : tie.Need-element-copy-out-if3
 element-copy-out-if3 c = search needs
 
--- src/plain.rt:136:9
 returns-3 : tie.Need-returns-3
 returns-3 c h = absurd (false≢true h)
 
--- src/plain.rt:138:5
-marks-ok-requires : tie.Need-marks-ok-requires
-marks-ok-requires c κs = search needs
-
--- src/plain.rt:115:1
 returns-4 : tie.Need-returns-4
 returns-4 c h =
     let za : c .before .before .before .before .before .before .before .before .before .before .before .before .before .before .before .before .scaled .result ≡ 0 = omega (arith, c .before .before .before .before .if1 .left) in
@@ -167,7 +122,7 @@ returns-4 c h =
       pad = omega (arith, c .before .before .before .before .if1 .left, c .before .before .before .before .before .before .before .before .index6 .ensures, c .before .before .before .before .before .before .before .before .before .pad .ensures);
       text = rw e at (c .before .before .before .if2 .left);
       limit = omega (arith, c .before .if3 .left, c .before .before .before .before .before .detail .ensures);
-      marks = rw (c .before .before .before .before .before .detail .ensures) at (and-left (not (eqb (c .before .before .before .before .before .before .before .before .before .before .before .before .before .before .before .before .before .before .before .before .before .before .args .k) 19) || eqb (c .before .before .before .before .before .detail .result) 1 || eqb (c .before .before .before .before .before .before .before .before .before .before .before .before .before .before .before .before .before .before .before .before .before .before .args .words .c) none) (not (eqb (c .before .before .before .before .before .before .before .before .before .before .before .before .before .before .before .before .before .before .before .before .before .before .args .k) 25) || leb 4 (c .before .before .before .before .before .detail .result) || eqb (c .before .before .before .before .before .before .before .before .before .before .before .before .before .before .before .before .before .before .before .before .before .before .args .words .e) none) (sym (c .marks-ok .ensures) ∙ h));
+      marks = rw (c .before .before .before .before .before .detail .ensures) at h;
     }
 
 pub form-ok-spec : {M : Type 1} → statement M
@@ -206,5 +161,4 @@ form-ok-spec =
     add-if3
     element-copy-out-if3
     returns-3
-    marks-ok-requires
     returns-4)

@@ -1,8 +1,7 @@
 -- A record whose words lead to slots is taken, if what it refers to is right.
 -- By the laws of `PlainTaken`, over what the calls ensure. Assumes nothing.
 use mathlib.Core.Bool.{_&&_}
-use native.Mathlib.Omega.{arith}
-use Rattle.judge.proofs.PlainTaken.{shallow, slots-left, third-room, slots-room, slots-length, slots-took}
+use Rattle.judge.proofs.PlainTaken.{shallow, slots-left, third-room, slots-room, slots-cells, slots-length, slots-took}
 use borrow.Author.Needs.{needs}
 use Rattle.judge.proofs.plain.take_slots.Statement.{statement}
 use Rattle.judge.proofs.plain.take_slots.Tie as tie
@@ -81,9 +80,9 @@ count-one-requires-3 : tie.Need-count-one-requires-3
 count-one-requires-3 c κs =
     third-room _ _ _ _ _ _ _ _ _ _ (c .before .before .before .before .before .before .before .before .before .before .before .before .before .before .before .before .before .before .before .before .before .before .before .before .before .before .before .before .before .pre) (c .before .before .before .before .before .before .before .before .before .before .before .before .before .before .before .before .before .before .before .before .before .before .before .put-own .ensures) _ _ (c .before .before .before .before .before .before .before .count-one .ensures) (c .before .before .before .count-one2 .ensures)
 
-class-at-requires : tie.Need-class-at-requires
-class-at-requires c κs =
-    (omega (arith, c .before .before .before .before .before .before .before .before .before .before .before .before .before .before .before .before .before .before .before .before .before .before .before .before .before .before .before .before .before .before .before .before .before .pre .ready .whole), omega (arith, slots-room _ _ _ _ _ _ _ _ _ _ (c .before .before .before .before .before .before .before .before .before .before .before .before .before .before .before .before .before .before .before .before .before .before .before .before .before .before .before .before .before .before .before .before .before .pre) (c .before .before .before .before .before .before .before .before .before .before .before .before .before .before .before .before .before .before .before .before .before .before .before .before .before .before .before .put-own .ensures) _ _ _ (c .before .before .before .before .before .before .before .before .before .before .before .count-one .ensures) (c .before .before .before .before .before .before .before .count-one2 .ensures) (c .before .before .before .count-one3 .ensures)))
+class-of-requires : tie.Need-class-of-requires
+class-of-requires c κs =
+    slots-cells _ _ _ _ _ _ _ _ _ _ (c .before .before .before .before .before .before .before .before .before .before .before .before .before .before .before .before .before .before .before .before .before .before .before .before .before .before .before .before .before .before .before .before .before .pre) (c .before .before .before .before .before .before .before .before .before .before .before .before .before .before .before .before .before .before .before .before .before .before .before .before .before .before .before .put-own .ensures) _ _ _ (c .before .before .before .before .before .before .before .before .before .before .before .count-one .ensures) (c .before .before .before .before .before .before .before .count-one2 .ensures) (c .before .before .before .count-one3 .ensures)
 
 depth-over-requires : tie.Need-depth-over-requires
 depth-over-requires c κs =
@@ -99,7 +98,7 @@ same-length-2 c =
 
 returns-2 : tie.Need-returns-2
 returns-2 c =
-    slots-took _ _ _ _ _ _ _ _ _ _ (c .before .before .before .before .before .before .before .before .before .before .before .before .before .before .before .before .before .before .before .before .before .before .before .before .before .before .before .before .before .before .before .before .before .before .before .before .before .before .before .pre) (c .before .before .before .before .before .before .before .before .before .before .before .before .before .before .before .before .before .before .before .before .before .before .before .before .before .before .before .before .before .before .before .before .before .put-own .ensures) _ _ _ _ _ (c .before .before .before .before .before .before .before .before .before .before .before .before .before .before .before .before .before .before .before .before .before .before .before .before .before .before .before .before .before .key-ok .ensures) (c .before .before .before .before .before .before .before .before .before .before .before .before .before .before .before .before .before .before .before .before .before .before .before .before .before .before .before .key-ok2 .ensures) (c .before .before .before .before .before .before .before .before .before .before .before .before .before .before .before .before .before .before .before .before .before .before .before .before .before .key-ok3 .ensures) (c .before .before .before .before .before .before .before .before .before .before .before .before .before .before .before .before .before .before .before .if1 .left) (c .before .before .before .before .before .before .before .before .before .before .before .before .before .before .before .before .before .before .before .before .before .max .ensures) (c .before .before .before .before .before .before .before .before .before .before .before .before .before .before .before .before .before .before .before .before .max2 .ensures) _ _ _ _ (c .before .before .before .before .before .before .before .before .before .before .before .before .before .before .before .before .before .count-one .ensures) (c .before .before .before .before .before .before .before .before .before .before .before .before .before .count-one2 .ensures) (c .before .before .before .before .before .before .before .before .before .count-one3 .ensures) _ _ (c .before .before .before .before .before .class-at .ensures) (c .before .before .before .before .depth-over .ensures) (c .before .before .put-known .ensures)
+    slots-took _ _ _ _ _ _ _ _ _ _ (c .before .before .before .before .before .before .before .before .before .before .before .before .before .before .before .before .before .before .before .before .before .before .before .before .before .before .before .before .before .before .before .before .before .before .before .before .before .before .before .pre) (c .before .before .before .before .before .before .before .before .before .before .before .before .before .before .before .before .before .before .before .before .before .before .before .before .before .before .before .before .before .before .before .before .before .put-own .ensures) _ _ _ _ _ (c .before .before .before .before .before .before .before .before .before .before .before .before .before .before .before .before .before .before .before .before .before .before .before .before .before .before .before .before .before .key-ok .ensures) (c .before .before .before .before .before .before .before .before .before .before .before .before .before .before .before .before .before .before .before .before .before .before .before .before .before .before .before .key-ok2 .ensures) (c .before .before .before .before .before .before .before .before .before .before .before .before .before .before .before .before .before .before .before .before .before .before .before .before .before .key-ok3 .ensures) (c .before .before .before .before .before .before .before .before .before .before .before .before .before .before .before .before .before .before .before .if1 .left) (c .before .before .before .before .before .before .before .before .before .before .before .before .before .before .before .before .before .before .before .before .before .max .ensures) (c .before .before .before .before .before .before .before .before .before .before .before .before .before .before .before .before .before .before .before .before .max2 .ensures) _ _ _ _ (c .before .before .before .before .before .before .before .before .before .before .before .before .before .before .before .before .before .count-one .ensures) (c .before .before .before .before .before .before .before .before .before .before .before .before .before .count-one2 .ensures) (c .before .before .before .before .before .before .before .before .before .count-one3 .ensures) _ _ (c .before .before .before .before .before .class-of .ensures) (c .before .before .before .before .depth-over .ensures) (c .before .before .put-known .ensures)
 
 pub take-slots-spec : {M : Type 1} → statement M
 take-slots-spec =
@@ -129,7 +128,7 @@ take-slots-spec =
     count-one-requires
     count-one-requires-2
     count-one-requires-3
-    class-at-requires
+    class-of-requires
     depth-over-requires
     put-known-requires
     same-length-2
