@@ -8,7 +8,7 @@ use lib.IntN.{pos}
 use Rattle.records.specs.Words.{none}
 use Rattle.syntax.specs.Syntax.{Add}
 use Rattle.conversion.specs.Ir.{VarId, OVar, OInt, Copy, Binary, Comment, loopStart, loopEnd, loopCheck, logicRhs, logicEnd, FloatEntry}
-use Rattle.conversion.proofs.Trees.{row, types, Said, body, floats, answers, labelled, bodyOf, floatsOf, answerOf, labelsOf, convertTree}
+use Rattle.conversion.proofs.Trees.{row, types, Said, body, floats, answers, labelled, bodyOf, floatsOf, saidOf, labelsOf, convertTree}
 
 -- p is SizeOf long Int
 sizeOf : List ℕ
@@ -76,19 +76,19 @@ again = types ++ row 24 0 0 1 6 0 0 ++ row 12 0 12 none 0 0 0 ++ row 6 0 1 1 0 0
     ++ row 6 0 2 3 0 0 0 ++ row 6 0 2 3 0 0 0 ++ row 25 4 17 18 13 none 16
 
 pub computed : List Said
-unfolding bodyOf floatsOf answerOf labelsOf convertTree sizeOf sum zeros loop assigns returns while for leaves itself again
+unfolding bodyOf floatsOf saidOf labelsOf convertTree sizeOf sum zeros loop assigns returns while for leaves itself again
 computed =
     bodyOf (convertTree sizeOf)
     ∷ bodyOf (convertTree sum)
     ∷ floatsOf (convertTree zeros)
-    ∷ answerOf (convertTree loop)
-    ∷ answerOf (convertTree assigns)
-    ∷ answerOf (convertTree returns)
+    ∷ saidOf (convertTree loop)
+    ∷ saidOf (convertTree assigns)
+    ∷ saidOf (convertTree returns)
     ∷ labelsOf (convertTree while)
     ∷ labelsOf (convertTree for)
-    ∷ answerOf (convertTree leaves)
-    ∷ answerOf (convertTree itself)
-    ∷ answerOf (convertTree again)
+    ∷ saidOf (convertTree leaves)
+    ∷ saidOf (convertTree itself)
+    ∷ saidOf (convertTree again)
     ∷ []
 
 var : ℕ → ℕ → VarId

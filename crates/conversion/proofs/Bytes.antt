@@ -16,31 +16,23 @@ use Rattle.conversion.specs.Converter.{convert}
 use Rattle.conversion.specs.Written.{bytesOf, word, wide, encodeFields, encodeInstr, encodeVar, encodeLabel, encodeString, encodeFloat, encodeAll, encodeFunctions, codeOf, allCode, allVars, allLabels, Tables, tablesOf}
 use Rattle.conversion.proofs.Sizes.{IfOk, Suffice, ifOk-map, tree-suffices}
 
-word-length : (w : ℕ) → length (word w) ≡ 4
-unfolding word bytesOf
-word-length w = refl
-
-wide-length : (w : ℕ) → length (wide w) ≡ 8
-unfolding wide bytesOf
-wide-length w = refl
-
-instr-length : (i : Instr) → length (encodeInstr i) ≡ 32
+pub instr-length : (i : Instr) → length (encodeInstr i) ≡ 32
 unfolding encodeInstr encodeFields word wide bytesOf
 instr-length i = refl
 
-label-length : (l : LabelName) → length (encodeLabel l) ≡ 8
+pub label-length : (l : LabelName) → length (encodeLabel l) ≡ 8
 unfolding encodeLabel word bytesOf
 label-length l = refl
 
-string-length : (s : StringEntry) → length (encodeString s) ≡ 8
+pub string-length : (s : StringEntry) → length (encodeString s) ≡ 8
 unfolding encodeString word bytesOf
 string-length s = refl
 
-float-length : (f : FloatEntry) → length (encodeFloat f) ≡ 16
+pub float-length : (f : FloatEntry) → length (encodeFloat f) ≡ 16
 unfolding encodeFloat word wide bytesOf
 float-length f = refl
 
-var-length : (y : ℕ) → length (encodeVar y) ≡ 4
+pub var-length : (y : ℕ) → length (encodeVar y) ≡ 4
 unfolding encodeVar word bytesOf
 var-length y = refl
 

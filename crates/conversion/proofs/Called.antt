@@ -13,7 +13,7 @@ use Rattle.syntax.specs.Syntax.{Text, Args, Function, Program}
 use Rattle.conversion.specs.ConvertError.{Result, ok, err, _>>=_, ExternNotLatin, SameSymbol, LatinCharInNonLibCFunction, SameSignature}
 use Rattle.conversion.specs.Ir.{sameText}
 use Rattle.conversion.specs.Scope.{Scope}
-use Rattle.conversion.specs.Expressions.{Callee, CallFunction, CallCast, TypedArg, mainName, variadicMark, Functions, getFunction, is-mangled, filterOption, chosen, takes-args, cast-type, suffixes, mangledFunction, joined, variadicFunction, find-exact-function, byLiterals, find-functions-by-literals, exactOr, resolveFunction, resolveTyped, get-argument-types, resolve-call}
+use Rattle.conversion.specs.Expressions.{Callee, CallFunction, CallCast, TypedArg, mainName, variadicMark, Functions, getFunction, is-mangled, filterOption, chosen, takesBoth, cast-type, suffixes, mangledFunction, joined, variadicFunction, find-exact-function, byLiterals, find-functions-by-literals, exactOr, resolveFunction, resolveTyped, get-argument-types, resolve-call}
 use Rattle.conversion.specs.Functions.{is-ascii, contains-key, addFunction, get-all-functions}
 
 module _ (Q : Function → Type 0) (T : ℕ → Type 0) where
@@ -113,13 +113,13 @@ module _ (Q : Function → Type 0) (T : ℕ → Type 0) where
     exact-of verb l =
         let m = joined P F verb (suffixes P F l) in
         let v = variadicFunction P F verb (suffixes P F l) in
-        or-of (filterOption (λ f. takes-args P F f l) (getFunction verb F)) (orElse (mangledFunction P F m) v)
-        (filter-of (λ f. takes-args P F f l) (getFunction verb F) (get-of verb F mapped)) (or-of (mangledFunction P F m) v (mangled-of m) (variadic-of verb (suffixes P F l)))
+        or-of (filterOption (λ f. takesBoth P F f l) (getFunction verb F)) (orElse (mangledFunction P F m) v)
+        (filter-of (λ f. takesBoth P F f l) (getFunction verb F) (get-of verb F mapped)) (or-of (mangledFunction P F m) v (mangled-of m) (variadic-of verb (suffixes P F l)))
 
     literals-of : (verb : Text) (l : List TypedArg) (fs : List Function) → OfEach fs → OfEach (byLiterals P F verb l fs)
     unfolding byLiterals pick
     literals-of verb l [] h = tt
-    literals-of verb l (f ∷ fs) h = by (sameText (f .name) verb && is-mangled f && takes-args P F f l) (literals-of verb l fs (h .1))
+    literals-of verb l (f ∷ fs) h = by (sameText (f .name) verb && is-mangled f && takesBoth P F f l) (literals-of verb l fs (h .1))
       where
         by : (b : Bool) → OfEach (byLiterals P F verb l fs) → OfEach (pick b (f ∷ byLiterals P F verb l fs) (byLiterals P F verb l fs))
         by true q = (h .0, q)

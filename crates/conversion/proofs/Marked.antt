@@ -10,7 +10,7 @@ use Rattle.records.specs.Words.{none}
 use Rattle.syntax.specs.Syntax.{Expr, EInt, EBinary, Shl, Div}
 use Rattle.conversion.specs.Ir.{VarId, OVar, Copy, Label, Jump, JumpIfNot, Return, Comment, logicRhs, logicEnd, FloatEntry}
 use Rattle.conversion.specs.Types.{int-value}
-use Rattle.conversion.proofs.Trees.{row, types, Said, body, floats, answers, folds, bodyOf, floatsOf, answerOf, convertTree}
+use Rattle.conversion.proofs.Trees.{row, types, Said, body, floats, answers, folds, bodyOf, floatsOf, saidOf, convertTree}
 
 -- a function that returns p `o` q, o an operator on Bools
 unfoldable pub logic : ℕ → List ℕ
@@ -73,20 +73,20 @@ unfolding int
 leastExpr = EBinary 0 Shl (int (negsuc 0)) (int (pos 127))
 
 pub computed : List Said
-unfolding bodyOf floatsOf answerOf convertTree logic assigned negated nameless int leastExpr int-value
+unfolding bodyOf floatsOf saidOf convertTree logic assigned negated nameless int leastExpr int-value
 computed =
     bodyOf (convertTree (logic 1))
     ∷ bodyOf (convertTree (logic 0))
-    ∷ answerOf (convertTree (assigned 1 2 2147483647 0))
-    ∷ answerOf (convertTree (assigned 1 2 2147483648 0))
-    ∷ answerOf (convertTree (negated 1 2 2147483648 0))
+    ∷ saidOf (convertTree (assigned 1 2 2147483647 0))
+    ∷ saidOf (convertTree (assigned 1 2 2147483648 0))
+    ∷ saidOf (convertTree (negated 1 2 2147483648 0))
     ∷ folds (int-value (EBinary 0 Shl (int (pos 3)) (int (pos 127))))
     ∷ folds (int-value (EBinary 0 Shl (int (pos 1)) (int (pos 127))))
     ∷ folds (int-value leastExpr)
     ∷ folds (int-value (EBinary 0 Shl (int (pos 1)) (int (pos 128))))
     ∷ folds (int-value (EBinary 0 Div leastExpr (int (negsuc 0))))
     ∷ floatsOf (convertTree (assigned 5 3 0 0x3FE00000))
-    ∷ answerOf (convertTree nameless)
+    ∷ saidOf (convertTree nameless)
     ∷ []
 
 -- a Bool variable

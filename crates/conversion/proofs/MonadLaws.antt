@@ -29,7 +29,7 @@ pub seq-is : {A B : Type 0} (m : M A) (f : M B) → m >> f ≡ m >>= (λ a. f)
 unfolding _>>_ _>>=_
 seq-is m f = refl
 
-after-none : {A : Type 0} (o : Out A) → after [] o ≡ o
+pub after-none : {A : Type 0} (o : Out A) → after [] o ≡ o
 unfolding after
 after-none (made a c s) = refl
 after-none (failed k r) = refl

@@ -9,7 +9,7 @@ use borrow.Author.Tests.{ltb-false}
 use native.Mathlib.Omega.{arith}
 use Rattle.syntax.specs.Syntax.{Args, noArgs, Value, ToType, Param}
 use Rattle.syntax.specs.Count.{argsValues}
-use Rattle.conversion.specs.Statements.{parameterType, position, expectedType}
+use Rattle.conversion.specs.Statements.{parameterType, valuePosition, expectedType}
 
 -- whether a type argument stands before a value
 unfoldable pub typeBefore : Args → Bool
@@ -18,8 +18,8 @@ typeBefore noArgs = false
 typeBefore (Value r e l) = typeBefore l
 typeBefore (ToType r y l) = ltb 0 (argsValues l)
 
-pub same-position : (l : Args) (k : ℕ) → typeBefore l ≡ false → k < argsValues l → position l k ≡ k
-unfolding typeBefore position argsValues
+pub same-position : (l : Args) (k : ℕ) → typeBefore l ≡ false → k < argsValues l → valuePosition l k ≡ k
+unfolding typeBefore valuePosition argsValues
 same-position noArgs k e h = refl
 same-position (Value r x l) zero e h = refl
 same-position (Value r x l) (suc k) e h = ap suc (same-position l k e (omega arith))

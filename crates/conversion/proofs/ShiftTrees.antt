@@ -4,7 +4,7 @@ use mathlib.Core.Path.{_≡_, refl}
 use Prim.Native.Nat.{ℕ}
 use mathlib.Core.List.{List, [], _∷_, _++_}
 use Rattle.records.specs.Words.{none}
-use Rattle.conversion.proofs.Trees.{row, types, Said, answers, answerOf, convertTree}
+use Rattle.conversion.proofs.Trees.{row, types, Said, answers, saidOf, convertTree}
 
 -- a function that declares p of type y and gives it v << c, v of the words low and high
 unfoldable pub shifted : ℕ → ℕ → ℕ → ℕ → List ℕ
@@ -40,18 +40,18 @@ shiftedThen y low high c o low₂ high₂ = types
 
 -- a short Int gets 3 << 127, 1 << 127, -1 << 127, 0 << 127, 1 << 30, 1 << 31, (1 << 126) << 2, (1 << 127) >> 127, (-1 << 127) / -1; a long Int gets 3 << 127
 pub computed : List Said
-unfolding answerOf convertTree shifted shiftedThen
+unfolding saidOf convertTree shifted shiftedThen
 computed =
-    answerOf (convertTree (shifted 1 3 0 127))
-    ∷ answerOf (convertTree (shifted 1 1 0 127))
-    ∷ answerOf (convertTree (shifted 1 none none 127))
-    ∷ answerOf (convertTree (shifted 1 0 0 127))
-    ∷ answerOf (convertTree (shifted 1 1 0 30))
-    ∷ answerOf (convertTree (shifted 1 1 0 31))
-    ∷ answerOf (convertTree (shiftedThen 1 1 0 126 11 2 0))
-    ∷ answerOf (convertTree (shiftedThen 1 1 0 127 12 127 0))
-    ∷ answerOf (convertTree (shiftedThen 1 none none 127 16 none none))
-    ∷ answerOf (convertTree (shifted 0 3 0 127))
+    saidOf (convertTree (shifted 1 3 0 127))
+    ∷ saidOf (convertTree (shifted 1 1 0 127))
+    ∷ saidOf (convertTree (shifted 1 none none 127))
+    ∷ saidOf (convertTree (shifted 1 0 0 127))
+    ∷ saidOf (convertTree (shifted 1 1 0 30))
+    ∷ saidOf (convertTree (shifted 1 1 0 31))
+    ∷ saidOf (convertTree (shiftedThen 1 1 0 126 11 2 0))
+    ∷ saidOf (convertTree (shiftedThen 1 1 0 127 12 127 0))
+    ∷ saidOf (convertTree (shiftedThen 1 none none 127 16 none none))
+    ∷ saidOf (convertTree (shifted 0 3 0 127))
     ∷ []
 
 pub expected : List Said

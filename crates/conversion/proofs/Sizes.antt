@@ -21,7 +21,7 @@ use Rattle.conversion.specs.Ir.{Copy, Unary, Binary, Cast, Zero, Arg, Ca
 use Rattle.conversion.specs.Types.{isFloat, isSome, fits, range-error, size}
 use Rattle.conversion.specs.Scope.{Variable, Scope, find-variable, withVariable, withLoop, declare}
 use Rattle.conversion.specs.Expressions.{Callee, CallFunction, CallCast, Functions, unwrapOr, get-type, resolve-call, common-type}
-use Rattle.conversion.specs.Statements.{nameOperand, sizeOperand, castOperand, refloat, fit-operand, fitFrom, fit-args, emitArgs, convert-unary, convertAnd, convertOr, asCall, castFirst, convertOther, convertBinaryBy, convert-binary, callFunction, callValue, convert-call-value, convert-expr, convert-args, convert-cond, checkFits, zeroValue, convert-declare, assignTo, convert-assign, initNew, initBy, convert-init, returnAs, convert-return, callStatement, convert-call, convert-if, convertIfElse, convert-while-loop, checkBound, forLoop, forInt, forKnown, convert-for-loop, convert-break, convert-continue, convert-statement, convert-block}
+use Rattle.conversion.specs.Statements.{nameOperand, sizeOperand, castOperand, refloat, fit-operand, fitFrom, fit-args, emitArgs, convert-unary, convertAnd, convertOr, asCall, castFirst, convertOther, convertBinaryBy, convert-binary, callFunction, callValue, convert-call-value, convert-expr, convert-args, convert-cond, checkFits, zeroValue, convert-declare, assignTo, convert-assign, initNew, initBy, convert-init, returnAs, convert-return, callStatement, convert-call, convert-if, convertIfElse, convert-while-loop, checkBound, forLoop, forInt, forKnown, convert-for-loop, convert-break, convert-continue, convertStatement, convert-block}
 use Rattle.conversion.specs.Functions.{Pool, declareParams, convertBody, always-returns, finished, convertFunction, convert-func, get-all-functions, check-main}
 use Rattle.conversion.specs.Converter.{convertAll, convert}
 use Rattle.conversion.specs.Written.{codeOf, allCode, allVars, allLabels}
@@ -30,7 +30,7 @@ use Rattle.conversion.proofs.Within.{Grown, grew, fell, Within, Any, pu
 -- ---- operands
 
 -- a value of a call is a list cell, its own record, and the records below
-args-count : (l : Args) → argsUnder l + 3 * argsValues l ≤ argsRecords l
+pub args-count : (l : Args) → argsUnder l + 3 * argsValues l ≤ argsRecords l
 unfolding argsUnder argsValues argsRecords under
 args-count noArgs = omega arith
 args-count (Value r e l) = omega (arith, args-count l)
@@ -421,7 +421,7 @@ module _ (P : Program) (F : Functions) where
   mutual
     unfolding convert-block statementRecords exprRecords
 
-    statement-within : (t : Statement) (sc : Scope) → Holds (1 + statementRecords t) (convert-statement P F t sc)
+    statement-within : (t : Statement) (sc : Scope) → Holds (1 + statementRecords t) (convertStatement P F t sc)
     statement-within (SDeclare r n y) sc = widen (seq-within (emit-within (Comment r)) (declare-within r n y sc)) (omega arith)
     statement-within (SInit r c n e) sc = widen (seq-within (emit-within (Comment r)) (init-within r c n e sc)) (omega arith)
     statement-within (SReturn r e) sc = widen (seq-within (emit-within (Comment r)) (return-within r e sc)) (omega arith)

@@ -15,7 +15,7 @@ use Rattle.conversion.specs.Scope.{Variable, Scope, find-variable, withV
 use Rattle.conversion.specs.Expressions.{CallFunction, CallCast, Functions, unwrapOr, get-type, resolve-call, common-type}
 use Rattle.conversion.specs.Types.{isSome}
 use Rattle.conversion.specs.Functions.{declareParams, convertBody, always-returns}
-use Rattle.conversion.specs.Statements.{castOperand, refloat, fit-operand, expectedType, fitFrom, fit-args, emitArgs, convert-unary, convertAnd, convertOr, castFirst, convertOther, convertBinaryBy, callFunction, callValue, convert-expr, convert-args, convert-cond, checkFits, zeroValue, convert-declare, assignTo, convert-init, initNew, returnAs, convert-return, callStatement, convert-call, convert-if, convertIfElse, convert-while-loop, checkBound, forLoop, forInt, convert-for-loop, convert-break, convert-continue, convert-statement, convert-block}
+use Rattle.conversion.specs.Statements.{castOperand, refloat, fit-operand, expectedType, fitFrom, fit-args, emitArgs, convert-unary, convertAnd, convertOr, castFirst, convertOther, convertBinaryBy, callFunction, callValue, convert-expr, convert-args, convert-cond, checkFits, zeroValue, convert-declare, assignTo, convert-init, initNew, returnAs, convert-return, callStatement, convert-call, convert-if, convertIfElse, convert-while-loop, checkBound, forLoop, forInt, convert-for-loop, convert-break, convert-continue, convertStatement, convert-block}
 
 abbrev pub castSteps : VarId → ℕ → M Operand
 castSteps x y = do
@@ -417,51 +417,51 @@ continueSteps-is P F r l sc s = refl
 
 abbrev pub blockSteps : Program → Functions → Statement → Block → Scope → M Scope
 blockSteps P F t b sc = do
-  sc1 ← (λ s. convert-statement P F t sc s)
+  sc1 ← (λ s. convertStatement P F t sc s)
   (λ s. convert-block P F b sc1 s)
 
 pub blockSteps-is : (P : Program) (F : Functions) (t : Statement) (b : Block) (sc : Scope) (s : State) → convert-block P F (next t b) sc s ≡ blockSteps P F t b sc s
 unfolding convert-block
 blockSteps-is P F t b sc s = refl
 
-pub declareStatement-is : (P : Program) (F : Functions) (r : ℕ) (n : Text) (y : ℕ) (sc : Scope) (s : State) → convert-statement P F (SDeclare r n y) sc s ≡ (emit (Comment r) >> convert-declare P F r n y sc) s
-unfolding convert-statement
+pub declareStatement-is : (P : Program) (F : Functions) (r : ℕ) (n : Text) (y : ℕ) (sc : Scope) (s : State) → convertStatement P F (SDeclare r n y) sc s ≡ (emit (Comment r) >> convert-declare P F r n y sc) s
+unfolding convertStatement
 declareStatement-is P F r n y sc s = refl
 
-pub initStatement-is : (P : Program) (F : Functions) (r : ℕ) (c : Bool) (n : Text) (e : Expr) (sc : Scope) (s : State) → convert-statement P F (SInit r c n e) sc s ≡ (emit (Comment r) >> convert-init P F r c n e sc) s
-unfolding convert-statement
+pub initStatement-is : (P : Program) (F : Functions) (r : ℕ) (c : Bool) (n : Text) (e : Expr) (sc : Scope) (s : State) → convertStatement P F (SInit r c n e) sc s ≡ (emit (Comment r) >> convert-init P F r c n e sc) s
+unfolding convertStatement
 initStatement-is P F r c n e sc s = refl
 
-pub returnStatement-is : (P : Program) (F : Functions) (r : ℕ) (e : Expr) (sc : Scope) (s : State) → convert-statement P F (SReturn r e) sc s ≡ (emit (Comment r) >> convert-return P F r e sc) s
-unfolding convert-statement
+pub returnStatement-is : (P : Program) (F : Functions) (r : ℕ) (e : Expr) (sc : Scope) (s : State) → convertStatement P F (SReturn r e) sc s ≡ (emit (Comment r) >> convert-return P F r e sc) s
+unfolding convertStatement
 returnStatement-is P F r e sc s = refl
 
-pub callsStatement-is : (P : Program) (F : Functions) (r : ℕ) (e : Expr) (sc : Scope) (s : State) → convert-statement P F (SCall r e) sc s ≡ (emit (Comment r) >> convert-call P F r e sc) s
-unfolding convert-statement
+pub callsStatement-is : (P : Program) (F : Functions) (r : ℕ) (e : Expr) (sc : Scope) (s : State) → convertStatement P F (SCall r e) sc s ≡ (emit (Comment r) >> convert-call P F r e sc) s
+unfolding convertStatement
 callsStatement-is P F r e sc s = refl
 
-pub ifStatement-is : (P : Program) (F : Functions) (r : ℕ) (e : Expr) (a : Block) (sc : Scope) (s : State) → convert-statement P F (SIf r e a) sc s ≡ (emit (Comment r) >> convert-if P F r e sc (λ s1. convert-block P F a sc s1)) s
-unfolding convert-statement
+pub ifStatement-is : (P : Program) (F : Functions) (r : ℕ) (e : Expr) (a : Block) (sc : Scope) (s : State) → convertStatement P F (SIf r e a) sc s ≡ (emit (Comment r) >> convert-if P F r e sc (λ s1. convert-block P F a sc s1)) s
+unfolding convertStatement
 ifStatement-is P F r e a sc s = refl
 
-pub ifElseStatement-is : (P : Program) (F : Functions) (r : ℕ) (e : Expr) (a b : Block) (sc : Scope) (s : State) → convert-statement P F (SIfElse r e a b) sc s ≡ (emit (Comment r) >> convertIfElse P F r e sc (λ s1. convert-block P F a sc s1) (λ s1. convert-block P F b sc s1)) s
-unfolding convert-statement
+pub ifElseStatement-is : (P : Program) (F : Functions) (r : ℕ) (e : Expr) (a b : Block) (sc : Scope) (s : State) → convertStatement P F (SIfElse r e a b) sc s ≡ (emit (Comment r) >> convertIfElse P F r e sc (λ s1. convert-block P F a sc s1) (λ s1. convert-block P F b sc s1)) s
+unfolding convertStatement
 ifElseStatement-is P F r e a b sc s = refl
 
-pub whileStatement-is : (P : Program) (F : Functions) (r : ℕ) (e : Expr) (a : Block) (sc : Scope) (s : State) → convert-statement P F (SWhile r e a) sc s ≡ (emit (Comment r) >> convert-while-loop P F r e sc (λ s1. convert-block P F a (withLoop r sc) s1)) s
-unfolding convert-statement
+pub whileStatement-is : (P : Program) (F : Functions) (r : ℕ) (e : Expr) (a : Block) (sc : Scope) (s : State) → convertStatement P F (SWhile r e a) sc s ≡ (emit (Comment r) >> convert-while-loop P F r e sc (λ s1. convert-block P F a (withLoop r sc) s1)) s
+unfolding convertStatement
 whileStatement-is P F r e a sc s = refl
 
-pub forStatement-is : (P : Program) (F : Functions) (r : ℕ) (n : Text) (y : Option ℕ) (from until : Expr) (a : Block) (sc : Scope) (s : State) → convert-statement P F (SFor r n y from until a) sc s ≡ (emit (Comment r) >> convert-for-loop P F r n y from until sc (λ sc1 s1. convert-block P F a (withLoop r sc1) s1)) s
-unfolding convert-statement
+pub forStatement-is : (P : Program) (F : Functions) (r : ℕ) (n : Text) (y : Option ℕ) (from until : Expr) (a : Block) (sc : Scope) (s : State) → convertStatement P F (SFor r n y from until a) sc s ≡ (emit (Comment r) >> convert-for-loop P F r n y from until sc (λ sc1 s1. convert-block P F a (withLoop r sc1) s1)) s
+unfolding convertStatement
 forStatement-is P F r n y from until a sc s = refl
 
-pub breakStatement-is : (P : Program) (F : Functions) (r : ℕ) (sc : Scope) (s : State) → convert-statement P F (SBreak r) sc s ≡ (emit (Comment r) >> convert-break P F r (sc .inLoop) sc) s
-unfolding convert-statement
+pub breakStatement-is : (P : Program) (F : Functions) (r : ℕ) (sc : Scope) (s : State) → convertStatement P F (SBreak r) sc s ≡ (emit (Comment r) >> convert-break P F r (sc .inLoop) sc) s
+unfolding convertStatement
 breakStatement-is P F r sc s = refl
 
-pub continueStatement-is : (P : Program) (F : Functions) (r : ℕ) (sc : Scope) (s : State) → convert-statement P F (SContinue r) sc s ≡ (emit (Comment r) >> convert-continue P F r (sc .inLoop) sc) s
-unfolding convert-statement
+pub continueStatement-is : (P : Program) (F : Functions) (r : ℕ) (sc : Scope) (s : State) → convertStatement P F (SContinue r) sc s ≡ (emit (Comment r) >> convert-continue P F r (sc .inLoop) sc) s
+unfolding convertStatement
 continueStatement-is P F r sc s = refl
 
 pub fits-is : (P : Program) (os : List Operand) (l : Args) (f : Function) (s : State) → fit-args P os l f s ≡ fitFrom P 0 os l f s

@@ -56,9 +56,9 @@ unfolding allLabels
 labelsOf (ok p) = labelled (allLabels (p .funcs))
 labelsOf (err k r) = answers (number k) r
 
-unfoldable pub answerOf : Result IrProgram → Said
-answerOf (ok p) = answers 0 0
-answerOf (err k r) = answers (number k) r
+unfoldable pub saidOf : Result IrProgram → Said
+saidOf (ok p) = answers 0 0
+saidOf (err k r) = answers (number k) r
 
 unfoldable pub convertTree : List ℕ → Result IrProgram
 unfolding convert program text

@@ -171,9 +171,9 @@ module _ (P : Program) (F : Functions) where
   unaryType r o y = pick (acceptsUnary o y) (ok y) (err WrongOperands r)
 
   -- no type that the operator takes: first the right operand's range, then the left's
-  unfoldable pub operandsError : ℕ → Expr → ℕ → Expr → ℕ → Result ℕ
+  unfoldable pub binaryError : ℕ → Expr → ℕ → Expr → ℕ → Result ℕ
   unfolding pick range-error place
-  operandsError r left l right y = pick (range-error (P .typeOf) right y l) (err LiteralOutOfRange (place right))
+  binaryError r left l right y = pick (range-error (P .typeOf) right y l) (err LiteralOutOfRange (place right))
       (pick (range-error (P .typeOf) left l y) (err LiteralOutOfRange (place left)) (err WrongOperands r))
 
   unfoldable pub accepted : BinaryOp → Option ℕ → Result ℕ → Result ℕ
@@ -182,9 +182,9 @@ module _ (P : Program) (F : Functions) where
   accepted o none e = e
 
   unfoldable pub binaryType : ℕ → BinaryOp → Expr → ℕ → Expr → ℕ → Result ℕ
-  unfolding accepted filterOption acceptsClass operandClass commonOf operandsError
+  unfolding accepted filterOption acceptsClass operandClass commonOf binaryError
   binaryType r o left l right y =
-      accepted o (filterOption (acceptsClass (operandClass o)) (commonOf left l right y)) (operandsError r left l right y)
+      accepted o (filterOption (acceptsClass (operandClass o)) (commonOf left l right y)) (binaryError r left l right y)
 
   -- ---- calls
 
@@ -193,15 +193,16 @@ module _ (P : Program) (F : Functions) where
   unfolding fits
   takesArg p a = elim (a .value) [ none ↦ eqb (a .ty) (p .ty) | some e ↦ fits (P .typeOf) e (a .ty) (p .ty) ]
 
-  unfoldable pub takesAll : List Param → List TypedArg → Bool
+  unfoldable pub takes-args : List Param → List TypedArg → Bool
   unfolding takesArg
-  takesAll [] l = true
-  takesAll (p ∷ ps) [] = true
-  takesAll (p ∷ ps) (a ∷ l) = takesArg p a && takesAll ps l
+  takes-args [] l = true
+  takes-args (p ∷ ps) [] = true
+  takes-args (p ∷ ps) (a ∷ l) = takesArg p a && takes-args ps l
 
-  unfoldable pub takes-args : Function → List TypedArg → Bool
-  unfolding takes-count takesAll
-  takes-args f l = takes-count f (length l) && takesAll (f .params) l
+  -- `takes_count` and `takes_args`, which are always tested together
+  unfoldable pub takesBoth : Function → List TypedArg → Bool
+  unfolding takes-count takes-args
+  takesBoth f l = takes-count f (length l) && takes-args (f .params) l
 
   -- `cast_type`: the type that a cast goes to, if the call is a cast
   unfoldable pub castChecked : ℕ → ℕ → Option ℕ → Result (Option ℕ)
@@ -240,18 +241,18 @@ module _ (P : Program) (F : Functions) where
 
   -- `find_exact_function`: 'the verb as a key, then verb with `$` and key text for each type, then the longest prefix with `$...`'
   unfoldable pub find-exact-function : Text → List TypedArg → Option Function
-  unfolding orElse filterOption getFunction takes-args mangledFunction joined suffixes variadicFunction
+  unfolding orElse filterOption getFunction takesBoth mangledFunction joined suffixes variadicFunction
   find-exact-function verb l =
-      orElse (filterOption (λ f. takes-args f l) (getFunction verb F))
+      orElse (filterOption (λ f. takesBoth f l) (getFunction verb F))
       (orElse (mangledFunction (joined verb (suffixes l))) (variadicFunction verb (suffixes l)))
 
   -- `find_functions_by_literals`: 'then all mangled functions that literals fit'
   unfoldable pub byLiterals : Text → List TypedArg → List Function → List Function
-  unfolding pick sameText is-mangled takes-args
+  unfolding pick sameText is-mangled takesBoth
   byLiterals verb l [] = []
   byLiterals verb l (f ∷ fs) =
       let rest = byLiterals verb l fs in
-      pick (sameText (f .name) verb && is-mangled f && takes-args f l) (f ∷ rest) rest
+      pick (sameText (f .name) verb && is-mangled f && takesBoth f l) (f ∷ rest) rest
 
   unfoldable pub find-functions-by-literals : Text → List TypedArg → List Function
   unfolding byLiterals
@@ -276,7 +277,7 @@ module _ (P : Program) (F : Functions) where
   -- ---- types of expressions
 
   unfoldable mutual
-    unfolding _>>=_ intType floatType nameType find-variable unaryType binaryType resolveTyped valueType return-type
+    unfolding _>>=_ nameType find-variable unaryType binaryType resolveTyped valueType return-type
 
     -- `get_type`
     pub get-type : Expr → Scope → Result ℕ

@@ -47,23 +47,22 @@ refloat i short = do
 
 -- the type of the parameter at a position, from 0; 'beyond the parameters' long Float
 unfoldable pub parameterType : List Param → ℕ → ℕ
-unfolding floatType
 parameterType [] k = floatType false
 parameterType (p ∷ l) zero = p .ty
 parameterType (p ∷ l) (suc k) = parameterType l k
 
 -- the position of the k-th value among all arguments, type arguments counted
-unfoldable pub position : Args → ℕ → ℕ
-position noArgs k = k
-position (Value r e l) zero = zero
-position (Value r e l) (suc k) = suc (position l k)
-position (ToType r y l) k = suc (position l k)
+unfoldable pub valuePosition : Args → ℕ → ℕ
+valuePosition noArgs k = k
+valuePosition (Value r e l) zero = zero
+valuePosition (Value r e l) (suc k) = suc (valuePosition l k)
+valuePosition (ToType r y l) k = suc (valuePosition l k)
 
 -- the type that the k-th value of a call is fitted to: 'A value is now fitted to the parameter at its position among all arguments.' The
 -- Rust's `fit_args` has k itself for the position
 unfoldable pub expectedType : List Param → Args → ℕ → ℕ
-unfolding parameterType position
-expectedType ps l k = parameterType ps (position l k)
+unfolding parameterType valuePosition
+expectedType ps l k = parameterType ps (valuePosition l k)
 
 module _ (P : Program) where
   -- `fit_operand` for a place of type y
@@ -471,7 +470,8 @@ module _ (P : Program) (F : Functions) where
   forKnown r none from until sc body = fail UnknownVariable r
   forKnown r (some v) from until sc body = pick (v .constant) (fail AssignToConstant r) (forInt r (v .var-id) from until sc body)
 
-  -- `convert_for_loop`; the body is converted in the scope that it is given
+  -- `convert_for_loop`: its bounds are typed and converted in the scope around it, where a name that it declares is not known; the body is
+  -- converted in the scope that it is given
   unfoldable pub convert-for-loop : ℕ → Text → Option ℕ → Expr → Expr → Scope → (Scope → M Scope) → M Scope
   unfolding _>>=_ lift new-var declare find-variable forInt forKnown
   convert-for-loop r n (some y) from until sc body = do
@@ -501,35 +501,35 @@ module _ (P : Program) (F : Functions) where
     unfolding _>>=_ _>>_ pure emit withLoop convert-declare convert-init convert-return convert-call convert-if convertIfElse convert-while-loop convert-for-loop convert-break convert-continue
 
     -- the `match` of `convert_block`, behind the statement's comment
-    pub convert-statement : Statement → Scope → M Scope
-    convert-statement (SDeclare r n y) sc = do
+    pub convertStatement : Statement → Scope → M Scope
+    convertStatement (SDeclare r n y) sc = do
       emit (Comment r)
       convert-declare r n y sc
-    convert-statement (SInit r constant n e) sc = do
+    convertStatement (SInit r constant n e) sc = do
       emit (Comment r)
       convert-init r constant n e sc
-    convert-statement (SReturn r e) sc = do
+    convertStatement (SReturn r e) sc = do
       emit (Comment r)
       convert-return r e sc
-    convert-statement (SCall r e) sc = do
+    convertStatement (SCall r e) sc = do
       emit (Comment r)
       convert-call r e sc
-    convert-statement (SIf r e a) sc = do
+    convertStatement (SIf r e a) sc = do
       emit (Comment r)
       convert-if r e sc (λ s. convert-block a sc s)
-    convert-statement (SIfElse r e a b) sc = do
+    convertStatement (SIfElse r e a b) sc = do
       emit (Comment r)
       convertIfElse r e sc (λ s. convert-block a sc s) (λ s. convert-block b sc s)
-    convert-statement (SWhile r e a) sc = do
+    convertStatement (SWhile r e a) sc = do
       emit (Comment r)
       convert-while-loop r e sc (λ s. convert-block a (withLoop r sc) s)
-    convert-statement (SFor r n y from until a) sc = do
+    convertStatement (SFor r n y from until a) sc = do
       emit (Comment r)
       convert-for-loop r n y from until sc (λ sc1 s. convert-block a (withLoop r sc1) s)
-    convert-statement (SBreak r) sc = do
+    convertStatement (SBreak r) sc = do
       emit (Comment r)
       convert-break r (sc .inLoop) sc
-    convert-statement (SContinue r) sc = do
+    convertStatement (SContinue r) sc = do
       emit (Comment r)
       convert-continue r (sc .inLoop) sc
 
@@ -537,5 +537,5 @@ module _ (P : Program) (F : Functions) where
     pub convert-block : Block → Scope → M Scope
     convert-block done sc = pure sc
     convert-block (next t b) sc = do
-      sc1 ← (λ s. convert-statement t sc s)
+      sc1 ← (λ s. convertStatement t sc s)
       (λ s. convert-block b sc1 s)

@@ -286,10 +286,10 @@ sizeBy g (TCustom t) = none
 sizeBy g TNull = none
 
 -- '27: SizeOf of Custom, Null, an array of these, or over 2^63 − 1 bytes'
-unfoldable pub within : Option ℕ → Option ℕ
+unfoldable pub sizeWithin : Option ℕ → Option ℕ
 unfolding pick
-within none = none
-within (some n) = pick (ltb n (2 ^ 63)) (some n) none
+sizeWithin none = none
+sizeWithin (some n) = pick (ltb n (2 ^ 63)) (some n) none
 
 module _ (typeOf : ℕ → Ty) where
   -- `fits`
@@ -312,5 +312,5 @@ module _ (typeOf : ℕ → Ty) where
   sizeStep g y = sizeBy (λ k. below g y k none) (typeOf y)
 
   unfoldable pub size : ℕ → Option ℕ
-  unfolding fix sizeStep within
-  size y = within (fix none sizeStep y)
+  unfolding fix sizeStep sizeWithin
+  size y = sizeWithin (fix none sizeStep y)

@@ -57,7 +57,7 @@ typedOwn (SFor r n y a b c) = (exprs a ++ exprs b) ++ (typedExpr a ++ typedExpr 
 typedOwn (SBreak r) = []
 typedOwn (SContinue r) = []
 
--- with its blocks: `convert-statement` and `convert-block`
+-- with its blocks: `convertStatement` and `convert-block`
 unfoldable mutual
   unfolding typedOwn
 

@@ -65,7 +65,7 @@ destination (some x) = x .id
 
 -- 'what a kind does not use is zero', 'a single one at 8'
 unfoldable pub fieldsOf : Instr → Fields
-unfolding unaryNumber binaryNumber destination
+unfolding destination
 fieldsOf (Copy x o) = record { kind = 1; operator = 0; first = some o; second = nothing; target = x .id; recordWord = 0 }
 fieldsOf (Unary x u o) = record { kind = 2; operator = unaryNumber u; first = some o; second = nothing; target = x .id; recordWord = 0 }
 fieldsOf (Binary x b o p) = record { kind = 3; operator = binaryNumber b; first = some o; second = some p; target = x .id; recordWord = 0 }
@@ -195,12 +195,12 @@ countsOf p = record {
   floats = length (p .floats);
 }
 
-unfoldable pub answerOf : List ℕ → Result IrProgram → Conversion
+unfoldable pub conversionOf : List ℕ → Result IrProgram → Conversion
 unfolding wordsOf countsOf tablesOf
-answerOf tree (ok p) = Converted (countsOf p) (tablesOf p)
-answerOf tree (err k r) = Refused (wordsOf tree (record { kind = k; place = r }))
+conversionOf tree (ok p) = Converted (countsOf p) (tablesOf p)
+conversionOf tree (err k r) = Refused (wordsOf tree (record { kind = k; place = r }))
 
 -- what the conversion of a good tree answers
 unfoldable pub conversion : List ℕ → List ℕ → Bool → Conversion
-unfolding answerOf convert program
-conversion tree text needsMain = answerOf tree (convert (program tree text) needsMain)
+unfolding conversionOf convert program
+conversion tree text needsMain = conversionOf tree (convert (program tree text) needsMain)

@@ -106,7 +106,7 @@ fn convert_all(
 
 // A good tree, whose tables stand in the arena afterwards. Its texts are numbered first, so that names are told apart without them. What scratch holds of
 // types is forgotten before the first body.
-fn convert_tree(
+fn convert_program(
     tree: &[u8],
     text: &[u8],
     needs_main: bool,
@@ -183,7 +183,7 @@ fn convert_good(
     requires { ⌜ SevenLong (records (now tree)) (buffers (now instructions) (now variables) (now labels) (now functions) (now strings) (now floats) (now scratch)) ⌝ }
     ensures { λ a. ⌜ AsTheRust (now (tree .entry)) (now (text .entry)) «needs_main» (buffers (now (instructions .entry)) (now (variables .entry)) (now (labels .entry)) (now (functions .entry)) (now (strings .entry)) (now (floats .entry)) (now (scratch .entry))) (answerFrom (now (tree .entry)) a) (buffers (now (instructions .exit)) (now (variables .exit)) (now (labels .exit)) (now (functions .exit)) (now (strings .exit)) (now (floats .exit)) (now (scratch .exit))) ⌝ }
 {
-    let done = convert_tree(tree, text, needs_main, instructions, scratch);
+    let done = convert_program(tree, text, needs_main, instructions, scratch);
     let visits = expressions::turns::visits(tree, scratch);
     clear(scratch);
     finish(

@@ -14,7 +14,7 @@ use Rattle.conversion.specs.Ir.{texts, IrProgram}
 use Rattle.conversion.specs.Expressions.{Functions}
 use Rattle.conversion.specs.Functions.{get-all-functions, check-main}
 use Rattle.conversion.specs.Converter.{convertAll, convert}
-use Rattle.conversion.specs.Written.{Counts, Tables, Converted, answerOf, conversion, countsOf, tablesOf}
+use Rattle.conversion.specs.Written.{Counts, Tables, Converted, conversionOf, conversion, countsOf, tablesOf}
 use Rattle.tables.specs.Read as Read
 use Rattle.tables.specs.Read.{Begin, bodyAt}
 use Rattle.tables.proofs.Exists as Exists
@@ -35,10 +35,10 @@ record Behind (tree text : List ℕ) (needsMain : Bool) (c : Counts) (w : Tables
   pub written : w ≡ tablesOf of
 
 behind : (tree text : List ℕ) (needsMain : Bool) (c : Counts) (w : Tables) → conversion tree text needsMain ≡ Converted c w → Behind tree text needsMain c w
-unfolding conversion answerOf
+unfolding conversion conversionOf
 behind tree text needsMain c w e = go (convert (program tree text) needsMain) refl e
   where
-    go : (x : Result IrProgram) → convert (program tree text) needsMain ≡ x → answerOf tree x ≡ Converted c w → Behind tree text needsMain c w
+    go : (x : Result IrProgram) → convert (program tree text) needsMain ≡ x → conversionOf tree x ≡ Converted c w → Behind tree text needsMain c w
     go (ok p) f g = record { of = p; converts = f; counted = cc; written = cc }
     go (err k r) f g = let z : _≡_ {A = ℕ} 0 1 = cc in absurd (omega arith)
 

@@ -150,24 +150,24 @@ words-ranged tree e w h = subst (λ x. Ranged x) h (number-range (e .kind))
 
 module _ (tree text : List ℕ) (needsMain : Bool) (before : Buffers) where
   refusal-ranged : (row : TableRow) (w : AnswerWords) → callOf tree text needsMain before ≡ RefusedAt row w → Ranged w
-  unfolding callOf judgedRows conversionRow conversion Written.answerOf
+  unfolding callOf judgedRows conversionRow conversion Written.conversionOf
   refusal-ranged row w e = go (verdictIn tree text before) (convert (program tree text) needsMain) e
     where
-      go : (v : Verdict) (x : Result IrProgram) → judgedRows tree v (conversionRow (visitsIn tree text) (Written.answerOf tree x)) ≡ RefusedAt row w → Ranged w
+      go : (v : Verdict) (x : Result IrProgram) → judgedRows tree v (conversionRow (visitsIn tree text) (Written.conversionOf tree x)) ≡ RefusedAt row w → Ranged w
       go (RefusedBy r f) x h = words-ranged tree f w (cc)
       go Passed (err k r) h = words-ranged tree (record { kind = k; place = r }) w (cc)
       go Passed (ok p) h = let z : _≡_ {A = ℕ} 0 1 = cc in absurd (omega arith)
 
   -- the tables of a success have room
   success-fits : (c : Counts) (m : ℕ) (t : Tables) → callOf tree text needsMain before ≡ Success c m t → SameLengths before (buffersAfter (Success c m t) before)
-  unfolding verdictIn conversion Written.answerOf
+  unfolding verdictIn conversion Written.conversionOf
   success-fits c m t e =
       let h = success-from tree text needsMain before c m t e in
       let good = passed-good tree text (lengthsOf before) (length (before .scratch)) (h .0) in
       let lent = enough (records tree) (lengthsOf before) (length (before .scratch)) (passed-lent tree text (lengthsOf before) (length (before .scratch)) (h .0)) in
       tables-fit-buffers (records tree) c m t before (go (convert (program tree text) needsMain) (good-fits tree text good needsMain) (h .1)) lent
     where
-      go : (x : Result IrProgram) → IfOk (λ p. Fit (records tree) (tablesOf p)) x → Written.answerOf tree x ≡ Converted c t → Fit (records tree) t
+      go : (x : Result IrProgram) → IfOk (λ p. Fit (records tree) (tablesOf p)) x → Written.conversionOf tree x ≡ Converted c t → Fit (records tree) t
       go (ok p) f h = let z : tablesOf p ≡ t = cc in subst (Fit (records tree)) z f
       go (err k r) f h = let z : _≡_ {A = ℕ} 0 1 = cc in absurd (omega arith)
 

@@ -190,7 +190,7 @@ readBody nothing = record { func = 0; instrs = []; vars = []; labels = []; strin
 readBody (some b) = b
 
 unfoldable pub treeWith : ℕ → ℕ → ℕ → Ran ℕ
-unfolding tree text program function body functionsOf get-all-functions get-type common-type unwrapOr rule number compute answer asked treeRun parametersKnown parameterValues set runStatement bindS bindO giveBack evalExpr typed scopeOf Tree.variables evalBinary evalAnd toBool answered bindG test read literalType content bare fit fitLiteral fitComputed knownAfter
+unfolding tree text program function body functionsOf get-all-functions get-type common-type unwrapOr rule number compute answer asked treeRun parametersKnown parameterValues set runStatement bindS bindO giveBack evalExpr typed scopeOf Tree.knownVariables evalBinary evalAnd toBool answered bindG test read literalType content bare fit fitLiteral fitComputed knownAfter
 treeWith p q = treeRun (program tree text) (functionsOf (get-all-functions (program tree text .functions) [])) function rule (asked rule) body (p ∷ q ∷ [])
 
 -- p and q in place, 7 in the other variables

@@ -47,12 +47,12 @@ module _ (tree text : List ℕ) (needsMain : Bool) where
   -- ---- conversion, in terms of the Rust's `convert`
 
   pub conversion-ok : (p : IrProgram) → convert (program tree text) needsMain ≡ ok p → conversion tree text needsMain ≡ Converted (countsOf p) (tablesOf p)
-  unfolding conversion Written.answerOf
+  unfolding conversion Written.conversionOf
   conversion-ok p e = rw e refl
 
   pub conversion-err : (kind : ConvertErrorKind) (place : ℕ) → convert (program tree text) needsMain ≡ err kind place
       → conversion tree text needsMain ≡ Refused (wordsOf tree (record { kind = kind; place = place }))
-  unfolding conversion Written.answerOf
+  unfolding conversion Written.conversionOf
   conversion-err kind place e = rw e refl
 
   module _ (b : Buffers) where

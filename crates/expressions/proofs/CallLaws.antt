@@ -24,7 +24,7 @@ use Rattle.syntax.specs.Decode.{program, textOf, typeAt}
 use Rattle.conversion.specs.ConvertError.{Result, err, _>>=_, UnknownFunction, AmbiguousCall, InvalidCast}
 use Rattle.conversion.specs.Ir.{sameText}
 use Rattle.conversion.specs.Types.{can-cast}
-use Rattle.conversion.specs.Expressions.{TypedArg, Callee, Functions, castVerb, is-mangled, takes-args, targetType, sourceType, castChecked, castTo, cast-type, byLiterals, find-functions-by-literals, find-exact-function, chosen, exactOr, resolveFunction, resolveTyped}
+use Rattle.conversion.specs.Expressions.{TypedArg, Callee, Functions, castVerb, is-mangled, takesBoth, targetType, sourceType, castChecked, castTo, cast-type, byLiterals, find-functions-by-literals, find-exact-function, chosen, exactOr, resolveFunction, resolveTyped}
 use Rattle.records.specs.declared.words.Found.{Found}
 use Rattle.records.specs.declared.words.Found.the-variants as Found
 use Rattle.expressions.specs.declared.answers.Candidates.{Candidates}
@@ -42,7 +42,7 @@ use Rattle.expressions.proofs.OriginalLaws.{kind-has}
 use Rattle.syntax.proofs.Records.{name-record, function-name}
 use Rattle.texts.specs.Texts.{hasText, hasOwn, original, originalAt, Numbered}
 use Rattle.texts.proofs.TextLaws.{same-numbers}
-use Rattle.expressions.specs.Answers.{refusal, castResult, foundNumber, calleeOf, TypeFound, a-type, no-type, IsCast, CastIs, IsCallee, CalleeIs, CandidatesAre, AreAll, OneFunction, nobody, one, several}
+use Rattle.expressions.specs.Answers.{refusal, castResult, foundNumber, calleeOf, IsCast, CastIs, IsCallee, CalleeIs, CandidatesAre, AreAll, OneFunction, nobody, one, several}
 use Rattle.expressions.proofs.answers.Candidates.{the-type}
 use Rattle.keys.proofs.FunctionLaws.{found-function, all-functions}
 use borrow.Author.Tests.{not-true, not-false, eq-eqb, ne-eqb}
@@ -85,11 +85,11 @@ module _ (tree text s : List ℕ) (c : Call) (h : Called tree text s c) (numbere
 -- ---- the functions that literals fit
 
 module _ (P : Program) (K : Functions) (verb : Text) (l : List TypedArg) (f : Function) (fs : List Function) where
-  by-hit : (sameText (f .name) verb && is-mangled f && takes-args P K f l) ≡ true → byLiterals P K verb l (f ∷ fs) ≡ f ∷ byLiterals P K verb l fs
+  by-hit : (sameText (f .name) verb && is-mangled f && takesBoth P K f l) ≡ true → byLiterals P K verb l (f ∷ fs) ≡ f ∷ byLiterals P K verb l fs
   unfolding byLiterals pick
   by-hit e = rw e
 
-  by-miss : (sameText (f .name) verb && is-mangled f && takes-args P K f l) ≡ false → byLiterals P K verb l (f ∷ fs) ≡ byLiterals P K verb l fs
+  by-miss : (sameText (f .name) verb && is-mangled f && takesBoth P K f l) ≡ false → byLiterals P K verb l (f ∷ fs) ≡ byLiterals P K verb l fs
   unfolding byLiterals pick
   by-miss e = rw e
 
@@ -105,7 +105,7 @@ module _ (tree text : List ℕ) (verb : Text) (l : List TypedArg) where
 
   -- whether the function of record f is one of them
   abbrev pub isOne : ℕ → Bool
-  isOne f = sameText (functionOf tree text f .name) verb && is-mangled (functionOf tree text f) && takes-args (program tree text) (allKeys tree text) (functionOf tree text f) l
+  isOne f = sameText (functionOf tree text f .name) verb && is-mangled (functionOf tree text f) && takesBoth (program tree text) (allKeys tree text) (functionOf tree text f) l
 
   abbrev pub everyOne : List Function
   everyOne = find-functions-by-literals (program tree text) (allKeys tree text) verb l
@@ -169,10 +169,6 @@ module _ (tree text : List ℕ) (verb : Text) (l : List TypedArg) where
   }
 
 -- ---- the cast
-
-pub found-type : (tree : List ℕ) (t : Found) (y : ℕ) → TypeFound tree t → t ≡ Found.At y → TypeAt tree y
-found-type tree t y (a-type {y = v} at) e = let z : y ≡ v = cc in rw z at
-found-type tree t y no-type e = absurd (let z : _≡_ {A = ℕ} 0 1 = cc in omega arith)
 
 pub type-inside : (tree text : List ℕ) → Good tree text → (y : ℕ) → TypeAt tree y → y * 32 + 32 ≤ length tree
 type-inside tree text good y t = inside tree text good y (t .below)

@@ -15,7 +15,7 @@ use Rattle.records.specs.Words.{textAt, wordAt, records}
 use Rattle.syntax.specs.Syntax.{Text, Function}
 use Rattle.syntax.specs.Decode.{program}
 use Rattle.conversion.specs.Ir.{sameText}
-use Rattle.conversion.specs.Expressions.{is-mangled, takes-args, getFunction, filterOption, suffixes, joined, mangledFunction, variadicFunction, find-exact-function}
+use Rattle.conversion.specs.Expressions.{is-mangled, takesBoth, getFunction, filterOption, suffixes, joined, mangledFunction, variadicFunction, find-exact-function}
 use Rattle.records.specs.declared.words.Found.{Found}
 use Rattle.records.specs.declared.words.Found.the-variants as Found
 use Rattle.records.proofs.RollLaws.{roll-small}
@@ -207,7 +207,7 @@ module _ (tree text s : List ℕ) (count : ℕ) (K : Keyed tree text s count) wh
 
 module _ (tree text s : List ℕ) (c : Call) (h : Called tree text s c) where
   module _ (r : Found) (first : functionFound tree text r
-      ≡ filterOption (λ f. takes-args (program tree text) (allKeys tree text) f (typedAt tree text s (c .first))) (getFunction (verbOf tree text s c) (allKeys tree text))) where
+      ≡ filterOption (λ f. takesBoth (program tree text) (allKeys tree text) f (typedAt tree text s (c .first))) (getFunction (verbOf tree text s c) (allKeys tree text))) where
     abbrev Exact : Option Function
     Exact = find-exact-function (program tree text) (allKeys tree text) (verbOf tree text s c) (typedAt tree text s (c .first))
 

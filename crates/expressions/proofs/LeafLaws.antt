@@ -28,7 +28,7 @@ use Rattle.ir.specs.declared.structs.VarId.{VarId}
 use Rattle.scope.specs.declared.Scope.{Scope}
 use Rattle.scope.specs.declared.Known.{Known}
 use Rattle.scope.specs.declared.Known.the-variants as Known
-use Rattle.scope.specs.Open.{variableAt, variablesAt, variablesOf, scopeAt, IsFound, FindMeets}
+use Rattle.scope.specs.Open.{openVariable, variablesAt, variablesOf, scopeAt, IsFound, FindMeets}
 use Rattle.expressions.specs.declared.answers.ExprType.{ExprType}
 use Rattle.expressions.specs.declared.answers.ExprType.the-variants as ExprType
 use Rattle.expressions.specs.declared.answers.Resolved.{Resolved}
@@ -41,7 +41,7 @@ use Rattle.expressions.proofs.OperandLaws.{refused-at, first-type}
 
 -- an Int's and a Float's marks
 int-mark : (d : ℕ) → d < 4 → intType (bit 1 d) (bit 2 d) ≡ d
-unfolding intType bit
+unfolding bit
 int-mark zero h = refl
 int-mark (suc zero) h = refl
 int-mark (suc (suc zero)) h = refl
@@ -49,7 +49,7 @@ int-mark (suc (suc (suc zero))) h = refl
 int-mark (suc (suc (suc (suc d)))) h = absurd (omega arith)
 
 float-mark : (d : ℕ) → d < 2 → floatType (bit 1 d) ≡ 4 + d
-unfolding floatType bit
+unfolding bit
 float-mark zero h = refl
 float-mark (suc zero) h = refl
 float-mark (suc (suc d)) h = absurd (omega arith)
@@ -93,7 +93,7 @@ module _ (tree text : List ℕ) (good : Good tree text) (e : ℕ) (x : IsExpr tr
 
   pub literal-size : (kindOf tree e ≤ 8) × (kindOf tree e ≡ 6 → ⊥) → (k ≡ 2 → ⊥) → (k ≡ 3 → ⊥) → (k ≡ 4 → ⊥) → (k ≡ 5 → ⊥) → (k ≡ 7 → ⊥)
       → TypeAt tree 2 × ((S : Def.Scope) → typeIn tree text S e ≡ ok 2)
-  unfolding typeIn get-type intType
+  unfolding typeIn get-type
   literal-size l n₂ n₃ n₄ n₅ n₇ =
       let least = leb-true 2 (kindOf tree e) (and-left (leb 2 (kindOf tree e)) (leb (kindOf tree e) 11) (x .expression)) in
       let eight : kindOf tree e ≡ 8 = omega (arith, l .0, l .1) in
@@ -117,10 +117,10 @@ module _ (v : VarId) (b : Bool) where
   unfolding IsFound findIn variablesAt
   found-typed tree text s n u zero t h = absurd h
   found-typed tree text s n u (suc m) t h =
-      go (found-typed tree text s n u m (λ j k. t j (omega arith))) (sameText u (variableAt text s (8 * n + 16 * m) .name)) h
+      go (found-typed tree text s n u m (λ j k. t j (omega arith))) (sameText u (openVariable text s (8 * n + 16 * m) .name)) h
     where
       go : (IsFound (Known.Is v b) (findIn u (variablesAt text s n m)) → TypeAt tree (v .1))
-          → (c : Bool) → IsFound (Known.Is v b) (elim c [ true ↦ some (variableAt text s (8 * n + 16 * m)) | false ↦ findIn u (variablesAt text s n m) ]) → TypeAt tree (v .1)
+          → (c : Bool) → IsFound (Known.Is v b) (elim c [ true ↦ some (openVariable text s (8 * n + 16 * m)) | false ↦ findIn u (variablesAt text s n m) ]) → TypeAt tree (v .1)
       go rest true f = subst (λ (z : ℕ). TypeAt tree z) (sym (ap (λ z. z .ty) (f .0))) (t m (omega arith))
       go rest false f = rest f
 

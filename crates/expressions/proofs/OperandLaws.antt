@@ -20,7 +20,7 @@ use Rattle.syntax.specs.Syntax.{Text, TInt, TFloat, TBool, TChar, TByte, TAddre
 use Rattle.syntax.specs.Decode.{bit, textOf, wideOf, program, typeAt}
 use Rattle.conversion.specs.ConvertError.{ConvertErrorKind, Result, err, WrongOperands, LiteralOutOfRange}
 use Rattle.conversion.specs.Types.{isInt, onInt, is-number, fits, range-error}
-use Rattle.conversion.specs.Expressions.{OperandClass, Bools, Any, Numbers, Integers, operandClass, givesBool, filterOption, commonOf, acceptsUnary, acceptsClass, unaryType, operandsError, accepted, binaryType}
+use Rattle.conversion.specs.Expressions.{OperandClass, Bools, Any, Numbers, Integers, operandClass, givesBool, filterOption, commonOf, acceptsUnary, acceptsClass, unaryType, binaryError, accepted, binaryType}
 use Rattle.records.specs.declared.words.Found.{Found}
 use Rattle.records.specs.declared.words.Found.the-variants as Found
 use Rattle.types.specs.Fits.{IsType, fitsAt, rangeErrorAt}
@@ -197,7 +197,7 @@ module _ (tree text : List ℕ) (good : Good tree text) (s : Sides) (o : Operand
   -- what is refused
   module _ (e : ℕ) where
     abbrev error : Result ℕ
-    error = operandsError (program tree text) (allKeys tree text) e (exprAt tree text (s .left)) (s .«left_type») (exprAt tree text (s .right)) (s .«right_type»)
+    error = binaryError (program tree text) (allKeys tree text) e (exprAt tree text (s .left)) (s .«left_type») (exprAt tree text (s .right)) (s .«right_type»)
 
     module _ (b : Bool) (eb : (text′ : List ℕ) → b ≡ rangeErrorAt tree text′ (s .right) (s .«right_type») (s .«left_type»)) where
       right-range : range-error (program tree text .typeOf) (exprAt tree text (s .right)) (s .«right_type») (s .«left_type») ≡ b
@@ -205,7 +205,7 @@ module _ (tree text : List ℕ) (good : Good tree text) (s : Sides) (o : Operand
       right-range = sym (eb text)
 
       pub error-right : b ≡ true → (a : ExprType) → a ≡ ExprType.Refused (record { kind = LiteralOutOfRange; place = s .right }) → TypeIs tree a error
-      unfolding operandsError pick
+      unfolding binaryError pick
       error-right q a w =
           refused-at tree error LiteralOutOfRange (s .right) a
           (rw (right-range ∙ q) (ap (λ (z : ℕ). err LiteralOutOfRange z) (place-is tree text good (s .right) (o .right)))) w
@@ -216,13 +216,13 @@ module _ (tree text : List ℕ) (good : Good tree text) (s : Sides) (o : Operand
         left-range = sym (ec text)
 
         pub error-left : c ≡ true → (a : ExprType) → a ≡ ExprType.Refused (record { kind = LiteralOutOfRange; place = s .left }) → TypeIs tree a error
-        unfolding operandsError pick
+        unfolding binaryError pick
         error-left p a w =
             refused-at tree error LiteralOutOfRange (s .left) a
             (rw (right-range ∙ q, left-range ∙ p) (ap (λ (z : ℕ). err LiteralOutOfRange z) (place-is tree text good (s .left) (o .left)))) w
 
         pub error-rest : c ≡ false → (a : ExprType) → a ≡ ExprType.Refused (record { kind = WrongOperands; place = e }) → TypeIs tree a error
-        unfolding operandsError pick
+        unfolding binaryError pick
         error-rest p a w = refused-at tree error WrongOperands e a (rw (right-range ∙ q, left-range ∙ p)) w
 
     -- the operator's rule; its number is d, its class of operands cl, its class of results rs

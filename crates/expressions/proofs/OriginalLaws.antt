@@ -21,7 +21,7 @@ use Rattle.ir.specs.declared.structs.VarId.{VarId}
 use Rattle.scope.specs.declared.Scope.{Scope}
 use Rattle.scope.specs.declared.Known.{Known}
 use Rattle.scope.specs.declared.Declared.{Declared}
-use Rattle.scope.specs.Open.{nameIs, wordsAre, nameSlotAt, Told, SlotTells, FindMeets, FindsTold, DeclareMeets, DeclaresTold}
+use Rattle.scope.specs.Open.{nameIs, wordsAre, nameSlotAt, ToldApart, SlotTells, FindMeets, FindsTold, DeclareMeets, DeclaresTold}
 use Rattle.expressions.specs.Slots.{originalOf, originalWord, Original, Scoped, Asked, Ready}
 
 -- ---- numbers that stay
@@ -77,7 +77,7 @@ module _ {tree text s : List ℕ} {sc : Scope} {r : ℕ} (q : Asked tree text s 
   unfolding textOf
   origin-text = origin-says tree text s (q .numbered) r (q .below) (q .has-text)
 
-  told-words : Told text s sc (originalWord tree s r A) (originalWord tree s r B)
+  told-words : ToldApart text s sc (originalWord tree s r A) (originalWord tree s r B)
   unfolding nameIs wordsAre
   told-words j h =
       let x = q .scoped .named j h in

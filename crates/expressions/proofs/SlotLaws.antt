@@ -9,6 +9,7 @@ use lib.ListN.{length, getD}
 use Rattle.laws.specs.Splice.{splice}
 use Rattle.laws.proofs.Splices.{length-splice}
 use Rattle.records.specs.Words.{byteAt, wordAt, records}
+use Rattle.records.proofs.WordLaws.{word-length}
 use Rattle.conversion.specs.Written.{bytesOf, word}
 use Rattle.scope.specs.declared.Scope.{Scope}
 use Rattle.scope.specs.Open.{nameSlotAt, scopeAt}
@@ -26,30 +27,26 @@ use Rattle.keys.proofs.KeySearch.{records-most}
 
 -- ---- a word that is written
 
-word-long : (v : ℕ) → length (word v) ≡ 4
-unfolding word bytesOf
-word-long v = refl
-
 word-read : (v : ℕ) → v < 2 ^ 32 → wordAt (word v) 0 ≡ v
 unfolding word bytesOf wordAt byteAt
 word-read v h = word-back v h
 
 module _ (s : List ℕ) (p v : ℕ) (room : p + 4 ≤ length s) where
   fits : p + length (word v) ≤ length s
-  fits = rw (word-long v) room
+  fits = rw (word-length v) room
 
   pub put-long : length (splice s p (word v)) ≡ length s
   put-long = length-splice s p (word v) fits
 
   pub put-byte : (i : ℕ) → (i < p) ⊎ (p + 4 ≤ i) → byteAt (splice s p (word v)) i ≡ byteAt s i
   unfolding byteAt
-  put-byte i h = byte-apart s p (word v) fits i (rw (word-long v) h)
+  put-byte i h = byte-apart s p (word v) fits i (rw (word-length v) h)
 
   pub put-other : (q : ℕ) → (q + 4 ≤ p) ⊎ (p + 4 ≤ q) → wordAt (splice s p (word v)) q ≡ wordAt s q
-  put-other q h = word-apart s p (word v) fits q (rw (word-long v) h)
+  put-other q h = word-apart s p (word v) fits q (rw (word-length v) h)
 
   pub put-here : v < 2 ^ 32 → wordAt (splice s p (word v)) p ≡ v
-  put-here h = word-there s p (word v) fits 0 p (omega arith) (omega (arith, word-long v)) ∙ word-read v h
+  put-here h = word-there s p (word v) fits 0 p (omega arith) (omega (arith, word-length v)) ∙ word-read v h
 
 -- ---- the frame
 

@@ -14,7 +14,7 @@ use Rattle.records.specs.Good.{Good}
 use Rattle.records.proofs.GoodLaws.{inside}
 use Rattle.syntax.specs.Syntax.{Param, Function, Program}
 use Rattle.syntax.specs.Decode.{program}
-use Rattle.conversion.specs.Expressions.{TypedArg, Functions, takes-count, takesArg, takesAll, takes-args}
+use Rattle.conversion.specs.Expressions.{TypedArg, Functions, takes-count, takesArg, takes-args, takesBoth}
 use Rattle.types.specs.Fits.{IsType, fitsAt}
 use Rattle.types.proofs.FromGood.{is-type}
 use Rattle.expressions.specs.declared.arguments.Argument.{Argument}
@@ -55,12 +55,12 @@ module _ (P : Program) (K : Functions) (f : Function) (l : List TypedArg) (n : �
   counted : takes-count f (length l) ≡ r
   counted = rw (sym h) (sym e)
 
-  pub args-no : not r ≡ true → false ≡ takes-args P K f l
-  unfolding takes-args
+  pub args-no : not r ≡ true → false ≡ takesBoth P K f l
+  unfolding takesBoth
   args-no q = sym (rw (counted, not-true r q))
 
-  pub args-all : not r ≡ false → (ps : List Param) → f .params ≡ ps → (b : Bool) → b ≡ takesAll P K ps l → b ≡ takes-args P K f l
-  unfolding takes-args
+  pub args-all : not r ≡ false → (ps : List Param) → f .params ≡ ps → (b : Bool) → b ≡ takes-args P K ps l → b ≡ takesBoth P K f l
+  unfolding takesBoth
   args-all q ps p b t = sym (rw (counted, not-false r q, p) (sym t))
 
 -- ---- the first argument and the first parameter
@@ -96,46 +96,46 @@ module _ (tree text : List ℕ) (good : Good tree text) where
 -- ---- one after the other
 
 module _ (P : Program) (K : Functions) where
-  no-arguments : (ps : List Param) → takesAll P K ps [] ≡ true
-  unfolding takesAll
+  no-arguments : (ps : List Param) → takes-args P K ps [] ≡ true
+  unfolding takes-args
   no-arguments [] = refl
   no-arguments (p ∷ ps) = refl
 
-  no-parameters : (l : List TypedArg) → takesAll P K [] l ≡ true
-  unfolding takesAll
+  no-parameters : (l : List TypedArg) → takes-args P K [] l ≡ true
+  unfolding takes-args
   no-parameters l = refl
 
 pub params-end-all : (tree text : List ℕ) (o : Bool) → Good tree text → (u : ℕ) (l : List TypedArg)
-    → o ≡ takesAll (program tree text) (allKeys tree text) (paramsAt tree text u) l → u ≡ none → true ≡ o
+    → o ≡ takes-args (program tree text) (allKeys tree text) (paramsAt tree text u) l → u ≡ none → true ≡ o
 params-end-all tree text o good u l h e =
     sym (h ∙ rw (parameters-end tree text good u e) (no-parameters (program tree text) (allKeys tree text) l))
 
 module _ (tree text s : List ℕ) where
   first-no : (ps : List Param) (l : List TypedArg) (r : Bool) → TakesFirst tree text s ps l r → not r ≡ true
-      → takesAll (program tree text) (allKeys tree text) ps l ≡ false
-  unfolding TakesFirst takesAll
+      → takes-args (program tree text) (allKeys tree text) ps l ≡ false
+  unfolding TakesFirst takes-args
   first-no [] l r t q = absurd t
   first-no (p ∷ ps) [] r t q = absurd t
   first-no (p ∷ ps) (a ∷ l) r t q = rw (sym t, not-true r q)
 
   first-yes : (p : Param) (ps : List Param) (a : TypedArg) (l : List TypedArg) (r : Bool) → TakesFirst tree text s (p ∷ ps) (a ∷ l) r → not r ≡ false
-      → takesAll (program tree text) (allKeys tree text) (p ∷ ps) (a ∷ l) ≡ takesAll (program tree text) (allKeys tree text) ps l
-  unfolding TakesFirst takesAll
+      → takes-args (program tree text) (allKeys tree text) (p ∷ ps) (a ∷ l) ≡ takes-args (program tree text) (allKeys tree text) ps l
+  unfolding TakesFirst takes-args
   first-yes p ps a l r t q = rw (sym t, not-false r q)
 
   module _ (o : Bool) where
-    pub all-no : (ps : List Param) (l : List TypedArg) (r : Bool) → o ≡ takesAll (program tree text) (allKeys tree text) ps l
+    pub all-no : (ps : List Param) (l : List TypedArg) (r : Bool) → o ≡ takes-args (program tree text) (allKeys tree text) ps l
         → TakesFirst tree text s ps l r → not r ≡ true → false ≡ o
     all-no ps l r h t q = sym (h ∙ first-no ps l r t q)
 
     module _ (good : Good tree text) where
-      pub arguments-end : (ps : List Param) (w : ℕ) → o ≡ takesAll (program tree text) (allKeys tree text) ps (typedAt tree text s w) → w ≡ none → true ≡ o
+      pub arguments-end : (ps : List Param) (w : ℕ) → o ≡ takes-args (program tree text) (allKeys tree text) ps (typedAt tree text s w) → w ≡ none → true ≡ o
       arguments-end ps w h e = sym (h ∙ rw (typed-end tree text good s w e) (no-arguments (program tree text) (allKeys tree text) ps))
 
       pub all-more : (u w v x : ℕ) → ParamsAt tree u → (u ≡ none → ⊥) → ArgsAt tree w → (w ≡ none → ⊥) → v ≡ wordOf tree u B → x ≡ wordOf tree w B
-          → (r : Bool) → o ≡ takesAll (program tree text) (allKeys tree text) (paramsAt tree text u) (typedAt tree text s w)
+          → (r : Bool) → o ≡ takes-args (program tree text) (allKeys tree text) (paramsAt tree text u) (typedAt tree text s w)
           → TakesFirst tree text s (paramsAt tree text u) (typedAt tree text s w) r → not r ≡ false
-          → o ≡ takesAll (program tree text) (allKeys tree text) (paramsAt tree text v) (typedAt tree text s x)
+          → o ≡ takes-args (program tree text) (allKeys tree text) (paramsAt tree text v) (typedAt tree text s x)
       all-more u w v x ul un wl wn ev ex r h t q =
           let ep = parameter-item tree text good u (cell-is tree text good Parameters u ul un) in
           let ea = head-is tree text w s (some-argument tree text good w wl wn .is) in

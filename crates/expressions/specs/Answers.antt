@@ -12,7 +12,7 @@ use Rattle.syntax.specs.Decode.{program, textOf}
 use Rattle.syntax.specs.Exprs.{exprs, argsExprs, partsExprs}
 use Rattle.conversion.specs.ConvertError.{Result, ok, err, _>>=_}
 use Rattle.conversion.specs.Expressions as Defined
-use Rattle.conversion.specs.Expressions.{Callee, CallFunction, CallCast, return-type, valueType, get-argument-types, resolve-call, common-type, OperandClass, acceptsClass, unaryType, operandsError, binaryType}
+use Rattle.conversion.specs.Expressions.{Callee, CallFunction, CallCast, return-type, valueType, get-argument-types, resolve-call, common-type, OperandClass, acceptsClass, unaryType, binaryError, binaryType}
 use Rattle.records.specs.declared.words.Found.{Found}
 use Rattle.records.specs.declared.words.Found.the-variants as Found
 use Rattle.scope.specs.declared.Scope.{Scope}
@@ -177,9 +177,9 @@ module _ (tree text : List ℕ) where
   abbrev pub commonAt : Sides → Option ℕ
   commonAt s = Defined.commonOf (program tree text) (allKeys tree text) (exprAt tree text (s .left)) (s .«left_type») (exprAt tree text (s .right)) (s .«right_type»)
 
-  abbrev pub operandsErrorAt : ℕ → Sides → Result ℕ
-  operandsErrorAt e s =
-      operandsError (program tree text) (allKeys tree text) e (exprAt tree text (s .left)) (s .«left_type») (exprAt tree text (s .right)) (s .«right_type»)
+  abbrev pub binaryErrorAt : ℕ → Sides → Result ℕ
+  binaryErrorAt e s =
+      binaryError (program tree text) (allKeys tree text) e (exprAt tree text (s .left)) (s .«left_type») (exprAt tree text (s .right)) (s .«right_type»)
 
   abbrev pub binaryTypeAt : ℕ → Sides → Result ℕ
   binaryTypeAt e s =

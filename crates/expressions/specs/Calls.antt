@@ -11,7 +11,7 @@ use Rattle.syntax.specs.Syntax.{Text, Param, Function}
 use Rattle.syntax.specs.Decode.{program, textOf}
 use Rattle.conversion.specs.ConvertError.{Result}
 use Rattle.conversion.specs.Ir.{sameText}
-use Rattle.conversion.specs.Expressions.{TypedArg, Callee, suffixes, joined, takesArg, takesAll, takes-args, variadicMark, is-mangled, filterOption, getFunction, mangledFunction, variadicFunction, find-exact-function, find-functions-by-literals, cast-type, resolveFunction, resolveTyped}
+use Rattle.conversion.specs.Expressions.{TypedArg, Callee, suffixes, joined, takesArg, takes-args, takesBoth, variadicMark, is-mangled, filterOption, getFunction, mangledFunction, variadicFunction, find-exact-function, find-functions-by-literals, cast-type, resolveFunction, resolveTyped}
 use Rattle.records.specs.declared.words.Found.{Found}
 use Rattle.records.specs.declared.words.Found.the-variants as Found
 use Rattle.expressions.specs.declared.arguments.Call.{Call}
@@ -89,11 +89,11 @@ module _ (tree text s : List ℕ) where
 
   -- ---- the definitions' functions at a call, its arguments' types in scratch
 
-  abbrev pub takesAllAt : ℕ → ℕ → Bool
-  takesAllAt parameters w = takesAll (program tree text) (allKeys tree text) (paramsAt tree text parameters) (typedAt w)
+  abbrev pub takesArgsAt : ℕ → ℕ → Bool
+  takesArgsAt parameters w = takes-args (program tree text) (allKeys tree text) (paramsAt tree text parameters) (typedAt w)
 
   abbrev pub takesCall : Call → Function → Bool
-  takesCall c f = takes-args (program tree text) (allKeys tree text) f (typedAt (c .first))
+  takesCall c f = takesBoth (program tree text) (allKeys tree text) f (typedAt (c .first))
 
   -- the first argument goes into the first parameter
   abbrev pub TakesAt : ℕ → ℕ → Bool → Type 0

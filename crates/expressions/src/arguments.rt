@@ -4,7 +4,7 @@ ghost use mathlib.Core.List.{List};
 ghost use Prim.Native.Nat.{ℕ, _+_, _*_, _≤_, _<_};
 ghost use lib.ListN.{length};
 ghost use Rattle.records.specs.Words as Words;
-ghost use Rattle.records.specs.Words.{records, wordOf};
+ghost use Rattle.records.specs.Words.{records, wordOf, none};
 ghost use Rattle.records.specs.Good.{Good};
 ghost use Rattle.syntax.specs.Decode.{keyAt};
 ghost use Rattle.conversion.specs.Expressions.{targetType, sourceType};
@@ -19,6 +19,7 @@ use records::layout::TYPE_SLOT_BYTES;
 use records::layout::TYPE_SLOTS;
 use records::numbers::KIND_VALUE;
 use records::words::Found;
+use records::words::NONE;
 use records::words::WORD_A;
 use records::words::WORD_B;
 use records::words::WORD_D;
@@ -27,7 +28,7 @@ use records::words::load;
 use records::words::reference;
 
 // No further cell.
-pub const END: usize = 4294967295;
+pub const END: usize = NONE as usize;
 
 // An expression, or a type.
 pub enum Argument {
@@ -48,7 +49,7 @@ pub struct Call {
 pub fn argument_at(tree: &[u8], text: &[u8], cell: usize) -> Argument
     requires { ⌜ Good (now tree) (now text) ⌝ }
     requires { ⌜ ArgsAt (now tree) cell ⌝ }
-    requires { ⌜ (cell ≡ 4294967295 → ⊥) ⌝ }
+    requires { ⌜ (cell ≡ none → ⊥) ⌝ }
     ensures { λ r. ⌜ ArgumentIs (now (tree .entry)) (now (text .entry)) cell r ⌝ }
 {
     let item = reference(tree, cell, WORD_A);
@@ -80,7 +81,7 @@ pub(crate) fn slot(tree: &[u8], scratch: &[u8], e: usize) -> usize
 // The type of the argument in a cell.
 pub(crate) fn argument_type(tree: &[u8], text: &[u8], scratch: &[u8], cell: usize) -> usize
     requires { ⌜ Argued (now tree) (now text) (now scratch) cell ⌝ }
-    requires { ⌜ (cell ≡ 4294967295 → ⊥) ⌝ }
+    requires { ⌜ (cell ≡ none → ⊥) ⌝ }
     ensures { λ y. ⌜ FirstType (typedAt (now (tree .entry)) (now (text .entry)) (now (scratch .entry)) cell) y × TypeAt (now (tree .entry)) y ⌝ }
 {
     match argument_at(tree, text, cell) {

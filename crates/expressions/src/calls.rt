@@ -20,7 +20,7 @@ use crate::arguments::count_arguments;
 use crate::arguments::source_type;
 use crate::arguments::target_type;
 use crate::exact::find_exact_function;
-use crate::takes::takes_args;
+use crate::takes::takes_call;
 use keys::keys::function_at;
 use keys::keys::is_mangled;
 use keys::parts::Part;
@@ -48,7 +48,7 @@ fn is_candidate(tree: &[u8], text: &[u8], scratch: &[u8], call: Call, f: usize) 
     if !is_mangled(tree, text, f) {
         return false;
     }
-    takes_args(tree, text, scratch, f, call)
+    takes_call(tree, text, scratch, f, call)
 }
 
 fn find_functions_by_literals(
@@ -101,7 +101,7 @@ fn cast_type(tree: &[u8], text: &[u8], scratch: &[u8], call: Call, r: u32) -> Ca
     })
 }
 
-fn refuse(kind: ConvertErrorKind, place: u32) -> Resolved
+fn refuse_call(kind: ConvertErrorKind, place: u32) -> Resolved
     ensures { λ a. ⌜ a ≡ Resolved.Refused (record { kind = kind; place = place }) ⌝ }
 {
     Resolved::Refused(ConvertError { kind, place })
@@ -125,8 +125,8 @@ fn resolve_function(
     }
     match find_functions_by_literals(tree, text, scratch, functions, call) {
         Candidates::One(f) => Resolved::Function(f),
-        Candidates::Nobody => refuse(ConvertErrorKind::UnknownFunction, r),
-        Candidates::Several => refuse(ConvertErrorKind::AmbiguousCall, r),
+        Candidates::Nobody => refuse_call(ConvertErrorKind::UnknownFunction, r),
+        Candidates::Several => refuse_call(ConvertErrorKind::AmbiguousCall, r),
     }
 }
 

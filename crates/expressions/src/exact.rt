@@ -19,7 +19,7 @@ use crate::arguments::END;
 use crate::arguments::argument_type;
 use crate::arguments::next_cell;
 use crate::arguments::type_key;
-use crate::takes::takes_args;
+use crate::takes::takes_call;
 use keys::keys::find_key;
 use keys::keys::function_at;
 use keys::keys::is_mangled;
@@ -121,7 +121,7 @@ fn by_name(tree: &[u8], text: &[u8], scratch: &[u8], functions: usize, call: Cal
     ensures { λ r. ⌜ FunctionIs (now (tree .entry)) (now (text .entry)) r (byName (now (tree .entry)) (now (text .entry)) (now (scratch .entry)) call) ⌝ }
 {
     if let Found::At(f) = find_key(tree, text, scratch, call.verb) {
-        if takes_args(tree, text, scratch, f, call) {
+        if takes_call(tree, text, scratch, f, call) {
             return Found::At(f);
         }
     }

@@ -15,17 +15,25 @@ ghost use Rattle.texts.specs.Texts.{Numbered};
 ghost use Rattle.keys.specs.Keys.{allKeys};
 ghost use Rattle.expressions.specs.Slots.{Scoped, typeIn};
 ghost use Rattle.conversion.specs.ConvertError.{ok};
-ghost use Rattle.expressions.specs.Answers.{valueResult, IsCallee, Operands, TypeIs, FoundIs, Accepts, unaryTypeAt, commonAt, operandsErrorAt, binaryTypeAt};
+ghost use Rattle.expressions.specs.Answers.{valueResult, IsCallee, Operands, TypeIs, FoundIs, Accepts, unaryTypeAt, commonAt, binaryErrorAt, binaryTypeAt};
 use crate::answers::ExprType;
 use crate::answers::Resolved;
 use records::convert_error::ConvertError;
 use records::convert_error::ConvertErrorKind;
+use records::numbers::ADDRESS_OF_CHAR;
+use records::numbers::BIT_NOT;
+use records::numbers::BOOL_TYPE;
+use records::numbers::FLOAT_LONG;
+use records::numbers::FORM_INT;
 use records::numbers::KIND_BOOL;
 use records::numbers::KIND_FLOAT;
 use records::numbers::KIND_INT;
 use records::numbers::KIND_NAME;
 use records::numbers::KIND_NULL;
 use records::numbers::KIND_STR;
+use records::numbers::NOT;
+use records::numbers::NULL_TYPE;
+use records::numbers::UNSIGNED_LONG;
 use records::words::Found;
 use records::words::NONE;
 use records::words::WORD_A;
@@ -40,7 +48,6 @@ use scope::Scope;
 use texts::original;
 use types::fits::fits;
 use types::fits::range_error;
-use types::form::INT;
 use types::form::form;
 use types::form::is_number;
 use types::operators::ANY;
@@ -49,18 +56,7 @@ use types::operators::BOOLS;
 use types::operators::NUMBERS;
 use types::operators::operator_of;
 
-// The records of the types that literals, sizes and comparisons have.
-const UNSIGNED: usize = 2;
-
-const FLOAT_LONG: usize = 4;
-
-const BOOL_TYPE: usize = 6;
-
-const NULL_TYPE: usize = 9;
-
-const ADDRESS_OF_CHAR: usize = 10;
-
-pub(crate) fn refuse(kind: ConvertErrorKind, place: usize) -> ExprType
+pub(crate) fn refuse_type(kind: ConvertErrorKind, place: usize) -> ExprType
     requires { ⌜ place < 4294967296 ⌝ }
     ensures { λ a. ⌜ a ≡ ExprType.Refused (record { kind = kind; place = place }) ⌝ }
 {
@@ -85,19 +81,19 @@ fn accepts(tree: &[u8], text: &[u8], class: u8, ty: usize) -> bool
     if class == NUMBERS {
         return is_number(tree, ty);
     }
-    form(tree, ty) == INT
+    form(tree, ty) == FORM_INT
 }
 
-// Neg 0 takes numbers, BitNot 1 integers, Not 2 Bool.
+// Neg takes numbers, BitNot integers, Not Bool.
 fn accepts_unary(tree: &[u8], text: &[u8], op: u8, ty: usize) -> bool
     requires { ⌜ Good (now tree) (now text) ⌝ }
     requires { ⌜ TypeAt (now tree) ty ⌝ }
     ensures { λ r. ⌜ r ≡ acceptsUnary (program (now (tree .entry)) (now (text .entry))) (allKeys (now (tree .entry)) (now (text .entry))) (getD unaryOps op Neg) ty ⌝ }
 {
-    if op == 1 {
-        return form(tree, ty) == INT;
+    if op == BIT_NOT {
+        return form(tree, ty) == FORM_INT;
     }
-    if op == 2 {
+    if op == NOT {
         return ty == BOOL_TYPE;
     }
     is_number(tree, ty)
@@ -113,7 +109,7 @@ pub(crate) fn unary_type(tree: &[u8], text: &[u8], e: usize, ty: usize) -> ExprT
     if accepts_unary(tree, text, detail(tree, e), ty) {
         return ExprType::Is(ty);
     }
-    refuse(ConvertErrorKind::WrongOperands, e)
+    refuse_type(ConvertErrorKind::WrongOperands, e)
 }
 
 // Two operands, expressions with their types.
@@ -152,19 +148,19 @@ pub(crate) fn common_of(tree: &[u8], text: &[u8], s: Sides) -> Found
 
 // Where they take no common type that the Binary e accepts: a constant out of the other side's range, the right one
 // first, else WrongOperands.
-fn operands_error(tree: &[u8], text: &[u8], e: usize, s: Sides) -> ExprType
+fn binary_error(tree: &[u8], text: &[u8], e: usize, s: Sides) -> ExprType
     requires { ⌜ Good (now tree) (now text) ⌝ }
     requires { ⌜ Operands (now tree) s ⌝ }
     requires { ⌜ IsKind (now tree) kindBinary e ⌝ }
-    ensures { λ a. ⌜ TypeIs (now (tree .entry)) a (operandsErrorAt (now (tree .entry)) (now (text .entry)) e s) ⌝ }
+    ensures { λ a. ⌜ TypeIs (now (tree .entry)) a (binaryErrorAt (now (tree .entry)) (now (text .entry)) e s) ⌝ }
 {
     if range_error(tree, s.right, s.right_type, s.left_type) {
-        return refuse(ConvertErrorKind::LiteralOutOfRange, s.right);
+        return refuse_type(ConvertErrorKind::LiteralOutOfRange, s.right);
     }
     if range_error(tree, s.left, s.left_type, s.right_type) {
-        return refuse(ConvertErrorKind::LiteralOutOfRange, s.left);
+        return refuse_type(ConvertErrorKind::LiteralOutOfRange, s.left);
     }
-    refuse(ConvertErrorKind::WrongOperands, e)
+    refuse_type(ConvertErrorKind::WrongOperands, e)
 }
 
 // The type of the Binary e.
@@ -183,7 +179,7 @@ pub(crate) fn binary_type(tree: &[u8], text: &[u8], e: usize, s: Sides) -> ExprT
             return ExprType::Is(ty);
         }
     }
-    operands_error(tree, text, e, s)
+    binary_error(tree, text, e, s)
 }
 
 // The type of the Call e: what its callee gives back.
@@ -199,7 +195,7 @@ pub(crate) fn value_type(tree: &[u8], text: &[u8], e: usize, callee: Resolved) -
         Resolved::Function(f) => {
             let y = reference(tree, f, WORD_D);
             if y == NONE as usize {
-                return refuse(ConvertErrorKind::NoValue, e);
+                return refuse_type(ConvertErrorKind::NoValue, e);
             }
             ExprType::Is(y)
         }
@@ -230,7 +226,7 @@ fn literal_type(tree: &[u8], text: &[u8], e: usize) -> usize
     if k == KIND_NULL {
         return NULL_TYPE;
     }
-    UNSIGNED
+    UNSIGNED_LONG
 }
 
 // The type of the Name e, which is looked for by the lowest record with its text.
@@ -245,7 +241,7 @@ fn name_type(tree: &[u8], text: &[u8], scratch: &[u8], scope: Scope, e: usize) -
     let len = word(tree, o, WORD_B);
     match scope.find_variable(scratch, o, offset, len) {
         Known::Is(v, _) => ExprType::Is(v.1 as usize),
-        Known::Unknown => refuse(ConvertErrorKind::UnknownVariable, e),
+        Known::Unknown => refuse_type(ConvertErrorKind::UnknownVariable, e),
     }
 }
 

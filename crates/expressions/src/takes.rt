@@ -2,9 +2,10 @@
 ghost use mathlib.Core.Path.{_≡_};
 ghost use Prim.Native.Nat.{_<_};
 ghost use Rattle.records.specs.Good.{Good};
+ghost use Rattle.records.specs.Words.{none};
 ghost use Rattle.conversion.specs.Expressions.{takes-count};
 ghost use Rattle.syntax.specs.Places.{FunctionAt, ParamsAt, functionOf};
-ghost use Rattle.expressions.specs.Calls.{Argued, Called, TakesAt, takesAllAt, takesCall};
+ghost use Rattle.expressions.specs.Calls.{Argued, Called, TakesAt, takesArgsAt, takesCall};
 use crate::arguments::Argument;
 use crate::arguments::Call;
 use crate::arguments::END;
@@ -39,7 +40,7 @@ fn takes_count(tree: &[u8], text: &[u8], f: usize, count: usize) -> bool
 fn takes_arg(tree: &[u8], text: &[u8], scratch: &[u8], parameter: usize, cell: usize) -> bool
     requires { ⌜ Argued (now tree) (now text) (now scratch) cell ⌝ }
     requires { ⌜ ParamsAt (now tree) parameter ⌝ }
-    requires { ⌜ (cell ≡ 4294967295 → ⊥) × (parameter ≡ 4294967295 → ⊥) ⌝ }
+    requires { ⌜ (cell ≡ none → ⊥) × (parameter ≡ none → ⊥) ⌝ }
     ensures { λ r. ⌜ TakesAt (now (tree .entry)) (now (text .entry)) (now (scratch .entry)) parameter cell r ⌝ }
 {
     let ty = reference(tree, reference(tree, parameter, WORD_A), WORD_C);
@@ -49,11 +50,11 @@ fn takes_arg(tree: &[u8], text: &[u8], scratch: &[u8], parameter: usize, cell: u
     }
 }
 
-// The Rust's takes_args: arguments behind the parameters of a variadic are not looked at.
-fn takes_all(tree: &[u8], text: &[u8], scratch: &[u8], parameters: usize, first: usize) -> bool
+// Arguments behind the parameters of a variadic are not looked at.
+fn takes_args(tree: &[u8], text: &[u8], scratch: &[u8], parameters: usize, first: usize) -> bool
     requires { ⌜ Argued (now tree) (now text) (now scratch) first ⌝ }
     requires { ⌜ ParamsAt (now tree) parameters ⌝ }
-    ensures { λ r. ⌜ r ≡ takesAllAt (now (tree .entry)) (now (text .entry)) (now (scratch .entry)) parameters first ⌝ }
+    ensures { λ r. ⌜ r ≡ takesArgsAt (now (tree .entry)) (now (text .entry)) (now (scratch .entry)) parameters first ⌝ }
 {
     let mut parameter = parameters;
     let mut cell = first;
@@ -71,7 +72,7 @@ fn takes_all(tree: &[u8], text: &[u8], scratch: &[u8], parameters: usize, first:
 }
 
 // The Rust's takes_count and takes_args, which are always tested together.
-pub(crate) fn takes_args(tree: &[u8], text: &[u8], scratch: &[u8], f: usize, call: Call) -> bool
+pub(crate) fn takes_call(tree: &[u8], text: &[u8], scratch: &[u8], f: usize, call: Call) -> bool
     requires { ⌜ Called (now tree) (now text) (now scratch) call ⌝ }
     requires { ⌜ FunctionAt (now tree) f ⌝ }
     ensures { λ r. ⌜ r ≡ takesCall (now (tree .entry)) (now (text .entry)) (now (scratch .entry)) call (functionOf (now (tree .entry)) (now (text .entry)) f) ⌝ }
@@ -81,5 +82,5 @@ pub(crate) fn takes_args(tree: &[u8], text: &[u8], scratch: &[u8], f: usize, cal
     if !takes_count(tree, text, f, count) {
         return false;
     }
-    takes_all(tree, text, scratch, parameters_of(tree, text, f), first)
+    takes_args(tree, text, scratch, parameters_of(tree, text, f), first)
 }

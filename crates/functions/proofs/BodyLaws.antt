@@ -29,7 +29,7 @@ use Rattle.conversion.specs.Scope.{find-variable, withVariable}
 use Rattle.conversion.specs.Statements.{convert-block}
 use Rattle.conversion.specs.Visits.{blockVisits, bodyVisits}
 use Rattle.conversion.specs.Functions.{Pool, always-returns, convertBody, finished, convertFunction, convert-func}
-use Rattle.conversion.proofs.MonadLaws.{regroup, seq-is, pure-first}
+use Rattle.conversion.proofs.MonadLaws.{regroup, seq-is, after-none, pure-first}
 use Rattle.ir.specs.declared.structs.Counters.{Counters}
 use Rattle.ir.specs.declared.structs.NewVariable.{NewVariable}
 use Rattle.ir.specs.Amounts.{amount, Spent}
@@ -112,16 +112,11 @@ module _ {tree text : List ℕ} (good : Good tree text) {f : ℕ} (at : Function
 
 -- ---- the parameters' variables
 
-nothing-first : {X : Type 0} (o : Out X) → after [] o ≡ o
-unfolding after
-nothing-first (made a c s) = refl
-nothing-first (failed k r) = refl
-
 vars-run : (l : List Param) (s : State) → newVars l s ≡ made tt [] (withTypes l s)
 unfolding newVars _>>=_ bind after pure new-var
 vars-run [] s = rw (append-nil (s .vars)) refl
 vars-run (p ∷ l) s =
-    nothing-first (newVars l (withTypes (p ∷ []) s)) ∙ vars-run l (withTypes (p ∷ []) s)
+    after-none (newVars l (withTypes (p ∷ []) s)) ∙ vars-run l (withTypes (p ∷ []) s)
     ∙ rw (append-assoc (s .vars) (p .ty ∷ []) (map (λ (q : Param). q .ty) l)) refl
 
 -- the variables of a list of parameters
@@ -369,7 +364,7 @@ without-body tree text f p e = ap (λ (o : Option Block). convertFunction (progr
 
 from-made : {A B : Type 0} (a : A) (s : State) (g : A → M B) → bind (made a [] s) g ≡ g a s
 unfolding bind
-from-made a s g = nothing-first (g a s)
+from-made a s g = after-none (g a s)
 
 -- the block and what follows it, MissingReturn being at r
 abbrev blockThen : List ℕ → List ℕ → ℕ → ℕ → Def.Scope → M (Unit {0})

@@ -14,6 +14,7 @@ use Rattle.laws.specs.Splice.{splice}
 use Rattle.laws.proofs.Splices.{length-splice, splice-splice}
 use Rattle.records.specs.Words.{byteAt, wordAt, kindOf, records}
 use Rattle.records.specs.Good.{Good}
+use Rattle.records.proofs.WordLaws.{word-length}
 use Rattle.conversion.specs.Written.{bytesOf, word}
 use Rattle.records.proofs.Apart.{word-same, byte-apart, word-apart, word-back}
 use Rattle.texts.specs.Texts.{originalAt, textDigestAt, Numbered}
@@ -35,10 +36,6 @@ module _ (tree : List ℕ) (r : ℕ) where
   none-more e = rw (add-one r, ne-eqb (kindOf tree r) 25 e) (append-nil (recordsBelow tree r))
 
 -- ---- words one after the other
-
-word-length : (w : ℕ) → length (word w) ≡ 4
-unfolding word bytesOf
-word-length w = refl
 
 words-length : (l : List ℕ) → length (words l) ≡ 4 * length l
 unfolding words

@@ -27,7 +27,7 @@ use Rattle.ir.specs.declared.structs.VarId.{VarId}
 use Rattle.scope.specs.declared.Scope.{Scope}
 use Rattle.scope.specs.declared.Declared.{Declared}
 use Rattle.scope.specs.declared.Declared.the-variants as Declared
-use Rattle.scope.specs.Open.{variablesAt, loopNumber, scopeAt, variable, NameAfforded, Added, Taken, DeclareMeets}
+use Rattle.scope.specs.Open.{variablesAt, loopNumber, scopeAt, variableNamed, NameAfforded, Added, Taken, DeclareMeets}
 use Rattle.scope.proofs.ScopeLaws.{scope-more}
 use Rattle.functions.specs.declared.parameters.Parameters.{Parameters as Answered}
 use Rattle.functions.specs.declared.parameters.Parameters.the-variants as Answer
@@ -134,7 +134,7 @@ module _ (tree text s : List ℕ) (functions : ℕ) (sc : Scope) (ready : Ready 
     name-is : textAt text (originalWord tree s item A) (originalWord tree s item B) ≡ parameter .name
     name-is = origin-text item-asked
 
-    is-param : variable text (originalWord tree s item A) (originalWord tree s item B) v false ≡ parameterOf parameter (sc .names)
+    is-param : variableNamed text (originalWord tree s item A) (originalWord tree s item B) v false ≡ parameterOf parameter (sc .names)
     is-param = rw (name-is, e₀, e₁)
 
     module _ (s′ : List ℕ) where

@@ -9,20 +9,16 @@ use lib.ListN.{length, length-append}
 use Rattle.laws.specs.Fix.{pick}
 use Rattle.syntax.specs.Syntax.{Param}
 use Rattle.conversion.specs.ConvertError.{ConvertErrorKind, ok, err, AlreadyDeclared}
-use Rattle.conversion.specs.Ir.{State, Out, made, failed, after, bind, _>>=_, pure, fail, lift, new-var}
+use Rattle.conversion.specs.Ir.{State, made, failed, bind, _>>=_, pure, fail, lift, new-var}
 use Rattle.conversion.specs.Types.{isSome}
 use Rattle.conversion.specs.Scope.{Scope, find-variable, withVariable}
 use Rattle.conversion.specs.Functions.{declareParams}
+use Rattle.conversion.proofs.MonadLaws.{after-none}
 use Rattle.functions.specs.Parameters.{parameterOf, withParams}
 
 -- the state with the parameters' types behind those of the variables
 abbrev pub withTypes : List Param → State → State
 withTypes l s = record { vars = s .vars ++ map (λ (p : Param). p .ty) l; labels = s .labels; strings = s .strings; floats = s .floats }
-
-nothing-before : {X : Type 0} (o : Out X) → after [] o ≡ o
-unfolding after
-nothing-before (made a c s) = refl
-nothing-before (failed k r) = refl
 
 -- one parameter, after what is made of the others
 module _ (p : Param) (l : List Param) (S : Scope) (s : State) where
@@ -40,7 +36,7 @@ module _ (p : Param) (l : List Param) (S : Scope) (s : State) where
       ≡ lift (pick b (err AlreadyDeclared (p .recOf)) (withParams l (suc (length (s .vars))) next)) (withTypes (p ∷ l) s)
   unfolding pick fail lift bind _>>=_ new-var
   one-more true h = refl
-  one-more false h = nothing-before (declareParams l next grown) ∙ h ∙ rw (append-assoc (s .vars) (p .ty ∷ []) (map (λ (q : Param). q .ty) l)) refl
+  one-more false h = after-none (declareParams l next grown) ∙ h ∙ rw (append-assoc (s .vars) (p .ty ∷ []) (map (λ (q : Param). q .ty) l)) refl
 
 pub same-run : (l : List Param) (k : ℕ) (S : Scope) (s : State) → length (s .vars) ≡ k → declareParams l S s ≡ lift (withParams l k S) (withTypes l s)
 unfolding declareParams withParams pure lift

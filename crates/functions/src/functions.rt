@@ -23,6 +23,7 @@ use keys::parts::is_ascii;
 use keys::parts::is_main;
 use records::convert_error::ConvertError;
 use records::convert_error::ConvertErrorKind;
+use records::numbers::FORM_INT;
 use records::numbers::KIND_FUNCTION;
 use records::words::Found;
 use records::words::NONE;
@@ -30,7 +31,6 @@ use records::words::WORD_D;
 use records::words::kind;
 use records::words::put_word;
 use records::words::reference;
-use types::form::INT;
 use types::form::form;
 
 // How many functions there are.
@@ -39,7 +39,7 @@ pub enum AllFunctions {
     Refused(ConvertError),
 }
 
-fn refuse(kind: ConvertErrorKind, place: u32) -> Outcome
+fn refuse_function(kind: ConvertErrorKind, place: u32) -> Outcome
     ensures { λ r. ⌜ r ≡ Outcome.Refused (record { kind = kind; place = place }) ⌝ }
 {
     Outcome::Refused(ConvertError { kind, place })
@@ -65,7 +65,7 @@ fn list_functions(tree: &[u8], text: &[u8], scratch: &mut [u8]) -> usize
 }
 
 // One turn of get_all_functions: the j-th function against those before it, which are entered by their keys.
-fn add_function(tree: &[u8], text: &[u8], scratch: &[u8], count: usize, j: usize) -> Outcome
+fn check_function(tree: &[u8], text: &[u8], scratch: &[u8], count: usize, j: usize) -> Outcome
     requires { ⌜ Good (now tree) (now text) × Numbered (now tree) (now text) (now scratch) ⌝ }
     requires { ⌜ Listed (now tree) (now scratch) count ⌝ }
     requires { ⌜ (j < count) × KeySlots (now tree) (now text) (now scratch) (keysBelow (now tree) (now text) j) ⌝ }
@@ -75,18 +75,18 @@ fn add_function(tree: &[u8], text: &[u8], scratch: &[u8], count: usize, j: usize
     let name = name_of(tree, text, f);
     if is_mangled(tree, text, f) {
         if is_ascii(text, name) {
-            return refuse(ConvertErrorKind::LatinCharInNonLibCFunction, f as u32);
+            return refuse_function(ConvertErrorKind::LatinCharInNonLibCFunction, f as u32);
         }
         if let Found::At(_) = find_own_key(tree, text, scratch, f) {
-            return refuse(ConvertErrorKind::SameSignature, f as u32);
+            return refuse_function(ConvertErrorKind::SameSignature, f as u32);
         }
         return Outcome::Done;
     }
     if !is_ascii(text, name) {
-        return refuse(ConvertErrorKind::ExternNotLatin, f as u32);
+        return refuse_function(ConvertErrorKind::ExternNotLatin, f as u32);
     }
     if let Found::At(_) = find_own_key(tree, text, scratch, f) {
-        return refuse(ConvertErrorKind::SameSymbol, f as u32);
+        return refuse_function(ConvertErrorKind::SameSymbol, f as u32);
     }
     Outcome::Done
 }
@@ -102,7 +102,7 @@ pub fn get_all_functions(tree: &[u8], text: &[u8], scratch: &mut [u8]) -> AllFun
     clear_keys(scratch, tree.len() / 32);
     let mut j = 0;
     while j < count {
-        match add_function(tree, text, scratch, count, j) {
+        match check_function(tree, text, scratch, count, j) {
             Outcome::Refused(e) => return AllFunctions::Refused(e),
             Outcome::Done => {}
         }
@@ -139,7 +139,7 @@ fn returns_int(tree: &[u8], text: &[u8], f: usize) -> bool
     if ty == NONE as usize {
         return false;
     }
-    form(tree, ty) == INT
+    form(tree, ty) == FORM_INT
 }
 
 // The program has a `main` that returns an integer, or needs none.
@@ -159,11 +159,11 @@ pub fn check_main(
             if returns_int(tree, text, f) {
                 return Outcome::Done;
             }
-            refuse(ConvertErrorKind::MainNotInteger, f as u32)
+            refuse_function(ConvertErrorKind::MainNotInteger, f as u32)
         }
         Found::Nothing => {
             if needs_main {
-                return refuse(ConvertErrorKind::NoMain, NONE);
+                return refuse_function(ConvertErrorKind::NoMain, NONE);
             }
             Outcome::Done
         }

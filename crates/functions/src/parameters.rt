@@ -1,7 +1,7 @@
 // functions.rs: the parameters of a function, which stand in the scope of its body: where convert_func begins.
 ghost use mathlib.Core.Path.{_≡_};
 ghost use Prim.Native.Nat.{_+_, _<_};
-ghost use Rattle.records.specs.Words.{records};
+ghost use Rattle.records.specs.Words.{records, none};
 ghost use Rattle.syntax.specs.Places.{FunctionAt, ParamsAt};
 ghost use Rattle.keys.specs.Keys.{Keyed};
 ghost use Rattle.expressions.specs.Slots.{Ready};
@@ -52,7 +52,7 @@ fn declare_parameter(
 ) -> Parameters
     requires { ⌜ Ready (now tree) (now text) (now scratch) functions scope ⌝ }
     requires { ⌜ ParamsAt (now tree) cell ⌝ }
-    requires { ⌜ (cell ≡ 4294967295 → ⊥) × (scope .names + cell < records (now tree)) ⌝ }
+    requires { ⌜ (cell ≡ none → ⊥) × (scope .names + cell < records (now tree)) ⌝ }
     ensures { λ a. ⌜ OneMore (now (tree .entry)) (now (text .entry)) functions scope (parameterIn (now (tree .entry)) (now (text .entry)) cell) (now (scratch .entry)) (now (scratch .exit)) a ⌝ }
     ensures turns { λ _. ⌜ TurnsStay (now (tree .entry)) (now (scratch .entry)) (now (scratch .exit)) ⌝ }
 {

@@ -24,14 +24,14 @@ abbrev pub valueOf : Int128 → ℤ
 valueOf x = toZ w128 (bitsOf x)
 
 -- the number that an answer holds, if any
-abbrev pub answerOf : Checked → Option ℤ
-answerOf (Value x) = some (valueOf x)
-answerOf Nothing = none
+abbrev pub checkedOf : Checked → Option ℤ
+checkedOf (Value x) = some (valueOf x)
+checkedOf Nothing = none
 
-abbrev pub wordOf : CheckedU64 → Option ℤ
-wordOf (U64.Value x) = some (pos x)
-wordOf U64.Nothing = none
+abbrev pub checkedU64Of : CheckedU64 → Option ℤ
+checkedU64Of (U64.Value x) = some (pos x)
+checkedU64Of U64.Nothing = none
 
-abbrev pub longOf : CheckedI64 → Option ℤ
-longOf (I64.Value x) = some x
-longOf I64.Nothing = none
+abbrev pub checkedI64Of : CheckedI64 → Option ℤ
+checkedI64Of (I64.Value x) = some x
+checkedI64Of I64.Nothing = none

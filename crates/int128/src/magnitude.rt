@@ -3,7 +3,7 @@ ghost use mathlib.Core.Path.{_≡_};
 ghost use mathlib.Core.Bool.{not};
 ghost use lib.IntN.{natAbs};
 ghost use lib.Signed.{nonNeg};
-ghost use Rattle.int128.specs.Value.{bitsOf, valueOf, answerOf};
+ghost use Rattle.int128.specs.Value.{bitsOf, valueOf, checkedOf};
 ghost use Rattle.int128.specs.Ops.{exact, signedOf};
 use super::Checked;
 use super::Int128;
@@ -35,7 +35,7 @@ pub(crate) fn magnitude(x: Int128) -> Int128
 
 // The magnitude with a sign, where it lies in the range: up to 2^127 - 1, or 2^127 below 0.
 pub(crate) fn signed(x: Int128, below: bool) -> Checked
-    ensures { λ r. ⌜ answerOf r ≡ exact (signedOf below (bitsOf x)) ⌝ }
+    ensures { λ r. ⌜ checkedOf r ≡ exact (signedOf below (bitsOf x)) ⌝ }
 {
     if x.hi < SIGN {
         if below {

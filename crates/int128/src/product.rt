@@ -1,7 +1,7 @@
 // The product: of two words, of a word and a magnitude, of two magnitudes, and with signs.
 ghost use mathlib.Core.Path.{_≡_};
 ghost use Prim.Native.Nat.{_*_};
-ghost use Rattle.int128.specs.Value.{bitsOf, valueOf, answerOf};
+ghost use Rattle.int128.specs.Value.{bitsOf, valueOf, checkedOf};
 ghost use Rattle.int128.specs.Ops.{mulOf};
 ghost use Rattle.int128.specs.Magnitude.{IsProduct};
 use super::Checked;
@@ -70,7 +70,7 @@ fn mul_bits(a: Int128, b: Int128) -> Product
 
 impl Int128 {
     pub fn checked_mul(self, other: Int128) -> Checked
-        ensures { λ r. ⌜ answerOf r ≡ mulOf (valueOf self) (valueOf other) ⌝ }
+        ensures { λ r. ⌜ checkedOf r ≡ mulOf (valueOf self) (valueOf other) ⌝ }
     {
         match mul_bits(magnitude(self), magnitude(other)) {
             Product::Fits(p) => signed(p, negative(self) != negative(other)),

@@ -4,7 +4,7 @@
 ghost use mathlib.Core.Path.{_≡_};
 ghost use Prim.Native.Nat.{_+_, _-_, _*_, _/_, _%_, _^_, _≤_, _<_};
 ghost use lib.Dec.{eqb, leb};
-ghost use Rattle.int128.specs.Value.{bitsOf, valueOf, answerOf};
+ghost use Rattle.int128.specs.Value.{bitsOf, valueOf, checkedOf};
 ghost use Rattle.int128.specs.Ops.{divOf, remOf};
 use super::Checked;
 use super::Int128;
@@ -192,7 +192,7 @@ fn is_zero(x: Int128) -> bool
 impl Int128 {
     // Cut towards zero.
     pub fn checked_div(self, other: Int128) -> Checked
-        ensures { λ r. ⌜ answerOf r ≡ divOf (valueOf self) (valueOf other) ⌝ }
+        ensures { λ r. ⌜ checkedOf r ≡ divOf (valueOf self) (valueOf other) ⌝ }
     {
         let d = magnitude(other);
         if is_zero(d) {
@@ -204,7 +204,7 @@ impl Int128 {
 
     // With the sign of self. Where the quotient does not fit there is no remainder either.
     pub fn checked_rem(self, other: Int128) -> Checked
-        ensures { λ r. ⌜ answerOf r ≡ remOf (valueOf self) (valueOf other) ⌝ }
+        ensures { λ r. ⌜ checkedOf r ≡ remOf (valueOf self) (valueOf other) ⌝ }
     {
         let d = magnitude(other);
         if is_zero(d) {

@@ -1,7 +1,7 @@
 // Left and right shifts. A count of 128 or more, or below 0, gives nothing.
 ghost use mathlib.Core.Path.{_≡_};
 ghost use Prim.Native.Nat.{_*_, _/_, _%_, _^_, _<_};
-ghost use Rattle.int128.specs.Value.{bitsOf, valueOf, answerOf};
+ghost use Rattle.int128.specs.Value.{bitsOf, valueOf, checkedOf};
 ghost use Rattle.int128.specs.Ops.{shlOf, shrOf, byCount};
 use super::Checked;
 use super::Int128;
@@ -53,7 +53,7 @@ pub(crate) fn shr_bits(x: Int128, n: u32) -> Int128
 
 impl Int128 {
     pub fn checked_shl(self, n: u32) -> Checked
-        ensures { λ r. ⌜ answerOf r ≡ shlOf (valueOf self) n ⌝ }
+        ensures { λ r. ⌜ checkedOf r ≡ shlOf (valueOf self) n ⌝ }
     {
         if n < 128 {
             return Checked::Value(shl_bits(self, n));
@@ -63,7 +63,7 @@ impl Int128 {
 
     // Below 0 the complement is shifted, so that ones come from the top.
     pub fn checked_shr(self, n: u32) -> Checked
-        ensures { λ r. ⌜ answerOf r ≡ shrOf (valueOf self) n ⌝ }
+        ensures { λ r. ⌜ checkedOf r ≡ shrOf (valueOf self) n ⌝ }
     {
         if n < 128 {
             if self.hi < SIGN {
@@ -76,7 +76,7 @@ impl Int128 {
 
     // The same by a count of 128 bits.
     pub fn checked_shl_by(self, count: Int128) -> Checked
-        ensures { λ r. ⌜ answerOf r ≡ byCount (shlOf (valueOf self)) (valueOf count) ⌝ }
+        ensures { λ r. ⌜ checkedOf r ≡ byCount (shlOf (valueOf self)) (valueOf count) ⌝ }
     {
         if count.hi == 0 {
             if count.lo < 128 {
@@ -87,7 +87,7 @@ impl Int128 {
     }
 
     pub fn checked_shr_by(self, count: Int128) -> Checked
-        ensures { λ r. ⌜ answerOf r ≡ byCount (shrOf (valueOf self)) (valueOf count) ⌝ }
+        ensures { λ r. ⌜ checkedOf r ≡ byCount (shrOf (valueOf self)) (valueOf count) ⌝ }
     {
         if count.hi == 0 {
             if count.lo < 128 {

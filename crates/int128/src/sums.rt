@@ -2,7 +2,7 @@
 ghost use mathlib.Core.Path.{_≡_};
 ghost use Prim.Native.Nat.{_+_, _*_, _≤_, _^_};
 ghost use lib.IntN.{pos, _+ℤ_};
-ghost use Rattle.int128.specs.Value.{valueOf, answerOf};
+ghost use Rattle.int128.specs.Value.{valueOf, checkedOf};
 ghost use Rattle.int128.specs.Ops.{exact, addOf, subOf, negOf, notOf};
 use super::Checked;
 use super::Int128;
@@ -44,7 +44,7 @@ fn add_half(a: u64, b: u64, carry: u64) -> Half
 // The sum of two numbers and a carry of 0 or 1. It passes the range only where both have one sign and the bits of the sum the other.
 fn sum(a: Int128, b: Int128, carry: u64) -> Checked
     requires { ⌜ carry ≤ 1 ⌝ }
-    ensures { λ r. ⌜ answerOf r ≡ exact (valueOf a +ℤ valueOf b +ℤ pos carry) ⌝ }
+    ensures { λ r. ⌜ checkedOf r ≡ exact (valueOf a +ℤ valueOf b +ℤ pos carry) ⌝ }
 {
     let low = add_half(a.lo, b.lo, carry);
     let high = add_half(a.hi, b.hi, low.carry);
@@ -83,21 +83,21 @@ impl Int128 {
     }
 
     pub fn checked_add(self, other: Int128) -> Checked
-        ensures { λ r. ⌜ answerOf r ≡ addOf (valueOf self) (valueOf other) ⌝ }
+        ensures { λ r. ⌜ checkedOf r ≡ addOf (valueOf self) (valueOf other) ⌝ }
     {
         sum(self, other, 0)
     }
 
     // a - b is a + !b + 1.
     pub fn checked_sub(self, other: Int128) -> Checked
-        ensures { λ r. ⌜ answerOf r ≡ subOf (valueOf self) (valueOf other) ⌝ }
+        ensures { λ r. ⌜ checkedOf r ≡ subOf (valueOf self) (valueOf other) ⌝ }
     {
         sum(self, other.not(), 1)
     }
 
     // -a is 0 + !a + 1.
     pub fn checked_neg(self) -> Checked
-        ensures { λ r. ⌜ answerOf r ≡ negOf (valueOf self) ⌝ }
+        ensures { λ r. ⌜ checkedOf r ≡ negOf (valueOf self) ⌝ }
     {
         sum(Int128::from_u64(0), self.not(), 1)
     }

@@ -3,7 +3,7 @@ ghost use mathlib.Core.Path.{_≡_};
 ghost use lib.IntN.{pos};
 ghost use mir.Syntax.{w64};
 ghost use mir.Val.{toZ};
-ghost use Rattle.int128.specs.Value.{valueOf, wordOf, longOf};
+ghost use Rattle.int128.specs.Value.{valueOf, checkedU64Of, checkedI64Of};
 ghost use Rattle.int128.specs.Ops.{toU64Of, toI64Of};
 use super::Int128;
 ghost use Rattle.int128.specs.Ops.{toU64Of, toI64Of};
@@ -57,7 +57,7 @@ impl Int128 {
     }
 
     pub fn to_u64(self) -> CheckedU64
-        ensures { λ r. ⌜ wordOf r ≡ toU64Of (valueOf self) ⌝ }
+        ensures { λ r. ⌜ checkedU64Of r ≡ toU64Of (valueOf self) ⌝ }
     {
         if self.hi == 0 {
             return CheckedU64::Value(self.lo);
@@ -66,7 +66,7 @@ impl Int128 {
     }
 
     pub fn to_i64(self) -> CheckedI64
-        ensures { λ r. ⌜ longOf r ≡ toI64Of (valueOf self) ⌝ }
+        ensures { λ r. ⌜ checkedI64Of r ≡ toI64Of (valueOf self) ⌝ }
     {
         if self.hi == 0 {
             if self.lo < SIGN {

@@ -4,7 +4,7 @@ ghost use Rattle.int128.specs.Ops.{addOf, subOf, mulOf, divOf, remOf, negOf, no
 ghost use lib.Signed.{ltZ};
 ghost use mathlib.Core.Option.{some};
 ghost use mathlib.Core.Path.{_≡_};
-ghost use Rattle.int128.specs.Value.{answerOf};
+ghost use Rattle.int128.specs.Value.{checkedOf};
 ghost use Rattle.int128_c.specs.Words.{valueIn, answerIn};
 use int128::Checked;
 use int128::Int128;
@@ -35,7 +35,7 @@ pub extern "C" fn int128_c_add(
     hi: &mut u64,
     lo: &mut u64,
 ) -> bool
-    ensures { λ r. ⌜ answerOf (answerIn r (now (hi .exit)) (now (lo .exit))) ≡ addOf (valueIn ah al) (valueIn bh bl) ⌝ }
+    ensures { λ r. ⌜ checkedOf (answerIn r (now (hi .exit)) (now (lo .exit))) ≡ addOf (valueIn ah al) (valueIn bh bl) ⌝ }
 {
     let a = Int128 { hi: ah, lo: al };
     let b = Int128 { hi: bh, lo: bl };
@@ -51,7 +51,7 @@ pub extern "C" fn int128_c_sub(
     hi: &mut u64,
     lo: &mut u64,
 ) -> bool
-    ensures { λ r. ⌜ answerOf (answerIn r (now (hi .exit)) (now (lo .exit))) ≡ subOf (valueIn ah al) (valueIn bh bl) ⌝ }
+    ensures { λ r. ⌜ checkedOf (answerIn r (now (hi .exit)) (now (lo .exit))) ≡ subOf (valueIn ah al) (valueIn bh bl) ⌝ }
 {
     let a = Int128 { hi: ah, lo: al };
     let b = Int128 { hi: bh, lo: bl };
@@ -67,7 +67,7 @@ pub extern "C" fn int128_c_mul(
     hi: &mut u64,
     lo: &mut u64,
 ) -> bool
-    ensures { λ r. ⌜ answerOf (answerIn r (now (hi .exit)) (now (lo .exit))) ≡ mulOf (valueIn ah al) (valueIn bh bl) ⌝ }
+    ensures { λ r. ⌜ checkedOf (answerIn r (now (hi .exit)) (now (lo .exit))) ≡ mulOf (valueIn ah al) (valueIn bh bl) ⌝ }
 {
     let a = Int128 { hi: ah, lo: al };
     let b = Int128 { hi: bh, lo: bl };
@@ -83,7 +83,7 @@ pub extern "C" fn int128_c_div(
     hi: &mut u64,
     lo: &mut u64,
 ) -> bool
-    ensures { λ r. ⌜ answerOf (answerIn r (now (hi .exit)) (now (lo .exit))) ≡ divOf (valueIn ah al) (valueIn bh bl) ⌝ }
+    ensures { λ r. ⌜ checkedOf (answerIn r (now (hi .exit)) (now (lo .exit))) ≡ divOf (valueIn ah al) (valueIn bh bl) ⌝ }
 {
     let a = Int128 { hi: ah, lo: al };
     let b = Int128 { hi: bh, lo: bl };
@@ -99,7 +99,7 @@ pub extern "C" fn int128_c_rem(
     hi: &mut u64,
     lo: &mut u64,
 ) -> bool
-    ensures { λ r. ⌜ answerOf (answerIn r (now (hi .exit)) (now (lo .exit))) ≡ remOf (valueIn ah al) (valueIn bh bl) ⌝ }
+    ensures { λ r. ⌜ checkedOf (answerIn r (now (hi .exit)) (now (lo .exit))) ≡ remOf (valueIn ah al) (valueIn bh bl) ⌝ }
 {
     let a = Int128 { hi: ah, lo: al };
     let b = Int128 { hi: bh, lo: bl };
@@ -115,7 +115,7 @@ pub extern "C" fn int128_c_and(
     hi: &mut u64,
     lo: &mut u64,
 ) -> bool
-    ensures { λ r. ⌜ answerOf (answerIn r (now (hi .exit)) (now (lo .exit))) ≡ some (andOf (valueIn ah al) (valueIn bh bl)) ⌝ }
+    ensures { λ r. ⌜ checkedOf (answerIn r (now (hi .exit)) (now (lo .exit))) ≡ some (andOf (valueIn ah al) (valueIn bh bl)) ⌝ }
 {
     let a = Int128 { hi: ah, lo: al };
     let b = Int128 { hi: bh, lo: bl };
@@ -131,7 +131,7 @@ pub extern "C" fn int128_c_or(
     hi: &mut u64,
     lo: &mut u64,
 ) -> bool
-    ensures { λ r. ⌜ answerOf (answerIn r (now (hi .exit)) (now (lo .exit))) ≡ some (orOf (valueIn ah al) (valueIn bh bl)) ⌝ }
+    ensures { λ r. ⌜ checkedOf (answerIn r (now (hi .exit)) (now (lo .exit))) ≡ some (orOf (valueIn ah al) (valueIn bh bl)) ⌝ }
 {
     let a = Int128 { hi: ah, lo: al };
     let b = Int128 { hi: bh, lo: bl };
@@ -147,7 +147,7 @@ pub extern "C" fn int128_c_xor(
     hi: &mut u64,
     lo: &mut u64,
 ) -> bool
-    ensures { λ r. ⌜ answerOf (answerIn r (now (hi .exit)) (now (lo .exit))) ≡ some (xorOf (valueIn ah al) (valueIn bh bl)) ⌝ }
+    ensures { λ r. ⌜ checkedOf (answerIn r (now (hi .exit)) (now (lo .exit))) ≡ some (xorOf (valueIn ah al) (valueIn bh bl)) ⌝ }
 {
     let a = Int128 { hi: ah, lo: al };
     let b = Int128 { hi: bh, lo: bl };
@@ -163,7 +163,7 @@ pub extern "C" fn int128_c_shl(
     hi: &mut u64,
     lo: &mut u64,
 ) -> bool
-    ensures { λ r. ⌜ answerOf (answerIn r (now (hi .exit)) (now (lo .exit))) ≡ byCount (shlOf (valueIn ah al)) (valueIn bh bl) ⌝ }
+    ensures { λ r. ⌜ checkedOf (answerIn r (now (hi .exit)) (now (lo .exit))) ≡ byCount (shlOf (valueIn ah al)) (valueIn bh bl) ⌝ }
 {
     let a = Int128 { hi: ah, lo: al };
     let b = Int128 { hi: bh, lo: bl };
@@ -179,7 +179,7 @@ pub extern "C" fn int128_c_shr(
     hi: &mut u64,
     lo: &mut u64,
 ) -> bool
-    ensures { λ r. ⌜ answerOf (answerIn r (now (hi .exit)) (now (lo .exit))) ≡ byCount (shrOf (valueIn ah al)) (valueIn bh bl) ⌝ }
+    ensures { λ r. ⌜ checkedOf (answerIn r (now (hi .exit)) (now (lo .exit))) ≡ byCount (shrOf (valueIn ah al)) (valueIn bh bl) ⌝ }
 {
     let a = Int128 { hi: ah, lo: al };
     let b = Int128 { hi: bh, lo: bl };
@@ -188,7 +188,7 @@ pub extern "C" fn int128_c_shr(
 
 #[no_mangle]
 pub extern "C" fn int128_c_neg(ah: u64, al: u64, hi: &mut u64, lo: &mut u64) -> bool
-    ensures { λ r. ⌜ answerOf (answerIn r (now (hi .exit)) (now (lo .exit))) ≡ negOf (valueIn ah al) ⌝ }
+    ensures { λ r. ⌜ checkedOf (answerIn r (now (hi .exit)) (now (lo .exit))) ≡ negOf (valueIn ah al) ⌝ }
 {
     let a = Int128 { hi: ah, lo: al };
     put(a.checked_neg(), hi, lo)
@@ -196,7 +196,7 @@ pub extern "C" fn int128_c_neg(ah: u64, al: u64, hi: &mut u64, lo: &mut u64) -> 
 
 #[no_mangle]
 pub extern "C" fn int128_c_not(ah: u64, al: u64, hi: &mut u64, lo: &mut u64) -> bool
-    ensures { λ r. ⌜ answerOf (answerIn r (now (hi .exit)) (now (lo .exit))) ≡ some (notOf (valueIn ah al)) ⌝ }
+    ensures { λ r. ⌜ checkedOf (answerIn r (now (hi .exit)) (now (lo .exit))) ≡ some (notOf (valueIn ah al)) ⌝ }
 {
     let a = Int128 { hi: ah, lo: al };
     put(Checked::Value(a.not()), hi, lo)

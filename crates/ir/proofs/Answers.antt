@@ -13,7 +13,8 @@ use Rattle.records.specs.Digest.{digestOf}
 use Rattle.records.specs.Words.{wordAt, textAt}
 use Rattle.conversion.specs.Ir as Ir
 use Rattle.conversion.specs.Ir.{State, LabelName, FloatEntry, emit, new-var, label-id, string-id, float-id, numbered, position, sameLabel, sameText, sameFloat}
-use Rattle.conversion.specs.Written.{bytesOf, word, wide, boolNumber, encodeInstr, encodeFields, encodeVar, encodeLabel, encodeString, encodeFloat, allVars, allLabels}
+use Rattle.conversion.specs.Written.{bytesOf, word, boolNumber, encodeInstr, encodeVar, encodeLabel, encodeString, encodeFloat, allVars, allLabels}
+use Rattle.conversion.proofs.Bytes.{instr-length, float-length}
 use Rattle.ir.specs.declared.structs.Counters.{Counters}
 use Rattle.ir.specs.declared.structs.Instr.{Instr}
 use Rattle.ir.specs.declared.structs.Fields.{Fields}
@@ -26,16 +27,12 @@ use Rattle.ir.specs.Arena.{encodeDigest, TablesSoFar, HasSlot, labelSlot
 use Rattle.records.specs.declared.words.Found.{Found}
 use Rattle.records.specs.declared.words.Found.the-variants.{At, Nothing}
 use Rattle.ir.specs.Search.{first, foundOf, labelIs, stringIs, fourAt, Walks, headFor}
-use Rattle.ir.specs.Steps.{grown, Stands, Next, NextIn, moreInstructions, moreVariables, moreLabels, moreStrings, moreFloats, WroteTwo, WroteThree, Emits, AddsVar, named, NumbersLabel, stringAt, NumbersString, NumbersFloat}
+use Rattle.ir.specs.Steps.{grown, Stands, Next, NextIn, moreInstructions, moreVariables, moreLabels, moreStrings, moreFloats, WroteTwo, WroteThree, Emits, AddsVar, named, NumbersLabel, entryOfString, NumbersString, NumbersFloat}
 use Rattle.ir.proofs.Entries.{written-length}
 use Rattle.ir.proofs.Kept.{withLabel, withString, withFloat, no-code, emit-holds, var-holds, slot-holds, label-holds, string-holds, float-holds, written-word}
 use Rattle.ir.proofs.ReadBack.{label-here, label-nowhere, strings-read, float-start, float-here, float-gone}
 use Rattle.ir.proofs.SearchLaws.{found-some, found-none}
 use Rattle.records.proofs.WordLaws.{wide-words}
-
-instr-length : (i : Ir.Instr) → length (encodeInstr i) ≡ 32
-unfolding encodeInstr encodeFields word wide bytesOf
-instr-length i = refl
 
 -- what the counters asked for would spend, these spend
 same-spent : {k k′ want : Counters} {a : Amount} → Spent k want a → k′ ≡ want → Spent k k′ a
@@ -148,14 +145,14 @@ module _ (kind opener : ℕ) (k : Counters) (l : List ℕ) (room : Room k l) (at
 
 module _ (text : List ℕ) (offset len d : ℕ) (ed : d ≡ digestOf (textAt text offset len)) (k : Counters) (l : List ℕ) (r : PoolNumber) (room : Room k l) where
   pub string-found : (i : ℕ) → first (k .strings) (stringIs text l (k .records) d (textAt text offset len)) 0 ≡ some i → r .number ≡ i → r .counters ≡ k
-      → NumbersString text (stringAt text offset len) k l r l
+      → NumbersString text (entryOfString text offset len) k l r l
   unfolding string-id
   string-found i q e ek = record {
-    next = subst (λ (k′ : Counters). NextIn text (string-id (stringAt text offset len)) k l (r .number) k′ l) (sym ek) (record {
+    next = subst (λ (k′ : Counters). NextIn text (string-id (entryOfString text offset len)) k l (r .number) k′ l) (sym ek) (record {
       room = room;
       records = refl;
       stands = λ t h. found text t k l room h (position (λ y. sameText (textAt text offset len) (y .text)) (t .state .strings))
-          (withString (stringAt text offset len) (t .state)) (length (t .state .strings)) i (r .number) (sym (strings-read text t k l h (textAt text offset len) d ed) ∙ q) e;
+          (withString (entryOfString text offset len) (t .state)) (length (t .state .strings)) i (r .number) (sym (strings-read text t k l h (textAt text offset len) d ed) ∙ q) e;
     });
     spent = same-spent (omega arith) ek;
     entry = inr (record { counts = ek; same = refl });
@@ -164,24 +161,24 @@ module _ (text : List ℕ) (offset len d : ℕ) (ed : d ≡ digestOf (textAt tex
   pub string-new : (l′ : List ℕ) → k .strings < k .records → offset < 2 ^ 32 → len < 2 ^ 32
       → first (k .strings) (stringIs text l (k .records) d (textAt text offset len)) 0 ≡ none → r .number ≡ k .strings
       → WroteTwo l (196 * k .records + 8 * k .strings) (word offset ++ word len) (236 * k .records + 4 * k .strings) (word d) (moreStrings k) (r .counters) l′
-      → NumbersString text (stringAt text offset len) k l r l′
+      → NumbersString text (entryOfString text offset len) k l r l′
   unfolding string-id encodeString encodeDigest word bytesOf
   string-new l′ small ho hn q en m =
       let at : ℕ = 196 * k .records + 8 * k .strings in
-      let vs : List ℕ = encodeString (stringAt text offset len) in
+      let vs : List ℕ = encodeString (entryOfString text offset len) in
       let at₂ : ℕ = 236 * k .records + 4 * k .strings in
-      let ds : List ℕ = encodeDigest (stringAt text offset len) in
+      let ds : List ℕ = encodeDigest (entryOfString text offset len) in
       let e : l′ ≡ splice (splice l at vs) at₂ ds = m .wrote ∙ ap (λ (x : ℕ). splice (splice l at vs) at₂ (word x)) ed in
       let first-long : length (splice l at vs) ≡ length l = written-length l at vs (splice l at vs) refl (omega (arith, room .arena)) in
       let same : length l′ ≡ length l = written-length (splice l at vs) at₂ ds l′ e (omega (arith, room .arena, first-long)) ∙ first-long in record {
-        next = subst (λ (k′ : Counters). NextIn text (string-id (stringAt text offset len)) k l (r .number) k′ l′) (sym (m .counts)) (record {
+        next = subst (λ (k′ : Counters). NextIn text (string-id (entryOfString text offset len)) k l (r .number) k′ l′) (sym (m .counts)) (record {
           room = omega (arith, room, same);
           records = refl;
           stands = λ t h.
               added text t (moreStrings k) l′ (position (λ y. sameText (textAt text offset len) (y .text)) (t .state .strings))
-              (withString (stringAt text offset len) (t .state)) (length (t .state .strings)) (r .number) (sym (strings-read text t k l h (textAt text offset len) d ed) ∙ q)
+              (withString (entryOfString text offset len) (t .state)) (length (t .state .strings)) (r .number) (sym (strings-read text t k l h (textAt text offset len) d ed) ∙ q)
               (en ∙ h .strings-hold .count)
-              (string-holds text t k l room h (stringAt text offset len) (splice l at vs) l′ (record { offset = ho; len = hn; stands = refl }) small refl e);
+              (string-holds text t k l room h (entryOfString text offset len) (splice l at vs) l′ (record { offset = ho; len = hn; stands = refl }) small refl e);
         });
         spent = same-spent (omega arith) (m .counts);
         entry = inl (record { counts = m .counts; wrote = e });
@@ -195,22 +192,18 @@ unfolding encodeFloat
 float-bytes e a b c ea eb ec =
     rw (ea, eb, ec) (ap (λ (z : List ℕ). z ++ word (boolNumber (e .short)) ++ word 0) (sym (wide-words (e .bits))))
 
-float-length : (e : FloatEntry) → length (encodeFloat e) ≡ 16
-unfolding encodeFloat word wide bytesOf
-float-length e = refl
-
 -- ---- as the code meets them: what a search answered
 
 module _ (text : List ℕ) (offset len d : ℕ) (k : Counters) (l : List ℕ) (a : Found) (room : Room k l) (ed : d ≡ digestOf (textAt text offset len))
     (e : a ≡ foundOf (first (k .strings) (stringIs text l (k .records) d (textAt text offset len)) 0)) where
-  pub string-at : (r : PoolNumber) (i : ℕ) → a ≡ At i → r .number ≡ i → r .counters ≡ k → NumbersString text (stringAt text offset len) k l r l
+  pub string-at : (r : PoolNumber) (i : ℕ) → a ≡ At i → r .number ≡ i → r .counters ≡ k → NumbersString text (entryOfString text offset len) k l r l
   string-at r i q ex ek =
       string-found text offset len d ed k l r room i (found-some (first (k .strings) (stringIs text l (k .records) d (textAt text offset len)) 0) i a e q) ex ek
 
   pub string-nowhere : (l′ : List ℕ) (r : PoolNumber) → k .strings < k .records → offset < 2 ^ 32 → len < 2 ^ 32 → a ≡ Nothing
       → (r .number ≡ k .strings)
       × WroteTwo l (196 * k .records + 8 * k .strings) (word offset ++ word len) (236 * k .records + 4 * k .strings) (word d) (moreStrings k) (r .counters) l′
-      → NumbersString text (stringAt text offset len) k l r l′
+      → NumbersString text (entryOfString text offset len) k l r l′
   string-nowhere l′ r small ho hn q m =
       string-new text offset len d ed k l r room l′ small ho hn (found-none (first (k .strings) (stringIs text l (k .records) d (textAt text offset len)) 0) a e q) (m .0) (m .1)
 

@@ -17,7 +17,7 @@ use Rattle.conversion.specs.Written.{boolNumber}
 use Rattle.ir.specs.declared.structs.Counters.{Counters}
 use Rattle.ir.specs.declared.pool.PoolNumber.{PoolNumber}
 use Rattle.ir.specs.Arena.{TablesSoFar, noFloat, Holds, Room}
-use Rattle.ir.specs.Floats.{bitsOf, entry, entryOfFloat}
+use Rattle.ir.specs.Floats.{bitsOfFloat, entry, entryOfFloat}
 use Rattle.ir.specs.declared.floats.FloatEntry as Code
 use Rattle.ir.specs.declared.floats.FloatBits.the-variants.{Number, Nan}
 use Rattle.ir.specs.Steps.{grown, Stands, Next, NumbersFloat}
@@ -101,7 +101,7 @@ float-made e text t k l r l′ h m =
 -- a number: the bits of its f64; a NaN: the bits that it came with
 module _ (text : List ℕ) (t : TablesSoFar) (k : Counters) (l : List ℕ) (r : PoolNumber) (l′ : List ℕ) (h : Holds text t k l) where
   pub number-made : (f : Code.FloatEntry) → NumbersFloat (entryOfFloat (Number f)) k l r l′
-      → FloatAt l′ (204 * k .records + 16 * r .number) (entry (bitsOf (f .value)) (f .short))
+      → FloatAt l′ (204 * k .records + 16 * r .number) (entry (bitsOfFloat (f .value)) (f .short))
   unfolding entryOfFloat
   number-made f m = float-made (entryOfFloat (Number f)) text t k l r l′ h m
 

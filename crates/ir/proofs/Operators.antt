@@ -29,17 +29,13 @@ past (x ∷ xs) d zero h = absurd (omega arith)
 past (x ∷ xs) d (suc k) h = past xs d k (omega arith)
 
 pub unary-in : (k : ℕ) → k < 3 → k ≡ unaryNumber (getD unaryOps k Neg)
-unfolding unaryNumber
 unary-in k h = omega (arith, at unaryNumber unaryOps Neg 0 k refl h)
 
 pub unary-out : (k : ℕ) → 3 ≤ k → 0 ≡ unaryNumber (getD unaryOps k Neg)
-unfolding unaryNumber
 unary-out k h = rw (past unaryOps Neg k h)
 
 pub binary-in : (k : ℕ) → k < 18 → k ≡ binaryNumber (getD binaryOps k Or)
-unfolding binaryNumber
 binary-in k h = omega (arith, at binaryNumber binaryOps Or 0 k refl h)
 
 pub binary-out : (k : ℕ) → 18 ≤ k → 0 ≡ binaryNumber (getD binaryOps k Or)
-unfolding binaryNumber
 binary-out k h = rw (past binaryOps Or k h)

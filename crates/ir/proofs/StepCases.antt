@@ -1,10 +1,9 @@
 -- A step put another way: equal at every state, or the branch that is taken of a choice. What the one owes the other owes.
 -- By the equation at the tables' state; a choice by cases of its test or of the type. Assumes nothing.
 use mathlib.Core.Path.{_≡_, refl, sym, ap, _∙_, subst}
-use mathlib.Core.Bool.{Bool, true, false, false≢true}
+use mathlib.Core.Bool.{Bool, false, false≢true}
 use mathlib.Core.List.{List}
 use Prim.Native.Nat.{ℕ}
-use Rattle.laws.specs.Fix.{pick}
 use Rattle.syntax.specs.Syntax.{Ty, TInt, TFloat, TBool, TChar, TByte, TAddress, TArray, TCustom, TNull}
 use Rattle.conversion.specs.ConvertError.{ConvertErrorKind}
 use Rattle.conversion.specs.Ir.{State, Out, M}
@@ -26,14 +25,6 @@ module _ {A : Type 0} {text : List ℕ} {m m′ : M A} {k : Counters} {l : List 
   stop-by q n = record { stops = λ t h. sym (q (t .state)) ∙ n .stops t h }
 
 -- ---- choices: which branch is taken
-
-pub picked : {X : Type 0} (b : Bool) (x y : X) → b ≡ true → pick b x y ≡ x
-unfolding pick
-picked b x y e = ap (λ (c : Bool). pick c x y) e
-
-pub skipped : {X : Type 0} (b : Bool) (x y : X) → b ≡ false → pick b x y ≡ y
-unfolding pick
-skipped b x y e = ap (λ (c : Bool). pick c x y) e
 
 pub on-int : {X : Type 0} (t : Ty) (d : X) (f : Bool → Bool → X) (short unsigned : Bool) → t ≡ TInt short unsigned → onInt t d f ≡ f short unsigned
 unfolding onInt

@@ -9,13 +9,13 @@ use Rattle.ir.specs.declared.floats.FloatBits.{FloatBits}
 use Rattle.ir.specs.declared.floats.FloatBits.the-variants.{Number, Nan}
 
 -- the bits of an f64 that the code holds; a NaN there has those of the quiet NaN
-unfoldable pub bitsOf : Float → ℕ
-bitsOf x = cond (isNan x) 0x7FF8000000000000 (toBits binary64 x)
+unfoldable pub bitsOfFloat : Float → ℕ
+bitsOfFloat x = cond (isNan x) 0x7FF8000000000000 (toBits binary64 x)
 
 -- 'a float entry is its value with its short mark'
 unfoldable pub entryOfFloat : FloatBits → Ir.FloatEntry
-unfolding bitsOf
-entryOfFloat (Number e) = record { bits = bitsOf (e .value); short = e .short }
+unfolding bitsOfFloat
+entryOfFloat (Number e) = record { bits = bitsOfFloat (e .value); short = e .short }
 entryOfFloat (Nan b short) = record { bits = b; short = short }
 
 abbrev pub entry : ℕ → Bool → Ir.FloatEntry

@@ -55,8 +55,8 @@ abbrev pub moreFloats : Counters → Counters
 moreFloats k = record { records = k .records; instructions = k .instructions; variables = k .variables; labels = k .labels; functions = k .functions; strings = k .strings; floats = k .floats + 1; «instructions_before» = k .«instructions_before»; «variables_before» = k .«variables_before»; «labels_before» = k .«labels_before» }
 
 -- a string's place and its text
-abbrev pub stringAt : List ℕ → ℕ → ℕ → StringEntry
-stringAt text offset len = record { offset = offset; len = len; text = textAt text offset len }
+abbrev pub entryOfString : List ℕ → ℕ → ℕ → StringEntry
+entryOfString text offset len = record { offset = offset; len = len; text = textAt text offset len }
 
 -- as `Next`, for the tables of strings of this text
 pub record NextIn {A : Type 0} (text : List ℕ) (m : M A) (k : Counters) (l : List ℕ) (a : A) (k′ : Counters) (l′ : List ℕ) : Type 0 where

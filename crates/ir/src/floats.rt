@@ -1,6 +1,6 @@
 // A float entry: an f64 with its short mark. A NaN's bits cannot pass through an f64 here, so that they stand beside it.
 ghost use mathlib.Core.Path.{_≡_};
-ghost use Rattle.ir.specs.Floats.{bitsOf, entryOfFloat, entry};
+ghost use Rattle.ir.specs.Floats.{bitsOfFloat, entryOfFloat, entry};
 use records::words::nan_bits;
 
 pub struct FloatEntry {
@@ -33,7 +33,7 @@ pub fn float_entry(bits: u64, short: bool) -> FloatBits
 }
 
 fn number_bits(x: f64) -> u64
-    ensures { λ r. ⌜ r ≡ bitsOf x ⌝ }
+    ensures { λ r. ⌜ r ≡ bitsOfFloat x ⌝ }
 {
     if x != x {
         return 0x7FF8_0000_0000_0000;

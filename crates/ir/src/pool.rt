@@ -10,7 +10,7 @@ ghost use Rattle.conversion.specs.Written.{word};
 ghost use Rattle.ir.specs.Arena.{strings, floats, stringDigests, floatLinks, floatHeads, floatBucket, Room};
 ghost use Rattle.ir.specs.Floats.{entry, entryOfFloat};
 ghost use Rattle.ir.specs.Search.{first, foundOf, stringIs, headFor};
-ghost use Rattle.ir.specs.Steps.{stringAt, moreStrings, moreFloats, WroteTwo, WroteThree, NumbersString, NumbersFloat, Next};
+ghost use Rattle.ir.specs.Steps.{entryOfString, moreStrings, moreFloats, WroteTwo, WroteThree, NumbersString, NumbersFloat, Next};
 use crate::arena::FLOAT_HEADS;
 use crate::arena::FLOAT_LINKS;
 use crate::arena::FLOATS;
@@ -87,7 +87,7 @@ fn add_string(arena: &mut [u8], k: Counters, d: u32, offset: u32, len: u32) -> P
 // most of their bytes are not compared with each other.
 pub fn string_id(text: &[u8], arena: &mut [u8], k: Counters, offset: u32, len: u32) -> PoolNumber
     requires { ⌜ Room k (now arena) × (k .strings < k .records) ⌝ }
-    ensures { λ r. ⌜ NumbersString (now (text .entry)) (stringAt (now (text .entry)) offset len) k (now (arena .entry)) r (now (arena .exit)) ⌝ }
+    ensures { λ r. ⌜ NumbersString (now (text .entry)) (entryOfString (now (text .entry)) offset len) k (now (arena .entry)) r (now (arena .exit)) ⌝ }
 {
     let d = text_digest(text, offset, len);
     match find_text(text, arena, k.records, k.strings, d, offset, len) {

@@ -19,7 +19,7 @@ use Rattle.records.specs.declared.shape.Row.{Row}
 use Rattle.records.specs.Words.{kindOf, detailOf, wordOf, A, B, C, D, E}
 use Rattle.records.specs.Shapes.{refers, shapeOf, rowOf, rowAt}
 use Rattle.records.specs.Rules.{listStep, refersTo, refersFrom}
-use Rattle.judge.specs.Inner.{capped, classIn, depthIn, countIn, kindIn, listNumber, shallowDepth, stored, laterRefs, Known, Counting, Counted}
+use Rattle.judge.specs.Inner.{capped, classIn, depthIn, countIn, kindIn, listNumber, shallowDepth, stored, laterRefs, KnownBelow, Counting, Counted}
 use Rattle.judge.proofs.CapLaws.{cap-low, cap-high, cap-small, cap-cap}
 
 -- a count that nothing is added to
@@ -122,7 +122,7 @@ counted-as tree r f g l m e a =
     }
 
 -- before any record is taken
-pub known-none : (tree l : List ℕ) → Known tree 0 l
+pub known-none : (tree l : List ℕ) → KnownBelow tree 0 l
 known-none tree l =
     record {
       lists = λ role k h. absurd (omega arith);
@@ -136,7 +136,7 @@ pub counting-none : (tree l : List ℕ) → Counting tree 0 l
 counting-none tree l = record { counts = λ k h. absurd (omega arith) }
 
 -- counting changes nothing that is known
-pub known-counted : (tree : List ℕ) (r : ℕ) (more : ℕ → ℕ) (l l′ : List ℕ) → Known tree r l → Counted tree r more l l′ → Known tree r l′
+pub known-counted : (tree : List ℕ) (r : ℕ) (more : ℕ → ℕ) (l l′ : List ℕ) → KnownBelow tree r l → Counted tree r more l l′ → KnownBelow tree r l′
 known-counted tree r more l l′ k c =
     record {
       lists = λ role i h. k .lists role i h ∙ ap (λ (x : ℕ). eqb x (listNumber role)) (sym (c .classes i));
@@ -239,10 +239,10 @@ module _ (l : List ℕ) (r class depth kind : ℕ) (room : r * 4 + 8 ≤ length 
   grow : (P : ℕ → Type 0) → ((k : ℕ) → k < r → P k) → P r → (k : ℕ) → k < r + 1 → P k
   grow P below here k h = tested (eqb k r) (λ t. let e : r ≡ k = sym (eqb-true k r t) in rw e at here) (λ t. let n : k ≡ r → ⊥ = eqb-false k r t in below k (omega arith))
 
-  pub known-stored : (tree : List ℕ) → Known tree r l
+  pub known-stored : (tree : List ℕ) → KnownBelow tree r l
       → ((role : _) → fix false (listStep tree role) r ≡ eqb class (listNumber role))
       → class ≤ 3 → ((kindOf tree r ≡ 12 → ⊥) → class ≡ 0) → depth ≡ shallowDepth tree r → kind ≡ kindOf tree r
-      → Known tree (r + 1) after
+      → KnownBelow tree (r + 1) after
   known-stored tree k lists small cells deep is =
       record {
         lists = λ role. grow (λ i. fix false (listStep tree role) i ≡ eqb (classIn after i) (listNumber role)) (λ i h. k .lists role i h ∙ ap (λ (x : ℕ). eqb x (listNumber role)) (sym (stored-below (i * 4 + 6) (omega arith)))) (lists role ∙ ap (λ (x : ℕ). eqb x (listNumber role)) (sym stored-class));

@@ -16,7 +16,7 @@ use Rattle.records.specs.Words.{kindOf, none}
 use Rattle.records.specs.Shapes.{refers}
 use Rattle.records.specs.Rules.{kindBelow, isExpr, listOk, wordOk, refersTo}
 use Rattle.records.proofs.ListLaws.{list-end}
-use Rattle.judge.specs.Inner.{classIn, kindIn, listNumber, lowKey, highKey, noneOk, Known}
+use Rattle.judge.specs.Inner.{classIn, kindIn, listNumber, lowKey, highKey, noneOk, KnownBelow}
 use Rattle.judge.proofs.ListClass.{list-told}
 use Rattle.judge.proofs.RowLaws.{divided}
 
@@ -87,7 +87,7 @@ reference-out tree bytes r Text w next e h = absurd (false≢true e)
 reference-out tree bytes r Length w next e h = absurd (false≢true e)
 
 -- a word that refers to a lower record, of kind k and with the number c of its list
-module _ (tree : List ℕ) (bytes r w next k c : ℕ) (l : List ℕ) (known : Known tree r l) (few : r < 2048) (lower : w < r)
+module _ (tree : List ℕ) (bytes r w next k c : ℕ) (l : List ℕ) (known : KnownBelow tree r l) (few : r < 2048) (lower : w < r)
     (kIs : k ≡ kindIn l w) (cIs : c ≡ classIn l w) (byte : k < 256) where
   kind-is : kindBelow tree r w ≡ k
   kind-is = kind-in tree r w lower ∙ sym (kIs ∙ known .kinds w lower)

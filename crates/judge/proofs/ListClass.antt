@@ -15,7 +15,7 @@ use Rattle.records.specs.declared.shape.Role.the-variants.{Unused, Number, Text
 use Rattle.records.specs.Words.{kindOf, wordOf, none, A, B, C}
 use Rattle.records.specs.Rules.{itemOk, listStep, listOk}
 use Rattle.records.proofs.ListLaws.{list-cell}
-use Rattle.judge.specs.Inner.{listNumber, itemClass, cellClass, classAt, classIn, Known}
+use Rattle.judge.specs.Inner.{listNumber, itemClass, cellClass, classAt, classIn, KnownBelow}
 
 -- no role has the number 0
 number-some : (role : Role) → eqb 0 (listNumber role) ≡ false
@@ -124,7 +124,7 @@ module _ (tree : List ℕ) (a : ℕ) where
   item-told Rest = none-four
 
 -- a list below record r, by the numbers of the cells below r
-module _ (tree : List ℕ) (r : ℕ) (l : List ℕ) (known : Known tree r l) (role : Role) where
+module _ (tree : List ℕ) (r : ℕ) (l : List ℕ) (known : KnownBelow tree r l) (role : Role) where
   pub list-told : (w : ℕ) → listOk tree role r w ≡ eqb (below (classIn l) r w 0) (listNumber role)
   unfolding listOk
   list-told w =

@@ -20,7 +20,7 @@ use Rattle.records.specs.Rules.{wordOk, refersTo}
 use Rattle.records.specs.Depth.{depthBelow}
 use Rattle.records.specs.Words.{kindOf, detailOf, none, boolNumber}
 use Rattle.records.specs.Shapes.{refers, rowOf, rowAt, shapeOf}
-use Rattle.judge.specs.Inner.{capped, shallowDepth, classIn, depthIn, countIn, kindIn, listNumber, lowKey, highKey, noneOk, Known, Counting, Counted}
+use Rattle.judge.specs.Inner.{capped, shallowDepth, classIn, depthIn, countIn, kindIn, listNumber, lowKey, highKey, noneOk, KnownBelow, Counting, Counted}
 use Rattle.judge.proofs.CapLaws.{cap-high}
 use Rattle.judge.proofs.CountLaws.{refers-not, refers-other, refers-same, cap-plus}
 use Rattle.judge.proofs.DepthLaws.{below-none, below-told, below-later}
@@ -155,7 +155,7 @@ module _ (rules : List ℕ) (at : ℕ) (role : Role) (facts : RuleFacts rules at
             at-slot (suc x) e k hk q t = let same : x ≡ w = place .lower x (omega arith) .1 in omega arith
 
     -- how deep the record in the slot is
-    pub slot-depth : Known tree r l → getD l 0 0 ≡ 0 → getD l (p * 4) 0 ≡ depthBelow (shallowDepth tree) r role w
+    pub slot-depth : KnownBelow tree r l → getD l 0 0 ≡ 0 → getD l (p * 4) 0 ≡ depthBelow (shallowDepth tree) r role w
     slot-depth known free = go p refl
       where
         go : (x : ℕ) → p ≡ x → getD l (p * 4) 0 ≡ depthBelow (shallowDepth tree) r role w
@@ -172,7 +172,7 @@ module _ (rules : List ℕ) (at : ℕ) (role : Role) (facts : RuleFacts rules at
             rw q (known .depths x h ∙ below-told (shallowDepth tree) r role w x (f .1) (f .0) h)
 
     -- the word is right
-    pub slot-right : Known tree r l → (bytes next : ℕ) → (leb (getD rules (at + 2) 0) (getD l (p * 4 + 3) 0 * 4 + getD l (p * 4 + 2) 0) && leb (getD l (p * 4 + 3) 0 * 4 + getD l (p * 4 + 2) 0) (getD rules (at + 3) 0)) ≡ true
+    pub slot-right : KnownBelow tree r l → (bytes next : ℕ) → (leb (getD rules (at + 2) 0) (getD l (p * 4 + 3) 0 * 4 + getD l (p * 4 + 2) 0) && leb (getD l (p * 4 + 3) 0 * 4 + getD l (p * 4 + 2) 0) (getD rules (at + 3) 0)) ≡ true
         → w * getD rules (at + 4) 0 ≡ 0 → (isText role ≡ true → w + next ≤ bytes) → true ≡ wordOk tree bytes r role w next
     unfolding wordOk boolNumber
     slot-right known bytes next ok free text =
@@ -217,7 +217,7 @@ module _ (rules : List ℕ) (at : ℕ) (role : Role) (facts : RuleFacts rules at
 -- ---- slot 0 is written
 
 module _ (tree : List ℕ) (r : ℕ) (l l′ : List ℕ) (o : Owned l l′) where
-  pub known-owned : Known tree r l → Known tree r l′
+  pub known-owned : KnownBelow tree r l → KnownBelow tree r l′
   known-owned k =
       record {
         lists = λ role i h. k .lists role i h ∙ ap (λ (x : ℕ). eqb x (listNumber role)) (sym (o .others (i * 4 + 6) (omega arith)));

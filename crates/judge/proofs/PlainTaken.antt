@@ -17,7 +17,7 @@ use Rattle.records.specs.Shapes.{rowOf, rowAt}
 use Rattle.records.specs.Rules.{wordsOk, isFirstType}
 use Rattle.records.specs.Depth.{larger}
 use Rattle.judge.specs.declared.pass.Words.{Words}
-use Rattle.judge.specs.Inner.{TypesLead, capped, classIn, stored, classAt, Known, Counting, WordsOf, Took, TookWords, otherRules, TookRecord}
+use Rattle.judge.specs.Inner.{TypesLead, capped, classIn, stored, classAt, KnownBelow, Counting, WordsOf, Took, TookWords, otherRules, TookRecord}
 use Rattle.judge.specs.Plain.{isUnused, isText, Place, Cells, Owned, PlainForm, PlainReady, Slots, TookSlots, TookPlain}
 use Rattle.judge.proofs.CapLaws.{larger-none}
 use Rattle.judge.proofs.CountLaws.{known-counted, stored-length}
@@ -58,7 +58,7 @@ pub shallow : (keys : Bool) (below : ℕ) → not (keys && leb below 63) ≡ fal
 shallow keys below e = omega (arith, leb-true below 63 (and-right keys (leb below 63) (not-false (keys && leb below 63) e)))
 
 slot-took : (tree : List ℕ) (bytes r : ℕ) (rules : List ℕ) (at : ℕ) (role : Role) (w next p : ℕ) → RuleFacts rules at role → Place r role w p → r < mostRecords
-    → (l : List ℕ) → Known tree r l → getD l 0 0 ≡ 0 → (m m′ : List ℕ) → p * 4 + 4 ≤ length m → m′ ≡ counted m p
+    → (l : List ℕ) → KnownBelow tree r l → getD l 0 0 ≡ 0 → (m m′ : List ℕ) → p * 4 + 4 ≤ length m → m′ ≡ counted m p
     → keyAllowed rules at l p ≡ true → w * getD rules (at + 4) 0 ≡ 0 → (isText role ≡ true → w + next ≤ bytes)
     → Took tree bytes r role w next m m′ true (getD l (p * 4) 0)
 slot-took tree bytes r rules at role w next p facts place few l known free m m′ room e key free₂ text =
@@ -72,7 +72,7 @@ module _ (tree : List ℕ) (r k : ℕ) (words : Words) (pa pb pc : ℕ) (rules l
   facts : RowFacts rules k
   facts = rw (s .ready .table) (row-facts k (s .ready .small))
 
-  pub known-own : Known tree r l₀
+  pub known-own : KnownBelow tree r l₀
   known-own = known-owned tree r l l₀ own (s .ready .known)
 
   counting-own : Counting tree r l₀
@@ -104,14 +104,14 @@ module _ (tree : List ℕ) (r k : ℕ) (words : Words) (pa pb pc : ℕ) (rules l
     slots-room =
         omega (arith, s .ready .room, own .same, counted-length l₀ l₁ pa one, counted-length l₁ l₂ pb two, counted-length l₂ l₃ pc three)
 
-    known-three : Known tree r l₃
+    known-three : KnownBelow tree r l₃
     known-three =
         let f = facts in
         let room₀ : pa * 4 + 4 ≤ length l₀ = omega (arith, s .a .within, s .ready .room, own .same) in
         let room₁ : pb * 4 + 4 ≤ length l₁ = omega (arith, s .b .within, s .ready .room, own .same, counted-length l₀ l₁ pa one) in
         let room₂ : pc * 4 + 4 ≤ length l₂ = omega (arith, s .c .within, s .ready .room, own .same, counted-length l₀ l₁ pa one, counted-length l₁ l₂ pb two) in
-        let k₁ : Known tree r l₁ = rw one (known-counted tree r _ l₀ (counted l₀ pa) known-own (counted-slot rules (k * 20) (rowOf k .a) (f .a) r (words .a) pa (s .a) l₀ tree (s .ready .few) room₀)) in
-        let k₂ : Known tree r l₂ = rw two (known-counted tree r _ l₁ (counted l₁ pb) k₁ (counted-slot rules (k * 20 + 5) (rowOf k .b) (f .b) r (words .b) pb (s .b) l₁ tree (s .ready .few) room₁)) in
+        let k₁ : KnownBelow tree r l₁ = rw one (known-counted tree r _ l₀ (counted l₀ pa) known-own (counted-slot rules (k * 20) (rowOf k .a) (f .a) r (words .a) pa (s .a) l₀ tree (s .ready .few) room₀)) in
+        let k₂ : KnownBelow tree r l₂ = rw two (known-counted tree r _ l₁ (counted l₁ pb) k₁ (counted-slot rules (k * 20 + 5) (rowOf k .b) (f .b) r (words .b) pb (s .b) l₁ tree (s .ready .few) room₁)) in
         rw three (known-counted tree r _ l₂ (counted l₂ pc) k₂ (counted-slot rules (k * 20 + 10) (rowOf k .c) (f .c) r (words .c) pc (s .c) l₂ tree (s .ready .few) room₂))
 
     pub slots-cells : Cells tree k (words .a) pa pb l₃ rules

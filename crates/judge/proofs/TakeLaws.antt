@@ -19,7 +19,7 @@ use Rattle.records.specs.Shapes.{refers, rowAt}
 use Rattle.records.specs.Rules.{wordOk, wordsOk, formOk, otherwiseMarked, bodyMarked, isFirstType, typesFirst, refersTo}
 use Rattle.records.specs.Depth.{larger}
 use Rattle.judge.specs.declared.pass.Words.{Words}
-use Rattle.judge.specs.Inner.{TypesLead, capped, shallowDepth, classIn, depthIn, kindIn, stored, listNumber, classAt, lowKey, highKey, noneOk, Known, Counting, Counted, Took, WordsOf, TookWords, otherRules, TookRecord}
+use Rattle.judge.specs.Inner.{TypesLead, capped, shallowDepth, classIn, depthIn, kindIn, stored, listNumber, classAt, lowKey, highKey, noneOk, KnownBelow, Counting, Counted, Took, WordsOf, TookWords, otherRules, TookRecord}
 use Rattle.judge.proofs.CapLaws.{larger-none}
 use Rattle.judge.proofs.DepthLaws.{below-none, below-told, below-later, deepest-words, depth-told}
 use Rattle.judge.proofs.KeyLaws.{reference-out, reference-in}
@@ -46,7 +46,7 @@ module _ (tree : List ℕ) (bytes r : ℕ) (role : Role) (w next : ℕ) (l : Lis
           counted = word-out tree role w r i l same h;
         }
 
-    pub took-in : Known tree r l → r < 2048 → i < r → (k c low high : ℕ) → (k ≡ kindIn l i) × (k < 256) → c ≡ classIn l i → low ≡ lowKey role → high ≡ highKey role
+    pub took-in : KnownBelow tree r l → r < 2048 → i < r → (k c low high : ℕ) → (k ≡ kindIn l i) × (k < 256) → c ≡ classIn l i → low ≡ lowKey role → high ≡ highKey role
         → (l′ : List ℕ) → Counted tree r (refersTo role w) l l′
         → Took tree bytes r role w next l l′ (leb low (k * 4 + c) && leb (k * 4 + c) high) (depthIn l i)
     took-in known few h k c low high kIs cIs lIs hIs l′ n =
@@ -57,8 +57,8 @@ module _ (tree : List ℕ) (bytes r : ℕ) (role : Role) (w next : ℕ) (l : Lis
         }
 
 -- what the next word needs
-pub took-next : (tree : List ℕ) (bytes r : ℕ) (role : Role) (w next : ℕ) (l l′ : List ℕ) (ok : Bool) (d : ℕ) → (r < 2048) × (r * 4 + 4 ≤ length l) × Known tree r l
-    → Took tree bytes r role w next l l′ ok d → (r < 2048) × (r * 4 + 4 ≤ length l′) × Known tree r l′
+pub took-next : (tree : List ℕ) (bytes r : ℕ) (role : Role) (w next : ℕ) (l l′ : List ℕ) (ok : Bool) (d : ℕ) → (r < 2048) × (r * 4 + 4 ≤ length l) × KnownBelow tree r l
+    → Took tree bytes r role w next l l′ ok d → (r < 2048) × (r * 4 + 4 ≤ length l′) × KnownBelow tree r l′
 took-next tree bytes r role w next l l′ ok d ready t = (ready .0, rw (t .counted .same) (ready .1), known-counted tree r _ l l′ (ready .2) (t .counted))
 
 -- ---- five words
@@ -125,7 +125,7 @@ module _ (tree : List ℕ) (n types r : ℕ) (lead : TypesLead tree n types) (h 
         rw (m, kIs, foundIs, rowIs, of .c, of .e, padIs, o, f, types-lead, group (formOk tree bytes r) (otherwiseMarked tree r) (bodyMarked tree r)) refl
 
     -- the bytes of record r, over what its words left
-    pub bytes-told : (l₀ l₁ m : List ℕ) (ok : Bool) (deep class d : ℕ) → Known tree r l₀ → Counting tree r l₀ → TookWords tree bytes r l₀ l₁ ok deep
+    pub bytes-told : (l₀ l₁ m : List ℕ) (ok : Bool) (deep class d : ℕ) → KnownBelow tree r l₀ → Counting tree r l₀ → TookWords tree bytes r l₀ l₁ ok deep
         → class ≡ classAt tree (classIn l₁) r k (words .a) (words .b)
         → d ≡ pick (eqb k 12) deep (capped 65 (deep + 1))
         → r * 4 + 8 ≤ length l₀ → m ≡ stored l₁ r class d k

@@ -26,8 +26,8 @@ pub record Lowest (n : ℕ) (f : ℕ → Bool) (r : ℕ) : Type 0 where
 -- the first `count` records are types, and the next is none or no type
 pub record TypesLead (tree : List ℕ) (n count : ℕ) : Type 0 where
   pub within : count ≤ n
-  pub types : (k : ℕ) → k < count → kindOf tree k ≡ 1
-  pub other : count < n → kindOf tree count ≡ 1 → ⊥
+  pub types : (k : ℕ) → k < count → kindOf tree k ≡ kindType
+  pub other : count < n → kindOf tree count ≡ kindType → ⊥
 
 -- a tree of n whole records, no more than may be judged, whose first `count` records are its types, and room for what is known of each
 pub record Passing (tree : List ℕ) (n count : ℕ) (known : List ℕ) : Type 0 where
@@ -152,7 +152,7 @@ noneOk Rest = true
 -- ---- what is known when record r is reached
 
 -- of each record below r: what its list holds, how deep it is, its kind
-pub record Known (tree : List ℕ) (r : ℕ) (l : List ℕ) : Type 0 where
+pub record KnownBelow (tree : List ℕ) (r : ℕ) (l : List ℕ) : Type 0 where
   pub lists : (role : Role) (k : ℕ) → k < r → fix false (listStep tree role) k ≡ eqb (classIn l k) (listNumber role)
   pub small : (k : ℕ) → k < r → classIn l k ≤ 3
   pub cells : (k : ℕ) → k < r → (kindOf tree k ≡ kindList → ⊥) → classIn l k ≡ 0
@@ -213,7 +213,7 @@ pub record TookRecord (tree : List ℕ) (bytes r : ℕ) (l l′ : List ℕ) (ok 
   pub right : ok ≡ otherRules tree bytes r
   pub depth : deep ≡ shallowDepth tree r
   pub same : length l′ ≡ length l
-  pub known : Known tree (r + 1) l′
+  pub known : KnownBelow tree (r + 1) l′
   pub counting : Counting tree (r + 1) l′
 
 -- all n records were taken

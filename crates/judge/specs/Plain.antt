@@ -13,7 +13,7 @@ use Rattle.records.specs.Words.{mostRecords, kindOf, detailOf, padOf, none, boo
 use Rattle.records.specs.Kinds.{kindList}
 use Rattle.records.specs.Shapes.{rowOf, refers}
 use Rattle.judge.specs.declared.pass.Words.{Words}
-use Rattle.judge.specs.Inner.{lowKey, highKey, noneOk, TypesLead, Known, Counting, WordsOf, TookRecord}
+use Rattle.judge.specs.Inner.{lowKey, highKey, noneOk, TypesLead, KnownBelow, Counting, WordsOf, TookRecord}
 
 -- twenty numbers for each kind
 abbrev pub plainRules : List ℕ
@@ -146,7 +146,7 @@ pub record PlainReady (tree : List ℕ) (r k : ℕ) (l rules : List ℕ) : Type 
   pub kind : k ≡ kindOf tree r
   pub small : k < 26
   pub table : rules ≡ plainRules
-  pub known : Known tree r l
+  pub known : KnownBelow tree r l
   pub counting : Counting tree r l
 
 -- and its words lead to slots
@@ -160,11 +160,11 @@ pub record Slots (tree : List ℕ) (r k : ℕ) (words : Words) (pa pb pc : ℕ) 
 -- record r was taken, where what it refers to was right; else only slot 0 was written
 pub record TookSlots (tree : List ℕ) (r k : ℕ) (words : Words) (rules l l′ : List ℕ) (ok : Bool) (deep : ℕ) : Type 0 where
   pub took : ok ≡ true → (bytes n types : ℕ) → PlainForm tree bytes r k words rules → TypesLead tree n types → r < n → TookRecord tree bytes r l l′ true deep
-  pub left : ok ≡ false → Known tree r l′ × Counting tree r l′
+  pub left : ok ≡ false → KnownBelow tree r l′ × Counting tree r l′
   pub same : length l′ ≡ length l
 
 -- record r was taken, where it was right; else only slot 0 was written
 pub record TookPlain (tree : List ℕ) (bytes r : ℕ) (l l′ : List ℕ) (ok : Bool) (deep : ℕ) : Type 0 where
   pub took : ok ≡ true → (n types : ℕ) → TypesLead tree n types → r < n → TookRecord tree bytes r l l′ true deep
-  pub left : ok ≡ false → Known tree r l′ × Counting tree r l′
+  pub left : ok ≡ false → KnownBelow tree r l′ × Counting tree r l′
   pub same : length l′ ≡ length l

@@ -8,13 +8,14 @@ ghost use Rattle.records.specs.Words.{records, kindOf};
 ghost use Rattle.records.specs.Rules.{sameType, typeIsNew};
 ghost use Rattle.records.specs.Digest.{typeDigest};
 ghost use Rattle.records.specs.Chains.{ChainRoom};
+ghost use Rattle.records.specs.Kinds.{kindType};
 ghost use Rattle.judge.specs.Inner.{Lowest, Passing};
 ghost use Rattle.judge.specs.Equal.{typeBucket, TypesChained};
-use crate::types::CUSTOM;
 use crate::types::same_type;
 use records::chains::bucket;
 use records::chains::clear_heads;
 use records::chains::enter;
+use records::numbers::FORM_CUSTOM;
 use records::texts::text_digest;
 use records::texts::word_digest;
 use records::words::WORD_A;
@@ -34,7 +35,7 @@ fn type_digest(tree: &[u8], text: &[u8], r: usize) -> u32
     let d = detail(tree, r);
     let a = word(tree, r, WORD_A);
     let b = word(tree, r, WORD_B);
-    if d == CUSTOM {
+    if d == FORM_CUSTOM {
         return text_digest(text, a, b);
     }
     word_digest(wide(d), a, b, word(tree, r, WORD_C))
@@ -62,7 +63,7 @@ fn has_equal(
     d: u32,
     head: u32,
 ) -> bool
-    requires { ⌜ (types * 32 ≤ length (now tree)) × (r < types) × ((k : ℕ) → k < types → kindOf (now tree) k ≡ 1) ⌝ }
+    requires { ⌜ (types * 32 ≤ length (now tree)) × (r < types) × ((k : ℕ) → k < types → kindOf (now tree) k ≡ kindType) ⌝ }
     requires { ⌜ ChainRoom types (now scratch) × TypesChained (now tree) (now text) types r (now scratch) ⌝ }
     requires { ⌜ (d ≡ typeDigest (now tree) (now text) r) × (head ≡ linkTo (typeBucket (now tree) (now text) types) r (typeBucket (now tree) (now text) types r)) ⌝ }
     ensures { λ v. ⌜ v ≡ not (typeIsNew (now (tree .entry)) (now (text .entry)) r) ⌝ }

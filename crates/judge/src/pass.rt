@@ -11,7 +11,7 @@ ghost use Rattle.records.specs.Shapes.{rowAt, refers};
 ghost use Rattle.records.specs.Rules.{wordOk, recordOk};
 ghost use Rattle.records.specs.Depth.{depth as depthOf};
 ghost use Rattle.judge.specs.Plain.{plainRules};
-ghost use Rattle.judge.specs.Inner.{Lowest, Passing, Known, Counting, Took, TookWords, WordsOf, TookRecord, TookAll, stored};
+ghost use Rattle.judge.specs.Inner.{Lowest, Passing, KnownBelow, Counting, Took, TookWords, WordsOf, TookRecord, TookAll, stored};
 use crate::equal::first_equal;
 use crate::nesting::depth_over;
 use crate::nesting::max;
@@ -82,7 +82,7 @@ fn take_word(
     next: u32,
     known: &mut [u8],
 ) -> Told
-    requires { ⌜ (r < mostRecords) × (r * 4 + 4 ≤ length (now known)) × Known (now tree) r (now known) ⌝ }
+    requires { ⌜ (r < mostRecords) × (r * 4 + 4 ≤ length (now known)) × KnownBelow (now tree) r (now known) ⌝ }
     ensures { λ t. ⌜ Took (now (tree .entry)) bytes r role w next (now (known .entry)) (now (known .exit)) (t .ok) (t .depth) ⌝ }
 {
     if refers_to(role) {
@@ -96,7 +96,7 @@ fn take_word(
 
 // The five words of record r. Most kinds use A and B alone, and the other three are zero then.
 fn take_words(tree: &[u8], bytes: usize, r: usize, row: Row, words: Words, known: &mut [u8]) -> Told
-    requires { ⌜ (r < mostRecords) × (r * 4 + 4 ≤ length (now known)) × Known (now tree) r (now known) ⌝ }
+    requires { ⌜ (r < mostRecords) × (r * 4 + 4 ≤ length (now known)) × KnownBelow (now tree) r (now known) ⌝ }
     requires { ⌜ (row ≡ rowAt (now tree) r) × WordsOf (now tree) r words ⌝ }
     ensures { λ t. ⌜ TookWords (now (tree .entry)) bytes r (now (known .entry)) (now (known .exit)) (t .ok) (t .depth) ⌝ }
 {
@@ -160,7 +160,7 @@ pub(crate) fn put_known(known: &mut [u8], r: usize, class: u8, depth: u8, k: u8)
 // Record r of any kind, against every rule but two: that no two types are equal, and that it is referred to once.
 fn take_any(tree: &[u8], bytes: usize, r: usize, types: usize, known: &mut [u8]) -> Told
     requires { ⌜ (r < records (now tree)) × Passing (now tree) (records (now tree)) types (now known) ⌝ }
-    requires { ⌜ Known (now tree) r (now known) × Counting (now tree) r (now known) ⌝ }
+    requires { ⌜ KnownBelow (now tree) r (now known) × Counting (now tree) r (now known) ⌝ }
     ensures { λ t. ⌜ TookRecord (now (tree .entry)) bytes r (now (known .entry)) (now (known .exit)) (t .ok) (t .depth) ⌝ }
 {
     let k = kind(tree, r);
@@ -191,7 +191,7 @@ fn take_record(
     rules: &[u8; 520],
 ) -> Told
     requires { ⌜ (r < records (now tree)) × Passing (now tree) (records (now tree)) types (now known) × (now rules ≡ plainRules) ⌝ }
-    requires { ⌜ Known (now tree) r (now known) × Counting (now tree) r (now known) ⌝ }
+    requires { ⌜ KnownBelow (now tree) r (now known) × Counting (now tree) r (now known) ⌝ }
     ensures { λ t. ⌜ TookRecord (now (tree .entry)) bytes r (now (known .entry)) (now (known .exit)) (t .ok) (t .depth) ⌝ }
 {
     let k = kind(tree, r);

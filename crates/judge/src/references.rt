@@ -6,7 +6,7 @@ ghost use lib.ListN.{length};
 ghost use Rattle.records.specs.Words.{mostRecords};
 ghost use Rattle.records.specs.Shapes.{refers};
 ghost use Rattle.records.specs.Rules.{referredOnce};
-ghost use Rattle.judge.specs.Inner.{Lowest, Known, ReferenceCounts, Took};
+ghost use Rattle.judge.specs.Inner.{Lowest, KnownBelow, ReferenceCounts, Took};
 use crate::rules::high_key;
 use crate::rules::low_key;
 use crate::rules::none_ok;
@@ -27,7 +27,7 @@ pub struct Told {
 // Word w of record r, which refers: judged, and one more for a lower record that it refers to, up to 2. More than once is all that matters. What is
 // not lower has no bytes yet, and its count never matters: record r is at fault then, and it is not the higher of the two.
 pub(crate) fn take_reference(tree: &[u8], r: usize, role: Role, w: u32, known: &mut [u8]) -> Told
-    requires { ⌜ (r < mostRecords) × (r * 4 + 4 ≤ length (now known)) × Known (now tree) r (now known) × (refers role ≡ true) ⌝ }
+    requires { ⌜ (r < mostRecords) × (r * 4 + 4 ≤ length (now known)) × KnownBelow (now tree) r (now known) × (refers role ≡ true) ⌝ }
     ensures { λ t. ⌜ ((bytes next : ℕ) → Took (now (tree .entry)) bytes r role w next (now (known .entry)) (now (known .exit)) (t .ok) (t .depth)) ⌝ }
 {
     let i = index(w);

@@ -4,6 +4,7 @@ ghost use Prim.Native.Nat.{_+_, _*_, _≤_, _<_};
 ghost use lib.ListN.{length};
 ghost use Rattle.records.specs.Rules.{isFirstType, sameType};
 ghost use Rattle.judge.specs.Inner.{TypesLead};
+use records::numbers::FORM_CUSTOM;
 use records::numbers::KIND_TYPE;
 use records::texts::same_text;
 use records::words::WORD_A;
@@ -12,9 +13,6 @@ use records::words::WORD_C;
 use records::words::detail;
 use records::words::kind;
 use records::words::word;
-
-// The detail of a Custom.
-pub(crate) const CUSTOM: u8 = 8;
 
 // The details of the twelve types that every tree begins with.
 const TWELVE: [u8; 12] = [1, 17, 33, 49, 2, 18, 3, 4, 5, 9, 6, 6];
@@ -63,7 +61,7 @@ pub(crate) fn same_type(tree: &[u8], text: &[u8], j: usize, r: usize) -> bool
     let jb = word(tree, j, WORD_B);
     let ra = word(tree, r, WORD_A);
     let rb = word(tree, r, WORD_B);
-    if d == CUSTOM {
+    if d == FORM_CUSTOM {
         return same_text(text, ja, jb, ra, rb);
     }
     (ja == ra) & (jb == rb) & (word(tree, j, WORD_C) == word(tree, r, WORD_C))

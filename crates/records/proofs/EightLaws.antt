@@ -14,7 +14,7 @@ use Rattle.records.proofs.TextLaws.{first-byte, same-split, same-texts}
 use Rattle.records.proofs.DigestLaws.{same-equal}
 use Rattle.records.proofs.WordLaws.{word-head}
 
-four-bytes : (t : List ℕ) (i : ℕ) → i + 4 ≤ length t → textAt t i 4 ≡ byteAt t i ∷ byteAt t (i + 1) ∷ byteAt t (i + 2) ∷ byteAt t (i + 3) ∷ []
+pub four-bytes : (t : List ℕ) (i : ℕ) → i + 4 ≤ length t → textAt t i 4 ≡ byteAt t i ∷ byteAt t (i + 1) ∷ byteAt t (i + 2) ∷ byteAt t (i + 3) ∷ []
 unfolding textAt byteAt
 four-bytes t i h =
     let z : i + 0 ≡ i = omega arith in

@@ -10,6 +10,7 @@ use lib.Seq.{drop-drop, take-add}
 use Rattle.records.specs.Words.{byteAt, textAt}
 use Rattle.records.specs.Digest.{rollStep, rollFrom, highFirst}
 use Rattle.records.proofs.TextLaws.{first-byte}
+use Rattle.records.proofs.EightLaws.{four-bytes}
 
 -- one text, and another behind it
 pub roll-append : (h : ℕ) (a b : List ℕ) → rollFrom h (a ++ b) ≡ rollFrom (rollFrom h a) b
@@ -48,19 +49,6 @@ four-exact : (y a b c d : ℕ) → rollFrom (y % 4294967291) (a ∷ b ∷ c ∷ 
 unfolding rollFrom
 four-exact y a b c d =
     rw (step-exact y a, step-exact (more y a) b, step-exact (more (more y a) b) c, step-exact (more (more (more y a) b) c) d) refl
-
-four-bytes : (t : List ℕ) (i : ℕ) → i + 4 ≤ length t
-    → textAt t i 4 ≡ byteAt t i ∷ byteAt t (i + 1) ∷ byteAt t (i + 2) ∷ byteAt t (i + 3) ∷ []
-unfolding byteAt textAt
-four-bytes t i h =
-    let z : i ≡ i + 0 = omega arith in
-    ap (λ (o : ℕ). textAt t o 4) z
-    ∙ first-byte t i 4 0 (omega arith) h
-    ∙ ap (λ (l : List ℕ). getD t (i + 0) 0 ∷ l)
-    (first-byte t i 4 1 (omega arith) h
-    ∙ ap (λ (l : List ℕ). getD t (i + 1) 0 ∷ l)
-    (first-byte t i 4 2 (omega arith) h ∙ ap (λ (l : List ℕ). getD t (i + 2) 0 ∷ l) (first-byte t i 4 3 (omega arith) h)))
-    ∙ ap (λ (o : ℕ). getD t o 0 ∷ getD t (i + 1) 0 ∷ getD t (i + 2) 0 ∷ getD t (i + 3) 0 ∷ []) (sym z)
 
 -- four bytes: 2^32 is 5
 four-digits : (t : List ℕ) (i y : ℕ) → i + 4 ≤ length t → rollFrom (y % 4294967291) (textAt t i 4) ≡ (y * 5 + highFirst t i) % 4294967291

@@ -13,6 +13,10 @@ pub four : {a b c d a′ b′ c′ d′ : ℕ} → a ≡ a′ → b ≡ b′ →
     → _≡_ {A = List ℕ} (a ∷ b ∷ c ∷ d ∷ []) (a′ ∷ b′ ∷ c′ ∷ d′ ∷ [])
 four p q r s = cc
 
+pub word-length : (w : ℕ) → length (word w) ≡ 4
+unfolding word bytesOf
+word-length w = refl
+
 -- the code's four bytes
 pub word-bytes : (v : ℕ) → v < 2 ^ 32 → v % 256 ∷ v / 256 % 256 ∷ v / 65536 % 256 ∷ v / 16777216 ∷ [] ≡ word v
 unfolding word bytesOf

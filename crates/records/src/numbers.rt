@@ -51,6 +51,19 @@ pub const KIND_VARIABLE: u8 = 24;
 
 pub const KIND_FUNCTION: u8 = 25;
 
+// Forms of types: the detail of a type without its marks.
+pub const FORM_INT: u8 = 1;
+
+pub const FORM_FLOAT: u8 = 2;
+
+pub const FORM_ADDRESS: u8 = 6;
+
+pub const FORM_ARRAY: u8 = 7;
+
+pub const FORM_CUSTOM: u8 = 8;
+
+pub const FORM_NULL: u8 = 9;
+
 // The types that every tree begins with, each by its record.
 pub const INT_LONG: usize = 0;
 

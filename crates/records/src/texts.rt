@@ -203,7 +203,7 @@ fn step(h: u64, w: u32, v: u32) -> u64
     x % 4294967296 + x / 4294967296
 }
 
-fn finish(h: u64) -> u32
+fn digest_end(h: u64) -> u32
     requires { ⌜ h < 8589934592 ⌝ }
     ensures { λ r. ⌜ r ≡ digestEnd h ⌝ }
 {
@@ -216,7 +216,7 @@ fn finish(h: u64) -> u32
 pub fn word_digest(a: u32, b: u32, c: u32, d: u32) -> u32
     ensures { λ r. ⌜ r ≡ digestFour a b c d ⌝ }
 {
-    finish(step(step(1, a, b), c, d))
+    digest_end(step(step(1, a, b), c, d))
 }
 
 // Four bytes as a number, the first the highest: one load, and its bytes turned round.
@@ -295,7 +295,7 @@ pub fn text_roll(text: &[u8], offset: u32, len: u32) -> u32
 pub fn roll_digest(d: u32) -> u32
     ensures { λ r. ⌜ r ≡ digestEnd d ⌝ }
 {
-    finish(d as u64)
+    digest_end(d as u64)
 }
 
 // The digest of a text, as far as it lies within the buffer.

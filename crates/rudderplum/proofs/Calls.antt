@@ -21,7 +21,7 @@ use Rattle.converter.specs.declared.Counts.{Counts}
 use Rattle.converter.specs.declared.Answer.{Answer}
 use Rattle.converter.specs.declared.Answer.the-variants as Answer
 use Rattle.converter.specs.Convert.{countsFrom, answerFrom, Promised}
-use Rattle.rudderplum.specs.Boundary.{answerBytes, answered, roomy, returned, Lent, answeredIn, judgeCall, conversionBytes, roomyForEight, returnedEight, convertedIn, convertCall}
+use Rattle.rudderplum.specs.Boundary.{answerBytes, judgedWords, roomy, returned, Lent, answeredIn, judgeCall, conversionBytes, roomyForEight, returnedEight, convertedIn, convertCall}
 
 pub short-returns : (answer : List ℕ) → length answer < 16 → 0 ≡ returned answer
 unfolding returned roomy pick
@@ -39,7 +39,7 @@ pub long-call : (tree text : List ℕ) (b b′ : Buffers) (a a′ : List ℕ) (j
     → 16 ≤ length a
     → j ≡ judgedIn tree text b
     → b′ ≡ judgeLeaves tree text b
-    → w ≡ answered tree j
+    → w ≡ judgedWords tree j
     → a′ ≡ splice a 0 (answerBytes w)
     → _≡_ {A = Lent} (record { seven = b′; answer = a′ }) (judgeCall tree text (record { seven = b; answer = a }))
 unfolding judgeCall answeredIn roomy pick

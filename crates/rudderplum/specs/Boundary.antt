@@ -21,10 +21,10 @@ unfolding word
 answerBytes a = word (a .number) ++ word (a .place) ++ word (a .start) ++ word (a .end)
 
 -- a judged tree in document 01's words; an accepted one has number 0, no place and no span
-unfoldable pub answered : List ℕ → Judged → AnswerWords
+unfoldable pub judgedWords : List ℕ → Judged → AnswerWords
 unfolding wordsOf
-answered tree Accepted = record { number = 0; place = none; start = 0; end = 0 }
-answered tree (Refused e) = wordsOf tree e
+judgedWords tree Accepted = record { number = 0; place = none; start = 0; end = 0 }
+judgedWords tree (Refused e) = wordsOf tree e
 
 -- the answer fits the buffer lent for it
 unfoldable pub roomy : List ℕ → Bool
@@ -46,11 +46,11 @@ lent instructions variables labels functions strings floats scratch answer =
 
 -- the buffers once a tree was judged: the seven as the judge leaves them, and the answer's first sixteen bytes
 unfoldable pub answeredIn : List ℕ → List ℕ → Lent → Lent
-unfolding judgeLeaves splice answerBytes answered judgedIn
+unfolding judgeLeaves splice answerBytes judgedWords judgedIn
 answeredIn tree text b =
     record {
       seven = judgeLeaves tree text (b .seven);
-      answer = splice (b .answer) 0 (answerBytes (answered tree (judgedIn tree text (b .seven))));
+      answer = splice (b .answer) 0 (answerBytes (judgedWords tree (judgedIn tree text (b .seven))));
     }
 
 -- the buffers after the call; all are as found where the answer does not fit
@@ -76,8 +76,8 @@ unfolding roomyForEight pick
 returnedEight answer = pick (roomyForEight answer) 1 0
 
 -- any number but 0 asks for a `main`
-unfoldable pub asked : ℕ → Bool
-asked n = not (eqb n 0)
+unfoldable pub asksMain : ℕ → Bool
+asksMain n = not (eqb n 0)
 
 -- the buffers once a tree was converted: the seven as the call's definition says, and the answer's first 32 bytes
 unfoldable pub convertedIn : List ℕ → List ℕ → Bool → Lent → Lent

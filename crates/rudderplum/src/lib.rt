@@ -8,7 +8,7 @@ ghost use Rattle.records.specs.Answer.{wordsOf};
 ghost use Rattle.records.specs.Words.{word};
 ghost use Rattle.demands.specs.Call as Call;
 ghost use Rattle.converter.specs.Convert.{countsFrom, answerFrom};
-ghost use Rattle.rudderplum.specs.Boundary.{answerBytes, answered, returned, lent, judgeCall, conversionBytes, returnedEight, asked, convertCall};
+ghost use Rattle.rudderplum.specs.Boundary.{answerBytes, judgedWords, returned, lent, judgeCall, conversionBytes, returnedEight, asksMain, convertCall};
 use converter::Answer;
 use converter::Counts;
 use judge::Judged;
@@ -27,7 +27,7 @@ fn put_answer(buffer: &mut [u8], a: AnswerWords)
 
 // A judged tree in document 01's words; an accepted one has number 0 and no place.
 pub fn answer_words(tree: &[u8], judged: Judged) -> AnswerWords
-    ensures { λ r. ⌜ r ≡ answered (now (tree .entry)) judged ⌝ }
+    ensures { λ r. ⌜ r ≡ judgedWords (now (tree .entry)) judged ⌝ }
 {
     match judged {
         Judged::Accepted => AnswerWords {
@@ -138,7 +138,7 @@ pub extern "C" fn rudderplum_convert(
     answer: &mut [u8],
 ) -> u32
     ensures { λ r. ⌜ r ≡ returnedEight (now (answer .entry)) ⌝ }
-    ensures { λ _. ⌜ lent (now (instructions .exit)) (now (variables .exit)) (now (labels .exit)) (now (functions .exit)) (now (strings .exit)) (now (floats .exit)) (now (scratch .exit)) (now (answer .exit)) ≡ convertCall (now (tree .entry)) (now (text .entry)) (asked «needs_main») (lent (now (instructions .entry)) (now (variables .entry)) (now (labels .entry)) (now (functions .entry)) (now (strings .entry)) (now (floats .entry)) (now (scratch .entry)) (now (answer .entry))) ⌝ }
+    ensures { λ _. ⌜ lent (now (instructions .exit)) (now (variables .exit)) (now (labels .exit)) (now (functions .exit)) (now (strings .exit)) (now (floats .exit)) (now (scratch .exit)) (now (answer .exit)) ≡ convertCall (now (tree .entry)) (now (text .entry)) (asksMain «needs_main») (lent (now (instructions .entry)) (now (variables .entry)) (now (labels .entry)) (now (functions .entry)) (now (strings .entry)) (now (floats .entry)) (now (scratch .entry)) (now (answer .entry))) ⌝ }
 {
     if answer.len() < 32 {
         return 0;

@@ -18,8 +18,8 @@ use Rattle.conversion.specs.Functions.{get-all-functions}
 use Rattle.conversion.specs.Converter.{convert}
 use Rattle.conversion.proofs.Bodies.{sampleType, rate, x, y, parameter, outside, inside, ask, bound, take, askRate, int, guardBody, eitherBody, loopBody, spinBody, takeX, ratioBody, pauseBody, splitBody, guard, either, loop, spin, ratio, pause, split, several, put, feed, mix, half, putHalf, fillBody, fill, program, converted, codeOf, var, v, n}
 use Rattle.runs.specs.TreeRun as Tree
-use Rattle.runs.specs.Rule.{content, literalType, read, readAll, ValueOrStop, gives, halt, holds, fails, Typed, CallsMade, Content, IntContent, FloatContent, BoolContent, StringContent, NullContent, Rule, comes, pending, Answers, asked, Ending, passed, returns, halted}
-use Rattle.runs.specs.TreeRun.{Ran, held, treeRun, parametersKnown, parameterValues, set, runStatement, bindS, bindO, bindT, testO, giveBack, evalExpr, typed, typedO, scopeOf, evalBinary, evalAnd, evalOr, toBool, answered, bindG, test, evalOther, replied, handed, fit, fitLiteral, fitComputed, bare, castFirst, callWith, fitArguments, zeroOf, store, assign, introduce, initialise, newType, turns, forOver, forInt, forLoop, rounds, knownType, knownAfter, knownInit, withNew, callStatement, callOnly}
+use Rattle.runs.specs.Rule.{content, literalType, read, readAll, ValueOrStop, gives, halt, holds, fails, TypedValue, CallsMade, Content, IntContent, FloatContent, BoolContent, StringContent, NullContent, Rule, comes, pending, Answers, asked, Ending, passed, returns, halted}
+use Rattle.runs.specs.TreeRun.{Ran, held, treeRun, parametersKnown, parameterValues, set, runStatement, bindS, bindO, bindT, testO, giveBack, evalExpr, typed, typedO, scopeOf, evalBinary, evalAnd, evalOr, toBool, answered, bindG, test, evalOther, replied, handed, fit, fitLiteral, fitComputed, bare, evalCast, callWith, fitArguments, zeroOf, store, assign, introduce, initialise, newType, runWhile, forOver, runForInt, runFor, rounds, knownType, knownAfter, knownInit, withNew, runCall, callOnly}
 use Rattle.runs.specs.BodyRun.{Vars, Spot, waits, lost, bodyRun, steps, step, fetch, execute, putTo, dropTo, putReply, dropReply, jumpTo, branchTo, finishWith, operand, datum, write, oneOn, labelPlace, isLabel}
 use Rattle.runs.specs.Shared.{callsT, endT, callsB, endB}
 use Rattle.runs.proofs.Opens.{bit}
@@ -61,7 +61,7 @@ odd zero = false
 odd (suc zero) = true
 odd (suc (suc i)) = odd i
 
-unfoldable pub answer : List (Typed ℕ) → ValueOrStop ℕ
+unfoldable pub answer : List (TypedValue ℕ) → ValueOrStop ℕ
 unfolding pick odd
 answer [] = gives 2
 answer (a ∷ as') = pick (eqb (a .1) 4) halt (gives (pick (odd (a .1)) 5 0))
@@ -118,7 +118,7 @@ functions (err k r) = []
 
 -- f with the body b, called with vs
 unfoldable pub treeOf : {W : Type 0} → Rule W → Answers W → Function → Block → List W → ℕ → Ran W
-unfolding sampleType rate x y parameter outside inside ask bound take askRate int guardBody eitherBody loopBody spinBody takeX ratioBody pauseBody splitBody guard either loop spin ratio pause split several put feed mix half putHalf fillBody fill program functions get-all-functions pick treeRun parametersKnown parameterValues set runStatement bindS bindO giveBack evalExpr typed scopeOf Tree.variables evalBinary evalAnd evalOr toBool answered bindG test evalOther replied handed fit fitLiteral fitComputed read readAll literalType content bare castFirst callWith fitArguments get-type common-type unwrapOr resolve-call expectedType testO bindT typedO zeroOf store assign introduce initialise newType turns forOver forInt forLoop rounds onInt onFloat isFloat knownType knownAfter knownInit withNew callStatement callOnly asCall
+unfolding sampleType rate x y parameter outside inside ask bound take askRate int guardBody eitherBody loopBody spinBody takeX ratioBody pauseBody splitBody guard either loop spin ratio pause split several put feed mix half putHalf fillBody fill program functions get-all-functions pick treeRun parametersKnown parameterValues set runStatement bindS bindO giveBack evalExpr typed scopeOf Tree.knownVariables evalBinary evalAnd evalOr toBool answered bindG test evalOther replied handed fit fitLiteral fitComputed read readAll literalType content bare evalCast callWith fitArguments get-type common-type unwrapOr resolve-call expectedType testO bindT typedO zeroOf store assign introduce initialise newType runWhile forOver runForInt runFor rounds onInt onFloat isFloat knownType knownAfter knownInit withNew runCall callOnly asCall
 treeOf R A f b vs = treeRun program (functions (get-all-functions (program .functions) [])) f R A b vs
 
 -- f, the i-th function that is made, begun with the variables' contents ρ

@@ -8,7 +8,7 @@ use native.Mathlib.Omega.{arith}
 use Rattle.syntax.specs.Syntax.{Statement, SDeclare, SInit, SReturn, SCall, SIf, SIfElse, SWhile, SFor, SBreak, SContinue, Block, done, next}
 use Rattle.conversion.specs.Ir.{State, made, M, pure}
 use Rattle.conversion.specs.Scope.{Scope, withLoop}
-use Rattle.conversion.specs.Statements.{convert-statement, convert-block}
+use Rattle.conversion.specs.Statements.{convertStatement, convert-block}
 use Rattle.runs.specs.Rule.{CallsMade}
 use Rattle.runs.specs.TreeRun.{KnownName, Values, Ran, normal, bindS, runStatement, runBlock, knownAfter}
 use Rattle.runs.proofs.Opens.{opensS, opensB}
@@ -60,7 +60,7 @@ module _ {W : Type 0} (X : Ctx W) where
   }
 
   block-next : (t : Statement) (b : Block) (sc : Scope) (z zb : ℕ → ℕ) (ev : ℕ → Values W → CallsMade W → Ran W) (evb : ℕ → List KnownName → Values W → CallsMade W → Ran W) (N : List KnownName) → sc .function ≡ X .fun
-      → SoundS X sc (λ s. convert-statement (X .prog) (X .funs) t sc s) z N ev
+      → SoundS X sc (λ s. convertStatement (X .prog) (X .funs) t sc s) z N ev
       → ((sc1 : Scope) → sc1 .function ≡ X .fun
       → SoundS X sc1 (λ s. convert-block (X .prog) (X .funs) b sc1 s) zb (knownEnd b (known (sc1 .variables))) (λ i σ h. evb i (known (sc1 .variables)) σ h))
       → SoundS X sc (λ s. convert-block (X .prog) (X .funs) (next t b) sc s) (λ x. z x + zb x) (knownEnd b N) (λ i σ h. bindS (ev i σ h) λ σ1 h1. evb i N σ1 h1)
@@ -71,10 +71,10 @@ module _ {W : Type 0} (X : Ctx W) where
       (subst (λ L. GoodS X (i .got) zb (knownEnd b L) (λ j σ h. evb j L σ h) (i .st) x (i .c2) u) (G .knows) (K (i .got) (G .func ∙ fe) (i .st) x (i .c2) u (i .rest))))
 
   mutual
-    unfolding convert-statement runStatement opensS knownAfter knownEnd withLoop
+    unfolding convertStatement runStatement opensS knownAfter knownEnd withLoop
 
     pub goodS : (t : Statement) (sc : Scope) → sc .function ≡ X .fun
-        → SoundS X sc (λ s. convert-statement (X .prog) (X .funs) t sc s) (opensS t) (knownAfter (X .prog) (X .funs) (X .fun) (X .rule) (X .answers) t (known (sc .variables)))
+        → SoundS X sc (λ s. convertStatement (X .prog) (X .funs) t sc s) (opensS t) (knownAfter (X .prog) (X .funs) (X .fun) (X .rule) (X .answers) t (known (sc .variables)))
         (λ i σ h. runStatement (X .prog) (X .funs) (X .fun) (X .rule) (X .answers) t i (known (sc .variables)) σ h)
     goodS (SDeclare r n y) sc fe s x c u q = good-comment X sc r _ _ _ _ (good-declare X sc r n y) s x c u q
     goodS (SInit r b n e) sc fe s x c u q = good-comment X sc r _ _ _ _ (good-init X sc r b n e) s x c u q

@@ -9,7 +9,7 @@ use native.Mathlib.Omega.{arith}
 use lib.ListN.{getElem?}
 use Rattle.laws.proofs.Prefixes.{Prefix, prefix-refl, prefix-trans, prefix-append}
 use Rattle.conversion.specs.Ir.{VarId, Instr, Copy, Unary, Binary, Cast, Zero, Arg, Call, Label, Jump, JumpIfNot, Return, Comment}
-use Rattle.runs.specs.Rule.{ValueOrStop, gives, halt, Truth, holds, fails, halts, Typed, CallsMade, Rule, Reply, comes, pending, Answers, Ending}
+use Rattle.runs.specs.Rule.{ValueOrStop, gives, halt, Truth, holds, fails, halts, TypedValue, CallsMade, Rule, Reply, comes, pending, Answers, Ending}
 use Rattle.runs.specs.BodyRun.{FlatBody, Vars, Spot, spot, over, waits, lost, putTo, dropTo, putReply, dropReply, jumpTo, branchTo, finishWith, operand, execute, fetch, step, steps, bodyRun}
 use Rattle.runs.specs.Shared.{callsB, endB}
 use Rattle.runs.proofs.Less.{AsReply, Extends, prefix-under}
@@ -35,32 +35,32 @@ self-B (waits h) = prefix-refl
 
 -- ---- the calls behind a step
 
-put-calls : {W : Type 0} (u : ValueOrStop W) (d p : ℕ) (q : List (Typed W)) (ρ : Vars W) (h : CallsMade W) → callsB (putTo u d p q ρ h) ≡ h
+put-calls : {W : Type 0} (u : ValueOrStop W) (d p : ℕ) (q : List (TypedValue W)) (ρ : Vars W) (h : CallsMade W) → callsB (putTo u d p q ρ h) ≡ h
 unfolding putTo callsB
 put-calls (gives v) d p q ρ h = refl
 put-calls halt d p q ρ h = refl
 
-drop-calls : {W : Type 0} (u : ValueOrStop W) (p : ℕ) (q : List (Typed W)) (ρ : Vars W) (h : CallsMade W) → callsB (dropTo u p q ρ h) ≡ h
+drop-calls : {W : Type 0} (u : ValueOrStop W) (p : ℕ) (q : List (TypedValue W)) (ρ : Vars W) (h : CallsMade W) → callsB (dropTo u p q ρ h) ≡ h
 unfolding dropTo callsB
 drop-calls (gives v) p q ρ h = refl
 drop-calls halt p q ρ h = refl
 
-reply-calls : {W : Type 0} (r : Reply W) (d p : ℕ) (q : List (Typed W)) (ρ : Vars W) (h : CallsMade W) → callsB (putReply r d p q ρ h) ≡ h
+reply-calls : {W : Type 0} (r : Reply W) (d p : ℕ) (q : List (TypedValue W)) (ρ : Vars W) (h : CallsMade W) → callsB (putReply r d p q ρ h) ≡ h
 unfolding putReply callsB
 reply-calls (comes u) d p q ρ h = put-calls u d p q ρ h
 reply-calls pending d p q ρ h = refl
 
-dropped-calls : {W : Type 0} (r : Reply W) (p : ℕ) (q : List (Typed W)) (ρ : Vars W) (h : CallsMade W) → callsB (dropReply r p q ρ h) ≡ h
+dropped-calls : {W : Type 0} (r : Reply W) (p : ℕ) (q : List (TypedValue W)) (ρ : Vars W) (h : CallsMade W) → callsB (dropReply r p q ρ h) ≡ h
 unfolding dropReply callsB
 dropped-calls (comes u) p q ρ h = drop-calls u p q ρ h
 dropped-calls pending p q ρ h = refl
 
-jump-calls : {W : Type 0} (o : Option ℕ) (q : List (Typed W)) (ρ : Vars W) (h : CallsMade W) → callsB (jumpTo o q ρ h) ≡ h
+jump-calls : {W : Type 0} (o : Option ℕ) (q : List (TypedValue W)) (ρ : Vars W) (h : CallsMade W) → callsB (jumpTo o q ρ h) ≡ h
 unfolding jumpTo callsB
 jump-calls (some p) q ρ h = refl
 jump-calls none q ρ h = refl
 
-branch-calls : {W : Type 0} (t : Truth) (p : ℕ) (o : Option ℕ) (q : List (Typed W)) (ρ : Vars W) (h : CallsMade W) → callsB (branchTo t p o q ρ h) ≡ h
+branch-calls : {W : Type 0} (t : Truth) (p : ℕ) (o : Option ℕ) (q : List (TypedValue W)) (ρ : Vars W) (h : CallsMade W) → callsB (branchTo t p o q ρ h) ≡ h
 unfolding branchTo callsB
 branch-calls holds p o q ρ h = refl
 branch-calls fails p o q ρ h = jump-calls o q ρ h
@@ -73,20 +73,20 @@ finish-calls halt h = refl
 
 -- ---- a reply
 
-put-less : {W : Type 0} (r : Reply W) (c : CallsMade W) (s : Reply W) (d : CallsMade W) (x p : ℕ) (q : List (Typed W)) (ρ : Vars W) (h : CallsMade W) → AsReply r c s d
+put-less : {W : Type 0} (r : Reply W) (c : CallsMade W) (s : Reply W) (d : CallsMade W) (x p : ℕ) (q : List (TypedValue W)) (ρ : Vars W) (h : CallsMade W) → AsReply r c s d
     → BelowB (putReply r x p q ρ (h ++ c)) (putReply s x p q ρ (h ++ d))
 unfolding putReply
 put-less (comes u) c s d x p q ρ h e = rw (e .0, e .1) (self-B (putTo u x p q ρ (h ++ c)))
 put-less pending c s d x p q ρ h e = rw (reply-calls s x p q ρ (h ++ d)) (prefix-under h c d e)
 
-drop-less : {W : Type 0} (r : Reply W) (c : CallsMade W) (s : Reply W) (d : CallsMade W) (p : ℕ) (q : List (Typed W)) (ρ : Vars W) (h : CallsMade W) → AsReply r c s d
+drop-less : {W : Type 0} (r : Reply W) (c : CallsMade W) (s : Reply W) (d : CallsMade W) (p : ℕ) (q : List (TypedValue W)) (ρ : Vars W) (h : CallsMade W) → AsReply r c s d
     → BelowB (dropReply r p q ρ (h ++ c)) (dropReply s p q ρ (h ++ d))
 unfolding dropReply
 drop-less (comes u) c s d p q ρ h e = rw (e .0, e .1) (self-B (dropTo u p q ρ (h ++ c)))
 drop-less pending c s d p q ρ h e = rw (dropped-calls s p q ρ (h ++ d)) (prefix-under h c d e)
 
 module _ {W : Type 0} (R : Rule W) (B : FlatBody) where
-  exec-grows : (A : Answers W) (i : Instr) (p : ℕ) (q : List (Typed W)) (ρ : Vars W) (h : CallsMade W) → Prefix h (callsB (execute R A B i p q ρ h))
+  exec-grows : (A : Answers W) (i : Instr) (p : ℕ) (q : List (TypedValue W)) (ρ : Vars W) (h : CallsMade W) → Prefix h (callsB (execute R A B i p q ρ h))
   unfolding execute callsB
   exec-grows A (Copy d a) p q ρ h = rw put-calls prefix-refl
   exec-grows A (Unary d o a) p q ρ h = rw put-calls prefix-refl
@@ -119,7 +119,7 @@ module _ {W : Type 0} (R : Rule W) (B : FlatBody) where
   steps-grow A (suc n) c = prefix-trans (step-grows A c) (steps-grow A n (step R A B c))
 
   module _ (A C : Answers W) (more : Extends (CallIn B) A C) where
-    exec-less : (i : Instr) (p k : ℕ) (q : List (Typed W)) (ρ : Vars W) (h : CallsMade W) → getElem? (B .instrs) k ≡ some i → BelowB (execute R A B i p q ρ h) (execute R C B i p q ρ h)
+    exec-less : (i : Instr) (p k : ℕ) (q : List (TypedValue W)) (ρ : Vars W) (h : CallsMade W) → getElem? (B .instrs) k ≡ some i → BelowB (execute R A B i p q ρ h) (execute R C B i p q ρ h)
     unfolding execute operand
     exec-less (Copy d a) p k q ρ h e = self-B (execute R C B (Copy d a) p q ρ h)
     exec-less (Unary d o a) p k q ρ h e = self-B (execute R C B (Unary d o a) p q ρ h)

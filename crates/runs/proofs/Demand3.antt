@@ -82,7 +82,7 @@ record Listed (P : Program) (F : Functions) (ir : IrProgram) (n : ℕ) (f : Func
   pub made-so : Converted P F f before function after
   pub later : Later after (pool ir)
 
-record All (P : Program) (F : Functions) (fs : List Function) (l : List IrFunction) (p : Pool) (ir : IrProgram) : Type 0 where
+record AllConverted (P : Program) (F : Functions) (fs : List Function) (l : List IrFunction) (p : Pool) (ir : IrProgram) : Type 0 where
   pub earlier : Prefix l (ir .funcs)
   pub pools : Later p (pool ir)
   pub each : (i : ℕ) (f : Function) → getElem? fs i ≡ some f → Listed P F ir (length l + i) f
@@ -91,7 +91,7 @@ get-prefix : {Y : Type 0} (l m : List Y) (y : Y) → getElem? ((l ++ (y ∷ []))
 get-prefix [] m y = refl
 get-prefix (x ∷ l) m y = get-prefix l m y
 
-all-none : (P : Program) (F : Functions) (l : List IrFunction) (p : Pool) (ir : IrProgram) → convertAll P F [] l p ≡ ok ir → All P F [] l p ir
+all-none : (P : Program) (F : Functions) (l : List IrFunction) (p : Pool) (ir : IrProgram) → convertAll P F [] l p ≡ ok ir → AllConverted P F [] l p ir
 unfolding convertAll
 all-none P F l p ir e =
     let z = ok-same e in
@@ -102,7 +102,7 @@ all-none P F l p ir e =
     })
 
 all-more : (P : Program) (F : Functions) (f : Function) (fs : List Function) (l : List IrFunction) (p : Pool) (ir : IrProgram) (g : IrFunction) (q : Pool)
-    → Converted P F f p g q → All P F fs (l ++ (g ∷ [])) q ir → All P F (f ∷ fs) l p ir
+    → Converted P F f p g q → AllConverted P F fs (l ++ (g ∷ [])) q ir → AllConverted P F (f ∷ fs) l p ir
 all-more P F f fs l p ir g q c a = record {
   earlier = prefix-trans (record { more = g ∷ []; whole = refl }) (a .earlier);
   pools = later-trans (later P F f p g q c) (a .pools);
@@ -130,7 +130,7 @@ all-step P F f fs l p ir e = go (convert-func P F f p) refl e
     go (ok (g, q)) z w = record { function = g; after = q; first = z; rest = w }
     go (err k r) z w = let n : _≡_ {A = ℕ} 0 1 = cc in absurd (omega arith)
 
-all : (P : Program) (F : Functions) (fs : List Function) (l : List IrFunction) (p : Pool) (ir : IrProgram) → convertAll P F fs l p ≡ ok ir → All P F fs l p ir
+all : (P : Program) (F : Functions) (fs : List Function) (l : List IrFunction) (p : Pool) (ir : IrProgram) → convertAll P F fs l p ≡ ok ir → AllConverted P F fs l p ir
 all P F [] l p ir e = all-none P F l p ir e
 all P F (f ∷ fs) l p ir e =
     let s = all-step P F f fs l p ir e in

@@ -18,14 +18,14 @@ use Rattle.conversion.specs.ConvertError.{Result, ok, err, LiteralOutOfRange, W
 use Rattle.conversion.specs.Types.{onInt, onFloat, isFloat, range-error, size}
 use Rattle.conversion.specs.Ir.{pure, VarId, Operand, OVar, OInt, OFloat, OBool, ODataAddress, ONull, Copy, Unary, Binary, Cast, Call, Label, Jump, JumpIfNot, logicRhs, logicEnd, FloatEntry, State, made, M}
 use Rattle.conversion.specs.Scope.{Variable, Scope, findIn}
-use Rattle.conversion.specs.Expressions.{Callee, CallFunction, CallCast, Functions, givesBool, accepted, operandsError, binaryType, filterOption, acceptsClass, operandClass, commonOf, nameType, unwrapOr, get-type, resolve-call, common-type}
+use Rattle.conversion.specs.Expressions.{Callee, CallFunction, CallCast, Functions, givesBool, accepted, binaryError, binaryType, filterOption, acceptsClass, operandClass, commonOf, nameType, unwrapOr, get-type, resolve-call, common-type}
 use Rattle.conversion.specs.Statements.{castOperand, refloat, fit-operand, expectedType, fitFrom, emitArgs, convert-unary, convertAnd, convertOr, castFirst, convertOther, convertBinaryBy, callFunction, callValue, convert-expr, convert-args, nameOperand, sizeOperand}
 use Rattle.runs.specs.Rule.{CallsMade, Literal, IntLiteral, FloatLiteral, BoolLiteral, StringLiteral, NullLiteral, Datum, constant, computed, read}
 use Rattle.runs.specs.TreeRun.{Values, Got, value, bindG, answered, typed, fitLiteral, fitComputed, fit, fitArguments, toBool, evalAnd, evalOr, evalOther, evalBinary, callWith, evalExpr, evalArgs, scopeOf, sizeDatum}
 use Rattle.runs.specs.TreeRun as Tree
 use Rattle.runs.specs.BodyRun.{Vars, datum, isLabel, operand}
 use Rattle.runs.proofs.Opens.{bit, opensE, opensA, logicOpens}
-use Rattle.runs.proofs.Machine.{Code, at, count, count-append, goto, placed-drop, exec, step, dat, dats, argsOf, push}
+use Rattle.runs.proofs.Machine.{Code, at, count, count-append, goto, placed-drop, exec, step, dat, dats, argCode, push}
 use Rattle.runs.proofs.Invert.{Grow, grow-refl, grow-trans, inv, inv-then, inv-pure, inv-emit, inv-lift, inv-last, inv-new, inv-label, joinE, joinS, AskedLabel, noFloat, inv-bits, prefix-getD, position-holds, found-in, nextVar, withVar, withVar-length, withVar-grow, ask-string, ask-float}
 use Rattle.runs.proofs.Texts.{kinds-once, float-refl}
 use Rattle.runs.proofs.Names.{known, typing, resolving, commoning, scoped-mono, agree-frame}
@@ -37,16 +37,16 @@ unfolding emitArgs
 none-emitted s u c t q = let i = inv-pure q in (i .code, i .st)
 
 -- Arg for each operand
-pub args-code : (os : List Operand) (s : State) (u : Unit {0}) (c : Code) (t : State) → emitArgs os s ≡ made u c t → (c ≡ argsOf os) × (t ≡ s)
-unfolding argsOf
+pub args-code : (os : List Operand) (s : State) (u : Unit {0}) (c : Code) (t : State) → emitArgs os s ≡ made u c t → (c ≡ argCode os) × (t ≡ s)
+unfolding argCode
 args-code [] s u c t q = none-emitted s u c t q
 args-code (o ∷ os) s u c t q =
     let i = inv-emit (sym (argSteps-is o os s) ∙ q) in
     let h = args-code os s u (i .c2) t (i .rest) in
     (joinE (i .code) (h .0), h .1)
 
-pub args-clear : (n : ℕ) (os : List Operand) → count n (argsOf os) ≡ 0
-unfolding argsOf count isLabel
+pub args-clear : (n : ℕ) (os : List Operand) → count n (argCode os) ≡ 0
+unfolding argCode count isLabel
 args-clear n [] = refl
 args-clear n (o ∷ os) = omega (arith, args-clear n os)
 
@@ -55,7 +55,7 @@ pub record Called (P : Program) (dest : Option VarId) (g : Function) (l : Args) 
   pub args : List Operand
   pub fits : Code
   pub fitted : fitFrom P 0 os l g s ≡ made args fits t
-  pub code : c ≡ fits ++ (argsOf args ++ (Call dest (g .recOf) ∷ []))
+  pub code : c ≡ fits ++ (argCode args ++ (Call dest (g .recOf) ∷ []))
 
 pub called : (P : Program) (F : Functions) (dest : Option VarId) (g : Function) (l : Args) (os : List Operand) (s : State) (u : Unit {0}) (c : Code) (t : State)
     → callFunction P F dest g l os s ≡ made u c t → Called P dest g l os s c t
@@ -68,7 +68,7 @@ called P F dest g l os s u c t q =
       args = i1 .got;
       fits = i1 .c1;
       fitted = subst (λ x. fitFrom P 0 os l g s ≡ made (i1 .got) (i1 .c1) x) (sym (i3 .st ∙ a .1)) (sym (fits-is P os l g s) ∙ i1 .first);
-      code = joinS i1 (i2 .code ∙ (ap (λ x. x ++ i2 .c2) (a .0) ∙ ap (λ x. argsOf (i1 .got) ++ x) (i3 .code)));
+      code = joinS i1 (i2 .code ∙ (ap (λ x. x ++ i2 .c2) (a .0) ∙ ap (λ x. argCode (i1 .got) ++ x) (i3 .code)));
     }
 
 -- And and Or are Bools
@@ -77,8 +77,8 @@ unfolding accepted pick
 accepted-bool P F o none e y n g q = absurd (n y q)
 accepted-bool P F o (some x) e y n g q = let z : ok (pick (givesBool o) boolType x) ≡ ok y = q in let w : pick (givesBool o) boolType x ≡ boolType = rw g refl in cc
 
-never-fits : (P : Program) (F : Functions) (r : ℕ) (a : Expr) (l : ℕ) (b : Expr) (m z : ℕ) → operandsError P F r a l b m ≡ ok z → ⊥
-unfolding operandsError pick
+never-fits : (P : Program) (F : Functions) (r : ℕ) (a : Expr) (l : ℕ) (b : Expr) (m z : ℕ) → binaryError P F r a l b m ≡ ok z → ⊥
+unfolding binaryError pick
 never-fits P F r a l b m z q = go (range-error (P .typeOf) b m l) (range-error (P .typeOf) a l m) q
   where
     go : (u v : Bool) → pick u (err LiteralOutOfRange (place b)) (pick v (err LiteralOutOfRange (place a)) (err WrongOperands r)) ≡ ok z → ⊥
@@ -91,7 +91,7 @@ unfolding get-type
 binary-bool P F r o a b sc y q g = go (get-type P F a sc) (get-type P F b sc) q
   where
     go : (u v : Result ℕ) → C._>>=_ u (λ l. C._>>=_ v (λ m. binaryType P F r o a l b m)) ≡ ok y → y ≡ boolType
-    go (ok l) (ok m) e = accepted-bool P F o (filterOption (acceptsClass P F (operandClass o)) (commonOf P F a l b m)) (operandsError P F r a l b m) y (λ z. never-fits P F r a l b m z) g e
+    go (ok l) (ok m) e = accepted-bool P F o (filterOption (acceptsClass P F (operandClass o)) (commonOf P F a l b m)) (binaryError P F r a l b m) y (λ z. never-fits P F r a l b m z) g e
     go (ok l) (err k n) e = let w : _≡_ {A = ℕ} 0 1 = cc in absurd (omega arith)
     go (err k n) v e = let w : _≡_ {A = ℕ} 0 1 = cc in absurd (omega arith)
 
@@ -475,7 +475,7 @@ module _ {W : Type 0} (X : Ctx W) where
       → GoodE X Lows (holdings X) vs z ev s os ca s1
       → Fitted (Lows (withVar y s1) os) Lows (holdings X) (λ ρ h. fitArguments (X .prog) (X .rule) 0 (holdings X ρ os) l g h) (withVar y s1) us fs t
       → GoodE X Low (holding X) vs z (λ σ h. bindG (ev σ h) λ vs h1. callWith (X .prog) (X .funs) (X .fun) (X .rule) (X .answers) y (CallFunction g) l vs h1)
-      s (OVar (nextVar y s1)) (ca ++ (fs ++ (argsOf us ++ (Call (some (nextVar y s1)) (g .recOf) ∷ [])))) t
+      s (OVar (nextVar y s1)) (ca ++ (fs ++ (argCode us ++ (Call (some (nextVar y s1)) (g .recOf) ∷ [])))) t
   unfolding nextVar count isLabel step exec callWith
   ask-made {s = s} {s1} {t} {os} {us} {ca} {fs} y l g G H =
       let gv = withVar-grow y s1 in
@@ -484,7 +484,7 @@ module _ {W : Type 0} (X : Ctx W) where
         grow = grow-trans (G .grow) (grow-trans gv (H .grow));
         low = λ g. omega (arith, withVar-length y s1, H .grow .vars);
         once = λ w n. simp (count-append, args-clear) (omega (arith, G .once (within-back X (grow-trans gv (H .grow)) w) n, H .clear n));
-        sim = λ w g1 k ρ σ h ag. rw (append-assoc ca _ k, append-assoc fs _ k, append-assoc (argsOf us) _ k) λ pl.
+        sim = λ w g1 k ρ σ h ag. rw (append-assoc ca _ k, append-assoc fs _ k, append-assoc (argCode us) _ k) λ pl.
             sim-bind X _ (le-refl _) (G .sim (within-back X (grow-trans gv (H .grow)) w) g1 _ ρ σ h ag pl) λ ρ1 h1 f1.
             sim-bind X _ n1 (H .sim (lows-mono s1 (withVar y s1) os gv (G .low g1)) w _ ρ1 h1) λ ρ2 h2 f2.
             sim-before X (push (X .rule) (X .answers) (body X) us _ [] ρ2 h2) (sim-reply X (nextVar y s1) _ _ (G .grow .vars) refl);
@@ -494,7 +494,7 @@ module _ {W : Type 0} (X : Ctx W) where
       → GoodE X Lows (holdings X) vs z ev s (o ∷ os) ca s1
       → GoodE X Low (holding X) vs z (λ σ h. bindG (ev σ h) λ vs h1. callWith (X .prog) (X .funs) (X .fun) (X .rule) (X .answers) y (CallCast u) l vs h1)
       s (OVar (nextVar y s1)) (ca ++ (Cast (nextVar y s1) o ∷ [])) (withVar y s1)
-  unfolding nextVar count isLabel step exec operand dat dats callWith Tree.castFirst
+  unfolding nextVar count isLabel step exec operand dat dats callWith Tree.evalCast
   cast-made {s = s} {s1} {o} {os} {ca} y u l G =
       let gv = withVar-grow y s1 in
       record {

@@ -12,7 +12,7 @@ use Rattle.conversion.specs.ConvertError.{ok}
 use Rattle.conversion.specs.Ir.{IrProgram}
 use Rattle.conversion.specs.Expressions.{Functions}
 use Rattle.conversion.specs.Functions.{get-all-functions}
-use Rattle.runs.specs.Rule.{Typed, CallsMade, Rule, Answers, Ending}
+use Rattle.runs.specs.Rule.{TypedValue, CallsMade, Rule, Answers, Ending}
 use Rattle.runs.specs.BodyRun.{Vars, bodyRun}
 use Rattle.runs.specs.Shared.{callsB, endB, InPlace}
 use Rattle.runs.proofs.Agrees.{bodyOf, Agrees}
@@ -22,7 +22,7 @@ module _ {W : Type 0} (P : Program) (F : Functions) (ir : IrProgram) (i : ℕ) (
     (agrees : Agrees W P F ir i f b) (R : Rule W) (A C : Answers W) (more : Extends (FunctionOf P) A C)
     (vs : List W) (ρ : Vars W) (len : length vs ≡ length (f .params)) (place : InPlace vs ρ) where
   -- its calls
-  pub calls-follow : (k : ℕ) (q : ℕ × List (Typed W)) → (n : ℕ) × (getElem? (callsB (bodyRun R A (bodyOf f (agrees .code) ir) ρ n)) k ≡ some q)
+  pub calls-follow : (k : ℕ) (q : ℕ × List (TypedValue W)) → (n : ℕ) × (getElem? (callsB (bodyRun R A (bodyOf f (agrees .code) ir) ρ n)) k ≡ some q)
       → (m : ℕ) × (getElem? (callsB (bodyRun R C (bodyOf f (agrees .code) ir) ρ m)) k ≡ some q)
   calls-follow k q e =
       let t = agrees .shared R A vs ρ len place .calls k q .1 e in

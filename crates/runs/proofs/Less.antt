@@ -16,8 +16,8 @@ use Rattle.conversion.specs.Expressions.{Callee, CallFunction, CallCast, Functi
 use Rattle.conversion.specs.Functions.{get-all-functions}
 use Rattle.conversion.specs.Statements.{expectedType, asCall}
 use Rattle.conversion.proofs.Called.{Among, called-among}
-use Rattle.runs.specs.Rule.{ValueOrStop, gives, halt, Truth, holds, fails, halts, Typed, CallsMade, Rule, Reply, comes, pending, Answers, Literal, IntLiteral, Datum, constant, computed, read, readAll, Ending}
-use Rattle.runs.specs.TreeRun.{KnownName, Values, set, knownType, scopeOf, Got, value, stop, wait, Ran, normal, broke, continued, returned, stopped, held, unfinished, bindG, bindO, bindS, bindT, answered, bare, replied, handed, test, testO, typed, typedO, sizeDatum, fitComputed, fit, fitArguments, toBool, evalAnd, evalOr, evalOther, evalBinary, castFirst, callWith, evalExpr, evalArgs, store, assign, newType, introduce, initialise, giveBack, callOnly, callStatement, turns, rounds, forLoop, forInt, forOver, withNew, knownInit, knownAfter, runStatement, runBlock, treeRun}
+use Rattle.runs.specs.Rule.{ValueOrStop, gives, halt, Truth, holds, fails, halts, TypedValue, CallsMade, Rule, Reply, comes, pending, Answers, Literal, IntLiteral, Datum, constant, computed, read, readAll, Ending}
+use Rattle.runs.specs.TreeRun.{KnownName, Values, set, knownType, scopeOf, Got, value, stop, wait, Ran, normal, broke, continued, returned, stopped, held, unfinished, bindG, bindO, bindS, bindT, answered, bare, replied, handed, test, testO, typed, typedO, sizeDatum, fitComputed, fit, fitArguments, toBool, evalAnd, evalOr, evalOther, evalBinary, evalCast, callWith, evalExpr, evalArgs, store, assign, newType, introduce, initialise, giveBack, callOnly, runCall, runWhile, rounds, runFor, runForInt, forOver, withNew, knownInit, knownAfter, runStatement, runBlock, treeRun}
 use Rattle.runs.specs.Shared.{callsT, endT}
 
 -- ---- one who answers more: the same reply with the same calls where there is one, and where it is pending the calls only go on
@@ -32,7 +32,7 @@ as-refl pending c = prefix-refl
 
 -- of the functions g with Q
 abbrev pub Extends : {W : Type 0} → (ℕ → Type 0) → Answers W → Answers W → Type 0
-Extends {W} Q A B = (h : CallsMade W) (g : ℕ) (y : Option ℕ) (us : List (Typed W)) → Q g → AsReply (A h g y us .0) (A h g y us .1) (B h g y us .0) (B h g y us .1)
+Extends {W} Q A B = (h : CallsMade W) (g : ℕ) (y : Option ℕ) (us : List (TypedValue W)) → Q g → AsReply (A h g y us .0) (A h g y us .1) (B h g y us .0) (B h g y us .1)
 
 pub extends-refl : {W : Type 0} (Q : ℕ → Type 0) (A : Answers W) → Extends Q A A
 extends-refl Q A h g y us q = as-refl (A h g y us .0) (A h g y us .1)
@@ -319,8 +319,8 @@ module _ {W : Type 0} (P : Program) (F : Functions) (f : Function) (R : Rule W) 
   binary-less Div y q l l1 r r1 Hl Hr h = other-less Div y q l l1 r r1 Hl Hr h
   binary-less Rem y q l l1 r r1 Hl Hr h = other-less Rem y q l l1 r r1 Hl Hr h
 
-  cast-less : (y : ℕ) (us : List (Datum W)) (h : CallsMade W) → LessG h (castFirst P F f R A y us h) (castFirst P F f R B y us h)
-  unfolding castFirst
+  cast-less : (y : ℕ) (us : List (Datum W)) (h : CallsMade W) → LessG h (evalCast P F f R A y us h) (evalCast P F f R B y us h)
+  unfolding evalCast
   cast-less y [] h = g-stop
   cast-less y (u ∷ us) h = g-answered y _ h
 
@@ -389,8 +389,8 @@ module _ {W : Type 0} (P : Program) (F : Functions) (f : Function) (R : Rule W) 
   only-less (CallFunction g) l N σ h q = o-bind _ _ (λ us h1. o-bind _ _ (λ ws h2.
       o-bind _ _ (λ v h3. o-normal σ) (g-handed _ _ _ _ h2 (more h2 (g .recOf) none (readAll R ws) (q g refl)))) (fits-less P R 0 us l g h1)) (args-less l N σ h)
 
-  statement-call : (e : Expr) (N : List KnownName) (σ : Values W) (h : CallsMade W) → LessO h (callStatement P F f R A e N σ h) (callStatement P F f R B e N σ h)
-  unfolding callStatement asCall
+  statement-call : (e : Expr) (N : List KnownName) (σ : Values W) (h : CallsMade W) → LessO h (runCall P F f R A e N σ h) (runCall P F f R B e N σ h)
+  unfolding runCall asCall
   statement-call (ECall r verb l) N σ h = o-typed (resolve-call P F verb l (scopeOf f N) r) λ c e1. only-less c l N σ h (λ g e2. callee verb l N r g (e1 ∙ ap ok e2))
   statement-call (EInt r v a b) N σ h = o-normal σ
   statement-call (EFloat r b a) N σ h = o-normal σ
@@ -406,13 +406,13 @@ module _ {W : Type 0} (P : Program) (F : Functions) (f : Function) (R : Rule W) 
 
   module _ (c c1 : Values W → CallsMade W → Got W (Datum W)) (b b1 : Values W → CallsMade W → Ran W)
       (Hc : (σ : Values W) (h : CallsMade W) → LessG h (c σ h) (c1 σ h)) (Hb : (σ : Values W) (h : CallsMade W) → LessO h (b σ h) (b1 σ h)) where
-    turns-self : (m : ℕ) (σ : Values W) (h : CallsMade W) → LessO h (turns P F f R B m c1 b1 σ h) (turns P F f R B m c1 b1 σ h)
-    unfolding turns callsT
+    turns-self : (m : ℕ) (σ : Values W) (h : CallsMade W) → LessO h (runWhile P F f R B m c1 b1 σ h) (runWhile P F f R B m c1 b1 σ h)
+    unfolding runWhile callsT
     turns-self zero σ h = record { grows = prefix-refl; below = prefix-refl }
     turns-self (suc m) σ h = o-bind _ _ (λ v h1. o-test (R .truth (read R v)) (t-bind _ _ (λ σ2 h2. turns-self m σ2 h2) (later-O (Hb σ h1))) (o-normal σ)) (later-G (Hc σ h))
 
-    turns-less : (n m : ℕ) → n ≤ m → (σ : Values W) (h : CallsMade W) → LessO h (turns P F f R A n c b σ h) (turns P F f R B m c1 b1 σ h)
-    unfolding turns
+    turns-less : (n m : ℕ) → n ≤ m → (σ : Values W) (h : CallsMade W) → LessO h (runWhile P F f R A n c b σ h) (runWhile P F f R B m c1 b1 σ h)
+    unfolding runWhile
     turns-less zero m i σ h = let s = turns-self m σ h in record { grows = s .grows; below = s .grows }
     turns-less (suc n) zero i σ h = absurd (omega arith)
     turns-less (suc n) (suc m) i σ h =
@@ -434,14 +434,14 @@ module _ {W : Type 0} (P : Program) (F : Functions) (f : Function) (R : Rule W) 
 
   module _ (n m : ℕ) (i : n ≤ m) where
     for-less : (x : Text) (y : ℕ) (one : Literal) (from until : Expr) (N : List KnownName) (b b1 : Values W → CallsMade W → Ran W) → ((σ : Values W) (h : CallsMade W) → LessO h (b σ h) (b1 σ h))
-        → (σ : Values W) (h : CallsMade W) → LessO h (forLoop P F f R A n x y one from until N b σ h) (forLoop P F f R B m x y one from until N b1 σ h)
-    unfolding forLoop
+        → (σ : Values W) (h : CallsMade W) → LessO h (runFor P F f R A n x y one from until N b σ h) (runFor P F f R B m x y one from until N b1 σ h)
+    unfolding runFor
     for-less x y one from until N b b1 Hb σ h = o-bind _ _ (λ d h1. o-bind _ _ (λ d1 h2. o-bind _ _ (λ v h3.
         rounds-less _ _ b b1 (λ σ1 h4. expr-less until N σ1 h4) Hb x y one n m i (set σ x v) h3) (g-bare _ h2)) (fit-less P R y d h1)) (expr-less from N σ h)
 
     int-less : (t : Ty) (x : Text) (y : ℕ) (from until : Expr) (N : List KnownName) (b b1 : Values W → CallsMade W → Ran W) → ((σ : Values W) (h : CallsMade W) → LessO h (b σ h) (b1 σ h))
-        → (σ : Values W) (h : CallsMade W) → LessO h (onInt t (stopped h) λ short unsigned. forLoop P F f R A n x y (IntLiteral (pos 1) short unsigned) from until N b σ h)
-        (onInt t (stopped h) λ short unsigned. forLoop P F f R B m x y (IntLiteral (pos 1) short unsigned) from until N b1 σ h)
+        → (σ : Values W) (h : CallsMade W) → LessO h (onInt t (stopped h) λ short unsigned. runFor P F f R A n x y (IntLiteral (pos 1) short unsigned) from until N b σ h)
+        (onInt t (stopped h) λ short unsigned. runFor P F f R B m x y (IntLiteral (pos 1) short unsigned) from until N b1 σ h)
     unfolding onInt
     int-less (TInt short unsigned) x y from until N b b1 Hb σ h = for-less x y (IntLiteral _ short unsigned) from until N b b1 Hb σ h
     int-less (TFloat s) x y from until N b b1 Hb σ h = o-stopped
@@ -456,7 +456,7 @@ module _ {W : Type 0} (P : Program) (F : Functions) (f : Function) (R : Rule W) 
     over-less : (x : Text) (o u : Option ℕ) (from until : Expr) (N : List KnownName) (b b1 : List KnownName → Values W → CallsMade W → Ran W)
         → ((M : List KnownName) (σ : Values W) (h : CallsMade W) → LessO h (b M σ h) (b1 M σ h))
         → (σ : Values W) (h : CallsMade W) → LessO h (forOver P F f R A n x o u from until N b σ h) (forOver P F f R B m x o u from until N b1 σ h)
-    unfolding forOver forInt
+    unfolding forOver runForInt
     over-less x (some y) u from until N b b1 Hb σ h = int-less (P .typeOf y) x y from until N _ _ (Hb (record { name = x; ty = y } ∷ N)) σ h
     over-less x none (some y) from until N b b1 Hb σ h = int-less (P .typeOf y) x y from until N _ _ (Hb N) σ h
     over-less x none none from until N b b1 Hb σ h = o-stopped

@@ -19,7 +19,7 @@ use Rattle.conversion.specs.Scope.{Variable, Scope, findIn, withVariable, withL
 use Rattle.conversion.specs.Statements.{convert-while-loop, forLoop, forInt, forKnown, convert-for-loop}
 use Rattle.runs.specs.Rule.{CallsMade, IntLiteral, Datum, constant, read}
 use Rattle.runs.specs.TreeRun as Tree
-use Rattle.runs.specs.TreeRun.{KnownName, Values, set, knownType, Got, Ran, stopped, bare, bindO, fit, evalExpr, turns, rounds, forOver}
+use Rattle.runs.specs.TreeRun.{KnownName, Values, set, knownType, Got, Ran, stopped, bare, bindO, fit, evalExpr, runWhile, rounds, forOver}
 use Rattle.runs.specs.BodyRun.{Vars, write, datum, isLabel, operand}
 use Rattle.runs.proofs.Opens.{bit, opensE}
 use Rattle.runs.proofs.Machine.{Code, at, write-same, write-other, count, count-append, goto, Placed, placed-drop, aim, aim-at, branch, exec, step, dat, one}
@@ -50,8 +50,8 @@ module _ {W : Type 0} (X : Ctx W) where
       (Hb : (k : Code) (ρ : Vars W) (σ : Values W) (h : CallsMade W) → Agree vs σ ρ → Placed (X .code) (cb ++ k) → SimS X n true vs ls le (at (cb ++ k) [] ρ h) k us (evb σ h))
       (k : Code) (pl : Placed (X .code) (Label ls ∷ (co ++ (JumpIfNot o le ∷ (cb ++ (Jump ls ∷ Label le ∷ k)))))) where
     while-turns : {lp : Bool} {lvs : List Variable} {ls0 le0 : ℕ} (m : ℕ) → m ≤ n → (ρ : Vars W) (σ : Values W) (h : CallsMade W) → Agree vs σ ρ
-        → SimS X m lp lvs ls0 le0 (aim (goto (X .code) ls) [] ρ h) k vs (turns (X .prog) (X .funs) (X .fun) (X .rule) (X .answers) m ev evb σ h)
-    unfolding turns step exec aim go1 one operand dat
+        → SimS X m lp lvs ls0 le0 (aim (goto (X .code) ls) [] ρ h) k vs (runWhile (X .prog) (X .funs) (X .fun) (X .rule) (X .answers) m ev evb σ h)
+    unfolding runWhile step exec aim go1 one operand dat
     while-turns zero i ρ σ h ag = rw (pl .0) (long _ [] ρ (stay X) (omega arith))
     while-turns (suc m) i ρ σ h ag = rw (pl .0)
         (let pb = placed-drop (X .code) co _ (pl .1) .1 in
@@ -67,7 +67,7 @@ module _ {W : Type 0} (X : Ctx W) where
   while-made : {z za : ℕ → ℕ} {N : List KnownName} {ev : Values W → CallsMade W → Got W (Datum W)} {evb : ℕ → Values W → CallsMade W → Ran W} {s s1 s2 s3 s4 s5 t : State} {o : Operand} {co cb : Code}
       {ls le m1 m2 : ℕ} {sb : Scope} (r : ℕ) (sc : Scope) → AskedLabel (loopStart r) s ls s1 → GoodE X Low (holding X) (sc .variables) z ev s1 o co s2 → AskedLabel (loopEnd r) s2 le s3
       → GoodS X (withLoop r sc) za N evb s3 sb cb s4 → AskedLabel (loopStart r) s4 m1 s5 → AskedLabel (loopEnd r) s5 m2 t
-      → GoodS X sc (λ x. bit (eqb x r) + (z x + za x)) (known (sc .variables)) (λ i σ h. turns (X .prog) (X .funs) (X .fun) (X .rule) (X .answers) i ev (evb i) σ h)
+      → GoodS X sc (λ x. bit (eqb x r) + (z x + za x)) (known (sc .variables)) (λ i σ h. runWhile (X .prog) (X .funs) (X .fun) (X .rule) (X .answers) i ev (evb i) σ h)
       s sc (Label ls ∷ (co ++ (JumpIfNot o le ∷ (cb ++ (Jump m1 ∷ Label m2 ∷ []))))) t
   unfolding count isLabel withLoop
   while-made {s = s} {s1} {s2} {s3} {s4} {s5} {t} {o} {co} {cb} {ls} {le} {m1} {m2} r sc l1 G l3 H l5 l6 =
@@ -110,7 +110,7 @@ module _ {W : Type 0} (X : Ctx W) where
 
   pub good-while : (sc : Scope) (r : ℕ) (e : Expr) (m : M Scope) (za : ℕ → ℕ) (N : List KnownName) (evb : ℕ → Values W → CallsMade W → Ran W) → SoundS X (withLoop r sc) m za N evb
       → SoundS X sc (convert-while-loop (X .prog) (X .funs) r e sc m) (λ x. bit (eqb x r) + (opensE e x + za x)) (known (sc .variables))
-      (λ i σ h. turns (X .prog) (X .funs) (X .fun) (X .rule) (X .answers) i
+      (λ i σ h. runWhile (X .prog) (X .funs) (X .fun) (X .rule) (X .answers) i
       (λ σ1 h1. evalExpr (X .prog) (X .funs) (X .fun) (X .rule) (X .answers) e (known (sc .variables)) σ1 h1) (evb i) σ h)
   good-while sc r e m za N evb H s x c t q =
       let i1 = inv-label (sym (whileSteps-is (X .prog) (X .funs) r e sc m s) ∙ q) in
@@ -295,9 +295,9 @@ module _ {W : Type 0} (X : Ctx W) where
       → SoundS X (withLoop r sd) m za N evb
       → (x : Scope) (c : Code) (t : State) → forLoop (X .prog) (X .funs) r (v .var-id) short unsigned from until sc m s0 ≡ made x c t
       → GoodS X sc (λ x. bit (eqb x r) + (opensE from x + (opensE until x + za x))) (known (sc .variables))
-      (λ i σ h. Tree.forLoop (X .prog) (X .funs) (X .fun) (X .rule) (X .answers) i nm (v .var-id .ty) (IntLiteral (pos 1) short unsigned) from until (known (sc .variables)) (evb i) σ h)
+      (λ i σ h. Tree.runFor (X .prog) (X .funs) (X .fun) (X .rule) (X .answers) i nm (v .var-id .ty) (IntLiteral (pos 1) short unsigned) from until (known (sc .variables)) (evb i) σ h)
       s x c t
-  unfolding Tree.forLoop
+  unfolding Tree.runFor
   for-loop za N evb s s0 r sc sd nm v short unsigned from until m g0 sub sx scd first H x c t q =
       let j1 = inv-then (sym (forSteps-is (X .prog) (X .funs) r (v .var-id) short unsigned from until sc m s0) ∙ q) in
       let k1 = quiet j1 (bound-quiet (X .prog) (X .funs) from _ sc _ (j1 .got) (j1 .c1) (j1 .st) (j1 .first)) in
@@ -325,14 +325,14 @@ module _ {W : Type 0} (X : Ctx W) where
       → SoundS X (withLoop r sd) m za N evb
       → (x : Scope) (c : Code) (t : State) → forInt (X .prog) (X .funs) r (v .var-id) from until sc m s0 ≡ made x c t
       → GoodS X sc (λ x. bit (eqb x r) + (opensE from x + (opensE until x + za x))) (known (sc .variables))
-      (λ i σ h. Tree.forInt (X .prog) (X .funs) (X .fun) (X .rule) (X .answers) i nm (v .var-id .ty) from until (known (sc .variables)) (evb i) σ h) s x c t
-  unfolding forInt Tree.forInt onInt
+      (λ i σ h. Tree.runForInt (X .prog) (X .funs) (X .fun) (X .rule) (X .answers) i nm (v .var-id .ty) from until (known (sc .variables)) (evb i) σ h) s x c t
+  unfolding forInt Tree.runForInt onInt
   for-int za N evb s s0 r sc sd nm v from until m g0 sub sx scd first H x c t q = go (X .prog .typeOf (v .var-id .ty)) q
     where
       go : (y : Ty) → onInt y (fail NotInteger r) (λ short unsigned. forLoop (X .prog) (X .funs) r (v .var-id) short unsigned from until sc m) s0 ≡ made x c t
           → GoodS X sc (λ x. bit (eqb x r) + (opensE from x + (opensE until x + za x))) (known (sc .variables))
           (λ i σ h. onInt y (stopped h) λ short unsigned.
-          Tree.forLoop (X .prog) (X .funs) (X .fun) (X .rule) (X .answers) i nm (v .var-id .ty) (IntLiteral (pos 1) short unsigned) from until (known (sc .variables)) (evb i) σ h) s x c t
+          Tree.runFor (X .prog) (X .funs) (X .fun) (X .rule) (X .answers) i nm (v .var-id .ty) (IntLiteral (pos 1) short unsigned) from until (known (sc .variables)) (evb i) σ h) s x c t
       go (TInt short unsigned) z = for-loop za N evb s s0 r sc sd nm v short unsigned from until m g0 sub sx scd first H x c t z
       go (TFloat b) z = absurd (no-int r s0 x c t z)
       go TBool z = absurd (no-int r s0 x c t z)
@@ -358,7 +358,7 @@ module _ {W : Type 0} (X : Ctx W) where
       → ((sd : Scope) → sd .function ≡ sc .function → SoundS X (withLoop r sd) (m sd) za (NN (known (sd .variables))) (λ i. evb i (known (sd .variables))))
       → (s : State) (x : Scope) (c : Code) (t : State) → convert-for-loop (X .prog) (X .funs) r nm (some y) from until sc m s ≡ made x c t
       → GoodS X sc (λ x. bit (eqb x r) + (opensE from x + (opensE until x + za x))) (known (sc .variables))
-      (λ i σ h. Tree.forInt (X .prog) (X .funs) (X .fun) (X .rule) (X .answers) i nm y from until (known (sc .variables)) (evb i (record { name = nm; ty = y } ∷ known (sc .variables))) σ h) s x c t
+      (λ i σ h. Tree.runForInt (X .prog) (X .funs) (X .fun) (X .rule) (X .answers) i nm y from until (known (sc .variables)) (evb i (record { name = nm; ty = y } ∷ known (sc .variables))) σ h) s x c t
   unfolding withVariable known nextVar
   for-new za NN evb r sc nm y from until m H s x c t q =
       let i1 = inv-new (sym (forNewSteps-is (X .prog) (X .funs) r nm y from until sc m s) ∙ q) in

@@ -11,7 +11,7 @@ use native.Mathlib.Omega.{arith}
 use lib.Dec.{eqb, T, eqb→eq, eqb-refl}
 use Rattle.laws.specs.Fix.{pick}
 use Rattle.conversion.specs.Ir.{Operand, Instr, Copy, Unary, Binary, Cast, Zero, Arg, Call, Label, Jump, JumpIfNot, Return, Comment}
-use Rattle.runs.specs.Rule.{ValueOrStop, gives, halt, Truth, holds, fails, halts, Typed, CallsMade, Rule, Reply, comes, pending, Answers, Datum, read, readAll, Ending, passed, returns, halted}
+use Rattle.runs.specs.Rule.{ValueOrStop, gives, halt, Truth, holds, fails, halts, TypedValue, CallsMade, Rule, Reply, comes, pending, Answers, Datum, read, readAll, Ending, passed, returns, halted}
 use Rattle.runs.specs.BodyRun.{FlatBody, Vars, write, datum, isLabel, operand}
 use Rattle.runs.proofs.Opens.{bit}
 
@@ -19,7 +19,7 @@ abbrev pub Code : Type 0
 Code = List Instr
 
 abbrev pub Queue : Type 0 → Type 0
-Queue W = List (Typed W)
+Queue W = List (TypedValue W)
 
 pub data Cfg (W : Type 0) : Type 0 where
   at : Code → Queue W → Vars W → CallsMade W → Cfg W
@@ -176,9 +176,9 @@ unfoldable pub finish : {W : Type 0} → ValueOrStop W → CallsMade W → Cfg W
 finish (gives v) h = ended (returns v) h
 finish halt h = ended halted h
 
-unfoldable pub argsOf : List Operand → Code
-argsOf [] = []
-argsOf (o ∷ os) = Arg o ∷ argsOf os
+unfoldable pub argCode : List Operand → Code
+argCode [] = []
+argCode (o ∷ os) = Arg o ∷ argCode os
 
 module _ {W : Type 0} (R : Rule W) (A : Answers W) (B : FlatBody) where
   unfoldable pub exec : Instr → Code → Queue W → Vars W → CallsMade W → Cfg W
@@ -244,8 +244,8 @@ module _ {W : Type 0} (R : Rule W) (A : Answers W) (B : FlatBody) where
   dats ρ (o ∷ os) = dat ρ o ∷ dats ρ os
 
   pub push : (os : List Operand) (k : Code) (q : Queue W) (ρ : Vars W) (h : CallsMade W)
-      → To (at (argsOf os ++ k) q ρ h) (at k (q ++ readAll R (dats ρ os)) ρ h)
-  unfolding argsOf dats dat readAll step exec operand
+      → To (at (argCode os ++ k) q ρ h) (at k (q ++ readAll R (dats ρ os)) ρ h)
+  unfolding argCode dats dat readAll step exec operand
   push [] k q ρ h = rw append-nil here
   push (o ∷ os) k q ρ h = rw (← append-assoc q (read R (dat ρ o) ∷ []) (readAll R (dats ρ os)))
       (to-trans (one refl) (push os k (q ++ (read R (dat ρ o) ∷ [])) ρ h))

@@ -23,13 +23,13 @@ unfoldable pub known : List Variable → List KnownName
 known [] = []
 known (v ∷ vs) = record { name = v .name; ty = v .var-id .ty } ∷ known vs
 
-name-known : (r : ℕ) (n : Text) (vs : List Variable) → nameType r (findIn n (Tree.variables (known vs))) ≡ nameType r (findIn n vs)
-unfolding known Tree.variables findIn nameType
+name-known : (r : ℕ) (n : Text) (vs : List Variable) → nameType r (findIn n (Tree.knownVariables (known vs))) ≡ nameType r (findIn n vs)
+unfolding known Tree.knownVariables findIn nameType
 name-known r n [] = refl
 name-known r n (v ∷ vs) = go (sameText n (v .name)) (name-known r n vs)
   where
-    go : (b : Bool) → nameType r (findIn n (Tree.variables (known vs))) ≡ nameType r (findIn n vs)
-        → nameType r (elim b as (λ x. Option Variable) [ true ↦ some (record { name = v .name; constant = false; var-id = record { id = 0; ty = v .var-id .ty } }) | false ↦ findIn n (Tree.variables (known vs)) ])
+    go : (b : Bool) → nameType r (findIn n (Tree.knownVariables (known vs))) ≡ nameType r (findIn n vs)
+        → nameType r (elim b as (λ x. Option Variable) [ true ↦ some (record { name = v .name; constant = false; var-id = record { id = 0; ty = v .var-id .ty } }) | false ↦ findIn n (Tree.knownVariables (known vs)) ])
         ≡ nameType r (elim b as (λ x. Option Variable) [ true ↦ some v | false ↦ findIn n vs ])
     go true e = refl
     go false e = e

@@ -34,7 +34,7 @@ each f (a ∷ l) = f a ∷ each f l
 
 pub literal-types : each (λ l. pinnedType (literalType l)) literals
     ≡ TInt false false ∷ TInt true false ∷ TInt false true ∷ TInt true true ∷ TFloat false ∷ TFloat true ∷ TBool ∷ TAddress 7 ∷ TNull ∷ []
-unfolding each literals literalType pinnedType intType floatType
+unfolding each literals literalType pinnedType
 literal-types = refl
 
 -- Address of Char, of Null, and Bool
@@ -51,7 +51,7 @@ contents = refl
 
 pub reads : readAll traced (constant (IntLiteral (pos 1) true false) ∷ constant NullLiteral ∷ computed 4 (8 ∷ []) ∷ [])
     ≡ (1, 0 ∷ 1 ∷ 1 ∷ []) ∷ (9, 0 ∷ 9 ∷ []) ∷ (4, 8 ∷ []) ∷ []
-unfolding readAll read literalType content traced shown intType
+unfolding readAll read literalType content traced shown
 reads = refl
 
 -- the rule's answer, and one call
@@ -78,13 +78,13 @@ fits-values = refl
 -- (value, type, value, value), then the first of (type, value), (value, type) and (value, value)
 pub expected-types : each (expectedType (Bodies.several (1 ∷ 6 ∷ 5 ∷ [])) (Value 30 (EBool 31 true) (ToType 32 0 (Value 33 (EBool 34 true) (Value 35 (EBool 36 true) noArgs))))) (0 ∷ 1 ∷ 2 ∷ [])
     ≡ 1 ∷ 5 ∷ 4 ∷ []
-unfolding each expectedType Bodies.several floatType
+unfolding each expectedType Bodies.several
 expected-types = refl
 
 pub first-types : each (λ l. expectedType (Bodies.several (1 ∷ 6 ∷ [])) l 0) (ToType 32 0 (Value 33 (EBool 34 true) noArgs)
     ∷ Value 33 (EBool 34 true) (ToType 32 0 noArgs) ∷ Value 30 (EBool 31 true) (Value 33 (EBool 34 true) noArgs) ∷ [])
     ≡ 6 ∷ 1 ∷ 1 ∷ []
-unfolding each expectedType Bodies.several floatType
+unfolding each expectedType Bodies.several
 first-types = refl
 
 -- ---- statements
@@ -93,7 +93,7 @@ first-types = refl
 pub zeros : each (zeroOf program traced 3) (TInt true false ∷ TFloat true ∷ TBool ∷ TChar ∷ TByte ∷ TAddress 7 ∷ TNull ∷ TArray 0 2 ∷ [])
     ≡ gives (1 ∷ 3 ∷ 1 ∷ 0 ∷ 1 ∷ 0 ∷ []) ∷ gives (1 ∷ 3 ∷ 5 ∷ 0 ∷ 5 ∷ 0 ∷ []) ∷ gives (1 ∷ 3 ∷ 6 ∷ 0 ∷ 6 ∷ 0 ∷ []) ∷ gives (1 ∷ 3 ∷ 6 ∷ 0 ∷ 6 ∷ 0 ∷ [])
     ∷ gives (1 ∷ 3 ∷ 6 ∷ 0 ∷ 6 ∷ 0 ∷ []) ∷ gives (1 ∷ 3 ∷ 9 ∷ 0 ∷ 9 ∷ []) ∷ gives (1 ∷ 3 ∷ 9 ∷ 0 ∷ 9 ∷ []) ∷ gives (2 ∷ 3 ∷ []) ∷ []
-unfolding each zeroOf read literalType content traced shown intType floatType
+unfolding each zeroOf read literalType content traced shown
 zeros = refl
 
 -- a call statement is one whose expression is a call

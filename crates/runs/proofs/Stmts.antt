@@ -23,7 +23,7 @@ use Rattle.runs.specs.TreeRun as Tree
 use Rattle.runs.specs.TreeRun.{KnownName, Values, knownType, scopeOf, Got, bare, handed, Ran, normal, returned, bindO, typedO, fit, fitArguments, zeroOf, evalExpr, store, newType, introduce, initialise, giveBack, callOnly, withNew, knownInit}
 use Rattle.runs.specs.BodyRun.{Vars, write, datum, isLabel, operand}
 use Rattle.runs.proofs.Opens.{bit, opensE, opensA}
-use Rattle.runs.proofs.Machine.{Code, at, count, count-append, put, exec, step, dat, argsOf, push}
+use Rattle.runs.proofs.Machine.{Code, at, count, count-append, put, exec, step, dat, argCode, push}
 use Rattle.runs.proofs.Invert.{Grow, grow-refl, grow-trans, inv, inv-then, inv-pure, inv-emit, inv-lift, inv-last, inv-new, quiet, Quiet, joinE, joinS, noFloat, nextVar, withVar, withVar-length, withVar-grow, ask-float}
 use Rattle.runs.proofs.Names.{known, foundType, type-known, typing, resolving, scoped-mono, scoped-new, sub-refl, sub-new, agree-frame, agree-set, agree-new, declared}
 use Rattle.conversion.proofs.Steps.{condSteps-is, declareSteps-is, assignSteps-is, initSteps-is, returnSteps-is, returnTyped-is, callOnlySteps-is, callStatementSteps-is, boundSteps-is, zeroFloat-is}
@@ -326,7 +326,7 @@ module _ {W : Type 0} (X : Ctx W) where
       → GoodS X sc z (known (sc .variables))
       (λ m σ h. bindO (ev σ h) λ vs h1. bindO (fitArguments (X .prog) (X .rule) 0 vs l g h1) λ ws h2.
       bindO (handed (X .answers h2 (g .recOf) none (readAll (X .rule) ws) .0) (h2 ++ X .answers h2 (g .recOf) none (readAll (X .rule) ws) .1)) λ v h3. normal σ h3)
-      s sc (ca ++ (fs ++ (argsOf us ++ (Call none (g .recOf) ∷ [])))) t
+      s sc (ca ++ (fs ++ (argCode us ++ (Call none (g .recOf) ∷ [])))) t
   unfolding count isLabel step exec
   invoke-made {ev = ev} {s} {s1} {t} {os} {us} {ca} {fs} sc l g G H = record {
     grow = grow-trans (G .grow) (H .grow);
@@ -336,7 +336,7 @@ module _ {W : Type 0} (X : Ctx W) where
     knows = refl;
     scoped = λ g. scoped-mono (omega (arith, G .grow .vars, H .grow .vars)) g;
     once = λ w m. simp (count-append, args-clear) (omega (arith, G .once (within-back X (H .grow) w) m, H .clear m));
-    sim = λ w g1 lvs il sb m k ρ σ h ag. rw (append-assoc ca _ k, append-assoc fs _ k, append-assoc (argsOf us) _ k) λ pl.
+    sim = λ w g1 lvs il sb m k ρ σ h ag. rw (append-assoc ca _ k, append-assoc fs _ k, append-assoc (argCode us) _ k) λ pl.
         s-bindO X _ (G .sim (within-back X (H .grow) w) g1 _ ρ σ h ag pl) λ ρ1 h1 f1.
         s-bindO X _ (H .sim (G .low g1) w _ ρ1 h1) λ ρ2 h2 f2.
         s-before X (push (X .rule) (X .answers) (body X) us _ [] ρ2 h2)
@@ -389,8 +389,8 @@ module _ {W : Type 0} (X : Ctx W) where
 
   pub good-call-statement : (sc : Scope) (r : ℕ) (e : Expr)
       → SoundS X sc (convert-call (X .prog) (X .funs) r e sc) (opensE e) (known (sc .variables))
-      (λ m σ h. Tree.callStatement (X .prog) (X .funs) (X .fun) (X .rule) (X .answers) e (known (sc .variables)) σ h)
-  unfolding convert-call Tree.callStatement opensE
+      (λ m σ h. Tree.runCall (X .prog) (X .funs) (X .fun) (X .rule) (X .answers) e (known (sc .variables)) σ h)
+  unfolding convert-call Tree.runCall opensE
   good-call-statement sc r (ECall d verb l) s x c t q = call-made sc r d verb l s x c t q
   good-call-statement sc r (EInt a b d e) s x c t q = no-call sc (EInt a b d e) _ s x c t q
   good-call-statement sc r (EFloat a b d) s x c t q = no-call sc (EFloat a b d) _ s x c t q

@@ -8,19 +8,12 @@ use Prim.Native.Nat.{ℕ, _+_, _≤_}
 use native.Mathlib.Omega.{arith}
 use lib.Dec.{eqb, eqb→eq}
 use Rattle.laws.specs.Fix.{pick}
+use Rattle.laws.proofs.Tests.{and-left, and-right}
 use Rattle.syntax.specs.Syntax.{Text}
 use Rattle.conversion.specs.Ir.{sameText, LabelName, sameLabel, FloatEntry, sameFloat}
 use Rattle.runs.specs.TreeRun.{Values, set}
 use Rattle.runs.proofs.Opens.{bit}
 use Rattle.runs.proofs.Machine.{Same, is, isnt, same, eqb-same, true-T}
-
-and-left : (a b : Bool) → a && b ≡ true → a ≡ true
-and-left true b e = refl
-and-left false b e = e
-
-and-right : (a b : Bool) → a && b ≡ true → b ≡ true
-and-right true b e = e
-and-right false b e = let w : _≡_ {A = ℕ} 0 1 = cc in absurd (omega arith)
 
 pub text-refl : (t : Text) → sameText t t ≡ true
 unfolding sameText

@@ -11,7 +11,7 @@ use lib.ListN.{getElem?}
 use Rattle.laws.proofs.Prefixes.{get-append}
 use Rattle.conversion.specs.Ir.{Instr, Copy, Unary, Binary, Cast, Zero, Arg, Call, Label, Jump, JumpIfNot, Return, Comment}
 use Rattle.conversion.specs.Scope.{Variable}
-use Rattle.runs.specs.Rule.{ValueOrStop, gives, halt, Truth, holds, fails, halts, Typed, CallsMade, Reply, comes, pending, Ending, passed, returns, halted}
+use Rattle.runs.specs.Rule.{ValueOrStop, gives, halt, Truth, holds, fails, halts, TypedValue, CallsMade, Reply, comes, pending, Ending, passed, returns, halted}
 use Rattle.runs.specs.TreeRun.{Ran, held, unfinished}
 use Rattle.runs.specs.BodyRun.{Vars, Spot, spot, over, waits, lost, bodyRun}
 use Rattle.runs.specs.Shared.{callsT, endT, callsB, endB, Shared, SameRuns}
@@ -88,7 +88,7 @@ finish-calls (gives v) h = refl
 finish-calls halt h = refl
 
 module _ {W : Type 0} (X : Ctx W) where
-  exec-keeps : (j : Instr) (r : Code) (z : Queue W) (ρ : Vars W) (h : CallsMade W) (i : ℕ) (q : ℕ × List (Typed W)) → getElem? h i ≡ some q
+  exec-keeps : (j : Instr) (r : Code) (z : Queue W) (ρ : Vars W) (h : CallsMade W) (i : ℕ) (q : ℕ × List (TypedValue W)) → getElem? h i ≡ some q
       → getElem? (callsM (exec (X .rule) (X .answers) (body X) j r z ρ h)) i ≡ some q
   unfolding exec callsM
   exec-keeps (Copy d a) r z ρ h i q e = rw put-calls e
@@ -105,7 +105,7 @@ module _ {W : Type 0} (X : Ctx W) where
   exec-keeps (Return o) r z ρ h i q e = rw finish-calls e
   exec-keeps (Comment s) r z ρ h i q e = e
 
-  step-keeps : (c : Cfg W) (i : ℕ) (q : ℕ × List (Typed W)) → getElem? (callsM c) i ≡ some q → getElem? (callsM (step (X .rule) (X .answers) (body X) c)) i ≡ some q
+  step-keeps : (c : Cfg W) (i : ℕ) (q : ℕ × List (TypedValue W)) → getElem? (callsM c) i ≡ some q → getElem? (callsM (step (X .rule) (X .answers) (body X) c)) i ≡ some q
   unfolding step callsM
   step-keeps (at [] z ρ h) i q e = e
   step-keeps (at (j ∷ r) z ρ h) i q e = exec-keeps j r z ρ h i q e
@@ -116,7 +116,7 @@ module _ {W : Type 0} (X : Ctx W) where
   abbrev after : ℕ → Cfg W → Cfg W
   after n c = steps (X .rule) (X .answers) (body X) n c
 
-  steps-keep : (n : ℕ) (c : Cfg W) (i : ℕ) (q : ℕ × List (Typed W)) → getElem? (callsM c) i ≡ some q → getElem? (callsM (after n c)) i ≡ some q
+  steps-keep : (n : ℕ) (c : Cfg W) (i : ℕ) (q : ℕ × List (TypedValue W)) → getElem? (callsM c) i ≡ some q → getElem? (callsM (after n c)) i ≡ some q
   unfolding steps
   steps-keep zero c i q e = e
   steps-keep (suc n) c i q e = steps-keep n (step (X .rule) (X .answers) (body X) c) i q (step-keeps c i q e)
@@ -167,13 +167,13 @@ module _ {W : Type 0} (X : Ctx W) where
   sum (hanging p) = hung refl p
 
   module _ (o : Ran W) (c : Cfg W) (n : ℕ) where
-    calls-there : Sum n c o → (k : ℕ) (q : ℕ × List (Typed W)) → getElem? (callsT o) k ≡ some q → (m : ℕ) × (getElem? (callsM (after m c)) k ≡ some q)
+    calls-there : Sum n c o → (k : ℕ) (q : ℕ × List (TypedValue W)) → getElem? (callsT o) k ≡ some q → (m : ℕ) × (getElem? (callsM (after m c)) k ≡ some q)
     unfolding callsM
     calls-there (settled x e1 p) k q e = (p .many, rw (p .comes) e)
     calls-there (going j z1 ρ e1 p u) k q e = (p .many, rw (p .comes) e)
     calls-there (hung e1 p) k q e = (p .many, rw (p .comes) e)
 
-    calls-back : Sum n c o → (k : ℕ) (q : ℕ × List (Typed W)) → getElem? (callsM (after n c)) k ≡ some q → getElem? (callsT o) k ≡ some q
+    calls-back : Sum n c o → (k : ℕ) (q : ℕ × List (TypedValue W)) → getElem? (callsM (after n c)) k ≡ some q → getElem? (callsT o) k ≡ some q
     unfolding callsM
     calls-back (settled x e1 p) k q e = go (decLe n (p .many))
       where

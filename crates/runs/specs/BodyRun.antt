@@ -9,7 +9,7 @@ use lib.ListN.{getElem?, getD}
 use Rattle.laws.specs.Fix.{pick}
 use Rattle.syntax.specs.Syntax.{Text}
 use Rattle.conversion.specs.Ir.{Operand, OVar, OInt, OFloat, OBool, ODataAddress, ONull, Instr, Copy, Unary, Binary, Cast, Zero, Arg, Call, Label, Jump, JumpIfNot, Return, Comment, FloatEntry}
-use Rattle.runs.specs.Rule.{ValueOrStop, gives, halt, Truth, holds, fails, halts, Typed, CallsMade, Rule, Reply, comes, pending, Answers, IntLiteral, FloatLiteral, BoolLiteral, StringLiteral, NullLiteral, Datum, constant, computed, read, Ending, passed, returns, halted}
+use Rattle.runs.specs.Rule.{ValueOrStop, gives, halt, Truth, holds, fails, halts, TypedValue, CallsMade, Rule, Reply, comes, pending, Answers, IntLiteral, FloatLiteral, BoolLiteral, StringLiteral, NullLiteral, Datum, constant, computed, read, Ending, passed, returns, halted}
 
 -- the instructions of a function, each variable with its type from the function's table; its return type; the program's strings and floats
 pub record FlatBody : Type 0 where
@@ -62,35 +62,35 @@ labelPlace (i ∷ r) l = elim (isLabel l i) [ true ↦ some 0 | false ↦ oneOn 
 -- where the run stands: at an instruction, with the arguments that wait, the variables and the calls so far; or at its end; or held up by a
 -- reply that is pending; or nowhere, after a jump to a label that is placed nowhere: such a run never ends, and makes no further call
 pub data Spot (W : Type 0) : Type 0 where
-  spot : ℕ → List (Typed W) → Vars W → CallsMade W → Spot W
+  spot : ℕ → List (TypedValue W) → Vars W → CallsMade W → Spot W
   over : Ending W → CallsMade W → Spot W
   waits : CallsMade W → Spot W
   lost : CallsMade W → Spot W
 
 -- the answer u into the variable d, then on at p; 'A stop ends either run'
-unfoldable pub putTo : {W : Type 0} → ValueOrStop W → ℕ → ℕ → List (Typed W) → Vars W → CallsMade W → Spot W
+unfoldable pub putTo : {W : Type 0} → ValueOrStop W → ℕ → ℕ → List (TypedValue W) → Vars W → CallsMade W → Spot W
 putTo (gives v) d p q ρ h = spot p q (write ρ d v) h
 putTo halt d p q ρ h = over halted h
 
-unfoldable pub dropTo : {W : Type 0} → ValueOrStop W → ℕ → List (Typed W) → Vars W → CallsMade W → Spot W
+unfoldable pub dropTo : {W : Type 0} → ValueOrStop W → ℕ → List (TypedValue W) → Vars W → CallsMade W → Spot W
 dropTo (gives v) p q ρ h = spot p q ρ h
 dropTo halt p q ρ h = over halted h
 
 -- the same of a reply
-unfoldable pub putReply : {W : Type 0} → Reply W → ℕ → ℕ → List (Typed W) → Vars W → CallsMade W → Spot W
+unfoldable pub putReply : {W : Type 0} → Reply W → ℕ → ℕ → List (TypedValue W) → Vars W → CallsMade W → Spot W
 putReply (comes u) d p q ρ h = putTo u d p q ρ h
 putReply pending d p q ρ h = waits h
 
-unfoldable pub dropReply : {W : Type 0} → Reply W → ℕ → List (Typed W) → Vars W → CallsMade W → Spot W
+unfoldable pub dropReply : {W : Type 0} → Reply W → ℕ → List (TypedValue W) → Vars W → CallsMade W → Spot W
 dropReply (comes u) p q ρ h = dropTo u p q ρ h
 dropReply pending p q ρ h = waits h
 
 -- a jump to a label, by its place
-unfoldable pub jumpTo : {W : Type 0} → Option ℕ → List (Typed W) → Vars W → CallsMade W → Spot W
+unfoldable pub jumpTo : {W : Type 0} → Option ℕ → List (TypedValue W) → Vars W → CallsMade W → Spot W
 jumpTo (some p) q ρ h = spot p q ρ h
 jumpTo none q ρ h = lost h
 
-unfoldable pub branchTo : {W : Type 0} → Truth → ℕ → Option ℕ → List (Typed W) → Vars W → CallsMade W → Spot W
+unfoldable pub branchTo : {W : Type 0} → Truth → ℕ → Option ℕ → List (TypedValue W) → Vars W → CallsMade W → Spot W
 branchTo holds p s q ρ h = spot p q ρ h
 branchTo fails p s q ρ h = jumpTo s q ρ h
 branchTo halts p s q ρ h = over halted h
@@ -100,13 +100,13 @@ finishWith (gives v) h = over (returns v) h
 finishWith halt h = over halted h
 
 module _ {W : Type 0} (R : Rule W) (A : Answers W) (B : FlatBody) where
-  unfoldable pub operand : Vars W → Operand → Typed W
+  unfoldable pub operand : Vars W → Operand → TypedValue W
   operand ρ o = read R (datum (B .strings) (B .floats) ρ o)
 
   -- one instruction, p being the place behind it. 'Copy, Unary, Binary, Cast and Zero write the rule's answer for operands and types. Arg
   -- queues its operand; Call takes the queue and writes its answer, given a destination. Jump goes to its label, JumpIfNot if truth says no;
   -- Label and Comment do nothing. Return ends with the rule's answer'; 'a call that stops was made'
-  unfoldable pub execute : Instr → ℕ → List (Typed W) → Vars W → CallsMade W → Spot W
+  unfoldable pub execute : Instr → ℕ → List (TypedValue W) → Vars W → CallsMade W → Spot W
   execute (Copy d a) p q ρ h = putTo (R .copy (d .ty) (operand ρ a)) (d .id) p q ρ h
   execute (Unary d o a) p q ρ h = putTo (R .unary o (d .ty) (operand ρ a)) (d .id) p q ρ h
   execute (Binary d o a b) p q ρ h = putTo (R .binary o (d .ty) (operand ρ a) (operand ρ b)) (d .id) p q ρ h
@@ -121,7 +121,7 @@ module _ {W : Type 0} (R : Rule W) (A : Answers W) (B : FlatBody) where
   execute (Return a) p q ρ h = finishWith (R .return (B .result) (operand ρ a)) h
   execute (Comment r) p q ρ h = spot p q ρ h
 
-  unfoldable pub fetch : Option Instr → ℕ → List (Typed W) → Vars W → CallsMade W → Spot W
+  unfoldable pub fetch : Option Instr → ℕ → List (TypedValue W) → Vars W → CallsMade W → Spot W
   fetch none p q ρ h = over passed h
   fetch (some i) p q ρ h = execute i (suc p) q ρ h
 

@@ -16,12 +16,12 @@ pub data Truth : Type 0 where
   holds fails halts : Truth
 
 -- a value with its type's record
-abbrev pub Typed : Type 0 → Type 0
-Typed W = ℕ × W
+abbrev pub TypedValue : Type 0 → Type 0
+TypedValue W = ℕ × W
 
 -- calls so far, in order: the function's record and its arguments
 abbrev pub CallsMade : Type 0 → Type 0
-CallsMade W = List (ℕ × List (Typed W))
+CallsMade W = List (ℕ × List (TypedValue W))
 
 -- what a literal is, without its type; a float by its bits
 pub data Content : Type 0 where
@@ -34,18 +34,18 @@ pub data Content : Type 0 where
 pub record Rule (W : Type 0) : Type 0 where
   pub literal : Content → ℕ → W
   -- into a type
-  pub copy : ℕ → Typed W → ValueOrStop W
+  pub copy : ℕ → TypedValue W → ValueOrStop W
   -- the Zero of a type
   pub zero : ℕ → ValueOrStop W
   -- the result's type, the operands
-  pub unary : UnaryOp → ℕ → Typed W → ValueOrStop W
-  pub binary : BinaryOp → ℕ → Typed W → Typed W → ValueOrStop W
-  pub cast : ℕ → Typed W → ValueOrStop W
-  pub truth : Typed W → Truth
+  pub unary : UnaryOp → ℕ → TypedValue W → ValueOrStop W
+  pub binary : BinaryOp → ℕ → TypedValue W → TypedValue W → ValueOrStop W
+  pub cast : ℕ → TypedValue W → ValueOrStop W
+  pub truth : TypedValue W → Truth
   -- the function's return type, what it returns
-  pub return : Option ℕ → Typed W → ValueOrStop W
+  pub return : Option ℕ → TypedValue W → ValueOrStop W
   -- the calls before, the function's record, its arguments
-  pub call : CallsMade W → ℕ → List (Typed W) → ValueOrStop W
+  pub call : CallsMade W → ℕ → List (TypedValue W) → ValueOrStop W
 
 -- Who answers calls is a parameter of both runs: told the calls before, the function's record, the type of the result's destination (`none` for
 -- a call statement) and the arguments, it gives a reply, and the calls that were made for it. A reply that is still pending holds the run up: it
@@ -55,7 +55,7 @@ pub data Reply (W : Type 0) : Type 0 where
   pending : Reply W
 
 abbrev pub Answers : Type 0 → Type 0
-Answers W = CallsMade W → ℕ → Option ℕ → List (Typed W) → Reply W × CallsMade W
+Answers W = CallsMade W → ℕ → Option ℕ → List (TypedValue W) → Reply W × CallsMade W
 
 -- answered by the rule, always, with one call: the answers of demand 3
 unfoldable pub asked : {W : Type 0} → Rule W → Answers W
@@ -89,11 +89,11 @@ pub data Datum (W : Type 0) : Type 0 where
   constant : Literal → Datum W
   computed : ℕ → W → Datum W
 
-unfoldable pub read : {W : Type 0} → Rule W → Datum W → Typed W
+unfoldable pub read : {W : Type 0} → Rule W → Datum W → TypedValue W
 read R (constant l) = (literalType l, R .literal (content l) (literalType l))
 read R (computed y v) = (y, v)
 
-unfoldable pub readAll : {W : Type 0} → Rule W → List (Datum W) → List (Typed W)
+unfoldable pub readAll : {W : Type 0} → Rule W → List (Datum W) → List (TypedValue W)
 readAll R [] = []
 readAll R (d ∷ ds) = read R d ∷ readAll R ds
 

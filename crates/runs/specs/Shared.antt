@@ -5,7 +5,7 @@ use mathlib.Core.List.{List}
 use mathlib.Core.Option.{Option, none, some}
 use Prim.Native.Nat.{ℕ}
 use lib.ListN.{getElem?}
-use Rattle.runs.specs.Rule.{Typed, CallsMade, Ending, passed, returns, halted}
+use Rattle.runs.specs.Rule.{TypedValue, CallsMade, Ending, passed, returns, halted}
 use Rattle.runs.specs.TreeRun as Tree
 use Rattle.runs.specs.TreeRun.{Ran, normal, broke, continued, returned, held, unfinished}
 use Rattle.runs.specs.BodyRun.{Vars, Spot, spot, over, waits, lost}
@@ -47,7 +47,7 @@ endB (lost h) = none
 -- tree n: the tree's run with n turns of each entry of a loop; body n: the body's run after n steps; result: the function's return type
 pub record Shared {W : Type 0} (tree : ℕ → Ran W) (body : ℕ → Spot W) (result : Option ℕ) : Type 0 where
   -- the one run makes a k-th call, of this function with these arguments, exactly when the other does: also where neither ends
-  pub calls : (k : ℕ) (q : ℕ × List (Typed W)) →
+  pub calls : (k : ℕ) (q : ℕ × List (TypedValue W)) →
       ((n : ℕ) × (getElem? (callsT (tree n)) k ≡ some q)) ↔ ((n : ℕ) × (getElem? (callsB (body n)) k ≡ some q))
   -- the one run ends so, with these calls behind it, exactly when the other does
   pub ends : (e : Ending W) (h : CallsMade W) →
@@ -62,7 +62,7 @@ pub record Shared {W : Type 0} (tree : ℕ → Ran W) (body : ℕ → Spot W) (r
 -- with the same arguments, and end alike'
 pub record SameRuns {W : Type 0} (tree : ℕ → Ran W) (body : ℕ → Spot W) (result : Option ℕ) : Type 0 where
   -- for every k the one makes a k-th call exactly when the other does, of the same function g with the same arguments us
-  pub calls : (k g : ℕ) (us : List (Typed W)) →
+  pub calls : (k g : ℕ) (us : List (TypedValue W)) →
       ((n : ℕ) × (getElem? (callsT (tree n)) k ≡ some (g, us))) ↔ ((n : ℕ) × (getElem? (callsB (body n)) k ≡ some (g, us)))
   -- the one ends exactly when the other does, and alike
   pub ends : (e : Ending W) → ((n : ℕ) × (endT (tree n) ≡ some e)) ↔ ((n : ℕ) × (endB (body n) ≡ some e))

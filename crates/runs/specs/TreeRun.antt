@@ -34,12 +34,12 @@ knownType n [] = none
 knownType n (k ∷ l) = elim (sameText n (k .name)) [ true ↦ some (k .ty) | false ↦ knownType n l ]
 
 -- the known names as the definitions of typing take them; numbers of variables are no part of typing
-unfoldable pub variables : List KnownName → List Variable
-variables [] = []
-variables (k ∷ l) = record { name = k .name; constant = false; var-id = record { id = 0; ty = k .ty } } ∷ variables l
+unfoldable pub knownVariables : List KnownName → List Variable
+knownVariables [] = []
+knownVariables (k ∷ l) = record { name = k .name; constant = false; var-id = record { id = 0; ty = k .ty } } ∷ knownVariables l
 
 unfoldable pub scopeOf : Function → List KnownName → Scope
-scopeOf f l = record { variables = variables l; inLoop = none; function = f }
+scopeOf f l = record { variables = knownVariables l; inLoop = none; function = f }
 
 -- ---- what a part of the run comes to, each with the calls so far
 
@@ -213,15 +213,15 @@ module _ {W : Type 0} (P : Program) (F : Functions) (f : Function) (R : Rule W) 
   evalBinary Rem y q left right h = evalOther Rem y q left right h
 
   -- 'a cast computes all and uses the first'
-  unfoldable pub castFirst : ℕ → List (Datum W) → CallsMade W → Got W (Datum W)
-  castFirst y [] h = stop h
-  castFirst y (u ∷ us) h = answered y (R .cast y (read R u)) h
+  unfoldable pub evalCast : ℕ → List (Datum W) → CallsMade W → Got W (Datum W)
+  evalCast y [] h = stop h
+  evalCast y (u ∷ us) h = answered y (R .cast y (read R u)) h
 
   -- 'A call computes all its arguments, fits them in order, then calls'; y is the type of the variable that the Rust gives the result
   unfoldable pub callWith : ℕ → Callee → Args → List (Datum W) → CallsMade W → Got W (Datum W)
   callWith y (CallFunction g) l vs h = bindG (fitArguments P R 0 vs l g h) λ us h1.
       replied y (A h1 (g .recOf) (some y) (readAll R us) .0) (h1 ++ A h1 (g .recOf) (some y) (readAll R us) .1)
-  callWith y (CallCast t) l vs h = castFirst y vs h
+  callWith y (CallCast t) l vs h = evalCast y vs h
 
   unfoldable mutual
     pub evalExpr : Expr → List KnownName → Values W → CallsMade W → Got W (Datum W)
@@ -282,14 +282,14 @@ module _ {W : Type 0} (P : Program) (F : Functions) (f : Function) (R : Rule W) 
       bindO (handed (A h2 (g .recOf) none (readAll R us) .0) (h2 ++ A h2 (g .recOf) none (readAll R us) .1)) λ v h3. normal σ h3
 
   -- 'A call statement whose expression is no call is typed and never run'
-  unfoldable pub callStatement : Expr → List KnownName → Values W → CallsMade W → Ran W
-  callStatement e N σ h = asCall e (normal σ h) λ c verb l. typedO (resolve-call P F verb l (scopeOf f N) c) h λ callee. callOnly callee l N σ h
+  unfoldable pub runCall : Expr → List KnownName → Values W → CallsMade W → Ran W
+  runCall e N σ h = asCall e (normal σ h) λ c verb l. typedO (resolve-call P F verb l (scopeOf f N) c) h λ callee. callOnly callee l N σ h
 
   -- 'While tests truth': at most n turns
-  unfoldable pub turns : ℕ → (Values W → CallsMade W → Got W (Datum W)) → (Values W → CallsMade W → Ran W) → Values W → CallsMade W → Ran W
-  turns zero cond body σ h = unfinished h
-  turns (suc n) cond body σ h = bindO (cond σ h) λ v h1.
-      testO (R .truth (read R v)) h1 (bindT (body σ h1) λ σ2 h2. turns n cond body σ2 h2) (normal σ h1)
+  unfoldable pub runWhile : ℕ → (Values W → CallsMade W → Got W (Datum W)) → (Values W → CallsMade W → Ran W) → Values W → CallsMade W → Ran W
+  runWhile zero cond body σ h = unfinished h
+  runWhile (suc n) cond body σ h = bindO (cond σ h) λ v h1.
+      testO (R .truth (read R v)) h1 (bindT (body σ h1) λ σ2 h2. runWhile n cond body σ2 h2) (normal σ h1)
 
   -- a For over x of type y: 'each turn tests, as a Bool, variable < fitted `until`', here computed and fitted anew each turn as the Rust does;
   -- '`continue` and the body's end add a literal 1 of its type', the sum written straight
@@ -302,18 +302,18 @@ module _ {W : Type 0} (P : Program) (F : Functions) (f : Function) (R : Rule W) 
       (normal σ h3)
 
   -- 'For copies the fitted `from` in'
-  unfoldable pub forLoop : ℕ → Text → ℕ → Literal → Expr → Expr → List KnownName → (Values W → CallsMade W → Ran W) → Values W → CallsMade W → Ran W
-  forLoop n x y one from until N body σ h = bindO (evalExpr from N σ h) λ d h1. bindO (fit P R y d h1) λ d1 h2.
+  unfoldable pub runFor : ℕ → Text → ℕ → Literal → Expr → Expr → List KnownName → (Values W → CallsMade W → Ran W) → Values W → CallsMade W → Ran W
+  runFor n x y one from until N body σ h = bindO (evalExpr from N σ h) λ d h1. bindO (fit P R y d h1) λ d1 h2.
       bindO (bare (R .copy y (read R d1)) h2) λ v h3. rounds n x y one (λ σ1 h4. evalExpr until N σ1 h4) body (set σ x v) h3
 
-  unfoldable pub forInt : ℕ → Text → ℕ → Expr → Expr → List KnownName → (Values W → CallsMade W → Ran W) → Values W → CallsMade W → Ran W
-  forInt n x y from until N body σ h = onInt (P .typeOf y) (stopped h) λ short unsigned.
-      forLoop n x y (IntLiteral (pos 1) short unsigned) from until N body σ h
+  unfoldable pub runForInt : ℕ → Text → ℕ → Expr → Expr → List KnownName → (Values W → CallsMade W → Ran W) → Values W → CallsMade W → Ran W
+  runForInt n x y from until N body σ h = onInt (P .typeOf y) (stopped h) λ short unsigned.
+      runFor n x y (IntLiteral (pos 1) short unsigned) from until N body σ h
 
   -- a variable of the loop's own, or of the blocks around; the body runs with the names that it is given
   unfoldable pub forOver : ℕ → Text → Option ℕ → Option ℕ → Expr → Expr → List KnownName → (List KnownName → Values W → CallsMade W → Ran W) → Values W → CallsMade W → Ran W
-  forOver n x (some y) o from until N body σ h = forInt n x y from until N (body (record { name = x; ty = y } ∷ N)) σ h
-  forOver n x none (some y) from until N body σ h = forInt n x y from until N (body N) σ h
+  forOver n x (some y) o from until N body σ h = runForInt n x y from until N (body (record { name = x; ty = y } ∷ N)) σ h
+  forOver n x none (some y) from until N body σ h = runForInt n x y from until N (body N) σ h
   forOver n x none none from until N body σ h = stopped h
 
   -- the names that are known after a statement
@@ -344,11 +344,11 @@ module _ {W : Type 0} (P : Program) (F : Functions) (f : Function) (R : Rule W) 
     runStatement (SDeclare r n y) k N σ h = store n (zeroOf P R y (P .typeOf y)) σ h
     runStatement (SInit r c n e) k N σ h = initialise c (knownType n N) n e N σ h
     runStatement (SReturn r e) k N σ h = giveBack (f .returnType) e N σ h
-    runStatement (SCall r e) k N σ h = callStatement e N σ h
+    runStatement (SCall r e) k N σ h = runCall e N σ h
     runStatement (SIf r e a) k N σ h = bindO (evalExpr e N σ h) λ v h1. testO (R .truth (read R v)) h1 (runBlock a k N σ h1) (normal σ h1)
     runStatement (SIfElse r e a b) k N σ h = bindO (evalExpr e N σ h) λ v h1.
         testO (R .truth (read R v)) h1 (runBlock a k N σ h1) (runBlock b k N σ h1)
-    runStatement (SWhile r e a) k N σ h = turns k (λ σ1 h1. evalExpr e N σ1 h1) (λ σ1 h1. runBlock a k N σ1 h1) σ h
+    runStatement (SWhile r e a) k N σ h = runWhile k (λ σ1 h1. evalExpr e N σ1 h1) (λ σ1 h1. runBlock a k N σ1 h1) σ h
     runStatement (SFor r x y from until a) k N σ h = forOver k x y (knownType x N) from until N (λ N1 σ1 h1. runBlock a k N1 σ1 h1) σ h
     runStatement (SBreak r) k N σ h = broke σ h
     runStatement (SContinue r) k N σ h = continued σ h

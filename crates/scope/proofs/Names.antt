@@ -29,14 +29,14 @@ use Rattle.scope.specs.declared.Scope.{Scope}
 use Rattle.scope.specs.declared.Known.{Known}
 use Rattle.scope.specs.declared.Known.the-variants as Known
 use Rattle.scope.specs.declared.Declared.the-variants as Declared
-use Rattle.scope.specs.Open.{variableAt, variablesAt, variablesOf, NamesRoom, nameIs, wordsAre, nameSlotAt, openAt, Told, SlotTells, VariableAt, IsFound, FindMeets, more, variable, nameEntry, nameAdded, NameAfforded, DeclareMeets}
+use Rattle.scope.specs.Open.{openVariable, variablesAt, variablesOf, NamesRoom, nameIs, wordsAre, nameSlotAt, openAt, ToldApart, SlotTells, VariableAt, IsFound, FindMeets, more, variableNamed, nameEntry, nameAdded, NameAfforded, DeclareMeets}
 use Rattle.scope.proofs.ScopeLaws.{Kept, kept-above, word-kept, variables-kept, withEntry, entry-fits, slot-fits, slot-keeps}
 
 -- ---- the search is the definition's
 
 -- the entry of what the search found
 abbrev entryAt : List ℕ → List ℕ → ℕ → Option ℕ → Option Variable
-entryAt text s n (some j) = some (variableAt text s (8 * n + 16 * j))
+entryAt text s n (some j) = some (openVariable text s (8 * n + 16 * j))
 entryAt text s n none = none
 
 -- what the definition finds is the entry of what the search finds
@@ -46,7 +46,7 @@ search-is text s n u zero = refl
 search-is text s n u (suc j) = go (search-is text s n u j) (nameIs text s n u j) refl
   where
     go : findIn u (variablesAt text s n j) ≡ entryAt text s n (last j (nameIs text s n u)) → (b : Bool) → nameIs text s n u j ≡ b
-        → elim (sameText u (variableAt text s (8 * n + 16 * j) .name)) [ true ↦ some (variableAt text s (8 * n + 16 * j)) | false ↦ findIn u (variablesAt text s n j) ]
+        → elim (sameText u (openVariable text s (8 * n + 16 * j) .name)) [ true ↦ some (openVariable text s (8 * n + 16 * j)) | false ↦ findIn u (variablesAt text s n j) ]
         ≡ entryAt text s n (pick (nameIs text s n u j) (some j) (last j (nameIs text s n u)))
     go rest true e = rw e
     go rest false e = rw e rest
@@ -56,7 +56,7 @@ module _ (text s : List ℕ) (sc : Scope) (u : List ℕ) (o : Option ℕ) (e : l
   looked : findIn u (variablesOf text s sc) ≡ entryAt text s (sc .records) o
   looked = search-is text s (sc .records) u (sc .names) ∙ ap (entryAt text s (sc .records)) e
 
-is-entry : (text s : List ℕ) (p : ℕ) (r : Known) → VariableAt s p r → IsFound r (some (variableAt text s p))
+is-entry : (text s : List ℕ) (p : ℕ) (r : Known) → VariableAt s p r → IsFound r (some (openVariable text s p))
 unfolding VariableAt IsFound
 is-entry text s p (Known.Is v c) a = a
 is-entry text s p Known.Unknown a = absurd a
@@ -211,10 +211,10 @@ module _ (text : List ℕ) (o offset len : ℕ) (v : VarId) (constant : Bool) (s
         ∙ word-there s₁ (nameSlotAt (sc .records) o) (word (sc .names)) (slot-fits o offset len v constant sc s room afforded inside) 0 (nameSlotAt (sc .records) o) (omega arith) (omega arith)
         ∙ word-back (sc .names) (afforded .place)
 
-    entry-is : variableAt text s′ place ≡ variable text offset len v constant
+    entry-is : openVariable text s′ place ≡ variableNamed text offset len v constant
     entry-is = rw (word₀, word₁, word₂, word₃, ← typed-mark (v .1) constant, ← fixed-mark (v .1) constant)
 
-    added-is : variablesOf text s′ (more sc) ≡ variable text offset len v constant ∷ variablesOf text s sc
+    added-is : variablesOf text s′ (more sc) ≡ variableNamed text offset len v constant ∷ variablesOf text s sc
     unfolding variablesAt
     added-is =
         ap (variablesAt text s′ (sc .records)) (add-one (sc .names))
@@ -244,7 +244,7 @@ pub declare-taken : (text : List ℕ) (o offset len : ℕ) (v : VarId) (constant
 unfolding DeclareMeets
 declare-taken text o offset len v constant sc s j q = record {
   same = refl;
-  holder = variableAt text s (8 * sc .records + 16 * j);
+  holder = openVariable text s (8 * sc .records + 16 * j);
   found = looked text s sc (textAt text offset len) (some j) q;
 }
 
@@ -260,7 +260,7 @@ module _ (s : List ℕ) (sc : Scope) (o offset len : ℕ) (a : Found) (e : a ≡
   found-below j q =
       open-holds s (sc .records) (sc .names) o offset len j (found-some (openAt s (sc .records) (sc .names) o offset len) j a e q) .0
 
-  module _ (text : List ℕ) (told : Told text s sc offset len) (tells : SlotTells s sc o offset len) where
+  module _ (text : List ℕ) (told : ToldApart text s sc offset len) (tells : SlotTells s sc o offset len) where
     abbrev search-of : Option ℕ
     search-of = last (sc .names) (nameIs text s (sc .records) (textAt text offset len))
 

@@ -25,7 +25,7 @@ use Rattle.scope.specs.declared.Scope.{Scope}
 use Rattle.scope.specs.declared.Known.the-variants as Known
 use Rattle.scope.specs.declared.InLoop.{InLoop}
 use Rattle.scope.specs.declared.InLoop.the-variants as InLoop
-use Rattle.scope.specs.Open.{variableAt, variablesAt, variablesOf, loopNumber, scopeAt, NamesRoom, IsFound, FindMeets, variable, nameSlotAt, nameEntry, nameAdded, NameAfforded, Added, Taken, within, loopOf}
+use Rattle.scope.specs.Open.{openVariable, variablesAt, variablesOf, loopNumber, scopeAt, NamesRoom, IsFound, FindMeets, variableNamed, nameSlotAt, nameEntry, nameAdded, NameAfforded, Added, Taken, within, loopOf}
 use Rattle.records.proofs.Apart.{byte-apart, word-same}
 
 -- ---- bytes that stay
@@ -71,7 +71,7 @@ module _ (text s s′ : List ℕ) (n m : ℕ) (k : Kept n m s s′) where
       (k .bytes (p + 2) (omega arith) (omega arith))
       (k .bytes (p + 3) (omega arith) (omega arith))
 
-  variable-kept : (p : ℕ) → 8 * n ≤ p → p + 16 ≤ 8 * n + 16 * m → variableAt text s′ p ≡ variableAt text s p
+  variable-kept : (p : ℕ) → 8 * n ≤ p → p + 16 ≤ 8 * n + 16 * m → openVariable text s′ p ≡ openVariable text s p
   variable-kept p a b =
       rw (word-kept p a (omega arith), word-kept (p + 4) (omega arith) (omega arith), word-kept (p + 8) (omega arith) (omega arith), word-kept (p + 12) (omega arith) (omega arith))
 
@@ -121,7 +121,7 @@ module _ (o offset len : ℕ) (v : VarId) (constant : Bool) (sc : Scope) (s : Li
 
 module _ (tree text : List ℕ) (o offset len : ℕ) (v : VarId) (constant : Bool) (sc : Scope) (s s′ : List ℕ) where
   abbrev new : Variable
-  new = variable text offset len v constant
+  new = variableNamed text offset len v constant
 
   module _ (sc′ : Scope) (a : Added text o offset len v constant sc s s′ sc′) where
     pub added-room : NamesRoom sc s → NameAfforded sc v → o < sc .records → NamesRoom sc′ s′
@@ -130,10 +130,10 @@ module _ (tree text : List ℕ) (o offset len : ℕ) (v : VarId) (constant : Boo
         (record { scratch = omega (arith, added-long o offset len v constant sc s r f h s′ (a .written), r .scratch); names-in = omega (arith, f .names) })
 
     -- the entry behind the others is the variable's
-    pub added-entry : variableAt text s′ (8 * sc .records + 16 * sc .names) ≡ new
+    pub added-entry : openVariable text s′ (8 * sc .records + 16 * sc .names) ≡ new
     unfolding variablesAt
     added-entry =
-        let e : variableAt text s′ (8 * sc .records + 16 * sc .names) ∷ variablesAt text s′ (sc .records) (sc .names) ≡ new ∷ variablesOf text s sc =
+        let e : openVariable text s′ (8 * sc .records + 16 * sc .names) ∷ variablesAt text s′ (sc .records) (sc .names) ≡ new ∷ variablesOf text s sc =
         ap (variablesAt text s′ (sc .records)) (sym (add-one (sc .names))) ∙ (rw (a .scope) at (a .added)) in
         cc
 

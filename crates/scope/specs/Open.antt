@@ -37,13 +37,13 @@ varAt s p = record { id = wordAt s (p + 8); ty = wordAt s (p + 12) / 2 }
 abbrev pub constantAt : List ℕ → ℕ → Bool
 constantAt s p = eqb (wordAt s (p + 12) % 2) 1
 
-abbrev pub variableAt : List ℕ → List ℕ → ℕ → Variable
-variableAt text s p = record { name = textAt text (wordAt s p) (wordAt s (p + 4)); constant = constantAt s p; var-id = varAt s p }
+abbrev pub openVariable : List ℕ → List ℕ → ℕ → Variable
+openVariable text s p = record { name = textAt text (wordAt s p) (wordAt s (p + 4)); constant = constantAt s p; var-id = varAt s p }
 
 -- the first `count` entries from byte 8n on, innermost first: the innermost stands last
 unfoldable pub variablesAt : List ℕ → List ℕ → ℕ → ℕ → List Variable
 variablesAt text s n zero = []
-variablesAt text s n (suc j) = variableAt text s (8 * n + 16 * j) ∷ variablesAt text s n j
+variablesAt text s n (suc j) = openVariable text s (8 * n + 16 * j) ∷ variablesAt text s n j
 
 -- the open names of a scope
 abbrev pub variablesOf : List ℕ → List ℕ → Scope → List Variable
@@ -86,8 +86,8 @@ openAt s n count o offset len =
     pick (ltb j count && wordsAre s n offset len j) (some j) none
 
 -- the two words tell the text that they say from those of the open names: an entry has the text exactly where it has the words
-abbrev pub Told : List ℕ → List ℕ → Scope → ℕ → ℕ → Type 0
-Told text s sc offset len = (j : ℕ) → j < sc .names → nameIs text s (sc .records) (textAt text offset len) j ≡ wordsAre s (sc .records) offset len j
+abbrev pub ToldApart : List ℕ → List ℕ → Scope → ℕ → ℕ → Type 0
+ToldApart text s sc offset len = (j : ℕ) → j < sc .names → nameIs text s (sc .records) (textAt text offset len) j ≡ wordsAre s (sc .records) offset len j
 
 -- the slot of o tells where they stand: an open name with the two words is the one that it says
 abbrev pub SlotTells : List ℕ → Scope → ℕ → ℕ → ℕ → Type 0
@@ -111,15 +111,15 @@ FindMeets text s sc u r = IsFound r (findIn u (variablesOf text s sc))
 -- the same of a number and two words, in every text where the words tell the name and the slot its place
 abbrev pub FindsTold : List ℕ → Scope → ℕ → ℕ → ℕ → Known → Type 0
 FindsTold s sc o offset len r =
-    (text : List ℕ) → Told text s sc offset len → SlotTells s sc o offset len → FindMeets text s sc (textAt text offset len) r
+    (text : List ℕ) → ToldApart text s sc offset len → SlotTells s sc o offset len → FindMeets text s sc (textAt text offset len) r
 
 -- ---- one name more
 
 abbrev pub more : Scope → Scope
 more sc = record { records = sc .records; names = sc .names + 1; inner = sc .inner; function = sc .function }
 
-abbrev pub variable : List ℕ → ℕ → ℕ → VarId → Bool → Variable
-variable text offset len v constant = record { name = textAt text offset len; constant = constant; var-id = varOf v }
+abbrev pub variableNamed : List ℕ → ℕ → ℕ → VarId → Bool → Variable
+variableNamed text offset len v constant = record { name = textAt text offset len; constant = constant; var-id = varOf v }
 
 -- the entry of a variable
 abbrev pub nameEntry : ℕ → ℕ → VarId → Bool → List ℕ
@@ -147,7 +147,7 @@ module _ (text : List ℕ) (o offset len : ℕ) (v : VarId) (constant : Bool) (s
     pub offset-is : wordAt s′ (8 * sc .records + 16 * sc .names) ≡ offset
     pub length-is : wordAt s′ (8 * sc .records + 16 * sc .names + 4) ≡ len
     pub slot-is : wordAt s′ (nameSlotAt (sc .records) o) ≡ sc .names
-    pub added : variablesOf text s′ sc′ ≡ variable text offset len v constant ∷ variablesOf text s sc
+    pub added : variablesOf text s′ sc′ ≡ variableNamed text offset len v constant ∷ variablesOf text s sc
 
   -- some variable has the name, and nothing is written
   pub record Taken : Type 0 where
@@ -162,7 +162,7 @@ module _ (text : List ℕ) (o offset len : ℕ) (v : VarId) (constant : Bool) (s
 -- `declare` of a number and two words, in every text where the words tell the name and the slot its place
 abbrev pub DeclaresTold : ℕ → ℕ → ℕ → VarId → Bool → Scope → List ℕ → List ℕ → Declared → Type 0
 DeclaresTold o offset len v constant sc s s′ r =
-    (text : List ℕ) → Told text s sc offset len → SlotTells s sc o offset len → DeclareMeets text o offset len v constant sc s s′ r
+    (text : List ℕ) → ToldApart text s sc offset len → SlotTells s sc o offset len → DeclareMeets text o offset len v constant sc s s′ r
 
 -- ---- loops
 

@@ -15,8 +15,9 @@ use Rattle.records.specs.declared.shape.Role.the-variants.{Arguments}
 use Rattle.records.specs.declared.convert_error.ConvertError.{ConvertError}
 use Rattle.records.specs.Words.{wordOf, records, none, A, B, C}
 use Rattle.records.specs.Good.{Good}
-use Rattle.syntax.specs.Syntax.{Args, noArgs, Value, ToType}
+use Rattle.syntax.specs.Syntax.{Args, noArgs, ToType}
 use Rattle.syntax.specs.Count.{under, argsRecords, argsUnder, argsValues}
+use Rattle.conversion.proofs.Sizes.{args-count}
 use Rattle.syntax.specs.Decode.{program}
 use Rattle.syntax.specs.Places.{IsExpr, IsKind, ArgsAt, exprAt, argsAt}
 use Rattle.syntax.proofs.Records.{expr-call}
@@ -55,11 +56,11 @@ use Rattle.statements.specs.declared.answers.Converted.{Converted}
 use Rattle.statements.specs.declared.answers.Converted.the-variants as Converted
 use Rattle.statements.specs.declared.answers.ConvertedArgs.{ConvertedArgs}
 use Rattle.statements.specs.declared.answers.ConvertedArgs.the-variants as ConvertedArgs
-use Rattle.statements.specs.Stack.{entryAt, operandBytes, operandAt, stackAt}
+use Rattle.statements.specs.Stack.{stackEntryAt, operandBytes, operandAt, stackAt}
 use Rattle.statements.specs.Converting.{Converting, withCounters, Afforded, ExprAfforded, ArgsAfforded, exprAmount, argsAmount, OperandIn, StackIn, Stays, StaysFor, NamesStay}
 use Rattle.statements.specs.Meets.{AddsIn}
 use Rattle.statements.specs.Parts.{finishCall}
-use Rattle.statements.specs.Answers.{convertedOf, argsOf, Converts, ConvertsArgs, exprSteps, argsSteps, callSteps}
+use Rattle.statements.specs.Answers.{convertedOf, convertedArgsOf, Converts, ConvertsArgs, exprSteps, argsSteps, callSteps}
 use Rattle.statements.specs.Turns.{InTurn, TypedIn, exprTypes, argsTypes, ConvertsTyped, ArgumentsTyped}
 use Rattle.statements.proofs.MeetLaws.{meets-gave, meets-refused, meets-most, meets-then, meets-stop, meets-lift, meets-lift-stop}
 use Rattle.statements.proofs.StayLaws.{stays-refl, names-refl, names-then, names-of, frame-names, stays-then, frame-stays, operand-stays, scope-stays, ready-stays, operand-kept, stack-kept, converting-next, converting-frame}
@@ -72,12 +73,6 @@ module _ (tree text : List ℕ) (S : Def.Scope) where
   argsIn w = convert-args (program tree text) (allKeys tree text) (argsAt tree text w) S
 
 -- a value is three records at least: a list cell, a kind 13 and an expression
-pub args-count : (l : Args) → argsUnder l + 3 * argsValues l ≤ argsRecords l
-unfolding argsUnder argsValues argsRecords under
-args-count noArgs = omega arith
-args-count (Value r e l) = omega (arith, args-count l)
-args-count (ToType r y l) = omega (arith, args-count l)
-
 -- ---- the call around its values
 
 pub record CalleeIs (tree text : List ℕ) (a : Resolved) : Type 0 where
@@ -136,7 +131,7 @@ module _ {tree text l s : List ℕ} {c : Converter} {e : ℕ} (p : Converting tr
     args-stop y {z} not w =
         let to = callee-is tree text callee not in record {
           meets = meets-lift text (rest y) (p .room) (m .meets ∙ to .is) (meets-stop text (λ os. finishCall (program tree text) (allKeys tree text) e y (argsAt tree text W) os (to .to)) (n .meets .long)
-              (subst (λ (q : M (List Ir.Operand)). StopsIn text q (c .counters) l (z .kind) (z .place)) same-args (n .meets .stops z (ap (argsOf s₂ (records tree) (c .operands)) w))));
+              (subst (λ (q : M (List Ir.Operand)). StopsIn text q (c .counters) l (z .kind) (z .place)) same-args (n .meets .stops z (ap (convertedArgsOf s₂ (records tree) (c .operands)) w))));
           operand = λ o k h. let z : _≡_ {A = ℕ} 0 1 = cc in absurd (omega arith);
           stays = stays-then (omega arith) (omega arith) called-stays (n .stays);
           names = names-then (frame-names (m .frame)) (n .names);
@@ -144,7 +139,7 @@ module _ {tree text l s : List ℕ} {c : Converter} {e : ℕ} (p : Converting tr
 
     module _ {count : ℕ} {k : Counters} (w : a ≡ ConvertedArgs.Done count k) where
       gives : AddsIn text (argsSteps tree text s₁ c W) (argsAmount (argsUnder (argsAt tree text W)) (argsValues (argsAt tree text W))) (c .counters) l (stackAt s₂ (records tree) (c .operands) count) k l₁
-      gives = n .meets .gives (stackAt s₂ (records tree) (c .operands) count) k (ap (argsOf s₂ (records tree) (c .operands)) w)
+      gives = n .meets .gives (stackAt s₂ (records tree) (c .operands) count) k (ap (convertedArgsOf s₂ (records tree) (c .operands)) w)
 
       pub finish-converting : Converting tree text l₁ s₂ (withCounters c k)
       finish-converting = converting-next called-converting (gives .next) (n .stays)
@@ -378,14 +373,14 @@ module _ {tree text l₀ s₀ : List ℕ} {c : Converter} {e : ℕ} (p : Convert
               names = names-then (i .names) (n .names);
             }
 
-            module _ {o : Operand} {k : Counters} (u : r ≡ Converted.Is o k) (ty : ConvertsTyped exprTypes at v tree text s r s₁) {s₂ : List ℕ} (put : s₂ ≡ splice s₁ (entryAt (records tree) (at .operands)) (operandBytes (operandOf o)))
+            module _ {o : Operand} {k : Counters} (u : r ≡ Converted.Is o k) (ty : ConvertsTyped exprTypes at v tree text s r s₁) {s₂ : List ℕ} (put : s₂ ≡ splice s₁ (stackEntryAt (records tree) (at .operands)) (operandBytes (operandOf o)))
                 (back : operandAt s₂ (records tree) (at .operands) ≡ operandOf o) where
               abbrev pushed : Converter
               pushed = record { functions = at .functions; scope = at .scope; counters = k; operands = at .operands + 1; turn = at .turn }
 
               put-stays : (names operands : ℕ) → operands ≤ at .operands → names ≤ records tree → Stays tree names operands s₁ s₂
               put-stays names operands h m =
-                  operand-stays tree names operands s₁ s₂ (operandBytes (operandOf o)) (entryAt (records tree) (at .operands)) put (operand-long (operandOf o))
+                  operand-stays tree names operands s₁ s₂ (operandBytes (operandOf o)) (stackEntryAt (records tree) (at .operands)) put (operand-long (operandOf o))
                   (omega (arith, n .stays .long, i .converting .ready .keyed .listed .room)) (at .operands) refl h value-room
 
               names-in : at .scope .names ≤ records tree
@@ -444,7 +439,7 @@ module _ {tree text l₀ s₀ : List ℕ} {c : Converter} {e : ℕ} (p : Convert
 
               pushed-turn : TypedIn tree text c s₀ (i .earlier ++ exprTypes tree text v) s₂
               pushed-turn = typed-stay c (typed-both tree text T (c .turn) s₀ s s₁ (i .earlier) (exprTypes tree text v) (i .earlier-typed) value-typed)
-                  (turns-entry tree s₁ s₂ (operandBytes (operandOf o)) (entryAt (records tree) (at .operands)) put (operand-long (operandOf o)) (omega arith) (omega (arith, value-room)) (omega (arith, push-room)))
+                  (turns-entry tree s₁ s₂ (operandBytes (operandOf o)) (stackEntryAt (records tree) (at .operands)) put (operand-long (operandOf o)) (omega arith) (omega (arith, value-room)) (omega (arith, push-room)))
 
               pushed-is : (i .earlier ++ exprTypes tree text v) ++ argsTypes tree text (wordOf tree w B) ≡ argsTypes tree text opening
               unfolding typedArgs

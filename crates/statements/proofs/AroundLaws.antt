@@ -35,7 +35,7 @@ use Rattle.ir.specs.Amounts.{amount}
 use Rattle.ir.specs.Instructions.{operandOf, varOf}
 use Rattle.ir.specs.Steps.{StopsIn, Emits, AddsVar, named, NumbersLabel}
 use Rattle.ir.proofs.StepLaws.{fail-stops}
-use Rattle.ir.proofs.StepCases.{picked, skipped}
+use Rattle.laws.proofs.FixLaws.{pick-yes, pick-no}
 use Rattle.scope.specs.Open.{scopeAt}
 use Rattle.keys.specs.Keys.{allKeys}
 use Rattle.expressions.specs.declared.answers.ExprType.{ExprType}
@@ -53,7 +53,7 @@ use Rattle.statements.specs.declared.answers.Fitted.{Fitted}
 use Rattle.statements.specs.Stack.{operandAt, stackAt}
 use Rattle.statements.specs.Converting.{withCounters, OperandIn, StaysFor, NamesStay}
 use Rattle.statements.specs.Meets.{Adds}
-use Rattle.statements.specs.Parts.{jumpTo, jumpIfNot, placeLabel, finishUnary, beginLogic, joinAnd, joinOr, endLogic, finishBinary, passArgs, finishCall, operandType}
+use Rattle.statements.specs.Parts.{emitJump, jumpIfNot, placeLabel, finishUnary, beginLogic, joinAnd, joinOr, endLogic, finishBinary, passArgs, finishCall, operandType}
 use Rattle.statements.specs.Answers.{FitAdds, Converts, OperandTyped}
 use Rattle.statements.specs.Turns.{CommonTyped}
 use Rattle.statements.proofs.MeetLaws.{adds-then, adds-seq, adds-pure, adds-most, adds-same, adds-in}
@@ -94,12 +94,12 @@ module _ (e : ℕ) {dest : VarId} {o : Operand} {k k₁ k₂ : Counters} {l l₁
   and-adds q = adds-most (adds-seq (jumpIfNot (OVar (varOf dest)) (logicEnd e)) (emit-adds h p) q) (omega arith)
 
   pub or-adds : {k₃ k₄ : Counters} {l₃ l₄ : List ℕ} → Adds (jumpIfNot (OVar (varOf dest)) (named 6 e)) (amount 1 0 1 0 0) k₁ l₁ tt k₂ l₂
-      → Adds (jumpTo (named 7 e)) (amount 1 0 1 0 0) k₂ l₂ tt k₃ l₃ → Adds (placeLabel (named 6 e)) (amount 1 0 1 0 0) k₃ l₃ tt k₄ l₄
+      → Adds (emitJump (named 7 e)) (amount 1 0 1 0 0) k₂ l₂ tt k₃ l₃ → Adds (placeLabel (named 6 e)) (amount 1 0 1 0 0) k₃ l₃ tt k₄ l₄
       → Adds (joinOr e (varOf dest) (operandOf o)) (amount 4 0 3 0 0) k l tt k₄ l₄
   unfolding joinOr
   or-adds a b c =
-      adds-most (adds-seq (jumpIfNot (OVar (varOf dest)) (logicRhs e) >> (jumpTo (logicEnd e) >> placeLabel (logicRhs e))) (emit-adds h p)
-      (adds-seq (jumpTo (logicEnd e) >> placeLabel (logicRhs e)) a (adds-seq (placeLabel (logicRhs e)) b c))) (omega arith)
+      adds-most (adds-seq (jumpIfNot (OVar (varOf dest)) (logicRhs e) >> (emitJump (logicEnd e) >> placeLabel (logicRhs e))) (emit-adds h p)
+      (adds-seq (emitJump (logicEnd e) >> placeLabel (logicRhs e)) a (adds-seq (placeLabel (logicRhs e)) b c))) (omega arith)
 
   pub end-adds : {tree : List ℕ} → Adds (placeLabel (named 7 e)) (amount 1 0 1 0 0) k₁ l₁ tt k₂ l₂ → TypeAt tree (dest .1)
       → FitAdds tree (endLogic e (varOf dest) (operandOf o)) (amount 2 0 1 0 0) k l (record { operand = var dest; counters = k₂ }) l₂
@@ -115,13 +115,13 @@ module _ (tree : List ℕ) (e : ℕ) {d : ℕ} (dest : VarId) (o : Operand) {k k
   pub join-and-adds : d ≡ 1 → Adds (joinAnd e (varOf dest) (operandOf o)) (amount 2 0 1 0 0) k l tt k′ l′
       → Adds (pick (eqb (detailOf tree e) 1) (joinAnd e (varOf dest) (operandOf o)) (joinOr e (varOf dest) (operandOf o))) (amount 4 0 3 0 0) k l tt k′ l′
   join-and-adds q p =
-      adds-same (sym (picked (eqb (detailOf tree e) 1) (joinAnd e (varOf dest) (operandOf o)) (joinOr e (varOf dest) (operandOf o)) (eq-eqb (detailOf tree e) 1 (sym ed ∙ q))))
+      adds-same (sym (pick-yes (eqb (detailOf tree e) 1) (joinAnd e (varOf dest) (operandOf o)) (joinOr e (varOf dest) (operandOf o)) (eq-eqb (detailOf tree e) 1 (sym ed ∙ q))))
       (adds-most p (omega arith))
 
   pub join-or-adds : (d ≡ 1 → ⊥) → Adds (joinOr e (varOf dest) (operandOf o)) (amount 4 0 3 0 0) k l tt k′ l′
       → Adds (pick (eqb (detailOf tree e) 1) (joinAnd e (varOf dest) (operandOf o)) (joinOr e (varOf dest) (operandOf o))) (amount 4 0 3 0 0) k l tt k′ l′
   join-or-adds n p =
-      adds-same (sym (skipped (eqb (detailOf tree e) 1) (joinAnd e (varOf dest) (operandOf o)) (joinOr e (varOf dest) (operandOf o)) (ne-eqb (detailOf tree e) 1 (λ q. n (ed ∙ q))))) p
+      adds-same (sym (pick-no (eqb (detailOf tree e) 1) (joinAnd e (varOf dest) (operandOf o)) (joinOr e (varOf dest) (operandOf o)) (ne-eqb (detailOf tree e) 1 (λ q. n (ed ∙ q))))) p
 
 -- ---- any other binary
 

@@ -25,7 +25,7 @@ use Rattle.syntax.proofs.Lists.{left, left-some, list-at, list-lower}
 use Rattle.conversion.specs.Ir.{M, _>>=_, _>>_, pure, emit, Comment}
 use Rattle.conversion.specs.Scope as Def
 use Rattle.conversion.specs.Scope.{withLoop}
-use Rattle.conversion.specs.Statements.{convert-statement, convert-block}
+use Rattle.conversion.specs.Statements.{convertStatement, convert-block}
 use Rattle.conversion.proofs.MonadLaws.{regroup, seq-is, pure-first}
 use Rattle.ir.specs.declared.structs.Counters.{Counters}
 use Rattle.ir.specs.declared.structs.Instr.the-variants as Instr
@@ -96,7 +96,7 @@ last-kind a b c d = omega arith
 
 module _ (tree text : List ℕ) (good : Good tree text) (s : List ℕ) (c : Converter) (r : ℕ) (h : r < records tree) where
   plain-by : (i : ℕ) → i ≤ 3 → kindOf tree r ≡ 15 + i → statementSteps tree text s c r ≡ emit (Comment r) >> plainSteps tree text s c r
-  unfolding convert-statement pick
+  unfolding convertStatement pick
   plain-by zero b e = rw (statement-declare tree text r e, e)
   plain-by (suc zero) b e = rw (statement-init tree text good r h e, e)
   plain-by (suc (suc zero)) b e = rw (statement-return tree text good r h e, e)
@@ -107,7 +107,7 @@ module _ (tree text : List ℕ) (good : Good tree text) (s : List ℕ) (c : Conv
   plain-is a b = plain-by (kindOf tree r - 15) (omega arith) (omega arith)
 
   jump-by : (i : ℕ) → i ≤ 1 → kindOf tree r ≡ 22 + i → statementSteps tree text s c r ≡ emit (Comment r) >> jumpSteps tree text s c r
-  unfolding convert-statement pick
+  unfolding convertStatement pick
   jump-by zero b e = rw (statement-break tree text r e, e)
   jump-by (suc zero) b e = rw (statement-continue tree text r e, e)
   jump-by (suc (suc i)) b e = absurd (omega arith)
@@ -116,15 +116,15 @@ module _ (tree text : List ℕ) (good : Good tree text) (s : List ℕ) (c : Conv
   jump-is a b = jump-by (kindOf tree r - 22) (omega arith) (omega arith)
 
   if-is : kindOf tree r ≡ 19 → statementSteps tree text s c r ≡ emit (Comment r) >> ifSteps tree text s c r
-  unfolding convert-statement pick
+  unfolding convertStatement pick
   if-is e = tested (bit 1 (detailOf tree r)) (λ b. rw (statement-ifElse tree text good r h e b, b)) (λ b. rw (statement-if tree text good r h e b, b))
 
   while-is : kindOf tree r ≡ 20 → statementSteps tree text s c r ≡ emit (Comment r) >> whileSteps tree text s c r
-  unfolding convert-statement
+  unfolding convertStatement
   while-is e = rw (statement-while tree text good r h e)
 
   for-is : kindOf tree r ≡ 21 → statementSteps tree text s c r ≡ emit (Comment r) >> forSteps tree text s c r
-  unfolding convert-statement
+  unfolding convertStatement
   for-is e = rw (statement-for tree text good r h e)
 
 module _ {tree text l s : List ℕ} {c : Converter} {r : ℕ} (p : Converting tree text l s c) (f : StatementAfforded tree text c r) (x : IsStatement tree r)

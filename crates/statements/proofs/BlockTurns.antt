@@ -17,7 +17,7 @@ use Rattle.syntax.proofs.Lists.{left, left-some, block-end, Cell, cell-is, next
 use Rattle.conversion.specs.ConvertError.{ConvertErrorKind}
 use Rattle.conversion.specs.Ir.{M, _>>=_, pure}
 use Rattle.conversion.specs.Scope as Def
-use Rattle.conversion.specs.Statements.{convert-statement, convert-block}
+use Rattle.conversion.specs.Statements.{convertStatement, convert-block}
 use Rattle.conversion.specs.Visits.{statementVisits, blockVisits}
 use Rattle.ir.specs.declared.structs.Counters.{Counters}
 use Rattle.ir.specs.Amounts.{Spent}
@@ -149,7 +149,7 @@ module _ {tree text l₀ s₀ : List ℕ} {c : Converter} {first : ℕ} (p : Con
         turn-afforded = omega (arith, f, i .spent, i .passed-is, i .operands, i .most, size-is, here)
 
         opens-here : bodyIn tree text w (scopeIn tree text s at)
-            ≡ convert-statement (program tree text) (allKeys tree text) (statementAt tree text r) (scopeIn tree text s at) >>= (λ S. bodyIn tree text (wordOf tree w B) S)
+            ≡ convertStatement (program tree text) (allKeys tree text) (statementAt tree text r) (scopeIn tree text s at) >>= (λ S. bodyIn tree text (wordOf tree w B) S)
         unfolding convert-block
         opens-here = rw (opens, er)
 

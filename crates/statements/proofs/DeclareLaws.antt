@@ -48,7 +48,7 @@ use Rattle.scope.specs.declared.Declared.{Declared}
 use Rattle.scope.specs.declared.Declared.the-variants as Declared
 use Rattle.scope.specs.declared.InLoop.{InLoop}
 use Rattle.scope.specs.declared.InLoop.the-variants as InLoop
-use Rattle.scope.specs.Open.{variable, NameAfforded, Added, Taken, DeclareMeets, IsFound, FindMeets, variableAt, variablesAt, variablesOf, loopOf, loopNumber, scopeAt}
+use Rattle.scope.specs.Open.{variableNamed, NameAfforded, Added, Taken, DeclareMeets, IsFound, FindMeets, openVariable, variablesAt, variablesOf, loopOf, loopNumber, scopeAt}
 use Rattle.scope.proofs.ScopeLaws.{declare-ok, declare-err, in-loop}
 use Rattle.keys.specs.Keys.{allKeys}
 use Rattle.texts.specs.Texts.{hasText}
@@ -61,7 +61,7 @@ use Rattle.statements.specs.declared.answers.Finished.{Finished}
 use Rattle.statements.specs.declared.answers.Finished.the-variants as Finished
 use Rattle.statements.specs.Meets.{StepAnswer, gave, refused, Adds, Meets}
 use Rattle.statements.specs.Converting.{Converting, RoomFor, BehindAfforded, StaysFor, behindAmount}
-use Rattle.statements.specs.Parts.{jumpTo, zeroFloat}
+use Rattle.statements.specs.Parts.{emitJump, zeroFloat}
 use Rattle.statements.specs.Answers.{finishedOf, Leaves, States, StatesAs, declareSteps, breakSteps, continueSteps}
 use Rattle.statements.specs.Turns.{InTurn, TypedIn, TurnsStay}
 use Rattle.statements.proofs.MeetLaws.{adds-in, adds-then, adds-seq, adds-pure, adds-most, adds-same, meets-gave, meets-refused, meets-same, meets-then, meets-lift}
@@ -88,7 +88,7 @@ module _ {tree text l s : List ℕ} {c : Converter} (p : Converting tree text l 
 
   module _ (r : ℕ) (asked : Asked tree text s (c .scope) r) (constant : Bool) (s′ : List ℕ) where
     -- the variable by the words that are written is the variable by its name
-    by-name : variable text (originalWord tree s r A) (originalWord tree s r B) v constant ≡ namedBy tree text r v constant
+    by-name : variableNamed text (originalWord tree s r A) (originalWord tree s r B) v constant ≡ namedBy tree text r v constant
     by-name = rw (origin-text asked)
 
     module _ {sc′ : Scope} (a : Added text (originalOf tree s r) (originalWord tree s r A) (originalWord tree s r B) v constant (c .scope) s s′ sc′) where
@@ -181,10 +181,10 @@ found-among : (v : VarId) (b : Bool) (tree text s : List ℕ) (n : ℕ) (u : Lis
 unfolding IsFound findIn variablesAt
 found-among v b tree text s n u zero t h = absurd h
 found-among v b tree text s n u (suc m) t h =
-    go (found-among v b tree text s n u m (λ j k. t j (omega arith))) (Ir.sameText u (variableAt text s (8 * n + 16 * m) .name)) h
+    go (found-among v b tree text s n u m (λ j k. t j (omega arith))) (Ir.sameText u (openVariable text s (8 * n + 16 * m) .name)) h
   where
     go : (IsFound (Known.Is v b) (findIn u (variablesAt text s n m)) → TypeAt tree (v .1))
-        → (c : Bool) → IsFound (Known.Is v b) (elim c [ true ↦ some (variableAt text s (8 * n + 16 * m)) | false ↦ findIn u (variablesAt text s n m) ]) → TypeAt tree (v .1)
+        → (c : Bool) → IsFound (Known.Is v b) (elim c [ true ↦ some (openVariable text s (8 * n + 16 * m)) | false ↦ findIn u (variablesAt text s n m) ]) → TypeAt tree (v .1)
     go rest true f = subst (λ (z : ℕ). TypeAt tree z) (sym (ap (λ z. z .ty) (f .0))) (t m (omega arith))
     go rest false f = rest f
 
@@ -344,8 +344,8 @@ module _ {tree text l s : List ℕ} {c : Converter} (p : Converting tree text l 
 -- ---- the Break or Continue r
 
 -- a jump that leaves the scope
-jumps-on : (n : LabelName) (S : Def.Scope) → jumpTo n >> pure S ≡ Ir.label-id n >>= (λ (i : ℕ). Ir.emit (Ir.Jump i) >> pure S)
-unfolding jumpTo
+jumps-on : (n : LabelName) (S : Def.Scope) → emitJump n >> pure S ≡ Ir.label-id n >>= (λ (i : ℕ). Ir.emit (Ir.Jump i) >> pure S)
+unfolding emitJump
 jumps-on n S = simp (seq-is, regroup)
 
 module _ {tree text l s : List ℕ} {c : Converter} (p : Converting tree text l s c) (r : ℕ) where
@@ -358,7 +358,7 @@ module _ {tree text l s : List ℕ} {c : Converter} (p : Converting tree text l 
       states-same (sym e) (states-refused refl (rw w (fail-stops text (c .counters) l kind r)) (stays-refl tree (c .scope .names) (c .operands) s))
 
   jump-states : {k : Counters} {l′ : List ℕ} {steps : M Def.Scope} (n : LabelName) → steps ≡ Ir.label-id n >>= (λ (i : ℕ). Ir.emit (Ir.Jump i) >> pure scope)
-      → Adds (jumpTo n) (amount 1 0 1 0 0) (c .counters) l tt k l′
+      → Adds (emitJump n) (amount 1 0 1 0 0) (c .counters) l tt k l′
       → States tree text steps (behindAmount (statementRecords (statementAt tree text r))) (statementRecords (statementAt tree text r)) c l s (Stated.Done (c .scope) k) l′ s
   jump-states {k = k} {l′ = l′} n e a =
       let stays = stays-refl tree (c .scope .names) (c .operands) s in
@@ -380,7 +380,7 @@ module _ {tree text l s : List ℕ} {c : Converter} (p : Converting tree text l 
     unfolding convert-break
     break-outside q w = outside-stops (rw (loop-is (ap loopOf q))) w
 
-    pub break-jumps : {x : ℕ} {k : Counters} {l′ : List ℕ} → o ≡ InLoop.Of x → Adds (jumpTo (named 2 x)) (amount 1 0 1 0 0) (c .counters) l tt k l′
+    pub break-jumps : {x : ℕ} {k : Counters} {l′ : List ℕ} → o ≡ InLoop.Of x → Adds (emitJump (named 2 x)) (amount 1 0 1 0 0) (c .counters) l tt k l′
         → StatesAs breakSteps c r tree text l s (Stated.Done (c .scope) k) l′ s
     unfolding convert-break
     break-jumps {x = x} q a = jump-states (named 2 x) (rw (loop-is (ap loopOf q))) a
@@ -389,7 +389,7 @@ module _ {tree text l s : List ℕ} {c : Converter} (p : Converting tree text l 
     unfolding convert-continue
     continue-outside q w = outside-stops (rw (loop-is (ap loopOf q))) w
 
-    pub continue-jumps : {x : ℕ} {k : Counters} {l′ : List ℕ} → o ≡ InLoop.Of x → Adds (jumpTo (named 1 x)) (amount 1 0 1 0 0) (c .counters) l tt k l′
+    pub continue-jumps : {x : ℕ} {k : Counters} {l′ : List ℕ} → o ≡ InLoop.Of x → Adds (emitJump (named 1 x)) (amount 1 0 1 0 0) (c .counters) l tt k l′
         → StatesAs continueSteps c r tree text l s (Stated.Done (c .scope) k) l′ s
     unfolding convert-continue
     continue-jumps {x = x} q a = jump-states (named 1 x) (rw (loop-is (ap loopOf q))) a

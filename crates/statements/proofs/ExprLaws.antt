@@ -225,7 +225,7 @@ module _ {tree text l s : List ℕ} {c : Converter} {e : ℕ} (p : Converting tr
 
 by-other : (P : Program) (F : Functions) (o : BinaryOp) (r y q : ℕ) (left right : M Ir.Operand) → 1 < binaryNumber o
     → convertBinaryBy P F o r y q left right ≡ convertOther P F o y q left right
-unfolding convertBinaryBy binaryNumber
+unfolding convertBinaryBy
 by-other P F Or r y q left right h = absurd (omega arith)
 by-other P F And r y q left right h = absurd (omega arith)
 by-other P F BitOr r y q left right h = refl

@@ -40,7 +40,8 @@ use Rattle.ir.specs.Floats.{entry, entryOfFloat}
 use Rattle.ir.specs.Instructions.{varOf, operandOf}
 use Rattle.ir.specs.Steps.{Next, Emits, AddsVar, NumbersFloat}
 use Rattle.ir.proofs.AmountLaws.{both-spent}
-use Rattle.ir.proofs.StepCases.{picked, skipped, on-int, on-float, no-int, no-float}
+use Rattle.laws.proofs.FixLaws.{pick-yes, pick-no}
+use Rattle.ir.proofs.StepCases.{on-int, on-float, no-int, no-float}
 use Rattle.ir.proofs.StepUses.{refloat-next, cast-next}
 use Rattle.expressions.specs.declared.answers.Outcome.the-variants as Outcome
 use Rattle.expressions.specs.Answers.{refusal, outcomeOf}
@@ -191,13 +192,13 @@ module _ (tree text : List ℕ) (y f : ℕ) (ef : f ≡ detailOf tree y % 16) (v
     pub variable-cast : {l′ : List ℕ} {r : Fitted} → ((eqb f 2 && eqb g 2) && not (eqb (v .1) y)) ≡ true
         → FitAdds tree (castOperand true (varOf v) y) (amount 1 1 0 0 0) k l r l′
         → FitAdds tree (fit-operand (program tree text) (OVar (varOf v)) y) (amount 1 1 0 0 0) k l r l′
-    variable-cast e p = fits-same (sym (variable-is ∙ picked ((eqb f 2 && eqb g 2) && not (eqb (v .1) y)) (castOperand true (varOf v) y) (pure (OVar (varOf v))) e)) p
+    variable-cast e p = fits-same (sym (variable-is ∙ pick-yes ((eqb f 2 && eqb g 2) && not (eqb (v .1) y)) (castOperand true (varOf v) y) (pure (OVar (varOf v))) e)) p
 
     pub variable-stays : ((eqb f 2 && eqb g 2) && not (eqb (v .1) y)) ≡ false → TypeAt tree (v .1) → Room k l
         → FitAdds tree (fit-operand (program tree text) (OVar (varOf v)) y) (amount 1 1 0 0 0) k l (record { operand = Operand.Var v; counters = k }) l
     unfolding OperandIn
     variable-stays e t room = stays-as (Operand.Var v)
-        (variable-is ∙ skipped ((eqb f 2 && eqb g 2) && not (eqb (v .1) y)) (castOperand true (varOf v) y) (pure (OVar (varOf v))) e) t room
+        (variable-is ∙ pick-no ((eqb f 2 && eqb g 2) && not (eqb (v .1) y)) (castOperand true (varOf v) y) (pure (OVar (varOf v))) e) t room
 
 -- ---- any operand, by its constructor
 
@@ -234,7 +235,7 @@ variable-in tree o v e h = rw e at h
 
 module _ (tree text : List ℕ) (good : Good tree text) (w : ℕ) (p : ParamsAt tree w) where
   pub behind-type : w ≡ none → 4 ≡ parameterType (paramsAt tree text w) 0
-  unfolding parameterType floatType
+  unfolding parameterType
   behind-type e = sym (rw (e, params-end tree text good))
 
   pub behind-next : w ≡ none → ParamsAt tree none × ((k : ℕ) → parameterType (paramsAt tree text none) k ≡ parameterType (paramsAt tree text w) (suc k))
@@ -260,18 +261,18 @@ module _ (tree text : List ℕ) (F : Functions) (e y expected : ℕ) (kind : Con
   pub check-done : fitsAt tree text e y expected ≡ true
       → checkFits (program tree text) F (exprAt tree text e) y expected kind place ≡ lift (outcomeOf Outcome.Done)
   unfolding checkFits program fitsAt exprAt outcomeOf pure lift
-  check-done h = picked (fitsAt tree text e y expected) _ _ h
+  check-done h = pick-yes (fitsAt tree text e y expected) _ _ h
 
   module _ (no : fitsAt tree text e y expected ≡ false) where
     pub check-range : IsExpr tree e → rangeErrorAt tree text e y expected ≡ true → (x : ConvertError) → x ≡ record { kind = LiteralOutOfRange; place = e }
         → checkFits (program tree text) F (exprAt tree text e) y expected kind place ≡ lift (outcomeOf (Outcome.Refused x))
     unfolding checkFits program fitsAt rangeErrorAt exprAt outcomeOf refusal fail lift
     check-range is h x ex =
-        skipped (fitsAt tree text e y expected) _ _ no ∙ picked (rangeErrorAt tree text e y expected) _ _ h
+        pick-no (fitsAt tree text e y expected) _ _ no ∙ pick-yes (rangeErrorAt tree text e y expected) _ _ h
         ∙ rw (ex, place-is tree text e (is .expression))
 
     pub check-place : rangeErrorAt tree text e y expected ≡ false → (x : ConvertError) → x ≡ record { kind = kind; place = place }
         → checkFits (program tree text) F (exprAt tree text e) y expected kind place ≡ lift (outcomeOf (Outcome.Refused x))
     unfolding checkFits program fitsAt rangeErrorAt exprAt outcomeOf refusal fail lift
     check-place h x ex =
-        skipped (fitsAt tree text e y expected) _ _ no ∙ skipped (rangeErrorAt tree text e y expected) _ _ h ∙ rw ex
+        pick-no (fitsAt tree text e y expected) _ _ no ∙ pick-no (rangeErrorAt tree text e y expected) _ _ h ∙ rw ex

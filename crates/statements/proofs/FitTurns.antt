@@ -14,7 +14,7 @@ use Rattle.syntax.specs.Decode.{program}
 use Rattle.syntax.specs.Places.{IsKind, ArgsAt, ParamsAt, argsAt, paramsAt}
 use Rattle.conversion.specs.Ir as Ir
 use Rattle.conversion.specs.Ir.{Arg, M, _>>=_, _>>_, pure, emit}
-use Rattle.conversion.specs.Statements.{fit-operand, fitFrom, fit-args, emitArgs, parameterType, position, expectedType}
+use Rattle.conversion.specs.Statements.{fit-operand, fitFrom, fit-args, emitArgs, parameterType, valuePosition, expectedType}
 use Rattle.ir.specs.declared.structs.Counters.{Counters}
 use Rattle.ir.specs.declared.structs.Operand.{Operand}
 use Rattle.ir.specs.declared.structs.Instr.the-variants as Instr
@@ -24,7 +24,7 @@ use Rattle.ir.specs.Steps.{Emits}
 use Rattle.records.proofs.Apart.{byte-apart, word-same}
 use Rattle.expressions.proofs.TypingLaws.{call-list}
 use Rattle.statements.specs.declared.answers.Fitted.{Fitted}
-use Rattle.statements.specs.Stack.{operandBytes, entryAt, operandAt, stackAt}
+use Rattle.statements.specs.Stack.{operandBytes, stackEntryAt, operandAt, stackAt}
 use Rattle.statements.specs.Converting.{RoomFor, OperandIn, StackIn, Stays}
 use Rattle.statements.specs.Meets.{Adds}
 use Rattle.statements.specs.Parts.{passArgs}
@@ -93,18 +93,18 @@ module _ (s : List ℕ) (n first count : ℕ) (k₀ : Counters) (l₀ : List ℕ
 
 -- ---- an entry is written
 
-module _ (s s′ : List ℕ) (n i : ℕ) (o : Ir.Operand) (e : s′ ≡ splice s (entryAt n i) (operandBytes o)) (fits : 72 * n ≤ length s) (low : i < n) where
-  byte : (q : ℕ) → entryAt n i + 16 ≤ q → getD s′ q 0 ≡ getD s q 0
-  byte q h = ap (λ (x : List ℕ). getD x q 0) e ∙ byte-apart s (entryAt n i) (operandBytes o) (omega (arith, operand-long o)) q (inr (omega (arith, operand-long o)))
+module _ (s s′ : List ℕ) (n i : ℕ) (o : Ir.Operand) (e : s′ ≡ splice s (stackEntryAt n i) (operandBytes o)) (fits : 72 * n ≤ length s) (low : i < n) where
+  byte : (q : ℕ) → stackEntryAt n i + 16 ≤ q → getD s′ q 0 ≡ getD s q 0
+  byte q h = ap (λ (x : List ℕ). getD x q 0) e ∙ byte-apart s (stackEntryAt n i) (operandBytes o) (omega (arith, operand-long o)) q (inr (omega (arith, operand-long o)))
 
-  word-behind : (p : ℕ) → entryAt n i + 16 ≤ p → wordAt s′ p ≡ wordAt s p
+  word-behind : (p : ℕ) → stackEntryAt n i + 16 ≤ p → wordAt s′ p ≡ wordAt s p
   word-behind p h = word-same s′ p s p (byte p h) (byte (p + 1) (omega arith)) (byte (p + 2) (omega arith)) (byte (p + 3) (omega arith))
 
   -- the entries behind it
   pub entry-behind : (j : ℕ) → i < j → operandAt s′ n j ≡ operandAt s n j
   unfolding operandAt
   entry-behind j h =
-      let p : ℕ = entryAt n j in
+      let p : ℕ = stackEntryAt n j in
       rw (word-behind p (omega arith), word-behind (p + 4) (omega arith), word-behind (p + 8) (omega arith), word-behind (p + 12) (omega arith))
 
   stack-behind : (count j : ℕ) → i < j → stackAt s′ n j count ≡ stackAt s n j count
@@ -169,7 +169,7 @@ module _ (tree text s₀ : List ℕ) (given : Args) (f : Function) (first count 
 
         module _ (at : AtValue) (here : FirstValue tree text argument parameter at) (y : ℕ) (ey : y ≡ parameterType (paramsAt tree text (at .parameter)) 0) (r : Fitted) (l₁ : List ℕ)
             (a : FitAdds tree (fit-operand (program tree text) (operandOf o) y) (amount 1 1 0 0 1) k l r l₁)
-            (s₁ : List ℕ) (put : s₁ ≡ splice s (entryAt (records tree) (first + j)) (operandBytes (operandOf (r .operand))))
+            (s₁ : List ℕ) (put : s₁ ≡ splice s (stackEntryAt (records tree) (first + j)) (operandBytes (operandOf (r .operand))))
             (back : operandAt s₁ (records tree) (first + j) ≡ operandOf (r .operand)) where
           fitted : Adds (fit-operand (program tree text) (operandAt s (records tree) (first + j)) (expectedType (f .params) given j)) (amount 1 1 0 0 1) k l (operandOf (r .operand)) (r .counters) l₁
           fitted =
@@ -178,7 +178,7 @@ module _ (tree text s₀ : List ℕ) (given : Args) (f : Function) (first count 
               adds-same (ap (λ (v : Ir.Operand). fit-operand (program tree text) v y) eo ∙ ap (fit-operand (program tree text) (operandAt s (records tree) (first + j))) t) (a .adds)
 
           written : (names : ℕ) → names ≤ records tree → Stays tree names (first + j) s s₁
-          written names h = operand-stays tree names (first + j) s s₁ (operandBytes (operandOf (r .operand))) (entryAt (records tree) (first + j)) put
+          written names h = operand-stays tree names (first + j) s s₁ (operandBytes (operandOf (r .operand))) (stackEntryAt (records tree) (first + j)) put
               (operand-long (operandOf (r .operand))) scratch-long (first + j) refl (omega arith) (omega arith)
 
           -- what is fitted now, with this one
@@ -219,11 +219,11 @@ module _ (tree text s₀ : List ℕ) (given : Args) (f : Function) (first count 
             args = here .args;
             params = p;
             types = λ i. let z : j + suc i ≡ (j + 1) + i = omega arith in
-                ev (position (argsAt tree text (at .rest)) i) ∙ here .behind i ∙ x .types (suc i) ∙ ap (expectedType (f .params) given) z;
+                ev (valuePosition (argsAt tree text (at .rest)) i) ∙ here .behind i ∙ x .types (suc i) ∙ ap (expectedType (f .params) given) z;
             operands = λ i h m. subst (λ (w : Ir.Operand). OperandIn tree w)
                 (sym (entry-behind s s₁ (records tree) (first + j) (operandOf (r .operand)) put scratch-long (omega arith) i (omega arith))) (x .operands i (omega arith) m);
             stays = λ names h. stays-then (omega arith) (omega arith) (x .stays names h) (written names h);
-            turns = turns-then (x .turns) (turns-entry tree s s₁ (operandBytes (operandOf (r .operand))) (entryAt (records tree) (first + j)) put
+            turns = turns-then (x .turns) (turns-entry tree s s₁ (operandBytes (operandOf (r .operand))) (stackEntryAt (records tree) (first + j)) put
                 (operand-long (operandOf (r .operand))) (omega arith) (omega arith) (omega (arith, scratch-long)));
             rest = λ k′ l′ os b. subst (λ w. Adds (fit-args (program tree text) (stackAt s₀ (records tree) first count) given f) (amount count count 0 0 count) k₀ l₀ w k′ l′)
                 (grown os) (x .rest k′ l′ (operandOf (r .operand) ∷ os) (step k′ l′ os b));

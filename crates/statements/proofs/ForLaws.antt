@@ -36,7 +36,8 @@ use Rattle.ir.specs.declared.structs.VarId.{VarId}
 use Rattle.ir.specs.Amounts.{Amount, amount, both}
 use Rattle.ir.specs.Instructions.{varOf}
 use Rattle.ir.specs.Steps.{StopsIn, AddsVar}
-use Rattle.ir.proofs.StepCases.{picked, skipped, on-int, no-int, stop-of}
+use Rattle.laws.proofs.FixLaws.{pick-yes, pick-no}
+use Rattle.ir.proofs.StepCases.{on-int, no-int, stop-of}
 use Rattle.ir.proofs.StepLaws.{lift-stops, stop-first, stop-seq}
 use Rattle.scope.specs.declared.Scope.{Scope}
 use Rattle.scope.specs.declared.Declared.{Declared}
@@ -245,7 +246,7 @@ module _ {tree text l s : List ℕ} {c : Converter} (r : ℕ) {v : ℕ} (p : Con
   unfolding forVariable reference
   known-steps =
       ap (λ (z : ℕ). forVariable (program tree text) (allKeys tree text) r (textOf tree text z A) (reference (wordOf tree z C)) (scopeIn tree text s c)) (sym ev)
-      ∙ rw (picked (eqb (wordOf tree v C) none) nothing (some (wordOf tree v C)) (eq-eqb (wordOf tree v C) none free))
+      ∙ rw (pick-yes (eqb (wordOf tree v C) none) nothing (some (wordOf tree v C)) (eq-eqb (wordOf tree v C) none free))
 
   met : (k : Known) → a ≡ k → FindMeets text s (c .scope) (textOf tree text v A) k
   met k q = subst (λ (z : Known). FindMeets text s (c .scope) (textOf tree text v A) z) q m
@@ -272,11 +273,11 @@ module _ {tree text l s : List ℕ} {c : Converter} (r : ℕ) {v : ℕ} (p : Con
 
     pub known-fixed : {z : ConvertError} → b ≡ true → z ≡ record { kind = AssignToConstant; place = r }
         → FindsVariable tree text (forVariableSteps tree text s c r) c l s (ForVariable.Refused z) l s
-    known-fixed h w = refuses (found-steps ∙ picked b (fail AssignToConstant r) (pure (varOf x, scopeIn tree text s c)) h) w
+    known-fixed h w = refuses (found-steps ∙ pick-yes b (fail AssignToConstant r) (pure (varOf x, scopeIn tree text s c)) h) w
 
     pub known-is : b ≡ false → FindsVariable tree text (forVariableSteps tree text s c r) c l s (ForVariable.Is x (c .scope) (c .counters)) l s
     known-is h = variable-gave refl
-        (adds-in text (adds-same (sym (found-steps ∙ skipped b (fail AssignToConstant r) (pure (varOf x, scopeIn tree text s c)) h))
+        (adds-in text (adds-same (sym (found-steps ∙ pick-no b (fail AssignToConstant r) (pure (varOf x, scopeIn tree text s c)) h))
         (adds-most (adds-pure (varOf x, scopeIn tree text s c) (c .counters) l (p .room)) (omega arith))))
         (found-typed p (textOf tree text v A) x b (met (Known.Is x b) q))
         (leaves-same p (stays-refl tree (c .scope .names) (c .operands) s)) (stays-refl tree (c .scope .names) (c .operands) s)
@@ -305,7 +306,7 @@ module _ {tree text l s : List ℕ} {c : Converter} {r v : ℕ} (p : Converting 
     unfolding forVariable reference
     declared-steps =
         sym (ap (λ (z : ℕ). forVariable (program tree text) (allKeys tree text) r (textOf tree text z A) (reference (wordOf tree z C)) (scopeIn tree text s c)) (sym ev)
-        ∙ rw (skipped (eqb (wordOf tree v C) none) nothing (some (wordOf tree v C)) (ne-eqb (wordOf tree v C) none (λ e. omega (arith, t .below, p .ready .keyed .good .few))))
+        ∙ rw (pick-no (eqb (wordOf tree v C) none) nothing (some (wordOf tree v C)) (ne-eqb (wordOf tree v C) none (λ e. omega (arith, t .below, p .ready .keyed .good .few))))
         (ap (λ (z : ℕ). declaredThen tree text v false r z (scopeIn tree text s c) declared) (sym ey)))
 
     module _ (s′ : List ℕ) {d : Declared} (m : DeclareMeets text (originalOf tree s v) (originalWord tree s v A) (originalWord tree s v B) (made .var) false (c .scope) s s′ d) where

@@ -44,7 +44,7 @@ use Rattle.statements.specs.declared.answers.Finished.{Finished}
 use Rattle.statements.specs.declared.answers.Finished.the-variants as Finished
 use Rattle.statements.specs.Converting.{Converting, withCounters, RoomFor, OperandIn, exprAmount, headAmount, turnsAmount, ExprAfforded, BehindAfforded, BoundAfforded}
 use Rattle.statements.specs.Meets.{Adds}
-use Rattle.statements.specs.Parts.{jumpTo, jumpIfNot, placeLabel, copyFitted, countOn, testBound, ifHead, whileHead, forBegin, forTest, ifMiddle, loopBack}
+use Rattle.statements.specs.Parts.{emitJump, jumpIfNot, placeLabel, copyFitted, countOn, testBound, ifHead, whileHead, forBegin, forTest, ifMiddle, loopBack}
 use Rattle.statements.specs.Answers.{FitAdds, Converts, Finishes, exprSteps, condSteps, ifHeadSteps, whileHeadSteps, forBeginSteps, forTestSteps}
 use Rattle.statements.specs.Turns.{TypesAt, TypedIn, ConvertsTyped}
 use Rattle.statements.proofs.MeetLaws.{Most, adds-in, adds-then, adds-seq, adds-most, adds-same, meets-gave}
@@ -68,12 +68,12 @@ not-slot false e h = omega arith
 -- ---- labels and jumps in a row
 
 module _ (r : ℕ) {k k₁ k₂ : Counters} {l l₁ l₂ : List ℕ} where
-  pub middle-adds : Adds (jumpTo (named 5 r)) (amount 1 0 1 0 0) k l tt k₁ l₁ → Adds (placeLabel (named 4 r)) (amount 1 0 1 0 0) k₁ l₁ tt k₂ l₂
+  pub middle-adds : Adds (emitJump (named 5 r)) (amount 1 0 1 0 0) k l tt k₁ l₁ → Adds (placeLabel (named 4 r)) (amount 1 0 1 0 0) k₁ l₁ tt k₂ l₂
       → Adds (ifMiddle r) (amount 2 0 2 0 0) k l tt k₂ l₂
   unfolding ifMiddle
   middle-adds a b = adds-seq (placeLabel (otherwiseLabel r)) a b
 
-  pub back-adds : Adds (jumpTo (named 1 r)) (amount 1 0 1 0 0) k l tt k₁ l₁ → Adds (placeLabel (named 2 r)) (amount 1 0 1 0 0) k₁ l₁ tt k₂ l₂
+  pub back-adds : Adds (emitJump (named 1 r)) (amount 1 0 1 0 0) k l tt k₁ l₁ → Adds (placeLabel (named 2 r)) (amount 1 0 1 0 0) k₁ l₁ tt k₂ l₂
       → Adds (loopBack r) (amount 2 0 2 0 0) k l tt k₂ l₂
   unfolding loopBack
   back-adds a b = adds-seq (placeLabel (loopEnd r)) a b
@@ -88,7 +88,7 @@ one-more x {short = short} {unsigned = unsigned} {s = s} {u = u} es eu h p =
     ∙ ap (λ (z : Bool). emit (Binary (varOf x) Add (OVar (varOf x)) (OInt (pos 1) s z))) eu) (emit-adds h p)
 
 pub count-adds : (r : ℕ) {x : VarId} {short unsigned s u : Bool} {k k₁ k₂ k₃ k₄ : Counters} {l l₁ l₂ l₃ l₄ : List ℕ} → short ≡ s → unsigned ≡ u
-    → Adds (jumpTo (named 3 r)) (amount 1 0 1 0 0) k l tt k₁ l₁ → Adds (placeLabel (named 1 r)) (amount 1 0 1 0 0) k₁ l₁ tt k₂ l₂
+    → Adds (emitJump (named 3 r)) (amount 1 0 1 0 0) k l tt k₁ l₁ → Adds (placeLabel (named 1 r)) (amount 1 0 1 0 0) k₁ l₁ tt k₂ l₂
     → length l₃ ≡ length l₂ → Emits (binary x 13 (var x) (int 1 short unsigned)) k₂ l₂ k₃ l₃
     → Adds (placeLabel (named 3 r)) (amount 1 0 1 0 0) k₃ l₃ tt k₄ l₄
     → Adds (countOn r (varOf x) s u) (amount 4 0 3 0 0) k l tt k₄ l₄

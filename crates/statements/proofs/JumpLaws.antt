@@ -13,7 +13,7 @@ use Rattle.ir.specs.Amounts.{amount}
 use Rattle.ir.specs.Instructions.{operandOf}
 use Rattle.ir.specs.Steps.{named, Emits, NumbersLabel}
 use Rattle.statements.specs.Meets.{Adds}
-use Rattle.statements.specs.Parts.{placeLabel, jumpTo, jumpIfNot}
+use Rattle.statements.specs.Parts.{placeLabel, emitJump, jumpIfNot}
 use Rattle.statements.proofs.MeetLaws.{adds-then}
 use Rattle.statements.proofs.EmitLaws.{emit-adds, label-adds}
 
@@ -21,8 +21,8 @@ use Rattle.statements.proofs.EmitLaws.{emit-adds, label-adds}
 
 module _ {kind opener : ℕ} {k k′ : Counters} {l l₁ l′ : List ℕ} {r : LabelNumber} where
   pub jump-adds : length l₁ ≡ length l → NumbersLabel kind opener k l r l₁ → length l′ ≡ length l₁ → Emits (Instr.Jump (r .label)) (r .counters) l₁ k′ l′
-      → Adds (jumpTo (named kind opener)) (amount 1 0 1 0 0) k l tt k′ l′
-  unfolding jumpTo
+      → Adds (emitJump (named kind opener)) (amount 1 0 1 0 0) k l tt k′ l′
+  unfolding emitJump
   jump-adds e p d q = adds-then (λ i. Ir.emit (Ir.Jump i)) (label-adds e p) (emit-adds d q)
 
   pub jump-if-not-adds : {cond : Operand} → length l₁ ≡ length l → NumbersLabel kind opener k l r l₁ → length l′ ≡ length l₁

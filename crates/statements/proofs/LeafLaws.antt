@@ -28,7 +28,7 @@ use Rattle.conversion.specs.Scope.{find-variable}
 use Rattle.conversion.specs.Statements.{nameOperand, sizeOperand, convert-expr}
 use Rattle.types.specs.declared.size.Bytes.{Bytes}
 use Rattle.types.specs.declared.size.Bytes.the-variants as Bytes
-use Rattle.types.specs.Sizes.{exactSize, bytesFor, bytesOf, sizeAt}
+use Rattle.types.specs.Sizes.{exactSize, bytesFor, exactBytes, sizeAt}
 use Rattle.ir.specs.declared.structs.Counters.{Counters}
 use Rattle.ir.specs.declared.structs.VarId.{VarId}
 use Rattle.ir.specs.declared.structs.Operand.{Operand}
@@ -39,7 +39,7 @@ use Rattle.ir.specs.Arena.{Room}
 use Rattle.ir.specs.Amounts.{Amount, amount}
 use Rattle.ir.specs.Floats.{entry, entryOfFloat}
 use Rattle.ir.specs.Instructions.{operandOf}
-use Rattle.ir.specs.Steps.{stringAt, NumbersString, NumbersFloat}
+use Rattle.ir.specs.Steps.{entryOfString, NumbersString, NumbersFloat}
 use Rattle.ir.proofs.StepCases.{next-of, stop-of}
 use Rattle.scope.specs.declared.Known.{Known}
 use Rattle.scope.specs.declared.Known.the-variants as Known
@@ -123,7 +123,7 @@ module _ (tree text : List ℕ) (e : ℕ) (k : Counters) (l l′ : List ℕ) (r 
         long = long;
       }
 
-  pub string-leaf : IsKind tree 4 e → (a n : ℕ) → a ≡ wordOf tree e A → n ≡ wordOf tree e B → NumbersString text (stringAt text a n) k l r l′
+  pub string-leaf : IsKind tree 4 e → (a n : ℕ) → a ≡ wordOf tree e A → n ≡ wordOf tree e B → NumbersString text (entryOfString text a n) k l r l′
       → LeafAdds tree text e (amount 0 0 0 1 0) k l (record { operand = Operand.DataAddress (r .number); counters = r .counters }) l′
   unfolding convert-expr textOf OperandIn
   string-leaf is a n ea en p = record {
@@ -191,12 +191,12 @@ exact-small n (some k) q = go (ltb k (2 ^ 63)) refl q
     go true h z = let w : n ≡ k = cc in omega (arith, ltb-true k (2 ^ 63) h)
     go false h z = let w : _≡_ {A = ℕ} 0 1 = cc in absurd (omega arith)
 
-pub over-none : (b : Bytes) → b ≡ Bytes.Over → bytesOf b ≡ none
-unfolding bytesOf
+pub over-none : (b : Bytes) → b ≡ Bytes.Over → exactBytes b ≡ none
+unfolding exactBytes
 over-none b q = rw q
 
-pub nothing-none : (b : Bytes) → b ≡ Bytes.Nothing → bytesOf b ≡ none
-unfolding bytesOf
+pub nothing-none : (b : Bytes) → b ≡ Bytes.Nothing → exactBytes b ≡ none
+unfolding exactBytes
 nothing-none b q = rw q
 
 module _ (tree text l s : List ℕ) (c : Converter) (e : ℕ) (x : Converting tree text l s c) (is : IsKind tree 8 e) (y : ℕ) (ey : y ≡ wordOf tree e A) where
@@ -206,20 +206,20 @@ module _ (tree text l s : List ℕ) (c : Converter) (e : ℕ) (x : Converting tr
       let h = sizeOf-a tree text good e (is .below) (is .kind) in
       inside tree text good y (omega (arith, h .0, is .below))
 
-  module _ (b : Bytes) (exact : (u : List ℕ) → b ≡ bytesFor (exactSize tree u y)) (sized : (u : List ℕ) → bytesOf b ≡ sizeAt tree u y) where
-    size-steps : exprSteps tree text s c e ≡ sizeOperand e (bytesOf b)
+  module _ (b : Bytes) (exact : (u : List ℕ) → b ≡ bytesFor (exactSize tree u y)) (sized : (u : List ℕ) → exactBytes b ≡ sizeAt tree u y) where
+    size-steps : exprSteps tree text s c e ≡ sizeOperand e (exactBytes b)
     unfolding convert-expr program sizeAt
     size-steps = rw (expr-sizeOf tree text e (is .kind)) (ap (sizeOperand e) (sym (sized text ∙ ap (sizeAt tree text) ey)))
 
     pub size-gives : (n : ℕ) → b ≡ Bytes.Exactly n
         → Converts tree text (exprSteps tree text s c e) (amount 0 0 0 0 0) c l s (Converted.Is (Operand.Int n false false) (c .counters)) l s
-    unfolding sizeOperand bytesOf OperandIn
+    unfolding sizeOperand exactBytes OperandIn
     size-gives n q =
         let small : n < 2 ^ 63 = exact-small n (exactSize tree text y) (sym q ∙ exact text) in
         gives-operand tree text l s c (exprSteps tree text s c e) (Operand.Int n false false) (x .room)
         (size-steps ∙ rw q (ap (λ z. pure (OInt z false false)) (sym (toZ-pos w64 small)))) tt
 
-    pub size-refuses : bytesOf b ≡ none → (z : ConvertError) → z ≡ record { kind = WouldPanic; place = e }
+    pub size-refuses : exactBytes b ≡ none → (z : ConvertError) → z ≡ record { kind = WouldPanic; place = e }
         → Converts tree text (exprSteps tree text s c e) (amount 0 0 0 0 0) c l s (Converted.Refused z) l s
     unfolding sizeOperand
     size-refuses q z w = refuses-operand tree text l s c (exprSteps tree text s c e) WouldPanic e z w (size-steps ∙ rw q)

@@ -31,6 +31,7 @@ use Rattle.conversion.specs.Expressions.{Functions, Callee, CallFunction, get-t
 use Rattle.conversion.specs.Statements.{asCall, fit-operand, convert-expr, convert-args, convert-cond, checkFits, returnAs, convert-return, callFunction, callStatement, convert-call}
 use Rattle.conversion.specs.Visits.{typedOwn}
 use Rattle.conversion.proofs.MonadLaws.{regroup, seq-is}
+use Rattle.conversion.proofs.Sizes.{args-count}
 use Rattle.types.proofs.FromGood.{is-expr}
 use Rattle.ir.specs.declared.structs.Counters.{Counters}
 use Rattle.ir.specs.declared.structs.Operand.{Operand}
@@ -39,7 +40,7 @@ use Rattle.ir.specs.Amounts.{Amount, amount, both}
 use Rattle.ir.specs.Arena.{Room}
 use Rattle.ir.specs.Instructions.{operandOf}
 use Rattle.ir.specs.Steps.{Emits}
-use Rattle.ir.proofs.StepCases.{picked, skipped}
+use Rattle.laws.proofs.FixLaws.{pick-yes, pick-no}
 use Rattle.scope.specs.Open.{scopeAt}
 use Rattle.keys.specs.Keys.{allKeys}
 use Rattle.expressions.specs.declared.answers.ExprType.{ExprType}
@@ -63,7 +64,7 @@ use Rattle.statements.specs.Stack.{stackAt}
 use Rattle.statements.specs.Meets.{Adds, AddsIn}
 use Rattle.statements.specs.Parts.{passArgs}
 use Rattle.statements.specs.Converting.{Converting, withCounters, RoomFor, Afforded, ExprAfforded, ArgsAfforded, BehindAfforded, exprAmount, argsAmount, behindAmount, StackIn, StaysFor}
-use Rattle.statements.specs.Answers.{argsOf, Converts, ConvertsArgs, States, FitAdds, ConvertsAs, StatesAs, CallOnlyAs, exprSteps, condSteps, argsSteps, returnSteps, returnAsSteps, callStatementSteps, callOnlySteps}
+use Rattle.statements.specs.Answers.{convertedArgsOf, Converts, ConvertsArgs, States, FitAdds, ConvertsAs, StatesAs, CallOnlyAs, exprSteps, condSteps, argsSteps, returnSteps, returnAsSteps, callStatementSteps, callOnlySteps}
 use Rattle.statements.specs.Turns.{InTurn, TypedIn, TurnsStay, exprTypes, callOnlyTypes, callTypes, headTypes, returnAsTypes, ownTypes}
 use Rattle.statements.proofs.MeetLaws.{Most, adds-in, adds-then, adds-seq, adds-pure, adds-same, meets-gave, meets-refused, meets-same, meets-most, meets-then, meets-stop, meets-lift, meets-lift-stop}
 use Rattle.statements.proofs.StayLaws.{names-then, frame-names, stays-refl, stays-then, frame-stays, converting-next}
@@ -72,7 +73,6 @@ use Rattle.statements.proofs.PlainTurns.{value-next}
 use Rattle.statements.proofs.StatedLaws.{states-stop, states-same, states-most, states-kept, scope-later, type-stays, typed-then, typed-not, operand-then, operand-not, seq-not, fails-as, checked-then, checked-not}
 use Rattle.statements.proofs.EmitLaws.{emit-adds}
 use Rattle.statements.proofs.ConvertLaws.{converts-same, converted-next}
-use Rattle.statements.proofs.ArgsLaws.{args-count}
 
 -- ---- a condition
 
@@ -95,7 +95,7 @@ module _ {tree text l s : List ℕ} {c : Converter} {e : ℕ} (p : Converting tr
     unfolding convert-cond
     cond-other n q = record {
       meets = typed-then p t condition w
-          (meets-same text (sym (skipped (eqb y boolType) (exprSteps tree text s c e) (fail NotBool (place (exprAt tree text e))) (ne-eqb y boolType n)
+          (meets-same text (sym (pick-no (eqb y boolType) (exprSteps tree text s c e) (fail NotBool (place (exprAt tree text e))) (ne-eqb y boolType n)
           ∙ ap (λ (i : ℕ). fail {A = Ir.Operand} NotBool i) (place-is tree text (p .ready .keyed .good) e x))) (meets-refused text refl (fails-as text q)));
       operand = λ o k h. let z : _≡_ {A = ℕ} 0 1 = cc in absurd (omega arith);
       stays = type-stays p t;
@@ -109,7 +109,7 @@ module _ {tree text l s : List ℕ} {c : Converter} {e : ℕ} (p : Converting tr
         let i′ = converts-same (ap (λ (S : Def.Scope). convert-expr (program tree text) (allKeys tree text) (exprAt tree text e) S) (scope-later p (type-stays p t))) i in
         record {
           meets = typed-then p t condition w
-              (meets-same text (sym (picked (eqb y boolType) (exprSteps tree text s c e) (fail NotBool (place (exprAt tree text e))) (eq-eqb y boolType q))) (i′ .meets));
+              (meets-same text (sym (pick-yes (eqb y boolType) (exprSteps tree text s c e) (fail NotBool (place (exprAt tree text e))) (eq-eqb y boolType q))) (i′ .meets));
           operand = i′ .operand;
           stays = stays-then (omega arith) (omega arith) (type-stays p t) (i′ .stays);
           names = names-then (frame-names (t .frame)) (i′ .names);
@@ -260,7 +260,7 @@ module _ {tree text l s : List ℕ} {c : Converter} {r e : ℕ} (p : Converting 
       unfolding convert-return returnAs
       return-none q h = typed-states p typed byFunction w
           (states-same (ap (λ (o : Option ℕ). returnAs (program tree text) (allKeys tree text) r (exprAt tree text (wordOf tree r A)) y (scopeAt tree text s₁ (c .scope)) o)
-          (sym (function-type s₁ ∙ picked (eqb expected none) nothing (some expected) (eq-eqb expected none q))))
+          (sym (function-type s₁ ∙ pick-yes (eqb expected none) nothing (some expected) (eq-eqb expected none q))))
           (states-stop (meets-refused text refl (fails-as text h)) (stays-refl tree (c .scope .names) (c .operands) s₁)))
 
       pub return-some : {a : Stated} {l₁ s₂ : List ℕ} → (expected ≡ none → ⊥)
@@ -268,7 +268,7 @@ module _ {tree text l s : List ℕ} {c : Converter} {r e : ℕ} (p : Converting 
       unfolding convert-return
       return-some n i = typed-states p typed byFunction w
           (states-same (ap (λ (o : Option ℕ). returnAs (program tree text) (allKeys tree text) r (exprAt tree text (wordOf tree r A)) y (scopeAt tree text s₁ (c .scope)) o)
-          (sym (function-type s₁ ∙ skipped (eqb expected none) nothing (some expected) (ne-eqb expected none n)))) i)
+          (sym (function-type s₁ ∙ pick-no (eqb expected none) nothing (some expected) (ne-eqb expected none n)))) i)
 
 -- ---- a call alone
 
@@ -295,11 +295,11 @@ module _ {tree text l s : List ℕ} {c : Converter} {e : ℕ} (p : Converting tr
       passed os = callFunction (program tree text) (allKeys tree text) nothing (functionOf tree text g) values os >> pure (scopeAt tree text s (c .scope))
 
       pub values-stop : {z : ConvertError} → a ≡ ConvertedArgs.Refused z → CallOnlyAs (λ t x s k q. callOnlySteps t x s k q g) c e tree text l s (Stated.Refused z) l₁ s₁
-      values-stop {z = z} w = states-stop (meets-stop text passed (m .meets .long) (m .meets .stops z (ap (argsOf s₁ (records tree) (c .operands)) w))) (m .stays)
+      values-stop {z = z} w = states-stop (meets-stop text passed (m .meets .long) (m .meets .stops z (ap (convertedArgsOf s₁ (records tree) (c .operands)) w))) (m .stays)
 
     module _ {count : ℕ} {k : Counters} (w : a ≡ ConvertedArgs.Done count k) where
       computed : AddsIn text (argsSteps tree text s c (wordOf tree e C)) (argsAmount (argsUnder values) (argsValues values)) (c .counters) l (stackAt s₁ (records tree) (c .operands) count) k l₁
-      computed = m .meets .gives (stackAt s₁ (records tree) (c .operands) count) k (ap (argsOf s₁ (records tree) (c .operands)) w)
+      computed = m .meets .gives (stackAt s₁ (records tree) (c .operands) count) k (ap (convertedArgsOf s₁ (records tree) (c .operands)) w)
 
       pub values-converting : Converting tree text l₁ s₁ (withCounters c k)
       values-converting = converting-next p (computed .next) (m .stays)

@@ -23,7 +23,7 @@ use Rattle.ir.specs.Arena.{Table}
 use Rattle.ir.proofs.Entries.{table-grown, table-word}
 use Rattle.records.proofs.Apart.{word-back}
 use Rattle.records.proofs.WordLaws.{wide-words}
-use Rattle.statements.specs.Stack.{varType, operandBytes, operandFrom, entryAt, operandAt, stackAt}
+use Rattle.statements.specs.Stack.{varType, operandBytes, operandFrom, stackEntryAt, operandAt, stackAt}
 
 -- ---- an operand in four words
 
@@ -184,10 +184,10 @@ module _ (a b c d : ℕ) where
 -- written: its bytes are the operand's, and it is the operand again
 pub push-done : (s s′ : List ℕ) (n j a b c d : ℕ) (o : Ir.Operand) → 24 * n + 16 * j + 16 ≤ length s
     → a < 2 ^ 32 → b < 2 ^ 32 → c < 2 ^ 32 → d < 2 ^ 32 → Words o a b c d → s′ ≡ splice s (24 * n + 16 * j) (word a ++ word b ++ word c ++ word d)
-    → (s′ ≡ splice s (entryAt n j) (operandBytes o)) × (operandAt s′ n j ≡ o)
+    → (s′ ≡ splice s (stackEntryAt n j) (operandBytes o)) × (operandAt s′ n j ≡ o)
 unfolding operandAt
 push-done s s′ n j a b c d o fit ha hb hc hd w e =
-    let p : ℕ = entryAt n j in
+    let p : ℕ = stackEntryAt n j in
     let vs : List ℕ = word a ++ word b ++ word c ++ word d in
     let at : (k q x : ℕ) → k + 4 ≤ 16 → q ≡ p + k → wordAt vs k ≡ x → wordAt s′ q ≡ x =
     λ k q x h z y. ap (λ (l : List ℕ). wordAt l q) e ∙ word-in s p vs (four-long a b c d) fit k q h z ∙ y in (

@@ -33,7 +33,7 @@ use Rattle.expressions.proofs.OriginalLaws.{word-stays, original-stays}
 use Rattle.expressions.proofs.SlotLaws.{original-frame, ready-frame}
 use Rattle.keys.proofs.KeySearch.{records-most}
 use Rattle.statements.specs.declared.answers.Converter.{Converter}
-use Rattle.statements.specs.Stack.{entryAt, operandFrom, operandAt, stackAt}
+use Rattle.statements.specs.Stack.{stackEntryAt, operandFrom, operandAt, stackAt}
 use Rattle.statements.specs.Converting.{LoopIn, Converting, withCounters, Stays, StaysFor, NamesStay}
 
 -- ---- one writer after another
@@ -68,7 +68,7 @@ frame-stays {tree = tree} {s = s} {s′ = s′} names operands f = record {
 
 -- the entry of an operand behind those that wait
 module _ (tree : List ℕ) (names operands : ℕ) (s s′ vs : List ℕ) (i : ℕ) (e : s′ ≡ splice s i vs) (long : length vs ≡ 16) (fits : 72 * records tree ≤ length s) where
-  pub operand-stays : (j : ℕ) → i ≡ entryAt (records tree) j → operands ≤ j → j < records tree → Stays tree names operands s s′
+  pub operand-stays : (j : ℕ) → i ≡ stackEntryAt (records tree) j → operands ≤ j → j < records tree → Stays tree names operands s s′
   unfolding byteAt
   operand-stays x q h low = record {
     long = ap length e ∙ length-splice s i vs (omega arith);
@@ -183,7 +183,7 @@ module _ (tree : List ℕ) {s s′ : List ℕ} {names operands : ℕ} (f : Stays
   pub operand-kept : (j : ℕ) → j < operands → j < records tree → operandAt s′ (records tree) j ≡ operandAt s (records tree) j
   unfolding operandAt
   operand-kept j h i =
-      let p : ℕ = entryAt (records tree) j in
+      let p : ℕ = stackEntryAt (records tree) j in
       rw (
         stack-word p (omega arith) (omega arith) (omega arith),
         stack-word (p + 4) (omega arith) (omega arith) (omega arith),

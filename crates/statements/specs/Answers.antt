@@ -10,7 +10,7 @@ use lib.ListN.{length, getD}
 use Rattle.laws.specs.Fix.{pick}
 use Rattle.records.specs.Words.{kindOf, detailOf, wordOf, records, A, B, C, D}
 use Rattle.records.specs.declared.convert_error.ConvertError.{ConvertError}
-use Rattle.syntax.specs.Syntax.{unaryOps, binaryOps, UnaryOp, BinaryOp, Neg, Or}
+use Rattle.syntax.specs.Syntax.{unaryOps, binaryOps, UnaryOp, BinaryOp, Neg, Or, binaryNumber, And}
 use Rattle.syntax.specs.Decode.{program, textOf, bit, reference}
 use Rattle.syntax.specs.Places.{exprAt, argsAt, paramsAt, statementAt, blockAt, functionOf, TypeAt, ArgsAt, ParamsAt}
 use Rattle.conversion.specs.ConvertError.{Result, ok, err}
@@ -19,7 +19,7 @@ use Rattle.conversion.specs.Ir.{M, _>>=_, _>>_, pure, lift}
 use Rattle.conversion.specs.Scope as Def
 use Rattle.conversion.specs.Scope.{withLoop}
 use Rattle.conversion.specs.Expressions.{Callee, CallFunction, common-type}
-use Rattle.conversion.specs.Statements.{checkBound, parameterType, position, expectedType, fit-args, castFirst, callValue, convert-unary, convertAnd, convertOr, convertOther, convert-binary, convert-call-value, convert-expr, convert-args, convert-cond, callFunction, convert-declare, convert-init, initNew, convert-assign, assignTo, convert-return, returnAs, convert-call, convert-break, convert-continue, convert-if, convertIfElse, convert-while-loop, convert-for-loop, convert-statement, convert-block}
+use Rattle.conversion.specs.Statements.{checkBound, parameterType, valuePosition, expectedType, fit-args, castFirst, callValue, convert-unary, convertAnd, convertOr, convertOther, convert-binary, convert-call-value, convert-expr, convert-args, convert-cond, callFunction, convert-declare, convert-init, initNew, convert-assign, assignTo, convert-return, returnAs, convert-call, convert-break, convert-continue, convert-if, convertIfElse, convert-while-loop, convert-for-loop, convertStatement, convert-block}
 use Rattle.ir.specs.declared.structs.Counters.{Counters}
 use Rattle.ir.specs.declared.structs.VarId.{VarId}
 use Rattle.ir.specs.declared.structs.Operand.{Operand}
@@ -59,9 +59,9 @@ convertedOf (Converted.Is o k) = gave (operandOf o) k
 convertedOf (Converted.Refused e) = refused e
 
 -- the values stand on the stack from entry j on, with n records
-abbrev pub argsOf : List ℕ → ℕ → ℕ → ConvertedArgs → StepAnswer (List Ir.Operand)
-argsOf s n j (ConvertedArgs.Done count k) = gave (stackAt s n j count) k
-argsOf s n j (ConvertedArgs.Refused e) = refused e
+abbrev pub convertedArgsOf : List ℕ → ℕ → ℕ → ConvertedArgs → StepAnswer (List Ir.Operand)
+convertedArgsOf s n j (ConvertedArgs.Done count k) = gave (stackAt s n j count) k
+convertedArgsOf s n j (ConvertedArgs.Refused e) = refused e
 
 abbrev pub statedOf : List ℕ → List ℕ → List ℕ → Stated → StepAnswer Def.Scope
 statedOf tree text s (Stated.Done sc k) = gave (scopeAt tree text s sc) k
@@ -108,7 +108,7 @@ pub record FitsArgs (tree : List ℕ) (m : M (List Ir.Operand)) (count : ℕ) (c
 
 -- the arguments of a call, above what waits on the stack: at most q of them
 pub record ConvertsArgs (tree text : List ℕ) (m : M (List Ir.Operand)) (n : Amount) (q : ℕ) (c : Converter) (l s : List ℕ) (a : ConvertedArgs) (l′ s′ : List ℕ) : Type 0 where
-  pub meets : Meets text m n (c .counters) l l′ (argsOf s′ (records tree) (c .operands) a)
+  pub meets : Meets text m n (c .counters) l l′ (convertedArgsOf s′ (records tree) (c .operands) a)
   pub operands : (count : ℕ) (k : Counters) → a ≡ ConvertedArgs.Done count k → (count ≤ q) × StackIn tree s′ (c .operands) count
   pub stays : StaysFor tree c s s′
   pub names : NamesStay tree s s′
@@ -173,7 +173,7 @@ module _ (tree text s : List ℕ) (c : Converter) where
   unarySteps e y = convert-unary (getD unaryOps (detailOf tree e) Neg) y (λ st. exprSteps (wordOf tree e A) st)
 
   abbrev pub logicSteps : ℕ → ℕ → M Ir.Operand
-  logicSteps e y = pick (eqb (detailOf tree e) 1)
+  logicSteps e y = pick (eqb (detailOf tree e) (binaryNumber And))
       (convertAnd e y (λ st. exprSteps (wordOf tree e A) st) (λ st. exprSteps (wordOf tree e B) st))
       (convertOr e y (λ st. exprSteps (wordOf tree e A) st) (λ st. exprSteps (wordOf tree e B) st))
 
@@ -192,7 +192,7 @@ module _ (tree text s : List ℕ) (c : Converter) where
 
   -- the statement r, and the block that word w opens, whose own scope is dropped
   abbrev pub statementSteps : ℕ → M Def.Scope
-  statementSteps r = convert-statement (program tree text) (allKeys tree text) (statementAt tree text r) scopeIn
+  statementSteps r = convertStatement (program tree text) (allKeys tree text) (statementAt tree text r) scopeIn
 
   abbrev pub blockSteps : ℕ → M (Unit {0})
   blockSteps w = convert-block (program tree text) (allKeys tree text) (blockAt tree text w) scopeIn >> pure tt
@@ -374,7 +374,7 @@ pub record FirstValue (tree text : List ℕ) (argument parameter : ℕ) (r : AtV
   pub args : ArgsAt tree (r .rest)
   pub params : ParamsAt tree (r .parameter)
   pub first : parameterType (paramsAt tree text (r .parameter)) 0 ≡ expectedType (paramsAt tree text parameter) (argsAt tree text argument) 0
-  pub behind : (k : ℕ) → parameterType (paramsAt tree text (r .parameter)) (suc (position (argsAt tree text (r .rest)) k))
+  pub behind : (k : ℕ) → parameterType (paramsAt tree text (r .parameter)) (suc (valuePosition (argsAt tree text (r .rest)) k))
       ≡ expectedType (paramsAt tree text parameter) (argsAt tree text argument) (suc k)
 
 abbrev pub waiting : List ℕ → List ℕ → Converter → ℕ → List Ir.Operand

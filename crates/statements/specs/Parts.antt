@@ -31,9 +31,9 @@ placeLabel n = do
   l ← label-id n
   emit (Label l)
 
-unfoldable pub jumpTo : LabelName → M (Unit {0})
+unfoldable pub emitJump : LabelName → M (Unit {0})
 unfolding _>>=_ emit label-id
-jumpTo n = do
+emitJump n = do
   l ← label-id n
   emit (Jump l)
 
@@ -68,11 +68,11 @@ joinAnd r dest a = do
   jumpIfNot (OVar dest) (logicEnd r)
 
 unfoldable pub joinOr : ℕ → VarId → Operand → M (Unit {0})
-unfolding _>>_ emit jumpIfNot jumpTo placeLabel
+unfolding _>>_ emit jumpIfNot emitJump placeLabel
 joinOr r dest a = do
   emit (Copy dest a)
   jumpIfNot (OVar dest) (logicRhs r)
-  jumpTo (logicEnd r)
+  emitJump (logicEnd r)
   placeLabel (logicRhs r)
 
 -- behind the right side
@@ -126,9 +126,9 @@ module _ (P : Program) where
 
 -- where a For counts on, which the first turn passes by, and its check
 unfoldable pub countOn : ℕ → VarId → Bool → Bool → M (Unit {0})
-unfolding _>>_ emit jumpTo placeLabel
+unfolding _>>_ emit emitJump placeLabel
 countOn r x short unsigned = do
-  jumpTo (loopCheck r)
+  emitJump (loopCheck r)
   placeLabel (loopStart r)
   emit (Binary x Add (OVar x) (OInt (pos 1) short unsigned))
   placeLabel (loopCheck r)
@@ -221,14 +221,14 @@ module _ (P : Program) (F : Functions) where
 
 -- between an If's blocks
 unfoldable pub ifMiddle : ℕ → M (Unit {0})
-unfolding _>>_ jumpTo placeLabel
+unfolding _>>_ emitJump placeLabel
 ifMiddle r = do
-  jumpTo (conditionEnd r)
+  emitJump (conditionEnd r)
   placeLabel (otherwiseLabel r)
 
 -- behind a loop's body: 'Jump start ; end:'
 unfoldable pub loopBack : ℕ → M (Unit {0})
-unfolding _>>_ jumpTo placeLabel
+unfolding _>>_ emitJump placeLabel
 loopBack r = do
-  jumpTo (loopStart r)
+  emitJump (loopStart r)
   placeLabel (loopEnd r)

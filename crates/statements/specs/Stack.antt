@@ -33,13 +33,13 @@ operandFrom t y low high =
     ∷ OFloat low ∷ OBool (eqb low 1) ∷ ODataAddress low ∷ ONull ∷ []) t ONull
 
 -- where entry j stands, with n records
-abbrev pub entryAt : ℕ → ℕ → ℕ
-entryAt n j = 24 * n + 16 * j
+abbrev pub stackEntryAt : ℕ → ℕ → ℕ
+stackEntryAt n j = 24 * n + 16 * j
 
 -- the operand of entry j
 unfoldable pub operandAt : List ℕ → ℕ → ℕ → Operand
 unfolding operandFrom wordAt
-operandAt s n j = operandFrom (wordAt s (entryAt n j)) (wordAt s (entryAt n j + 4)) (wordAt s (entryAt n j + 8)) (wordAt s (entryAt n j + 12))
+operandAt s n j = operandFrom (wordAt s (stackEntryAt n j)) (wordAt s (stackEntryAt n j + 4)) (wordAt s (stackEntryAt n j + 8)) (wordAt s (stackEntryAt n j + 12))
 
 -- the operands of `count` entries from entry j on
 unfoldable pub stackAt : List ℕ → ℕ → ℕ → ℕ → List Operand

@@ -1,12 +1,13 @@
 // statements.rs: operands as values of the type that is expected, and the arguments of a call.
 ghost use mathlib.Core.Path.{_≡_};
-ghost use mathlib.Core.Bool.{Bool, true};
+ghost use mathlib.Core.Bool.{Bool, true, false};
 ghost use lib.ListN.{length};
 ghost use mathlib.Core.List.{List};
 ghost use Prim.Native.Nat.{ℕ, suc, _+_, _*_, _≤_, _<_};
 ghost use Rattle.records.specs.Words.{records};
 ghost use Rattle.records.specs.Kinds.{kindCall};
 ghost use Rattle.records.specs.Good.{Good};
+ghost use Rattle.syntax.specs.Syntax.{floatType};
 ghost use Rattle.syntax.specs.Decode.{program};
 ghost use Rattle.syntax.specs.Places.{IsExpr, IsKind, TypeAt, FunctionAt, ArgsAt, ParamsAt, exprAt, paramsAt};
 ghost use Rattle.conversion.specs.Ir.{OVar, OFloat, lift};
@@ -45,13 +46,13 @@ use ir::structs::new_var;
 use keys::keys::parameters_of;
 use records::convert_error::ConvertErrorKind;
 use records::numbers::FLOAT_LONG;
+use records::numbers::FORM_FLOAT;
+use records::numbers::FORM_INT;
 use records::words::WORD_A;
 use records::words::WORD_C;
 use records::words::reference;
 use types::fits::fits;
 use types::fits::range_error;
-use types::form::FLOAT;
-use types::form::INT;
 use types::form::form;
 use types::form::is_short;
 use types::form::is_unsigned;
@@ -91,7 +92,7 @@ fn fit_variable(tree: &[u8], arena: &mut [u8], k: Counters, v: VarId, expected: 
     ensures { λ r. ⌜ ((text : List ℕ) → FitAdds (now (tree .entry)) (fit-operand (program (now (tree .entry)) text) (OVar (varOf v)) expected) (amount 1 1 0 0 0) k (now (arena .entry)) r (now (arena .exit))) ⌝ }
 {
     let ty = v.1 as usize;
-    let floats = (form(tree, expected) == FLOAT) & (form(tree, ty) == FLOAT);
+    let floats = (form(tree, expected) == FORM_FLOAT) & (form(tree, ty) == FORM_FLOAT);
     if floats & (ty != expected) {
         return cast_operand(arena, k, v, expected);
     }
@@ -105,7 +106,7 @@ fn fit_float(tree: &[u8], arena: &mut [u8], k: Counters, i: u32, expected: usize
     requires { ⌜ RoomFor k (now arena) (amount 0 0 0 0 1) × TypeAt (now tree) expected ⌝ }
     ensures { λ r. ⌜ ((text : List ℕ) → FitAdds (now (tree .entry)) (fit-operand (program (now (tree .entry)) text) (OFloat i) expected) (amount 0 0 0 0 1) k (now (arena .entry)) r (now (arena .exit))) ⌝ }
 {
-    if form(tree, expected) == FLOAT {
+    if form(tree, expected) == FORM_FLOAT {
         return refloat(arena, k, i, is_short(tree, expected));
     }
     Fitted {
@@ -119,7 +120,7 @@ fn fit_int(tree: &[u8], k: Counters, o: Operand, bits: u64, expected: usize) -> 
     requires { ⌜ TypeAt (now tree) expected ⌝ }
     ensures { λ r. ⌜ ((text l : List ℕ) (short unsigned : Bool) → o ≡ Operand.Int bits short unsigned → Room k l → FitAdds (now (tree .entry)) (fit-operand (program (now (tree .entry)) text) (operandOf o) expected) (amount 0 0 0 0 0) k l r l) ⌝ }
 {
-    if form(tree, expected) == INT {
+    if form(tree, expected) == FORM_INT {
         return Fitted {
             operand: Operand::Int(bits, is_short(tree, expected), is_unsigned(tree, expected)),
             counters: k,
@@ -164,7 +165,7 @@ pub(crate) fn fit_operand(
 
 // The type of the parameter in a cell; behind the parameters long Float.
 fn parameter_type(tree: &[u8], text: &[u8], parameter: usize) -> usize
-    requires { ⌜ Good (now tree) (now text) × ParamsAt (now tree) parameter × TypeAt (now tree) 4 ⌝ }
+    requires { ⌜ Good (now tree) (now text) × ParamsAt (now tree) parameter × TypeAt (now tree) (floatType false) ⌝ }
     ensures { λ y. ⌜ (y ≡ parameterType (paramsAt (now (tree .entry)) (now (text .entry)) parameter) 0) × TypeAt (now (tree .entry)) y ⌝ }
 {
     if parameter == END {

@@ -5,7 +5,7 @@ ghost use Rattle.ir.specs.Instructions.{operandOf};
 ghost use Rattle.ir.specs.Steps.{named};
 ghost use Rattle.statements.specs.Converting.{RoomFor};
 ghost use Rattle.statements.specs.Meets.{Adds};
-ghost use Rattle.statements.specs.Parts.{placeLabel, jumpTo, jumpIfNot};
+ghost use Rattle.statements.specs.Parts.{placeLabel, emitJump, jumpIfNot};
 use ir::structs::Counters;
 use ir::structs::Instr;
 use ir::structs::Operand;
@@ -14,7 +14,7 @@ use ir::structs::label_id;
 
 pub(crate) fn jump(arena: &mut [u8], k: Counters, kind: u32, opener: usize) -> Counters
     requires { ⌜ RoomFor k (now arena) (amount 1 0 1 0 0) × HasSlot (k .records) (named kind opener) ⌝ }
-    ensures { λ r. ⌜ Adds (jumpTo (named kind opener)) (amount 1 0 1 0 0) k (now (arena .entry)) tt r (now (arena .exit)) ⌝ }
+    ensures { λ r. ⌜ Adds (emitJump (named kind opener)) (amount 1 0 1 0 0) k (now (arena .entry)) tt r (now (arena .exit)) ⌝ }
 {
     let found = label_id(arena, k, kind, opener as u32);
     let target = found.label;

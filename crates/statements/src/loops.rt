@@ -9,7 +9,7 @@ ghost use Rattle.records.specs.Words.{detailOf, wordOf};
 ghost use Rattle.records.specs.Kinds.{kindIf, kindWhile, kindFor};
 ghost use Rattle.syntax.specs.Decode.{program, bit};
 ghost use Rattle.syntax.specs.Places.{IsExpr, IsKind, TypeAt};
-ghost use Rattle.conversion.specs.Ir.{conditionEnd};
+ghost use Rattle.conversion.specs.Ir.{conditionEnd, otherwiseLabel};
 ghost use Rattle.ir.specs.Amounts.{amount};
 ghost use Rattle.ir.specs.Instructions.{operandOf, varOf};
 ghost use Rattle.expressions.specs.Slots.{Ready};
@@ -51,6 +51,7 @@ use ir::structs::new_var;
 use records::convert_error::ConvertErrorKind;
 use records::numbers::ADD;
 use records::numbers::BOOL_TYPE;
+use records::numbers::FORM_INT;
 use records::numbers::LT;
 use records::words::NONE;
 use records::words::WORD_A;
@@ -61,7 +62,6 @@ use records::words::reference;
 use records::words::word;
 use scope::Declared;
 use scope::Known;
-use types::form::INT;
 use types::form::form;
 use types::form::is_short;
 use types::form::is_unsigned;
@@ -79,7 +79,7 @@ pub(crate) fn has_otherwise(tree: &[u8], r: usize) -> bool
 fn if_not_label(tree: &[u8], r: usize) -> u32
     requires { ⌜ r * 32 + 32 ≤ length (now tree) ⌝ }
     requires { ⌜ detailOf (now tree) r ≤ 1 ⌝ }
-    ensures { λ k. ⌜ k ≡ pick (bit 1 (detailOf (now (tree .entry)) r)) 4 5 ⌝ }
+    ensures { λ k. ⌜ k ≡ pick (bit 1 (detailOf (now (tree .entry)) r)) (otherwiseLabel r .kind) (conditionEnd r .kind) ⌝ }
 {
     if has_otherwise(tree, r) {
         return OTHERWISE;
@@ -200,7 +200,7 @@ fn for_known(
     v: usize,
 ) -> ForVariable
     requires { ⌜ Converting (now tree) (now text) (now arena) (now scratch) c × BehindAfforded (now tree) (now text) c r ⌝ }
-    requires { ⌜ IsKind (now tree) kindFor r × (v ≡ wordOf (now tree) r Words.A) × (wordOf (now tree) v Words.C ≡ 4294967295) ⌝ }
+    requires { ⌜ IsKind (now tree) kindFor r × (v ≡ wordOf (now tree) r Words.A) × (wordOf (now tree) v Words.C ≡ Words.none) ⌝ }
     ensures { λ a. ⌜ VariableAs forVariableSteps c r (now (tree .entry)) (now (text .entry)) (now (arena .entry)) (now (scratch .entry)) a (now (arena .entry)) (now (scratch .entry)) ⌝ }
 {
     let scope = c.scope;
@@ -304,10 +304,10 @@ fn for_begin(
     r: usize,
     x: VarId,
 ) -> Finished
-    requires { ⌜ Converting (now tree) (now text) (now arena) (now scratch) c × BoundAfforded (now tree) (now text) c r 1 ⌝ }
+    requires { ⌜ Converting (now tree) (now text) (now arena) (now scratch) c × BoundAfforded (now tree) (now text) c r Words.B ⌝ }
     requires { ⌜ IsKind (now tree) kindFor r × TypeAt (now tree) (x .1) ⌝ }
     requires { ⌜ InTurn (now tree) (now text) (now scratch) c ⌝ }
-    ensures { λ a. ⌜ BoundAs (λ t y s k q. forBeginSteps t y s k x q) 1 c r (now (tree .entry)) (now (text .entry)) (now (arena .entry)) (now (scratch .entry)) a (now (arena .exit)) (now (scratch .exit)) ⌝ }
+    ensures { λ a. ⌜ BoundAs (λ t y s k q. forBeginSteps t y s k x q) Words.B c r (now (tree .entry)) (now (text .entry)) (now (arena .entry)) (now (scratch .entry)) a (now (arena .exit)) (now (scratch .exit)) ⌝ }
     ensures types { λ a. ⌜ FinishesTyped forBeginTypes c r (now (tree .entry)) (now (text .entry)) (now (scratch .entry)) a (now (scratch .exit)) ⌝ }
 {
     let from = reference(tree, r, WORD_B);
@@ -352,10 +352,10 @@ fn for_test(
     r: usize,
     x: VarId,
 ) -> Finished
-    requires { ⌜ Converting (now tree) (now text) (now arena) (now scratch) c × BoundAfforded (now tree) (now text) c r 2 ⌝ }
+    requires { ⌜ Converting (now tree) (now text) (now arena) (now scratch) c × BoundAfforded (now tree) (now text) c r Words.C ⌝ }
     requires { ⌜ IsKind (now tree) kindFor r × TypeAt (now tree) (x .1) ⌝ }
     requires { ⌜ InTurn (now tree) (now text) (now scratch) c ⌝ }
-    ensures { λ a. ⌜ BoundAs (λ t y s k q. forTestSteps t y s k x q) 2 c r (now (tree .entry)) (now (text .entry)) (now (arena .entry)) (now (scratch .entry)) a (now (arena .exit)) (now (scratch .exit)) ⌝ }
+    ensures { λ a. ⌜ BoundAs (λ t y s k q. forTestSteps t y s k x q) Words.C c r (now (tree .entry)) (now (text .entry)) (now (arena .entry)) (now (scratch .entry)) a (now (arena .exit)) (now (scratch .exit)) ⌝ }
     ensures types { λ a. ⌜ FinishesTyped forTestTypes c r (now (tree .entry)) (now (text .entry)) (now (scratch .entry)) a (now (scratch .exit)) ⌝ }
 {
     let until = reference(tree, r, WORD_C);
@@ -382,7 +382,7 @@ fn for_turns(
     ensures types { λ a. ⌜ FinishesTyped forTypes c r (now (tree .entry)) (now (text .entry)) (now (scratch .entry)) a (now (scratch .exit)) ⌝ }
 {
     let y = x.1 as usize;
-    if form(tree, y) != INT {
+    if form(tree, y) != FORM_INT {
         return Finished::Refused(error_at(ConvertErrorKind::NotInteger, r));
     }
     match for_bounds(tree, text, scratch, c, r, y) {

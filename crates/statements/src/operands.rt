@@ -7,6 +7,7 @@ ghost use lib.ListN.{length};
 ghost use mir.Syntax.{w64};
 ghost use mir.Val.{toZ};
 ghost use Rattle.laws.specs.Splice.{splice};
+ghost use Rattle.records.specs.Words as Words;
 ghost use Rattle.records.specs.Words.{detailOf, kindOf};
 ghost use Rattle.records.specs.Kinds.{kindFloat, kindStr, kindName, kindSizeOf};
 ghost use Rattle.records.specs.Good.{Good};
@@ -16,7 +17,7 @@ ghost use Rattle.conversion.specs.Ir.{OInt};
 ghost use Rattle.conversion.specs.Written.{word};
 ghost use Rattle.ir.specs.Amounts.{amount, Affords};
 ghost use Rattle.ir.specs.Instructions.{operandOf};
-ghost use Rattle.statements.specs.Stack.{operandBytes, operandFrom, entryAt, operandAt};
+ghost use Rattle.statements.specs.Stack.{operandBytes, operandFrom, stackEntryAt, operandAt};
 ghost use Rattle.statements.specs.Converting.{Converting, RoomFor, exprAmount};
 ghost use Rattle.statements.specs.Meets.{Adds, AddsIn};
 ghost use Rattle.statements.specs.Answers.{Converts, LeafAdds, exprSteps};
@@ -112,7 +113,7 @@ fn operand_of(w: Four) -> Operand
 // Writes the operand at place j of the stack, for a tree of so many records.
 pub(crate) fn push_operand(scratch: &mut [u8], records: usize, j: usize, o: Operand)
     requires { ⌜ 24 * records + 16 * j + 16 ≤ length (now scratch) ⌝ }
-    ensures written { λ _. ⌜ now (scratch .exit) ≡ splice (now (scratch .entry)) (entryAt records j) (operandBytes (operandOf o)) ⌝ }
+    ensures written { λ _. ⌜ now (scratch .exit) ≡ splice (now (scratch .entry)) (stackEntryAt records j) (operandBytes (operandOf o)) ⌝ }
     ensures back { λ _. ⌜ operandAt (now (scratch .exit)) records j ≡ operandOf o ⌝ }
 {
     let w = operand_words(o);
@@ -135,7 +136,7 @@ pub(crate) fn operand_at(scratch: &[u8], records: usize, j: usize) -> Operand
 // Detail 1 is short, 2 unsigned.
 fn int_operand(tree: &[u8], e: usize) -> Operand
     requires { ⌜ e * 32 + 32 ≤ length (now tree) ⌝ }
-    ensures { λ r. ⌜ ((text : List ℕ) → operandOf r ≡ OInt (toZ w64 (wideOf (now (tree .entry)) text e 0)) (bit 1 (detailOf (now (tree .entry)) e)) (bit 2 (detailOf (now (tree .entry)) e))) ⌝ }
+    ensures { λ r. ⌜ ((text : List ℕ) → operandOf r ≡ OInt (toZ w64 (wideOf (now (tree .entry)) text e Words.A)) (bit 1 (detailOf (now (tree .entry)) e)) (bit 2 (detailOf (now (tree .entry)) e))) ⌝ }
 {
     let marks = detail(tree, e);
     let bits = two_words(tree, e, WORD_A);

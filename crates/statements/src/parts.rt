@@ -7,7 +7,7 @@ ghost use lib.ListN.{length, getD};
 ghost use Rattle.laws.specs.Fix.{pick};
 ghost use Rattle.records.specs.Words.{detailOf};
 ghost use Rattle.records.specs.Kinds.{kindBinary, kindCall};
-ghost use Rattle.syntax.specs.Syntax.{unaryOps, binaryOps, Neg, Or};
+ghost use Rattle.syntax.specs.Syntax.{unaryOps, binaryOps, Neg, Or, binaryNumber, And};
 ghost use Rattle.syntax.specs.Decode.{program};
 ghost use Rattle.syntax.specs.Places.{IsKind, TypeAt, FunctionAt};
 ghost use Rattle.ir.specs.Amounts.{amount};
@@ -125,7 +125,7 @@ pub(crate) fn join_logic(
     left: Operand,
 ) -> Counters
     requires { ⌜ RoomFor k (now arena) (amount 4 0 3 0 0) × (e < k .records) × (e * 32 + 32 ≤ length (now tree)) ⌝ }
-    ensures { λ r. ⌜ Adds (pick (eqb (detailOf (now (tree .entry)) e) 1) (joinAnd e (varOf dest) (operandOf left)) (joinOr e (varOf dest) (operandOf left))) (amount 4 0 3 0 0) k (now (arena .entry)) tt r (now (arena .exit)) ⌝ }
+    ensures { λ r. ⌜ Adds (pick (eqb (detailOf (now (tree .entry)) e) (binaryNumber And)) (joinAnd e (varOf dest) (operandOf left)) (joinOr e (varOf dest) (operandOf left))) (amount 4 0 3 0 0) k (now (arena .entry)) tt r (now (arena .exit)) ⌝ }
 {
     if detail(tree, e) == AND {
         return join_and(arena, k, e, dest, left);

@@ -8,7 +8,7 @@ ghost use lib.ListN.{length};
 ghost use Rattle.laws.specs.Fix.{pick};
 ghost use Rattle.records.specs.Words as Words;
 ghost use Rattle.records.specs.Words.{wordOf};
-ghost use Rattle.records.specs.Kinds.{kindCall, kindDeclare, kindInit, kindReturn, kindCallStatement, kindBreak, kindContinue};
+ghost use Rattle.records.specs.Kinds.{kindCall, kindDeclare, kindInit, kindReturn, kindCallStatement, kindBreak, kindContinue, formAddress};
 ghost use Rattle.syntax.specs.Syntax.{nullType, addressOfNull};
 ghost use Rattle.syntax.specs.Decode.{program, typeAt, textOf};
 ghost use Rattle.syntax.specs.Places.{IsExpr, IsKind, TypeAt, FunctionAt};
@@ -54,6 +54,11 @@ use ir::structs::new_var;
 use records::convert_error::ConvertErrorKind;
 use records::numbers::ADDRESS_OF_NULL;
 use records::numbers::BOOL_TYPE;
+use records::numbers::FORM_ADDRESS;
+use records::numbers::FORM_ARRAY;
+use records::numbers::FORM_CUSTOM;
+use records::numbers::FORM_FLOAT;
+use records::numbers::FORM_INT;
 use records::numbers::KIND_CALL;
 use records::numbers::NULL_TYPE;
 use records::words::NONE;
@@ -70,11 +75,6 @@ use scope::InLoop;
 use scope::Known;
 use scope::Scope;
 use texts::original;
-use types::form::ADDRESS;
-use types::form::ARRAY;
-use types::form::CUSTOM;
-use types::form::FLOAT;
-use types::form::INT;
 use types::form::form;
 use types::form::is_short;
 use types::form::is_unsigned;
@@ -128,7 +128,7 @@ pub(crate) fn declare_name(
 // The variable of the name in words A and B of record r, looked for by those of the lowest record with the text.
 pub(crate) fn find_name(tree: &[u8], text: &[u8], scratch: &[u8], scope: Scope, r: usize) -> Known
     requires { ⌜ Asked (now tree) (now text) (now scratch) scope r ⌝ }
-    ensures { λ a. ⌜ FindMeets (now (text .entry)) (now (scratch .entry)) scope (textOf (now (tree .entry)) (now (text .entry)) r 0) a ⌝ }
+    ensures { λ a. ⌜ FindMeets (now (text .entry)) (now (scratch .entry)) scope (textOf (now (tree .entry)) (now (text .entry)) r Words.A) a ⌝ }
 {
     let o = original(scratch, scope.records, r);
     let offset = word(tree, o, WORD_A);
@@ -147,9 +147,9 @@ fn zero_float(arena: &mut [u8], k: Counters, v: VarId, short: bool) -> Counters
 
 // The zero of a type that is neither Int nor Float nor Array nor Custom: Bool, Char and Byte have the bool, Address and Null the null.
 fn zero_operand(f: u8) -> Operand
-    ensures { λ r. ⌜ r ≡ pick (ltb f 6) (Operand.Bool false) Operand.Null ⌝ }
+    ensures { λ r. ⌜ r ≡ pick (ltb f formAddress) (Operand.Bool false) Operand.Null ⌝ }
 {
-    if f < ADDRESS {
+    if f < FORM_ADDRESS {
         return Operand::Bool(false);
     }
     Operand::Null
@@ -163,17 +163,17 @@ fn zero_value(tree: &[u8], arena: &mut [u8], k: Counters, r: usize, v: VarId) ->
     let y = v.1 as usize;
     let f = form(tree, y);
     let short = is_short(tree, y);
-    if f == INT {
+    if f == FORM_INT {
         let zero = Operand::Int(0, short, is_unsigned(tree, y));
         return Finished::Done(emit(arena, k, Instr::Copy(v, zero)));
     }
-    if f == FLOAT {
+    if f == FORM_FLOAT {
         return Finished::Done(zero_float(arena, k, v, short));
     }
-    if f == ARRAY {
+    if f == FORM_ARRAY {
         return Finished::Done(emit(arena, k, Instr::Zero(v)));
     }
-    if f == CUSTOM {
+    if f == FORM_CUSTOM {
         return Finished::Refused(error_at(ConvertErrorKind::WouldPanic, r));
     }
     Finished::Done(emit(arena, k, Instr::Copy(v, zero_operand(f))))

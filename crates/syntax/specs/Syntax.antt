@@ -119,12 +119,12 @@ unaryOps = Neg ∷ BitNot ∷ Not ∷ []
 abbrev pub binaryOps : List BinaryOp
 binaryOps = Or ∷ And ∷ BitOr ∷ BitXor ∷ BitAnd ∷ Eq ∷ NotEq ∷ Lt ∷ Le ∷ Gt ∷ Ge ∷ Shl ∷ Shr ∷ Add ∷ Sub ∷ Mul ∷ Div ∷ Rem ∷ []
 
-unfoldable pub unaryNumber : UnaryOp → ℕ
+abbrev pub unaryNumber : UnaryOp → ℕ
 unaryNumber Neg = 0
 unaryNumber BitNot = 1
 unaryNumber Not = 2
 
-unfoldable pub binaryNumber : BinaryOp → ℕ
+abbrev pub binaryNumber : BinaryOp → ℕ
 binaryNumber Or = 0
 binaryNumber And = 1
 binaryNumber BitOr = 2
@@ -146,13 +146,13 @@ binaryNumber Rem = 17
 
 -- 'Types come first: the twelve Int long, Int short, unsigned long, unsigned short, Float long, Float short, Bool, Char, Byte, Null,
 -- Address of Char, Address of Null': their record numbers
-unfoldable pub intType : Bool → Bool → ℕ
+abbrev pub intType : Bool → Bool → ℕ
 intType false false = 0
 intType true false = 1
 intType false true = 2
 intType true true = 3
 
-unfoldable pub floatType : Bool → ℕ
+abbrev pub floatType : Bool → ℕ
 floatType false = 4
 floatType true = 5
 

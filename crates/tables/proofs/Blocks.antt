@@ -14,7 +14,7 @@ use Rattle.conversion.specs.Ir.{VarId, OVar, OInt, OFloat, OBool, ONull, Copy, 
 use Rattle.conversion.specs.Types.{fits, range-error}
 use Rattle.conversion.specs.Scope.{Variable, Scope, find-variable, withVariable, withLoop, declareNew, declare}
 use Rattle.conversion.specs.Expressions.{Callee, CallFunction, CallCast, Functions, get-type}
-use Rattle.conversion.specs.Statements.{asCall, convert-expr, convert-cond, checkFits, zeroValue, convert-declare, assignTo, convert-assign, initNew, initBy, convert-init, returnAs, convert-return, callStatement, convert-call, convert-if, convertIfElse, convert-while-loop, checkBound, forLoop, forInt, forKnown, convert-for-loop, convert-break, convert-continue, convert-statement, convert-block}
+use Rattle.conversion.specs.Statements.{asCall, convert-expr, convert-cond, checkFits, zeroValue, convert-declare, assignTo, convert-assign, initNew, initBy, convert-init, returnAs, convert-return, callStatement, convert-call, convert-if, convertIfElse, convert-while-loop, checkBound, forLoop, forInt, forKnown, convert-for-loop, convert-break, convert-continue, convertStatement, convert-block}
 use Rattle.tables.proofs.Exists.{Word, VarIn, KnownLabel}
 use Rattle.tables.proofs.SyntaxFits.{OkIs, okIs, errIs, OptIs, someIs, held, ExprFits, ArgsFit, StatementFits, BlockFits, CalleeFits, KeyedFit, TreeFits}
 use Rattle.tables.proofs.Typing.{TypeFits, pick-is, find-is}
@@ -301,10 +301,10 @@ module _ (text : Text) where
     commented r w h = and-then text (emits text (Comment r) (λ s g. w)) h
 
     mutual
-      unfolding convert-statement
+      unfolding convertStatement
 
       pub statement-keeps : (t : Statement) (sc : Scope) → StatementFits text t
-          → Keeps text (Scoped text sc) (Scoped text) (convert-statement P F t sc)
+          → Keeps text (Scoped text sc) (Scoped text) (convertStatement P F t sc)
       statement-keeps (SDeclare r n y) sc h = commented r (h .0) (declare-keeps r n y sc (h .1))
       statement-keeps (SInit r c n e) sc h = commented r (h .0) (init-keeps r c n e sc (h .1))
       statement-keeps (SReturn r e) sc h = commented r (h .0) (return-keeps r e sc (h .1))

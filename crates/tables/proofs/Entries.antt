@@ -10,7 +10,7 @@ use lib.ListN.{length, drop, getElem?, length-append}
 use lib.Seq.{drop-at, drop-drop}
 use Rattle.laws.specs.All.{All}
 use Rattle.conversion.specs.Written.{encodeAll}
-use Rattle.tables.specs.Read.{_>>=_, entries, part}
+use Rattle.tables.specs.Read.{_>>=_, entries, entriesFrom}
 
 -- ---- lists
 
@@ -68,8 +68,8 @@ module _ {X : Type 0} (enc : X → List ℕ) (size : ℕ) (sized : (x : X) → l
     )
 
     pub part-back : (a b c : List X) (rest : List ℕ) → All P b
-        → part read size (encodeAll enc (a ++ (b ++ c)) ++ rest) (length a) (length b) ≡ some b
-    unfolding part
+        → entriesFrom read size (encodeAll enc (a ++ (b ++ c)) ++ rest) (length a) (length b) ≡ some b
+    unfolding entriesFrom
     part-back a b c rest h = rw (drop-entries a (b ++ c) rest, encode-append b c, append-assoc (encodeAll enc b) (encodeAll enc c) rest)
         (entries-back b (encodeAll enc c ++ rest) h)
 

@@ -19,7 +19,7 @@ use Rattle.records.specs.Words.{byteAt, wordAt, none}
 use Rattle.syntax.specs.Syntax.{UnaryOp, Neg, BitNot, Not, BinaryOp, Or, And, BitOr, BitXor, BitAnd, Eq, NotEq, Lt, Le, Gt, Ge, Shl, Shr, Add, Sub, Mul, Div, Rem, unaryOps, binaryOps, unaryNumber, binaryNumber}
 use Rattle.conversion.specs.Ir.{VarId, Operand, OVar, OInt, OFloat, OBool, ODataAddress, ONull, Instr, Copy, Unary, Binary, Cast, Zero, Arg, Call, Label, Jump, JumpIfNot, Return, Comment, State}
 use Rattle.conversion.specs.Written.{bytesOf, word, wide, boolNumber, tag, operandValue, Fields, tagOf, operandWord, destination, fieldsOf, encodeFields, encodeInstr}
-use Rattle.tables.specs.Read.{_>>=_, unused, wideAt, markOf, variable, noOperand, varOperand, intOperand, floatOperand, boolOperand, stringOperand, nullOperand, operandOf, fieldsAt, copyOf, unaryOf, binaryOf, castOf, zeroOf, argOf, destinationOf, callOf, labelOf, jumpOf, jumpIfNotOf, returnOf, commentOf, instrOf, instrAt}
+use Rattle.tables.specs.Read.{_>>=_, readZeros, wideAt, markOf, readVar, noOperand, varOperand, intOperand, floatOperand, boolOperand, stringOperand, nullOperand, readOperand, fieldsAt, readCopy, readUnary, readBinary, readCast, readZero, readArg, readDestination, readCall, readLabel, readJump, readJumpIfNot, readReturn, readComment, readInstr, instrIn}
 use Rattle.tables.proofs.Exists.{Word, VarIn, OperandIn, DestinationIn, InstrIn}
 use Rattle.tables.proofs.Numbers.{word-back, wide-back}
 
@@ -37,13 +37,11 @@ found-below (a ∷ l) zero x e = omega arith
 found-below (a ∷ l) (suc n) x e = omega (arith, found-below l n x e)
 
 unary-back : (u : UnaryOp) → getElem? unaryOps (unaryNumber u) ≡ some u
-unfolding unaryNumber
 unary-back Neg = refl
 unary-back BitNot = refl
 unary-back Not = refl
 
 binary-back : (b : BinaryOp) → getElem? binaryOps (binaryNumber b) ≡ some b
-unfolding binaryNumber
 binary-back Or = refl
 binary-back And = refl
 binary-back BitOr = refl
@@ -72,22 +70,22 @@ module _ (s : State) (m : Small s) where
   var-below : (x : VarId) → VarIn s x → x .id < length (s .vars)
   var-below x h = found-below (s .vars) (x .id) (x .ty) (h .typed)
 
-  variable-back : (x : VarId) → VarIn s x → variable (s .vars) (x .id) ≡ some x
-  unfolding variable _>>=_
+  variable-back : (x : VarId) → VarIn s x → readVar (s .vars) (x .id) ≡ some x
+  unfolding readVar _>>=_
   variable-back x h = rw (h .typed)
 
   -- ---- operands
 
   int-back : (v : ℤ) (short unsigned : Bool) → SFits w64 v
-      → operandOf (s .vars) (tag (OInt v short unsigned)) (ofZ w64 v) ≡ some (some (OInt v short unsigned))
-  unfolding operandOf intOperand tag boolNumber
+      → readOperand (s .vars) (tag (OInt v short unsigned)) (ofZ w64 v) ≡ some (some (OInt v short unsigned))
+  unfolding readOperand intOperand tag boolNumber
   int-back v true true h = rw (toZ-ofZ h)
   int-back v true false h = rw (toZ-ofZ h)
   int-back v false true h = rw (toZ-ofZ h)
   int-back v false false h = rw (toZ-ofZ h)
 
-  operand-back : (o : Operand) → OperandIn s o → operandOf (s .vars) (tag o) (operandValue o) ≡ some (some o)
-  unfolding operandOf tag operandValue varOperand floatOperand boolOperand stringOperand nullOperand pick _>>=_
+  operand-back : (o : Operand) → OperandIn s o → readOperand (s .vars) (tag o) (operandValue o) ≡ some (some o)
+  unfolding readOperand tag operandValue varOperand floatOperand boolOperand stringOperand nullOperand pick _>>=_
   operand-back (OVar x) h = rw (variable-back x h)
   operand-back (OInt v short unsigned) h = int-back v short unsigned h
   operand-back (OFloat i) h = refl
@@ -115,8 +113,8 @@ module _ (s : State) (m : Small s) where
   MaybeIn nothing = Unit {0}
   MaybeIn (some o) = OperandIn s o
 
-  maybe-back : (o : Option Operand) → MaybeIn o → operandOf (s .vars) (tagOf o) (operandWord o) ≡ some o
-  unfolding operandOf tagOf operandWord noOperand pick
+  maybe-back : (o : Option Operand) → MaybeIn o → readOperand (s .vars) (tagOf o) (operandWord o) ≡ some o
+  unfolding readOperand tagOf operandWord noOperand pick
   maybe-back nothing h = refl
   maybe-back (some o) h = operand-back o h
 
@@ -133,7 +131,7 @@ module _ (s : State) (m : Small s) where
     recordWord : Word (f .recordWord)
 
   fields-back : (f : Fields) (rest : List ℕ) → FieldsIn f → fieldsAt (s .vars) (encodeFields f ++ rest) ≡ some f
-  unfolding fieldsAt encodeFields wideAt wordAt byteAt word wide bytesOf unused pick _>>=_
+  unfolding fieldsAt encodeFields wideAt wordAt byteAt word wide bytesOf readZeros pick _>>=_
   fields-back f rest h =
       rw (
         wide-back (operandWord (f .first)) [] (maybe-fits (f .first) (h .first)),
@@ -169,14 +167,14 @@ module _ (s : State) (m : Small s) where
   fields-in (Return o) h = record { first = h; second = tt; target = omega arith; recordWord = omega arith }
   fields-in (Comment r) h = record { first = tt; second = tt; target = omega arith; recordWord = h }
 
-  destination-back : (x : Option VarId) → DestinationIn s x → destinationOf (s .vars) (destination x) ≡ some x
-  unfolding destinationOf destination pick _>>=_
+  destination-back : (x : Option VarId) → DestinationIn s x → readDestination (s .vars) (destination x) ≡ some x
+  unfolding readDestination destination pick _>>=_
   destination-back nothing h = refl
   destination-back (some x) h =
       pick-no (eqb (x .id) none) _ _ (ne-eqb (x .id) none (λ e. omega (arith, var-below x h, m .vars))) ∙ rw (variable-back x h)
 
-  instrOf-back : (i : Instr) → InstrIn s i → instrOf (s .vars) (fieldsOf i) ≡ some i
-  unfolding instrOf fieldsOf copyOf unaryOf binaryOf castOf zeroOf argOf callOf labelOf jumpOf jumpIfNotOf returnOf commentOf unused pick tagOf _>>=_
+  instrOf-back : (i : Instr) → InstrIn s i → readInstr (s .vars) (fieldsOf i) ≡ some i
+  unfolding readInstr fieldsOf readCopy readUnary readBinary readCast readZero readArg readCall readLabel readJump readJumpIfNot readReturn readComment readZeros pick tagOf _>>=_
   instrOf-back (Copy x o) h = rw (variable-back x (h .0))
   instrOf-back (Unary x u o) h = rw (variable-back x (h .0), unary-back u)
   instrOf-back (Binary x b o p) h = rw (variable-back x (h .0), binary-back b)
@@ -190,10 +188,6 @@ module _ (s : State) (m : Small s) where
   instrOf-back (Return o) h = refl
   instrOf-back (Comment r) h = refl
 
-  pub instr-back : (i : Instr) (rest : List ℕ) → InstrIn s i → instrAt (s .vars) (encodeInstr i ++ rest) ≡ some i
-  unfolding instrAt encodeInstr _>>=_
+  pub instr-back : (i : Instr) (rest : List ℕ) → InstrIn s i → instrIn (s .vars) (encodeInstr i ++ rest) ≡ some i
+  unfolding instrIn encodeInstr _>>=_
   instr-back i rest h = rw (fields-back (fieldsOf i) rest (fields-in i h), instrOf-back i h)
-
-pub instr-length : (i : Instr) → length (encodeInstr i) ≡ 32
-unfolding encodeInstr encodeFields word wide bytesOf
-instr-length i = refl

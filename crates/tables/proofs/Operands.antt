@@ -13,10 +13,10 @@ use Rattle.laws.specs.Fix.{pick, fix}
 use Rattle.syntax.specs.Syntax.{Text, Ty, TInt, TFloat, TBool, TChar, TByte, TAddress, TArray, TCustom, TNull, UnaryOp, BinaryOp, Or, And, BitOr, BitXor, BitAnd, Eq, NotEq, Lt, Le, Gt, Ge, Shl, Shr, Add, Sub, Mul, Div, Rem, Expr, EInt, EFloat, EStr, EBool, EName, ENull, ESizeOf, EUnary, EBinary, ECall, Args, noArgs, Value, ToType, Param, Function, Program}
 use Rattle.conversion.specs.ConvertError.{WouldPanic, UnknownVariable}
 use Rattle.conversion.specs.Ir.{VarId, Operand, OVar, OInt, OFloat, OBool, ODataAddress, ONull, Copy, Unary, Binary, Cast, Arg, Call, Label, Jump, JumpIfNot, logicRhs, logicEnd, State, M, _>>=_, lift}
-use Rattle.conversion.specs.Types.{onInt, onFloat, isFloat, within, sizeStep, size}
+use Rattle.conversion.specs.Types.{onInt, onFloat, isFloat, sizeWithin, sizeStep, size}
 use Rattle.conversion.specs.Scope.{Variable, Scope, find-variable}
 use Rattle.conversion.specs.Expressions.{Callee, CallFunction, CallCast, Functions, unwrapOr, get-type, resolve-call}
-use Rattle.conversion.specs.Statements.{nameOperand, sizeOperand, castOperand, refloat, fit-operand, parameterType, position, expectedType, fitFrom, fit-args, emitArgs, convert-unary, convertAnd, convertOr, castFirst, convertOther, convertBinaryBy, convert-binary, callFunction, callValue, convert-call-value, convert-expr, convert-args}
+use Rattle.conversion.specs.Statements.{nameOperand, sizeOperand, castOperand, refloat, fit-operand, parameterType, valuePosition, expectedType, fitFrom, fit-args, emitArgs, convert-unary, convertAnd, convertOr, castFirst, convertOther, convertBinaryBy, convert-binary, callFunction, callValue, convert-call-value, convert-expr, convert-args}
 use Rattle.tables.proofs.Exists.{Word, VarIn, OperandIn, DestinationIn, KnownLabel}
 use Rattle.tables.proofs.SyntaxFits.{OptIs, noneIs, someIs, held, ExprFits, ArgsFit, SignatureFits, CalleeFits, KeyedFit, TreeFits}
 use Rattle.tables.proofs.Typing.{TypeFits, unwrap-is, float-type-word, find-is, type-word, resolve-fits, common-type-word}
@@ -115,7 +115,7 @@ module _ (text : Text) where
       → ((s : State) → G .holds s → All (OperandIn s) os) → Keeps text G NamedAll (fitFrom P k os l f)
   unfolding fitFrom expectedType
   fit-from P k [] l f h n = gives text [] (λ s g. tt)
-  fit-from P k (o ∷ os) l f h n = then text (fit-keeps P o (expectedType (f .params) l k) (parameter-word P (f .params) (position l k) (h .params)) (λ s g. (n s g) .0)) λ a.
+  fit-from P k (o ∷ os) l f h n = then text (fit-keeps P o (expectedType (f .params) l k) (parameter-word P (f .params) (valuePosition l k) (h .params)) (λ s g. (n s g) .0)) λ a.
       then text (fit-from P (suc k) os l f h (λ s g. (n s (g .0)) .1)) λ b.
       gives text (a ∷ b) (λ s g. (g .0 .1, g .1))
 
@@ -245,8 +245,8 @@ module _ (text : Text) where
     name-keeps r t sc = found-keeps r (find-variable t sc)
         (λ s g. find-is (λ v. VarIn s (v .var-id) × TypeFits v) t (sc .variables) (g .variables))
 
-    within-small : (o : Option ℕ) → OptIs (λ n. n < 2 ^ 63) (within o)
-    unfolding within
+    within-small : (o : Option ℕ) → OptIs (λ n. n < 2 ^ 63) (sizeWithin o)
+    unfolding sizeWithin
     within-small nothing = noneIs
     within-small (some n) = by (ltb n (2 ^ 63)) refl
       where

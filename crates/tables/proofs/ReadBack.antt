@@ -12,7 +12,7 @@ use Rattle.syntax.specs.Decode.{program}
 use Rattle.conversion.specs.ConvertError.{Result, ok, err}
 use Rattle.conversion.specs.Ir.{IrProgram}
 use Rattle.conversion.specs.Converter.{convert}
-use Rattle.conversion.specs.Written.{Tables, Counts, Converted, answerOf, conversion, allCode, allVars, allLabels, tablesOf, countsOf}
+use Rattle.conversion.specs.Written.{Tables, Counts, Converted, conversionOf, conversion, allCode, allVars, allLabels, tablesOf, countsOf}
 use Rattle.tables.specs.Read.{bodyAt, Begin}
 use Rattle.tables.specs.Bytes.{Byte}
 use Rattle.tables.proofs.Exists.{Word, CountsFit, ProgramFits, bodyOf}
@@ -73,9 +73,9 @@ module _ (tree text : List ℕ) (needsMain : Bool) (bytes : All Byte tree) (few 
 
   -- buffers that begin with the tables of an answer
   pub answer-reads-back : (c : Counts) (w t : Tables) → conversion tree text needsMain ≡ Converted c w → CountsFit c → Begin w t → Answered c t
-  unfolding conversion answerOf
+  unfolding conversion conversionOf
   answer-reads-back c w t e h b = by (convert (program tree text) needsMain) refl e
     where
-      by : (x : Result IrProgram) → convert (program tree text) needsMain ≡ x → answerOf tree x ≡ Converted c w → Answered c t
+      by : (x : Result IrProgram) → convert (program tree text) needsMain ≡ x → conversionOf tree x ≡ Converted c w → Answered c t
       by (ok p) f g = answered p f c w t (cc) (cc) h b
       by (err k r) f g = let z : _≡_ {A = ℕ} 0 1 = cc in absurd (omega arith)

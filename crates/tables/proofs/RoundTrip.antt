@@ -16,21 +16,22 @@ use Rattle.records.specs.Words.{byteAt, wordAt}
 use Rattle.syntax.specs.Syntax.{Text}
 use Rattle.conversion.specs.Ir.{Operand, OVar, OInt, OFloat, OBool, ODataAddress, ONull, Instr, Copy, Unary, Binary, Cast, Zero, Arg, Call, Label, Jump, JumpIfNot, Return, Comment, LabelName, StringEntry, FloatEntry, State, IrFunction, IrProgram}
 use Rattle.conversion.specs.Written.{bytesOf, word, wide, boolNumber, encodeInstr, encodeVar, encodeLabel, encodeString, encodeFloat, encodeAll, codeOf, bodyMark, encodeFunctions, allCode, allVars, allLabels, Tables, tablesOf, countsOf}
-use Rattle.tables.specs.Read.{_>>=_, check, unused, wideAt, instrAt, variableAt, labelAt, stringAt, floatAt, FunctionEntry, functionAt, part, operandListed, listed, allListed, bodyAt, Begin}
+use Rattle.tables.specs.Read.{_>>=_, check, readZeros, wideAt, instrIn, variableIn, labelIn, stringIn, floatIn, FunctionEntry, functionIn, entriesFrom, operandListed, listed, allListed, bodyAt, Begin}
 use Rattle.conversion.specs.Fits.{StringStands, FloatFits}
+use Rattle.conversion.proofs.Bytes.{var-length, label-length, string-length, float-length, instr-length}
 use Rattle.tables.proofs.Exists.{Word, OperandIn, InstrIn, KnownLabel, stateOf, FunctionFits, ProgramFits, bodyOf}
 use Rattle.tables.proofs.Numbers.{word-back, wide-back}
 use Rattle.tables.proofs.Entries.{all-at, Cut, cut, not-found, drop-entries, part-back, entries-back}
-use Rattle.tables.proofs.Instructions.{Small, found-below, mark-back, instr-back, instr-length}
+use Rattle.tables.proofs.Instructions.{Small, found-below, mark-back, instr-back}
 
 -- ---- single entries
 
-var-back : (y : ℕ) (rest : List ℕ) → Word y → variableAt (encodeVar y ++ rest) ≡ some y
-unfolding variableAt encodeVar
+var-back : (y : ℕ) (rest : List ℕ) → Word y → variableIn (encodeVar y ++ rest) ≡ some y
+unfolding variableIn encodeVar
 var-back y rest h = rw (word-back y rest h)
 
-label-back : (l : LabelName) (rest : List ℕ) → KnownLabel l → labelAt (encodeLabel l ++ rest) ≡ some l
-unfolding labelAt encodeLabel wordAt byteAt word bytesOf _>>=_ check
+label-back : (l : LabelName) (rest : List ℕ) → KnownLabel l → labelIn (encodeLabel l ++ rest) ≡ some l
+unfolding labelIn encodeLabel wordAt byteAt word bytesOf _>>=_ check
 label-back l rest h = rw (
   word-back (l .kind) [] (omega arith),
   word-back (l .opener) [] (h .opener),
@@ -38,8 +39,8 @@ label-back l rest h = rw (
   lt-ltb (l .kind) 8 (h .known),
 )
 
-string-back : (text : Text) (e : StringEntry) (rest : List ℕ) → StringStands text e → stringAt text (encodeString e ++ rest) ≡ some e
-unfolding stringAt encodeString wordAt byteAt word bytesOf
+string-back : (text : Text) (e : StringEntry) (rest : List ℕ) → StringStands text e → stringIn text (encodeString e ++ rest) ≡ some e
+unfolding stringIn encodeString wordAt byteAt word bytesOf
 string-back text e rest h = rw (word-back (e .offset) [] (h .offset), word-back (e .len) [] (h .len), sym (h .stands))
 
 mark-word : (b : Bool) → Word (boolNumber b)
@@ -47,25 +48,9 @@ unfolding boolNumber
 mark-word true = omega arith
 mark-word false = omega arith
 
-float-back : (e : FloatEntry) (rest : List ℕ) → FloatFits e → floatAt (encodeFloat e ++ rest) ≡ some e
-unfolding floatAt encodeFloat wideAt wordAt byteAt word wide bytesOf unused pick _>>=_
+float-back : (e : FloatEntry) (rest : List ℕ) → FloatFits e → floatIn (encodeFloat e ++ rest) ≡ some e
+unfolding floatIn encodeFloat wideAt wordAt byteAt word wide bytesOf readZeros pick _>>=_
 float-back e rest h = rw (wide-back (e .bits) [] (h .bits), word-back (boolNumber (e .short)) [] (mark-word (e .short)), mark-back (e .short))
-
-var-length : (y : ℕ) → length (encodeVar y) ≡ 4
-unfolding encodeVar word bytesOf
-var-length y = refl
-
-label-length : (l : LabelName) → length (encodeLabel l) ≡ 8
-unfolding encodeLabel word bytesOf
-label-length l = refl
-
-string-length : (e : StringEntry) → length (encodeString e) ≡ 8
-unfolding encodeString word bytesOf
-string-length e = refl
-
-float-length : (e : FloatEntry) → length (encodeFloat e) ≡ 16
-unfolding encodeFloat word wide bytesOf
-float-length e = refl
 
 -- ---- the numbers that an instruction names
 
@@ -116,8 +101,8 @@ record EntryFits (e : FunctionEntry) : Type 0 where
   firstLabel : Word (e .firstLabel)
   labels : Word (e .labels)
 
-entry-back : (e : FunctionEntry) (rest : List ℕ) → EntryFits e → functionAt (encodeEntry e ++ rest) ≡ some e
-unfolding functionAt encodeEntry wordAt byteAt word bytesOf _>>=_
+entry-back : (e : FunctionEntry) (rest : List ℕ) → EntryFits e → functionIn (encodeEntry e ++ rest) ≡ some e
+unfolding functionIn encodeEntry wordAt byteAt word bytesOf _>>=_
 entry-back e rest h = rw (
   word-back (boolNumber (e .hasBody)) [] (mark-word (e .hasBody)),
   mark-back (e .hasBody),
@@ -218,15 +203,15 @@ parts-words l a b d e h = (
 )
 
 module _ (text : Text) (p : IrProgram) (t : Tables) (fits : ProgramFits text p) (held : Begin (tablesOf p) t) where
-  strings-back : part (stringAt text) 8 (t .strings) 0 (countsOf p .strings) ≡ some (p .strings)
-  unfolding part tablesOf countsOf
+  strings-back : entriesFrom (stringIn text) 8 (t .strings) 0 (countsOf p .strings) ≡ some (p .strings)
+  unfolding entriesFrom tablesOf countsOf
   strings-back = rw (held .strings .same)
-      (entries-back encodeString 8 string-length (StringStands text) (stringAt text) (string-back text) (p .strings) (held .strings .rest) (fits .strings))
+      (entries-back encodeString 8 string-length (StringStands text) (stringIn text) (string-back text) (p .strings) (held .strings .rest) (fits .strings))
 
-  floats-back : part floatAt 16 (t .floats) 0 (countsOf p .floats) ≡ some (p .floats)
-  unfolding part tablesOf countsOf
+  floats-back : entriesFrom floatIn 16 (t .floats) 0 (countsOf p .floats) ≡ some (p .floats)
+  unfolding entriesFrom tablesOf countsOf
   floats-back = rw (held .floats .same)
-      (entries-back encodeFloat 16 float-length FloatFits floatAt float-back (p .floats) (held .floats .rest) (fits .floats))
+      (entries-back encodeFloat 16 float-length FloatFits floatIn float-back (p .floats) (held .floats .rest) (fits .floats))
 
   module _ (n : ℕ) (f : IrFunction) (found : getElem? (p .funcs) n ≡ some f) (c : Cut (p .funcs) n f) where
     abbrev entry : FunctionEntry
@@ -269,7 +254,7 @@ module _ (text : Text) (p : IrProgram) (t : Tables) (fits : ProgramFits text p) 
       floats = fits .counts .floats;
     }
 
-    entry-read : functionAt (drop (n * 32) (t .functions)) ≡ some entry
+    entry-read : functionIn (drop (n * 32) (t .functions)) ≡ some entry
     unfolding tablesOf entriesOf encodeAll
     entry-read = rw (
       held .functions .same,
@@ -282,22 +267,22 @@ module _ (text : Text) (p : IrProgram) (t : Tables) (fits : ProgramFits text p) 
         (rw (drop-entries encodeEntry 32 entry-length (entriesOf 0 0 0 (c .before)) _ (held .functions .rest))
         (simp (append-assoc, zero-add) (entry-back entry _ entry-fits)))
 
-    code-read : part (instrAt (f .vars)) 32 (t .instructions) (length (allCode (c .before))) (length (Code f)) ≡ some (Code f)
+    code-read : entriesFrom (instrIn (f .vars)) 32 (t .instructions) (length (allCode (c .before))) (length (Code f)) ≡ some (Code f)
     unfolding tablesOf
     code-read = rw (held .instructions .same, code-parts)
-        (part-back encodeInstr 32 instr-length (InstrIn (stateOf p f)) (instrAt (f .vars)) (instr-back (stateOf p f) small)
+        (part-back encodeInstr 32 instr-length (InstrIn (stateOf p f)) (instrIn (f .vars)) (instr-back (stateOf p f) small)
         (allCode (c .before)) (Code f) (allCode (c .after)) (held .instructions .rest) (function-fits .body))
 
-    vars-read : part variableAt 4 (t .variables) (length (allVars (c .before))) (length (f .vars)) ≡ some (f .vars)
+    vars-read : entriesFrom variableIn 4 (t .variables) (length (allVars (c .before))) (length (f .vars)) ≡ some (f .vars)
     unfolding tablesOf
     vars-read = rw (held .variables .same, vars-parts)
-        (part-back encodeVar 4 var-length Word variableAt var-back (allVars (c .before)) (f .vars) (allVars (c .after))
+        (part-back encodeVar 4 var-length Word variableIn var-back (allVars (c .before)) (f .vars) (allVars (c .after))
         (held .variables .rest) (function-fits .vars))
 
-    labels-read : part labelAt 8 (t .labels) (length (allLabels (c .before))) (length (f .labels)) ≡ some (f .labels)
+    labels-read : entriesFrom labelIn 8 (t .labels) (length (allLabels (c .before))) (length (f .labels)) ≡ some (f .labels)
     unfolding tablesOf
     labels-read = rw (held .labels .same, labels-parts)
-        (part-back encodeLabel 8 label-length KnownLabel labelAt label-back (allLabels (c .before)) (f .labels) (allLabels (c .after))
+        (part-back encodeLabel 8 label-length KnownLabel labelIn label-back (allLabels (c .before)) (f .labels) (allLabels (c .after))
         (held .labels .rest) (function-fits .labels))
 
     code-listed : allListed (length (f .labels)) (length (p .strings)) (length (p .floats)) (Code f) ≡ true

@@ -18,7 +18,7 @@ use Rattle.records.specs.Words.{byteAt, wordAt, none}
 use Rattle.syntax.specs.Syntax.{UnaryOp, BinaryOp, unaryOps, binaryOps, unaryNumber, binaryNumber}
 use Rattle.conversion.specs.Ir.{VarId, Operand, OVar, OInt, OFloat, OBool, ODataAddress, ONull, Instr, Copy, Unary, Binary, Cast, Zero, Arg, Call, Label, Jump, JumpIfNot, Return, Comment}
 use Rattle.conversion.specs.Written.{word, wide, boolNumber, tag, operandValue, Fields, tagOf, operandWord, destination, fieldsOf, encodeFields, encodeInstr}
-use Rattle.tables.specs.Read.{_>>=_, unused, wideAt, markOf, variable, noOperand, varOperand, intOperand, floatOperand, boolOperand, stringOperand, nullOperand, badOperand, operandOf, fieldsAt, noInstr, copyOf, unaryOf, binaryOf, castOf, zeroOf, argOf, destinationOf, callOf, labelOf, jumpOf, jumpIfNotOf, returnOf, commentOf, instrOf, instrAt}
+use Rattle.tables.specs.Read.{_>>=_, readZeros, wideAt, markOf, readVar, noOperand, varOperand, intOperand, floatOperand, boolOperand, stringOperand, nullOperand, badOperand, readOperand, fieldsAt, noInstr, readCopy, readUnary, readBinary, readCast, readZero, readArg, readDestination, readCall, readLabel, readJump, readJumpIfNot, readReturn, readComment, readInstr, instrIn}
 use Rattle.tables.specs.Bytes.{Byte}
 use Rattle.tables.proofs.Numbers.{bytesFrom, word-of, wide-of, wide-small, take-bytes}
 
@@ -40,11 +40,11 @@ unfolding pick
 picked true x y e = (refl, e)
 picked false x y e = let z : _≡_ {A = ℕ} 0 1 = cc in absurd (omega arith)
 
-all-zero : (l : List ℕ) → unused l ≡ some tt → All (λ n. n ≡ 0) l
-unfolding unused
+all-zero : (l : List ℕ) → readZeros l ≡ some tt → All (λ n. n ≡ 0) l
+unfolding readZeros
 all-zero [] e = tt
 all-zero (n ∷ l) e =
-    let p = picked (eqb n 0) (unused l) tt e in
+    let p = picked (eqb n 0) (readZeros l) tt e in
     (eqb-true n 0 (p .0), all-zero l (p .1))
 
 -- what holds of each of a list's elements and its number, from k on
@@ -64,8 +64,8 @@ mark-is (suc zero) b e = let q : true ≡ b = cc in rw (← q)
 mark-is (suc (suc n)) b e = let z : _≡_ {A = ℕ} 0 1 = cc in absurd (omega arith)
 
 module _ (vs : List ℕ) where
-  variable-is : (n : ℕ) (x : VarId) → variable vs n ≡ some x → x .id ≡ n
-  unfolding variable _>>=_
+  variable-is : (n : ℕ) (x : VarId) → readVar vs n ≡ some x → x .id ≡ n
+  unfolding readVar _>>=_
   variable-is n x e =
       let b = bound (getElem? vs n) (λ y. some (record { id = n; ty = y })) x e in
       let q : record { id = n; ty = b .it } ≡ x = cc (b .next) in
@@ -87,7 +87,7 @@ module _ (vs : List ℕ) where
   var-reads : Reads 1 (varOperand vs)
   unfolding varOperand tagOf operandWord tag operandValue
   var-reads n h o e =
-      let b = bound (variable vs n) (λ x. some (some (OVar x))) o e in
+      let b = bound (readVar vs n) (λ x. some (some (OVar x))) o e in
       let q : some (OVar (b .it)) ≡ o = cc (b .next) in
       rw (← q) (refl, variable-is n (b .it) (b .first))
 
@@ -123,8 +123,8 @@ module _ (vs : List ℕ) where
   unfolding badOperand
   bad-reads k n h o e = let z : _≡_ {A = ℕ} 0 1 = cc in absurd (omega arith)
 
-  operand-is : (t n : ℕ) (o : Option Operand) → n < 2 ^ 64 → operandOf vs t n ≡ some o → (tagOf o ≡ t) × (operandWord o ≡ n)
-  unfolding operandOf boolNumber
+  operand-is : (t n : ℕ) (o : Option Operand) → n < 2 ^ 64 → readOperand vs t n ≡ some o → (tagOf o ≡ t) × (operandWord o ≡ n)
+  unfolding readOperand boolNumber
   operand-is t n o h e = from-at Reads badOperand
       (noOperand ∷ varOperand vs ∷ intOperand false false ∷ intOperand true false ∷ intOperand false true ∷ intOperand true true ∷ floatOperand
       ∷ boolOperand ∷ stringOperand ∷ nullOperand ∷ []) 0 t t bad-reads (
@@ -194,9 +194,9 @@ module _ (vs : List ℕ) where
   fields-is : (b : List ℕ) (f : Fields) → All Byte b → 32 ≤ length b → fieldsAt vs b ≡ some f → take 32 b ≡ encodeFields f
   unfolding fieldsAt
   fields-is b f bytes h e =
-      let p = bound (operandOf vs (byteAt b 2) (wideAt b 8)) (λ o. operandOf vs (byteAt b 3) (wideAt b 16) >>= λ p. rest o p) f e in
-      let q = bound (operandOf vs (byteAt b 3) (wideAt b 16)) (λ r. rest (p .it) r) f (p .next) in
-      let z = bound (unused (wordAt b 28 ∷ [])) (λ u. some (made (p .it) (q .it))) f (q .next) in
+      let p = bound (readOperand vs (byteAt b 2) (wideAt b 8)) (λ o. readOperand vs (byteAt b 3) (wideAt b 16) >>= λ p. rest o p) f e in
+      let q = bound (readOperand vs (byteAt b 3) (wideAt b 16)) (λ r. rest (p .it) r) f (p .next) in
+      let z = bound (readZeros (wordAt b 28 ∷ [])) (λ u. some (made (p .it) (q .it))) f (q .next) in
       let s : made (p .it) (q .it) ≡ f = cc (z .next) in
       let o = operand-is (byteAt b 2) (wideAt b 8) (p .it) (wide-small b bytes 8) (p .first) in
       let r = operand-is (byteAt b 3) (wideAt b 16) (q .it) (wide-small b bytes 16) (q .first) in
@@ -208,7 +208,7 @@ module _ (vs : List ℕ) where
       made o p = record { kind = byteAt b 0; operator = byteAt b 1; first = o; second = p; target = wordAt b 4; recordWord = wordAt b 24 }
 
       rest : Option Operand → Option Operand → Option Fields
-      rest o p = unused (wordAt b 28 ∷ []) >>= λ u. some (made o p)
+      rest o p = readZeros (wordAt b 28 ∷ []) >>= λ u. some (made o p)
 
   -- ---- instructions
 
@@ -232,11 +232,9 @@ module _ (vs : List ℕ) where
   found-from P (y ∷ l) k (suc n) m x a e f = found-from P l (suc k) n m x (a .1) (omega arith) f
 
   unary-is : (n : ℕ) (u : UnaryOp) → getElem? unaryOps n ≡ some u → n ≡ unaryNumber u
-  unfolding unaryNumber
   unary-is n u e = found-from (λ k x. k ≡ unaryNumber x) unaryOps 0 n n u (refl, (refl, (refl, tt))) (omega arith) e
 
   binary-is : (n : ℕ) (b : BinaryOp) → getElem? binaryOps n ≡ some b → n ≡ binaryNumber b
-  unfolding binaryNumber
   binary-is n b e = found-from (λ k x. k ≡ binaryNumber x) binaryOps 0 n n b (
     refl,
     (
@@ -280,13 +278,13 @@ module _ (vs : List ℕ) where
   -- Copy and Cast, C being the constructor
   to-variable-reads : (k : ℕ) (C : VarId → Operand → Instr) → ((x : VarId) (o : Operand) → fieldsOf (C x o)
       ≡ record { kind = k; operator = 0; first = some o; second = nothing; target = x .id; recordWord = 0 })
-      → ReadsKind k (λ ws f. variable ws (f .target) >>= λ x. f .first >>= λ o.
-      unused (f .operator ∷ tagOf (f .second) ∷ f .recordWord ∷ []) >>= λ u. some (C x o))
+      → ReadsKind k (λ ws f. readVar ws (f .target) >>= λ x. f .first >>= λ o.
+      readZeros (f .operator ∷ tagOf (f .second) ∷ f .recordWord ∷ []) >>= λ u. some (C x o))
   to-variable-reads k C c f h i e =
       let l = f .operator ∷ tagOf (f .second) ∷ f .recordWord ∷ [] in
-      let x = bound (variable vs (f .target)) (λ x. f .first >>= λ o. unused l >>= λ u. some (C x o)) i e in
-      let o = bound (f .first) (λ o. unused l >>= λ u. some (C (x .it) o)) i (x .next) in
-      let u = bound (unused l) (λ u. some (C (x .it) (o .it))) i (o .next) in
+      let x = bound (readVar vs (f .target)) (λ x. f .first >>= λ o. readZeros l >>= λ u. some (C x o)) i e in
+      let o = bound (f .first) (λ o. readZeros l >>= λ u. some (C (x .it) o)) i (x .next) in
+      let u = bound (readZeros l) (λ u. some (C (x .it) (o .it))) i (o .next) in
       let z = all-zero l (u .first) in
       let q : C (x .it) (o .it) ≡ i = cc (u .next) in
       rw (← q) (c (x .it) (o .it) ∙ same-fields f k 0 (some (o .it)) nothing (x .it .id) 0 h (z .0) (o .first) (tag-none (f .second) (z .1 .0))
@@ -295,11 +293,11 @@ module _ (vs : List ℕ) where
   -- Arg and Return
   operand-reads : (k : ℕ) (C : Operand → Instr) → ((o : Operand) → fieldsOf (C o)
       ≡ record { kind = k; operator = 0; first = some o; second = nothing; target = 0; recordWord = 0 })
-      → ReadsKind k (λ ws f. f .first >>= λ o. unused (f .operator ∷ tagOf (f .second) ∷ f .target ∷ f .recordWord ∷ []) >>= λ u. some (C o))
+      → ReadsKind k (λ ws f. f .first >>= λ o. readZeros (f .operator ∷ tagOf (f .second) ∷ f .target ∷ f .recordWord ∷ []) >>= λ u. some (C o))
   operand-reads k C c f h i e =
       let l = f .operator ∷ tagOf (f .second) ∷ f .target ∷ f .recordWord ∷ [] in
-      let o = bound (f .first) (λ o. unused l >>= λ u. some (C o)) i e in
-      let u = bound (unused l) (λ u. some (C (o .it))) i (o .next) in
+      let o = bound (f .first) (λ o. readZeros l >>= λ u. some (C o)) i e in
+      let u = bound (readZeros l) (λ u. some (C (o .it))) i (o .next) in
       let z = all-zero l (u .first) in
       let q : C (o .it) ≡ i = cc (u .next) in
       rw (← q) (c (o .it) ∙ same-fields f k 0 (some (o .it)) nothing 0 0 h (z .0) (o .first) (tag-none (f .second) (z .1 .0)) (z .1 .1 .0)
@@ -308,106 +306,106 @@ module _ (vs : List ℕ) where
   -- Label and Jump
   label-reads : (k : ℕ) (C : ℕ → Instr) → ((l : ℕ) → fieldsOf (C l)
       ≡ record { kind = k; operator = 0; first = nothing; second = nothing; target = l; recordWord = 0 })
-      → ReadsKind k (λ ws f. unused (f .operator ∷ tagOf (f .first) ∷ tagOf (f .second) ∷ f .recordWord ∷ []) >>= λ u. some (C (f .target)))
+      → ReadsKind k (λ ws f. readZeros (f .operator ∷ tagOf (f .first) ∷ tagOf (f .second) ∷ f .recordWord ∷ []) >>= λ u. some (C (f .target)))
   label-reads k C c f h i e =
       let l = f .operator ∷ tagOf (f .first) ∷ tagOf (f .second) ∷ f .recordWord ∷ [] in
-      let u = bound (unused l) (λ u. some (C (f .target))) i e in
+      let u = bound (readZeros l) (λ u. some (C (f .target))) i e in
       let z = all-zero l (u .first) in
       let q : C (f .target) ≡ i = cc (u .next) in
       rw (← q) (c (f .target) ∙ same-fields f k 0 nothing nothing (f .target) 0 h (z .0) (tag-none (f .first) (z .1 .0))
       (tag-none (f .second) (z .1 .1 .0)) refl (z .1 .1 .1 .0))
 
-  copy-reads : ReadsKind 1 copyOf
-  unfolding copyOf fieldsOf
+  copy-reads : ReadsKind 1 readCopy
+  unfolding readCopy fieldsOf
   copy-reads = to-variable-reads 1 Copy (λ x o. refl)
 
-  unary-reads : ReadsKind 2 unaryOf
-  unfolding unaryOf fieldsOf
+  unary-reads : ReadsKind 2 readUnary
+  unfolding readUnary fieldsOf
   unary-reads f h i e =
       let l = tagOf (f .second) ∷ f .recordWord ∷ [] in
-      let x = bound (variable vs (f .target)) (λ x. getElem? unaryOps (f .operator) >>= λ v. f .first >>= λ o. unused l >>= λ u. some (Unary x v o)) i e in
-      let v = bound (getElem? unaryOps (f .operator)) (λ v. f .first >>= λ o. unused l >>= λ u. some (Unary (x .it) v o)) i (x .next) in
-      let o = bound (f .first) (λ o. unused l >>= λ u. some (Unary (x .it) (v .it) o)) i (v .next) in
-      let u = bound (unused l) (λ u. some (Unary (x .it) (v .it) (o .it))) i (o .next) in
+      let x = bound (readVar vs (f .target)) (λ x. getElem? unaryOps (f .operator) >>= λ v. f .first >>= λ o. readZeros l >>= λ u. some (Unary x v o)) i e in
+      let v = bound (getElem? unaryOps (f .operator)) (λ v. f .first >>= λ o. readZeros l >>= λ u. some (Unary (x .it) v o)) i (x .next) in
+      let o = bound (f .first) (λ o. readZeros l >>= λ u. some (Unary (x .it) (v .it) o)) i (v .next) in
+      let u = bound (readZeros l) (λ u. some (Unary (x .it) (v .it) (o .it))) i (o .next) in
       let z = all-zero l (u .first) in
       let q : Unary (x .it) (v .it) (o .it) ≡ i = cc (u .next) in
       rw (← q) (same-fields f 2 (unaryNumber (v .it)) (some (o .it)) nothing (x .it .id) 0 h (unary-is (f .operator) (v .it) (v .first)) (o .first)
       (tag-none (f .second) (z .0)) (sym (variable-is (f .target) (x .it) (x .first))) (z .1 .0))
 
-  binary-reads : ReadsKind 3 binaryOf
-  unfolding binaryOf fieldsOf
+  binary-reads : ReadsKind 3 readBinary
+  unfolding readBinary fieldsOf
   binary-reads f h i e =
       let l = f .recordWord ∷ [] in
-      let x = bound (variable vs (f .target)) (λ x. getElem? binaryOps (f .operator) >>= λ v. f .first >>= λ o. f .second >>= λ p.
-      unused l >>= λ u. some (Binary x v o p)) i e in
-      let v = bound (getElem? binaryOps (f .operator)) (λ v. f .first >>= λ o. f .second >>= λ p. unused l >>= λ u. some (Binary (x .it) v o p)) i (x .next) in
-      let o = bound (f .first) (λ o. f .second >>= λ p. unused l >>= λ u. some (Binary (x .it) (v .it) o p)) i (v .next) in
-      let p = bound (f .second) (λ p. unused l >>= λ u. some (Binary (x .it) (v .it) (o .it) p)) i (o .next) in
-      let u = bound (unused l) (λ u. some (Binary (x .it) (v .it) (o .it) (p .it))) i (p .next) in
+      let x = bound (readVar vs (f .target)) (λ x. getElem? binaryOps (f .operator) >>= λ v. f .first >>= λ o. f .second >>= λ p.
+      readZeros l >>= λ u. some (Binary x v o p)) i e in
+      let v = bound (getElem? binaryOps (f .operator)) (λ v. f .first >>= λ o. f .second >>= λ p. readZeros l >>= λ u. some (Binary (x .it) v o p)) i (x .next) in
+      let o = bound (f .first) (λ o. f .second >>= λ p. readZeros l >>= λ u. some (Binary (x .it) (v .it) o p)) i (v .next) in
+      let p = bound (f .second) (λ p. readZeros l >>= λ u. some (Binary (x .it) (v .it) (o .it) p)) i (o .next) in
+      let u = bound (readZeros l) (λ u. some (Binary (x .it) (v .it) (o .it) (p .it))) i (p .next) in
       let z = all-zero l (u .first) in
       let q : Binary (x .it) (v .it) (o .it) (p .it) ≡ i = cc (u .next) in
       rw (← q) (same-fields f 3 (binaryNumber (v .it)) (some (o .it)) (some (p .it)) (x .it .id) 0 h (binary-is (f .operator) (v .it) (v .first))
       (o .first) (p .first) (sym (variable-is (f .target) (x .it) (x .first))) (z .0))
 
-  cast-reads : ReadsKind 4 castOf
-  unfolding castOf fieldsOf
+  cast-reads : ReadsKind 4 readCast
+  unfolding readCast fieldsOf
   cast-reads = to-variable-reads 4 Cast (λ x o. refl)
 
-  zero-reads : ReadsKind 5 zeroOf
-  unfolding zeroOf fieldsOf
+  zero-reads : ReadsKind 5 readZero
+  unfolding readZero fieldsOf
   zero-reads f h i e =
       let l = f .operator ∷ tagOf (f .first) ∷ tagOf (f .second) ∷ f .recordWord ∷ [] in
-      let x = bound (variable vs (f .target)) (λ x. unused l >>= λ u. some (Zero x)) i e in
-      let u = bound (unused l) (λ u. some (Zero (x .it))) i (x .next) in
+      let x = bound (readVar vs (f .target)) (λ x. readZeros l >>= λ u. some (Zero x)) i e in
+      let u = bound (readZeros l) (λ u. some (Zero (x .it))) i (x .next) in
       let z = all-zero l (u .first) in
       let q : Zero (x .it) ≡ i = cc (u .next) in
       rw (← q) (same-fields f 5 0 nothing nothing (x .it .id) 0 h (z .0) (tag-none (f .first) (z .1 .0)) (tag-none (f .second) (z .1 .1 .0))
       (sym (variable-is (f .target) (x .it) (x .first))) (z .1 .1 .1 .0))
 
   destination-by : (b : Bool) (n : ℕ) (x : Option VarId) → eqb n none ≡ b
-      → pick b (some nothing) (variable vs n >>= λ y. some (some y)) ≡ some x → n ≡ destination x
+      → pick b (some nothing) (readVar vs n >>= λ y. some (some y)) ≡ some x → n ≡ destination x
   unfolding pick destination
   destination-by true n x e f = let q : nothing ≡ x = cc in rw (← q) (eqb-true n none e)
   destination-by false n x e f =
-      let y = bound (variable vs n) (λ y. some (some y)) x f in
+      let y = bound (readVar vs n) (λ y. some (some y)) x f in
       let q : some (y .it) ≡ x = cc (y .next) in
       rw (← q) (sym (variable-is n (y .it) (y .first)))
 
-  call-reads : ReadsKind 7 callOf
-  unfolding callOf fieldsOf
+  call-reads : ReadsKind 7 readCall
+  unfolding readCall fieldsOf
   call-reads f h i e =
       let l = f .operator ∷ tagOf (f .first) ∷ tagOf (f .second) ∷ [] in
-      let x = bound (destinationOf vs (f .target)) (λ x. unused l >>= λ u. some (Call x (f .recordWord))) i e in
-      let u = bound (unused l) (λ u. some (Call (x .it) (f .recordWord))) i (x .next) in
+      let x = bound (readDestination vs (f .target)) (λ x. readZeros l >>= λ u. some (Call x (f .recordWord))) i e in
+      let u = bound (readZeros l) (λ u. some (Call (x .it) (f .recordWord))) i (x .next) in
       let z = all-zero l (u .first) in
       let q : Call (x .it) (f .recordWord) ≡ i = cc (u .next) in
       rw (← q) (same-fields f 7 0 nothing nothing (destination (x .it)) (f .recordWord) h (z .0) (tag-none (f .first) (z .1 .0))
       (tag-none (f .second) (z .1 .1 .0)) (destination-by (eqb (f .target) none) (f .target) (x .it) refl (x .first)) refl)
 
-  jump-if-not-reads : ReadsKind 10 jumpIfNotOf
-  unfolding jumpIfNotOf fieldsOf
+  jump-if-not-reads : ReadsKind 10 readJumpIfNot
+  unfolding readJumpIfNot fieldsOf
   jump-if-not-reads f h i e =
       let l = f .operator ∷ tagOf (f .second) ∷ f .recordWord ∷ [] in
-      let o = bound (f .first) (λ o. unused l >>= λ u. some (JumpIfNot o (f .target))) i e in
-      let u = bound (unused l) (λ u. some (JumpIfNot (o .it) (f .target))) i (o .next) in
+      let o = bound (f .first) (λ o. readZeros l >>= λ u. some (JumpIfNot o (f .target))) i e in
+      let u = bound (readZeros l) (λ u. some (JumpIfNot (o .it) (f .target))) i (o .next) in
       let z = all-zero l (u .first) in
       let q : JumpIfNot (o .it) (f .target) ≡ i = cc (u .next) in
       rw (← q) (same-fields f 10 0 (some (o .it)) nothing (f .target) 0 h (z .0) (o .first) (tag-none (f .second) (z .1 .0)) refl (z .1 .1 .0))
 
-  comment-reads : ReadsKind 12 commentOf
-  unfolding commentOf fieldsOf
+  comment-reads : ReadsKind 12 readComment
+  unfolding readComment fieldsOf
   comment-reads f h i e =
       let l = f .operator ∷ tagOf (f .first) ∷ tagOf (f .second) ∷ f .target ∷ [] in
-      let u = bound (unused l) (λ u. some (Comment (f .recordWord))) i e in
+      let u = bound (readZeros l) (λ u. some (Comment (f .recordWord))) i e in
       let z = all-zero l (u .first) in
       let q : Comment (f .recordWord) ≡ i = cc (u .next) in
       rw (← q) (same-fields f 12 0 nothing nothing 0 (f .recordWord) h (z .0) (tag-none (f .first) (z .1 .0)) (tag-none (f .second) (z .1 .1 .0))
       (z .1 .1 .1 .0) refl)
 
-  instr-is : (f : Fields) (i : Instr) → instrOf vs f ≡ some i → fieldsOf i ≡ f
-  unfolding instrOf argOf returnOf labelOf jumpOf fieldsOf
+  instr-is : (f : Fields) (i : Instr) → readInstr vs f ≡ some i → fieldsOf i ≡ f
+  unfolding readInstr readArg readReturn readLabel readJump fieldsOf
   instr-is f i e = from-at ReadsKind noInstr
-      (noInstr ∷ copyOf ∷ unaryOf ∷ binaryOf ∷ castOf ∷ zeroOf ∷ argOf ∷ callOf ∷ labelOf ∷ jumpOf ∷ jumpIfNotOf ∷ returnOf ∷ commentOf ∷ [])
+      (noInstr ∷ readCopy ∷ readUnary ∷ readBinary ∷ readCast ∷ readZero ∷ readArg ∷ readCall ∷ readLabel ∷ readJump ∷ readJumpIfNot ∷ readReturn ∷ readComment ∷ [])
       0 (f .kind) (f .kind) no-reads (
         no-reads 0,
         (
@@ -447,8 +445,8 @@ module _ (vs : List ℕ) where
       ) (omega arith) f refl i e
 
   -- bytes that are read as i are those that i is written as
-  pub instr-exact : (b : List ℕ) (i : Instr) → All Byte b → 32 ≤ length b → instrAt vs b ≡ some i → take 32 b ≡ encodeInstr i
-  unfolding instrAt encodeInstr
+  pub instr-exact : (b : List ℕ) (i : Instr) → All Byte b → 32 ≤ length b → instrIn vs b ≡ some i → take 32 b ≡ encodeInstr i
+  unfolding instrIn encodeInstr
   instr-exact b i bytes h e =
-      let f = bound (fieldsAt vs b) (λ f. instrOf vs f) i e in
+      let f = bound (fieldsAt vs b) (λ f. readInstr vs f) i e in
       fields-is b (f .it) bytes h (f .first) ∙ sym (ap encodeFields (instr-is (f .it) i (f .next)))

@@ -13,7 +13,7 @@ use Rattle.conversion.specs.ConvertError.{Result, ok, err, _>>=_, LiteralOutOfR
 use Rattle.conversion.specs.Ir.{sameText}
 use Rattle.conversion.specs.Types.{fits, range-error, can-cast}
 use Rattle.conversion.specs.Scope.{Variable, Scope, findIn, find-variable}
-use Rattle.conversion.specs.Expressions.{Callee, CallFunction, CallCast, return-type, TypedArg, castVerb, Functions, filterOption, unwrapOr, operandClass, givesBool, targetType, sourceType, nameType, valueType, commonOf, acceptsClass, acceptsUnary, unaryType, operandsError, accepted, binaryType, castChecked, castTo, cast-type, resolveFunction, resolveTyped, get-type, get-argument-types, resolve-call, common-type}
+use Rattle.conversion.specs.Expressions.{Callee, CallFunction, CallCast, return-type, TypedArg, castVerb, Functions, filterOption, unwrapOr, operandClass, givesBool, targetType, sourceType, nameType, valueType, commonOf, acceptsClass, acceptsUnary, unaryType, binaryError, accepted, binaryType, castChecked, castTo, cast-type, resolveFunction, resolveTyped, get-type, get-argument-types, resolve-call, common-type}
 use Rattle.tables.proofs.Exists.{Word}
 use Rattle.conversion.proofs.Called.{OfEach, OfCallee, OfTarget, resolved-function}
 use Rattle.tables.proofs.SyntaxFits.{OkIs, okIs, errIs, OptIs, noneIs, someIs, ExprFits, ArgsFit, SignatureFits, CalleeFits, FunctionFitsIn, KeyedFit, TreeFits}
@@ -44,14 +44,12 @@ unwrap-is d h (someIs k) = k
 -- ---- the twelve types
 
 int-type-word : (s u : Bool) → Word (intType s u)
-unfolding intType
 int-type-word false false = omega arith
 int-type-word true false = omega arith
 int-type-word false true = omega arith
 int-type-word true true = omega arith
 
 pub float-type-word : (s : Bool) → Word (floatType s)
-unfolding floatType
 float-type-word false = omega arith
 float-type-word true = omega arith
 
@@ -94,8 +92,8 @@ module _ (text : Text) (P : Program) (F : Functions) (treeFits : TreeFits text P
   accepted-word o (someIs {a} h) k = okIs (pick-is Word (givesBool o) boolType a (omega arith) h)
   accepted-word o noneIs k = k
 
-  error-word : (r : ℕ) (a : Expr) (l : ℕ) (b : Expr) (y : ℕ) → OkIs Word (operandsError P F r a l b y)
-  unfolding operandsError
+  error-word : (r : ℕ) (a : Expr) (l : ℕ) (b : Expr) (y : ℕ) → OkIs Word (binaryError P F r a l b y)
+  unfolding binaryError
   error-word r a l b y = pick-is (OkIs Word) (range-error (P .typeOf) b y l) (err LiteralOutOfRange (place b)) _ errIs
       (pick-is (OkIs Word) (range-error (P .typeOf) a l y) (err LiteralOutOfRange (place a)) (err WrongOperands r) errIs errIs)
 

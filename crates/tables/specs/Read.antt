@@ -38,16 +38,16 @@ unfoldable pub markOf : ℕ → Option Bool
 markOf n = getElem? (false ∷ true ∷ []) n
 
 -- 'what a kind does not use is zero'
-unfoldable pub unused : List ℕ → Option (Unit {0})
-unused [] = some tt
-unused (n ∷ l) = pick (eqb n 0) (unused l) nothing
+unfoldable pub readZeros : List ℕ → Option (Unit {0})
+readZeros [] = some tt
+readZeros (n ∷ l) = pick (eqb n 0) (readZeros l) nothing
 
 -- ---- operands
 
 -- variable n, vs being the types of its function's variables: 'A variable is its type's record'
-unfoldable pub variable : List ℕ → ℕ → Option VarId
+unfoldable pub readVar : List ℕ → ℕ → Option VarId
 unfolding _>>=_
-variable vs n = do
+readVar vs n = do
   y ← getElem? vs n
   some (record { id = n; ty = y })
 
@@ -56,9 +56,9 @@ unfolding pick
 noOperand n = pick (eqb n 0) (some nothing) nothing
 
 unfoldable pub varOperand : List ℕ → ℕ → Option (Option Operand)
-unfolding _>>=_ variable
+unfolding _>>=_ readVar
 varOperand vs n = do
-  x ← variable vs n
+  x ← readVar vs n
   some (some (OVar x))
 
 -- the value of 64 bits is a signed number, whatever the tag
@@ -87,9 +87,9 @@ unfoldable pub badOperand : ℕ → Option (Option Operand)
 badOperand n = nothing
 
 -- 'Tags: 0 none, 1 variable, 2 Int plus 1 short plus 2 unsigned, 6 float, 7 bool, 8 string, 9 null'
-unfoldable pub operandOf : List ℕ → ℕ → ℕ → Option (Option Operand)
+unfoldable pub readOperand : List ℕ → ℕ → ℕ → Option (Option Operand)
 unfolding noOperand varOperand intOperand floatOperand boolOperand stringOperand nullOperand badOperand
-operandOf vs tag n = getD (noOperand ∷ varOperand vs ∷ intOperand false false ∷ intOperand true false ∷ intOperand false true
+readOperand vs tag n = getD (noOperand ∷ varOperand vs ∷ intOperand false false ∷ intOperand true false ∷ intOperand false true
     ∷ intOperand true true ∷ floatOperand ∷ boolOperand ∷ stringOperand ∷ nullOperand ∷ []) tag badOperand n
 
 -- ---- instructions
@@ -97,148 +97,148 @@ operandOf vs tag n = getD (noOperand ∷ varOperand vs ∷ intOperand false fals
 -- 'byte 0 kind .., byte 1 operator, bytes 2 and 3 operand tags, word 4 destination or label, operands of 8 bytes at 8 and 16, word 24
 -- function or statement record, word 28 zero'
 unfoldable pub fieldsAt : List ℕ → List ℕ → Option Fields
-unfolding _>>=_ unused byteAt wordAt wideAt operandOf
+unfolding _>>=_ readZeros byteAt wordAt wideAt readOperand
 fieldsAt vs b = do
-  o ← operandOf vs (byteAt b 2) (wideAt b 8)
-  p ← operandOf vs (byteAt b 3) (wideAt b 16)
-  _ ← unused (wordAt b 28 ∷ [])
+  o ← readOperand vs (byteAt b 2) (wideAt b 8)
+  p ← readOperand vs (byteAt b 3) (wideAt b 16)
+  _ ← readZeros (wordAt b 28 ∷ [])
   some (record { kind = byteAt b 0; operator = byteAt b 1; first = o; second = p; target = wordAt b 4; recordWord = wordAt b 24 })
 
 unfoldable pub noInstr : List ℕ → Fields → Option Instr
 noInstr vs f = nothing
 
-unfoldable pub copyOf : List ℕ → Fields → Option Instr
-unfolding _>>=_ unused variable tagOf
-copyOf vs f = do
-  x ← variable vs (f .target)
+unfoldable pub readCopy : List ℕ → Fields → Option Instr
+unfolding _>>=_ readZeros readVar tagOf
+readCopy vs f = do
+  x ← readVar vs (f .target)
   o ← f .first
-  _ ← unused (f .operator ∷ tagOf (f .second) ∷ f .recordWord ∷ [])
+  _ ← readZeros (f .operator ∷ tagOf (f .second) ∷ f .recordWord ∷ [])
   some (Copy x o)
 
-unfoldable pub unaryOf : List ℕ → Fields → Option Instr
-unfolding _>>=_ unused variable tagOf
-unaryOf vs f = do
-  x ← variable vs (f .target)
+unfoldable pub readUnary : List ℕ → Fields → Option Instr
+unfolding _>>=_ readZeros readVar tagOf
+readUnary vs f = do
+  x ← readVar vs (f .target)
   u ← getElem? unaryOps (f .operator)
   o ← f .first
-  _ ← unused (tagOf (f .second) ∷ f .recordWord ∷ [])
+  _ ← readZeros (tagOf (f .second) ∷ f .recordWord ∷ [])
   some (Unary x u o)
 
-unfoldable pub binaryOf : List ℕ → Fields → Option Instr
-unfolding _>>=_ unused variable
-binaryOf vs f = do
-  x ← variable vs (f .target)
+unfoldable pub readBinary : List ℕ → Fields → Option Instr
+unfolding _>>=_ readZeros readVar
+readBinary vs f = do
+  x ← readVar vs (f .target)
   b ← getElem? binaryOps (f .operator)
   o ← f .first
   p ← f .second
-  _ ← unused (f .recordWord ∷ [])
+  _ ← readZeros (f .recordWord ∷ [])
   some (Binary x b o p)
 
-unfoldable pub castOf : List ℕ → Fields → Option Instr
-unfolding _>>=_ unused variable tagOf
-castOf vs f = do
-  x ← variable vs (f .target)
+unfoldable pub readCast : List ℕ → Fields → Option Instr
+unfolding _>>=_ readZeros readVar tagOf
+readCast vs f = do
+  x ← readVar vs (f .target)
   o ← f .first
-  _ ← unused (f .operator ∷ tagOf (f .second) ∷ f .recordWord ∷ [])
+  _ ← readZeros (f .operator ∷ tagOf (f .second) ∷ f .recordWord ∷ [])
   some (Cast x o)
 
-unfoldable pub zeroOf : List ℕ → Fields → Option Instr
-unfolding _>>=_ unused variable tagOf
-zeroOf vs f = do
-  x ← variable vs (f .target)
-  _ ← unused (f .operator ∷ tagOf (f .first) ∷ tagOf (f .second) ∷ f .recordWord ∷ [])
+unfoldable pub readZero : List ℕ → Fields → Option Instr
+unfolding _>>=_ readZeros readVar tagOf
+readZero vs f = do
+  x ← readVar vs (f .target)
+  _ ← readZeros (f .operator ∷ tagOf (f .first) ∷ tagOf (f .second) ∷ f .recordWord ∷ [])
   some (Zero x)
 
 -- 'a single one at 8'
-unfoldable pub argOf : List ℕ → Fields → Option Instr
-unfolding _>>=_ unused tagOf
-argOf vs f = do
+unfoldable pub readArg : List ℕ → Fields → Option Instr
+unfolding _>>=_ readZeros tagOf
+readArg vs f = do
   o ← f .first
-  _ ← unused (f .operator ∷ tagOf (f .second) ∷ f .target ∷ f .recordWord ∷ [])
+  _ ← readZeros (f .operator ∷ tagOf (f .second) ∷ f .target ∷ f .recordWord ∷ [])
   some (Arg o)
 
 -- 'a Call without destination has FFFFFFFF at 4'
-unfoldable pub destinationOf : List ℕ → ℕ → Option (Option VarId)
-unfolding _>>=_ pick variable
-destinationOf vs n = pick (eqb n none) (some nothing) (variable vs n >>= λ x. some (some x))
+unfoldable pub readDestination : List ℕ → ℕ → Option (Option VarId)
+unfolding _>>=_ pick readVar
+readDestination vs n = pick (eqb n none) (some nothing) (readVar vs n >>= λ x. some (some x))
 
-unfoldable pub callOf : List ℕ → Fields → Option Instr
-unfolding _>>=_ unused destinationOf tagOf
-callOf vs f = do
-  x ← destinationOf vs (f .target)
-  _ ← unused (f .operator ∷ tagOf (f .first) ∷ tagOf (f .second) ∷ [])
+unfoldable pub readCall : List ℕ → Fields → Option Instr
+unfolding _>>=_ readZeros readDestination tagOf
+readCall vs f = do
+  x ← readDestination vs (f .target)
+  _ ← readZeros (f .operator ∷ tagOf (f .first) ∷ tagOf (f .second) ∷ [])
   some (Call x (f .recordWord))
 
-unfoldable pub labelOf : List ℕ → Fields → Option Instr
-unfolding _>>=_ unused tagOf
-labelOf vs f = do
-  _ ← unused (f .operator ∷ tagOf (f .first) ∷ tagOf (f .second) ∷ f .recordWord ∷ [])
+unfoldable pub readLabel : List ℕ → Fields → Option Instr
+unfolding _>>=_ readZeros tagOf
+readLabel vs f = do
+  _ ← readZeros (f .operator ∷ tagOf (f .first) ∷ tagOf (f .second) ∷ f .recordWord ∷ [])
   some (Label (f .target))
 
-unfoldable pub jumpOf : List ℕ → Fields → Option Instr
-unfolding _>>=_ unused tagOf
-jumpOf vs f = do
-  _ ← unused (f .operator ∷ tagOf (f .first) ∷ tagOf (f .second) ∷ f .recordWord ∷ [])
+unfoldable pub readJump : List ℕ → Fields → Option Instr
+unfolding _>>=_ readZeros tagOf
+readJump vs f = do
+  _ ← readZeros (f .operator ∷ tagOf (f .first) ∷ tagOf (f .second) ∷ f .recordWord ∷ [])
   some (Jump (f .target))
 
-unfoldable pub jumpIfNotOf : List ℕ → Fields → Option Instr
-unfolding _>>=_ unused tagOf
-jumpIfNotOf vs f = do
+unfoldable pub readJumpIfNot : List ℕ → Fields → Option Instr
+unfolding _>>=_ readZeros tagOf
+readJumpIfNot vs f = do
   o ← f .first
-  _ ← unused (f .operator ∷ tagOf (f .second) ∷ f .recordWord ∷ [])
+  _ ← readZeros (f .operator ∷ tagOf (f .second) ∷ f .recordWord ∷ [])
   some (JumpIfNot o (f .target))
 
-unfoldable pub returnOf : List ℕ → Fields → Option Instr
-unfolding _>>=_ unused tagOf
-returnOf vs f = do
+unfoldable pub readReturn : List ℕ → Fields → Option Instr
+unfolding _>>=_ readZeros tagOf
+readReturn vs f = do
   o ← f .first
-  _ ← unused (f .operator ∷ tagOf (f .second) ∷ f .target ∷ f .recordWord ∷ [])
+  _ ← readZeros (f .operator ∷ tagOf (f .second) ∷ f .target ∷ f .recordWord ∷ [])
   some (Return o)
 
 -- 'Comment names its statement in place of the text'
-unfoldable pub commentOf : List ℕ → Fields → Option Instr
-unfolding _>>=_ unused tagOf
-commentOf vs f = do
-  _ ← unused (f .operator ∷ tagOf (f .first) ∷ tagOf (f .second) ∷ f .target ∷ [])
+unfoldable pub readComment : List ℕ → Fields → Option Instr
+unfolding _>>=_ readZeros tagOf
+readComment vs f = do
+  _ ← readZeros (f .operator ∷ tagOf (f .first) ∷ tagOf (f .second) ∷ f .target ∷ [])
   some (Comment (f .recordWord))
 
 -- '1 Copy, 2 Unary, 3 Binary, 4 Cast, 5 Zero, 6 Arg, 7 Call, 8 Label, 9 Jump, 10 JumpIfNot, 11 Return, 12 Comment'
-unfoldable pub instrOf : List ℕ → Fields → Option Instr
-unfolding noInstr copyOf unaryOf binaryOf castOf zeroOf argOf callOf labelOf jumpOf jumpIfNotOf returnOf commentOf
-instrOf vs f = getD (noInstr ∷ copyOf ∷ unaryOf ∷ binaryOf ∷ castOf ∷ zeroOf ∷ argOf ∷ callOf ∷ labelOf ∷ jumpOf ∷ jumpIfNotOf ∷ returnOf
-    ∷ commentOf ∷ []) (f .kind) noInstr vs f
+unfoldable pub readInstr : List ℕ → Fields → Option Instr
+unfolding noInstr readCopy readUnary readBinary readCast readZero readArg readCall readLabel readJump readJumpIfNot readReturn readComment
+readInstr vs f = getD (noInstr ∷ readCopy ∷ readUnary ∷ readBinary ∷ readCast ∷ readZero ∷ readArg ∷ readCall ∷ readLabel ∷ readJump ∷ readJumpIfNot ∷ readReturn
+    ∷ readComment ∷ []) (f .kind) noInstr vs f
 
 -- the instruction that b begins with, vs being the types of its function's variables
-unfoldable pub instrAt : List ℕ → List ℕ → Option Instr
-unfolding _>>=_ fieldsAt instrOf
-instrAt vs b = do
+unfoldable pub instrIn : List ℕ → List ℕ → Option Instr
+unfolding _>>=_ fieldsAt readInstr
+instrIn vs b = do
   f ← fieldsAt vs b
-  instrOf vs f
+  readInstr vs f
 
 -- ---- the other entries, each the one that b begins with
 
-unfoldable pub variableAt : List ℕ → Option ℕ
+unfoldable pub variableIn : List ℕ → Option ℕ
 unfolding wordAt
-variableAt b = some (wordAt b 0)
+variableIn b = some (wordAt b 0)
 
 -- 'kind (1 loop start, .. 7 logic end) and opening record'
-unfoldable pub labelAt : List ℕ → Option LabelName
+unfoldable pub labelIn : List ℕ → Option LabelName
 unfolding _>>=_ check wordAt
-labelAt b = do
+labelIn b = do
   _ ← check (ltb 0 (wordAt b 0) && ltb (wordAt b 0) 8)
   some (record { kind = wordAt b 0; opener = wordAt b 4 })
 
 -- 'A string is offset and length', into the text buffer
-unfoldable pub stringAt : Text → List ℕ → Option StringEntry
+unfoldable pub stringIn : Text → List ℕ → Option StringEntry
 unfolding wordAt textAt
-stringAt text b = some (record { offset = wordAt b 0; len = wordAt b 4; text = textAt text (wordAt b 0) (wordAt b 4) })
+stringIn text b = some (record { offset = wordAt b 0; len = wordAt b 4; text = textAt text (wordAt b 0) (wordAt b 4) })
 
 -- 'its value with its short mark (word at 8, then zero)'
-unfoldable pub floatAt : List ℕ → Option FloatEntry
-unfolding _>>=_ unused markOf wordAt wideAt
-floatAt b = do
+unfoldable pub floatIn : List ℕ → Option FloatEntry
+unfolding _>>=_ readZeros markOf wordAt wideAt
+floatIn b = do
   s ← markOf (wordAt b 8)
-  _ ← unused (wordAt b 12 ∷ [])
+  _ ← readZeros (wordAt b 12 ∷ [])
   some (record { bits = wideAt b 0; short = s })
 
 -- 'A function entry is eight words: record, 1 if it has a body, first and count of instructions, of variables, of labels'
@@ -252,9 +252,9 @@ pub record FunctionEntry : Type 0 where
   pub firstLabel : ℕ
   pub labels : ℕ
 
-unfoldable pub functionAt : List ℕ → Option FunctionEntry
+unfoldable pub functionIn : List ℕ → Option FunctionEntry
 unfolding _>>=_ markOf wordAt
-functionAt b = do
+functionIn b = do
   m ← markOf (wordAt b 4)
   some (record {
     func = wordAt b 0;
@@ -279,9 +279,9 @@ entries read size (suc n) b = do
   some (x ∷ l)
 
 -- n entries of a table from entry `first` on
-unfoldable pub part : {X : Type 0} → (List ℕ → Option X) → ℕ → List ℕ → ℕ → ℕ → Option (List X)
+unfoldable pub entriesFrom : {X : Type 0} → (List ℕ → Option X) → ℕ → List ℕ → ℕ → ℕ → Option (List X)
 unfolding entries
-part read size table first n = entries read size n (drop (first * size) table)
+entriesFrom read size table first n = entries read size n (drop (first * size) table)
 
 -- ---- numbers that lie in their tables: ls is how many labels the function has, ss and fs how many strings and floats the program
 -- (a variable is read with its type, so it is one of the function's)
@@ -328,17 +328,17 @@ pub record ReadBody : Type 0 where
 -- the body of function i, counted in the functions' table; `nothing` where there is no such function, it has no body, or an instruction names what
 -- is not there
 unfoldable pub bodyAt : Counts → Tables → Text → ℕ → Option ReadBody
-unfolding _>>=_ check functionAt part variableAt labelAt instrAt stringAt floatAt allListed texts
+unfolding _>>=_ check functionIn entriesFrom variableIn labelIn instrIn stringIn floatIn allListed texts
 bodyAt c t text i = do
   _ ← check (ltb i (c .functions))
-  f ← functionAt (drop (i * 32) (t .functions))
+  f ← functionIn (drop (i * 32) (t .functions))
   _ ← check (f .hasBody)
-  vars ← part variableAt 4 (t .variables) (f .firstVar) (f .vars)
-  labels ← part labelAt 8 (t .labels) (f .firstLabel) (f .labels)
-  instrs ← part (instrAt vars) 32 (t .instructions) (f .firstInstr) (f .instrs)
+  vars ← entriesFrom variableIn 4 (t .variables) (f .firstVar) (f .vars)
+  labels ← entriesFrom labelIn 8 (t .labels) (f .firstLabel) (f .labels)
+  instrs ← entriesFrom (instrIn vars) 32 (t .instructions) (f .firstInstr) (f .instrs)
   _ ← check (allListed (f .labels) (c .strings) (c .floats) instrs)
-  strings ← part (stringAt text) 8 (t .strings) 0 (c .strings)
-  floats ← part floatAt 16 (t .floats) 0 (c .floats)
+  strings ← entriesFrom (stringIn text) 8 (t .strings) 0 (c .strings)
+  floats ← entriesFrom floatIn 16 (t .floats) 0 (c .floats)
   some (record { func = f .func; instrs = instrs; vars = vars; labels = labels; strings = texts strings; floats = floats })
 
 -- ---- what is to be read

@@ -14,7 +14,7 @@ use Rattle.records.specs.Words.{detailOf, wordOf, A}
 use Rattle.int128.specs.declared.Int128.{Int128}
 use Rattle.int128.specs.declared.Checked.{Checked}
 use Rattle.int128.specs.declared.Checked.the-variants.{Value, Nothing}
-use Rattle.int128.specs.Value.{valueOf, answerOf}
+use Rattle.int128.specs.Value.{valueOf, checkedOf}
 use Rattle.int128.specs.Ops.{intFits}
 use Rattle.syntax.specs.Syntax.{Ty}
 use Rattle.syntax.specs.Decode.{bit, exprOf, node, typeAt}
@@ -27,7 +27,7 @@ use Rattle.types.proofs.TypeCases.{type-is, type-int, type-float, type-
 
 -- ---- what a constant folds to
 
-module _ (o : Option ℤ) (x : Checked) (ex : answerOf x ≡ o) where
+module _ (o : Option ℤ) (x : Checked) (ex : checkedOf x ≡ o) where
   pub int-fits-value : (v : Int128) → x ≡ Value v → (s u a b r : Bool) → s ≡ a → u ≡ b → r ≡ intFits (valueOf v) s u
       → r ≡ someAnd o (λ z. intFits z a b)
   unfolding someAnd

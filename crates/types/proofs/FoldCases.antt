@@ -17,7 +17,7 @@ use Rattle.laws.specs.Fix.{pick}
 use Rattle.int128.specs.declared.Int128.{Int128}
 use Rattle.int128.specs.declared.Checked.{Checked}
 use Rattle.int128.specs.declared.Checked.the-variants.{Value, Nothing}
-use Rattle.int128.specs.Value.{valueOf, answerOf}
+use Rattle.int128.specs.Value.{valueOf, checkedOf}
 use Rattle.int128.specs.Ops.{negOf, notOf, addOf, subOf, mulOf, divOf, remOf, andOf, orOf, xorOf, shlOf, shrOf, byCount}
 use Rattle.syntax.specs.Syntax.{UnaryOp, Neg, BinaryOp, Or, unaryOps, binaryOps}
 use Rattle.conversion.specs.Types.{foldUnary, sameInt, keptIf, takenBack, shlKept, foldTwo, foldBinary, negFloat, floatTwo, floatBinary}
@@ -56,49 +56,49 @@ same-no (pos m) (negsuc n) d = refl
 same-no (negsuc m) (pos n) d = refl
 same-no (negsuc m) (negsuc n) d = ne-eqb m n (λ e. d (ap negsuc e))
 
-module _ (a b : ℤ) (x : Checked) (ex : answerOf x ≡ byCount (shlOf a) b) where
-  pub shift-nothing : x ≡ Nothing → answerOf Nothing ≡ shlKept a b
+module _ (a b : ℤ) (x : Checked) (ex : checkedOf x ≡ byCount (shlOf a) b) where
+  pub shift-nothing : x ≡ Nothing → checkedOf Nothing ≡ shlKept a b
   unfolding shlKept takenBack
-  shift-nothing e = ap (takenBack a b) (sym (ap answerOf e) ∙ ex)
+  shift-nothing e = ap (takenBack a b) (sym (ap checkedOf e) ∙ ex)
 
-  module _ (v : Int128) (ev : x ≡ Value v) (y : Checked) (ey : answerOf y ≡ byCount (shrOf (valueOf v)) b) where
-    shifted : keptIf a (valueOf v) (answerOf y) ≡ shlKept a b
+  module _ (v : Int128) (ev : x ≡ Value v) (y : Checked) (ey : checkedOf y ≡ byCount (shrOf (valueOf v)) b) where
+    shifted : keptIf a (valueOf v) (checkedOf y) ≡ shlKept a b
     unfolding shlKept takenBack
-    shifted = ap (keptIf a (valueOf v)) ey ∙ ap (takenBack a b) (sym (ap answerOf ev) ∙ ex)
+    shifted = ap (keptIf a (valueOf v)) ey ∙ ap (takenBack a b) (sym (ap checkedOf ev) ∙ ex)
 
-    pub back-nothing : y ≡ Nothing → answerOf Nothing ≡ shlKept a b
+    pub back-nothing : y ≡ Nothing → checkedOf Nothing ≡ shlKept a b
     unfolding keptIf
-    back-nothing e = ap (λ (z : Checked). keptIf a (valueOf v) (answerOf z)) (sym e) ∙ shifted
+    back-nothing e = ap (λ (z : Checked). keptIf a (valueOf v) (checkedOf z)) (sym e) ∙ shifted
 
     module _ (w : Int128) (ew : y ≡ Value w) where
       back : pick (sameInt (valueOf w) a) (some (valueOf v)) none ≡ shlKept a b
       unfolding keptIf
-      back = ap (λ (z : Checked). keptIf a (valueOf v) (answerOf z)) (sym ew) ∙ shifted
+      back = ap (λ (z : Checked). keptIf a (valueOf v) (checkedOf z)) (sym ew) ∙ shifted
 
-      pub back-same : valueOf w ≡ a → answerOf (Value v) ≡ shlKept a b
+      pub back-same : valueOf w ≡ a → checkedOf (Value v) ≡ shlKept a b
       unfolding pick
       back-same e = ap (λ (t : Bool). pick t (some (valueOf v)) none) (sym (same-yes (valueOf w) a e)) ∙ back
 
-      pub back-other : (valueOf w ≡ a → ⊥) → answerOf Nothing ≡ shlKept a b
+      pub back-other : (valueOf w ≡ a → ⊥) → checkedOf Nothing ≡ shlKept a b
       unfolding pick
       back-other d = ap (λ (t : Bool). pick t (some (valueOf v)) none) (sym (same-no (valueOf w) a d)) ∙ back
 
 module _ (op : ℕ) where
   -- ---- integers
-  pub unary-nothing : (x : Checked) → x ≡ Nothing → answerOf Nothing ≡ foldUnary (getD unaryOps op Neg) (answerOf x)
+  pub unary-nothing : (x : Checked) → x ≡ Nothing → checkedOf Nothing ≡ foldUnary (getD unaryOps op Neg) (checkedOf x)
   unfolding foldUnary
   unary-nothing x e = rw e
 
   module _ (x : Checked) (v : Int128) (ex : x ≡ Value v) where
-    pub unary-not : op ≡ 1 → (w : Int128) → valueOf w ≡ notOf (valueOf v) → answerOf (Value w) ≡ foldUnary (getD unaryOps op Neg) (answerOf x)
+    pub unary-not : op ≡ 1 → (w : Int128) → valueOf w ≡ notOf (valueOf v) → checkedOf (Value w) ≡ foldUnary (getD unaryOps op Neg) (checkedOf x)
     unfolding foldUnary
     unary-not e w ew = rw (ex, e) (ap some ew)
 
-    pub unary-none : op ≡ 2 → answerOf Nothing ≡ foldUnary (getD unaryOps op Neg) (answerOf x)
+    pub unary-none : op ≡ 2 → checkedOf Nothing ≡ foldUnary (getD unaryOps op Neg) (checkedOf x)
     unfolding foldUnary
     unary-none e = rw (ex, e)
 
-    pub unary-neg : (op ≡ 1 → ⊥) → (op ≡ 2 → ⊥) → (w : Checked) → answerOf w ≡ negOf (valueOf v) → answerOf w ≡ foldUnary (getD unaryOps op Neg) (answerOf x)
+    pub unary-neg : (op ≡ 1 → ⊥) → (op ≡ 2 → ⊥) → (w : Checked) → checkedOf w ≡ negOf (valueOf v) → checkedOf w ≡ foldUnary (getD unaryOps op Neg) (checkedOf x)
     unfolding foldUnary
     unary-neg n₁ n₂ w ew = rw (ex, neg-is op n₁ n₂) ew
 
@@ -119,31 +119,31 @@ module _ (op : ℕ) where
     unfolding foldTwo
     two-past h = rw (past-or h)
 
-    pub two-shl : op ≡ 11 → (r : Checked) → answerOf r ≡ shlKept a b → answerOf r ≡ foldTwo (getD binaryOps op Or) a b
+    pub two-shl : op ≡ 11 → (r : Checked) → checkedOf r ≡ shlKept a b → checkedOf r ≡ foldTwo (getD binaryOps op Or) a b
     unfolding foldTwo
     two-shl e r q = rw e q
 
-    pub two-shr : op ≡ 12 → (r : Checked) → answerOf r ≡ byCount (shrOf a) b → answerOf r ≡ foldTwo (getD binaryOps op Or) a b
+    pub two-shr : op ≡ 12 → (r : Checked) → checkedOf r ≡ byCount (shrOf a) b → checkedOf r ≡ foldTwo (getD binaryOps op Or) a b
     unfolding foldTwo
     two-shr e r q = rw e q
 
-    pub two-add : op ≡ 13 → (r : Checked) → answerOf r ≡ addOf a b → answerOf r ≡ foldTwo (getD binaryOps op Or) a b
+    pub two-add : op ≡ 13 → (r : Checked) → checkedOf r ≡ addOf a b → checkedOf r ≡ foldTwo (getD binaryOps op Or) a b
     unfolding foldTwo
     two-add e r q = rw e q
 
-    pub two-sub : op ≡ 14 → (r : Checked) → answerOf r ≡ subOf a b → answerOf r ≡ foldTwo (getD binaryOps op Or) a b
+    pub two-sub : op ≡ 14 → (r : Checked) → checkedOf r ≡ subOf a b → checkedOf r ≡ foldTwo (getD binaryOps op Or) a b
     unfolding foldTwo
     two-sub e r q = rw e q
 
-    pub two-mul : op ≡ 15 → (r : Checked) → answerOf r ≡ mulOf a b → answerOf r ≡ foldTwo (getD binaryOps op Or) a b
+    pub two-mul : op ≡ 15 → (r : Checked) → checkedOf r ≡ mulOf a b → checkedOf r ≡ foldTwo (getD binaryOps op Or) a b
     unfolding foldTwo
     two-mul e r q = rw e q
 
-    pub two-div : op ≡ 16 → (r : Checked) → answerOf r ≡ divOf a b → answerOf r ≡ foldTwo (getD binaryOps op Or) a b
+    pub two-div : op ≡ 16 → (r : Checked) → checkedOf r ≡ divOf a b → checkedOf r ≡ foldTwo (getD binaryOps op Or) a b
     unfolding foldTwo
     two-div e r q = rw e q
 
-    pub two-rem : op ≡ 17 → (r : Checked) → answerOf r ≡ remOf a b → answerOf r ≡ foldTwo (getD binaryOps op Or) a b
+    pub two-rem : op ≡ 17 → (r : Checked) → checkedOf r ≡ remOf a b → checkedOf r ≡ foldTwo (getD binaryOps op Or) a b
     unfolding foldTwo
     two-rem e r q = rw e q
 
@@ -166,17 +166,17 @@ module _ (op : ℕ) where
         → none ≡ foldTwo (getD binaryOps op Or) a b
     two-none h n₁ n₂ n₃ n₄ n₅ n₆ n₇ = two-past (beyond-17 op (beyond-13 op h n₁ n₂ n₃) n₄ n₅ n₆ n₇)
 
-  pub binary-left : (x y : Checked) → x ≡ Nothing → answerOf Nothing ≡ foldBinary (getD binaryOps op Or) (answerOf x) (answerOf y)
+  pub binary-left : (x y : Checked) → x ≡ Nothing → checkedOf Nothing ≡ foldBinary (getD binaryOps op Or) (checkedOf x) (checkedOf y)
   unfolding foldBinary
   binary-left x y e = rw e
 
   module _ (x y : Checked) (v : Int128) (ex : x ≡ Value v) where
-    pub binary-right : y ≡ Nothing → answerOf Nothing ≡ foldBinary (getD binaryOps op Or) (answerOf x) (answerOf y)
+    pub binary-right : y ≡ Nothing → checkedOf Nothing ≡ foldBinary (getD binaryOps op Or) (checkedOf x) (checkedOf y)
     unfolding foldBinary
     binary-right e = rw (ex, e)
 
-    pub binary-two : (w : Int128) → y ≡ Value w → (r : Checked) → answerOf r ≡ foldTwo (getD binaryOps op Or) (valueOf v) (valueOf w)
-        → answerOf r ≡ foldBinary (getD binaryOps op Or) (answerOf x) (answerOf y)
+    pub binary-two : (w : Int128) → y ≡ Value w → (r : Checked) → checkedOf r ≡ foldTwo (getD binaryOps op Or) (valueOf v) (valueOf w)
+        → checkedOf r ≡ foldBinary (getD binaryOps op Or) (checkedOf x) (checkedOf y)
     unfolding foldBinary
     binary-two w ey r e = rw (ex, ey) e
 

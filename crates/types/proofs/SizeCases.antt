@@ -14,10 +14,10 @@ use Rattle.laws.proofs.FixLaws.{Agree, Local, below-cong, below-in, below-out, 
 use Rattle.records.specs.Words.{detailOf, wordOf, A, B}
 use Rattle.syntax.specs.Syntax.{Ty, TInt, TFloat, TBool, TChar, TByte, TAddress, TArray, TCustom, TNull}
 use Rattle.syntax.specs.Decode.{bit, typeAt, wideOf}
-use Rattle.conversion.specs.Types.{timesSize, sizeBy, sizeStep, within, size}
+use Rattle.conversion.specs.Types.{timesSize, sizeBy, sizeStep, sizeWithin, size}
 use Rattle.types.specs.declared.size.Bytes.{Bytes}
 use Rattle.types.specs.declared.size.Bytes.the-variants.{Exactly, Over, Nothing}
-use Rattle.types.specs.Sizes.{exactSize, bytesFor, bytesOf, sizeAt}
+use Rattle.types.specs.Sizes.{exactSize, bytesFor, exactBytes, sizeAt}
 use Rattle.types.proofs.TypeCases.{type-is, type-array, type-address, by-form}
 
 -- ---- products
@@ -114,15 +114,15 @@ module _ (tree text : List ℕ) (y : ℕ) where
   size-is = fix-step none (sizeStep (typeAt tree text)) step-local y
 
   -- what is handed on, with what document 01 says of it
-  pub handed-on : (r : Bytes) → r ≡ bytesFor (exactSize tree text y) → bytesOf r ≡ sizeAt tree text y
-  unfolding sizeAt size exactSize within bytesFor bytesOf pick
-  handed-on r e = ap bytesOf e ∙ go (exactSize tree text y)
+  pub handed-on : (r : Bytes) → r ≡ bytesFor (exactSize tree text y) → exactBytes r ≡ sizeAt tree text y
+  unfolding sizeAt size exactSize sizeWithin bytesFor exactBytes pick
+  handed-on r e = ap exactBytes e ∙ go (exactSize tree text y)
     where
-      picked : (n : ℕ) (t : Bool) → bytesOf (pick t (Exactly n) Over) ≡ pick t (some n) none
+      picked : (n : ℕ) (t : Bool) → exactBytes (pick t (Exactly n) Over) ≡ pick t (some n) none
       picked n true = refl
       picked n false = refl
 
-      go : (o : Option ℕ) → bytesOf (bytesFor o) ≡ within o
+      go : (o : Option ℕ) → exactBytes (bytesFor o) ≡ sizeWithin o
       go none = refl
       go (some n) = picked n (ltb n (2 ^ 63))
 
@@ -188,5 +188,5 @@ module _ (tree text : List ℕ) (y : ℕ) where
 
 -- both promises of `size` from the first
 pub promised : (tree : List ℕ) (y : ℕ) (r : Bytes) → ((text : List ℕ) → r ≡ bytesFor (exactSize tree text y))
-    → ((text : List ℕ) → r ≡ bytesFor (exactSize tree text y)) × ((text : List ℕ) → bytesOf r ≡ sizeAt tree text y)
+    → ((text : List ℕ) → r ≡ bytesFor (exactSize tree text y)) × ((text : List ℕ) → exactBytes r ≡ sizeAt tree text y)
 promised tree y r h = (h, λ text. handed-on tree text y r (h text))

@@ -23,7 +23,7 @@ use Rattle.records.specs.Rules.{isExpr}
 use Rattle.int128.specs.declared.Int128.{Int128}
 use Rattle.int128.specs.declared.Checked.{Checked}
 use Rattle.int128.specs.declared.Checked.the-variants.{Value, Nothing}
-use Rattle.int128.specs.Value.{valueOf, answerOf}
+use Rattle.int128.specs.Value.{valueOf, checkedOf}
 use Rattle.syntax.specs.Syntax.{Expr, EInt, EFloat, EUnary, EBinary, Neg, Or, BinaryOp, unaryOps, binaryOps}
 use Rattle.syntax.specs.Decode.{Node, absent, expr, exprOf, bit, wideOf, child, exprIn, blockIn, nothingAt, intAt, floatAt, strAt, boolAt, nameAt, nullAt, sizeOfAt, unaryAt, binaryAt, callAt, listAt, valueAt, typeArgumentAt, declareAt, initAt, returnAt, callStatementAt, ifAt, whileAt, forAt, breakAt, continueAt, variableAt, functionAt, kinds, node}
 use Rattle.syntax.proofs.Unfold.{node-is}
@@ -80,17 +80,17 @@ module _ (tree text : List ℕ) (r k : ℕ) (ek : k ≡ kindOf tree r) where
 
   -- ---- int_value
   pub int-is : k ≡ 2 → (b : ℕ) → b ≡ wordOf tree r 0 + wordOf tree r 1 * 4294967296 → (w : Int128) → valueOf w ≡ toZ w64 b
-      → answerOf (Value w) ≡ int-value (exprOf (node tree text r))
+      → checkedOf (Value w) ≡ int-value (exprOf (node tree text r))
   unfolding int-value exprOf wideOf
   int-is q b eb w ew = rw (int-case tree text r (sym ek ∙ q)) (ap some (ew ∙ ap (toZ w64) eb))
 
   module _ (q : k ≡ 9) (a : ℕ) (ea : a ≡ wordOf tree r 0) where
-    pub int-unary : a < r → (d : ℕ) → d ≡ detailOf tree r → (x v : Checked) → answerOf x ≡ int-value (exprOf (node tree text a))
-        → answerOf v ≡ foldUnary (getD unaryOps d Neg) (answerOf x) → answerOf v ≡ int-value (exprOf (node tree text r))
+    pub int-unary : a < r → (d : ℕ) → d ≡ detailOf tree r → (x v : Checked) → checkedOf x ≡ int-value (exprOf (node tree text a))
+        → checkedOf v ≡ foldUnary (getD unaryOps d Neg) (checkedOf x) → checkedOf v ≡ int-value (exprOf (node tree text r))
     unfolding int-value exprOf
     int-unary h d ed x v ex ev = rw (unary-any q, lower A a ea h, ← ed, ← ex) ev
 
-    pub int-unary-out : r ≤ a → answerOf Nothing ≡ int-value (exprOf (node tree text r))
+    pub int-unary-out : r ≤ a → checkedOf Nothing ≡ int-value (exprOf (node tree text r))
     unfolding int-value exprOf foldUnary
     int-unary-out h = rw (unary-any q, not-lower A a ea h)
 
@@ -104,17 +104,17 @@ module _ (tree text : List ℕ) (r k : ℕ) (ek : k ≡ kindOf tree r) where
     float-unary-out h = rw (unary-any q, not-lower A a ea h)
 
   module _ (q : k ≡ 10) (a : ℕ) (ea : a ≡ wordOf tree r 0) (b : ℕ) (eb : b ≡ wordOf tree r 1) where
-    pub int-binary : a < r → b < r → (d : ℕ) → d ≡ detailOf tree r → (x y v : Checked) → answerOf x ≡ int-value (exprOf (node tree text a))
-        → answerOf y ≡ int-value (exprOf (node tree text b)) → answerOf v ≡ foldBinary (getD binaryOps d Or) (answerOf x) (answerOf y)
-        → answerOf v ≡ int-value (exprOf (node tree text r))
+    pub int-binary : a < r → b < r → (d : ℕ) → d ≡ detailOf tree r → (x y v : Checked) → checkedOf x ≡ int-value (exprOf (node tree text a))
+        → checkedOf y ≡ int-value (exprOf (node tree text b)) → checkedOf v ≡ foldBinary (getD binaryOps d Or) (checkedOf x) (checkedOf y)
+        → checkedOf v ≡ int-value (exprOf (node tree text r))
     unfolding int-value exprOf
     int-binary h l d ed x y v ex ey ev = rw (binary-any q, lower A a ea h, lower B b eb l, ← ed, ← ex, ← ey) ev
 
-    pub int-left-out : r ≤ a → answerOf Nothing ≡ int-value (exprOf (node tree text r))
+    pub int-left-out : r ≤ a → checkedOf Nothing ≡ int-value (exprOf (node tree text r))
     unfolding int-value exprOf foldBinary
     int-left-out h = rw (binary-any q, not-lower A a ea h)
 
-    pub int-right-out : r ≤ b → answerOf Nothing ≡ int-value (exprOf (node tree text r))
+    pub int-right-out : r ≤ b → checkedOf Nothing ≡ int-value (exprOf (node tree text r))
     unfolding int-value exprOf
     int-right-out h = rw (binary-any q, not-lower B b eb h) (sym (two-none (getD binaryOps (detailOf tree r) Or) (int-value (exprOf (child tree text (node tree text) r A)))))
 
@@ -132,7 +132,7 @@ module _ (tree text : List ℕ) (r k : ℕ) (ek : k ≡ kindOf tree r) where
     unfolding float-value exprOf floatOf
     float-right-out h = rw (binary-any q, not-lower B b eb h) (sym (float-two-none (getD binaryOps (detailOf tree r) Or) (float-value (exprOf (child tree text (node tree text) r A)))))
 
-  pub int-other : (k ≡ 2 → ⊥) → (k ≡ 9 → ⊥) → (k ≡ 10 → ⊥) → answerOf Nothing ≡ int-value (exprOf (node tree text r))
+  pub int-other : (k ≡ 2 → ⊥) → (k ≡ 9 → ⊥) → (k ≡ 10 → ⊥) → checkedOf Nothing ≡ int-value (exprOf (node tree text r))
   unfolding int-value exprOf NoValue
   int-other n₂ n₉ n₁₀ = go (eqb k 3) refl
     where

@@ -21,10 +21,10 @@ bytesFor none = Nothing
 bytesFor (some n) = pick (ltb n (2 ^ 63)) (Exactly n) Over
 
 -- the size that is handed on, if any
-unfoldable pub bytesOf : Bytes → Option ℕ
-bytesOf (Exactly n) = some n
-bytesOf Over = none
-bytesOf Nothing = none
+unfoldable pub exactBytes : Bytes → Option ℕ
+exactBytes (Exactly n) = some n
+exactBytes Over = none
+exactBytes Nothing = none
 
 -- `Type::size` of type record y
 unfoldable pub sizeAt : List ℕ → List ℕ → ℕ → Option ℕ

@@ -5,12 +5,12 @@ ghost use Prim.Native.Nat.{ℕ, _+_, _*_, _≤_, _<_};
 ghost use lib.ListN.{length};
 ghost use Rattle.syntax.specs.Decode.{typeAt};
 ghost use Rattle.conversion.specs.Types.{castClass, can-cast};
-use crate::form::ADDRESS;
-use crate::form::ARRAY;
-use crate::form::CUSTOM;
-use crate::form::INT;
 use crate::form::form;
 use crate::form::is_short;
+use records::numbers::FORM_ADDRESS;
+use records::numbers::FORM_ARRAY;
+use records::numbers::FORM_CUSTOM;
+use records::numbers::FORM_INT;
 
 // Classes of types.
 const OTHER_SCALAR: usize = 0;
@@ -37,25 +37,25 @@ fn cast_class(tree: &[u8], ty: usize) -> usize
     ensures { λ r. ⌜ (r < 5) × ((text : List ℕ) → r ≡ castClass (typeAt (now (tree .entry)) text ty)) ⌝ }
 {
     let f = form(tree, ty);
-    if f == INT {
+    if f == FORM_INT {
         if is_short(tree, ty) {
             return OTHER_SCALAR;
         }
         return LONG_INT;
     }
-    if f == ADDRESS {
+    if f == FORM_ADDRESS {
         return ADDRESSES;
     }
-    if f == ARRAY {
+    if f == FORM_ARRAY {
         return REST;
     }
-    if f == CUSTOM {
+    if f == FORM_CUSTOM {
         return REST;
     }
-    if f < INT {
+    if f < FORM_INT {
         return NULLS;
     }
-    if f < ADDRESS {
+    if f < FORM_ADDRESS {
         return OTHER_SCALAR;
     }
     NULLS

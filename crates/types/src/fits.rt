@@ -7,6 +7,7 @@ ghost use lib.ListN.{length};
 ghost use lib.Dec.{eqb};
 ghost use Rattle.records.specs.Words as Words;
 ghost use Rattle.records.specs.Words.{detailOf, wordOf};
+ghost use Rattle.syntax.specs.Syntax.{nullType};
 ghost use Rattle.syntax.specs.Places.{IsExpr};
 ghost use Rattle.syntax.specs.Decode.{exprOf, node, bit};
 ghost use Rattle.conversion.specs.Types.{someAnd, isSome, int-value, float-value, float-fits};
@@ -14,16 +15,16 @@ ghost use Rattle.types.specs.Fits.{IsType, inRangeOf, fitsAt, intoAt, li
 use crate::float_value::FloatValue;
 use crate::float_value::float_fits;
 use crate::float_value::float_value;
-use crate::form::ADDRESS;
-use crate::form::FLOAT;
-use crate::form::INT;
-use crate::form::NULL;
 use crate::form::form;
 use crate::form::is_short;
 use crate::form::is_unsigned;
 use crate::int_value::int_value;
 use int128::Checked;
 use int128::int_fits;
+use records::numbers::FORM_ADDRESS;
+use records::numbers::FORM_FLOAT;
+use records::numbers::FORM_INT;
+use records::numbers::FORM_NULL;
 use records::numbers::KIND_NULL;
 use records::numbers::NULL_TYPE;
 use records::words::WORD_A;
@@ -57,7 +58,7 @@ fn float_constant_fits(tree: &[u8], e: usize, expected: usize) -> bool
 fn to_nothing(tree: &[u8], from: usize, to: usize) -> bool
     requires { ⌜ from * 32 + 32 ≤ length (now tree) ⌝ }
     requires { ⌜ to * 32 + 32 ≤ length (now tree) ⌝ }
-    ensures { λ r. ⌜ r ≡ (eqb (wordOf (now (tree .entry)) from Words.A) 9 || eqb (wordOf (now (tree .entry)) to Words.A) 9) ⌝ }
+    ensures { λ r. ⌜ r ≡ (eqb (wordOf (now (tree .entry)) from Words.A) nullType || eqb (wordOf (now (tree .entry)) to Words.A) nullType) ⌝ }
 {
     if reference(tree, from, WORD_A) == NULL_TYPE {
         return true;
@@ -74,23 +75,23 @@ fn fits_into(tree: &[u8], e: usize, ty: usize, expected: usize) -> bool
 {
     let from = form(tree, ty);
     let to = form(tree, expected);
-    if from == INT {
-        if to == INT {
+    if from == FORM_INT {
+        if to == FORM_INT {
             return int_constant_fits(tree, e, expected);
         }
         return false;
     }
-    if from == FLOAT {
-        if to == FLOAT {
+    if from == FORM_FLOAT {
+        if to == FORM_FLOAT {
             return float_constant_fits(tree, e, expected);
         }
         return false;
     }
-    if to == ADDRESS {
-        if from == ADDRESS {
+    if to == FORM_ADDRESS {
+        if from == FORM_ADDRESS {
             return to_nothing(tree, ty, expected);
         }
-        if from == NULL {
+        if from == FORM_NULL {
             return kind(tree, e) == KIND_NULL;
         }
     }
@@ -141,14 +142,14 @@ fn is_literal(tree: &[u8], e: usize, ty: usize, expected: usize) -> bool
 {
     let from = form(tree, ty);
     let to = form(tree, expected);
-    if from == INT {
-        if to == INT {
+    if from == FORM_INT {
+        if to == FORM_INT {
             return is_int_constant(tree, e);
         }
         return false;
     }
-    if from == FLOAT {
-        if to == FLOAT {
+    if from == FORM_FLOAT {
+        if to == FORM_FLOAT {
             return is_float_constant(tree, e);
         }
     }

@@ -35,7 +35,7 @@ pub enum FloatValue {
 }
 
 // The largest f32: bits 47EFFFFFE0000000.
-const LIMIT: f64 = 340282346638528859811704183484516925440.0;
+const F32_MAX: f64 = 340282346638528859811704183484516925440.0;
 
 fn from_bits(b: u64) -> FloatValue
     ensures { λ r. ⌜ floatOf r ≡ some (ofBits binary64 b) ⌝ }
@@ -170,7 +170,7 @@ fn is_finite(x: f64) -> bool
 fn is_small(x: f64) -> bool
     ensures { λ r. ⌜ r ≡ small x ⌝ }
 {
-    if x <= LIMIT { -LIMIT <= x } else { false }
+    if x <= F32_MAX { -F32_MAX <= x } else { false }
 }
 
 pub fn float_fits(value: f64, short: bool) -> bool

@@ -6,21 +6,10 @@ ghost use lib.ListN.{length};
 ghost use Rattle.records.specs.Words.{detailOf, wordOf};
 ghost use Rattle.syntax.specs.Decode.{bit, typeAt};
 ghost use Rattle.conversion.specs.Types.{is-number};
+use records::numbers::FORM_FLOAT;
+use records::numbers::FORM_INT;
 use records::words::detail;
 use records::words::word;
-
-// Document 01, kind 1.
-pub const INT: u8 = 1;
-
-pub const FLOAT: u8 = 2;
-
-pub const ADDRESS: u8 = 6;
-
-pub const ARRAY: u8 = 7;
-
-pub const CUSTOM: u8 = 8;
-
-pub const NULL: u8 = 9;
 
 // Which of the forms a type has: its detail without the marks.
 pub fn form(tree: &[u8], ty: usize) -> u8
@@ -51,10 +40,10 @@ pub fn is_number(tree: &[u8], ty: usize) -> bool
     ensures { λ r. ⌜ ((text : List ℕ) → r ≡ is-number (typeAt (now (tree .entry)) text ty)) ⌝ }
 {
     let f = form(tree, ty);
-    if f == INT {
+    if f == FORM_INT {
         return true;
     }
-    f == FLOAT
+    f == FORM_FLOAT
 }
 
 fn wide_word(x: u32) -> u64

@@ -4,8 +4,8 @@ ghost use mathlib.Core.List.{List};
 ghost use mathlib.Core.Option.{some};
 ghost use Prim.Native.Nat.{ℕ, _+_, _*_, _≤_};
 ghost use lib.ListN.{length, getD};
-ghost use Rattle.int128.specs.Value.{valueOf, answerOf};
-ghost use Rattle.syntax.specs.Syntax.{unaryOps, binaryOps, Neg, Or};
+ghost use Rattle.int128.specs.Value.{valueOf, checkedOf};
+ghost use Rattle.syntax.specs.Syntax.{unaryOps, binaryOps, Neg, Or, binaryNumber, BitOr, BitAnd, Shl};
 ghost use Rattle.syntax.specs.Decode.{exprOf, node};
 ghost use Rattle.conversion.specs.Types.{foldUnary, shlKept, foldTwo, foldBinary, int-value};
 use crate::form::two_words;
@@ -33,7 +33,7 @@ use records::words::kind;
 use records::words::reference;
 
 fn fold_unary(op: u8, value: Checked) -> Checked
-    ensures { λ r. ⌜ answerOf r ≡ foldUnary (getD unaryOps op Neg) (answerOf value) ⌝ }
+    ensures { λ r. ⌜ checkedOf r ≡ foldUnary (getD unaryOps op Neg) (checkedOf value) ⌝ }
 {
     match value {
         Checked::Nothing => Checked::Nothing,
@@ -51,7 +51,7 @@ fn fold_unary(op: u8, value: Checked) -> Checked
 
 // BitOr, BitXor, BitAnd.
 fn fold_bits(op: u8, left: Int128, right: Int128) -> Int128
-    requires { ⌜ (2 ≤ op) × (op ≤ 4) ⌝ }
+    requires { ⌜ (binaryNumber BitOr ≤ op) × (op ≤ binaryNumber BitAnd) ⌝ }
     ensures { λ r. ⌜ some (valueOf r) ≡ foldTwo (getD binaryOps op Or) (valueOf left) (valueOf right) ⌝ }
 {
     if op == BIT_OR {
@@ -65,7 +65,7 @@ fn fold_bits(op: u8, left: Int128, right: Int128) -> Int128
 
 // The shifted value, where taken back by the same count it gives the old one: a shift that loses bits folds to nothing.
 fn fold_shl(left: Int128, right: Int128) -> Checked
-    ensures { λ r. ⌜ answerOf r ≡ shlKept (valueOf left) (valueOf right) ⌝ }
+    ensures { λ r. ⌜ checkedOf r ≡ shlKept (valueOf left) (valueOf right) ⌝ }
 {
     let Checked::Value(v) = left.checked_shl_by(right) else {
         return Checked::Nothing;
@@ -81,8 +81,8 @@ fn fold_shl(left: Int128, right: Int128) -> Checked
 
 // From Shl on: Shl, Shr, Add, Sub, Mul, Div, Rem.
 fn fold_checked(op: u8, left: Int128, right: Int128) -> Checked
-    requires { ⌜ 11 ≤ op ⌝ }
-    ensures { λ r. ⌜ answerOf r ≡ foldTwo (getD binaryOps op Or) (valueOf left) (valueOf right) ⌝ }
+    requires { ⌜ binaryNumber Shl ≤ op ⌝ }
+    ensures { λ r. ⌜ checkedOf r ≡ foldTwo (getD binaryOps op Or) (valueOf left) (valueOf right) ⌝ }
 {
     if op == SHL {
         return fold_shl(left, right);
@@ -109,7 +109,7 @@ fn fold_checked(op: u8, left: Int128, right: Int128) -> Checked
 }
 
 fn fold_two(op: u8, left: Int128, right: Int128) -> Checked
-    ensures { λ r. ⌜ answerOf r ≡ foldTwo (getD binaryOps op Or) (valueOf left) (valueOf right) ⌝ }
+    ensures { λ r. ⌜ checkedOf r ≡ foldTwo (getD binaryOps op Or) (valueOf left) (valueOf right) ⌝ }
 {
     if SHL <= op {
         return fold_checked(op, left, right);
@@ -124,7 +124,7 @@ fn fold_two(op: u8, left: Int128, right: Int128) -> Checked
 }
 
 fn fold_binary(op: u8, left: Checked, right: Checked) -> Checked
-    ensures { λ r. ⌜ answerOf r ≡ foldBinary (getD binaryOps op Or) (answerOf left) (answerOf right) ⌝ }
+    ensures { λ r. ⌜ checkedOf r ≡ foldBinary (getD binaryOps op Or) (checkedOf left) (checkedOf right) ⌝ }
 {
     match left {
         Checked::Nothing => Checked::Nothing,
@@ -138,7 +138,7 @@ fn fold_binary(op: u8, left: Checked, right: Checked) -> Checked
 // The value of an Int, or of a Unary or Binary of such.
 pub fn int_value(tree: &[u8], r: usize) -> Checked
     requires { ⌜ r * 32 + 32 ≤ length (now tree) ⌝ }
-    ensures { λ v. ⌜ ((text : List ℕ) → answerOf v ≡ int-value (exprOf (node (now (tree .entry)) text r))) ⌝ }
+    ensures { λ v. ⌜ ((text : List ℕ) → checkedOf v ≡ int-value (exprOf (node (now (tree .entry)) text r))) ⌝ }
 {
     let k = kind(tree, r);
     if k == KIND_INT {

@@ -5,15 +5,16 @@ ghost use mathlib.Core.Option.{Option};
 ghost use Prim.Native.Nat.{ℕ, _+_, _*_, _%_, _≤_};
 ghost use lib.ListN.{length};
 ghost use Rattle.records.specs.Words.{detailOf};
+ghost use Rattle.records.specs.Kinds.{formArray};
 ghost use Rattle.conversion.specs.Types.{timesSize};
-ghost use Rattle.types.specs.Sizes.{exactSize, bytesFor, bytesOf, sizeAt};
-use crate::form::ADDRESS;
-use crate::form::ARRAY;
-use crate::form::FLOAT;
-use crate::form::INT;
+ghost use Rattle.types.specs.Sizes.{exactSize, bytesFor, exactBytes, sizeAt};
 use crate::form::form;
 use crate::form::is_short;
 use crate::form::two_words;
+use records::numbers::FORM_ADDRESS;
+use records::numbers::FORM_ARRAY;
+use records::numbers::FORM_FLOAT;
+use records::numbers::FORM_INT;
 use records::words::WORD_A;
 use records::words::WORD_B;
 use records::words::reference;
@@ -25,7 +26,7 @@ pub enum Bytes {
     Nothing,
 }
 
-const LIMIT: u64 = 9223372036854775807;
+const SIZE_MAX: u64 = 9223372036854775807;
 
 // n times a size. An array of none takes 0 bytes, however large its element.
 fn times(element: Bytes, n: u64) -> Bytes
@@ -43,7 +44,7 @@ fn times(element: Bytes, n: u64) -> Bytes
             if n == 0 {
                 return Bytes::Exactly(0);
             }
-            if b <= LIMIT / n {
+            if b <= SIZE_MAX / n {
                 return Bytes::Exactly(b * n);
             }
             Bytes::Over
@@ -54,23 +55,23 @@ fn times(element: Bytes, n: u64) -> Bytes
 // The size of a type that is no array.
 fn plain_size(tree: &[u8], ty: usize) -> Bytes
     requires { ⌜ ty * 32 + 32 ≤ length (now tree) ⌝ }
-    requires { ⌜ (detailOf (now tree) ty % 16 ≡ 7 → ⊥) ⌝ }
+    requires { ⌜ (detailOf (now tree) ty % 16 ≡ formArray → ⊥) ⌝ }
     ensures { λ r. ⌜ ((text : List ℕ) → r ≡ bytesFor (exactSize (now (tree .entry)) text ty)) ⌝ }
 {
     let f = form(tree, ty);
-    if f < INT {
+    if f < FORM_INT {
         return Bytes::Nothing;
     }
-    if f <= FLOAT {
+    if f <= FORM_FLOAT {
         if is_short(tree, ty) {
             return Bytes::Exactly(4);
         }
         return Bytes::Exactly(8);
     }
-    if f < ADDRESS {
+    if f < FORM_ADDRESS {
         return Bytes::Exactly(1);
     }
-    if f == ADDRESS {
+    if f == FORM_ADDRESS {
         return Bytes::Exactly(8);
     }
     Bytes::Nothing
@@ -80,9 +81,9 @@ fn plain_size(tree: &[u8], ty: usize) -> Bytes
 pub fn size(tree: &[u8], ty: usize) -> Bytes
     requires { ⌜ ty * 32 + 32 ≤ length (now tree) ⌝ }
     ensures exact { λ r. ⌜ ((text : List ℕ) → r ≡ bytesFor (exactSize (now (tree .entry)) text ty)) ⌝ }
-    ensures size { λ r. ⌜ ((text : List ℕ) → bytesOf r ≡ sizeAt (now (tree .entry)) text ty) ⌝ }
+    ensures size { λ r. ⌜ ((text : List ℕ) → exactBytes r ≡ sizeAt (now (tree .entry)) text ty) ⌝ }
 {
-    if form(tree, ty) == ARRAY {
+    if form(tree, ty) == FORM_ARRAY {
         let element = reference(tree, ty, WORD_A);
         if element < ty {
             return times(size(tree, element), two_words(tree, ty, WORD_B));

@@ -5,14 +5,14 @@ use Rattle.converter.proofs.CallLaws.{cut-afforded, scratch-room, as-th
 use Rattle.converter.proofs.convert_good.Statement.{statement}
 use Rattle.converter.proofs.convert_good.Tie as tie
 
-convert-tree-requires : tie.Need-convert-tree-requires
-convert-tree-requires c κs = search needs
+convert-program-requires : tie.Need-convert-program-requires
+convert-program-requires c κs = search needs
 
 visits-requires : tie.Need-visits-requires
 visits-requires c κs =
     let made = c .before .before .before .before .before in
     let first = made .before .before .before .before .before .before .before .before .before .before .before .before in
-    (first .pre .0 .1, scratch-room _ _ _ _ _ _ _ _ _ _ _ _ _ (made .convert-tree .ensures) (first .pre .1))
+    (first .pre .0 .1, scratch-room _ _ _ _ _ _ _ _ _ _ _ _ _ (made .convert-program .ensures) (first .pre .1))
 
 clear-requires : tie.Need-clear-requires
 clear-requires c κs = search needs
@@ -20,7 +20,7 @@ clear-requires c κs = search needs
 finish-requires : tie.Need-finish-requires
 finish-requires c κs =
     let made = c .before .before .before .before .before .before .before .before .before .before .before .before .before .before .before .before in
-    cut-afforded _ _ _ _ _ _ _ _ _ _ _ _ _ (made .convert-tree .ensures) (made .before .before .before .before .before .before .before .before .before .before .before .before .pre .1)
+    cut-afforded _ _ _ _ _ _ _ _ _ _ _ _ _ (made .convert-program .ensures) (made .before .before .before .before .before .before .before .before .before .before .before .before .pre .1)
 
 same-length : tie.Need-same-length
 same-length c = search needs
@@ -50,13 +50,13 @@ returns c =
     let read = zero .before .before in
     let made = read .before .before .before .before .before .before in
     let first = made .before .before .before .before .before .before .before .before .before .before .before .before in
-    as-the-rust _ _ _ _ _ _ _ _ _ _ _ _ _ (made .convert-tree .ensures) (first .pre .0 .0) _ (read .visits .ensures) _ _ _ _ _ _ _ _ (end .finish .ensures) (zero .clear .ensures)
+    as-the-rust _ _ _ _ _ _ _ _ _ _ _ _ _ (made .convert-program .ensures) (first .pre .0 .0) _ (read .visits .ensures) _ _ _ _ _ _ _ _ (end .finish .ensures) (zero .clear .ensures)
 
 pub convert-good-spec : {M : Type 1} → statement M
 convert-good-spec =
     tie.close
     (tie.spec
-    convert-tree-requires
+    convert-program-requires
     visits-requires
     clear-requires
     finish-requires

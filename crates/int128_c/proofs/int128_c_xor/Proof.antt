@@ -2,7 +2,7 @@
 -- What the two ensure.
 use mathlib.Core.Path.{_∙_, ap}
 use mathlib.Core.Option.{some}
-use Rattle.int128.specs.Value.{answerOf}
+use Rattle.int128.specs.Value.{checkedOf}
 use borrow.Author.Needs.{needs}
 use Rattle.int128_c.proofs.int128_c_xor.Statement.{statement}
 use Rattle.int128_c.proofs.int128_c_xor.Tie as tie
@@ -14,7 +14,7 @@ put-requires : tie.Need-put-requires
 put-requires c κs = search needs
 
 returns : tie.Need-returns
-returns c = ap answerOf (c .put .ensures) ∙ ap some (c .before .before .before .bitxor .ensures)
+returns c = ap checkedOf (c .put .ensures) ∙ ap some (c .before .before .before .bitxor .ensures)
 
 pub int128-c-xor-spec : {M : Type 1} → statement M
 int128-c-xor-spec = tie.close (tie.spec bitxor-requires put-requires returns)

@@ -1,6 +1,6 @@
 -- The words of an answer, by the case that the match met. Assumes nothing.
 use mathlib.Core.Path.{sym, ap, _∙_}
-use Rattle.rudderplum.specs.Boundary.{answered}
+use Rattle.rudderplum.specs.Boundary.{judgedWords}
 use borrow.Author.Needs.{needs}
 use Rattle.rudderplum.proofs.answer_words.Statement.{statement}
 use Rattle.rudderplum.proofs.answer_words.Tie as tie
@@ -18,12 +18,12 @@ words-of-requires : tie.Need-words-of-requires
 words-of-requires c κs = search needs
 
 returns : tie.Need-returns
-unfolding answered
-returns c = sym (ap (answered _) (c .enum-told .given .1))
+unfolding judgedWords
+returns c = sym (ap (judgedWords _) (c .enum-told .given .1))
 
 returns-2 : tie.Need-returns-2
-unfolding answered
-returns-2 c = (c .words-of .ensures) ∙ sym (ap (answered _) (c .before .before .judged .given .1))
+unfolding judgedWords
+returns-2 c = (c .words-of .ensures) ∙ sym (ap (judgedWords _) (c .before .before .judged .given .1))
 
 pub answer-words-spec : {M : Type 1} → statement M
 answer-words-spec =

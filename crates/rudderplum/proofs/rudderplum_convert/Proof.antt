@@ -1,7 +1,7 @@
 -- Each way out of the call is a case of its definition: the test of the answer's buffer, or what `convert` and `put_conversion` ensure.
 -- Put together by `long-convert`. Assumes nothing.
 use borrow.Author.Needs.{needs}
-use Rattle.rudderplum.specs.Boundary.{asked}
+use Rattle.rudderplum.specs.Boundary.{asksMain}
 use Rattle.rudderplum.proofs.Calls.{short-returns-eight, long-returns-eight, short-convert, long-convert}
 use Rattle.rudderplum.proofs.rudderplum_convert.Statement.{statement}
 use Rattle.rudderplum.proofs.rudderplum_convert.Tie as tie
@@ -12,7 +12,7 @@ use Rattle.rudderplum.proofs.put_conversion.Reads as put-conversion-rea
 
 -- src/lib.rt:143:9
 returns : tie.Need-returns
-unfolding asked
+unfolding asksMain
 returns c = (short-returns-eight _ (c .if1 .taken), short-convert (c .before .before .before .before .before .before .before .before .before .before .before .args .tree .now) (c .before .before .before .before .before .before .before .before .before .before .before .args .text .now) _ _ (c .if1 .taken))
 
 -- src/lib.rt:145:9
@@ -57,7 +57,7 @@ same-length-8 c = search needs
 
 -- src/lib.rt:125:1
 returns-2 : tie.Need-returns-2
-unfolding asked
+unfolding asksMain
 returns-2 c = (long-returns-eight _ (c .before .before .before .before .before .before .before .before .before .before .before .before .before .before .before .before .before .before .before .before .before .before .before .before .before .before .if1 .left), long-convert (c .before .before .before .before .before .before .before .before .before .before .before .before .before .before .before .before .before .before .before .before .before .before .before .before .before .before .before .before .before .before .before .before .before .before .before .before .before .args .tree .now) (c .before .before .before .before .before .before .before .before .before .before .before .before .before .before .before .before .before .before .before .before .before .before .before .before .before .before .before .before .before .before .before .before .before .before .before .before .before .args .text .now) _ _ _ _ _ (c .before .before .before .before .before .before .before .before .before .before .before .before .before .before .before .before .before .before .convert .result) (c .before .before .before .before .before .before .before .before .before .before .before .before .before .before .before .before .before .before .before .before .before .before .before .before .before .before .if1 .left) (c .before .before .before .before .before .before .before .before .before .before .before .before .before .before .before .before .before .before .convert .ensures) (c .before .before .put-conversion .ensures))
 
 pub rudderplum-convert-spec : {M : Type 1} → statement M

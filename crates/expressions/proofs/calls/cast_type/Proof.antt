@@ -1,7 +1,8 @@
 -- The verb of a cast, the type it goes to, the type it comes from, and whether one can be cast to the other.
 -- Each answer is a case of the definition. Assumes nothing.
 use Rattle.expressions.specs.Answers.{IsCast}
-use Rattle.expressions.proofs.CallLaws.{found-type, type-inside, cast-not, cast-nowhere, cast-free, cast-fine, cast-wrong}
+use Rattle.expressions.proofs.OperandLaws.{found-type}
+use Rattle.expressions.proofs.CallLaws.{type-inside, cast-not, cast-nowhere, cast-free, cast-fine, cast-wrong}
 use borrow.Author.Needs.{needs}
 use Rattle.expressions.proofs.calls.cast_type.Statement.{statement}
 use Rattle.expressions.proofs.calls.cast_type.Tie as tie

@@ -8,7 +8,7 @@ use Rattle.expressions.proofs.calls.is_candidate.Tie as tie
 use Rattle.expressions.proofs.calls.is_candidate.Reads as reads
 use Rattle.expressions.proofs.calls.is_candidate.Lts as lts
 use Rattle.keys.proofs.keys.is_mangled.Reads as is-mangled-reads
-use Rattle.expressions.proofs.takes.takes_args.Reads as takes-args-reads
+use Rattle.expressions.proofs.takes.takes_call.Reads as takes-call-reads
 
 reference-requires : tie.Need-reference-requires
 reference-requires c κs =
@@ -33,13 +33,13 @@ returns-2 c =
     let first = c .before .before .before .before .before .before .before .before in
     second-fails _ _ _ _ _ (same-name _ _ _ _ (first .pre .0 .0) (first .pre .0 .1) _ (first .pre .1) _ (c .before .before .before .before .reference .ensures) _ (c .before .before .before .original .ensures)) (c .before .before .if1 .left) _ (c .before .is-mangled .ensures) (c .if2 .taken)
 
-takes-args-requires : tie.Need-takes-args-requires
-takes-args-requires c κs = search needs
+takes-call-requires : tie.Need-takes-call-requires
+takes-call-requires c κs = search needs
 
 returns-3 : tie.Need-returns-3
 returns-3 c =
     let first = c .before .before .before .before .before .before .before .before .before in
-    third-tells _ _ _ _ _ (same-name _ _ _ _ (first .pre .0 .0) (first .pre .0 .1) _ (first .pre .1) _ (c .before .before .before .before .before .reference .ensures) _ (c .before .before .before .before .original .ensures)) (c .before .before .before .if1 .left) _ (c .before .before .is-mangled .ensures) (c .before .if2 .left) _ (c .takes-args .ensures)
+    third-tells _ _ _ _ _ (same-name _ _ _ _ (first .pre .0 .0) (first .pre .0 .1) _ (first .pre .1) _ (c .before .before .before .before .before .reference .ensures) _ (c .before .before .before .before .original .ensures)) (c .before .before .before .if1 .left) _ (c .before .before .is-mangled .ensures) (c .before .if2 .left) _ (c .takes-call .ensures)
 
 pub is-candidate-spec : {M : Type 1} → statement M
 is-candidate-spec =
@@ -50,5 +50,5 @@ is-candidate-spec =
     returns
     is-mangled-requires
     returns-2
-    takes-args-requires
+    takes-call-requires
     returns-3)

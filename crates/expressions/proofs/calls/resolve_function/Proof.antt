@@ -7,7 +7,7 @@ use Rattle.expressions.proofs.calls.resolve_function.Tie as tie
 use Rattle.expressions.proofs.calls.resolve_function.Reads as reads
 use Rattle.expressions.proofs.calls.resolve_function.Lts as lts
 use Rattle.expressions.proofs.calls.find_functions_by_literals.Reads as find-functions-by-literals-reads
-use Rattle.expressions.proofs.calls.refuse.Reads as refuse-reads
+use Rattle.expressions.proofs.calls.refuse_call.Reads as refuse-call-reads
 use Rattle.expressions.proofs.exact.find_exact_function.Reads as find-exact-function-reads
 
 -- src/calls.rt:117:27
@@ -39,16 +39,16 @@ enum-told-2 : tie.Need-enum-told-2
 enum-told-2 c = search needs
 
 -- src/calls.rt:122:31
-refuse-requires : tie.Need-refuse-requires
-refuse-requires c κs = search needs
+refuse-call-requires : tie.Need-refuse-call-requires
+refuse-call-requires c κs = search needs
 
 -- src/calls.rt:123:39
 enum-told-3 : tie.Need-enum-told-3
 enum-told-3 c = search needs
 
 -- src/calls.rt:123:32
-refuse-requires-2 : tie.Need-refuse-requires-2
-refuse-requires-2 c κs = search needs
+refuse-call-requires-2 : tie.Need-refuse-call-requires-2
+refuse-call-requires-2 c κs = search needs
 
 -- src/calls.rt:105:1
 returns-2 : tie.Need-returns-2
@@ -58,12 +58,12 @@ returns-2 c =
 -- src/calls.rt:105:1
 returns-3 : tie.Need-returns-3
 returns-3 c =
-    choice-nobody _ _ _ _ _ _ (c .before .before .before .before .before .before .find-exact-function .ensures .is) (c .before .before .before .before .enum-told .given .1) _ (c .before .before .before .find-functions-by-literals .ensures .are) (c .before .enum-told2 .given .1) _ (c .refuse .ensures)
+    choice-nobody _ _ _ _ _ _ (c .before .before .before .before .before .before .find-exact-function .ensures .is) (c .before .before .before .before .enum-told .given .1) _ (c .before .before .before .find-functions-by-literals .ensures .are) (c .before .enum-told2 .given .1) _ (c .refuse-call .ensures)
 
 -- src/calls.rt:105:1
 returns-4 : tie.Need-returns-4
 returns-4 c =
-    choice-several _ _ _ _ _ _ (c .before .before .before .before .before .before .find-exact-function .ensures .is) (c .before .before .before .before .enum-told .given .1) _ (c .before .before .before .find-functions-by-literals .ensures .are) (c .before .enum-told3 .given .1) _ (c .refuse2 .ensures)
+    choice-several _ _ _ _ _ _ (c .before .before .before .before .before .before .find-exact-function .ensures .is) (c .before .before .before .before .enum-told .given .1) _ (c .before .before .before .find-functions-by-literals .ensures .are) (c .before .enum-told3 .given .1) _ (c .refuse-call2 .ensures)
 
 pub resolve-function-spec : {M : Type 1} → statement M
 resolve-function-spec =
@@ -76,9 +76,9 @@ resolve-function-spec =
     find-functions-by-literals-requires
     enum-known-f-2
     enum-told-2
-    refuse-requires
+    refuse-call-requires
     enum-told-3
-    refuse-requires-2
+    refuse-call-requires-2
     returns-2
     returns-3
     returns-4)

@@ -8,7 +8,7 @@ use Rattle.expressions.proofs.exact.by_name.Tie as tie
 use Rattle.expressions.proofs.exact.by_name.Reads as reads
 use Rattle.expressions.proofs.exact.by_name.Lts as lts
 use Rattle.keys.proofs.keys.find_key.Reads as find-key-reads
-use Rattle.expressions.proofs.takes.takes_args.Reads as takes-args-reads
+use Rattle.expressions.proofs.takes.takes_call.Reads as takes-call-reads
 
 find-key-requires : tie.Need-find-key-requires
 find-key-requires c κs =
@@ -18,19 +18,19 @@ find-key-requires c κs =
 enum-known-f : tie.Need-enum-known-f
 enum-known-f c = search needs
 
-takes-args-requires : tie.Need-takes-args-requires
-takes-args-requires c κs = (c .before .before .before .before .before .before .before .pre .1, found-function _ _ _ (verb-found _ _ _ _ (c .before .before .before .before .before .before .before .pre .1) _ (c .before .before .before .before .before .before .before .pre .0) _ (c .before .before .before .find-key .ensures) .function) (c .before .f .given .1))
+takes-call-requires : tie.Need-takes-call-requires
+takes-call-requires c κs = (c .before .before .before .before .before .before .before .pre .1, found-function _ _ _ (verb-found _ _ _ _ (c .before .before .before .before .before .before .before .pre .1) _ (c .before .before .before .before .before .before .before .pre .0) _ (c .before .before .before .find-key .ensures) .function) (c .before .f .given .1))
 
 returns : tie.Need-returns
 returns c =
-    filter-hit _ _ _ _ _ (verb-found _ _ _ _ (c .before .before .before .before .before .before .before .before .before .pre .1) _ (c .before .before .before .before .before .before .before .before .before .pre .0) _ (c .before .before .before .before .before .find-key .ensures) .is) _ _ (verb-found _ _ _ _ (c .before .before .before .before .before .before .before .before .before .pre .1) _ (c .before .before .before .before .before .before .before .before .before .pre .0) _ (c .before .before .before .before .before .find-key .ensures) .function) (c .before .before .before .f .given .1) (c .before .takes-args .ensures) (c .if1 .taken)
+    filter-hit _ _ _ _ _ (verb-found _ _ _ _ (c .before .before .before .before .before .before .before .before .before .pre .1) _ (c .before .before .before .before .before .before .before .before .before .pre .0) _ (c .before .before .before .before .before .find-key .ensures) .is) _ _ (verb-found _ _ _ _ (c .before .before .before .before .before .before .before .before .before .pre .1) _ (c .before .before .before .before .before .before .before .before .before .pre .0) _ (c .before .before .before .before .before .find-key .ensures) .function) (c .before .before .before .f .given .1) (c .before .takes-call .ensures) (c .if1 .taken)
 
 enum-told : tie.Need-enum-told
 enum-told c = search needs
 
 returns-2 : tie.Need-returns-2
 returns-2 c =
-    filter-left _ _ _ _ _ (verb-found _ _ _ _ (c .before .before .before .before .before .before .before .before .before .pre .1) _ (c .before .before .before .before .before .before .before .before .before .pre .0) _ (c .before .before .before .before .before .find-key .ensures) .is) _ _ (c .before .before .before .f .given .1) (c .before .takes-args .ensures) (c .if1 .left)
+    filter-left _ _ _ _ _ (verb-found _ _ _ _ (c .before .before .before .before .before .before .before .before .before .pre .1) _ (c .before .before .before .before .before .before .before .before .before .pre .0) _ (c .before .before .before .before .before .find-key .ensures) .is) _ _ (c .before .before .before .f .given .1) (c .before .takes-call .ensures) (c .if1 .left)
 
 returns-3 : tie.Need-returns-3
 returns-3 c =
@@ -42,7 +42,7 @@ by-name-spec =
     (tie.spec
     find-key-requires
     enum-known-f
-    takes-args-requires
+    takes-call-requires
     returns
     enum-told
     returns-2

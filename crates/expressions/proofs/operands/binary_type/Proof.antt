@@ -34,13 +34,13 @@ returns-2 c = gives-common _ _ (c .before .before .before .before .before .befor
 enum-told : tie.Need-enum-told
 enum-told c = search needs
 
-operands-error-requires : tie.Need-operands-error-requires
-operands-error-requires c κs = search needs
+binary-error-requires : tie.Need-binary-error-requires
+binary-error-requires c κs = search needs
 
 returns-3 : tie.Need-returns-3
 returns-3 c = ⊎-elim
-    (λ w. not-taken _ _ (c .before .before .before .before .before .before .before .pre .0) _ (c .before .before .before .before .before .before .before .pre .1 .0) _ (c .before .before .before .before .before .before .before .pre .1 .1) _ (c .before .before .before .before .detail .ensures) _ _ (c .before .before .before .operator-of .ensures) _ (c .before .before .common-of .ensures) _ (w .1 .given .1) _ (w .3 .ensures) (w .4 .left) _ (c .operands-error .ensures))
-    (λ w. none-common _ _ (c .before .before .before .before .before .before .before .pre .0) _ (c .before .before .before .before .before .before .before .pre .1 .0) _ (c .before .before .before .before .before .before .before .pre .1 .1) _ (c .before .before .before .before .detail .ensures) _ _ (c .before .before .before .operator-of .ensures) _ (c .before .before .common-of .ensures) (w .1 .given .1) _ (c .operands-error .ensures))
+    (λ w. not-taken _ _ (c .before .before .before .before .before .before .before .pre .0) _ (c .before .before .before .before .before .before .before .pre .1 .0) _ (c .before .before .before .before .before .before .before .pre .1 .1) _ (c .before .before .before .before .detail .ensures) _ _ (c .before .before .before .operator-of .ensures) _ (c .before .before .common-of .ensures) _ (w .1 .given .1) _ (w .3 .ensures) (w .4 .left) _ (c .binary-error .ensures))
+    (λ w. none-common _ _ (c .before .before .before .before .before .before .before .pre .0) _ (c .before .before .before .before .before .before .before .pre .1 .0) _ (c .before .before .before .before .before .before .before .pre .1 .1) _ (c .before .before .before .before .detail .ensures) _ _ (c .before .before .before .operator-of .ensures) _ (c .before .before .common-of .ensures) (w .1 .given .1) _ (c .binary-error .ensures))
     (c .before .match .came)
 
 pub binary-type-spec : {M : Type 1} → statement M
@@ -56,5 +56,5 @@ binary-type-spec =
     returns
     returns-2
     enum-told
-    operands-error-requires
+    binary-error-requires
     returns-3)

@@ -30,8 +30,8 @@ cast-t12 c = search needs
 enum-told : tie.Need-enum-told
 enum-told c = search needs
 
-refuse-requires : tie.Need-refuse-requires
-refuse-requires c κs = omega (arith, c .before .before .before .before .before .before .before .before .before .pre .1 .1 .below, c .before .before .before .before .before .before .before .before .before .pre .0 .0 .few)
+refuse-type-requires : tie.Need-refuse-type-requires
+refuse-type-requires c κs = omega (arith, c .before .before .before .before .before .before .before .before .before .pre .1 .1 .below, c .before .before .before .before .before .before .before .before .before .pre .0 .0 .few)
 
 returns : tie.Need-returns
 returns c =
@@ -47,7 +47,7 @@ returns-2 c =
     let first = found .before .before .before .before .before .before .before in
     let asked = name-asked (first .pre .0) (first .pre .1 .0) (first .pre .1 .1) in
     name-unknown _ _ _ _ _ (first .pre .1 .0) (first .pre .1 .1) _
-    (origin-found asked (found .before .before .before .original .ensures) (found .before .before .word .ensures) (found .before .word2 .ensures) _ (found .find-variable .ensures)) (c .before .enum-told .given .1) _ (c .refuse .ensures)
+    (origin-found asked (found .before .before .before .original .ensures) (found .before .before .word .ensures) (found .before .word2 .ensures) _ (found .find-variable .ensures)) (c .before .enum-told .given .1) _ (c .refuse-type .ensures)
 
 pub name-type-spec : {M : Type 1} → statement M
 name-type-spec =
@@ -60,6 +60,6 @@ name-type-spec =
     enum-known-v
     cast-t12
     enum-told
-    refuse-requires
+    refuse-type-requires
     returns
     returns-2)

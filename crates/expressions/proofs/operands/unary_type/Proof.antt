@@ -15,12 +15,12 @@ accepts-unary-requires c κs = (c .before .before .before .pre .0, c .before .be
 returns : tie.Need-returns
 returns c = unary-taken _ _ _ _ _ (c .before .before .detail .ensures) _ (c .before .accepts-unary .ensures) (c .if1 .taken) (c .before .before .before .before .before .pre .1 .1)
 
-refuse-requires : tie.Need-refuse-requires
-refuse-requires c κs = omega (arith, c .before .before .before .before .before .pre .1 .0 .below, c .before .before .before .before .before .pre .0 .few)
+refuse-type-requires : tie.Need-refuse-type-requires
+refuse-type-requires c κs = omega (arith, c .before .before .before .before .before .pre .1 .0 .below, c .before .before .before .before .before .pre .0 .few)
 
 returns-2 : tie.Need-returns-2
-returns-2 c = unary-refused _ _ _ _ _ (c .before .before .before .detail .ensures) _ (c .before .before .accepts-unary .ensures) (c .before .if1 .left) _ (c .refuse .ensures)
+returns-2 c = unary-refused _ _ _ _ _ (c .before .before .before .detail .ensures) _ (c .before .before .accepts-unary .ensures) (c .before .if1 .left) _ (c .refuse-type .ensures)
 
 pub unary-type-spec : {M : Type 1} → statement M
 unary-type-spec =
-    tie.close (tie.spec detail-requires accepts-unary-requires returns refuse-requires returns-2)
+    tie.close (tie.spec detail-requires accepts-unary-requires returns refuse-type-requires returns-2)

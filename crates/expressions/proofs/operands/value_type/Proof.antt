@@ -21,11 +21,11 @@ reference-requires c κs = (function-inside _ _ (c .before .before .before .befo
 cast-if1 : tie.Need-cast-if1
 cast-if1 c = search needs
 
-refuse-requires : tie.Need-refuse-requires
-refuse-requires c κs = omega (arith, c .before .before .before .before .before .before .before .pre .1 .1, c .before .before .before .before .before .before .before .pre .0 .few)
+refuse-type-requires : tie.Need-refuse-type-requires
+refuse-type-requires c κs = omega (arith, c .before .before .before .before .before .before .before .pre .1 .1, c .before .before .before .before .before .before .before .pre .0 .few)
 
 returns : tie.Need-returns
-returns c = value-none _ _ (c .before .before .before .before .before .before .before .before .pre .0) _ _ (c .before .before .before .before .before .before .before .before .pre .1 .0) _ (c .before .before .before .before .callee3 .given .1) _ (c .before .before .reference .ensures) (c .before .if1 .taken) _ (c .refuse .ensures)
+returns c = value-none _ _ (c .before .before .before .before .before .before .before .before .pre .0) _ _ (c .before .before .before .before .before .before .before .before .pre .1 .0) _ (c .before .before .before .before .callee3 .given .1) _ (c .before .before .reference .ensures) (c .before .if1 .taken) _ (c .refuse-type .ensures)
 
 returns-2 : tie.Need-returns-2
 returns-2 c = value-refused _ _ (c .before .before .before .before .before .pre .0) _ _ (c .before .before .before .before .before .pre .1 .0) _ (c .before .callee .given .1)
@@ -45,7 +45,7 @@ value-type-spec =
     enum-known-callee-3
     reference-requires
     cast-if1
-    refuse-requires
+    refuse-type-requires
     returns
     returns-2
     returns-3

@@ -9,7 +9,7 @@ use Rattle.functions.proofs.functions.check_main.Tie as tie
 use Rattle.functions.proofs.functions.check_main.Reads as reads
 use Rattle.functions.proofs.functions.check_main.Lts as lts
 use Rattle.functions.proofs.functions.find_main.Reads as find-main-reads
-use Rattle.functions.proofs.functions.refuse.Reads as refuse-reads
+use Rattle.functions.proofs.functions.refuse_function.Reads as refuse-function-reads
 use Rattle.functions.proofs.functions.returns_int.Reads as returns-int-reads
 
 -- src/functions.rt:143:11
@@ -35,30 +35,30 @@ returns c =
     main-fine _ _ _ _ (search .find-main .ensures .is) _ (known .f .given .1) _ (c .before .returns-int .ensures) (c .if1 .taken)
 
 -- src/functions.rt:148:54
-cast-refuse : tie.Need-cast-refuse
-cast-refuse c =
+cast-refuse-function : tie.Need-cast-refuse-function
+cast-refuse-function c =
     let known = c .before .before .before in
     let search = known .before .before in
     let at = found-function _ _ _ (search .find-main .ensures .function) (known .f .given .1) in
     omega (arith, at .below, search .before .before .before .before .pre .0 .few)
 
 -- src/functions.rt:148:13
-refuse-requires : tie.Need-refuse-requires
-refuse-requires c κs = search needs
+refuse-function-requires : tie.Need-refuse-function-requires
+refuse-function-requires c κs = search needs
 
 -- src/functions.rt:151:16
 enum-told : tie.Need-enum-told
 enum-told c = search needs
 
 -- src/functions.rt:152:17
-refuse-requires-2 : tie.Need-refuse-requires-2
-refuse-requires-2 c κs = search needs
+refuse-function-requires-2 : tie.Need-refuse-function-requires-2
+refuse-function-requires-2 c κs = search needs
 
 -- src/functions.rt:152:17
 returns-2 : tie.Need-returns-2
 returns-2 c =
     let told = c .before .before in
-    main-missing _ _ _ _ (told .before .before .find-main .ensures .is) (told .enum-told .given .1) (c .before .if2 .taken) _ (c .refuse2 .ensures)
+    main-missing _ _ _ _ (told .before .before .find-main .ensures .is) (told .enum-told .given .1) (c .before .if2 .taken) _ (c .refuse-function2 .ensures)
 
 -- src/functions.rt:132:1
 returns-3 : tie.Need-returns-3
@@ -67,7 +67,7 @@ returns-3 c =
     let search = known .before .before in
     let at = found-function _ _ _ (search .find-main .ensures .function) (known .f .given .1) in
     main-other _ _ _ _ (search .find-main .ensures .is) _ (known .f .given .1) _ (c .before .before .returns-int .ensures) (c .before .if1 .left)
-    (search .before .before .before .before .pre .0) at _ (c .refuse .ensures)
+    (search .before .before .before .before .pre .0) at _ (c .refuse-function .ensures)
 
 -- src/functions.rt:132:1
 returns-4 : tie.Need-returns-4
@@ -83,10 +83,10 @@ check-main-spec =
     enum-known-f
     returns-int-requires
     returns
-    cast-refuse
-    refuse-requires
+    cast-refuse-function
+    refuse-function-requires
     enum-told
-    refuse-requires-2
+    refuse-function-requires-2
     returns-2
     returns-3
     returns-4)

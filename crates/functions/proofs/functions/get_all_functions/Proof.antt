@@ -11,7 +11,7 @@ use Rattle.functions.proofs.functions.get_all_functions.Statement.{stat
 use Rattle.functions.proofs.functions.get_all_functions.Tie as tie
 use Rattle.functions.proofs.functions.get_all_functions.Reads as reads
 use Rattle.functions.proofs.functions.get_all_functions.Lts as lts
-use Rattle.functions.proofs.functions.add_function.Reads as add-function-reads
+use Rattle.functions.proofs.functions.check_function.Reads as check-function-reads
 use Rattle.functions.proofs.functions.list_functions.Reads as list-functions-reads
 use Rattle.keys.proofs.keys.clear_keys.Reads as clear-keys-reads
 use Rattle.keys.proofs.keys.enter_key.Reads as enter-key-reads
@@ -36,8 +36,8 @@ loop-holds c =
     let first = c .before .before .before .before .before .before .before .before .before .before .before in
     entered-start _ _ _ _ (first .pre .0 .0) (first .pre .1) _ _ (c .before .before .before .before .before .before .list-functions .ensures) (c .before .before .clear-keys .ensures) (first .pre .0 .1)
 
-add-function-requires : tie.Need-add-function-requires Inv-loop μ-loop
-add-function-requires c κs =
+check-function-requires : tie.Need-check-function-requires Inv-loop μ-loop
+check-function-requires c κs =
     let loop = c .before .before in
     let first = loop .before .before .before .before .before .before .before .before .before .before .before .before in
     ((first .pre .0 .0, loop .loop .inv .numbered), (loop .loop .inv .listed, (c .before .loop-test .taken, loop .loop .inv .slots)))
@@ -59,7 +59,7 @@ returns c =
     let clears = loop .before .before .before .clear-keys .ensures in
     let lists = loop .before .before .before .before .before .before .before .list-functions .ensures in
     let first = loop .before .before .before .before .before .before .before .before .before .before .before .before in
-    entered-refused _ _ _ _ (first .pre .0 .0) _ _ (loop .loop .inv) (c .before .before .before .before .before .loop-test .taken) _ (c .before .before .before .add-function .ensures) _ (start-keeps _ _ _ _ (first .pre .0 .0) (first .pre .1) _ _ lists clears) _ (c .before .e .given .1)
+    entered-refused _ _ _ _ (first .pre .0 .0) _ _ (loop .loop .inv) (c .before .before .before .before .before .loop-test .taken) _ (c .before .before .before .check-function .ensures) _ (start-keeps _ _ _ _ (first .pre .0 .0) (first .pre .1) _ _ lists clears) _ (c .before .e .given .1)
 
 enum-told : tie.Need-enum-told Inv-loop μ-loop
 enum-told c = search needs
@@ -83,7 +83,7 @@ loop-again : tie.Need-loop-again Inv-loop μ-loop
 loop-again c =
     let loop = c .before .before .before .before .before .before .before .before .before .before .before in
     let first = loop .before .before .before .before .before .before .before .before .before .before .before .before in
-    entered-next _ _ _ _ (first .pre .0 .0) _ _ (loop .loop .inv) (c .before .before .before .before .before .before .before .before .before .before .loop-test .taken) _ (c .before .before .before .before .before .before .before .before .add-function .ensures) (c .before .before .before .before .before .before .enum-told .given .1) _ (c .before .before .before .before .function-at .ensures) _ (c .before .before .enter-key .ensures)
+    entered-next _ _ _ _ (first .pre .0 .0) _ _ (loop .loop .inv) (c .before .before .before .before .before .before .before .before .before .before .loop-test .taken) _ (c .before .before .before .before .before .before .before .before .check-function .ensures) (c .before .before .before .before .before .before .enum-told .given .1) _ (c .before .before .before .before .function-at .ensures) _ (c .before .before .enter-key .ensures)
 
 same-length-2 : tie.Need-same-length-2 Inv-loop μ-loop
 same-length-2 c =
@@ -110,7 +110,7 @@ get-all-functions-spec =
     list-functions-requires
     clear-keys-requires
     loop-holds
-    add-function-requires
+    check-function-requires
     enum-known-e
     same-length
     returns

@@ -6,7 +6,7 @@ use mathlib.Core.Bool.{false}
 use lib.Dec.{eqb}
 use lib.IntN.{natAbs}
 use borrow.Author.Tests.{eqb-false}
-use Rattle.int128.specs.Value.{bitsOf, valueOf, answerOf}
+use Rattle.int128.specs.Value.{bitsOf, valueOf, checkedOf}
 use Rattle.int128.specs.Ops.{divOf}
 use Rattle.int128.proofs.Halves.{positive}
 use Rattle.int128.proofs.Whole.{Sized}
@@ -22,7 +22,7 @@ sized : (c : tie.Start) → Sized (c .args .self)
 sized c = search needs
 
 -- what the first `signed` answers is the quotient's answer
-quotient-is : (c : tie.After-signed) → answerOf (c .signed .result) ≡ divOf (valueOf (c .before .before .before .before .before .before .before .before .args .self)) (valueOf (c .before .before .before .before .before .before .before .before .args .other))
+quotient-is : (c : tie.After-signed) → checkedOf (c .signed .result) ≡ divOf (valueOf (c .before .before .before .before .before .before .before .before .args .self)) (valueOf (c .before .before .before .before .before .before .before .before .args .other))
 quotient-is c =
     let z = c .before .before .before .before .before .before in
     let s = z .before .before .args in
@@ -75,14 +75,14 @@ returns-2 c = let q = c .before .before .before .before in
     let s = z .before .before .args in
     let d = q .before .before .before .div-rem in
     c .signed2 .ensures
-    ∙ rem-is (valueOf (s .self)) (valueOf (s .other)) _ (c .before .negative3 .result) (bitsOf (d .result .remainder)) (sym (quotient-is q) ∙ ap answerOf (c .before .before .enum-told .given .1)) (value-mag (s .self) (sized (z .before .before))) (c .before .negative3 .ensures)
+    ∙ rem-is (valueOf (s .self)) (valueOf (s .other)) _ (c .before .negative3 .result) (bitsOf (d .result .remainder)) (sym (quotient-is q) ∙ ap checkedOf (c .before .before .enum-told .given .1)) (value-mag (s .self) (sized (z .before .before))) (c .before .negative3 .ensures)
     (d .ensures .1 ∙ ap₂ _%_ (q .before .before .before .before .magnitude2 .ensures) (z .before .magnitude .ensures))
 
 returns-3 : tie.Need-returns-3
 returns-3 c = let q = c .before .before in
     let z = q .before .before .before .before .before .before in
     let s = z .before .before .args in
-    rem-none (valueOf (s .self)) (valueOf (s .other)) (sym (ap answerOf (c .enum-told2 .given .1)) ∙ quotient-is q)
+    rem-none (valueOf (s .self)) (valueOf (s .other)) (sym (ap checkedOf (c .enum-told2 .given .1)) ∙ quotient-is q)
 
 pub checked-rem-spec : {M : Type 1} → statement M
 checked-rem-spec =

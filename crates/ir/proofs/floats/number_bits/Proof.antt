@@ -5,7 +5,7 @@ use lib.Ieee.{isNan}
 use lib.Ieee.Compare.{differs-from-itself}
 use lib.Ieee.Bits.{is-false}
 use denote.Floats.{passes}
-use Rattle.ir.specs.Floats.{bitsOf}
+use Rattle.ir.specs.Floats.{bitsOfFloat}
 use Rattle.ir.proofs.FloatLaws.{same-no-nan}
 use Rattle.ir.proofs.floats.number_bits.Statement.{statement}
 use Rattle.ir.proofs.floats.number_bits.Tie as tie
@@ -14,7 +14,7 @@ use Rattle.ir.proofs.floats.number_bits.Lts as lts
 
 -- src/floats.rt:46:9
 returns : tie.Need-returns
-unfolding bitsOf isNan
+unfolding bitsOfFloat isNan
 returns c = rw (differs-from-itself _ (passes _ (c .if1 .taken)))
 
 -- src/floats.rt:48:5
@@ -23,7 +23,7 @@ float-to-bits-result c = same-no-nan _ (c .if1 .left)
 
 -- src/floats.rt:42:1
 returns-2 : tie.Need-returns-2
-unfolding bitsOf
+unfolding bitsOfFloat
 returns-2 c = rw (is-false (isNan (c .before .args .x)) (same-no-nan _ (c .if1 .left)))
 
 pub number-bits-spec : {M : Type 1} → statement M

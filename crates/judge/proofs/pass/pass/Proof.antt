@@ -7,7 +7,7 @@ use native.Mathlib.Omega.{arith}
 use lib.Dec.{ltb}
 use lib.ListN.{length}
 use Rattle.records.specs.Depth.{depth}
-use Rattle.judge.specs.Inner.{Lowest, Known, Counting, otherRules}
+use Rattle.judge.specs.Inner.{Lowest, KnownBelow, Counting, otherRules}
 use Rattle.judge.proofs.CountLaws.{known-none, counting-none}
 use Rattle.judge.proofs.DepthLaws.{deep-told}
 use Rattle.judge.proofs.FaultLaws.{lowest-start}
@@ -17,7 +17,7 @@ use Rattle.judge.proofs.pass.pass.Tie as tie
 
 abbrev Inv-loop : tie.InvT-loop
 Inv-loop tree bytes n types known₀ fault₀ deep₀ r₀ rules known fault deep r =
-    (r ≤ n) × (length known ≡ length known₀) × Known tree r known × Counting tree r known × Lowest r (λ k. not (otherRules tree bytes k)) fault × Lowest r (λ k. ltb 64 (depth tree k)) deep
+    (r ≤ n) × (length known ≡ length known₀) × KnownBelow tree r known × Counting tree r known × Lowest r (λ k. not (otherRules tree bytes k)) fault × Lowest r (λ k. ltb 64 (depth tree k)) deep
 
 abbrev μ-loop : tie.MeasureT-loop
 μ-loop tree bytes n types known₀ fault₀ deep₀ r₀ rules known fault deep r =

@@ -6,7 +6,7 @@ use Rattle.records.proofs.texts.word_digest.Statement.{statement}
 use Rattle.records.proofs.texts.word_digest.Tie as tie
 use Rattle.records.proofs.texts.word_digest.Reads as reads
 use Rattle.records.proofs.texts.word_digest.Lts as lts
-use Rattle.records.proofs.texts.finish.Reads as finish-reads
+use Rattle.records.proofs.texts.digest_end.Reads as digest-end-reads
 use Rattle.records.proofs.texts.step.Reads as step-reads
 
 step-requires : tie.Need-step-requires
@@ -15,11 +15,11 @@ step-requires c κs = search needs
 step-requires-2 : tie.Need-step-requires-2
 step-requires-2 c κs = search needs
 
-finish-requires : tie.Need-finish-requires
-finish-requires c κs = search needs
+digest-end-requires : tie.Need-digest-end-requires
+digest-end-requires c κs = search needs
 
 returns : tie.Need-returns
-returns c = four-done _ _ _ _ _ _ _ (c .before .before .step .ensures .0) (c .before .step2 .ensures .0) (c .finish .ensures)
+returns c = four-done _ _ _ _ _ _ _ (c .before .before .step .ensures .0) (c .before .step2 .ensures .0) (c .digest-end .ensures)
 
 pub word-digest-spec : {M : Type 1} → statement M
-word-digest-spec = tie.close (tie.spec step-requires step-requires-2 finish-requires returns)
+word-digest-spec = tie.close (tie.spec step-requires step-requires-2 digest-end-requires returns)

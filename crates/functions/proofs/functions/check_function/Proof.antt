@@ -4,11 +4,11 @@ use native.Mathlib.Omega.{arith}
 use borrow.Author.Tests.{not-true, not-false}
 use Rattle.functions.proofs.FunctionCases.{is-latin, is-foreign, signature-taken, signature-new, symbol-taken, symbol-new}
 use borrow.Author.Needs.{needs}
-use Rattle.functions.proofs.functions.add_function.Statement.{statement}
-use Rattle.functions.proofs.functions.add_function.Tie as tie
-use Rattle.functions.proofs.functions.add_function.Reads as reads
-use Rattle.functions.proofs.functions.add_function.Lts as lts
-use Rattle.functions.proofs.functions.refuse.Reads as refuse-reads
+use Rattle.functions.proofs.functions.check_function.Statement.{statement}
+use Rattle.functions.proofs.functions.check_function.Tie as tie
+use Rattle.functions.proofs.functions.check_function.Reads as reads
+use Rattle.functions.proofs.functions.check_function.Lts as lts
+use Rattle.functions.proofs.functions.refuse_function.Reads as refuse-function-reads
 use Rattle.keys.proofs.keys.find_own_key.Reads as find-own-key-reads
 use Rattle.keys.proofs.keys.function_at.Reads as function-at-reads
 use Rattle.keys.proofs.keys.is_mangled.Reads as is-mangled-reads
@@ -27,11 +27,11 @@ is-mangled-requires c κs = search needs
 is-ascii-requires : tie.Need-is-ascii-requires
 is-ascii-requires c κs = search needs
 
-cast-refuse : tie.Need-cast-refuse
-cast-refuse c = search needs
+cast-refuse-function : tie.Need-cast-refuse-function
+cast-refuse-function c = search needs
 
-refuse-requires : tie.Need-refuse-requires
-refuse-requires c κs = search needs
+refuse-function-requires : tie.Need-refuse-function-requires
+refuse-function-requires c κs = search needs
 
 returns : tie.Need-returns
 returns c =
@@ -40,7 +40,7 @@ returns c =
     let at = named .before in
     let first = at .before .before .before .before in
     is-latin _ _ _ _ _ _ (first .pre .0 .0) (first .pre .1 .0) (first .pre .1 .1 .0) (at .function-at .ensures) _ _ _ (mangled .is-mangled .ensures) (named .name-of .ensures) (c .before .before .is-ascii .ensures)
-    (c .before .before .before .if1 .taken) (c .before .if2 .taken) _ (c .refuse .ensures)
+    (c .before .before .before .if1 .taken) (c .before .if2 .taken) _ (c .refuse-function .ensures)
 
 find-own-key-requires : tie.Need-find-own-key-requires
 find-own-key-requires c κs =
@@ -51,11 +51,11 @@ find-own-key-requires c κs =
 enum-told : tie.Need-enum-told
 enum-told c = search needs
 
-cast-refuse-2 : tie.Need-cast-refuse-2
-cast-refuse-2 c = search needs
+cast-refuse-function-2 : tie.Need-cast-refuse-function-2
+cast-refuse-function-2 c = search needs
 
-refuse-requires-2 : tie.Need-refuse-requires-2
-refuse-requires-2 c κs = search needs
+refuse-function-requires-2 : tie.Need-refuse-function-requires-2
+refuse-function-requires-2 c κs = search needs
 
 returns-2 : tie.Need-returns-2
 returns-2 c =
@@ -64,7 +64,7 @@ returns-2 c =
     let at = named .before in
     let first = at .before .before .before .before in
     signature-taken _ _ _ _ _ _ (first .pre .0 .0) (first .pre .1 .0) (first .pre .1 .1 .0) (at .function-at .ensures) _ _ _ (mangled .is-mangled .ensures) (named .name-of .ensures) (c .before .before .before .before .before .is-ascii .ensures)
-    _ (c .before .before .before .find-own-key .ensures _ (first .pre .1 .1 .1) .is) (c .before .before .before .before .before .before .if1 .taken) (c .before .before .before .before .if2 .left) _ (c .before .enum-told .given .1) _ (c .refuse2 .ensures)
+    _ (c .before .before .before .find-own-key .ensures _ (first .pre .1 .1 .1) .is) (c .before .before .before .before .before .before .if1 .taken) (c .before .before .before .before .if2 .left) _ (c .before .enum-told .given .1) _ (c .refuse-function2 .ensures)
 
 enum-told-2 : tie.Need-enum-told-2
 enum-told-2 c = search needs
@@ -81,11 +81,11 @@ returns-3 c =
 is-ascii-requires-2 : tie.Need-is-ascii-requires-2
 is-ascii-requires-2 c κs = search needs
 
-cast-refuse-3 : tie.Need-cast-refuse-3
-cast-refuse-3 c = search needs
+cast-refuse-function-3 : tie.Need-cast-refuse-function-3
+cast-refuse-function-3 c = search needs
 
-refuse-requires-3 : tie.Need-refuse-requires-3
-refuse-requires-3 c κs = search needs
+refuse-function-requires-3 : tie.Need-refuse-function-requires-3
+refuse-function-requires-3 c κs = search needs
 
 returns-4 : tie.Need-returns-4
 returns-4 c =
@@ -94,7 +94,7 @@ returns-4 c =
     let at = named .before in
     let first = at .before .before .before .before in
     is-foreign _ _ _ _ _ _ (first .pre .0 .0) (first .pre .1 .0) (first .pre .1 .1 .0) (at .function-at .ensures) _ _ _ (mangled .is-mangled .ensures) (named .name-of .ensures) (c .before .before .is-ascii2 .ensures)
-    (c .before .before .before .if1 .left) (not-true _ (c .before .if3 .taken)) _ (c .refuse3 .ensures)
+    (c .before .before .before .if1 .left) (not-true _ (c .before .if3 .taken)) _ (c .refuse-function3 .ensures)
 
 find-own-key-requires-2 : tie.Need-find-own-key-requires-2
 find-own-key-requires-2 c κs =
@@ -105,11 +105,11 @@ find-own-key-requires-2 c κs =
 enum-told-3 : tie.Need-enum-told-3
 enum-told-3 c = search needs
 
-cast-refuse-4 : tie.Need-cast-refuse-4
-cast-refuse-4 c = search needs
+cast-refuse-function-4 : tie.Need-cast-refuse-function-4
+cast-refuse-function-4 c = search needs
 
-refuse-requires-4 : tie.Need-refuse-requires-4
-refuse-requires-4 c κs = search needs
+refuse-function-requires-4 : tie.Need-refuse-function-requires-4
+refuse-function-requires-4 c κs = search needs
 
 returns-5 : tie.Need-returns-5
 returns-5 c =
@@ -118,7 +118,7 @@ returns-5 c =
     let at = named .before in
     let first = at .before .before .before .before in
     symbol-taken _ _ _ _ _ _ (first .pre .0 .0) (first .pre .1 .0) (first .pre .1 .1 .0) (at .function-at .ensures) _ _ _ (mangled .is-mangled .ensures) (named .name-of .ensures) (c .before .before .before .before .before .is-ascii2 .ensures)
-    _ (c .before .before .before .find-own-key2 .ensures _ (first .pre .1 .1 .1) .is) (c .before .before .before .before .before .before .if1 .left) (not-false _ (c .before .before .before .before .if3 .left)) _ (c .before .enum-told3 .given .1) _ (c .refuse4 .ensures)
+    _ (c .before .before .before .find-own-key2 .ensures _ (first .pre .1 .1 .1) .is) (c .before .before .before .before .before .before .if1 .left) (not-false _ (c .before .before .before .before .if3 .left)) _ (c .before .enum-told3 .given .1) _ (c .refuse-function4 .ensures)
 
 enum-told-4 : tie.Need-enum-told-4
 enum-told-4 c = search needs
@@ -132,32 +132,32 @@ returns-6 c =
     symbol-new _ _ _ _ _ _ (first .pre .0 .0) (first .pre .1 .0) (first .pre .1 .1 .0) (at .function-at .ensures) _ _ _ (mangled .is-mangled .ensures) (named .name-of .ensures) (c .before .before .before .before .is-ascii2 .ensures)
     _ (c .before .before .find-own-key2 .ensures _ (first .pre .1 .1 .1) .is) (c .before .before .before .before .before .if1 .left) (not-false _ (c .before .before .before .if3 .left)) (c .enum-told4 .given .1)
 
-pub add-function-spec : {M : Type 1} → statement M
-add-function-spec =
+pub check-function-spec : {M : Type 1} → statement M
+check-function-spec =
     tie.close
     (tie.spec
     function-at-requires
     name-of-requires
     is-mangled-requires
     is-ascii-requires
-    cast-refuse
-    refuse-requires
+    cast-refuse-function
+    refuse-function-requires
     returns
     find-own-key-requires
     enum-told
-    cast-refuse-2
-    refuse-requires-2
+    cast-refuse-function-2
+    refuse-function-requires-2
     returns-2
     enum-told-2
     returns-3
     is-ascii-requires-2
-    cast-refuse-3
-    refuse-requires-3
+    cast-refuse-function-3
+    refuse-function-requires-3
     returns-4
     find-own-key-requires-2
     enum-told-3
-    cast-refuse-4
-    refuse-requires-4
+    cast-refuse-function-4
+    refuse-function-requires-4
     returns-5
     enum-told-4
     returns-6)

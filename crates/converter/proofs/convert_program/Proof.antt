@@ -4,10 +4,10 @@ use mathlib.Core.Path.{_∙_}
 use native.Mathlib.Omega.{arith}
 use borrow.Author.Needs.{needs}
 use Rattle.converter.proofs.AllLaws.{forgets-keyed, forgets-turns, keys-done, listed-room, tree-unkeyed, tree-mainless, tree-all, room-numbered, tree-numbered}
-use Rattle.converter.proofs.convert_tree.Statement.{statement}
-use Rattle.converter.proofs.convert_tree.Tie as tie
-use Rattle.converter.proofs.convert_tree.Reads as reads
-use Rattle.converter.proofs.convert_tree.Lts as lts
+use Rattle.converter.proofs.convert_program.Statement.{statement}
+use Rattle.converter.proofs.convert_program.Tie as tie
+use Rattle.converter.proofs.convert_program.Reads as reads
+use Rattle.converter.proofs.convert_program.Lts as lts
 use Rattle.converter.proofs.convert_all.Reads as convert-all-reads
 use Rattle.functions.proofs.functions.check_main.Reads as check-main-reads
 use Rattle.functions.proofs.functions.get_all_functions.Reads as get-all-functions-reads
@@ -101,8 +101,8 @@ returns-3 c =
     (tree-all _ _ _ _ _ (listing .get-all-functions .ensures) (start .pre .0) (room-numbered numbered (start .pre .2)) _ _ (c .before .before .before .before .before .before .before .before .before .before .before .before .before .before .before .before .before .before .before .before .count .given .1) _ (checking .check-main .ensures) (told .enum-told .given .1)
     _ (forgot .forget .ensures .same-length ∙ digests .scratch3 .given) _ _ _ _ (converting .convert-all .ensures))
 
-pub convert-tree-spec : {M : Type 1} → statement M
-convert-tree-spec =
+pub convert-program-spec : {M : Type 1} → statement M
+convert-program-spec =
     tie.close
     (tie.spec
     number-texts-requires

@@ -3,10 +3,10 @@
 use mathlib.Core.Path.{refl}
 use Rattle.records.specs.Digest.{digestEnd}
 use borrow.Author.Needs.{needs}
-use Rattle.records.proofs.texts.finish.Statement.{statement}
-use Rattle.records.proofs.texts.finish.Tie as tie
-use Rattle.records.proofs.texts.finish.Reads as reads
-use Rattle.records.proofs.texts.finish.Lts as lts
+use Rattle.records.proofs.texts.digest_end.Statement.{statement}
+use Rattle.records.proofs.texts.digest_end.Tie as tie
+use Rattle.records.proofs.texts.digest_end.Reads as reads
+use Rattle.records.proofs.texts.digest_end.Lts as lts
 
 mul-x : tie.Need-mul-x
 mul-x c = search needs
@@ -21,5 +21,5 @@ returns : tie.Need-returns
 unfolding digestEnd
 returns c = refl
 
-pub finish-spec : {M : Type 1} → statement M
-finish-spec = tie.close (tie.spec mul-x add-y cast-result returns)
+pub digest-end-spec : {M : Type 1} → statement M
+digest-end-spec = tie.close (tie.spec mul-x add-y cast-result returns)
