@@ -13,10 +13,10 @@ use Rattle.records.proofs.words.put_word.Reads as put-word-reads
 use Rattle.records.proofs.words.kind.Reads as kind-reads
 
 abbrev Inv-loop : tie.InvT-loop
-Inv-loop tree text scratch₀ n r₀ count₀ scratch r count = Listing tree scratch₀ scratch n r count
+Inv-loop tree scratch₀ n r₀ count₀ scratch r count = Listing tree scratch₀ scratch n r count
 
 abbrev μ-loop : tie.MeasureT-loop
-μ-loop tree text scratch₀ n r₀ count₀ scratch r count = n - r
+μ-loop tree scratch₀ n r₀ count₀ scratch r count = n - r
 
 -- src/functions.rt:47:5
 loop-holds : tie.Need-loop-holds Inv-loop μ-loop
