@@ -11,13 +11,13 @@ returns-2 : tie.Need-returns-2
 returns-2 c = λ text. accepts-any _ text _ _ (c .if2 .taken)
 
 is-number-requires : tie.Need-is-number-requires
-is-number-requires c κs = c .before .before .before .before .before .pre
+is-number-requires c κs = c .before .before .before .before .pre
 
 returns-3 : tie.Need-returns-3
 returns-3 c = λ text. accepts-numbers _ text _ _ (c .before .if3 .taken) _ (c .is-number .ensures)
 
 form-requires : tie.Need-form-requires
-form-requires c κs = c .before .before .before .before .before .pre
+form-requires c κs = c .before .before .before .before .pre
 
 returns-4 : tie.Need-returns-4
 returns-4 c = λ text. accepts-integers _ text _ _ (c .before .before .before .if1 .left) (c .before .before .if2 .left) (c .before .if3 .left) _ (c .form .ensures)

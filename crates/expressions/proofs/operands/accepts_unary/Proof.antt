@@ -5,7 +5,7 @@ use Rattle.expressions.proofs.operands.accepts_unary.Statement.{stateme
 use Rattle.expressions.proofs.operands.accepts_unary.Tie as tie
 
 form-requires : tie.Need-form-requires
-form-requires c κs = c .before .before .before .pre
+form-requires c κs = c .before .before .pre
 
 returns : tie.Need-returns
 returns c = λ text. unary-int _ text _ _ (c .before .if1 .taken) _ (c .form .ensures)
@@ -14,7 +14,7 @@ returns-2 : tie.Need-returns-2
 returns-2 c = λ text. unary-bool _ text _ _ (c .if2 .taken)
 
 is-number-requires : tie.Need-is-number-requires
-is-number-requires c κs = c .before .before .before .before .pre
+is-number-requires c κs = c .before .before .before .pre
 
 returns-3 : tie.Need-returns-3
 returns-3 c = λ text. unary-number _ text _ _ (c .before .before .if1 .left) (c .before .if2 .left) _ (c .is-number .ensures)

@@ -40,7 +40,7 @@ binary-error-requires c κs = search needs
 
 returns-3 : tie.Need-returns-3
 returns-3 c = ⊎-elim
-    (λ w. not-taken _ _ (c .before .before .before .before .before .before .before .pre .0) _ (c .before .before .before .before .before .before .before .pre .1 .0) _ (c .before .before .before .before .before .before .before .pre .1 .1) _ (c .before .before .before .before .detail .ensures) _ _ (c .before .before .before .operator-of .ensures) _ (c .before .before .common-of .ensures) _ (w .1 .given .1) _ (w .3 .ensures) (w .4 .left) _ (c .binary-error .ensures))
+    (λ w. not-taken _ _ (c .before .before .before .before .before .before .before .pre .0) _ (c .before .before .before .before .before .before .before .pre .1 .0) _ (c .before .before .before .before .before .before .before .pre .1 .1) _ (c .before .before .before .before .detail .ensures) _ _ (c .before .before .before .operator-of .ensures) _ (c .before .before .common-of .ensures) _ (w .1 .given .1) _ (w .3 .ensures _) (w .4 .left) _ (c .binary-error .ensures))
     (λ w. none-common _ _ (c .before .before .before .before .before .before .before .pre .0) _ (c .before .before .before .before .before .before .before .pre .1 .0) _ (c .before .before .before .before .before .before .before .pre .1 .1) _ (c .before .before .before .before .detail .ensures) _ _ (c .before .before .before .operator-of .ensures) _ (c .before .before .common-of .ensures) (w .1 .given .1) _ (c .binary-error .ensures))
     (c .before .match .came)
 

@@ -54,7 +54,7 @@ loop-less c = omega arith
 loop-again : tie.Need-loop-again Inv-loop μ-loop
 loop-again c =
     let loop = c .before .before .before in
-    let first = loop .before .before .before .before in
+    let first = loop .before .before .before in
     ⊎-elim
     (λ w. rw (w .6)
     (listing-put _ _ _ _ _ _ (loop .loop .inv) (c .before .before .loop-test .taken) (first .pre .1) _ (w .5 ∙ w .2 .ensures) (sym (c .before .kind .ensures) ∙ w .0 .taken)))
