@@ -7,13 +7,15 @@ ghost use Rattle.records.specs.Digest.{digestOf};
 ghost use Rattle.records.specs.Words.{textAt};
 ghost use Rattle.conversion.specs.Ir.{floatBits};
 ghost use Rattle.conversion.specs.Written.{word};
-ghost use Rattle.ir.specs.Arena.{strings, floats, stringDigests, floatLinks, floatHeads, floatBucket, Room};
+ghost use Rattle.ir.specs.Arena.{strings, stringDigests, floatBucket, Room};
 ghost use Rattle.ir.specs.Floats.{entry, entryOfFloat};
 ghost use Rattle.ir.specs.Search.{first, foundOf, stringIs, headFor};
-ghost use Rattle.ir.specs.Steps.{entryOfString, moreStrings, moreFloats, WroteTwo, WroteThree, NumbersString, NumbersFloat, Next};
+ghost use Rattle.ir.specs.Steps.{entryOfString, moreStrings, WroteTwo, FloatAdded, NumbersString, NumbersFloat, Next};
+use crate::arena::FLOAT_BYTES;
 use crate::arena::FLOAT_HEADS;
 use crate::arena::FLOAT_LINKS;
 use crate::arena::FLOATS;
+use crate::arena::SEARCH_BYTES;
 use crate::arena::STRING_DIGESTS;
 use crate::arena::STRINGS;
 use crate::floats::FloatBits;
@@ -115,11 +117,11 @@ fn float_head(arena: &[u8], k: Counters, b: usize) -> usize
     ensures { λ r. ⌜ (r ≡ headFor (now (arena .entry)) (k .records) (k .floats) b) × (r ≤ k .floats) ⌝ }
 {
     let n = k.records;
-    let i = index(load(arena, FLOAT_HEADS * n + 4 * b));
+    let i = index(load(arena, FLOAT_HEADS * n + SEARCH_BYTES * b));
     if i >= k.floats {
         return 0;
     }
-    let at = FLOATS * n + 16 * i;
+    let at = FLOATS * n + FLOAT_BYTES * i;
     let w = Four(load(arena, at), load(arena, at + 4), load(arena, at + 8), 0);
     if bucket_of(n, w) != b {
         return 0;
@@ -130,14 +132,18 @@ fn float_head(arena: &[u8], k: Counters, b: usize) -> usize
 // A float more, before the others of its bucket b, of which `last` is one past the last.
 fn add_float(arena: &mut [u8], k: Counters, w: Four, b: usize, last: usize) -> PoolNumber
     requires { ⌜ Room k (now arena) × (k .floats < 2 * k .records) × (b < k .records) × (last ≤ k .floats) ⌝ }
-    ensures { λ r. ⌜ (r .number ≡ k .floats) × WroteThree (now (arena .entry)) (floats .from * k .records + 16 * k .floats) (word (w .0) ++ word (w .1) ++ word (w .2) ++ word (w .3)) (floatLinks .from * k .records + 4 * k .floats) (word last) (floatHeads .from * k .records + 4 * b) (word (k .floats)) (moreFloats k) (r .counters) (now (arena .exit)) ⌝ }
+    ensures { λ r. ⌜ (r .number ≡ k .floats) × FloatAdded (word (w .0) ++ word (w .1) ++ word (w .2) ++ word (w .3)) b last k (now (arena .entry)) (r .counters) (now (arena .exit)) ⌝ }
 {
     let v = k.floats;
     let mut next = k;
     next.floats = v + 1;
-    put_four(arena, FLOATS * k.records + 16 * v, w);
-    put_word(arena, FLOAT_LINKS * k.records + 4 * v, last as u32);
-    put_word(arena, FLOAT_HEADS * k.records + 4 * b, v as u32);
+    put_four(arena, FLOATS * k.records + FLOAT_BYTES * v, w);
+    put_word(
+        arena,
+        FLOAT_LINKS * k.records + SEARCH_BYTES * v,
+        last as u32,
+    );
+    put_word(arena, FLOAT_HEADS * k.records + SEARCH_BYTES * b, v as u32);
     PoolNumber {
         number: v as u32,
         counters: next,
@@ -172,7 +178,7 @@ pub fn float_bits(arena: &[u8], k: Counters, i: u32) -> u64
     if j >= k.floats {
         return 0;
     }
-    let x = load(arena, FLOATS * n + 16 * j);
-    let y = load(arena, FLOATS * n + 16 * j + 4);
+    let x = load(arena, FLOATS * n + FLOAT_BYTES * j);
+    let y = load(arena, FLOATS * n + FLOAT_BYTES * j + 4);
     x as u64 + y as u64 * 4294967296
 }

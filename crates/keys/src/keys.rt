@@ -2,6 +2,7 @@
 ghost use mathlib.Core.Path.{_≡_};
 ghost use Prim.Native.Nat.{_+_, _*_, _≤_, _<_};
 ghost use lib.ListN.{length};
+ghost use Rattle.records.specs.Layout.{judging};
 ghost use Rattle.records.specs.Words.{wordAt, records, mostRecords};
 ghost use Rattle.records.specs.Chains.{Cleared};
 ghost use Rattle.records.specs.Good.{Good};
@@ -18,6 +19,7 @@ use records::layout::KEY_DIGEST_BYTES;
 use records::layout::KEY_DIGESTS;
 use records::layout::KEY_SLOT_BYTES;
 use records::layout::KEY_SLOTS;
+use records::layout::LISTED_BYTES;
 use records::words::Found;
 use records::words::WORD_A;
 use records::words::WORD_B;
@@ -98,9 +100,9 @@ pub fn key_of(tree: &[u8], text: &[u8], f: usize) -> Part
 pub fn function_at(tree: &[u8], scratch: &[u8], count: usize, j: usize) -> usize
     requires { ⌜ Listed (now tree) (now scratch) count ⌝ }
     requires { ⌜ j < count ⌝ }
-    ensures { λ f. ⌜ (f ≡ wordAt (now (scratch .entry)) (4 * j)) × FunctionAt (now (tree .entry)) f ⌝ }
+    ensures { λ f. ⌜ (f ≡ wordAt (now (scratch .entry)) (judging .each * j)) × FunctionAt (now (tree .entry)) f ⌝ }
 {
-    load(scratch, 4 * j) as usize
+    load(scratch, LISTED_BYTES * j) as usize
 }
 
 // The record whose text is a function's key.
