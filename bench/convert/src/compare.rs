@@ -20,7 +20,7 @@ struct Fill {
 impl Fill {
     fn new(seed: u64) -> Self {
         let mut fill = Fill { bytes: Vec::new(), state: seed | 1 };
-        while fill.bytes.len() < 4 << 20 {
+        while fill.bytes.len() < 8 << 20 {
             let word = fill.next();
             fill.bytes.extend(word.to_le_bytes());
         }
