@@ -122,8 +122,8 @@ pub fn alone(measure: Measure, attack: &Attack, knobs: Knobs, limit: Duration) -
 /// The best of a few, each within the limit, from a process of its own.
 fn take(measure: Measure, attack: &Attack, knobs: Knobs, limit: Duration) -> Taken {
     let own = std::env::current_exe().expect("this program has a path");
-    let numbers =
-        [knobs.records, knobs.text, knobs.share, knobs.depth, limit.as_secs() as usize].map(|number| number.to_string());
+    let numbers = [knobs.records, knobs.text, knobs.share, knobs.depth, limit.as_secs() as usize]
+        .map(|number| number.to_string());
     let run = Command::new(own).args(["alone", measure.name(), attack.name]).args(numbers).output();
     let run = run.expect("this program starts");
     // What it says of a tree that was refused.
@@ -160,7 +160,8 @@ pub fn hostile(options: &Options) -> u64 {
     }
     for attack in &options.attacks {
         let texts = if attack.texts { &TEXTS[..] } else { &TEXTS[..1] };
-        for (&size, &text) in options.sizes.iter().flat_map(|size| texts.iter().map(move |text| (size, text))) {
+        for (&size, &text) in options.sizes.iter().flat_map(|size| texts.iter().map(move |text| (size, text)))
+        {
             let (call, knobs) = worst(attack, size, text, options.limit);
             let others =
                 [Measure::Judge, Measure::Krc].map(|measure| take(measure, attack, knobs, options.limit));

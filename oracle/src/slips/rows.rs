@@ -16,7 +16,9 @@ pub fn rows(slips: &mut Slips) {
         slips.add(format!("a multiple of {multiple}"), move |rules| rules.multiple = multiple);
     }
     let most = Rules::new().most;
-    for (fewest, most) in [(0, most), (11, most), (13, most), (12, most - 1), (12, most + 1), (12, usize::MAX)] {
+    for (fewest, most) in
+        [(0, most), (11, most), (13, most), (12, most - 1), (12, most + 1), (12, usize::MAX)]
+    {
         slips.add(format!("{fewest} to {most} records"), move |rules| {
             (rules.fewest, rules.most) = (fewest, most)
         });
