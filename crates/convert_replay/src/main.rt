@@ -25,7 +25,7 @@ const ANSWER: usize = 48;
 const TABLES: usize = 80;
 
 // Room for a case's tree, text and tables.
-const BODY_ROOM: usize = 1600000;
+const BODY_ROOM: usize = 620000;
 
 // No list has as many cases.
 const MOST_CASES: usize = 1000000;
@@ -337,18 +337,17 @@ fn step(
     }
 }
 
-// Replays each case of the list, over buffers with room for 9,100 records and a little more: all of it stands on the stack, so a longer tree is there only if it is refused
-// for its length.
+// Replays each case of the list, over buffers with room for 2,049 records; a longer tree is there only if it is refused for its length or its buffers.
 fn replay(file: i32) -> Tally {
     let mut head = [0u8; HEAD];
     let mut body = [0u8; BODY_ROOM];
-    let mut instructions = [0u8; 2912600];
-    let mut variables = [0u8; 109300];
-    let mut labels = [0u8; 218500];
-    let mut functions = [0u8; 291300];
-    let mut strings = [0u8; 72900];
-    let mut floats = [0u8; 291300];
-    let mut scratch = [0u8; 655300];
+    let mut instructions = [0u8; 655800];
+    let mut variables = [0u8; 24700];
+    let mut labels = [0u8; 49300];
+    let mut functions = [0u8; 65700];
+    let mut strings = [0u8; 16500];
+    let mut floats = [0u8; 65700];
+    let mut scratch = [0u8; 147700];
     let mut cases: usize = 0;
     let mut differ: usize = 0;
     let mut whole = false;

@@ -1,11 +1,10 @@
 //! A list of cases for the whole call: the answer and every byte of the seven buffers of each.
 
-use super::rng::Rng;
-use super::{Case, beside, broken, generate, list, misses, shifts, whole};
+use super::{Case, broken, generate, list, misses, shifts, whole};
 use crate::ast::Layout;
 use crate::convert::{Answer, Held, held};
 use crate::generate::classes;
-use crate::judge::{FEWEST_RECORDS, needed};
+use crate::judge::needed;
 use crate::tree::{RECORD_BYTES, Tree};
 use crate::yardstick::typed_calls;
 
@@ -16,10 +15,7 @@ const MOST_RECORDS_MISSED: usize = 150;
 const MOST_RECORDS_TYPED: usize = 75;
 
 /// For how many records a program that replays the list has buffers (`crates/convert_replay`): none is lent longer ones.
-const ROOM: usize = 9_100;
-
-/// A tree of nearly so many records that converts is among them.
-const LARGE: usize = 9_000;
+const ROOM: usize = 2_049;
 
 /// One generated tree in so many may be larger; a prime, so that every class has its turn.
 const LARGE_EACH: usize = 509;
@@ -72,23 +68,16 @@ fn typed(seed: u64) -> impl Iterator<Item = Case> {
     small.filter(|case| !typed_calls(&Tree::new(&case.tree, &case.text)).is_empty()).take(TYPED)
 }
 
-/// A program of nearly 9,000 records.
-fn large(seed: u64) -> Case {
-    let functions = beside::programs(&mut Rng::new(seed), LARGE - FEWEST_RECORDS, 0);
-    Case { label: "a large one".to_string(), ..whole(Layout::program(&functions)) }
-}
-
 /// Whether a case of the judge's list is one of the larger ones that go into this list: at the limit and one above it.
 fn is_taken(case: &Case) -> bool {
     let records = case.tree.len() / RECORD_BYTES;
     case.tree.len() <= 70_000 || records >= crate::judge::MOST_RECORDS
 }
 
-/// The cases: the vectors, a large tree, those of the judge's list, each rule broken, each error, shifts at the limits, calls with type arguments, and generated ones of all
+/// The cases: the vectors, those of the judge's list, each rule broken, each error, shifts at the limits, calls with type arguments, and generated ones of all
 /// classes in turn until there are `count`; every third of the broken and the generated ones has buffers longer than needed.
 pub fn cases(seed: u64, count: usize, vectors: &str) -> Result<Vec<Case>, String> {
     let mut cases: Vec<Case> = vectors.lines().map(vector).collect::<Result<_, _>>()?;
-    cases.push(large(seed));
     cases.extend(list::cases(seed, 300).into_iter().filter(is_taken));
     for (at, case) in broken::all().iter().enumerate() {
         let mut case = case.clone();

@@ -16,14 +16,14 @@ zeros n = length-replicate n 0
 
 abbrev Inv-loop : tie.InvT-loop
 Inv-loop file head₀ body₀ instructions₀ variables₀ labels₀ functions₀ strings₀ floats₀ scratch₀ cases₀ differ₀ whole₀ head body instructions variables labels functions strings floats scratch cases differ whole =
-    (length head ≡ 104) × (length body ≡ 1600000) × (length instructions ≡ 2912600) × (length variables ≡ 109300) × (length labels ≡ 218500) × (length functions ≡ 291300) × (length strings ≡ 72900) × (length floats ≡ 291300) × (length scratch ≡ 655300) × (cases ≤ 1000000) × (differ ≤ cases)
+    (length head ≡ 104) × (length body ≡ 620000) × (length instructions ≡ 655800) × (length variables ≡ 24700) × (length labels ≡ 49300) × (length functions ≡ 65700) × (length strings ≡ 16500) × (length floats ≡ 65700) × (length scratch ≡ 147700) × (cases ≤ 1000000) × (differ ≤ cases)
 
 abbrev μ-loop : tie.MeasureT-loop
 μ-loop file head₀ body₀ instructions₀ variables₀ labels₀ functions₀ strings₀ floats₀ scratch₀ cases₀ differ₀ whole₀ head body instructions variables labels functions strings floats scratch cases differ whole =
     1000000 - cases
 
 loop-holds : tie.Need-loop-holds Inv-loop μ-loop
-loop-holds c = (zeros 104, zeros 1600000, zeros 2912600, zeros 109300, zeros 218500, zeros 291300, zeros 72900, zeros 291300, zeros 655300, omega arith, omega arith)
+loop-holds c = (zeros 104, zeros 620000, zeros 655800, zeros 24700, zeros 49300, zeros 65700, zeros 16500, zeros 65700, zeros 147700, omega arith, omega arith)
 
 slice-aggregate-step : tie.Need-slice-aggregate-step Inv-loop μ-loop
 slice-aggregate-step c = search needs
