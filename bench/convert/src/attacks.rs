@@ -572,7 +572,7 @@ fn joined_keys(knobs: Knobs) -> Hostile {
 
 /// Each window is a key, and the verb is the first without its last four bytes.
 fn prefixes(knobs: Knobs) -> Hostile {
-    let mut tree = Hostile::new();
+    let mut tree = Hostile::new(knobs);
     let count = tree.room() * knobs.share / 8 / 3;
     let (base, long) = tree.marked(knobs.text, count + 1);
     called(&mut tree, count, &[], |at| {
