@@ -6,7 +6,7 @@ use mathlib.Core.Bool.{Bool}
 use mathlib.Core.List.{List, [], _∷_, _++_}
 use native.Mathlib.Omega.{arith}
 use lib.ListN.{length}
-use Rattle.records.specs.Words.{wordAt, records}
+use Rattle.records.specs.Words.{wordAt, records, mostRecords}
 use Rattle.records.specs.Good.{Good}
 use Rattle.records.specs.declared.convert_error.ConvertError.{ConvertError}
 use Rattle.syntax.specs.Syntax.{Function}
@@ -124,7 +124,7 @@ all-start tree text l s count k keyed room turns e =
     })
 
 module _ (tree text l₀ s₀ : List ℕ) (count : ℕ) (k : Counters) (j : ℕ) (l s : List ℕ) (w : SoFar tree text l₀ s₀ count k j l s) where
-  pub few-functions : count ≤ 2048
+  pub few-functions : count ≤ mostRecords
   few-functions = omega (arith, w .keyed .listed .counted, records-most tree (records tree), w .keyed .good .few)
 
   module _ (h : j < count) (f : ℕ) (is : f ≡ wordAt s (4 * j)) where
