@@ -1,0 +1,27 @@
+-- The bucket of a digest.
+-- It is the definition's, and a remainder is below the divisor. Assumes nothing.
+use mathlib.Core.Path.{refl}
+use native.Mathlib.Nat.{mod-lt}
+use borrow.Author.Needs.{needs}
+use Rattle.ir.specs.Arena.{digestBucket}
+use Rattle.ir.proofs.pool.text_bucket.Statement.{statement}
+use Rattle.ir.proofs.pool.text_bucket.Tie as tie
+use Rattle.ir.proofs.pool.text_bucket.Reads as reads
+use Rattle.ir.proofs.pool.text_bucket.Lts as lts
+
+-- src/pool.rt:83:5
+cast-result : tie.Need-cast-result
+cast-result c = search needs
+
+-- src/pool.rt:83:5
+rem-result : tie.Need-rem-result
+rem-result c = search needs
+
+-- src/pool.rt:79:1
+returns : tie.Need-returns
+unfolding digestBucket
+returns c = (refl, mod-lt _ (c .before .before .pre))
+
+pub text-bucket-spec : {M : Type 1} → statement M
+text-bucket-spec =
+    tie.close (tie.spec cast-result rem-result returns)
