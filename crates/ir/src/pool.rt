@@ -3,6 +3,7 @@ ghost use mathlib.Core.Path.{_≡_};
 ghost use mathlib.Core.List.{_++_};
 ghost use Prim.Native.Nat.{_+_, _*_, _≤_, _<_};
 ghost use lib.ListN.{length};
+ghost use Rattle.laws.specs.Splice.{splice};
 ghost use Rattle.records.specs.Digest.{digestOf};
 ghost use Rattle.records.specs.Words.{wordAt, textAt};
 ghost use Rattle.conversion.specs.Ir.{floatBits};
@@ -101,20 +102,43 @@ fn string_head(arena: &[u8], k: Counters, b: usize) -> usize
     i + 1
 }
 
+// An entry's link, and its number at the head of its bucket.
+fn put_link(arena: &mut [u8], link: usize, last: u32, head: usize, number: u32)
+    requires { ⌜ (link + 4 ≤ length (now arena)) × (head + 4 ≤ length (now arena)) ⌝ }
+    ensures { λ _. ⌜ now (arena .exit) ≡ splice (splice (now (arena .entry)) link (word last)) head (word number) ⌝ }
+{
+    put_word(arena, link, last);
+    put_word(arena, head, number);
+}
+
 // A string more, before the others of its bucket b, of which `last` is one past the last.
-fn add_string(arena: &mut [u8], k: Counters, d: u32, offset: u32, len: u32, b: usize, last: usize) -> PoolNumber
+fn add_string(
+    arena: &mut [u8],
+    k: Counters,
+    d: u32,
+    offset: u32,
+    len: u32,
+    b: usize,
+    last: usize,
+) -> PoolNumber
     requires { ⌜ Room k (now arena) × (k .strings < k .records) × (b < k .records) × (last ≤ k .strings) ⌝ }
     ensures { λ r. ⌜ (r .number ≡ k .strings) × WroteFour (now (arena .entry)) (strings .from * k .records + 8 * k .strings) (word offset ++ word len) (stringDigests .from * k .records + 4 * k .strings) (word d) (stringLinks .from * k .records + 4 * k .strings) (word last) (stringHeads .from * k .records + 4 * b) (word (k .strings)) (moreStrings k) (r .counters) (now (arena .exit)) ⌝ }
 {
     let v = k.strings;
+    let number = v as u32;
     let mut next = k;
     next.strings = v + 1;
     put_pair(arena, STRINGS * k.records + 8 * v, offset, len);
     put_word(arena, STRING_DIGESTS * k.records + 4 * v, d);
-    put_word(arena, STRING_LINKS * k.records + 4 * v, last as u32);
-    put_word(arena, STRING_HEADS * k.records + 4 * b, v as u32);
+    put_link(
+        arena,
+        STRING_LINKS * k.records + 4 * v,
+        last as u32,
+        STRING_HEADS * k.records + 4 * b,
+        number,
+    );
     PoolNumber {
-        number: v as u32,
+        number: number,
         counters: next,
     }
 }
@@ -171,13 +195,19 @@ fn add_float(arena: &mut [u8], k: Counters, w: Four, b: usize, last: usize) -> P
     ensures { λ r. ⌜ (r .number ≡ k .floats) × WroteThree (now (arena .entry)) (floats .from * k .records + 16 * k .floats) (word (w .0) ++ word (w .1) ++ word (w .2) ++ word (w .3)) (floatLinks .from * k .records + 4 * k .floats) (word last) (floatHeads .from * k .records + 4 * b) (word (k .floats)) (moreFloats k) (r .counters) (now (arena .exit)) ⌝ }
 {
     let v = k.floats;
+    let number = v as u32;
     let mut next = k;
     next.floats = v + 1;
     put_four(arena, FLOATS * k.records + 16 * v, w);
-    put_word(arena, FLOAT_LINKS * k.records + 4 * v, last as u32);
-    put_word(arena, FLOAT_HEADS * k.records + 4 * b, v as u32);
+    put_link(
+        arena,
+        FLOAT_LINKS * k.records + 4 * v,
+        last as u32,
+        FLOAT_HEADS * k.records + 4 * b,
+        number,
+    );
     PoolNumber {
-        number: v as u32,
+        number: number,
         counters: next,
     }
 }

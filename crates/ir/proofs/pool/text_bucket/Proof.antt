@@ -10,18 +10,14 @@ use Rattle.ir.proofs.pool.text_bucket.Reads as reads
 use Rattle.ir.proofs.pool.text_bucket.Lts as lts
 
 -- src/pool.rt:83:5
-cast-result : tie.Need-cast-result
-cast-result c = search needs
-
--- src/pool.rt:83:5
 rem-result : tie.Need-rem-result
 rem-result c = search needs
 
 -- src/pool.rt:79:1
 returns : tie.Need-returns
 unfolding digestBucket
-returns c = (refl, mod-lt _ (c .before .before .pre))
+returns c = (refl, mod-lt _ (c .pre))
 
 pub text-bucket-spec : {M : Type 1} → statement M
 text-bucket-spec =
-    tie.close (tie.spec cast-result rem-result returns)
+    tie.close (tie.spec rem-result returns)
