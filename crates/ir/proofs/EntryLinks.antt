@@ -21,7 +21,7 @@ use Rattle.records.specs.declared.words.Found.{Found}
 use Rattle.records.specs.declared.words.Found.the-variants.{At, Nothing}
 use Rattle.records.proofs.Apart.{word-apart}
 use Rattle.records.proofs.DigestLaws.{same-equal}
-use Rattle.conversion.specs.Ir.{StringEntry, FloatEntry, position, sameText, sameFloat}
+use Rattle.conversion.specs.Ir.{FloatEntry, position, sameText, sameFloat}
 use Rattle.ir.specs.Arena.{Linked, LinkedEntries, floatBucket, entryBucket, digestBucket, stringBucket, sameString}
 use Rattle.ir.specs.Floats.{entry}
 use Rattle.ir.specs.Search.{Walks, bucketAt, stringBucketAt, headFor}

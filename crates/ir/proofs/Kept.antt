@@ -1,11 +1,11 @@
 -- The arena after an entry more: the table that grew holds it, and the other five hold what they held.
 -- The entry is written at the end of its region's part, before or behind every other region's. Assumes nothing.
-use mathlib.Core.Path.{_≡_, refl, sym, ap, _∙_, subst}
+use mathlib.Core.Path.{_≡_, refl, sym, _∙_, subst}
 use mathlib.Core.List.{List, [], _∷_, _++_, append-nil, append-assoc}
 use mathlib.Core.Option.{none}
-use Prim.Native.Nat.{ℕ, _+_, _*_, _^_, _≤_, _<_}
+use Prim.Native.Nat.{ℕ, _+_, _*_, _≤_, _<_}
 use native.Mathlib.Omega.{arith}
-use lib.ListN.{length, getD, length-append}
+use lib.ListN.{length, getD}
 use Rattle.laws.specs.All.{All}
 use Rattle.laws.specs.Splice.{splice}
 use Rattle.records.specs.Words.{wordAt}

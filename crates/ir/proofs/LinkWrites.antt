@@ -17,7 +17,7 @@ use Rattle.conversion.specs.Ir.{LabelName, position}
 use Rattle.conversion.specs.Written.{bytesOf, word}
 use Rattle.ir.specs.Arena.{Has, Table, LinkedEntries, labelSlot, noLabel, Slots}
 use Rattle.ir.proofs.Entries.{written-length, written-word, has-before, table-before}
-use Rattle.ir.proofs.EntryLinks.{buckets, links-stay, links-grown}
+use Rattle.ir.proofs.EntryLinks.{buckets, links-grown}
 use Rattle.ir.proofs.LinkLaws.{Start}
 
 -- the two writes, behind others

@@ -9,11 +9,9 @@ use Rattle.ir.proofs.pool.text_bucket.Tie as tie
 use Rattle.ir.proofs.pool.text_bucket.Reads as reads
 use Rattle.ir.proofs.pool.text_bucket.Lts as lts
 
--- src/pool.rt:83:5
 rem-result : tie.Need-rem-result
 rem-result c = search needs
 
--- src/pool.rt:79:1
 returns : tie.Need-returns
 unfolding digestBucket
 returns c = (refl, mod-lt _ (c .pre))

@@ -22,7 +22,6 @@ Inv-loop text s n v d offset len u₀ u = (u ≤ v) × ((r : Found) → Walks (�
 abbrev μ-loop : tie.MeasureT-loop
 μ-loop text s n v d offset len u₀ u = u
 
--- src/pool.rt:65:5
 loop-holds : tie.Need-loop-holds Inv-loop μ-loop
 loop-holds c = (omega arith, λ r h. h)
 
