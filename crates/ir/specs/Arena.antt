@@ -11,7 +11,7 @@ use Rattle.records.specs.Digest.{digestOf}
 use Rattle.records.specs.Layout.{Region}
 use Rattle.records.specs.Words.{wordAt}
 use Rattle.conversion.specs.Ir as Ir
-use Rattle.conversion.specs.Ir.{LabelName, StringEntry, FloatEntry, State, IrFunction, sameFloat}
+use Rattle.conversion.specs.Ir.{LabelName, StringEntry, FloatEntry, State, IrFunction, sameText, sameFloat}
 use Rattle.conversion.specs.Fits.{StringStands, FloatFits}
 use Rattle.conversion.specs.Written.{word, boolNumber, encodeAll, encodeInstr, encodeVar, encodeLabel, encodeFunctions, encodeString, encodeFloat, allCode, allVars, allLabels}
 use Rattle.ir.specs.declared.structs.Counters.{Counters}
@@ -42,7 +42,7 @@ strings = record { from = 196; each = 8 }
 abbrev pub floats : Region
 floats = record { from = 204; each = 32 }
 
--- n digests of 4, of the strings' texts, by which a string is looked for: they are in no table
+-- n digests of 4, of the strings' texts, by which strings are compared and put into buckets: they are in no table
 abbrev pub stringDigests : Region
 stringDigests = record { from = 236; each = 4 }
 
@@ -57,12 +57,19 @@ floatLinks = record { from = 268; each = 8 }
 abbrev pub floatHeads : Region
 floatHeads = record { from = 276; each = 4 }
 
+-- n links of 4, of the strings, and n heads of 4, of their buckets, by which a string is looked for: they are in no table
+abbrev pub stringLinks : Region
+stringLinks = record { from = 280; each = 4 }
+
+abbrev pub stringHeads : Region
+stringHeads = record { from = 284; each = 4 }
+
 -- 'instructions 320n bytes'
 abbrev pub arenaEach : ℕ
 arenaEach = 320
 
 abbrev pub arena : List Region
-arena = instructions ∷ variables ∷ labels ∷ functions ∷ strings ∷ floats ∷ stringDigests ∷ labelSlots ∷ floatLinks ∷ floatHeads ∷ []
+arena = instructions ∷ variables ∷ labels ∷ functions ∷ strings ∷ floats ∷ stringDigests ∷ labelSlots ∷ floatLinks ∷ floatHeads ∷ stringLinks ∷ stringHeads ∷ []
 
 -- each region starts behind the one before, and the last ends within so many bytes a record
 unfoldable pub fitsWithin : ℕ → ℕ → List Region → Bool
@@ -124,6 +131,11 @@ pub record Linked (head link bucket : ℕ → ℕ) (m : ℕ) : Type 0 where
   pub link-of : (i j : ℕ) → i < m → link i ≡ suc j → bucket j ≡ bucket i
   pub link-last : (i j : ℕ) → i < m → j < i → bucket j ≡ bucket i → j < link i
 
+-- the entries of a table, each in a bucket, are linked, and no two are the same: the heads and the links stand from these bytes on, and `past` stands for an entry past the last
+pub record LinkedEntries {X : Type 0} (bucket : X → ℕ) (same : X → X → Bool) (past : X) (heads links : ℕ) (xs : List X) (l : List ℕ) : Type 0 where
+  pub linked : Linked (λ b. wordAt l (heads + 4 * b)) (λ i. wordAt l (links + 4 * i)) (λ i. bucket (getD xs i past)) (length xs)
+  pub distinct : (i j : ℕ) → j < length xs → i < j → same (getD xs j past) (getD xs i past) ≡ false
+
 -- the bucket, one of n, of a float of these words: the high bits of a product depend on all bits of its factors
 unfoldable pub floatBucket : ℕ → ℕ → ℕ → ℕ → ℕ
 floatBucket n low high mark = (low * 1640531527 + high * 1013904223 + mark) / 4294967296 % n
@@ -134,10 +146,24 @@ entryBucket n x = floatBucket n (x .bits % 4294967296) (x .bits / 4294967296) (b
 abbrev pub noFloat : FloatEntry
 noFloat = record { bits = 0; short = false }
 
--- the floats are linked, and no two are the same
-pub record LinkedFloats (n : ℕ) (xs : List FloatEntry) (l : List ℕ) : Type 0 where
-  pub linked : Linked (λ b. wordAt l (floatHeads .from * n + 4 * b)) (λ i. wordAt l (floatLinks .from * n + 4 * i)) (λ i. entryBucket n (getD xs i noFloat)) (length xs)
-  pub distinct : (i j : ℕ) → j < length xs → i < j → sameFloat (getD xs j noFloat) (getD xs i noFloat) ≡ false
+abbrev pub LinkedFloats : ℕ → List FloatEntry → List ℕ → Type 0
+LinkedFloats n xs l = LinkedEntries (entryBucket n) sameFloat noFloat (floatHeads .from * n) (floatLinks .from * n) xs l
+
+-- the bucket, one of n, of a text of this digest, whose bits depend on all bytes of the text
+unfoldable pub digestBucket : ℕ → ℕ → ℕ
+digestBucket n d = d % n
+
+abbrev pub stringBucket : ℕ → StringEntry → ℕ
+stringBucket n x = digestBucket n (digestOf (x .text))
+
+abbrev pub sameString : StringEntry → StringEntry → Bool
+sameString a b = sameText (a .text) (b .text)
+
+abbrev pub noString : StringEntry
+noString = record { offset = 0; len = 0; text = [] }
+
+abbrev pub LinkedStrings : ℕ → List StringEntry → List ℕ → Type 0
+LinkedStrings n xs l = LinkedEntries (stringBucket n) sameString noString (stringHeads .from * n) (stringLinks .from * n) xs l
 
 -- how many functions are done, and how many instructions, variables and labels they have
 pub record Before (done : List IrFunction) (functions instructions variables labels : ℕ) : Type 0 where
@@ -162,7 +188,8 @@ pub record Holds (text : List ℕ) (t : TablesSoFar) (k : Counters) (l : List �
   pub floats-hold : Table encodeFloat 16 (t .state .floats) (floats .from * k .records) (k .floats) l
   pub digests-hold : Table encodeDigest 4 (t .state .strings) (stringDigests .from * k .records) (k .strings) l
   pub slots-hold : Slots (k .records) (t .state .labels) l
-  pub links-hold : LinkedFloats (k .records) (t .state .floats) l
+  pub float-links-hold : LinkedFloats (k .records) (t .state .floats) l
+  pub string-links-hold : LinkedStrings (k .records) (t .state .strings) l
   pub before : Before (t .done) (k .functions) (k .«instructions_before») (k .«variables_before») (k .«labels_before»)
   pub fits : Fits text (t .state .labels) (t .state .strings) (t .state .floats)
 

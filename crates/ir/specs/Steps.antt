@@ -20,8 +20,8 @@ use Rattle.ir.specs.declared.structs.LabelNumber.{LabelNumber}
 use Rattle.ir.specs.declared.pool.PoolNumber.{PoolNumber}
 use Rattle.ir.specs.Instructions.{varOf, instrOf}
 use Rattle.ir.specs.Amounts.{amount, Spent}
-use Rattle.ir.specs.Search.{headFor}
-use Rattle.ir.specs.Arena.{variables, labels, strings, floats, stringDigests, floatLinks, floatHeads, encodeDigest, labelSlot, entryBucket, TablesSoFar, Holds, Room}
+use Rattle.ir.specs.Search.{floatHead, stringHead}
+use Rattle.ir.specs.Arena.{variables, labels, strings, floats, stringDigests, floatLinks, floatHeads, stringLinks, stringHeads, encodeDigest, labelSlot, entryBucket, stringBucket, TablesSoFar, Holds, Room}
 
 -- the tables after a step that emits c and leaves the state s
 abbrev pub grown : TablesSoFar → List Ir.Instr → State → TablesSoFar
@@ -83,6 +83,11 @@ pub record WroteThree (l : List ℕ) (i : ℕ) (vs : List ℕ) (j : ℕ) (ws : L
   pub counts : k′ ≡ want
   pub wrote : l′ ≡ splice (splice (splice l i vs) j ws) p us
 
+-- and of four
+pub record WroteFour (l : List ℕ) (i : ℕ) (vs : List ℕ) (j : ℕ) (ws : List ℕ) (p : ℕ) (us : List ℕ) (q : ℕ) (ts : List ℕ) (want k′ : Counters) (l′ : List ℕ) : Type 0 where
+  pub counts : k′ ≡ want
+  pub wrote : l′ ≡ splice (splice (splice (splice l i vs) j ws) p us) q ts
+
 -- nothing changed
 pub record TablesStay (k : Counters) (l : List ℕ) (k′ : Counters) (l′ : List ℕ) : Type 0 where
   pub counts : k′ ≡ k
@@ -115,14 +120,16 @@ pub record NumbersLabel (kind opener : ℕ) (k : Counters) (l : List ℕ) (r : L
 pub record NumbersString (text : List ℕ) (e : StringEntry) (k : Counters) (l : List ℕ) (r : PoolNumber) (l′ : List ℕ) : Type 0 where
   pub next : NextIn text (Ir.string-id e) k l (r .number) (r .counters) l′
   pub spent : Spent k (r .counters) (amount 0 0 0 1 0)
-  pub entry : WroteTwo l (strings .from * k .records + 8 * k .strings) (encodeString e) (stringDigests .from * k .records + 4 * k .strings) (encodeDigest e) (moreStrings k) (r .counters) l′
+  pub entry : WroteFour l (strings .from * k .records + 8 * k .strings) (encodeString e) (stringDigests .from * k .records + 4 * k .strings) (encodeDigest e)
+      (stringLinks .from * k .records + 4 * k .strings) (word (stringHead l (k .records) (k .strings) (stringBucket (k .records) e)))
+      (stringHeads .from * k .records + 4 * stringBucket (k .records) e) (word (k .strings)) (moreStrings k) (r .counters) l′
       ⊎ TablesStay k l (r .counters) l′
 
 pub record NumbersFloat (e : FloatEntry) (k : Counters) (l : List ℕ) (r : PoolNumber) (l′ : List ℕ) : Type 0 where
   pub next : Next (Ir.float-id e) k l (r .number) (r .counters) l′
   pub spent : Spent k (r .counters) (amount 0 0 0 0 1)
   pub entry : WroteThree l (floats .from * k .records + 16 * k .floats) (encodeFloat e)
-      (floatLinks .from * k .records + 4 * k .floats) (word (headFor l (k .records) (k .floats) (entryBucket (k .records) e)))
+      (floatLinks .from * k .records + 4 * k .floats) (word (floatHead l (k .records) (k .floats) (entryBucket (k .records) e)))
       (floatHeads .from * k .records + 4 * entryBucket (k .records) e) (word (k .floats)) (moreFloats k) (r .counters) l′
       ⊎ TablesStay k l (r .counters) l′
 
