@@ -2,22 +2,22 @@
 -- A function's record has no text, so its slots are apart from those of texts and of their numbers. Assumes nothing.
 use mathlib.Core.Path.{_≡_, refl, sym, ap, _∙_}
 use mathlib.Core.Logic.{_⊎_, inl, inr}
-use mathlib.Core.Bool.{Bool, true, false, _&&_, false≢true}
+use mathlib.Core.Bool.{true, false, _&&_, false≢true}
 use mathlib.Core.List.{List}
 use Prim.Native.Nat.{ℕ, _+_, _*_, _≤_, _<_}
 use native.Mathlib.Omega.{arith}
 use lib.Dec.{eqb, ltb}
-use lib.ListN.{length, getD}
+use lib.ListN.{length}
 use borrow.Author.Count.{below-more}
 use borrow.Author.Tests.{eq-eqb, ne-eqb, eqb-true, eqb-false, ltb-true, ltb-false}
 use Rattle.laws.specs.Chain.{linkTo}
-use Rattle.laws.specs.Fix.{pick}
 use Rattle.laws.specs.Splice.{splice}
 use Rattle.laws.proofs.ChainLaws.{head-none, head-here, head-other, link-within}
 use Rattle.laws.proofs.FixLaws.{pick-yes, pick-no}
 use Rattle.laws.proofs.Splices.{length-splice}
-use Rattle.laws.proofs.Tests.{tested}
+use Rattle.laws.proofs.Tests.{tested, and-left, and-right}
 use Rattle.records.specs.Chains.{bucketOf, Cleared}
+use Rattle.records.specs.Digest.{digestEnd}
 use Rattle.records.specs.Good.{Good}
 use Rattle.records.specs.Kinds.{kindFunction}
 use Rattle.records.specs.Words.{byteAt, wordAt, kindOf, wordOf, bytesOf, word, records, A}
@@ -28,7 +28,7 @@ use Rattle.syntax.specs.Places.{FunctionAt, functionOf}
 use Rattle.syntax.proofs.Records.{name-record}
 use Rattle.texts.specs.Texts.{hasText, hasOwn, original, originalAt, textDigestAt, Numbered}
 use Rattle.texts.proofs.TextLaws.{numbered-stays, original-below}
-use Rattle.keys.specs.Keys.{keySlotAt, Mapped, Chain, linked, keyHeadAt, nameHeadAt, isFunction, keyRoll, keyBucket, nameBucket, KeyDigests, ByKey, ByName, Chaining, Keyed}
+use Rattle.keys.specs.Keys.{keySlotAt, Mapped, Chain, linked, keyHeadAt, nameHeadAt, isFunction, keyRoll, keyBucket, nameBucket, Chaining, Keyed}
 use Rattle.keys.proofs.KeySearch.{records-most}
 use Rattle.keys.proofs.SlotLaws.{slots-stay, zero-word}
 
@@ -130,7 +130,7 @@ module _ (tree text : List ℕ) (f : ℕ) where
   function-here h t = record { below = h; kind = eqb-true (kindOf tree f) kindFunction t }
 
   key-bucket-none : isFunction tree f ≡ false → keyBucket tree text f ≡ records tree
-  key-bucket-none e = chained.bucket-other (isFunction tree) (keyRoll tree text) (records tree) f e
+  key-bucket-none e = chained.bucket-other (isFunction tree) (λ k. digestEnd (keyRoll tree text k)) (records tree) f e
 
   name-bucket-none : (isFunction tree f && is-mangled (functionOf tree text f)) ≡ false → nameBucket tree text f ≡ records tree
   unfolding nameBucket
@@ -141,13 +141,20 @@ module _ (tree text : List ℕ) (f : ℕ) where
   name-bucket-is t m =
       pick-yes (isFunction tree f && is-mangled (functionOf tree text f)) (original tree text (wordOf tree f A)) (records tree) (rw t m)
 
+-- a record in a chain of names is a mangled function
+pub name-bucket-here : (tree text : List ℕ) (k : ℕ) → nameBucket tree text k < records tree → (isFunction tree k ≡ true) × (is-mangled (functionOf tree text k) ≡ true)
+name-bucket-here tree text k h =
+    tested (isFunction tree k && is-mangled (functionOf tree text k))
+    (λ t. (and-left (isFunction tree k) _ t, and-right (isFunction tree k) _ t))
+    (λ t. absurd (omega (arith, name-bucket-none tree text k t)))
+
 -- what the code reads of record r's kind
 pub kind-other : (tree : List ℕ) (r k : ℕ) → k ≡ kindOf tree r → (k ≡ kindFunction → ⊥) → isFunction tree r ≡ false
 kind-other tree r k e n = ne-eqb (kindOf tree r) kindFunction (λ q. n (e ∙ q))
 
 -- the head of a digest's bucket
-pub head-read : (s : List ℕ) (n d b w : ℕ) → w ≡ wordAt s (keyHeadAt n b) → b ≡ bucketOf n d → w ≡ wordAt s (keyHeadAt n (bucketOf n d))
-head-read s n d b w e eb = e ∙ ap (λ (x : ℕ). wordAt s (keyHeadAt n x)) eb
+pub head-read : (s : List ℕ) (n x d b w : ℕ) → w ≡ wordAt s (keyHeadAt n b) → b ≡ bucketOf n d → d ≡ digestEnd x → w ≡ wordAt s (keyHeadAt n (bucketOf n (digestEnd x)))
+head-read s n x d b w e eb ed = e ∙ ap (λ (y : ℕ). wordAt s (keyHeadAt n y)) (eb ∙ ap (bucketOf n) ed)
 
 -- the number of a function's name, as it is read from the scratch
 module _ (tree text : List ℕ) (good : Good tree text) (f : ℕ) (at : FunctionAt tree f) where
@@ -327,14 +334,15 @@ module _ (tree text s s₁ s′ : List ℕ) (count f d b : ℕ) (c : Chaining tr
       (λ r h t. away (textDigestAt (records tree) r) (slot-away (52 * records tree) r f (not-own tree f r at t)) (inr (omega (arith, at .below))) (inr (omega (arith, hb))))
       (c .mapped)
 
-  module _ (ed : d ≡ keyRoll tree text f) (hd : d < 4294967296) (eb : b ≡ bucketOf (records tree) d) where
+  module _ (ed : d ≡ keyRoll tree text f) (hd : d < 4294967296) (eb : b ≡ bucketOf (records tree) (digestEnd d)) where
     digest-there : wordAt s′ (textDigestAt (records tree) f) ≡ keyRoll tree text f
     digest-there =
         away₂ (textDigestAt (records tree) f) (inr (omega (arith, at .below))) (inr (omega (arith, hb)))
         ∙ write-there s (textDigestAt (records tree) f) d fit₁ s₁ e₁ hd ∙ ed
 
     bucket-is : b ≡ keyBucket tree text f
-    bucket-is = chained.bucket-told (isFunction tree) (keyRoll tree text) (records tree) f d b (is-function tree text f at) ed eb
+    bucket-is =
+        chained.bucket-told (isFunction tree) (λ k. digestEnd (keyRoll tree text k)) (records tree) f (digestEnd d) b (is-function tree text f at) (ap digestEnd ed) eb
 
     head-same : wordAt s₁ (keyHeadAt (records tree) b) ≡ wordAt s (keyHeadAt (records tree) b)
     head-same = away₁ (keyHeadAt (records tree) b) (inl (omega arith))

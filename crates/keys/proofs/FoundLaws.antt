@@ -4,22 +4,19 @@ use mathlib.Core.Path.{_≡_, refl, sym, ap, _∙_}
 use mathlib.Core.Logic.{⊎-elim}
 use mathlib.Core.Bool.{Bool, true, false, _&&_}
 use mathlib.Core.List.{List, [], _∷_, _++_, append-assoc, append-nil}
-use mathlib.Core.Option.{Option, none as nothing, some}
+use mathlib.Core.Option.{none as nothing, some}
 use Prim.Native.Nat.{ℕ, zero, suc, _+_, _≤_, _<_}
 use native.Mathlib.Nat.{eq-or-lt-of-le}
 use native.Mathlib.Omega.{arith}
-use lib.Dec.{eqb}
-use Rattle.laws.specs.Chain.{linkTo, Walked}
+use Rattle.laws.specs.Chain.{Walked}
 use Rattle.laws.specs.Fix.{pick}
 use Rattle.laws.proofs.ChainLaws.{link-falls, walked-start, walked-on, walked-end}
 use Rattle.laws.proofs.Tests.{tested, and-left, and-right}
 use Rattle.records.specs.Chains.{bucketOf}
-use Rattle.records.specs.Digest.{rollOf}
-use Rattle.records.specs.Kinds.{kindFunction}
-use Rattle.records.specs.Words.{wordAt, kindOf, records}
+use Rattle.records.specs.Digest.{digestEnd, rollOf}
+use Rattle.records.specs.Words.{wordAt, records}
 use Rattle.records.proofs.ChainedLaws as chained
 use Rattle.records.proofs.DigestLaws.{same-equal}
-use Rattle.records.proofs.RollLaws.{roll-small}
 use Rattle.records.proofs.TextLaws.{same-self}
 use Rattle.syntax.specs.Syntax.{Text, Function}
 use Rattle.syntax.specs.Decode.{program}
@@ -28,12 +25,16 @@ use Rattle.conversion.specs.ConvertError as C
 use Rattle.conversion.specs.ConvertError.{Result, ok, err}
 use Rattle.conversion.specs.Ir.{sameText}
 use Rattle.conversion.specs.Expressions.{Functions, getFunction}
-use Rattle.conversion.specs.Functions.{addFunction, get-all-functions}
+use Rattle.conversion.specs.Functions.{get-all-functions}
 use Rattle.texts.specs.Texts.{originalAt, textDigestAt}
 use Rattle.keys.specs.Keys.{functionKey, keyed, recordsBelow, functionPlaces, functionsOf, allKeys, keyHeadAt, isFunction, keyRoll, keyBucket, Keyed}
 use Rattle.keys.proofs.ChainLaws.{is-function, function-here}
 use Rattle.keys.proofs.FunctionLaws.{all-functions, functions-append}
 use Rattle.keys.proofs.KeyLaws.{find-hit, find-miss, find-later, keyed-append, Turn, turn, refused, added}
+
+end-small : (d : ℕ) → digestEnd d < 4294967296
+unfolding digestEnd
+end-small d = omega arith
 
 -- ---- no two functions have one key
 
@@ -119,33 +120,30 @@ module _ (tree text : List ℕ) where
 
   -- ---- the walk, as the code makes it: d is the digest of the text t that is looked for
 
+  abbrev pub KeyWalk : Text → ℕ → ℕ → Type 0
+  KeyWalk t d v = Walked (keyHit t) (keyBucket tree text) (records tree) (bucketOf (records tree) (digestEnd d)) v
+
   module _ (s : List ℕ) (count : ℕ) (K : Keyed tree text s count) (t : Text) (d : ℕ) (ed : d ≡ rollOf t) where
-    abbrev pub KeyWalk : ℕ → Type 0
-    KeyWalk v = Walked (keyHit t) (keyBucket tree text) (records tree) (bucketOf (records tree) d) v
-
-    together : (i : ℕ) → keyHit t i ≡ true → keyBucket tree text i ≡ bucketOf (records tree) d
+    together : (i : ℕ) → keyHit t i ≡ true → keyBucket tree text i ≡ bucketOf (records tree) (digestEnd d)
     together i h =
-        chained.bucket-member (isFunction tree) (keyRoll tree text) (records tree) i (and-left (isFunction tree i) _ h)
-        ∙ ap (bucketOf (records tree)) (ap rollOf (sym (same-equal t (functionKey (functionOf tree text i)) (and-right (isFunction tree i) _ h))) ∙ sym ed)
+        chained.bucket-member (isFunction tree) (λ k. digestEnd (keyRoll tree text k)) (records tree) i (and-left (isFunction tree i) _ h)
+        ∙ ap (λ (x : ℕ). bucketOf (records tree) (digestEnd x)) (ap rollOf (sym (same-equal t (functionKey (functionOf tree text i)) (and-right (isFunction tree i) _ h))) ∙ sym ed)
 
-    digest-small : d < 4294967296
-    digest-small = omega (arith, ed, roll-small 1 t (omega arith))
+    bucket-small : 0 < records tree → bucketOf (records tree) (digestEnd d) < records tree
+    bucket-small h = chained.bucket-small (digestEnd d) (records tree) (end-small d) h
 
-    bucket-small : 0 < records tree → bucketOf (records tree) d < records tree
-    bucket-small h = chained.bucket-small d (records tree) digest-small h
-
-    pub key-start : (v : ℕ) → 0 < records tree → v ≡ wordAt s (keyHeadAt (records tree) (bucketOf (records tree) d)) → KeyWalk v
+    pub key-start : (v : ℕ) → 0 < records tree → v ≡ wordAt s (keyHeadAt (records tree) (bucketOf (records tree) (digestEnd d))) → KeyWalk t d v
     key-start v h e =
-        walked-start (keyHit t) (keyBucket tree text) (records tree) (bucketOf (records tree) d) together v
-        (e ∙ K .by-key .heads (bucketOf (records tree) d) (bucket-small h))
+        walked-start (keyHit t) (keyBucket tree text) (records tree) (bucketOf (records tree) (digestEnd d)) together v
+        (e ∙ K .by-key .heads (bucketOf (records tree) (digestEnd d)) (bucket-small h))
 
-    pub key-end : (v : ℕ) → v ≤ 0 → KeyWalk v → getFunction t (allKeys tree text) ≡ nothing
+    pub key-end : (v : ℕ) → v ≤ 0 → KeyWalk t d v → getFunction t (allKeys tree text) ≡ nothing
     key-end v z w =
         ap (getFunction t) keys-are
-        ∙ none-below t (records tree) (walked-end (keyHit t) (keyBucket tree text) (records tree) (bucketOf (records tree) d) together v z w)
+        ∙ none-below t (records tree) (walked-end (keyHit t) (keyBucket tree text) (records tree) (bucketOf (records tree) (digestEnd d)) together v z w)
 
     -- the walk stands one past f
-    module _ (v f : ℕ) (w : KeyWalk v) (z : v ≡ suc f) where
+    module _ (v f : ℕ) (w : KeyWalk t d v) (z : v ≡ suc f) where
       here-below : f < records tree
       here-below = omega (arith, w .within)
 
@@ -154,7 +152,7 @@ module _ (tree text : List ℕ) where
 
       pub key-function : FunctionAt tree f
       key-function =
-          function-here tree text f here-below (chained.member-here (isFunction tree) (keyRoll tree text) (records tree) f in-bucket)
+          function-here tree text f here-below (chained.member-here (isFunction tree) (λ k. digestEnd (keyRoll tree text k)) (records tree) f in-bucket)
 
       pub hit-is : (b : Bool) → sameText t (functionKey (functionOf tree text f)) ≡ b → keyHit t f ≡ b
       hit-is b e = rw (is-function tree text f key-function) e
@@ -167,9 +165,9 @@ module _ (tree text : List ℕ) where
           (λ y. absurd (n (ex ∙ K .digests f here-below key-function ∙ ap rollOf (sym (same-equal t (functionKey (functionOf tree text f)) y)) ∙ sym ed)))
           (λ y. y))
 
-      pub key-next : (u : ℕ) → keyHit t f ≡ false → u ≡ wordAt s (originalAt (records tree) f) → KeyWalk u
+      pub key-next : (u : ℕ) → keyHit t f ≡ false → u ≡ wordAt s (originalAt (records tree) f) → KeyWalk t d u
       key-next u miss e =
-          walked-on (keyHit t) (keyBucket tree text) (records tree) (bucketOf (records tree) d) together v f u w z miss
+          walked-on (keyHit t) (keyBucket tree text) (records tree) (bucketOf (records tree) (digestEnd d)) together v f u w z miss
           (e ∙ K .by-key .links f here-below in-bucket)
 
       pub key-less : (u : ℕ) → u ≡ wordAt s (originalAt (records tree) f) → u < v

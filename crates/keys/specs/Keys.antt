@@ -12,7 +12,7 @@ use Rattle.laws.specs.Fix.{pick}
 use Rattle.laws.specs.Splice.{splice}
 use Rattle.records.specs.Words.{kindOf, wordAt, wordOf, word, records, A, B}
 use Rattle.records.specs.Chains.{memberBucket}
-use Rattle.records.specs.Digest.{rollOf}
+use Rattle.records.specs.Digest.{digestEnd, rollOf}
 use Rattle.records.specs.Layout.{keySlots, keyHeads, nameHeads}
 use Rattle.records.specs.Kinds.{kindFunction}
 use Rattle.records.specs.Good.{Good}
@@ -126,12 +126,12 @@ abbrev pub isFunction : List ℕ → ℕ → Bool
 isFunction tree k = eqb (kindOf tree k) kindFunction
 
 module _ (tree text : List ℕ) where
-  -- the digest of function f's key, and its bucket
+  -- the digest of function f's key, and its bucket: this goes by the digest spread over all 32 bits
   abbrev pub keyRoll : ℕ → ℕ
   keyRoll f = rollOf (functionKey (functionOf tree text f))
 
   abbrev pub keyBucket : ℕ → ℕ
-  keyBucket = memberBucket (isFunction tree) keyRoll (records tree)
+  keyBucket = memberBucket (isFunction tree) (λ f. digestEnd (keyRoll f)) (records tree)
 
   -- the bucket of a mangled function among the names is its name's number; that of another record is n, which has no head
   unfoldable pub nameBucket : ℕ → ℕ

@@ -5,6 +5,7 @@ ghost use Prim.Native.Nat.{_+_, _*_, _≤_, _<_};
 ghost use lib.ListN.{length};
 ghost use Rattle.records.specs.Words.{wordAt, records, mostRecords};
 ghost use Rattle.records.specs.Chains.{bucketOf, Cleared};
+ghost use Rattle.records.specs.Digest.{digestEnd};
 ghost use Rattle.records.specs.Good.{Good};
 ghost use Rattle.conversion.specs.Expressions.{is-mangled};
 ghost use Rattle.syntax.specs.Places.{FunctionAt, functionOf, ParamsAt, paramsAt};
@@ -27,6 +28,7 @@ use records::layout::ORIGINALS;
 use records::layout::TEXT_DIGEST_BYTES;
 use records::layout::TEXT_DIGESTS;
 use records::numbers::KIND_FUNCTION;
+use records::texts::roll_digest;
 use records::words::Found;
 use records::words::WORD_A;
 use records::words::WORD_B;
@@ -196,7 +198,7 @@ fn chain_key(tree: &[u8], text: &[u8], scratch: &mut [u8], count: usize, f: usiz
     let n = tree.len() / 32;
     let next = (f + 1) as u32;
     let d = kept_digest(scratch, n, key_record(tree, text, f));
-    let b = bucket(d, n);
+    let b = bucket(roll_digest(d), n);
     put_word(scratch, TEXT_DIGESTS * n + TEXT_DIGEST_BYTES * f, d);
     put_before(
         scratch,
@@ -256,9 +258,9 @@ pub fn chain_functions(tree: &[u8], text: &[u8], scratch: &mut [u8], count: usiz
 // One more than the last function in the bucket of a digest, or 0.
 pub fn key_head(scratch: &[u8], n: usize, d: u32) -> usize
     requires { ⌜ (0 < n) × (n ≤ mostRecords) × (72 * n ≤ length (now scratch)) ⌝ }
-    ensures { λ v. ⌜ v ≡ wordAt (now (scratch .entry)) (keyHeadAt n (bucketOf n d)) ⌝ }
+    ensures { λ v. ⌜ v ≡ wordAt (now (scratch .entry)) (keyHeadAt n (bucketOf n (digestEnd d))) ⌝ }
 {
-    let b = bucket(d, n);
+    let b = bucket(roll_digest(d), n);
     index(load(scratch, KEY_HEADS * n + KEY_HEAD_BYTES * b))
 }
 

@@ -8,8 +8,12 @@ use Rattle.keys.proofs.keys.key_head.Tie as tie
 use Rattle.keys.proofs.keys.key_head.Reads as reads
 use Rattle.keys.proofs.keys.key_head.Lts as lts
 use Rattle.records.proofs.chains.bucket.Reads as bucket-reads
+use Rattle.records.proofs.texts.roll_digest.Reads as roll-digest-reads
 use Rattle.records.proofs.words.index.Reads as index-reads
 use Rattle.records.proofs.words.load.Reads as load-reads
+
+roll-digest-requires : tie.Need-roll-digest-requires
+roll-digest-requires c κs = search needs
 
 bucket-requires : tie.Need-bucket-requires
 bucket-requires c κs = search needs
@@ -30,9 +34,9 @@ index-requires : tie.Need-index-requires
 index-requires c κs = search needs
 
 returns : tie.Need-returns
-returns c = head-read _ _ _ _ _ (c .index .ensures ∙ c .before .load .ensures) (c .before .before .bucket .ensures .0)
+returns c = head-read _ _ _ _ _ _ (c .index .ensures ∙ c .before .load .ensures) (c .before .before .bucket .ensures .0) (c .before .before .before .roll-digest .ensures)
 
 pub key-head-spec : {M : Type 1} → statement M
 key-head-spec =
     tie.close
-    (tie.spec bucket-requires mul-load mul-load-2 add-load load-requires index-requires returns)
+    (tie.spec roll-digest-requires bucket-requires mul-load mul-load-2 add-load load-requires index-requires returns)
