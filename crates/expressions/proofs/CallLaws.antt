@@ -108,10 +108,10 @@ module _ (tree text : List ℕ) (verb : Text) (l : List TypedArg) where
   below-hit r t e = below-one r ∙ rw (t, e) refl
 
   below-miss : (r : ℕ) → (isFunction tree r && isOne r) ≡ false → literalsBelow (suc r) ≡ literalsBelow r
+  unfolding functionsOf byLiterals pick
   below-miss r e = below-one r ∙ ap (λ (x : List Function). literalsBelow r ++ x) (go (isFunction tree r) e) ∙ append-nil (literalsBelow r)
     where
       go : (b : Bool) → (b && isOne r) ≡ false → fitting (functionsOf tree text (pick b (r ∷ []) [])) ≡ []
-      unfolding functionsOf byLiterals pick
       go true q = rw q refl
       go false q = refl
 
@@ -142,32 +142,33 @@ module _ (tree text s : List ℕ) (count : ℕ) (K : Keyed tree text s count) (c
   abbrev verb : Text
   verb = verbOf tree text s c
 
-  abbrev types : List TypedArg
-  types = typedAt tree text s (c .first)
+  abbrev given : List TypedArg
+  given = typedAt tree text s (c .first)
 
   abbrev every : List Function
-  every = everyOne tree text verb types
+  every = everyOne tree text verb given
 
   abbrev before : ℕ → List Function
-  before = literalsBelow tree text verb types
+  before = literalsBelow tree text verb given
 
   -- one that fits is in the chain
-  fits-chained : (i : ℕ) → i < records tree → (isFunction tree i && isOne tree text verb types i) ≡ true → nameBucket tree text i ≡ c .verb
+  fits-chained : (i : ℕ) → i < records tree → (isFunction tree i && isOne tree text verb given i) ≡ true → nameBucket tree text i ≡ c .verb
   fits-chained i k e =
       let t : isFunction tree i ≡ true = and-left (isFunction tree i) _ e in
-      let one : isOne tree text verb types i ≡ true = and-right (isFunction tree i) _ e in
-      let name : sameText (functionOf tree text i .name) verb ≡ true = and-left (sameText (functionOf tree text i .name) verb) _ one in
-      let mangled : is-mangled (functionOf tree text i) ≡ true =
-      and-left (is-mangled (functionOf tree text i)) _ (and-right (sameText (functionOf tree text i .name) verb) _ one) in
+      let one : isOne tree text verb given i ≡ true = and-right (isFunction tree i) _ e in
+      let both : (sameText (functionOf tree text i .name) verb && is-mangled (functionOf tree text i)) ≡ true =
+      and-left (sameText (functionOf tree text i .name) verb && is-mangled (functionOf tree text i)) _ one in
+      let name : sameText (functionOf tree text i .name) verb ≡ true = and-left (sameText (functionOf tree text i .name) verb) _ both in
+      let mangled : is-mangled (functionOf tree text i) ≡ true = and-right (sameText (functionOf tree text i .name) verb) _ both in
       name-bucket-is tree text i t mangled
       ∙ eqb-true (original tree text (wordOf tree i A)) (c .verb) (sym (same-name tree text s c h i (function-here tree text i k t)) ∙ name)
 
   -- so none is left out between a number and the next of the chain
   skipped : (r u : ℕ) → r ≤ records tree → u ≡ linkTo (nameBucket tree text) r (c .verb) → before r ≡ before u
   skipped r u k e =
-      below-flat tree text verb types u r (link-within (nameBucket tree text) r (c .verb) u e)
+      below-flat tree text verb given u r (link-within (nameBucket tree text) r (c .verb) u e)
       (λ i a b.
-      tested (isFunction tree i && isOne tree text verb types i)
+      tested (isFunction tree i && isOne tree text verb given i)
       (λ t. absurd (link-above (nameBucket tree text) r (c .verb) u i e a b (fits-chained i (omega arith) t)))
       (λ t. t))
 
@@ -177,18 +178,17 @@ module _ (tree text s : List ℕ) (count : ℕ) (K : Keyed tree text s count) (c
       record {
         within = link-within (nameBucket tree text) (records tree) (c .verb) v link;
         here = λ k z. link-here (nameBucket tree text) (records tree) (c .verb) v k link z;
-        so-far = nobody-yet (every-one tree text verb types ∙ skipped (records tree) v (omega arith) link);
+        so-far = nobody-yet (every-one tree text verb given ∙ skipped (records tree) v (omega arith) link);
       }
 
   pub name-end : (v : ℕ) (found : Candidates) → v ≤ 0 → NameWalk tree text s c v found → CandidatesAre tree text found every
+  unfolding AreAll literalsBelow recordsBelow functionsOf byLiterals
   name-end v found z w = go found (w .so-far)
     where
       empty : before v ≡ []
-      unfolding literalsBelow recordsBelow functionsOf byLiterals
       empty = let q : v ≡ 0 = omega arith in rw q refl
 
       go : (found : Candidates) → SoFar tree text every (before v) found → CandidatesAre tree text found every
-      unfolding AreAll
       go found (nobody-yet e) = record { are = e ∙ empty; function = nobody }
       go found (one-yet {f = g} a e) = record { are = e ∙ ap (λ (x : List Function). x ++ (functionOf tree text g ∷ [])) empty; function = one a }
 
@@ -206,19 +206,19 @@ module _ (tree text s : List ℕ) (count : ℕ) (K : Keyed tree text s count) (c
     pub name-less : (u : ℕ) → u ≡ wordAt s (keySlotAt (records tree) k) → u < v
     name-less u e = omega (arith, link-falls (nameBucket tree text) k u (e ∙ K .by-name .links k name-below in-chain))
 
-    one-is : (b : Bool) → b ≡ takesBoth (program tree text) (allKeys tree text) (functionOf tree text k) types → isOne tree text verb types k ≡ b
+    one-is : (b : Bool) → b ≡ takesBoth (program tree text) (allKeys tree text) (functionOf tree text k) given → isOne tree text verb given k ≡ b
     one-is b e =
         let here = name-bucket-here tree text k in-chain in
         let number : original tree text (wordOf tree k A) ≡ c .verb = sym (name-bucket-is tree text k (here .0) (here .1)) ∙ w .here k z in
         rw (same-name tree text s c h k name-function, eq-eqb (original tree text (wordOf tree k A)) (c .verb) number, here .1) (sym e)
 
-    this : (b : Bool) → b ≡ takesBoth (program tree text) (allKeys tree text) (functionOf tree text k) types → b ≡ true → before v ≡ before k ++ (functionOf tree text k ∷ [])
-    this b e t = rw z (below-hit tree text verb types k (name-bucket-here tree text k in-chain .0) (one-is b e ∙ t))
+    this : (b : Bool) → b ≡ takesBoth (program tree text) (allKeys tree text) (functionOf tree text k) given → b ≡ true → before v ≡ before k ++ (functionOf tree text k ∷ [])
+    this b e t = rw z (below-hit tree text verb given k (name-bucket-here tree text k in-chain .0) (one-is b e ∙ t))
 
-    other : (b : Bool) → b ≡ takesBoth (program tree text) (allKeys tree text) (functionOf tree text k) types → b ≡ false → before v ≡ before k
-    other b e t = rw z (below-miss tree text verb types k (rw (name-bucket-here tree text k in-chain .0) (one-is b e ∙ t)))
+    other : (b : Bool) → b ≡ takesBoth (program tree text) (allKeys tree text) (functionOf tree text k) given → b ≡ false → before v ≡ before k
+    other b e t = rw z (below-miss tree text verb given k (rw (name-bucket-here tree text k in-chain .0) (one-is b e ∙ t)))
 
-    pub second-one : (b : Bool) → b ≡ takesBoth (program tree text) (allKeys tree text) (functionOf tree text k) types → b ≡ true → (g : ℕ) → found ≡ Candidates.One g
+    pub second-one : (b : Bool) → b ≡ takesBoth (program tree text) (allKeys tree text) (functionOf tree text k) given → b ≡ true → (g : ℕ) → found ≡ Candidates.One g
         → CandidatesAre tree text Candidates.Several every
     second-one b e t g o = go found (w .so-far) o
       where
@@ -227,7 +227,7 @@ module _ (tree text s : List ℕ) (count : ℕ) (K : Keyed tree text s count) (c
         go found (one-yet {f = f} a q) o =
             record { are = rw (q, this b e t) (two-found tree text (before k) (functionOf tree text k) (functionOf tree text f)); function = several }
 
-    module _ (b : Bool) (e : b ≡ takesBoth (program tree text) (allKeys tree text) (functionOf tree text k) types) (u : ℕ) (eu : u ≡ wordAt s (keySlotAt (records tree) k)) where
+    module _ (b : Bool) (e : b ≡ takesBoth (program tree text) (allKeys tree text) (functionOf tree text k) given) (u : ℕ) (eu : u ≡ wordAt s (keySlotAt (records tree) k)) where
       link : u ≡ linkTo (nameBucket tree text) k (nameBucket tree text k)
       link = eu ∙ K .by-name .links k name-below in-chain
 
