@@ -68,12 +68,12 @@ unfolding word wordOf wordAt splice
 parametersAdded tree s [] k x = x
 parametersAdded tree s (p ∷ l) k x = parametersAdded tree s l (suc k) (parameterAdded tree s p k x)
 
--- only the regions of the open names, from byte 8n to byte 24n, and of their slots, from byte 56n to byte 60n, may differ
+-- only the regions of the open names, from byte 8n to byte 24n, and of their slots, from byte 60n to byte 64n, may differ
 pub record NamesOnly (tree s s′ : List ℕ) : Type 0 where
   pub same-length : length s′ ≡ length s
   pub before : (i : ℕ) → i < 8 * records tree → byteAt s′ i ≡ byteAt s i
-  pub between : (i : ℕ) → 24 * records tree ≤ i → i < 56 * records tree → byteAt s′ i ≡ byteAt s i
-  pub behind : (i : ℕ) → 60 * records tree ≤ i → byteAt s′ i ≡ byteAt s i
+  pub between : (i : ℕ) → 24 * records tree ≤ i → i < 60 * records tree → byteAt s′ i ≡ byteAt s i
+  pub behind : (i : ℕ) → 64 * records tree ≤ i → byteAt s′ i ≡ byteAt s i
 
 -- one parameter more, or its name is taken
 pub data OneMore (tree text : List ℕ) (functions : ℕ) (sc : Scope) (p : Param) (s s′ : List ℕ) : Parameters → Type 0 where

@@ -127,7 +127,7 @@ pub record Stays (tree : List ℕ) (names operands : ℕ) (s s′ : List ℕ) : 
   pub listed : (i : ℕ) → i < 4 * records tree → byteAt s′ i ≡ byteAt s i
   pub open-names : (i : ℕ) → 8 * records tree ≤ i → i < 8 * records tree + 16 * names → i < 24 * records tree → byteAt s′ i ≡ byteAt s i
   pub stack : (i : ℕ) → 24 * records tree ≤ i → i < 24 * records tree + 16 * operands → i < 40 * records tree → byteAt s′ i ≡ byteAt s i
-  pub behind : (i : ℕ) → 40 * records tree ≤ i → i < 56 * records tree → byteAt s′ i ≡ byteAt s i
+  pub behind : (i : ℕ) → 40 * records tree ≤ i → i < 60 * records tree → byteAt s′ i ≡ byteAt s i
   pub told : (j : ℕ) → j < names → j < records tree → Original tree s j → Original tree s′ j
 
 -- the region of the names, and each that its slot tells: an expression declares none
