@@ -6,6 +6,7 @@ use mathlib.Core.Bool.{Bool}
 use mathlib.Core.List.{List, []}
 use lib.ListN.{length}
 use Rattle.laws.specs.All.{All}
+use Rattle.records.specs.Layout.{scratchEach}
 use Rattle.records.specs.Words.{records}
 use Rattle.records.specs.Answer.{wordsOf}
 use Rattle.records.specs.declared.convert_error.ConvertError.{ConvertError}
@@ -13,11 +14,11 @@ use Rattle.syntax.specs.Decode.{program}
 use Rattle.conversion.specs.ConvertError.{Result, ok, err}
 use Rattle.conversion.specs.Ir.{IrProgram}
 use Rattle.conversion.specs.Functions.{Pool}
-use Rattle.conversion.specs.Converter.{convertAll}
+use Rattle.conversion.specs.Converter.{convertAll, convert}
 use Rattle.conversion.specs.Visits.{functionsVisits}
 use Rattle.conversion.specs.Written as Written
 use Rattle.ir.specs.declared.structs.Counters.{Counters}
-use Rattle.ir.specs.Arena.{Holds, Room}
+use Rattle.ir.specs.Arena.{arenaEach, Holds, Room}
 use Rattle.ir.specs.Cut as Cut
 use Rattle.keys.specs.Keys.{allKeys}
 use Rattle.judge.specs.Judge.{Buffers, cleared}
@@ -61,6 +62,13 @@ pub record ConvertsTo (tree text : List ℕ) (x : Result IrProgram) (l s : List 
 -- all functions, once they are found
 abbrev pub allFunctions : List ℕ → List ℕ → Result IrProgram
 allFunctions tree text = convertAll (program tree text) (allKeys tree text) (program tree text .functions) [] emptyPool
+
+abbrev pub AllConvertTo : List ℕ → List ℕ → List ℕ → List ℕ → Finished → List ℕ → List ℕ → Type 0
+AllConvertTo tree text l s a l′ s′ = ConvertsTo tree text (allFunctions tree text) l s a l′ s′
+
+-- the whole program
+abbrev pub ProgramConvertsTo : List ℕ → List ℕ → Bool → List ℕ → List ℕ → Finished → List ℕ → List ℕ → Type 0
+ProgramConvertsTo tree text needsMain l s a l′ s′ = ConvertsTo tree text (convert (program tree text) needsMain) l s a l′ s′
 
 -- no entry in any table
 abbrev pub emptyCounters : ℕ → Counters
@@ -114,9 +122,9 @@ pub record FinishesIn (done : Finished) (visits : ℕ) (a : Answer) (b b′ : Wr
 
 -- the seven buffers are as long as document 01 lends them
 pub record SevenLong (n : ℕ) (b : Buffers) : Type 0 where
-  pub arena : 320 * n ≤ length (b .instructions)
+  pub arena : arenaEach * n ≤ length (b .instructions)
   pub tables : Cut.FiveLong n (b .variables) (b .labels) (b .functions) (b .strings) (b .floats)
-  pub scratch : 72 * n ≤ length (b .scratch)
+  pub scratch : scratchEach * n ≤ length (b .scratch)
 
 -- ---- the answer
 

@@ -3,15 +3,15 @@ ghost use mathlib.Core.Path.{_≡_};
 ghost use Prim.Native.Nat.{_*_, _≤_, _<_};
 ghost use mathlib.Core.List.{[]};
 ghost use lib.ListN.{length};
+ghost use Rattle.records.specs.Layout.{scratchEach};
 ghost use Rattle.records.specs.Words.{records};
 ghost use Rattle.records.specs.Good.{Good};
-ghost use Rattle.syntax.specs.Decode.{program};
-ghost use Rattle.conversion.specs.Converter as Krc;
+ghost use Rattle.ir.specs.Arena.{arenaEach};
 ghost use Rattle.keys.specs.Keys.{Keyed};
 ghost use Rattle.statements.specs.Turns.{Turns};
 ghost use Rattle.judge.specs.Judge.{buffers, lengthsOf};
 ghost use Rattle.demands.specs.Demands.{AsTheRust};
-ghost use Rattle.converter.specs.Convert.{ConvertsTo, allFunctions, emptyCounters, countsIn, answerFrom, outputs, SevenLong, CutAfforded, FinishesIn, Promised};
+ghost use Rattle.converter.specs.Convert.{AllConvertTo, ProgramConvertsTo, emptyCounters, countsIn, answerFrom, outputs, SevenLong, CutAfforded, FinishesIn, Promised};
 use expressions::answers::Outcome;
 use functions::bodies::convert_func;
 use functions::functions::AllFunctions;
@@ -87,9 +87,9 @@ fn convert_all(
     scratch: &mut [u8],
     count: usize,
 ) -> Finished
-    requires { ⌜ Keyed (now tree) (now text) (now scratch) count × (320 * records (now tree) ≤ length (now arena)) ⌝ }
+    requires { ⌜ Keyed (now tree) (now text) (now scratch) count × (arenaEach * records (now tree) ≤ length (now arena)) ⌝ }
     requires { ⌜ Turns (now tree) (now scratch) (emptyCounters (records (now tree))) ⌝ }
-    ensures { λ a. ⌜ ConvertsTo (now (tree .entry)) (now (text .entry)) (allFunctions (now (tree .entry)) (now (text .entry))) (now (arena .entry)) (now (scratch .entry)) a (now (arena .exit)) (now (scratch .exit)) ⌝ }
+    ensures { λ a. ⌜ AllConvertTo (now (tree .entry)) (now (text .entry)) (now (arena .entry)) (now (scratch .entry)) a (now (arena .exit)) (now (scratch .exit)) ⌝ }
 {
     let mut k = empty_tables(tree.len() / 32);
     let mut j = 0;
@@ -113,8 +113,8 @@ fn convert_program(
     arena: &mut [u8],
     scratch: &mut [u8],
 ) -> Finished
-    requires { ⌜ Good (now tree) (now text) × (320 * records (now tree) ≤ length (now arena)) × (72 * records (now tree) ≤ length (now scratch)) × (0 < records (now tree)) ⌝ }
-    ensures { λ a. ⌜ ConvertsTo (now (tree .entry)) (now (text .entry)) (Krc.convert (program (now (tree .entry)) (now (text .entry))) «needs_main») (now (arena .entry)) (now (scratch .entry)) a (now (arena .exit)) (now (scratch .exit)) ⌝ }
+    requires { ⌜ Good (now tree) (now text) × (arenaEach * records (now tree) ≤ length (now arena)) × (scratchEach * records (now tree) ≤ length (now scratch)) × (0 < records (now tree)) ⌝ }
+    ensures { λ a. ⌜ ProgramConvertsTo (now (tree .entry)) (now (text .entry)) «needs_main» (now (arena .entry)) (now (scratch .entry)) a (now (arena .exit)) (now (scratch .exit)) ⌝ }
 {
     number_texts(tree, text, scratch);
     match get_all_functions(tree, text, scratch) {

@@ -58,7 +58,7 @@ module _ (tree text : List ℕ) (good : Good tree text) (r : ℕ) (h : r < recor
   key-inside = leb-true (wordOf tree r D + wordOf tree r E) (length text)
       (subst (λ (x : Role). wordOk tree (length text) r x (wordOf tree r D) (wordOf tree r E) ≡ true) type-key-role (words tree text good r h (rowAt tree r) refl .d))
 
-  pub key-part : (p : Part) → p .0 ≡ wordOf tree r 3 → p .1 ≡ wordOf tree r 4 → PartIs text p (keyAt tree text r)
+  pub key-part : (p : Part) → p .offset ≡ wordOf tree r 3 → p .len ≡ wordOf tree r 4 → PartIs text p (keyAt tree text r)
   unfolding keyAt textOf
   key-part p a b = record { inside = omega (arith, key-inside); is = rw (a, b) }
 

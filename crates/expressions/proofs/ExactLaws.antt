@@ -72,21 +72,21 @@ module _ (tree text s : List ℕ) (c : Call) where
       ap (λ (m : ℕ). c .len + m) e
       ∙ sym (name-length tree text s c (c .count) h ∙ ap (λ (l : List Text). c .len + bytesIn l) (all-taken tree text s c h))
 
-  module _ (h : Called tree text s c) (k : ℕ) (p : Part) (size : p .1 ≡ length (nameOf tree text s c k)) where
-    pub verb-inside : c .len ≤ p .1
+  module _ (h : Called tree text s c) (k : ℕ) (p : Part) (size : p .len ≡ length (nameOf tree text s c k)) where
+    pub verb-inside : c .len ≤ p .len
     verb-inside = omega (arith, name-length tree text s c k h)
 
-    pub left-bytes : p .1 - c .len ≡ bytesIn (take k (suffixesAt tree text s (c .first)))
+    pub left-bytes : p .len - c .len ≡ bytesIn (take k (suffixesAt tree text s (c .first)))
     left-bytes = omega (arith, name-length tree text s c k h)
 
-    module _ (room : p .0 + p .1 ≤ length text) (r : Bool) (e : r ≡ sameText (textAt text (p .0) (c .len)) (textAt text (c .offset) (c .len))) where
-      pub name-other : r ≡ false → false ≡ sameText (textAt text (p .0) (p .1)) (nameOf tree text s c k)
-      name-other q = sym (name-pieces tree text s c k (p .0) (p .1) h size room ∙ rw (sym e ∙ q) refl)
+    module _ (room : p .offset + p .len ≤ length text) (r : Bool) (e : r ≡ sameText (textAt text (p .offset) (c .len)) (textAt text (c .offset) (c .len))) where
+      pub name-other : r ≡ false → false ≡ sameText (textAt text (p .offset) (p .len)) (nameOf tree text s c k)
+      name-other q = sym (name-pieces tree text s c k (p .offset) (p .len) h size room ∙ rw (sym e ∙ q) refl)
 
       pub name-same : r ≡ true → (b : Bool)
-          → b ≡ sameText (textAt text (p .0 + c .len) (p .1 - c .len)) (joined (program tree text) (allKeys tree text) [] (take k (suffixesAt tree text s (c .first))))
-          → b ≡ sameText (textAt text (p .0) (p .1)) (nameOf tree text s c k)
-      name-same q b w = w ∙ sym (name-pieces tree text s c k (p .0) (p .1) h size room ∙ rw (sym e ∙ q) refl)
+          → b ≡ sameText (textAt text (p .offset + c .len) (p .len - c .len)) (joined (program tree text) (allKeys tree text) [] (take k (suffixesAt tree text s (c .first))))
+          → b ≡ sameText (textAt text (p .offset) (p .len)) (nameOf tree text s c k)
+      name-same q b w = w ∙ sym (name-pieces tree text s c k (p .offset) (p .len) h size room ∙ rw (sym e ∙ q) refl)
 
 -- ---- by the verb, and by the whole name
 
@@ -141,14 +141,14 @@ module _ (tree text s : List ℕ) (c : Call) (h : Called tree text s c) where
 
 -- a function's key, as the code compares it with the text that is looked for
 module _ (tree text : List ℕ) (t : Text) (f : ℕ) (p : Part) (is : PartIs text p (functionKey (functionOf tree text f))) where
-  key-size : length (functionKey (functionOf tree text f)) ≡ p .1
-  key-size = sym (ap length (is .is)) ∙ part-length text (p .0) (p .1) (is .inside)
+  key-size : length (functionKey (functionOf tree text f)) ≡ p .len
+  key-size = sym (ap length (is .is)) ∙ part-length text (p .offset) (p .len) (is .inside)
 
-  pub key-told : (b c : Bool) → b ≡ sameText (textAt text (p .0) (p .1)) t → b ≡ c → sameText t (functionKey (functionOf tree text f)) ≡ c
+  pub key-told : (b c : Bool) → b ≡ sameText (textAt text (p .offset) (p .len)) t → b ≡ c → sameText t (functionKey (functionOf tree text f)) ≡ c
   key-told b c e q = same-turned t (functionKey (functionOf tree text f)) ∙ ap (λ (x : Text). sameText x t) (sym (is .is)) ∙ sym e ∙ q
 
-  pub key-longer : (n : ℕ) → n ≡ length t → (p .1 ≡ n → ⊥) → sameText t (functionKey (functionOf tree text f)) ≡ false
-  key-longer n e d = sym (other-lengths t (functionKey (functionOf tree text f)) n (p .1) e (sym key-size) (λ q. d (sym q)))
+  pub key-longer : (n : ℕ) → n ≡ length t → (p .len ≡ n → ⊥) → sameText t (functionKey (functionOf tree text f)) ≡ false
+  key-longer n e d = sym (other-lengths t (functionKey (functionOf tree text f)) n (p .len) e (sym key-size) (λ q. d (sym q)))
 
 -- ---- the three one after the other
 

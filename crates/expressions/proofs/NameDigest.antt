@@ -35,7 +35,7 @@ module _ (tree text s : List ℕ) where
 
   module _ (d₀ first d w : ℕ) (h : Rolled tree text s d₀ first d w) where
     pub rolled-more : (y : ℕ) (p : Part) → First tree text s w y → PartIs text p (keyAt tree text y) → (x : ℕ) → x ≡ rollStep d 36 → (r : ℕ)
-        → (r ≡ rollFrom x (textAt text (p .0) (p .1))) × (r < 4294967291) → Rolled tree text s d₀ first r (wordOf tree w B)
+        → (r ≡ rollFrom x (textAt text (p .offset) (p .len))) × (r < 4294967291) → Rolled tree text s d₀ first r (wordOf tree w B)
     unfolding rollFrom joined
     rolled-more y p f is x ex r er =
         let rest : List Text = suffixesAt tree text s (wordOf tree w B) in

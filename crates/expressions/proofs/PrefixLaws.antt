@@ -32,32 +32,32 @@ use Rattle.expressions.proofs.SuffixLaws.{First, Next, next-is, no-suff
 
 -- ---- a key against a prefix with `$...`
 
-module _ (tree text s : List ℕ) (c : Call) (k : ℕ) (p : Part) (room : p .0 + p .1 ≤ length text) (size : ℕ) (es : size ≡ length (nameOf tree text s c k)) where
+module _ (tree text s : List ℕ) (c : Call) (k : ℕ) (p : Part) (room : p .offset + p .len ≤ length text) (size : ℕ) (es : size ≡ length (nameOf tree text s c k)) where
   abbrev name : Text
   name = nameOf tree text s c k
 
   abbrev Asked : Bool
-  Asked = sameText (textAt text (p .0) (p .1)) (name ++ variadicMark)
+  Asked = sameText (textAt text (p .offset) (p .len)) (name ++ variadicMark)
 
   marked-long : size + 4 ≡ length (name ++ variadicMark)
   marked-long = sym (length-append name variadicMark ∙ ap (λ (n : ℕ). n + 4) (sym es))
 
-  pub marked-short : p .1 < 4 → false ≡ Asked
+  pub marked-short : p .len < 4 → false ≡ Asked
   marked-short h =
-      other-lengths (textAt text (p .0) (p .1)) (name ++ variadicMark) (p .1) (size + 4) (sym (part-length text (p .0) (p .1) room)) marked-long (λ e. omega arith)
+      other-lengths (textAt text (p .offset) (p .len)) (name ++ variadicMark) (p .len) (size + 4) (sym (part-length text (p .offset) (p .len) room)) marked-long (λ e. omega arith)
 
-  module _ (h : 4 ≤ p .1) where
-    pub marked-longer : (p .1 - 4 ≡ size → ⊥) → false ≡ Asked
+  module _ (h : 4 ≤ p .len) where
+    pub marked-longer : (p .len - 4 ≡ size → ⊥) → false ≡ Asked
     marked-longer n =
-        other-lengths (textAt text (p .0) (p .1)) (name ++ variadicMark) (p .1) (size + 4) (sym (part-length text (p .0) (p .1) room)) marked-long (λ e. n (omega arith))
+        other-lengths (textAt text (p .offset) (p .len)) (name ++ variadicMark) (p .len) (size + 4) (sym (part-length text (p .offset) (p .len) room)) marked-long (λ e. n (omega arith))
 
-    module _ (q : p .1 - 4 ≡ size) where
-      pieces : Asked ≡ (sameText (textAt text (p .0) size) name && sameText (textAt text (p .0 + size) 4) variadicMark)
+    module _ (q : p .len - 4 ≡ size) where
+      pieces : Asked ≡ (sameText (textAt text (p .offset) size) name && sameText (textAt text (p .offset + size) 4) variadicMark)
       pieces =
-          let z : p .1 ≡ size + 4 = omega arith in
-          ap (λ (t : Text). sameText t (name ++ variadicMark)) (ap (textAt text (p .0)) z ∙ text-split text (p .0) size 4)
-          ∙ same-append (textAt text (p .0) size) name (textAt text (p .0 + size) 4) variadicMark
-          (part-length text (p .0) size (omega arith) ∙ es)
+          let z : p .len ≡ size + 4 = omega arith in
+          ap (λ (t : Text). sameText t (name ++ variadicMark)) (ap (textAt text (p .offset)) z ∙ text-split text (p .offset) size 4)
+          ∙ same-append (textAt text (p .offset) size) name (textAt text (p .offset + size) 4) variadicMark
+          (part-length text (p .offset) size (omega arith) ∙ es)
 
       and-no : (a : Bool) → (a && false) ≡ false
       and-no true = refl
@@ -73,12 +73,12 @@ module _ (tree text s : List ℕ) (c : Call) (k : ℕ) (p : Part) (room : p .0 +
       and-yes true = refl
       and-yes false = refl
 
-      module _ (b : Bool) (eb : b ≡ sameText (textAt text (p .0 + size) 4) variadicMark) where
+      module _ (b : Bool) (eb : b ≡ sameText (textAt text (p .offset + size) 4) variadicMark) where
         pub marked-other : not b ≡ true → false ≡ Asked
-        marked-other f = sym (pieces ∙ ap (λ (x : Bool). sameText (textAt text (p .0) size) name && x) (sym eb ∙ turned b false f) ∙ and-no (sameText (textAt text (p .0) size) name))
+        marked-other f = sym (pieces ∙ ap (λ (x : Bool). sameText (textAt text (p .offset) size) name && x) (sym eb ∙ turned b false f) ∙ and-no (sameText (textAt text (p .offset) size) name))
 
-        pub marked-name : not b ≡ false → (r : Bool) → r ≡ sameText (textAt text (p .0) size) name → r ≡ Asked
-        marked-name t r er = er ∙ sym (pieces ∙ ap (λ (x : Bool). sameText (textAt text (p .0) size) name && x) (sym eb ∙ turned b true t) ∙ and-yes (sameText (textAt text (p .0) size) name))
+        pub marked-name : not b ≡ false → (r : Bool) → r ≡ sameText (textAt text (p .offset) size) name → r ≡ Asked
+        marked-name t r er = er ∙ sym (pieces ∙ ap (λ (x : Bool). sameText (textAt text (p .offset) size) name && x) (sym eb ∙ turned b true t) ∙ and-yes (sameText (textAt text (p .offset) size) name))
 
 -- the digest with `$...` behind
 pub marked-rolled : (d a b c e : ℕ) → a ≡ rollStep d 36 → b ≡ rollStep a 46 → c ≡ rollStep b 46 → e ≡ rollStep c 46 → e ≡ rollFrom d variadicMark
@@ -168,7 +168,7 @@ module _ (tree text s : List ℕ) (c : Call) (h : Called tree text s c) where
         function = later-function tree text best found (x .function) (is .function);
       }
 
-      module _ (y : ℕ) (p : Part) (f : First tree text s w y) (part : PartIs text p (keyAt tree text y)) (brief : p .1 < 4294967296) where
+      module _ (y : ℕ) (p : Part) (f : First tree text s w y) (part : PartIs text p (keyAt tree text y)) (brief : p .len < 4294967296) where
         next : Next tree text s (suffixesAt tree text s (c .first)) k (dollar ∷ keyAt tree text y) (suffixesAt tree text s (wordOf tree w B))
         next = next-is tree text s (suffixesAt tree text s (c .first)) k (dollar ∷ keyAt tree text y) (suffixesAt tree text s (wordOf tree w B)) (x .here ∙ f .is)
 
@@ -179,8 +179,8 @@ module _ (tree text s : List ℕ) (c : Call) (h : Called tree text s c) where
             ∙ joined-more (program tree text) (allKeys tree text) (verbOf tree text s c) (suffixesAt tree text s (c .first)) k (dollar ∷ keyAt tree text y)
             (suffixesAt tree text s (wordOf tree w B)) (x .here ∙ f .is)
 
-        pub prefix-more : (z r : ℕ) → z ≡ rollStep d 36 → (r ≡ rollFrom z (textAt text (p .0) (p .1))) × (r < 4294967291)
-            → Prefixed tree text s c (laterOf best found) r (size + 1 + p .1) (wordOf tree w B) (k + 1)
+        pub prefix-more : (z r : ℕ) → z ≡ rollStep d 36 → (r ≡ rollFrom z (textAt text (p .offset) (p .len))) × (r < 4294967291)
+            → Prefixed tree text s c (laterOf best found) r (size + 1 + p .len) (wordOf tree w B) (k + 1)
         unfolding rollFrom variadicFunction
         prefix-more z r ez er = record {
           argued = f .rest;

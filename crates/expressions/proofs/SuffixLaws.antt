@@ -36,10 +36,10 @@ module _ (l : List ℕ) (bytes : (i : ℕ) → getD l i 0 < 256) where
   word-short i = omega (arith, bytes i, bytes (i + 1), bytes (i + 2), bytes (i + 3))
 
 module _ (tree text : List ℕ) (y : ℕ) (p : Part) (is : PartIs text p (keyAt tree text y)) where
-  pub key-size : length (keyAt tree text y) ≡ p .1
-  key-size = sym (ap length (is .is)) ∙ part-length text (p .0) (p .1) (is .inside)
+  pub key-size : length (keyAt tree text y) ≡ p .len
+  key-size = sym (ap length (is .is)) ∙ part-length text (p .offset) (p .len) (is .inside)
 
-  pub key-short : ((i : ℕ) → getD tree i 0 < 256) → p .1 < 4294967296
+  pub key-short : ((i : ℕ) → getD tree i 0 < 256) → p .len < 4294967296
   unfolding keyAt textOf wordOf
   key-short b =
       omega (arith, key-size, text-length text (wordOf tree y 3) (wordOf tree y 4), word-short tree b (y * 32 + 4 + 4 * 4))
@@ -112,12 +112,12 @@ module _ (tree text s : List ℕ) where
 
   -- the first of some suffixes, and the rest
   first-bytes : (w y : ℕ) (p : Part) → First tree text s w y → PartIs text p (keyAt tree text y)
-      → bytesIn (suffixesAt tree text s w) ≡ 1 + p .1 + bytesIn (suffixesAt tree text s (wordOf tree w B))
+      → bytesIn (suffixesAt tree text s w) ≡ 1 + p .len + bytesIn (suffixesAt tree text s (wordOf tree w B))
   unfolding bytesIn
   first-bytes w y p f i = ap bytesIn (f .is) ∙ omega (arith, key-size tree text y p i)
 
-  pub sum-more : (first n w y : ℕ) (p : Part) → Summed tree text s first n w → First tree text s w y → PartIs text p (keyAt tree text y) → p .1 < 4294967296
-      → Summed tree text s first (n + 1 + p .1) (wordOf tree w B)
+  pub sum-more : (first n w y : ℕ) (p : Part) → Summed tree text s first n w → First tree text s w y → PartIs text p (keyAt tree text y) → p .len < 4294967296
+      → Summed tree text s first (n + 1 + p .len) (wordOf tree w B)
   sum-more first n w y p h f i short =
       record {
         argued = f .rest;
@@ -193,11 +193,11 @@ module _ (tree text s : List ℕ) (first k at n : ℕ) where
       present : take (k - i) (suffixesAt tree text s w) ≡ (dollar ∷ keyAt tree text y) ∷ Behind
       present = let z : k - i ≡ suc (k - (i + 1)) = omega arith in rw (z, f .is) refl
 
-      present-bytes : bytesIn (take (k - i) (suffixesAt tree text s w)) ≡ 1 + (p .1 + size)
+      present-bytes : bytesIn (take (k - i) (suffixesAt tree text s w)) ≡ 1 + (p .len + size)
       unfolding bytesIn
       present-bytes = ap (bytesIn) present ∙ omega (arith, key-size tree text y p is)
 
-      pub match-room : here + 1 + p .1 + size ≤ length text
+      pub match-room : here + 1 + p .len + size ≤ length text
       match-room = omega (arith, h .room, present-bytes)
 
       joined-present : joined (program tree text) (allKeys tree text) [] (take (k - i) (suffixesAt tree text s w))
@@ -208,33 +208,33 @@ module _ (tree text s : List ℕ) (first k at n : ℕ) where
           ∙ joined-verb (program tree text) (allKeys tree text) (dollar ∷ keyAt tree text y) Behind
 
       text-present : textAt text here (bytesIn (take (k - i) (suffixesAt tree text s w)))
-          ≡ (getD text here 0 ∷ []) ++ (textAt text (here + 1) (p .1) ++ textAt text (here + 1 + p .1) size)
+          ≡ (getD text here 0 ∷ []) ++ (textAt text (here + 1) (p .len) ++ textAt text (here + 1 + p .len) size)
       text-present =
           ap (textAt text here) present-bytes
-          ∙ text-split text here 1 (p .1 + size)
-          ∙ ap₂ (λ (a b : List ℕ). a ++ b) (part-one text here (omega (arith, match-room))) (text-split text (here + 1) (p .1) size)
+          ∙ text-split text here 1 (p .len + size)
+          ∙ ap₂ (λ (a b : List ℕ). a ++ b) (part-one text here (omega (arith, match-room))) (text-split text (here + 1) (p .len) size)
 
       -- whether the present suffix stands here, and the rest behind it
       match-by : Asked ≡ (eqb (getD text here 0) dollar
-          && (sameText (textAt text (here + 1) (p .1)) (textAt text (p .0) (p .1))
-          && sameText (textAt text (here + 1 + p .1) size) (joined (program tree text) (allKeys tree text) [] Behind)))
+          && (sameText (textAt text (here + 1) (p .len)) (textAt text (p .offset) (p .len))
+          && sameText (textAt text (here + 1 + p .len) size) (joined (program tree text) (allKeys tree text) [] Behind)))
       unfolding sameText
       match-by =
           h .asked
           ∙ ap₂ sameText text-present joined-present
           ∙ ap (λ (b : Bool). eqb (getD text here 0) dollar && b)
-          (same-append (textAt text (here + 1) (p .1)) (keyAt tree text y) (textAt text (here + 1 + p .1) size) (joined (program tree text) (allKeys tree text) [] Behind)
-          (part-length text (here + 1) (p .1) (omega (arith, match-room)) ∙ sym (key-size tree text y p is))
-          ∙ ap (λ (t : Text). sameText (textAt text (here + 1) (p .1)) t && sameText (textAt text (here + 1 + p .1) size) (joined (program tree text) (allKeys tree text) [] Behind)) (sym (is .is)))
+          (same-append (textAt text (here + 1) (p .len)) (keyAt tree text y) (textAt text (here + 1 + p .len) size) (joined (program tree text) (allKeys tree text) [] Behind)
+          (part-length text (here + 1) (p .len) (omega (arith, match-room)) ∙ sym (key-size tree text y p is))
+          ∙ ap (λ (t : Text). sameText (textAt text (here + 1) (p .len)) t && sameText (textAt text (here + 1 + p .len) size) (joined (program tree text) (allKeys tree text) [] Behind)) (sym (is .is)))
 
       pub match-mark : (getD text here 0 ≡ dollar → ⊥) → false ≡ Asked
       match-mark d = sym (match-by ∙ rw (ne-eqb (getD text here 0) dollar d) refl)
 
-      module _ (d : getD text here 0 ≡ dollar) (r : Bool) (e : r ≡ sameText (textAt text (here + 1) (p .1)) (textAt text (p .0) (p .1))) where
+      module _ (d : getD text here 0 ≡ dollar) (r : Bool) (e : r ≡ sameText (textAt text (here + 1) (p .len)) (textAt text (p .offset) (p .len))) where
         pub match-other : r ≡ false → false ≡ Asked
         match-other q = sym (match-by ∙ rw (eq-eqb (getD text here 0) dollar d, sym e ∙ q) refl)
 
-        pub match-more : r ≡ true → Matched tree text s first k at n (here + 1 + p .1) (wordOf tree w B) (i + 1)
+        pub match-more : r ≡ true → Matched tree text s first k at n (here + 1 + p .len) (wordOf tree w B) (i + 1)
         match-more q =
             record {
               argued = f .rest;

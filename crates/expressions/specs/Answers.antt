@@ -5,6 +5,7 @@ use mathlib.Core.Bool.{Bool}
 use mathlib.Core.List.{List, [], _∷_, _++_}
 use mathlib.Core.Option.{Option, none, some}
 use lib.ListN.{length, getD}
+use Rattle.records.specs.Layout.{scratchEach}
 use Rattle.records.specs.Words.{detailOf, wordOf, records, A, B, C}
 use Rattle.records.specs.declared.convert_error.ConvertError.{ConvertError}
 use Rattle.syntax.specs.Syntax.{Value, ToType, Function, Neg, Or, unaryOps, binaryOps}
@@ -203,7 +204,7 @@ pub record WorksOut (tree text s : List ℕ) (sc : Scope) (turn e : ℕ) (a : Ex
 -- what that came to can be kept, and is: a type by a visit, and a refusal leaves the scratch as it was
 pub record Keepable (tree : List ℕ) (e : ℕ) (a : ExprType) (s : List ℕ) : Type 0 where
   pub fits : (y : ℕ) → a ≡ ExprType.Is y
-      → ((e < records tree) × (72 * records tree ≤ length s) × (y < 4294967296)) × (visitsAt tree s + 1 < 4294967296)
+      → ((e < records tree) × (scratchEach * records tree ≤ length s) × (y < 4294967296)) × (visitsAt tree s + 1 < 4294967296)
 
 pub record Keeps (tree : List ℕ) (turn e : ℕ) (a : ExprType) (s : List ℕ) (r : ExprType) (s′ : List ℕ) : Type 0 where
   pub same : r ≡ a

@@ -5,6 +5,7 @@ use mathlib.Core.Bool.{Bool, true}
 use mathlib.Core.Option.{Option, none}
 use mathlib.Core.List.{List, [], _∷_, _++_}
 use lib.ListN.{length, take}
+use Rattle.records.specs.Layout.{scratchEach}
 use Rattle.records.specs.Words.{wordOf, textAt, records, A, B, C}
 use Rattle.records.specs.Good.{Good}
 use Rattle.syntax.specs.Syntax.{Text, Param, Function}
@@ -59,7 +60,7 @@ module _ (tree text s : List ℕ) where
   -- a good tree, and arguments from cell w on whose slots have types
   pub record Argued (w : ℕ) : Type 0 where
     pub good : Good tree text
-    pub room : 72 * records tree ≤ length s
+    pub room : scratchEach * records tree ≤ length s
     pub cells : ArgsAt tree w
     pub typed : ArgsTyped tree s (argsAt tree text w)
 

@@ -12,6 +12,8 @@ use Rattle.laws.specs.Fix.{pick}
 use Rattle.laws.specs.Below.{sumBelow}
 use Rattle.laws.specs.Splice.{splice}
 use Rattle.laws.specs.Different.{has}
+use Rattle.records.specs.Layout as Layout
+use Rattle.records.specs.Layout.{endOf, typeSlots, visitCount}
 use Rattle.records.specs.Words.{byteAt, wordAt, wordOf, records, A, B}
 use Rattle.records.specs.Good.{Good}
 use Rattle.syntax.specs.Syntax.{Args, noArgs, Value, ToType, place}
@@ -21,8 +23,10 @@ use Rattle.conversion.specs.ConvertError.{Result, ok}
 use Rattle.conversion.specs.Scope as Def
 use Rattle.conversion.specs.Expressions.{TypedArg, get-type}
 use Rattle.conversion.specs.Written.{word}
+use Rattle.ir.specs.declared.structs.VarId.{VarId}
 use Rattle.scope.specs.declared.Scope.{Scope}
-use Rattle.scope.specs.Open.{NamesRoom, nameSlotAt, scopeAt}
+use Rattle.scope.specs.declared.Declared.{Declared}
+use Rattle.scope.specs.Open.{NamesRoom, openNameAt, nameSlotAt, scopeAt, DeclareMeets}
 use Rattle.syntax.specs.Places.{IsExpr, TypeAt, exprAt}
 use Rattle.texts.specs.Texts.{hasOwn, originalAt, Numbered}
 use Rattle.keys.specs.Keys.{allKeys, Keyed}
@@ -32,20 +36,27 @@ unfoldable pub FirstType : List TypedArg → ℕ → Type 0
 FirstType [] y = ⊥
 FirstType (a ∷ l) y = a .ty ≡ y
 
+-- where the slot of the expression at record e stands in the scratch of n records, and where the turn in which it was worked out
+abbrev pub typeSlotAt : ℕ → ℕ → ℕ
+typeSlotAt n e = typeSlots .from * n + typeSlots .each * e
+
+abbrev pub turnSlotAt : ℕ → ℕ → ℕ
+turnSlotAt n e = Layout.turns .from * n + Layout.turns .each * e
+
 module _ (tree : List ℕ) where
-  -- 'the types of expressions: a word at the slot of the expression's record', from byte 4n on
+  -- 'the types of expressions: a word at the slot of the expression's record'
   unfoldable pub slotAt : List ℕ → ℕ → ℕ
   unfolding wordAt
-  slotAt s e = wordAt s (4 * records tree + 4 * e)
+  slotAt s e = wordAt s (typeSlotAt (records tree) e)
 
-  -- 'the turn in which its type was worked out: a word at the slot of its record', from byte 64n on; 'how many visits were made', at byte 68n
+  -- 'the turn in which its type was worked out: a word at the slot of its record'; 'how many visits were made, in the first word'
   unfoldable pub turnAt : List ℕ → ℕ → ℕ
   unfolding wordAt
-  turnAt s e = wordAt s (64 * records tree + 4 * e)
+  turnAt s e = wordAt s (turnSlotAt (records tree) e)
 
   unfoldable pub visitsAt : List ℕ → ℕ
   unfolding wordAt
-  visitsAt s = wordAt s (68 * records tree)
+  visitsAt s = wordAt s (visitCount .from * records tree)
 
   -- the type of record e was worked out in this turn; how many were
   unfoldable pub inTurn : ℕ → List ℕ → ℕ → Bool
@@ -60,7 +71,8 @@ module _ (tree : List ℕ) where
   unfoldable pub afterVisit : ℕ → ℕ → ℕ → List ℕ → List ℕ
   unfolding visitsAt splice word
   afterVisit turn e y s =
-      splice (splice (splice s (4 * records tree + 4 * e) (word y)) (64 * records tree + 4 * e) (word turn)) (68 * records tree) (word (visitsAt s + 1))
+      splice (splice (splice s (typeSlotAt (records tree) e) (word y)) (turnSlotAt (records tree) e) (word turn)) (visitCount .from * records tree)
+      (word (visitsAt s + 1))
 
   -- the arguments with the types that the slots have
   unfoldable pub slotted : List ℕ → Args → List TypedArg
@@ -89,8 +101,8 @@ module _ (tree : List ℕ) where
     pub below : of < records tree
     pub has-text : hasOwn tree of ≡ true
     pub inside : originalOf s of < records tree
-    pub offset : wordAt s (8 * records tree + 16 * j) ≡ originalWord s of A
-    pub len : wordAt s (8 * records tree + 16 * j + 4) ≡ originalWord s of B
+    pub offset : wordAt s (openNameAt (records tree) j) ≡ originalWord s of A
+    pub len : wordAt s (openNameAt (records tree) j + 4) ≡ originalWord s of B
     pub slot : wordAt s (nameSlotAt (records tree) (originalOf s of)) ≡ j
 
   -- the scope is one of this tree, the open names' types are types of this tree, and each says its text by the lowest record that has it and is found
@@ -98,18 +110,18 @@ module _ (tree : List ℕ) where
   pub record Scoped (s : List ℕ) (sc : Scope) : Type 0 where
     pub records-are : sc .records ≡ records tree
     pub room : NamesRoom sc s
-    pub types : (j : ℕ) → j < sc .names → TypeAt tree (wordAt s (8 * records tree + 16 * j + 12) / 2)
+    pub types : (j : ℕ) → j < sc .names → TypeAt tree (wordAt s (openNameAt (records tree) j + 12) / 2)
     pub named : (j : ℕ) → j < sc .names → Original s j
 
-  -- below byte 64n only the region of the slots, from byte 4n to byte 8n, may differ
+  -- below the turns only the region of the slots may differ
   pub record Frame (s s′ : List ℕ) : Type 0 where
     pub same-length : length s′ ≡ length s
-    pub outside : (i : ℕ) → (i < 4 * records tree) ⊎ ((8 * records tree ≤ i) × (i < 64 * records tree)) → byteAt s′ i ≡ byteAt s i
+    pub outside : (i : ℕ) → (i < typeSlots .from * records tree) ⊎ ((endOf typeSlots * records tree ≤ i) × (i < Layout.turns .from * records tree)) → byteAt s′ i ≡ byteAt s i
 
-  -- no type was worked out in any turn but 0, and no visit made (a tree without records has no word for them); all below byte 64n is as it was
+  -- no type was worked out in any turn but 0, and no visit made (a tree without records has no word for them); all below the turns is as it was
   pub record Forgets (s s′ : List ℕ) : Type 0 where
     pub same-length : length s′ ≡ length s
-    pub below : (i : ℕ) → i < 64 * records tree → byteAt s′ i ≡ byteAt s i
+    pub below : (i : ℕ) → i < Layout.turns .from * records tree → byteAt s′ i ≡ byteAt s i
     pub turns : (e : ℕ) → e < records tree → turnAt s′ e ≡ 0
     pub none-made : 0 < records tree → visitsAt s′ ≡ 0
 
@@ -146,6 +158,11 @@ pub record Asked (tree text s : List ℕ) (sc : Scope) (r : ℕ) : Type 0 where
   pub scoped : Scoped tree s sc
   pub below : r < records tree
   pub has-text : hasOwn tree r ≡ true
+
+-- its name is declared by the words of the lowest record with the text
+abbrev pub NameDeclared : List ℕ → List ℕ → ℕ → VarId → Bool → Scope → List ℕ → List ℕ → Declared → Type 0
+NameDeclared tree text r v constant sc s s′ a =
+    DeclareMeets text (originalOf tree s r) (originalWord tree s r A) (originalWord tree s r B) v constant sc s s′ a
 
 -- what typing needs: the functions by key, and the scope
 pub record Ready (tree text s : List ℕ) (count : ℕ) (sc : Scope) : Type 0 where

@@ -3,6 +3,7 @@ ghost use mathlib.Core.Path.{_≡_};
 ghost use mathlib.Core.List.{List};
 ghost use Prim.Native.Nat.{ℕ, _+_, _*_, _≤_, _<_};
 ghost use lib.ListN.{length};
+ghost use Rattle.records.specs.Layout.{scratchEach};
 ghost use Rattle.records.specs.Words as Words;
 ghost use Rattle.records.specs.Words.{records, wordOf, none};
 ghost use Rattle.records.specs.Good.{Good};
@@ -71,7 +72,7 @@ pub fn next_cell(tree: &[u8], text: &[u8], cell: usize) -> usize
 
 // The type at an expression's slot.
 pub(crate) fn slot(tree: &[u8], scratch: &[u8], e: usize) -> usize
-    requires { ⌜ (e < records (now tree)) × (72 * records (now tree) ≤ length (now scratch)) ⌝ }
+    requires { ⌜ (e < records (now tree)) × (scratchEach * records (now tree) ≤ length (now scratch)) ⌝ }
     ensures { λ y. ⌜ y ≡ slotAt (now (tree .entry)) (now (scratch .entry)) e ⌝ }
 {
     let n = tree.len() / 32;

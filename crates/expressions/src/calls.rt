@@ -69,7 +69,13 @@ fn cast_type(tree: &[u8], text: &[u8], scratch: &[u8], call: Call, r: u32) -> Ca
     ensures { λ a. ⌜ CastIs (now (tree .entry)) a (castTypeOf (now (tree .entry)) (now (text .entry)) (now (scratch .entry)) call r) ⌝ }
 {
     let first = call.first;
-    if !is_cast_verb(text, Part(call.offset, call.len)) {
+    if !is_cast_verb(
+        text,
+        Part {
+            offset: call.offset,
+            len: call.len,
+        },
+    ) {
         return Cast::Not;
     }
     let Found::At(to) = target_type(tree, text, first) else {
@@ -128,8 +134,8 @@ fn call_of(tree: &[u8], text: &[u8], scratch: &[u8], r: usize) -> Call
     let count = count_arguments(tree, text, first);
     Call {
         verb: number,
-        offset: verb.0,
-        len: verb.1,
+        offset: verb.offset,
+        len: verb.len,
         first,
         count,
     }

@@ -46,7 +46,7 @@ fn suffix_bytes(tree: &[u8], text: &[u8], scratch: &[u8], first: usize) -> usize
     let mut cell = first;
     while cell != END {
         let key = type_key(tree, text, argument_type(tree, text, scratch, cell));
-        n = n + 1 + key.1;
+        n = n + 1 + key.len;
         cell = next_cell(tree, text, cell);
     }
     n
@@ -82,8 +82,8 @@ fn are_suffixes(
     let mut i = 0;
     while i < k {
         let piece = type_key(tree, text, argument_type(tree, text, scratch, cell));
-        let start = piece.0;
-        let size = piece.1;
+        let start = piece.offset;
+        let size = piece.len;
         if text[here] != DOLLAR {
             return false;
         }
@@ -100,14 +100,14 @@ fn are_suffixes(
 // Whether a part of the right length is the verb with the first k suffixes.
 fn is_name(tree: &[u8], text: &[u8], scratch: &[u8], call: Call, k: usize, key: Part) -> bool
     requires { ⌜ Called (now tree) (now text) (now scratch) call ⌝ }
-    requires { ⌜ (k ≤ call .count) × (key .0 + key .1 ≤ length (now text)) ⌝ }
-    requires { ⌜ key .1 ≡ length (nameOf (now tree) (now text) (now scratch) call k) ⌝ }
-    ensures { λ r. ⌜ r ≡ sameText (textAt (now (text .entry)) (key .0) (key .1)) (nameOf (now (tree .entry)) (now (text .entry)) (now (scratch .entry)) call k) ⌝ }
+    requires { ⌜ (k ≤ call .count) × (key .offset + key .len ≤ length (now text)) ⌝ }
+    requires { ⌜ key .len ≡ length (nameOf (now tree) (now text) (now scratch) call k) ⌝ }
+    ensures { λ r. ⌜ r ≡ sameText (textAt (now (text .entry)) (key .offset) (key .len)) (nameOf (now (tree .entry)) (now (text .entry)) (now (scratch .entry)) call k) ⌝ }
 {
-    let at = key.0;
+    let at = key.offset;
     let len = call.len;
     let first = call.first;
-    let left = key.1 - len;
+    let left = key.len - len;
     if !same_part(text, at, call.offset, len) {
         return false;
     }
@@ -158,7 +158,7 @@ fn full_digest(tree: &[u8], text: &[u8], scratch: &[u8], call: Call) -> u32
     let mut cell = call.first;
     while cell != END {
         let key = type_key(tree, text, argument_type(tree, text, scratch, cell));
-        d = roll(text, roll_byte(d, DOLLAR), key.0, key.1);
+        d = roll(text, roll_byte(d, DOLLAR), key.offset, key.len);
         cell = next_cell(tree, text, cell);
     }
     d
@@ -180,7 +180,7 @@ fn by_full_name(tree: &[u8], text: &[u8], scratch: &[u8], functions: usize, call
         let f = at - 1;
         if kept_digest(scratch, n, f) == digest {
             let key = key_of(tree, text, f);
-            if key.1 == length {
+            if key.len == length {
                 if is_name(tree, text, scratch, call, count, key) {
                     return mangled_only(tree, text, f);
                 }
@@ -234,20 +234,30 @@ fn is_marked(
     key: Part,
 ) -> bool
     requires { ⌜ Called (now tree) (now text) (now scratch) call ⌝ }
-    requires { ⌜ (k ≤ call .count) × (size ≡ length (nameOf (now tree) (now text) (now scratch) call k)) × (key .0 + key .1 ≤ length (now text)) ⌝ }
-    ensures { λ r. ⌜ r ≡ sameText (textAt (now (text .entry)) (key .0) (key .1)) (nameOf (now (tree .entry)) (now (text .entry)) (now (scratch .entry)) call k ++ variadicMark) ⌝ }
+    requires { ⌜ (k ≤ call .count) × (size ≡ length (nameOf (now tree) (now text) (now scratch) call k)) × (key .offset + key .len ≤ length (now text)) ⌝ }
+    ensures { λ r. ⌜ r ≡ sameText (textAt (now (text .entry)) (key .offset) (key .len)) (nameOf (now (tree .entry)) (now (text .entry)) (now (scratch .entry)) call k ++ variadicMark) ⌝ }
 {
-    let at = key.0;
-    if key.1 < 4 {
+    let at = key.offset;
+    if key.len < 4 {
         return false;
     }
-    if key.1 - 4 != size {
+    if key.len - 4 != size {
         return false;
     }
-    if !is_variadic_mark(text, Part(at + size, 4)) {
+    if !is_variadic_mark(
+        text,
+        Part {
+            offset: at + size,
+            len: 4,
+        },
+    ) {
         return false;
     }
-    is_name(tree, text, scratch, call, k, Part(at, size))
+    let name = Part {
+        offset: at,
+        len: size,
+    };
+    is_name(tree, text, scratch, call, k, name)
 }
 
 // The verb with the first k suffixes, `size` bytes, and `$...` as a key, looked for in the bucket of its digest.
@@ -307,8 +317,8 @@ fn by_prefix(tree: &[u8], text: &[u8], scratch: &[u8], functions: usize, call: C
         let found = by_marked(tree, text, scratch, functions, call, k, size, marked);
         best = later(best, found);
         let key = type_key(tree, text, argument_type(tree, text, scratch, cell));
-        digest = roll(text, roll_byte(digest, DOLLAR), key.0, key.1);
-        size = size + 1 + key.1;
+        digest = roll(text, roll_byte(digest, DOLLAR), key.offset, key.len);
+        size = size + 1 + key.len;
         cell = next_cell(tree, text, cell);
         k += 1;
     }

@@ -5,6 +5,7 @@ pub mod arguments;
 mod calls;
 mod exact;
 pub mod expressions;
+pub mod names;
 mod operands;
 mod takes;
 pub mod turns;

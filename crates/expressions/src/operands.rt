@@ -1,7 +1,8 @@
 // expressions.rs: the types of expressions from those of their operands, and of those that have none.
 ghost use mathlib.Core.Path.{_≡_};
-ghost use Prim.Native.Nat.{_+_, _≤_, _<_};
-ghost use lib.ListN.{getD};
+ghost use mathlib.Core.List.{List};
+ghost use Prim.Native.Nat.{ℕ, _+_, _*_, _≤_, _<_};
+ghost use lib.ListN.{length, getD};
 ghost use Rattle.records.specs.Words.{kindOf, records};
 ghost use Rattle.records.specs.Kinds.{kindName, kindSizeOf, kindUnary, kindBinary};
 ghost use Rattle.records.specs.Good.{Good};
@@ -18,6 +19,7 @@ ghost use Rattle.conversion.specs.ConvertError.{ok};
 ghost use Rattle.expressions.specs.Answers.{valueResult, IsCallee, Operands, TypeIs, FoundIs, Accepts, unaryTypeAt, commonAt, binaryErrorAt, binaryTypeAt};
 use crate::answers::ExprType;
 use crate::answers::Resolved;
+use crate::names::find_name;
 use records::convert_error::ConvertError;
 use records::convert_error::ConvertErrorKind;
 use records::numbers::ADDRESS_OF_CHAR;
@@ -36,16 +38,12 @@ use records::numbers::NULL_TYPE;
 use records::numbers::UNSIGNED_LONG;
 use records::words::Found;
 use records::words::NONE;
-use records::words::WORD_A;
-use records::words::WORD_B;
 use records::words::WORD_D;
 use records::words::detail;
 use records::words::kind;
 use records::words::reference;
-use records::words::word;
 use scope::Known;
 use scope::Scope;
-use texts::original;
 use types::fits::fits;
 use types::fits::range_error;
 use types::form::form;
@@ -67,10 +65,9 @@ pub(crate) fn refuse_type(kind: ConvertErrorKind, place: usize) -> ExprType
 }
 
 // Whether an operator's class of operands has this type.
-fn accepts(tree: &[u8], text: &[u8], class: u8, ty: usize) -> bool
-    requires { ⌜ Good (now tree) (now text) ⌝ }
-    requires { ⌜ TypeAt (now tree) ty ⌝ }
-    ensures { λ r. ⌜ Accepts (now (tree .entry)) (now (text .entry)) class ty r ⌝ }
+fn accepts(tree: &[u8], class: u8, ty: usize) -> bool
+    requires { ⌜ ty * 32 + 32 ≤ length (now tree) ⌝ }
+    ensures { λ r. ⌜ ((text : List ℕ) → Accepts (now (tree .entry)) text class ty r) ⌝ }
 {
     if class == BOOLS {
         return ty == BOOL_TYPE;
@@ -85,10 +82,9 @@ fn accepts(tree: &[u8], text: &[u8], class: u8, ty: usize) -> bool
 }
 
 // Neg takes numbers, BitNot integers, Not Bool.
-fn accepts_unary(tree: &[u8], text: &[u8], op: u8, ty: usize) -> bool
-    requires { ⌜ Good (now tree) (now text) ⌝ }
-    requires { ⌜ TypeAt (now tree) ty ⌝ }
-    ensures { λ r. ⌜ r ≡ acceptsUnary (program (now (tree .entry)) (now (text .entry))) (allKeys (now (tree .entry)) (now (text .entry))) (getD unaryOps op Neg) ty ⌝ }
+fn accepts_unary(tree: &[u8], op: u8, ty: usize) -> bool
+    requires { ⌜ ty * 32 + 32 ≤ length (now tree) ⌝ }
+    ensures { λ r. ⌜ ((text : List ℕ) → r ≡ acceptsUnary (program (now (tree .entry)) text) (allKeys (now (tree .entry)) text) (getD unaryOps op Neg) ty) ⌝ }
 {
     if op == BIT_NOT {
         return form(tree, ty) == FORM_INT;
@@ -106,7 +102,7 @@ pub(crate) fn unary_type(tree: &[u8], text: &[u8], e: usize, ty: usize) -> ExprT
     requires { ⌜ TypeAt (now tree) ty ⌝ }
     ensures { λ a. ⌜ TypeIs (now (tree .entry)) a (unaryTypeAt (now (tree .entry)) (now (text .entry)) e ty) ⌝ }
 {
-    if accepts_unary(tree, text, detail(tree, e), ty) {
+    if accepts_unary(tree, detail(tree, e), ty) {
         return ExprType::Is(ty);
     }
     refuse_type(ConvertErrorKind::WrongOperands, e)
@@ -172,7 +168,7 @@ pub(crate) fn binary_type(tree: &[u8], text: &[u8], e: usize, s: Sides) -> ExprT
 {
     let op = operator_of(detail(tree, e) as usize);
     if let Found::At(ty) = common_of(tree, text, s) {
-        if accepts(tree, text, op.operands, ty) {
+        if accepts(tree, op.operands, ty) {
             if op.result == BOOL {
                 return ExprType::Is(BOOL_TYPE);
             }
@@ -229,17 +225,14 @@ fn literal_type(tree: &[u8], text: &[u8], e: usize) -> usize
     UNSIGNED_LONG
 }
 
-// The type of the Name e, which is looked for by the lowest record with its text.
+// The type of the Name e.
 fn name_type(tree: &[u8], text: &[u8], scratch: &[u8], scope: Scope, e: usize) -> ExprType
     requires { ⌜ Good (now tree) (now text) × Numbered (now tree) (now text) (now scratch) ⌝ }
     requires { ⌜ Scoped (now tree) (now scratch) scope ⌝ }
     requires { ⌜ IsKind (now tree) kindName e ⌝ }
     ensures { λ a. ⌜ TypeIs (now (tree .entry)) a (typeIn (now (tree .entry)) (now (text .entry)) (scopeAt (now (tree .entry)) (now (text .entry)) (now (scratch .entry)) scope) e) ⌝ }
 {
-    let o = original(scratch, scope.records, e);
-    let offset = word(tree, o, WORD_A);
-    let len = word(tree, o, WORD_B);
-    match scope.find_variable(scratch, o, offset, len) {
+    match find_name(tree, text, scratch, scope, e) {
         Known::Is(v, _) => ExprType::Is(v.1 as usize),
         Known::Unknown => refuse_type(ConvertErrorKind::UnknownVariable, e),
     }

@@ -3,6 +3,7 @@
 ghost use mathlib.Core.Path.{_≡_};
 ghost use Prim.Native.Nat.{_+_, _*_, _≤_, _<_};
 ghost use lib.ListN.{length};
+ghost use Rattle.records.specs.Layout.{scratchEach};
 ghost use Rattle.records.specs.Words.{records};
 ghost use Rattle.expressions.specs.Slots.{inTurn, visitsAt, afterVisit, Forgets};
 ghost use Rattle.expressions.specs.Answers.{Keepable, Keeps};
@@ -18,7 +19,7 @@ use records::words::put_word;
 
 // Whether the type of e was worked out in this turn.
 pub(crate) fn is_typed(tree: &[u8], scratch: &[u8], turn: u32, e: usize) -> bool
-    requires { ⌜ (e < records (now tree)) × (72 * records (now tree) ≤ length (now scratch)) ⌝ }
+    requires { ⌜ (e < records (now tree)) × (scratchEach * records (now tree) ≤ length (now scratch)) ⌝ }
     ensures { λ b. ⌜ b ≡ inTurn (now (tree .entry)) turn (now (scratch .entry)) e ⌝ }
 {
     let n = tree.len() / 32;
@@ -27,7 +28,7 @@ pub(crate) fn is_typed(tree: &[u8], scratch: &[u8], turn: u32, e: usize) -> bool
 
 // A visit: the type y of e was worked out in this turn.
 fn visit(tree: &[u8], scratch: &mut [u8], turn: u32, e: usize, y: usize)
-    requires { ⌜ (e < records (now tree)) × (72 * records (now tree) ≤ length (now scratch)) × (y < 4294967296) ⌝ }
+    requires { ⌜ (e < records (now tree)) × (scratchEach * records (now tree) ≤ length (now scratch)) × (y < 4294967296) ⌝ }
     requires { ⌜ visitsAt (now tree) (now scratch) + 1 < 4294967296 ⌝ }
     ensures { λ _. ⌜ now (scratch .exit) ≡ afterVisit (now (tree .entry)) turn e y (now (scratch .entry)) ⌝ }
 {
@@ -54,7 +55,7 @@ pub(crate) fn keep(tree: &[u8], scratch: &mut [u8], turn: u32, e: usize, a: Expr
 
 // No type is known and no visit made, whatever the scratch held.
 pub fn forget(tree: &[u8], scratch: &mut [u8])
-    requires { ⌜ 72 * records (now tree) ≤ length (now scratch) ⌝ }
+    requires { ⌜ scratchEach * records (now tree) ≤ length (now scratch) ⌝ }
     ensures { λ _. ⌜ Forgets (now (tree .entry)) (now (scratch .entry)) (now (scratch .exit)) ⌝ }
 {
     let n = tree.len() / 32;
@@ -67,7 +68,7 @@ pub fn forget(tree: &[u8], scratch: &mut [u8])
 
 // How many visits were made.
 pub fn visits(tree: &[u8], scratch: &[u8]) -> usize
-    requires { ⌜ (0 < records (now tree)) × (72 * records (now tree) ≤ length (now scratch)) ⌝ }
+    requires { ⌜ (0 < records (now tree)) × (scratchEach * records (now tree) ≤ length (now scratch)) ⌝ }
     ensures { λ v. ⌜ v ≡ visitsAt (now (tree .entry)) (now (scratch .entry)) ⌝ }
 {
     let n = tree.len() / 32;

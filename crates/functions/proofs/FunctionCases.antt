@@ -80,7 +80,7 @@ module _ (tree text s : List ℕ) (count j f : ℕ) (good : Good tree text) (l :
       start ∙ e ∙ rw (keys-more tree text j (omega (arith, l .counted)), p)
 
   module _ (m a : Bool) (n : Part) (em : m ≡ is-mangled (functionOf tree text f)) (named : PartIs text n (functionOf tree text f .name))
-      (ea : a ≡ is-ascii (textAt text (n .0) (n .1))) where
+      (ea : a ≡ is-ascii (textAt text (n .offset) (n .len))) where
     mangled : (b : Bool) → m ≡ b → is-mangled (functionOf tree text f) ≡ b
     mangled b q = sym em ∙ q
 
@@ -178,7 +178,7 @@ module _ (tree text : List ℕ) (o : Found) (needs : Bool) (e : functionFound tr
 
 module _ (tree text s : List ℕ) (count j : ℕ) (l : Listed tree s count) where
   module _ (h : j < count) (f : ℕ) (is : (f ≡ wordAt s (4 * j)) × FunctionAt tree f) (n : Part) (b : Bool) (named : PartIs text n (functionOf tree text f .name))
-      (eb : b ≡ sameText (textAt text (n .0) (n .1)) mainName) where
+      (eb : b ≡ sameText (textAt text (n .offset) (n .len)) mainName) where
     this : getD (functionPlaces tree) j 0 ≡ f
     this = sym (is .0 ∙ l .listed j h)
 

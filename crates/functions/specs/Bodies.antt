@@ -2,7 +2,7 @@
 -- variables alone. Assumes nothing: these are definitions.
 use mathlib.Core.Path.{_≡_}
 use Prim.Native.Nat.{ℕ, _+_, _*_, _≤_}
-use mathlib.Core.Bool.{true, not, _&&_}
+use mathlib.Core.Bool.{Bool, true, not, _&&_}
 use mathlib.Core.List.{List, [], _∷_, _++_}
 use lib.ListN.{length}
 use Rattle.laws.specs.Fix.{pick}
@@ -21,7 +21,7 @@ use Rattle.conversion.specs.Statements.{convert-block}
 use Rattle.conversion.specs.Functions.{Pool, always-returns, convert-func}
 use Rattle.conversion.specs.Visits.{bodyVisits}
 use Rattle.ir.specs.declared.structs.Counters.{Counters}
-use Rattle.ir.specs.Amounts.{Affords}
+use Rattle.ir.specs.Amounts.{amount, Affords}
 use Rattle.ir.specs.Arena.{TablesSoFar, Holds, Room}
 use Rattle.ir.specs.Steps.{grown, closed, StopsIn}
 use Rattle.scope.specs.Open.{scopeAt}
@@ -31,6 +31,7 @@ use Rattle.statements.specs.declared.answers.Finished.{Finished}
 use Rattle.statements.specs.declared.answers.Finished.the-variants as Finished
 use Rattle.statements.specs.declared.answers.Converter.{Converter}
 use Rattle.statements.specs.Converting.{blockAmount, Stays, StaysFor}
+use Rattle.statements.specs.Meets.{Adds}
 use Rattle.statements.specs.Turns.{Visited}
 
 -- ---- the parameters
@@ -41,7 +42,15 @@ unfolding _>>=_ pure new-var
 newVars [] = pure tt
 newVars (p ∷ l) = new-var (p .ty) >>= λ x. newVars l
 
+-- they are added for each of these parameters
+abbrev pub ParametersAdd : List Param → Counters → List ℕ → Counters → List ℕ → Type 0
+ParametersAdd params k l k′ l′ = Adds (newVars params) (amount 0 (length params) 0 0 0) k l tt k′ l′
+
 -- ---- a function
+
+-- f has a type to return, and a path through its body that returns nothing
+abbrev pub missesReturn : List ℕ → List ℕ → ℕ → Bool
+missesReturn tree text f = isSome (functionOf tree text f .returnType) && not (always-returns (blockAt tree text (wordOf tree f E)))
 
 -- the tables where a function begins: the functions before it are done, and there are their strings and floats
 abbrev pub begun : List IrFunction → Pool → TablesSoFar
@@ -93,7 +102,7 @@ unfoldable pub bodySteps : List ℕ → List ℕ → ℕ → Def.Scope → M (Un
 unfolding _>>=_ pick pure fail convert-block isSome always-returns
 bodySteps tree text f sc =
     convert-block (program tree text) (allKeys tree text) (blockAt tree text (wordOf tree f E)) sc
-    >>= λ x. pick (isSome (functionOf tree text f .returnType) && not (always-returns (blockAt tree text (wordOf tree f E)))) (fail MissingReturn f) (pure tt)
+    >>= λ x. pick (missesReturn tree text f) (fail MissingReturn f) (pure tt)
 
 -- the step gives, and its tables are closed as those of function f
 unfoldable pub BodyStands : Out (Unit {0}) → ℕ → List ℕ → TablesSoFar → Counters → List ℕ → Type 0

@@ -5,6 +5,7 @@ use mathlib.Core.List.{List, [], _∷_, _++_}
 use lib.ListN.{length, getD}
 use Rattle.laws.specs.Splice.{splice}
 use Rattle.records.specs.declared.convert_error.ConvertError.{ConvertError}
+use Rattle.records.specs.Layout.{endOf, judging, keySlots}
 use Rattle.records.specs.Words.{wordAt, records}
 use Rattle.syntax.specs.Decode.{program}
 use Rattle.syntax.specs.Places.{functionOf}
@@ -30,13 +31,13 @@ listedIn tree s = splice s 0 (words (functionPlaces tree))
 -- one turn of `get_all_functions`: the j-th listed function is added to those before it, or refused
 abbrev pub TurnMeets : List ℕ → List ℕ → List ℕ → ℕ → Outcome → Type 0
 TurnMeets tree text s j r =
-    addFunction (functionOf tree text (wordAt s (4 * j))) (keysBelow tree text j) ≡ doneWith (keysBelow tree text (j + 1)) r
+    addFunction (functionOf tree text (wordAt s (judging .each * j))) (keysBelow tree text j) ≡ doneWith (keysBelow tree text (j + 1)) r
 
 -- the list and the slots of the keys are written, and all other bytes are as they were
 pub record ListKeeps (tree s s′ : List ℕ) : Type 0 where
   pub long : length s′ ≡ length s
-  pub between : (i : ℕ) → 4 * length (functionPlaces tree) ≤ i → i < 44 * records tree → getD s′ i 0 ≡ getD s i 0
-  pub behind : (i : ℕ) → 48 * records tree ≤ i → getD s′ i 0 ≡ getD s i 0
+  pub between : (i : ℕ) → judging .each * length (functionPlaces tree) ≤ i → i < keySlots .from * records tree → getD s′ i 0 ≡ getD s i 0
+  pub behind : (i : ℕ) → endOf keySlots * records tree ≤ i → getD s′ i 0 ≡ getD s i 0
 
 -- `get_all_functions`: the functions' records are listed, and their keys are distinct or the first function that is not fine is refused
 pub data AllMeet (tree text s s′ : List ℕ) : AllFunctions → Type 0 where

@@ -7,6 +7,7 @@ use mathlib.Core.Option.{none}
 use lib.ListN.{length}
 use Rattle.laws.specs.Fix.{pick}
 use Rattle.laws.specs.Splice.{splice}
+use Rattle.records.specs.Layout.{endOf, openNames, nameSlots}
 use Rattle.records.specs.Words as Words
 use Rattle.records.specs.Words.{byteAt, wordAt, wordOf, records, A, B, C}
 use Rattle.records.specs.declared.convert_error.ConvertError.{ConvertError}
@@ -18,7 +19,7 @@ use Rattle.conversion.specs.Scope as Def
 use Rattle.conversion.specs.Scope.{Variable, find-variable, withVariable}
 use Rattle.conversion.specs.Written.{word}
 use Rattle.scope.specs.declared.Scope.{Scope}
-use Rattle.scope.specs.Open.{more, nameSlotAt, scopeAt}
+use Rattle.scope.specs.Open.{more, openNameAt, nameSlotAt, scopeAt}
 use Rattle.functions.specs.declared.parameters.Parameters.{Parameters}
 use Rattle.functions.specs.declared.parameters.Parameters.the-variants as Parameters
 use Rattle.syntax.specs.Places.{functionOf}
@@ -60,7 +61,7 @@ parameterEntry tree s p k = word (originalWord tree s (p .recOf) A) ++ word (ori
 -- the scratch x with it: the entry behind those before, and its place at the slot of its name's number
 abbrev pub parameterAdded : List ℕ → List ℕ → Param → ℕ → List ℕ → List ℕ
 parameterAdded tree s p k x =
-    splice (splice x (8 * records tree + 16 * k) (parameterEntry tree s p k)) (nameSlotAt (records tree) (originalOf tree s (p .recOf))) (word k)
+    splice (splice x (openNameAt (records tree) k) (parameterEntry tree s p k)) (nameSlotAt (records tree) (originalOf tree s (p .recOf))) (word k)
 
 -- with parameters numbered from k on, one after the other
 unfoldable pub parametersAdded : List ℕ → List ℕ → List Param → ℕ → List ℕ → List ℕ
@@ -68,12 +69,12 @@ unfolding word wordOf wordAt splice
 parametersAdded tree s [] k x = x
 parametersAdded tree s (p ∷ l) k x = parametersAdded tree s l (suc k) (parameterAdded tree s p k x)
 
--- only the regions of the open names, from byte 8n to byte 24n, and of their slots, from byte 60n to byte 64n, may differ
+-- only the regions of the open names and of their slots may differ
 pub record NamesOnly (tree s s′ : List ℕ) : Type 0 where
   pub same-length : length s′ ≡ length s
-  pub before : (i : ℕ) → i < 8 * records tree → byteAt s′ i ≡ byteAt s i
-  pub between : (i : ℕ) → 24 * records tree ≤ i → i < 60 * records tree → byteAt s′ i ≡ byteAt s i
-  pub behind : (i : ℕ) → 64 * records tree ≤ i → byteAt s′ i ≡ byteAt s i
+  pub before : (i : ℕ) → i < openNames .from * records tree → byteAt s′ i ≡ byteAt s i
+  pub between : (i : ℕ) → endOf openNames * records tree ≤ i → i < nameSlots .from * records tree → byteAt s′ i ≡ byteAt s i
+  pub behind : (i : ℕ) → endOf nameSlots * records tree ≤ i → byteAt s′ i ≡ byteAt s i
 
 -- one parameter more, or its name is taken
 pub data OneMore (tree text : List ℕ) (functions : ℕ) (sc : Scope) (p : Param) (s s′ : List ℕ) : Parameters → Type 0 where

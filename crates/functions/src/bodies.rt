@@ -1,22 +1,19 @@
 // functions.rs, `convert_func`: a function's parameters, its body, and its entry.
 ghost use mathlib.Core.Path.{_≡_};
 ghost use Prim.Native.Nat.{_<_};
-ghost use mathlib.Core.Bool.{not, _&&_};
 ghost use lib.ListN.{length};
 ghost use Rattle.records.specs.Words as Words;
 ghost use Rattle.records.specs.Words.{records, wordOf};
 ghost use Rattle.records.specs.Good.{Good};
 ghost use Rattle.syntax.specs.Count.{functionRecords};
-ghost use Rattle.syntax.specs.Places.{FunctionAt, functionOf, blockAt};
+ghost use Rattle.syntax.specs.Places.{FunctionAt, functionOf};
 ghost use Rattle.conversion.specs.Types.{isSome};
-ghost use Rattle.conversion.specs.Functions.{always-returns};
 ghost use Rattle.ir.specs.Amounts.{amount};
 ghost use Rattle.ir.specs.Arena.{Room};
 ghost use Rattle.keys.specs.Keys.{Keyed};
 ghost use Rattle.statements.specs.Converting.{Converting, RoomFor, BlockAfforded};
-ghost use Rattle.statements.specs.Meets.{Adds};
 ghost use Rattle.statements.specs.Turns.{Turns, BlockVisited};
-ghost use Rattle.functions.specs.Bodies.{newVars, FunctionsAfforded, BodyAs, ConvertsFunction, FunctionVisited};
+ghost use Rattle.functions.specs.Bodies.{ParametersAdd, missesReturn, FunctionsAfforded, BodyAs, ConvertsFunction, FunctionVisited};
 use crate::parameters::Parameters;
 use crate::parameters::declare_parameters;
 use crate::returns::always_returns;
@@ -58,7 +55,7 @@ fn parameter_variables(
 ) -> Counters
     requires { ⌜ Good (now tree) (now text) × FunctionAt (now tree) f ⌝ }
     requires { ⌜ RoomFor k (now arena) (amount 0 (length (functionOf (now tree) (now text) f .params)) 0 0 0) ⌝ }
-    ensures { λ r. ⌜ Adds (newVars (functionOf (now (tree .entry)) (now (text .entry)) f .params)) (amount 0 (length (functionOf (now (tree .entry)) (now (text .entry)) f .params)) 0 0 0) k (now (arena .entry)) tt r (now (arena .exit)) ⌝ }
+    ensures { λ r. ⌜ ParametersAdd (functionOf (now (tree .entry)) (now (text .entry)) f .params) k (now (arena .entry)) r (now (arena .exit)) ⌝ }
 {
     let mut next = k;
     let mut cell = parameters_of(tree, text, f);
@@ -77,7 +74,7 @@ fn parameter_variables(
 // f has a type to return, and a path through its body that returns nothing.
 fn misses_return(tree: &[u8], text: &[u8], f: usize) -> bool
     requires { ⌜ Good (now tree) (now text) × FunctionAt (now tree) f ⌝ }
-    ensures { λ b. ⌜ b ≡ isSome (functionOf (now (tree .entry)) (now (text .entry)) f .returnType) && not (always-returns (blockAt (now (tree .entry)) (now (text .entry)) (wordOf (now (tree .entry)) f Words.E))) ⌝ }
+    ensures { λ b. ⌜ b ≡ missesReturn (now (tree .entry)) (now (text .entry)) f ⌝ }
 {
     if reference(tree, f, WORD_D) == NONE as usize {
         return false;

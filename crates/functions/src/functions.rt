@@ -3,7 +3,8 @@
 ghost use mathlib.Core.Path.{_≡_};
 ghost use Prim.Native.Nat.{_+_, _*_, _≤_, _<_};
 ghost use lib.ListN.{length};
-ghost use Rattle.records.specs.Words.{records};
+ghost use Rattle.records.specs.Layout.{scratchEach};
+ghost use Rattle.records.specs.Words.{mostRecords, records};
 ghost use Rattle.records.specs.Good.{Good};
 ghost use Rattle.syntax.specs.Decode.{program, typeAt};
 ghost use Rattle.conversion.specs.Functions.{findMain, returnsInt, check-main};
@@ -23,6 +24,7 @@ use keys::parts::is_ascii;
 use keys::parts::is_main;
 use records::convert_error::ConvertError;
 use records::convert_error::ConvertErrorKind;
+use records::layout::LISTED_BYTES;
 use records::numbers::FORM_INT;
 use records::numbers::KIND_FUNCTION;
 use records::words::Found;
@@ -46,9 +48,9 @@ fn refuse_function(kind: ConvertErrorKind, place: u32) -> Outcome
 }
 
 // Lists the functions' records in scratch, and says how many there are.
-fn list_functions(tree: &[u8], text: &[u8], scratch: &mut [u8]) -> usize
-    requires { ⌜ Good (now tree) (now text) ⌝ }
-    requires { ⌜ 72 * records (now tree) ≤ length (now scratch) ⌝ }
+fn list_functions(tree: &[u8], scratch: &mut [u8]) -> usize
+    requires { ⌜ records (now tree) ≤ mostRecords ⌝ }
+    requires { ⌜ scratchEach * records (now tree) ≤ length (now scratch) ⌝ }
     ensures { λ count. ⌜ (now (scratch .exit) ≡ listedIn (now (tree .entry)) (now (scratch .entry))) × (count ≡ length (functionPlaces (now (tree .entry)))) ⌝ }
 {
     let n = tree.len() / 32;
@@ -56,7 +58,7 @@ fn list_functions(tree: &[u8], text: &[u8], scratch: &mut [u8]) -> usize
     let mut count = 0;
     while r < n {
         if kind(tree, r) == KIND_FUNCTION {
-            put_word(scratch, 4 * count, r as u32);
+            put_word(scratch, LISTED_BYTES * count, r as u32);
             count += 1;
         }
         r += 1;
@@ -95,10 +97,10 @@ fn check_function(tree: &[u8], text: &[u8], scratch: &[u8], count: usize, j: usi
 // wrong letters.
 pub fn get_all_functions(tree: &[u8], text: &[u8], scratch: &mut [u8]) -> AllFunctions
     requires { ⌜ Good (now tree) (now text) × Numbered (now tree) (now text) (now scratch) ⌝ }
-    requires { ⌜ 72 * records (now tree) ≤ length (now scratch) ⌝ }
+    requires { ⌜ scratchEach * records (now tree) ≤ length (now scratch) ⌝ }
     ensures { λ r. ⌜ AllMeet (now (tree .entry)) (now (text .entry)) (now (scratch .entry)) (now (scratch .exit)) r ⌝ }
 {
-    let count = list_functions(tree, text, scratch);
+    let count = list_functions(tree, scratch);
     clear_keys(scratch, tree.len() / 32);
     let mut j = 0;
     while j < count {

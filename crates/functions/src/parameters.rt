@@ -10,19 +10,18 @@ ghost use Rattle.functions.specs.Parameters.{parameterIn, OneMore, Param
 ghost use Rattle.statements.specs.Turns.{TurnsStay};
 use expressions::arguments::END;
 use expressions::arguments::next_cell;
+use expressions::names::declare_name;
 use ir::structs::VarId;
 use keys::keys::parameters_of;
 use records::convert_error::ConvertError;
 use records::convert_error::ConvertErrorKind;
 use records::words::NONE;
 use records::words::WORD_A;
-use records::words::WORD_B;
 use records::words::WORD_C;
 use records::words::reference;
 use records::words::word;
 use scope::Declared;
 use scope::Scope;
-use texts::original;
 
 // The scope with the parameters, or AlreadyDeclared at the one whose name is taken.
 pub enum Parameters {
@@ -40,8 +39,7 @@ fn taken(place: usize) -> Parameters
     })
 }
 
-// The scope with the parameter of one cell more; its variable's number is how many stood before, and its name is that of the lowest record with
-// the text. There is room: each parameter has a record.
+// The scope with the parameter of one cell more; its variable's number is how many stood before. There is room: each parameter has a record.
 fn declare_parameter(
     tree: &[u8],
     text: &[u8],
@@ -58,10 +56,7 @@ fn declare_parameter(
 {
     let p = reference(tree, cell, WORD_A);
     let v = VarId(scope.names as u32, word(tree, p, WORD_C));
-    let o = original(scratch, scope.records, p);
-    let offset = word(tree, o, WORD_A);
-    let len = word(tree, o, WORD_B);
-    match scope.declare(scratch, o, offset, len, v, false) {
+    match declare_name(tree, text, scratch, scope, p, v, false) {
         Declared::Done(next) => Parameters::Done(next),
         Declared::Taken => taken(p),
     }

@@ -3,7 +3,8 @@
 use mathlib.Core.Path.{_≡_, refl}
 use mathlib.Core.Bool.{true}
 use Prim.Native.Nat.{_*_}
-use Rattle.ir.specs.Arena.{instructions, variables, labels, functions, strings, floats, stringDigests, labelSlots, floatLinks, floatHeads, stringLinks, stringHeads, arena, arenaEach, fitsWithin}
+use Rattle.ir.specs.Arena.{instructions, variables, labels, functions, strings, floats, stringDigests, labelSlots, floatLinks, floatHeads, stringLinks, stringHeads, arena, arenaEach}
+use Rattle.records.specs.Layout.{fitsWithin}
 
 pub arena-fits : fitsWithin arenaEach 0 arena ≡ true
 unfolding fitsWithin

@@ -2,9 +2,8 @@
 -- instruction buffer (320n bytes), whose first 128n bytes are the instructions' own place. Assumes nothing: these are definitions.
 use mathlib.Core.Path.{_≡_}
 use Prim.Native.Nat.{ℕ, suc, _+_, _-_, _*_, _/_, _%_, _^_, _≤_, _<_}
-use mathlib.Core.Bool.{Bool, false, _&&_}
+use mathlib.Core.Bool.{false}
 use mathlib.Core.List.{List, [], _∷_, _++_}
-use lib.Dec.{leb}
 use lib.ListN.{length, take, drop, getD}
 use Rattle.laws.specs.All.{All}
 use Rattle.records.specs.Digest.{digestOf}
@@ -68,13 +67,67 @@ stringHeads = record { from = 284; each = 4 }
 abbrev pub arenaEach : ℕ
 arenaEach = 320
 
+-- how many bytes an entry of each table has
+abbrev pub instructionBytes : ℕ
+instructionBytes = 32
+
+abbrev pub variableBytes : ℕ
+variableBytes = 4
+
+abbrev pub labelBytes : ℕ
+labelBytes = 8
+
+abbrev pub functionBytes : ℕ
+functionBytes = 32
+
+abbrev pub stringBytes : ℕ
+stringBytes = 8
+
+abbrev pub floatBytes : ℕ
+floatBytes = 16
+
+-- a number in what they are searched by
+abbrev pub searchBytes : ℕ
+searchBytes = 4
+
+-- where entry i of a table stands, in the tables of n records
+abbrev pub instructionEntryAt : ℕ → ℕ
+instructionEntryAt i = instructionBytes * i
+
+abbrev pub variableEntryAt : ℕ → ℕ → ℕ
+variableEntryAt n i = variables .from * n + variableBytes * i
+
+abbrev pub labelEntryAt : ℕ → ℕ → ℕ
+labelEntryAt n i = labels .from * n + labelBytes * i
+
+abbrev pub functionEntryAt : ℕ → ℕ → ℕ
+functionEntryAt n i = functions .from * n + functionBytes * i
+
+abbrev pub stringEntryAt : ℕ → ℕ → ℕ
+stringEntryAt n i = strings .from * n + stringBytes * i
+
+abbrev pub floatEntryAt : ℕ → ℕ → ℕ
+floatEntryAt n i = floats .from * n + floatBytes * i
+
+-- the digest and the link of string i, and the head of bucket b
+abbrev pub stringDigestAt : ℕ → ℕ → ℕ
+stringDigestAt n i = stringDigests .from * n + searchBytes * i
+
+abbrev pub stringLinkAt : ℕ → ℕ → ℕ
+stringLinkAt n i = stringLinks .from * n + searchBytes * i
+
+abbrev pub stringHeadAt : ℕ → ℕ → ℕ
+stringHeadAt n b = stringHeads .from * n + searchBytes * b
+
+-- the same of the floats
+abbrev pub floatLinkAt : ℕ → ℕ → ℕ
+floatLinkAt n i = floatLinks .from * n + searchBytes * i
+
+abbrev pub floatHeadAt : ℕ → ℕ → ℕ
+floatHeadAt n b = floatHeads .from * n + searchBytes * b
+
 abbrev pub arena : List Region
 arena = instructions ∷ variables ∷ labels ∷ functions ∷ strings ∷ floats ∷ stringDigests ∷ labelSlots ∷ floatLinks ∷ floatHeads ∷ stringLinks ∷ stringHeads ∷ []
-
--- each region starts behind the one before, and the last ends within so many bytes a record
-unfoldable pub fitsWithin : ℕ → ℕ → List Region → Bool
-fitsWithin each at [] = leb at each
-fitsWithin each at (x ∷ l) = leb at (x .from) && fitsWithin each (x .from + x .each) l
 
 -- ---- what stands there
 
@@ -111,7 +164,7 @@ pub record HasSlot (n : ℕ) (x : LabelName) : Type 0 where
   pub opener : x .opener < n
 
 abbrev pub labelSlot : ℕ → LabelName → ℕ
-labelSlot n x = labelSlots .from * n + labelSlots .each * x .opener + 4 * (x .kind - 1)
+labelSlot n x = labelSlots .from * n + labelSlots .each * x .opener + searchBytes * (x .kind - 1)
 
 abbrev pub noLabel : LabelName
 noLabel = record { kind = 0; opener = 0 }
@@ -133,7 +186,7 @@ pub record Linked (head link bucket : ℕ → ℕ) (m : ℕ) : Type 0 where
 
 -- the entries of a table, each in a bucket, are linked, and no two are the same: the heads and the links stand from these bytes on, and `past` stands for an entry past the last
 pub record LinkedEntries {X : Type 0} (bucket : X → ℕ) (same : X → X → Bool) (past : X) (heads links : ℕ) (xs : List X) (l : List ℕ) : Type 0 where
-  pub linked : Linked (λ b. wordAt l (heads + 4 * b)) (λ i. wordAt l (links + 4 * i)) (λ i. bucket (getD xs i past)) (length xs)
+  pub linked : Linked (λ b. wordAt l (heads + searchBytes * b)) (λ i. wordAt l (links + searchBytes * i)) (λ i. bucket (getD xs i past)) (length xs)
   pub distinct : (i j : ℕ) → j < length xs → i < j → same (getD xs j past) (getD xs i past) ≡ false
 
 -- the bucket, one of n, of a float of these words: the high bits of a product depend on all bits of its factors

@@ -23,19 +23,24 @@ pub record FiveLong (n : ℕ) (variables labels functions strings floats : List 
   pub strings-long : Arena.strings .each * n ≤ length strings
   pub floats-long : Arena.floats .each * n ≤ length floats
 
+-- the three of the functions' tables
+abbrev pub ThreeLong : ℕ → List ℕ → List ℕ → List ℕ → Type 0
+ThreeLong n variables labels functions =
+    (Arena.variables .each * n ≤ length variables) × (Arena.labels .each * n ≤ length labels) × (Arena.functions .each * n ≤ length functions)
+
 -- from the arena l: what the buffers of the functions' tables hold, each as long as it was
 pub record FunctionsCut (k : Counters) (l variables labels functions : List ℕ) : Type 0 where
-  pub variables-cut : variables ≡ alone (part l (Arena.variables .from * k .records) (4 * k .variables)) (length variables)
-  pub labels-cut : labels ≡ alone (part l (Arena.labels .from * k .records) (8 * k .labels)) (length labels)
-  pub functions-cut : functions ≡ alone (part l (Arena.functions .from * k .records) (32 * k .functions)) (length functions)
+  pub variables-cut : variables ≡ alone (part l (Arena.variables .from * k .records) (Arena.variableBytes * k .variables)) (length variables)
+  pub labels-cut : labels ≡ alone (part l (Arena.labels .from * k .records) (Arena.labelBytes * k .labels)) (length labels)
+  pub functions-cut : functions ≡ alone (part l (Arena.functions .from * k .records) (Arena.functionBytes * k .functions)) (length functions)
 
 -- and those of the program's
 pub record PoolCut (k : Counters) (l strings floats : List ℕ) : Type 0 where
-  pub strings-cut : strings ≡ alone (part l (Arena.strings .from * k .records) (8 * k .strings)) (length strings)
-  pub floats-cut : floats ≡ alone (part l (Arena.floats .from * k .records) (16 * k .floats)) (length floats)
+  pub strings-cut : strings ≡ alone (part l (Arena.strings .from * k .records) (Arena.stringBytes * k .strings)) (length strings)
+  pub floats-cut : floats ≡ alone (part l (Arena.floats .from * k .records) (Arena.floatBytes * k .floats)) (length floats)
 
 -- and the arena itself
 pub record Cut (k : Counters) (l l′ variables labels functions strings floats : List ℕ) : Type 0 where
-  pub instructions-cut : l′ ≡ alone (part l 0 (32 * k .instructions)) (length l)
+  pub instructions-cut : l′ ≡ alone (part l 0 (Arena.instructionBytes * k .instructions)) (length l)
   pub of-functions : FunctionsCut k l variables labels functions
   pub of-pool : PoolCut k l strings floats

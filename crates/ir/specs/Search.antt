@@ -10,7 +10,7 @@ use Rattle.laws.specs.Fix.{pick}
 use Rattle.records.specs.Words.{wordAt, textAt}
 use Rattle.conversion.specs.Ir.{sameText}
 use Rattle.ir.specs.declared.structs.Counters.{Counters}
-use Rattle.ir.specs.Arena.{labels, strings, floats, stringDigests, floatHeads, stringHeads, floatBucket, digestBucket}
+use Rattle.ir.specs.Arena.{labelBytes, strings, stringBytes, floatBytes, labelEntryAt, floatEntryAt, floatHeadAt, stringDigestAt, stringHeadAt, floatBucket, digestBucket}
 use Rattle.records.specs.declared.words.Found.{Found}
 use Rattle.records.specs.declared.words.Found.the-variants.{At, Nothing}
 
@@ -19,29 +19,29 @@ abbrev pub foundOf : Option ℕ → Found
 foundOf none = Nothing
 foundOf (some i) = At i
 
--- entry j of the table at byte `at` is the two words a and b
+-- label j of those from byte `at` on is the two words a and b
 unfoldable pub pairAt : List ℕ → ℕ → ℕ → ℕ → ℕ → Bool
-pairAt l at a b j = eqb a (wordAt l (at + 8 * j)) && eqb b (wordAt l (at + 8 * j + 4))
+pairAt l at a b j = eqb a (wordAt l (at + labelBytes * j)) && eqb b (wordAt l (at + labelBytes * j + 4))
 
 -- label j of the function at hand, if it has so many, is of this kind and opened by this record
 unfoldable pub labelIs : List ℕ → Counters → ℕ → ℕ → ℕ → Bool
 unfolding pairAt
-labelIs l k kind opener j = ltb j (k .labels - k .«labels_before») && pairAt l (labels .from * k .records + 8 * k .«labels_before») kind opener j
+labelIs l k kind opener j = ltb j (k .labels - k .«labels_before») && pairAt l (labelEntryAt (k .records) (k .«labels_before»)) kind opener j
 
--- its two words are the place of a text that is the same as t
+-- string j of those from byte `at` on is the place of a text that is the same as t
 unfoldable pub sameTextAt : List ℕ → List ℕ → ℕ → List ℕ → ℕ → Bool
 unfolding textAt
-sameTextAt text l at t j = sameText t (textAt text (wordAt l (at + 8 * j)) (wordAt l (at + 8 * j + 4)))
+sameTextAt text l at t j = sameText t (textAt text (wordAt l (at + stringBytes * j)) (wordAt l (at + stringBytes * j + 4)))
 
 -- string j, of the tables of n records, has this digest and the text t
 unfoldable pub stringIs : List ℕ → List ℕ → ℕ → ℕ → List ℕ → ℕ → Bool
 unfolding sameTextAt
-stringIs text l n digest t j = eqb digest (wordAt l (stringDigests .from * n + stringDigests .each * j)) && sameTextAt text l (strings .from * n) t j
+stringIs text l n digest t j = eqb digest (wordAt l (stringDigestAt n j)) && sameTextAt text l (strings .from * n) t j
 
--- its first three words (of four) are a, b and c
+-- the first three words (of four) of float j of those from byte `at` on are a, b and c
 unfoldable pub fourAt : List ℕ → ℕ → ℕ → ℕ → ℕ → ℕ → Bool
 fourAt l at a b c j =
-    (eqb a (wordAt l (at + 16 * j)) && eqb b (wordAt l (at + 16 * j + 4))) && eqb c (wordAt l (at + 16 * j + 8))
+    (eqb a (wordAt l (at + floatBytes * j)) && eqb b (wordAt l (at + floatBytes * j + 4))) && eqb c (wordAt l (at + floatBytes * j + 8))
 
 -- a walk down a chain, from one past a number on, and what it finds: the first number of which f holds. A link is one past the next number, or 0 at the end; one that
 -- does not lead lower ends the walk
@@ -54,12 +54,12 @@ pub data Walks (link : ℕ → ℕ) (f : ℕ → Bool) : ℕ → Found → Type 
 -- the bucket, one of n, of entry j of the floats
 unfoldable pub bucketAt : List ℕ → ℕ → ℕ → ℕ
 unfolding floatBucket
-bucketAt l n j = floatBucket n (wordAt l (floats .from * n + 16 * j)) (wordAt l (floats .from * n + 16 * j + 4)) (wordAt l (floats .from * n + 16 * j + 8))
+bucketAt l n j = floatBucket n (wordAt l (floatEntryAt n j)) (wordAt l (floatEntryAt n j + 4)) (wordAt l (floatEntryAt n j + 8))
 
 -- and of string j, by its digest
 unfoldable pub stringBucketAt : List ℕ → ℕ → ℕ → ℕ
 unfolding digestBucket
-stringBucketAt l n j = digestBucket n (wordAt l (stringDigests .from * n + stringDigests .each * j))
+stringBucketAt l n j = digestBucket n (wordAt l (stringDigestAt n j))
 
 -- where a walk through bucket b begins, with m entries written, each in its bucket: the number i at its head counts where it is that of one of them, and of that bucket
 unfoldable pub headFor : (ℕ → ℕ) → ℕ → ℕ → ℕ → ℕ
@@ -68,7 +68,7 @@ headFor bucket m b i = pick (ltb i m && eqb (bucket i) b) (i + 1) 0
 
 -- the same of the floats, and of the strings
 abbrev pub floatHead : List ℕ → ℕ → ℕ → ℕ → ℕ
-floatHead l n m b = headFor (bucketAt l n) m b (wordAt l (floatHeads .from * n + floatHeads .each * b))
+floatHead l n m b = headFor (bucketAt l n) m b (wordAt l (floatHeadAt n b))
 
 abbrev pub stringHead : List ℕ → ℕ → ℕ → ℕ → ℕ
-stringHead l n m b = headFor (stringBucketAt l n) m b (wordAt l (stringHeads .from * n + stringHeads .each * b))
+stringHead l n m b = headFor (stringBucketAt l n) m b (wordAt l (stringHeadAt n b))

@@ -21,7 +21,7 @@ use Rattle.ir.specs.declared.pool.PoolNumber.{PoolNumber}
 use Rattle.ir.specs.Instructions.{varOf, instrOf}
 use Rattle.ir.specs.Amounts.{amount, Spent}
 use Rattle.ir.specs.Search.{floatHead, stringHead}
-use Rattle.ir.specs.Arena.{variables, labels, strings, floats, stringDigests, floatLinks, floatHeads, stringLinks, stringHeads, encodeDigest, labelSlot, entryBucket, stringBucket, TablesSoFar, Holds, Room}
+use Rattle.ir.specs.Arena.{instructionEntryAt, variableEntryAt, labelEntryAt, stringEntryAt, stringDigestAt, stringLinkAt, stringHeadAt, floatEntryAt, floatLinkAt, floatHeadAt, encodeDigest, labelSlot, entryBucket, stringBucket, TablesSoFar, Holds, Room}
 
 -- the tables after a step that emits c and leaves the state s
 abbrev pub grown : TablesSoFar → List Ir.Instr → State → TablesSoFar
@@ -98,39 +98,53 @@ pub record TablesStay (k : Counters) (l : List ℕ) (k′ : Counters) (l′ : Li
 pub record Emits (i : Instr) (k : Counters) (l : List ℕ) (k′ : Counters) (l′ : List ℕ) : Type 0 where
   pub next : Next (Ir.emit (instrOf i)) k l tt k′ l′
   pub spent : Spent k k′ (amount 1 0 0 0 0)
-  pub entry : Wrote l (32 * k .instructions) (encodeInstr (instrOf i)) (moreInstructions k) k′ l′
+  pub entry : Wrote l (instructionEntryAt (k .instructions)) (encodeInstr (instrOf i)) (moreInstructions k) k′ l′
 
 pub record AddsVar (y : ℕ) (k : Counters) (l : List ℕ) (r : NewVariable) (l′ : List ℕ) : Type 0 where
   pub next : Next (Ir.new-var y) k l (varOf (r .var)) (r .counters) l′
   pub typed : r .var .1 ≡ y
   pub spent : Spent k (r .counters) (amount 0 1 0 0 0)
-  pub entry : Wrote l (variables .from * k .records + 4 * k .variables) (encodeVar y) (moreVariables k) (r .counters) l′
+  pub entry : Wrote l (variableEntryAt (k .records) (k .variables)) (encodeVar y) (moreVariables k) (r .counters) l′
 
 abbrev pub named : ℕ → ℕ → LabelName
 named kind opener = record { kind = kind; opener = opener }
+
+-- a label more: its number at its slot, and its entry behind the others
+abbrev pub LabelAdded : ℕ → ℕ → Counters → List ℕ → Counters → List ℕ → Type 0
+LabelAdded kind opener k l k′ l′ =
+    WroteTwo l (labelSlot (k .records) (named kind opener)) (word (k .labels - k .«labels_before»))
+    (labelEntryAt (k .records) (k .labels)) (encodeLabel (named kind opener)) (moreLabels k) k′ l′
 
 -- an entry more, or one that was there
 pub record NumbersLabel (kind opener : ℕ) (k : Counters) (l : List ℕ) (r : LabelNumber) (l′ : List ℕ) : Type 0 where
   pub next : Next (Ir.label-id (named kind opener)) k l (r .label .0) (r .counters) l′
   pub spent : Spent k (r .counters) (amount 0 0 1 0 0)
-  pub entry : WroteTwo l (labelSlot (k .records) (named kind opener)) (word (k .labels - k .«labels_before»))
-      (labels .from * k .records + 8 * k .labels) (encodeLabel (named kind opener)) (moreLabels k) (r .counters) l′
-      ⊎ TablesStay k l (r .counters) l′
+  pub entry : LabelAdded kind opener k l (r .counters) l′ ⊎ TablesStay k l (r .counters) l′
+
+-- a string more: its bytes and its digest behind the others, its link, which leads to one past the last before it in its bucket b, and its number at the bucket's head
+abbrev pub StringAdded : List ℕ → List ℕ → ℕ → ℕ → Counters → List ℕ → Counters → List ℕ → Type 0
+StringAdded bytes digest b last k l k′ l′ =
+    WroteFour l (stringEntryAt (k .records) (k .strings)) bytes (stringDigestAt (k .records) (k .strings)) digest (stringLinkAt (k .records) (k .strings)) (word last)
+    (stringHeadAt (k .records) b) (word (k .strings)) (moreStrings k) k′ l′
 
 pub record NumbersString (text : List ℕ) (e : StringEntry) (k : Counters) (l : List ℕ) (r : PoolNumber) (l′ : List ℕ) : Type 0 where
   pub next : NextIn text (Ir.string-id e) k l (r .number) (r .counters) l′
   pub spent : Spent k (r .counters) (amount 0 0 0 1 0)
-  pub entry : WroteFour l (strings .from * k .records + 8 * k .strings) (encodeString e) (stringDigests .from * k .records + 4 * k .strings) (encodeDigest e)
-      (stringLinks .from * k .records + 4 * k .strings) (word (stringHead l (k .records) (k .strings) (stringBucket (k .records) e)))
-      (stringHeads .from * k .records + 4 * stringBucket (k .records) e) (word (k .strings)) (moreStrings k) (r .counters) l′
+  pub entry :
+      StringAdded (encodeString e) (encodeDigest e) (stringBucket (k .records) e) (stringHead l (k .records) (k .strings) (stringBucket (k .records) e)) k l (r .counters) l′
       ⊎ TablesStay k l (r .counters) l′
+
+-- a float more: its bytes behind the others, its link, which leads to one past the last before it in its bucket b, and its number at the bucket's head
+abbrev pub FloatAdded : List ℕ → ℕ → ℕ → Counters → List ℕ → Counters → List ℕ → Type 0
+FloatAdded bytes b last k l k′ l′ =
+    WroteThree l (floatEntryAt (k .records) (k .floats)) bytes (floatLinkAt (k .records) (k .floats)) (word last)
+    (floatHeadAt (k .records) b) (word (k .floats)) (moreFloats k) k′ l′
 
 pub record NumbersFloat (e : FloatEntry) (k : Counters) (l : List ℕ) (r : PoolNumber) (l′ : List ℕ) : Type 0 where
   pub next : Next (Ir.float-id e) k l (r .number) (r .counters) l′
   pub spent : Spent k (r .counters) (amount 0 0 0 0 1)
-  pub entry : WroteThree l (floats .from * k .records + 16 * k .floats) (encodeFloat e)
-      (floatLinks .from * k .records + 4 * k .floats) (word (floatHead l (k .records) (k .floats) (entryBucket (k .records) e)))
-      (floatHeads .from * k .records + 4 * entryBucket (k .records) e) (word (k .floats)) (moreFloats k) (r .counters) l′
+  pub entry :
+      FloatAdded (encodeFloat e) (entryBucket (k .records) e) (floatHead l (k .records) (k .floats) (entryBucket (k .records) e)) k l (r .counters) l′
       ⊎ TablesStay k l (r .counters) l′
 
 -- ---- a function is done

@@ -1,13 +1,28 @@
-// Where each table begins in the arena, in bytes a record; the instructions' own begins at 0.
+// Where each table begins in the arena, in bytes a record, and how long an entry of it is; the instructions' own begins at 0.
+pub const INSTRUCTION_BYTES: usize = 32;
+
 pub const VARIABLES: usize = 128;
+
+pub const VARIABLE_BYTES: usize = 4;
 
 pub const LABELS: usize = 140;
 
+pub const LABEL_BYTES: usize = 8;
+
 pub const FUNCTIONS: usize = 164;
+
+pub const FUNCTION_BYTES: usize = 32;
 
 pub const STRINGS: usize = 196;
 
+pub const STRING_BYTES: usize = 8;
+
 pub const FLOATS: usize = 204;
+
+pub const FLOAT_BYTES: usize = 16;
+
+// A number in what they are searched by.
+pub const SEARCH_BYTES: usize = 4;
 
 // Behind the tables: the digests of the strings' texts.
 pub const STRING_DIGESTS: usize = 236;

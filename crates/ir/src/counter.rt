@@ -1,14 +1,16 @@
 // The numbering of a function's variables and labels: each step is done by value, and the thin functions at the end change the
 // counters that are lent to them.
 ghost use mathlib.Core.Path.{_≡_};
-ghost use Prim.Native.Nat.{_+_, _-_, _*_, _^_, _<_};
-ghost use Rattle.conversion.specs.Written.{word, encodeLabel};
-ghost use Rattle.ir.specs.Arena.{labels, arenaEach, HasSlot, labelSlot, Room};
+ghost use Prim.Native.Nat.{_-_, _*_, _^_, _<_};
+ghost use Rattle.ir.specs.Arena.{arenaEach, HasSlot, labelSlot, Room};
 ghost use Rattle.ir.specs.Search.{labelIs};
-ghost use Rattle.ir.specs.Steps.{named, moreLabels, WroteTwo, AddsVar, NumbersLabel};
+ghost use Rattle.ir.specs.Steps.{named, AddsVar, LabelAdded, NumbersLabel};
+use crate::arena::LABEL_BYTES;
 use crate::arena::LABEL_SLOT_BYTES;
 use crate::arena::LABEL_SLOTS;
 use crate::arena::LABELS;
+use crate::arena::SEARCH_BYTES;
+use crate::arena::VARIABLE_BYTES;
 use crate::arena::VARIABLES;
 use crate::search::is_pair;
 use crate::structs::Counters;
@@ -30,7 +32,7 @@ fn add_var(arena: &mut [u8], k: Counters, ty: u32) -> NewVariable
     let var = VarId((v - k.variables_before) as u32, ty);
     let mut next = k;
     next.variables = v + 1;
-    put_word(arena, VARIABLES * k.records + 4 * v, ty);
+    put_word(arena, VARIABLES * k.records + VARIABLE_BYTES * v, ty);
     NewVariable {
         var,
         counters: next,
@@ -42,13 +44,13 @@ fn label_slot(n: usize, kind: u32, opener: u32) -> usize
     requires { ⌜ (arenaEach * n < 2 ^ 32) × HasSlot n (named kind opener) ⌝ }
     ensures { λ r. ⌜ r ≡ labelSlot n (named kind opener) ⌝ }
 {
-    LABEL_SLOTS * n + LABEL_SLOT_BYTES * index(opener) + 4 * index(kind - 1)
+    LABEL_SLOTS * n + LABEL_SLOT_BYTES * index(opener) + SEARCH_BYTES * index(kind - 1)
 }
 
 // A label more: its number at its slot, and its entry at the end.
 fn add_label(arena: &mut [u8], k: Counters, kind: u32, opener: u32) -> LabelNumber
     requires { ⌜ Room k (now arena) × (k .labels < 3 * k .records) × HasSlot (k .records) (named kind opener) ⌝ }
-    ensures { λ r. ⌜ (r .label .0 ≡ k .labels - k .«labels_before») × WroteTwo (now (arena .entry)) (labelSlot (k .records) (named kind opener)) (word (k .labels - k .«labels_before»)) (labels .from * k .records + 8 * k .labels) (encodeLabel (named kind opener)) (moreLabels k) (r .counters) (now (arena .exit)) ⌝ }
+    ensures { λ r. ⌜ (r .label .0 ≡ k .labels - k .«labels_before») × LabelAdded kind opener k (now (arena .entry)) (r .counters) (now (arena .exit)) ⌝ }
 {
     let v = k.labels;
     let number = (v - k.labels_before) as u32;
@@ -56,7 +58,7 @@ fn add_label(arena: &mut [u8], k: Counters, kind: u32, opener: u32) -> LabelNumb
     let mut next = k;
     next.labels = v + 1;
     put_word(arena, slot, number);
-    put_pair(arena, LABELS * k.records + 8 * v, kind, opener);
+    put_pair(arena, LABELS * k.records + LABEL_BYTES * v, kind, opener);
     LabelNumber {
         label: Label(number),
         counters: next,
@@ -74,7 +76,7 @@ fn is_label(arena: &[u8], k: Counters, number: u32, kind: u32, opener: u32) -> b
     }
     is_pair(
         arena,
-        LABELS * k.records + 8 * k.labels_before,
+        LABELS * k.records + LABEL_BYTES * k.labels_before,
         i,
         kind,
         opener,

@@ -5,11 +5,17 @@ ghost use Prim.Native.Nat.{_+_, _*_, _≤_};
 ghost use lib.ListN.{length, drop};
 ghost use Rattle.ir.specs.Arena as Arena;
 ghost use Rattle.ir.specs.Arena.{Room};
-ghost use Rattle.ir.specs.Cut.{alone, part, FiveLong, FunctionsCut, PoolCut, Cut};
+ghost use Rattle.ir.specs.Cut.{alone, part, FiveLong, ThreeLong, FunctionsCut, PoolCut, Cut};
+use crate::arena::FLOAT_BYTES;
 use crate::arena::FLOATS;
+use crate::arena::FUNCTION_BYTES;
 use crate::arena::FUNCTIONS;
+use crate::arena::INSTRUCTION_BYTES;
+use crate::arena::LABEL_BYTES;
 use crate::arena::LABELS;
+use crate::arena::STRING_BYTES;
 use crate::arena::STRINGS;
+use crate::arena::VARIABLE_BYTES;
 use crate::arena::VARIABLES;
 use crate::structs::Counters;
 
@@ -55,13 +61,23 @@ fn cut_functions(
     labels: &mut [u8],
     functions: &mut [u8],
 )
-    requires { ⌜ Room k (now arena) × (Arena.variables .each * k .records ≤ length (now variables)) × (Arena.labels .each * k .records ≤ length (now labels)) × (Arena.functions .each * k .records ≤ length (now functions)) ⌝ }
+    requires { ⌜ Room k (now arena) × ThreeLong (k .records) (now variables) (now labels) (now functions) ⌝ }
     ensures { λ _. ⌜ FunctionsCut k (now (arena .entry)) (now (variables .exit)) (now (labels .exit)) (now (functions .exit)) ⌝ }
 {
     let n = k.records;
-    cut(arena, VARIABLES * n, 4 * k.variables, variables);
-    cut(arena, LABELS * n, 8 * k.labels, labels);
-    cut(arena, FUNCTIONS * n, 32 * k.functions, functions);
+    cut(
+        arena,
+        VARIABLES * n,
+        VARIABLE_BYTES * k.variables,
+        variables,
+    );
+    cut(arena, LABELS * n, LABEL_BYTES * k.labels, labels);
+    cut(
+        arena,
+        FUNCTIONS * n,
+        FUNCTION_BYTES * k.functions,
+        functions,
+    );
 }
 
 // The program's tables.
@@ -70,8 +86,8 @@ fn cut_pool(arena: &[u8], k: Counters, strings: &mut [u8], floats: &mut [u8])
     ensures { λ _. ⌜ PoolCut k (now (arena .entry)) (now (strings .exit)) (now (floats .exit)) ⌝ }
 {
     let n = k.records;
-    cut(arena, STRINGS * n, 8 * k.strings, strings);
-    cut(arena, FLOATS * n, 16 * k.floats, floats);
+    cut(arena, STRINGS * n, STRING_BYTES * k.strings, strings);
+    cut(arena, FLOATS * n, FLOAT_BYTES * k.floats, floats);
 }
 
 // The five tables cut out; the instructions stay, alone.
@@ -87,7 +103,7 @@ pub fn cut_tables(
     requires { ⌜ Room k (now arena) × FiveLong (k .records) (now variables) (now labels) (now functions) (now strings) (now floats) ⌝ }
     ensures { λ _. ⌜ Cut k (now (arena .entry)) (now (arena .exit)) (now (variables .exit)) (now (labels .exit)) (now (functions .exit)) (now (strings .exit)) (now (floats .exit)) ⌝ }
 {
-    let end = 32 * k.instructions;
+    let end = INSTRUCTION_BYTES * k.instructions;
     cut_functions(arena, k, variables, labels, functions);
     cut_pool(arena, k, strings, floats);
     clear_from(arena, end);

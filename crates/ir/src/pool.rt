@@ -8,13 +8,16 @@ ghost use Rattle.records.specs.Digest.{digestOf};
 ghost use Rattle.records.specs.Words.{wordAt, textAt};
 ghost use Rattle.conversion.specs.Ir.{floatBits};
 ghost use Rattle.conversion.specs.Written.{word};
-ghost use Rattle.ir.specs.Arena.{strings, floats, stringDigests, floatLinks, floatHeads, floatBucket, stringLinks, stringHeads, digestBucket, Room};
+ghost use Rattle.ir.specs.Arena.{floatBucket, stringDigestAt, stringLinkAt, digestBucket, Room};
 ghost use Rattle.ir.specs.Floats.{entry, entryOfFloat};
 ghost use Rattle.ir.specs.Search.{stringIs, floatHead, stringHead, Walks};
-ghost use Rattle.ir.specs.Steps.{entryOfString, moreStrings, moreFloats, WroteThree, WroteFour, NumbersString, NumbersFloat, Next};
+ghost use Rattle.ir.specs.Steps.{entryOfString, StringAdded, FloatAdded, NumbersString, NumbersFloat, Next};
+use crate::arena::FLOAT_BYTES;
 use crate::arena::FLOAT_HEADS;
 use crate::arena::FLOAT_LINKS;
 use crate::arena::FLOATS;
+use crate::arena::SEARCH_BYTES;
+use crate::arena::STRING_BYTES;
 use crate::arena::STRING_DIGESTS;
 use crate::arena::STRING_HEADS;
 use crate::arena::STRING_LINKS;
@@ -44,13 +47,13 @@ pub struct PoolNumber {
 
 // Whether string j, of the tables of n records, has this digest and this text. Texts that differ mostly differ in their digests, so few are compared.
 fn is_text(text: &[u8], s: &[u8], n: usize, j: usize, d: u32, offset: u32, len: u32) -> bool
-    requires { ⌜ (j < n) × (240 * n ≤ length (now s)) ⌝ }
+    requires { ⌜ (j < n) × (stringDigestAt n n ≤ length (now s)) ⌝ }
     ensures { λ r. ⌜ r ≡ stringIs (now (text .entry)) (now (s .entry)) n d (textAt (now (text .entry)) offset len) j ⌝ }
 {
-    if d != load(s, STRING_DIGESTS * n + 4 * j) {
+    if d != load(s, STRING_DIGESTS * n + SEARCH_BYTES * j) {
         return false;
     }
-    let at = STRINGS * n + 8 * j;
+    let at = STRINGS * n + STRING_BYTES * j;
     let x = load(s, at);
     let y = load(s, at + 4);
     same_text(text, offset, len, x, y)
@@ -59,8 +62,8 @@ fn is_text(text: &[u8], s: &[u8], n: usize, j: usize, d: u32, offset: u32, len: 
 // The first string that has the digest and the text, of those that a chain leads through from v on, which is one past a string's number, or 0. So is the word at each
 // string's link, and one that does not lead lower ends the walk.
 fn walk_text(text: &[u8], s: &[u8], n: usize, v: usize, d: u32, offset: u32, len: u32) -> Found
-    requires { ⌜ (v ≤ n) × (284 * n ≤ length (now s)) ⌝ }
-    ensures { λ r. ⌜ Walks (λ j. wordAt (now (s .entry)) (stringLinks .from * n + 4 * j)) (stringIs (now (text .entry)) (now (s .entry)) n d (textAt (now (text .entry)) offset len)) v r ⌝ }
+    requires { ⌜ (v ≤ n) × (stringLinkAt n n ≤ length (now s)) ⌝ }
+    ensures { λ r. ⌜ Walks (λ j. wordAt (now (s .entry)) (stringLinkAt n j)) (stringIs (now (text .entry)) (now (s .entry)) n d (textAt (now (text .entry)) offset len)) v r ⌝ }
 {
     let mut u = v;
     while 0 < u {
@@ -68,7 +71,7 @@ fn walk_text(text: &[u8], s: &[u8], n: usize, v: usize, d: u32, offset: u32, len
         if is_text(text, s, n, j, d, offset, len) {
             return Found::At(j);
         }
-        let next = index(load(s, STRING_LINKS * n + 4 * j));
+        let next = index(load(s, STRING_LINKS * n + SEARCH_BYTES * j));
         if j < next {
             return Found::Nothing;
         }
@@ -92,11 +95,11 @@ fn string_head(arena: &[u8], k: Counters, b: usize) -> usize
     ensures { λ r. ⌜ (r ≡ stringHead (now (arena .entry)) (k .records) (k .strings) b) × (r ≤ k .strings) ⌝ }
 {
     let n = k.records;
-    let i = index(load(arena, STRING_HEADS * n + 4 * b));
+    let i = index(load(arena, STRING_HEADS * n + SEARCH_BYTES * b));
     if i >= k.strings {
         return 0;
     }
-    if text_bucket(n, load(arena, STRING_DIGESTS * n + 4 * i)) != b {
+    if text_bucket(n, load(arena, STRING_DIGESTS * n + SEARCH_BYTES * i)) != b {
         return 0;
     }
     i + 1
@@ -122,19 +125,19 @@ fn add_string(
     last: usize,
 ) -> PoolNumber
     requires { ⌜ Room k (now arena) × (k .strings < k .records) × (b < k .records) × (last ≤ k .strings) ⌝ }
-    ensures { λ r. ⌜ (r .number ≡ k .strings) × WroteFour (now (arena .entry)) (strings .from * k .records + 8 * k .strings) (word offset ++ word len) (stringDigests .from * k .records + 4 * k .strings) (word d) (stringLinks .from * k .records + 4 * k .strings) (word last) (stringHeads .from * k .records + 4 * b) (word (k .strings)) (moreStrings k) (r .counters) (now (arena .exit)) ⌝ }
+    ensures { λ r. ⌜ (r .number ≡ k .strings) × StringAdded (word offset ++ word len) (word d) b last k (now (arena .entry)) (r .counters) (now (arena .exit)) ⌝ }
 {
     let v = k.strings;
     let number = v as u32;
     let mut next = k;
     next.strings = v + 1;
-    put_pair(arena, STRINGS * k.records + 8 * v, offset, len);
-    put_word(arena, STRING_DIGESTS * k.records + 4 * v, d);
+    put_pair(arena, STRINGS * k.records + STRING_BYTES * v, offset, len);
+    put_word(arena, STRING_DIGESTS * k.records + SEARCH_BYTES * v, d);
     put_link(
         arena,
-        STRING_LINKS * k.records + 4 * v,
+        STRING_LINKS * k.records + SEARCH_BYTES * v,
         last as u32,
-        STRING_HEADS * k.records + 4 * b,
+        STRING_HEADS * k.records + SEARCH_BYTES * b,
         number,
     );
     PoolNumber {
@@ -177,11 +180,11 @@ fn float_head(arena: &[u8], k: Counters, b: usize) -> usize
     ensures { λ r. ⌜ (r ≡ floatHead (now (arena .entry)) (k .records) (k .floats) b) × (r ≤ k .floats) ⌝ }
 {
     let n = k.records;
-    let i = index(load(arena, FLOAT_HEADS * n + 4 * b));
+    let i = index(load(arena, FLOAT_HEADS * n + SEARCH_BYTES * b));
     if i >= k.floats {
         return 0;
     }
-    let at = FLOATS * n + 16 * i;
+    let at = FLOATS * n + FLOAT_BYTES * i;
     let w = Four(load(arena, at), load(arena, at + 4), load(arena, at + 8), 0);
     if bucket_of(n, w) != b {
         return 0;
@@ -192,18 +195,18 @@ fn float_head(arena: &[u8], k: Counters, b: usize) -> usize
 // A float more, before the others of its bucket b, of which `last` is one past the last.
 fn add_float(arena: &mut [u8], k: Counters, w: Four, b: usize, last: usize) -> PoolNumber
     requires { ⌜ Room k (now arena) × (k .floats < 2 * k .records) × (b < k .records) × (last ≤ k .floats) ⌝ }
-    ensures { λ r. ⌜ (r .number ≡ k .floats) × WroteThree (now (arena .entry)) (floats .from * k .records + 16 * k .floats) (word (w .0) ++ word (w .1) ++ word (w .2) ++ word (w .3)) (floatLinks .from * k .records + 4 * k .floats) (word last) (floatHeads .from * k .records + 4 * b) (word (k .floats)) (moreFloats k) (r .counters) (now (arena .exit)) ⌝ }
+    ensures { λ r. ⌜ (r .number ≡ k .floats) × FloatAdded (word (w .0) ++ word (w .1) ++ word (w .2) ++ word (w .3)) b last k (now (arena .entry)) (r .counters) (now (arena .exit)) ⌝ }
 {
     let v = k.floats;
     let number = v as u32;
     let mut next = k;
     next.floats = v + 1;
-    put_four(arena, FLOATS * k.records + 16 * v, w);
+    put_four(arena, FLOATS * k.records + FLOAT_BYTES * v, w);
     put_link(
         arena,
-        FLOAT_LINKS * k.records + 4 * v,
+        FLOAT_LINKS * k.records + SEARCH_BYTES * v,
         last as u32,
-        FLOAT_HEADS * k.records + 4 * b,
+        FLOAT_HEADS * k.records + SEARCH_BYTES * b,
         number,
     );
     PoolNumber {
@@ -240,7 +243,7 @@ pub fn float_bits(arena: &[u8], k: Counters, i: u32) -> u64
     if j >= k.floats {
         return 0;
     }
-    let x = load(arena, FLOATS * n + 16 * j);
-    let y = load(arena, FLOATS * n + 16 * j + 4);
+    let x = load(arena, FLOATS * n + FLOAT_BYTES * j);
+    let y = load(arena, FLOATS * n + FLOAT_BYTES * j + 4);
     x as u64 + y as u64 * 4294967296
 }

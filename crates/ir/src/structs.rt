@@ -9,7 +9,9 @@ ghost use Rattle.conversion.specs.Written.{tag, operandValue, encodeInstr};
 ghost use Rattle.ir.specs.Instructions.{operandOf, instrOf, fieldBytes, oneBytes, noneBytes, twoBytes};
 ghost use Rattle.ir.specs.Arena.{HasSlot, Room};
 ghost use Rattle.ir.specs.Steps.{named, Emits, AddsVar, NumbersLabel, Closes};
+use crate::arena::FUNCTION_BYTES;
 use crate::arena::FUNCTIONS;
+use crate::arena::INSTRUCTION_BYTES;
 use crate::counter;
 use records::numbers::BINARY_OPS;
 use records::numbers::NEG;
@@ -307,7 +309,7 @@ pub fn emit(arena: &mut [u8], k: Counters, i: Instr) -> Counters
     let f = fields_of(i);
     let mut next = k;
     next.instructions = n + 1;
-    put_fields(arena, 32 * n, f);
+    put_fields(arena, INSTRUCTION_BYTES * n, f);
     next
 }
 
@@ -337,7 +339,7 @@ pub fn add_function(arena: &mut [u8], k: Counters, owner: u32, body: bool) -> Co
     ensures { λ r. ⌜ Closes owner body k (now (arena .entry)) r (now (arena .exit)) ⌝ }
 {
     let n = k.functions;
-    let at = FUNCTIONS * k.records + 32 * n;
+    let at = FUNCTIONS * k.records + FUNCTION_BYTES * n;
     let back = at + 16;
     let a = Four(
         owner,

@@ -10,6 +10,7 @@ use Rattle.laws.specs.Fix.{pick, below, fix}
 use Rattle.laws.specs.Below.{sumBelow}
 use Rattle.records.specs.declared.shape.Role.{Role}
 use Rattle.records.specs.declared.shape.Role.the-variants.{Unused, Number, Text, Length, Expr, TypeRef, TypeOrNone, Name, Variable, Arguments, Parameters, Body, Item, Rest}
+use Rattle.records.specs.Layout.{scratchEach}
 use Rattle.records.specs.Words.{mostRecords, kindOf, wordOf, none, A, B, C, D, E}
 use Rattle.records.specs.Kinds.{kindType, kindInt, kindName, kindCall, kindList, kindValue, kindTypeArgument, kindDeclare, kindContinue, kindVariable}
 use Rattle.records.specs.Shapes.{rowAt}
@@ -33,7 +34,7 @@ pub record TypesLead (tree : List ℕ) (n count : ℕ) : Type 0 where
 pub record Passing (tree : List ℕ) (n count : ℕ) (known : List ℕ) : Type 0 where
   pub whole : n * 32 ≡ length tree
   pub few : n ≤ mostRecords
-  pub room : 72 * n ≤ length known
+  pub room : scratchEach * n ≤ length known
   pub lead : TypesLead tree n count
 
 -- a number that stops at `most`: a count at 2, a depth at 65

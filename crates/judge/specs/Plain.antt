@@ -45,6 +45,14 @@ plainRules =
     0 ∷ 0 ∷ 0 ∷ 255 ∷ 0 ∷ 0 ∷ 0 ∷ 0 ∷ 255 ∷ 0 ∷ 1 ∷ 0 ∷ 4 ∷ 7 ∷ 0 ∷ 1 ∷ 1 ∷ 0 ∷ 1 ∷ 2 ∷
     1 ∷ 1 ∷ 24 ∷ 27 ∷ 0 ∷ 1 ∷ 1 ∷ 24 ∷ 27 ∷ 0 ∷ 1 ∷ 0 ∷ 50 ∷ 50 ∷ 0 ∷ 0 ∷ 0 ∷ 0 ∷ 0 ∷ 0 ∷ []
 
+-- the key of the record in slot p: four times its kind, and what its list holds
+abbrev pub keyIn : List ℕ → ℕ → ℕ
+keyIn known p = getD known (p * 4 + 3) 0 * 4 + getD known (p * 4 + 2) 0
+
+-- a word whose five numbers begin at `at` may refer to a record of this key
+abbrev pub keyWithin : List ℕ → ℕ → ℕ → Bool
+keyWithin rules at key = leb (getD rules (at + 2) 0) key && leb key (getD rules (at + 3) 0)
+
 abbrev pub isUnused : Role → Bool
 isUnused Unused = true
 isUnused Number = false

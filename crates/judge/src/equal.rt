@@ -15,6 +15,8 @@ use crate::types::same_type;
 use records::chains::bucket;
 use records::chains::clear_heads;
 use records::chains::enter;
+use records::layout::CHAIN_ENTRY_BYTES;
+use records::layout::CHAIN_HEAD_BYTES;
 use records::numbers::FORM_CUSTOM;
 use records::texts::text_digest;
 use records::texts::word_digest;
@@ -71,7 +73,7 @@ fn has_equal(
     let mut at = index(head);
     while at > 0 {
         let k = at - 1;
-        let e = 4 * types + 8 * k;
+        let e = CHAIN_HEAD_BYTES * types + CHAIN_ENTRY_BYTES * k;
         let digest = load(scratch, e);
         if equals(tree, text, k, r, digest, d) {
             return true;
@@ -86,12 +88,12 @@ pub(crate) fn first_equal(tree: &[u8], text: &[u8], types: usize, scratch: &mut 
     requires { ⌜ Passing (now tree) (records (now tree)) types (now scratch) ⌝ }
     ensures { λ v. ⌜ Lowest types (λ k. not (typeIsNew (now (tree .entry)) (now (text .entry)) k)) v × (length (now (scratch .exit)) ≡ length (now (scratch .entry))) ⌝ }
 {
-    clear_heads(scratch, 4 * types);
+    clear_heads(scratch, CHAIN_HEAD_BYTES * types);
     let mut r = 0;
     while r < types {
         let d = type_digest(tree, text, r);
         let b = bucket(d, types);
-        let head = load(scratch, 4 * b);
+        let head = load(scratch, CHAIN_HEAD_BYTES * b);
         if has_equal(tree, text, types, scratch, r, d, head) {
             return r;
         }

@@ -2,6 +2,7 @@
 ghost use mathlib.Core.Path.{_≡_};
 ghost use Prim.Native.Nat.{_*_, _≤_};
 ghost use lib.ListN.{length};
+ghost use Rattle.records.specs.Layout.{scratchEach};
 ghost use Rattle.records.specs.Words.{mostRecords};
 ghost use Rattle.judge.specs.Keeps.{JudgeKeeps, placed, unplaced};
 ghost use Rattle.judge.specs.Judge.{lengthsOk, buffersOk, buffers, recordsVerdict, verdict, judgedBy, judged, judgedIn, scratchAfter, judgeLeaves, cleared};
@@ -72,7 +73,7 @@ fn buffers_ok(n: usize, l: Lengths, scratch: usize) -> bool
 
 // Rows 'records' and 'nesting'; the bytes of scratch are the pass's own.
 fn judge_records(tree: &[u8], text: &[u8], n: usize, scratch: &mut [u8]) -> Judged
-    requires { ⌜ (n * 32 ≡ length (now tree)) × (n ≤ mostRecords) × (72 * n ≤ length (now scratch)) ⌝ }
+    requires { ⌜ (n * 32 ≡ length (now tree)) × (n ≤ mostRecords) × (scratchEach * n ≤ length (now scratch)) ⌝ }
     ensures { λ r. ⌜ (r ≡ judgedBy (recordsVerdict (now (tree .entry)) (now (text .entry)))) × (length (now (scratch .exit)) ≡ length (now (scratch .entry))) ⌝ }
 {
     let lowest = pass::lowest_records(tree, text, n, scratch);

@@ -6,6 +6,7 @@ ghost use mathlib.Core.List.{List};
 ghost use Prim.Native.Nat.{ℕ, _+_, _*_, _≤_, _<_};
 ghost use lib.Dec.{ltb};
 ghost use lib.ListN.{length};
+ghost use Rattle.records.specs.Layout.{scratchEach};
 ghost use Rattle.records.specs.Words.{records, mostRecords};
 ghost use Rattle.records.specs.Shapes.{rowAt, refers};
 ghost use Rattle.records.specs.Rules.{wordOk, recordOk};
@@ -25,6 +26,11 @@ use crate::rules::is_unused;
 use crate::rules::marks_ok;
 use crate::types::is_first_type;
 use crate::types::leading_types;
+use records::layout::KNOWN_BYTES;
+use records::layout::NEXT_CLASS;
+use records::layout::NEXT_COUNT;
+use records::layout::NEXT_DEPTH;
+use records::layout::NEXT_KIND;
 use records::numbers::KIND_FUNCTION;
 use records::numbers::KIND_TYPE;
 use records::shape::Role;
@@ -150,11 +156,11 @@ pub(crate) fn put_known(known: &mut [u8], r: usize, class: u8, depth: u8, k: u8)
     requires { ⌜ r * 4 + 8 ≤ length (now known) ⌝ }
     ensures { λ _. ⌜ now (known .exit) ≡ stored (now (known .entry)) r class depth k ⌝ }
 {
-    let at = r * 4;
-    known[at + 4] = depth;
-    known[at + 5] = 0;
-    known[at + 6] = class;
-    known[at + 7] = k;
+    let at = r * KNOWN_BYTES;
+    known[at + NEXT_DEPTH] = depth;
+    known[at + NEXT_COUNT] = 0;
+    known[at + NEXT_CLASS] = class;
+    known[at + NEXT_KIND] = k;
 }
 
 // Record r of any kind, against every rule but two: that no two types are equal, and that it is referred to once.
@@ -244,7 +250,7 @@ fn pass(tree: &[u8], bytes: usize, n: usize, types: usize, known: &mut [u8]) -> 
 
 // The lowest record that breaks a rule, and the lowest that is too deep, each n where there is none.
 pub(crate) fn lowest_records(tree: &[u8], text: &[u8], n: usize, scratch: &mut [u8]) -> Lowests
-    requires { ⌜ (n * 32 ≡ length (now tree)) × (n ≤ mostRecords) × (72 * n ≤ length (now scratch)) ⌝ }
+    requires { ⌜ (n * 32 ≡ length (now tree)) × (n ≤ mostRecords) × (scratchEach * n ≤ length (now scratch)) ⌝ }
     ensures { λ v. ⌜ Lowest n (λ k. not (recordOk (now (tree .entry)) (now (text .entry)) k)) (v .fault) ⌝ }
     ensures { λ v. ⌜ Lowest n (λ k. ltb 64 (depthOf (now (tree .entry)) k)) (v .deep) ⌝ }
     ensures { λ _. ⌜ length (now (scratch .exit)) ≡ length (now (scratch .entry)) ⌝ }

@@ -9,13 +9,18 @@ ghost use Rattle.records.specs.Words.{mostRecords, kindOf};
 ghost use Rattle.records.specs.Kinds.{kindList};
 ghost use Rattle.records.specs.Shapes.{rowOf};
 ghost use Rattle.judge.specs.Inner.{classIn, itemClass, classAt};
-ghost use Rattle.judge.specs.Plain.{plainRules, Place, Cells, Owned, PlainForm, Slots, TookSlots, PlainReady, TookPlain};
+ghost use Rattle.judge.specs.Plain.{plainRules, keyIn, keyWithin, Place, Cells, Owned, PlainForm, Slots, TookSlots, PlainReady, TookPlain};
 use crate::nesting::depth_over;
 use crate::nesting::max;
 use crate::pass::Words;
 use crate::pass::five_words;
 use crate::pass::put_known;
 use crate::references::Told;
+use records::layout::CLASS_AT;
+use records::layout::COUNT_AT;
+use records::layout::DEPTH_AT;
+use records::layout::KIND_AT;
+use records::layout::KNOWN_BYTES;
 use records::numbers::KIND_FUNCTION;
 use records::numbers::KIND_IF;
 use records::numbers::KIND_LIST;
@@ -587,9 +592,9 @@ fn place_ok(p: usize, r: usize, rules: &[u8; 520], at: usize) -> bool
 // The record in slot p is one that such a word may refer to.
 fn key_ok(known: &[u8], p: usize, rules: &[u8; 520], at: usize) -> bool
     requires { ⌜ (at < 516) × (p ≤ mostRecords) × (p * 4 + 4 ≤ length (now known)) ⌝ }
-    ensures { λ v. ⌜ v ≡ (leb (getD (now (rules .entry)) (at + 2) 0) (getD (now (known .entry)) (p * 4 + 3) 0 * 4 + getD (now (known .entry)) (p * 4 + 2) 0) && leb (getD (now (known .entry)) (p * 4 + 3) 0 * 4 + getD (now (known .entry)) (p * 4 + 2) 0) (getD (now (rules .entry)) (at + 3) 0)) ⌝ }
+    ensures { λ v. ⌜ v ≡ keyWithin (now (rules .entry)) at (keyIn (now (known .entry)) p) ⌝ }
 {
-    let key = wide(known[p * 4 + 3]) * 4 + wide(known[p * 4 + 2]);
+    let key = wide(known[p * KNOWN_BYTES + KIND_AT]) * 4 + wide(known[p * KNOWN_BYTES + CLASS_AT]);
     (wide(rules[at + 2]) <= key) & (key <= wide(rules[at + 3]))
 }
 
@@ -598,8 +603,8 @@ fn count_one(known: &mut [u8], p: usize)
     requires { ⌜ (p ≤ mostRecords) × (p * 4 + 4 ≤ length (now known)) ⌝ }
     ensures { λ _. ⌜ now (known .exit) ≡ set (now (known .entry)) (p * 4 + 1) ((getD (now (known .entry)) (p * 4 + 1) 0 + 3) / 2) ⌝ }
 {
-    let count = wide(known[p * 4 + 1]);
-    known[p * 4 + 1] = ((count + 3) / 2) as u8;
+    let count = wide(known[p * KNOWN_BYTES + COUNT_AT]);
+    known[p * KNOWN_BYTES + COUNT_AT] = ((count + 3) / 2) as u8;
 }
 
 // Slot 0, of no depth.
@@ -607,9 +612,9 @@ fn put_own(known: &mut [u8], class: u8, k: u8)
     requires { ⌜ 4 ≤ length (now known) ⌝ }
     ensures { λ _. ⌜ Owned (now (known .entry)) (now (known .exit)) ⌝ }
 {
-    known[0] = 0;
-    known[2] = class;
-    known[3] = k;
+    known[DEPTH_AT] = 0;
+    known[CLASS_AT] = class;
+    known[KIND_AT] = k;
 }
 
 // What a record must be aside from what it refers to, by the row of its kind; an If without the mark has no otherwise.
@@ -664,8 +669,8 @@ fn class_of(tree: &[u8], k: u8, a: u32, pa: usize, pb: usize, known: &[u8], rule
     if k != KIND_LIST {
         return 0;
     }
-    let item = item_of(tree, index(a), known[pa * 4 + 3], rules);
-    let rest = known[pb * 4 + 2];
+    let item = item_of(tree, index(a), known[pa * KNOWN_BYTES + KIND_AT], rules);
+    let rest = known[pb * KNOWN_BYTES + CLASS_AT];
     if (pb != 0) & (rest != item) {
         return 0;
     }
@@ -692,7 +697,10 @@ fn take_slots(
     let keys = key_ok(known, pa, rules, row)
         & key_ok(known, pb, rules, row + 5)
         & key_ok(known, pc, rules, row + 10);
-    let below = max(known[pa * 4], max(known[pb * 4], known[pc * 4]));
+    let below = max(
+        known[pa * KNOWN_BYTES],
+        max(known[pb * KNOWN_BYTES], known[pc * KNOWN_BYTES]),
+    );
     if !(keys & (below <= DEEPEST_BELOW)) {
         return Told {
             ok: false,

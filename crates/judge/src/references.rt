@@ -10,6 +10,11 @@ ghost use Rattle.judge.specs.Inner.{Lowest, KnownBelow, ReferenceCounts,
 use crate::rules::high_key;
 use crate::rules::low_key;
 use crate::rules::none_ok;
+use records::layout::KNOWN_BYTES;
+use records::layout::NEXT_CLASS;
+use records::layout::NEXT_COUNT;
+use records::layout::NEXT_DEPTH;
+use records::layout::NEXT_KIND;
 use records::numbers::KIND_FUNCTION;
 use records::numbers::KIND_TYPE;
 use records::shape::Role;
@@ -37,14 +42,15 @@ pub(crate) fn take_reference(tree: &[u8], r: usize, role: Role, w: u32, known: &
             depth: 0,
         };
     }
-    let key = wide(known[i * 4 + 7]) * 4 + wide(known[i * 4 + 6]);
+    let key = wide(known[i * KNOWN_BYTES + NEXT_KIND]) * 4
+        + wide(known[i * KNOWN_BYTES + NEXT_CLASS]);
     let ok = (low_key(role) <= key) & (key <= high_key(role));
-    let depth = known[i * 4 + 4];
-    let count = known[i * 4 + 5];
+    let depth = known[i * KNOWN_BYTES + NEXT_DEPTH];
+    let count = known[i * KNOWN_BYTES + NEXT_COUNT];
     if count >= 2 {
         return Told { ok, depth };
     }
-    known[i * 4 + 5] = count + 1;
+    known[i * KNOWN_BYTES + NEXT_COUNT] = count + 1;
     Told { ok, depth }
 }
 
@@ -56,7 +62,7 @@ pub(crate) fn lowest_miscounted(tree: &[u8], n: usize, known: &[u8]) -> usize
     let mut r = 0;
     while r < n {
         let k = kind(tree, r);
-        let count = known[r * 4 + 5];
+        let count = known[r * KNOWN_BYTES + NEXT_COUNT];
         if !((k == KIND_TYPE) | (k == KIND_FUNCTION) | (count == 1)) {
             return r;
         }

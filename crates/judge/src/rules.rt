@@ -9,6 +9,8 @@ ghost use Rattle.records.specs.Words.{none};
 ghost use Rattle.records.specs.Kinds.{kindIf, kindFunction};
 ghost use Rattle.records.specs.declared.shape.Role.the-variants.{Unused};
 ghost use Rattle.judge.specs.Inner.{itemClass, cellClass, classAt, classIn, lowKey, highKey, noneOk};
+use records::layout::KNOWN_BYTES;
+use records::layout::NEXT_CLASS;
 use records::numbers::KIND_CONTINUE;
 use records::numbers::KIND_DECLARE;
 use records::numbers::KIND_FUNCTION;
@@ -33,6 +35,36 @@ const PARAMETERS: u8 = 2;
 
 const STATEMENTS: u8 = 3;
 
+// A record's key is four times its kind, and what its list holds. The keys of types, expressions, names, cells and variables, each from the lowest to
+// the highest; those of the cells that begin one sort of list; and the highest of all.
+const TYPE_LOW: u32 = 4;
+
+const TYPE_HIGH: u32 = 7;
+
+const EXPR_LOW: u32 = 8;
+
+const EXPR_HIGH: u32 = 47;
+
+const NAME_LOW: u32 = 24;
+
+const NAME_HIGH: u32 = 27;
+
+const CELL_LOW: u32 = 48;
+
+const CELL_HIGH: u32 = 51;
+
+const VARIABLE_LOW: u32 = 96;
+
+const VARIABLE_HIGH: u32 = 99;
+
+const ARGUMENTS_KEY: u32 = 49;
+
+const PARAMETERS_KEY: u32 = 50;
+
+const STATEMENTS_KEY: u32 = 51;
+
+const HIGHEST: u32 = 1023;
+
 // What the lower list holds that a word refers to.
 fn class_below(known: &[u8], r: usize, w: u32) -> u8
     requires { ⌜ r * 4 + 4 ≤ length (now known) ⌝ }
@@ -40,7 +72,7 @@ fn class_below(known: &[u8], r: usize, w: u32) -> u8
 {
     let i = index(w);
     if i < r {
-        return known[i * 4 + 6];
+        return known[i * KNOWN_BYTES + NEXT_CLASS];
     }
     MIXED
 }
@@ -96,7 +128,7 @@ pub(crate) fn class_at(tree: &[u8], r: usize, k: u8, a: u32, b: u32, known: &[u8
     MIXED
 }
 
-// A record's key: four times its kind, and what its list holds. The keys that a word of this role may refer to, from the lowest ..
+// The keys that a word of this role may refer to, from the lowest ..
 pub(crate) fn low_key(role: Role) -> u32
     ensures { λ v. ⌜ v ≡ lowKey role ⌝ }
 {
@@ -105,16 +137,16 @@ pub(crate) fn low_key(role: Role) -> u32
         Role::Number => 0,
         Role::Text => 0,
         Role::Length => 0,
-        Role::Expr => 8,
-        Role::TypeRef => 4,
-        Role::TypeOrNone => 4,
-        Role::Name => 24,
-        Role::Variable => 96,
-        Role::Arguments => 49,
-        Role::Parameters => 50,
-        Role::Body => 51,
+        Role::Expr => EXPR_LOW,
+        Role::TypeRef => TYPE_LOW,
+        Role::TypeOrNone => TYPE_LOW,
+        Role::Name => NAME_LOW,
+        Role::Variable => VARIABLE_LOW,
+        Role::Arguments => ARGUMENTS_KEY,
+        Role::Parameters => PARAMETERS_KEY,
+        Role::Body => STATEMENTS_KEY,
         Role::Item => 0,
-        Role::Rest => 48,
+        Role::Rest => CELL_LOW,
     }
 }
 
@@ -127,16 +159,16 @@ pub(crate) fn high_key(role: Role) -> u32
         Role::Number => 0,
         Role::Text => 0,
         Role::Length => 0,
-        Role::Expr => 47,
-        Role::TypeRef => 7,
-        Role::TypeOrNone => 7,
-        Role::Name => 27,
-        Role::Variable => 99,
-        Role::Arguments => 49,
-        Role::Parameters => 50,
-        Role::Body => 51,
-        Role::Item => 1023,
-        Role::Rest => 51,
+        Role::Expr => EXPR_HIGH,
+        Role::TypeRef => TYPE_HIGH,
+        Role::TypeOrNone => TYPE_HIGH,
+        Role::Name => NAME_HIGH,
+        Role::Variable => VARIABLE_HIGH,
+        Role::Arguments => ARGUMENTS_KEY,
+        Role::Parameters => PARAMETERS_KEY,
+        Role::Body => STATEMENTS_KEY,
+        Role::Item => HIGHEST,
+        Role::Rest => CELL_HIGH,
     }
 }
 

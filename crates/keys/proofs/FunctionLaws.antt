@@ -73,7 +73,7 @@ listed-function tree j h = let w = listed-kind tree (records tree) j h in record
 
 module _ (tree text : List ℕ) (good : Good tree text) (f : ℕ) (at : FunctionAt tree f) where
   -- the text of a record of kind 6
-  part : (r : ℕ) (t : Text) (p : Part) → IsKind tree 6 r → t ≡ textOf tree text r A → (p .0 ≡ wordOf tree r A) × (p .1 ≡ wordOf tree r B) → PartIs text p t
+  part : (r : ℕ) (t : Text) (p : Part) → IsKind tree 6 r → t ≡ textOf tree text r A → (p .offset ≡ wordOf tree r A) × (p .len ≡ wordOf tree r B) → PartIs text p t
   unfolding textOf
   part r t p h e q = record {
     inside = omega (arith, q .0, q .1, name-a tree text good r (h .below) (h .kind));
@@ -86,11 +86,11 @@ module _ (tree text : List ℕ) (good : Good tree text) (f : ℕ) (at : Function
   pub mangled-inside : wordOf tree f B * 32 + 32 ≤ length tree
   mangled-inside = inside tree text good (wordOf tree f B) (mangled-record tree text good f at .below)
 
-  pub name-part : (p : Part) → (p .0 ≡ wordOf tree (wordOf tree f A) A) × (p .1 ≡ wordOf tree (wordOf tree f A) B)
+  pub name-part : (p : Part) → (p .offset ≡ wordOf tree (wordOf tree f A) A) × (p .len ≡ wordOf tree (wordOf tree f A) B)
       → PartIs text p (functionOf tree text f .name)
   name-part p q = part (wordOf tree f A) (functionOf tree text f .name) p (name-record tree text good f at) (function-name tree text good f at) q
 
-  pub mangled-part : (p : Part) → (p .0 ≡ wordOf tree (wordOf tree f B) A) × (p .1 ≡ wordOf tree (wordOf tree f B) B)
+  pub mangled-part : (p : Part) → (p .offset ≡ wordOf tree (wordOf tree f B) A) × (p .len ≡ wordOf tree (wordOf tree f B) B)
       → PartIs text p (functionOf tree text f .mangledName)
   mangled-part p q = part (wordOf tree f B) (functionOf tree text f .mangledName) p (mangled-record tree text good f at) (function-mangled tree text good f at) q
 

@@ -24,12 +24,12 @@ use Rattle.keys.proofs.FunctionLaws.{listed-function, name-part, mangle
 -- ---- one function
 
 module _ (tree text : List ℕ) (good : Good tree text) (f : ℕ) (at : FunctionAt tree f) where
-  pub name-read : (p : Part) (r : ℕ) → r ≡ wordOf tree f A → (p .0 ≡ wordOf tree r 0) × (p .1 ≡ wordOf tree r 1)
+  pub name-read : (p : Part) (r : ℕ) → r ≡ wordOf tree f A → (p .offset ≡ wordOf tree r 0) × (p .len ≡ wordOf tree r 1)
       → PartIs text p (functionOf tree text f .name)
   name-read p r e q =
       name-part tree text good f at p (q .0 ∙ ap (λ (x : ℕ). wordOf tree x 0) e, q .1 ∙ ap (λ (x : ℕ). wordOf tree x 1) e)
 
-  pub mangled-read : (p : Part) (r : ℕ) → r ≡ wordOf tree f B → (p .0 ≡ wordOf tree r 0) × (p .1 ≡ wordOf tree r 1)
+  pub mangled-read : (p : Part) (r : ℕ) → r ≡ wordOf tree f B → (p .offset ≡ wordOf tree r 0) × (p .len ≡ wordOf tree r 1)
       → PartIs text p (functionOf tree text f .mangledName)
   mangled-read p r e q =
       mangled-part tree text good f at p (q .0 ∙ ap (λ (x : ℕ). wordOf tree x 0) e, q .1 ∙ ap (λ (x : ℕ). wordOf tree x 1) e)

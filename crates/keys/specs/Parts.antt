@@ -9,5 +9,5 @@ use Rattle.keys.specs.declared.parts.Part.{Part}
 
 -- a part lies inside the text, and is this text
 pub record PartIs (text : List ℕ) (p : Part) (t : Text) : Type 0 where
-  pub inside : p .0 + p .1 ≤ length text
-  pub is : textAt text (p .0) (p .1) ≡ t
+  pub inside : p .offset + p .len ≤ length text
+  pub is : textAt text (p .offset) (p .len) ≡ t

@@ -3,6 +3,7 @@ ghost use mathlib.Core.Path.{_≡_};
 ghost use mathlib.Core.Bool.{true};
 ghost use Prim.Native.Nat.{_+_, _*_, _≤_, _<_};
 ghost use lib.ListN.{length};
+ghost use Rattle.records.specs.Layout.{judging};
 ghost use Rattle.records.specs.Words.{wordAt, records, mostRecords};
 ghost use Rattle.records.specs.Chains.{bucketOf, Cleared};
 ghost use Rattle.records.specs.Digest.{digestEnd};
@@ -21,6 +22,7 @@ use records::layout::KEY_HEAD_BYTES;
 use records::layout::KEY_HEADS;
 use records::layout::KEY_SLOT_BYTES;
 use records::layout::KEY_SLOTS;
+use records::layout::LISTED_BYTES;
 use records::layout::NAME_HEAD_BYTES;
 use records::layout::NAME_HEADS;
 use records::layout::ORIGINAL_BYTES;
@@ -110,9 +112,9 @@ pub fn key_of(tree: &[u8], text: &[u8], f: usize) -> Part
 pub fn function_at(tree: &[u8], scratch: &[u8], count: usize, j: usize) -> usize
     requires { ⌜ Listed (now tree) (now scratch) count ⌝ }
     requires { ⌜ j < count ⌝ }
-    ensures { λ f. ⌜ (f ≡ wordAt (now (scratch .entry)) (4 * j)) × FunctionAt (now (tree .entry)) f ⌝ }
+    ensures { λ f. ⌜ (f ≡ wordAt (now (scratch .entry)) (judging .each * j)) × FunctionAt (now (tree .entry)) f ⌝ }
 {
-    load(scratch, 4 * j) as usize
+    load(scratch, LISTED_BYTES * j) as usize
 }
 
 // The record whose text is a function's key.

@@ -10,24 +10,30 @@ use records::texts::same_run;
 use records::words::reference;
 
 // An offset and a length.
-pub struct Part(pub usize, pub usize);
+pub struct Part {
+    pub offset: usize,
+    pub len: usize,
+}
 
 // The text that words k and k + 1 of record r say.
 pub fn text_part(tree: &[u8], r: usize, k: usize) -> Part
     requires { ⌜ r * 32 + 32 ≤ length (now tree) ⌝ }
     requires { ⌜ k ≤ 3 ⌝ }
-    ensures { λ p. ⌜ (p .0 ≡ wordOf (now (tree .entry)) r k) × (p .1 ≡ wordOf (now (tree .entry)) r (k + 1)) ⌝ }
+    ensures { λ p. ⌜ (p .offset ≡ wordOf (now (tree .entry)) r k) × (p .len ≡ wordOf (now (tree .entry)) r (k + 1)) ⌝ }
 {
-    Part(reference(tree, r, k), reference(tree, r, k + 1))
+    Part {
+        offset: reference(tree, r, k),
+        len: reference(tree, r, k + 1),
+    }
 }
 
 // Whether a part is these bytes.
 fn same_bytes(text: &[u8], p: Part, bytes: &[u8]) -> bool
-    requires { ⌜ p .0 + p .1 ≤ length (now text) ⌝ }
-    ensures { λ r. ⌜ r ≡ sameText (textAt (now (text .entry)) (p .0) (p .1)) (now (bytes .entry)) ⌝ }
+    requires { ⌜ p .offset + p .len ≤ length (now text) ⌝ }
+    ensures { λ r. ⌜ r ≡ sameText (textAt (now (text .entry)) (p .offset) (p .len)) (now (bytes .entry)) ⌝ }
 {
-    let at = p.0;
-    let n = p.1;
+    let at = p.offset;
+    let n = p.len;
     if n != bytes.len() {
         return false;
     }
@@ -35,34 +41,34 @@ fn same_bytes(text: &[u8], p: Part, bytes: &[u8]) -> bool
 }
 
 pub fn is_main(text: &[u8], p: Part) -> bool
-    requires { ⌜ p .0 + p .1 ≤ length (now text) ⌝ }
-    ensures { λ r. ⌜ r ≡ sameText (textAt (now (text .entry)) (p .0) (p .1)) mainName ⌝ }
+    requires { ⌜ p .offset + p .len ≤ length (now text) ⌝ }
+    ensures { λ r. ⌜ r ≡ sameText (textAt (now (text .entry)) (p .offset) (p .len)) mainName ⌝ }
 {
     same_bytes(text, p, b"main")
 }
 
 // The verb of a cast: its nine bytes.
 pub fn is_cast_verb(text: &[u8], p: Part) -> bool
-    requires { ⌜ p .0 + p .1 ≤ length (now text) ⌝ }
-    ensures { λ r. ⌜ r ≡ sameText (textAt (now (text .entry)) (p .0) (p .1)) castVerb ⌝ }
+    requires { ⌜ p .offset + p .len ≤ length (now text) ⌝ }
+    ensures { λ r. ⌜ r ≡ sameText (textAt (now (text .entry)) (p .offset) (p .len)) castVerb ⌝ }
 {
     same_bytes(text, p, b"\xEB\xB0\x94\xEA\xBE\xB8\xEB\x8B\xA4")
 }
 
 // What ends the key of a variadic function.
 pub fn is_variadic_mark(text: &[u8], p: Part) -> bool
-    requires { ⌜ p .0 + p .1 ≤ length (now text) ⌝ }
-    ensures { λ r. ⌜ r ≡ sameText (textAt (now (text .entry)) (p .0) (p .1)) variadicMark ⌝ }
+    requires { ⌜ p .offset + p .len ≤ length (now text) ⌝ }
+    ensures { λ r. ⌜ r ≡ sameText (textAt (now (text .entry)) (p .offset) (p .len)) variadicMark ⌝ }
 {
     same_bytes(text, p, b"$...")
 }
 
 pub fn is_ascii(text: &[u8], p: Part) -> bool
-    requires { ⌜ p .0 + p .1 ≤ length (now text) ⌝ }
-    ensures { λ r. ⌜ r ≡ is-ascii (textAt (now (text .entry)) (p .0) (p .1)) ⌝ }
+    requires { ⌜ p .offset + p .len ≤ length (now text) ⌝ }
+    ensures { λ r. ⌜ r ≡ is-ascii (textAt (now (text .entry)) (p .offset) (p .len)) ⌝ }
 {
-    let at = p.0;
-    let n = p.1;
+    let at = p.offset;
+    let n = p.len;
     let mut i = 0;
     while i < n {
         if text[at + i] >= 128 {

@@ -2,8 +2,8 @@
 -- Assumes nothing.
 use mathlib.Core.Path.{_≡_, refl}
 use mathlib.Core.Bool.{true}
-use Rattle.records.specs.Layout.{layout, fitsFrom}
+use Rattle.records.specs.Layout.{layout, scratchEach, fitsWithin}
 
-pub layout-fits : fitsFrom 0 layout ≡ true
-unfolding fitsFrom
+pub layout-fits : fitsWithin scratchEach 0 layout ≡ true
+unfolding fitsWithin
 layout-fits = refl

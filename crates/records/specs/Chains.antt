@@ -8,6 +8,7 @@ use lib.ListN.{length, getD}
 use Rattle.laws.specs.Fix.{pick}
 use Rattle.laws.specs.Chain.{linkTo}
 use Rattle.laws.specs.Splice.{splice}
+use Rattle.records.specs.Layout.{Region}
 use Rattle.records.specs.Words.{wordAt, word, mostRecords}
 
 -- the bucket of a digest: there are n, and the digest's high bits say which
@@ -19,24 +20,36 @@ unfoldable pub memberBucket : (ℕ → Bool) → (ℕ → ℕ) → ℕ → ℕ �
 unfolding pick
 memberBucket member digest n k = pick (member k) (bucketOf n (digest k)) n
 
--- the heads stand first, a word a bucket; then each number's digest and link
+-- the heads stand first, a word a bucket; then each number's digest and link, two words; so many bytes for each number
+abbrev pub chainHeads : Region
+chainHeads = record { from = 0; each = 4 }
+
+abbrev pub chainEntries : Region
+chainEntries = record { from = 4; each = 8 }
+
+abbrev pub chainEach : ℕ
+chainEach = 12
+
+abbrev pub headAt : ℕ → ℕ
+headAt b = chainHeads .each * b
+
 abbrev pub entryAt : ℕ → ℕ → ℕ
-entryAt n k = 4 * n + 8 * k
+entryAt n k = chainEntries .from * n + chainEntries .each * k
 
 -- the members below r are entered
 pub record Chained (member : ℕ → Bool) (digest : ℕ → ℕ) (n r : ℕ) (l : List ℕ) : Type 0 where
-  pub heads : (b : ℕ) → b < n → wordAt l (4 * b) ≡ linkTo (memberBucket member digest n) r b
+  pub heads : (b : ℕ) → b < n → wordAt l (headAt b) ≡ linkTo (memberBucket member digest n) r b
   pub digests : (k : ℕ) → k < r → member k ≡ true → wordAt l (entryAt n k) ≡ digest k
   pub links : (k : ℕ) → k < r → member k ≡ true → wordAt l (entryAt n k + 4) ≡ linkTo (memberBucket member digest n) k (memberBucket member digest n k)
 
 -- number r is entered, with its digest d and the head h of its bucket b
 abbrev pub entered : ℕ → ℕ → ℕ → ℕ → ℕ → List ℕ → List ℕ
-entered n r d b h l = splice (splice l (entryAt n r) (word d ++ word h)) (4 * b) (word (r + 1))
+entered n r d b h l = splice (splice l (entryAt n r) (word d ++ word h)) (headAt b) (word (r + 1))
 
 -- there are few enough numbers, and room for them
 pub record ChainRoom (n : ℕ) (l : List ℕ) : Type 0 where
   pub few : n ≤ mostRecords
-  pub room : 12 * n ≤ length l
+  pub room : chainEach * n ≤ length l
 
 -- the bytes from one place up to another are zero, and the others as they were
 pub record Cleared (from to : ℕ) (l l′ : List ℕ) : Type 0 where

@@ -9,6 +9,10 @@ pub record Region : Type 0 where
   pub from : ℕ
   pub each : ℕ
 
+-- and ends before byte `endOf` times n
+abbrev pub endOf : Region → ℕ
+endOf g = g .from + g .each
+
 -- what the judge knows: four bytes for each record (what its list holds, how deep it is, how often it is referred to, its kind; before that, twelve for
 -- each type, while equal types are looked for); once the tree is judged, twelve for each record, while equal texts are looked for (`specs/Chains.antt`); then
 -- the functions' records in their order, a word each
@@ -69,7 +73,7 @@ layout = judging ∷ typeSlots ∷ openNames ∷ operands ∷ originals ∷ keyS
 abbrev pub scratchEach : ℕ
 scratchEach = 72
 
--- each region starts behind the one before, and the last ends within the scratch
-unfoldable pub fitsFrom : ℕ → List Region → Bool
-fitsFrom at [] = leb at scratchEach
-fitsFrom at (x ∷ l) = leb at (x .from) && fitsFrom (x .from + x .each) l
+-- each region starts behind the one before, and the last ends within so many bytes a record
+unfoldable pub fitsWithin : ℕ → ℕ → List Region → Bool
+fitsWithin each at [] = leb at each
+fitsWithin each at (x ∷ l) = leb at (x .from) && fitsWithin each (endOf x) l

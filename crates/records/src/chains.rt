@@ -4,6 +4,8 @@ ghost use Prim.Native.Nat.{_≤_, _<_};
 ghost use lib.ListN.{length};
 ghost use Rattle.records.specs.Words.{mostRecords};
 ghost use Rattle.records.specs.Chains.{bucketOf, entered, ChainRoom, Cleared, Emptied};
+use crate::layout::CHAIN_ENTRY_BYTES;
+use crate::layout::CHAIN_HEAD_BYTES;
 use crate::words::put_pair;
 use crate::words::put_word;
 
@@ -41,6 +43,11 @@ pub fn enter(scratch: &mut [u8], n: usize, r: usize, d: u32, b: usize, head: u32
     ensures { λ _. ⌜ now (scratch .exit) ≡ entered n r d b head (now (scratch .entry)) ⌝ }
 {
     let next = (r + 1) as u32;
-    put_pair(scratch, 4 * n + 8 * r, d, head);
-    put_word(scratch, 4 * b, next);
+    put_pair(
+        scratch,
+        CHAIN_HEAD_BYTES * n + CHAIN_ENTRY_BYTES * r,
+        d,
+        head,
+    );
+    put_word(scratch, CHAIN_HEAD_BYTES * b, next);
 }

@@ -1,5 +1,34 @@
 // Where the regions of scratch begin, in bytes a record, and how long an entry of each is: `records/specs/Layout.antt`.
 
+// What the judge knows of a record: four bytes in a slot. The first slot belongs to none, that of record r is slot r + 1.
+pub const KNOWN_BYTES: usize = 4;
+
+// Within a slot: how deep the record is, how often it is referred to, what its list holds, its kind.
+pub const DEPTH_AT: usize = 0;
+
+pub const COUNT_AT: usize = 1;
+
+pub const CLASS_AT: usize = 2;
+
+pub const KIND_AT: usize = 3;
+
+// The same in the slot behind.
+pub const NEXT_DEPTH: usize = 4;
+
+pub const NEXT_COUNT: usize = 5;
+
+pub const NEXT_CLASS: usize = 6;
+
+pub const NEXT_KIND: usize = 7;
+
+// The heads of a chain's buckets stand first, then an entry for each number: while equal types and equal texts are looked for (`records/specs/Chains.antt`).
+pub const CHAIN_HEAD_BYTES: usize = 4;
+
+pub const CHAIN_ENTRY_BYTES: usize = 8;
+
+// The functions' records, from byte 0 on.
+pub const LISTED_BYTES: usize = 4;
+
 // The types of expressions, a word each.
 pub const TYPE_SLOTS: usize = 4;
 

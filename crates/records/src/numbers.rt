@@ -56,6 +56,12 @@ pub const FORM_INT: u8 = 1;
 
 pub const FORM_FLOAT: u8 = 2;
 
+pub const FORM_BOOL: u8 = 3;
+
+pub const FORM_CHAR: u8 = 4;
+
+pub const FORM_BYTE: u8 = 5;
+
 pub const FORM_ADDRESS: u8 = 6;
 
 pub const FORM_ARRAY: u8 = 7;
@@ -63,6 +69,15 @@ pub const FORM_ARRAY: u8 = 7;
 pub const FORM_CUSTOM: u8 = 8;
 
 pub const FORM_NULL: u8 = 9;
+
+// Those with marks: 16 short, 32 unsigned.
+pub const FORM_SHORT_INT: u8 = 17;
+
+pub const FORM_UNSIGNED: u8 = 33;
+
+pub const FORM_SHORT_UNSIGNED: u8 = 49;
+
+pub const FORM_SHORT_FLOAT: u8 = 18;
 
 // The types that every tree begins with, each by its record.
 pub const INT_LONG: usize = 0;

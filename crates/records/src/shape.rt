@@ -3,6 +3,19 @@ ghost use mathlib.Core.Path.{_≡_};
 ghost use Prim.Native.Nat.{_<_};
 ghost use Rattle.records.specs.Shapes.{shapeOf, rowOf, refers, roleOf, plainType, typeShape};
 ghost use Rattle.records.specs.Packed.{unpacked};
+use crate::numbers::FORM_ADDRESS;
+use crate::numbers::FORM_ARRAY;
+use crate::numbers::FORM_BOOL;
+use crate::numbers::FORM_BYTE;
+use crate::numbers::FORM_CHAR;
+use crate::numbers::FORM_CUSTOM;
+use crate::numbers::FORM_FLOAT;
+use crate::numbers::FORM_INT;
+use crate::numbers::FORM_NULL;
+use crate::numbers::FORM_SHORT_FLOAT;
+use crate::numbers::FORM_SHORT_INT;
+use crate::numbers::FORM_SHORT_UNSIGNED;
+use crate::numbers::FORM_UNSIGNED;
 use crate::numbers::KIND_FUNCTION;
 use crate::numbers::KIND_TYPE;
 
@@ -122,16 +135,16 @@ pub fn row_of(shape: usize) -> Row
 fn plain_type(d: u8) -> bool
     ensures { λ r. ⌜ r ≡ plainType d ⌝ }
 {
-    (d == 1)
-        | (d == 17)
-        | (d == 33)
-        | (d == 49)
-        | (d == 2)
-        | (d == 18)
-        | (d == 3)
-        | (d == 4)
-        | (d == 5)
-        | (d == 9)
+    (d == FORM_INT)
+        | (d == FORM_SHORT_INT)
+        | (d == FORM_UNSIGNED)
+        | (d == FORM_SHORT_UNSIGNED)
+        | (d == FORM_FLOAT)
+        | (d == FORM_SHORT_FLOAT)
+        | (d == FORM_BOOL)
+        | (d == FORM_CHAR)
+        | (d == FORM_BYTE)
+        | (d == FORM_NULL)
 }
 
 fn type_shape(detail: u8) -> usize
@@ -140,13 +153,13 @@ fn type_shape(detail: u8) -> usize
     if plain_type(detail) {
         return 1;
     }
-    if detail == 6 {
+    if detail == FORM_ADDRESS {
         return 26;
     }
-    if detail == 7 {
+    if detail == FORM_ARRAY {
         return 27;
     }
-    if detail == 8 {
+    if detail == FORM_CUSTOM {
         return 28;
     }
     0

@@ -9,7 +9,7 @@ use lib.Dec.{eqb, ltb}
 use lib.ListN.{length}
 use Rattle.laws.specs.Fix.{pick}
 use Rattle.laws.specs.Splice.{splice}
-use Rattle.records.specs.Layout.{nameSlots}
+use Rattle.records.specs.Layout.{scratchEach, openNames, nameSlots}
 use Rattle.records.specs.Words as Words
 use Rattle.records.specs.Words.{wordAt, textAt}
 use Rattle.syntax.specs.Places.{functionOf}
@@ -40,10 +40,14 @@ constantAt s p = eqb (wordAt s (p + 12) % 2) 1
 abbrev pub openVariable : List ℕ → List ℕ → ℕ → Variable
 openVariable text s p = record { name = textAt text (wordAt s p) (wordAt s (p + 4)); constant = constantAt s p; var-id = varAt s p }
 
--- the first `count` entries from byte 8n on, innermost first: the innermost stands last
+-- where entry j stands in the scratch of n records
+abbrev pub openNameAt : ℕ → ℕ → ℕ
+openNameAt n j = openNames .from * n + openNames .each * j
+
+-- the first `count` entries, innermost first: the innermost stands last
 unfoldable pub variablesAt : List ℕ → List ℕ → ℕ → ℕ → List Variable
 variablesAt text s n zero = []
-variablesAt text s n (suc j) = openVariable text s (8 * n + 16 * j) ∷ variablesAt text s n j
+variablesAt text s n (suc j) = openVariable text s (openNameAt n j) ∷ variablesAt text s n j
 
 -- the open names of a scope
 abbrev pub variablesOf : List ℕ → List ℕ → Scope → List Variable
@@ -61,18 +65,18 @@ scopeAt tree text s sc = record { variables = variablesOf text s sc; inLoop = lo
 
 -- the open names stay within their region, and the scratch is as long as document 01 lends it
 pub record NamesRoom (sc : Scope) (s : List ℕ) : Type 0 where
-  pub scratch : 72 * sc .records ≤ length s
+  pub scratch : scratchEach * sc .records ≤ length s
   pub names-in : sc .names ≤ sc .records
 
 -- ---- looking for a name
 
 -- the name of entry j is the text u
 unfoldable pub nameIs : List ℕ → List ℕ → ℕ → List ℕ → ℕ → Bool
-nameIs text s n u j = sameText u (textAt text (wordAt s (8 * n + 16 * j)) (wordAt s (8 * n + 16 * j + 4)))
+nameIs text s n u j = sameText u (textAt text (wordAt s (openNameAt n j)) (wordAt s (openNameAt n j + 4)))
 
 -- offset and length of entry j are these two words
 unfoldable pub wordsAre : List ℕ → ℕ → ℕ → ℕ → ℕ → Bool
-wordsAre s n offset len j = eqb offset (wordAt s (8 * n + 16 * j)) && eqb len (wordAt s (8 * n + 16 * j + 4))
+wordsAre s n offset len j = eqb offset (wordAt s (openNameAt n j)) && eqb len (wordAt s (openNameAt n j + 4))
 
 -- where the slot of the text with number o stands in the scratch of n records
 abbrev pub nameSlotAt : ℕ → ℕ → ℕ
@@ -128,7 +132,7 @@ nameEntry offset len v constant = word offset ++ word len ++ word (v .0) ++ word
 -- the scratch with that entry behind the others, and its place at the slot of o
 abbrev pub nameAdded : ℕ → ℕ → ℕ → VarId → Bool → Scope → List ℕ → List ℕ
 nameAdded o offset len v constant sc s =
-    splice (splice s (8 * sc .records + 16 * sc .names) (nameEntry offset len v constant)) (nameSlotAt (sc .records) o) (word (sc .names))
+    splice (splice s (openNameAt (sc .records) (sc .names)) (nameEntry offset len v constant)) (nameSlotAt (sc .records) o) (word (sc .names))
 
 -- a name more is afforded, its place fits a word, and its type has room beside the mark
 pub record NameAfforded (sc : Scope) (v : VarId) : Type 0 where
@@ -144,8 +148,8 @@ module _ (text : List ℕ) (o offset len : ℕ) (v : VarId) (constant : Bool) (s
     pub written : s′ ≡ nameAdded o offset len v constant sc s
     pub free : findIn (textAt text offset len) (variablesOf text s sc) ≡ none
     pub new : (j : ℕ) → j < sc .names → wordsAre s (sc .records) offset len j ≡ false
-    pub offset-is : wordAt s′ (8 * sc .records + 16 * sc .names) ≡ offset
-    pub length-is : wordAt s′ (8 * sc .records + 16 * sc .names + 4) ≡ len
+    pub offset-is : wordAt s′ (openNameAt (sc .records) (sc .names)) ≡ offset
+    pub length-is : wordAt s′ (openNameAt (sc .records) (sc .names) + 4) ≡ len
     pub slot-is : wordAt s′ (nameSlotAt (sc .records) o) ≡ sc .names
     pub added : variablesOf text s′ sc′ ≡ variableNamed text offset len v constant ∷ variablesOf text s sc
 

@@ -5,8 +5,9 @@
 ghost use mathlib.Core.Path.{_≡_};
 ghost use Prim.Native.Nat.{_+_, _*_, _≤_, _<_};
 ghost use lib.ListN.{length};
+ghost use Rattle.records.specs.Layout.{openNames, scratchEach};
 ghost use Rattle.ir.specs.Search.{foundOf};
-ghost use Rattle.scope.specs.Open.{wordsAre, openAt, NamesRoom, VariableAt, FindsTold, NameAfforded, DeclaresTold, within, loopNumber, loopOf};
+ghost use Rattle.scope.specs.Open.{openNameAt, wordsAre, openAt, NamesRoom, VariableAt, FindsTold, NameAfforded, DeclaresTold, within, loopNumber, loopOf};
 use ir::structs::VarId;
 use records::layout::NAME_SLOT_BYTES;
 use records::layout::NAME_SLOTS;
@@ -49,7 +50,7 @@ pub enum InLoop {
 
 // Whether the name of entry j is said by these two words.
 fn entry_is(scratch: &[u8], records: usize, j: usize, offset: u32, len: u32) -> bool
-    requires { ⌜ 8 * records + 16 * j + 16 ≤ length (now scratch) ⌝ }
+    requires { ⌜ openNameAt records j + openNames .each ≤ length (now scratch) ⌝ }
     ensures { λ r. ⌜ r ≡ wordsAre (now (scratch .entry)) records offset len j ⌝ }
 {
     let a = load(scratch, OPEN_NAMES * records + OPEN_NAME_BYTES * j);
@@ -60,7 +61,7 @@ fn entry_is(scratch: &[u8], records: usize, j: usize, offset: u32, len: u32) -> 
 // The one of `count` open names that these two words say, with the text of number o: it stands where the slot says that the text was declared last. A
 // slot outlives its name's block and is never cleared, so the entry there is held against the count and the words.
 fn open_at(scratch: &[u8], records: usize, count: usize, o: usize, offset: u32, len: u32) -> Found
-    requires { ⌜ (72 * records ≤ length (now scratch)) × (count ≤ records) × (o < records) ⌝ }
+    requires { ⌜ (scratchEach * records ≤ length (now scratch)) × (count ≤ records) × (o < records) ⌝ }
     ensures { λ r. ⌜ r ≡ foundOf (openAt (now (scratch .entry)) records count o offset len) ⌝ }
 {
     let j = index(load(scratch, NAME_SLOTS * records + NAME_SLOT_BYTES * o));
@@ -74,8 +75,8 @@ fn open_at(scratch: &[u8], records: usize, count: usize, o: usize, offset: u32, 
 }
 
 fn variable_at(scratch: &[u8], records: usize, j: usize) -> Known
-    requires { ⌜ 8 * records + 16 * j + 16 ≤ length (now scratch) ⌝ }
-    ensures { λ r. ⌜ VariableAt (now (scratch .entry)) (8 * records + 16 * j) r ⌝ }
+    requires { ⌜ openNameAt records j + openNames .each ≤ length (now scratch) ⌝ }
+    ensures { λ r. ⌜ VariableAt (now (scratch .entry)) (openNameAt records j) r ⌝ }
 {
     let id = load(scratch, OPEN_NAMES * records + OPEN_NAME_BYTES * j + 8);
     let w = load(scratch, OPEN_NAMES * records + OPEN_NAME_BYTES * j + 12);

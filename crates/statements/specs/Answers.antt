@@ -8,23 +8,25 @@ use mathlib.Core.List.{List}
 use lib.Dec.{eqb}
 use lib.ListN.{length, getD}
 use Rattle.laws.specs.Fix.{pick}
+use Rattle.records.specs.Kinds.{kindDeclare, kindInit, kindReturn, kindBreak}
 use Rattle.records.specs.Words.{kindOf, detailOf, wordOf, records, A, B, C, D}
-use Rattle.records.specs.declared.convert_error.ConvertError.{ConvertError}
-use Rattle.syntax.specs.Syntax.{unaryOps, binaryOps, UnaryOp, BinaryOp, Neg, Or, binaryNumber, And}
-use Rattle.syntax.specs.Decode.{program, textOf, bit, reference}
+use Rattle.syntax.specs.Syntax.{unaryOps, binaryOps, BinaryOp, Neg, Or, binaryNumber, And}
+use Rattle.syntax.specs.Decode.{program, typeAt, textOf, bit, reference}
 use Rattle.syntax.specs.Places.{exprAt, argsAt, paramsAt, statementAt, blockAt, functionOf, TypeAt, ArgsAt, ParamsAt}
-use Rattle.conversion.specs.ConvertError.{Result, ok, err}
+use Rattle.conversion.specs.ConvertError.{ok}
 use Rattle.conversion.specs.Ir as Ir
 use Rattle.conversion.specs.Ir.{M, _>>=_, _>>_, pure, lift}
 use Rattle.conversion.specs.Scope as Def
 use Rattle.conversion.specs.Scope.{withLoop}
-use Rattle.conversion.specs.Expressions.{Callee, CallFunction, common-type}
-use Rattle.conversion.specs.Statements.{checkBound, parameterType, valuePosition, expectedType, fit-args, castFirst, callValue, convert-unary, convertAnd, convertOr, convertOther, convert-binary, convert-call-value, convert-expr, convert-args, convert-cond, callFunction, convert-declare, convert-init, initNew, convert-assign, assignTo, convert-return, returnAs, convert-call, convert-break, convert-continue, convert-if, convertIfElse, convert-while-loop, convert-for-loop, convertStatement, convert-block}
+use Rattle.conversion.specs.Expressions.{Functions, Callee, CallFunction, common-type}
+use Rattle.conversion.specs.Statements.{zeroValue, fit-operand, checkBound, parameterType, valuePosition, expectedType, fit-args, castFirst, callValue, convert-unary, convertAnd, convertOr, convertOther, convert-binary, convert-call-value, convert-expr, convert-args, convert-cond, callFunction, convert-declare, convert-init, initNew, convert-assign, assignTo, convert-return, returnAs, convert-call, convert-break, convert-continue, convert-if, convertIfElse, convert-while-loop, convert-for-loop, convertStatement, convert-block}
 use Rattle.ir.specs.declared.structs.Counters.{Counters}
 use Rattle.ir.specs.declared.structs.VarId.{VarId}
 use Rattle.ir.specs.declared.structs.Operand.{Operand}
+use Rattle.ir.specs.declared.structs.Operand.the-variants as Operand
 use Rattle.ir.specs.Instructions.{operandOf, varOf}
 use Rattle.ir.specs.Amounts.{Amount, amount, both}
+use Rattle.ir.specs.Arena.{Room}
 use Rattle.scope.specs.declared.Scope.{Scope}
 use Rattle.scope.specs.Open.{scopeAt}
 use Rattle.keys.specs.Keys.{allKeys}
@@ -47,7 +49,7 @@ use Rattle.statements.specs.declared.answers.Stated.the-variants as Stat
 use Rattle.statements.specs.declared.answers.Finished.{Finished}
 use Rattle.statements.specs.declared.answers.Finished.the-variants as Finished
 use Rattle.statements.specs.Meets.{StepAnswer, gave, refused, Adds, AddsIn, Meets}
-use Rattle.statements.specs.Parts.{operandType, ifHead, whileHead, forVariable, forBounds, forBegin, forTest, forTurns, forHead, declareInit, passArgs, finishCall}
+use Rattle.statements.specs.Parts.{operandType, joinAnd, joinOr, finishBinary, countOn, ifHead, whileHead, forVariable, forBounds, forBegin, forTest, forTurns, forHead, declareInit, passArgs, finishCall}
 use Rattle.statements.specs.Stack.{stackAt}
 use Rattle.syntax.specs.Count.{under, statementRecords, blockRecords, argsUnder, argsValues}
 use Rattle.statements.specs.Converting.{OperandIn, StackIn, StaysFor, NamesStay, exprAmount, argsAmount, behindAmount, statementAmount, blockAmount, headAmount, turnsAmount, forHeadAmount}
@@ -258,10 +260,10 @@ module _ (tree text s : List ℕ) (c : Converter) where
 
   -- a Declare, Init, Return or call statement; a Break or Continue
   abbrev pub plainSteps : ℕ → M Def.Scope
-  plainSteps r = pick (eqb (kindOf tree r) 15) (declareSteps r) (pick (eqb (kindOf tree r) 16) (initSteps r) (pick (eqb (kindOf tree r) 17) (returnSteps r) (callStatementSteps r)))
+  plainSteps r = pick (eqb (kindOf tree r) kindDeclare) (declareSteps r) (pick (eqb (kindOf tree r) kindInit) (initSteps r) (pick (eqb (kindOf tree r) kindReturn) (returnSteps r) (callStatementSteps r)))
 
   abbrev pub jumpSteps : ℕ → M Def.Scope
-  jumpSteps r = pick (eqb (kindOf tree r) 22) (breakSteps r) (continueSteps r)
+  jumpSteps r = pick (eqb (kindOf tree r) kindBreak) (breakSteps r) (continueSteps r)
 
   -- ---- what stands around the blocks of the If, While or For r, x being a For's variable
 
@@ -298,15 +300,58 @@ module _ (tree text s : List ℕ) (c : Converter) where
   abbrev pub declareInitSteps : ℕ → ℕ → Operand → M Def.Scope
   declareInitSteps r y src = declareInit (program tree text) (allKeys tree text) r (bit 1 (detailOf tree r)) (textOf tree text r A) y (operandOf src) scopeIn
 
+-- what stands between the sides of the And or Or e, whose variable is dest
+abbrev pub joinSteps : List ℕ → ℕ → VarId → Operand → M (Unit {0})
+joinSteps tree e dest left =
+    pick (eqb (detailOf tree e) (binaryNumber And)) (joinAnd e (varOf dest) (operandOf left)) (joinOr e (varOf dest) (operandOf left))
+
+-- where the For r counts its variable x on
+abbrev pub countOnSteps : List ℕ → ℕ → VarId → M (Unit {0})
+countOnSteps tree r x = countOn r (varOf x) (bit 16 (detailOf tree (x .1))) (bit 32 (detailOf tree (x .1)))
+
 -- ---- what each function owes, by the step that it equals: `steps` at the record r, from the scratch s and the arena l
 
 -- what a function of statements.rs does at a record
 abbrev pub StepsAt : Type 0 → Type 0
 StepsAt X = List ℕ → List ℕ → List ℕ → Converter → ℕ → M X
 
+-- steps that take something more behind the record, two such, or a For's variable before it
+abbrev pub given : {X Y : Type 0} → (List ℕ → List ℕ → List ℕ → Converter → ℕ → Y → M X) → Y → StepsAt X
+given steps y = λ tree text s c r. steps tree text s c r y
+
+abbrev pub givenTwo : {X Y Z : Type 0} → (List ℕ → List ℕ → List ℕ → Converter → ℕ → Y → Z → M X) → Y → Z → StepsAt X
+givenTwo steps y z = λ tree text s c r. steps tree text s c r y z
+
+abbrev pub ofVariable : {X : Type 0} → (List ℕ → List ℕ → List ℕ → Converter → VarId → ℕ → M X) → VarId → StepsAt X
+ofVariable steps x = λ tree text s c r. steps tree text s c x r
+
 -- the condition or operand of the expression e
 abbrev pub ConvertsAs : StepsAt Ir.Operand → Converter → ℕ → List ℕ → List ℕ → List ℕ → List ℕ → Converted → List ℕ → List ℕ → Type 0
 ConvertsAs steps c e tree text l s a l′ s′ = Converts tree text (steps tree text s c e) (exprAmount (under (exprAt tree text e))) c l s a l′ s′
+
+-- the expression e, which has no parts, of this amount: the scratch stays as it is
+abbrev pub LeafConverts : Amount → Converter → ℕ → List ℕ → List ℕ → List ℕ → List ℕ → Converted → List ℕ → Type 0
+LeafConverts n c e tree text l s a l′ = Converts tree text (exprSteps tree text s c e) n c l s a l′ s
+
+-- the operand o fitted to the type expected, whatever the text; the integer `bits`, which adds nothing
+abbrev pub OperandFits : List ℕ → Ir.Operand → ℕ → Amount → Counters → List ℕ → Fitted → List ℕ → Type 0
+OperandFits tree o expected n k l r l′ = (text : List ℕ) → FitAdds tree (fit-operand (program tree text) o expected) n k l r l′
+
+abbrev pub IntFits : List ℕ → Operand → ℕ → ℕ → Counters → Fitted → Type 0
+IntFits tree o bits expected k r =
+    (text l : List ℕ) (short unsigned : Bool) → o ≡ Operand.Int bits short unsigned → Room k l
+    → FitAdds tree (fit-operand (program tree text) (operandOf o) expected) (amount 0 0 0 0 0) k l r l
+
+-- a Binary of type y, both its sides fitted to q, with its operator, whatever the text
+abbrev pub BinaryFinishes : List ℕ → BinaryOp → ℕ → ℕ → Operand → Operand → Counters → List ℕ → Fitted → List ℕ → Type 0
+BinaryFinishes tree op y q left right k l r l′ =
+    (text : List ℕ) → FitAdds tree (finishBinary (program tree text) op y q (operandOf left) (operandOf right)) (amount 3 3 0 0 2) k l r l′
+
+-- the zero value of the variable v that the Declare r writes, whatever the text and the functions
+abbrev pub ZeroMeets : List ℕ → ℕ → VarId → Counters → List ℕ → Finished → List ℕ → Type 0
+ZeroMeets tree r v k l a l′ =
+    (text : List ℕ) (F : Functions)
+    → Meets text (zeroValue (program tree text) F r (varOf v) (typeAt tree text (v .1))) (amount 1 0 0 0 1) k l l′ (finishedOf tt a)
 
 -- the statement r behind its comment
 abbrev pub StatesAs : StepsAt Def.Scope → Converter → ℕ → List ℕ → List ℕ → List ℕ → List ℕ → Stated → List ℕ → List ℕ → Type 0
@@ -366,6 +411,10 @@ abbrev pub ArgsAs : StepsAt (List Ir.Operand) → Converter → ℕ → List ℕ
 ArgsAs steps c w tree text l s a l′ s′ =
     ConvertsArgs tree text (steps tree text s c w) (argsAmount (argsUnder (argsAt tree text w)) (argsValues (argsAt tree text w))) (argsValues (argsAt tree text w)) c l s a l′ s′
 
+-- those of the call e
+abbrev pub CallArgsAs : StepsAt (List Ir.Operand) → Converter → ℕ → List ℕ → List ℕ → List ℕ → List ℕ → ConvertedArgs → List ℕ → List ℕ → Type 0
+CallArgsAs steps c e tree text l s a l′ s′ = ArgsAs steps c (wordOf tree e C) tree text l s a l′ s′
+
 -- ---- what is done with the values of the call e: the `count` operands that wait on the stack
 
 -- the first value of the list that `argument` opens goes to the parameter that r has, and those behind it stand in the list that r has: the
@@ -376,6 +425,11 @@ pub record FirstValue (tree text : List ℕ) (argument parameter : ℕ) (r : AtV
   pub first : parameterType (paramsAt tree text (r .parameter)) 0 ≡ expectedType (paramsAt tree text parameter) (argsAt tree text argument) 0
   pub behind : (k : ℕ) → parameterType (paramsAt tree text (r .parameter)) (suc (valuePosition (argsAt tree text (r .rest)) k))
       ≡ expectedType (paramsAt tree text parameter) (argsAt tree text argument) (suc k)
+
+-- p opens the parameters behind the one that `parameter` opens; behind the last the types go on
+abbrev pub ParameterBehind : List ℕ → List ℕ → ℕ → ℕ → Type 0
+ParameterBehind tree text parameter p =
+    ParamsAt tree p × ((k : ℕ) → parameterType (paramsAt tree text p) k ≡ parameterType (paramsAt tree text parameter) (suc k))
 
 abbrev pub waiting : List ℕ → List ℕ → Converter → ℕ → List Ir.Operand
 waiting tree s c count = stackAt s (records tree) (c .operands) count

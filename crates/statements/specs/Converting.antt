@@ -5,6 +5,8 @@ use Prim.Native.Nat.{ℕ, _+_, _*_, _≤_, _<_}
 use mathlib.Core.List.{List}
 use mathlib.Core.Option.{some}
 use lib.ListN.{length}
+use Rattle.records.specs.Layout as Layout
+use Rattle.records.specs.Layout.{endOf, judging, openNames, nameSlots}
 use Rattle.records.specs.Words.{byteAt, wordOf, records}
 use Rattle.syntax.specs.Count.{under, argsUnder, argsValues, statementRecords, blockRecords}
 use Rattle.syntax.specs.Places.{exprAt, argsAt, statementAt, blockAt, TypeAt, FunctionAt}
@@ -12,13 +14,12 @@ use Rattle.conversion.specs.Ir as Ir
 use Rattle.conversion.specs.Ir.{OVar, OInt, OFloat, OBool, ODataAddress, ONull}
 use Rattle.ir.specs.declared.structs.Counters.{Counters}
 use Rattle.ir.specs.declared.structs.Operand.{Operand}
-use Rattle.ir.specs.Instructions.{operandOf}
 use Rattle.ir.specs.Arena.{Room}
 use Rattle.ir.specs.Amounts.{Amount, amount, Affords}
-use Rattle.scope.specs.Open.{loopNumber}
+use Rattle.scope.specs.Open.{openNameAt, loopNumber}
 use Rattle.expressions.specs.Slots.{Original, Ready}
 use Rattle.statements.specs.declared.answers.Converter.{Converter}
-use Rattle.statements.specs.Stack.{operandAt}
+use Rattle.statements.specs.Stack.{stackEntryAt, operandAt}
 
 -- the innermost loop of a scope, where there is one, is a record of the tree
 abbrev pub LoopIn : List ℕ → ℕ → Type 0
@@ -124,15 +125,15 @@ BlockAfforded tree text c w =
 -- operands that did not wait may differ
 pub record Stays (tree : List ℕ) (names operands : ℕ) (s s′ : List ℕ) : Type 0 where
   pub long : length s′ ≡ length s
-  pub listed : (i : ℕ) → i < 4 * records tree → byteAt s′ i ≡ byteAt s i
-  pub open-names : (i : ℕ) → 8 * records tree ≤ i → i < 8 * records tree + 16 * names → i < 24 * records tree → byteAt s′ i ≡ byteAt s i
-  pub stack : (i : ℕ) → 24 * records tree ≤ i → i < 24 * records tree + 16 * operands → i < 40 * records tree → byteAt s′ i ≡ byteAt s i
-  pub behind : (i : ℕ) → 40 * records tree ≤ i → i < 60 * records tree → byteAt s′ i ≡ byteAt s i
+  pub listed : (i : ℕ) → i < endOf judging * records tree → byteAt s′ i ≡ byteAt s i
+  pub open-names : (i : ℕ) → openNames .from * records tree ≤ i → i < openNameAt (records tree) names → i < endOf openNames * records tree → byteAt s′ i ≡ byteAt s i
+  pub stack : (i : ℕ) → Layout.operands .from * records tree ≤ i → i < stackEntryAt (records tree) operands → i < endOf Layout.operands * records tree → byteAt s′ i ≡ byteAt s i
+  pub behind : (i : ℕ) → endOf Layout.operands * records tree ≤ i → i < nameSlots .from * records tree → byteAt s′ i ≡ byteAt s i
   pub told : (j : ℕ) → j < names → j < records tree → Original tree s j → Original tree s′ j
 
 -- the region of the names, and each that its slot tells: an expression declares none
 pub record NamesStay (tree s s′ : List ℕ) : Type 0 where
-  pub bytes : (i : ℕ) → 8 * records tree ≤ i → i < 24 * records tree → byteAt s′ i ≡ byteAt s i
+  pub bytes : (i : ℕ) → openNames .from * records tree ≤ i → i < endOf openNames * records tree → byteAt s′ i ≡ byteAt s i
   pub told : (j : ℕ) → j < records tree → Original tree s j → Original tree s′ j
 
 abbrev pub StaysFor : List ℕ → Converter → List ℕ → List ℕ → Type 0

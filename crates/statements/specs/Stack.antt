@@ -7,6 +7,7 @@ use lib.Dec.{eqb}
 use lib.ListN.{getD}
 use mir.Syntax.{w64}
 use mir.Val.{toZ}
+use Rattle.records.specs.Layout.{operands}
 use Rattle.records.specs.Words.{wordAt}
 use Rattle.conversion.specs.Ir.{Operand, OVar, OInt, OFloat, OBool, ODataAddress, ONull}
 use Rattle.conversion.specs.Written.{word, wide, tag, operandValue}
@@ -34,7 +35,7 @@ operandFrom t y low high =
 
 -- where entry j stands, with n records
 abbrev pub stackEntryAt : ℕ → ℕ → ℕ
-stackEntryAt n j = 24 * n + 16 * j
+stackEntryAt n j = operands .from * n + operands .each * j
 
 -- the operand of entry j
 unfoldable pub operandAt : List ℕ → ℕ → ℕ → Operand

@@ -3,6 +3,8 @@
 use mathlib.Core.Path.{_≡_}
 use Prim.Native.Nat.{ℕ, _+_, _*_, _≤_, _<_}
 use mathlib.Core.List.{List, [], _++_}
+use Rattle.records.specs.Layout as Layout
+use Rattle.records.specs.Layout.{endOf, typeSlots}
 use Rattle.records.specs.Words.{byteAt, wordOf, records, A, B, C}
 use Rattle.syntax.specs.Exprs.{exprs, argsExprs}
 use Rattle.syntax.specs.Places.{exprAt, argsAt, statementAt, blockAt}
@@ -58,8 +60,8 @@ TypedIn tree text c s l s′ = Typed tree text (scopeAt tree text s (c .scope)) 
 
 -- nothing was typed: the slots and all from byte 64n on are as they were
 pub record TurnsStay (tree s s′ : List ℕ) : Type 0 where
-  pub slots : (i : ℕ) → 4 * records tree ≤ i → i < 8 * records tree → byteAt s′ i ≡ byteAt s i
-  pub behind : (i : ℕ) → 64 * records tree ≤ i → byteAt s′ i ≡ byteAt s i
+  pub slots : (i : ℕ) → typeSlots .from * records tree ≤ i → i < endOf typeSlots * records tree → byteAt s′ i ≡ byteAt s i
+  pub behind : (i : ℕ) → Layout.turns .from * records tree ≤ i → byteAt s′ i ≡ byteAt s i
 
 -- which records each function of statements.rs types at a record
 abbrev pub TypesAt : Type 0

@@ -3,7 +3,8 @@ ghost use mathlib.Core.Path.{_≡_};
 ghost use mathlib.Core.Bool.{Bool, true, false};
 ghost use lib.ListN.{length};
 ghost use mathlib.Core.List.{List};
-ghost use Prim.Native.Nat.{ℕ, suc, _+_, _*_, _≤_, _<_};
+ghost use Prim.Native.Nat.{ℕ, _+_, _*_, _≤_, _<_};
+ghost use Rattle.records.specs.Layout.{scratchEach};
 ghost use Rattle.records.specs.Words.{records};
 ghost use Rattle.records.specs.Kinds.{kindCall};
 ghost use Rattle.records.specs.Good.{Good};
@@ -12,16 +13,14 @@ ghost use Rattle.syntax.specs.Decode.{program};
 ghost use Rattle.syntax.specs.Places.{IsExpr, IsKind, TypeAt, FunctionAt, ArgsAt, ParamsAt, exprAt, paramsAt};
 ghost use Rattle.conversion.specs.Ir.{OVar, OFloat, lift};
 ghost use Rattle.conversion.specs.Expressions.{Functions};
-ghost use Rattle.conversion.specs.Statements.{refloat, castOperand, fit-operand, emitArgs, checkFits, parameterType};
+ghost use Rattle.conversion.specs.Statements.{refloat, castOperand, emitArgs, checkFits, parameterType};
 ghost use Rattle.types.specs.Fits.{IsType};
 ghost use Rattle.ir.specs.Amounts.{amount};
-ghost use Rattle.ir.specs.Arena.{Room};
 ghost use Rattle.ir.specs.Instructions.{operandOf, varOf};
 ghost use Rattle.expressions.specs.Answers.{outcomeOf};
-ghost use Rattle.statements.specs.Stack.{stackAt};
 ghost use Rattle.statements.specs.Converting.{Converting, Afforded, RoomFor, OperandIn, StackIn, StaysFor, NamesStay};
 ghost use Rattle.statements.specs.Meets.{Adds};
-ghost use Rattle.statements.specs.Answers.{FitAdds, FirstValue, FitsAs, PassesAs};
+ghost use Rattle.statements.specs.Answers.{FitAdds, OperandFits, IntFits, ParameterBehind, waiting, FirstValue, FitsAs, PassesAs};
 ghost use Rattle.statements.specs.Turns.{TurnsStay};
 use crate::answers::AtValue;
 use crate::answers::Converter;
@@ -89,7 +88,7 @@ fn cast_operand(arena: &mut [u8], k: Counters, v: VarId, expected: usize) -> Fit
 // A Float variable of the other size goes through a Cast.
 fn fit_variable(tree: &[u8], arena: &mut [u8], k: Counters, v: VarId, expected: usize) -> Fitted
     requires { ⌜ RoomFor k (now arena) (amount 1 1 0 0 0) × (expected < 4294967296) × TypeAt (now tree) expected × TypeAt (now tree) (v .1) ⌝ }
-    ensures { λ r. ⌜ ((text : List ℕ) → FitAdds (now (tree .entry)) (fit-operand (program (now (tree .entry)) text) (OVar (varOf v)) expected) (amount 1 1 0 0 0) k (now (arena .entry)) r (now (arena .exit))) ⌝ }
+    ensures { λ r. ⌜ OperandFits (now (tree .entry)) (OVar (varOf v)) expected (amount 1 1 0 0 0) k (now (arena .entry)) r (now (arena .exit)) ⌝ }
 {
     let ty = v.1 as usize;
     let floats = (form(tree, expected) == FORM_FLOAT) & (form(tree, ty) == FORM_FLOAT);
@@ -104,7 +103,7 @@ fn fit_variable(tree: &[u8], arena: &mut [u8], k: Counters, v: VarId, expected: 
 
 fn fit_float(tree: &[u8], arena: &mut [u8], k: Counters, i: u32, expected: usize) -> Fitted
     requires { ⌜ RoomFor k (now arena) (amount 0 0 0 0 1) × TypeAt (now tree) expected ⌝ }
-    ensures { λ r. ⌜ ((text : List ℕ) → FitAdds (now (tree .entry)) (fit-operand (program (now (tree .entry)) text) (OFloat i) expected) (amount 0 0 0 0 1) k (now (arena .entry)) r (now (arena .exit))) ⌝ }
+    ensures { λ r. ⌜ OperandFits (now (tree .entry)) (OFloat i) expected (amount 0 0 0 0 1) k (now (arena .entry)) r (now (arena .exit)) ⌝ }
 {
     if form(tree, expected) == FORM_FLOAT {
         return refloat(arena, k, i, is_short(tree, expected));
@@ -118,7 +117,7 @@ fn fit_float(tree: &[u8], arena: &mut [u8], k: Counters, i: u32, expected: usize
 // An Int at the expected Int type; at any other as it is.
 fn fit_int(tree: &[u8], k: Counters, o: Operand, bits: u64, expected: usize) -> Fitted
     requires { ⌜ TypeAt (now tree) expected ⌝ }
-    ensures { λ r. ⌜ ((text l : List ℕ) (short unsigned : Bool) → o ≡ Operand.Int bits short unsigned → Room k l → FitAdds (now (tree .entry)) (fit-operand (program (now (tree .entry)) text) (operandOf o) expected) (amount 0 0 0 0 0) k l r l) ⌝ }
+    ensures { λ r. ⌜ IntFits (now (tree .entry)) o bits expected k r ⌝ }
 {
     if form(tree, expected) == FORM_INT {
         return Fitted {
@@ -142,7 +141,7 @@ pub(crate) fn fit_operand(
 ) -> Fitted
     requires { ⌜ RoomFor k (now arena) (amount 1 1 0 0 1) × (expected < 4294967296) ⌝ }
     requires { ⌜ TypeAt (now tree) expected × OperandIn (now tree) (operandOf o) ⌝ }
-    ensures { λ r. ⌜ ((text : List ℕ) → FitAdds (now (tree .entry)) (fit-operand (program (now (tree .entry)) text) (operandOf o) expected) (amount 1 1 0 0 1) k (now (arena .entry)) r (now (arena .exit))) ⌝ }
+    ensures { λ r. ⌜ OperandFits (now (tree .entry)) (operandOf o) expected (amount 1 1 0 0 1) k (now (arena .entry)) r (now (arena .exit)) ⌝ }
 {
     match o {
         Operand::Var(v) => fit_variable(tree, arena, k, v, expected),
@@ -176,7 +175,7 @@ fn parameter_type(tree: &[u8], text: &[u8], parameter: usize) -> usize
 
 fn next_parameter(tree: &[u8], text: &[u8], parameter: usize) -> usize
     requires { ⌜ Good (now tree) (now text) × ParamsAt (now tree) parameter ⌝ }
-    ensures { λ p. ⌜ ParamsAt (now (tree .entry)) p × ((k : ℕ) → parameterType (paramsAt (now (tree .entry)) (now (text .entry)) p) k ≡ parameterType (paramsAt (now (tree .entry)) (now (text .entry)) parameter) (suc k)) ⌝ }
+    ensures { λ p. ⌜ ParameterBehind (now (tree .entry)) (now (text .entry)) parameter p ⌝ }
 {
     if parameter == END {
         return END;
@@ -247,8 +246,8 @@ fn fit_args(
 // An Arg for each of `count` operands of the stack.
 fn emit_args(tree: &[u8], arena: &mut [u8], scratch: &[u8], c: Converter, count: usize) -> Counters
     requires { ⌜ RoomFor (c .counters) (now arena) (amount count 0 0 0 0) ⌝ }
-    requires { ⌜ (c .operands + count ≤ records (now tree)) × (72 * records (now tree) ≤ length (now scratch)) ⌝ }
-    ensures { λ r. ⌜ Adds (emitArgs (stackAt (now (scratch .entry)) (records (now (tree .entry))) (c .operands) count)) (amount count 0 0 0 0) (c .counters) (now (arena .entry)) tt r (now (arena .exit)) ⌝ }
+    requires { ⌜ (c .operands + count ≤ records (now tree)) × (scratchEach * records (now tree) ≤ length (now scratch)) ⌝ }
+    ensures { λ r. ⌜ Adds (emitArgs (waiting (now (tree .entry)) (now (scratch .entry)) c count)) (amount count 0 0 0 0) (c .counters) (now (arena .entry)) tt r (now (arena .exit)) ⌝ }
 {
     let first = c.operands;
     let n = tree.len() / 32;

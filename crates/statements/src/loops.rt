@@ -15,8 +15,8 @@ ghost use Rattle.ir.specs.Instructions.{operandOf, varOf};
 ghost use Rattle.expressions.specs.Slots.{Ready};
 ghost use Rattle.statements.specs.Converting.{Converting, RoomFor, OperandIn, Afforded, BehindAfforded, BoundAfforded, forHeadAmount};
 ghost use Rattle.statements.specs.Meets.{Adds};
-ghost use Rattle.statements.specs.Parts.{ifMiddle, loopBack, countOn, testBound, placeLabel};
-ghost use Rattle.statements.specs.Answers.{HeadAs, BoundAs, TurnsAs, ForHeadAs, VariableAs, Checks, ifHeadSteps, whileHeadSteps, forVariableSteps, boundSteps, forBoundsSteps, forBeginSteps, forTestSteps, forTurnsSteps, forHeadSteps, boundsUnder};
+ghost use Rattle.statements.specs.Parts.{ifMiddle, loopBack, testBound, placeLabel};
+ghost use Rattle.statements.specs.Answers.{countOnSteps, ofVariable, HeadAs, BoundAs, TurnsAs, ForHeadAs, VariableAs, Checks, ifHeadSteps, whileHeadSteps, forVariableSteps, boundSteps, forBoundsSteps, forBeginSteps, forTestSteps, forTurnsSteps, forHeadSteps, boundsUnder};
 ghost use Rattle.statements.specs.Turns.{InTurn, headTypes, boundTypes, boundsTypes, forBeginTypes, forTestTypes, forTypes, StatesTyped, FinishesTyped, VariableTyped, ChecksTyped};
 use crate::answers::Converted;
 use crate::answers::Converter;
@@ -37,11 +37,11 @@ use crate::numbers::LOOP_START;
 use crate::numbers::OTHERWISE;
 use crate::statements::convert_cond;
 use crate::statements::copy_fitted;
-use crate::statements::declare_name;
-use crate::statements::find_name;
 use expressions::answers::ExprType;
 use expressions::answers::Outcome;
 use expressions::expressions::get_type;
+use expressions::names::declare_name;
+use expressions::names::find_name;
 use ir::structs::Counters;
 use ir::structs::Instr;
 use ir::structs::Operand;
@@ -284,7 +284,7 @@ fn for_bounds(
 // Where the For r counts on: at its start, which the first turn passes by, and then the check.
 fn count_on(tree: &[u8], arena: &mut [u8], k: Counters, r: usize, x: VarId) -> Counters
     requires { ⌜ RoomFor k (now arena) (amount 4 0 3 0 0) × (r < k .records) × TypeAt (now tree) (x .1) ⌝ }
-    ensures { λ k′. ⌜ Adds (countOn r (varOf x) (bit 16 (detailOf (now (tree .entry)) (x .1))) (bit 32 (detailOf (now (tree .entry)) (x .1)))) (amount 4 0 3 0 0) k (now (arena .entry)) tt k′ (now (arena .exit)) ⌝ }
+    ensures { λ k′. ⌜ Adds (countOnSteps (now (tree .entry)) r x) (amount 4 0 3 0 0) k (now (arena .entry)) tt k′ (now (arena .exit)) ⌝ }
 {
     let y = x.1 as usize;
     let one = Operand::Int(1, is_short(tree, y), is_unsigned(tree, y));
@@ -307,7 +307,7 @@ fn for_begin(
     requires { ⌜ Converting (now tree) (now text) (now arena) (now scratch) c × BoundAfforded (now tree) (now text) c r Words.B ⌝ }
     requires { ⌜ IsKind (now tree) kindFor r × TypeAt (now tree) (x .1) ⌝ }
     requires { ⌜ InTurn (now tree) (now text) (now scratch) c ⌝ }
-    ensures { λ a. ⌜ BoundAs (λ t y s k q. forBeginSteps t y s k x q) Words.B c r (now (tree .entry)) (now (text .entry)) (now (arena .entry)) (now (scratch .entry)) a (now (arena .exit)) (now (scratch .exit)) ⌝ }
+    ensures { λ a. ⌜ BoundAs (ofVariable forBeginSteps x) Words.B c r (now (tree .entry)) (now (text .entry)) (now (arena .entry)) (now (scratch .entry)) a (now (arena .exit)) (now (scratch .exit)) ⌝ }
     ensures types { λ a. ⌜ FinishesTyped forBeginTypes c r (now (tree .entry)) (now (text .entry)) (now (scratch .entry)) a (now (scratch .exit)) ⌝ }
 {
     let from = reference(tree, r, WORD_B);
@@ -355,7 +355,7 @@ fn for_test(
     requires { ⌜ Converting (now tree) (now text) (now arena) (now scratch) c × BoundAfforded (now tree) (now text) c r Words.C ⌝ }
     requires { ⌜ IsKind (now tree) kindFor r × TypeAt (now tree) (x .1) ⌝ }
     requires { ⌜ InTurn (now tree) (now text) (now scratch) c ⌝ }
-    ensures { λ a. ⌜ BoundAs (λ t y s k q. forTestSteps t y s k x q) Words.C c r (now (tree .entry)) (now (text .entry)) (now (arena .entry)) (now (scratch .entry)) a (now (arena .exit)) (now (scratch .exit)) ⌝ }
+    ensures { λ a. ⌜ BoundAs (ofVariable forTestSteps x) Words.C c r (now (tree .entry)) (now (text .entry)) (now (arena .entry)) (now (scratch .entry)) a (now (arena .exit)) (now (scratch .exit)) ⌝ }
     ensures types { λ a. ⌜ FinishesTyped forTestTypes c r (now (tree .entry)) (now (text .entry)) (now (scratch .entry)) a (now (scratch .exit)) ⌝ }
 {
     let until = reference(tree, r, WORD_C);
@@ -378,7 +378,7 @@ fn for_turns(
     requires { ⌜ Converting (now tree) (now text) (now arena) (now scratch) c × Afforded (now tree) c (forHeadAmount (boundsUnder (now tree) (now text) r)) (boundsUnder (now tree) (now text) r) 0 ⌝ }
     requires { ⌜ IsKind (now tree) kindFor r × TypeAt (now tree) (x .1) ⌝ }
     requires { ⌜ InTurn (now tree) (now text) (now scratch) c ⌝ }
-    ensures { λ a. ⌜ TurnsAs (λ t y s k q. forTurnsSteps t y s k x q) c r (now (tree .entry)) (now (text .entry)) (now (arena .entry)) (now (scratch .entry)) a (now (arena .exit)) (now (scratch .exit)) ⌝ }
+    ensures { λ a. ⌜ TurnsAs (ofVariable forTurnsSteps x) c r (now (tree .entry)) (now (text .entry)) (now (arena .entry)) (now (scratch .entry)) a (now (arena .exit)) (now (scratch .exit)) ⌝ }
     ensures types { λ a. ⌜ FinishesTyped forTypes c r (now (tree .entry)) (now (text .entry)) (now (scratch .entry)) a (now (scratch .exit)) ⌝ }
 {
     let y = x.1 as usize;

@@ -7,6 +7,7 @@ ghost use lib.ListN.{length};
 ghost use mir.Syntax.{w64};
 ghost use mir.Val.{toZ};
 ghost use Rattle.laws.specs.Splice.{splice};
+ghost use Rattle.records.specs.Layout.{operands};
 ghost use Rattle.records.specs.Words as Words;
 ghost use Rattle.records.specs.Words.{detailOf, kindOf};
 ghost use Rattle.records.specs.Kinds.{kindFloat, kindStr, kindName, kindSizeOf};
@@ -19,8 +20,7 @@ ghost use Rattle.ir.specs.Amounts.{amount, Affords};
 ghost use Rattle.ir.specs.Instructions.{operandOf};
 ghost use Rattle.statements.specs.Stack.{operandBytes, operandFrom, stackEntryAt, operandAt};
 ghost use Rattle.statements.specs.Converting.{Converting, RoomFor, exprAmount};
-ghost use Rattle.statements.specs.Meets.{Adds, AddsIn};
-ghost use Rattle.statements.specs.Answers.{Converts, LeafAdds, exprSteps};
+ghost use Rattle.statements.specs.Answers.{LeafAdds, LeafConverts};
 use crate::answers::Converted;
 use crate::answers::Converter;
 use crate::answers::Fitted;
@@ -32,6 +32,7 @@ use crate::numbers::TAG_INT;
 use crate::numbers::TAG_NULL;
 use crate::numbers::TAG_STRING;
 use crate::numbers::TAG_VARIABLE;
+use expressions::names::find_name;
 use ir::floats::float_entry;
 use ir::pool::float_id;
 use ir::pool::string_id;
@@ -60,7 +61,6 @@ use records::words::put_four;
 use records::words::reference;
 use records::words::word;
 use scope::Known;
-use texts::original;
 use types::form::two_words;
 use types::size::Bytes;
 use types::size::size;
@@ -112,7 +112,7 @@ fn operand_of(w: Four) -> Operand
 
 // Writes the operand at place j of the stack, for a tree of so many records.
 pub(crate) fn push_operand(scratch: &mut [u8], records: usize, j: usize, o: Operand)
-    requires { ⌜ 24 * records + 16 * j + 16 ≤ length (now scratch) ⌝ }
+    requires { ⌜ stackEntryAt records j + operands .each ≤ length (now scratch) ⌝ }
     ensures written { λ _. ⌜ now (scratch .exit) ≡ splice (now (scratch .entry)) (stackEntryAt records j) (operandBytes (operandOf o)) ⌝ }
     ensures back { λ _. ⌜ operandAt (now (scratch .exit)) records j ≡ operandOf o ⌝ }
 {
@@ -122,7 +122,7 @@ pub(crate) fn push_operand(scratch: &mut [u8], records: usize, j: usize, o: Oper
 
 // The operand at place j of the stack.
 pub(crate) fn operand_at(scratch: &[u8], records: usize, j: usize) -> Operand
-    requires { ⌜ 24 * records + 16 * j + 16 ≤ length (now scratch) ⌝ }
+    requires { ⌜ stackEntryAt records j + operands .each ≤ length (now scratch) ⌝ }
     ensures { λ r. ⌜ operandOf r ≡ operandAt (now (scratch .entry)) records j ⌝ }
 {
     let at = OPERANDS * records + OPERAND_BYTES * j;
@@ -170,7 +170,7 @@ fn string_operand(tree: &[u8], text: &[u8], arena: &mut [u8], k: Counters, e: us
     }
 }
 
-// The variable of the Name e, looked for by the lowest record with the text.
+// The variable of the Name e.
 fn name_operand(
     tree: &[u8],
     text: &[u8],
@@ -181,14 +181,11 @@ fn name_operand(
 ) -> Converted
     requires { ⌜ Converting (now tree) (now text) (now arena) (now scratch) c ⌝ }
     requires { ⌜ IsKind (now tree) kindName e ⌝ }
-    ensures { λ a. ⌜ Converts (now (tree .entry)) (now (text .entry)) (exprSteps (now (tree .entry)) (now (text .entry)) (now (scratch .entry)) c e) (amount 0 0 0 0 0) c (now (arena .entry)) (now (scratch .entry)) a (now (arena .entry)) (now (scratch .entry)) ⌝ }
+    ensures { λ a. ⌜ LeafConverts (amount 0 0 0 0 0) c e (now (tree .entry)) (now (text .entry)) (now (arena .entry)) (now (scratch .entry)) a (now (arena .entry)) ⌝ }
 {
     let scope = c.scope;
     let k = c.counters;
-    let o = original(scratch, scope.records, e);
-    let offset = word(tree, o, WORD_A);
-    let len = word(tree, o, WORD_B);
-    match scope.find_variable(scratch, o, offset, len) {
+    match find_name(tree, text, scratch, scope, e) {
         Known::Is(v, _) => Converted::Is(Operand::Var(v), k),
         Known::Unknown => Converted::Refused(error_at(ConvertErrorKind::UnknownVariable, e)),
     }
@@ -205,7 +202,7 @@ fn size_operand(
 ) -> Converted
     requires { ⌜ Converting (now tree) (now text) (now arena) (now scratch) c ⌝ }
     requires { ⌜ IsKind (now tree) kindSizeOf e ⌝ }
-    ensures { λ a. ⌜ Converts (now (tree .entry)) (now (text .entry)) (exprSteps (now (tree .entry)) (now (text .entry)) (now (scratch .entry)) c e) (amount 0 0 0 0 0) c (now (arena .entry)) (now (scratch .entry)) a (now (arena .entry)) (now (scratch .entry)) ⌝ }
+    ensures { λ a. ⌜ LeafConverts (amount 0 0 0 0 0) c e (now (tree .entry)) (now (text .entry)) (now (arena .entry)) (now (scratch .entry)) a (now (arena .entry)) ⌝ }
 {
     let k = c.counters;
     match size(tree, reference(tree, e, WORD_A)) {
@@ -227,7 +224,7 @@ pub(crate) fn operand(
     requires { ⌜ Converting (now tree) (now text) (now arena) (now scratch) c ⌝ }
     requires { ⌜ Affords (c .counters) (exprAmount 0) ⌝ }
     requires { ⌜ IsExpr (now tree) e × (kindOf (now tree) e ≤ kindSizeOf) ⌝ }
-    ensures { λ a. ⌜ Converts (now (tree .entry)) (now (text .entry)) (exprSteps (now (tree .entry)) (now (text .entry)) (now (scratch .entry)) c e) (exprAmount 0) c (now (arena .entry)) (now (scratch .entry)) a (now (arena .exit)) (now (scratch .entry)) ⌝ }
+    ensures { λ a. ⌜ LeafConverts (exprAmount 0) c e (now (tree .entry)) (now (text .entry)) (now (arena .entry)) (now (scratch .entry)) a (now (arena .exit)) ⌝ }
 {
     let k = c.counters;
     let leaf = kind(tree, e);

@@ -2,13 +2,9 @@
 ghost use mathlib.Core.Path.{_≡_};
 ghost use mathlib.Core.List.{List};
 ghost use Prim.Native.Nat.{ℕ, _+_, _*_, _≤_, _<_};
-ghost use lib.Dec.{eqb};
 ghost use lib.ListN.{length, getD};
-ghost use Rattle.laws.specs.Fix.{pick};
-ghost use Rattle.records.specs.Words.{detailOf};
 ghost use Rattle.records.specs.Kinds.{kindBinary, kindCall};
-ghost use Rattle.syntax.specs.Syntax.{unaryOps, binaryOps, Neg, Or, binaryNumber, And};
-ghost use Rattle.syntax.specs.Decode.{program};
+ghost use Rattle.syntax.specs.Syntax.{unaryOps, binaryOps, Neg, Or, And};
 ghost use Rattle.syntax.specs.Places.{IsKind, TypeAt, FunctionAt};
 ghost use Rattle.ir.specs.Amounts.{amount};
 ghost use Rattle.ir.specs.Instructions.{operandOf, varOf};
@@ -16,8 +12,8 @@ ghost use Rattle.expressions.specs.Slots.{Ready};
 ghost use Rattle.expressions.specs.Answers.{IsCallee};
 ghost use Rattle.statements.specs.Converting.{Converting, RoomFor, OperandIn, StackIn, Afforded};
 ghost use Rattle.statements.specs.Meets.{Adds};
-ghost use Rattle.statements.specs.Parts.{finishUnary, beginLogic, joinAnd, joinOr, endLogic, finishBinary};
-ghost use Rattle.statements.specs.Answers.{FitAdds, OperandTyped, CastsAs, CallsAs, CallEndsAs};
+ghost use Rattle.statements.specs.Parts.{finishUnary, beginLogic, joinAnd, joinOr, endLogic};
+ghost use Rattle.statements.specs.Answers.{FitAdds, BinaryFinishes, joinSteps, OperandTyped, CastsAs, CallsAs, CallEndsAs};
 ghost use Rattle.statements.specs.Turns.{InTurn, TurnsStay, CommonTyped};
 use crate::answers::Converted;
 use crate::answers::Converter;
@@ -125,7 +121,7 @@ pub(crate) fn join_logic(
     left: Operand,
 ) -> Counters
     requires { ⌜ RoomFor k (now arena) (amount 4 0 3 0 0) × (e < k .records) × (e * 32 + 32 ≤ length (now tree)) ⌝ }
-    ensures { λ r. ⌜ Adds (pick (eqb (detailOf (now (tree .entry)) e) (binaryNumber And)) (joinAnd e (varOf dest) (operandOf left)) (joinOr e (varOf dest) (operandOf left))) (amount 4 0 3 0 0) k (now (arena .entry)) tt r (now (arena .exit)) ⌝ }
+    ensures { λ r. ⌜ Adds (joinSteps (now (tree .entry)) e dest left) (amount 4 0 3 0 0) k (now (arena .entry)) tt r (now (arena .exit)) ⌝ }
 {
     if detail(tree, e) == AND {
         return join_and(arena, k, e, dest, left);
@@ -190,7 +186,7 @@ pub(crate) fn finish_binary(
     requires { ⌜ RoomFor k (now arena) (amount 3 3 0 0 2) × (y < 4294967296) × (q < 4294967296) ⌝ }
     requires { ⌜ TypeAt (now tree) y × TypeAt (now tree) q ⌝ }
     requires { ⌜ OperandIn (now tree) (operandOf left) × OperandIn (now tree) (operandOf right) ⌝ }
-    ensures { λ r. ⌜ ((text : List ℕ) → FitAdds (now (tree .entry)) (finishBinary (program (now (tree .entry)) text) (getD binaryOps op Or) y q (operandOf left) (operandOf right)) (amount 3 3 0 0 2) k (now (arena .entry)) r (now (arena .exit))) ⌝ }
+    ensures { λ r. ⌜ BinaryFinishes (now (tree .entry)) (getD binaryOps op Or) y q left right k (now (arena .entry)) r (now (arena .exit)) ⌝ }
 {
     let a = fit_operand(tree, arena, k, left, q);
     let a1 = a.operand;

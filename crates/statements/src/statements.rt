@@ -2,27 +2,22 @@
 ghost use mathlib.Core.Path.{_≡_};
 ghost use mathlib.Core.Bool.{false};
 ghost use mathlib.Core.List.{List};
-ghost use Prim.Native.Nat.{ℕ, _+_, _*_, _≤_, _<_};
+ghost use Prim.Native.Nat.{ℕ, _<_};
 ghost use lib.Dec.{eqb, ltb};
-ghost use lib.ListN.{length};
 ghost use Rattle.laws.specs.Fix.{pick};
 ghost use Rattle.records.specs.Words as Words;
 ghost use Rattle.records.specs.Words.{wordOf};
 ghost use Rattle.records.specs.Kinds.{kindCall, kindDeclare, kindInit, kindReturn, kindCallStatement, kindBreak, kindContinue, formAddress};
 ghost use Rattle.syntax.specs.Syntax.{nullType, addressOfNull};
-ghost use Rattle.syntax.specs.Decode.{program, typeAt, textOf};
+ghost use Rattle.syntax.specs.Decode.{program};
 ghost use Rattle.syntax.specs.Places.{IsExpr, IsKind, TypeAt, FunctionAt};
-ghost use Rattle.conversion.specs.Expressions.{Functions};
-ghost use Rattle.conversion.specs.Statements.{zeroValue};
 ghost use Rattle.types.specs.Fits.{IsType};
 ghost use Rattle.ir.specs.Amounts.{amount};
 ghost use Rattle.ir.specs.Instructions.{operandOf, varOf};
-ghost use Rattle.scope.specs.Open.{NameAfforded, FindMeets, DeclareMeets};
-ghost use Rattle.expressions.specs.Slots.{originalOf, originalWord, Asked};
 ghost use Rattle.statements.specs.Converting.{Converting, RoomFor, OperandIn, Afforded, ExprAfforded, BehindAfforded};
-ghost use Rattle.statements.specs.Meets.{Adds, Meets};
+ghost use Rattle.statements.specs.Meets.{Adds};
 ghost use Rattle.statements.specs.Parts.{copyFitted, zeroFloat};
-ghost use Rattle.statements.specs.Answers.{ConvertsAs, StatesAs, CallOnlyAs, DeclaresAs, finishedOf, condSteps, declareSteps, initSteps, initNewSteps, assignSteps, assignToSteps, returnSteps, returnAsSteps, callStatementSteps, callOnlySteps, breakSteps, continueSteps, declareInitSteps};
+ghost use Rattle.statements.specs.Answers.{ZeroMeets, givenTwo, given, ConvertsAs, StatesAs, CallOnlyAs, DeclaresAs, condSteps, declareSteps, initSteps, initNewSteps, assignSteps, assignToSteps, returnSteps, returnAsSteps, callStatementSteps, callOnlySteps, breakSteps, continueSteps, declareInitSteps};
 ghost use Rattle.statements.specs.Turns.{InTurn, noTypes, callOnlyTypes, valueTypes, assignTypes, initTypes, headTypes, returnAsTypes, ownTypes, ConvertsTyped, StatesTyped};
 use crate::answers::Converted;
 use crate::answers::ConvertedArgs;
@@ -43,6 +38,8 @@ use expressions::answers::Outcome;
 use expressions::answers::Resolved;
 use expressions::expressions::get_type;
 use expressions::expressions::resolve_call;
+use expressions::names::declare_name;
+use expressions::names::find_name;
 use ir::floats::float_entry;
 use ir::pool::float_id;
 use ir::structs::Counters;
@@ -63,7 +60,6 @@ use records::numbers::KIND_CALL;
 use records::numbers::NULL_TYPE;
 use records::words::NONE;
 use records::words::WORD_A;
-use records::words::WORD_B;
 use records::words::WORD_C;
 use records::words::WORD_D;
 use records::words::detail;
@@ -73,8 +69,6 @@ use records::words::word;
 use scope::Declared;
 use scope::InLoop;
 use scope::Known;
-use scope::Scope;
-use texts::original;
 use types::form::form;
 use types::form::is_short;
 use types::form::is_unsigned;
@@ -106,36 +100,6 @@ pub(crate) fn convert_cond(
     }
 }
 
-// The name in words A and B of record r, declared by those of the lowest record with the text.
-pub(crate) fn declare_name(
-    tree: &[u8],
-    text: &[u8],
-    scratch: &mut [u8],
-    scope: Scope,
-    r: usize,
-    v: VarId,
-    constant: bool,
-) -> Declared
-    requires { ⌜ Asked (now tree) (now text) (now scratch) scope r × NameAfforded scope v ⌝ }
-    ensures { λ a. ⌜ DeclareMeets (now (text .entry)) (originalOf (now (tree .entry)) (now (scratch .entry)) r) (originalWord (now (tree .entry)) (now (scratch .entry)) r Words.A) (originalWord (now (tree .entry)) (now (scratch .entry)) r Words.B) v constant scope (now (scratch .entry)) (now (scratch .exit)) a ⌝ }
-{
-    let o = original(scratch, scope.records, r);
-    let offset = word(tree, o, WORD_A);
-    let len = word(tree, o, WORD_B);
-    scope.declare(scratch, o, offset, len, v, constant)
-}
-
-// The variable of the name in words A and B of record r, looked for by those of the lowest record with the text.
-pub(crate) fn find_name(tree: &[u8], text: &[u8], scratch: &[u8], scope: Scope, r: usize) -> Known
-    requires { ⌜ Asked (now tree) (now text) (now scratch) scope r ⌝ }
-    ensures { λ a. ⌜ FindMeets (now (text .entry)) (now (scratch .entry)) scope (textOf (now (tree .entry)) (now (text .entry)) r Words.A) a ⌝ }
-{
-    let o = original(scratch, scope.records, r);
-    let offset = word(tree, o, WORD_A);
-    let len = word(tree, o, WORD_B);
-    scope.find_variable(scratch, o, offset, len)
-}
-
 fn zero_float(arena: &mut [u8], k: Counters, v: VarId, short: bool) -> Counters
     requires { ⌜ RoomFor k (now arena) (amount 1 0 0 0 1) ⌝ }
     ensures { λ r. ⌜ Adds (zeroFloat (varOf v) short) (amount 1 0 0 0 1) k (now (arena .entry)) tt r (now (arena .exit)) ⌝ }
@@ -158,7 +122,7 @@ fn zero_operand(f: u8) -> Operand
 // The zero value that the Declare r writes; of a Custom the Rust would panic.
 fn zero_value(tree: &[u8], arena: &mut [u8], k: Counters, r: usize, v: VarId) -> Finished
     requires { ⌜ RoomFor k (now arena) (amount 1 0 0 0 1) × IsType (now tree) (v .1) × (r < 4294967296) ⌝ }
-    ensures { λ a. ⌜ ((text : List ℕ) (F : Functions) → Meets text (zeroValue (program (now (tree .entry)) text) F r (varOf v) (typeAt (now (tree .entry)) text (v .1))) (amount 1 0 0 0 1) k (now (arena .entry)) (now (arena .exit)) (finishedOf tt a)) ⌝ }
+    ensures { λ a. ⌜ ZeroMeets (now (tree .entry)) r v k (now (arena .entry)) a (now (arena .exit)) ⌝ }
 {
     let y = v.1 as usize;
     let f = form(tree, y);
@@ -238,7 +202,7 @@ fn assign_to(
     requires { ⌜ Converting (now tree) (now text) (now arena) (now scratch) c × BehindAfforded (now tree) (now text) c r ⌝ }
     requires { ⌜ IsKind (now tree) kindInit r × TypeAt (now tree) (v .1) ⌝ }
     requires { ⌜ InTurn (now tree) (now text) (now scratch) c ⌝ }
-    ensures { λ a. ⌜ StatesAs (λ t x s k q. assignToSteps t x s k q v) c r (now (tree .entry)) (now (text .entry)) (now (arena .entry)) (now (scratch .entry)) a (now (arena .exit)) (now (scratch .exit)) ⌝ }
+    ensures { λ a. ⌜ StatesAs (given assignToSteps v) c r (now (tree .entry)) (now (text .entry)) (now (arena .entry)) (now (scratch .entry)) a (now (arena .exit)) (now (scratch .exit)) ⌝ }
     ensures types { λ a. ⌜ StatesTyped assignTypes c r (now (tree .entry)) (now (text .entry)) (now (scratch .entry)) a (now (scratch .exit)) ⌝ }
 {
     let scope = c.scope;
@@ -279,7 +243,7 @@ fn convert_assign(
     requires { ⌜ Converting (now tree) (now text) (now arena) (now scratch) c × BehindAfforded (now tree) (now text) c r ⌝ }
     requires { ⌜ IsKind (now tree) kindInit r × TypeAt (now tree) (v .1) ⌝ }
     requires { ⌜ InTurn (now tree) (now text) (now scratch) c ⌝ }
-    ensures { λ a. ⌜ StatesAs (λ t x s k q. assignSteps t x s k q v constant) c r (now (tree .entry)) (now (text .entry)) (now (arena .entry)) (now (scratch .entry)) a (now (arena .exit)) (now (scratch .exit)) ⌝ }
+    ensures { λ a. ⌜ StatesAs (givenTwo assignSteps v constant) c r (now (tree .entry)) (now (text .entry)) (now (arena .entry)) (now (scratch .entry)) a (now (arena .exit)) (now (scratch .exit)) ⌝ }
     ensures types { λ a. ⌜ StatesTyped assignTypes c r (now (tree .entry)) (now (text .entry)) (now (scratch .entry)) a (now (scratch .exit)) ⌝ }
 {
     if constant {
@@ -312,7 +276,7 @@ fn declare_init(
     requires { ⌜ Converting (now tree) (now text) (now arena) (now scratch) c × Afforded (now tree) c (amount 1 1 0 0 0) 0 1 ⌝ }
     requires { ⌜ IsKind (now tree) kindInit r × TypeAt (now tree) y ⌝ }
     requires { ⌜ InTurn (now tree) (now text) (now scratch) c ⌝ }
-    ensures { λ a. ⌜ DeclaresAs (λ t x s k q. declareInitSteps t x s k q y src) c r (now (tree .entry)) (now (text .entry)) (now (arena .entry)) (now (scratch .entry)) a (now (arena .exit)) (now (scratch .exit)) ⌝ }
+    ensures { λ a. ⌜ DeclaresAs (givenTwo declareInitSteps y src) c r (now (tree .entry)) (now (text .entry)) (now (arena .entry)) (now (scratch .entry)) a (now (arena .exit)) (now (scratch .exit)) ⌝ }
     ensures types { λ a. ⌜ StatesTyped noTypes c r (now (tree .entry)) (now (text .entry)) (now (scratch .entry)) a (now (scratch .exit)) ⌝ }
 {
     let scope = c.scope;
@@ -396,7 +360,7 @@ fn return_as(
     requires { ⌜ Converting (now tree) (now text) (now arena) (now scratch) c × BehindAfforded (now tree) (now text) c r ⌝ }
     requires { ⌜ IsKind (now tree) kindReturn r × TypeAt (now tree) y × TypeAt (now tree) expected ⌝ }
     requires { ⌜ InTurn (now tree) (now text) (now scratch) c ⌝ }
-    ensures { λ a. ⌜ StatesAs (λ t x s k q. returnAsSteps t x s k q y expected) c r (now (tree .entry)) (now (text .entry)) (now (arena .entry)) (now (scratch .entry)) a (now (arena .exit)) (now (scratch .exit)) ⌝ }
+    ensures { λ a. ⌜ StatesAs (givenTwo returnAsSteps y expected) c r (now (tree .entry)) (now (text .entry)) (now (arena .entry)) (now (scratch .entry)) a (now (arena .exit)) (now (scratch .exit)) ⌝ }
     ensures types { λ a. ⌜ StatesTyped returnAsTypes c r (now (tree .entry)) (now (text .entry)) (now (scratch .entry)) a (now (scratch .exit)) ⌝ }
 {
     let scope = c.scope;
@@ -457,7 +421,7 @@ fn call_only(
     requires { ⌜ Converting (now tree) (now text) (now arena) (now scratch) c × ExprAfforded (now tree) (now text) c e ⌝ }
     requires { ⌜ IsKind (now tree) kindCall e × FunctionAt (now tree) f ⌝ }
     requires { ⌜ InTurn (now tree) (now text) (now scratch) c ⌝ }
-    ensures { λ a. ⌜ CallOnlyAs (λ t x s k q. callOnlySteps t x s k q f) c e (now (tree .entry)) (now (text .entry)) (now (arena .entry)) (now (scratch .entry)) a (now (arena .exit)) (now (scratch .exit)) ⌝ }
+    ensures { λ a. ⌜ CallOnlyAs (given callOnlySteps f) c e (now (tree .entry)) (now (text .entry)) (now (arena .entry)) (now (scratch .entry)) a (now (arena .exit)) (now (scratch .exit)) ⌝ }
     ensures types { λ a. ⌜ StatesTyped callOnlyTypes c e (now (tree .entry)) (now (text .entry)) (now (scratch .entry)) a (now (scratch .exit)) ⌝ }
 {
     let scope = c.scope;

@@ -10,7 +10,8 @@ use lib.ListN.{length, getD}
 use Rattle.laws.specs.Below.{lowest}
 use Rattle.records.specs.Digest.{rollOf}
 use Rattle.records.specs.Kinds.{kindStr, kindName, kindCall, kindDeclare, kindInit, kindVariable}
-use Rattle.records.specs.Layout.{originals, textDigests}
+use Rattle.records.specs.Chains.{chainEach}
+use Rattle.records.specs.Layout.{endOf, originals, textDigests}
 use Rattle.records.specs.Words.{wordAt, kindOf, wordOf, textAt, sameText, records, A, B}
 
 -- '4 Str, 6 Name: A B text', '11 Call: A B verb', '15 Declare, 16 Init, 24 variable: A B name': the kinds whose words A and B are a text
@@ -54,9 +55,10 @@ pub record Numbered (tree text s : List ℕ) : Type 0 where
   pub number : (r : ℕ) → r < records tree → hasOwn tree r ≡ true → wordAt s (originalAt (records tree) r) ≡ original tree text r
   pub digest : (r : ℕ) → r < records tree → hasOwn tree r ≡ true → wordAt s (textDigestAt (records tree) r) ≡ rollOf (ownText tree text r)
 
--- the scratch of n records, before and after: its length and the bytes from 12n to 40n, from 44n to 52n and from 56n on are as they were
+-- the scratch of n records, before and after: its length is as it was, and so are the bytes between the chains and the numbers, between these and the digests, and
+-- behind the digests
 pub record Kept (n : ℕ) (s s′ : List ℕ) : Type 0 where
   pub long : length s′ ≡ length s
-  pub between : (i : ℕ) → 12 * n ≤ i → i < 40 * n → getD s′ i 0 ≡ getD s i 0
-  pub keys : (i : ℕ) → 44 * n ≤ i → i < 52 * n → getD s′ i 0 ≡ getD s i 0
-  pub behind : (i : ℕ) → 56 * n ≤ i → getD s′ i 0 ≡ getD s i 0
+  pub between : (i : ℕ) → chainEach * n ≤ i → i < originals .from * n → getD s′ i 0 ≡ getD s i 0
+  pub keys : (i : ℕ) → endOf originals * n ≤ i → i < textDigests .from * n → getD s′ i 0 ≡ getD s i 0
+  pub behind : (i : ℕ) → endOf textDigests * n ≤ i → getD s′ i 0 ≡ getD s i 0

@@ -4,6 +4,7 @@ ghost use mathlib.Core.Bool.{true};
 ghost use Prim.Native.Nat.{_+_, _*_, _≤_, _<_};
 ghost use lib.ListN.{length};
 ghost use Rattle.laws.specs.Chain.{linkTo};
+ghost use Rattle.records.specs.Layout.{scratchEach};
 ghost use Rattle.records.specs.Good.{Good};
 ghost use Rattle.records.specs.Words.{wordAt, sameText, records};
 ghost use Rattle.texts.specs.Texts.{hasText, hasOwn, ownText, original as originalOf, originalAt, textDigestAt, Numbered, Kept};
@@ -11,6 +12,8 @@ ghost use Rattle.texts.specs.Pass.{ownDigest, textBucket, Passed};
 use records::chains::bucket;
 use records::chains::clear_heads;
 use records::chains::enter;
+use records::layout::CHAIN_ENTRY_BYTES;
+use records::layout::CHAIN_HEAD_BYTES;
 use records::layout::ORIGINAL_BYTES;
 use records::layout::ORIGINALS;
 use records::layout::TEXT_DIGEST_BYTES;
@@ -60,7 +63,7 @@ fn same_own(tree: &[u8], text: &[u8], k: usize, r: usize, digest: u32, d: u32) -
 
 // The number of record r's text: that of a lower record with the same text, else r. The chain of its bucket is walked from the head on.
 fn find_original(tree: &[u8], text: &[u8], scratch: &[u8], r: usize, d: u32, head: u32) -> u32
-    requires { ⌜ Good (now tree) (now text) × (72 * records (now tree) ≤ length (now scratch)) ⌝ }
+    requires { ⌜ Good (now tree) (now text) × (scratchEach * records (now tree) ≤ length (now scratch)) ⌝ }
     requires { ⌜ (r < records (now tree)) × (hasOwn (now tree) r ≡ true) × Passed (now tree) (now text) r (now scratch) ⌝ }
     requires { ⌜ (d ≡ ownDigest (now tree) (now text) r) × (head ≡ linkTo (textBucket (now tree) (now text)) r (textBucket (now tree) (now text) r)) ⌝ }
     ensures { λ v. ⌜ v ≡ originalOf (now (tree .entry)) (now (text .entry)) r ⌝ }
@@ -69,7 +72,7 @@ fn find_original(tree: &[u8], text: &[u8], scratch: &[u8], r: usize, d: u32, hea
     let mut at = index(head);
     while at > 0 {
         let k = at - 1;
-        let e = 4 * n + 8 * k;
+        let e = CHAIN_HEAD_BYTES * n + CHAIN_ENTRY_BYTES * k;
         let digest = load(scratch, e);
         if same_own(tree, text, k, r, digest, d) {
             return load(scratch, ORIGINALS * n + ORIGINAL_BYTES * k);
@@ -82,7 +85,7 @@ fn find_original(tree: &[u8], text: &[u8], scratch: &[u8], r: usize, d: u32, hea
 // Record r: where it has a text, the text's number is found, the record goes before the others of its bucket, and the number is written, with the digest
 // that goes on, so that the text need not be read for a digest again.
 fn number_record(tree: &[u8], text: &[u8], r: usize, scratch: &mut [u8])
-    requires { ⌜ Good (now tree) (now text) × (72 * records (now tree) ≤ length (now scratch)) ⌝ }
+    requires { ⌜ Good (now tree) (now text) × (scratchEach * records (now tree) ≤ length (now scratch)) ⌝ }
     requires { ⌜ (r < records (now tree)) × Passed (now tree) (now text) r (now scratch) ⌝ }
     ensures { λ _. ⌜ Passed (now (tree .entry)) (now (text .entry)) (r + 1) (now (scratch .exit)) × Kept (records (now (tree .entry))) (now (scratch .entry)) (now (scratch .exit)) ⌝ }
 {
@@ -93,20 +96,20 @@ fn number_record(tree: &[u8], text: &[u8], r: usize, scratch: &mut [u8])
     let rolled = text_roll(text, word(tree, r, WORD_A), word(tree, r, WORD_B));
     let d = roll_digest(rolled);
     let b = bucket(d, n);
-    let head = load(scratch, 4 * b);
+    let head = load(scratch, CHAIN_HEAD_BYTES * b);
     let number = find_original(tree, text, scratch, r, d, head);
     enter(scratch, n, r, d, b, head);
     put_word(scratch, ORIGINALS * n + ORIGINAL_BYTES * r, number);
     put_word(scratch, TEXT_DIGESTS * n + TEXT_DIGEST_BYTES * r, rolled);
 }
 
-// Every text of a good tree gets its number and its digest, in one pass over the records. The heads, digests and links stand below 12n.
+// Every text of a good tree gets its number and its digest, in one pass over the records. The heads, digests and links stand where nothing else does yet.
 pub fn number_texts(tree: &[u8], text: &[u8], scratch: &mut [u8])
-    requires { ⌜ Good (now tree) (now text) × (72 * records (now tree) ≤ length (now scratch)) ⌝ }
+    requires { ⌜ Good (now tree) (now text) × (scratchEach * records (now tree) ≤ length (now scratch)) ⌝ }
     ensures { λ _. ⌜ Numbered (now (tree .entry)) (now (text .entry)) (now (scratch .exit)) × Kept (records (now (tree .entry))) (now (scratch .entry)) (now (scratch .exit)) ⌝ }
 {
     let n = tree.len() / 32;
-    clear_heads(scratch, 4 * n);
+    clear_heads(scratch, CHAIN_HEAD_BYTES * n);
     let mut r = 0;
     while r < n {
         number_record(tree, text, r, scratch);

@@ -18,8 +18,8 @@ returns-2 : tie.Need-returns-2
 returns-2 c = marked-longer _ _ _ _ _ _ (c .before .before .before .before .before .before .before .pre .1 .2) _ (c .before .before .before .before .before .before .before .pre .1 .1) (c .before .before .if1 .left) (c .if2 .taken)
 
 -- src/exact.rt:235:37
-add-t10 : tie.Need-add-t10
-add-t10 c = omega (arith, c .if2 .left, c .before .before .if1 .left, c .before .before .before .before .before .before .before .pre .1 .2)
+add-t11 : tie.Need-add-t11
+add-t11 c = omega (arith, c .if2 .left, c .before .before .if1 .left, c .before .before .before .before .before .before .before .pre .1 .2)
 
 -- src/exact.rt:235:9
 is-variadic-mark-requires : tie.Need-is-variadic-mark-requires
@@ -43,7 +43,7 @@ is-marked-spec =
     (tie.spec
     returns
     returns-2
-    add-t10
+    add-t11
     is-variadic-mark-requires
     returns-3
     is-name-requires

@@ -2,7 +2,7 @@
 -- By whether there is a common type, whether it is taken, and the class of results. Assumes nothing.
 use mathlib.Core.Logic.{⊎-elim}
 use Rattle.records.proofs.GoodLaws.{inside}
-use Rattle.expressions.proofs.OperandLaws.{found-type, operator-known, none-common, not-taken, gives-bool, gives-common}
+use Rattle.expressions.proofs.OperandLaws.{type-of, found-type, operator-known, none-common, not-taken, gives-bool, gives-common}
 use borrow.Author.Needs.{needs}
 use Rattle.expressions.proofs.operands.binary_type.Statement.{statement}
 use Rattle.expressions.proofs.operands.binary_type.Tie as tie
@@ -23,13 +23,14 @@ enum-known-ty : tie.Need-enum-known-ty
 enum-known-ty c = search needs
 
 accepts-requires : tie.Need-accepts-requires
-accepts-requires c κs = (c .before .before .before .before .before .before .before .before .pre .0, found-type _ _ _ (c .before .before .before .common-of .ensures .type) (c .before .ty .given .1))
+accepts-requires c κs =
+    type-of _ _ (c .before .before .before .before .before .before .before .before .pre .0) _ (found-type _ _ _ (c .before .before .before .common-of .ensures .type) (c .before .ty .given .1)) .inside
 
 returns : tie.Need-returns
-returns c = gives-bool _ _ (c .before .before .before .before .before .before .before .before .before .before .before .before .pre .0) _ (c .before .before .before .before .before .before .before .before .before .before .before .before .pre .1 .0) _ (c .before .before .before .before .before .before .before .before .before .before .before .before .pre .1 .1) _ (c .before .before .before .before .before .before .before .before .before .detail .ensures) _ _ (c .before .before .before .before .before .before .before .before .operator-of .ensures) _ (c .before .before .before .before .before .before .before .common-of .ensures) _ (c .before .before .before .before .before .ty .given .1) _ (c .before .before .before .accepts .ensures) (c .before .before .if1 .taken) (c .if2 .taken)
+returns c = gives-bool _ _ (c .before .before .before .before .before .before .before .before .before .before .before .before .pre .0) _ (c .before .before .before .before .before .before .before .before .before .before .before .before .pre .1 .0) _ (c .before .before .before .before .before .before .before .before .before .before .before .before .pre .1 .1) _ (c .before .before .before .before .before .before .before .before .before .detail .ensures) _ _ (c .before .before .before .before .before .before .before .before .operator-of .ensures) _ (c .before .before .before .before .before .before .before .common-of .ensures) _ (c .before .before .before .before .before .ty .given .1) _ (c .before .before .before .accepts .ensures _) (c .before .before .if1 .taken) (c .if2 .taken)
 
 returns-2 : tie.Need-returns-2
-returns-2 c = gives-common _ _ (c .before .before .before .before .before .before .before .before .before .before .before .before .pre .0) _ (c .before .before .before .before .before .before .before .before .before .before .before .before .pre .1 .0) _ (c .before .before .before .before .before .before .before .before .before .before .before .before .pre .1 .1) _ (c .before .before .before .before .before .before .before .before .before .detail .ensures) _ _ (c .before .before .before .before .before .before .before .before .operator-of .ensures) _ (c .before .before .before .before .before .before .before .common-of .ensures) _ (c .before .before .before .before .before .ty .given .1) _ (c .before .before .before .accepts .ensures) (c .before .before .if1 .taken) (c .if2 .left)
+returns-2 c = gives-common _ _ (c .before .before .before .before .before .before .before .before .before .before .before .before .pre .0) _ (c .before .before .before .before .before .before .before .before .before .before .before .before .pre .1 .0) _ (c .before .before .before .before .before .before .before .before .before .before .before .before .pre .1 .1) _ (c .before .before .before .before .before .before .before .before .before .detail .ensures) _ _ (c .before .before .before .before .before .before .before .before .operator-of .ensures) _ (c .before .before .before .before .before .before .before .common-of .ensures) _ (c .before .before .before .before .before .ty .given .1) _ (c .before .before .before .accepts .ensures _) (c .before .before .if1 .taken) (c .if2 .left)
 
 enum-told : tie.Need-enum-told
 enum-told c = search needs
@@ -39,7 +40,7 @@ binary-error-requires c κs = search needs
 
 returns-3 : tie.Need-returns-3
 returns-3 c = ⊎-elim
-    (λ w. not-taken _ _ (c .before .before .before .before .before .before .before .pre .0) _ (c .before .before .before .before .before .before .before .pre .1 .0) _ (c .before .before .before .before .before .before .before .pre .1 .1) _ (c .before .before .before .before .detail .ensures) _ _ (c .before .before .before .operator-of .ensures) _ (c .before .before .common-of .ensures) _ (w .1 .given .1) _ (w .3 .ensures) (w .4 .left) _ (c .binary-error .ensures))
+    (λ w. not-taken _ _ (c .before .before .before .before .before .before .before .pre .0) _ (c .before .before .before .before .before .before .before .pre .1 .0) _ (c .before .before .before .before .before .before .before .pre .1 .1) _ (c .before .before .before .before .detail .ensures) _ _ (c .before .before .before .operator-of .ensures) _ (c .before .before .common-of .ensures) _ (w .1 .given .1) _ (w .3 .ensures _) (w .4 .left) _ (c .binary-error .ensures))
     (λ w. none-common _ _ (c .before .before .before .before .before .before .before .pre .0) _ (c .before .before .before .before .before .before .before .pre .1 .0) _ (c .before .before .before .before .before .before .before .pre .1 .1) _ (c .before .before .before .before .detail .ensures) _ _ (c .before .before .before .operator-of .ensures) _ (c .before .before .common-of .ensures) (w .1 .given .1) _ (c .binary-error .ensures))
     (c .before .match .came)
 

@@ -24,7 +24,7 @@ abbrev μ-loop : tie.MeasureT-loop
 μ-loop tree text scratch₀ count j₀ scratch j = count - j
 
 list-functions-requires : tie.Need-list-functions-requires Inv-loop μ-loop
-list-functions-requires c κs = (c .before .before .before .before .pre .0 .0, c .before .before .before .before .pre .1)
+list-functions-requires c κs = (c .before .before .before .before .pre .0 .0 .few, c .before .before .before .before .pre .1)
 
 clear-keys-requires : tie.Need-clear-keys-requires Inv-loop μ-loop
 clear-keys-requires c κs =

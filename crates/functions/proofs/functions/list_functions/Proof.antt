@@ -13,10 +13,10 @@ use Rattle.records.proofs.words.put_word.Reads as put-word-reads
 use Rattle.records.proofs.words.kind.Reads as kind-reads
 
 abbrev Inv-loop : tie.InvT-loop
-Inv-loop tree text scratch₀ n r₀ count₀ scratch r count = Listing tree scratch₀ scratch n r count
+Inv-loop tree scratch₀ n r₀ count₀ scratch r count = Listing tree scratch₀ scratch n r count
 
 abbrev μ-loop : tie.MeasureT-loop
-μ-loop tree text scratch₀ n r₀ count₀ scratch r count = n - r
+μ-loop tree scratch₀ n r₀ count₀ scratch r count = n - r
 
 -- src/functions.rt:47:5
 loop-holds : tie.Need-loop-holds Inv-loop μ-loop
@@ -54,7 +54,7 @@ loop-less c = omega arith
 loop-again : tie.Need-loop-again Inv-loop μ-loop
 loop-again c =
     let loop = c .before .before .before in
-    let first = loop .before .before .before .before in
+    let first = loop .before .before .before in
     ⊎-elim
     (λ w. rw (w .6)
     (listing-put _ _ _ _ _ _ (loop .loop .inv) (c .before .before .loop-test .taken) (first .pre .1) _ (w .5 ∙ w .2 .ensures) (sym (c .before .kind .ensures) ∙ w .0 .taken)))

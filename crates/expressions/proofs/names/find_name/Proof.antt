@@ -1,9 +1,9 @@
 -- The variable of a record's name.
 -- By what `find_variable` owes of the words of the lowest record with the text. Assumes nothing.
 use native.Mathlib.Omega.{arith}
 use Rattle.expressions.proofs.OriginalLaws.{number-inside, origin-inside, slot-inside, origin-found}
-use Rattle.statements.proofs.statements.find_name.Statement.{statement}
-use Rattle.statements.proofs.statements.find_name.Tie as tie
+use Rattle.expressions.proofs.names.find_name.Statement.{statement}
+use Rattle.expressions.proofs.names.find_name.Tie as tie
 
 original-requires : tie.Need-original-requires
 original-requires c κs = number-inside (c .before .before .before .pre)

@@ -1,10 +1,10 @@
 -- The name of a record declared.
 -- By what `declare` owes of the words of the lowest record with the text. Assumes nothing.
 use native.Mathlib.Omega.{arith}
 use Rattle.expressions.proofs.OriginalLaws.{number-inside, origin-inside, slot-inside, origin-declared}
 use borrow.Author.Needs.{needs}
-use Rattle.statements.proofs.statements.declare_name.Statement.{statement}
-use Rattle.statements.proofs.statements.declare_name.Tie as tie
+use Rattle.expressions.proofs.names.declare_name.Statement.{statement}
+use Rattle.expressions.proofs.names.declare_name.Tie as tie
 
 original-requires : tie.Need-original-requires
 original-requires c κs = number-inside (c .before .before .before .before .pre .0)
