@@ -25,9 +25,9 @@ word-requires c κs =
 
 declare-name-requires : tie.Need-declare-name-requires
 declare-name-requires c κs =
-    let first = c .before .before .before .before .before .before .before .before in (
-      place-asked _ _ _ _ _ (first .pre .0) _ (first .pre .1 .0) (first .pre .1 .1 .0) (first .pre .1 .1 .1) _ (c .before .before .before .before .reference .ensures),
-      met-room _ _ _ _ _ (first .pre .0) _ (first .pre .1 .0) (first .pre .1 .1 .0) (first .pre .1 .1 .1) _ (c .before .before .before .before .reference .ensures) _ (c .before .before .word .ensures) _ refl refl,
+    let first = c .before .before .before .before .before .before .before in (
+      place-asked _ _ _ _ _ (first .pre .0) _ (first .pre .1 .0) (first .pre .1 .1 .0) (first .pre .1 .1 .1) _ (c .before .before .before .reference .ensures),
+      met-room _ _ _ _ _ (first .pre .0) _ (first .pre .1 .0) (first .pre .1 .1 .0) (first .pre .1 .1 .1) _ (c .before .before .before .reference .ensures) _ (c .before .word .ensures) _ refl refl,
     )
 
 enum-known-next : tie.Need-enum-known-next
@@ -38,8 +38,8 @@ enum-told c = search needs
 
 taken-requires : tie.Need-taken-requires
 taken-requires c κs =
-    let first = c .before .before .before .before .before .before .before .before .before .before .before .before .before in
-    place-word _ _ _ _ _ (first .pre .0) _ (first .pre .1 .0) (first .pre .1 .1 .0) (first .pre .1 .1 .1) _ (c .before .before .before .before .before .before .before .before .before .reference .ensures)
+    let first = c .before .before .before .before .before .before .before .before .before .before .before .before in
+    place-word _ _ _ _ _ (first .pre .0) _ (first .pre .1 .0) (first .pre .1 .1 .0) (first .pre .1 .1 .1) _ (c .before .before .before .before .before .before .before .before .reference .ensures)
 
 same-length : tie.Need-same-length
 same-length c = search needs
@@ -47,9 +47,9 @@ same-length c = search needs
 returns : tie.Need-returns
 returns c =
     let got = c .before .before .before .before .before in
-    let read = got .before .before .before .before .before in
+    let read = got .before .before .before .before in
     let first = read .before .before .before .before in
-    let met = met-done _ _ _ _ _ (first .pre .0) _ (first .pre .1 .0) (first .pre .1 .1 .0) (first .pre .1 .1 .1) _ (read .reference .ensures) _ (got .before .before .before .word .ensures) _ refl refl _ _ (got .declare-name .ensures) _ (c .before .next .given .1) in
+    let met = met-done _ _ _ _ _ (first .pre .0) _ (first .pre .1 .0) (first .pre .1 .1 .0) (first .pre .1 .1 .1) _ (read .reference .ensures) _ (got .before .before .word .ensures) _ refl refl _ _ (got .declare-name .ensures) _ (c .before .next .given .1) in
     (met, one-more-turns met)
 
 same-length-2 : tie.Need-same-length-2
@@ -58,9 +58,9 @@ same-length-2 c = search needs
 returns-2 : tie.Need-returns-2
 returns-2 c =
     let got = c .before .before .before .before .before in
-    let read = got .before .before .before .before .before in
+    let read = got .before .before .before .before in
     let first = read .before .before .before .before in
-    let met = met-taken _ _ _ _ _ (first .pre .0) _ (first .pre .1 .0) (first .pre .1 .1 .0) (first .pre .1 .1 .1) _ (read .reference .ensures) _ (got .before .before .before .word .ensures) _ refl refl _ _ (got .declare-name .ensures) (c .before .enum-told .given .1) _ (c .taken .ensures) in
+    let met = met-taken _ _ _ _ _ (first .pre .0) _ (first .pre .1 .0) (first .pre .1 .1 .0) (first .pre .1 .1 .1) _ (read .reference .ensures) _ (got .before .before .word .ensures) _ refl refl _ _ (got .declare-name .ensures) (c .before .enum-told .given .1) _ (c .taken .ensures) in
     (met, one-more-turns met)
 
 pub declare-parameter-spec : {M : Type 1} → statement M
