@@ -99,7 +99,7 @@ returns-3 c =
     let converting = c .before .before .before .before in
     tree-numbered numbered
     (tree-all _ _ _ _ _ (listing .get-all-functions .ensures) (start .pre .0) (room-numbered numbered (start .pre .2)) _ _ (c .before .before .before .before .before .before .before .before .before .before .before .before .before .before .before .before .before .before .before .before .count .given .1) _ (checking .check-main .ensures) (told .enum-told .given .1)
-    _ (forgot .forget .ensures .same-length ∙ digests .scratch3 .given) _ _ _ _ (converting .convert-all .ensures))
+    _ (forgot .forget .ensures .same-length ∙ chained .scratch3 .given) _ _ _ _ (converting .convert-all .ensures))
 
 pub convert-program-spec : {M : Type 1} → statement M
 convert-program-spec =
