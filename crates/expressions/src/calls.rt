@@ -2,6 +2,7 @@
 ghost use mathlib.Core.Path.{_≡_};
 ghost use Prim.Native.Nat.{_*_, _≤_};
 ghost use lib.ListN.{length};
+ghost use Rattle.records.specs.Layout.{scratchEach};
 ghost use Rattle.records.specs.Words as Words;
 ghost use Rattle.records.specs.Words.{records, wordOf};
 ghost use Rattle.records.specs.Kinds.{kindCall};
@@ -124,7 +125,7 @@ fn resolve_function(
 
 // The call of record r, for its typed arguments.
 fn call_of(tree: &[u8], text: &[u8], scratch: &[u8], r: usize) -> Call
-    requires { ⌜ Good (now tree) (now text) × Numbered (now tree) (now text) (now scratch) × (72 * records (now tree) ≤ length (now scratch)) ⌝ }
+    requires { ⌜ Good (now tree) (now text) × Numbered (now tree) (now text) (now scratch) × (scratchEach * records (now tree) ≤ length (now scratch)) ⌝ }
     requires { ⌜ IsKind (now tree) kindCall r ⌝ }
     ensures { λ c. ⌜ CallAt (now (tree .entry)) (now (text .entry)) r c ⌝ }
 {

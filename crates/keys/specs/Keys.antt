@@ -13,7 +13,7 @@ use Rattle.laws.specs.Splice.{splice}
 use Rattle.records.specs.Words.{kindOf, wordAt, wordOf, word, records, A, B}
 use Rattle.records.specs.Chains.{memberBucket}
 use Rattle.records.specs.Digest.{digestEnd, rollOf}
-use Rattle.records.specs.Layout.{keySlots, keyHeads, nameHeads}
+use Rattle.records.specs.Layout.{judging, keySlots, keyHeads, nameHeads, scratchEach}
 use Rattle.records.specs.Kinds.{kindFunction}
 use Rattle.records.specs.Good.{Good}
 use Rattle.syntax.specs.Syntax.{Text, Function}
@@ -66,9 +66,9 @@ module _ (tree text : List ℕ) where
 
 -- the scratch has the functions' records, `count` of them
 pub record Listed (tree s : List ℕ) (count : ℕ) : Type 0 where
-  pub room : 72 * records tree ≤ length s
+  pub room : scratchEach * records tree ≤ length s
   pub counted : count ≡ length (functionPlaces tree)
-  pub listed : (j : ℕ) → j < count → wordAt s (4 * j) ≡ getD (functionPlaces tree) j 0
+  pub listed : (j : ℕ) → j < count → wordAt s (judging .each * j) ≡ getD (functionPlaces tree) j 0
 
 -- ---- the functions by the numbers of their keys
 

@@ -3,7 +3,7 @@ ghost use mathlib.Core.Path.{_≡_};
 ghost use mathlib.Core.Bool.{true};
 ghost use Prim.Native.Nat.{_+_, _*_, _≤_, _<_};
 ghost use lib.ListN.{length};
-ghost use Rattle.records.specs.Layout.{judging};
+ghost use Rattle.records.specs.Layout.{judging, keySlots, scratchEach, endOf};
 ghost use Rattle.records.specs.Words.{wordAt, records, mostRecords};
 ghost use Rattle.records.specs.Chains.{bucketOf, Cleared};
 ghost use Rattle.records.specs.Digest.{digestEnd};
@@ -131,7 +131,7 @@ fn key_record(tree: &[u8], text: &[u8], f: usize) -> usize
 
 // The number of a function's key.
 fn key_number(tree: &[u8], text: &[u8], scratch: &[u8], f: usize) -> usize
-    requires { ⌜ Good (now tree) (now text) × Numbered (now tree) (now text) (now scratch) × (72 * records (now tree) ≤ length (now scratch)) ⌝ }
+    requires { ⌜ Good (now tree) (now text) × Numbered (now tree) (now text) (now scratch) × (scratchEach * records (now tree) ≤ length (now scratch)) ⌝ }
     requires { ⌜ FunctionAt (now tree) f ⌝ }
     ensures { λ o. ⌜ (o ≡ originalOf (now (tree .entry)) (now (text .entry)) (keyRecord (now (tree .entry)) (now (text .entry)) f)) × (o < records (now (tree .entry))) ⌝ }
 {
@@ -141,8 +141,8 @@ fn key_number(tree: &[u8], text: &[u8], scratch: &[u8], f: usize) -> usize
 
 // No function is entered by its key yet.
 pub fn clear_keys(scratch: &mut [u8], n: usize)
-    requires { ⌜ (n ≤ mostRecords) × (72 * n ≤ length (now scratch)) ⌝ }
-    ensures { λ _. ⌜ Cleared (44 * n) (48 * n) (now (scratch .entry)) (now (scratch .exit)) ⌝ }
+    requires { ⌜ (n ≤ mostRecords) × (scratchEach * n ≤ length (now scratch)) ⌝ }
+    ensures { λ _. ⌜ Cleared (keySlots .from * n) (endOf keySlots * n) (now (scratch .entry)) (now (scratch .exit)) ⌝ }
 {
     let from = KEY_SLOTS * n;
     clear_run(scratch, from, from + KEY_SLOT_BYTES * n);
@@ -150,7 +150,7 @@ pub fn clear_keys(scratch: &mut [u8], n: usize)
 
 // A function is entered at the slot of its key's number.
 pub fn enter_key(tree: &[u8], text: &[u8], scratch: &mut [u8], f: usize)
-    requires { ⌜ Good (now tree) (now text) × Numbered (now tree) (now text) (now scratch) × (72 * records (now tree) ≤ length (now scratch)) ⌝ }
+    requires { ⌜ Good (now tree) (now text) × Numbered (now tree) (now text) (now scratch) × (scratchEach * records (now tree) ≤ length (now scratch)) ⌝ }
     requires { ⌜ FunctionAt (now tree) f ⌝ }
     ensures { λ _. ⌜ now (scratch .exit) ≡ keyEntered (now (tree .entry)) (now (text .entry)) f (now (scratch .entry)) ⌝ }
 {
@@ -162,7 +162,7 @@ pub fn enter_key(tree: &[u8], text: &[u8], scratch: &mut [u8], f: usize)
 
 // The function whose key is the text of this number: one load, whatever the functions are.
 pub fn find_key(tree: &[u8], text: &[u8], scratch: &[u8], number: usize) -> Found
-    requires { ⌜ Good (now tree) (now text) × (72 * records (now tree) ≤ length (now scratch)) × (number < records (now tree)) ⌝ }
+    requires { ⌜ Good (now tree) (now text) × (scratchEach * records (now tree) ≤ length (now scratch)) × (number < records (now tree)) ⌝ }
     ensures { λ r. ⌜ FindsKey (now (tree .entry)) (now (text .entry)) (now (scratch .entry)) number r ⌝ }
 {
     let n = tree.len() / 32;
@@ -175,7 +175,7 @@ pub fn find_key(tree: &[u8], text: &[u8], scratch: &[u8], number: usize) -> Foun
 
 // The function that is entered with the key of function f.
 pub fn find_own_key(tree: &[u8], text: &[u8], scratch: &[u8], f: usize) -> Found
-    requires { ⌜ Good (now tree) (now text) × Numbered (now tree) (now text) (now scratch) × (72 * records (now tree) ≤ length (now scratch)) ⌝ }
+    requires { ⌜ Good (now tree) (now text) × Numbered (now tree) (now text) (now scratch) × (scratchEach * records (now tree) ≤ length (now scratch)) ⌝ }
     requires { ⌜ FunctionAt (now tree) f ⌝ }
     ensures { λ r. ⌜ FindsOwnKey (now (tree .entry)) (now (text .entry)) (now (scratch .entry)) f r ⌝ }
 {
@@ -259,7 +259,7 @@ pub fn chain_functions(tree: &[u8], text: &[u8], scratch: &mut [u8], count: usiz
 
 // One more than the last function in the bucket of a digest, or 0.
 pub fn key_head(scratch: &[u8], n: usize, d: u32) -> usize
-    requires { ⌜ (0 < n) × (n ≤ mostRecords) × (72 * n ≤ length (now scratch)) ⌝ }
+    requires { ⌜ (0 < n) × (n ≤ mostRecords) × (scratchEach * n ≤ length (now scratch)) ⌝ }
     ensures { λ v. ⌜ v ≡ wordAt (now (scratch .entry)) (keyHeadAt n (bucketOf n (digestEnd d))) ⌝ }
 {
     let b = bucket(roll_digest(d), n);
