@@ -37,7 +37,7 @@ extern "C" {
 
 /* The fewest and the most records that a tree may have. */
 #define RUDDERPLUM_FEWEST_RECORDS 12
-#define RUDDERPLUM_MOST_RECORDS 2048
+#define RUDDERPLUM_MOST_RECORDS 16384
 
 /* Bytes of the judge's answer, four little-endian words of 32 bits, and of a conversion's, eight. */
 #define RUDDERPLUM_JUDGE_ANSWER_BYTES 16

@@ -18,7 +18,9 @@ impl Refusal {
 }
 
 pub const FEWEST_RECORDS: usize = 12;
-pub const MOST_RECORDS: usize = 2048;
+pub const MOST_RECORDS: usize = 16_384;
+/// The most records that a tree had before the limit was raised (document 02, point 14); sizes on both sides of it are generated.
+pub const MOST_RECORDS_ONCE: usize = 2048;
 pub const DEEPEST: u32 = 64;
 
 /// Bytes that each record needs: instructions, variables, labels, functions, strings, floats, scratch.

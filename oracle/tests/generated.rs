@@ -72,7 +72,8 @@ fn judge_and_convert_agree_before_conversion() {
 fn the_list_has_each_answer() {
     let cases = cases(1, 150);
     let size: usize = cases.iter().map(|case| case.tree.len() + case.text.len() + 52).sum();
-    assert!(size < 400_000, "{size} bytes");
+    // Three trees are at the limit on records.
+    assert!(size < 2_200_000, "{size} bytes");
     let mut numbers = BTreeMap::new();
     for case in &cases {
         let answer = judge(&case.tree, &case.text, case.lens)

@@ -179,7 +179,7 @@ fn lengths_and_buffers() {
     bad[0] = 0;
     assert_eq!(number(&bad, [0; 7]), (26, NONE));
     assert_eq!(number(&bad, exact), (24, 0));
-    let long = vec![0; 2049 * 32];
+    let long = vec![0; 16_385 * 32];
     assert_eq!(number(&long, needed(long.len())), (24, NONE));
     assert_eq!(number(&long[32..], needed(long.len())), (24, 0));
 }

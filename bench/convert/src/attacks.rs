@@ -4,13 +4,13 @@
 use oracle::Case;
 use oracle::ast::Layout;
 use oracle::generate::whole;
-use oracle::judge::MOST_RECORDS;
 use oracle::tree::*;
 use oracle::write::*;
 
-/// What a tree of one attack varies: how much of it (in eighths) declares what the rest uses, and how deep the rest is nested.
+/// What a tree of one attack varies: how many records it has room for, how much of it (in eighths) declares what the rest uses, and how deep the rest is nested.
 #[derive(Clone, Copy, Debug)]
 pub struct Knobs {
+    pub records: usize,
     pub text: usize,
     pub share: usize,
     pub depth: usize,
@@ -36,7 +36,7 @@ const ALL: &[usize] = &[8];
 const SOME: &[usize] = &[1, 2, 3, 4, 6];
 const HIGH: &[usize] = &[1, 20, 48];
 
-pub const ATTACKS: [Attack; 23] = [
+pub const ATTACKS: [Attack; 26] = [
     Attack {
         name: "customs",
         what: "Customs with overlapping names",
@@ -126,6 +126,22 @@ pub const ATTACKS: [Attack; 23] = [
         tree: overloads,
     },
     Attack {
+        name: "one-verb",
+        what: "functions of one name, and calls of it, each with a constant that only the last one takes",
+        texts: false,
+        shares: SOME,
+        depths: &[1],
+        tree: one_verb,
+    },
+    Attack {
+        name: "verbs",
+        what: "functions of one parameter, each of a name of its own, and calls of all of them in turn",
+        texts: false,
+        shares: SOME,
+        depths: &[1],
+        tree: verbs,
+    },
+    Attack {
         name: "parameters",
         what: "one function with overlapping names of parameters",
         texts: true,
@@ -156,6 +172,14 @@ pub const ATTACKS: [Attack; 23] = [
         shares: SOME,
         depths: HIGH,
         tree: last_name,
+    },
+    Attack {
+        name: "all-names",
+        what: "Declares of overlapping names, and assignments of all of them",
+        texts: true,
+        shares: SOME,
+        depths: &[1],
+        tree: all_names,
     },
     Attack {
         name: "strings",
@@ -223,6 +247,13 @@ pub const ATTACKS: [Attack; 23] = [
     },
 ];
 
+impl Attack {
+    /// A nesting for trees of so many records: leaves that are joined in pairs stand one level deeper in a tree twice as large.
+    pub fn depth(&self, depth: usize, records: usize) -> usize {
+        if depth > 40 { depth - (records / 2048).max(1).ilog2() as usize - 1 } else { depth }
+    }
+}
+
 pub fn by_name(name: &str) -> Option<&'static Attack> {
     ATTACKS.iter().find(|attack| attack.name == name)
 }
@@ -241,6 +272,7 @@ const MARK: u8 = 0xB0;
 /// A tree written record by record.
 struct Hostile {
     layout: Layout,
+    most: usize,
 }
 
 /// Windows of one length, by number.
@@ -263,13 +295,13 @@ impl Windows {
 }
 
 impl Hostile {
-    fn new() -> Self {
-        Self { layout: Layout::program(&[]) }
+    fn new(knobs: Knobs) -> Self {
+        Self { layout: Layout::program(&[]), most: knobs.records }
     }
 
     /// The records that may still be written.
     fn room(&self) -> usize {
-        MOST_RECORDS - self.layout.records.len()
+        self.most - self.layout.records.len()
     }
 
     /// Text up to `bytes` in all, for so many windows.
@@ -428,7 +460,7 @@ impl Hostile {
 }
 
 fn customs(knobs: Knobs) -> Hostile {
-    let mut tree = Hostile::new();
+    let mut tree = Hostile::new(knobs);
     // Each window needs its mark.
     let count = tree.room().min(knobs.text / 2 - tree.layout.text.len());
     let windows = tree.windows(knobs.text, count);
@@ -439,8 +471,8 @@ fn customs(knobs: Knobs) -> Hostile {
     tree
 }
 
-fn arrays(_: Knobs) -> Hostile {
-    let mut tree = Hostile::new();
+fn arrays(knobs: Knobs) -> Hostile {
+    let mut tree = Hostile::new(knobs);
     for at in 0..tree.room() as u32 {
         tree.layout.records.push(Record::new(TYPE, 7, [LONG_TYPE, at, 0, 0, 0]));
     }
@@ -448,7 +480,7 @@ fn arrays(_: Knobs) -> Hostile {
 }
 
 fn functions(knobs: Knobs) -> Hostile {
-    let mut tree = Hostile::new();
+    let mut tree = Hostile::new(knobs);
     let count = tree.room() / 3;
     let windows = tree.windows(knobs.text, count);
     (0..count).for_each(|at| tree.function(windows.at(at), windows.at(at), &[], NONE, None));
@@ -488,7 +520,7 @@ impl Hostile {
 
 /// Who knows the digest ends each name so that all have one: each is then compared with every earlier one, nearly to its end.
 fn collisions(knobs: Knobs) -> Hostile {
-    let mut tree = Hostile::new();
+    let mut tree = Hostile::new(knobs);
     let count = (tree.room() / 3).min(knobs.text / 48);
     let (base, long) = tree.colliding(knobs.text, 2 * count);
     let text = |at: usize| (base + 8 * at as u32, long);
@@ -510,7 +542,7 @@ fn called(tree: &mut Hostile, count: usize, types: &[u32], text: impl Fn(usize) 
 
 /// As many functions as the share says, and calls below a tower.
 fn calls(knobs: Knobs) -> Hostile {
-    let mut tree = Hostile::new();
+    let mut tree = Hostile::new(knobs);
     let count = tree.room() * knobs.share / 8 / 3;
     let windows = tree.windows(knobs.text, count + 2);
     called(&mut tree, count, &[], |at| (windows.at(at), windows.at(at)));
@@ -518,7 +550,7 @@ fn calls(knobs: Knobs) -> Hostile {
 }
 
 fn short_calls(knobs: Knobs) -> Hostile {
-    let mut tree = Hostile::new();
+    let mut tree = Hostile::new(knobs);
     let count = tree.room() * knobs.share / 8 / 3;
     let names: Vec<Text> = (0..=count).map(|at| tree.short(&format!("함{at:03}"))).collect();
     called(&mut tree, count, &[], |at| (names[at], names[at]));
@@ -527,7 +559,7 @@ fn short_calls(knobs: Knobs) -> Hostile {
 
 /// The key text has three bytes, so verb, `$` and key text are as long as verb and `$...`.
 fn joined_keys(knobs: Knobs) -> Hostile {
-    let mut tree = Hostile::new();
+    let mut tree = Hostile::new(knobs);
     let count = tree.room() * knobs.share / 8 / 3;
     let windows = tree.windows(knobs.text, count + 2);
     let ty = tree.array_type((windows.base, 3));
@@ -540,7 +572,7 @@ fn joined_keys(knobs: Knobs) -> Hostile {
 
 /// Each window is a key, and the verb is the first without its last four bytes.
 fn prefixes(knobs: Knobs) -> Hostile {
-    let mut tree = Hostile::new();
+    let mut tree = Hostile::new(knobs);
     let count = tree.room() * knobs.share / 8 / 3;
     let (base, long) = tree.marked(knobs.text, count + 1);
     called(&mut tree, count, &[], |at| {
@@ -551,7 +583,7 @@ fn prefixes(knobs: Knobs) -> Hostile {
 }
 
 fn nested_calls(knobs: Knobs) -> Hostile {
-    let mut tree = Hostile::new();
+    let mut tree = Hostile::new(knobs);
     let count = tree.room() * knobs.share / 8 / 3;
     let windows = tree.windows(knobs.text, count + 2);
     called(&mut tree, count, &[LONG_TYPE], |at| (windows.at(at), windows.wide(at, 4)));
@@ -569,7 +601,7 @@ fn nested_calls(knobs: Knobs) -> Hostile {
 
 /// The key text is empty, so each type argument makes the joined key one byte longer; what takes the call is variadic.
 fn type_arguments(knobs: Knobs) -> Hostile {
-    let mut tree = Hostile::new();
+    let mut tree = Hostile::new(knobs);
     let count = tree.room() * knobs.share / 8 / 3;
     let each = (tree.room() - 3 * count - 2 * knobs.depth - 20) / 2;
     let windows = tree.windows(knobs.text, count + each);
@@ -592,7 +624,7 @@ fn type_arguments(knobs: Knobs) -> Hostile {
 /// All functions have the verb as name and an unsigned parameter, where a negative constant does not fit; the last takes it. Of the foldings
 /// division is the slowest.
 fn overloads(knobs: Knobs) -> Hostile {
-    let mut tree = Hostile::new();
+    let mut tree = Hostile::new(knobs);
     let count = tree.room() * knobs.share / 8 / 5;
     let windows = tree.windows(0, count + 2);
     let (verb, param) = (tree.short("부르다"), tree.short("값"));
@@ -613,8 +645,59 @@ fn overloads(knobs: Knobs) -> Hostile {
     tree.only(nest)
 }
 
+/// Calls of one constant argument, as statements.
+fn constant_calls(mut tree: Hostile, verb: impl Fn(usize) -> Text) -> Hostile {
+    let body = tree.fill(5, |tree, at| {
+        let constant = tree.int(-1, 0);
+        let arg = tree.value(constant);
+        let call = tree.call(verb(at), &[arg]);
+        tree.push(CALL_STATEMENT, 0, &[call])
+    });
+    tree.body(&body)
+}
+
+/// As `overloads`, with many calls of a short constant.
+fn one_verb(knobs: Knobs) -> Hostile {
+    let mut tree = Hostile::new(knobs);
+    let count = tree.room() * knobs.share / 8 / 5;
+    let windows = tree.windows(0, count + 2);
+    let (verb, param) = (tree.short("부르다"), tree.short("값"));
+    for at in 0..=count {
+        let ty = if at == count { LONG_TYPE } else { ULONG_TYPE };
+        tree.function(verb, windows.at(at), &[(param, ty)], LONG_TYPE, None);
+    }
+    constant_calls(tree, |_| verb)
+}
+
+/// No mangled name is a verb with its `$`, so that every call comes to the functions that literals fit.
+fn verbs(knobs: Knobs) -> Hostile {
+    let mut tree = Hostile::new(knobs);
+    let count = tree.room() * knobs.share / 8 / 5;
+    let windows = tree.windows(0, count + 2);
+    let param = tree.short("값");
+    let names: Vec<Text> = (0..=count).map(|at| tree.short(&format!("함{at:04}"))).collect();
+    for (at, name) in names.iter().enumerate() {
+        tree.function(*name, windows.at(at), &[(param, LONG_TYPE)], LONG_TYPE, None);
+    }
+    constant_calls(tree, move |at| names[at % names.len()])
+}
+
+/// Declares of names with a long equal beginning, then each of them in turn, assigned to the first.
+fn all_names(knobs: Knobs) -> Hostile {
+    let mut tree = Hostile::new(knobs);
+    let count = (tree.room() - 3) * knobs.share / 8 / 2;
+    let windows = tree.windows(knobs.text, count);
+    let mut body: Vec<u32> = (0..count).map(|at| tree.declare(windows.at(at), LONG_TYPE)).collect();
+    while tree.room() >= body.len() + 2 + 1 + 3 {
+        let name = tree.text_of(NAME, windows.at((body.len() * 7) % count));
+        let statement = tree.init(windows.at(0), name);
+        body.push(statement);
+    }
+    tree.body(&body)
+}
+
 fn parameters(knobs: Knobs) -> Hostile {
-    let mut tree = Hostile::new();
+    let mut tree = Hostile::new(knobs);
     let count = (tree.room() - 3) / 2;
     let windows = tree.windows(knobs.text, count);
     let params: Vec<(Text, u32)> = (0..count).map(|at| (windows.at(at), LONG_TYPE)).collect();
@@ -624,7 +707,7 @@ fn parameters(knobs: Knobs) -> Hostile {
 }
 
 fn declares(knobs: Knobs) -> Hostile {
-    let mut tree = Hostile::new();
+    let mut tree = Hostile::new(knobs);
     let count = (tree.room() - 3) / 2;
     let windows = tree.windows(knobs.text, count);
     let body: Vec<u32> = (0..count).map(|at| tree.declare(windows.at(at), LONG_TYPE)).collect();
@@ -633,7 +716,7 @@ fn declares(knobs: Knobs) -> Hostile {
 
 /// Declares in a block, then one name of them below a tower; `which` says which.
 fn names(knobs: Knobs, which: fn(usize) -> usize) -> Hostile {
-    let mut tree = Hostile::new();
+    let mut tree = Hostile::new(knobs);
     let count = (tree.room() - 3) * knobs.share / 8 / 2;
     let windows = tree.windows(knobs.text, count);
     let first: Vec<u32> = (0..count).map(|at| tree.declare(windows.at(at), LONG_TYPE)).collect();
@@ -673,8 +756,8 @@ fn nests(
 
 /// Leaves are comparisons of two strings, all distinct.
 fn strings(knobs: Knobs) -> Hostile {
-    let mut tree = Hostile::new();
-    let windows = tree.windows(knobs.text, MOST_RECORDS / 2);
+    let mut tree = Hostile::new(knobs);
+    let windows = tree.windows(knobs.text, knobs.records / 2);
     let mut made = 0;
     nests(tree, (knobs.depth, AND), BOOL_TYPE, move |tree| {
         let (left, right) = (tree.text_of(STR, windows.at(made)), tree.text_of(STR, windows.at(made + 1)));
@@ -684,11 +767,11 @@ fn strings(knobs: Knobs) -> Hostile {
 }
 
 fn labels(knobs: Knobs) -> Hostile {
-    nests(Hostile::new(), (knobs.depth, OR), BOOL_TYPE, |tree| tree.push(BOOL, 1, &[]))
+    nests(Hostile::new(knobs), (knobs.depth, OR), BOOL_TYPE, |tree| tree.push(BOOL, 1, &[]))
 }
 
-fn ifs(_: Knobs) -> Hostile {
-    let mut tree = Hostile::new();
+fn ifs(knobs: Knobs) -> Hostile {
+    let mut tree = Hostile::new(knobs);
     let body = tree.fill(2, |tree, _| {
         let test = tree.push(BOOL, 1, &[]);
         tree.push(IF, 1, &[test, NONE, NONE])
@@ -698,7 +781,7 @@ fn ifs(_: Knobs) -> Hostile {
 
 fn floats(knobs: Knobs) -> Hostile {
     let mut made = 0;
-    nests(Hostile::new(), (knobs.depth, ADD), SINGLE_TYPE, move |tree| {
+    nests(Hostile::new(knobs), (knobs.depth, ADD), SINGLE_TYPE, move |tree| {
         made += 1;
         if made % (knobs.depth + 1) == 1 {
             let target = tree.short("변");
@@ -709,19 +792,19 @@ fn floats(knobs: Knobs) -> Hostile {
 }
 
 fn ands(knobs: Knobs) -> Hostile {
-    let mut tree = Hostile::new();
+    let mut tree = Hostile::new(knobs);
     let name = tree.short("참");
     let first = tree.declare(name, BOOL_TYPE);
     tree.tower_after(vec![first], (knobs.depth, AND), 1, move |tree| tree.text_of(NAME, name))
 }
 
 fn comparisons(knobs: Knobs) -> Hostile {
-    Hostile::new().tower((knobs.depth, EQ), 1, |tree| tree.push(BOOL, 1, &[]))
+    Hostile::new(knobs).tower((knobs.depth, EQ), 1, |tree| tree.push(BOOL, 1, &[]))
 }
 
 /// The literal on the left is of another type at each level, so what stands on its right is folded to see whether it fits.
 fn folds(knobs: Knobs) -> Hostile {
-    let mut tree = Hostile::new();
+    let mut tree = Hostile::new(knobs);
     let mut nest = tree.balanced(DIV, (tree.room() - 2 * knobs.depth - 10) / 2, |tree| tree.int(1, 0));
     for level in 0..knobs.depth {
         let left = tree.int(1, if level % 2 == 0 { 2 } else { 0 });
@@ -731,7 +814,7 @@ fn folds(knobs: Knobs) -> Hostile {
 }
 
 fn float_folds(knobs: Knobs) -> Hostile {
-    let mut tree = Hostile::new();
+    let mut tree = Hostile::new(knobs);
     let mut nest = tree.balanced(MUL, (tree.room() - 2 * knobs.depth - 10) / 2, |tree| tree.float(1.0, 0));
     for level in 0..knobs.depth {
         let left = tree.float(0.5, if level % 2 == 0 { 1 } else { 0 });

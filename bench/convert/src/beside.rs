@@ -46,8 +46,11 @@ pub fn time(programs: [&str; 2], options: &time::Options) -> u64 {
 pub fn hostile(programs: [&str; 2], options: &hostile::Options) -> u64 {
     println!("| library {}\n|---{}", hostile::HEAD, hostile::LINE);
     let limit = options.limit.as_secs().to_string();
-    let each = options.attacks.iter().map(|attack| {
-        rows(programs, &["hostile", "--attacks", attack.name, "--limit", &limit].map(str::to_string))
-    });
-    each.sum()
+    let sizes: Vec<String> = options.sizes.iter().map(usize::to_string).collect();
+    let each = options.attacks.iter().flat_map(|attack| sizes.iter().map(move |size| (attack.name, size)));
+    let run = |(name, size): (&str, &String)| {
+        let words = ["hostile", "--attacks", name, "--sizes", size, "--limit", &limit];
+        rows(programs, &words.map(str::to_string))
+    };
+    each.map(run).sum()
 }

@@ -4,9 +4,10 @@ use std::collections::BTreeMap;
 use std::{fs, path::Path};
 
 use oracle::convert::{Held, held};
+use oracle::judge::MOST_RECORDS_ONCE;
 use oracle::tally::Tally;
 use oracle::{Answer, Case, classes, generate};
-use rudderplum::{ANSWER_BYTES, Buffers, convert_into, read_conversion};
+use rudderplum::{ANSWER_BYTES, Buffers, RECORD_BYTES, convert_into, read_conversion};
 
 /// Bytes behind each lent buffer, which no call may touch.
 const GUARD: usize = 8;
@@ -20,7 +21,7 @@ struct Fill {
 impl Fill {
     fn new(seed: u64) -> Self {
         let mut fill = Fill { bytes: Vec::new(), state: seed | 1 };
-        while fill.bytes.len() < 4 << 20 {
+        while fill.bytes.len() < 8 << 20 {
             let word = fill.next();
             fill.bytes.extend(word.to_le_bytes());
         }
@@ -174,6 +175,8 @@ struct Found {
     calls: Tally,
     /// Calls that differ.
     differ: Tally,
+    /// Trees of more records than the limit once was.
+    large: u64,
     /// The length of the smallest tree that differs.
     smallest: usize,
 }
@@ -198,6 +201,7 @@ impl Found {
     fn print(&self) {
         let (trees, calls, differ) = (self.trees.total(), self.calls.total(), self.differ.total());
         println!("{trees} trees, {calls} calls, {differ} differ");
+        println!("trees above {MOST_RECORDS_ONCE} records: {}", self.large);
         println!("trees: {}", self.trees);
         println!("calls: {}", self.calls);
         if differ > 0 {
@@ -218,6 +222,7 @@ pub fn compare(options: &Options) -> u64 {
             let held = found.call(&mut fill, case, options.folder);
             if turn == 0 {
                 found.trees.add(&held);
+                found.large += u64::from(case.tree.len() / RECORD_BYTES > MOST_RECORDS_ONCE);
             }
         }
     }

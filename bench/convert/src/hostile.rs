@@ -22,6 +22,8 @@ pub const LINE: &str = "|---|---|---|---|---|---|---|";
 pub struct Options {
     pub attacks: Vec<&'static Attack>,
     pub limit: Duration,
+    /// Sizes in records.
+    pub sizes: Vec<usize>,
     /// Prints rows alone, each with this word before it.
     pub rows: Option<String>,
 }
@@ -120,8 +122,8 @@ pub fn alone(measure: Measure, attack: &Attack, knobs: Knobs, limit: Duration) -
 /// The best of a few, each within the limit, from a process of its own.
 fn take(measure: Measure, attack: &Attack, knobs: Knobs, limit: Duration) -> Taken {
     let own = std::env::current_exe().expect("this program has a path");
-    let numbers =
-        [knobs.text, knobs.share, knobs.depth, limit.as_secs() as usize].map(|number| number.to_string());
+    let numbers = [knobs.records, knobs.text, knobs.share, knobs.depth, limit.as_secs() as usize]
+        .map(|number| number.to_string());
     let run = Command::new(own).args(["alone", measure.name(), attack.name]).args(numbers).output();
     let run = run.expect("this program starts");
     // What it says of a tree that was refused.
@@ -132,11 +134,12 @@ fn take(measure: Measure, attack: &Attack, knobs: Knobs, limit: Duration) -> Tak
 }
 
 /// The knobs with which the call takes longest; the first that goes over the limit is enough.
-fn worst(attack: &Attack, text: usize, limit: Duration) -> (Taken, Knobs) {
-    let mut found = (Taken::Within(0.0), Knobs { text, share: attack.shares[0], depth: attack.depths[0] });
+fn worst(attack: &Attack, records: usize, text: usize, limit: Duration) -> (Taken, Knobs) {
+    let (share, depth) = (attack.shares[0], attack.depths[0]);
+    let mut found = (Taken::Within(0.0), Knobs { records, text, share, depth });
     for &share in attack.shares {
         for &depth in attack.depths {
-            let knobs = Knobs { text, share, depth };
+            let knobs = Knobs { records, text, share, depth: attack.depth(depth, records) };
             let taken = take(Measure::Call, attack, knobs, limit);
             if taken > found.0 {
                 found = (taken, knobs);
@@ -156,8 +159,10 @@ pub fn hostile(options: &Options) -> u64 {
         println!("{HEAD}\n{LINE}");
     }
     for attack in &options.attacks {
-        for &text in if attack.texts { &TEXTS[..] } else { &TEXTS[..1] } {
-            let (call, knobs) = worst(attack, text, options.limit);
+        let texts = if attack.texts { &TEXTS[..] } else { &TEXTS[..1] };
+        for (&size, &text) in options.sizes.iter().flat_map(|size| texts.iter().map(move |text| (size, text)))
+        {
+            let (call, knobs) = worst(attack, size, text, options.limit);
             let others =
                 [Measure::Judge, Measure::Krc].map(|measure| take(measure, attack, knobs, options.limit));
             let [judge, krc] = others.map(|taken| taken.text(options.limit));

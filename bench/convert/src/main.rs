@@ -14,12 +14,13 @@ use attacks::{ATTACKS, Attack, Knobs};
 use hostile::Measure;
 use makes::{MAKES, Make, NESTINGS, is_nesting};
 use oracle::classes;
+use oracle::judge::MOST_RECORDS;
 
 const USAGE: &str = "usage: convert-bench compare [N [SEED [DIR]]] [--class CLASS]
        convert-bench time [--makes A,B] [--sizes N,N] [--nestings N,N] [--rounds N] [--trees N] [--rows WORD]
-       convert-bench hostile [--attacks A,B] [--limit SECONDS] [--rows WORD]
+       convert-bench hostile [--attacks A,B] [--sizes N,N] [--limit SECONDS] [--rows WORD]
        convert-bench beside PROGRAM PROGRAM time|hostile [OPTIONS]
-       convert-bench alone call|judge|krc ATTACK TEXT SHARE DEPTH SECONDS
+       convert-bench alone call|judge|krc ATTACK RECORDS TEXT SHARE DEPTH SECONDS
        convert-bench repeat MAKE SIZE TREES ROUNDS
        convert-bench one TREE TEXT";
 
@@ -65,7 +66,7 @@ fn compare_options<'o>(words: &[&'o str]) -> compare::Options<'o> {
 
 /// The options of `time`, in pairs of a name and a value.
 fn time_options(words: &[&str]) -> time::Options {
-    let (makes, sizes) = (MAKES.iter().collect(), vec![50, 200, 500, 1000, 2000]);
+    let (makes, sizes) = (MAKES.iter().collect(), vec![50, 200, 500, 1000, 2000, 4000, 9000, MOST_RECORDS]);
     let nestings = NESTINGS.to_vec();
     let mut options = time::Options { makes, sizes, nestings, rounds: 800, trees: 32, rows: None };
     for pair in words.chunks(2) {
@@ -83,11 +84,12 @@ fn time_options(words: &[&str]) -> time::Options {
 }
 
 fn hostile_options(words: &[&str]) -> hostile::Options {
-    let mut options =
-        hostile::Options { attacks: ATTACKS.iter().collect(), limit: Duration::from_secs(2), rows: None };
+    let (attacks, limit) = (ATTACKS.iter().collect(), Duration::from_secs(2));
+    let mut options = hostile::Options { attacks, limit, sizes: vec![2000, MOST_RECORDS], rows: None };
     for pair in words.chunks(2) {
         match *pair {
             ["--attacks", names] => options.attacks = names.split(',').map(attack).collect(),
+            ["--sizes", sizes] => options.sizes = sizes.split(',').map(number).collect(),
             ["--limit", seconds] => options.limit = Duration::from_secs(number(seconds)),
             ["--rows", word] => options.rows = Some(word.to_string()),
             _ => stop(),
@@ -109,8 +111,9 @@ fn main() {
         ["beside", before, after, "hostile", ref rest @ ..] => {
             beside::hostile([before, after], &hostile_options(rest))
         }
-        ["alone", measure, name, text, share, depth, limit] => {
-            let knobs = Knobs { text: number(text), share: number(share), depth: number(depth) };
+        ["alone", measure, name, records, text, share, depth, limit] => {
+            let [records, text, share, depth] = [records, text, share, depth].map(number);
+            let knobs = Knobs { records, text, share, depth };
             let measure = Measure::by_name(measure).unwrap_or_else(|| stop());
             hostile::alone(measure, attack(name), knobs, Duration::from_secs(number(limit)))
         }

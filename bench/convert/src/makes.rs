@@ -1,11 +1,11 @@
 //! Programs to measure with: several makes, each at any size, all of which convert.
 
-use oracle::ast::{Ar, Ex, Fun, Layout, St, Ty, mangle};
-use oracle::generate::programs::Maker;
+use oracle::ast::{Ex, Fun, Layout, St, Ty};
+use oracle::generate::beside;
 use oracle::generate::rng::Rng;
 use oracle::generate::whole;
 use oracle::judge::depths;
-use oracle::tree::{CAST_VERB, Tree};
+use oracle::tree::Tree;
 use oracle::write::*;
 use oracle::{Answer, Case, convert};
 use rudderplum::RECORD_BYTES;
@@ -109,79 +109,8 @@ impl Make {
 
 /// Programs of the generator side by side, each with names of functions of its own.
 fn mixed(rng: &mut Rng, size: usize) -> Vec<Fun> {
-    let (mut made, mut left) = (Vec::new(), beside_types(size));
-    for piece in 0..4 * size {
-        let budget = 8 + rng.below(left.min(250));
-        let mut next = Maker::new(rng, 0, budget).program();
-        next.iter_mut().for_each(|func| renamed_function(func, piece));
-        let records = Layout::program(&next).records.len() - 12;
-        if records <= left && records * 8 > left.min(400) {
-            left -= records;
-            made.extend(next);
-        }
-        if left < 12 {
-            break;
-        }
-    }
+    let made = beside::programs(rng, beside_types(size), 0);
     fill_up(rng, made, size)
-}
-
-/// A function of one piece: its own name and the verbs that it calls end in the piece's number, but for the cast's.
-fn renamed_function(func: &mut Fun, piece: usize) {
-    if func.name == b"main" {
-        func.name = "본".into();
-    }
-    func.name.extend(piece.to_string().bytes());
-    func.mangled =
-        if func.external { func.name.clone() } else { mangle(&func.name, &func.params, func.variadic) };
-    func.body.iter_mut().for_each(|body| renamed_block(body, piece));
-}
-
-fn renamed_block(block: &mut [St], piece: usize) {
-    for statement in block {
-        match statement {
-            St::Init(_, _, value) | St::Return(value) | St::Call(value) => renamed(value, piece),
-            St::If(test, then, otherwise) => {
-                renamed(test, piece);
-                renamed_block(then, piece);
-                otherwise.iter_mut().for_each(|block| renamed_block(block, piece));
-            }
-            St::While(test, body) => {
-                renamed(test, piece);
-                renamed_block(body, piece);
-            }
-            St::For(_, _, from, until, body) => {
-                renamed(from, piece);
-                renamed(until, piece);
-                renamed_block(body, piece);
-            }
-            St::Declare(..) | St::Break | St::Continue => {}
-        }
-    }
-}
-
-fn renamed(expr: &mut Ex, piece: usize) {
-    match expr {
-        Ex::Unary(_, operand) => renamed(operand, piece),
-        Ex::Binary(_, left, right) => {
-            renamed(left, piece);
-            renamed(right, piece);
-        }
-        Ex::Call(verb, args) => {
-            if *verb == b"main" {
-                *verb = "본".into();
-            }
-            if *verb != CAST_VERB {
-                verb.extend(piece.to_string().bytes());
-            }
-            for arg in args {
-                if let Ar::Value(value) = arg {
-                    renamed(value, piece);
-                }
-            }
-        }
-        _ => {}
-    }
 }
 
 /// Statements for one body, as long as records are left.
@@ -340,7 +269,9 @@ fn long_name(rng: &mut Rng, at: usize) -> Vec<u8> {
     let stem = rng.below(8);
     let length = 17 + 5 * stem;
     let mut name: String = (0..length).map(|k| syllable(stem * 977 + k * 131)).collect();
-    name.extend([at / 1000, at / 100 % 10, at / 10 % 10, at % 10].map(|digit| syllable(digit * 588)));
+    // There are nineteen times 588 syllables.
+    let digits = [at / 1000, at / 100 % 10, at / 10 % 10, at % 10];
+    name.extend(digits.map(|digit| syllable(digit * 588 + digit / 19)));
     name.into_bytes()
 }
 

@@ -17,7 +17,7 @@ pub const BYTES_PER_RECORD: [usize; 7] = [320, 12, 24, 32, 8, 32, 72];
 
 /// The fewest and the most records that a tree may have.
 pub const FEWEST_RECORDS: usize = 12;
-pub const MOST_RECORDS: usize = 2048;
+pub const MOST_RECORDS: usize = 16384;
 
 /// Bytes of the judge's answer, four little-endian words of 32 bits, and of a conversion's, eight.
 pub const JUDGE_ANSWER_BYTES: usize = 16;

@@ -1,8 +1,8 @@
 //! The conversion call, seen from Rust: typed tables, errors by Krc's names, and what lent buffers hold afterwards.
 
 use rudderplum::{
-    ANSWER_BYTES, Buffers, ErrorKind, Kind, LabelKind, Operand, Refusal, convert, convert_into, needed,
-    read_conversion,
+    ANSWER_BYTES, Buffers, ErrorKind, Kind, LabelKind, MOST_RECORDS, Operand, RECORD_BYTES, Refusal, convert,
+    convert_into, needed, read_conversion,
 };
 
 const NONE: u32 = u32::MAX;
@@ -130,6 +130,6 @@ fn a_short_answer_writes_nothing() {
 
 #[test]
 fn too_many_records_are_refused() {
-    let refusal = convert(&vec![0; 2049 * 32], &[], false).unwrap_err();
+    let refusal = convert(&vec![0; (MOST_RECORDS + 1) * RECORD_BYTES], &[], false).unwrap_err();
     assert_eq!((refusal.kind, refusal.place), (ErrorKind::BadTree, None));
 }

@@ -1,6 +1,8 @@
 //! The promises of the call, seen from Rust: answers, and what each buffer holds afterwards.
 
-use rudderplum::{Buffers, ErrorKind, Refusal, judge, judge_into, needed, read_answer};
+use rudderplum::{
+    Buffers, ErrorKind, MOST_RECORDS, RECORD_BYTES, Refusal, judge, judge_into, needed, read_answer,
+};
 
 const FILL: u8 = 0xA5;
 const SCRATCH: usize = 6;
@@ -97,7 +99,11 @@ fn wrong_lengths_write_nothing() {
     for len in [0, 1, 11 * 32, 12 * 32 - 1] {
         assert_eq!(judged(&tree[..len], needed(tree.len()), FILL, FILL), refusal(24, None));
     }
-    assert_eq!(judged(&vec![0; 2049 * 32], needed(2049 * 32), FILL, FILL), refusal(24, None));
+    let long = vec![0; (MOST_RECORDS + 1) * RECORD_BYTES];
+    assert_eq!(judged(&long, needed(long.len()), FILL, FILL), refusal(24, None));
+    // One less is judged record by record, as any of 2,049 is since the limit was raised.
+    assert_eq!(judged(&long[32..], needed(long.len()), 0, 0), refusal(24, Some(0)));
+    assert_eq!(judged(&long[..2049 * 32], needed(2049 * 32), 0, 0), refusal(24, Some(0)));
     assert_eq!(judged(&[], [0; 7], FILL, FILL), refusal(24, None));
 }
 

@@ -25,7 +25,7 @@ const ANSWER: usize = 48;
 const TABLES: usize = 80;
 
 // Room for a case's tree, text and tables.
-const BODY_ROOM: usize = 400000;
+const BODY_ROOM: usize = 620000;
 
 // No list has as many cases.
 const MOST_CASES: usize = 1000000;
@@ -166,7 +166,7 @@ fn lent_of(head: &[u8], k: usize, buffer: &[u8]) -> usize
     buffer.len()
 }
 
-// One case, over buffers with room for 2,048 records and a little more: true if nothing differs.
+// One case, over buffers with room for 2,049 records; a longer tree is there only if it is refused for its length or its buffers. True if nothing differs.
 fn replay_case(head: &[u8], tree: &[u8], text: &[u8], tables: &[u8]) -> bool
     requires { ⌜ length (now head) ≡ 104 ⌝ }
 {

@@ -6,7 +6,7 @@ use mathlib.Core.Bool.{Bool}
 use mathlib.Core.List.{List, [], _∷_, _++_}
 use native.Mathlib.Omega.{arith}
 use lib.ListN.{length}
-use Rattle.records.specs.Words.{wordAt, records}
+use Rattle.records.specs.Words.{wordAt, records, mostRecords}
 use Rattle.records.specs.Good.{Good}
 use Rattle.records.specs.declared.convert_error.ConvertError.{ConvertError}
 use Rattle.syntax.specs.Syntax.{Function}
@@ -17,13 +17,13 @@ use Rattle.syntax.proofs.Held.{functions-records}
 use Rattle.syntax.proofs.Judged.{judged-complete, judged-once}
 use Rattle.conversion.specs.Ir.{IrProgram}
 use Rattle.conversion.specs.ConvertError.{Result, ok, err, _>>=_}
-use Rattle.conversion.specs.Ir.{IrFunction}
+use Rattle.conversion.specs.Ir.{IrFunction, sameFloat}
 use Rattle.conversion.specs.Functions.{Pool, get-all-functions, check-main, convert-func}
 use Rattle.conversion.specs.Converter.{convertAll, convert}
 use Rattle.conversion.specs.Visits.{bodyVisits, functionsVisits}
 use Rattle.conversion.specs.Written.{bytesOf, word, wide, encodeAll, encodeFields, encodeInstr, encodeVar, encodeLabel, encodeFunctions, encodeString, encodeFloat, allCode, allVars, allLabels}
 use Rattle.ir.specs.declared.structs.Counters.{Counters}
-use Rattle.ir.specs.Arena.{Table, encodeDigest, Holds, Room}
+use Rattle.ir.specs.Arena.{Table, encodeDigest, LinkedEntries, entryBucket, noFloat, stringBucket, sameString, noString, Holds, Room}
 use Rattle.keys.specs.Keys.{allKeys, Mapped, Keyed}
 use Rattle.keys.proofs.KeyLaws.{from, from-start, from-one, from-end}
 use Rattle.keys.proofs.KeySearch.{records-most}
@@ -49,6 +49,19 @@ no-entries : {X : Type 0} (f : X → List ℕ) (w at : ℕ) (l : List ℕ) → (
 unfolding encodeAll
 no-entries f w at l h = record { bytes = record { is = refl }; width = h; count = refl }
 
+no-links : {X : Type 0} (bucket : X → ℕ) (same : X → X → Bool) (past : X) (heads links : ℕ) (l : List ℕ) → LinkedEntries bucket same past heads links [] l
+no-links bucket same past heads links l = record {
+  linked = record {
+    head-in = λ i b. absurd (omega arith);
+    head-of = λ i b. absurd (omega arith);
+    head-last = λ i b. absurd (omega arith);
+    link-low = λ i b. absurd (omega arith);
+    link-of = λ i j b. absurd (omega arith);
+    link-last = λ i j b. absurd (omega arith);
+  };
+  distinct = λ i j b. absurd (omega arith);
+}
+
 pub nothing-held : (text : List ℕ) (n : ℕ) (l : List ℕ) → Holds text (begun [] emptyPool) (emptyCounters n) l
 unfolding allCode allVars allLabels encodeFunctions encodeInstr encodeFields encodeVar encodeLabel encodeString encodeFloat encodeDigest word wide bytesOf
 nothing-held text n l = record {
@@ -60,17 +73,8 @@ nothing-held text n l = record {
   floats-hold = no-entries encodeFloat 16 (204 * n) l (λ x. refl);
   digests-hold = no-entries encodeDigest 4 (236 * n) l (λ x. refl);
   slots-hold = record { has = λ i b. absurd (omega arith); number = λ i b. absurd (omega arith) };
-  links-hold = record {
-    linked = record {
-      head-in = λ i b. absurd (omega arith);
-      head-of = λ i b. absurd (omega arith);
-      head-last = λ i b. absurd (omega arith);
-      link-low = λ i b. absurd (omega arith);
-      link-of = λ i j b. absurd (omega arith);
-      link-last = λ i j b. absurd (omega arith);
-    };
-    distinct = λ i j b. absurd (omega arith);
-  };
+  float-links-hold = no-links (entryBucket n) sameFloat noFloat (276 * n) (268 * n) l;
+  string-links-hold = no-links (stringBucket n) sameString noString (284 * n) (280 * n) l;
   before = record { functions-count = refl; instructions-before = refl; variables-before = refl; labels-before = refl };
   fits = record { labels-fit = tt; strings-stand = tt; floats-fit = tt };
 }
@@ -124,7 +128,7 @@ all-start tree text l s count k keyed room turns e =
     })
 
 module _ (tree text l₀ s₀ : List ℕ) (count : ℕ) (k : Counters) (j : ℕ) (l s : List ℕ) (w : SoFar tree text l₀ s₀ count k j l s) where
-  pub few-functions : count ≤ 2048
+  pub few-functions : count ≤ mostRecords
   few-functions = omega (arith, w .keyed .listed .counted, records-most tree (records tree), w .keyed .good .few)
 
   module _ (h : j < count) (f : ℕ) (is : f ≡ wordAt s (4 * j)) where

@@ -25,7 +25,7 @@ use judge::clear;
 use judge::clear_outputs;
 use judge::has_place;
 use judge::judge_rows;
-use keys::keys::digest_keys;
+use keys::keys::chain_functions;
 use keys::keys::function_at;
 use records::convert_error::ConvertError;
 use statements::answers::Finished;
@@ -123,7 +123,7 @@ fn convert_program(
             match check_main(tree, text, scratch, count, needs_main) {
                 Outcome::Refused(e) => Finished::Refused(e),
                 Outcome::Done => {
-                    digest_keys(tree, text, scratch, count);
+                    chain_functions(tree, text, scratch, count);
                     expressions::turns::forget(tree, scratch);
                     convert_all(tree, text, arena, scratch, count)
                 }

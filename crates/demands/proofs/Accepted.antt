@@ -15,7 +15,7 @@ use Rattle.laws.specs.All.{All}
 use Rattle.laws.specs.Fix.{pick}
 use Rattle.laws.specs.Below.{orElse, lowest}
 use Rattle.laws.proofs.Tests.{and-left, and-right}
-use Rattle.records.specs.Words.{records, none}
+use Rattle.records.specs.Words.{records, mostRecords, none}
 use Rattle.records.specs.Rules.{recordOk}
 use Rattle.records.specs.Good.{Good}
 use Rattle.records.specs.declared.convert_error.ConvertErrorKind.the-variants.{BadTree, TooDeep, ShortBuffer}
@@ -85,11 +85,11 @@ module _ (tree text : List ℕ) (l : Lengths) (scratch : ℕ) (passed : verdict 
 
   multiple : (eqb (length tree % 32) 0 && leb (12 * 32) (length tree)) ≡ true
   unfolding lengthsOk
-  multiple = and-left (eqb (length tree % 32) 0 && leb (12 * 32) (length tree)) (leb (length tree) (2048 * 32)) (parts .whole)
+  multiple = and-left (eqb (length tree % 32) 0 && leb (12 * 32) (length tree)) (leb (length tree) (mostRecords * 32)) (parts .whole)
 
-  at-most : length tree ≤ 2048 * 32
+  at-most : length tree ≤ mostRecords * 32
   unfolding lengthsOk
-  at-most = leb-true (length tree) (2048 * 32) (and-right (eqb (length tree % 32) 0 && leb (12 * 32) (length tree)) (leb (length tree) (2048 * 32)) (parts .whole))
+  at-most = leb-true (length tree) (mostRecords * 32) (and-right (eqb (length tree % 32) 0 && leb (12 * 32) (length tree)) (leb (length tree) (mostRecords * 32)) (parts .whole))
 
   at-least : 12 * 32 ≤ length tree
   at-least = leb-true (12 * 32) (length tree) (and-right (eqb (length tree % 32) 0) (leb (12 * 32) (length tree)) multiple)

@@ -2,21 +2,23 @@
 -- By the cases of the definitions, and by the listed functions one after the other. Assumes nothing.
 use mathlib.Core.Path.{_≡_, refl, sym, ap, ap₂, _∙_}
 use mathlib.Core.Bool.{Bool, true, false, not, _&&_}
-use mathlib.Core.List.{List, [], _∷_}
-use mathlib.Core.Logic.{inl, inr}
+use mathlib.Core.List.{List, [], _∷_, _++_, append-nil}
+use mathlib.Core.Logic.{inl, inr, ⊎-elim}
 use mathlib.Core.Option.{none as nothing}
-use Prim.Native.Nat.{ℕ, _+_, _*_, _^_, _<_, _≤_}
-use native.Mathlib.Numerals.{add-one}
+use Prim.Native.Nat.{ℕ, zero, suc, _+_, _*_, _^_, _<_, _≤_}
+use native.Mathlib.Nat.{eq-or-lt-of-le}
 use native.Mathlib.Omega.{arith}
 use lib.Dec.{eqb}
-use lib.ListN.{length, drop, getD, drop-of-length-le}
-use lib.Seq.{drop-cons}
+use lib.ListN.{length, getD}
 use types.Run.{OneOf}
 use denote.Enum.Declared.{tagOf}
+use Rattle.laws.specs.Chain.{linkTo}
 use Rattle.laws.specs.Fix.{pick}
+use Rattle.laws.proofs.ChainLaws.{link-within, link-here, link-above, link-falls}
+use Rattle.laws.proofs.Tests.{tested, and-left, and-right}
 use Rattle.records.specs.declared.convert_error.ConvertError.{ConvertError}
 use Rattle.records.specs.Words.{byteAt, wordAt, wordOf, textAt, records, A}
-use Rattle.records.specs.Kinds.{kindName, kindCall}
+use Rattle.records.specs.Kinds.{kindCall}
 use Rattle.records.specs.Good.{Good}
 use Rattle.records.proofs.GoodLaws.{inside, call-a, call-c}
 use Rattle.syntax.specs.Syntax.{Text, Function, Program}
@@ -35,138 +37,227 @@ use Rattle.expressions.specs.declared.answers.Resolved.{Resolved}
 use Rattle.expressions.specs.declared.answers.Resolved.the-variants as Resolved
 use Rattle.expressions.specs.declared.arguments.Call.{Call}
 use Rattle.syntax.specs.Places.{IsKind, TypeAt, FunctionAt, ArgsAt, functionOf, argsAt}
-use Rattle.keys.specs.Keys.{functionPlaces, functionsOf, allKeys, Keyed, functionFound, FunctionFound}
+use Rattle.keys.specs.Keys.{recordsBelow, functionsOf, allKeys, keySlotAt, nameHeadAt, isFunction, nameBucket, Keyed, functionFound, FunctionFound}
 use Rattle.expressions.specs.Slots.{slotted, ArgsTyped}
 use Rattle.expressions.specs.Calls.{typedAt, verbOf, CallAt, Called}
 use Rattle.expressions.proofs.OriginalLaws.{kind-has}
 use Rattle.syntax.proofs.Records.{name-record, function-name}
-use Rattle.texts.specs.Texts.{hasText, hasOwn, original, originalAt, Numbered}
+use Rattle.texts.specs.Texts.{hasText, original, originalAt, Numbered}
 use Rattle.texts.proofs.TextLaws.{same-numbers}
 use Rattle.expressions.specs.Answers.{refusal, castResult, foundNumber, calleeOf, IsCast, CastIs, IsCallee, CalleeIs, CandidatesAre, AreAll, OneFunction, nobody, one, several}
 use Rattle.expressions.proofs.answers.Candidates.{the-type}
-use Rattle.keys.proofs.FunctionLaws.{found-function, all-functions}
-use borrow.Author.Tests.{not-true, not-false, eq-eqb, ne-eqb}
-
--- ---- three tests, one after the other
-
--- the first says whether two numbers are the same
-module _ (a b c : Bool) (o v : ℕ) (h : a ≡ eqb o v) where
-  pub first-fails : (o ≡ v → ⊥) → false ≡ (a && b && c)
-  first-fails n = rw (h, ne-eqb o v n)
-
-  module _ (q : o ≡ v) (m : Bool) (g : m ≡ b) where
-    pub second-fails : not m ≡ true → false ≡ (a && b && c)
-    second-fails p = rw (h, eq-eqb o v q, sym g, not-true m p)
-
-    pub third-tells : not m ≡ false → (t : Bool) → t ≡ c → t ≡ (a && b && c)
-    third-tells p t e = rw (h, eq-eqb o v q, sym g, not-false m p) e
-
--- the numbers of the function's name and of the verb tell whether the texts are the same
-module _ (tree text s : List ℕ) (c : Call) (h : Called tree text s c) (numbered : Numbered tree text s) (f : ℕ) (at : FunctionAt tree f) where
-  pub name-inside : f * 32 + 32 ≤ length tree
-  name-inside = inside tree text (h .argued .good) f (at .below)
-
-  name-has : hasOwn tree (wordOf tree f A) ≡ true
-  unfolding hasText
-  name-has = kind-has tree kindName (wordOf tree f A) refl (name-record tree text (h .argued .good) f at .kind)
-
-  module _ (r : ℕ) (er : r ≡ wordOf tree f A) where
-    pub number-inside : originalAt (records tree) r + 4 ≤ length s
-    number-inside = omega (arith, er, name-record tree text (h .argued .good) f at .below, h .argued .room)
-
-    pub same-name : (o : ℕ) → o ≡ wordAt s (originalAt (records tree) r) → sameText (functionOf tree text f .name) (verbOf tree text s c) ≡ eqb o (c .verb)
-    unfolding textOf
-    same-name o eo =
-        let q = h .numbered in
-        let n = name-record tree text (h .argued .good) f at in
-        rw (function-name tree text (h .argued .good) f at, ← q .text-is, eo ∙ ap (λ (x : ℕ). wordAt s (originalAt (records tree) x)) er ∙ numbered .number (wordOf tree f A) (n .below) name-has, q .number)
-        (same-numbers tree text (wordOf tree f A) (q .of) (n .below) (q .below) name-has (q .has-text))
+use Rattle.keys.proofs.ChainLaws.{name-has, function-here, name-bucket-is, name-bucket-here}
+use Rattle.keys.proofs.FunctionLaws.{found-function, all-functions, functions-append}
+use Rattle.expressions.proofs.ExactLaws.{verb-below}
+use borrow.Author.Tests.{not-true, not-false, eq-eqb, eqb-true}
 
 -- ---- the functions that literals fit
 
-module _ (P : Program) (K : Functions) (verb : Text) (l : List TypedArg) (f : Function) (fs : List Function) where
-  by-hit : (sameText (f .name) verb && is-mangled f && takesBoth P K f l) ≡ true → byLiterals P K verb l (f ∷ fs) ≡ f ∷ byLiterals P K verb l fs
-  unfolding byLiterals pick
-  by-hit e = rw e
+-- the numbers of the function's name and of the verb tell whether the texts are the same
+module _ (tree text s : List ℕ) (c : Call) (h : Called tree text s c) (f : ℕ) (at : FunctionAt tree f) where
+  same-name : sameText (functionOf tree text f .name) (verbOf tree text s c) ≡ eqb (original tree text (wordOf tree f A)) (c .verb)
+  unfolding textOf
+  same-name =
+      let q = h .numbered in
+      let good = h .argued .good in
+      rw (function-name tree text good f at, ← q .text-is, q .number)
+      (same-numbers tree text (wordOf tree f A) (q .of) (name-record tree text good f at .below) (q .below) (name-has tree text good f at) (q .has-text))
 
-  by-miss : (sameText (f .name) verb && is-mangled f && takesBoth P K f l) ≡ false → byLiterals P K verb l (f ∷ fs) ≡ byLiterals P K verb l fs
-  unfolding byLiterals pick
-  by-miss e = rw e
+by-append : (P : Program) (K : Functions) (verb : Text) (l : List TypedArg) (a b : List Function) → byLiterals P K verb l (a ++ b) ≡ byLiterals P K verb l a ++ byLiterals P K verb l b
+unfolding byLiterals pick
+by-append P K verb l [] b = refl
+by-append P K verb l (f ∷ a) b = go (sameText (f .name) verb && is-mangled f && takesBoth P K f l) (by-append P K verb l a b)
+  where
+    go : (x : Bool) → byLiterals P K verb l (a ++ b) ≡ byLiterals P K verb l a ++ byLiterals P K verb l b
+        → pick x (f ∷ byLiterals P K verb l (a ++ b)) (byLiterals P K verb l (a ++ b)) ≡ pick x (f ∷ byLiterals P K verb l a) (byLiterals P K verb l a) ++ byLiterals P K verb l b
+    go true e = ap (f ∷_) e
+    go false e = e
 
--- of all, what was found so far and what is left
+-- of all, what was found so far, and what is left before it
 pub data SoFar (tree text : List ℕ) (all rest : List Function) : Candidates → Type 0 where
   nobody-yet : all ≡ rest → SoFar tree text all rest Candidates.Nobody
-  one-yet : {f : ℕ} → FunctionAt tree f → all ≡ functionOf tree text f ∷ rest → SoFar tree text all rest (Candidates.One f)
+  one-yet : {f : ℕ} → FunctionAt tree f → all ≡ rest ++ (functionOf tree text f ∷ []) → SoFar tree text all rest (Candidates.One f)
 
 module _ (tree text : List ℕ) (verb : Text) (l : List TypedArg) where
-  -- those from the j-th function on
-  unfoldable pub literalsFrom : ℕ → List Function
-  literalsFrom j = byLiterals (program tree text) (allKeys tree text) verb l (functionsOf tree text (drop j (functionPlaces tree)))
+  abbrev fitting : List Function → List Function
+  fitting = byLiterals (program tree text) (allKeys tree text) verb l
+
+  -- those among the first r records
+  unfoldable pub literalsBelow : ℕ → List Function
+  literalsBelow r = fitting (functionsOf tree text (recordsBelow tree r))
 
   -- whether the function of record f is one of them
-  abbrev pub isOne : ℕ → Bool
+  abbrev isOne : ℕ → Bool
   isOne f = sameText (functionOf tree text f .name) verb && is-mangled (functionOf tree text f) && takesBoth (program tree text) (allKeys tree text) (functionOf tree text f) l
 
   abbrev pub everyOne : List Function
   everyOne = find-functions-by-literals (program tree text) (allKeys tree text) verb l
 
-  pub nobody-first : SoFar tree text everyOne (literalsFrom 0) Candidates.Nobody
-  unfolding find-functions-by-literals literalsFrom
-  nobody-first = nobody-yet (ap (byLiterals (program tree text) (allKeys tree text) verb l) (all-functions tree text))
+  every-one : everyOne ≡ literalsBelow (records tree)
+  unfolding find-functions-by-literals literalsBelow
+  every-one = ap fitting (all-functions tree text)
 
-  module _ (j f : ℕ) (h : j < length (functionPlaces tree)) (e : f ≡ getD (functionPlaces tree) j 0) where
-    listed-from : drop j (functionPlaces tree) ≡ f ∷ drop (j + 1) (functionPlaces tree)
-    listed-from = drop-cons (functionPlaces tree) j 0 h ∙ rw (e, add-one j)
+  below-one : (r : ℕ) → literalsBelow (suc r) ≡ literalsBelow r ++ fitting (functionsOf tree text (pick (isFunction tree r) (r ∷ []) []))
+  unfolding literalsBelow recordsBelow
+  below-one r =
+      ap fitting (functions-append tree text (recordsBelow tree r) (pick (isFunction tree r) (r ∷ []) []))
+      ∙ by-append (program tree text) (allKeys tree text) verb l (functionsOf tree text (recordsBelow tree r)) (functionsOf tree text (pick (isFunction tree r) (r ∷ []) []))
 
-    from-is : literalsFrom j ≡ byLiterals (program tree text) (allKeys tree text) verb l (functionOf tree text f ∷ functionsOf tree text (drop (j + 1) (functionPlaces tree)))
-    unfolding literalsFrom functionsOf
-    from-is = ap (λ (x : List ℕ). byLiterals (program tree text) (allKeys tree text) verb l (functionsOf tree text x)) listed-from
+  below-hit : (r : ℕ) → isFunction tree r ≡ true → isOne r ≡ true → literalsBelow (suc r) ≡ literalsBelow r ++ (functionOf tree text r ∷ [])
+  unfolding functionsOf byLiterals pick
+  below-hit r t e = below-one r ∙ rw (t, e) refl
 
-    from-hit : (b : Bool) → b ≡ isOne f → b ≡ true → literalsFrom j ≡ functionOf tree text f ∷ literalsFrom (j + 1)
-    unfolding literalsFrom
-    from-hit b q t = from-is ∙ by-hit (program tree text) (allKeys tree text) verb l (functionOf tree text f) _ (sym q ∙ t)
+  below-miss : (r : ℕ) → (isFunction tree r && isOne r) ≡ false → literalsBelow (suc r) ≡ literalsBelow r
+  unfolding functionsOf byLiterals pick
+  below-miss r e = below-one r ∙ ap (λ (x : List Function). literalsBelow r ++ x) (go (isFunction tree r) e) ∙ append-nil (literalsBelow r)
+    where
+      go : (b : Bool) → (b && isOne r) ≡ false → fitting (functionsOf tree text (pick b (r ∷ []) [])) ≡ []
+      go true q = rw q refl
+      go false q = refl
 
-    from-miss : (b : Bool) → b ≡ isOne f → b ≡ false → literalsFrom j ≡ literalsFrom (j + 1)
-    unfolding literalsFrom
-    from-miss b q t = from-is ∙ by-miss (program tree text) (allKeys tree text) verb l (functionOf tree text f) _ (sym q ∙ t)
+  -- none from v on is one of them
+  below-flat : (v r : ℕ) → v ≤ r → ((i : ℕ) → v ≤ i → i < r → (isFunction tree i && isOne i) ≡ false) → literalsBelow r ≡ literalsBelow v
+  below-flat v zero h none = let q : v ≡ 0 = omega arith in rw q refl
+  below-flat v (suc r) h none =
+      ⊎-elim
+      (λ (q : v ≡ suc r). rw q refl)
+      (λ (k : v < suc r).
+      below-miss r (none r (omega arith) (omega arith)) ∙ below-flat v r (omega arith) (λ i a b. none i a (omega arith)))
+      (eq-or-lt-of-le h)
 
-  from-end : (j : ℕ) → length (functionPlaces tree) ≤ j → literalsFrom j ≡ []
-  unfolding literalsFrom functionsOf byLiterals
-  from-end j h = ap (λ (x : List ℕ). byLiterals (program tree text) (allKeys tree text) verb l (functionsOf tree text x)) (drop-of-length-le (functionPlaces tree) h)
+-- two functions at the end are several
+two-found : (tree text : List ℕ) (l : List Function) (f g : Function) → AreAll tree text Candidates.Several ((l ++ (f ∷ [])) ++ (g ∷ []))
+unfolding AreAll
+two-found tree text [] f g = tt
+two-found tree text (x ∷ []) f g = tt
+two-found tree text (x ∷ y ∷ l) f g = tt
 
-  -- as the code meets them: f is the j-th listed record
-  module _ (s : List ℕ) (count : ℕ) (k : Keyed tree text s count) (j f : ℕ) (h : j < count) (e : f ≡ wordAt s (4 * j)) (b : Bool) (q : b ≡ isOne f) where
-    is-listed : f ≡ getD (functionPlaces tree) j 0
-    is-listed = e ∙ k .listed .listed j h
+-- the walk along the chain of the verb's number stands at v: those found are all from there on
+pub record NameWalk (tree text s : List ℕ) (c : Call) (v : ℕ) (found : Candidates) : Type 0 where
+  pub within : v ≤ records tree
+  pub here : (k : ℕ) → v ≡ suc k → nameBucket tree text k ≡ c .verb
+  pub so-far : SoFar tree text (everyOne tree text (verbOf tree text s c) (typedAt tree text s (c .first))) (literalsBelow tree text (verbOf tree text s c) (typedAt tree text s (c .first)) v) found
 
-    inside-list : j < length (functionPlaces tree)
-    inside-list = omega (arith, k .listed .counted)
+module _ (tree text s : List ℕ) (count : ℕ) (K : Keyed tree text s count) (c : Call) (h : Called tree text s c) where
+  abbrev verb : Text
+  verb = verbOf tree text s c
 
-    pub second-one : (found : Candidates) (g : ℕ) → SoFar tree text everyOne (literalsFrom j) found → found ≡ Candidates.One g → b ≡ true
-        → CandidatesAre tree text Candidates.Several everyOne
-    unfolding AreAll
-    second-one found g (nobody-yet w) o t = absurd (let z : _≡_ {A = ℕ} 0 1 = cc in omega arith)
-    second-one found g (one-yet at w) o t = record { are = rw (w, from-hit j f inside-list is-listed b q t) tt; function = several }
+  abbrev given : List TypedArg
+  given = typedAt tree text s (c .first)
 
-    pub first-one : FunctionAt tree f → (found new : Candidates) → SoFar tree text everyOne (literalsFrom j) found → OneOf (0 ∷ 2 ∷ []) (tagOf the-type found) → b ≡ true
-        → new ≡ Candidates.One f → SoFar tree text everyOne (literalsFrom (j + 1)) new
-    first-one at found new (nobody-yet w) o t n = rw n (one-yet at (w ∙ from-hit j f inside-list is-listed b q t))
-    first-one at found new (one-yet a w) (inl o) t n = absurd (let z : _≡_ {A = ℕ} 1 0 = o in omega arith)
-    first-one at found new (one-yet a w) (inr o) t n = absurd (let z : _≡_ {A = ℕ} 1 2 = o in omega arith)
+  abbrev every : List Function
+  every = everyOne tree text verb given
 
-    pub passed-one : (found new : Candidates) → SoFar tree text everyOne (literalsFrom j) found → b ≡ false → new ≡ found → SoFar tree text everyOne (literalsFrom (j + 1)) new
-    passed-one found new (nobody-yet w) t n = rw n (nobody-yet (w ∙ from-miss j f inside-list is-listed b q t))
-    passed-one found new (one-yet {f = g} a w) t n =
-        rw n (one-yet a (w ∙ ap (λ (x : List Function). functionOf tree text g ∷ x) (from-miss j f inside-list is-listed b q t)))
+  abbrev before : ℕ → List Function
+  before = literalsBelow tree text verb given
 
-  pub no-more : (s : List ℕ) (count : ℕ) → Keyed tree text s count → (j : ℕ) (found : Candidates) → count ≤ j → SoFar tree text everyOne (literalsFrom j) found
-      → CandidatesAre tree text found everyOne
-  unfolding AreAll
-  no-more s count k j found h (nobody-yet w) = record { are = w ∙ from-end j (omega (arith, k .listed .counted)); function = nobody }
-  no-more s count k j found h (one-yet {f = g} a w) = record {
-    are = w ∙ ap (λ (x : List Function). functionOf tree text g ∷ x) (from-end j (omega (arith, k .listed .counted)));
-    function = one a;
-  }
+  -- one that fits is in the chain
+  fits-chained : (i : ℕ) → i < records tree → (isFunction tree i && isOne tree text verb given i) ≡ true → nameBucket tree text i ≡ c .verb
+  fits-chained i k e =
+      let t : isFunction tree i ≡ true = and-left (isFunction tree i) _ e in
+      let one : isOne tree text verb given i ≡ true = and-right (isFunction tree i) _ e in
+      let both : (sameText (functionOf tree text i .name) verb && is-mangled (functionOf tree text i)) ≡ true =
+      and-left (sameText (functionOf tree text i .name) verb && is-mangled (functionOf tree text i)) _ one in
+      let name : sameText (functionOf tree text i .name) verb ≡ true = and-left (sameText (functionOf tree text i .name) verb) _ both in
+      let mangled : is-mangled (functionOf tree text i) ≡ true = and-right (sameText (functionOf tree text i .name) verb) _ both in
+      name-bucket-is tree text i t mangled
+      ∙ eqb-true (original tree text (wordOf tree i A)) (c .verb) (sym (same-name tree text s c h i (function-here tree text i k t)) ∙ name)
+
+  -- so none is left out between a number and the next of the chain
+  skipped : (r u : ℕ) → r ≤ records tree → u ≡ linkTo (nameBucket tree text) r (c .verb) → before r ≡ before u
+  skipped r u k e =
+      below-flat tree text verb given u r (link-within (nameBucket tree text) r (c .verb) u e)
+      (λ i a b.
+      tested (isFunction tree i && isOne tree text verb given i)
+      (λ t. absurd (link-above (nameBucket tree text) r (c .verb) u i e a b (fits-chained i (omega arith) t)))
+      (λ t. t))
+
+  pub name-start : (v : ℕ) → v ≡ wordAt s (nameHeadAt (records tree) (c .verb)) → NameWalk tree text s c v Candidates.Nobody
+  name-start v e =
+      let link : v ≡ linkTo (nameBucket tree text) (records tree) (c .verb) = e ∙ K .by-name .heads (c .verb) (verb-below tree text s c h) in
+      record {
+        within = link-within (nameBucket tree text) (records tree) (c .verb) v link;
+        here = λ k z. link-here (nameBucket tree text) (records tree) (c .verb) v k link z;
+        so-far = nobody-yet (every-one tree text verb given ∙ skipped (records tree) v (omega arith) link);
+      }
+
+  pub name-end : (v : ℕ) (found : Candidates) → v ≤ 0 → NameWalk tree text s c v found → CandidatesAre tree text found every
+  unfolding AreAll literalsBelow recordsBelow functionsOf byLiterals
+  name-end v found z w = go found (w .so-far)
+    where
+      empty : before v ≡ []
+      empty = let q : v ≡ 0 = omega arith in rw q refl
+
+      go : (found : Candidates) → SoFar tree text every (before v) found → CandidatesAre tree text found every
+      go found (nobody-yet e) = record { are = e ∙ empty; function = nobody }
+      go found (one-yet {f = g} a e) = record { are = e ∙ ap (λ (x : List Function). x ++ (functionOf tree text g ∷ [])) empty; function = one a }
+
+  -- the walk stands one past k
+  module _ (v k : ℕ) (found : Candidates) (w : NameWalk tree text s c v found) (z : v ≡ suc k) where
+    name-below : k < records tree
+    name-below = omega (arith, w .within)
+
+    in-chain : nameBucket tree text k < records tree
+    in-chain = omega (arith, w .here k z, verb-below tree text s c h)
+
+    pub name-function : FunctionAt tree k
+    name-function = function-here tree text k name-below (name-bucket-here tree text k in-chain .0)
+
+    pub name-less : (u : ℕ) → u ≡ wordAt s (keySlotAt (records tree) k) → u < v
+    name-less u e = omega (arith, link-falls (nameBucket tree text) k u (e ∙ K .by-name .links k name-below in-chain))
+
+    one-is : (b : Bool) → b ≡ takesBoth (program tree text) (allKeys tree text) (functionOf tree text k) given → isOne tree text verb given k ≡ b
+    one-is b e =
+        let here = name-bucket-here tree text k in-chain in
+        let number : original tree text (wordOf tree k A) ≡ c .verb = sym (name-bucket-is tree text k (here .0) (here .1)) ∙ w .here k z in
+        rw (same-name tree text s c h k name-function, eq-eqb (original tree text (wordOf tree k A)) (c .verb) number, here .1) (sym e)
+
+    this : (b : Bool) → b ≡ takesBoth (program tree text) (allKeys tree text) (functionOf tree text k) given → b ≡ true → before v ≡ before k ++ (functionOf tree text k ∷ [])
+    this b e t = rw z (below-hit tree text verb given k (name-bucket-here tree text k in-chain .0) (one-is b e ∙ t))
+
+    other : (b : Bool) → b ≡ takesBoth (program tree text) (allKeys tree text) (functionOf tree text k) given → b ≡ false → before v ≡ before k
+    other b e t = rw z (below-miss tree text verb given k (rw (name-bucket-here tree text k in-chain .0) (one-is b e ∙ t)))
+
+    pub second-one : (b : Bool) → b ≡ takesBoth (program tree text) (allKeys tree text) (functionOf tree text k) given → b ≡ true → (g : ℕ) → found ≡ Candidates.One g
+        → CandidatesAre tree text Candidates.Several every
+    second-one b e t g o = go found (w .so-far) o
+      where
+        go : (found : Candidates) → SoFar tree text every (before v) found → found ≡ Candidates.One g → CandidatesAre tree text Candidates.Several every
+        go found (nobody-yet q) o = absurd (let y : _≡_ {A = ℕ} 0 1 = cc in omega arith)
+        go found (one-yet {f = f} a q) o =
+            record { are = rw (q, this b e t) (two-found tree text (before k) (functionOf tree text k) (functionOf tree text f)); function = several }
+
+    module _ (b : Bool) (e : b ≡ takesBoth (program tree text) (allKeys tree text) (functionOf tree text k) given) (u : ℕ) (eu : u ≡ wordAt s (keySlotAt (records tree) k)) where
+      link : u ≡ linkTo (nameBucket tree text) k (nameBucket tree text k)
+      link = eu ∙ K .by-name .links k name-below in-chain
+
+      link-verb : u ≡ linkTo (nameBucket tree text) k (c .verb)
+      link-verb = link ∙ ap (linkTo (nameBucket tree text) k) (w .here k z)
+
+      next : before k ≡ before u
+      next = skipped k u (omega (arith, name-below)) link-verb
+
+      walks : (new : Candidates) → SoFar tree text every (before u) new → NameWalk tree text s c u new
+      walks new so = record {
+        within = omega (arith, link-falls (nameBucket tree text) k u link, name-below);
+        here = λ j y. link-here (nameBucket tree text) k (c .verb) u j link-verb y;
+        so-far = so;
+      }
+
+      pub first-one : (new : Candidates) → OneOf (0 ∷ 2 ∷ []) (tagOf the-type found) → b ≡ true → new ≡ Candidates.One k → NameWalk tree text s c u new
+      first-one new o t n = walks new (go found (w .so-far) o)
+        where
+          go : (found : Candidates) → SoFar tree text every (before v) found → OneOf (0 ∷ 2 ∷ []) (tagOf the-type found) → SoFar tree text every (before u) new
+          go found (nobody-yet q) o = rw n (one-yet name-function (q ∙ this b e t ∙ ap (λ (x : List Function). x ++ (functionOf tree text k ∷ [])) next))
+          go found (one-yet a q) (inl o) = absurd (let y : _≡_ {A = ℕ} 1 0 = o in omega arith)
+          go found (one-yet a q) (inr o) = absurd (let y : _≡_ {A = ℕ} 1 2 = o in omega arith)
+
+      pub passed-one : (new : Candidates) → b ≡ false → new ≡ found → NameWalk tree text s c u new
+      passed-one new t n = walks new (rw n (go found (w .so-far)))
+        where
+          go : (found : Candidates) → SoFar tree text every (before v) found → SoFar tree text every (before u) found
+          go found (nobody-yet q) = nobody-yet (q ∙ other b e t ∙ next)
+          go found (one-yet {f = f} a q) = one-yet a (q ∙ ap (λ (x : List Function). x ++ (functionOf tree text f ∷ [])) (other b e t ∙ next))
 
 -- ---- the cast
 

@@ -1,15 +1,14 @@
 -- The function of a verb and its arguments: by the verb, by a whole name, and these and the longest prefix one after the other, as the code looks for them.
--- What was asked equals what is left from function j on. Assumes nothing.
+-- By the laws of a key looked for and of what a walk along its chain finds. Assumes nothing.
 use mathlib.Core.Path.{_≡_, refl, sym, ap, _∙_}
 use mathlib.Core.Bool.{Bool, true, false}
-use mathlib.Core.List.{List, [], _∷_}
+use mathlib.Core.List.{List, []}
 use mathlib.Core.Option.{Option, none, some}
-use Prim.Native.Nat.{ℕ, _+_, _-_, _*_, _≤_, _<_}
+use Prim.Native.Nat.{ℕ, _+_, _-_, _≤_, _<_}
 use native.Mathlib.Omega.{arith}
 use lib.ListN.{length, take}
 use Rattle.laws.specs.Below.{orElse}
 use Rattle.laws.specs.Fix.{pick}
-use Rattle.laws.proofs.Tests.{tested}
 use Rattle.records.specs.Digest.{rollOf}
 use Rattle.records.specs.Words.{textAt, wordAt, records}
 use Rattle.syntax.specs.Syntax.{Text, Function}
@@ -26,12 +25,10 @@ use Rattle.syntax.specs.Places.{FunctionAt, functionOf}
 use Rattle.keys.specs.Parts.{PartIs}
 use Rattle.texts.specs.Texts.{textDigestAt, Numbered}
 use Rattle.texts.proofs.TextLaws.{original-below, original-digest}
-use Rattle.keys.specs.Keys.{functionKey, keyed, allKeys, Keyed, keyDigestAt, FindsKey, functionFound, FunctionFound, FunctionIs, a-function, no-function}
+use Rattle.keys.specs.Keys.{functionKey, allKeys, Keyed, FindsKey, functionFound, FunctionFound, FunctionIs, a-function, no-function}
 use Rattle.expressions.specs.Calls.{typedAt, suffixesAt, verbOf, nameOf, bytesIn, Called}
 use Rattle.keys.proofs.FunctionLaws.{found-function}
-use Rattle.keys.proofs.KeySearch.{records-most}
-use Rattle.keys.proofs.KeyLaws.{find-hit, find-miss, recordAt, from, from-start, from-one, from-end}
-use Rattle.expressions.proofs.NameLaws.{same-is, same-turned, part-length, name-length, name-pieces, all-taken}
+use Rattle.expressions.proofs.NameLaws.{same-turned, part-length, name-length, name-pieces, all-taken}
 
 -- ---- an answer, and what it stands for
 
@@ -94,15 +91,7 @@ module _ (tree text s : List ℕ) (c : Call) where
 -- ---- by the verb, and by the whole name
 
 module _ (tree text : List ℕ) (t : Text) where
-  -- what was asked equals what is left from function j on
-  abbrev pub KeyLeft : ℕ → Type 0
-  KeyLeft j = getFunction t (allKeys tree text) ≡ getFunction t (keyed (from tree text j))
-
-  pub key-start : KeyLeft 0
-  unfolding allKeys
-  key-start = ap (λ (l : List Function). getFunction t (keyed l)) (from-start tree text)
-
-  -- the same, where the function has to be mangled
+  -- what was found by a key, where it has to be mangled
   pub name-found : (r : Found) (f : Function) → getFunction t (allKeys tree text) ≡ some f
       → FunctionIs tree text r (filterOption is-mangled (some f))
       → FunctionIs tree text r (mangledFunction (program tree text) (allKeys tree text) t)
@@ -150,58 +139,16 @@ module _ (tree text s : List ℕ) (c : Call) (h : Called tree text s c) where
     unfolding functionFound
     verb-missing e = name-nowhere tree text (nameOf tree text s c (c .count)) (whole-is ∙ ap (functionFound tree text) e)
 
-module _ (tree text s : List ℕ) (count : ℕ) (K : Keyed tree text s count) where
-  pub key-end : (t : Text) (j : ℕ) → count ≤ j → KeyLeft tree text t j → getFunction t (allKeys tree text) ≡ none
-  unfolding getFunction keyed
-  key-end t j h w = w ∙ ap (λ (l : List Function). getFunction t (keyed l)) (from-end tree text j (omega (arith, K .listed .counted)))
+-- a function's key, as the code compares it with the text that is looked for
+module _ (tree text : List ℕ) (t : Text) (f : ℕ) (p : Part) (is : PartIs text p (functionKey (functionOf tree text f))) where
+  key-size : length (functionKey (functionOf tree text f)) ≡ p .len
+  key-size = sym (ap length (is .is)) ∙ part-length text (p .offset) (p .len) (is .inside)
 
-  -- the digest of the key of function j lies in the scratch
-  pub digest-room : (j : ℕ) → j < count → keyDigestAt (records tree) j + 4 ≤ length s
-  digest-room j h = omega (arith, K .listed .room, K .listed .counted, records-most tree (records tree))
+  pub key-told : (b c : Bool) → b ≡ sameText (textAt text (p .offset) (p .len)) t → b ≡ c → sameText t (functionKey (functionOf tree text f)) ≡ c
+  key-told b c e q = same-turned t (functionKey (functionOf tree text f)) ∙ ap (λ (x : Text). sameText x t) (sym (is .is)) ∙ sym e ∙ q
 
-  module _ (t : Text) (j f : ℕ) (below : j < count) (at : f ≡ wordAt s (4 * j)) (w : KeyLeft tree text t j) where
-    listed : f ≡ recordAt tree text j
-    listed = at ∙ K .listed .listed j below
-
-    here : getFunction t (allKeys tree text) ≡ getFunction t ((functionKey (functionOf tree text f), functionOf tree text f) ∷ keyed (from tree text (j + 1)))
-    unfolding keyed
-    here =
-        w ∙ ap (λ (l : List Function). getFunction t (keyed l)) (from-one tree text j (omega (arith, K .listed .counted)))
-        ∙ ap (λ (r : ℕ). getFunction t ((functionKey (functionOf tree text r), functionOf tree text r) ∷ keyed (from tree text (j + 1)))) (sym listed)
-
-    -- a key with another digest is another
-    pub key-skip : (x d : ℕ) → x ≡ wordAt s (keyDigestAt (records tree) j) → d ≡ rollOf t → (x ≡ d → ⊥) → KeyLeft tree text t (j + 1)
-    key-skip x d ex ed n =
-        here
-        ∙ find-miss t (functionKey (functionOf tree text f), functionOf tree text f) (keyed (from tree text (j + 1)))
-        (tested (sameText t (functionKey (functionOf tree text f)))
-        (λ y.
-        absurd
-        (n
-        (ex ∙ K .digests j below ∙ ap (λ (r : ℕ). rollOf (functionKey (functionOf tree text r))) (sym at) ∙ ap rollOf (sym (same-is t (functionKey (functionOf tree text f)) y)) ∙ sym ed)))
-        (λ y. y))
-
-  module _ (t : Text) (j f : ℕ) (p : Part) (below : j < count) (at : f ≡ wordAt s (4 * j)) (is : PartIs text p (functionKey (functionOf tree text f))) (w : KeyLeft tree text t j) where
-    this : getFunction t (allKeys tree text) ≡ getFunction t ((functionKey (functionOf tree text f), functionOf tree text f) ∷ keyed (from tree text (j + 1)))
-    this = here t j f below at w
-
-    pub key-size : length (functionKey (functionOf tree text f)) ≡ p .len
-    key-size = sym (ap length (is .is)) ∙ part-length text (p .offset) (p .len) (is .inside)
-
-    turned : (b : Bool) → b ≡ sameText (textAt text (p .offset) (p .len)) t → sameText t (functionKey (functionOf tree text f)) ≡ b
-    turned b e = same-turned t (functionKey (functionOf tree text f)) ∙ ap (λ (x : Text). sameText x t) (sym (is .is)) ∙ sym e
-
-    pub key-longer : (n : ℕ) → n ≡ length t → (p .len ≡ n → ⊥) → KeyLeft tree text t (j + 1)
-    key-longer n e d =
-        this
-        ∙ find-miss t (functionKey (functionOf tree text f), functionOf tree text f) (keyed (from tree text (j + 1)))
-        (sym (other-lengths t (functionKey (functionOf tree text f)) n (p .len) e (sym key-size) (λ q. d (sym q))))
-
-    pub key-other : (b : Bool) → b ≡ sameText (textAt text (p .offset) (p .len)) t → b ≡ false → KeyLeft tree text t (j + 1)
-    key-other b e q = this ∙ find-miss t (functionKey (functionOf tree text f), functionOf tree text f) (keyed (from tree text (j + 1))) (turned b e ∙ q)
-
-    pub key-hit : (b : Bool) → b ≡ sameText (textAt text (p .offset) (p .len)) t → b ≡ true → getFunction t (allKeys tree text) ≡ some (functionOf tree text f)
-    key-hit b e q = this ∙ find-hit t (functionKey (functionOf tree text f), functionOf tree text f) (keyed (from tree text (j + 1))) (turned b e ∙ q)
+  pub key-longer : (n : ℕ) → n ≡ length t → (p .len ≡ n → ⊥) → sameText t (functionKey (functionOf tree text f)) ≡ false
+  key-longer n e d = sym (other-lengths t (functionKey (functionOf tree text f)) n (p .len) e (sym key-size) (λ q. d (sym q)))
 
 -- ---- the three one after the other
 

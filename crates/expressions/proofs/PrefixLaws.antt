@@ -11,7 +11,7 @@ use lib.ListN.{length, take, drop, length-append}
 use Rattle.laws.specs.Below.{orElse}
 use Rattle.records.specs.Digest.{rollStep, rollFrom, rollOf}
 use Rattle.records.specs.Words as Words
-use Rattle.records.specs.Words.{textAt, wordOf, B}
+use Rattle.records.specs.Words.{textAt, wordOf, mostRecords, B}
 use Rattle.records.specs.declared.words.Found.{Found}
 use Rattle.records.specs.declared.words.Found.the-variants as Found
 use Rattle.records.specs.declared.shape.Role.the-variants.{Arguments}
@@ -127,7 +127,7 @@ pub record Prefixed (tree text s : List ℕ) (c : Call) (best : Found) (d size w
   pub small : d < 4294967291
   pub digest : d ≡ rollOf (nameOf tree text s c k)
   pub sized : size ≡ length (nameOf tree text s c k)
-  pub short : size + 4294967296 * left w ≤ 17592186044416
+  pub short : size + 4294967296 * left w ≤ 4294967296 * (mostRecords + 1)
   pub few : k ≤ size
   pub function : FunctionFound tree best
   pub asked : variadicFunction (program tree text) (allKeys tree text) (verbOf tree text s c) (suffixesAt tree text s (c .first))

@@ -16,14 +16,11 @@ use Rattle.scope.specs.Open.{nameSlotAt, scopeAt}
 use Rattle.records.proofs.Apart.{byte-apart, word-apart, word-there, word-same, word-back}
 use Rattle.scope.proofs.ScopeLaws.{Kept, scope-kept}
 use Rattle.syntax.specs.Places.{TypeAt}
-use Rattle.keys.specs.Keys.{Listed, keySlotAt, keyDigestAt, Keyed}
-use Rattle.keys.proofs.KeyDigestLaws.{digests-stay}
-use Rattle.keys.proofs.SlotLaws.{slots-stay}
-use Rattle.texts.specs.Texts.{originalAt, textDigestAt}
-use Rattle.texts.proofs.TextLaws.{numbered-stays}
+use Rattle.keys.specs.Keys.{Keyed}
+use Rattle.keys.proofs.ChainLaws.{keyed-kept}
+use Rattle.texts.specs.Texts.{originalAt}
 use Rattle.expressions.proofs.OriginalLaws.{original-stays}
 use Rattle.expressions.specs.Slots.{originalOf, Original, Scoped, Frame, Ready}
-use Rattle.keys.proofs.KeySearch.{records-most}
 
 -- ---- a word that is written
 
@@ -105,24 +102,8 @@ module _ (tree s s′ : List ℕ) (f : Frame tree s s′) where
       name-word : (j i p : ℕ) → j < sc .names → i ≤ 12 → p ≡ 8 * records tree + 16 * j + i → wordAt s′ p ≡ wordAt s p
       name-word j i p h l e = frame-word p (inr (omega arith, omega (arith, k .records-are, k .room .names-in)))
 
-  listed-frame : (count : ℕ) → Listed tree s count → Listed tree s′ count
-  listed-frame count k = record {
-    room = omega (arith, k .room, f .same-length);
-    counted = k .counted;
-    listed = λ j h. frame-word (4 * j) (inl (omega (arith, k .counted, records-most tree (records tree)))) ∙ k .listed j h;
-  }
-
   pub keyed-frame : (text : List ℕ) (count : ℕ) → Keyed tree text s count → Keyed tree text s′ count
-  keyed-frame text count k = record {
-    good = k .good;
-    numbered = numbered-stays tree text s s′ number-frame (λ r h. frame-word (textDigestAt (records tree) r) (inr (omega arith))) (k .numbered);
-    distinct = k .distinct;
-    listed = listed-frame count (k .listed);
-    slots = slots-stay tree text s s′ (λ o h. frame-word (keySlotAt (records tree) o) (inr (omega arith, omega arith))) _ (k .slots);
-    digests =
-        digests-stay tree text s s′ count (λ j h. frame-word (4 * j) (inl (omega (arith, k .listed .counted, records-most tree (records tree)))))
-        (λ j h. frame-word (keyDigestAt (records tree) j) (inr (omega arith, omega (arith, k .listed .counted, records-most tree (records tree))))) (k .digests);
-  }
+  keyed-frame text count = keyed-kept tree text s s′ count (f .same-length) (λ p h. frame-word p (inl h)) (λ p a b. frame-word p (inr (omega arith, omega arith)))
 
   pub ready-frame : (text : List ℕ) (count : ℕ) (sc : Scope) → Ready tree text s count sc → Ready tree text s′ count sc
   ready-frame text count sc k = record { keyed = keyed-frame text count (k .keyed); scoped = scoped-frame sc (k .scoped) }

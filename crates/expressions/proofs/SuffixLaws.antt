@@ -10,7 +10,7 @@ use lib.ListN.{length, take, drop, getD}
 use borrow.Author.Tests.{eqb-true, eqb-false, eq-eqb, ne-eqb}
 use Rattle.laws.proofs.Tests.{tested}
 use Rattle.records.specs.declared.shape.Role.the-variants.{Arguments}
-use Rattle.records.specs.Words.{byteAt, wordAt, wordOf, kindOf, textAt, records, none, A, B}
+use Rattle.records.specs.Words.{byteAt, wordAt, wordOf, kindOf, textAt, records, mostRecords, none, A, B}
 use Rattle.records.specs.Good.{Good}
 use Rattle.syntax.specs.Syntax.{Text, Expr, Args, Value, ToType, place}
 use Rattle.syntax.specs.Decode.{program, textOf, keyAt}
@@ -104,7 +104,7 @@ module _ (tree text s : List ℕ) where
 pub record Summed (tree text s : List ℕ) (first n w : ℕ) : Type 0 where
   pub argued : Argued tree text s w
   pub sum : bytesIn (suffixesAt tree text s first) ≡ n + bytesIn (suffixesAt tree text s w)
-  pub small : n + 4294967296 * left w ≤ 8796093022208
+  pub small : n + 4294967296 * left w ≤ 4294967296 * mostRecords
 
 module _ (tree text s : List ℕ) where
   pub sum-start : (first : ℕ) → Argued tree text s first → Summed tree text s first 0 first

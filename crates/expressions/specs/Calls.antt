@@ -1,7 +1,7 @@
 -- A call as the code holds it: its verb and its arguments, with their types in scratch. Assumes nothing: these are definitions.
 use mathlib.Core.Path.{_≡_}
 use Prim.Native.Nat.{ℕ, _+_, _*_, _≤_, _<_, _^_}
-use mathlib.Core.Bool.{Bool, true, _&&_}
+use mathlib.Core.Bool.{Bool, true}
 use mathlib.Core.Option.{Option, none}
 use mathlib.Core.List.{List, [], _∷_, _++_}
 use lib.ListN.{length, take}
@@ -11,8 +11,7 @@ use Rattle.records.specs.Good.{Good}
 use Rattle.syntax.specs.Syntax.{Text, Param, Function}
 use Rattle.syntax.specs.Decode.{program, textOf}
 use Rattle.conversion.specs.ConvertError.{Result}
-use Rattle.conversion.specs.Ir.{sameText}
-use Rattle.conversion.specs.Expressions.{TypedArg, Callee, suffixes, joined, takesArg, takes-args, takesBoth, variadicMark, is-mangled, filterOption, getFunction, mangledFunction, variadicFunction, find-exact-function, find-functions-by-literals, cast-type, resolveFunction, resolveTyped}
+use Rattle.conversion.specs.Expressions.{TypedArg, Callee, suffixes, joined, takesArg, takes-args, takesBoth, variadicMark, filterOption, getFunction, mangledFunction, variadicFunction, find-exact-function, find-functions-by-literals, cast-type, resolveFunction, resolveTyped}
 use Rattle.records.specs.declared.words.Found.{Found}
 use Rattle.records.specs.declared.words.Found.the-variants as Found
 use Rattle.expressions.specs.declared.arguments.Call.{Call}
@@ -121,10 +120,7 @@ module _ (tree text s : List ℕ) where
   abbrev pub exactly : Call → Option Function
   exactly c = find-exact-function (program tree text) (allKeys tree text) (verbOf c) (typedAt (c .first))
 
-  -- `find_functions_by_literals`, and its test of one function
-  abbrev pub isCandidate : Call → Function → Bool
-  isCandidate c f = sameText (f .name) (verbOf c) && is-mangled f && takesCall c f
-
+  -- `find_functions_by_literals`
   abbrev pub literalFits : Call → List Function
   literalFits c = find-functions-by-literals (program tree text) (allKeys tree text) (verbOf c) (typedAt (c .first))
 

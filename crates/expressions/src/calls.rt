@@ -2,15 +2,16 @@
 ghost use mathlib.Core.Path.{_≡_};
 ghost use Prim.Native.Nat.{_*_, _≤_};
 ghost use lib.ListN.{length};
+ghost use Rattle.records.specs.Layout.{scratchEach};
 ghost use Rattle.records.specs.Words as Words;
 ghost use Rattle.records.specs.Words.{records, wordOf};
 ghost use Rattle.records.specs.Kinds.{kindCall};
 ghost use Rattle.records.specs.Good.{Good};
-ghost use Rattle.syntax.specs.Places.{FunctionAt, IsKind, functionOf, argsAt};
+ghost use Rattle.syntax.specs.Places.{IsKind, argsAt};
 ghost use Rattle.texts.specs.Texts.{Numbered};
 ghost use Rattle.keys.specs.Keys.{Keyed};
 ghost use Rattle.expressions.specs.Slots.{ArgsTyped};
-ghost use Rattle.expressions.specs.Calls.{Called, CallAt, isCandidate, literalFits, castTypeOf, functionFor, resolvedAt};
+ghost use Rattle.expressions.specs.Calls.{Called, CallAt, literalFits, castTypeOf, functionFor, resolvedAt};
 ghost use Rattle.expressions.specs.Answers.{CandidatesAre, CastIs, CalleeIs};
 use crate::answers::Candidates;
 use crate::answers::Cast;
@@ -21,8 +22,8 @@ use crate::arguments::source_type;
 use crate::arguments::target_type;
 use crate::exact::find_exact_function;
 use crate::takes::takes_call;
-use keys::keys::function_at;
-use keys::keys::is_mangled;
+use keys::keys::name_before;
+use keys::keys::name_head;
 use keys::parts::Part;
 use keys::parts::is_cast_verb;
 use keys::parts::text_part;
@@ -35,22 +36,7 @@ use records::words::reference;
 use texts::original;
 use types::casts::can_cast;
 
-// A mangled function of the verb's name whose parameters take the arguments. Names are told by their numbers.
-fn is_candidate(tree: &[u8], text: &[u8], scratch: &[u8], call: Call, f: usize) -> bool
-    requires { ⌜ Called (now tree) (now text) (now scratch) call × Numbered (now tree) (now text) (now scratch) ⌝ }
-    requires { ⌜ FunctionAt (now tree) f ⌝ }
-    ensures { λ r. ⌜ r ≡ isCandidate (now (tree .entry)) (now (text .entry)) (now (scratch .entry)) call (functionOf (now (tree .entry)) (now (text .entry)) f) ⌝ }
-{
-    let verb = call.verb;
-    if original(scratch, tree.len() / 32, reference(tree, f, WORD_A)) != verb {
-        return false;
-    }
-    if !is_mangled(tree, text, f) {
-        return false;
-    }
-    takes_call(tree, text, scratch, f, call)
-}
-
+// The mangled functions of the verb's name whose parameters take the arguments: the chain of the name's number has no others.
 fn find_functions_by_literals(
     tree: &[u8],
     text: &[u8],
@@ -62,17 +48,18 @@ fn find_functions_by_literals(
     requires { ⌜ Called (now tree) (now text) (now scratch) call ⌝ }
     ensures { λ r. ⌜ CandidatesAre (now (tree .entry)) (now (text .entry)) r (literalFits (now (tree .entry)) (now (text .entry)) (now (scratch .entry)) call) ⌝ }
 {
+    let n = tree.len() / 32;
     let mut found = Candidates::Nobody;
-    let mut j = 0;
-    while j < functions {
-        let f = function_at(tree, scratch, functions, j);
-        if is_candidate(tree, text, scratch, call, f) {
+    let mut at = name_head(scratch, n, call.verb);
+    while at > 0 {
+        let f = at - 1;
+        if takes_call(tree, text, scratch, f, call) {
             if let Candidates::One(_) = found {
                 return Candidates::Several;
             }
             found = Candidates::One(f);
         }
-        j += 1;
+        at = name_before(scratch, n, f);
     }
     found
 }
@@ -138,7 +125,7 @@ fn resolve_function(
 
 // The call of record r, for its typed arguments.
 fn call_of(tree: &[u8], text: &[u8], scratch: &[u8], r: usize) -> Call
-    requires { ⌜ Good (now tree) (now text) × Numbered (now tree) (now text) (now scratch) × (72 * records (now tree) ≤ length (now scratch)) ⌝ }
+    requires { ⌜ Good (now tree) (now text) × Numbered (now tree) (now text) (now scratch) × (scratchEach * records (now tree) ≤ length (now scratch)) ⌝ }
     requires { ⌜ IsKind (now tree) kindCall r ⌝ }
     ensures { λ c. ⌜ CallAt (now (tree .entry)) (now (text .entry)) r c ⌝ }
 {

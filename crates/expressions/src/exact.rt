@@ -21,9 +21,9 @@ use crate::arguments::next_cell;
 use crate::arguments::type_key;
 use crate::takes::takes_call;
 use keys::keys::find_key;
-use keys::keys::function_at;
 use keys::keys::is_mangled;
-use keys::keys::key_digest;
+use keys::keys::key_before;
+use keys::keys::key_head;
 use keys::keys::key_of;
 use keys::parts::Part;
 use keys::parts::is_variadic_mark;
@@ -164,7 +164,8 @@ fn full_digest(tree: &[u8], text: &[u8], scratch: &[u8], call: Call) -> u32
     d
 }
 
-// The verb with `$` and the key text of each type. Keys that differ mostly differ in their digests, so few are compared.
+// The verb with `$` and the key text of each type: of the functions in its digest's bucket few have another digest, and of those with the digest few
+// another key.
 fn by_full_name(tree: &[u8], text: &[u8], scratch: &[u8], functions: usize, call: Call) -> Found
     requires { ⌜ Keyed (now tree) (now text) (now scratch) functions ⌝ }
     requires { ⌜ Called (now tree) (now text) (now scratch) call ⌝ }
@@ -174,10 +175,10 @@ fn by_full_name(tree: &[u8], text: &[u8], scratch: &[u8], functions: usize, call
     let length = full_length(tree, text, scratch, call);
     let digest = full_digest(tree, text, scratch, call);
     let count = call.count;
-    let mut j = 0;
-    while j < functions {
-        if key_digest(scratch, n, j) == digest {
-            let f = function_at(tree, scratch, functions, j);
+    let mut at = key_head(scratch, n, digest);
+    while at > 0 {
+        let f = at - 1;
+        if kept_digest(scratch, n, f) == digest {
             let key = key_of(tree, text, f);
             if key.len == length {
                 if is_name(tree, text, scratch, call, count, key) {
@@ -185,7 +186,7 @@ fn by_full_name(tree: &[u8], text: &[u8], scratch: &[u8], functions: usize, call
                 }
             }
         }
-        j += 1;
+        at = key_before(scratch, n, f);
     }
     Found::Nothing
 }
@@ -259,7 +260,7 @@ fn is_marked(
     is_name(tree, text, scratch, call, k, name)
 }
 
-// The verb with the first k suffixes, `size` bytes, and `$...` as a key.
+// The verb with the first k suffixes, `size` bytes, and `$...` as a key, looked for in the bucket of its digest.
 fn by_marked(
     tree: &[u8],
     text: &[u8],
@@ -276,16 +277,16 @@ fn by_marked(
     ensures { λ r. ⌜ FunctionIs (now (tree .entry)) (now (text .entry)) r (byMarked (now (tree .entry)) (now (text .entry)) (now (scratch .entry)) call k) ⌝ }
 {
     let n = tree.len() / 32;
-    let mut j = 0;
-    while j < functions {
-        if key_digest(scratch, n, j) == digest {
-            let f = function_at(tree, scratch, functions, j);
+    let mut at = key_head(scratch, n, digest);
+    while at > 0 {
+        let f = at - 1;
+        if kept_digest(scratch, n, f) == digest {
             let key = key_of(tree, text, f);
             if is_marked(tree, text, scratch, call, k, size, key) {
                 return mangled_only(tree, text, f);
             }
         }
-        j += 1;
+        at = key_before(scratch, n, f);
     }
     Found::Nothing
 }

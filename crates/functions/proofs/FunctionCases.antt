@@ -227,7 +227,7 @@ module _ (tree s s′ : List ℕ) (long : length s′ ≡ length s) (same : (i :
 
     texts-stay : (text : List ℕ) → Numbered tree text s → Numbered tree text s′
     texts-stay text =
-        numbered-stays tree text s s′ (λ r h. word-before (originalAt (records tree) r) (omega arith)) (λ r h. word-behind (textDigestAt (records tree) r) (omega arith))
+        numbered-stays tree text s s′ (λ r h t. word-before (originalAt (records tree) r) (omega arith)) (λ r h t. word-behind (textDigestAt (records tree) r) (omega arith))
 
 -- the functions are listed, and no slot is taken
 module _ (tree text s₀ : List ℕ) (count : ℕ) (good : Good tree text) (room : 72 * records tree ≤ length s₀) (s₁ s : List ℕ)

@@ -166,7 +166,7 @@ module _ (tree text s : List ℕ) (good : Good tree text) (room : 72 * records t
   unfolding listedIn
   still-numbered =
       numbered-stays tree text s (splice s 0 (words (functionPlaces tree)))
-      (λ r h. word-apart s 0 (words (functionPlaces tree)) inside-scratch (originalAt (records tree) r)
+      (λ r h t. word-apart s 0 (words (functionPlaces tree)) inside-scratch (originalAt (records tree) r)
       (inr (omega (arith, words-length (functionPlaces tree), records-most tree (records tree)))))
-      (λ r h. word-apart s 0 (words (functionPlaces tree)) inside-scratch (textDigestAt (records tree) r)
+      (λ r h t. word-apart s 0 (words (functionPlaces tree)) inside-scratch (textDigestAt (records tree) r)
       (inr (omega (arith, words-length (functionPlaces tree), records-most tree (records tree)))))

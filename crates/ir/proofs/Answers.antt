@@ -12,7 +12,7 @@ use Rattle.laws.specs.Splice.{splice}
 use Rattle.records.specs.Digest.{digestOf}
 use Rattle.records.specs.Words.{wordAt, textAt}
 use Rattle.conversion.specs.Ir as Ir
-use Rattle.conversion.specs.Ir.{State, LabelName, FloatEntry, emit, new-var, label-id, string-id, float-id, numbered, position, sameLabel, sameText, sameFloat}
+use Rattle.conversion.specs.Ir.{State, LabelName, StringEntry, FloatEntry, emit, new-var, label-id, string-id, float-id, numbered, position, sameLabel, sameFloat}
 use Rattle.conversion.specs.Written.{bytesOf, word, boolNumber, encodeInstr, encodeVar, encodeLabel, encodeString, encodeFloat, allVars, allLabels}
 use Rattle.conversion.proofs.Bytes.{instr-length, float-length}
 use Rattle.ir.specs.declared.structs.Counters.{Counters}
@@ -23,15 +23,15 @@ use Rattle.ir.specs.declared.structs.LabelNumber.{LabelNumber}
 use Rattle.ir.specs.declared.pool.PoolNumber.{PoolNumber}
 use Rattle.ir.specs.Instructions.{varOf, instrOf, fieldBytes}
 use Rattle.ir.specs.Amounts.{Amount, Spent}
-use Rattle.ir.specs.Arena.{encodeDigest, TablesSoFar, HasSlot, labelSlot, floatBucket, entryBucket, Holds, Room}
+use Rattle.ir.specs.Arena.{encodeDigest, TablesSoFar, HasSlot, labelSlot, floatBucket, entryBucket, digestBucket, stringBucket, sameString, Holds, Room}
 use Rattle.records.specs.declared.words.Found.{Found}
 use Rattle.records.specs.declared.words.Found.the-variants.{At, Nothing}
-use Rattle.ir.specs.Search.{first, foundOf, labelIs, stringIs, fourAt, Walks, headFor}
-use Rattle.ir.specs.Steps.{grown, Stands, Next, NextIn, moreInstructions, moreVariables, moreLabels, moreStrings, moreFloats, WroteTwo, WroteThree, Emits, AddsVar, named, NumbersLabel, entryOfString, NumbersString, NumbersFloat}
-use Rattle.ir.proofs.Entries.{written-length}
-use Rattle.ir.proofs.Kept.{withLabel, withString, withFloat, no-code, emit-holds, var-holds, slot-holds, label-holds, string-holds, float-holds, written-word}
-use Rattle.ir.proofs.ReadBack.{label-here, label-nowhere, strings-read, float-start, float-here, float-gone}
-use Rattle.ir.proofs.SearchLaws.{found-some, found-none}
+use Rattle.ir.specs.Search.{labelIs, stringIs, fourAt, Walks, floatHead, stringHead}
+use Rattle.ir.specs.Steps.{grown, Stands, Next, NextIn, moreInstructions, moreVariables, moreLabels, moreStrings, moreFloats, WroteTwo, WroteThree, WroteFour, Emits, AddsVar, named, NumbersLabel, entryOfString, NumbersString, NumbersFloat}
+use Rattle.ir.proofs.Entries.{written-length, written-word}
+use Rattle.ir.proofs.Kept.{withLabel, withString, withFloat, no-code, emit-holds, var-holds, slot-holds, label-holds, string-holds, float-holds}
+use Rattle.ir.proofs.LinkWrites.{LinkWritten, linked-length}
+use Rattle.ir.proofs.ReadBack.{label-here, label-nowhere, string-start, string-here, string-gone, float-start, float-here, float-gone}
 use Rattle.records.proofs.WordLaws.{wide-words}
 
 -- what the counters asked for would spend, these spend
@@ -141,47 +141,73 @@ module _ (kind opener : ℕ) (k : Counters) (l : List ℕ) (room : Room k l) (at
         entry = inl (m .1);
       }
 
--- ---- strings
+-- ---- strings, as the code meets them: what a walk from the head of its bucket answered
 
-module _ (text : List ℕ) (offset len d : ℕ) (ed : d ≡ digestOf (textAt text offset len)) (k : Counters) (l : List ℕ) (r : PoolNumber) (room : Room k l) where
-  pub string-found : (i : ℕ) → first (k .strings) (stringIs text l (k .records) d (textAt text offset len)) 0 ≡ some i → r .number ≡ i → r .counters ≡ k
-      → NumbersString text (entryOfString text offset len) k l r l
+module _ (text : List ℕ) (offset len d p v : ℕ) (k : Counters) (l : List ℕ) (a : Found) (room : Room k l) (ed : d ≡ digestOf (textAt text offset len))
+    (ep : (p ≡ digestBucket (k .records) d) × (p < k .records)) (ev : (v ≡ stringHead l (k .records) (k .strings) p) × (v ≤ k .strings))
+    (es : Walks (λ j. wordAt l (280 * k .records + 4 * j)) (stringIs text l (k .records) d (textAt text offset len)) v a) where
+  abbrev asked : StringEntry
+  asked = entryOfString text offset len
+
+  string-bucket-is : p ≡ stringBucket (k .records) asked
+  string-bucket-is = ep .0 ∙ ap (digestBucket (k .records)) ed
+
+  string-head-is : v ≡ stringHead l (k .records) (k .strings) (stringBucket (k .records) asked)
+  string-head-is = ev .0 ∙ ap (λ (b : ℕ). stringHead l (k .records) (k .strings) b) string-bucket-is
+
+  string-walked : (r : Found) → a ≡ r
+      → Walks (λ j. wordAt l (280 * k .records + 4 * j)) (stringIs text l (k .records) d (asked .text)) (stringHead l (k .records) (k .strings) (stringBucket (k .records) asked)) r
+  string-walked r q =
+      subst (λ (z : Found). Walks (λ j. wordAt l (280 * k .records + 4 * j)) (stringIs text l (k .records) d (asked .text))
+      (stringHead l (k .records) (k .strings) (stringBucket (k .records) asked)) z) q
+      (subst (λ (u : ℕ). Walks (λ j. wordAt l (280 * k .records + 4 * j)) (stringIs text l (k .records) d (asked .text)) u a) string-head-is es)
+
+  pub string-at : (r : PoolNumber) (i : ℕ) → a ≡ At i → r .number ≡ i → r .counters ≡ k → NumbersString text (entryOfString text offset len) k l r l
   unfolding string-id
-  string-found i q e ek = record {
-    next = subst (λ (k′ : Counters). NextIn text (string-id (entryOfString text offset len)) k l (r .number) k′ l) (sym ek) (record {
+  string-at r i q e ek = record {
+    next = subst (λ (k′ : Counters). NextIn text (string-id asked) k l (r .number) k′ l) (sym ek) (record {
       room = room;
       records = refl;
-      stands = λ t h. found text t k l room h (position (λ y. sameText (textAt text offset len) (y .text)) (t .state .strings))
-          (withString (entryOfString text offset len) (t .state)) (length (t .state .strings)) i (r .number) (sym (strings-read text t k l h (textAt text offset len) d ed) ∙ q) e;
+      stands = λ t h. found text t k l room h (position (sameString asked) (t .state .strings)) (withString asked (t .state)) (length (t .state .strings)) i (r .number)
+          (string-here text t k l h asked d ed i (string-walked (At i) q)) e;
     });
     spent = same-spent (omega arith) ek;
     entry = inr (record { counts = ek; same = refl });
   }
 
-  pub string-new : (l′ : List ℕ) → k .strings < k .records → offset < 2 ^ 32 → len < 2 ^ 32
-      → first (k .strings) (stringIs text l (k .records) d (textAt text offset len)) 0 ≡ none → r .number ≡ k .strings
-      → WroteTwo l (196 * k .records + 8 * k .strings) (word offset ++ word len) (236 * k .records + 4 * k .strings) (word d) (moreStrings k) (r .counters) l′
+  pub string-nowhere : (l′ : List ℕ) (r : PoolNumber) → k .strings < k .records → offset < 2 ^ 32 → len < 2 ^ 32 → a ≡ Nothing
+      → (r .number ≡ k .strings)
+      × WroteFour l (196 * k .records + 8 * k .strings) (word offset ++ word len) (236 * k .records + 4 * k .strings) (word d) (280 * k .records + 4 * k .strings) (word v)
+      (284 * k .records + 4 * p) (word (k .strings)) (moreStrings k) (r .counters) l′
       → NumbersString text (entryOfString text offset len) k l r l′
   unfolding string-id encodeString encodeDigest word bytesOf
-  string-new l′ small ho hn q en m =
-      let at : ℕ = 196 * k .records + 8 * k .strings in
-      let vs : List ℕ = encodeString (entryOfString text offset len) in
-      let at₂ : ℕ = 236 * k .records + 4 * k .strings in
-      let ds : List ℕ = encodeDigest (entryOfString text offset len) in
-      let e : l′ ≡ splice (splice l at vs) at₂ ds = m .wrote ∙ ap (λ (x : ℕ). splice (splice l at vs) at₂ (word x)) ed in
-      let first-long : length (splice l at vs) ≡ length l = written-length l at vs (splice l at vs) refl (omega (arith, room .arena)) in
-      let same : length l′ ≡ length l = written-length (splice l at vs) at₂ ds l′ e (omega (arith, room .arena, first-long)) ∙ first-long in record {
-        next = subst (λ (k′ : Counters). NextIn text (string-id (entryOfString text offset len)) k l (r .number) k′ l′) (sym (m .counts)) (record {
-          room = omega (arith, room, same);
+  string-nowhere l′ r small ho hn q m =
+      let n : ℕ = k .records in
+      let bucket : ℕ = stringBucket (k .records) asked in
+      let head : ℕ = stringHead l (k .records) (k .strings) bucket in
+      let at : ℕ = 196 * n + 8 * k .strings in
+      let at₂ : ℕ = 236 * n + 4 * k .strings in
+      let at₃ : ℕ = 280 * n + 4 * k .strings in
+      let l₁ : List ℕ = splice l at (encodeString asked) in
+      let l₂ : List ℕ = splice l₁ at₂ (encodeDigest asked) in
+      let w : l′ ≡ splice (splice l₂ at₃ (word head)) (284 * n + 4 * bucket) (word (k .strings)) =
+      m .1 .wrote
+      ∙ ap (λ (z : ℕ). splice (splice (splice l₁ at₂ (word z)) at₃ (word v)) (284 * n + 4 * p) (word (k .strings))) ed
+      ∙ ap₂ (λ (y z : ℕ). splice (splice l₂ at₃ (word y)) (284 * n + 4 * z) (word (k .strings))) string-head-is string-bucket-is in
+      let inside : bucket < n = omega (arith, ep .1, string-bucket-is) in
+      let long₁ : length l₁ ≡ length l = written-length l at (encodeString asked) l₁ refl (omega (arith, room .arena)) in
+      let long₂ : length l₂ ≡ length l₁ = written-length l₁ at₂ (encodeDigest asked) l₂ refl (omega (arith, long₁, room .arena)) in
+      let linked : LinkWritten (280 * n) (284 * n) (k .strings) bucket head l₂ l′ = record { wrote = w; order = omega arith; fit = omega (arith, inside, long₁, long₂, room .arena) } in record {
+        next = subst (λ (k′ : Counters). NextIn text (string-id asked) k l (r .number) k′ l′) (sym (m .1 .counts)) (record {
+          room = omega (arith, room, long₁, long₂, linked-length linked);
           records = refl;
           stands = λ t h.
-              added text t (moreStrings k) l′ (position (λ y. sameText (textAt text offset len) (y .text)) (t .state .strings))
-              (withString (entryOfString text offset len) (t .state)) (length (t .state .strings)) (r .number) (sym (strings-read text t k l h (textAt text offset len) d ed) ∙ q)
-              (en ∙ h .strings-hold .count)
-              (string-holds text t k l room h (entryOfString text offset len) (splice l at vs) l′ (record { offset = ho; len = hn; stands = refl }) small refl e);
+              let new : position (sameString asked) (t .state .strings) ≡ none = string-gone text t k l h asked d ed (string-walked Nothing q) in
+              added text t (moreStrings k) l′ (position (sameString asked) (t .state .strings)) (withString asked (t .state)) (length (t .state .strings)) (r .number) new (m .0 ∙ h .strings-hold .count)
+              (string-holds text t k l room h asked head l₁ l₂ l′ (record { offset = ho; len = hn; stands = refl }) small (string-start text t k l h bucket) new refl refl linked);
         });
-        spent = same-spent (omega arith) (m .counts);
-        entry = inl (record { counts = m .counts; wrote = e });
+        spent = same-spent (omega arith) (m .1 .counts);
+        entry = inl (record { counts = m .1 .counts; wrote = w });
       }
 
 -- ---- floats
@@ -192,38 +218,23 @@ unfolding encodeFloat
 float-bytes e a b c ea eb ec =
     rw (ea, eb, ec) (ap (λ (z : List ℕ). z ++ word (boolNumber (e .short)) ++ word 0) (sym (wide-words (e .bits))))
 
--- ---- as the code meets them: what a search answered
-
-module _ (text : List ℕ) (offset len d : ℕ) (k : Counters) (l : List ℕ) (a : Found) (room : Room k l) (ed : d ≡ digestOf (textAt text offset len))
-    (e : a ≡ foundOf (first (k .strings) (stringIs text l (k .records) d (textAt text offset len)) 0)) where
-  pub string-at : (r : PoolNumber) (i : ℕ) → a ≡ At i → r .number ≡ i → r .counters ≡ k → NumbersString text (entryOfString text offset len) k l r l
-  string-at r i q ex ek =
-      string-found text offset len d ed k l r room i (found-some (first (k .strings) (stringIs text l (k .records) d (textAt text offset len)) 0) i a e q) ex ek
-
-  pub string-nowhere : (l′ : List ℕ) (r : PoolNumber) → k .strings < k .records → offset < 2 ^ 32 → len < 2 ^ 32 → a ≡ Nothing
-      → (r .number ≡ k .strings)
-      × WroteTwo l (196 * k .records + 8 * k .strings) (word offset ++ word len) (236 * k .records + 4 * k .strings) (word d) (moreStrings k) (r .counters) l′
-      → NumbersString text (entryOfString text offset len) k l r l′
-  string-nowhere l′ r small ho hn q m =
-      string-new text offset len d ed k l r room l′ small ho hn (found-none (first (k .strings) (stringIs text l (k .records) d (textAt text offset len)) 0) a e q) (m .0) (m .1)
-
 -- what a walk from the head of its bucket answered
 module _ (f e : FloatEntry) (same : e ≡ f) (b c d p v : ℕ) (k : Counters) (l : List ℕ) (a : Found) (room : Room k l)
     (eb : b ≡ e .bits % 4294967296) (ec : (c ≡ e .bits / 4294967296) × (c < 4294967296)) (ed : d ≡ boolNumber (e .short))
-    (ep : (p ≡ floatBucket (k .records) b c d) × (p < k .records)) (ev : (v ≡ headFor l (k .records) (k .floats) p) × (v ≤ k .floats))
+    (ep : (p ≡ floatBucket (k .records) b c d) × (p < k .records)) (ev : (v ≡ floatHead l (k .records) (k .floats) p) × (v ≤ k .floats))
     (es : Walks (λ j. wordAt l (268 * k .records + 4 * j)) (fourAt l (204 * k .records) b c d) v a) where
-  bucket-is : p ≡ entryBucket (k .records) e
-  bucket-is = ep .0 ∙ rw (eb, ec .0, ed) refl
+  float-bucket-is : p ≡ entryBucket (k .records) e
+  float-bucket-is = ep .0 ∙ rw (eb, ec .0, ed) refl
 
-  head-is : v ≡ headFor l (k .records) (k .floats) (entryBucket (k .records) e)
-  head-is = ev .0 ∙ ap (headFor l (k .records) (k .floats)) bucket-is
+  float-head-is : v ≡ floatHead l (k .records) (k .floats) (entryBucket (k .records) e)
+  float-head-is = ev .0 ∙ ap (λ (x : ℕ). floatHead l (k .records) (k .floats) x) float-bucket-is
 
-  walked : (r : Found) → a ≡ r → Walks (λ j. wordAt l (268 * k .records + 4 * j)) (fourAt l (204 * k .records) (e .bits % 4294967296) (e .bits / 4294967296) (boolNumber (e .short)))
-      (headFor l (k .records) (k .floats) (entryBucket (k .records) e)) r
-  walked r q =
+  float-walked : (r : Found) → a ≡ r → Walks (λ j. wordAt l (268 * k .records + 4 * j)) (fourAt l (204 * k .records) (e .bits % 4294967296) (e .bits / 4294967296) (boolNumber (e .short)))
+      (floatHead l (k .records) (k .floats) (entryBucket (k .records) e)) r
+  float-walked r q =
       subst (λ (z : Found). Walks (λ j. wordAt l (268 * k .records + 4 * j)) (fourAt l (204 * k .records) (e .bits % 4294967296) (e .bits / 4294967296) (boolNumber (e .short)))
-      (headFor l (k .records) (k .floats) (entryBucket (k .records) e)) z) q
-      (subst (λ (u : ℕ). Walks (λ j. wordAt l (268 * k .records + 4 * j)) (fourAt l (204 * k .records) (e .bits % 4294967296) (e .bits / 4294967296) (boolNumber (e .short))) u a) head-is
+      (floatHead l (k .records) (k .floats) (entryBucket (k .records) e)) z) q
+      (subst (λ (u : ℕ). Walks (λ j. wordAt l (268 * k .records + 4 * j)) (fourAt l (204 * k .records) (e .bits % 4294967296) (e .bits / 4294967296) (boolNumber (e .short))) u a) float-head-is
       (rw (← eb, ← ec .0, ← ed) es))
 
   pub float-at : (r : PoolNumber) (i : ℕ) → a ≡ At i → r .number ≡ i → r .counters ≡ k → NumbersFloat f k l r l
@@ -233,7 +244,7 @@ module _ (f e : FloatEntry) (same : e ≡ f) (b c d p v : ℕ) (k : Counters) (l
       room = room;
       records = refl;
       stands = λ text t h. found text t k l room h (position (sameFloat e) (t .state .floats)) (withFloat e (t .state)) (length (t .state .floats)) i (r .number)
-          (float-here text t k l h e i (walked (At i) q)) ex;
+          (float-here text t k l h e i (float-walked (At i) q)) ex;
     });
     spent = same-spent (omega arith) ek;
     entry = inr (record { counts = ek; same = refl });
@@ -248,27 +259,25 @@ module _ (f e : FloatEntry) (same : e ≡ f) (b c d p v : ℕ) (k : Counters) (l
   float-nowhere l′ r small q m =
       let n : ℕ = k .records in
       let bucket : ℕ = entryBucket (k .records) e in
-      let head : ℕ = headFor l (k .records) (k .floats) bucket in
+      let head : ℕ = floatHead l (k .records) (k .floats) bucket in
       let at : ℕ = 204 * n + 16 * k .floats in
       let at₂ : ℕ = 268 * n + 4 * k .floats in
       let l₁ : List ℕ = splice l at (encodeFloat e) in
-      let l₂ : List ℕ = splice l₁ at₂ (word head) in
-      let w : l′ ≡ splice l₂ (276 * n + 4 * bucket) (word (k .floats)) =
+      let w : l′ ≡ splice (splice l₁ at₂ (word head)) (276 * n + 4 * bucket) (word (k .floats)) =
       m .1 .wrote
       ∙ ap (λ (z : List ℕ). splice (splice (splice l at z) at₂ (word v)) (276 * n + 4 * p) (word (k .floats))) (float-bytes e b c d eb (ec .0) ed)
-      ∙ ap₂ (λ (y x : ℕ). splice (splice l₁ at₂ (word y)) (276 * n + 4 * x) (word (k .floats))) head-is bucket-is in
-      let inside : bucket < n = omega (arith, ep .1, bucket-is) in
-      let long₁ : length l₁ ≡ length l = written-length l at (encodeFloat e) l₁ refl (omega (arith, float-length e, room .arena)) in
-      let long₂ : length l₂ ≡ length l₁ = written-length l₁ at₂ (word head) l₂ refl (omega (arith, long₁, room .arena)) in
-      let long : length l′ ≡ length l₂ = written-length l₂ (276 * n + 4 * bucket) (word (k .floats)) l′ w (omega (arith, long₁, long₂, room .arena)) in
+      ∙ ap₂ (λ (y x : ℕ). splice (splice l₁ at₂ (word y)) (276 * n + 4 * x) (word (k .floats))) float-head-is float-bucket-is in
+      let inside : bucket < n = omega (arith, ep .1, float-bucket-is) in
+      let long : length l₁ ≡ length l = written-length l at (encodeFloat e) l₁ refl (omega (arith, float-length e, room .arena)) in
+      let linked : LinkWritten (268 * n) (276 * n) (k .floats) bucket head l₁ l′ = record { wrote = w; order = omega arith; fit = omega (arith, inside, long, room .arena) } in
       subst (λ (g : FloatEntry). NumbersFloat g k l r l′) same (record {
         next = subst (λ (k′ : Counters). Next (float-id e) k l (r .number) k′ l′) (sym (m .1 .counts)) (record {
-          room = omega (arith, room, long₁, long₂, long);
+          room = omega (arith, room, long, linked-length linked);
           records = refl;
           stands = λ text t h.
-              let new : position (sameFloat e) (t .state .floats) ≡ none = float-gone text t k l h e (walked Nothing q) in
+              let new : position (sameFloat e) (t .state .floats) ≡ none = float-gone text t k l h e (float-walked Nothing q) in
               added text t (moreFloats k) l′ (position (sameFloat e) (t .state .floats)) (withFloat e (t .state)) (length (t .state .floats)) (r .number) new (m .0 ∙ h .floats-hold .count)
-              (float-holds text t k l room h e head l₁ l₂ l′ (record { bits = omega (arith, ec .0, ec .1) }) small inside (float-start text t k l h bucket) new refl refl w);
+              (float-holds text t k l room h e head l₁ l′ (record { bits = omega (arith, ec .0, ec .1) }) small inside (float-start text t k l h bucket) new refl linked);
         });
         spent = same-spent (omega arith) (m .1 .counts);
         entry = inl (record { counts = m .1 .counts; wrote = w });

@@ -9,9 +9,9 @@ use lib.ListN.{length, take, drop, getD, length-append, List·getD-append}
 use lib.Seq.{getD-append-add}
 use Rattle.laws.specs.Splice.{splice}
 use Rattle.laws.proofs.Splices.{length-splice, part-before, part-behind, part-grown, part-element}
-use Rattle.records.specs.Words.{wordAt}
-use Rattle.records.proofs.Apart.{word-same}
-use Rattle.conversion.specs.Written.{encodeAll}
+use Rattle.records.specs.Words.{byteAt, wordAt}
+use Rattle.records.proofs.Apart.{word-back, word-same, word-there}
+use Rattle.conversion.specs.Written.{bytesOf, word, encodeAll}
 use Rattle.ir.specs.Arena.{Has, Table}
 
 -- ---- bytes at a place
@@ -28,6 +28,12 @@ module _ (l : List ℕ) (i : ℕ) (vs : List ℕ) (l′ : List ℕ) (e : l′ �
 
   pub has-grown : (at : ℕ) (bs : List ℕ) → i ≡ at + length bs → Has l at bs → Has l′ at (bs ++ vs)
   has-grown at bs h w = record { is = rw e (part-grown l i vs at bs fit h (w .is)) }
+
+-- a word that was written
+pub written-word : (w : ℕ) (l l′ : List ℕ) (i : ℕ) → l′ ≡ splice l i (word w) → i + 4 ≤ length l → w < 2 ^ 32 → wordAt l′ i ≡ w
+unfolding word bytesOf wordAt byteAt
+written-word w l l′ i e fit small =
+    ap (λ (r : List ℕ). wordAt r i) e ∙ word-there l i (word w) fit 0 i (omega arith) (omega arith) ∙ word-back w small
 
 -- ---- entries
 

@@ -21,7 +21,7 @@ use Rattle.ir.specs.Floats.{bitsOfFloat, entry, entryOfFloat}
 use Rattle.ir.specs.declared.floats.FloatEntry as Code
 use Rattle.ir.specs.declared.floats.FloatBits.the-variants.{Number, Nan}
 use Rattle.ir.specs.Steps.{grown, Stands, Next, NumbersFloat}
-use Rattle.ir.proofs.FloatLinks.{same-entry}
+use Rattle.ir.proofs.EntryLinks.{same-entry}
 use Rattle.ir.proofs.Kept.{withFloat, no-code}
 use Rattle.ir.proofs.ReadBack.{FloatAt, floats-at}
 use Rattle.ir.proofs.SearchLaws.{position-hit}

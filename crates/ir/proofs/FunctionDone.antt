@@ -17,7 +17,7 @@ use Rattle.ir.specs.declared.structs.Counters.{Counters}
 use Rattle.ir.specs.Arena.{Has, Table, TablesSoFar, Holds, Room}
 use Rattle.ir.specs.Steps.{closed, nextFunction, Closes}
 use Rattle.ir.proofs.Entries.{written-length, has-grown, table-before, table-behind}
-use Rattle.ir.proofs.FloatLinks.{links-behind}
+use Rattle.ir.proofs.EntryLinks.{links-behind}
 
 -- an entry's eight words
 abbrev entry : ℕ → ℕ → ℕ → IrFunction → List ℕ
@@ -135,7 +135,8 @@ module _ (r : ℕ) (body : Bool) (b : ℕ) (eb : b ≡ boolNumber body) (k : Cou
         floats-hold = table-behind (h .floats-hold) place words l′ e fit (omega (arith, words-length));
         digests-hold = table-behind (h .digests-hold) place words l′ e fit (omega (arith, words-length));
         slots-hold = record { has = λ i b. absurd (omega arith); number = λ i b. absurd (omega arith) };
-        links-hold = links-behind (h .links-hold) place words l′ e fit (omega (arith, words-length));
+        float-links-hold = links-behind (h .float-links-hold) (omega arith) place words l′ e fit (omega (arith, words-length));
+        string-links-hold = links-behind (h .string-links-hold) (omega arith) place words l′ e fit (omega (arith, words-length));
         before = record {
           functions-count = simp length-append (omega (arith, h .before .functions-count));
           instructions-before = h .instructions-hold .count ∙ ap length (sym code-list ∙ append-nil (allCode (t .done ++ (f ∷ []))));

@@ -1,42 +1,32 @@
 -- The arena after an entry more: the table that grew holds it, and the other five hold what they held.
 -- The entry is written at the end of its region's part, before or behind every other region's. Assumes nothing.
-use mathlib.Core.Path.{_≡_, refl, sym, ap, _∙_, subst}
-use mathlib.Core.Logic.{_⊎_, inl, inr}
-use mathlib.Core.Bool.{Bool, true, false}
+use mathlib.Core.Path.{_≡_, refl, sym, _∙_, subst}
 use mathlib.Core.List.{List, [], _∷_, _++_, append-nil, append-assoc}
 use mathlib.Core.Option.{none}
-use Prim.Native.Nat.{ℕ, _+_, _*_, _^_, _≤_, _<_}
+use Prim.Native.Nat.{ℕ, _+_, _*_, _≤_, _<_}
 use native.Mathlib.Omega.{arith}
-use lib.Dec.{ltb}
-use lib.ListN.{length, getD, length-append}
-use borrow.Author.Tests.{ltb-true, ltb-false}
+use lib.ListN.{length, getD}
 use Rattle.laws.specs.All.{All}
 use Rattle.laws.specs.Splice.{splice}
-use Rattle.records.specs.Words.{byteAt, wordAt}
-use Rattle.records.proofs.Apart.{word-back, word-apart, word-there}
+use Rattle.records.specs.Words.{wordAt}
 use Rattle.conversion.specs.Ir as Ir
 use Rattle.conversion.specs.Ir.{State, LabelName, StringEntry, FloatEntry, position, sameLabel, sameFloat}
 use Rattle.conversion.specs.Written.{bytesOf, word, encodeInstr, encodeVar, encodeLabel, encodeFunctions, encodeString, encodeFloat, allCode, allVars, allLabels}
 use Rattle.conversion.proofs.Bytes.{functions-length}
 use Rattle.ir.specs.declared.structs.Counters.{Counters}
 use Rattle.conversion.specs.Fits.{StringStands, FloatFits}
-use Rattle.ir.specs.Arena.{Has, Table, encodeDigest, TablesSoFar, LabelFits, HasSlot, labelSlot, noLabel, Slots, entryBucket, LinkedFloats, Holds, Room}
+use Rattle.ir.specs.Arena.{Has, Table, encodeDigest, TablesSoFar, LabelFits, HasSlot, labelSlot, Slots, entryBucket, noFloat, LinkedFloats, stringBucket, sameString, noString, LinkedStrings, Holds, Room}
 use Rattle.ir.specs.Steps.{grown, moreInstructions, moreVariables, moreLabels, moreStrings, moreFloats}
 use Rattle.ir.proofs.Entries.{written-length, has-before, has-behind, table-before, table-behind, table-grown}
-use Rattle.ir.proofs.FloatLinks.{buckets, links-behind, links-grown}
+use Rattle.ir.proofs.EntryLinks.{buckets, links-stay, links-behind, float-bucket-in}
 use Rattle.ir.proofs.LinkLaws.{Start, start-low}
+use Rattle.ir.proofs.LinkWrites.{LinkWritten, has-stays, table-stays, slots-stay, before-stays, behind-stays, links-more}
 use Rattle.ir.proofs.SlotLaws.{slots-behind, slots-beside, slots-grown}
 
 -- a property of every entry, and of one more
 pub all-more : {X : Type 0} (P : X → Type 0) (xs : List X) (x : X) → All P xs → P x → All P (xs ++ (x ∷ []))
 all-more P [] x a p = (p, tt)
 all-more P (y ∷ xs) x a p = (a .0, all-more P xs x (a .1) p)
-
--- a word that was written
-pub written-word : (w : ℕ) (l l′ : List ℕ) (i : ℕ) → l′ ≡ splice l i (word w) → i + 4 ≤ length l → w < 2 ^ 32 → wordAt l′ i ≡ w
-unfolding word bytesOf wordAt byteAt
-written-word w l l′ i e fit small =
-    ap (λ (r : List ℕ). wordAt r i) e ∙ word-there l i (word w) fit 0 i (omega arith) (omega arith) ∙ word-back w small
 
 -- the state with one entry more
 abbrev pub withVar : ℕ → State → State
@@ -76,13 +66,15 @@ module _ (text : List ℕ) (t : TablesSoFar) (k : Counters) (l : List ℕ) (room
         × Table encodeDigest 4 (t .state .strings) (236 * k .records) (k .strings) l′
         × Slots (k .records) (t .state .labels) l′
         × LinkedFloats (k .records) (t .state .floats) l′
+        × LinkedStrings (k .records) (t .state .strings) l′
     back b = (
       has-behind l i vs l′ e fit (164 * k .records) (encodeFunctions 0 0 0 (t .done)) b (h .functions-hold),
       table-behind (h .strings-hold) i vs l′ e fit (omega arith),
       table-behind (h .floats-hold) i vs l′ e fit (omega arith),
       table-behind (h .digests-hold) i vs l′ e fit (omega arith),
       slots-behind (h .slots-hold) i vs l′ e fit (omega arith),
-      links-behind (h .links-hold) i vs l′ e fit (omega arith),
+      links-behind (h .float-links-hold) (omega arith) i vs l′ e fit (omega arith),
+      links-behind (h .string-links-hold) (omega arith) i vs l′ e fit (omega arith),
     )
 
   -- nothing emitted
@@ -110,7 +102,8 @@ module _ (text : List ℕ) (t : TablesSoFar) (k : Counters) (l : List ℕ) (room
         floats-hold = rest .2;
         digests-hold = rest .3;
         slots-hold = rest .4;
-        links-hold = rest .5;
+        float-links-hold = rest .5;
+        string-links-hold = rest .6;
         before = h .before;
         fits = h .fits;
       }
@@ -136,7 +129,8 @@ module _ (text : List ℕ) (t : TablesSoFar) (k : Counters) (l : List ℕ) (room
         floats-hold = rest .2;
         digests-hold = rest .3;
         slots-hold = rest .4;
-        links-hold = rest .5;
+        float-links-hold = rest .5;
+        string-links-hold = rest .6;
         before = h .before;
         fits = h .fits;
       })
@@ -158,7 +152,8 @@ module _ (text : List ℕ) (t : TablesSoFar) (k : Counters) (l : List ℕ) (room
         floats-hold = table-before (h .floats-hold) at (word m) l′ e fit (omega (arith, room .floats-in));
         digests-hold = table-before (h .digests-hold) at (word m) l′ e fit (omega (arith, room .strings-in));
         slots-hold = slots-beside (h .slots-hold) x m l′ slot new e fit;
-        links-hold = links-behind (h .links-hold) at (word m) l′ e fit (omega (arith, slot));
+        float-links-hold = links-behind (h .float-links-hold) (omega arith) at (word m) l′ e fit (omega (arith, slot));
+        string-links-hold = links-behind (h .string-links-hold) (omega arith) at (word m) l′ e fit (omega (arith, slot));
         before = h .before;
         fits = h .fits;
       }
@@ -185,138 +180,87 @@ module _ (text : List ℕ) (t : TablesSoFar) (k : Counters) (l : List ℕ) (room
         floats-hold = rest .2;
         digests-hold = rest .3;
         slots-hold = slots-behind (slots-grown (h .slots-hold) x slot number) at vs l′ e fit (omega (arith, end));
-        links-hold = rest .5;
+        float-links-hold = rest .5;
+        string-links-hold = rest .6;
         before = h .before;
         fits = record { labels-fit = all-more LabelFits (t .state .labels) x (h .fits .labels-fit) (omega (arith, slot, room .small)); strings-stand = h .fits .strings-stand; floats-fit = h .fits .floats-fit };
       })
 
-  -- a string, and its digest
-  pub string-holds : (x : StringEntry) (l₁ l′ : List ℕ) → StringStands text x → k .strings < k .records
-      → l₁ ≡ splice l (196 * k .records + 8 * k .strings) (encodeString x) → l′ ≡ splice l₁ (236 * k .records + 4 * k .strings) (encodeDigest x)
-      → Holds text (grown t [] (withString x (t .state))) (moreStrings k) l′
-  string-holds x l₁ l′ fits small e₁ e₂ =
-      let at : ℕ = 196 * k .records + 8 * k .strings in
-      let vs : List ℕ = encodeString x in
-      let w : length (encodeString x) ≡ 8 = h .strings-hold .width x in
-      let fit : at + length vs ≤ length l = omega (arith, w, room .arena) in
-      let rest = front at vs l₁ e₁ fit (omega arith) in
-      let end : at + length vs ≤ 204 * k .records = omega (arith, w) in
-      let long : length l₁ ≡ length l = written-length l at vs l₁ e₁ fit in
-      let at₂ : ℕ = 236 * k .records + 4 * k .strings in
-      let ds : List ℕ = encodeDigest x in
-      let w₂ : length (encodeDigest x) ≡ 4 = h .digests-hold .width x in
-      let fit₂ : at₂ + length ds ≤ length l₁ = omega (arith, w₂, long, room .arena) in
-      no-code (withString x (t .state)) (moreStrings k) l′ (record {
-        instructions-hold = table-before (rest .0) at₂ ds l′ e₂ fit₂ (omega (arith, room .instructions-in));
-        variables-hold = table-before (rest .1) at₂ ds l′ e₂ fit₂ (omega (arith, room .variables-in));
-        labels-hold = table-before (rest .2) at₂ ds l′ e₂ fit₂ (omega (arith, room .labels-in));
-        functions-hold = has-before l₁ at₂ ds l′ e₂ fit₂ (164 * k .records) (encodeFunctions 0 0 0 (t .done)) (omega (arith, functions-end, room .functions-in)) (rest .3);
-        strings-hold = table-before (table-grown (h .strings-hold) x at l₁ e₁ fit (omega arith)) at₂ ds l′ e₂ fit₂ (omega arith);
-        floats-hold = table-before (table-behind (h .floats-hold) at vs l₁ e₁ fit end) at₂ ds l′ e₂ fit₂ (omega (arith, room .floats-in));
-        digests-hold = table-grown (table-behind (h .digests-hold) at vs l₁ e₁ fit (omega (arith, end))) x at₂ l′ e₂ fit₂ (omega arith);
-        slots-hold = slots-behind (slots-behind (h .slots-hold) at vs l₁ e₁ fit (omega (arith, end))) at₂ ds l′ e₂ fit₂ (omega (arith, w₂));
-        links-hold = links-behind (links-behind (h .links-hold) at vs l₁ e₁ fit (omega (arith, end))) at₂ ds l′ e₂ fit₂ (omega (arith, w₂));
-        before = h .before;
-        fits = record { labels-fit = h .fits .labels-fit; strings-stand = all-more (StringStands text) (t .state .strings) x (h .fits .strings-stand) fits; floats-fit = h .fits .floats-fit };
-      })
+  -- a string, its digest, the link to the one before it in its bucket, and its number at the bucket's head
+  module _ (x : StringEntry) (v : ℕ) (l₁ l₂ l′ : List ℕ) (fits : StringStands text x) (small : k .strings < k .records)
+      (s : Start (buckets (stringBucket (k .records)) noString (t .state .strings)) (length (t .state .strings)) (stringBucket (k .records) x) v)
+      (new : position (sameString x) (t .state .strings) ≡ none)
+      (e₁ : l₁ ≡ splice l (196 * k .records + 8 * k .strings) (encodeString x)) (e₂ : l₂ ≡ splice l₁ (236 * k .records + 4 * k .strings) (encodeDigest x))
+      (w : LinkWritten (280 * k .records) (284 * k .records) (k .strings) (stringBucket (k .records) x) v l₂ l′) where
+    pub string-holds : Holds text (grown t [] (withString x (t .state))) (moreStrings k) l′
+    string-holds =
+        let n : ℕ = k .records in
+        let m : ℕ = k .strings in
+        let at : ℕ = 196 * n + 8 * m in
+        let vs : List ℕ = encodeString x in
+        let w₁ : length (encodeString x) ≡ 8 = h .strings-hold .width x in
+        let fit : at + length vs ≤ length l = omega (arith, w₁, room .arena) in
+        let rest = front at vs l₁ e₁ fit (omega arith) in
+        let end : at + length vs ≤ 204 * n = omega (arith, w₁) in
+        let long : length l₁ ≡ length l = written-length l at vs l₁ e₁ fit in
+        let at₂ : ℕ = 236 * n + 4 * m in
+        let ds : List ℕ = encodeDigest x in
+        let w₂ : length (encodeDigest x) ≡ 4 = h .digests-hold .width x in
+        let fit₂ : at₂ + length ds ≤ length l₁ = omega (arith, w₂, long, room .arena) in
+        no-code (withString x (t .state)) (moreStrings k) l′ (record {
+          instructions-hold = table-stays w (table-before (rest .0) at₂ ds l₂ e₂ fit₂ (omega (arith, room .instructions-in))) (omega (arith, room .instructions-in));
+          variables-hold = table-stays w (table-before (rest .1) at₂ ds l₂ e₂ fit₂ (omega (arith, room .variables-in))) (omega (arith, room .variables-in));
+          labels-hold = table-stays w (table-before (rest .2) at₂ ds l₂ e₂ fit₂ (omega (arith, room .labels-in))) (omega (arith, room .labels-in));
+          functions-hold = has-stays w (164 * n) (encodeFunctions 0 0 0 (t .done)) (omega (arith, functions-end, room .functions-in))
+              (has-before l₁ at₂ ds l₂ e₂ fit₂ (164 * n) (encodeFunctions 0 0 0 (t .done)) (omega (arith, functions-end, room .functions-in)) (rest .3));
+          strings-hold = table-stays w (table-before (table-grown (h .strings-hold) x at l₁ e₁ fit (omega arith)) at₂ ds l₂ e₂ fit₂ (omega arith)) (omega arith);
+          floats-hold = table-stays w (table-before (table-behind (h .floats-hold) at vs l₁ e₁ fit end) at₂ ds l₂ e₂ fit₂ (omega (arith, room .floats-in))) (omega (arith, room .floats-in));
+          digests-hold = table-stays w (table-grown (table-behind (h .digests-hold) at vs l₁ e₁ fit (omega (arith, end))) x at₂ l₂ e₂ fit₂ (omega arith)) (omega arith);
+          slots-hold = slots-stay w (omega arith) (slots-behind (slots-behind (h .slots-hold) at vs l₁ e₁ fit (omega (arith, end))) at₂ ds l₂ e₂ fit₂ (omega (arith, w₂)));
+          float-links-hold =
+              links-stay (links-behind (links-behind (h .float-links-hold) (omega arith) at vs l₁ e₁ fit (omega (arith, end))) (omega arith) at₂ ds l₂ e₂ fit₂ (omega (arith, w₂))) l′
+              (λ i hi. before-stays w (276 * n + 4 * buckets (entryBucket n) noFloat (t .state .floats) i)
+              (omega (arith, float-bucket-in n (getD (t .state .floats) i noFloat) (omega arith))))
+              (λ i hi. before-stays w (268 * n + 4 * i) (omega (arith, room .floats-in, h .floats-hold .count)));
+          string-links-hold =
+              links-more w (omega (arith, room .small)) (omega (arith, room .small, start-low v s, h .strings-hold .count))
+              (links-behind (links-behind (h .string-links-hold) (omega arith) at vs l₁ e₁ fit (omega (arith, end))) (omega arith) at₂ ds l₂ e₂ fit₂ (omega (arith, w₂)))
+              x refl (h .strings-hold .count) s new;
+          before = h .before;
+          fits = record { labels-fit = h .fits .labels-fit; strings-stand = all-more (StringStands text) (t .state .strings) x (h .fits .strings-stand) fits; floats-fit = h .fits .floats-fit };
+        })
 
   -- a float, the link to the one before it in its bucket, and its number at the bucket's head
-  module _ (x : FloatEntry) (v : ℕ) (l₁ l₂ l′ : List ℕ) (fits : FloatFits x) (small : k .floats < 2 * k .records) (bucket-in : entryBucket (k .records) x < k .records)
-      (s : Start (buckets (k .records) (t .state .floats)) (length (t .state .floats)) (entryBucket (k .records) x) v) (new : position (sameFloat x) (t .state .floats) ≡ none)
-      (e₁ : l₁ ≡ splice l (204 * k .records + 16 * k .floats) (encodeFloat x)) (e₂ : l₂ ≡ splice l₁ (268 * k .records + 4 * k .floats) (word v))
-      (e₃ : l′ ≡ splice l₂ (276 * k .records + 4 * entryBucket (k .records) x) (word (k .floats))) where
-    abbrev n : ℕ
-    n = k .records
-
-    abbrev m : ℕ
-    m = k .floats
-
-    abbrev b : ℕ
-    b = entryBucket (k .records) x
-
-    wide-is : length (encodeFloat x) ≡ 16
-    wide-is = h .floats-hold .width x
-
-    fit₁ : 204 * n + 16 * m + length (encodeFloat x) ≤ length l
-    fit₁ = omega (arith, wide-is, room .arena)
-
-    fit₂ : 268 * n + 4 * m + 4 ≤ length l₁
-    fit₂ = omega (arith, written-length l (204 * n + 16 * m) (encodeFloat x) l₁ e₁ fit₁, room .arena)
-
-    long₂ : length l₂ ≡ length l₁
-    unfolding word bytesOf
-    long₂ = written-length l₁ (268 * n + 4 * m) (word v) l₂ e₂ fit₂
-
-    fit₃ : 276 * n + 4 * b + 4 ≤ length l₂
-    fit₃ = omega (arith, long₂, written-length l (204 * n + 16 * m) (encodeFloat x) l₁ e₁ fit₁, room .arena)
-
-    -- what two words behind the slots leave
-    kept : {X : Type 0} {f : X → List ℕ} {w : ℕ} {xs : List X} {at c : ℕ} → Table f w xs at c l₁ → at + w * c ≤ 240 * n → Table f w xs at c l′
-    unfolding word bytesOf
-    kept t q = table-before (table-before t (268 * n + 4 * m) (word v) l₂ e₂ fit₂ (omega arith)) (276 * n + 4 * b) (word m) l′ e₃ fit₃ (omega arith)
-
-    -- the words of the links and heads
-    first-stays : (p : ℕ) → 236 * n ≤ p → wordAt l₁ p ≡ wordAt l p
-    first-stays p q = ap (λ (r : List ℕ). wordAt r p) e₁ ∙ word-apart l (204 * n + 16 * m) (encodeFloat x) fit₁ p (inr (omega (arith, wide-is)))
-
-    second-stays : (p : ℕ) → (p + 4 ≤ 268 * n + 4 * m) ⊎ (268 * n + 4 * m + 4 ≤ p) → wordAt l₂ p ≡ wordAt l₁ p
-    unfolding word bytesOf
-    second-stays p q = ap (λ (r : List ℕ). wordAt r p) e₂ ∙ word-apart l₁ (268 * n + 4 * m) (word v) fit₂ p q
-
-    third-stays : (p : ℕ) → (p + 4 ≤ 276 * n + 4 * b) ⊎ (276 * n + 4 * b + 4 ≤ p) → wordAt l′ p ≡ wordAt l₂ p
-    unfolding word bytesOf
-    third-stays p q = ap (λ (r : List ℕ). wordAt r p) e₃ ∙ word-apart l₂ (276 * n + 4 * b) (word m) fit₃ p q
-
-    own-head : wordAt l′ (276 * n + 4 * b) ≡ m
-    own-head = written-word m l₂ l′ (276 * n + 4 * b) e₃ fit₃ (omega (arith, room .small))
-
-    other-heads : (a : ℕ) → (a ≡ b → ⊥) → wordAt l′ (276 * n + 4 * a) ≡ wordAt l (276 * n + 4 * a)
-    other-heads a ne =
-        third-stays (276 * n + 4 * a) (apart (ltb a b) refl) ∙ second-stays (276 * n + 4 * a) (inr (omega arith)) ∙ first-stays (276 * n + 4 * a) (omega arith)
-      where
-        apart : (u : Bool) → ltb a b ≡ u → (276 * n + 4 * a + 4 ≤ 276 * n + 4 * b) ⊎ (276 * n + 4 * b + 4 ≤ 276 * n + 4 * a)
-        apart true q = inl (omega (arith, ltb-true a b q))
-        apart false q = inr (omega (arith, ltb-false a b q))
-
-    last-link : wordAt l′ (268 * n + 4 * m) ≡ v
-    last-link =
-        third-stays (268 * n + 4 * m) (inl (omega arith))
-        ∙ written-word v l₁ l₂ (268 * n + 4 * m) e₂ fit₂ (omega (arith, room .small, start-low v s, h .floats-hold .count))
-
-    old-links : (i : ℕ) → i < m → wordAt l′ (268 * n + 4 * i) ≡ wordAt l (268 * n + 4 * i)
-    old-links i hi =
-        third-stays (268 * n + 4 * i) (inl (omega arith)) ∙ second-stays (268 * n + 4 * i) (inl (omega arith)) ∙ first-stays (268 * n + 4 * i) (omega arith)
-
-    slots-kept : Slots n (t .state .labels) l′
-    unfolding word bytesOf
-    slots-kept = record {
-      has = h .slots-hold .has;
-      number = λ i hi.
-          let q : labelSlot n (getD (t .state .labels) i noLabel) + 4 ≤ 268 * n = omega (arith, h .slots-hold .has i hi) in
-          third-stays (labelSlot n (getD (t .state .labels) i noLabel)) (inl (omega arith))
-          ∙ second-stays (labelSlot n (getD (t .state .labels) i noLabel)) (inl (omega arith))
-          ∙ first-stays (labelSlot n (getD (t .state .labels) i noLabel)) (omega arith)
-          ∙ h .slots-hold .number i hi;
-    }
-
+  module _ (x : FloatEntry) (v : ℕ) (l₁ l′ : List ℕ) (fits : FloatFits x) (small : k .floats < 2 * k .records) (bucket-in : entryBucket (k .records) x < k .records)
+      (s : Start (buckets (entryBucket (k .records)) noFloat (t .state .floats)) (length (t .state .floats)) (entryBucket (k .records) x) v)
+      (new : position (sameFloat x) (t .state .floats) ≡ none)
+      (e : l₁ ≡ splice l (204 * k .records + 16 * k .floats) (encodeFloat x))
+      (w : LinkWritten (268 * k .records) (276 * k .records) (k .floats) (entryBucket (k .records) x) v l₁ l′) where
     pub float-holds : Holds text (grown t [] (withFloat x (t .state))) (moreFloats k) l′
-    unfolding word bytesOf
     float-holds =
-        let at : ℕ = 204 * n + 16 * m in
-        let count : m ≡ length (t .state .floats) = h .floats-hold .count in
-        let rest = front at (encodeFloat x) l₁ e₁ fit₁ (omega arith) in
+        let n : ℕ = k .records in
+        let at : ℕ = 204 * n + 16 * k .floats in
+        let vs : List ℕ = encodeFloat x in
+        let wide-is : length (encodeFloat x) ≡ 16 = h .floats-hold .width x in
+        let fit : at + length vs ≤ length l = omega (arith, wide-is, room .arena) in
+        let end : at + length vs ≤ 236 * n = omega (arith, wide-is) in
+        let rest = front at vs l₁ e fit (omega arith) in
+        let strings-there = links-behind (h .string-links-hold) (omega arith) at vs l₁ e fit (omega (arith, end)) in
         no-code (withFloat x (t .state)) (moreFloats k) l′ (record {
-          instructions-hold = kept (rest .0) (omega (arith, room .instructions-in));
-          variables-hold = kept (rest .1) (omega (arith, room .variables-in));
-          labels-hold = kept (rest .2) (omega (arith, room .labels-in));
-          functions-hold = has-before l₂ (276 * n + 4 * b) (word m) l′ e₃ fit₃ (164 * n) (encodeFunctions 0 0 0 (t .done)) (omega (arith, functions-end, room .functions-in))
-              (has-before l₁ (268 * n + 4 * m) (word v) l₂ e₂ fit₂ (164 * n) (encodeFunctions 0 0 0 (t .done)) (omega (arith, functions-end, room .functions-in)) (rest .3));
-          strings-hold = kept (table-before (h .strings-hold) at (encodeFloat x) l₁ e₁ fit₁ (omega (arith, room .strings-in))) (omega (arith, room .strings-in));
-          floats-hold = kept (table-grown (h .floats-hold) x at l₁ e₁ fit₁ (omega arith)) (omega arith);
-          digests-hold = kept (table-behind (h .digests-hold) at (encodeFloat x) l₁ e₁ fit₁ (omega (arith, wide-is))) (omega (arith, room .strings-in));
-          slots-hold = slots-kept;
-          links-hold = links-grown (h .links-hold) x l′ s new (own-head ∙ count) other-heads
-              (ap (λ (i : ℕ). wordAt l′ (268 * n + 4 * i)) (sym count) ∙ last-link) (λ i hi. old-links i (omega arith));
+          instructions-hold = table-stays w (rest .0) (omega (arith, room .instructions-in));
+          variables-hold = table-stays w (rest .1) (omega (arith, room .variables-in));
+          labels-hold = table-stays w (rest .2) (omega (arith, room .labels-in));
+          functions-hold = has-stays w (164 * n) (encodeFunctions 0 0 0 (t .done)) (omega (arith, functions-end, room .functions-in)) (rest .3);
+          strings-hold = table-stays w (table-before (h .strings-hold) at vs l₁ e fit (omega (arith, room .strings-in))) (omega (arith, room .strings-in));
+          floats-hold = table-stays w (table-grown (h .floats-hold) x at l₁ e fit (omega arith)) (omega arith);
+          digests-hold = table-stays w (table-behind (h .digests-hold) at vs l₁ e fit end) (omega (arith, room .strings-in));
+          slots-hold = slots-stay w (omega arith) (slots-behind (h .slots-hold) at vs l₁ e fit (omega (arith, end)));
+          float-links-hold =
+              links-more w (omega (arith, room .small)) (omega (arith, room .small, start-low v s, h .floats-hold .count))
+              (links-behind (h .float-links-hold) (omega arith) at vs l₁ e fit (omega (arith, end))) x refl (h .floats-hold .count) s new;
+          string-links-hold =
+              links-stay strings-there l′ (λ i hi. behind-stays w (284 * n + 4 * buckets (stringBucket n) noString (t .state .strings) i) (omega arith))
+              (λ i hi. behind-stays w (280 * n + 4 * i) (omega arith));
           before = h .before;
           fits = record { labels-fit = h .fits .labels-fit; strings-stand = h .fits .strings-stand; floats-fit = all-more FloatFits (t .state .floats) x (h .fits .floats-fit) fits };
         })

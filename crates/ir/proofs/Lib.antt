@@ -3,13 +3,14 @@ pub mod Answers
 pub mod ArenaFits
 pub mod CutLaws
 pub mod Entries
+pub mod EntryLinks
 pub mod FieldLaws
 pub mod FloatLaws
-pub mod FloatLinks
 pub mod FloatRead
 pub mod FunctionDone
 pub mod Kept
 pub mod LinkLaws
+pub mod LinkWrites
 pub mod Operators
 pub mod ReadBack
 pub mod SearchLaws

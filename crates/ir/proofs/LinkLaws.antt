@@ -104,14 +104,14 @@ module _ {head link bucket : ℕ → ℕ} {m : ℕ} (c : Linked head link bucket
     walk-tells (astray {j} q low) at all = absurd (omega (arith, low, c .link-low j (at j refl .0)))
 
   -- words that stay
-  pub linked-words : (head′ link′ : ℕ → ℕ) → ((b : ℕ) → head′ b ≡ head b) → ((i : ℕ) → link′ i ≡ link i) → Linked head′ link′ bucket m
+  pub linked-words : (head′ link′ : ℕ → ℕ) → ((i : ℕ) → i < m → head′ (bucket i) ≡ head (bucket i)) → ((i : ℕ) → i < m → link′ i ≡ link i) → Linked head′ link′ bucket m
   linked-words head′ link′ eh el = record {
-    head-in = λ i h. subst (λ (x : ℕ). x < m) (sym (eh (bucket i))) (c .head-in i h);
-    head-of = λ i h. ap bucket (eh (bucket i)) ∙ c .head-of i h;
-    head-last = λ i h. subst (λ (x : ℕ). i ≤ x) (sym (eh (bucket i))) (c .head-last i h);
-    link-low = λ i h. subst (λ (x : ℕ). x ≤ i) (sym (el i)) (c .link-low i h);
-    link-of = λ i j h q. c .link-of i j h (sym (el i) ∙ q);
-    link-last = λ i j h lt q. subst (λ (x : ℕ). j < x) (sym (el i)) (c .link-last i j h lt q);
+    head-in = λ i h. subst (λ (x : ℕ). x < m) (sym (eh i h)) (c .head-in i h);
+    head-of = λ i h. ap bucket (eh i h) ∙ c .head-of i h;
+    head-last = λ i h. subst (λ (x : ℕ). i ≤ x) (sym (eh i h)) (c .head-last i h);
+    link-low = λ i h. subst (λ (x : ℕ). x ≤ i) (sym (el i h)) (c .link-low i h);
+    link-of = λ i j h q. c .link-of i j h (sym (el i h) ∙ q);
+    link-last = λ i j h lt q. subst (λ (x : ℕ). j < x) (sym (el i h)) (c .link-last i j h lt q);
   }
 
   -- buckets that are the same

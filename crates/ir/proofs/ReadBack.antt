@@ -22,13 +22,12 @@ use Rattle.conversion.specs.Ir.{LabelName, StringEntry, FloatEntry, position, s
 use Rattle.conversion.specs.Written.{bytesOf, word, wide, boolNumber, encodeLabel, encodeString, encodeFloat, allLabels}
 use Rattle.ir.specs.declared.structs.Counters.{Counters}
 use Rattle.conversion.specs.Fits.{StringStands, FloatFits}
-use Rattle.ir.specs.Arena.{encodeDigest, TablesSoFar, LabelFits, labelSlot, noLabel, entryBucket, noFloat, Holds}
+use Rattle.ir.specs.Arena.{encodeDigest, TablesSoFar, LabelFits, labelSlot, noLabel, entryBucket, noFloat, digestBucket, stringBucket, sameString, noString, Holds}
 use Rattle.ir.specs.Steps.{named}
-use Rattle.ir.specs.Search.{first, pairAt, labelIs, sameTextAt, stringIs, fourAt, Walks, bucketAt, headFor}
+use Rattle.ir.specs.Search.{pairAt, labelIs, sameTextAt, stringIs, fourAt, Walks, bucketAt, stringBucketAt, floatHead, stringHead}
 use Rattle.ir.proofs.Entries.{table-word}
-use Rattle.ir.proofs.FloatLinks.{buckets, float-there, float-missing}
-use Rattle.ir.proofs.LinkLaws.{Start, start}
-use Rattle.ir.proofs.SearchLaws.{first-position}
+use Rattle.ir.proofs.EntryLinks.{buckets, entry-start, entry-there, entry-missing, floats-alike, strings-alike}
+use Rattle.ir.proofs.LinkLaws.{Start}
 use Rattle.ir.proofs.SlotLaws.{slot-found, slot-nowhere}
 
 -- the entry at byte p is the float x: its bits, the lower word first, and its mark
@@ -124,9 +123,6 @@ marks false false = refl
 
 -- ---- the searches
 
-no-string : StringEntry
-no-string = record { offset = 0; len = 0; text = [] }
-
 module _ (text : List ℕ) (t : TablesSoFar) (k : Counters) (l : List ℕ) (h : Holds text t k l) where
   -- entry j of the labels of the function at hand
   label-entry : (j : ℕ) → getD (allLabels (t .done) ++ t .state .labels) (k .«labels_before» + j) noLabel ≡ getD (t .state .labels) j noLabel
@@ -174,33 +170,51 @@ module _ (text : List ℕ) (t : TablesSoFar) (k : Counters) (l : List ℕ) (h : 
         sym (label-same kind opener i hi) ∙ sym (ap (λ (c : Bool). c && this) b) ∙ q)
 
   string-same : (u : List ℕ) (j : ℕ) → j < length (t .state .strings)
-      → sameTextAt text l (196 * k .records) u j ≡ sameText u (getD (t .state .strings) j no-string .text)
+      → sameTextAt text l (196 * k .records) u j ≡ sameText u (getD (t .state .strings) j noString .text)
   unfolding sameTextAt
   string-same u j hj =
-      let x : StringEntry = getD (t .state .strings) j no-string in
-      let f : StringStands text (getD (t .state .strings) j no-string) = all-at (StringStands text) (t .state .strings) no-string j (h .fits .strings-stand) hj in
+      let x : StringEntry = getD (t .state .strings) j noString in
+      let f : StringStands text (getD (t .state .strings) j noString) = all-at (StringStands text) (t .state .strings) noString j (h .fits .strings-stand) hj in
       ap (sameText u)
       (ap₂ (textAt text)
-      (table-word (h .strings-hold) no-string j 0 (196 * k .records + 8 * j) (omega (arith, h .strings-hold .count)) (omega arith) (omega arith) ∙ string-offset text x f)
-      (table-word (h .strings-hold) no-string j 4 (196 * k .records + 8 * j + 4) (omega (arith, h .strings-hold .count)) (omega arith) (omega arith) ∙ string-len text x f)
+      (table-word (h .strings-hold) noString j 0 (196 * k .records + 8 * j) (omega (arith, h .strings-hold .count)) (omega arith) (omega arith) ∙ string-offset text x f)
+      (table-word (h .strings-hold) noString j 4 (196 * k .records + 8 * j + 4) (omega (arith, h .strings-hold .count)) (omega arith) (omega arith) ∙ string-len text x f)
       ∙ sym (f .stands))
+
+  digests-at : (j : ℕ) → j < length (t .state .strings) → wordAt l (236 * k .records + 4 * j) ≡ digestOf (getD (t .state .strings) j noString .text)
+  digests-at j hj =
+      table-word (h .digests-hold) noString j 0 (236 * k .records + 4 * j) (omega (arith, h .digests-hold .count)) (omega arith) (omega arith)
+      ∙ string-digest (getD (t .state .strings) j noString)
 
   -- its digest is that of its text: where texts are the same, digests are
   string-told : (u : List ℕ) (d : ℕ) → d ≡ digestOf u → (j : ℕ) → j < length (t .state .strings)
-      → stringIs text l (k .records) d u j ≡ sameText u (getD (t .state .strings) j no-string .text)
+      → stringIs text l (k .records) d u j ≡ sameText u (getD (t .state .strings) j noString .text)
   unfolding stringIs
   string-told u d ed j hj =
-      let x : StringEntry = getD (t .state .strings) j no-string in
-      ap₂ (λ (w : ℕ) (b : Bool). eqb d w && b)
-      (table-word (h .digests-hold) no-string j 0 (236 * k .records + 4 * j) (omega (arith, h .digests-hold .count)) (omega arith) (omega arith) ∙ string-digest x)
-      (string-same u j hj)
-      ∙ digests-first u (x .text) d ed
+      ap₂ (λ (w : ℕ) (b : Bool). eqb d w && b) (digests-at j hj) (string-same u j hj) ∙ digests-first u (getD (t .state .strings) j noString .text) d ed
 
-  pub strings-read : (u : List ℕ) (d : ℕ) → d ≡ digestOf u
-      → first (k .strings) (stringIs text l (k .records) d u) 0 ≡ position (λ x. sameText u (x .text)) (t .state .strings)
-  strings-read u d ed =
-      first-position (λ x. sameText u (x .text)) no-string (stringIs text l (k .records) d u) (t .state .strings)
-      (k .strings) (h .strings-hold .count) (string-told u d ed)
+  -- the bucket of entry j is its string's, and so a walk begins where the links say
+  string-bucket : (j : ℕ) → j < length (t .state .strings) → stringBucketAt l (k .records) j ≡ buckets (stringBucket (k .records)) noString (t .state .strings) j
+  unfolding stringBucketAt
+  string-bucket j hj = ap (digestBucket (k .records)) (digests-at j hj)
+
+  pub string-start : (b : ℕ) → Start (buckets (stringBucket (k .records)) noString (t .state .strings)) (length (t .state .strings)) b (stringHead l (k .records) (k .strings) b)
+  string-start b = entry-start (h .string-links-hold) (k .strings) (h .strings-hold .count) (stringBucketAt l (k .records)) string-bucket b
+
+  module _ (e : StringEntry) (d : ℕ) (ed : d ≡ digestOf (e .text)) where
+    abbrev string-test : ℕ → Bool
+    string-test = stringIs text l (k .records) d (e .text)
+
+    abbrev from-string-head : Found → Type 0
+    from-string-head r = Walks (λ j. wordAt l (280 * k .records + 4 * j)) string-test (stringHead l (k .records) (k .strings) (stringBucket (k .records) e)) r
+
+    pub string-here : (i : ℕ) → from-string-head (At i) → position (sameString e) (t .state .strings) ≡ some i
+    string-here i w =
+        entry-there (h .string-links-hold) (strings-alike (k .records)) e string-test (string-told (e .text) d ed) (string-start (stringBucket (k .records) e)) i w
+
+    pub string-gone : from-string-head Nothing → position (sameString e) (t .state .strings) ≡ none
+    string-gone w =
+        entry-missing (h .string-links-hold) (strings-alike (k .records)) e string-test (string-told (e .text) d ed) (string-start (stringBucket (k .records) e)) w
 
   -- entry j of the floats
   pub floats-at : (j : ℕ) → j < length (t .state .floats) → FloatAt l (204 * k .records + 16 * j) (getD (t .state .floats) j noFloat)
@@ -224,32 +238,22 @@ module _ (text : List ℕ) (t : TablesSoFar) (k : Counters) (l : List ℕ) (h : 
       (ap (eqb (boolNumber (e .short))) (a .mark) ∙ marks (e .short) (x .short))
 
   -- the bucket of entry j is its float's, and so a walk begins where the links say
-  float-bucket : (j : ℕ) → j < length (t .state .floats) → bucketAt l (k .records) j ≡ buckets (k .records) (t .state .floats) j
+  float-bucket : (j : ℕ) → j < length (t .state .floats) → bucketAt l (k .records) j ≡ buckets (entryBucket (k .records)) noFloat (t .state .floats) j
   unfolding bucketAt
   float-bucket j hj = let a : FloatAt l (204 * k .records + 16 * j) (getD (t .state .floats) j noFloat) = floats-at j hj in rw (a .low, a .high, a .mark) refl
 
-  head-tests : (i b : ℕ) → (ltb i (k .floats) && eqb (bucketAt l (k .records) i) b) ≡ (ltb i (length (t .state .floats)) && eqb (buckets (k .records) (t .state .floats) i) b)
-  head-tests i b =
-      ap (λ (c : ℕ). ltb i c && eqb (bucketAt l (k .records) i) b) (h .floats-hold .count)
-      ∙ tested (ltb i (length (t .state .floats)))
-      (λ q. ap (λ (z : ℕ). ltb i (length (t .state .floats)) && eqb z b) (float-bucket i (ltb-true i (length (t .state .floats)) q)))
-      (λ q. ap (λ (c : Bool). c && eqb (bucketAt l (k .records) i) b) q ∙ sym (ap (λ (c : Bool). c && eqb (buckets (k .records) (t .state .floats) i) b) q))
-
-  pub float-start : (b : ℕ) → Start (buckets (k .records) (t .state .floats)) (length (t .state .floats)) b (headFor l (k .records) (k .floats) b)
-  unfolding headFor
-  float-start b =
-      let i : ℕ = wordAt l (276 * k .records + 4 * b) in
-      start (h .links-hold .linked) b i refl (ltb i (k .floats) && eqb (bucketAt l (k .records) i) b) (head-tests i b)
+  pub float-start : (b : ℕ) → Start (buckets (entryBucket (k .records)) noFloat (t .state .floats)) (length (t .state .floats)) b (floatHead l (k .records) (k .floats) b)
+  float-start b = entry-start (h .float-links-hold) (k .floats) (h .floats-hold .count) (bucketAt l (k .records)) float-bucket b
 
   module _ (e : FloatEntry) where
-    abbrev test : ℕ → Bool
-    test = fourAt l (204 * k .records) (e .bits % 4294967296) (e .bits / 4294967296) (boolNumber (e .short))
+    abbrev float-test : ℕ → Bool
+    float-test = fourAt l (204 * k .records) (e .bits % 4294967296) (e .bits / 4294967296) (boolNumber (e .short))
 
-    abbrev from-head : Found → Type 0
-    from-head r = Walks (λ j. wordAt l (268 * k .records + 4 * j)) test (headFor l (k .records) (k .floats) (entryBucket (k .records) e)) r
+    abbrev from-float-head : Found → Type 0
+    from-float-head r = Walks (λ j. wordAt l (268 * k .records + 4 * j)) float-test (floatHead l (k .records) (k .floats) (entryBucket (k .records) e)) r
 
-    pub float-here : (i : ℕ) → from-head (At i) → position (sameFloat e) (t .state .floats) ≡ some i
-    float-here i w = float-there (h .links-hold) e test (float-same e) (float-start (entryBucket (k .records) e)) i w
+    pub float-here : (i : ℕ) → from-float-head (At i) → position (sameFloat e) (t .state .floats) ≡ some i
+    float-here i w = entry-there (h .float-links-hold) (floats-alike (k .records)) e float-test (float-same e) (float-start (entryBucket (k .records) e)) i w
 
-    pub float-gone : from-head Nothing → position (sameFloat e) (t .state .floats) ≡ none
-    float-gone w = float-missing (h .links-hold) e test (float-same e) (float-start (entryBucket (k .records) e)) w
+    pub float-gone : from-float-head Nothing → position (sameFloat e) (t .state .floats) ≡ none
+    float-gone w = entry-missing (h .float-links-hold) (floats-alike (k .records)) e float-test (float-same e) (float-start (entryBucket (k .records) e)) w

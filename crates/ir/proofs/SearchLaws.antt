@@ -1,85 +1,27 @@
--- Laws of `first`: what a loop over an index shows of it, and that it is the position in the list that the table holds.
--- By recursion over the numbers that are left. Assumes nothing.
+-- Laws of `position`, and of what a search answers: what is found is in the list, and is the only one that can be found; and how the code tells a label and a string.
+-- By recursion over the list. Assumes nothing.
 use mathlib.Core.Path.{_≡_, refl, sym, ap, ap₂, _∙_, subst}
 use mathlib.Core.Bool.{Bool, true, false, _&&_, false≢true}
 use mathlib.Core.List.{List, [], _∷_, _++_}
 use mathlib.Core.Option.{Option, none, some}
 use Prim.Native.Nat.{ℕ, zero, suc, _+_, _-_, _*_, _≤_, _<_}
-use native.Mathlib.Numerals.{add-one}
 use native.Mathlib.Omega.{arith}
 use lib.ListN.{length, getD, length-append, List·getD-append}
 use lib.Seq.{getD-append-add}
 use borrow.Author.Count.{below-more}
 use borrow.Author.Tests.{eq-eqb, ne-eqb, lt-ltb, le-ltb}
-use Rattle.laws.specs.Fix.{pick}
 use Rattle.records.specs.Words.{wordAt, textAt}
 use Rattle.conversion.specs.Ir.{position, sameText}
 use Rattle.records.specs.declared.words.Found.{Found}
 use Rattle.records.specs.declared.words.Found.the-variants.{At, Nothing}
 use Rattle.ir.specs.declared.structs.Counters.{Counters}
-use Rattle.ir.specs.Search.{first, foundOf, pairAt, labelIs, sameTextAt, stringIs}
-
-module _ (n : ℕ) (f : ℕ → Bool) where
-  -- what was asked equals what is left from i on
-  abbrev pub Left : ℕ → Type 0
-  Left i = first n f 0 ≡ first (n - i) f i
-
-  one-more : (i : ℕ) → i < n → n - i ≡ suc (n - (i + 1))
-  one-more i h = omega arith
-
-  pub left-start : Left 0
-  left-start = let z : n ≡ n - 0 = omega arith in ap (λ (m : ℕ). first m f 0) z
-
-  pub left-more : (i : ℕ) → i < n → f i ≡ false → Left i → Left (i + 1)
-  unfolding first pick
-  left-more i h e w = w ∙ rw (one-more i h, add-one) (rw e refl)
-
-  pub left-hit : (i : ℕ) → i < n → f i ≡ true → Left i → At i ≡ foundOf (first n f 0)
-  unfolding first pick
-  left-hit i h e w = rw (w, one-more i h, e) refl
-
-  pub left-end : (i : ℕ) → n ≤ i → Left i → Nothing ≡ foundOf (first n f 0)
-  unfolding first
-  left-end i h w = let z : n - i ≡ 0 = omega arith in rw (w, z) refl
-
--- as found, counted from i
-abbrev shift : ℕ → Option ℕ → Option ℕ
-shift i none = none
-shift i (some j) = some (i + j)
-
-shift-some : (i : ℕ) (o : Option ℕ) → shift (suc i) o ≡ shift i (elim o [ none ↦ none | some j ↦ some (suc j) ])
-shift-some i none = refl
-shift-some i (some j) = ap some (omega arith)
+use Rattle.ir.specs.Search.{foundOf, pairAt, labelIs, sameTextAt, stringIs}
 
 -- the position, by the first element
 position-by : {X : Type 0} (p : X → Bool) (x : X) (xs : List X) (b : Bool) → p x ≡ b
     → position p (x ∷ xs) ≡ elim b [ true ↦ some 0 | false ↦ elim (position p xs) [ none ↦ none | some j ↦ some (suc j) ] ]
 unfolding position
 position-by p x xs b q = ap (λ (z : Bool). elim z [ true ↦ some 0 | false ↦ elim (position p xs) [ none ↦ none | some j ↦ some (suc j) ] ]) q
-
-first-by : {X : Type 0} (p : X → Bool) (f : ℕ → Bool) (x : X) (xs : List X) (i : ℕ) → first (length xs) f (suc i) ≡ shift (suc i) (position p xs)
-    → (b : Bool) → f i ≡ b → p x ≡ b → first (suc (length xs)) f i ≡ shift i (position p (x ∷ xs))
-unfolding first pick
-first-by p f x xs i rest true e q = rw e (ap some (omega arith) ∙ ap (shift i) (sym (position-by p x xs true q)))
-first-by p f x xs i rest false e q = rw e (rest ∙ shift-some i (position p xs) ∙ ap (shift i) (sym (position-by p x xs false q)))
-
-first-shift : {X : Type 0} (p : X → Bool) (d : X) (f : ℕ → Bool) (xs : List X) (i : ℕ)
-    → ((j : ℕ) → j < length xs → f (i + j) ≡ p (getD xs j d)) → first (length xs) f i ≡ shift i (position p xs)
-unfolding first position
-first-shift p d f [] i h = refl
-first-shift p d f (x ∷ xs) i h =
-    first-by p f x xs i (first-shift p d f xs (suc i) (λ j hj. let z : suc i + j ≡ i + suc j = omega arith in ap f z ∙ h (suc j) (omega arith))) (p x)
-    (let z : i ≡ i + 0 = omega arith in ap f z ∙ h 0 (omega arith)) refl
-
-shift-zero : (o : Option ℕ) → shift 0 o ≡ o
-shift-zero none = refl
-shift-zero (some j) = ap some (omega arith)
-
--- a table's search is the list's
-pub first-position : {X : Type 0} (p : X → Bool) (d : X) (f : ℕ → Bool) (xs : List X) (n : ℕ) → n ≡ length xs
-    → ((j : ℕ) → j < length xs → f j ≡ p (getD xs j d)) → first n f 0 ≡ position p xs
-first-position p d f xs n e h =
-    rw e (first-shift p d f xs 0 (λ j hj. let z : 0 + j ≡ j = omega arith in ap f z ∙ h j hj) ∙ shift-zero (position p xs))
 
 -- a property of each entry and its number, and of one more
 pub numbered-more : {X : Type 0} (d : X) (xs : List X) (x : X) (P : X → ℕ → Type 0) → ((j : ℕ) → j < length xs → P (getD xs j d) j) → P x (length xs)
@@ -149,18 +91,6 @@ position-nowhere p d xs never = go (position p xs) refl
     go none e = e
     go (some j) e = let hit = position-hit p d xs j e in absurd (never j (hit .below) (hit .holds))
 
--- what is found is below the end
-first-in : (n : ℕ) (f : ℕ → Bool) (i r : ℕ) → (first n f (suc i) ≡ some r → r < suc i + n) → (b : Bool) → f i ≡ b
-    → first (suc n) f i ≡ some r → r < i + suc n
-unfolding first pick
-first-in n f i r rest true q e = let z : some i ≡ some r = (rw q at e) in let w : i ≡ r = cc in omega arith
-first-in n f i r rest false q e = omega (arith, rest (rw q at e))
-
-pub first-below : (n : ℕ) (f : ℕ → Bool) (i r : ℕ) → first n f i ≡ some r → r < i + n
-unfolding first
-first-below zero f i r e = absurd (let z : _≡_ {A = ℕ} 0 1 = cc in omega arith)
-first-below (suc n) f i r e = first-in n f i r (first-below n f (suc i) r) (f i) refl e
-
 -- the answer at a hit, and at none
 pub found-some : (o : Option ℕ) (r : ℕ) (a : Found) → a ≡ foundOf o → a ≡ At r → o ≡ some r
 found-some none r a e q = absurd (let z : _≡_ {A = ℕ} 0 1 = cc in omega arith)
@@ -169,9 +99,6 @@ found-some (some j) r a e q = let z : j ≡ r = cc in ap some z
 pub found-none : (o : Option ℕ) (a : Found) → a ≡ foundOf o → a ≡ Nothing → o ≡ none
 found-none none a e q = refl
 found-none (some j) a e q = absurd (let z : _≡_ {A = ℕ} 0 1 = cc in omega arith)
-
-pub found-small : (n : ℕ) (f : ℕ → Bool) (r : ℕ) (a : Found) → a ≡ foundOf (first n f 0) → a ≡ At r → r < n
-found-small n f r a e q = omega (arith, first-below n f 0 r (found-some (first n f 0) r a e q))
 
 -- ---- a label by its number
 

@@ -2,7 +2,7 @@
 -- instruction buffer (320n bytes), whose first 128n bytes are the instructions' own place. Assumes nothing: these are definitions.
 use mathlib.Core.Path.{_≡_}
 use Prim.Native.Nat.{ℕ, suc, _+_, _-_, _*_, _/_, _%_, _^_, _≤_, _<_}
-use mathlib.Core.Bool.{false}
+use mathlib.Core.Bool.{Bool, false}
 use mathlib.Core.List.{List, [], _∷_, _++_}
 use lib.ListN.{length, take, drop, getD}
 use Rattle.laws.specs.All.{All}
@@ -10,7 +10,7 @@ use Rattle.records.specs.Digest.{digestOf}
 use Rattle.records.specs.Layout.{Region}
 use Rattle.records.specs.Words.{wordAt}
 use Rattle.conversion.specs.Ir as Ir
-use Rattle.conversion.specs.Ir.{LabelName, StringEntry, FloatEntry, State, IrFunction, sameFloat}
+use Rattle.conversion.specs.Ir.{LabelName, StringEntry, FloatEntry, State, IrFunction, sameText, sameFloat}
 use Rattle.conversion.specs.Fits.{StringStands, FloatFits}
 use Rattle.conversion.specs.Written.{word, boolNumber, encodeAll, encodeInstr, encodeVar, encodeLabel, encodeFunctions, encodeString, encodeFloat, allCode, allVars, allLabels}
 use Rattle.ir.specs.declared.structs.Counters.{Counters}
@@ -41,7 +41,7 @@ strings = record { from = 196; each = 8 }
 abbrev pub floats : Region
 floats = record { from = 204; each = 32 }
 
--- n digests of 4, of the strings' texts, by which a string is looked for: they are in no table
+-- n digests of 4, of the strings' texts, by which strings are compared and put into buckets: they are in no table
 abbrev pub stringDigests : Region
 stringDigests = record { from = 236; each = 4 }
 
@@ -55,6 +55,13 @@ floatLinks = record { from = 268; each = 8 }
 
 abbrev pub floatHeads : Region
 floatHeads = record { from = 276; each = 4 }
+
+-- n links of 4, of the strings, and n heads of 4, of their buckets, by which a string is looked for: they are in no table
+abbrev pub stringLinks : Region
+stringLinks = record { from = 280; each = 4 }
+
+abbrev pub stringHeads : Region
+stringHeads = record { from = 284; each = 4 }
 
 -- 'instructions 320n bytes'
 abbrev pub arenaEach : ℕ
@@ -96,10 +103,23 @@ labelEntryAt n i = labels .from * n + labelBytes * i
 abbrev pub functionEntryAt : ℕ → ℕ → ℕ
 functionEntryAt n i = functions .from * n + functionBytes * i
 
+abbrev pub stringEntryAt : ℕ → ℕ → ℕ
+stringEntryAt n i = strings .from * n + stringBytes * i
+
 abbrev pub floatEntryAt : ℕ → ℕ → ℕ
 floatEntryAt n i = floats .from * n + floatBytes * i
 
--- the link of float i, and the head of bucket b
+-- the digest and the link of string i, and the head of bucket b
+abbrev pub stringDigestAt : ℕ → ℕ → ℕ
+stringDigestAt n i = stringDigests .from * n + searchBytes * i
+
+abbrev pub stringLinkAt : ℕ → ℕ → ℕ
+stringLinkAt n i = stringLinks .from * n + searchBytes * i
+
+abbrev pub stringHeadAt : ℕ → ℕ → ℕ
+stringHeadAt n b = stringHeads .from * n + searchBytes * b
+
+-- the same of the floats
 abbrev pub floatLinkAt : ℕ → ℕ → ℕ
 floatLinkAt n i = floatLinks .from * n + searchBytes * i
 
@@ -107,7 +127,7 @@ abbrev pub floatHeadAt : ℕ → ℕ → ℕ
 floatHeadAt n b = floatHeads .from * n + searchBytes * b
 
 abbrev pub arena : List Region
-arena = instructions ∷ variables ∷ labels ∷ functions ∷ strings ∷ floats ∷ stringDigests ∷ labelSlots ∷ floatLinks ∷ floatHeads ∷ []
+arena = instructions ∷ variables ∷ labels ∷ functions ∷ strings ∷ floats ∷ stringDigests ∷ labelSlots ∷ floatLinks ∷ floatHeads ∷ stringLinks ∷ stringHeads ∷ []
 
 -- ---- what stands there
 
@@ -164,6 +184,11 @@ pub record Linked (head link bucket : ℕ → ℕ) (m : ℕ) : Type 0 where
   pub link-of : (i j : ℕ) → i < m → link i ≡ suc j → bucket j ≡ bucket i
   pub link-last : (i j : ℕ) → i < m → j < i → bucket j ≡ bucket i → j < link i
 
+-- the entries of a table, each in a bucket, are linked, and no two are the same: the heads and the links stand from these bytes on, and `past` stands for an entry past the last
+pub record LinkedEntries {X : Type 0} (bucket : X → ℕ) (same : X → X → Bool) (past : X) (heads links : ℕ) (xs : List X) (l : List ℕ) : Type 0 where
+  pub linked : Linked (λ b. wordAt l (heads + searchBytes * b)) (λ i. wordAt l (links + searchBytes * i)) (λ i. bucket (getD xs i past)) (length xs)
+  pub distinct : (i j : ℕ) → j < length xs → i < j → same (getD xs j past) (getD xs i past) ≡ false
+
 -- the bucket, one of n, of a float of these words: the high bits of a product depend on all bits of its factors
 unfoldable pub floatBucket : ℕ → ℕ → ℕ → ℕ → ℕ
 floatBucket n low high mark = (low * 1640531527 + high * 1013904223 + mark) / 4294967296 % n
@@ -174,10 +199,24 @@ entryBucket n x = floatBucket n (x .bits % 4294967296) (x .bits / 4294967296) (b
 abbrev pub noFloat : FloatEntry
 noFloat = record { bits = 0; short = false }
 
--- the floats are linked, and no two are the same
-pub record LinkedFloats (n : ℕ) (xs : List FloatEntry) (l : List ℕ) : Type 0 where
-  pub linked : Linked (λ b. wordAt l (floatHeadAt n b)) (λ i. wordAt l (floatLinkAt n i)) (λ i. entryBucket n (getD xs i noFloat)) (length xs)
-  pub distinct : (i j : ℕ) → j < length xs → i < j → sameFloat (getD xs j noFloat) (getD xs i noFloat) ≡ false
+abbrev pub LinkedFloats : ℕ → List FloatEntry → List ℕ → Type 0
+LinkedFloats n xs l = LinkedEntries (entryBucket n) sameFloat noFloat (floatHeads .from * n) (floatLinks .from * n) xs l
+
+-- the bucket, one of n, of a text of this digest, whose bits depend on all bytes of the text
+unfoldable pub digestBucket : ℕ → ℕ → ℕ
+digestBucket n d = d % n
+
+abbrev pub stringBucket : ℕ → StringEntry → ℕ
+stringBucket n x = digestBucket n (digestOf (x .text))
+
+abbrev pub sameString : StringEntry → StringEntry → Bool
+sameString a b = sameText (a .text) (b .text)
+
+abbrev pub noString : StringEntry
+noString = record { offset = 0; len = 0; text = [] }
+
+abbrev pub LinkedStrings : ℕ → List StringEntry → List ℕ → Type 0
+LinkedStrings n xs l = LinkedEntries (stringBucket n) sameString noString (stringHeads .from * n) (stringLinks .from * n) xs l
 
 -- how many functions are done, and how many instructions, variables and labels they have
 pub record Before (done : List IrFunction) (functions instructions variables labels : ℕ) : Type 0 where
@@ -202,7 +241,8 @@ pub record Holds (text : List ℕ) (t : TablesSoFar) (k : Counters) (l : List �
   pub floats-hold : Table encodeFloat 16 (t .state .floats) (floats .from * k .records) (k .floats) l
   pub digests-hold : Table encodeDigest 4 (t .state .strings) (stringDigests .from * k .records) (k .strings) l
   pub slots-hold : Slots (k .records) (t .state .labels) l
-  pub links-hold : LinkedFloats (k .records) (t .state .floats) l
+  pub float-links-hold : LinkedFloats (k .records) (t .state .floats) l
+  pub string-links-hold : LinkedStrings (k .records) (t .state .strings) l
   pub before : Before (t .done) (k .functions) (k .«instructions_before») (k .«variables_before») (k .«labels_before»)
   pub fits : Fits text (t .state .labels) (t .state .strings) (t .state .floats)
 

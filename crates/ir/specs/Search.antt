@@ -1,7 +1,7 @@
--- A search through a table: the first of so many numbers of which a test holds, or of those that a chain leads through, and the tests by which labels, strings
--- and floats are found. Assumes nothing: these are definitions.
+-- A search through a table: the first number of which a test holds, of those that a chain leads through, and the tests by which labels, strings and floats are found.
+-- Assumes nothing: these are definitions.
 use mathlib.Core.Path.{_≡_}
-use Prim.Native.Nat.{ℕ, zero, suc, _+_, _-_, _*_, _≤_, _<_}
+use Prim.Native.Nat.{ℕ, suc, _+_, _-_, _*_, _≤_, _<_}
 use mathlib.Core.Bool.{Bool, true, false, _&&_}
 use mathlib.Core.List.{List}
 use mathlib.Core.Option.{Option, none, some}
@@ -10,16 +10,11 @@ use Rattle.laws.specs.Fix.{pick}
 use Rattle.records.specs.Words.{wordAt, textAt}
 use Rattle.conversion.specs.Ir.{sameText}
 use Rattle.ir.specs.declared.structs.Counters.{Counters}
-use Rattle.ir.specs.Arena.{labelBytes, strings, stringBytes, floatBytes, stringDigests, labelEntryAt, floatEntryAt, floatHeadAt, floatBucket}
+use Rattle.ir.specs.Arena.{labelBytes, strings, stringBytes, floatBytes, labelEntryAt, floatEntryAt, floatHeadAt, stringDigestAt, stringHeadAt, floatBucket, digestBucket}
 use Rattle.records.specs.declared.words.Found.{Found}
 use Rattle.records.specs.declared.words.Found.the-variants.{At, Nothing}
 
--- the first of the n numbers from i on of which f holds
-unfoldable pub first : ℕ → (ℕ → Bool) → ℕ → Option ℕ
-unfolding pick
-first zero f i = none
-first (suc n) f i = pick (f i) (some i) (first n f (suc i))
-
+-- what is found, as the code says it
 abbrev pub foundOf : Option ℕ → Found
 foundOf none = Nothing
 foundOf (some i) = At i
@@ -41,7 +36,7 @@ sameTextAt text l at t j = sameText t (textAt text (wordAt l (at + stringBytes *
 -- string j, of the tables of n records, has this digest and the text t
 unfoldable pub stringIs : List ℕ → List ℕ → ℕ → ℕ → List ℕ → ℕ → Bool
 unfolding sameTextAt
-stringIs text l n digest t j = eqb digest (wordAt l (stringDigests .from * n + stringDigests .each * j)) && sameTextAt text l (strings .from * n) t j
+stringIs text l n digest t j = eqb digest (wordAt l (stringDigestAt n j)) && sameTextAt text l (strings .from * n) t j
 
 -- the first three words (of four) of float j of those from byte `at` on are a, b and c
 unfoldable pub fourAt : List ℕ → ℕ → ℕ → ℕ → ℕ → ℕ → Bool
@@ -61,7 +56,19 @@ unfoldable pub bucketAt : List ℕ → ℕ → ℕ → ℕ
 unfolding floatBucket
 bucketAt l n j = floatBucket n (wordAt l (floatEntryAt n j)) (wordAt l (floatEntryAt n j + 4)) (wordAt l (floatEntryAt n j + 8))
 
--- where a walk through bucket b begins, with m floats written: what stands at its head counts where it is the number of one of them, and of that bucket
-unfoldable pub headFor : List ℕ → ℕ → ℕ → ℕ → ℕ
-unfolding bucketAt pick
-headFor l n m b = let i = wordAt l (floatHeadAt n b) in pick (ltb i m && eqb (bucketAt l n i) b) (i + 1) 0
+-- and of string j, by its digest
+unfoldable pub stringBucketAt : List ℕ → ℕ → ℕ → ℕ
+unfolding digestBucket
+stringBucketAt l n j = digestBucket n (wordAt l (stringDigestAt n j))
+
+-- where a walk through bucket b begins, with m entries written, each in its bucket: the number i at its head counts where it is that of one of them, and of that bucket
+unfoldable pub headFor : (ℕ → ℕ) → ℕ → ℕ → ℕ → ℕ
+unfolding pick
+headFor bucket m b i = pick (ltb i m && eqb (bucket i) b) (i + 1) 0
+
+-- the same of the floats, and of the strings
+abbrev pub floatHead : List ℕ → ℕ → ℕ → ℕ → ℕ
+floatHead l n m b = headFor (bucketAt l n) m b (wordAt l (floatHeadAt n b))
+
+abbrev pub stringHead : List ℕ → ℕ → ℕ → ℕ → ℕ
+stringHead l n m b = headFor (stringBucketAt l n) m b (wordAt l (stringHeadAt n b))

@@ -20,8 +20,8 @@ use Rattle.ir.specs.declared.structs.LabelNumber.{LabelNumber}
 use Rattle.ir.specs.declared.pool.PoolNumber.{PoolNumber}
 use Rattle.ir.specs.Instructions.{varOf, instrOf}
 use Rattle.ir.specs.Amounts.{amount, Spent}
-use Rattle.ir.specs.Search.{headFor}
-use Rattle.ir.specs.Arena.{strings, stringDigests, instructionEntryAt, variableEntryAt, labelEntryAt, floatEntryAt, floatLinkAt, floatHeadAt, encodeDigest, labelSlot, entryBucket, TablesSoFar, Holds, Room}
+use Rattle.ir.specs.Search.{floatHead, stringHead}
+use Rattle.ir.specs.Arena.{instructionEntryAt, variableEntryAt, labelEntryAt, stringEntryAt, stringDigestAt, stringLinkAt, stringHeadAt, floatEntryAt, floatLinkAt, floatHeadAt, encodeDigest, labelSlot, entryBucket, stringBucket, TablesSoFar, Holds, Room}
 
 -- the tables after a step that emits c and leaves the state s
 abbrev pub grown : TablesSoFar → List Ir.Instr → State → TablesSoFar
@@ -83,6 +83,11 @@ pub record WroteThree (l : List ℕ) (i : ℕ) (vs : List ℕ) (j : ℕ) (ws : L
   pub counts : k′ ≡ want
   pub wrote : l′ ≡ splice (splice (splice l i vs) j ws) p us
 
+-- and of four
+pub record WroteFour (l : List ℕ) (i : ℕ) (vs : List ℕ) (j : ℕ) (ws : List ℕ) (p : ℕ) (us : List ℕ) (q : ℕ) (ts : List ℕ) (want k′ : Counters) (l′ : List ℕ) : Type 0 where
+  pub counts : k′ ≡ want
+  pub wrote : l′ ≡ splice (splice (splice (splice l i vs) j ws) p us) q ts
+
 -- nothing changed
 pub record TablesStay (k : Counters) (l : List ℕ) (k′ : Counters) (l′ : List ℕ) : Type 0 where
   pub counts : k′ ≡ k
@@ -116,10 +121,17 @@ pub record NumbersLabel (kind opener : ℕ) (k : Counters) (l : List ℕ) (r : L
   pub spent : Spent k (r .counters) (amount 0 0 1 0 0)
   pub entry : LabelAdded kind opener k l (r .counters) l′ ⊎ TablesStay k l (r .counters) l′
 
+-- a string more: its bytes and its digest behind the others, its link, which leads to one past the last before it in its bucket b, and its number at the bucket's head
+abbrev pub StringAdded : List ℕ → List ℕ → ℕ → ℕ → Counters → List ℕ → Counters → List ℕ → Type 0
+StringAdded bytes digest b last k l k′ l′ =
+    WroteFour l (stringEntryAt (k .records) (k .strings)) bytes (stringDigestAt (k .records) (k .strings)) digest (stringLinkAt (k .records) (k .strings)) (word last)
+    (stringHeadAt (k .records) b) (word (k .strings)) (moreStrings k) k′ l′
+
 pub record NumbersString (text : List ℕ) (e : StringEntry) (k : Counters) (l : List ℕ) (r : PoolNumber) (l′ : List ℕ) : Type 0 where
   pub next : NextIn text (Ir.string-id e) k l (r .number) (r .counters) l′
   pub spent : Spent k (r .counters) (amount 0 0 0 1 0)
-  pub entry : WroteTwo l (strings .from * k .records + 8 * k .strings) (encodeString e) (stringDigests .from * k .records + 4 * k .strings) (encodeDigest e) (moreStrings k) (r .counters) l′
+  pub entry :
+      StringAdded (encodeString e) (encodeDigest e) (stringBucket (k .records) e) (stringHead l (k .records) (k .strings) (stringBucket (k .records) e)) k l (r .counters) l′
       ⊎ TablesStay k l (r .counters) l′
 
 -- a float more: its bytes behind the others, its link, which leads to one past the last before it in its bucket b, and its number at the bucket's head
@@ -132,7 +144,7 @@ pub record NumbersFloat (e : FloatEntry) (k : Counters) (l : List ℕ) (r : Pool
   pub next : Next (Ir.float-id e) k l (r .number) (r .counters) l′
   pub spent : Spent k (r .counters) (amount 0 0 0 0 1)
   pub entry :
-      FloatAdded (encodeFloat e) (entryBucket (k .records) e) (headFor l (k .records) (k .floats) (entryBucket (k .records) e)) k l (r .counters) l′
+      FloatAdded (encodeFloat e) (entryBucket (k .records) e) (floatHead l (k .records) (k .floats) (entryBucket (k .records) e)) k l (r .counters) l′
       ⊎ TablesStay k l (r .counters) l′
 
 -- ---- a function is done

@@ -36,3 +36,8 @@ pub const LABEL_SLOT_BYTES: usize = 28;
 pub const FLOAT_LINKS: usize = 268;
 
 pub const FLOAT_HEADS: usize = 276;
+
+// And the strings' links, and the heads of their buckets.
+pub const STRING_LINKS: usize = 280;
+
+pub const STRING_HEADS: usize = 284;

@@ -3,20 +3,24 @@ ghost use mathlib.Core.Path.{_≡_};
 ghost use mathlib.Core.List.{_++_};
 ghost use Prim.Native.Nat.{_+_, _*_, _≤_, _<_};
 ghost use lib.ListN.{length};
+ghost use Rattle.laws.specs.Splice.{splice};
 ghost use Rattle.records.specs.Digest.{digestOf};
-ghost use Rattle.records.specs.Words.{textAt};
+ghost use Rattle.records.specs.Words.{wordAt, textAt};
 ghost use Rattle.conversion.specs.Ir.{floatBits};
 ghost use Rattle.conversion.specs.Written.{word};
-ghost use Rattle.ir.specs.Arena.{strings, stringDigests, floatBucket, Room};
+ghost use Rattle.ir.specs.Arena.{floatBucket, stringDigestAt, stringLinkAt, digestBucket, Room};
 ghost use Rattle.ir.specs.Floats.{entry, entryOfFloat};
-ghost use Rattle.ir.specs.Search.{first, foundOf, stringIs, headFor};
-ghost use Rattle.ir.specs.Steps.{entryOfString, moreStrings, WroteTwo, FloatAdded, NumbersString, NumbersFloat, Next};
+ghost use Rattle.ir.specs.Search.{stringIs, floatHead, stringHead, Walks};
+ghost use Rattle.ir.specs.Steps.{entryOfString, StringAdded, FloatAdded, NumbersString, NumbersFloat, Next};
 use crate::arena::FLOAT_BYTES;
 use crate::arena::FLOAT_HEADS;
 use crate::arena::FLOAT_LINKS;
 use crate::arena::FLOATS;
 use crate::arena::SEARCH_BYTES;
+use crate::arena::STRING_BYTES;
 use crate::arena::STRING_DIGESTS;
+use crate::arena::STRING_HEADS;
+use crate::arena::STRING_LINKS;
 use crate::arena::STRINGS;
 use crate::floats::FloatBits;
 use crate::floats::entry_bits;
@@ -43,61 +47,120 @@ pub struct PoolNumber {
 
 // Whether string j, of the tables of n records, has this digest and this text. Texts that differ mostly differ in their digests, so few are compared.
 fn is_text(text: &[u8], s: &[u8], n: usize, j: usize, d: u32, offset: u32, len: u32) -> bool
-    requires { ⌜ (j < n) × (240 * n ≤ length (now s)) ⌝ }
+    requires { ⌜ (j < n) × (stringDigestAt n n ≤ length (now s)) ⌝ }
     ensures { λ r. ⌜ r ≡ stringIs (now (text .entry)) (now (s .entry)) n d (textAt (now (text .entry)) offset len) j ⌝ }
 {
-    if d != load(s, STRING_DIGESTS * n + 4 * j) {
+    if d != load(s, STRING_DIGESTS * n + SEARCH_BYTES * j) {
         return false;
     }
-    let at = STRINGS * n + 8 * j;
+    let at = STRINGS * n + STRING_BYTES * j;
     let x = load(s, at);
     let y = load(s, at + 4);
     same_text(text, offset, len, x, y)
 }
 
-// The first of `count` strings that has the digest and the text.
-fn find_text(text: &[u8], s: &[u8], n: usize, count: usize, d: u32, offset: u32, len: u32) -> Found
-    requires { ⌜ (count ≤ n) × (240 * n ≤ length (now s)) ⌝ }
-    ensures { λ r. ⌜ r ≡ foundOf (first count (stringIs (now (text .entry)) (now (s .entry)) n d (textAt (now (text .entry)) offset len)) 0) ⌝ }
+// The first string that has the digest and the text, of those that a chain leads through from v on, which is one past a string's number, or 0. So is the word at each
+// string's link, and one that does not lead lower ends the walk.
+fn walk_text(text: &[u8], s: &[u8], n: usize, v: usize, d: u32, offset: u32, len: u32) -> Found
+    requires { ⌜ (v ≤ n) × (stringLinkAt n n ≤ length (now s)) ⌝ }
+    ensures { λ r. ⌜ Walks (λ j. wordAt (now (s .entry)) (stringLinkAt n j)) (stringIs (now (text .entry)) (now (s .entry)) n d (textAt (now (text .entry)) offset len)) v r ⌝ }
 {
-    let mut j = 0;
-    while j < count {
+    let mut u = v;
+    while 0 < u {
+        let j = u - 1;
         if is_text(text, s, n, j, d, offset, len) {
             return Found::At(j);
         }
-        j += 1;
+        let next = index(load(s, STRING_LINKS * n + SEARCH_BYTES * j));
+        if j < next {
+            return Found::Nothing;
+        }
+        u = next;
     }
     Found::Nothing
 }
 
-fn add_string(arena: &mut [u8], k: Counters, d: u32, offset: u32, len: u32) -> PoolNumber
-    requires { ⌜ Room k (now arena) × (k .strings < k .records) ⌝ }
-    ensures { λ r. ⌜ (r .number ≡ k .strings) × WroteTwo (now (arena .entry)) (strings .from * k .records + 8 * k .strings) (word offset ++ word len) (stringDigests .from * k .records + 4 * k .strings) (word d) (moreStrings k) (r .counters) (now (arena .exit)) ⌝ }
+// Which of n buckets a text of this digest is in.
+fn text_bucket(n: usize, d: u32) -> usize
+    requires { ⌜ 0 < n ⌝ }
+    ensures { λ r. ⌜ (r ≡ digestBucket n d) × (r < n) ⌝ }
+{
+    d as usize % n
+}
+
+// Where a walk through bucket b begins: one past the number of its last string, or 0. The head of a bucket without strings may have anything: it counts where the
+// string under the number is one of this bucket.
+fn string_head(arena: &[u8], k: Counters, b: usize) -> usize
+    requires { ⌜ Room k (now arena) × (b < k .records) ⌝ }
+    ensures { λ r. ⌜ (r ≡ stringHead (now (arena .entry)) (k .records) (k .strings) b) × (r ≤ k .strings) ⌝ }
+{
+    let n = k.records;
+    let i = index(load(arena, STRING_HEADS * n + SEARCH_BYTES * b));
+    if i >= k.strings {
+        return 0;
+    }
+    if text_bucket(n, load(arena, STRING_DIGESTS * n + SEARCH_BYTES * i)) != b {
+        return 0;
+    }
+    i + 1
+}
+
+// An entry's link, and its number at the head of its bucket.
+fn put_link(arena: &mut [u8], link: usize, last: u32, head: usize, number: u32)
+    requires { ⌜ (link + 4 ≤ length (now arena)) × (head + 4 ≤ length (now arena)) ⌝ }
+    ensures { λ _. ⌜ now (arena .exit) ≡ splice (splice (now (arena .entry)) link (word last)) head (word number) ⌝ }
+{
+    put_word(arena, link, last);
+    put_word(arena, head, number);
+}
+
+// A string more, before the others of its bucket b, of which `last` is one past the last.
+fn add_string(
+    arena: &mut [u8],
+    k: Counters,
+    d: u32,
+    offset: u32,
+    len: u32,
+    b: usize,
+    last: usize,
+) -> PoolNumber
+    requires { ⌜ Room k (now arena) × (k .strings < k .records) × (b < k .records) × (last ≤ k .strings) ⌝ }
+    ensures { λ r. ⌜ (r .number ≡ k .strings) × StringAdded (word offset ++ word len) (word d) b last k (now (arena .entry)) (r .counters) (now (arena .exit)) ⌝ }
 {
     let v = k.strings;
+    let number = v as u32;
     let mut next = k;
     next.strings = v + 1;
-    put_pair(arena, STRINGS * k.records + 8 * v, offset, len);
-    put_word(arena, STRING_DIGESTS * k.records + 4 * v, d);
+    put_pair(arena, STRINGS * k.records + STRING_BYTES * v, offset, len);
+    put_word(arena, STRING_DIGESTS * k.records + SEARCH_BYTES * v, d);
+    put_link(
+        arena,
+        STRING_LINKS * k.records + SEARCH_BYTES * v,
+        last as u32,
+        STRING_HEADS * k.records + SEARCH_BYTES * b,
+        number,
+    );
     PoolNumber {
-        number: v as u32,
+        number: number,
         counters: next,
     }
 }
 
-// The string with this text, its entry the place of its first use. It is looked for by the digest of the text, so that long strings that share
-// most of their bytes are not compared with each other.
+// The string with this text, its entry the place of its first use. It is looked for among those of its bucket, and by the digest of the text, so that long strings
+// that share most of their bytes are not compared with each other.
 pub fn string_id(text: &[u8], arena: &mut [u8], k: Counters, offset: u32, len: u32) -> PoolNumber
     requires { ⌜ Room k (now arena) × (k .strings < k .records) ⌝ }
     ensures { λ r. ⌜ NumbersString (now (text .entry)) (entryOfString (now (text .entry)) offset len) k (now (arena .entry)) r (now (arena .exit)) ⌝ }
 {
     let d = text_digest(text, offset, len);
-    match find_text(text, arena, k.records, k.strings, d, offset, len) {
+    let b = text_bucket(k.records, d);
+    let last = string_head(arena, k, b);
+    match walk_text(text, arena, k.records, last, d, offset, len) {
         Found::At(i) => PoolNumber {
             number: i as u32,
             counters: k,
         },
-        Found::Nothing => add_string(arena, k, d, offset, len),
+        Found::Nothing => add_string(arena, k, d, offset, len, b, last),
     }
 }
 
@@ -114,7 +177,7 @@ fn bucket_of(n: usize, w: Four) -> usize
 // under the number is one of this bucket.
 fn float_head(arena: &[u8], k: Counters, b: usize) -> usize
     requires { ⌜ Room k (now arena) × (b < k .records) ⌝ }
-    ensures { λ r. ⌜ (r ≡ headFor (now (arena .entry)) (k .records) (k .floats) b) × (r ≤ k .floats) ⌝ }
+    ensures { λ r. ⌜ (r ≡ floatHead (now (arena .entry)) (k .records) (k .floats) b) × (r ≤ k .floats) ⌝ }
 {
     let n = k.records;
     let i = index(load(arena, FLOAT_HEADS * n + SEARCH_BYTES * b));
@@ -135,17 +198,19 @@ fn add_float(arena: &mut [u8], k: Counters, w: Four, b: usize, last: usize) -> P
     ensures { λ r. ⌜ (r .number ≡ k .floats) × FloatAdded (word (w .0) ++ word (w .1) ++ word (w .2) ++ word (w .3)) b last k (now (arena .entry)) (r .counters) (now (arena .exit)) ⌝ }
 {
     let v = k.floats;
+    let number = v as u32;
     let mut next = k;
     next.floats = v + 1;
     put_four(arena, FLOATS * k.records + FLOAT_BYTES * v, w);
-    put_word(
+    put_link(
         arena,
         FLOAT_LINKS * k.records + SEARCH_BYTES * v,
         last as u32,
+        FLOAT_HEADS * k.records + SEARCH_BYTES * b,
+        number,
     );
-    put_word(arena, FLOAT_HEADS * k.records + SEARCH_BYTES * b, v as u32);
     PoolNumber {
-        number: v as u32,
+        number: number,
         counters: next,
     }
 }

@@ -13,7 +13,7 @@ use Rattle.laws.proofs.AllBelow.{all-at}
 use Rattle.laws.proofs.FixLaws.{pick-yes, pick-no}
 use Rattle.laws.proofs.Sums.{sum-same}
 use Rattle.laws.proofs.Tests.{tested, and-left, and-right}
-use Rattle.records.specs.Words.{kindOf, detailOf, padOf, wordOf, A, B, C, D, E}
+use Rattle.records.specs.Words.{kindOf, detailOf, padOf, wordOf, mostRecords, A, B, C, D, E}
 use Rattle.records.specs.Shapes.{rowAt}
 use Rattle.records.specs.Rules.{wordOk, wordsOk, formOk, otherwiseMarked, bodyMarked, isFirstType, typesFirst, typeIsNew, refersFrom, references, referredOnce, recordOk}
 use Rattle.judge.specs.Inner.{Lowest, TypesLead, capped, laterRefs, countIn, Counting, ReferenceCounts, otherRules}
@@ -47,7 +47,7 @@ module _ (f : ℕ → Bool) (r found : ℕ) (l : Lowest r f found) where
 
 -- ---- references of good records go down
 
-module _ (tree : List ℕ) (bytes i k : ℕ) (h : i ≤ k) (few : k < 2048) (good : otherRules tree bytes i ≡ true) where
+module _ (tree : List ℕ) (bytes i k : ℕ) (h : i ≤ k) (few : k < mostRecords) (good : otherRules tree bytes i ≡ true) where
   words-good : wordsOk tree bytes i (rowAt tree i) ≡ true
   unfolding otherRules formOk
   words-good =
@@ -77,7 +77,7 @@ module _ (tree : List ℕ) (bytes i k : ℕ) (h : i ≤ k) (few : k < 2048) (goo
         refers-down tree bytes i (row .e) (wordOf tree i E) 0 k (and-right (a && b && c && d) e words-good) h few,
       ) refl
 
-module _ (tree : List ℕ) (bytes n fault : ℕ) (whole : n * 32 ≡ length tree) (few : n ≤ 2048) (low : Lowest n (λ k. not (otherRules tree bytes k)) fault) where
+module _ (tree : List ℕ) (bytes n fault : ℕ) (whole : n * 32 ≡ length tree) (few : n ≤ mostRecords) (low : Lowest n (λ k. not (otherRules tree bytes k)) fault) where
   good : (k : ℕ) → k < fault → otherRules tree bytes k ≡ true
   good k h = not-false _ (low .before k h)
 

@@ -12,7 +12,7 @@ use Rattle.laws.proofs.FixLaws.{below-in, pick-yes, pick-no}
 use Rattle.laws.proofs.Tests.{tested, and-left}
 use Rattle.records.specs.declared.shape.Role.{Role}
 use Rattle.records.specs.declared.shape.Role.the-variants.{Unused, Number, Text, Length, Expr, TypeRef, TypeOrNone, Name, Variable, Arguments, Parameters, Body, Item, Rest}
-use Rattle.records.specs.Words.{kindOf, none}
+use Rattle.records.specs.Words.{kindOf, none, mostRecords}
 use Rattle.records.specs.Shapes.{refers}
 use Rattle.records.specs.Rules.{kindBelow, isExpr, listOk, wordOk, refersTo}
 use Rattle.records.proofs.ListLaws.{list-end}
@@ -87,7 +87,7 @@ reference-out tree bytes r Text w next e h = absurd (false≢true e)
 reference-out tree bytes r Length w next e h = absurd (false≢true e)
 
 -- a word that refers to a lower record, of kind k and with the number c of its list
-module _ (tree : List ℕ) (bytes r w next k c : ℕ) (l : List ℕ) (known : KnownBelow tree r l) (few : r < 2048) (lower : w < r)
+module _ (tree : List ℕ) (bytes r w next k c : ℕ) (l : List ℕ) (known : KnownBelow tree r l) (few : r < mostRecords) (lower : w < r)
     (kIs : k ≡ kindIn l w) (cIs : c ≡ classIn l w) (byte : k < 256) where
   kind-is : kindBelow tree r w ≡ k
   kind-is = kind-in tree r w lower ∙ sym (kIs ∙ known .kinds w lower)
@@ -122,7 +122,7 @@ module _ (tree : List ℕ) (bytes r w next k c : ℕ) (l : List ℕ) (known : Kn
   reference-in Length e = absurd (false≢true e)
 
 -- a word that is right refers to nothing from its own record on
-pub refers-down : (tree : List ℕ) (bytes r : ℕ) (role : Role) (w next k : ℕ) → wordOk tree bytes r role w next ≡ true → r ≤ k → k < 2048 → refersTo role w k ≡ 0
+pub refers-down : (tree : List ℕ) (bytes r : ℕ) (role : Role) (w next k : ℕ) → wordOk tree bytes r role w next ≡ true → r ≤ k → k < mostRecords → refersTo role w k ≡ 0
 unfolding refersTo pick
 refers-down tree bytes r role w next k ok h few =
     tested (refers role)

@@ -18,7 +18,7 @@ use Rattle.records.specs.declared.shape.Role.{Role}
 use Rattle.records.specs.declared.shape.Role.the-variants.{Unused, Number, Text, Length, Expr, TypeRef, TypeOrNone, Name, Variable, Arguments, Parameters, Body, Item, Rest}
 use Rattle.records.specs.Rules.{wordOk, refersTo}
 use Rattle.records.specs.Depth.{depthBelow}
-use Rattle.records.specs.Words.{kindOf, detailOf, none, boolNumber}
+use Rattle.records.specs.Words.{kindOf, detailOf, none, boolNumber, mostRecords}
 use Rattle.records.specs.Shapes.{refers, rowOf, rowAt, shapeOf}
 use Rattle.judge.specs.Inner.{capped, shallowDepth, classIn, depthIn, countIn, kindIn, listNumber, lowKey, highKey, noneOk, KnownBelow, Counting, Counted}
 use Rattle.judge.proofs.CapLaws.{cap-high}
@@ -114,7 +114,7 @@ module _ (rules : List ℕ) (at : ℕ) (role : Role) (facts : RuleFacts rules at
         own = λ e y. absurd (false≢true (sym t ∙ y));
       })
 
-  module _ (place : Place r role w p) (l : List ℕ) (tree : List ℕ) (few : r < 2048) where
+  module _ (place : Place r role w p) (l : List ℕ) (tree : List ℕ) (few : r < mostRecords) where
     -- one more for the record in the slot
     pub counted-slot : p * 4 + 4 ≤ length l → Counted tree r (refersTo role w) l (set l (p * 4 + 1) ((getD l (p * 4 + 1) 0 + 3) / 2))
     counted-slot room =

@@ -13,7 +13,7 @@ use lib.Seq.{drop-length}
 use borrow.Author.Tests.{ne-eqb, eqb-true, leb-true, leb-false, le-leb, lt-leb}
 use Rattle.laws.specs.Fix.{pick}
 use Rattle.laws.specs.Below.{orElse, lowest}
-use Rattle.records.specs.Words.{records, none}
+use Rattle.records.specs.Words.{records, mostRecords, none}
 use Rattle.records.specs.Rules.{recordOk}
 use Rattle.records.specs.Depth.{depth}
 use Rattle.records.specs.declared.convert_error.ConvertErrorKind.the-variants.{BadTree, TooDeep, ShortBuffer}
@@ -66,14 +66,14 @@ module _ (tree text : List ℕ) (n : ℕ) (whole : n * 32 ≡ length tree) where
           ) refl
 
 -- a tree of a right length
-pub lengths-fit : (bytes : ℕ) → lengthsOk bytes ≡ true → (bytes / 32 * 32 ≡ bytes) × (bytes / 32 ≤ 2048)
+pub lengths-fit : (bytes : ℕ) → lengthsOk bytes ≡ true → (bytes / 32 * 32 ≡ bytes) × (bytes / 32 ≤ mostRecords)
 unfolding lengthsOk
 lengths-fit bytes e =
     let few = leb 384 bytes in
     let whole : bytes % 32 ≡ 0 =
-    eqb-true (bytes % 32) 0 (and-left (eqb (bytes % 32) 0) few (and-left (eqb (bytes % 32) 0 && few) (leb bytes 65536) e))
+    eqb-true (bytes % 32) 0 (and-left (eqb (bytes % 32) 0) few (and-left (eqb (bytes % 32) 0 && few) (leb bytes (mostRecords * 32)) e))
     in
-    let most : bytes ≤ 65536 = leb-true bytes 65536 (and-right (eqb (bytes % 32) 0 && few) (leb bytes 65536) e) in
+    let most : bytes ≤ mostRecords * 32 = leb-true bytes (mostRecords * 32) (and-right (eqb (bytes % 32) 0 && few) (leb bytes (mostRecords * 32)) e) in
     (omega arith, omega arith)
 
 -- a product compared by a quotient: either test says what the other says
@@ -193,7 +193,7 @@ lowest-below (suc n) f r e = go (lowest n f) (f n) (λ h. lowest-below n f r h) 
     go nothing true h k = let z : n ≡ r = cc in omega arith
     go nothing false h k = let z : _≡_ {A = ℕ} 0 1 = cc in absurd (omega arith)
 
-place-told : (r : ℕ) → r < 2048 → eqb r none ≡ false
+place-told : (r : ℕ) → r < mostRecords → eqb r none ≡ false
 place-told r h = ne-eqb r none (λ e. omega arith)
 
 -- what an answer's place says of its verdict
@@ -201,7 +201,7 @@ pub record Placed (v : Verdict) : Type 0 where
   pub with : placed (judgedBy v) ≡ clears v
   pub without : unplaced (judgedBy v) ≡ writesNothing v
 
-records-placed : (tree text : List ℕ) → records tree ≤ 2048 → Placed (recordsVerdict tree text)
+records-placed : (tree text : List ℕ) → records tree ≤ mostRecords → Placed (recordsVerdict tree text)
 unfolding recordsVerdict lowestFault lowestDeep atLowest refusedBy judgedBy clears placed unplaced writesNothing
 records-placed tree text few = go (lowestFault tree text) (lowestDeep tree) refl refl
   where

@@ -14,7 +14,7 @@ use Rattle.laws.proofs.AllBelow.{all-of, all-stop}
 use Rattle.records.specs.declared.shape.Role.{Role}
 use Rattle.records.specs.declared.shape.Role.the-variants.{Unused}
 use Rattle.records.specs.declared.shape.Row.{Row}
-use Rattle.records.specs.Words.{kindOf, detailOf, padOf, none}
+use Rattle.records.specs.Words.{kindOf, detailOf, padOf, none, mostRecords}
 use Rattle.records.specs.Shapes.{refers, rowAt}
 use Rattle.records.specs.Rules.{wordOk, wordsOk, formOk, otherwiseMarked, bodyMarked, isFirstType, typesFirst, refersTo}
 use Rattle.records.specs.Depth.{larger}
@@ -46,7 +46,7 @@ module _ (tree : List ℕ) (bytes r : ℕ) (role : Role) (w next : ℕ) (l : Lis
           counted = word-out tree role w r i l same h;
         }
 
-    pub took-in : KnownBelow tree r l → r < 2048 → i < r → (k c low high : ℕ) → (k ≡ kindIn l i) × (k < 256) → c ≡ classIn l i → low ≡ lowKey role → high ≡ highKey role
+    pub took-in : KnownBelow tree r l → r < mostRecords → i < r → (k c low high : ℕ) → (k ≡ kindIn l i) × (k < 256) → c ≡ classIn l i → low ≡ lowKey role → high ≡ highKey role
         → (l′ : List ℕ) → Counted tree r (refersTo role w) l l′
         → Took tree bytes r role w next l l′ (leb low (k * 4 + c) && leb (k * 4 + c) high) (depthIn l i)
     took-in known few h k c low high kIs cIs lIs hIs l′ n =
@@ -57,8 +57,8 @@ module _ (tree : List ℕ) (bytes r : ℕ) (role : Role) (w next : ℕ) (l : Lis
         }
 
 -- what the next word needs
-pub took-next : (tree : List ℕ) (bytes r : ℕ) (role : Role) (w next : ℕ) (l l′ : List ℕ) (ok : Bool) (d : ℕ) → (r < 2048) × (r * 4 + 4 ≤ length l) × KnownBelow tree r l
-    → Took tree bytes r role w next l l′ ok d → (r < 2048) × (r * 4 + 4 ≤ length l′) × KnownBelow tree r l′
+pub took-next : (tree : List ℕ) (bytes r : ℕ) (role : Role) (w next : ℕ) (l l′ : List ℕ) (ok : Bool) (d : ℕ) → (r < mostRecords) × (r * 4 + 4 ≤ length l) × KnownBelow tree r l
+    → Took tree bytes r role w next l l′ ok d → (r < mostRecords) × (r * 4 + 4 ≤ length l′) × KnownBelow tree r l′
 took-next tree bytes r role w next l l′ ok d ready t = (ready .0, rw (t .counted .same) (ready .1), known-counted tree r _ l l′ (ready .2) (t .counted))
 
 -- ---- five words

@@ -18,7 +18,7 @@ use Rattle.judge.specs.declared.Lengths.{Lengths}
 use Rattle.judge.specs.declared.Judged.{Judged}
 use Rattle.judge.specs.declared.Judged.the-variants.{Accepted, Refused}
 
--- 'tree not a multiple of 32, under 12 or over 2,048 records'
+-- 'tree not a multiple of 32, under 12 or over 16,384 records'
 abbrev pub fewestRecords : ℕ
 fewestRecords = 12
 

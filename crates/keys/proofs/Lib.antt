@@ -1,5 +1,6 @@
+pub mod ChainLaws
+pub mod FoundLaws
 pub mod FunctionLaws
-pub mod KeyDigestLaws
 pub mod KeyLaws
 pub mod KeySearch
 pub mod PartLaws

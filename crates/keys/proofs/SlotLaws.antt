@@ -29,7 +29,7 @@ use Rattle.conversion.specs.Expressions.{Functions, is-mangled, getFunction}
 use Rattle.syntax.specs.Places.{IsKind, FunctionAt, functionOf}
 use Rattle.syntax.proofs.Records.{name-record, mangled-record, function-name, function-mangled}
 use Rattle.texts.specs.Texts.{hasText, hasOwn, ownText, original, originalAt, textDigestAt, Numbered}
-use Rattle.texts.proofs.TextLaws.{original-below, original-text, same-numbers}
+use Rattle.texts.proofs.TextLaws.{original-below, original-has, original-text, same-numbers}
 use Rattle.records.specs.declared.words.Found.{Found}
 use Rattle.records.specs.declared.words.Found.the-variants as Found
 use Rattle.keys.specs.Keys.{functionKey, keyRecord, keySlotAt, SlotSays, KeySlots, keyEntered, functionFound, FindsKey, FindsOwnKey, a-function, no-function}
@@ -99,16 +99,17 @@ module _ (tree text : List ℕ) (good : Good tree text) (f : ℕ) (at : Function
 
 -- ---- the slots stay
 
-pub slots-stay : (tree text s s′ : List ℕ) → ((o : ℕ) → o < records tree → wordAt s′ (keySlotAt (records tree) o) ≡ wordAt s (keySlotAt (records tree) o)) → (F : Functions)
+pub slots-stay : (tree text s s′ : List ℕ)
+    → ((o : ℕ) → o < records tree → hasOwn tree o ≡ true → wordAt s′ (keySlotAt (records tree) o) ≡ wordAt s (keySlotAt (records tree) o)) → (F : Functions)
     → KeySlots tree text s F → KeySlots tree text s′ F
-slots-stay tree text s s′ same F k r h t = rw (same (original tree text r) (original-below tree text r h t)) (k r h t)
+slots-stay tree text s s′ same F k r h t = rw (same (original tree text r) (original-below tree text r h t) (original-has tree text r h t)) (k r h t)
 
 -- ---- no function yet
 
 pub cleared-keys : (n : ℕ) (s s′ : List ℕ) → Cleared (44 * n) (44 * n + 4 * n) s s′ → Cleared (44 * n) (48 * n) s s′
 cleared-keys n s s′ c = let q : 44 * n + 4 * n ≡ 48 * n = omega arith in rw q at c
 
-zero-word : (l : List ℕ) (p : ℕ) → getD l p 0 ≡ 0 → getD l (p + 1) 0 ≡ 0 → getD l (p + 2) 0 ≡ 0 → getD l (p + 3) 0 ≡ 0 → wordAt l p ≡ 0
+pub zero-word : (l : List ℕ) (p : ℕ) → getD l p 0 ≡ 0 → getD l (p + 1) 0 ≡ 0 → getD l (p + 2) 0 ≡ 0 → getD l (p + 3) 0 ≡ 0 → wordAt l p ≡ 0
 unfolding wordAt byteAt
 zero-word l p a b c d = rw (a, b, c, d)
 

@@ -1,17 +1,19 @@
--- The functions by key, as `get_all_functions` has them in its map: their records stand in scratch, in their order, and each besides at the slot of its
--- key's number. Assumes nothing: these are definitions.
+-- The functions by key, as `get_all_functions` has them in its map: their records stand in scratch, in their order, each besides at the slot of its key's
+-- number, and in chains by the digests of their keys and by their names. Assumes nothing: these are definitions.
 use mathlib.Core.Path.{_≡_}
 use Prim.Native.Nat.{ℕ, zero, suc, _+_, _*_, _≤_, _<_}
-use mathlib.Core.Bool.{true}
+use mathlib.Core.Bool.{Bool, true, _&&_}
 use mathlib.Core.List.{List, [], _∷_, _++_}
 use mathlib.Core.Option.{Option, none, some}
 use lib.Dec.{eqb}
 use lib.ListN.{length, take, getD}
+use Rattle.laws.specs.Chain.{linkTo}
 use Rattle.laws.specs.Fix.{pick}
 use Rattle.laws.specs.Splice.{splice}
 use Rattle.records.specs.Words.{kindOf, wordAt, wordOf, word, records, A, B}
-use Rattle.records.specs.Digest.{rollOf}
-use Rattle.records.specs.Layout.{keySlots, keyDigests}
+use Rattle.records.specs.Chains.{memberBucket}
+use Rattle.records.specs.Digest.{digestEnd, rollOf}
+use Rattle.records.specs.Layout.{judging, keySlots, keyHeads, nameHeads, scratchEach}
 use Rattle.records.specs.Kinds.{kindFunction}
 use Rattle.records.specs.Good.{Good}
 use Rattle.syntax.specs.Syntax.{Text, Function}
@@ -20,7 +22,7 @@ use Rattle.conversion.specs.ConvertError.{ok}
 use Rattle.conversion.specs.Expressions.{Functions, is-mangled, getFunction}
 use Rattle.conversion.specs.Functions.{get-all-functions}
 use Rattle.syntax.specs.Places.{FunctionAt, functionOf}
-use Rattle.texts.specs.Texts.{hasOwn, ownText, original, Numbered}
+use Rattle.texts.specs.Texts.{hasOwn, ownText, original, originalAt, textDigestAt, Numbered}
 use Rattle.records.specs.declared.words.Found.{Found}
 use Rattle.records.specs.declared.words.Found.the-variants as Found
 
@@ -64,9 +66,9 @@ module _ (tree text : List ℕ) where
 
 -- the scratch has the functions' records, `count` of them
 pub record Listed (tree s : List ℕ) (count : ℕ) : Type 0 where
-  pub room : 72 * records tree ≤ length s
+  pub room : scratchEach * records tree ≤ length s
   pub counted : count ≡ length (functionPlaces tree)
-  pub listed : (j : ℕ) → j < count → wordAt s (4 * j) ≡ getD (functionPlaces tree) j 0
+  pub listed : (j : ℕ) → j < count → wordAt s (judging .each * j) ≡ getD (functionPlaces tree) j 0
 
 -- ---- the functions by the numbers of their keys
 
@@ -101,22 +103,69 @@ pub record Mapped (tree text s : List ℕ) (count : ℕ) : Type 0 where
   pub listed : Listed tree s count
   pub slots : KeySlots tree text s (allKeys tree text)
 
--- where the digest of the key of function j of the list stands in the scratch of n records
-abbrev pub keyDigestAt : ℕ → ℕ → ℕ
-keyDigestAt n j = keyDigests .from * n + keyDigests .each * j
+-- ---- the functions in chains
 
--- each of the first `count` functions of the list has the digest of its key there
-abbrev pub KeyDigests : List ℕ → List ℕ → List ℕ → ℕ → Type 0
-KeyDigests tree text s count = (j : ℕ) → j < count → wordAt s (keyDigestAt (records tree) j) ≡ rollOf (functionKey (functionOf tree text (wordAt s (4 * j))))
+-- numbers in chains, those below r entered: of n buckets each head says the last number in it, and each number's link the one before it in its own
+pub record Chain (bucket headAt linkAt : ℕ → ℕ) (n r : ℕ) (s : List ℕ) : Type 0 where
+  pub heads : (b : ℕ) → b < n → wordAt s (headAt b) ≡ linkTo bucket r b
+  pub links : (k : ℕ) → k < r → bucket k < n → wordAt s (linkAt k) ≡ linkTo bucket k (bucket k)
 
--- and their keys' digests stand there too
+-- a number goes before the others of its bucket: its link says what the head said, and the head says `next`
+abbrev pub linked : ℕ → ℕ → ℕ → List ℕ → List ℕ
+linked head link next s = splice (splice s link (word (wordAt s head))) head (word next)
+
+-- where the head of a bucket of digests, and that of a name's number, stand in the scratch of n records
+abbrev pub keyHeadAt : ℕ → ℕ → ℕ
+keyHeadAt n b = keyHeads .from * n + keyHeads .each * b
+
+abbrev pub nameHeadAt : ℕ → ℕ → ℕ
+nameHeadAt n o = nameHeads .from * n + nameHeads .each * o
+
+-- record k is a function
+abbrev pub isFunction : List ℕ → ℕ → Bool
+isFunction tree k = eqb (kindOf tree k) kindFunction
+
+module _ (tree text : List ℕ) where
+  -- the digest of function f's key, and its bucket: this goes by the digest spread over all 32 bits
+  abbrev pub keyRoll : ℕ → ℕ
+  keyRoll f = rollOf (functionKey (functionOf tree text f))
+
+  abbrev pub keyBucket : ℕ → ℕ
+  keyBucket = memberBucket (isFunction tree) (λ f. digestEnd (keyRoll f)) (records tree)
+
+  -- the bucket of a mangled function among the names is its name's number; that of another record is n, which has no head
+  unfoldable pub nameBucket : ℕ → ℕ
+  unfolding pick is-mangled functionOf original
+  nameBucket k = pick (isFunction tree k && is-mangled (functionOf tree text k)) (original tree text (wordOf tree k A)) (records tree)
+
+  -- the functions below r have the digests of their keys at their slots, and are chained by these
+  abbrev pub KeyDigests : List ℕ → ℕ → Type 0
+  KeyDigests s r = (f : ℕ) → f < r → FunctionAt tree f → wordAt s (textDigestAt (records tree) f) ≡ keyRoll f
+
+  abbrev pub ByKey : List ℕ → ℕ → Type 0
+  ByKey s r = Chain keyBucket (keyHeadAt (records tree)) (originalAt (records tree)) (records tree) r s
+
+  -- the mangled functions below r are chained by their names
+  abbrev pub ByName : List ℕ → ℕ → Type 0
+  ByName s r = Chain nameBucket (nameHeadAt (records tree)) (keySlotAt (records tree)) (records tree) r s
+
+-- on the way: the functions below k are chained by key, those below m by name
+pub record Chaining (tree text s : List ℕ) (count k m : ℕ) : Type 0 where
+  pub mapped : Mapped tree text s count
+  pub digests : KeyDigests tree text s k
+  pub by-key : ByKey tree text s k
+  pub by-name : ByName tree text s m
+
+-- all functions are
 pub record Keyed (tree text s : List ℕ) (count : ℕ) : Type 0 where
   pub good : Good tree text
   pub numbered : Numbered tree text s
   pub distinct : get-all-functions (program tree text .functions) [] ≡ ok (allKeys tree text)
   pub listed : Listed tree s count
   pub slots : KeySlots tree text s (allKeys tree text)
-  pub digests : KeyDigests tree text s count
+  pub digests : KeyDigests tree text s (records tree)
+  pub by-key : ByKey tree text s (records tree)
+  pub by-name : ByName tree text s (records tree)
 
 -- ---- what a search answers
 

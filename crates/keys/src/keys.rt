@@ -1,31 +1,43 @@
 // A function's record read: its names, its marks, and the key by which it is found.
 ghost use mathlib.Core.Path.{_≡_};
+ghost use mathlib.Core.Bool.{true};
 ghost use Prim.Native.Nat.{_+_, _*_, _≤_, _<_};
 ghost use lib.ListN.{length};
-ghost use Rattle.records.specs.Layout.{judging};
+ghost use Rattle.records.specs.Layout.{judging, keySlots, scratchEach, endOf};
 ghost use Rattle.records.specs.Words.{wordAt, records, mostRecords};
-ghost use Rattle.records.specs.Chains.{Cleared};
+ghost use Rattle.records.specs.Chains.{bucketOf, Cleared};
+ghost use Rattle.records.specs.Digest.{digestEnd};
 ghost use Rattle.records.specs.Good.{Good};
 ghost use Rattle.conversion.specs.Expressions.{is-mangled};
 ghost use Rattle.syntax.specs.Places.{FunctionAt, functionOf, ParamsAt, paramsAt};
 ghost use Rattle.keys.specs.Parts.{PartIs};
-ghost use Rattle.texts.specs.Texts.{original as originalOf, Numbered};
-ghost use Rattle.keys.specs.Keys.{functionKey, Listed, Mapped, Keyed, keyRecord, keyEntered, keyDigestAt, FindsKey, FindsOwnKey};
+ghost use Rattle.texts.specs.Texts.{original as originalOf, originalAt, Numbered};
+ghost use Rattle.keys.specs.Keys.{functionKey, Listed, Mapped, Chaining, Keyed, keyRecord, keySlotAt, keyEntered, linked, keyHeadAt, nameHeadAt, FindsKey, FindsOwnKey};
 use crate::parts::Part;
 use crate::parts::is_main;
 use crate::parts::text_part;
+use records::chains::bucket;
 use records::chains::clear_run;
-use records::layout::KEY_DIGEST_BYTES;
-use records::layout::KEY_DIGESTS;
+use records::layout::KEY_HEAD_BYTES;
+use records::layout::KEY_HEADS;
 use records::layout::KEY_SLOT_BYTES;
 use records::layout::KEY_SLOTS;
 use records::layout::LISTED_BYTES;
+use records::layout::NAME_HEAD_BYTES;
+use records::layout::NAME_HEADS;
+use records::layout::ORIGINAL_BYTES;
+use records::layout::ORIGINALS;
+use records::layout::TEXT_DIGEST_BYTES;
+use records::layout::TEXT_DIGESTS;
+use records::numbers::KIND_FUNCTION;
+use records::texts::roll_digest;
 use records::words::Found;
 use records::words::WORD_A;
 use records::words::WORD_B;
 use records::words::WORD_C;
 use records::words::detail;
 use records::words::index;
+use records::words::kind;
 use records::words::load;
 use records::words::put_word;
 use records::words::reference;
@@ -119,7 +131,7 @@ fn key_record(tree: &[u8], text: &[u8], f: usize) -> usize
 
 // The number of a function's key.
 fn key_number(tree: &[u8], text: &[u8], scratch: &[u8], f: usize) -> usize
-    requires { ⌜ Good (now tree) (now text) × Numbered (now tree) (now text) (now scratch) × (72 * records (now tree) ≤ length (now scratch)) ⌝ }
+    requires { ⌜ Good (now tree) (now text) × Numbered (now tree) (now text) (now scratch) × (scratchEach * records (now tree) ≤ length (now scratch)) ⌝ }
     requires { ⌜ FunctionAt (now tree) f ⌝ }
     ensures { λ o. ⌜ (o ≡ originalOf (now (tree .entry)) (now (text .entry)) (keyRecord (now (tree .entry)) (now (text .entry)) f)) × (o < records (now (tree .entry))) ⌝ }
 {
@@ -129,8 +141,8 @@ fn key_number(tree: &[u8], text: &[u8], scratch: &[u8], f: usize) -> usize
 
 // No function is entered by its key yet.
 pub fn clear_keys(scratch: &mut [u8], n: usize)
-    requires { ⌜ (n ≤ mostRecords) × (72 * n ≤ length (now scratch)) ⌝ }
-    ensures { λ _. ⌜ Cleared (44 * n) (48 * n) (now (scratch .entry)) (now (scratch .exit)) ⌝ }
+    requires { ⌜ (n ≤ mostRecords) × (scratchEach * n ≤ length (now scratch)) ⌝ }
+    ensures { λ _. ⌜ Cleared (keySlots .from * n) (endOf keySlots * n) (now (scratch .entry)) (now (scratch .exit)) ⌝ }
 {
     let from = KEY_SLOTS * n;
     clear_run(scratch, from, from + KEY_SLOT_BYTES * n);
@@ -138,7 +150,7 @@ pub fn clear_keys(scratch: &mut [u8], n: usize)
 
 // A function is entered at the slot of its key's number.
 pub fn enter_key(tree: &[u8], text: &[u8], scratch: &mut [u8], f: usize)
-    requires { ⌜ Good (now tree) (now text) × Numbered (now tree) (now text) (now scratch) × (72 * records (now tree) ≤ length (now scratch)) ⌝ }
+    requires { ⌜ Good (now tree) (now text) × Numbered (now tree) (now text) (now scratch) × (scratchEach * records (now tree) ≤ length (now scratch)) ⌝ }
     requires { ⌜ FunctionAt (now tree) f ⌝ }
     ensures { λ _. ⌜ now (scratch .exit) ≡ keyEntered (now (tree .entry)) (now (text .entry)) f (now (scratch .entry)) ⌝ }
 {
@@ -150,7 +162,7 @@ pub fn enter_key(tree: &[u8], text: &[u8], scratch: &mut [u8], f: usize)
 
 // The function whose key is the text of this number: one load, whatever the functions are.
 pub fn find_key(tree: &[u8], text: &[u8], scratch: &[u8], number: usize) -> Found
-    requires { ⌜ Good (now tree) (now text) × (72 * records (now tree) ≤ length (now scratch)) × (number < records (now tree)) ⌝ }
+    requires { ⌜ Good (now tree) (now text) × (scratchEach * records (now tree) ≤ length (now scratch)) × (number < records (now tree)) ⌝ }
     ensures { λ r. ⌜ FindsKey (now (tree .entry)) (now (text .entry)) (now (scratch .entry)) number r ⌝ }
 {
     let n = tree.len() / 32;
@@ -163,32 +175,117 @@ pub fn find_key(tree: &[u8], text: &[u8], scratch: &[u8], number: usize) -> Foun
 
 // The function that is entered with the key of function f.
 pub fn find_own_key(tree: &[u8], text: &[u8], scratch: &[u8], f: usize) -> Found
-    requires { ⌜ Good (now tree) (now text) × Numbered (now tree) (now text) (now scratch) × (72 * records (now tree) ≤ length (now scratch)) ⌝ }
+    requires { ⌜ Good (now tree) (now text) × Numbered (now tree) (now text) (now scratch) × (scratchEach * records (now tree) ≤ length (now scratch)) ⌝ }
     requires { ⌜ FunctionAt (now tree) f ⌝ }
     ensures { λ r. ⌜ FindsOwnKey (now (tree .entry)) (now (text .entry)) (now (scratch .entry)) f r ⌝ }
 {
     find_key(tree, text, scratch, key_number(tree, text, scratch, f))
 }
 
-// The digest of each function's key goes to the function's place, so that a key that is looked for by its digest is compared with few.
-pub fn digest_keys(tree: &[u8], text: &[u8], scratch: &mut [u8], count: usize)
+// A number goes before the others of its bucket: its link says what the head said.
+fn put_before(scratch: &mut [u8], head: usize, link: usize, next: u32)
+    requires { ⌜ (head + 4 ≤ length (now scratch)) × (link + 4 ≤ length (now scratch)) ⌝ }
+    ensures { λ _. ⌜ now (scratch .exit) ≡ linked head link next (now (scratch .entry)) ⌝ }
+{
+    let before = load(scratch, head);
+    put_word(scratch, link, before);
+    put_word(scratch, head, next);
+}
+
+// Function f gets the digest of its key, and goes before the others of the digest's bucket.
+fn chain_key(tree: &[u8], text: &[u8], scratch: &mut [u8], count: usize, f: usize)
+    requires { ⌜ Chaining (now tree) (now text) (now scratch) count f f × FunctionAt (now tree) f ⌝ }
+    ensures { λ _. ⌜ Chaining (now (tree .entry)) (now (text .entry)) (now (scratch .exit)) count (f + 1) f ⌝ }
+{
+    let n = tree.len() / 32;
+    let next = (f + 1) as u32;
+    let d = kept_digest(scratch, n, key_record(tree, text, f));
+    let b = bucket(roll_digest(d), n);
+    put_word(scratch, TEXT_DIGESTS * n + TEXT_DIGEST_BYTES * f, d);
+    put_before(
+        scratch,
+        KEY_HEADS * n + KEY_HEAD_BYTES * b,
+        ORIGINALS * n + ORIGINAL_BYTES * f,
+        next,
+    );
+}
+
+// A mangled function goes before the others of its name.
+fn chain_name(tree: &[u8], text: &[u8], scratch: &mut [u8], count: usize, f: usize)
+    requires { ⌜ Chaining (now tree) (now text) (now scratch) count (f + 1) f × FunctionAt (now tree) f × (is-mangled (functionOf (now tree) (now text) f) ≡ true) ⌝ }
+    ensures { λ _. ⌜ Chaining (now (tree .entry)) (now (text .entry)) (now (scratch .exit)) count (f + 1) (f + 1) ⌝ }
+{
+    let n = tree.len() / 32;
+    let next = (f + 1) as u32;
+    let name = original(scratch, n, reference(tree, f, WORD_A));
+    put_before(
+        scratch,
+        NAME_HEADS * n + NAME_HEAD_BYTES * name,
+        KEY_SLOTS * n + KEY_SLOT_BYTES * f,
+        next,
+    );
+}
+
+// Record r, where it is a function.
+fn chain_record(tree: &[u8], text: &[u8], scratch: &mut [u8], count: usize, r: usize)
+    requires { ⌜ Chaining (now tree) (now text) (now scratch) count r r × (r < records (now tree)) ⌝ }
+    ensures { λ _. ⌜ Chaining (now (tree .entry)) (now (text .entry)) (now (scratch .exit)) count (r + 1) (r + 1) ⌝ }
+{
+    if kind(tree, r) != KIND_FUNCTION {
+        return;
+    }
+    chain_key(tree, text, scratch, count, r);
+    if is_mangled(tree, text, r) {
+        chain_name(tree, text, scratch, count, r);
+    }
+}
+
+// The functions are chained by the digests of their keys, and the mangled ones by their names, so that a call looks only at those that may be meant.
+pub fn chain_functions(tree: &[u8], text: &[u8], scratch: &mut [u8], count: usize)
     requires { ⌜ Mapped (now tree) (now text) (now scratch) count ⌝ }
     ensures { λ _. ⌜ Keyed (now (tree .entry)) (now (text .entry)) (now (scratch .exit)) count ⌝ }
 {
     let n = tree.len() / 32;
-    let mut j = 0;
-    while j < count {
-        let f = function_at(tree, scratch, count, j);
-        let d = kept_digest(scratch, n, key_record(tree, text, f));
-        put_word(scratch, KEY_DIGESTS * n + KEY_DIGEST_BYTES * j, d);
-        j += 1;
+    let keys = KEY_HEADS * n;
+    clear_run(scratch, keys, keys + KEY_HEAD_BYTES * n);
+    let names = NAME_HEADS * n;
+    clear_run(scratch, names, names + NAME_HEAD_BYTES * n);
+    let mut r = 0;
+    while r < n {
+        chain_record(tree, text, scratch, count, r);
+        r += 1;
     }
 }
 
-// The digest of the key of the j-th of the listed functions, as it stands in the scratch of n records.
-pub fn key_digest(scratch: &[u8], n: usize, j: usize) -> u32
-    requires { ⌜ keyDigestAt n j + 4 ≤ length (now scratch) ⌝ }
-    ensures { λ d. ⌜ d ≡ wordAt (now (scratch .entry)) (keyDigestAt n j) ⌝ }
+// One more than the last function in the bucket of a digest, or 0.
+pub fn key_head(scratch: &[u8], n: usize, d: u32) -> usize
+    requires { ⌜ (0 < n) × (n ≤ mostRecords) × (scratchEach * n ≤ length (now scratch)) ⌝ }
+    ensures { λ v. ⌜ v ≡ wordAt (now (scratch .entry)) (keyHeadAt n (bucketOf n (digestEnd d))) ⌝ }
 {
-    load(scratch, KEY_DIGESTS * n + KEY_DIGEST_BYTES * j)
+    let b = bucket(roll_digest(d), n);
+    index(load(scratch, KEY_HEADS * n + KEY_HEAD_BYTES * b))
+}
+
+// One more than the function before f in its bucket, or 0.
+pub fn key_before(scratch: &[u8], n: usize, f: usize) -> usize
+    requires { ⌜ originalAt n f + 4 ≤ length (now scratch) ⌝ }
+    ensures { λ v. ⌜ v ≡ wordAt (now (scratch .entry)) (originalAt n f) ⌝ }
+{
+    index(load(scratch, ORIGINALS * n + ORIGINAL_BYTES * f))
+}
+
+// One more than the last mangled function whose name has this number, or 0.
+pub fn name_head(scratch: &[u8], n: usize, number: usize) -> usize
+    requires { ⌜ nameHeadAt n number + 4 ≤ length (now scratch) ⌝ }
+    ensures { λ v. ⌜ v ≡ wordAt (now (scratch .entry)) (nameHeadAt n number) ⌝ }
+{
+    index(load(scratch, NAME_HEADS * n + NAME_HEAD_BYTES * number))
+}
+
+// One more than the mangled function before f with its name, or 0.
+pub fn name_before(scratch: &[u8], n: usize, f: usize) -> usize
+    requires { ⌜ keySlotAt n f + 4 ≤ length (now scratch) ⌝ }
+    ensures { λ v. ⌜ v ≡ wordAt (now (scratch .entry)) (keySlotAt n f) ⌝ }
+{
+    index(load(scratch, KEY_SLOTS * n + KEY_SLOT_BYTES * f))
 }

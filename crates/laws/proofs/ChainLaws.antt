@@ -1,5 +1,5 @@
--- A walk from a bucket's head along the links meets every number of the bucket, falling: where none that it met is the same as r, none below r is.
--- By the laws of `last`, and since numbers that are the same are in one bucket. Assumes nothing.
+-- A walk from a bucket's head along the links meets every number of the bucket, falling: where none that it met is a hit, none is.
+-- By the laws of `last`, and since all hits are in one bucket. Assumes nothing.
 use mathlib.Core.Path.{_≡_, refl, sym, _∙_}
 use mathlib.Core.Logic.{⊎-elim}
 use Prim.Native.Nat.{ℕ, zero, suc, _+_, _≤_, _<_}
@@ -11,7 +11,7 @@ use lib.Dec.{ltb}
 use borrow.Author.Tests.{eq-eqb, ne-eqb, eqb-true, eqb-false, ltb-true, ltb-false}
 use Rattle.laws.specs.Fix.{pick}
 use Rattle.laws.specs.Below.{last, past}
-use Rattle.laws.specs.Chain.{inBucket, linkTo, Met}
+use Rattle.laws.specs.Chain.{inBucket, linkTo, Walked, Met}
 use Rattle.laws.proofs.Tests.{tested}
 
 -- ---- the last number
@@ -70,46 +70,62 @@ module _ (bucket : ℕ → ℕ) where
   pub head-other : (r b : ℕ) → (bucket r ≡ b → ⊥) → linkTo bucket r b ≡ linkTo bucket (r + 1) b
   head-other r b n = rw (add-one r) (sym (last-miss (inBucket bucket b) r (ne-eqb (bucket r) b n)))
 
-  -- a link leads down
+  -- what a head or a link says: it leads down, to a number of the bucket, and none above that one is in it
+  pub link-within : (r b v : ℕ) → v ≡ linkTo bucket r b → v ≤ r
+  link-within r b v e = omega (arith, e, last-within (inBucket bucket b) r)
+
+  pub link-here : (r b v k : ℕ) → v ≡ linkTo bucket r b → v ≡ suc k → bucket k ≡ b
+  link-here r b v k e z = eqb-true (bucket k) b (last-holds (inBucket bucket b) r k (sym e ∙ z))
+
+  pub link-above : (r b v i : ℕ) → v ≡ linkTo bucket r b → v ≤ i → i < r → bucket i ≡ b → ⊥
+  link-above r b v i e a h = eqb-false (bucket i) b (last-above (inBucket bucket b) r i (omega (arith, e)) h)
+
   pub link-falls : (k w : ℕ) → w ≡ linkTo bucket k (bucket k) → w ≤ k
-  link-falls k w e = omega (arith, e, last-within (inBucket bucket (bucket k)) k)
+  link-falls k w e = link-within k (bucket k) w e
 
 -- ---- the walk
 
-module _ (same : ℕ → ℕ → Bool) (bucket : ℕ → ℕ) (together : (j r : ℕ) → same j r ≡ true → bucket j ≡ bucket r) (r : ℕ) where
-  apart : (i b : ℕ) → b ≡ bucket r → inBucket bucket b i ≡ false → same i r ≡ false
-  apart i b e n =
-      tested (same i r)
-      (λ t. absurd (eqb-false (bucket i) b n (together i r t ∙ sym e)))
-      (λ t. t)
+module _ (hit : ℕ → Bool) (bucket : ℕ → ℕ) (n b : ℕ) (together : (i : ℕ) → hit i ≡ true → bucket i ≡ b) where
+  apart : (i : ℕ) → (bucket i ≡ b → ⊥) → hit i ≡ false
+  apart i other = tested (hit i) (λ t. absurd (other (together i t))) (λ t. t)
 
   -- from the head
-  pub walk-start : (v : ℕ) → v ≡ linkTo bucket r (bucket r) → Met same bucket r v
-  walk-start v e =
+  pub walked-start : (v : ℕ) → v ≡ linkTo bucket n b → Walked hit bucket n b v
+  walked-start v e =
       record {
-        within = omega (arith, e, last-within (inBucket bucket (bucket r)) r);
-        here = λ k z. eqb-true (bucket k) (bucket r) (last-holds (inBucket bucket (bucket r)) r k (sym e ∙ z));
-        differ = λ i a h. apart i (bucket r) refl (last-above (inBucket bucket (bucket r)) r i (omega (arith, e)) h);
+        within = link-within bucket n b v e;
+        here = λ k z. link-here bucket n b v k e z;
+        differ = λ i a h. apart i (link-above bucket n b v i e a h);
       }
 
-  -- along a link: the walk stood one past k, which is not the same as r
-  pub walk-on : (v k w : ℕ) → Met same bucket r v → v ≡ suc k → same k r ≡ false → w ≡ linkTo bucket k (bucket k) → Met same bucket r w
-  walk-on v k w m z d e =
-      let f : ℕ → Bool = inBucket bucket (bucket k) in
-      let q : bucket k ≡ bucket r = m .here k z in
+  -- along a link: the walk stood one past k, which is no hit
+  pub walked-on : (v k w : ℕ) → Walked hit bucket n b v → v ≡ suc k → hit k ≡ false → w ≡ linkTo bucket k (bucket k) → Walked hit bucket n b w
+  walked-on v k w m z d e =
+      let q : bucket k ≡ b = m .here k z in
       record {
-        within = omega (arith, e, last-within f k, m .within);
-        here = λ j y. eqb-true (bucket j) (bucket k) (last-holds f k j (sym e ∙ y)) ∙ q;
+        within = omega (arith, link-falls bucket k w e, m .within);
+        here = λ j y. link-here bucket k (bucket k) w j e y ∙ q;
         differ = λ i a h.
             tested (ltb i k)
-            (λ t. apart i (bucket k) q (last-above f k i (omega (arith, e)) (ltb-true i k t)))
+            (λ t. apart i (λ x. link-above bucket k (bucket k) w i e a (ltb-true i k t) (x ∙ sym q)))
             (λ t.
             ⊎-elim
-            (λ (b : k ≡ i). rw (sym b) d)
-            (λ (b : k < i). m .differ i (omega (arith, z)) h)
+            (λ (y : k ≡ i). rw (sym y) d)
+            (λ (y : k < i). m .differ i (omega (arith, z)) h)
             (eq-or-lt-of-le (ltb-false i k t)));
       }
 
   -- at the end
+  pub walked-end : (v : ℕ) → v ≤ 0 → Walked hit bucket n b v → (i : ℕ) → i < n → hit i ≡ false
+  walked-end v z m i h = m .differ i (omega arith) h
+
+-- the same along the chain of number r's bucket
+module _ (same : ℕ → ℕ → Bool) (bucket : ℕ → ℕ) (together : (j r : ℕ) → same j r ≡ true → bucket j ≡ bucket r) (r : ℕ) where
+  pub walk-start : (v : ℕ) → v ≡ linkTo bucket r (bucket r) → Met same bucket r v
+  walk-start = walked-start (λ i. same i r) bucket r (bucket r) (λ i. together i r)
+
+  pub walk-on : (v k w : ℕ) → Met same bucket r v → v ≡ suc k → same k r ≡ false → w ≡ linkTo bucket k (bucket k) → Met same bucket r w
+  walk-on = walked-on (λ i. same i r) bucket r (bucket r) (λ i. together i r)
+
   pub walk-end : (v : ℕ) → v ≤ 0 → Met same bucket r v → (i : ℕ) → i < r → same i r ≡ false
-  walk-end v z m i h = m .differ i (omega arith) h
+  walk-end = walked-end (λ i. same i r) bucket r (bucket r) (λ i. together i r)

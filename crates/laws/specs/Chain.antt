@@ -14,8 +14,12 @@ inBucket bucket b k = eqb (bucket k) b
 abbrev pub linkTo : (ℕ → ℕ) → ℕ → ℕ → ℕ
 linkTo bucket r b = past (last r (inBucket bucket b))
 
--- a walk along the chain of r's bucket stands at v, one past a number of the bucket, or at 0: none from v on is the same as r
-pub record Met (same : ℕ → ℕ → Bool) (bucket : ℕ → ℕ) (r v : ℕ) : Type 0 where
-  pub within : v ≤ r
-  pub here : (k : ℕ) → v ≡ suc k → bucket k ≡ bucket r
-  pub differ : (i : ℕ) → v ≤ i → i < r → same i r ≡ false
+-- a walk along the chain of bucket b, down from the head over the numbers below n, stands at v, one past a number of the bucket, or at 0: none from v on is a hit
+pub record Walked (hit : ℕ → Bool) (bucket : ℕ → ℕ) (n b v : ℕ) : Type 0 where
+  pub within : v ≤ n
+  pub here : (k : ℕ) → v ≡ suc k → bucket k ≡ b
+  pub differ : (i : ℕ) → v ≤ i → i < n → hit i ≡ false
+
+-- the same along the chain of number r's bucket, over the numbers below it: none met is the same as r
+abbrev pub Met : (ℕ → ℕ → Bool) → (ℕ → ℕ) → ℕ → ℕ → Type 0
+Met same bucket r v = Walked (λ i. same i r) bucket r (bucket r) v

@@ -36,16 +36,16 @@ module _ (member : ℕ → Bool) (digest : ℕ → ℕ) (n : ℕ) where
   bucket = memberBucket member digest n
 
   -- a member's bucket, and that of a number that is none
-  bucket-member : (k : ℕ) → member k ≡ true → bucket k ≡ bucketOf n (digest k)
+  pub bucket-member : (k : ℕ) → member k ≡ true → bucket k ≡ bucketOf n (digest k)
   unfolding memberBucket
   bucket-member k m = pick-yes (member k) (bucketOf n (digest k)) n m
 
-  bucket-other : (k : ℕ) → member k ≡ false → bucket k ≡ n
+  pub bucket-other : (k : ℕ) → member k ≡ false → bucket k ≡ n
   unfolding memberBucket
   bucket-other k m = pick-no (member k) (bucketOf n (digest k)) n m
 
   -- a number in a bucket that has a head is a member
-  member-here : (k : ℕ) → bucket k < n → member k ≡ true
+  pub member-here : (k : ℕ) → bucket k < n → member k ≡ true
   member-here k h = tested (member k) (λ t. t) (λ t. absurd (omega (arith, bucket-other k t)))
 
   pub together : (j r : ℕ) → member j ≡ true → member r ≡ true → digest j ≡ digest r → bucket j ≡ bucket r

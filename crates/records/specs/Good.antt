@@ -7,7 +7,7 @@ use lib.ListN.{length}
 use Rattle.records.specs.Words.{records, mostRecords}
 use Rattle.records.specs.Rules.{recordOk}
 
--- '24: tree not a multiple of 32, .. or over 2,048 records', 'a record breaks a rule above or its text leaves the buffer': none of these
+-- '24: tree not a multiple of 32, .. or over 16,384 records', 'a record breaks a rule above or its text leaves the buffer': none of these
 pub record Good (tree text : List ℕ) : Type 0 where
   pub whole : length tree ≡ records tree * 32
   pub few : records tree ≤ mostRecords

@@ -31,29 +31,32 @@ openNames = record { from = 8; each = 16 }
 abbrev pub operands : Region
 operands = record { from = 24; each = 16 }
 
--- the numbers of the texts: for each record that has a text the lowest record with the same one, a word at the record's slot
+-- the numbers of the texts: for each record that has a text the lowest record with the same one, a word at the record's slot. A function's record has no
+-- text: at its slot stands one more than the function before it in the bucket of its key's digest, or 0
 abbrev pub originals : Region
 originals = record { from = 40; each = 4 }
 
--- the functions by key: at the slot of a text's number one more than the record of the function whose key the text is, or 0, a word
+-- the functions by key: at the slot of a text's number one more than the record of the function whose key the text is, or 0, a word. At the slot of a mangled
+-- function's record stands one more than the mangled function before it with the same name, or 0
 abbrev pub keySlots : Region
 keySlots = record { from = 44; each = 4 }
 
--- the digests of the functions' keys, in the functions' order, a word each (`rollOf` in `specs/Digest.antt`)
-abbrev pub keyDigests : Region
-keyDigests = record { from = 48; each = 4 }
+-- the functions by the digests of their keys: for each bucket one more than the last function in it, or 0, a word (`rollOf` in `specs/Digest.antt` is the
+-- digest, `bucketOf` in `specs/Chains.antt` its bucket)
+abbrev pub keyHeads : Region
+keyHeads = record { from = 48; each = 4 }
 
--- the digests of the texts: for each record that has a text `rollOf` of it, a word at the record's slot
+-- the digests of the texts: for each record that has a text `rollOf` of it, a word at the record's slot; at that of a function's record `rollOf` of its key
 abbrev pub textDigests : Region
 textDigests = record { from = 52; each = 4 }
 
+-- the mangled functions by name: at the slot of a text's number one more than the last of them whose name the text is, or 0, a word
+abbrev pub nameHeads : Region
+nameHeads = record { from = 56; each = 4 }
+
 -- the open names by text: at the slot of a text's number the place among the open names where the text was last declared, a word
 abbrev pub nameSlots : Region
-nameSlots = record { from = 56; each = 4 }
-
--- left for later
-abbrev pub unused : Region
-unused = record { from = 60; each = 4 }
+nameSlots = record { from = 60; each = 4 }
 
 -- for each expression the turn in which its type was worked out: a word at the slot of its record
 abbrev pub turns : Region
@@ -64,7 +67,7 @@ abbrev pub visitCount : Region
 visitCount = record { from = 68; each = 4 }
 
 abbrev pub layout : List Region
-layout = judging ∷ typeSlots ∷ openNames ∷ operands ∷ originals ∷ keySlots ∷ keyDigests ∷ textDigests ∷ nameSlots ∷ unused ∷ turns ∷ visitCount ∷ []
+layout = judging ∷ typeSlots ∷ openNames ∷ operands ∷ originals ∷ keySlots ∷ keyHeads ∷ textDigests ∷ nameHeads ∷ nameSlots ∷ turns ∷ visitCount ∷ []
 
 -- document 02, point 9: 'Scratch grows to 72n bytes'
 abbrev pub scratchEach : ℕ

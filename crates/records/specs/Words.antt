@@ -19,9 +19,9 @@ wordAt l i = byteAt l i + byteAt l (i + 1) * 256 + byteAt l (i + 2) * 65536 + by
 abbrev pub records : List ℕ → ℕ
 records tree = length tree / 32
 
--- 'over 2,048 records': too many
+-- 'over 16,384 records': too many
 abbrev pub mostRecords : ℕ
-mostRecords = 2048
+mostRecords = 16384
 
 -- 'byte 0 kind, byte 1 detail'
 unfoldable pub kindOf : List ℕ → ℕ → ℕ

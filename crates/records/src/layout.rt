@@ -54,18 +54,23 @@ pub const KEY_SLOTS: usize = 44;
 
 pub const KEY_SLOT_BYTES: usize = 4;
 
-// The digests of the functions' keys.
-pub const KEY_DIGESTS: usize = 48;
+// The last function in each bucket of digests.
+pub const KEY_HEADS: usize = 48;
 
-pub const KEY_DIGEST_BYTES: usize = 4;
+pub const KEY_HEAD_BYTES: usize = 4;
 
 // The digests of the texts.
 pub const TEXT_DIGESTS: usize = 52;
 
 pub const TEXT_DIGEST_BYTES: usize = 4;
 
+// The last mangled function of each name, by the name's number.
+pub const NAME_HEADS: usize = 56;
+
+pub const NAME_HEAD_BYTES: usize = 4;
+
 // Where the open name with each text was put last, by the text's number.
-pub const NAME_SLOTS: usize = 56;
+pub const NAME_SLOTS: usize = 60;
 
 pub const NAME_SLOT_BYTES: usize = 4;
 

@@ -26,7 +26,7 @@ pub const SPAN_START: usize = 5;
 pub const SPAN_END: usize = 6;
 
 // How many records a tree has at most.
-pub const MOST_RECORDS: usize = 2048;
+pub const MOST_RECORDS: usize = 16384;
 
 pub fn wide(x: u8) -> u32
     ensures { λ r. ⌜ (r ≡ x) × (r < 256) ⌝ }

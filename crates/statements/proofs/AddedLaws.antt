@@ -81,7 +81,7 @@ module _ {tree text s s′ : List ℕ} {sc sc′ : Scope} {r : ℕ} {v : VarId} 
       let same : wordsAre s (sc .records) (originalWord tree s r A) (originalWord tree s r B) j ≡ true = rw (eq-eqb _ _ offset) (eq-eqb _ _ len) in
       false≢true (sym (a .new j h) ∙ same)
 
-  side : (m n : ℕ) → (m ≡ n → ⊥) → Dec (m < n) → (56 * records tree + 4 * m + 4 ≤ 56 * records tree + 4 * n) ⊎ (56 * records tree + 4 * n + 4 ≤ 56 * records tree + 4 * m)
+  side : (m n : ℕ) → (m ≡ n → ⊥) → Dec (m < n) → (60 * records tree + 4 * m + 4 ≤ 60 * records tree + 4 * n) ⊎ (60 * records tree + 4 * n + 4 ≤ 60 * records tree + 4 * m)
   side m n e (yes h) = inl (omega (arith, h))
   side m n e (no h) = inr (omega (arith, h, e))
 

@@ -23,15 +23,12 @@ use Rattle.scope.specs.declared.Scope.{Scope}
 use Rattle.scope.specs.Open.{loopNumber, nameSlotAt, scopeAt}
 use Rattle.records.proofs.Apart.{byte-apart, word-apart, word-same}
 use Rattle.scope.proofs.ScopeLaws.{Kept, scope-kept}
-use Rattle.keys.specs.Keys.{Listed, keySlotAt, keyDigestAt, Keyed}
-use Rattle.keys.proofs.KeyDigestLaws.{digests-stay}
-use Rattle.keys.proofs.SlotLaws.{slots-stay}
-use Rattle.texts.specs.Texts.{originalAt, textDigestAt}
-use Rattle.texts.proofs.TextLaws.{numbered-stays}
+use Rattle.keys.specs.Keys.{Keyed}
+use Rattle.keys.proofs.ChainLaws.{keyed-kept}
+use Rattle.texts.specs.Texts.{originalAt}
 use Rattle.expressions.specs.Slots.{originalOf, originalWord, Frame, Scoped, Ready}
 use Rattle.expressions.proofs.OriginalLaws.{word-stays, original-stays}
 use Rattle.expressions.proofs.SlotLaws.{original-frame, ready-frame}
-use Rattle.keys.proofs.KeySearch.{records-most}
 use Rattle.statements.specs.declared.answers.Converter.{Converter}
 use Rattle.statements.specs.Stack.{stackEntryAt, operandFrom, operandAt, stackAt}
 use Rattle.statements.specs.Converting.{LoopIn, Converting, withCounters, Stays, StaysFor, NamesStay}
@@ -151,20 +148,8 @@ module _ (tree : List ℕ) {s s′ : List ℕ} {names operands : ℕ} (f : Stays
   original-word = word-stays tree s s′ number-word
 
   pub keyed-stays : (text : List ℕ) (count : ℕ) → Keyed tree text s count → Keyed tree text s′ count
-  keyed-stays text count r = record {
-    good = r .good;
-    numbered = numbered-stays tree text s s′ number-word (λ t h. byte-word (textDigestAt (records tree) t) (λ j q e k. f .behind q (omega arith) (omega arith))) (r .numbered);
-    distinct = r .distinct;
-    listed = record {
-      room = omega (arith, r .listed .room, f .long);
-      counted = r .listed .counted;
-      listed = λ j q. listed-word (4 * j) (omega (arith, r .listed .counted, records-most tree (records tree))) ∙ r .listed .listed j q;
-    };
-    slots = slots-stay tree text s s′ (λ o h. byte-word (keySlotAt (records tree) o) (λ j q e k. f .behind q (omega arith) (omega arith))) _ (r .slots);
-    digests =
-        digests-stay tree text s s′ count (λ j q. listed-word (4 * j) (omega (arith, r .listed .counted, records-most tree (records tree))))
-        (λ j h. byte-word (keyDigestAt (records tree) j) (λ i q e k. f .behind q (omega arith) (omega (arith, r .listed .counted, records-most tree (records tree))))) (r .digests);
-  }
+  keyed-stays text count =
+      keyed-kept tree text s s′ count (f .long) listed-word (λ p a b. byte-word p (λ j q e k. f .behind q (omega arith) (omega arith)))
 
   pub scoped-stays : (sc : Scope) → sc .names ≤ names → Scoped tree s sc → Scoped tree s′ sc
   scoped-stays sc h r = record {

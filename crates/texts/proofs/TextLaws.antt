@@ -80,11 +80,13 @@ module _ (tree text : List ℕ) where
   pub original-again : (r : ℕ) → r < records tree → hasOwn tree r ≡ true → original tree text (original tree text r) ≡ original tree text r
   original-again r h t = same-original (original tree text r) r h t (original-text r h t)
 
-  -- the numbers and digests stay where their words do
-  pub numbered-stays : (s s′ : List ℕ) → ((r : ℕ) → r < records tree → wordAt s′ (originalAt (records tree) r) ≡ wordAt s (originalAt (records tree) r))
-      → ((r : ℕ) → r < records tree → wordAt s′ (textDigestAt (records tree) r) ≡ wordAt s (textDigestAt (records tree) r)) → Numbered tree text s → Numbered tree text s′
+  -- the numbers and digests stay where the words of the records that have a text do
+  pub numbered-stays : (s s′ : List ℕ)
+      → ((r : ℕ) → r < records tree → hasOwn tree r ≡ true → wordAt s′ (originalAt (records tree) r) ≡ wordAt s (originalAt (records tree) r))
+      → ((r : ℕ) → r < records tree → hasOwn tree r ≡ true → wordAt s′ (textDigestAt (records tree) r) ≡ wordAt s (textDigestAt (records tree) r))
+      → Numbered tree text s → Numbered tree text s′
   numbered-stays s s′ numbers digests numbered =
-      record { number = λ r h t. numbers r h ∙ numbered .number r h t; digest = λ r h t. digests r h ∙ numbered .digest r h t }
+      record { number = λ r h t. numbers r h t ∙ numbered .number r h t; digest = λ r h t. digests r h t ∙ numbered .digest r h t }
 
   -- the digest at the slot of the number is that of the text
   pub original-digest : (s : List ℕ) → Numbered tree text s → (r : ℕ) → r < records tree → hasOwn tree r ≡ true

@@ -14,6 +14,9 @@ const MOST_RECORDS: usize = 90;
 const MOST_RECORDS_MISSED: usize = 150;
 const MOST_RECORDS_TYPED: usize = 75;
 
+/// For how many records a program that replays the list has buffers (`crates/convert_replay`): none is lent longer ones.
+const ROOM: usize = 2_049;
+
 /// One generated tree in so many may be larger; a prime, so that every class has its turn.
 const LARGE_EACH: usize = 509;
 
@@ -65,11 +68,17 @@ fn typed(seed: u64) -> impl Iterator<Item = Case> {
     small.filter(|case| !typed_calls(&Tree::new(&case.tree, &case.text)).is_empty()).take(TYPED)
 }
 
+/// Whether a case of the judge's list is one of the larger ones that go into this list: at the limit and one above it.
+fn is_taken(case: &Case) -> bool {
+    let records = case.tree.len() / RECORD_BYTES;
+    case.tree.len() <= 70_000 || records >= crate::judge::MOST_RECORDS
+}
+
 /// The cases: the vectors, those of the judge's list, each rule broken, each error, shifts at the limits, calls with type arguments, and generated ones of all
 /// classes in turn until there are `count`; every third of the broken and the generated ones has buffers longer than needed.
 pub fn cases(seed: u64, count: usize, vectors: &str) -> Result<Vec<Case>, String> {
     let mut cases: Vec<Case> = vectors.lines().map(vector).collect::<Result<_, _>>()?;
-    cases.extend(list::cases(seed, 300).into_iter().filter(|case| case.tree.len() <= 70_000));
+    cases.extend(list::cases(seed, 300).into_iter().filter(is_taken));
     for (at, case) in broken::all().iter().enumerate() {
         let mut case = case.clone();
         if at % 3 == 0 && case.lens == needed(case.tree.len()) {
@@ -96,6 +105,10 @@ pub fn cases(seed: u64, count: usize, vectors: &str) -> Result<Vec<Case>, String
         }
         cases.push(case);
     }
+    let room = needed(ROOM * RECORD_BYTES);
+    cases
+        .iter_mut()
+        .for_each(|case| case.lens = std::array::from_fn(|which| case.lens[which].min(room[which])));
     Ok(cases)
 }
 

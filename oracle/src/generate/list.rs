@@ -3,7 +3,7 @@
 use super::rng::Rng;
 use super::{Case, damage, generate, shapes, whole};
 use crate::ast::{Layout, St, Ty};
-use crate::judge::{MOST_RECORDS, judge};
+use crate::judge::{MOST_RECORDS, MOST_RECORDS_ONCE, judge};
 use crate::tree::*;
 use crate::write::*;
 
@@ -14,7 +14,8 @@ fn named(label: &str, layout: Layout) -> Case {
 /// Cases of lengths and buffers.
 fn bounds(cases: &mut Vec<Case>) {
     let mut rng = Rng::new(7);
-    for records in [12, 13, 14, 15, 17, 20, 40, MOST_RECORDS - 1, MOST_RECORDS, MOST_RECORDS + 1] {
+    let edges = [MOST_RECORDS_ONCE, MOST_RECORDS].map(|most| [most - 1, most, most + 1]);
+    for records in [&[12, 13, 14, 15, 17, 20, 40], edges.as_flattened()].concat() {
         cases.push(named("records", shapes::of_records(&mut rng, records)));
     }
     let twelve = whole(Layout::program(&[]));

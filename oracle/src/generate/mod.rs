@@ -1,5 +1,6 @@
 //! Trees from a seed: the same seed and class give the same case on every machine.
 
+pub mod beside;
 pub mod broken;
 pub mod call_list;
 pub mod constants;
@@ -17,7 +18,7 @@ pub mod soup;
 pub mod typed;
 
 use crate::ast::{Fun, Layout};
-use crate::judge::{MOST_RECORDS, needed};
+use crate::judge::{FEWEST_RECORDS, MOST_RECORDS, MOST_RECORDS_ONCE, needed};
 use crate::tree::RECORD_BYTES;
 use programs::Maker;
 use rng::Rng;
@@ -31,7 +32,7 @@ pub struct Case {
     pub label: String,
 }
 
-const CLASSES: [&str; 17] = [
+const CLASSES: [&str; 18] = [
     "program",
     "near",
     "miss",
@@ -49,6 +50,7 @@ const CLASSES: [&str; 17] = [
     "rare",
     "broken",
     "typed",
+    "large",
 ];
 
 /// The names of the classes.
@@ -75,7 +77,8 @@ pub fn generate(seed: u64, class: &str) -> Case {
         "lengths" => lengths(&mut rng),
         "buffers" => buffers(&mut rng, seed),
         "deep" => laid_out(&mut rng, &shapes::deep(&mut seeded(seed))),
-        "dense" => laid_out(&mut rng, &shapes::dense(&mut seeded(seed), seed as usize % 6)),
+        "dense" => dense(&mut rng, seed),
+        "large" => large(&mut rng),
         "bytes" => random_bytes(&mut rng),
         "broken" => broken::all()[seed as usize % broken::all().len()].clone(),
         "typed" => laid_out(&mut rng, &typed::program(&mut seeded(seed), seed % 4 == 3)),
@@ -119,6 +122,21 @@ fn miss(rng: &mut Rng, seed: u64) -> Case {
     Case { needs_main: number == 10, label, ..laid_out(rng, &functions) }
 }
 
+/// One in sixteen at the limit, the others at the one of before.
+fn dense(rng: &mut Rng, seed: u64) -> Case {
+    let most = if seed / 6 % 16 == 7 { MOST_RECORDS } else { MOST_RECORDS_ONCE };
+    laid_out(rng, &shapes::dense(&mut seeded(seed), seed as usize % 6, most))
+}
+
+/// Programs side by side, each with functions of its own, some with parts taken without regard to their place; one in sixteen of any size up to the limit, the others smaller.
+fn large(rng: &mut Rng) -> Case {
+    let most = if rng.below(16) == 0 { MOST_RECORDS } else { 5 * MOST_RECORDS_ONCE / 2 };
+    let size = MOST_RECORDS_ONCE / 2 + rng.below(most - MOST_RECORDS_ONCE / 2 + 1);
+    let wrong = [0, 0, 0, 1][rng.below(4)];
+    let functions = beside::programs(rng, size - FEWEST_RECORDS, wrong);
+    laid_out(rng, &functions)
+}
+
 fn damaged(rng: &mut Rng) -> Case {
     let functions = match rng.below(3) {
         0 => damage::every_kind(),
@@ -139,8 +157,9 @@ fn damaged_each(seed: u64) -> Case {
 }
 
 fn lengths(rng: &mut Rng) -> Case {
-    let records =
-        [11, 12, 13, 14, 15, 16, 40, MOST_RECORDS - 1, MOST_RECORDS, MOST_RECORDS + 1][rng.below(10)];
+    let bounds = [FEWEST_RECORDS, MOST_RECORDS_ONCE, MOST_RECORDS].map(|bound| [bound - 1, bound, bound + 1]);
+    let sizes = [bounds.as_flattened(), &[14, 15, 16, 40]].concat();
+    let records = sizes[rng.below(sizes.len())];
     let mut case = whole(shapes::of_records(rng, records.max(12)));
     case.tree.truncate(records * RECORD_BYTES);
     match rng.below(6) {

@@ -2,7 +2,6 @@
 
 use super::rng::Rng;
 use crate::ast::{Ex, Fun, Layout, St, Ty};
-use crate::judge::MOST_RECORDS;
 use crate::write::*;
 
 /// A tree of exactly `records` records, at least twelve: past the twelve types come a few more, and
@@ -65,10 +64,10 @@ pub fn deep(rng: &mut Rng) -> Vec<Fun> {
 /// What a dense tree has most of, per record.
 pub const DENSE: [&str; 6] = ["instructions", "variables", "labels", "functions", "strings", "floats"];
 
-/// A tree near 2,048 records that is dense for one table.
-pub fn dense(rng: &mut Rng, table: usize) -> Vec<Fun> {
+/// A tree of nearly `most` records that is dense for one table.
+pub fn dense(rng: &mut Rng, table: usize, most: usize) -> Vec<Fun> {
     if table == 3 {
-        let count = (MOST_RECORDS - 12) / 3;
+        let count = (most - 12) / 3;
         return (0..count).map(|at| func(&format!("함{at}"), &[], None, vec![])).collect();
     }
     let (chain, mixed) = (30 + rng.below(31), rng.flip());
@@ -78,7 +77,7 @@ pub fn dense(rng: &mut Rng, table: usize) -> Vec<Fun> {
         let at = body.len();
         let (cost, statement) = dense_statement(table, chain, at, mixed);
         records += cost;
-        if records > MOST_RECORDS {
+        if records > most {
             return vec![func("가다", &[], None, body)];
         }
         body.push(statement);

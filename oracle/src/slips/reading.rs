@@ -246,7 +246,7 @@ impl Rules {
             rows: vec![Row::Lengths, Row::Buffers, Row::Records, Row::Nesting],
             multiple: 32,
             fewest: 12,
-            most: 2048,
+            most: 16_384,
             bytes: [(320, 0), (12, 0), (24, 0), (32, 0), (8, 0), (32, 0), (72, 0)],
             deepest: 64,
             forms: forms(),

@@ -15,7 +15,10 @@ pub fn rows(slips: &mut Slips) {
     for multiple in [1, 2, 4, 8, 16] {
         slips.add(format!("a multiple of {multiple}"), move |rules| rules.multiple = multiple);
     }
-    for (fewest, most) in [(0, 2048), (11, 2048), (13, 2048), (12, 2047), (12, 2049), (12, usize::MAX)] {
+    let most = Rules::new().most;
+    for (fewest, most) in
+        [(0, most), (11, most), (13, most), (12, most - 1), (12, most + 1), (12, usize::MAX)]
+    {
         slips.add(format!("{fewest} to {most} records"), move |rules| {
             (rules.fewest, rules.most) = (fewest, most)
         });

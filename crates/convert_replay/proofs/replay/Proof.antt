@@ -16,14 +16,14 @@ zeros n = length-replicate n 0
 
 abbrev Inv-loop : tie.InvT-loop
 Inv-loop file head₀ body₀ cases₀ differ₀ whole₀ head body cases differ whole =
-    (length head ≡ 104) × (length body ≡ 400000) × (cases ≤ 1000000) × (differ ≤ cases)
+    (length head ≡ 104) × (length body ≡ 620000) × (cases ≤ 1000000) × (differ ≤ cases)
 
 abbrev μ-loop : tie.MeasureT-loop
 μ-loop file head₀ body₀ cases₀ differ₀ whole₀ head body cases differ whole =
     1000000 - cases
 
 loop-holds : tie.Need-loop-holds Inv-loop μ-loop
-loop-holds c = (zeros 104, zeros 400000, omega arith, omega arith)
+loop-holds c = (zeros 104, zeros 620000, omega arith, omega arith)
 
 slice-aggregate-next-case : tie.Need-slice-aggregate-next-case Inv-loop μ-loop
 slice-aggregate-next-case c = search needs

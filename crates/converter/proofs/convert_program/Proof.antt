@@ -11,7 +11,7 @@ use Rattle.converter.proofs.convert_program.Lts as lts
 use Rattle.converter.proofs.convert_all.Reads as convert-all-reads
 use Rattle.functions.proofs.functions.check_main.Reads as check-main-reads
 use Rattle.functions.proofs.functions.get_all_functions.Reads as get-all-functions-reads
-use Rattle.keys.proofs.keys.digest_keys.Reads as digest-keys-reads
+use Rattle.keys.proofs.keys.chain_functions.Reads as chain-functions-reads
 use Rattle.texts.proofs.number_texts.Reads as number-texts-reads
 
 number-texts-requires : tie.Need-number-texts-requires
@@ -38,8 +38,8 @@ enum-known-e-2 c = search needs
 enum-told : tie.Need-enum-told
 enum-told c = search needs
 
-digest-keys-requires : tie.Need-digest-keys-requires
-digest-keys-requires c κs =
+chain-functions-requires : tie.Need-chain-functions-requires
+chain-functions-requires c κs =
     let listing = c .before .before .before .before .before .before .before .before .before .before in
     keys-done _ _ _ _ _ (listing .get-all-functions .ensures) _ (c .before .before .before .before .before .before .count .given .1)
 
@@ -55,8 +55,8 @@ convert-all-requires : tie.Need-convert-all-requires
 convert-all-requires c κs =
     let start = c .before .before .before .before .before .before .before .before .before .before .before .before .before .before .before .before .before .before .before .before .before .before .before .before .before .before .before .before .before in
     let forgot = c .before .before .before .before in
-    let digests = c .before .before .before .before .before .before .before .before in
-    ((forgets-keyed _ _ _ (forgot .forget .ensures) _ _ (digests .digest-keys .ensures), start .pre .1), forgets-turns _ _ _ (forgot .forget .ensures) (start .pre .3))
+    let chained = c .before .before .before .before .before .before .before .before in
+    ((forgets-keyed _ _ _ (forgot .forget .ensures) _ _ (chained .chain-functions .ensures), start .pre .1), forgets-turns _ _ _ (forgot .forget .ensures) (start .pre .3))
 
 same-length : tie.Need-same-length
 same-length c = search needs
@@ -94,12 +94,12 @@ returns-3 c =
     let listing = c .before .before .before .before .before .before .before .before .before .before .before .before .before .before .before .before .before .before .before .before .before .before .before .before in
     let checking = c .before .before .before .before .before .before .before .before .before .before .before .before .before .before .before .before .before in
     let told = c .before .before .before .before .before .before .before .before .before .before .before .before .before .before .before in
-    let digests = c .before .before .before .before .before .before .before .before .before .before .before .before in
+    let chained = c .before .before .before .before .before .before .before .before .before .before .before .before in
     let forgot = c .before .before .before .before .before .before .before .before .before in
     let converting = c .before .before .before .before in
     tree-numbered numbered
     (tree-all _ _ _ _ _ (listing .get-all-functions .ensures) (start .pre .0) (room-numbered numbered (start .pre .2)) _ _ (c .before .before .before .before .before .before .before .before .before .before .before .before .before .before .before .before .before .before .before .before .count .given .1) _ (checking .check-main .ensures) (told .enum-told .given .1)
-    _ (forgot .forget .ensures .same-length ∙ digests .scratch3 .given) _ _ _ _ (converting .convert-all .ensures))
+    _ (forgot .forget .ensures .same-length ∙ chained .scratch3 .given) _ _ _ _ (converting .convert-all .ensures))
 
 pub convert-program-spec : {M : Type 1} → statement M
 convert-program-spec =
@@ -112,7 +112,7 @@ convert-program-spec =
     check-main-requires
     enum-known-e-2
     enum-told
-    digest-keys-requires
+    chain-functions-requires
     forget-requires
     convert-all-requires
     same-length

@@ -3,7 +3,7 @@
 use mathlib.Core.Path.{_∙_}
 use native.Mathlib.Omega.{arith}
 use borrow.Author.Needs.{needs}
-use Rattle.ir.proofs.FloatLinks.{head-beyond, head-other, head-own}
+use Rattle.ir.proofs.EntryLinks.{head-beyond, head-other, head-own, words-bucket}
 use Rattle.ir.proofs.pool.float_head.Statement.{statement}
 use Rattle.ir.proofs.pool.float_head.Tie as tie
 use Rattle.ir.proofs.pool.float_head.Reads as reads
@@ -75,7 +75,7 @@ bucket-of-requires c κs = search needs
 -- src/pool.rt:125:9
 returns-2 : tie.Need-returns-2
 returns-2 c =
-    (head-other _ _ _ _ _ (c .before .before .before .before .before .before .before .index .ensures ∙ c .before .before .before .before .before .before .before .before .load .ensures) (c .before .before .before .before .before .if1 .left) _ _ _ _ (c .before .before .before .before .load2 .ensures) (c .before .before .before .load3 .ensures) (c .before .before .load4 .ensures) (c .before .bucket-of .ensures) (c .if2 .taken), omega arith)
+    (head-other _ _ _ _ _ (c .before .before .before .before .before .before .before .index .ensures ∙ c .before .before .before .before .before .before .before .before .load .ensures) (c .before .before .before .before .before .if1 .left) _ (words-bucket _ _ _ _ _ _ _ (c .before .before .before .before .load2 .ensures) (c .before .before .before .load3 .ensures) (c .before .before .load4 .ensures) (c .before .bucket-of .ensures)) (c .if2 .taken), omega arith)
 
 -- src/pool.rt:127:5
 add-result : tie.Need-add-result
@@ -84,7 +84,7 @@ add-result c = search needs
 -- src/pool.rt:113:1
 returns-3 : tie.Need-returns-3
 returns-3 c =
-    (head-own _ _ _ _ _ (c .before .before .before .before .before .before .before .index .ensures ∙ c .before .before .before .before .before .before .before .before .load .ensures) (c .before .before .before .before .before .if1 .left) _ _ _ _ (c .before .before .before .before .load2 .ensures) (c .before .before .before .load3 .ensures) (c .before .before .load4 .ensures) (c .before .bucket-of .ensures) (c .if2 .left), omega (arith, c .before .before .before .before .before .if1 .left))
+    (head-own _ _ _ _ _ (c .before .before .before .before .before .before .before .index .ensures ∙ c .before .before .before .before .before .before .before .before .load .ensures) (c .before .before .before .before .before .if1 .left) _ (words-bucket _ _ _ _ _ _ _ (c .before .before .before .before .load2 .ensures) (c .before .before .before .load3 .ensures) (c .before .before .load4 .ensures) (c .before .bucket-of .ensures)) (c .if2 .left), omega (arith, c .before .before .before .before .before .if1 .left))
 
 pub float-head-spec : {M : Type 1} → statement M
 float-head-spec =

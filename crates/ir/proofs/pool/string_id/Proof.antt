@@ -1,65 +1,70 @@
 -- The string of this text.
--- What the search found, or a string more. Assumes nothing.
-use borrow.Author.Needs.{needs}
+-- What a walk through its bucket found, or a string more. Assumes nothing.
+use mathlib.Core.Path.{refl}
 use native.Mathlib.Omega.{arith}
-use Rattle.ir.proofs.SearchLaws.{found-small}
+use borrow.Author.Needs.{needs}
 use Rattle.ir.proofs.Answers.{string-at, string-nowhere}
+use Rattle.ir.proofs.LinkLaws.{walk-below}
 use Rattle.ir.proofs.pool.string_id.Statement.{statement}
 use Rattle.ir.proofs.pool.string_id.Tie as tie
 use Rattle.ir.proofs.pool.string_id.Reads as reads
 use Rattle.ir.proofs.pool.string_id.Lts as lts
 use Rattle.ir.proofs.pool.add_string.Reads as add-string-reads
-use Rattle.ir.proofs.pool.find_text.Reads as find-text-reads
+use Rattle.ir.proofs.pool.string_head.Reads as string-head-reads
+use Rattle.ir.proofs.pool.text_bucket.Reads as text-bucket-reads
+use Rattle.ir.proofs.pool.walk_text.Reads as walk-text-reads
 use Rattle.records.proofs.texts.text_digest.Reads as text-digest-reads
 
--- src/pool.rt:89:9
 text-digest-requires : tie.Need-text-digest-requires
 text-digest-requires c κs = search needs
 
--- src/pool.rt:90:11
-find-text-requires : tie.Need-find-text-requires
-find-text-requires c κs = search needs
+text-bucket-requires : tie.Need-text-bucket-requires
+text-bucket-requires c κs = search needs
 
--- src/pool.rt:91:19
+string-head-requires : tie.Need-string-head-requires
+string-head-requires c κs = search needs
+
+walk-text-requires : tie.Need-walk-text-requires
+walk-text-requires c κs = search needs
+
 enum-known-i : tie.Need-enum-known-i
 enum-known-i c = search needs
 
--- src/pool.rt:92:21
-cast-t12 : tie.Need-cast-t12
-cast-t12 c = omega (arith, found-small _ _ _ _ (c .before .before .before .find-text .ensures) (c .before .i .given .1))
+cast-t16 : tie.Need-cast-t16
+cast-t16 c = omega (arith, walk-below (c .before .before .before .walk-text .ensures) _ (c .before .i .given .1), c .before .before .before .before .before .string-head .ensures .1, c .before .before .before .before .before .before .before .before .before .before .before .pre .0 .strings-in, c .before .before .before .before .before .before .before .before .before .before .before .pre .0 .small)
 
--- src/pool.rt:95:38
 enum-told : tie.Need-enum-told
 enum-told c = search needs
 
--- src/pool.rt:95:27
 add-string-requires : tie.Need-add-string-requires
 add-string-requires c κs = search needs
 
--- src/pool.rt:85:1
 same-length : tie.Need-same-length
 same-length c = search needs
 
--- src/pool.rt:85:1
 returns : tie.Need-returns
-returns c = search string-at
+returns c =
+    string-at _ _ _ _ _ _ _ _ _ (c .before .before .before .before .before .before .before .before .before .before .before .pre .0) (c .before .before .before .before .before .before .before .before .text-digest .ensures) (c .before .before .before .before .before .before .before .text-bucket .ensures) (c .before .before .before .before .before .string-head .ensures) (c .before .before .before .walk-text .ensures)
+    _ _ (c .before .i .given .1) refl refl
 
--- src/pool.rt:85:1
 same-length-2 : tie.Need-same-length-2
 same-length-2 c = search needs
 
--- src/pool.rt:85:1
 returns-2 : tie.Need-returns-2
-returns-2 c = search string-nowhere
+returns-2 c =
+    string-nowhere _ _ _ _ _ _ _ _ _ (c .before .before .before .before .before .before .before .before .before .before .before .before .before .before .pre .0) (c .before .before .before .before .before .before .before .before .before .before .before .text-digest .ensures) (c .before .before .before .before .before .before .before .before .before .before .text-bucket .ensures) (c .before .before .before .before .before .before .before .before .string-head .ensures) (c .before .before .before .before .before .before .walk-text .ensures)
+    _ _ (c .before .before .before .before .before .before .before .before .before .before .before .before .before .before .pre .1) (omega arith) (omega arith) (c .before .before .before .before .enum-told .given .1) (c .before .before .add-string .ensures)
 
 pub string-id-spec : {M : Type 1} → statement M
 string-id-spec =
     tie.close
     (tie.spec
     text-digest-requires
-    find-text-requires
+    text-bucket-requires
+    string-head-requires
+    walk-text-requires
     enum-known-i
-    cast-t12
+    cast-t16
     enum-told
     add-string-requires
     same-length

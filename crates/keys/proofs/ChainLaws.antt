@@ -1,0 +1,439 @@
+-- The functions in chains: none entered yet, one more by its key and one more by its name, with what they leave as it was; and the chains stay where their words do.
+-- A function's record has no text, so its slots are apart from those of texts and of their numbers. Assumes nothing.
+use mathlib.Core.Path.{_≡_, refl, sym, ap, _∙_}
+use mathlib.Core.Logic.{_⊎_, inl, inr}
+use mathlib.Core.Bool.{true, false, _&&_, false≢true}
+use mathlib.Core.List.{List}
+use Prim.Native.Nat.{ℕ, _+_, _*_, _≤_, _<_}
+use native.Mathlib.Omega.{arith}
+use lib.Dec.{eqb, ltb}
+use lib.ListN.{length}
+use borrow.Author.Count.{below-more}
+use borrow.Author.Tests.{eq-eqb, ne-eqb, eqb-true, eqb-false, ltb-true, ltb-false}
+use Rattle.laws.specs.Chain.{linkTo}
+use Rattle.laws.specs.Splice.{splice}
+use Rattle.laws.proofs.ChainLaws.{head-none, head-here, head-other, link-within}
+use Rattle.laws.proofs.FixLaws.{pick-yes, pick-no}
+use Rattle.laws.proofs.Splices.{length-splice}
+use Rattle.laws.proofs.Tests.{tested, and-left, and-right}
+use Rattle.records.specs.Chains.{bucketOf, Cleared}
+use Rattle.records.specs.Digest.{digestEnd}
+use Rattle.records.specs.Good.{Good}
+use Rattle.records.specs.Kinds.{kindFunction}
+use Rattle.records.specs.Words.{byteAt, wordAt, kindOf, wordOf, bytesOf, word, records, A}
+use Rattle.records.proofs.Apart.{word-apart, word-there, word-back, word-same}
+use Rattle.records.proofs.ChainedLaws as chained
+use Rattle.conversion.specs.Expressions.{is-mangled}
+use Rattle.syntax.specs.Places.{FunctionAt, functionOf}
+use Rattle.syntax.proofs.Records.{name-record}
+use Rattle.texts.specs.Texts.{hasText, hasOwn, original, originalAt, textDigestAt, Numbered}
+use Rattle.texts.proofs.TextLaws.{numbered-stays, original-below}
+use Rattle.keys.specs.Keys.{keySlotAt, Mapped, Chain, linked, keyHeadAt, nameHeadAt, isFunction, keyRoll, keyBucket, nameBucket, Chaining, Keyed}
+use Rattle.keys.proofs.KeySearch.{records-most}
+use Rattle.keys.proofs.SlotLaws.{slots-stay, zero-word}
+
+-- ---- words that are written
+
+-- the words at p and q do not meet
+abbrev Away : ℕ → ℕ → Type 0
+Away q p = (q + 4 ≤ p) ⊎ (p + 4 ≤ q)
+
+-- two slots of a region
+slot-away : (at i j : ℕ) → (i ≡ j → ⊥) → Away (at + 4 * i) (at + 4 * j)
+slot-away at i j n =
+    tested (ltb i j)
+    (λ t. inl (omega (arith, ltb-true i j t)))
+    (λ t. inr (omega (arith, ltb-false i j t, n)))
+
+module _ (s : List ℕ) (p w : ℕ) (fit : p + 4 ≤ length s) (s′ : List ℕ) (e : s′ ≡ splice s p (word w)) where
+  fits : p + length (word w) ≤ length s
+  unfolding word bytesOf
+  fits = fit
+
+  write-long : length s′ ≡ length s
+  write-long = ap length e ∙ length-splice s p (word w) fits
+
+  write-away : (q : ℕ) → Away q p → wordAt s′ q ≡ wordAt s q
+  unfolding word bytesOf
+  write-away q h = ap (λ (x : List ℕ). wordAt x q) e ∙ word-apart s p (word w) fits q h
+
+  write-there : w < 4294967296 → wordAt s′ p ≡ w
+  unfolding word bytesOf wordAt byteAt
+  write-there h = ap (λ (x : List ℕ). wordAt x p) e ∙ word-there s p (word w) fits 0 p (omega arith) (omega arith) ∙ word-back w h
+
+-- a number before the others of its bucket
+module _ (s : List ℕ) (head link next : ℕ) (hh : head + 4 ≤ length s) (hl : link + 4 ≤ length s) (s′ : List ℕ) (e : s′ ≡ linked head link next s) where
+  abbrev half : List ℕ
+  half = splice s link (word (wordAt s head))
+
+  half-long : length half ≡ length s
+  half-long = write-long s link (wordAt s head) hl half refl
+
+  half-fit : head + 4 ≤ length half
+  half-fit = omega (arith, half-long)
+
+  linked-long : length s′ ≡ length s
+  linked-long = write-long half head next half-fit s′ e ∙ half-long
+
+  linked-away : (q : ℕ) → Away q link → Away q head → wordAt s′ q ≡ wordAt s q
+  linked-away q a b = write-away half head next half-fit s′ e q b ∙ write-away s link (wordAt s head) hl half refl q a
+
+  linked-head : next < 4294967296 → wordAt s′ head ≡ next
+  linked-head h = write-there half head next half-fit s′ e h
+
+  linked-link : wordAt s head < 4294967296 → Away link head → wordAt s′ link ≡ wordAt s head
+  linked-link h a = write-away half head next half-fit s′ e link a ∙ write-there s link (wordAt s head) hl half refl h
+
+pub linked-so : (s s₁ s₂ : List ℕ) (head link next before : ℕ) → before ≡ wordAt s head → s₁ ≡ splice s link (word before) → s₂ ≡ splice s₁ head (word next) → s₂ ≡ linked head link next s
+linked-so s s₁ s₂ head link next before eb e₁ e₂ =
+    e₂ ∙ ap (λ (x : List ℕ). splice x head (word next)) (e₁ ∙ ap (λ (w : ℕ). splice s link (word w)) eb)
+
+-- ---- chains
+
+module _ (bucket headAt linkAt : ℕ → ℕ) (n : ℕ) where
+  chain-stays : (s s′ : List ℕ) (r : ℕ) → ((b : ℕ) → b < n → wordAt s′ (headAt b) ≡ wordAt s (headAt b)) → ((k : ℕ) → k < r → wordAt s′ (linkAt k) ≡ wordAt s (linkAt k))
+      → Chain bucket headAt linkAt n r s → Chain bucket headAt linkAt n r s′
+  chain-stays s s′ r heads links c = record { heads = λ b h. heads b h ∙ c .heads b h; links = λ k h m. links k h ∙ c .links k h m }
+
+  chain-none : (s : List ℕ) → ((b : ℕ) → b < n → wordAt s (headAt b) ≡ 0) → Chain bucket headAt linkAt n 0 s
+  chain-none s z = record { heads = λ b h. z b h ∙ head-none bucket b; links = λ k h. absurd (omega arith) }
+
+  -- number r is in no bucket
+  chain-past : (s : List ℕ) (r : ℕ) → bucket r ≡ n → Chain bucket headAt linkAt n r s → Chain bucket headAt linkAt n (r + 1) s
+  chain-past s r e c = record {
+    heads = λ b h. c .heads b h ∙ head-other bucket r b (λ q. omega (arith, e));
+    links = below-more (λ (k : ℕ). bucket k < n → wordAt s (linkAt k) ≡ linkTo bucket k (bucket k)) r (c .links) (λ h. absurd (omega (arith, e)));
+  }
+
+  -- number r goes before the others of its bucket
+  chain-more : (s s′ : List ℕ) (r b : ℕ) → b ≡ bucket r → b < n → wordAt s′ (headAt b) ≡ r + 1 → wordAt s′ (linkAt r) ≡ wordAt s (headAt b)
+      → ((c : ℕ) → c < n → (c ≡ b → ⊥) → wordAt s′ (headAt c) ≡ wordAt s (headAt c)) → ((k : ℕ) → k < r → wordAt s′ (linkAt k) ≡ wordAt s (linkAt k))
+      → Chain bucket headAt linkAt n r s → Chain bucket headAt linkAt n (r + 1) s′
+  chain-more s s′ r b eb hb head link heads links c = record {
+    heads = λ x hx.
+        tested (eqb x b)
+        (λ t. let q : x ≡ b = eqb-true x b t in rw q (head ∙ head-here bucket r b (sym eb)))
+        (λ t. let ne : x ≡ b → ⊥ = eqb-false x b t in heads x hx ne ∙ c .heads x hx ∙ head-other bucket r x (λ q. ne (sym q ∙ sym eb)));
+    links =
+        below-more (λ (k : ℕ). bucket k < n → wordAt s′ (linkAt k) ≡ linkTo bucket k (bucket k)) r
+        (λ k h m. links k h ∙ c .links k h m)
+        (λ m. link ∙ c .heads b hb ∙ ap (linkTo bucket r) eb);
+  }
+
+-- ---- buckets
+
+module _ (tree text : List ℕ) (f : ℕ) where
+  pub is-function : FunctionAt tree f → isFunction tree f ≡ true
+  is-function at = eq-eqb (kindOf tree f) kindFunction (at .kind)
+
+  pub function-here : f < records tree → isFunction tree f ≡ true → FunctionAt tree f
+  function-here h t = record { below = h; kind = eqb-true (kindOf tree f) kindFunction t }
+
+  key-bucket-none : isFunction tree f ≡ false → keyBucket tree text f ≡ records tree
+  key-bucket-none e = chained.bucket-other (isFunction tree) (λ k. digestEnd (keyRoll tree text k)) (records tree) f e
+
+  name-bucket-none : (isFunction tree f && is-mangled (functionOf tree text f)) ≡ false → nameBucket tree text f ≡ records tree
+  unfolding nameBucket
+  name-bucket-none e = pick-no _ (original tree text (wordOf tree f A)) (records tree) e
+
+  pub name-bucket-is : isFunction tree f ≡ true → is-mangled (functionOf tree text f) ≡ true → nameBucket tree text f ≡ original tree text (wordOf tree f A)
+  unfolding nameBucket
+  name-bucket-is t m =
+      pick-yes (isFunction tree f && is-mangled (functionOf tree text f)) (original tree text (wordOf tree f A)) (records tree) (rw t m)
+
+-- a record in a chain of names is a mangled function
+pub name-bucket-here : (tree text : List ℕ) (k : ℕ) → nameBucket tree text k < records tree → (isFunction tree k ≡ true) × (is-mangled (functionOf tree text k) ≡ true)
+name-bucket-here tree text k h =
+    tested (isFunction tree k && is-mangled (functionOf tree text k))
+    (λ t. (and-left (isFunction tree k) _ t, and-right (isFunction tree k) _ t))
+    (λ t. absurd (omega (arith, name-bucket-none tree text k t)))
+
+-- what the code reads of record r's kind
+pub kind-other : (tree : List ℕ) (r k : ℕ) → k ≡ kindOf tree r → (k ≡ kindFunction → ⊥) → isFunction tree r ≡ false
+kind-other tree r k e n = ne-eqb (kindOf tree r) kindFunction (λ q. n (e ∙ q))
+
+-- the head of a digest's bucket
+pub head-read : (s : List ℕ) (n x d b w : ℕ) → w ≡ wordAt s (keyHeadAt n b) → b ≡ bucketOf n d → d ≡ digestEnd x → w ≡ wordAt s (keyHeadAt n (bucketOf n (digestEnd x)))
+head-read s n x d b w e eb ed = e ∙ ap (λ (y : ℕ). wordAt s (keyHeadAt n y)) (eb ∙ ap (bucketOf n) ed)
+
+-- the number of a function's name, as it is read from the scratch
+module _ (tree text : List ℕ) (good : Good tree text) (f : ℕ) (at : FunctionAt tree f) where
+  pub name-has : hasOwn tree (wordOf tree f A) ≡ true
+  unfolding hasText
+  name-has = rw (name-record tree text good f at .kind) refl
+
+  module _ (s : List ℕ) (r : ℕ) (e : r ≡ wordOf tree f A) where
+    pub name-inside : 72 * records tree ≤ length s → originalAt (records tree) r + 4 ≤ length s
+    name-inside room = omega (arith, e, name-record tree text good f at .below)
+
+    pub name-number : Numbered tree text s → (o : ℕ) → o ≡ wordAt s (originalAt (records tree) r) → (o ≡ original tree text (wordOf tree f A)) × (o < records tree)
+    name-number numbered o w =
+        let below = name-record tree text good f at .below in
+        let z : o ≡ original tree text (wordOf tree f A) = w ∙ ap (λ (x : ℕ). wordAt s (originalAt (records tree) x)) e ∙ numbered .number (wordOf tree f A) below name-has in
+        (z, rw z (original-below tree text (wordOf tree f A) below name-has))
+
+-- a text's slot is not a function's
+not-own : (tree : List ℕ) (f r : ℕ) → FunctionAt tree f → hasOwn tree r ≡ true → r ≡ f → ⊥
+unfolding hasText
+not-own tree f r at t e =
+    let none : hasOwn tree f ≡ false = rw (at .kind) refl in
+    false≢true (sym none ∙ ap (hasOwn tree) (sym e) ∙ t)
+
+-- ---- what stays
+
+pub count-most : (tree text s : List ℕ) (count : ℕ) → Mapped tree text s count → count ≤ records tree
+count-most tree text s count m = omega (arith, m .listed .counted, records-most tree (records tree))
+
+mapped-stays : (tree text s s′ : List ℕ) (count : ℕ) → length s′ ≡ length s
+    → ((j : ℕ) → j < records tree → wordAt s′ (4 * j) ≡ wordAt s (4 * j))
+    → ((r : ℕ) → r < records tree → hasOwn tree r ≡ true → wordAt s′ (originalAt (records tree) r) ≡ wordAt s (originalAt (records tree) r))
+    → ((r : ℕ) → r < records tree → hasOwn tree r ≡ true → wordAt s′ (keySlotAt (records tree) r) ≡ wordAt s (keySlotAt (records tree) r))
+    → ((r : ℕ) → r < records tree → hasOwn tree r ≡ true → wordAt s′ (textDigestAt (records tree) r) ≡ wordAt s (textDigestAt (records tree) r))
+    → Mapped tree text s count → Mapped tree text s′ count
+mapped-stays tree text s s′ count long listed numbers slots digests m = record {
+  good = m .good;
+  numbered = numbered-stays tree text s s′ numbers digests (m .numbered);
+  distinct = m .distinct;
+  listed = record {
+    room = omega (arith, m .listed .room, long);
+    counted = m .listed .counted;
+    listed = λ j h. listed j (omega (arith, count-most tree text s count m)) ∙ m .listed .listed j h;
+  };
+  slots = slots-stay tree text s s′ slots _ (m .slots);
+}
+
+-- the words of the list, and all from the texts' numbers to the slots of names, are as they were
+pub keyed-kept : (tree text s s′ : List ℕ) (count : ℕ) → length s′ ≡ length s → ((p : ℕ) → p + 4 ≤ 4 * records tree → wordAt s′ p ≡ wordAt s p)
+    → ((p : ℕ) → 40 * records tree ≤ p → p + 4 ≤ 60 * records tree → wordAt s′ p ≡ wordAt s p) → Keyed tree text s count → Keyed tree text s′ count
+keyed-kept tree text s s′ count long listed same k =
+    let n : ℕ = records tree in
+    let mapped : Mapped tree text s count = record { good = k .good; numbered = k .numbered; distinct = k .distinct; listed = k .listed; slots = k .slots } in
+    let m : Mapped tree text s′ count =
+    mapped-stays tree text s s′ count long (λ j h. listed (4 * j) (omega arith)) (λ r h t. same (originalAt n r) (omega arith) (omega arith))
+    (λ r h t. same (keySlotAt n r) (omega arith) (omega arith)) (λ r h t. same (textDigestAt n r) (omega arith) (omega arith)) mapped in
+    record {
+      good = m .good;
+      numbered = m .numbered;
+      distinct = m .distinct;
+      listed = m .listed;
+      slots = m .slots;
+      digests = λ f h at. same (textDigestAt n f) (omega arith) (omega arith) ∙ k .digests f h at;
+      by-key =
+          chain-stays (keyBucket tree text) (keyHeadAt n) (originalAt n) n s s′ n (λ b h. same (keyHeadAt n b) (omega arith) (omega arith))
+          (λ r h. same (originalAt n r) (omega arith) (omega arith)) (k .by-key);
+      by-name =
+          chain-stays (nameBucket tree text) (nameHeadAt n) (keySlotAt n) n s s′ n (λ b h. same (nameHeadAt n b) (omega arith) (omega arith))
+          (λ r h. same (keySlotAt n r) (omega arith) (omega arith)) (k .by-name);
+    }
+
+-- ---- the heads are cleared
+
+cleared-word : (from to : ℕ) (s s′ : List ℕ) → Cleared from to s s′ → (p : ℕ) → from ≤ p → p + 4 ≤ to → wordAt s′ p ≡ 0
+cleared-word from to s s′ c p a b =
+    zero-word s′ p (c .zero p a (omega arith)) (c .zero (p + 1) (omega arith) (omega arith)) (c .zero (p + 2) (omega arith) (omega arith)) (c .zero (p + 3) (omega arith) (omega arith))
+
+cleared-away : (from to : ℕ) (s s′ : List ℕ) → Cleared from to s s′ → (p : ℕ) → (p + 4 ≤ from) ⊎ (to ≤ p) → wordAt s′ p ≡ wordAt s p
+cleared-away from to s s′ c p (inl h) =
+    word-same s′ p s p (c .before p (omega arith)) (c .before (p + 1) (omega arith)) (c .before (p + 2) (omega arith)) (c .before (p + 3) (omega arith))
+cleared-away from to s s′ c p (inr h) =
+    word-same s′ p s p (c .behind p (omega arith)) (c .behind (p + 1) (omega arith)) (c .behind (p + 2) (omega arith)) (c .behind (p + 3) (omega arith))
+
+module _ (tree text s s₁ s₂ : List ℕ) (count : ℕ) (m : Mapped tree text s count) (c₁ : Cleared (48 * records tree) (48 * records tree + 4 * records tree) s s₁)
+    (c₂ : Cleared (56 * records tree) (56 * records tree + 4 * records tree) s₁ s₂) where
+  cleared-stays : (p : ℕ) → (p + 4 ≤ 48 * records tree) ⊎ (52 * records tree ≤ p) → (p + 4 ≤ 56 * records tree) ⊎ (60 * records tree ≤ p) → wordAt s₂ p ≡ wordAt s p
+  cleared-stays p a b = cleared-away _ _ s₁ s₂ c₂ p (behind b) ∙ cleared-away _ _ s s₁ c₁ p (between a)
+    where
+      between : (p + 4 ≤ 48 * records tree) ⊎ (52 * records tree ≤ p) → (p + 4 ≤ 48 * records tree) ⊎ (48 * records tree + 4 * records tree ≤ p)
+      between (inl h) = inl h
+      between (inr h) = inr (omega arith)
+
+      behind : (p + 4 ≤ 56 * records tree) ⊎ (60 * records tree ≤ p) → (p + 4 ≤ 56 * records tree) ⊎ (56 * records tree + 4 * records tree ≤ p)
+      behind (inl h) = inl h
+      behind (inr h) = inr (omega arith)
+
+  pub chaining-none : Chaining tree text s₂ count 0 0
+  chaining-none = record {
+    mapped =
+        mapped-stays tree text s s₂ count (c₂ .long ∙ c₁ .long)
+        (λ j h. cleared-stays (4 * j) (inl (omega arith)) (inl (omega arith)))
+        (λ r h t. cleared-stays (originalAt (records tree) r) (inl (omega arith)) (inl (omega arith)))
+        (λ r h t. cleared-stays (keySlotAt (records tree) r) (inl (omega arith)) (inl (omega arith)))
+        (λ r h t. cleared-stays (textDigestAt (records tree) r) (inr (omega arith)) (inl (omega arith))) m;
+    digests = λ f h. absurd (omega arith);
+    by-key =
+        chain-none (keyBucket tree text) (keyHeadAt (records tree)) (originalAt (records tree)) (records tree) s₂
+        (λ b h. cleared-away _ _ s₁ s₂ c₂ (keyHeadAt (records tree) b) (inl (omega arith)) ∙ cleared-word _ _ s s₁ c₁ (keyHeadAt (records tree) b) (omega arith) (omega arith));
+    by-name =
+        chain-none (nameBucket tree text) (nameHeadAt (records tree)) (keySlotAt (records tree)) (records tree) s₂
+        (λ b h. cleared-word _ _ s₁ s₂ c₂ (nameHeadAt (records tree) b) (omega arith) (omega arith));
+  }
+
+-- ---- record r is passed
+
+module _ (tree text s : List ℕ) (count : ℕ) where
+  pub passed-other : (r : ℕ) → isFunction tree r ≡ false → Chaining tree text s count r r → Chaining tree text s count (r + 1) (r + 1)
+  passed-other r e c = record {
+    mapped = c .mapped;
+    digests =
+        below-more (λ (f : ℕ). FunctionAt tree f → wordAt s (textDigestAt (records tree) f) ≡ keyRoll tree text f) r (c .digests)
+        (λ at. absurd (false≢true (sym e ∙ is-function tree text r at)));
+    by-key = chain-past (keyBucket tree text) (keyHeadAt (records tree)) (originalAt (records tree)) (records tree) s r (key-bucket-none tree text r e) (c .by-key);
+    by-name =
+        chain-past (nameBucket tree text) (nameHeadAt (records tree)) (keySlotAt (records tree)) (records tree) s r
+        (name-bucket-none tree text r (rw e refl)) (c .by-name);
+  }
+
+  -- a function that is not mangled is in no chain of names
+  pub passed-plain : (r : ℕ) → is-mangled (functionOf tree text r) ≡ false → Chaining tree text s count (r + 1) r → Chaining tree text s count (r + 1) (r + 1)
+  passed-plain r e c = record {
+    mapped = c .mapped;
+    digests = c .digests;
+    by-key = c .by-key;
+    by-name =
+        chain-past (nameBucket tree text) (nameHeadAt (records tree)) (keySlotAt (records tree)) (records tree) s r
+        (name-bucket-none tree text r (tested (isFunction tree r) (λ t. rw (t, e) refl) (λ t. rw t refl))) (c .by-name);
+  }
+
+-- ---- function f by its key: s₁ is the scratch once the digest is written
+
+module _ (tree text s s₁ s′ : List ℕ) (count f d b : ℕ) (c : Chaining tree text s count f f) (at : FunctionAt tree f) (hb : b < records tree)
+    (e₁ : s₁ ≡ splice s (textDigestAt (records tree) f) (word d)) (e : s′ ≡ linked (keyHeadAt (records tree) b) (originalAt (records tree) f) (f + 1) s₁) where
+  room : 72 * records tree ≤ length s
+  room = c .mapped .listed .room
+
+  fit₁ : textDigestAt (records tree) f + 4 ≤ length s
+  fit₁ = omega (arith, room, at .below)
+
+  long₁ : length s₁ ≡ length s
+  long₁ = write-long s (textDigestAt (records tree) f) d fit₁ s₁ e₁
+
+  fit-head : keyHeadAt (records tree) b + 4 ≤ length s₁
+  fit-head = omega (arith, room, long₁)
+
+  fit-link : originalAt (records tree) f + 4 ≤ length s₁
+  fit-link = omega (arith, room, long₁, at .below)
+
+  key-long : length s′ ≡ length s
+  key-long = linked-long s₁ (keyHeadAt (records tree) b) (originalAt (records tree) f) (f + 1) fit-head fit-link s′ e ∙ long₁
+
+  away₁ : (q : ℕ) → Away q (textDigestAt (records tree) f) → wordAt s₁ q ≡ wordAt s q
+  away₁ = write-away s (textDigestAt (records tree) f) d fit₁ s₁ e₁
+
+  away₂ : (q : ℕ) → Away q (originalAt (records tree) f) → Away q (keyHeadAt (records tree) b) → wordAt s′ q ≡ wordAt s₁ q
+  away₂ = linked-away s₁ (keyHeadAt (records tree) b) (originalAt (records tree) f) (f + 1) fit-head fit-link s′ e
+
+  away : (q : ℕ) → Away q (textDigestAt (records tree) f) → Away q (originalAt (records tree) f) → Away q (keyHeadAt (records tree) b) → wordAt s′ q ≡ wordAt s q
+  away q x y z = away₂ q y z ∙ away₁ q x
+
+  key-mapped : Mapped tree text s′ count
+  key-mapped =
+      mapped-stays tree text s s′ count key-long
+      (λ j h. away (4 * j) (inl (omega arith)) (inl (omega arith)) (inl (omega arith)))
+      (λ r h t. away (originalAt (records tree) r) (inl (omega arith)) (slot-away (40 * records tree) r f (not-own tree f r at t)) (inl (omega arith)))
+      (λ r h t. away (keySlotAt (records tree) r) (inl (omega arith)) (inr (omega (arith, at .below))) (inl (omega arith)))
+      (λ r h t. away (textDigestAt (records tree) r) (slot-away (52 * records tree) r f (not-own tree f r at t)) (inr (omega (arith, at .below))) (inr (omega (arith, hb))))
+      (c .mapped)
+
+  module _ (ed : d ≡ keyRoll tree text f) (hd : d < 4294967296) (eb : b ≡ bucketOf (records tree) (digestEnd d)) where
+    digest-there : wordAt s′ (textDigestAt (records tree) f) ≡ keyRoll tree text f
+    digest-there =
+        away₂ (textDigestAt (records tree) f) (inr (omega (arith, at .below))) (inr (omega (arith, hb)))
+        ∙ write-there s (textDigestAt (records tree) f) d fit₁ s₁ e₁ hd ∙ ed
+
+    bucket-is : b ≡ keyBucket tree text f
+    bucket-is =
+        chained.bucket-told (isFunction tree) (λ k. digestEnd (keyRoll tree text k)) (records tree) f (digestEnd d) b (is-function tree text f at) (ap digestEnd ed) eb
+
+    head-same : wordAt s₁ (keyHeadAt (records tree) b) ≡ wordAt s (keyHeadAt (records tree) b)
+    head-same = away₁ (keyHeadAt (records tree) b) (inl (omega arith))
+
+    head-fits : wordAt s₁ (keyHeadAt (records tree) b) < 4294967296
+    head-fits = omega (arith, link-within (keyBucket tree text) f b _ (head-same ∙ c .by-key .heads b hb), at .below, c .mapped .good .few)
+
+    pub chained-key : Chaining tree text s′ count (f + 1) f
+    chained-key = record {
+      mapped = key-mapped;
+      digests =
+          below-more (λ (g : ℕ). FunctionAt tree g → wordAt s′ (textDigestAt (records tree) g) ≡ keyRoll tree text g) f
+          (λ g h x.
+          away (textDigestAt (records tree) g) (inl (omega arith)) (inr (omega (arith, at .below))) (inr (omega (arith, hb)))
+          ∙ c .digests g h x)
+          (λ x. digest-there);
+      by-key =
+          chain-more (keyBucket tree text) (keyHeadAt (records tree)) (originalAt (records tree)) (records tree) s s′ f b bucket-is hb
+          (linked-head s₁ (keyHeadAt (records tree) b) (originalAt (records tree) f) (f + 1) fit-head fit-link s′ e (omega (arith, at .below, c .mapped .good .few)))
+          (linked-link s₁ (keyHeadAt (records tree) b) (originalAt (records tree) f) (f + 1) fit-head fit-link s′ e head-fits (inl (omega (arith, at .below))) ∙ head-same)
+          (λ x hx ne. away (keyHeadAt (records tree) x) (inl (omega arith)) (inr (omega (arith, at .below))) (slot-away (48 * records tree) x b ne))
+          (λ k h. away (originalAt (records tree) k) (inl (omega (arith, at .below))) (inl (omega arith)) (inl (omega (arith, at .below))))
+          (c .by-key);
+      by-name =
+          chain-stays (nameBucket tree text) (nameHeadAt (records tree)) (keySlotAt (records tree)) (records tree) s s′ f
+          (λ x hx. away (nameHeadAt (records tree) x) (inr (omega (arith, at .below))) (inr (omega (arith, at .below))) (inr (omega (arith, hb))))
+          (λ k h. away (keySlotAt (records tree) k) (inl (omega (arith, at .below))) (inr (omega (arith, at .below))) (inl (omega (arith, at .below))))
+          (c .by-name);
+    }
+
+-- ---- function f by its name
+
+module _ (tree text s s′ : List ℕ) (count f o : ℕ) (c : Chaining tree text s count (f + 1) f) (at : FunctionAt tree f) (mangled : is-mangled (functionOf tree text f) ≡ true)
+    (eo : o ≡ original tree text (wordOf tree f A)) (ho : o < records tree) (e : s′ ≡ linked (nameHeadAt (records tree) o) (keySlotAt (records tree) f) (f + 1) s) where
+  name-fit-head : nameHeadAt (records tree) o + 4 ≤ length s
+  name-fit-head = omega (arith, c .mapped .listed .room)
+
+  name-fit-link : keySlotAt (records tree) f + 4 ≤ length s
+  name-fit-link = omega (arith, c .mapped .listed .room, at .below)
+
+  name-away : (q : ℕ) → Away q (keySlotAt (records tree) f) → Away q (nameHeadAt (records tree) o) → wordAt s′ q ≡ wordAt s q
+  name-away = linked-away s (nameHeadAt (records tree) o) (keySlotAt (records tree) f) (f + 1) name-fit-head name-fit-link s′ e
+
+  name-head-fits : wordAt s (nameHeadAt (records tree) o) < 4294967296
+  name-head-fits = omega (arith, link-within (nameBucket tree text) f o _ (c .by-name .heads o ho), at .below, c .mapped .good .few)
+
+  pub chained-name : Chaining tree text s′ count (f + 1) (f + 1)
+  chained-name = record {
+    mapped =
+        mapped-stays tree text s s′ count
+        (linked-long s (nameHeadAt (records tree) o) (keySlotAt (records tree) f) (f + 1) name-fit-head name-fit-link s′ e)
+        (λ j h. name-away (4 * j) (inl (omega arith)) (inl (omega arith)))
+        (λ r h t. name-away (originalAt (records tree) r) (inl (omega arith)) (inl (omega arith)))
+        (λ r h t. name-away (keySlotAt (records tree) r) (slot-away (44 * records tree) r f (not-own tree f r at t)) (inl (omega arith)))
+        (λ r h t. name-away (textDigestAt (records tree) r) (inr (omega (arith, at .below))) (inl (omega arith)))
+        (c .mapped);
+    digests = λ g h x. name-away (textDigestAt (records tree) g) (inr (omega (arith, at .below))) (inl (omega (arith, x .below))) ∙ c .digests g h x;
+    by-key =
+        chain-stays (keyBucket tree text) (keyHeadAt (records tree)) (originalAt (records tree)) (records tree) s s′ (f + 1)
+        (λ x hx. name-away (keyHeadAt (records tree) x) (inr (omega (arith, at .below))) (inl (omega arith)))
+        (λ k h. name-away (originalAt (records tree) k) (inl (omega (arith, at .below))) (inl (omega (arith, at .below))))
+        (c .by-key);
+    by-name =
+        chain-more (nameBucket tree text) (nameHeadAt (records tree)) (keySlotAt (records tree)) (records tree) s s′ f o
+        (eo ∙ sym (name-bucket-is tree text f (is-function tree text f at) mangled)) ho
+        (linked-head s (nameHeadAt (records tree) o) (keySlotAt (records tree) f) (f + 1) name-fit-head name-fit-link s′ e (omega (arith, at .below, c .mapped .good .few)))
+        (linked-link s (nameHeadAt (records tree) o) (keySlotAt (records tree) f) (f + 1) name-fit-head name-fit-link s′ e name-head-fits (inl (omega (arith, at .below))))
+        (λ x hx ne. name-away (nameHeadAt (records tree) x) (inr (omega (arith, at .below))) (slot-away (56 * records tree) x o ne))
+        (λ k h. name-away (keySlotAt (records tree) k) (inl (omega arith)) (inl (omega (arith, at .below))))
+        (c .by-name);
+  }
+
+-- ---- all records
+
+-- the loop: the records below r are passed
+pub record Passing (tree text s₀ s : List ℕ) (count r : ℕ) : Type 0 where
+  pub below : r ≤ records tree
+  pub chaining : Chaining tree text s count r r
+  pub long : length s ≡ length s₀
+
+pub all-chained : (tree text s : List ℕ) (count r : ℕ) → r ≤ records tree → records tree ≤ r → Chaining tree text s count r r → Keyed tree text s count
+all-chained tree text s count r a b x =
+    let q : r ≡ records tree = omega arith in
+    let c : Chaining tree text s count (records tree) (records tree) = rw q at x in
+    record {
+      good = c .mapped .good;
+      numbered = c .mapped .numbered;
+      distinct = c .mapped .distinct;
+      listed = c .mapped .listed;
+      slots = c .mapped .slots;
+      digests = c .digests;
+      by-key = c .by-key;
+      by-name = c .by-name;
+    }
