@@ -28,7 +28,7 @@ use Rattle.syntax.specs.Places.{FunctionAt, functionOf}
 use Rattle.syntax.proofs.Records.{name-record}
 use Rattle.texts.specs.Texts.{hasText, hasOwn, original, originalAt, textDigestAt, Numbered}
 use Rattle.texts.proofs.TextLaws.{numbered-stays, original-below}
-use Rattle.keys.specs.Keys.{keySlotAt, Mapped, Chain, linked, keyHeadAt, nameHeadAt, isFunction, keyRoll, keyBucket, nameBucket, Chaining, Keyed}
+use Rattle.keys.specs.Keys.{keySlotAt, Mapped, Chain, chainedBefore, keyHeadAt, nameHeadAt, isFunction, keyRoll, keyBucket, nameBucket, Chaining, Keyed}
 use Rattle.keys.proofs.KeySearch.{records-most}
 use Rattle.keys.proofs.SlotLaws.{slots-stay, zero-word}
 
@@ -62,7 +62,7 @@ module _ (s : List ℕ) (p w : ℕ) (fit : p + 4 ≤ length s) (s′ : List ℕ)
   write-there h = ap (λ (x : List ℕ). wordAt x p) e ∙ word-there s p (word w) fits 0 p (omega arith) (omega arith) ∙ word-back w h
 
 -- a number before the others of its bucket
-module _ (s : List ℕ) (head link next : ℕ) (hh : head + 4 ≤ length s) (hl : link + 4 ≤ length s) (s′ : List ℕ) (e : s′ ≡ linked head link next s) where
+module _ (s : List ℕ) (head link next : ℕ) (hh : head + 4 ≤ length s) (hl : link + 4 ≤ length s) (s′ : List ℕ) (e : s′ ≡ chainedBefore head link next s) where
   abbrev half : List ℕ
   half = splice s link (word (wordAt s head))
 
@@ -72,20 +72,20 @@ module _ (s : List ℕ) (head link next : ℕ) (hh : head + 4 ≤ length s) (hl 
   half-fit : head + 4 ≤ length half
   half-fit = omega (arith, half-long)
 
-  linked-long : length s′ ≡ length s
-  linked-long = write-long half head next half-fit s′ e ∙ half-long
+  chained-long : length s′ ≡ length s
+  chained-long = write-long half head next half-fit s′ e ∙ half-long
 
-  linked-away : (q : ℕ) → Away q link → Away q head → wordAt s′ q ≡ wordAt s q
-  linked-away q a b = write-away half head next half-fit s′ e q b ∙ write-away s link (wordAt s head) hl half refl q a
+  chained-away : (q : ℕ) → Away q link → Away q head → wordAt s′ q ≡ wordAt s q
+  chained-away q a b = write-away half head next half-fit s′ e q b ∙ write-away s link (wordAt s head) hl half refl q a
 
-  linked-head : next < 4294967296 → wordAt s′ head ≡ next
-  linked-head h = write-there half head next half-fit s′ e h
+  chained-head : next < 4294967296 → wordAt s′ head ≡ next
+  chained-head h = write-there half head next half-fit s′ e h
 
-  linked-link : wordAt s head < 4294967296 → Away link head → wordAt s′ link ≡ wordAt s head
-  linked-link h a = write-away half head next half-fit s′ e link a ∙ write-there s link (wordAt s head) hl half refl h
+  chained-link : wordAt s head < 4294967296 → Away link head → wordAt s′ link ≡ wordAt s head
+  chained-link h a = write-away half head next half-fit s′ e link a ∙ write-there s link (wordAt s head) hl half refl h
 
-pub linked-so : (s s₁ s₂ : List ℕ) (head link next before : ℕ) → before ≡ wordAt s head → s₁ ≡ splice s link (word before) → s₂ ≡ splice s₁ head (word next) → s₂ ≡ linked head link next s
-linked-so s s₁ s₂ head link next before eb e₁ e₂ =
+pub chained-so : (s s₁ s₂ : List ℕ) (head link next before : ℕ) → before ≡ wordAt s head → s₁ ≡ splice s link (word before) → s₂ ≡ splice s₁ head (word next) → s₂ ≡ chainedBefore head link next s
+chained-so s s₁ s₂ head link next before eb e₁ e₂ =
     e₂ ∙ ap (λ (x : List ℕ). splice x head (word next)) (e₁ ∙ ap (λ (w : ℕ). splice s link (word w)) eb)
 
 -- ---- chains
@@ -297,7 +297,7 @@ module _ (tree text s : List ℕ) (count : ℕ) where
 -- ---- function f by its key: s₁ is the scratch once the digest is written
 
 module _ (tree text s s₁ s′ : List ℕ) (count f d b : ℕ) (c : Chaining tree text s count f f) (at : FunctionAt tree f) (hb : b < records tree)
-    (e₁ : s₁ ≡ splice s (textDigestAt (records tree) f) (word d)) (e : s′ ≡ linked (keyHeadAt (records tree) b) (originalAt (records tree) f) (f + 1) s₁) where
+    (e₁ : s₁ ≡ splice s (textDigestAt (records tree) f) (word d)) (e : s′ ≡ chainedBefore (keyHeadAt (records tree) b) (originalAt (records tree) f) (f + 1) s₁) where
   room : 72 * records tree ≤ length s
   room = c .mapped .listed .room
 
@@ -314,13 +314,13 @@ module _ (tree text s s₁ s′ : List ℕ) (count f d b : ℕ) (c : Chaining tr
   fit-link = omega (arith, room, long₁, at .below)
 
   key-long : length s′ ≡ length s
-  key-long = linked-long s₁ (keyHeadAt (records tree) b) (originalAt (records tree) f) (f + 1) fit-head fit-link s′ e ∙ long₁
+  key-long = chained-long s₁ (keyHeadAt (records tree) b) (originalAt (records tree) f) (f + 1) fit-head fit-link s′ e ∙ long₁
 
   away₁ : (q : ℕ) → Away q (textDigestAt (records tree) f) → wordAt s₁ q ≡ wordAt s q
   away₁ = write-away s (textDigestAt (records tree) f) d fit₁ s₁ e₁
 
   away₂ : (q : ℕ) → Away q (originalAt (records tree) f) → Away q (keyHeadAt (records tree) b) → wordAt s′ q ≡ wordAt s₁ q
-  away₂ = linked-away s₁ (keyHeadAt (records tree) b) (originalAt (records tree) f) (f + 1) fit-head fit-link s′ e
+  away₂ = chained-away s₁ (keyHeadAt (records tree) b) (originalAt (records tree) f) (f + 1) fit-head fit-link s′ e
 
   away : (q : ℕ) → Away q (textDigestAt (records tree) f) → Away q (originalAt (records tree) f) → Away q (keyHeadAt (records tree) b) → wordAt s′ q ≡ wordAt s q
   away q x y z = away₂ q y z ∙ away₁ q x
@@ -361,8 +361,8 @@ module _ (tree text s s₁ s′ : List ℕ) (count f d b : ℕ) (c : Chaining tr
           (λ x. digest-there);
       by-key =
           chain-more (keyBucket tree text) (keyHeadAt (records tree)) (originalAt (records tree)) (records tree) s s′ f b bucket-is hb
-          (linked-head s₁ (keyHeadAt (records tree) b) (originalAt (records tree) f) (f + 1) fit-head fit-link s′ e (omega (arith, at .below, c .mapped .good .few)))
-          (linked-link s₁ (keyHeadAt (records tree) b) (originalAt (records tree) f) (f + 1) fit-head fit-link s′ e head-fits (inl (omega (arith, at .below))) ∙ head-same)
+          (chained-head s₁ (keyHeadAt (records tree) b) (originalAt (records tree) f) (f + 1) fit-head fit-link s′ e (omega (arith, at .below, c .mapped .good .few)))
+          (chained-link s₁ (keyHeadAt (records tree) b) (originalAt (records tree) f) (f + 1) fit-head fit-link s′ e head-fits (inl (omega (arith, at .below))) ∙ head-same)
           (λ x hx ne. away (keyHeadAt (records tree) x) (inl (omega arith)) (inr (omega (arith, at .below))) (slot-away (48 * records tree) x b ne))
           (λ k h. away (originalAt (records tree) k) (inl (omega (arith, at .below))) (inl (omega arith)) (inl (omega (arith, at .below))))
           (c .by-key);
@@ -376,7 +376,7 @@ module _ (tree text s s₁ s′ : List ℕ) (count f d b : ℕ) (c : Chaining tr
 -- ---- function f by its name
 
 module _ (tree text s s′ : List ℕ) (count f o : ℕ) (c : Chaining tree text s count (f + 1) f) (at : FunctionAt tree f) (mangled : is-mangled (functionOf tree text f) ≡ true)
-    (eo : o ≡ original tree text (wordOf tree f A)) (ho : o < records tree) (e : s′ ≡ linked (nameHeadAt (records tree) o) (keySlotAt (records tree) f) (f + 1) s) where
+    (eo : o ≡ original tree text (wordOf tree f A)) (ho : o < records tree) (e : s′ ≡ chainedBefore (nameHeadAt (records tree) o) (keySlotAt (records tree) f) (f + 1) s) where
   name-fit-head : nameHeadAt (records tree) o + 4 ≤ length s
   name-fit-head = omega (arith, c .mapped .listed .room)
 
@@ -384,7 +384,7 @@ module _ (tree text s s′ : List ℕ) (count f o : ℕ) (c : Chaining tree text
   name-fit-link = omega (arith, c .mapped .listed .room, at .below)
 
   name-away : (q : ℕ) → Away q (keySlotAt (records tree) f) → Away q (nameHeadAt (records tree) o) → wordAt s′ q ≡ wordAt s q
-  name-away = linked-away s (nameHeadAt (records tree) o) (keySlotAt (records tree) f) (f + 1) name-fit-head name-fit-link s′ e
+  name-away = chained-away s (nameHeadAt (records tree) o) (keySlotAt (records tree) f) (f + 1) name-fit-head name-fit-link s′ e
 
   name-head-fits : wordAt s (nameHeadAt (records tree) o) < 4294967296
   name-head-fits = omega (arith, link-within (nameBucket tree text) f o _ (c .by-name .heads o ho), at .below, c .mapped .good .few)
@@ -393,7 +393,7 @@ module _ (tree text s s′ : List ℕ) (count f o : ℕ) (c : Chaining tree text
   chained-name = record {
     mapped =
         mapped-stays tree text s s′ count
-        (linked-long s (nameHeadAt (records tree) o) (keySlotAt (records tree) f) (f + 1) name-fit-head name-fit-link s′ e)
+        (chained-long s (nameHeadAt (records tree) o) (keySlotAt (records tree) f) (f + 1) name-fit-head name-fit-link s′ e)
         (λ j h. name-away (4 * j) (inl (omega arith)) (inl (omega arith)))
         (λ r h t. name-away (originalAt (records tree) r) (inl (omega arith)) (inl (omega arith)))
         (λ r h t. name-away (keySlotAt (records tree) r) (slot-away (44 * records tree) r f (not-own tree f r at t)) (inl (omega arith)))
@@ -408,8 +408,8 @@ module _ (tree text s s′ : List ℕ) (count f o : ℕ) (c : Chaining tree text
     by-name =
         chain-more (nameBucket tree text) (nameHeadAt (records tree)) (keySlotAt (records tree)) (records tree) s s′ f o
         (eo ∙ sym (name-bucket-is tree text f (is-function tree text f at) mangled)) ho
-        (linked-head s (nameHeadAt (records tree) o) (keySlotAt (records tree) f) (f + 1) name-fit-head name-fit-link s′ e (omega (arith, at .below, c .mapped .good .few)))
-        (linked-link s (nameHeadAt (records tree) o) (keySlotAt (records tree) f) (f + 1) name-fit-head name-fit-link s′ e name-head-fits (inl (omega (arith, at .below))))
+        (chained-head s (nameHeadAt (records tree) o) (keySlotAt (records tree) f) (f + 1) name-fit-head name-fit-link s′ e (omega (arith, at .below, c .mapped .good .few)))
+        (chained-link s (nameHeadAt (records tree) o) (keySlotAt (records tree) f) (f + 1) name-fit-head name-fit-link s′ e name-head-fits (inl (omega (arith, at .below))))
         (λ x hx ne. name-away (nameHeadAt (records tree) x) (inr (omega (arith, at .below))) (slot-away (56 * records tree) x o ne))
         (λ k h. name-away (keySlotAt (records tree) k) (inl (omega arith)) (inl (omega (arith, at .below))))
         (c .by-name);

@@ -111,8 +111,8 @@ pub record Chain (bucket headAt linkAt : ℕ → ℕ) (n r : ℕ) (s : List ℕ)
   pub links : (k : ℕ) → k < r → bucket k < n → wordAt s (linkAt k) ≡ linkTo bucket k (bucket k)
 
 -- a number goes before the others of its bucket: its link says what the head said, and the head says `next`
-abbrev pub linked : ℕ → ℕ → ℕ → List ℕ → List ℕ
-linked head link next s = splice (splice s link (word (wordAt s head))) head (word next)
+abbrev pub chainedBefore : ℕ → ℕ → ℕ → List ℕ → List ℕ
+chainedBefore head link next s = splice (splice s link (word (wordAt s head))) head (word next)
 
 -- where the head of a bucket of digests, and that of a name's number, stand in the scratch of n records
 abbrev pub keyHeadAt : ℕ → ℕ → ℕ
