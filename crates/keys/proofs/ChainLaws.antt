@@ -7,7 +7,7 @@ use mathlib.Core.List.{List}
 use Prim.Native.Nat.{ℕ, _+_, _*_, _≤_, _<_}
 use native.Mathlib.Omega.{arith}
 use lib.Dec.{eqb, ltb}
-use lib.ListN.{length}
+use lib.ListN.{length, getD}
 use borrow.Author.Count.{below-more}
 use borrow.Author.Tests.{eq-eqb, ne-eqb, eqb-true, eqb-false, ltb-true, ltb-false}
 use Rattle.laws.specs.Chain.{linkTo}
@@ -21,14 +21,14 @@ use Rattle.records.specs.Digest.{digestEnd}
 use Rattle.records.specs.Good.{Good}
 use Rattle.records.specs.Kinds.{kindFunction}
 use Rattle.records.specs.Words.{byteAt, wordAt, kindOf, wordOf, bytesOf, word, records, A}
-use Rattle.records.proofs.Apart.{word-apart, word-there, word-back, word-same}
+use Rattle.records.proofs.Apart.{byte-apart, word-apart, word-there, word-back, word-same}
 use Rattle.records.proofs.ChainedLaws as chained
 use Rattle.conversion.specs.Expressions.{is-mangled}
 use Rattle.syntax.specs.Places.{FunctionAt, functionOf}
 use Rattle.syntax.proofs.Records.{name-record}
 use Rattle.texts.specs.Texts.{hasText, hasOwn, original, originalAt, textDigestAt, Numbered}
 use Rattle.texts.proofs.TextLaws.{numbered-stays, original-below}
-use Rattle.keys.specs.Keys.{keySlotAt, Mapped, Chain, chainedBefore, keyHeadAt, nameHeadAt, isFunction, keyRoll, keyBucket, nameBucket, Chaining, Keyed}
+use Rattle.keys.specs.Keys.{keySlotAt, Mapped, Chain, chainedBefore, keyHeadAt, nameHeadAt, isFunction, keyRoll, keyBucket, nameBucket, Chaining, Keyed, ChainKeeps}
 use Rattle.keys.proofs.KeySearch.{records-most}
 use Rattle.keys.proofs.SlotLaws.{slots-stay, zero-word}
 
@@ -52,6 +52,10 @@ module _ (s : List ℕ) (p w : ℕ) (fit : p + 4 ≤ length s) (s′ : List ℕ)
 
   write-long : length s′ ≡ length s
   write-long = ap length e ∙ length-splice s p (word w) fits
+
+  write-byte : (i : ℕ) → (i < p) ⊎ (p + 4 ≤ i) → getD s′ i 0 ≡ getD s i 0
+  unfolding word bytesOf
+  write-byte i h = ap (λ (x : List ℕ). getD x i 0) e ∙ byte-apart s p (word w) fits i h
 
   write-away : (q : ℕ) → Away q p → wordAt s′ q ≡ wordAt s q
   unfolding word bytesOf
@@ -87,6 +91,43 @@ module _ (s : List ℕ) (head link next : ℕ) (hh : head + 4 ≤ length s) (hl 
 pub chained-so : (s s₁ s₂ : List ℕ) (head link next before : ℕ) → before ≡ wordAt s head → s₁ ≡ splice s link (word before) → s₂ ≡ splice s₁ head (word next) → s₂ ≡ chainedBefore head link next s
 chained-so s s₁ s₂ head link next before eb e₁ e₂ =
     e₂ ∙ ap (λ (x : List ℕ). splice x head (word next)) (e₁ ∙ ap (λ (w : ℕ). splice s link (word w)) eb)
+
+-- ---- what is left as it was
+
+pub keeps-none : (tree s : List ℕ) → ChainKeeps tree s s
+keeps-none tree s = record { long = refl; before = λ i h. refl; behind = λ i h. refl }
+
+pub keeps-then : (tree s s₁ s₂ : List ℕ) → ChainKeeps tree s s₁ → ChainKeeps tree s₁ s₂ → ChainKeeps tree s s₂
+keeps-then tree s s₁ s₂ a b = record {
+  long = b .long ∙ a .long;
+  before = λ i h. b .before i h ∙ a .before i h;
+  behind = λ i h. b .behind i h ∙ a .behind i h;
+}
+
+-- a word of these regions is written
+keeps-word : (tree s : List ℕ) (p w : ℕ) → p + 4 ≤ length s → 40 * records tree ≤ p → p + 4 ≤ 60 * records tree → (s′ : List ℕ) → s′ ≡ splice s p (word w) → ChainKeeps tree s s′
+keeps-word tree s p w fit low high s′ e = record {
+  long = write-long s p w fit s′ e;
+  before = λ i h. write-byte s p w fit s′ e i (inl (omega arith));
+  behind = λ i h. write-byte s p w fit s′ e i (inr (omega arith));
+}
+
+-- a link and a head are
+keeps-chained : (tree s : List ℕ) (head link next : ℕ) → head + 4 ≤ length s → link + 4 ≤ length s → 40 * records tree ≤ head → head + 4 ≤ 60 * records tree
+    → 40 * records tree ≤ link → link + 4 ≤ 60 * records tree → (s′ : List ℕ) → s′ ≡ chainedBefore head link next s → ChainKeeps tree s s′
+keeps-chained tree s head link next hh hl a b c d s′ e =
+    let m : List ℕ = splice s link (word (wordAt s head)) in
+    let long : length m ≡ length s = write-long s link (wordAt s head) hl m refl in
+    keeps-then tree s m s′ (keeps-word tree s link (wordAt s head) hl c d m refl) (keeps-word tree m head next (omega (arith, long)) a b s′ e)
+
+-- the heads are cleared
+pub keeps-heads : (tree s s₁ s₂ : List ℕ) → Cleared (48 * records tree) (48 * records tree + 4 * records tree) s s₁
+    → Cleared (56 * records tree) (56 * records tree + 4 * records tree) s₁ s₂ → ChainKeeps tree s s₂
+keeps-heads tree s s₁ s₂ c₁ c₂ = record {
+  long = c₂ .long ∙ c₁ .long;
+  before = λ i h. c₂ .before i (omega arith) ∙ c₁ .before i (omega arith);
+  behind = λ i h. c₂ .behind i (omega arith) ∙ c₁ .behind i (omega arith);
+}
 
 -- ---- chains
 
@@ -316,6 +357,12 @@ module _ (tree text s s₁ s′ : List ℕ) (count f d b : ℕ) (c : Chaining tr
   key-long : length s′ ≡ length s
   key-long = chained-long s₁ (keyHeadAt (records tree) b) (originalAt (records tree) f) (f + 1) fit-head fit-link s′ e ∙ long₁
 
+  pub keeps-key : ChainKeeps tree s s′
+  keeps-key =
+      keeps-then tree s s₁ s′
+      (keeps-word tree s (textDigestAt (records tree) f) d fit₁ (omega arith) (omega (arith, at .below)) s₁ e₁)
+      (keeps-chained tree s₁ (keyHeadAt (records tree) b) (originalAt (records tree) f) (f + 1) fit-head fit-link (omega arith) (omega arith) (omega arith) (omega (arith, at .below)) s′ e)
+
   away₁ : (q : ℕ) → Away q (textDigestAt (records tree) f) → wordAt s₁ q ≡ wordAt s q
   away₁ = write-away s (textDigestAt (records tree) f) d fit₁ s₁ e₁
 
@@ -383,6 +430,10 @@ module _ (tree text s s′ : List ℕ) (count f o : ℕ) (c : Chaining tree text
   name-fit-link : keySlotAt (records tree) f + 4 ≤ length s
   name-fit-link = omega (arith, c .mapped .listed .room, at .below)
 
+  pub keeps-name : ChainKeeps tree s s′
+  keeps-name =
+      keeps-chained tree s (nameHeadAt (records tree) o) (keySlotAt (records tree) f) (f + 1) name-fit-head name-fit-link (omega arith) (omega arith) (omega arith) (omega (arith, at .below)) s′ e
+
   name-away : (q : ℕ) → Away q (keySlotAt (records tree) f) → Away q (nameHeadAt (records tree) o) → wordAt s′ q ≡ wordAt s q
   name-away = chained-away s (nameHeadAt (records tree) o) (keySlotAt (records tree) f) (f + 1) name-fit-head name-fit-link s′ e
 
@@ -421,7 +472,7 @@ module _ (tree text s s′ : List ℕ) (count f o : ℕ) (c : Chaining tree text
 pub record Passing (tree text s₀ s : List ℕ) (count r : ℕ) : Type 0 where
   pub below : r ≤ records tree
   pub chaining : Chaining tree text s count r r
-  pub long : length s ≡ length s₀
+  pub keeps : ChainKeeps tree s₀ s
 
 pub all-chained : (tree text s : List ℕ) (count r : ℕ) → r ≤ records tree → records tree ≤ r → Chaining tree text s count r r → Keyed tree text s count
 all-chained tree text s count r a b x =

@@ -13,7 +13,7 @@ use Rattle.laws.specs.Splice.{splice}
 use Rattle.records.specs.Words.{kindOf, wordAt, wordOf, word, records, A, B}
 use Rattle.records.specs.Chains.{memberBucket}
 use Rattle.records.specs.Digest.{digestEnd, rollOf}
-use Rattle.records.specs.Layout.{judging, keySlots, keyHeads, nameHeads, scratchEach}
+use Rattle.records.specs.Layout.{judging, originals, keySlots, keyHeads, nameHeads, scratchEach, endOf}
 use Rattle.records.specs.Kinds.{kindFunction}
 use Rattle.records.specs.Good.{Good}
 use Rattle.syntax.specs.Syntax.{Text, Function}
@@ -166,6 +166,13 @@ pub record Keyed (tree text s : List ℕ) (count : ℕ) : Type 0 where
   pub digests : KeyDigests tree text s (records tree)
   pub by-key : ByKey tree text s (records tree)
   pub by-name : ByName tree text s (records tree)
+
+-- only five regions were written, which lie one behind the other: the numbers of the texts, the functions by key, the heads by key, the digests, the heads by name.
+-- All other bytes are as they were
+pub record ChainKeeps (tree s s′ : List ℕ) : Type 0 where
+  pub long : length s′ ≡ length s
+  pub before : (i : ℕ) → i < originals .from * records tree → getD s′ i 0 ≡ getD s i 0
+  pub behind : (i : ℕ) → endOf nameHeads * records tree ≤ i → getD s′ i 0 ≡ getD s i 0
 
 -- ---- what a search answers
 

@@ -13,7 +13,7 @@ ghost use Rattle.conversion.specs.Expressions.{is-mangled};
 ghost use Rattle.syntax.specs.Places.{FunctionAt, functionOf, ParamsAt, paramsAt};
 ghost use Rattle.keys.specs.Parts.{PartIs};
 ghost use Rattle.texts.specs.Texts.{original as originalOf, originalAt, Numbered};
-ghost use Rattle.keys.specs.Keys.{functionKey, Listed, Mapped, Chaining, Keyed, keyRecord, keySlotAt, keyEntered, chainedBefore, keyHeadAt, nameHeadAt, FindsKey, FindsOwnKey};
+ghost use Rattle.keys.specs.Keys.{functionKey, Listed, Mapped, Chaining, Keyed, ChainKeeps, keyRecord, keySlotAt, keyEntered, chainedBefore, keyHeadAt, nameHeadAt, FindsKey, FindsOwnKey};
 use crate::parts::Part;
 use crate::parts::is_main;
 use crate::parts::text_part;
@@ -198,6 +198,7 @@ fn put_before(scratch: &mut [u8], head: usize, link: usize, next: u32)
 fn chain_key(tree: &[u8], text: &[u8], scratch: &mut [u8], count: usize, f: usize)
     requires { ⌜ Chaining (now tree) (now text) (now scratch) count f f × FunctionAt (now tree) f ⌝ }
     ensures { λ _. ⌜ Chaining (now (tree .entry)) (now (text .entry)) (now (scratch .exit)) count (f + 1) f ⌝ }
+    ensures { λ _. ⌜ ChainKeeps (now (tree .entry)) (now (scratch .entry)) (now (scratch .exit)) ⌝ }
 {
     let n = tree.len() / RECORD_BYTES;
     let next = (f + 1) as u32;
@@ -216,6 +217,7 @@ fn chain_key(tree: &[u8], text: &[u8], scratch: &mut [u8], count: usize, f: usiz
 fn chain_name(tree: &[u8], text: &[u8], scratch: &mut [u8], count: usize, f: usize)
     requires { ⌜ Chaining (now tree) (now text) (now scratch) count (f + 1) f × FunctionAt (now tree) f × (is-mangled (functionOf (now tree) (now text) f) ≡ true) ⌝ }
     ensures { λ _. ⌜ Chaining (now (tree .entry)) (now (text .entry)) (now (scratch .exit)) count (f + 1) (f + 1) ⌝ }
+    ensures { λ _. ⌜ ChainKeeps (now (tree .entry)) (now (scratch .entry)) (now (scratch .exit)) ⌝ }
 {
     let n = tree.len() / RECORD_BYTES;
     let next = (f + 1) as u32;
@@ -232,6 +234,7 @@ fn chain_name(tree: &[u8], text: &[u8], scratch: &mut [u8], count: usize, f: usi
 fn chain_record(tree: &[u8], text: &[u8], scratch: &mut [u8], count: usize, r: usize)
     requires { ⌜ Chaining (now tree) (now text) (now scratch) count r r × (r < records (now tree)) ⌝ }
     ensures { λ _. ⌜ Chaining (now (tree .entry)) (now (text .entry)) (now (scratch .exit)) count (r + 1) (r + 1) ⌝ }
+    ensures { λ _. ⌜ ChainKeeps (now (tree .entry)) (now (scratch .entry)) (now (scratch .exit)) ⌝ }
 {
     if kind(tree, r) != KIND_FUNCTION {
         return;
@@ -246,6 +249,7 @@ fn chain_record(tree: &[u8], text: &[u8], scratch: &mut [u8], count: usize, r: u
 pub fn chain_functions(tree: &[u8], text: &[u8], scratch: &mut [u8], count: usize)
     requires { ⌜ Mapped (now tree) (now text) (now scratch) count ⌝ }
     ensures { λ _. ⌜ Keyed (now (tree .entry)) (now (text .entry)) (now (scratch .exit)) count ⌝ }
+    ensures { λ _. ⌜ ChainKeeps (now (tree .entry)) (now (scratch .entry)) (now (scratch .exit)) ⌝ }
 {
     let n = tree.len() / RECORD_BYTES;
     let keys = KEY_HEADS * n;
