@@ -23,7 +23,7 @@ use Rattle.conversion.specs.Converter.{convertAll, convert}
 use Rattle.conversion.specs.Visits.{bodyVisits, functionsVisits}
 use Rattle.conversion.specs.Written.{bytesOf, word, wide, encodeAll, encodeFields, encodeInstr, encodeVar, encodeLabel, encodeFunctions, encodeString, encodeFloat, allCode, allVars, allLabels}
 use Rattle.ir.specs.declared.structs.Counters.{Counters}
-use Rattle.ir.specs.Arena.{Table, encodeDigest, LinkedEntries, entryBucket, noFloat, stringBucket, sameString, noString, Holds, Room}
+use Rattle.ir.specs.Arena.{Table, encodeDigest, LinkedEntries, floatEntryBucket, noFloat, stringBucket, sameString, noString, Holds, Room}
 use Rattle.keys.specs.Keys.{allKeys, Mapped, Keyed}
 use Rattle.keys.proofs.KeyLaws.{from, from-start, from-one, from-end}
 use Rattle.keys.proofs.KeySearch.{records-most}
@@ -73,7 +73,7 @@ nothing-held text n l = record {
   floats-hold = no-entries encodeFloat 16 (204 * n) l (λ x. refl);
   digests-hold = no-entries encodeDigest 4 (236 * n) l (λ x. refl);
   slots-hold = record { has = λ i b. absurd (omega arith); number = λ i b. absurd (omega arith) };
-  float-links-hold = no-links (entryBucket n) sameFloat noFloat (276 * n) (268 * n) l;
+  float-links-hold = no-links (floatEntryBucket n) sameFloat noFloat (276 * n) (268 * n) l;
   string-links-hold = no-links (stringBucket n) sameString noString (284 * n) (280 * n) l;
   before = record { functions-count = refl; instructions-before = refl; variables-before = refl; labels-before = refl };
   fits = record { labels-fit = tt; strings-stand = tt; floats-fit = tt };

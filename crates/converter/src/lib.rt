@@ -28,6 +28,7 @@ use judge::judge_rows;
 use keys::keys::chain_functions;
 use keys::keys::function_at;
 use records::convert_error::ConvertError;
+use records::words::RECORD_BYTES;
 use statements::answers::Finished;
 use texts::number_texts;
 
@@ -91,7 +92,7 @@ fn convert_all(
     requires { ⌜ Turns (now tree) (now scratch) (emptyCounters (records (now tree))) ⌝ }
     ensures { λ a. ⌜ AllConvertTo (now (tree .entry)) (now (text .entry)) (now (arena .entry)) (now (scratch .entry)) a (now (arena .exit)) (now (scratch .exit)) ⌝ }
 {
-    let mut k = empty_tables(tree.len() / 32);
+    let mut k = empty_tables(tree.len() / RECORD_BYTES);
     let mut j = 0;
     while j < count {
         let f = function_at(tree, scratch, count, j);

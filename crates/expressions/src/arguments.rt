@@ -21,6 +21,7 @@ use records::layout::TYPE_SLOTS;
 use records::numbers::KIND_VALUE;
 use records::words::Found;
 use records::words::NONE;
+use records::words::RECORD_BYTES;
 use records::words::WORD_A;
 use records::words::WORD_B;
 use records::words::WORD_D;
@@ -75,7 +76,7 @@ pub(crate) fn slot(tree: &[u8], scratch: &[u8], e: usize) -> usize
     requires { ⌜ (e < records (now tree)) × (scratchEach * records (now tree) ≤ length (now scratch)) ⌝ }
     ensures { λ y. ⌜ y ≡ slotAt (now (tree .entry)) (now (scratch .entry)) e ⌝ }
 {
-    let n = tree.len() / 32;
+    let n = tree.len() / RECORD_BYTES;
     load(scratch, TYPE_SLOTS * n + TYPE_SLOT_BYTES * e) as usize
 }
 

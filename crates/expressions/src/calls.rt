@@ -30,6 +30,7 @@ use keys::parts::text_part;
 use records::convert_error::ConvertError;
 use records::convert_error::ConvertErrorKind;
 use records::words::Found;
+use records::words::RECORD_BYTES;
 use records::words::WORD_A;
 use records::words::WORD_C;
 use records::words::reference;
@@ -48,7 +49,7 @@ fn find_functions_by_literals(
     requires { ⌜ Called (now tree) (now text) (now scratch) call ⌝ }
     ensures { λ r. ⌜ CandidatesAre (now (tree .entry)) (now (text .entry)) r (literalFits (now (tree .entry)) (now (text .entry)) (now (scratch .entry)) call) ⌝ }
 {
-    let n = tree.len() / 32;
+    let n = tree.len() / RECORD_BYTES;
     let mut found = Candidates::Nobody;
     let mut at = name_head(scratch, n, call.verb);
     while at > 0 {
@@ -129,7 +130,7 @@ fn call_of(tree: &[u8], text: &[u8], scratch: &[u8], r: usize) -> Call
     requires { ⌜ IsKind (now tree) kindCall r ⌝ }
     ensures { λ c. ⌜ CallAt (now (tree .entry)) (now (text .entry)) r c ⌝ }
 {
-    let number = original(scratch, tree.len() / 32, r);
+    let number = original(scratch, tree.len() / RECORD_BYTES, r);
     let verb = text_part(tree, r, WORD_A);
     let first = reference(tree, r, WORD_C);
     let count = count_arguments(tree, text, first);

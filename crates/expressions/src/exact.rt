@@ -31,11 +31,15 @@ use records::texts::roll;
 use records::texts::roll_byte;
 use records::texts::same_part;
 use records::words::Found;
+use records::words::RECORD_BYTES;
 use texts::kept_digest;
 
 const DOLLAR: u8 = 36;
 
 const DOT: u8 = 46;
+
+// How long the mark `$...` is.
+const MARK_BYTES: usize = 4;
 
 // How many bytes `$` and the key text of each argument's type have.
 fn suffix_bytes(tree: &[u8], text: &[u8], scratch: &[u8], first: usize) -> usize
@@ -145,7 +149,7 @@ fn verb_digest(tree: &[u8], text: &[u8], scratch: &[u8], call: Call) -> u32
     requires { ⌜ Called (now tree) (now text) (now scratch) call × Numbered (now tree) (now text) (now scratch) ⌝ }
     ensures { λ d. ⌜ (d ≡ rollOf (verbOf (now (tree .entry)) (now (text .entry)) (now (scratch .entry)) call)) × (d < 4294967291) ⌝ }
 {
-    let n = tree.len() / 32;
+    let n = tree.len() / RECORD_BYTES;
     kept_digest(scratch, n, call.verb)
 }
 
@@ -171,7 +175,7 @@ fn by_full_name(tree: &[u8], text: &[u8], scratch: &[u8], functions: usize, call
     requires { ⌜ Called (now tree) (now text) (now scratch) call ⌝ }
     ensures { λ r. ⌜ FunctionIs (now (tree .entry)) (now (text .entry)) r (byFullName (now (tree .entry)) (now (text .entry)) (now (scratch .entry)) call) ⌝ }
 {
-    let n = tree.len() / 32;
+    let n = tree.len() / RECORD_BYTES;
     let length = full_length(tree, text, scratch, call);
     let digest = full_digest(tree, text, scratch, call);
     let count = call.count;
@@ -238,17 +242,17 @@ fn is_marked(
     ensures { λ r. ⌜ r ≡ sameText (textAt (now (text .entry)) (key .offset) (key .len)) (nameOf (now (tree .entry)) (now (text .entry)) (now (scratch .entry)) call k ++ variadicMark) ⌝ }
 {
     let at = key.offset;
-    if key.len < 4 {
+    if key.len < MARK_BYTES {
         return false;
     }
-    if key.len - 4 != size {
+    if key.len - MARK_BYTES != size {
         return false;
     }
     if !is_variadic_mark(
         text,
         Part {
             offset: at + size,
-            len: 4,
+            len: MARK_BYTES,
         },
     ) {
         return false;
@@ -276,7 +280,7 @@ fn by_marked(
     requires { ⌜ (k ≤ call .count) × (size ≡ length (nameOf (now tree) (now text) (now scratch) call k)) × (digest ≡ rollOf (nameOf (now tree) (now text) (now scratch) call k ++ variadicMark)) ⌝ }
     ensures { λ r. ⌜ FunctionIs (now (tree .entry)) (now (text .entry)) r (byMarked (now (tree .entry)) (now (text .entry)) (now (scratch .entry)) call k) ⌝ }
 {
-    let n = tree.len() / 32;
+    let n = tree.len() / RECORD_BYTES;
     let mut at = key_head(scratch, n, digest);
     while at > 0 {
         let f = at - 1;

@@ -3,7 +3,7 @@ ghost use mathlib.Core.Path.{_≡_};
 ghost use mathlib.Core.List.{List};
 ghost use Prim.Native.Nat.{ℕ, _+_, _*_, _≤_, _<_};
 ghost use lib.ListN.{length, getD};
-ghost use Rattle.records.specs.Words.{kindOf, records};
+ghost use Rattle.records.specs.Words.{recordBytes, kindOf, records};
 ghost use Rattle.records.specs.Kinds.{kindName, kindSizeOf, kindUnary, kindBinary};
 ghost use Rattle.records.specs.Good.{Good};
 ghost use Rattle.syntax.specs.Syntax.{unaryOps, Neg};
@@ -66,7 +66,7 @@ pub(crate) fn refuse_type(kind: ConvertErrorKind, place: usize) -> ExprType
 
 // Whether an operator's class of operands has this type.
 fn accepts(tree: &[u8], class: u8, ty: usize) -> bool
-    requires { ⌜ ty * 32 + 32 ≤ length (now tree) ⌝ }
+    requires { ⌜ ty * recordBytes + recordBytes ≤ length (now tree) ⌝ }
     ensures { λ r. ⌜ ((text : List ℕ) → Accepts (now (tree .entry)) text class ty r) ⌝ }
 {
     if class == BOOLS {
@@ -83,7 +83,7 @@ fn accepts(tree: &[u8], class: u8, ty: usize) -> bool
 
 // Neg takes numbers, BitNot integers, Not Bool.
 fn accepts_unary(tree: &[u8], op: u8, ty: usize) -> bool
-    requires { ⌜ ty * 32 + 32 ≤ length (now tree) ⌝ }
+    requires { ⌜ ty * recordBytes + recordBytes ≤ length (now tree) ⌝ }
     ensures { λ r. ⌜ ((text : List ℕ) → r ≡ acceptsUnary (program (now (tree .entry)) text) (allKeys (now (tree .entry)) text) (getD unaryOps op Neg) ty) ⌝ }
 {
     if op == BIT_NOT {

@@ -14,6 +14,7 @@ use records::layout::TURNS;
 use records::layout::TYPE_SLOT_BYTES;
 use records::layout::TYPE_SLOTS;
 use records::layout::VISIT_COUNT;
+use records::words::RECORD_BYTES;
 use records::words::load;
 use records::words::put_word;
 
@@ -22,7 +23,7 @@ pub(crate) fn is_typed(tree: &[u8], scratch: &[u8], turn: u32, e: usize) -> bool
     requires { ⌜ (e < records (now tree)) × (scratchEach * records (now tree) ≤ length (now scratch)) ⌝ }
     ensures { λ b. ⌜ b ≡ inTurn (now (tree .entry)) turn (now (scratch .entry)) e ⌝ }
 {
-    let n = tree.len() / 32;
+    let n = tree.len() / RECORD_BYTES;
     load(scratch, TURNS * n + TURN_BYTES * e) == turn
 }
 
@@ -32,7 +33,7 @@ fn visit(tree: &[u8], scratch: &mut [u8], turn: u32, e: usize, y: usize)
     requires { ⌜ visitsAt (now tree) (now scratch) + 1 < 4294967296 ⌝ }
     ensures { λ _. ⌜ now (scratch .exit) ≡ afterVisit (now (tree .entry)) turn e y (now (scratch .entry)) ⌝ }
 {
-    let n = tree.len() / 32;
+    let n = tree.len() / RECORD_BYTES;
     let visits = load(scratch, VISIT_COUNT * n);
     put_word(scratch, TYPE_SLOTS * n + TYPE_SLOT_BYTES * e, y as u32);
     put_word(scratch, TURNS * n + TURN_BYTES * e, turn);
@@ -58,7 +59,7 @@ pub fn forget(tree: &[u8], scratch: &mut [u8])
     requires { ⌜ scratchEach * records (now tree) ≤ length (now scratch) ⌝ }
     ensures { λ _. ⌜ Forgets (now (tree .entry)) (now (scratch .entry)) (now (scratch .exit)) ⌝ }
 {
-    let n = tree.len() / 32;
+    let n = tree.len() / RECORD_BYTES;
     let mut i = TURNS * n;
     while i < SCRATCH * n {
         scratch[i] = 0;
@@ -71,6 +72,6 @@ pub fn visits(tree: &[u8], scratch: &[u8]) -> usize
     requires { ⌜ (0 < records (now tree)) × (scratchEach * records (now tree) ≤ length (now scratch)) ⌝ }
     ensures { λ v. ⌜ v ≡ visitsAt (now (tree .entry)) (now (scratch .entry)) ⌝ }
 {
-    let n = tree.len() / 32;
+    let n = tree.len() / RECORD_BYTES;
     load(scratch, VISIT_COUNT * n) as usize
 }

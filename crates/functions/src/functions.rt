@@ -29,6 +29,7 @@ use records::numbers::FORM_INT;
 use records::numbers::KIND_FUNCTION;
 use records::words::Found;
 use records::words::NONE;
+use records::words::RECORD_BYTES;
 use records::words::WORD_D;
 use records::words::kind;
 use records::words::put_word;
@@ -53,7 +54,7 @@ fn list_functions(tree: &[u8], scratch: &mut [u8]) -> usize
     requires { ⌜ scratchEach * records (now tree) ≤ length (now scratch) ⌝ }
     ensures { λ count. ⌜ (now (scratch .exit) ≡ listedIn (now (tree .entry)) (now (scratch .entry))) × (count ≡ length (functionPlaces (now (tree .entry)))) ⌝ }
 {
-    let n = tree.len() / 32;
+    let n = tree.len() / RECORD_BYTES;
     let mut r = 0;
     let mut count = 0;
     while r < n {
@@ -101,7 +102,7 @@ pub fn get_all_functions(tree: &[u8], text: &[u8], scratch: &mut [u8]) -> AllFun
     ensures { λ r. ⌜ AllMeet (now (tree .entry)) (now (text .entry)) (now (scratch .entry)) (now (scratch .exit)) r ⌝ }
 {
     let count = list_functions(tree, scratch);
-    clear_keys(scratch, tree.len() / 32);
+    clear_keys(scratch, tree.len() / RECORD_BYTES);
     let mut j = 0;
     while j < count {
         match check_function(tree, text, scratch, count, j) {

@@ -16,6 +16,7 @@ use keys::keys::parameters_of;
 use records::convert_error::ConvertError;
 use records::convert_error::ConvertErrorKind;
 use records::words::NONE;
+use records::words::RECORD_BYTES;
 use records::words::WORD_A;
 use records::words::WORD_C;
 use records::words::reference;
@@ -77,7 +78,7 @@ pub fn declare_parameters(
 {
     let mut cell = parameters_of(tree, text, f);
     let mut scope = Scope {
-        records: tree.len() / 32,
+        records: tree.len() / RECORD_BYTES,
         names: 0,
         inner: NONE,
         function: f as u32,

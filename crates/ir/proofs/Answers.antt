@@ -23,10 +23,10 @@ use Rattle.ir.specs.declared.structs.LabelNumber.{LabelNumber}
 use Rattle.ir.specs.declared.pool.PoolNumber.{PoolNumber}
 use Rattle.ir.specs.Instructions.{varOf, instrOf, fieldBytes}
 use Rattle.ir.specs.Amounts.{Amount, Spent}
-use Rattle.ir.specs.Arena.{encodeDigest, TablesSoFar, HasSlot, labelSlot, floatBucket, entryBucket, digestBucket, stringBucket, sameString, Holds, Room}
+use Rattle.ir.specs.Arena.{encodeDigest, TablesSoFar, HasSlot, labelSlot, floatBucket, floatEntryBucket, digestBucket, stringBucket, sameString, Holds, Room}
 use Rattle.records.specs.declared.words.Found.{Found}
 use Rattle.records.specs.declared.words.Found.the-variants.{At, Nothing}
-use Rattle.ir.specs.Search.{labelIs, stringIs, fourAt, Walks, floatHead, stringHead}
+use Rattle.ir.specs.Search.{labelIs, stringIs, floatWordsAt, Walks, floatHead, stringHead}
 use Rattle.ir.specs.Steps.{grown, Stands, Next, NextIn, moreInstructions, moreVariables, moreLabels, moreStrings, moreFloats, WroteTwo, WroteThree, WroteFour, Emits, AddsVar, named, NumbersLabel, entryOfString, NumbersString, NumbersFloat}
 use Rattle.ir.proofs.Entries.{written-length, written-word}
 use Rattle.ir.proofs.Kept.{withLabel, withString, withFloat, no-code, emit-holds, var-holds, slot-holds, label-holds, string-holds, float-holds}
@@ -222,19 +222,19 @@ float-bytes e a b c ea eb ec =
 module _ (f e : FloatEntry) (same : e ≡ f) (b c d p v : ℕ) (k : Counters) (l : List ℕ) (a : Found) (room : Room k l)
     (eb : b ≡ e .bits % 4294967296) (ec : (c ≡ e .bits / 4294967296) × (c < 4294967296)) (ed : d ≡ boolNumber (e .short))
     (ep : (p ≡ floatBucket (k .records) b c d) × (p < k .records)) (ev : (v ≡ floatHead l (k .records) (k .floats) p) × (v ≤ k .floats))
-    (es : Walks (λ j. wordAt l (268 * k .records + 4 * j)) (fourAt l (204 * k .records) b c d) v a) where
-  float-bucket-is : p ≡ entryBucket (k .records) e
+    (es : Walks (λ j. wordAt l (268 * k .records + 4 * j)) (floatWordsAt l (204 * k .records) b c d) v a) where
+  float-bucket-is : p ≡ floatEntryBucket (k .records) e
   float-bucket-is = ep .0 ∙ rw (eb, ec .0, ed) refl
 
-  float-head-is : v ≡ floatHead l (k .records) (k .floats) (entryBucket (k .records) e)
+  float-head-is : v ≡ floatHead l (k .records) (k .floats) (floatEntryBucket (k .records) e)
   float-head-is = ev .0 ∙ ap (λ (x : ℕ). floatHead l (k .records) (k .floats) x) float-bucket-is
 
-  float-walked : (r : Found) → a ≡ r → Walks (λ j. wordAt l (268 * k .records + 4 * j)) (fourAt l (204 * k .records) (e .bits % 4294967296) (e .bits / 4294967296) (boolNumber (e .short)))
-      (floatHead l (k .records) (k .floats) (entryBucket (k .records) e)) r
+  float-walked : (r : Found) → a ≡ r → Walks (λ j. wordAt l (268 * k .records + 4 * j)) (floatWordsAt l (204 * k .records) (e .bits % 4294967296) (e .bits / 4294967296) (boolNumber (e .short)))
+      (floatHead l (k .records) (k .floats) (floatEntryBucket (k .records) e)) r
   float-walked r q =
-      subst (λ (z : Found). Walks (λ j. wordAt l (268 * k .records + 4 * j)) (fourAt l (204 * k .records) (e .bits % 4294967296) (e .bits / 4294967296) (boolNumber (e .short)))
-      (floatHead l (k .records) (k .floats) (entryBucket (k .records) e)) z) q
-      (subst (λ (u : ℕ). Walks (λ j. wordAt l (268 * k .records + 4 * j)) (fourAt l (204 * k .records) (e .bits % 4294967296) (e .bits / 4294967296) (boolNumber (e .short))) u a) float-head-is
+      subst (λ (z : Found). Walks (λ j. wordAt l (268 * k .records + 4 * j)) (floatWordsAt l (204 * k .records) (e .bits % 4294967296) (e .bits / 4294967296) (boolNumber (e .short)))
+      (floatHead l (k .records) (k .floats) (floatEntryBucket (k .records) e)) z) q
+      (subst (λ (u : ℕ). Walks (λ j. wordAt l (268 * k .records + 4 * j)) (floatWordsAt l (204 * k .records) (e .bits % 4294967296) (e .bits / 4294967296) (boolNumber (e .short))) u a) float-head-is
       (rw (← eb, ← ec .0, ← ed) es))
 
   pub float-at : (r : PoolNumber) (i : ℕ) → a ≡ At i → r .number ≡ i → r .counters ≡ k → NumbersFloat f k l r l
@@ -258,7 +258,7 @@ module _ (f e : FloatEntry) (same : e ≡ f) (b c d p v : ℕ) (k : Counters) (l
   unfolding float-id word bytesOf
   float-nowhere l′ r small q m =
       let n : ℕ = k .records in
-      let bucket : ℕ = entryBucket (k .records) e in
+      let bucket : ℕ = floatEntryBucket (k .records) e in
       let head : ℕ = floatHead l (k .records) (k .floats) bucket in
       let at : ℕ = 204 * n + 16 * k .floats in
       let at₂ : ℕ = 268 * n + 4 * k .floats in

@@ -22,9 +22,9 @@ use Rattle.records.specs.declared.words.Found.the-variants.{At, Nothing}
 use Rattle.records.proofs.Apart.{word-apart}
 use Rattle.records.proofs.DigestLaws.{same-equal}
 use Rattle.conversion.specs.Ir.{FloatEntry, position, sameText, sameFloat}
-use Rattle.ir.specs.Arena.{Linked, LinkedEntries, floatBucket, entryBucket, digestBucket, stringBucket, sameString}
+use Rattle.ir.specs.Arena.{Linked, LinkedEntries, floatBucket, floatEntryBucket, digestBucket, stringBucket, sameString}
 use Rattle.ir.specs.Floats.{entry}
-use Rattle.ir.specs.Search.{Walks, bucketAt, stringBucketAt, headFor}
+use Rattle.ir.specs.Search.{Walks, floatBucketAt, stringBucketAt, headFor}
 use Rattle.ir.proofs.LinkLaws.{Start, start, start-same, Told, walk-tells, linked-words, linked-same, linked-more}
 use Rattle.ir.proofs.SearchLaws.{numbered-more, position-none, position-only, position-nowhere}
 
@@ -164,20 +164,20 @@ same-entry a b e =
     (sym (eqb-true (a .bits) (b .bits) (and-left (eqb (a .bits) (b .bits)) (Bool·beq (a .short) (b .short)) e)))
     (sym (same-mark (a .short) (b .short) (and-right (eqb (a .bits) (b .bits)) (Bool·beq (a .short) (b .short)) e)))
 
-pub floats-alike : (n : ℕ) → Alike (entryBucket n) sameFloat
+pub floats-alike : (n : ℕ) → Alike (floatEntryBucket n) sameFloat
 floats-alike n = record {
-  one-bucket = λ a b e. ap (entryBucket n) (same-entry a b e);
+  one-bucket = λ a b e. ap (floatEntryBucket n) (same-entry a b e);
   one-test = λ a b c e. ap (λ (x : FloatEntry). sameFloat x c) (same-entry a b e);
 }
 
-pub float-bucket-in : (n : ℕ) (x : FloatEntry) → 0 < n → entryBucket n x < n
+pub float-bucket-in : (n : ℕ) (x : FloatEntry) → 0 < n → floatEntryBucket n x < n
 unfolding floatBucket
 float-bucket-in n x most = mod-lt _ most
 
 -- the bucket of float i, by its words as the code loads them
 pub words-bucket : (l : List ℕ) (n i x y z p : ℕ) → x ≡ wordAt l (204 * n + 16 * i) → y ≡ wordAt l (204 * n + 16 * i + 4) → z ≡ wordAt l (204 * n + 16 * i + 8)
-    → (p ≡ floatBucket n x y z) × (p < n) → p ≡ bucketAt l n i
-unfolding bucketAt
+    → (p ≡ floatBucket n x y z) × (p < n) → p ≡ floatBucketAt l n i
+unfolding floatBucketAt
 words-bucket l n i x y z p ex ey ez ep = ep .0 ∙ rw (ex, ey, ez) refl
 
 -- ---- strings: those that are the same have one text

@@ -15,7 +15,7 @@ use Rattle.conversion.specs.Written.{bytesOf, word, encodeInstr, encodeVar, enc
 use Rattle.conversion.proofs.Bytes.{functions-length}
 use Rattle.ir.specs.declared.structs.Counters.{Counters}
 use Rattle.conversion.specs.Fits.{StringStands, FloatFits}
-use Rattle.ir.specs.Arena.{Has, Table, encodeDigest, TablesSoFar, LabelFits, HasSlot, labelSlot, Slots, entryBucket, noFloat, LinkedFloats, stringBucket, sameString, noString, LinkedStrings, Holds, Room}
+use Rattle.ir.specs.Arena.{Has, Table, encodeDigest, TablesSoFar, LabelFits, HasSlot, labelSlot, LabelSlots, floatEntryBucket, noFloat, LinkedFloats, stringBucket, sameString, noString, LinkedStrings, Holds, Room}
 use Rattle.ir.specs.Steps.{grown, moreInstructions, moreVariables, moreLabels, moreStrings, moreFloats}
 use Rattle.ir.proofs.Entries.{written-length, has-before, has-behind, table-before, table-behind, table-grown}
 use Rattle.ir.proofs.EntryLinks.{buckets, links-stay, links-behind, float-bucket-in}
@@ -64,7 +64,7 @@ module _ (text : List ℕ) (t : TablesSoFar) (k : Counters) (l : List ℕ) (room
         × Table encodeString 8 (t .state .strings) (196 * k .records) (k .strings) l′
         × Table encodeFloat 16 (t .state .floats) (204 * k .records) (k .floats) l′
         × Table encodeDigest 4 (t .state .strings) (236 * k .records) (k .strings) l′
-        × Slots (k .records) (t .state .labels) l′
+        × LabelSlots (k .records) (t .state .labels) l′
         × LinkedFloats (k .records) (t .state .floats) l′
         × LinkedStrings (k .records) (t .state .strings) l′
     back b = (
@@ -219,7 +219,7 @@ module _ (text : List ℕ) (t : TablesSoFar) (k : Counters) (l : List ℕ) (room
           slots-hold = slots-stay w (omega arith) (slots-behind (slots-behind (h .slots-hold) at vs l₁ e₁ fit (omega (arith, end))) at₂ ds l₂ e₂ fit₂ (omega (arith, w₂)));
           float-links-hold =
               links-stay (links-behind (links-behind (h .float-links-hold) (omega arith) at vs l₁ e₁ fit (omega (arith, end))) (omega arith) at₂ ds l₂ e₂ fit₂ (omega (arith, w₂))) l′
-              (λ i hi. before-stays w (276 * n + 4 * buckets (entryBucket n) noFloat (t .state .floats) i)
+              (λ i hi. before-stays w (276 * n + 4 * buckets (floatEntryBucket n) noFloat (t .state .floats) i)
               (omega (arith, float-bucket-in n (getD (t .state .floats) i noFloat) (omega arith))))
               (λ i hi. before-stays w (268 * n + 4 * i) (omega (arith, room .floats-in, h .floats-hold .count)));
           string-links-hold =
@@ -231,11 +231,11 @@ module _ (text : List ℕ) (t : TablesSoFar) (k : Counters) (l : List ℕ) (room
         })
 
   -- a float, the link to the one before it in its bucket, and its number at the bucket's head
-  module _ (x : FloatEntry) (v : ℕ) (l₁ l′ : List ℕ) (fits : FloatFits x) (small : k .floats < 2 * k .records) (bucket-in : entryBucket (k .records) x < k .records)
-      (s : Start (buckets (entryBucket (k .records)) noFloat (t .state .floats)) (length (t .state .floats)) (entryBucket (k .records) x) v)
+  module _ (x : FloatEntry) (v : ℕ) (l₁ l′ : List ℕ) (fits : FloatFits x) (small : k .floats < 2 * k .records) (bucket-in : floatEntryBucket (k .records) x < k .records)
+      (s : Start (buckets (floatEntryBucket (k .records)) noFloat (t .state .floats)) (length (t .state .floats)) (floatEntryBucket (k .records) x) v)
       (new : position (sameFloat x) (t .state .floats) ≡ none)
       (e : l₁ ≡ splice l (204 * k .records + 16 * k .floats) (encodeFloat x))
-      (w : LinkWritten (268 * k .records) (276 * k .records) (k .floats) (entryBucket (k .records) x) v l₁ l′) where
+      (w : LinkWritten (268 * k .records) (276 * k .records) (k .floats) (floatEntryBucket (k .records) x) v l₁ l′) where
     pub float-holds : Holds text (grown t [] (withFloat x (t .state))) (moreFloats k) l′
     float-holds =
         let n : ℕ = k .records in

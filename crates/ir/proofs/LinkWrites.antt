@@ -15,7 +15,7 @@ use Rattle.records.specs.Words.{wordAt}
 use Rattle.records.proofs.Apart.{word-apart}
 use Rattle.conversion.specs.Ir.{LabelName, position}
 use Rattle.conversion.specs.Written.{bytesOf, word}
-use Rattle.ir.specs.Arena.{Has, Table, LinkedEntries, labelSlot, noLabel, Slots}
+use Rattle.ir.specs.Arena.{Has, Table, LinkedEntries, labelSlot, noLabel, LabelSlots}
 use Rattle.ir.proofs.Entries.{written-length, written-word, has-before, table-before}
 use Rattle.ir.proofs.EntryLinks.{buckets, links-grown}
 use Rattle.ir.proofs.LinkLaws.{Start}
@@ -74,7 +74,7 @@ module _ {links heads m b v : ℕ} {l l′ : List ℕ} (w : LinkWritten links he
   pub behind-stays : (p : ℕ) → heads + 4 * b + 4 ≤ p → wordAt l′ p ≡ wordAt l p
   behind-stays p q = second-stays p (inr q) ∙ first-stays p (inr (omega (arith, w .order)))
 
-  pub slots-stay : {n : ℕ} {xs : List LabelName} → 268 * n ≤ links → Slots n xs l → Slots n xs l′
+  pub slots-stay : {n : ℕ} {xs : List LabelName} → 268 * n ≤ links → LabelSlots n xs l → LabelSlots n xs l′
   slots-stay {n = n} {xs = xs} q h = record {
     has = h .has;
     number = λ i hi. before-stays (labelSlot n (getD xs i noLabel)) (omega (arith, h .has i hi)) ∙ h .number i hi;

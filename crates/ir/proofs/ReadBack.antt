@@ -22,9 +22,9 @@ use Rattle.conversion.specs.Ir.{LabelName, StringEntry, FloatEntry, position, s
 use Rattle.conversion.specs.Written.{bytesOf, word, wide, boolNumber, encodeLabel, encodeString, encodeFloat, allLabels}
 use Rattle.ir.specs.declared.structs.Counters.{Counters}
 use Rattle.conversion.specs.Fits.{StringStands, FloatFits}
-use Rattle.ir.specs.Arena.{encodeDigest, TablesSoFar, LabelFits, labelSlot, noLabel, entryBucket, noFloat, digestBucket, stringBucket, sameString, noString, Holds}
+use Rattle.ir.specs.Arena.{encodeDigest, TablesSoFar, LabelFits, labelSlot, noLabel, floatEntryBucket, noFloat, digestBucket, stringBucket, sameString, noString, Holds}
 use Rattle.ir.specs.Steps.{named}
-use Rattle.ir.specs.Search.{pairAt, labelIs, sameTextAt, stringIs, fourAt, Walks, bucketAt, stringBucketAt, floatHead, stringHead}
+use Rattle.ir.specs.Search.{labelWordsAt, labelIs, sameTextAt, stringIs, floatWordsAt, Walks, floatBucketAt, stringBucketAt, floatHead, stringHead}
 use Rattle.ir.proofs.Entries.{table-word}
 use Rattle.ir.proofs.EntryLinks.{buckets, entry-start, entry-there, entry-missing, floats-alike, strings-alike}
 use Rattle.ir.proofs.LinkLaws.{Start}
@@ -140,8 +140,8 @@ module _ (text : List ℕ) (t : TablesSoFar) (k : Counters) (l : List ℕ) (h : 
       ∙ ap (λ (x : LabelName). wordAt (encodeLabel x) b) (label-entry j)
 
   label-same : (kind opener j : ℕ) → j < length (t .state .labels)
-      → pairAt l (140 * k .records + 8 * k .«labels_before») kind opener j ≡ sameLabel (named kind opener) (getD (t .state .labels) j noLabel)
-  unfolding pairAt sameLabel
+      → labelWordsAt l (140 * k .records + 8 * k .«labels_before») kind opener j ≡ sameLabel (named kind opener) (getD (t .state .labels) j noLabel)
+  unfolding labelWordsAt sameLabel
   label-same kind opener j hj =
       let f : LabelFits (getD (t .state .labels) j noLabel) = all-at LabelFits (t .state .labels) noLabel j (h .fits .labels-fit) hj in
       ap₂ (λ (x y : ℕ). eqb kind x && eqb opener y)
@@ -154,7 +154,7 @@ module _ (text : List ℕ) (t : TablesSoFar) (k : Counters) (l : List ℕ) (h : 
     in-reach = ltb i (k .labels - k .«labels_before»)
 
     abbrev this : Bool
-    this = pairAt l (140 * k .records + 8 * k .«labels_before») kind opener i
+    this = labelWordsAt l (140 * k .records + 8 * k .«labels_before») kind opener i
 
     pub label-here : labelIs l k kind opener i ≡ true → position (sameLabel (named kind opener)) (t .state .labels) ≡ some i
     unfolding labelIs
@@ -228,8 +228,8 @@ module _ (text : List ℕ) (t : TablesSoFar) (k : Counters) (l : List ℕ) (h : 
       }
 
   float-same : (e : FloatEntry) (j : ℕ) → j < length (t .state .floats)
-      → fourAt l (204 * k .records) (e .bits % 4294967296) (e .bits / 4294967296) (boolNumber (e .short)) j ≡ sameFloat e (getD (t .state .floats) j noFloat)
-  unfolding fourAt sameFloat
+      → floatWordsAt l (204 * k .records) (e .bits % 4294967296) (e .bits / 4294967296) (boolNumber (e .short)) j ≡ sameFloat e (getD (t .state .floats) j noFloat)
+  unfolding floatWordsAt sameFloat
   float-same e j hj =
       let x : FloatEntry = getD (t .state .floats) j noFloat in
       let a : FloatAt l (204 * k .records + 16 * j) x = floats-at j hj in
@@ -238,22 +238,22 @@ module _ (text : List ℕ) (t : TablesSoFar) (k : Counters) (l : List ℕ) (h : 
       (ap (eqb (boolNumber (e .short))) (a .mark) ∙ marks (e .short) (x .short))
 
   -- the bucket of entry j is its float's, and so a walk begins where the links say
-  float-bucket : (j : ℕ) → j < length (t .state .floats) → bucketAt l (k .records) j ≡ buckets (entryBucket (k .records)) noFloat (t .state .floats) j
-  unfolding bucketAt
+  float-bucket : (j : ℕ) → j < length (t .state .floats) → floatBucketAt l (k .records) j ≡ buckets (floatEntryBucket (k .records)) noFloat (t .state .floats) j
+  unfolding floatBucketAt
   float-bucket j hj = let a : FloatAt l (204 * k .records + 16 * j) (getD (t .state .floats) j noFloat) = floats-at j hj in rw (a .low, a .high, a .mark) refl
 
-  pub float-start : (b : ℕ) → Start (buckets (entryBucket (k .records)) noFloat (t .state .floats)) (length (t .state .floats)) b (floatHead l (k .records) (k .floats) b)
-  float-start b = entry-start (h .float-links-hold) (k .floats) (h .floats-hold .count) (bucketAt l (k .records)) float-bucket b
+  pub float-start : (b : ℕ) → Start (buckets (floatEntryBucket (k .records)) noFloat (t .state .floats)) (length (t .state .floats)) b (floatHead l (k .records) (k .floats) b)
+  float-start b = entry-start (h .float-links-hold) (k .floats) (h .floats-hold .count) (floatBucketAt l (k .records)) float-bucket b
 
   module _ (e : FloatEntry) where
     abbrev float-test : ℕ → Bool
-    float-test = fourAt l (204 * k .records) (e .bits % 4294967296) (e .bits / 4294967296) (boolNumber (e .short))
+    float-test = floatWordsAt l (204 * k .records) (e .bits % 4294967296) (e .bits / 4294967296) (boolNumber (e .short))
 
     abbrev from-float-head : Found → Type 0
-    from-float-head r = Walks (λ j. wordAt l (268 * k .records + 4 * j)) float-test (floatHead l (k .records) (k .floats) (entryBucket (k .records) e)) r
+    from-float-head r = Walks (λ j. wordAt l (268 * k .records + 4 * j)) float-test (floatHead l (k .records) (k .floats) (floatEntryBucket (k .records) e)) r
 
     pub float-here : (i : ℕ) → from-float-head (At i) → position (sameFloat e) (t .state .floats) ≡ some i
-    float-here i w = entry-there (h .float-links-hold) (floats-alike (k .records)) e float-test (float-same e) (float-start (entryBucket (k .records) e)) i w
+    float-here i w = entry-there (h .float-links-hold) (floats-alike (k .records)) e float-test (float-same e) (float-start (floatEntryBucket (k .records) e)) i w
 
     pub float-gone : from-float-head Nothing → position (sameFloat e) (t .state .floats) ≡ none
-    float-gone w = entry-missing (h .float-links-hold) (floats-alike (k .records)) e float-test (float-same e) (float-start (entryBucket (k .records) e)) w
+    float-gone w = entry-missing (h .float-links-hold) (floats-alike (k .records)) e float-test (float-same e) (float-start (floatEntryBucket (k .records) e)) w

@@ -15,7 +15,7 @@ use Rattle.conversion.specs.Ir.{position, sameText}
 use Rattle.records.specs.declared.words.Found.{Found}
 use Rattle.records.specs.declared.words.Found.the-variants.{At, Nothing}
 use Rattle.ir.specs.declared.structs.Counters.{Counters}
-use Rattle.ir.specs.Search.{foundOf, pairAt, labelIs, sameTextAt, stringIs}
+use Rattle.ir.specs.Search.{foundOf, labelWordsAt, labelIs, sameTextAt, stringIs}
 
 -- the position, by the first element
 position-by : {X : Type 0} (p : X → Bool) (x : X) (xs : List X) (b : Bool) → p x ≡ b
@@ -106,14 +106,14 @@ module _ (l : List ℕ) (k : Counters) (kind opener j i : ℕ) (e : i ≡ j) whe
   pub label-beyond : k .labels - k .«labels_before» ≤ i → false ≡ labelIs l k kind opener j
   unfolding labelIs
   label-beyond h =
-      ap (λ (b : Bool). b && pairAt l (140 * k .records + 8 * k .«labels_before») kind opener j) (sym (le-ltb j (k .labels - k .«labels_before») (omega arith)))
+      ap (λ (b : Bool). b && labelWordsAt l (140 * k .records + 8 * k .«labels_before») kind opener j) (sym (le-ltb j (k .labels - k .«labels_before») (omega arith)))
 
-  pub label-within : i < k .labels - k .«labels_before» → (b : Bool) → b ≡ pairAt l (140 * k .records + 8 * k .«labels_before») kind opener i
+  pub label-within : i < k .labels - k .«labels_before» → (b : Bool) → b ≡ labelWordsAt l (140 * k .records + 8 * k .«labels_before») kind opener i
       → b ≡ labelIs l k kind opener j
   unfolding labelIs
   label-within h b eb =
-      eb ∙ ap (pairAt l (140 * k .records + 8 * k .«labels_before») kind opener) e
-      ∙ ap (λ (c : Bool). c && pairAt l (140 * k .records + 8 * k .«labels_before») kind opener j) (sym (lt-ltb j (k .labels - k .«labels_before») (omega arith)))
+      eb ∙ ap (labelWordsAt l (140 * k .records + 8 * k .«labels_before») kind opener) e
+      ∙ ap (λ (c : Bool). c && labelWordsAt l (140 * k .records + 8 * k .«labels_before») kind opener j) (sym (lt-ltb j (k .labels - k .«labels_before») (omega arith)))
 
 -- ---- a string by its digest and its text
 

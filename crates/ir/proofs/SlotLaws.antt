@@ -16,7 +16,7 @@ use Rattle.records.specs.Words.{wordAt}
 use Rattle.records.proofs.Apart.{word-apart}
 use Rattle.conversion.specs.Ir.{LabelName, position, sameLabel}
 use Rattle.conversion.specs.Written.{bytesOf, word, encodeLabel}
-use Rattle.ir.specs.Arena.{HasSlot, labelSlot, noLabel, Slots}
+use Rattle.ir.specs.Arena.{HasSlot, labelSlot, noLabel, LabelSlots}
 use Rattle.ir.specs.Steps.{named}
 use Rattle.ir.proofs.SearchLaws.{numbered-more, position-none, position-only, position-nowhere}
 
@@ -50,9 +50,9 @@ unfolding encodeLabel
 label-writes n kind opener m slot at l l₁ l₂ es e₁ e₂ =
     e₂ ∙ ap (λ (r : List ℕ). splice r at (word kind ++ word opener)) (e₁ ∙ ap (λ (p : ℕ). splice l p (word m)) es)
 
-module _ {n : ℕ} {xs : List LabelName} {l : List ℕ} (h : Slots n xs l) where
+module _ {n : ℕ} {xs : List LabelName} {l : List ℕ} (h : LabelSlots n xs l) where
   -- a write before the slots leaves them
-  pub slots-behind : (i : ℕ) (vs l′ : List ℕ) → l′ ≡ splice l i vs → i + length vs ≤ length l → i + length vs ≤ 240 * n → Slots n xs l′
+  pub slots-behind : (i : ℕ) (vs l′ : List ℕ) → l′ ≡ splice l i vs → i + length vs ≤ length l → i + length vs ≤ 240 * n → LabelSlots n xs l′
   slots-behind i vs l′ e fit b = record {
     has = h .has;
     number = λ j hj.
@@ -62,7 +62,7 @@ module _ {n : ℕ} {xs : List LabelName} {l : List ℕ} (h : Slots n xs l) where
 
   -- and so does a word at the slot of a label that is not among them
   pub slots-beside : (x : LabelName) (m : ℕ) (l′ : List ℕ) → HasSlot n x → position (sameLabel x) xs ≡ none → l′ ≡ splice l (labelSlot n x) (word m)
-      → labelSlot n x + 4 ≤ length l → Slots n xs l′
+      → labelSlot n x + 4 ≤ length l → LabelSlots n xs l′
   unfolding word bytesOf
   slots-beside x m l′ f new e fit = record {
     has = h .has;
@@ -74,7 +74,7 @@ module _ {n : ℕ} {xs : List LabelName} {l : List ℕ} (h : Slots n xs l) where
   }
 
   -- a label more, whose number stands at its slot
-  pub slots-grown : (x : LabelName) → HasSlot n x → wordAt l (labelSlot n x) ≡ length xs → Slots n (xs ++ (x ∷ [])) l
+  pub slots-grown : (x : LabelName) → HasSlot n x → wordAt l (labelSlot n x) ≡ length xs → LabelSlots n (xs ++ (x ∷ [])) l
   slots-grown x f e = record {
     has = numbered-more noLabel xs x (λ y i. HasSlot n y) (h .has) f;
     number = numbered-more noLabel xs x (λ y i. wordAt l (labelSlot n y) ≡ i) (h .number) e;

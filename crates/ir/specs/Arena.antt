@@ -170,7 +170,7 @@ abbrev pub noLabel : LabelName
 noLabel = record { kind = 0; opener = 0 }
 
 -- each of these labels has a slot, and its number stands there; the other slots may have anything
-pub record Slots (n : ℕ) (xs : List LabelName) (l : List ℕ) : Type 0 where
+pub record LabelSlots (n : ℕ) (xs : List LabelName) (l : List ℕ) : Type 0 where
   pub has : (i : ℕ) → i < length xs → HasSlot n (getD xs i noLabel)
   pub number : (i : ℕ) → i < length xs → wordAt l (labelSlot n (getD xs i noLabel)) ≡ i
 
@@ -193,14 +193,14 @@ pub record LinkedEntries {X : Type 0} (bucket : X → ℕ) (same : X → X → B
 unfoldable pub floatBucket : ℕ → ℕ → ℕ → ℕ → ℕ
 floatBucket n low high mark = (low * 1640531527 + high * 1013904223 + mark) / 4294967296 % n
 
-abbrev pub entryBucket : ℕ → FloatEntry → ℕ
-entryBucket n x = floatBucket n (x .bits % 4294967296) (x .bits / 4294967296) (boolNumber (x .short))
+abbrev pub floatEntryBucket : ℕ → FloatEntry → ℕ
+floatEntryBucket n x = floatBucket n (x .bits % 4294967296) (x .bits / 4294967296) (boolNumber (x .short))
 
 abbrev pub noFloat : FloatEntry
 noFloat = record { bits = 0; short = false }
 
 abbrev pub LinkedFloats : ℕ → List FloatEntry → List ℕ → Type 0
-LinkedFloats n xs l = LinkedEntries (entryBucket n) sameFloat noFloat (floatHeads .from * n) (floatLinks .from * n) xs l
+LinkedFloats n xs l = LinkedEntries (floatEntryBucket n) sameFloat noFloat (floatHeads .from * n) (floatLinks .from * n) xs l
 
 -- the bucket, one of n, of a text of this digest, whose bits depend on all bytes of the text
 unfoldable pub digestBucket : ℕ → ℕ → ℕ
@@ -233,14 +233,14 @@ pub record Fits (text : List ℕ) (labels : List LabelName) (strings : List Stri
 
 -- the arena holds these tables, and the counters count them
 pub record Holds (text : List ℕ) (t : TablesSoFar) (k : Counters) (l : List ℕ) : Type 0 where
-  pub instructions-hold : Table encodeInstr 32 (allCode (t .done) ++ t .code) (instructions .from * k .records) (k .instructions) l
-  pub variables-hold : Table encodeVar 4 (allVars (t .done) ++ t .state .vars) (variables .from * k .records) (k .variables) l
-  pub labels-hold : Table encodeLabel 8 (allLabels (t .done) ++ t .state .labels) (labels .from * k .records) (k .labels) l
+  pub instructions-hold : Table encodeInstr instructionBytes (allCode (t .done) ++ t .code) (instructions .from * k .records) (k .instructions) l
+  pub variables-hold : Table encodeVar variableBytes (allVars (t .done) ++ t .state .vars) (variables .from * k .records) (k .variables) l
+  pub labels-hold : Table encodeLabel labelBytes (allLabels (t .done) ++ t .state .labels) (labels .from * k .records) (k .labels) l
   pub functions-hold : Has l (functions .from * k .records) (encodeFunctions 0 0 0 (t .done))
-  pub strings-hold : Table encodeString 8 (t .state .strings) (strings .from * k .records) (k .strings) l
-  pub floats-hold : Table encodeFloat 16 (t .state .floats) (floats .from * k .records) (k .floats) l
-  pub digests-hold : Table encodeDigest 4 (t .state .strings) (stringDigests .from * k .records) (k .strings) l
-  pub slots-hold : Slots (k .records) (t .state .labels) l
+  pub strings-hold : Table encodeString stringBytes (t .state .strings) (strings .from * k .records) (k .strings) l
+  pub floats-hold : Table encodeFloat floatBytes (t .state .floats) (floats .from * k .records) (k .floats) l
+  pub digests-hold : Table encodeDigest searchBytes (t .state .strings) (stringDigests .from * k .records) (k .strings) l
+  pub slots-hold : LabelSlots (k .records) (t .state .labels) l
   pub float-links-hold : LinkedFloats (k .records) (t .state .floats) l
   pub string-links-hold : LinkedStrings (k .records) (t .state .strings) l
   pub before : Before (t .done) (k .functions) (k .«instructions_before») (k .«variables_before») (k .«labels_before»)

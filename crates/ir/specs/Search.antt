@@ -20,13 +20,13 @@ foundOf none = Nothing
 foundOf (some i) = At i
 
 -- label j of those from byte `at` on is the two words a and b
-unfoldable pub pairAt : List ℕ → ℕ → ℕ → ℕ → ℕ → Bool
-pairAt l at a b j = eqb a (wordAt l (at + labelBytes * j)) && eqb b (wordAt l (at + labelBytes * j + 4))
+unfoldable pub labelWordsAt : List ℕ → ℕ → ℕ → ℕ → ℕ → Bool
+labelWordsAt l at a b j = eqb a (wordAt l (at + labelBytes * j)) && eqb b (wordAt l (at + labelBytes * j + 4))
 
 -- label j of the function at hand, if it has so many, is of this kind and opened by this record
 unfoldable pub labelIs : List ℕ → Counters → ℕ → ℕ → ℕ → Bool
-unfolding pairAt
-labelIs l k kind opener j = ltb j (k .labels - k .«labels_before») && pairAt l (labelEntryAt (k .records) (k .«labels_before»)) kind opener j
+unfolding labelWordsAt
+labelIs l k kind opener j = ltb j (k .labels - k .«labels_before») && labelWordsAt l (labelEntryAt (k .records) (k .«labels_before»)) kind opener j
 
 -- string j of those from byte `at` on is the place of a text that is the same as t
 unfoldable pub sameTextAt : List ℕ → List ℕ → ℕ → List ℕ → ℕ → Bool
@@ -39,8 +39,8 @@ unfolding sameTextAt
 stringIs text l n digest t j = eqb digest (wordAt l (stringDigestAt n j)) && sameTextAt text l (strings .from * n) t j
 
 -- the first three words (of four) of float j of those from byte `at` on are a, b and c
-unfoldable pub fourAt : List ℕ → ℕ → ℕ → ℕ → ℕ → ℕ → Bool
-fourAt l at a b c j =
+unfoldable pub floatWordsAt : List ℕ → ℕ → ℕ → ℕ → ℕ → ℕ → Bool
+floatWordsAt l at a b c j =
     (eqb a (wordAt l (at + floatBytes * j)) && eqb b (wordAt l (at + floatBytes * j + 4))) && eqb c (wordAt l (at + floatBytes * j + 8))
 
 -- a walk down a chain, from one past a number on, and what it finds: the first number of which f holds. A link is one past the next number, or 0 at the end; one that
@@ -52,9 +52,9 @@ pub data Walks (link : ℕ → ℕ) (f : ℕ → Bool) : ℕ → Found → Type 
   astray : {j : ℕ} → f j ≡ false → j < link j → Walks link f (suc j) Nothing
 
 -- the bucket, one of n, of entry j of the floats
-unfoldable pub bucketAt : List ℕ → ℕ → ℕ → ℕ
+unfoldable pub floatBucketAt : List ℕ → ℕ → ℕ → ℕ
 unfolding floatBucket
-bucketAt l n j = floatBucket n (wordAt l (floatEntryAt n j)) (wordAt l (floatEntryAt n j + 4)) (wordAt l (floatEntryAt n j + 8))
+floatBucketAt l n j = floatBucket n (wordAt l (floatEntryAt n j)) (wordAt l (floatEntryAt n j + 4)) (wordAt l (floatEntryAt n j + 8))
 
 -- and of string j, by its digest
 unfoldable pub stringBucketAt : List ℕ → ℕ → ℕ → ℕ
@@ -68,7 +68,7 @@ headFor bucket m b i = pick (ltb i m && eqb (bucket i) b) (i + 1) 0
 
 -- the same of the floats, and of the strings
 abbrev pub floatHead : List ℕ → ℕ → ℕ → ℕ → ℕ
-floatHead l n m b = headFor (bucketAt l n) m b (wordAt l (floatHeadAt n b))
+floatHead l n m b = headFor (floatBucketAt l n) m b (wordAt l (floatHeadAt n b))
 
 abbrev pub stringHead : List ℕ → ℕ → ℕ → ℕ → ℕ
 stringHead l n m b = headFor (stringBucketAt l n) m b (wordAt l (stringHeadAt n b))

@@ -21,7 +21,7 @@ use Rattle.ir.specs.declared.pool.PoolNumber.{PoolNumber}
 use Rattle.ir.specs.Instructions.{varOf, instrOf}
 use Rattle.ir.specs.Amounts.{amount, Spent}
 use Rattle.ir.specs.Search.{floatHead, stringHead}
-use Rattle.ir.specs.Arena.{instructionEntryAt, variableEntryAt, labelEntryAt, stringEntryAt, stringDigestAt, stringLinkAt, stringHeadAt, floatEntryAt, floatLinkAt, floatHeadAt, encodeDigest, labelSlot, entryBucket, stringBucket, TablesSoFar, Holds, Room}
+use Rattle.ir.specs.Arena.{instructionEntryAt, variableEntryAt, labelEntryAt, stringEntryAt, stringDigestAt, stringLinkAt, stringHeadAt, floatEntryAt, floatLinkAt, floatHeadAt, encodeDigest, labelSlot, floatEntryBucket, stringBucket, TablesSoFar, Holds, Room}
 
 -- the tables after a step that emits c and leaves the state s
 abbrev pub grown : TablesSoFar → List Ir.Instr → State → TablesSoFar
@@ -144,7 +144,7 @@ pub record NumbersFloat (e : FloatEntry) (k : Counters) (l : List ℕ) (r : Pool
   pub next : Next (Ir.float-id e) k l (r .number) (r .counters) l′
   pub spent : Spent k (r .counters) (amount 0 0 0 0 1)
   pub entry :
-      FloatAdded (encodeFloat e) (entryBucket (k .records) e) (floatHead l (k .records) (k .floats) (entryBucket (k .records) e)) k l (r .counters) l′
+      FloatAdded (encodeFloat e) (floatEntryBucket (k .records) e) (floatHead l (k .records) (k .floats) (floatEntryBucket (k .records) e)) k l (r .counters) l′
       ⊎ TablesStay k l (r .counters) l′
 
 -- ---- a function is done

@@ -12,7 +12,7 @@ use crate::arena::LABELS;
 use crate::arena::SEARCH_BYTES;
 use crate::arena::VARIABLE_BYTES;
 use crate::arena::VARIABLES;
-use crate::search::is_pair;
+use crate::search::is_label_at;
 use crate::structs::Counters;
 use crate::structs::Label;
 use crate::structs::LabelNumber;
@@ -74,7 +74,7 @@ fn is_label(arena: &[u8], k: Counters, number: u32, kind: u32, opener: u32) -> b
     if i >= k.labels - k.labels_before {
         return false;
     }
-    is_pair(
+    is_label_at(
         arena,
         LABELS * k.records + LABEL_BYTES * k.labels_before,
         i,

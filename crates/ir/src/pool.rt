@@ -24,7 +24,7 @@ use crate::arena::STRING_LINKS;
 use crate::arena::STRINGS;
 use crate::floats::FloatBits;
 use crate::floats::entry_bits;
-use crate::search::walk_four;
+use crate::search::walk_float;
 use crate::structs::Counters;
 use records::texts::same_text;
 use records::texts::text_digest;
@@ -141,7 +141,7 @@ fn add_string(
         number,
     );
     PoolNumber {
-        number: number,
+        number,
         counters: next,
     }
 }
@@ -165,7 +165,7 @@ pub fn string_id(text: &[u8], arena: &mut [u8], k: Counters, offset: u32, len: u
 }
 
 // Which of n buckets a float with these words is in.
-fn bucket_of(n: usize, w: Four) -> usize
+fn float_bucket(n: usize, w: Four) -> usize
     requires { ⌜ 0 < n ⌝ }
     ensures { λ r. ⌜ (r ≡ floatBucket n (w .0) (w .1) (w .2)) × (r < n) ⌝ }
 {
@@ -186,7 +186,7 @@ fn float_head(arena: &[u8], k: Counters, b: usize) -> usize
     }
     let at = FLOATS * n + FLOAT_BYTES * i;
     let w = Four(load(arena, at), load(arena, at + 4), load(arena, at + 8), 0);
-    if bucket_of(n, w) != b {
+    if float_bucket(n, w) != b {
         return 0;
     }
     i + 1
@@ -210,7 +210,7 @@ fn add_float(arena: &mut [u8], k: Counters, w: Four, b: usize, last: usize) -> P
         number,
     );
     PoolNumber {
-        number: number,
+        number,
         counters: next,
     }
 }
@@ -222,9 +222,9 @@ pub fn float_id(arena: &mut [u8], k: Counters, f: FloatBits) -> PoolNumber
 {
     let e = entry_bits(f);
     let w = Four(low(e.bits), high(e.bits), mark(e.short), 0);
-    let b = bucket_of(k.records, w);
+    let b = float_bucket(k.records, w);
     let last = float_head(arena, k, b);
-    match walk_four(arena, FLOATS * k.records, FLOAT_LINKS * k.records, last, w) {
+    match walk_float(arena, FLOATS * k.records, FLOAT_LINKS * k.records, last, w) {
         Found::At(i) => PoolNumber {
             number: i as u32,
             counters: k,

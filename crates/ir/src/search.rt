@@ -4,7 +4,7 @@ ghost use Prim.Native.Nat.{_+_, _*_, _≤_};
 ghost use lib.ListN.{length};
 ghost use Rattle.records.specs.Words.{wordAt};
 ghost use Rattle.ir.specs.Arena.{labelBytes, floatBytes, searchBytes};
-ghost use Rattle.ir.specs.Search.{pairAt, fourAt, Walks};
+ghost use Rattle.ir.specs.Search.{labelWordsAt, floatWordsAt, Walks};
 use crate::arena::FLOAT_BYTES;
 use crate::arena::LABEL_BYTES;
 use crate::arena::SEARCH_BYTES;
@@ -14,18 +14,19 @@ use records::words::index;
 use records::words::load;
 
 // Whether label j of those from byte `at` on is a and b.
-pub fn is_pair(s: &[u8], at: usize, j: usize, a: u32, b: u32) -> bool
+pub fn is_label_at(s: &[u8], at: usize, j: usize, a: u32, b: u32) -> bool
     requires { ⌜ at + labelBytes * j + labelBytes ≤ length (now s) ⌝ }
-    ensures { λ r. ⌜ r ≡ pairAt (now (s .entry)) at a b j ⌝ }
+    ensures { λ r. ⌜ r ≡ labelWordsAt (now (s .entry)) at a b j ⌝ }
 {
     let x = load(s, at + LABEL_BYTES * j);
     let y = load(s, at + LABEL_BYTES * j + 4);
     (a == x) & (b == y)
 }
 
-fn is_four(s: &[u8], at: usize, j: usize, w: Four) -> bool
+// Whether the first three words of float j of those from byte `at` on are w's.
+fn is_float_at(s: &[u8], at: usize, j: usize, w: Four) -> bool
     requires { ⌜ at + floatBytes * j + floatBytes ≤ length (now s) ⌝ }
-    ensures { λ r. ⌜ r ≡ fourAt (now (s .entry)) at (w .0) (w .1) (w .2) j ⌝ }
+    ensures { λ r. ⌜ r ≡ floatWordsAt (now (s .entry)) at (w .0) (w .1) (w .2) j ⌝ }
 {
     let x = load(s, at + FLOAT_BYTES * j);
     let y = load(s, at + FLOAT_BYTES * j + 4);
@@ -35,14 +36,14 @@ fn is_four(s: &[u8], at: usize, j: usize, w: Four) -> bool
 
 // The first float whose first three words are w's, of those that a chain leads through from v on, which is one past a float's number, or 0. So is the word
 // at each float's link, and one that does not lead lower ends the walk.
-pub fn walk_four(s: &[u8], at: usize, links: usize, v: usize, w: Four) -> Found
+pub fn walk_float(s: &[u8], at: usize, links: usize, v: usize, w: Four) -> Found
     requires { ⌜ (at + floatBytes * v ≤ length (now s)) × (links + searchBytes * v ≤ length (now s)) ⌝ }
-    ensures { λ r. ⌜ Walks (λ j. wordAt (now (s .entry)) (links + searchBytes * j)) (fourAt (now (s .entry)) at (w .0) (w .1) (w .2)) v r ⌝ }
+    ensures { λ r. ⌜ Walks (λ j. wordAt (now (s .entry)) (links + searchBytes * j)) (floatWordsAt (now (s .entry)) at (w .0) (w .1) (w .2)) v r ⌝ }
 {
     let mut u = v;
     while 0 < u {
         let j = u - 1;
-        if is_four(s, at, j, w) {
+        if is_float_at(s, at, j, w) {
             return Found::At(j);
         }
         let next = index(load(s, links + SEARCH_BYTES * j));

@@ -18,7 +18,7 @@ use Rattle.records.specs.Rules.{wordsOk, isFirstType}
 use Rattle.records.specs.Depth.{larger}
 use Rattle.judge.specs.declared.pass.Words.{Words}
 use Rattle.judge.specs.Inner.{TypesLead, capped, classIn, stored, classAt, KnownBelow, Counting, WordsOf, Took, TookWords, otherRules, TookRecord}
-use Rattle.judge.specs.Plain.{isUnused, isText, Place, Cells, Owned, PlainForm, PlainReady, Slots, TookSlots, TookPlain}
+use Rattle.judge.specs.Plain.{isUnused, isText, Place, Cells, Owned, PlainForm, PlainReady, WordSlots, TookSlots, TookPlain}
 use Rattle.judge.proofs.CapLaws.{larger-none}
 use Rattle.judge.proofs.CountLaws.{known-counted, stored-length}
 use Rattle.judge.proofs.TakeLaws.{unused-took, took-words, rules-told, bytes-told}
@@ -68,7 +68,7 @@ slot-took tree bytes r rules at role w next p facts place few l known free m m�
       counted = rw e (counted-slot rules at role facts r w p place m tree few room);
     }
 
-module _ (tree : List ℕ) (r k : ℕ) (words : Words) (pa pb pc : ℕ) (rules l l₀ : List ℕ) (s : Slots tree r k words pa pb pc l rules) (own : Owned l l₀) where
+module _ (tree : List ℕ) (r k : ℕ) (words : Words) (pa pb pc : ℕ) (rules l l₀ : List ℕ) (s : WordSlots tree r k words pa pb pc l rules) (own : Owned l l₀) where
   facts : RowFacts rules k
   facts = rw (s .ready .table) (row-facts k (s .ready .small))
 
@@ -224,7 +224,7 @@ pub slots-ready : (tree : List ℕ) (r k : ℕ) (words : Words) (pa pb pc : ℕ)
     → (pb ≡ (words .b + 1) % 4294967296 * getD rules (k * 20 + 5) 0) × (words .b < 4294967296)
     → (pc ≡ (words .c + 1) % 4294967296 * getD rules (k * 20 + 10) 0) × (words .c < 4294967296)
     → (form qa qb qc : Bool) → qa ≡ (leb (getD rules (k * 20 + 1) 0) pa && leb pa r) → qb ≡ (leb (getD rules (k * 20 + 5 + 1) 0) pb && leb pb r) → qc ≡ (leb (getD rules (k * 20 + 10 + 1) 0) pc && leb pc r)
-    → not (form && (qa && qb && qc)) ≡ false → Slots tree r k words pa pb pc l rules
+    → not (form && (qa && qb && qc)) ≡ false → WordSlots tree r k words pa pb pc l rules
 slots-ready tree r k words pa pb pc l rules ready of a b c form qa qb qc ea eb ec ok =
     let facts : RowFacts rules k = rw (ready .table) (row-facts k (ready .small)) in
     let all : (qa && qb && qc) ≡ true = and-right form (qa && qb && qc) (not-false (form && (qa && qb && qc)) ok) in

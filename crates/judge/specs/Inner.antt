@@ -1,5 +1,5 @@
--- What the judge's inner functions are held to: a lowest number, and the four bytes that the pass leaves for each record: what its list holds, how deep it
--- is, how often it was referred to so far, its kind. Assumes nothing: these are definitions.
+-- What the judge's inner functions are held to: a lowest number, and the four bytes that the pass leaves for each record: how deep it is, how often it
+-- was referred to so far, what its list holds, its kind. Assumes nothing: these are definitions.
 use mathlib.Core.Path.{_≡_}
 use Prim.Native.Nat.{ℕ, _+_, _*_, _≤_, _<_}
 use mathlib.Core.Bool.{Bool, true, false, not, _&&_, _||_}
@@ -10,8 +10,8 @@ use Rattle.laws.specs.Fix.{pick, below, fix}
 use Rattle.laws.specs.Below.{sumBelow}
 use Rattle.records.specs.declared.shape.Role.{Role}
 use Rattle.records.specs.declared.shape.Role.the-variants.{Unused, Number, Text, Length, Expr, TypeRef, TypeOrNone, Name, Variable, Arguments, Parameters, Body, Item, Rest}
-use Rattle.records.specs.Layout.{scratchEach}
-use Rattle.records.specs.Words.{mostRecords, kindOf, wordOf, none, A, B, C, D, E}
+use Rattle.records.specs.Layout.{knownBytes, scratchEach}
+use Rattle.records.specs.Words.{recordBytes, mostRecords, kindOf, wordOf, none, A, B, C, D, E}
 use Rattle.records.specs.Kinds.{kindType, kindInt, kindName, kindCall, kindList, kindValue, kindTypeArgument, kindDeclare, kindContinue, kindVariable}
 use Rattle.records.specs.Shapes.{rowAt}
 use Rattle.records.specs.Rules.{listStep, wordOk, wordsOk, formOk, otherwiseMarked, bodyMarked, isFirstType, typesFirst, refersTo, refersFrom, references}
@@ -32,7 +32,7 @@ pub record TypesLead (tree : List ℕ) (n count : ℕ) : Type 0 where
 
 -- a tree of n whole records, no more than may be judged, whose first `count` records are its types, and room for what is known of each
 pub record Passing (tree : List ℕ) (n count : ℕ) (known : List ℕ) : Type 0 where
-  pub whole : n * 32 ≡ length tree
+  pub whole : n * recordBytes ≡ length tree
   pub few : n ≤ mostRecords
   pub room : scratchEach * n ≤ length known
   pub lead : TypesLead tree n count
@@ -48,20 +48,20 @@ shallowDepth tree r = capped 65 (depth tree r)
 -- ---- the bytes of record k, behind four that belong to no record: depth, count, list, kind
 
 abbrev pub classIn : List ℕ → ℕ → ℕ
-classIn l k = getD l (k * 4 + 6) 0
+classIn l k = getD l (k * knownBytes + 6) 0
 
 abbrev pub depthIn : List ℕ → ℕ → ℕ
-depthIn l k = getD l (k * 4 + 4) 0
+depthIn l k = getD l (k * knownBytes + 4) 0
 
 abbrev pub countIn : List ℕ → ℕ → ℕ
-countIn l k = getD l (k * 4 + 5) 0
+countIn l k = getD l (k * knownBytes + 5) 0
 
 abbrev pub kindIn : List ℕ → ℕ → ℕ
-kindIn l k = getD l (k * 4 + 7) 0
+kindIn l k = getD l (k * knownBytes + 7) 0
 
 -- the bytes of record r are written, with a count of 0
 abbrev pub stored : List ℕ → ℕ → ℕ → ℕ → ℕ → List ℕ
-stored l r class depth kind = set (set (set (set l (r * 4 + 4) depth) (r * 4 + 5) 0) (r * 4 + 6) class) (r * 4 + 7) kind
+stored l r class depth kind = set (set (set (set l (r * knownBytes + 4) depth) (r * knownBytes + 5) 0) (r * knownBytes + 6) class) (r * knownBytes + 7) kind
 
 -- ---- what a list holds
 
@@ -101,38 +101,42 @@ unfoldable pub classAt : List ℕ → (ℕ → ℕ) → ℕ → ℕ → ℕ → 
 unfolding pick cellClass
 classAt tree g r kind a b = pick (eqb kind kindList) (cellClass tree g r a b) 0
 
--- a record's key is four times its kind, and the number of its list: the keys from `lowKey` to `highKey` are right for a role
+-- a record's key is four times its kind, and the number of its list
+abbrev pub keysEach : ℕ
+keysEach = 4
+
+-- the keys from `lowKey` to `highKey` are right for a role
 abbrev pub lowKey : Role → ℕ
 lowKey Unused = 0
 lowKey Number = 0
 lowKey Text = 0
 lowKey Length = 0
-lowKey Expr = kindInt * 4
-lowKey TypeRef = kindType * 4
-lowKey TypeOrNone = kindType * 4
-lowKey Name = kindName * 4
-lowKey Variable = kindVariable * 4
-lowKey Arguments = kindList * 4 + 1
-lowKey Parameters = kindList * 4 + 2
-lowKey Body = kindList * 4 + 3
+lowKey Expr = kindInt * keysEach
+lowKey TypeRef = kindType * keysEach
+lowKey TypeOrNone = kindType * keysEach
+lowKey Name = kindName * keysEach
+lowKey Variable = kindVariable * keysEach
+lowKey Arguments = kindList * keysEach + 1
+lowKey Parameters = kindList * keysEach + 2
+lowKey Body = kindList * keysEach + 3
 lowKey Item = 0
-lowKey Rest = kindList * 4
+lowKey Rest = kindList * keysEach
 
 abbrev pub highKey : Role → ℕ
 highKey Unused = 0
 highKey Number = 0
 highKey Text = 0
 highKey Length = 0
-highKey Expr = kindCall * 4 + 3
-highKey TypeRef = kindType * 4 + 3
-highKey TypeOrNone = kindType * 4 + 3
-highKey Name = kindName * 4 + 3
-highKey Variable = kindVariable * 4 + 3
-highKey Arguments = kindList * 4 + 1
-highKey Parameters = kindList * 4 + 2
-highKey Body = kindList * 4 + 3
-highKey Item = 255 * 4 + 3
-highKey Rest = kindList * 4 + 3
+highKey Expr = kindCall * keysEach + 3
+highKey TypeRef = kindType * keysEach + 3
+highKey TypeOrNone = kindType * keysEach + 3
+highKey Name = kindName * keysEach + 3
+highKey Variable = kindVariable * keysEach + 3
+highKey Arguments = kindList * keysEach + 1
+highKey Parameters = kindList * keysEach + 2
+highKey Body = kindList * keysEach + 3
+highKey Item = 255 * keysEach + 3
+highKey Rest = kindList * keysEach + 3
 
 abbrev pub noneOk : Role → Bool
 noneOk Unused = false

@@ -8,7 +8,7 @@ use lib.Dec.{eqb, leb, ltb}
 use lib.ListN.{length, replicate}
 use Rattle.laws.specs.Fix.{pick}
 use Rattle.laws.specs.Below.{lowest}
-use Rattle.records.specs.Words.{records, mostRecords, none}
+use Rattle.records.specs.Words.{recordBytes, records, mostRecords, none}
 use Rattle.records.specs.Rules.{recordOk}
 use Rattle.records.specs.Depth.{depth}
 use Rattle.records.specs.declared.convert_error.ConvertErrorKind.{ConvertErrorKind}
@@ -23,7 +23,7 @@ abbrev pub fewestRecords : ℕ
 fewestRecords = 12
 
 unfoldable pub lengthsOk : ℕ → Bool
-lengthsOk bytes = eqb (bytes % 32) 0 && leb (fewestRecords * 32) bytes && leb bytes (mostRecords * 32)
+lengthsOk bytes = eqb (bytes % recordBytes) 0 && leb (fewestRecords * recordBytes) bytes && leb bytes (mostRecords * recordBytes)
 
 -- 'With n records the outputs need: instructions 320n bytes, variables 12n, labels 24n, functions 32n, strings 8n, floats 32n, and scratch 64n'; document 02, point 9: 'Scratch grows to 72n bytes, for 26 too'
 unfoldable pub buffersOk : ℕ → Lengths → ℕ → Bool

@@ -9,11 +9,12 @@ use Rattle.laws.specs.Fix.{pick}
 use Rattle.laws.specs.Below.{allBelow}
 use Rattle.records.specs.declared.shape.Role.{Role}
 use Rattle.records.specs.declared.shape.Role.the-variants.{Unused, Number, Text, Length, Expr, TypeRef, TypeOrNone, Name, Variable, Arguments, Parameters, Body, Item, Rest}
-use Rattle.records.specs.Words.{mostRecords, kindOf, detailOf, padOf, none, boolNumber}
+use Rattle.records.specs.Layout.{knownBytes}
+use Rattle.records.specs.Words.{recordBytes, mostRecords, kindOf, detailOf, padOf, none, boolNumber}
 use Rattle.records.specs.Kinds.{kindList}
 use Rattle.records.specs.Shapes.{rowOf, refers}
 use Rattle.judge.specs.declared.pass.Words.{Words}
-use Rattle.judge.specs.Inner.{lowKey, highKey, noneOk, TypesLead, KnownBelow, Counting, WordsOf, TookRecord}
+use Rattle.judge.specs.Inner.{keysEach, lowKey, highKey, noneOk, TypesLead, KnownBelow, Counting, WordsOf, TookRecord}
 
 -- twenty numbers for each kind
 abbrev pub plainRules : List ℕ
@@ -47,7 +48,7 @@ plainRules =
 
 -- the key of the record in slot p: four times its kind, and what its list holds
 abbrev pub keyIn : List ℕ → ℕ → ℕ
-keyIn known p = getD known (p * 4 + 3) 0 * 4 + getD known (p * 4 + 2) 0
+keyIn known p = getD known (p * knownBytes + 3) 0 * keysEach + getD known (p * knownBytes + 2) 0
 
 -- a word whose five numbers begin at `at` may refer to a record of this key
 abbrev pub keyWithin : List ℕ → ℕ → ℕ → Bool
@@ -118,7 +119,7 @@ pub record Place (r : ℕ) (role : Role) (w p : ℕ) : Type 0 where
 pub record Owned (l l′ : List ℕ) : Type 0 where
   pub same : length l′ ≡ length l
   pub depth : getD l′ 0 0 ≡ 0
-  pub others : (x : ℕ) → 4 ≤ x → getD l′ x 0 ≡ getD l x 0
+  pub others : (x : ℕ) → knownBytes ≤ x → getD l′ x 0 ≡ getD l x 0
 
 -- record r of kind k is right aside from what it refers to
 pub record PlainForm (tree : List ℕ) (bytes r k : ℕ) (words : Words) (rules : List ℕ) : Type 0 where
@@ -139,18 +140,18 @@ itemNumber k = pick (eqb k 13 || eqb k 14) 1 (pick (leb 15 k && leb k 23) 3 (pic
 
 -- a record of kind k with the word a, whose words A and B lead to slots; where it is a cell its item is known
 pub record Cells (tree : List ℕ) (k a pa pb : ℕ) (l rules : List ℕ) : Type 0 where
-  pub item : k ≡ kindList → a * 32 + 32 ≤ length tree
-  pub kind : k ≡ kindList → getD l (pa * 4 + 3) 0 ≡ kindOf tree a
+  pub item : k ≡ kindList → a * recordBytes + recordBytes ≤ length tree
+  pub kind : k ≡ kindList → getD l (pa * knownBytes + 3) 0 ≡ kindOf tree a
   pub few : (pa ≤ mostRecords) × (pb ≤ mostRecords)
-  pub room : (pa * 4 + 4 ≤ length l) × (pb * 4 + 4 ≤ length l)
+  pub room : (pa * knownBytes + knownBytes ≤ length l) × (pb * knownBytes + knownBytes ≤ length l)
   pub table : rules ≡ plainRules
 
 -- record r of kind k and the table of rules are at hand, with what is known of the records below it; the first twelve records are taken otherwise
 pub record PlainReady (tree : List ℕ) (r k : ℕ) (l rules : List ℕ) : Type 0 where
-  pub whole : r * 32 + 32 ≤ length tree
+  pub whole : r * recordBytes + recordBytes ≤ length tree
   pub past : 12 ≤ r
   pub few : r < mostRecords
-  pub room : r * 4 + 8 ≤ length l
+  pub room : r * knownBytes + 2 * knownBytes ≤ length l
   pub kind : k ≡ kindOf tree r
   pub small : k < 26
   pub table : rules ≡ plainRules
@@ -158,7 +159,7 @@ pub record PlainReady (tree : List ℕ) (r k : ℕ) (l rules : List ℕ) : Type 
   pub counting : Counting tree r l
 
 -- and its words lead to slots
-pub record Slots (tree : List ℕ) (r k : ℕ) (words : Words) (pa pb pc : ℕ) (l rules : List ℕ) : Type 0 where
+pub record WordSlots (tree : List ℕ) (r k : ℕ) (words : Words) (pa pb pc : ℕ) (l rules : List ℕ) : Type 0 where
   pub ready : PlainReady tree r k l rules
   pub of : WordsOf tree r words
   pub a : Place r (rowOf k .a) (words .a) pa

@@ -4,7 +4,7 @@ ghost use mathlib.Core.Bool.{not};
 ghost use Prim.Native.Nat.{ℕ, _+_, _*_, _≤_, _<_};
 ghost use lib.ListN.{length};
 ghost use Rattle.laws.specs.Chain.{linkTo};
-ghost use Rattle.records.specs.Words.{records, kindOf};
+ghost use Rattle.records.specs.Words.{recordBytes, records, kindOf};
 ghost use Rattle.records.specs.Rules.{sameType, typeIsNew};
 ghost use Rattle.records.specs.Digest.{typeDigest};
 ghost use Rattle.records.specs.Chains.{ChainRoom};
@@ -31,7 +31,7 @@ use records::words::word;
 
 // The digest of what makes type r equal to another.
 fn type_digest(tree: &[u8], text: &[u8], r: usize) -> u32
-    requires { ⌜ r * 32 + 32 ≤ length (now tree) ⌝ }
+    requires { ⌜ r * recordBytes + recordBytes ≤ length (now tree) ⌝ }
     ensures { λ v. ⌜ v ≡ typeDigest (now (tree .entry)) (now (text .entry)) r ⌝ }
 {
     let d = detail(tree, r);
@@ -45,7 +45,7 @@ fn type_digest(tree: &[u8], text: &[u8], r: usize) -> u32
 
 // Types k and r are equal, by their digests first. Few texts of one digest differ, so few are compared in vain.
 fn equals(tree: &[u8], text: &[u8], k: usize, r: usize, digest: u32, d: u32) -> bool
-    requires { ⌜ (k * 32 + 32 ≤ length (now tree)) × (r * 32 + 32 ≤ length (now tree)) ⌝ }
+    requires { ⌜ (k * recordBytes + recordBytes ≤ length (now tree)) × (r * recordBytes + recordBytes ≤ length (now tree)) ⌝ }
     requires { ⌜ (digest ≡ typeDigest (now tree) (now text) k) × (d ≡ typeDigest (now tree) (now text) r) ⌝ }
     ensures { λ v. ⌜ v ≡ sameType (now (tree .entry)) (now (text .entry)) k r ⌝ }
 {
@@ -65,7 +65,7 @@ fn has_equal(
     d: u32,
     head: u32,
 ) -> bool
-    requires { ⌜ (types * 32 ≤ length (now tree)) × (r < types) × ((k : ℕ) → k < types → kindOf (now tree) k ≡ kindType) ⌝ }
+    requires { ⌜ (types * recordBytes ≤ length (now tree)) × (r < types) × ((k : ℕ) → k < types → kindOf (now tree) k ≡ kindType) ⌝ }
     requires { ⌜ ChainRoom types (now scratch) × TypesChained (now tree) (now text) types r (now scratch) ⌝ }
     requires { ⌜ (d ≡ typeDigest (now tree) (now text) r) × (head ≡ linkTo (typeBucket (now tree) (now text) types) r (typeBucket (now tree) (now text) types r)) ⌝ }
     ensures { λ v. ⌜ v ≡ not (typeIsNew (now (tree .entry)) (now (text .entry)) r) ⌝ }

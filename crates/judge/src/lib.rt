@@ -3,13 +3,16 @@ ghost use mathlib.Core.Path.{_≡_};
 ghost use Prim.Native.Nat.{_*_, _≤_};
 ghost use lib.ListN.{length};
 ghost use Rattle.records.specs.Layout.{scratchEach};
-ghost use Rattle.records.specs.Words.{mostRecords};
+ghost use Rattle.records.specs.Words.{recordBytes, mostRecords};
 ghost use Rattle.judge.specs.Keeps.{JudgeKeeps, placed, unplaced};
 ghost use Rattle.judge.specs.Judge.{lengthsOk, buffersOk, buffers, recordsVerdict, verdict, judgedBy, judged, judgedIn, scratchAfter, judgeLeaves, cleared};
 use records::convert_error::ConvertError;
 use records::convert_error::ConvertErrorKind;
+use records::layout::SCRATCH;
+use records::words::FEWEST_RECORDS;
 use records::words::MOST_RECORDS;
 use records::words::NONE;
+use records::words::RECORD_BYTES;
 
 mod equal;
 mod nesting;
@@ -18,6 +21,19 @@ mod plain;
 mod references;
 mod rules;
 mod types;
+
+// So many bytes a record the outputs need.
+const INSTRUCTIONS_EACH: usize = 320;
+
+const VARIABLES_EACH: usize = 12;
+
+const LABELS_EACH: usize = 24;
+
+const FUNCTIONS_EACH: usize = 32;
+
+const STRINGS_EACH: usize = 8;
+
+const FLOATS_EACH: usize = 32;
 
 // How long the lent outputs are.
 pub struct Lengths {
@@ -55,25 +71,27 @@ pub fn clear(buffer: &mut [u8])
 fn lengths_ok(bytes: usize) -> bool
     ensures { λ r. ⌜ r ≡ lengthsOk bytes ⌝ }
 {
-    (bytes % 32 == 0) & (384 <= bytes) & (bytes <= 32 * MOST_RECORDS)
+    (bytes % RECORD_BYTES == 0)
+        & (FEWEST_RECORDS * RECORD_BYTES <= bytes)
+        & (bytes <= MOST_RECORDS * RECORD_BYTES)
 }
 
 // Row 'buffers'. The lengths are divided: a product could wrap where row 'lengths' was not asked first.
 fn buffers_ok(n: usize, l: Lengths, scratch: usize) -> bool
     ensures { λ r. ⌜ r ≡ buffersOk n l scratch ⌝ }
 {
-    (n <= l.instructions / 320)
-        & (n <= l.variables / 12)
-        & (n <= l.labels / 24)
-        & (n <= l.functions / 32)
-        & (n <= l.strings / 8)
-        & (n <= l.floats / 32)
-        & (n <= scratch / 72)
+    (n <= l.instructions / INSTRUCTIONS_EACH)
+        & (n <= l.variables / VARIABLES_EACH)
+        & (n <= l.labels / LABELS_EACH)
+        & (n <= l.functions / FUNCTIONS_EACH)
+        & (n <= l.strings / STRINGS_EACH)
+        & (n <= l.floats / FLOATS_EACH)
+        & (n <= scratch / SCRATCH)
 }
 
 // Rows 'records' and 'nesting'; the bytes of scratch are the pass's own.
 fn judge_records(tree: &[u8], text: &[u8], n: usize, scratch: &mut [u8]) -> Judged
-    requires { ⌜ (n * 32 ≡ length (now tree)) × (n ≤ mostRecords) × (scratchEach * n ≤ length (now scratch)) ⌝ }
+    requires { ⌜ (n * recordBytes ≡ length (now tree)) × (n ≤ mostRecords) × (scratchEach * n ≤ length (now scratch)) ⌝ }
     ensures { λ r. ⌜ (r ≡ judgedBy (recordsVerdict (now (tree .entry)) (now (text .entry)))) × (length (now (scratch .exit)) ≡ length (now (scratch .entry))) ⌝ }
 {
     let lowest = pass::lowest_records(tree, text, n, scratch);
@@ -93,7 +111,7 @@ pub fn judge_rows(tree: &[u8], text: &[u8], l: Lengths, scratch: &mut [u8]) -> J
     ensures { λ r. ⌜ r ≡ judged (now (tree .entry)) (now (text .entry)) l (length (now (scratch .entry))) ⌝ }
     ensures { λ _. ⌜ JudgeKeeps (verdict (now (tree .entry)) (now (text .entry)) l (length (now (scratch .entry)))) (now (scratch .entry)) (now (scratch .exit)) ⌝ }
 {
-    let n = tree.len() / 32;
+    let n = tree.len() / RECORD_BYTES;
     let lengths = lengths_ok(tree.len());
     let buffers = buffers_ok(n, l, scratch.len());
     if !lengths {

@@ -1,4 +1,4 @@
-// One pass over the records in rising order. Each leaves four bytes: what its list holds, how deep it is, how often it was referred to so far, and its
+// One pass over the records in rising order. Each leaves four bytes: how deep it is, how often it was referred to so far, what its list holds, and its
 // kind. So no list is walked, and a record's bytes are written before anything refers to them.
 ghost use mathlib.Core.Path.{_≡_};
 ghost use mathlib.Core.Bool.{Bool, false, not};
@@ -6,8 +6,8 @@ ghost use mathlib.Core.List.{List};
 ghost use Prim.Native.Nat.{ℕ, _+_, _*_, _≤_, _<_};
 ghost use lib.Dec.{ltb};
 ghost use lib.ListN.{length};
-ghost use Rattle.records.specs.Layout.{scratchEach};
-ghost use Rattle.records.specs.Words.{records, mostRecords};
+ghost use Rattle.records.specs.Layout.{knownBytes, scratchEach};
+ghost use Rattle.records.specs.Words.{recordBytes, records, mostRecords};
 ghost use Rattle.records.specs.Shapes.{rowAt, refers};
 ghost use Rattle.records.specs.Rules.{wordOk, recordOk};
 ghost use Rattle.records.specs.Depth.{depth as depthOf};
@@ -38,6 +38,7 @@ use records::shape::Row;
 use records::shape::refers_to;
 use records::shape::row_of;
 use records::shape::shape_of;
+use records::words::FEWEST_RECORDS;
 use records::words::WORD_A;
 use records::words::WORD_B;
 use records::words::WORD_C;
@@ -88,7 +89,7 @@ fn take_word(
     next: u32,
     known: &mut [u8],
 ) -> Told
-    requires { ⌜ (r < mostRecords) × (r * 4 + 4 ≤ length (now known)) × KnownBelow (now tree) r (now known) ⌝ }
+    requires { ⌜ (r < mostRecords) × (r * knownBytes + knownBytes ≤ length (now known)) × KnownBelow (now tree) r (now known) ⌝ }
     ensures { λ t. ⌜ Took (now (tree .entry)) bytes r role w next (now (known .entry)) (now (known .exit)) (t .ok) (t .depth) ⌝ }
 {
     if refers_to(role) {
@@ -102,7 +103,7 @@ fn take_word(
 
 // The five words of record r. Most kinds use A and B alone, and the other three are zero then.
 fn take_words(tree: &[u8], bytes: usize, r: usize, row: Row, words: Words, known: &mut [u8]) -> Told
-    requires { ⌜ (r < mostRecords) × (r * 4 + 4 ≤ length (now known)) × KnownBelow (now tree) r (now known) ⌝ }
+    requires { ⌜ (r < mostRecords) × (r * knownBytes + knownBytes ≤ length (now known)) × KnownBelow (now tree) r (now known) ⌝ }
     requires { ⌜ (row ≡ rowAt (now tree) r) × WordsOf (now tree) r words ⌝ }
     ensures { λ t. ⌜ TookWords (now (tree .entry)) bytes r (now (known .entry)) (now (known .exit)) (t .ok) (t .depth) ⌝ }
 {
@@ -139,7 +140,7 @@ fn take_words(tree: &[u8], bytes: usize, r: usize, row: Row, words: Words, known
 }
 
 pub(crate) fn five_words(tree: &[u8], r: usize) -> Words
-    requires { ⌜ r * 32 + 32 ≤ length (now tree) ⌝ }
+    requires { ⌜ r * recordBytes + recordBytes ≤ length (now tree) ⌝ }
     ensures { λ v. ⌜ WordsOf (now (tree .entry)) r v ⌝ }
 {
     Words {
@@ -153,7 +154,7 @@ pub(crate) fn five_words(tree: &[u8], r: usize) -> Words
 
 // The bytes of record r.
 pub(crate) fn put_known(known: &mut [u8], r: usize, class: u8, depth: u8, k: u8)
-    requires { ⌜ r * 4 + 8 ≤ length (now known) ⌝ }
+    requires { ⌜ r * knownBytes + 2 * knownBytes ≤ length (now known) ⌝ }
     ensures { λ _. ⌜ now (known .exit) ≡ stored (now (known .entry)) r class depth k ⌝ }
 {
     let at = r * KNOWN_BYTES;
@@ -204,7 +205,7 @@ fn take_record(
     if k > KIND_FUNCTION {
         return take_any(tree, bytes, r, types, known);
     }
-    if r < 12 {
+    if r < FEWEST_RECORDS {
         return take_any(tree, bytes, r, types, known);
     }
     let told = take_plain(tree, bytes, r, k, known, rules);
@@ -250,7 +251,7 @@ fn pass(tree: &[u8], bytes: usize, n: usize, types: usize, known: &mut [u8]) -> 
 
 // The lowest record that breaks a rule, and the lowest that is too deep, each n where there is none.
 pub(crate) fn lowest_records(tree: &[u8], text: &[u8], n: usize, scratch: &mut [u8]) -> Lowests
-    requires { ⌜ (n * 32 ≡ length (now tree)) × (n ≤ mostRecords) × (scratchEach * n ≤ length (now scratch)) ⌝ }
+    requires { ⌜ (n * recordBytes ≡ length (now tree)) × (n ≤ mostRecords) × (scratchEach * n ≤ length (now scratch)) ⌝ }
     ensures { λ v. ⌜ Lowest n (λ k. not (recordOk (now (tree .entry)) (now (text .entry)) k)) (v .fault) ⌝ }
     ensures { λ v. ⌜ Lowest n (λ k. ltb 64 (depthOf (now (tree .entry)) k)) (v .deep) ⌝ }
     ensures { λ _. ⌜ length (now (scratch .exit)) ≡ length (now (scratch .entry)) ⌝ }

@@ -5,17 +5,19 @@ ghost use mathlib.Core.Bool.{true, false, _&&_};
 ghost use Prim.Native.Nat.{ℕ, _+_, _*_, _/_, _%_, _≤_, _<_};
 ghost use lib.Dec.{leb};
 ghost use lib.ListN.{length, getD, set};
-ghost use Rattle.records.specs.Words.{mostRecords, kindOf};
+ghost use Rattle.records.specs.Layout.{knownBytes};
+ghost use Rattle.records.specs.Words.{recordBytes, mostRecords, kindOf};
 ghost use Rattle.records.specs.Kinds.{kindList};
 ghost use Rattle.records.specs.Shapes.{rowOf};
 ghost use Rattle.judge.specs.Inner.{classIn, itemClass, classAt};
-ghost use Rattle.judge.specs.Plain.{plainRules, keyIn, keyWithin, Place, Cells, Owned, PlainForm, Slots, TookSlots, PlainReady, TookPlain};
+ghost use Rattle.judge.specs.Plain.{plainRules, keyIn, keyWithin, Place, Cells, Owned, PlainForm, WordSlots, TookSlots, PlainReady, TookPlain};
 use crate::nesting::depth_over;
 use crate::nesting::max;
 use crate::pass::Words;
 use crate::pass::five_words;
 use crate::pass::put_known;
 use crate::references::Told;
+use crate::rules::KEYS_EACH;
 use records::layout::CLASS_AT;
 use records::layout::COUNT_AT;
 use records::layout::DEPTH_AT;
@@ -591,17 +593,18 @@ fn place_ok(p: usize, r: usize, rules: &[u8; 520], at: usize) -> bool
 
 // The record in slot p is one that such a word may refer to.
 fn key_ok(known: &[u8], p: usize, rules: &[u8; 520], at: usize) -> bool
-    requires { ⌜ (at < 516) × (p ≤ mostRecords) × (p * 4 + 4 ≤ length (now known)) ⌝ }
+    requires { ⌜ (at < 516) × (p ≤ mostRecords) × (p * knownBytes + knownBytes ≤ length (now known)) ⌝ }
     ensures { λ v. ⌜ v ≡ keyWithin (now (rules .entry)) at (keyIn (now (known .entry)) p) ⌝ }
 {
-    let key = wide(known[p * KNOWN_BYTES + KIND_AT]) * 4 + wide(known[p * KNOWN_BYTES + CLASS_AT]);
+    let key = wide(known[p * KNOWN_BYTES + KIND_AT]) * KEYS_EACH
+        + wide(known[p * KNOWN_BYTES + CLASS_AT]);
     (wide(rules[at + 2]) <= key) & (key <= wide(rules[at + 3]))
 }
 
 // One more reference to the record in slot p: 1 after 0, and 2 or more after that.
 fn count_one(known: &mut [u8], p: usize)
-    requires { ⌜ (p ≤ mostRecords) × (p * 4 + 4 ≤ length (now known)) ⌝ }
-    ensures { λ _. ⌜ now (known .exit) ≡ set (now (known .entry)) (p * 4 + 1) ((getD (now (known .entry)) (p * 4 + 1) 0 + 3) / 2) ⌝ }
+    requires { ⌜ (p ≤ mostRecords) × (p * knownBytes + knownBytes ≤ length (now known)) ⌝ }
+    ensures { λ _. ⌜ now (known .exit) ≡ set (now (known .entry)) (p * knownBytes + 1) ((getD (now (known .entry)) (p * knownBytes + 1) 0 + 3) / 2) ⌝ }
 {
     let count = wide(known[p * KNOWN_BYTES + COUNT_AT]);
     known[p * KNOWN_BYTES + COUNT_AT] = ((count + 3) / 2) as u8;
@@ -609,7 +612,7 @@ fn count_one(known: &mut [u8], p: usize)
 
 // Slot 0, of no depth.
 fn put_own(known: &mut [u8], class: u8, k: u8)
-    requires { ⌜ 4 ≤ length (now known) ⌝ }
+    requires { ⌜ knownBytes ≤ length (now known) ⌝ }
     ensures { λ _. ⌜ Owned (now (known .entry)) (now (known .exit)) ⌝ }
 {
     known[DEPTH_AT] = 0;
@@ -619,7 +622,7 @@ fn put_own(known: &mut [u8], class: u8, k: u8)
 
 // What a record must be aside from what it refers to, by the row of its kind; an If without the mark has no otherwise.
 fn form_ok(tree: &[u8], bytes: usize, r: usize, k: u8, words: Words, rules: &[u8; 520]) -> bool
-    requires { ⌜ (r * 32 + 32 ≤ length (now tree)) × (k < 26) ⌝ }
+    requires { ⌜ (r * recordBytes + recordBytes ≤ length (now tree)) × (k < 26) ⌝ }
     ensures { λ v. ⌜ (v ≡ true → PlainForm (now (tree .entry)) bytes r k words (now (rules .entry))) ⌝ }
 {
     let row = k as usize * 20;
@@ -646,7 +649,7 @@ fn form_ok(tree: &[u8], bytes: usize, r: usize, k: u8, words: Words, rules: &[u8
 
 // Which list the record a of kind k may stand in.
 fn item_of(tree: &[u8], a: usize, k: u8, rules: &[u8; 520]) -> u8
-    requires { ⌜ (a * 32 + 32 ≤ length (now tree)) × (k ≡ kindOf (now tree) a) × (now rules ≡ plainRules) ⌝ }
+    requires { ⌜ (a * recordBytes + recordBytes ≤ length (now tree)) × (k ≡ kindOf (now tree) a) × (now rules ≡ plainRules) ⌝ }
     ensures { λ v. ⌜ v ≡ itemClass (now (tree .entry)) a ⌝ }
 {
     if k > KIND_FUNCTION {
@@ -689,7 +692,7 @@ fn take_slots(
     known: &mut [u8],
     rules: &[u8; 520],
 ) -> Told
-    requires { ⌜ Slots (now tree) r k words pa pb pc (now known) (now rules) ⌝ }
+    requires { ⌜ WordSlots (now tree) r k words pa pb pc (now known) (now rules) ⌝ }
     ensures { λ t. ⌜ TookSlots (now (tree .entry)) r k words (now (rules .entry)) (now (known .entry)) (now (known .exit)) (t .ok) (t .depth) ⌝ }
 {
     let row = k as usize * 20;

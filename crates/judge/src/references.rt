@@ -3,10 +3,12 @@ ghost use mathlib.Core.Path.{_≡_};
 ghost use mathlib.Core.Bool.{true, not};
 ghost use Prim.Native.Nat.{ℕ, _+_, _*_, _≤_, _<_};
 ghost use lib.ListN.{length};
-ghost use Rattle.records.specs.Words.{mostRecords};
+ghost use Rattle.records.specs.Layout.{knownBytes, scratchEach};
+ghost use Rattle.records.specs.Words.{recordBytes, mostRecords};
 ghost use Rattle.records.specs.Shapes.{refers};
 ghost use Rattle.records.specs.Rules.{referredOnce};
 ghost use Rattle.judge.specs.Inner.{Lowest, KnownBelow, ReferenceCounts, Took};
+use crate::rules::KEYS_EACH;
 use crate::rules::high_key;
 use crate::rules::low_key;
 use crate::rules::none_ok;
@@ -32,7 +34,7 @@ pub struct Told {
 // Word w of record r, which refers: judged, and one more for a lower record that it refers to, up to 2. More than once is all that matters. What is
 // not lower has no bytes yet, and its count never matters: record r is at fault then, and it is not the higher of the two.
 pub(crate) fn take_reference(tree: &[u8], r: usize, role: Role, w: u32, known: &mut [u8]) -> Told
-    requires { ⌜ (r < mostRecords) × (r * 4 + 4 ≤ length (now known)) × KnownBelow (now tree) r (now known) × (refers role ≡ true) ⌝ }
+    requires { ⌜ (r < mostRecords) × (r * knownBytes + knownBytes ≤ length (now known)) × KnownBelow (now tree) r (now known) × (refers role ≡ true) ⌝ }
     ensures { λ t. ⌜ ((bytes next : ℕ) → Took (now (tree .entry)) bytes r role w next (now (known .entry)) (now (known .exit)) (t .ok) (t .depth)) ⌝ }
 {
     let i = index(w);
@@ -42,7 +44,7 @@ pub(crate) fn take_reference(tree: &[u8], r: usize, role: Role, w: u32, known: &
             depth: 0,
         };
     }
-    let key = wide(known[i * KNOWN_BYTES + NEXT_KIND]) * 4
+    let key = wide(known[i * KNOWN_BYTES + NEXT_KIND]) * KEYS_EACH
         + wide(known[i * KNOWN_BYTES + NEXT_CLASS]);
     let ok = (low_key(role) <= key) & (key <= high_key(role));
     let depth = known[i * KNOWN_BYTES + NEXT_DEPTH];
@@ -56,7 +58,7 @@ pub(crate) fn take_reference(tree: &[u8], r: usize, role: Role, w: u32, known: &
 
 // The lowest of n records that is neither type nor function and not referred to exactly once, or n.
 pub(crate) fn lowest_miscounted(tree: &[u8], n: usize, known: &[u8]) -> usize
-    requires { ⌜ (n * 32 ≤ length (now tree)) × (n * 64 ≤ length (now known)) × ReferenceCounts (now tree) n (now known) ⌝ }
+    requires { ⌜ (n * recordBytes ≤ length (now tree)) × (scratchEach * n ≤ length (now known)) × ReferenceCounts (now tree) n (now known) ⌝ }
     ensures { λ v. ⌜ Lowest n (λ k. not (referredOnce (now (tree .entry)) k)) v ⌝ }
 {
     let mut r = 0;

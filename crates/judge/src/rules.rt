@@ -5,7 +5,8 @@ ghost use Prim.Native.Nat.{_+_, _*_, _≤_};
 ghost use lib.Dec.{eqb, leb};
 ghost use lib.ListN.{length};
 ghost use Rattle.laws.specs.Fix.{below};
-ghost use Rattle.records.specs.Words.{none};
+ghost use Rattle.records.specs.Layout.{knownBytes};
+ghost use Rattle.records.specs.Words.{recordBytes, none};
 ghost use Rattle.records.specs.Kinds.{kindIf, kindFunction};
 ghost use Rattle.records.specs.declared.shape.Role.the-variants.{Unused};
 ghost use Rattle.judge.specs.Inner.{itemClass, cellClass, classAt, classIn, lowKey, highKey, noneOk};
@@ -26,7 +27,7 @@ use records::words::index;
 use records::words::kind;
 use records::words::word;
 
-// What the items of a list are, all of them: the first byte of a cell's four.
+// What the items of a list are, all of them: the third of a cell's four bytes.
 const MIXED: u8 = 0;
 
 const ARGUMENTS: u8 = 1;
@@ -35,8 +36,11 @@ const PARAMETERS: u8 = 2;
 
 const STATEMENTS: u8 = 3;
 
-// A record's key is four times its kind, and what its list holds. The keys of types, expressions, names, cells and variables, each from the lowest to
-// the highest; those of the cells that begin one sort of list; and the highest of all.
+// A record's key is four times its kind, and what its list holds.
+pub(crate) const KEYS_EACH: u32 = 4;
+
+// The keys of types, expressions, names, cells and variables, each from the lowest to the highest; those of the cells that begin one sort of list; and the
+// highest of all.
 const TYPE_LOW: u32 = 4;
 
 const TYPE_HIGH: u32 = 7;
@@ -67,7 +71,7 @@ const HIGHEST: u32 = 1023;
 
 // What the lower list holds that a word refers to.
 fn class_below(known: &[u8], r: usize, w: u32) -> u8
-    requires { ⌜ r * 4 + 4 ≤ length (now known) ⌝ }
+    requires { ⌜ r * knownBytes + knownBytes ≤ length (now known) ⌝ }
     ensures { λ v. ⌜ v ≡ below (classIn (now (known .entry))) r w 0 ⌝ }
 {
     let i = index(w);
@@ -79,7 +83,7 @@ fn class_below(known: &[u8], r: usize, w: u32) -> u8
 
 // Which list record a may stand in.
 fn item_class(tree: &[u8], a: usize) -> u8
-    requires { ⌜ a * 32 + 32 ≤ length (now tree) ⌝ }
+    requires { ⌜ a * recordBytes + recordBytes ≤ length (now tree) ⌝ }
     ensures { λ v. ⌜ v ≡ itemClass (now (tree .entry)) a ⌝ }
 {
     let k = kind(tree, a);
@@ -100,7 +104,7 @@ fn item_class(tree: &[u8], a: usize) -> u8
 
 // What the list holds whose first cell is record r, with the words a and b: its item, where the rest holds the same.
 fn cell_class(tree: &[u8], r: usize, a: u32, b: u32, known: &[u8]) -> u8
-    requires { ⌜ (r * 32 ≤ length (now tree)) × (r * 4 + 4 ≤ length (now known)) ⌝ }
+    requires { ⌜ (r * recordBytes ≤ length (now tree)) × (r * knownBytes + knownBytes ≤ length (now known)) ⌝ }
     ensures { λ v. ⌜ v ≡ cellClass (now (tree .entry)) (classIn (now (known .entry))) r a b ⌝ }
 {
     let item = index(a);
@@ -119,7 +123,7 @@ fn cell_class(tree: &[u8], r: usize, a: u32, b: u32, known: &[u8]) -> u8
 
 // What the list holds whose first cell is record r; 0 where it is no cell.
 pub(crate) fn class_at(tree: &[u8], r: usize, k: u8, a: u32, b: u32, known: &[u8]) -> u8
-    requires { ⌜ (r * 32 ≤ length (now tree)) × (r * 4 + 4 ≤ length (now known)) ⌝ }
+    requires { ⌜ (r * recordBytes ≤ length (now tree)) × (r * knownBytes + knownBytes ≤ length (now known)) ⌝ }
     ensures { λ v. ⌜ v ≡ classAt (now (tree .entry)) (classIn (now (known .entry))) r k a b ⌝ }
 {
     if k == KIND_LIST {

@@ -2,11 +2,13 @@
 ghost use mathlib.Core.Path.{_≡_};
 ghost use Prim.Native.Nat.{_+_, _*_, _≤_, _<_};
 ghost use lib.ListN.{length};
+ghost use Rattle.records.specs.Words.{recordBytes};
 ghost use Rattle.records.specs.Rules.{isFirstType, sameType};
 ghost use Rattle.judge.specs.Inner.{TypesLead};
 use records::numbers::FORM_CUSTOM;
 use records::numbers::KIND_TYPE;
 use records::texts::same_text;
+use records::words::FEWEST_RECORDS;
 use records::words::WORD_A;
 use records::words::WORD_B;
 use records::words::WORD_C;
@@ -22,10 +24,10 @@ const INNER: [u32; 12] = [0, 0, 0, 0, 0, 0, 0, 0, 0, 0, 7, 9];
 
 // Record r is not among the first twelve, or it is the type that stands there in every tree.
 pub(crate) fn is_first_type(tree: &[u8], r: usize) -> bool
-    requires { ⌜ r * 32 + 32 ≤ length (now tree) ⌝ }
+    requires { ⌜ r * recordBytes + recordBytes ≤ length (now tree) ⌝ }
     ensures { λ v. ⌜ v ≡ isFirstType (now (tree .entry)) r ⌝ }
 {
-    if r >= 12 {
+    if r >= FEWEST_RECORDS {
         return true;
     }
     (kind(tree, r) == KIND_TYPE)
@@ -35,7 +37,7 @@ pub(crate) fn is_first_type(tree: &[u8], r: usize) -> bool
 
 // How many records stand before the first that is no type.
 pub(crate) fn leading_types(tree: &[u8], n: usize) -> usize
-    requires { ⌜ n * 32 ≡ length (now tree) ⌝ }
+    requires { ⌜ n * recordBytes ≡ length (now tree) ⌝ }
     ensures { λ v. ⌜ TypesLead (now (tree .entry)) n v ⌝ }
 {
     let mut i = 0;
@@ -50,7 +52,7 @@ pub(crate) fn leading_types(tree: &[u8], n: usize) -> usize
 
 // Types j and r are equal, key text aside.
 pub(crate) fn same_type(tree: &[u8], text: &[u8], j: usize, r: usize) -> bool
-    requires { ⌜ (j * 32 + 32 ≤ length (now tree)) × (r * 32 + 32 ≤ length (now tree)) ⌝ }
+    requires { ⌜ (j * recordBytes + recordBytes ≤ length (now tree)) × (r * recordBytes + recordBytes ≤ length (now tree)) ⌝ }
     ensures { λ v. ⌜ v ≡ sameType (now (tree .entry)) (now (text .entry)) j r ⌝ }
 {
     let d = detail(tree, r);

@@ -7,7 +7,7 @@ use mathlib.Core.List.{List}
 use Prim.Native.Nat.{ℕ, _+_, _*_, _≤_, _<_}
 use native.Mathlib.Omega.{arith}
 use lib.Dec.{eqb, ltb}
-use lib.ListN.{length}
+use lib.ListN.{length, getD}
 use borrow.Author.Count.{below-more}
 use borrow.Author.Tests.{eq-eqb, ne-eqb, eqb-true, eqb-false, ltb-true, ltb-false}
 use Rattle.laws.specs.Chain.{linkTo}
@@ -21,14 +21,14 @@ use Rattle.records.specs.Digest.{digestEnd}
 use Rattle.records.specs.Good.{Good}
 use Rattle.records.specs.Kinds.{kindFunction}
 use Rattle.records.specs.Words.{byteAt, wordAt, kindOf, wordOf, bytesOf, word, records, A}
-use Rattle.records.proofs.Apart.{word-apart, word-there, word-back, word-same}
+use Rattle.records.proofs.Apart.{byte-apart, word-apart, word-there, word-back, word-same}
 use Rattle.records.proofs.ChainedLaws as chained
 use Rattle.conversion.specs.Expressions.{is-mangled}
 use Rattle.syntax.specs.Places.{FunctionAt, functionOf}
 use Rattle.syntax.proofs.Records.{name-record}
 use Rattle.texts.specs.Texts.{hasText, hasOwn, original, originalAt, textDigestAt, Numbered}
 use Rattle.texts.proofs.TextLaws.{numbered-stays, original-below}
-use Rattle.keys.specs.Keys.{keySlotAt, Mapped, Chain, linked, keyHeadAt, nameHeadAt, isFunction, keyRoll, keyBucket, nameBucket, Chaining, Keyed}
+use Rattle.keys.specs.Keys.{keySlotAt, Mapped, Chain, chainedBefore, keyHeadAt, nameHeadAt, isFunction, keyRoll, keyBucket, nameBucket, Chaining, Keyed, ChainKeeps}
 use Rattle.keys.proofs.KeySearch.{records-most}
 use Rattle.keys.proofs.SlotLaws.{slots-stay, zero-word}
 
@@ -53,6 +53,10 @@ module _ (s : List ℕ) (p w : ℕ) (fit : p + 4 ≤ length s) (s′ : List ℕ)
   write-long : length s′ ≡ length s
   write-long = ap length e ∙ length-splice s p (word w) fits
 
+  write-byte : (i : ℕ) → (i < p) ⊎ (p + 4 ≤ i) → getD s′ i 0 ≡ getD s i 0
+  unfolding word bytesOf
+  write-byte i h = ap (λ (x : List ℕ). getD x i 0) e ∙ byte-apart s p (word w) fits i h
+
   write-away : (q : ℕ) → Away q p → wordAt s′ q ≡ wordAt s q
   unfolding word bytesOf
   write-away q h = ap (λ (x : List ℕ). wordAt x q) e ∙ word-apart s p (word w) fits q h
@@ -62,7 +66,7 @@ module _ (s : List ℕ) (p w : ℕ) (fit : p + 4 ≤ length s) (s′ : List ℕ)
   write-there h = ap (λ (x : List ℕ). wordAt x p) e ∙ word-there s p (word w) fits 0 p (omega arith) (omega arith) ∙ word-back w h
 
 -- a number before the others of its bucket
-module _ (s : List ℕ) (head link next : ℕ) (hh : head + 4 ≤ length s) (hl : link + 4 ≤ length s) (s′ : List ℕ) (e : s′ ≡ linked head link next s) where
+module _ (s : List ℕ) (head link next : ℕ) (hh : head + 4 ≤ length s) (hl : link + 4 ≤ length s) (s′ : List ℕ) (e : s′ ≡ chainedBefore head link next s) where
   abbrev half : List ℕ
   half = splice s link (word (wordAt s head))
 
@@ -72,21 +76,58 @@ module _ (s : List ℕ) (head link next : ℕ) (hh : head + 4 ≤ length s) (hl 
   half-fit : head + 4 ≤ length half
   half-fit = omega (arith, half-long)
 
-  linked-long : length s′ ≡ length s
-  linked-long = write-long half head next half-fit s′ e ∙ half-long
+  chained-long : length s′ ≡ length s
+  chained-long = write-long half head next half-fit s′ e ∙ half-long
 
-  linked-away : (q : ℕ) → Away q link → Away q head → wordAt s′ q ≡ wordAt s q
-  linked-away q a b = write-away half head next half-fit s′ e q b ∙ write-away s link (wordAt s head) hl half refl q a
+  chained-away : (q : ℕ) → Away q link → Away q head → wordAt s′ q ≡ wordAt s q
+  chained-away q a b = write-away half head next half-fit s′ e q b ∙ write-away s link (wordAt s head) hl half refl q a
 
-  linked-head : next < 4294967296 → wordAt s′ head ≡ next
-  linked-head h = write-there half head next half-fit s′ e h
+  chained-head : next < 4294967296 → wordAt s′ head ≡ next
+  chained-head h = write-there half head next half-fit s′ e h
 
-  linked-link : wordAt s head < 4294967296 → Away link head → wordAt s′ link ≡ wordAt s head
-  linked-link h a = write-away half head next half-fit s′ e link a ∙ write-there s link (wordAt s head) hl half refl h
+  chained-link : wordAt s head < 4294967296 → Away link head → wordAt s′ link ≡ wordAt s head
+  chained-link h a = write-away half head next half-fit s′ e link a ∙ write-there s link (wordAt s head) hl half refl h
 
-pub linked-so : (s s₁ s₂ : List ℕ) (head link next before : ℕ) → before ≡ wordAt s head → s₁ ≡ splice s link (word before) → s₂ ≡ splice s₁ head (word next) → s₂ ≡ linked head link next s
-linked-so s s₁ s₂ head link next before eb e₁ e₂ =
+pub chained-so : (s s₁ s₂ : List ℕ) (head link next before : ℕ) → before ≡ wordAt s head → s₁ ≡ splice s link (word before) → s₂ ≡ splice s₁ head (word next) → s₂ ≡ chainedBefore head link next s
+chained-so s s₁ s₂ head link next before eb e₁ e₂ =
     e₂ ∙ ap (λ (x : List ℕ). splice x head (word next)) (e₁ ∙ ap (λ (w : ℕ). splice s link (word w)) eb)
+
+-- ---- what is left as it was
+
+pub keeps-none : (tree s : List ℕ) → ChainKeeps tree s s
+keeps-none tree s = record { long = refl; before = λ i h. refl; behind = λ i h. refl }
+
+pub keeps-then : (tree s s₁ s₂ : List ℕ) → ChainKeeps tree s s₁ → ChainKeeps tree s₁ s₂ → ChainKeeps tree s s₂
+keeps-then tree s s₁ s₂ a b = record {
+  long = b .long ∙ a .long;
+  before = λ i h. b .before i h ∙ a .before i h;
+  behind = λ i h. b .behind i h ∙ a .behind i h;
+}
+
+-- a word of these regions is written
+keeps-word : (tree s : List ℕ) (p w : ℕ) → p + 4 ≤ length s → 40 * records tree ≤ p → p + 4 ≤ 60 * records tree → (s′ : List ℕ) → s′ ≡ splice s p (word w) → ChainKeeps tree s s′
+keeps-word tree s p w fit low high s′ e = record {
+  long = write-long s p w fit s′ e;
+  before = λ i h. write-byte s p w fit s′ e i (inl (omega arith));
+  behind = λ i h. write-byte s p w fit s′ e i (inr (omega arith));
+}
+
+-- a link and a head are
+keeps-chained : (tree s : List ℕ) (head link next : ℕ) → head + 4 ≤ length s → link + 4 ≤ length s → 40 * records tree ≤ head → head + 4 ≤ 60 * records tree
+    → 40 * records tree ≤ link → link + 4 ≤ 60 * records tree → (s′ : List ℕ) → s′ ≡ chainedBefore head link next s → ChainKeeps tree s s′
+keeps-chained tree s head link next hh hl a b c d s′ e =
+    let m : List ℕ = splice s link (word (wordAt s head)) in
+    let long : length m ≡ length s = write-long s link (wordAt s head) hl m refl in
+    keeps-then tree s m s′ (keeps-word tree s link (wordAt s head) hl c d m refl) (keeps-word tree m head next (omega (arith, long)) a b s′ e)
+
+-- the heads are cleared
+pub keeps-heads : (tree s s₁ s₂ : List ℕ) → Cleared (48 * records tree) (48 * records tree + 4 * records tree) s s₁
+    → Cleared (56 * records tree) (56 * records tree + 4 * records tree) s₁ s₂ → ChainKeeps tree s s₂
+keeps-heads tree s s₁ s₂ c₁ c₂ = record {
+  long = c₂ .long ∙ c₁ .long;
+  before = λ i h. c₂ .before i (omega arith) ∙ c₁ .before i (omega arith);
+  behind = λ i h. c₂ .behind i (omega arith) ∙ c₁ .behind i (omega arith);
+}
 
 -- ---- chains
 
@@ -297,7 +338,7 @@ module _ (tree text s : List ℕ) (count : ℕ) where
 -- ---- function f by its key: s₁ is the scratch once the digest is written
 
 module _ (tree text s s₁ s′ : List ℕ) (count f d b : ℕ) (c : Chaining tree text s count f f) (at : FunctionAt tree f) (hb : b < records tree)
-    (e₁ : s₁ ≡ splice s (textDigestAt (records tree) f) (word d)) (e : s′ ≡ linked (keyHeadAt (records tree) b) (originalAt (records tree) f) (f + 1) s₁) where
+    (e₁ : s₁ ≡ splice s (textDigestAt (records tree) f) (word d)) (e : s′ ≡ chainedBefore (keyHeadAt (records tree) b) (originalAt (records tree) f) (f + 1) s₁) where
   room : 72 * records tree ≤ length s
   room = c .mapped .listed .room
 
@@ -314,13 +355,19 @@ module _ (tree text s s₁ s′ : List ℕ) (count f d b : ℕ) (c : Chaining tr
   fit-link = omega (arith, room, long₁, at .below)
 
   key-long : length s′ ≡ length s
-  key-long = linked-long s₁ (keyHeadAt (records tree) b) (originalAt (records tree) f) (f + 1) fit-head fit-link s′ e ∙ long₁
+  key-long = chained-long s₁ (keyHeadAt (records tree) b) (originalAt (records tree) f) (f + 1) fit-head fit-link s′ e ∙ long₁
+
+  pub keeps-key : ChainKeeps tree s s′
+  keeps-key =
+      keeps-then tree s s₁ s′
+      (keeps-word tree s (textDigestAt (records tree) f) d fit₁ (omega arith) (omega (arith, at .below)) s₁ e₁)
+      (keeps-chained tree s₁ (keyHeadAt (records tree) b) (originalAt (records tree) f) (f + 1) fit-head fit-link (omega arith) (omega arith) (omega arith) (omega (arith, at .below)) s′ e)
 
   away₁ : (q : ℕ) → Away q (textDigestAt (records tree) f) → wordAt s₁ q ≡ wordAt s q
   away₁ = write-away s (textDigestAt (records tree) f) d fit₁ s₁ e₁
 
   away₂ : (q : ℕ) → Away q (originalAt (records tree) f) → Away q (keyHeadAt (records tree) b) → wordAt s′ q ≡ wordAt s₁ q
-  away₂ = linked-away s₁ (keyHeadAt (records tree) b) (originalAt (records tree) f) (f + 1) fit-head fit-link s′ e
+  away₂ = chained-away s₁ (keyHeadAt (records tree) b) (originalAt (records tree) f) (f + 1) fit-head fit-link s′ e
 
   away : (q : ℕ) → Away q (textDigestAt (records tree) f) → Away q (originalAt (records tree) f) → Away q (keyHeadAt (records tree) b) → wordAt s′ q ≡ wordAt s q
   away q x y z = away₂ q y z ∙ away₁ q x
@@ -361,8 +408,8 @@ module _ (tree text s s₁ s′ : List ℕ) (count f d b : ℕ) (c : Chaining tr
           (λ x. digest-there);
       by-key =
           chain-more (keyBucket tree text) (keyHeadAt (records tree)) (originalAt (records tree)) (records tree) s s′ f b bucket-is hb
-          (linked-head s₁ (keyHeadAt (records tree) b) (originalAt (records tree) f) (f + 1) fit-head fit-link s′ e (omega (arith, at .below, c .mapped .good .few)))
-          (linked-link s₁ (keyHeadAt (records tree) b) (originalAt (records tree) f) (f + 1) fit-head fit-link s′ e head-fits (inl (omega (arith, at .below))) ∙ head-same)
+          (chained-head s₁ (keyHeadAt (records tree) b) (originalAt (records tree) f) (f + 1) fit-head fit-link s′ e (omega (arith, at .below, c .mapped .good .few)))
+          (chained-link s₁ (keyHeadAt (records tree) b) (originalAt (records tree) f) (f + 1) fit-head fit-link s′ e head-fits (inl (omega (arith, at .below))) ∙ head-same)
           (λ x hx ne. away (keyHeadAt (records tree) x) (inl (omega arith)) (inr (omega (arith, at .below))) (slot-away (48 * records tree) x b ne))
           (λ k h. away (originalAt (records tree) k) (inl (omega (arith, at .below))) (inl (omega arith)) (inl (omega (arith, at .below))))
           (c .by-key);
@@ -376,15 +423,19 @@ module _ (tree text s s₁ s′ : List ℕ) (count f d b : ℕ) (c : Chaining tr
 -- ---- function f by its name
 
 module _ (tree text s s′ : List ℕ) (count f o : ℕ) (c : Chaining tree text s count (f + 1) f) (at : FunctionAt tree f) (mangled : is-mangled (functionOf tree text f) ≡ true)
-    (eo : o ≡ original tree text (wordOf tree f A)) (ho : o < records tree) (e : s′ ≡ linked (nameHeadAt (records tree) o) (keySlotAt (records tree) f) (f + 1) s) where
+    (eo : o ≡ original tree text (wordOf tree f A)) (ho : o < records tree) (e : s′ ≡ chainedBefore (nameHeadAt (records tree) o) (keySlotAt (records tree) f) (f + 1) s) where
   name-fit-head : nameHeadAt (records tree) o + 4 ≤ length s
   name-fit-head = omega (arith, c .mapped .listed .room)
 
   name-fit-link : keySlotAt (records tree) f + 4 ≤ length s
   name-fit-link = omega (arith, c .mapped .listed .room, at .below)
 
+  pub keeps-name : ChainKeeps tree s s′
+  keeps-name =
+      keeps-chained tree s (nameHeadAt (records tree) o) (keySlotAt (records tree) f) (f + 1) name-fit-head name-fit-link (omega arith) (omega arith) (omega arith) (omega (arith, at .below)) s′ e
+
   name-away : (q : ℕ) → Away q (keySlotAt (records tree) f) → Away q (nameHeadAt (records tree) o) → wordAt s′ q ≡ wordAt s q
-  name-away = linked-away s (nameHeadAt (records tree) o) (keySlotAt (records tree) f) (f + 1) name-fit-head name-fit-link s′ e
+  name-away = chained-away s (nameHeadAt (records tree) o) (keySlotAt (records tree) f) (f + 1) name-fit-head name-fit-link s′ e
 
   name-head-fits : wordAt s (nameHeadAt (records tree) o) < 4294967296
   name-head-fits = omega (arith, link-within (nameBucket tree text) f o _ (c .by-name .heads o ho), at .below, c .mapped .good .few)
@@ -393,7 +444,7 @@ module _ (tree text s s′ : List ℕ) (count f o : ℕ) (c : Chaining tree text
   chained-name = record {
     mapped =
         mapped-stays tree text s s′ count
-        (linked-long s (nameHeadAt (records tree) o) (keySlotAt (records tree) f) (f + 1) name-fit-head name-fit-link s′ e)
+        (chained-long s (nameHeadAt (records tree) o) (keySlotAt (records tree) f) (f + 1) name-fit-head name-fit-link s′ e)
         (λ j h. name-away (4 * j) (inl (omega arith)) (inl (omega arith)))
         (λ r h t. name-away (originalAt (records tree) r) (inl (omega arith)) (inl (omega arith)))
         (λ r h t. name-away (keySlotAt (records tree) r) (slot-away (44 * records tree) r f (not-own tree f r at t)) (inl (omega arith)))
@@ -408,8 +459,8 @@ module _ (tree text s s′ : List ℕ) (count f o : ℕ) (c : Chaining tree text
     by-name =
         chain-more (nameBucket tree text) (nameHeadAt (records tree)) (keySlotAt (records tree)) (records tree) s s′ f o
         (eo ∙ sym (name-bucket-is tree text f (is-function tree text f at) mangled)) ho
-        (linked-head s (nameHeadAt (records tree) o) (keySlotAt (records tree) f) (f + 1) name-fit-head name-fit-link s′ e (omega (arith, at .below, c .mapped .good .few)))
-        (linked-link s (nameHeadAt (records tree) o) (keySlotAt (records tree) f) (f + 1) name-fit-head name-fit-link s′ e name-head-fits (inl (omega (arith, at .below))))
+        (chained-head s (nameHeadAt (records tree) o) (keySlotAt (records tree) f) (f + 1) name-fit-head name-fit-link s′ e (omega (arith, at .below, c .mapped .good .few)))
+        (chained-link s (nameHeadAt (records tree) o) (keySlotAt (records tree) f) (f + 1) name-fit-head name-fit-link s′ e name-head-fits (inl (omega (arith, at .below))))
         (λ x hx ne. name-away (nameHeadAt (records tree) x) (inr (omega (arith, at .below))) (slot-away (56 * records tree) x o ne))
         (λ k h. name-away (keySlotAt (records tree) k) (inl (omega arith)) (inl (omega (arith, at .below))))
         (c .by-name);
@@ -421,7 +472,7 @@ module _ (tree text s s′ : List ℕ) (count f o : ℕ) (c : Chaining tree text
 pub record Passing (tree text s₀ s : List ℕ) (count r : ℕ) : Type 0 where
   pub below : r ≤ records tree
   pub chaining : Chaining tree text s count r r
-  pub long : length s ≡ length s₀
+  pub keeps : ChainKeeps tree s₀ s
 
 pub all-chained : (tree text s : List ℕ) (count r : ℕ) → r ≤ records tree → records tree ≤ r → Chaining tree text s count r r → Keyed tree text s count
 all-chained tree text s count r a b x =

@@ -13,7 +13,7 @@ use Rattle.laws.specs.Splice.{splice}
 use Rattle.records.specs.Words.{kindOf, wordAt, wordOf, word, records, A, B}
 use Rattle.records.specs.Chains.{memberBucket}
 use Rattle.records.specs.Digest.{digestEnd, rollOf}
-use Rattle.records.specs.Layout.{judging, keySlots, keyHeads, nameHeads, scratchEach}
+use Rattle.records.specs.Layout.{judging, originals, keySlots, keyHeads, nameHeads, scratchEach, endOf}
 use Rattle.records.specs.Kinds.{kindFunction}
 use Rattle.records.specs.Good.{Good}
 use Rattle.syntax.specs.Syntax.{Text, Function}
@@ -111,8 +111,8 @@ pub record Chain (bucket headAt linkAt : ℕ → ℕ) (n r : ℕ) (s : List ℕ)
   pub links : (k : ℕ) → k < r → bucket k < n → wordAt s (linkAt k) ≡ linkTo bucket k (bucket k)
 
 -- a number goes before the others of its bucket: its link says what the head said, and the head says `next`
-abbrev pub linked : ℕ → ℕ → ℕ → List ℕ → List ℕ
-linked head link next s = splice (splice s link (word (wordAt s head))) head (word next)
+abbrev pub chainedBefore : ℕ → ℕ → ℕ → List ℕ → List ℕ
+chainedBefore head link next s = splice (splice s link (word (wordAt s head))) head (word next)
 
 -- where the head of a bucket of digests, and that of a name's number, stand in the scratch of n records
 abbrev pub keyHeadAt : ℕ → ℕ → ℕ
@@ -166,6 +166,13 @@ pub record Keyed (tree text s : List ℕ) (count : ℕ) : Type 0 where
   pub digests : KeyDigests tree text s (records tree)
   pub by-key : ByKey tree text s (records tree)
   pub by-name : ByName tree text s (records tree)
+
+-- only five regions were written, which lie one behind the other: the numbers of the texts, the functions by key, the heads by key, the digests, the heads by name.
+-- All other bytes are as they were
+pub record ChainKeeps (tree s s′ : List ℕ) : Type 0 where
+  pub long : length s′ ≡ length s
+  pub before : (i : ℕ) → i < originals .from * records tree → getD s′ i 0 ≡ getD s i 0
+  pub behind : (i : ℕ) → endOf nameHeads * records tree ≤ i → getD s′ i 0 ≡ getD s i 0
 
 -- ---- what a search answers
 

@@ -1,4 +1,5 @@
-// A function's record read: its names, its marks, and the key by which it is found.
+// A function's record read: its names, its marks, and the key by which it is found. And the functions in scratch: listed, each at the slot of its key's number, and in
+// chains by the digests of their keys and by their names.
 ghost use mathlib.Core.Path.{_≡_};
 ghost use mathlib.Core.Bool.{true};
 ghost use Prim.Native.Nat.{_+_, _*_, _≤_, _<_};
@@ -12,7 +13,7 @@ ghost use Rattle.conversion.specs.Expressions.{is-mangled};
 ghost use Rattle.syntax.specs.Places.{FunctionAt, functionOf, ParamsAt, paramsAt};
 ghost use Rattle.keys.specs.Parts.{PartIs};
 ghost use Rattle.texts.specs.Texts.{original as originalOf, originalAt, Numbered};
-ghost use Rattle.keys.specs.Keys.{functionKey, Listed, Mapped, Chaining, Keyed, keyRecord, keySlotAt, keyEntered, linked, keyHeadAt, nameHeadAt, FindsKey, FindsOwnKey};
+ghost use Rattle.keys.specs.Keys.{functionKey, Listed, Mapped, Chaining, Keyed, ChainKeeps, keyRecord, keySlotAt, keyEntered, chainedBefore, keyHeadAt, nameHeadAt, FindsKey, FindsOwnKey};
 use crate::parts::Part;
 use crate::parts::is_main;
 use crate::parts::text_part;
@@ -32,6 +33,7 @@ use records::layout::TEXT_DIGESTS;
 use records::numbers::KIND_FUNCTION;
 use records::texts::roll_digest;
 use records::words::Found;
+use records::words::RECORD_BYTES;
 use records::words::WORD_A;
 use records::words::WORD_B;
 use records::words::WORD_C;
@@ -135,7 +137,7 @@ fn key_number(tree: &[u8], text: &[u8], scratch: &[u8], f: usize) -> usize
     requires { ⌜ FunctionAt (now tree) f ⌝ }
     ensures { λ o. ⌜ (o ≡ originalOf (now (tree .entry)) (now (text .entry)) (keyRecord (now (tree .entry)) (now (text .entry)) f)) × (o < records (now (tree .entry))) ⌝ }
 {
-    let n = tree.len() / 32;
+    let n = tree.len() / RECORD_BYTES;
     original(scratch, n, key_record(tree, text, f))
 }
 
@@ -154,7 +156,7 @@ pub fn enter_key(tree: &[u8], text: &[u8], scratch: &mut [u8], f: usize)
     requires { ⌜ FunctionAt (now tree) f ⌝ }
     ensures { λ _. ⌜ now (scratch .exit) ≡ keyEntered (now (tree .entry)) (now (text .entry)) f (now (scratch .entry)) ⌝ }
 {
-    let n = tree.len() / 32;
+    let n = tree.len() / RECORD_BYTES;
     let number = key_number(tree, text, scratch, f);
     let next = (f + 1) as u32;
     put_word(scratch, KEY_SLOTS * n + KEY_SLOT_BYTES * number, next);
@@ -165,7 +167,7 @@ pub fn find_key(tree: &[u8], text: &[u8], scratch: &[u8], number: usize) -> Foun
     requires { ⌜ Good (now tree) (now text) × (scratchEach * records (now tree) ≤ length (now scratch)) × (number < records (now tree)) ⌝ }
     ensures { λ r. ⌜ FindsKey (now (tree .entry)) (now (text .entry)) (now (scratch .entry)) number r ⌝ }
 {
-    let n = tree.len() / 32;
+    let n = tree.len() / RECORD_BYTES;
     let w = index(load(scratch, KEY_SLOTS * n + KEY_SLOT_BYTES * number));
     if w == 0 {
         return Found::Nothing;
@@ -185,7 +187,7 @@ pub fn find_own_key(tree: &[u8], text: &[u8], scratch: &[u8], f: usize) -> Found
 // A number goes before the others of its bucket: its link says what the head said.
 fn put_before(scratch: &mut [u8], head: usize, link: usize, next: u32)
     requires { ⌜ (head + 4 ≤ length (now scratch)) × (link + 4 ≤ length (now scratch)) ⌝ }
-    ensures { λ _. ⌜ now (scratch .exit) ≡ linked head link next (now (scratch .entry)) ⌝ }
+    ensures { λ _. ⌜ now (scratch .exit) ≡ chainedBefore head link next (now (scratch .entry)) ⌝ }
 {
     let before = load(scratch, head);
     put_word(scratch, link, before);
@@ -196,8 +198,9 @@ fn put_before(scratch: &mut [u8], head: usize, link: usize, next: u32)
 fn chain_key(tree: &[u8], text: &[u8], scratch: &mut [u8], count: usize, f: usize)
     requires { ⌜ Chaining (now tree) (now text) (now scratch) count f f × FunctionAt (now tree) f ⌝ }
     ensures { λ _. ⌜ Chaining (now (tree .entry)) (now (text .entry)) (now (scratch .exit)) count (f + 1) f ⌝ }
+    ensures { λ _. ⌜ ChainKeeps (now (tree .entry)) (now (scratch .entry)) (now (scratch .exit)) ⌝ }
 {
-    let n = tree.len() / 32;
+    let n = tree.len() / RECORD_BYTES;
     let next = (f + 1) as u32;
     let d = kept_digest(scratch, n, key_record(tree, text, f));
     let b = bucket(roll_digest(d), n);
@@ -214,8 +217,9 @@ fn chain_key(tree: &[u8], text: &[u8], scratch: &mut [u8], count: usize, f: usiz
 fn chain_name(tree: &[u8], text: &[u8], scratch: &mut [u8], count: usize, f: usize)
     requires { ⌜ Chaining (now tree) (now text) (now scratch) count (f + 1) f × FunctionAt (now tree) f × (is-mangled (functionOf (now tree) (now text) f) ≡ true) ⌝ }
     ensures { λ _. ⌜ Chaining (now (tree .entry)) (now (text .entry)) (now (scratch .exit)) count (f + 1) (f + 1) ⌝ }
+    ensures { λ _. ⌜ ChainKeeps (now (tree .entry)) (now (scratch .entry)) (now (scratch .exit)) ⌝ }
 {
-    let n = tree.len() / 32;
+    let n = tree.len() / RECORD_BYTES;
     let next = (f + 1) as u32;
     let name = original(scratch, n, reference(tree, f, WORD_A));
     put_before(
@@ -230,6 +234,7 @@ fn chain_name(tree: &[u8], text: &[u8], scratch: &mut [u8], count: usize, f: usi
 fn chain_record(tree: &[u8], text: &[u8], scratch: &mut [u8], count: usize, r: usize)
     requires { ⌜ Chaining (now tree) (now text) (now scratch) count r r × (r < records (now tree)) ⌝ }
     ensures { λ _. ⌜ Chaining (now (tree .entry)) (now (text .entry)) (now (scratch .exit)) count (r + 1) (r + 1) ⌝ }
+    ensures { λ _. ⌜ ChainKeeps (now (tree .entry)) (now (scratch .entry)) (now (scratch .exit)) ⌝ }
 {
     if kind(tree, r) != KIND_FUNCTION {
         return;
@@ -244,8 +249,9 @@ fn chain_record(tree: &[u8], text: &[u8], scratch: &mut [u8], count: usize, r: u
 pub fn chain_functions(tree: &[u8], text: &[u8], scratch: &mut [u8], count: usize)
     requires { ⌜ Mapped (now tree) (now text) (now scratch) count ⌝ }
     ensures { λ _. ⌜ Keyed (now (tree .entry)) (now (text .entry)) (now (scratch .exit)) count ⌝ }
+    ensures { λ _. ⌜ ChainKeeps (now (tree .entry)) (now (scratch .entry)) (now (scratch .exit)) ⌝ }
 {
-    let n = tree.len() / 32;
+    let n = tree.len() / RECORD_BYTES;
     let keys = KEY_HEADS * n;
     clear_run(scratch, keys, keys + KEY_HEAD_BYTES * n);
     let names = NAME_HEADS * n;

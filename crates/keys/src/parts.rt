@@ -2,7 +2,7 @@
 ghost use mathlib.Core.Path.{_≡_};
 ghost use Prim.Native.Nat.{_+_, _*_, _≤_};
 ghost use lib.ListN.{length};
-ghost use Rattle.records.specs.Words.{textAt, wordOf};
+ghost use Rattle.records.specs.Words.{recordBytes, textAt, wordOf};
 ghost use Rattle.conversion.specs.Ir.{sameText};
 ghost use Rattle.conversion.specs.Expressions.{castVerb, mainName, variadicMark};
 ghost use Rattle.conversion.specs.Functions.{is-ascii};
@@ -17,7 +17,7 @@ pub struct Part {
 
 // The text that words k and k + 1 of record r say.
 pub fn text_part(tree: &[u8], r: usize, k: usize) -> Part
-    requires { ⌜ r * 32 + 32 ≤ length (now tree) ⌝ }
+    requires { ⌜ r * recordBytes + recordBytes ≤ length (now tree) ⌝ }
     requires { ⌜ k ≤ 3 ⌝ }
     ensures { λ p. ⌜ (p .offset ≡ wordOf (now (tree .entry)) r k) × (p .len ≡ wordOf (now (tree .entry)) r (k + 1)) ⌝ }
 {

@@ -13,9 +13,14 @@ pub record Region : Type 0 where
 abbrev pub endOf : Region → ℕ
 endOf g = g .from + g .each
 
--- what the judge knows: four bytes for each record (what its list holds, how deep it is, how often it is referred to, its kind; before that, twelve for
--- each type, while equal types are looked for); once the tree is judged, twelve for each record, while equal texts are looked for (`specs/Chains.antt`); then
--- the functions' records in their order, a word each
+-- what the judge knows of a record: four bytes in a slot (how deep it is, how often it is referred to, what its list holds, its kind). The first slot belongs to
+-- none, that of record r is slot r + 1
+abbrev pub knownBytes : ℕ
+knownBytes = 4
+
+-- what the judge knows: the first slot and one for each record, so that the last lies in the region behind, which has nothing yet; before that, twelve bytes for each
+-- type, while equal types are looked for; once the tree is judged, twelve for each record, while equal texts are looked for (`specs/Chains.antt`); then the functions'
+-- records in their order, a word each
 abbrev pub judging : Region
 judging = record { from = 0; each = 4 }
 

@@ -15,9 +15,13 @@ unfoldable pub wordAt : List ℕ → ℕ → ℕ
 unfolding byteAt
 wordAt l i = byteAt l i + byteAt l (i + 1) * 256 + byteAt l (i + 2) * 65536 + byteAt l (i + 3) * 16777216
 
--- 'A tree record has 32 bytes': how many whole records a tree has
+-- 'A tree record has 32 bytes'
+abbrev pub recordBytes : ℕ
+recordBytes = 32
+
+-- how many whole records a tree has
 abbrev pub records : List ℕ → ℕ
-records tree = length tree / 32
+records tree = length tree / recordBytes
 
 -- 'over 16,384 records': too many
 abbrev pub mostRecords : ℕ
@@ -26,21 +30,21 @@ mostRecords = 16384
 -- 'byte 0 kind, byte 1 detail'
 unfoldable pub kindOf : List ℕ → ℕ → ℕ
 unfolding byteAt
-kindOf tree r = byteAt tree (r * 32)
+kindOf tree r = byteAt tree (r * recordBytes)
 
 unfoldable pub detailOf : List ℕ → ℕ → ℕ
 unfolding byteAt
-detailOf tree r = byteAt tree (r * 32 + 1)
+detailOf tree r = byteAt tree (r * recordBytes + 1)
 
 -- 'bytes 2 and 3 zero': the number that they make
 unfoldable pub padOf : List ℕ → ℕ → ℕ
 unfolding byteAt
-padOf tree r = byteAt tree (r * 32 + 2) + byteAt tree (r * 32 + 3) * 256
+padOf tree r = byteAt tree (r * recordBytes + 2) + byteAt tree (r * recordBytes + 3) * 256
 
 -- 'words (32 bits) A to E at 4, 8, 12, 16, 20, span start and end at 24 and 28': word k of record r, A being 0, E 4, the span 5 and 6
 unfoldable pub wordOf : List ℕ → ℕ → ℕ → ℕ
 unfolding wordAt
-wordOf tree r k = wordAt tree (r * 32 + 4 + k * 4)
+wordOf tree r k = wordAt tree (r * recordBytes + 4 + k * 4)
 
 abbrev pub A : ℕ
 A = 0

@@ -2,6 +2,7 @@
 ghost use mathlib.Core.Path.{_≡_};
 ghost use Prim.Native.Nat.{_<_};
 ghost use Rattle.records.specs.Answer.{numberOf, spanWord, wordsOf};
+use crate::words::RECORD_BYTES;
 use crate::words::SPAN_END;
 use crate::words::SPAN_START;
 use crate::words::word;
@@ -98,7 +99,7 @@ fn span_word(tree: &[u8], number: u32, place: u32, k: usize) -> u32
     ensures { λ r. ⌜ r ≡ spanWord (now (tree .entry)) number place k ⌝ }
 {
     let r = place as usize;
-    if r >= tree.len() / 32 {
+    if r >= tree.len() / RECORD_BYTES {
         return 0;
     }
     if (number != NO_MAIN) & !((BAD_TREE <= number) & (number <= SHORT_BUFFER)) {

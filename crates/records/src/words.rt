@@ -5,10 +5,13 @@ ghost use Prim.Native.Nat.{_+_, _*_, _/_, _%_, _≤_, _<_};
 ghost use lib.ListN.{length};
 ghost use lib.Ieee.{binary64, nanBits};
 ghost use Rattle.laws.specs.Splice.{splice};
-ghost use Rattle.records.specs.Words.{wordAt, wordOf, kindOf, detailOf, padOf, word as wordBytes, boolNumber};
+ghost use Rattle.records.specs.Words.{recordBytes, wordAt, wordOf, kindOf, detailOf, padOf, word as wordBytes, boolNumber};
 
 // FFFFFFFF in a word that refers to a record means none.
 pub const NONE: u32 = 4294967295;
+
+// A record of the tree has so many bytes.
+pub const RECORD_BYTES: usize = 32;
 
 // The words of a record.
 pub const WORD_A: usize = 0;
@@ -25,7 +28,9 @@ pub const SPAN_START: usize = 5;
 
 pub const SPAN_END: usize = 6;
 
-// How many records a tree has at most.
+// How many records a tree has at least, which are the types that each begins with, and at most.
+pub const FEWEST_RECORDS: usize = 12;
+
 pub const MOST_RECORDS: usize = 16384;
 
 pub fn wide(x: u8) -> u32
@@ -44,34 +49,34 @@ pub fn load(s: &[u8], at: usize) -> u32
 
 // Word k of record r: one of A to E, or of the span.
 pub fn word(tree: &[u8], r: usize, k: usize) -> u32
-    requires { ⌜ (r * 32 + 32 ≤ length (now tree)) × (k < 7) ⌝ }
+    requires { ⌜ (r * recordBytes + recordBytes ≤ length (now tree)) × (k < 7) ⌝ }
     ensures { λ v. ⌜ v ≡ wordOf (now (tree .entry)) r k ⌝ }
 {
-    load(tree, r * 32 + 4 + k * 4)
+    load(tree, r * RECORD_BYTES + 4 + k * 4)
 }
 
 // The kind of record r.
 pub fn kind(tree: &[u8], r: usize) -> u8
-    requires { ⌜ r * 32 + 32 ≤ length (now tree) ⌝ }
+    requires { ⌜ r * recordBytes + recordBytes ≤ length (now tree) ⌝ }
     ensures { λ v. ⌜ v ≡ kindOf (now (tree .entry)) r ⌝ }
 {
-    tree[r * 32]
+    tree[r * RECORD_BYTES]
 }
 
 // The detail of record r.
 pub fn detail(tree: &[u8], r: usize) -> u8
-    requires { ⌜ r * 32 + 32 ≤ length (now tree) ⌝ }
+    requires { ⌜ r * recordBytes + recordBytes ≤ length (now tree) ⌝ }
     ensures { λ v. ⌜ v ≡ detailOf (now (tree .entry)) r ⌝ }
 {
-    tree[r * 32 + 1]
+    tree[r * RECORD_BYTES + 1]
 }
 
 // Bytes 2 and 3 of record r, which are zero in a good record.
 pub fn pad(tree: &[u8], r: usize) -> u32
-    requires { ⌜ r * 32 + 32 ≤ length (now tree) ⌝ }
+    requires { ⌜ r * recordBytes + recordBytes ≤ length (now tree) ⌝ }
     ensures { λ v. ⌜ v ≡ padOf (now (tree .entry)) r ⌝ }
 {
-    wide(tree[r * 32 + 2]) + wide(tree[r * 32 + 3]) * 256
+    wide(tree[r * RECORD_BYTES + 2]) + wide(tree[r * RECORD_BYTES + 3]) * 256
 }
 
 // A word as a record's number.
@@ -83,7 +88,7 @@ pub fn index(x: u32) -> usize
 
 // Word k of record r as a record's number.
 pub fn reference(tree: &[u8], r: usize, k: usize) -> usize
-    requires { ⌜ r * 32 + 32 ≤ length (now tree) ⌝ }
+    requires { ⌜ r * recordBytes + recordBytes ≤ length (now tree) ⌝ }
     requires { ⌜ k ≤ 4 ⌝ }
     ensures { λ v. ⌜ v ≡ wordOf (now (tree .entry)) r k ⌝ }
 {
@@ -129,7 +134,7 @@ pub fn put_pair(buf: &mut [u8], at: usize, a: u32, b: u32)
     put_word(buf, second, b);
 }
 
-// Four words.
+// Four words, to be written at once; what each is for its writer says.
 pub struct Four(pub u32, pub u32, pub u32, pub u32);
 
 pub fn put_four(buf: &mut [u8], at: usize, w: Four)

@@ -58,7 +58,7 @@ InTurn tree text s c = Remembers tree text (scopeAt tree text s (c .scope)) (c .
 abbrev pub TypedIn : List ℕ → List ℕ → Converter → List ℕ → List ℕ → List ℕ → Type 0
 TypedIn tree text c s l s′ = Typed tree text (scopeAt tree text s (c .scope)) (c .turn) s l s′
 
--- nothing was typed: the slots and all from byte 64n on are as they were
+-- nothing was typed: the slots of the types and all from the turns on are as they were
 pub record TurnsStay (tree s s′ : List ℕ) : Type 0 where
   pub slots : (i : ℕ) → typeSlots .from * records tree ≤ i → i < endOf typeSlots * records tree → byteAt s′ i ≡ byteAt s i
   pub behind : (i : ℕ) → Layout.turns .from * records tree ≤ i → byteAt s′ i ≡ byteAt s i

@@ -33,6 +33,7 @@ use records::numbers::AND;
 use records::numbers::KIND_BINARY;
 use records::numbers::KIND_SIZE_OF;
 use records::numbers::KIND_UNARY;
+use records::words::RECORD_BYTES;
 use records::words::WORD_A;
 use records::words::WORD_B;
 use records::words::WORD_C;
@@ -250,7 +251,7 @@ pub(crate) fn convert_args(
     ensures { λ a. ⌜ CallArgsAs argsSteps c e (now (tree .entry)) (now (text .entry)) (now (arena .entry)) (now (scratch .entry)) a (now (arena .exit)) (now (scratch .exit)) ⌝ }
     ensures types { λ a. ⌜ ArgumentsTyped argsTypes c (wordOf (now (tree .entry)) e Words.C) (now (tree .entry)) (now (text .entry)) (now (scratch .entry)) a (now (scratch .exit)) ⌝ }
 {
-    let n = tree.len() / 32;
+    let n = tree.len() / RECORD_BYTES;
     let first = c.operands;
     let mut cell = reference(tree, e, WORD_C);
     let mut at = c;

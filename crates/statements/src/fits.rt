@@ -47,6 +47,7 @@ use records::convert_error::ConvertErrorKind;
 use records::numbers::FLOAT_LONG;
 use records::numbers::FORM_FLOAT;
 use records::numbers::FORM_INT;
+use records::words::RECORD_BYTES;
 use records::words::WORD_A;
 use records::words::WORD_C;
 use records::words::reference;
@@ -224,7 +225,7 @@ fn fit_args(
     ensures turns { λ _. ⌜ TurnsStay (now (tree .entry)) (now (scratch .entry)) (now (scratch .exit)) ⌝ }
 {
     let first = c.operands;
-    let n = tree.len() / 32;
+    let n = tree.len() / RECORD_BYTES;
     let mut k = c.counters;
     let mut argument = reference(tree, e, WORD_C);
     let mut parameter = parameters_of(tree, text, f);
@@ -250,7 +251,7 @@ fn emit_args(tree: &[u8], arena: &mut [u8], scratch: &[u8], c: Converter, count:
     ensures { λ r. ⌜ Adds (emitArgs (waiting (now (tree .entry)) (now (scratch .entry)) c count)) (amount count 0 0 0 0) (c .counters) (now (arena .entry)) tt r (now (arena .exit)) ⌝ }
 {
     let first = c.operands;
-    let n = tree.len() / 32;
+    let n = tree.len() / RECORD_BYTES;
     let mut k = c.counters;
     let mut j = 0;
     while j < count {

@@ -5,7 +5,7 @@ ghost use Prim.Native.Nat.{ℕ, _+_, _*_, _≤_, _<_};
 ghost use lib.ListN.{length};
 ghost use Rattle.laws.specs.Fix.{pick};
 ghost use Rattle.records.specs.Words as Words;
-ghost use Rattle.records.specs.Words.{detailOf, wordOf};
+ghost use Rattle.records.specs.Words.{recordBytes, detailOf, wordOf};
 ghost use Rattle.records.specs.Kinds.{kindIf, kindWhile, kindFor};
 ghost use Rattle.syntax.specs.Decode.{program, bit};
 ghost use Rattle.syntax.specs.Places.{IsExpr, IsKind, TypeAt};
@@ -68,7 +68,7 @@ use types::form::is_unsigned;
 
 // Whether the If r has an otherwise.
 pub(crate) fn has_otherwise(tree: &[u8], r: usize) -> bool
-    requires { ⌜ r * 32 + 32 ≤ length (now tree) ⌝ }
+    requires { ⌜ r * recordBytes + recordBytes ≤ length (now tree) ⌝ }
     requires { ⌜ detailOf (now tree) r ≤ 1 ⌝ }
     ensures { λ b. ⌜ b ≡ bit 1 (detailOf (now (tree .entry)) r) ⌝ }
 {
@@ -77,7 +77,7 @@ pub(crate) fn has_otherwise(tree: &[u8], r: usize) -> bool
 
 // Where the If r goes when its condition does not hold.
 fn if_not_label(tree: &[u8], r: usize) -> u32
-    requires { ⌜ r * 32 + 32 ≤ length (now tree) ⌝ }
+    requires { ⌜ r * recordBytes + recordBytes ≤ length (now tree) ⌝ }
     requires { ⌜ detailOf (now tree) r ≤ 1 ⌝ }
     ensures { λ k. ⌜ k ≡ pick (bit 1 (detailOf (now (tree .entry)) r)) (otherwiseLabel r .kind) (conditionEnd r .kind) ⌝ }
 {

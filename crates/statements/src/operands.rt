@@ -9,7 +9,7 @@ ghost use mir.Val.{toZ};
 ghost use Rattle.laws.specs.Splice.{splice};
 ghost use Rattle.records.specs.Layout.{operands};
 ghost use Rattle.records.specs.Words as Words;
-ghost use Rattle.records.specs.Words.{detailOf, kindOf};
+ghost use Rattle.records.specs.Words.{recordBytes, detailOf, kindOf};
 ghost use Rattle.records.specs.Kinds.{kindFloat, kindStr, kindName, kindSizeOf};
 ghost use Rattle.records.specs.Good.{Good};
 ghost use Rattle.syntax.specs.Decode.{bit, wideOf};
@@ -135,7 +135,7 @@ pub(crate) fn operand_at(scratch: &[u8], records: usize, j: usize) -> Operand
 
 // Detail 1 is short, 2 unsigned.
 fn int_operand(tree: &[u8], e: usize) -> Operand
-    requires { ⌜ e * 32 + 32 ≤ length (now tree) ⌝ }
+    requires { ⌜ e * recordBytes + recordBytes ≤ length (now tree) ⌝ }
     ensures { λ r. ⌜ ((text : List ℕ) → operandOf r ≡ OInt (toZ w64 (wideOf (now (tree .entry)) text e Words.A)) (bit 1 (detailOf (now (tree .entry)) e)) (bit 2 (detailOf (now (tree .entry)) e))) ⌝ }
 {
     let marks = detail(tree, e);

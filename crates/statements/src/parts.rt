@@ -3,6 +3,7 @@ ghost use mathlib.Core.Path.{_≡_};
 ghost use mathlib.Core.List.{List};
 ghost use Prim.Native.Nat.{ℕ, _+_, _*_, _≤_, _<_};
 ghost use lib.ListN.{length, getD};
+ghost use Rattle.records.specs.Words.{recordBytes};
 ghost use Rattle.records.specs.Kinds.{kindBinary, kindCall};
 ghost use Rattle.syntax.specs.Syntax.{unaryOps, binaryOps, Neg, Or, And};
 ghost use Rattle.syntax.specs.Places.{IsKind, TypeAt, FunctionAt};
@@ -41,6 +42,7 @@ use ir::structs::label_id;
 use ir::structs::new_var;
 use records::convert_error::ConvertErrorKind;
 use records::numbers::AND;
+use records::words::RECORD_BYTES;
 use records::words::WORD_A;
 use records::words::WORD_B;
 use records::words::detail;
@@ -120,7 +122,7 @@ pub(crate) fn join_logic(
     dest: VarId,
     left: Operand,
 ) -> Counters
-    requires { ⌜ RoomFor k (now arena) (amount 4 0 3 0 0) × (e < k .records) × (e * 32 + 32 ≤ length (now tree)) ⌝ }
+    requires { ⌜ RoomFor k (now arena) (amount 4 0 3 0 0) × (e < k .records) × (e * recordBytes + recordBytes ≤ length (now tree)) ⌝ }
     ensures { λ r. ⌜ Adds (joinSteps (now (tree .entry)) e dest left) (amount 4 0 3 0 0) k (now (arena .entry)) tt r (now (arena .exit)) ⌝ }
 {
     if detail(tree, e) == AND {
@@ -222,7 +224,7 @@ pub(crate) fn cast_first(
     if count == 0 {
         return Converted::Refused(error_at(ConvertErrorKind::WouldPanic, e));
     }
-    let n = tree.len() / 32;
+    let n = tree.len() / RECORD_BYTES;
     let k = c.counters;
     let first = operand_at(scratch, n, c.operands);
     let next = emit(arena, k, Instr::Cast(dest, first));

@@ -9,7 +9,7 @@ use mathlib.Core.Option.{none as nothing}
 use lib.ListN.{length}
 use Rattle.records.specs.declared.shape.Role.{Role}
 use Rattle.records.specs.declared.shape.Role.the-variants.{Arguments, Parameters, Body}
-use Rattle.records.specs.Words.{kindOf, records, none}
+use Rattle.records.specs.Words.{recordBytes, kindOf, records, none}
 use Rattle.records.specs.Kinds.{kindType, kindDeclare, kindContinue, kindFunction}
 use Rattle.records.specs.Rules.{isExpr, listOk}
 use Rattle.syntax.specs.Syntax.{Expr, Args, Statement, SBreak, Block, Param, Function}
@@ -31,7 +31,7 @@ FunctionAt tree f = IsKind tree kindFunction f
 
 -- record e is an expression of the tree
 pub record IsExpr (tree : List ℕ) (e : ℕ) : Type 0 where
-  pub inside : e * 32 + 32 ≤ length tree
+  pub inside : e * recordBytes + recordBytes ≤ length tree
   pub expression : isExpr (kindOf tree e) ≡ true
 
 -- record r is a statement, from Declare to Continue

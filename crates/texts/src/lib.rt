@@ -6,7 +6,7 @@ ghost use lib.ListN.{length};
 ghost use Rattle.laws.specs.Chain.{linkTo};
 ghost use Rattle.records.specs.Layout.{scratchEach};
 ghost use Rattle.records.specs.Good.{Good};
-ghost use Rattle.records.specs.Words.{wordAt, sameText, records};
+ghost use Rattle.records.specs.Words.{recordBytes, wordAt, sameText, records};
 ghost use Rattle.texts.specs.Texts.{hasText, hasOwn, ownText, original as originalOf, originalAt, textDigestAt, Numbered, Kept};
 ghost use Rattle.texts.specs.Pass.{ownDigest, textBucket, Passed};
 use records::chains::bucket;
@@ -27,6 +27,7 @@ use records::numbers::KIND_VARIABLE;
 use records::texts::roll_digest;
 use records::texts::same_text;
 use records::texts::text_roll;
+use records::words::RECORD_BYTES;
 use records::words::WORD_A;
 use records::words::WORD_B;
 use records::words::index;
@@ -49,7 +50,7 @@ fn has_text(k: u8) -> bool
 
 // Whether the texts of records k and r are the same, by their digests first. Few texts of one digest differ, so few are compared in vain.
 fn same_own(tree: &[u8], text: &[u8], k: usize, r: usize, digest: u32, d: u32) -> bool
-    requires { ⌜ (k * 32 + 32 ≤ length (now tree)) × (r * 32 + 32 ≤ length (now tree)) ⌝ }
+    requires { ⌜ (k * recordBytes + recordBytes ≤ length (now tree)) × (r * recordBytes + recordBytes ≤ length (now tree)) ⌝ }
     requires { ⌜ (digest ≡ ownDigest (now tree) (now text) k) × (d ≡ ownDigest (now tree) (now text) r) ⌝ }
     ensures { λ v. ⌜ v ≡ sameText (ownText (now (tree .entry)) (now (text .entry)) k) (ownText (now (tree .entry)) (now (text .entry)) r) ⌝ }
 {
@@ -68,7 +69,7 @@ fn find_original(tree: &[u8], text: &[u8], scratch: &[u8], r: usize, d: u32, hea
     requires { ⌜ (d ≡ ownDigest (now tree) (now text) r) × (head ≡ linkTo (textBucket (now tree) (now text)) r (textBucket (now tree) (now text) r)) ⌝ }
     ensures { λ v. ⌜ v ≡ originalOf (now (tree .entry)) (now (text .entry)) r ⌝ }
 {
-    let n = tree.len() / 32;
+    let n = tree.len() / RECORD_BYTES;
     let mut at = index(head);
     while at > 0 {
         let k = at - 1;
@@ -92,7 +93,7 @@ fn number_record(tree: &[u8], text: &[u8], r: usize, scratch: &mut [u8])
     if !has_text(kind(tree, r)) {
         return;
     }
-    let n = tree.len() / 32;
+    let n = tree.len() / RECORD_BYTES;
     let rolled = text_roll(text, word(tree, r, WORD_A), word(tree, r, WORD_B));
     let d = roll_digest(rolled);
     let b = bucket(d, n);
@@ -108,7 +109,7 @@ pub fn number_texts(tree: &[u8], text: &[u8], scratch: &mut [u8])
     requires { ⌜ Good (now tree) (now text) × (scratchEach * records (now tree) ≤ length (now scratch)) ⌝ }
     ensures { λ _. ⌜ Numbered (now (tree .entry)) (now (text .entry)) (now (scratch .exit)) × Kept (records (now (tree .entry))) (now (scratch .entry)) (now (scratch .exit)) ⌝ }
 {
-    let n = tree.len() / 32;
+    let n = tree.len() / RECORD_BYTES;
     clear_heads(scratch, CHAIN_HEAD_BYTES * n);
     let mut r = 0;
     while r < n {

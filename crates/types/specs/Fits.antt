@@ -3,7 +3,7 @@ use Prim.Native.Nat.{ℕ, _+_, _*_, _%_, _≤_}
 use mathlib.Core.Bool.{Bool}
 use mathlib.Core.List.{List}
 use lib.ListN.{length}
-use Rattle.records.specs.Words.{detailOf}
+use Rattle.records.specs.Words.{recordBytes, detailOf}
 use lib.IntN.{ℤ}
 use Rattle.int128.specs.Ops.{intFits}
 use Rattle.syntax.specs.Decode.{exprOf, node, typeAt, bit}
@@ -11,7 +11,7 @@ use Rattle.conversion.specs.Types.{fitsInto, isLiteral, fits, range-error}
 
 -- record y is one of the tree, and its detail one of a type's: '1 Int, 2 Float, .. 9 Null', marks aside
 pub record IsType (tree : List ℕ) (y : ℕ) : Type 0 where
-  pub inside : y * 32 + 32 ≤ length tree
+  pub inside : y * recordBytes + recordBytes ≤ length tree
   pub least : 1 ≤ detailOf tree y % 16
   pub most : detailOf tree y % 16 ≤ 9
 

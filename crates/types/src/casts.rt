@@ -3,6 +3,7 @@ ghost use mathlib.Core.Path.{_≡_};
 ghost use mathlib.Core.List.{List};
 ghost use Prim.Native.Nat.{ℕ, _+_, _*_, _≤_, _<_};
 ghost use lib.ListN.{length};
+ghost use Rattle.records.specs.Words.{recordBytes};
 ghost use Rattle.syntax.specs.Decode.{typeAt};
 ghost use Rattle.conversion.specs.Types.{castClass, can-cast};
 use crate::form::form;
@@ -33,7 +34,7 @@ const CASTS: [[bool; 5]; 5] = [
 ];
 
 fn cast_class(tree: &[u8], ty: usize) -> usize
-    requires { ⌜ ty * 32 + 32 ≤ length (now tree) ⌝ }
+    requires { ⌜ ty * recordBytes + recordBytes ≤ length (now tree) ⌝ }
     ensures { λ r. ⌜ (r < 5) × ((text : List ℕ) → r ≡ castClass (typeAt (now (tree .entry)) text ty)) ⌝ }
 {
     let f = form(tree, ty);
@@ -62,8 +63,8 @@ fn cast_class(tree: &[u8], ty: usize) -> usize
 }
 
 pub fn can_cast(tree: &[u8], from: usize, to: usize) -> bool
-    requires { ⌜ from * 32 + 32 ≤ length (now tree) ⌝ }
-    requires { ⌜ to * 32 + 32 ≤ length (now tree) ⌝ }
+    requires { ⌜ from * recordBytes + recordBytes ≤ length (now tree) ⌝ }
+    requires { ⌜ to * recordBytes + recordBytes ≤ length (now tree) ⌝ }
     ensures { λ r. ⌜ ((text : List ℕ) → r ≡ can-cast (typeAt (now (tree .entry)) text) from to) ⌝ }
 {
     if from == to {

@@ -6,7 +6,7 @@ ghost use Prim.Native.Nat.{ℕ, _+_, _*_, _≤_};
 ghost use lib.ListN.{length};
 ghost use lib.Dec.{eqb};
 ghost use Rattle.records.specs.Words as Words;
-ghost use Rattle.records.specs.Words.{detailOf, wordOf};
+ghost use Rattle.records.specs.Words.{recordBytes, detailOf, wordOf};
 ghost use Rattle.syntax.specs.Syntax.{nullType};
 ghost use Rattle.syntax.specs.Places.{IsExpr};
 ghost use Rattle.syntax.specs.Decode.{exprOf, node, bit};
@@ -32,8 +32,8 @@ use records::words::kind;
 use records::words::reference;
 
 fn int_constant_fits(tree: &[u8], e: usize, expected: usize) -> bool
-    requires { ⌜ e * 32 + 32 ≤ length (now tree) ⌝ }
-    requires { ⌜ expected * 32 + 32 ≤ length (now tree) ⌝ }
+    requires { ⌜ e * recordBytes + recordBytes ≤ length (now tree) ⌝ }
+    requires { ⌜ expected * recordBytes + recordBytes ≤ length (now tree) ⌝ }
     ensures { λ r. ⌜ ((text : List ℕ) → r ≡ someAnd (int-value (exprOf (node (now (tree .entry)) text e))) (inRangeOf (now (tree .entry)) expected)) ⌝ }
 {
     match int_value(tree, e) {
@@ -43,8 +43,8 @@ fn int_constant_fits(tree: &[u8], e: usize, expected: usize) -> bool
 }
 
 fn float_constant_fits(tree: &[u8], e: usize, expected: usize) -> bool
-    requires { ⌜ e * 32 + 32 ≤ length (now tree) ⌝ }
-    requires { ⌜ expected * 32 + 32 ≤ length (now tree) ⌝ }
+    requires { ⌜ e * recordBytes + recordBytes ≤ length (now tree) ⌝ }
+    requires { ⌜ expected * recordBytes + recordBytes ≤ length (now tree) ⌝ }
     ensures { λ r. ⌜ ((text : List ℕ) → r ≡ someAnd (float-value (exprOf (node (now (tree .entry)) text e))) (λ v. float-fits v (bit 16 (detailOf (now (tree .entry)) expected)))) ⌝ }
 {
     match float_value(tree, e) {
@@ -56,8 +56,8 @@ fn float_constant_fits(tree: &[u8], e: usize, expected: usize) -> bool
 
 // One of two addresses is to nothing.
 fn to_nothing(tree: &[u8], from: usize, to: usize) -> bool
-    requires { ⌜ from * 32 + 32 ≤ length (now tree) ⌝ }
-    requires { ⌜ to * 32 + 32 ≤ length (now tree) ⌝ }
+    requires { ⌜ from * recordBytes + recordBytes ≤ length (now tree) ⌝ }
+    requires { ⌜ to * recordBytes + recordBytes ≤ length (now tree) ⌝ }
     ensures { λ r. ⌜ r ≡ (eqb (wordOf (now (tree .entry)) from Words.A) nullType || eqb (wordOf (now (tree .entry)) to Words.A) nullType) ⌝ }
 {
     if reference(tree, from, WORD_A) == NULL_TYPE {
@@ -112,7 +112,7 @@ pub fn fits(tree: &[u8], e: usize, ty: usize, expected: usize) -> bool
 }
 
 fn is_int_constant(tree: &[u8], e: usize) -> bool
-    requires { ⌜ e * 32 + 32 ≤ length (now tree) ⌝ }
+    requires { ⌜ e * recordBytes + recordBytes ≤ length (now tree) ⌝ }
     ensures { λ r. ⌜ ((text : List ℕ) → r ≡ isSome (int-value (exprOf (node (now (tree .entry)) text e)))) ⌝ }
 {
     match int_value(tree, e) {
@@ -123,7 +123,7 @@ fn is_int_constant(tree: &[u8], e: usize) -> bool
 
 // A NaN is a literal too.
 fn is_float_constant(tree: &[u8], e: usize) -> bool
-    requires { ⌜ e * 32 + 32 ≤ length (now tree) ⌝ }
+    requires { ⌜ e * recordBytes + recordBytes ≤ length (now tree) ⌝ }
     ensures { λ r. ⌜ ((text : List ℕ) → r ≡ isSome (float-value (exprOf (node (now (tree .entry)) text e)))) ⌝ }
 {
     match float_value(tree, e) {
@@ -135,9 +135,9 @@ fn is_float_constant(tree: &[u8], e: usize) -> bool
 
 // A constant of the form that is expected.
 fn is_literal(tree: &[u8], e: usize, ty: usize, expected: usize) -> bool
-    requires { ⌜ e * 32 + 32 ≤ length (now tree) ⌝ }
-    requires { ⌜ ty * 32 + 32 ≤ length (now tree) ⌝ }
-    requires { ⌜ expected * 32 + 32 ≤ length (now tree) ⌝ }
+    requires { ⌜ e * recordBytes + recordBytes ≤ length (now tree) ⌝ }
+    requires { ⌜ ty * recordBytes + recordBytes ≤ length (now tree) ⌝ }
+    requires { ⌜ expected * recordBytes + recordBytes ≤ length (now tree) ⌝ }
     ensures { λ r. ⌜ ((text : List ℕ) → r ≡ literalAt (now (tree .entry)) text e ty expected) ⌝ }
 {
     let from = form(tree, ty);

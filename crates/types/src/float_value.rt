@@ -5,6 +5,7 @@ ghost use mathlib.Core.Option.{some};
 ghost use Prim.Native.Nat.{ℕ, _+_, _*_, _≤_};
 ghost use lib.ListN.{length, getD};
 ghost use lib.Ieee.{Float, binary64, nan, ofBits};
+ghost use Rattle.records.specs.Words.{recordBytes};
 ghost use Rattle.syntax.specs.Syntax.{unaryOps, binaryOps, Neg, Or};
 ghost use Rattle.syntax.specs.Decode.{exprOf, node};
 ghost use Rattle.conversion.specs.Types.{negFloat, floatTwo, floatBinary, float-value, float-fits};
@@ -131,7 +132,7 @@ fn fold_binary(op: u8, left: FloatValue, right: FloatValue) -> FloatValue
 
 // The value of a Float, or of a Unary or Binary of such.
 pub fn float_value(tree: &[u8], r: usize) -> FloatValue
-    requires { ⌜ r * 32 + 32 ≤ length (now tree) ⌝ }
+    requires { ⌜ r * recordBytes + recordBytes ≤ length (now tree) ⌝ }
     ensures { λ v. ⌜ ((text : List ℕ) → floatOf v ≡ float-value (exprOf (node (now (tree .entry)) text r))) ⌝ }
 {
     let k = kind(tree, r);

@@ -3,7 +3,7 @@ ghost use mathlib.Core.Path.{_≡_};
 ghost use mathlib.Core.List.{List};
 ghost use Prim.Native.Nat.{ℕ, _+_, _*_, _%_, _≤_};
 ghost use lib.ListN.{length};
-ghost use Rattle.records.specs.Words.{detailOf, wordOf};
+ghost use Rattle.records.specs.Words.{recordBytes, detailOf, wordOf};
 ghost use Rattle.syntax.specs.Decode.{bit, typeAt};
 ghost use Rattle.conversion.specs.Types.{is-number};
 use records::numbers::FORM_FLOAT;
@@ -13,7 +13,7 @@ use records::words::word;
 
 // Which of the forms a type has: its detail without the marks.
 pub fn form(tree: &[u8], ty: usize) -> u8
-    requires { ⌜ ty * 32 + 32 ≤ length (now tree) ⌝ }
+    requires { ⌜ ty * recordBytes + recordBytes ≤ length (now tree) ⌝ }
     ensures { λ r. ⌜ r ≡ detailOf (now (tree .entry)) ty % 16 ⌝ }
 {
     detail(tree, ty) % 16
@@ -21,7 +21,7 @@ pub fn form(tree: &[u8], ty: usize) -> u8
 
 // The mark 16 of an Int or a Float.
 pub fn is_short(tree: &[u8], ty: usize) -> bool
-    requires { ⌜ ty * 32 + 32 ≤ length (now tree) ⌝ }
+    requires { ⌜ ty * recordBytes + recordBytes ≤ length (now tree) ⌝ }
     ensures { λ r. ⌜ r ≡ bit 16 (detailOf (now (tree .entry)) ty) ⌝ }
 {
     detail(tree, ty) / 16 % 2 == 1
@@ -29,14 +29,14 @@ pub fn is_short(tree: &[u8], ty: usize) -> bool
 
 // The mark 32 of an Int.
 pub fn is_unsigned(tree: &[u8], ty: usize) -> bool
-    requires { ⌜ ty * 32 + 32 ≤ length (now tree) ⌝ }
+    requires { ⌜ ty * recordBytes + recordBytes ≤ length (now tree) ⌝ }
     ensures { λ r. ⌜ r ≡ bit 32 (detailOf (now (tree .entry)) ty) ⌝ }
 {
     detail(tree, ty) / 32 % 2 == 1
 }
 
 pub fn is_number(tree: &[u8], ty: usize) -> bool
-    requires { ⌜ ty * 32 + 32 ≤ length (now tree) ⌝ }
+    requires { ⌜ ty * recordBytes + recordBytes ≤ length (now tree) ⌝ }
     ensures { λ r. ⌜ ((text : List ℕ) → r ≡ is-number (typeAt (now (tree .entry)) text ty)) ⌝ }
 {
     let f = form(tree, ty);
@@ -54,7 +54,7 @@ fn wide_word(x: u32) -> u64
 
 // The 64 bits of words k and k + 1, low and high.
 pub fn two_words(tree: &[u8], r: usize, k: usize) -> u64
-    requires { ⌜ r * 32 + 32 ≤ length (now tree) ⌝ }
+    requires { ⌜ r * recordBytes + recordBytes ≤ length (now tree) ⌝ }
     requires { ⌜ k ≤ 3 ⌝ }
     ensures { λ v. ⌜ v ≡ wordOf (now (tree .entry)) r k + wordOf (now (tree .entry)) r (k + 1) * 4294967296 ⌝ }
 {

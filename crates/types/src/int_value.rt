@@ -4,6 +4,7 @@ ghost use mathlib.Core.List.{List};
 ghost use mathlib.Core.Option.{some};
 ghost use Prim.Native.Nat.{ℕ, _+_, _*_, _≤_};
 ghost use lib.ListN.{length, getD};
+ghost use Rattle.records.specs.Words.{recordBytes};
 ghost use Rattle.int128.specs.Value.{valueOf, checkedOf};
 ghost use Rattle.syntax.specs.Syntax.{unaryOps, binaryOps, Neg, Or, binaryNumber, BitOr, BitAnd, Shl};
 ghost use Rattle.syntax.specs.Decode.{exprOf, node};
@@ -137,7 +138,7 @@ fn fold_binary(op: u8, left: Checked, right: Checked) -> Checked
 
 // The value of an Int, or of a Unary or Binary of such.
 pub fn int_value(tree: &[u8], r: usize) -> Checked
-    requires { ⌜ r * 32 + 32 ≤ length (now tree) ⌝ }
+    requires { ⌜ r * recordBytes + recordBytes ≤ length (now tree) ⌝ }
     ensures { λ v. ⌜ ((text : List ℕ) → checkedOf v ≡ int-value (exprOf (node (now (tree .entry)) text r))) ⌝ }
 {
     let k = kind(tree, r);

@@ -4,7 +4,7 @@ ghost use mathlib.Core.List.{List};
 ghost use mathlib.Core.Option.{Option};
 ghost use Prim.Native.Nat.{ℕ, _+_, _*_, _%_, _≤_};
 ghost use lib.ListN.{length};
-ghost use Rattle.records.specs.Words.{detailOf};
+ghost use Rattle.records.specs.Words.{recordBytes, detailOf};
 ghost use Rattle.records.specs.Kinds.{formArray};
 ghost use Rattle.conversion.specs.Types.{timesSize};
 ghost use Rattle.types.specs.Sizes.{exactSize, bytesFor, exactBytes, sizeAt};
@@ -54,7 +54,7 @@ fn times(element: Bytes, n: u64) -> Bytes
 
 // The size of a type that is no array.
 fn plain_size(tree: &[u8], ty: usize) -> Bytes
-    requires { ⌜ ty * 32 + 32 ≤ length (now tree) ⌝ }
+    requires { ⌜ ty * recordBytes + recordBytes ≤ length (now tree) ⌝ }
     requires { ⌜ (detailOf (now tree) ty % 16 ≡ formArray → ⊥) ⌝ }
     ensures { λ r. ⌜ ((text : List ℕ) → r ≡ bytesFor (exactSize (now (tree .entry)) text ty)) ⌝ }
 {
@@ -79,7 +79,7 @@ fn plain_size(tree: &[u8], ty: usize) -> Bytes
 
 // Over and Nothing are document 01's 27.
 pub fn size(tree: &[u8], ty: usize) -> Bytes
-    requires { ⌜ ty * 32 + 32 ≤ length (now tree) ⌝ }
+    requires { ⌜ ty * recordBytes + recordBytes ≤ length (now tree) ⌝ }
     ensures exact { λ r. ⌜ ((text : List ℕ) → r ≡ bytesFor (exactSize (now (tree .entry)) text ty)) ⌝ }
     ensures size { λ r. ⌜ ((text : List ℕ) → exactBytes r ≡ sizeAt (now (tree .entry)) text ty) ⌝ }
 {

@@ -56,7 +56,7 @@ convert-all-requires c κs =
     let start = c .before .before .before .before .before .before .before .before .before .before .before .before .before .before .before .before .before .before .before .before .before .before .before .before .before .before .before .before .before in
     let forgot = c .before .before .before .before in
     let chained = c .before .before .before .before .before .before .before .before in
-    ((forgets-keyed _ _ _ (forgot .forget .ensures) _ _ (chained .chain-functions .ensures), start .pre .1), forgets-turns _ _ _ (forgot .forget .ensures) (start .pre .3))
+    ((forgets-keyed _ _ _ (forgot .forget .ensures) _ _ (chained .chain-functions .ensures .0), start .pre .1), forgets-turns _ _ _ (forgot .forget .ensures) (start .pre .3))
 
 same-length : tie.Need-same-length
 same-length c = search needs

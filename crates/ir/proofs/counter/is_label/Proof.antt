@@ -6,7 +6,7 @@ use Rattle.ir.proofs.counter.is_label.Statement.{statement}
 use Rattle.ir.proofs.counter.is_label.Tie as tie
 use Rattle.ir.proofs.counter.is_label.Reads as reads
 use Rattle.ir.proofs.counter.is_label.Lts as lts
-use Rattle.ir.proofs.search.is_pair.Reads as is-pair-reads
+use Rattle.ir.proofs.search.is_label_at.Reads as is-label-at-reads
 use Rattle.records.proofs.words.index.Reads as index-reads
 
 index-requires : tie.Need-index-requires
@@ -18,17 +18,17 @@ sub-if1 c = search needs
 returns : tie.Need-returns
 returns c = search label-beyond
 
-mul-is-pair : tie.Need-mul-is-pair
-mul-is-pair c = search needs
+mul-is-label-at : tie.Need-mul-is-label-at
+mul-is-label-at c = search needs
 
-mul-is-pair-2 : tie.Need-mul-is-pair-2
-mul-is-pair-2 c = search needs
+mul-is-label-at-2 : tie.Need-mul-is-label-at-2
+mul-is-label-at-2 c = search needs
 
-add-is-pair : tie.Need-add-is-pair
-add-is-pair c = search needs
+add-is-label-at : tie.Need-add-is-label-at
+add-is-label-at c = search needs
 
-is-pair-requires : tie.Need-is-pair-requires
-is-pair-requires c κs = search needs
+is-label-at-requires : tie.Need-is-label-at-requires
+is-label-at-requires c κs = search needs
 
 returns-2 : tie.Need-returns-2
 returns-2 c = search label-within
@@ -40,8 +40,8 @@ is-label-spec =
     index-requires
     sub-if1
     returns
-    mul-is-pair
-    mul-is-pair-2
-    add-is-pair
-    is-pair-requires
+    mul-is-label-at
+    mul-is-label-at-2
+    add-is-label-at
+    is-label-at-requires
     returns-2)

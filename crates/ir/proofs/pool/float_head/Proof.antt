@@ -8,7 +8,7 @@ use Rattle.ir.proofs.pool.float_head.Statement.{statement}
 use Rattle.ir.proofs.pool.float_head.Tie as tie
 use Rattle.ir.proofs.pool.float_head.Reads as reads
 use Rattle.ir.proofs.pool.float_head.Lts as lts
-use Rattle.ir.proofs.pool.bucket_of.Reads as bucket-of-reads
+use Rattle.ir.proofs.pool.float_bucket.Reads as float-bucket-reads
 use Rattle.records.proofs.words.index.Reads as index-reads
 use Rattle.records.proofs.words.load.Reads as load-reads
 
@@ -69,13 +69,13 @@ load-requires-4 : tie.Need-load-requires-4
 load-requires-4 c κs = search needs
 
 -- src/pool.rt:124:8
-bucket-of-requires : tie.Need-bucket-of-requires
-bucket-of-requires c κs = search needs
+float-bucket-requires : tie.Need-float-bucket-requires
+float-bucket-requires c κs = search needs
 
 -- src/pool.rt:125:9
 returns-2 : tie.Need-returns-2
 returns-2 c =
-    (head-other _ _ _ _ _ (c .before .before .before .before .before .before .before .index .ensures ∙ c .before .before .before .before .before .before .before .before .load .ensures) (c .before .before .before .before .before .if1 .left) _ (words-bucket _ _ _ _ _ _ _ (c .before .before .before .before .load2 .ensures) (c .before .before .before .load3 .ensures) (c .before .before .load4 .ensures) (c .before .bucket-of .ensures)) (c .if2 .taken), omega arith)
+    (head-other _ _ _ _ _ (c .before .before .before .before .before .before .before .index .ensures ∙ c .before .before .before .before .before .before .before .before .load .ensures) (c .before .before .before .before .before .if1 .left) _ (words-bucket _ _ _ _ _ _ _ (c .before .before .before .before .load2 .ensures) (c .before .before .before .load3 .ensures) (c .before .before .load4 .ensures) (c .before .float-bucket .ensures)) (c .if2 .taken), omega arith)
 
 -- src/pool.rt:127:5
 add-result : tie.Need-add-result
@@ -84,7 +84,7 @@ add-result c = search needs
 -- src/pool.rt:113:1
 returns-3 : tie.Need-returns-3
 returns-3 c =
-    (head-own _ _ _ _ _ (c .before .before .before .before .before .before .before .index .ensures ∙ c .before .before .before .before .before .before .before .before .load .ensures) (c .before .before .before .before .before .if1 .left) _ (words-bucket _ _ _ _ _ _ _ (c .before .before .before .before .load2 .ensures) (c .before .before .before .load3 .ensures) (c .before .before .load4 .ensures) (c .before .bucket-of .ensures)) (c .if2 .left), omega (arith, c .before .before .before .before .before .if1 .left))
+    (head-own _ _ _ _ _ (c .before .before .before .before .before .before .before .index .ensures ∙ c .before .before .before .before .before .before .before .before .load .ensures) (c .before .before .before .before .before .if1 .left) _ (words-bucket _ _ _ _ _ _ _ (c .before .before .before .before .load2 .ensures) (c .before .before .before .load3 .ensures) (c .before .before .load4 .ensures) (c .before .float-bucket .ensures)) (c .if2 .left), omega (arith, c .before .before .before .before .before .if1 .left))
 
 pub float-head-spec : {M : Type 1} → statement M
 float-head-spec =
@@ -104,7 +104,7 @@ float-head-spec =
     load-requires-3
     add-load-3
     load-requires-4
-    bucket-of-requires
+    float-bucket-requires
     returns-2
     add-result
     returns-3)

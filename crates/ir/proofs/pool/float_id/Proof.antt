@@ -11,9 +11,9 @@ use Rattle.ir.proofs.pool.float_id.Reads as reads
 use Rattle.ir.proofs.pool.float_id.Lts as lts
 use Rattle.ir.proofs.floats.entry_bits.Reads as entry-bits-reads
 use Rattle.ir.proofs.pool.add_float.Reads as add-float-reads
-use Rattle.ir.proofs.pool.bucket_of.Reads as bucket-of-reads
+use Rattle.ir.proofs.pool.float_bucket.Reads as float-bucket-reads
 use Rattle.ir.proofs.pool.float_head.Reads as float-head-reads
-use Rattle.ir.proofs.search.walk_four.Reads as walk-four-reads
+use Rattle.ir.proofs.search.walk_float.Reads as walk-float-reads
 use Rattle.records.proofs.words.high.Reads as high-reads
 use Rattle.records.proofs.words.low.Reads as low-reads
 use Rattle.records.proofs.words.mark.Reads as mark-reads
@@ -35,24 +35,24 @@ mark-requires : tie.Need-mark-requires
 mark-requires c κs = search needs
 
 -- src/pool.rt:154:9
-bucket-of-requires : tie.Need-bucket-of-requires
-bucket-of-requires c κs = search needs
+float-bucket-requires : tie.Need-float-bucket-requires
+float-bucket-requires c κs = search needs
 
 -- src/pool.rt:155:9
 float-head-requires : tie.Need-float-head-requires
 float-head-requires c κs = search needs
 
 -- src/pool.rt:156:28
-mul-walk-four : tie.Need-mul-walk-four
-mul-walk-four c = search needs
+mul-walk-float : tie.Need-mul-walk-float
+mul-walk-float c = search needs
 
 -- src/pool.rt:156:48
-mul-walk-four-2 : tie.Need-mul-walk-four-2
-mul-walk-four-2 c = search needs
+mul-walk-float-2 : tie.Need-mul-walk-float-2
+mul-walk-float-2 c = search needs
 
 -- src/pool.rt:156:11
-walk-four-requires : tie.Need-walk-four-requires
-walk-four-requires c κs = search needs
+walk-float-requires : tie.Need-walk-float-requires
+walk-float-requires c κs = search needs
 
 -- src/pool.rt:157:19
 enum-known-i : tie.Need-enum-known-i
@@ -60,7 +60,7 @@ enum-known-i c = search needs
 
 -- src/pool.rt:158:21
 cast-t20 : tie.Need-cast-t20
-cast-t20 c = omega (arith, walk-below (c .before .before .before .walk-four .ensures) _ (c .before .i .given .1), c .before .before .before .before .before .before .before .float-head .ensures .1, c .before .before .before .before .before .before .before .before .before .before .before .before .before .before .before .pre .0 .floats-in, c .before .before .before .before .before .before .before .before .before .before .before .before .before .before .before .pre .0 .small)
+cast-t20 c = omega (arith, walk-below (c .before .before .before .walk-float .ensures) _ (c .before .i .given .1), c .before .before .before .before .before .before .before .float-head .ensures .1, c .before .before .before .before .before .before .before .before .before .before .before .before .before .before .before .pre .0 .floats-in, c .before .before .before .before .before .before .before .before .before .before .before .before .before .before .before .pre .0 .small)
 
 -- src/pool.rt:161:37
 enum-told : tie.Need-enum-told
@@ -81,9 +81,9 @@ returns c =
     (c .before .before .before .before .before .before .before .before .before .before .before .before .low .ensures)
     (c .before .before .before .before .before .before .before .before .before .before .before .high .ensures)
     (c .before .before .before .before .before .before .before .before .before .before .mark .ensures)
-    (c .before .before .before .before .before .before .before .before .before .bucket-of .ensures)
+    (c .before .before .before .before .before .before .before .before .before .float-bucket .ensures)
     (c .before .before .before .before .before .before .before .float-head .ensures)
-    (c .before .before .before .walk-four .ensures)
+    (c .before .before .before .walk-float .ensures)
     _ _ (c .before .i .given .1) refl refl
 
 -- src/pool.rt:148:1
@@ -97,9 +97,9 @@ returns-2 c =
     (c .before .before .before .before .before .before .before .before .before .before .before .before .before .before .before .low .ensures)
     (c .before .before .before .before .before .before .before .before .before .before .before .before .before .before .high .ensures)
     (c .before .before .before .before .before .before .before .before .before .before .before .before .before .mark .ensures)
-    (c .before .before .before .before .before .before .before .before .before .before .before .before .bucket-of .ensures)
+    (c .before .before .before .before .before .before .before .before .before .before .before .before .float-bucket .ensures)
     (c .before .before .before .before .before .before .before .before .before .before .float-head .ensures)
-    (c .before .before .before .before .before .before .walk-four .ensures)
+    (c .before .before .before .before .before .before .walk-float .ensures)
     _ _ (c .before .before .before .before .before .before .before .before .before .before .before .before .before .before .before .before .before .before .pre .1) (c .before .before .before .before .enum-told .given .1) (c .before .before .add-float .ensures)
 
 pub float-id-spec : {M : Type 1} → statement M
@@ -110,11 +110,11 @@ float-id-spec =
     low-requires
     high-requires
     mark-requires
-    bucket-of-requires
+    float-bucket-requires
     float-head-requires
-    mul-walk-four
-    mul-walk-four-2
-    walk-four-requires
+    mul-walk-float
+    mul-walk-float-2
+    walk-float-requires
     enum-known-i
     cast-t20
     enum-told

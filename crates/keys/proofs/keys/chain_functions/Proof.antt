@@ -1,10 +1,10 @@
--- The functions in chains, one record after the other. The invariant: the functions before the record at hand are chained.
+-- The functions in chains, one record after the other. The invariant: the functions before the record at hand are chained, and no other bytes written.
 -- By the laws of the heads that are cleared and of all records passed; the measure is what is left of the records. Assumes nothing.
-use mathlib.Core.Path.{refl, _∙_}
+use mathlib.Core.Path.{_∙_}
 use Prim.Native.Nat.{_-_}
 use native.Mathlib.Omega.{arith}
 use borrow.Author.Needs.{needs}
-use Rattle.keys.proofs.ChainLaws.{Passing, chaining-none, all-chained}
+use Rattle.keys.proofs.ChainLaws.{Passing, keeps-none, keeps-then, keeps-heads, chaining-none, all-chained}
 use Rattle.keys.proofs.keys.chain_functions.Statement.{statement}
 use Rattle.keys.proofs.keys.chain_functions.Tie as tie
 use Rattle.keys.proofs.keys.chain_functions.Reads as reads
@@ -45,7 +45,7 @@ clear-run-requires-2 c κs = search needs
 loop-holds : tie.Need-loop-holds Inv-loop μ-loop
 loop-holds c =
     let start = c .before .before .before .before .before .before .before .before .before .before .before in
-    record { below = omega arith; chaining = chaining-none _ _ _ _ _ _ (start .pre) (c .before .before .before .before .before .before .clear-run .ensures) (c .before .before .clear-run2 .ensures); long = refl }
+    record { below = omega arith; chaining = chaining-none _ _ _ _ _ _ (start .pre) (c .before .before .before .before .before .before .clear-run .ensures) (c .before .before .clear-run2 .ensures); keeps = keeps-none _ _ }
 
 chain-record-requires : tie.Need-chain-record-requires Inv-loop μ-loop
 chain-record-requires c κs = (c .before .before .loop .inv .chaining, c .before .loop-test .taken)
@@ -57,13 +57,14 @@ loop-less : tie.Need-loop-less Inv-loop μ-loop
 loop-less c = omega (arith, c .before .before .before .before .loop-test .taken)
 
 loop-again : tie.Need-loop-again Inv-loop μ-loop
-loop-again c = record { below = omega (arith, c .before .before .before .before .loop-test .taken); chaining = c .before .before .chain-record .ensures; long = c .before .scratch3 .given ∙ c .before .before .before .before .before .loop .inv .long }
+loop-again c = record { below = omega (arith, c .before .before .before .before .loop-test .taken); chaining = c .before .before .chain-record .ensures .0; keeps = keeps-then _ _ _ _ (c .before .before .before .before .before .loop .inv .keeps) (c .before .before .chain-record .ensures .1) }
 
 same-length : tie.Need-same-length Inv-loop μ-loop
-same-length c = c .before .loop .inv .long ∙ c .before .before .before .before .clear-run2 .ensures .long ∙ c .before .before .before .before .before .before .before .before .clear-run .ensures .long
+same-length c = c .before .loop .inv .keeps .long ∙ c .before .before .before .before .clear-run2 .ensures .long ∙ c .before .before .before .before .before .before .before .before .clear-run .ensures .long
 
 returns : tie.Need-returns Inv-loop μ-loop
-returns c = all-chained _ _ _ _ _ (c .before .loop .inv .below) (c .loop-test .left) (c .before .loop .inv .chaining)
+returns c =
+    (all-chained _ _ _ _ _ (c .before .loop .inv .below) (c .loop-test .left) (c .before .loop .inv .chaining), keeps-then _ _ _ _ (keeps-heads _ _ _ _ (c .before .before .before .before .before .before .before .before .clear-run .ensures) (c .before .before .before .before .clear-run2 .ensures)) (c .before .loop .inv .keeps))
 
 pub chain-functions-spec : {M : Type 1} → statement M
 chain-functions-spec =

@@ -3,7 +3,7 @@
 use mathlib.Core.Path.{ap, _∙_}
 use native.Mathlib.Omega.{arith}
 use Rattle.records.specs.Chains.{bucketOf}
-use Rattle.keys.proofs.ChainLaws.{chained-key}
+use Rattle.keys.proofs.ChainLaws.{keeps-key, chained-key}
 use Rattle.keys.proofs.SlotLaws.{digest-inside, digest-read}
 use borrow.Author.Needs.{needs}
 use Rattle.keys.proofs.keys.chain_key.Statement.{statement}
@@ -77,8 +77,10 @@ returns : tie.Need-returns
 returns c =
     let start = c .before .before .before .before .before .before .before .before .before .before .before .before .before .before .before .before in
     let bucket = c .before .before .before .before .before .before .before .before .bucket .ensures in
-    let digest = digest-read _ _ (start .pre .0 .mapped .good) _ (start .pre .1) _ _ (c .before .before .before .before .before .before .before .before .before .before .before .key-record .ensures) (start .pre .0 .mapped .numbered) _ (c .before .before .before .before .before .before .before .before .before .before .kept-digest .ensures) in
-    chained-key _ _ _ _ _ _ _ _ _ (start .pre .0) (start .pre .1) (bucket .1) (c .before .before .before .before .before .before .put-word .ensures) (c .before .before .put-before .ensures) (digest .0) (omega (arith, digest .1)) (bucket .0 ∙ ap (bucketOf _) (c .before .before .before .before .before .before .before .before .before .roll-digest .ensures))
+    let digest = digest-read _ _ (start .pre .0 .mapped .good) _ (start .pre .1) _ _ (c .before .before .before .before .before .before .before .before .before .before .before .key-record .ensures) (start .pre .0 .mapped .numbered) _ (c .before .before .before .before .before .before .before .before .before .before .kept-digest .ensures) in (
+      chained-key _ _ _ _ _ _ _ _ _ (start .pre .0) (start .pre .1) (bucket .1) (c .before .before .before .before .before .before .put-word .ensures) (c .before .before .put-before .ensures) (digest .0) (omega (arith, digest .1)) (bucket .0 ∙ ap (bucketOf _) (c .before .before .before .before .before .before .before .before .before .roll-digest .ensures)),
+      keeps-key _ _ _ _ _ _ _ _ _ (start .pre .0) (start .pre .1) (bucket .1) (c .before .before .before .before .before .before .put-word .ensures) (c .before .before .put-before .ensures),
+    )
 
 pub chain-key-spec : {M : Type 1} → statement M
 chain-key-spec =

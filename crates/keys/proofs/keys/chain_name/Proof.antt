@@ -1,7 +1,7 @@
 -- A mangled function more in the chains by name: it goes before the others of its name.
 -- By the laws of a chain with one function more. Assumes nothing.
 use native.Mathlib.Omega.{arith}
-use Rattle.keys.proofs.ChainLaws.{name-inside, name-number, chained-name}
+use Rattle.keys.proofs.ChainLaws.{name-inside, name-number, keeps-name, chained-name}
 use borrow.Author.Needs.{needs}
 use Rattle.keys.proofs.keys.chain_name.Statement.{statement}
 use Rattle.keys.proofs.keys.chain_name.Tie as tie
@@ -61,8 +61,10 @@ same-length c = search needs
 returns : tie.Need-returns
 returns c =
     let start = c .before .before .before .before .before .before .before .before .before .before in
-    let number = name-number _ _ (start .pre .0 .mapped .good) _ (start .pre .1) _ _ (c .before .before .before .before .before .reference .ensures) (start .pre .0 .mapped .numbered) _ (c .before .before .before .before .original .ensures) in
-    chained-name _ _ _ _ _ _ _ (start .pre .0) (start .pre .1) (start .pre .2) (number .0) (number .1) (c .before .before .put-before .ensures)
+    let number = name-number _ _ (start .pre .0 .mapped .good) _ (start .pre .1) _ _ (c .before .before .before .before .before .reference .ensures) (start .pre .0 .mapped .numbered) _ (c .before .before .before .before .original .ensures) in (
+      chained-name _ _ _ _ _ _ _ (start .pre .0) (start .pre .1) (start .pre .2) (number .0) (number .1) (c .before .before .put-before .ensures),
+      keeps-name _ _ _ _ _ _ _ (start .pre .0) (start .pre .1) (start .pre .2) (number .0) (number .1) (c .before .before .put-before .ensures),
+    )
 
 pub chain-name-spec : {M : Type 1} → statement M
 chain-name-spec =

@@ -1,6 +1,6 @@
 -- What the head said goes to the link, and the next to the head.
 -- By what the writing of a word ensures. Assumes nothing.
-use Rattle.keys.proofs.ChainLaws.{linked-so}
+use Rattle.keys.proofs.ChainLaws.{chained-so}
 use borrow.Author.Needs.{needs}
 use Rattle.keys.proofs.keys.put_before.Statement.{statement}
 use Rattle.keys.proofs.keys.put_before.Tie as tie
@@ -22,7 +22,7 @@ same-length : tie.Need-same-length
 same-length c = search needs
 
 returns : tie.Need-returns
-returns c = linked-so _ _ _ _ _ _ _ (c .before .before .before .before .before .before .before .before .load .ensures) (c .before .before .before .before .before .before .put-word .ensures) (c .before .before .put-word2 .ensures)
+returns c = chained-so _ _ _ _ _ _ _ (c .before .before .before .before .before .before .before .before .load .ensures) (c .before .before .before .before .before .before .put-word .ensures) (c .before .before .put-word2 .ensures)
 
 pub put-before-spec : {M : Type 1} → statement M
 put-before-spec =

@@ -6,18 +6,18 @@ use native.Mathlib.Omega.{arith}
 use borrow.Author.Needs.{needs}
 use Rattle.records.specs.Words.{wordAt}
 use Rattle.records.specs.declared.words.Found.{Found}
-use Rattle.ir.specs.Search.{fourAt, Walks}
+use Rattle.ir.specs.Search.{floatWordsAt, Walks}
 use Rattle.ir.proofs.LinkLaws.{walk-end, walk-here, walk-further, walk-astray}
-use Rattle.ir.proofs.search.walk_four.Statement.{statement}
-use Rattle.ir.proofs.search.walk_four.Tie as tie
-use Rattle.ir.proofs.search.walk_four.Reads as reads
-use Rattle.ir.proofs.search.walk_four.Lts as lts
-use Rattle.ir.proofs.search.is_four.Reads as is-four-reads
+use Rattle.ir.proofs.search.walk_float.Statement.{statement}
+use Rattle.ir.proofs.search.walk_float.Tie as tie
+use Rattle.ir.proofs.search.walk_float.Reads as reads
+use Rattle.ir.proofs.search.walk_float.Lts as lts
+use Rattle.ir.proofs.search.is_float_at.Reads as is-float-at-reads
 use Rattle.records.proofs.words.index.Reads as index-reads
 use Rattle.records.proofs.words.load.Reads as load-reads
 
 abbrev Inv-loop : tie.InvT-loop
-Inv-loop s at links v w u₀ u = (u ≤ v) × ((r : Found) → Walks (λ (j : ℕ). wordAt s (links + 4 * j)) (fourAt s at (w .0) (w .1) (w .2)) u r → Walks (λ (j : ℕ). wordAt s (links + 4 * j)) (fourAt s at (w .0) (w .1) (w .2)) v r)
+Inv-loop s at links v w u₀ u = (u ≤ v) × ((r : Found) → Walks (λ (j : ℕ). wordAt s (links + 4 * j)) (floatWordsAt s at (w .0) (w .1) (w .2)) u r → Walks (λ (j : ℕ). wordAt s (links + 4 * j)) (floatWordsAt s at (w .0) (w .1) (w .2)) v r)
 
 abbrev μ-loop : tie.MeasureT-loop
 μ-loop s at links v w u₀ u = u
@@ -31,12 +31,12 @@ sub-j : tie.Need-sub-j Inv-loop μ-loop
 sub-j c = omega arith
 
 -- src/search.rt:41:12
-is-four-requires : tie.Need-is-four-requires Inv-loop μ-loop
-is-four-requires c κs = omega arith
+is-float-at-requires : tie.Need-is-float-at-requires Inv-loop μ-loop
+is-float-at-requires c κs = omega arith
 
 -- src/search.rt:42:13
 returns : tie.Need-returns Inv-loop μ-loop
-returns c = c .before .before .before .loop .inv .1 _ (walk-here _ _ (c .before .before .loop-test .taken) refl (sym (c .before .is-four .ensures) ∙ c .if1 .taken))
+returns c = c .before .before .before .loop .inv .1 _ (walk-here _ _ (c .before .before .loop-test .taken) refl (sym (c .before .is-float-at .ensures) ∙ c .if1 .taken))
 
 -- src/search.rt:44:42
 mul-load : tie.Need-mul-load Inv-loop μ-loop
@@ -56,7 +56,7 @@ index-requires c κs = search needs
 
 -- src/search.rt:46:13
 returns-2 : tie.Need-returns-2 Inv-loop μ-loop
-returns-2 c = c .before .before .before .before .before .before .loop .inv .1 _ (walk-astray _ _ (c .before .before .before .before .before .loop-test .taken) refl _ (c .before .index .ensures ∙ c .before .before .load .ensures) (sym (c .before .before .before .before .is-four .ensures) ∙ c .before .before .before .if1 .left) (c .if2 .taken))
+returns-2 c = c .before .before .before .before .before .before .loop .inv .1 _ (walk-astray _ _ (c .before .before .before .before .before .loop-test .taken) refl _ (c .before .index .ensures ∙ c .before .before .load .ensures) (sym (c .before .before .before .before .is-float-at .ensures) ∙ c .before .before .before .if1 .left) (c .if2 .taken))
 
 -- src/search.rt:39:5
 loop-less : tie.Need-loop-less Inv-loop μ-loop
@@ -64,21 +64,21 @@ loop-less c = omega arith
 
 -- src/search.rt:39:5
 loop-again : tie.Need-loop-again Inv-loop μ-loop
-loop-again c = (omega arith, λ r h. c .before .before .before .before .before .before .loop .inv .1 r (walk-further _ _ (c .before .before .before .before .before .loop-test .taken) refl _ (c .before .index .ensures ∙ c .before .before .load .ensures) (sym (c .before .before .before .before .is-four .ensures) ∙ c .before .before .before .if1 .left) (c .if2 .left) r h))
+loop-again c = (omega arith, λ r h. c .before .before .before .before .before .before .loop .inv .1 r (walk-further _ _ (c .before .before .before .before .before .loop-test .taken) refl _ (c .before .index .ensures ∙ c .before .before .load .ensures) (sym (c .before .before .before .before .is-float-at .ensures) ∙ c .before .before .before .if1 .left) (c .if2 .left) r h))
 
 -- src/search.rt:34:1
 returns-3 : tie.Need-returns-3 Inv-loop μ-loop
 returns-3 c = c .before .loop .inv .1 _ (walk-end _ (omega arith))
 
-pub walk-four-spec : {M : Type 1} → statement M
-walk-four-spec =
+pub walk-float-spec : {M : Type 1} → statement M
+walk-float-spec =
     tie.close
     (tie.spec
     Inv-loop
     μ-loop
     loop-holds
     sub-j
-    is-four-requires
+    is-float-at-requires
     returns
     mul-load
     add-load

@@ -4,10 +4,10 @@ use mathlib.Core.Path.{refl}
 use native.Mathlib.Nat.{mod-lt}
 use borrow.Author.Needs.{needs}
 use Rattle.ir.specs.Arena.{floatBucket}
-use Rattle.ir.proofs.pool.bucket_of.Statement.{statement}
-use Rattle.ir.proofs.pool.bucket_of.Tie as tie
-use Rattle.ir.proofs.pool.bucket_of.Reads as reads
-use Rattle.ir.proofs.pool.bucket_of.Lts as lts
+use Rattle.ir.proofs.pool.float_bucket.Statement.{statement}
+use Rattle.ir.proofs.pool.float_bucket.Tie as tie
+use Rattle.ir.proofs.pool.float_bucket.Reads as reads
+use Rattle.ir.proofs.pool.float_bucket.Lts as lts
 
 -- src/pool.rt:107:13
 cast-d : tie.Need-cast-d
@@ -46,6 +46,6 @@ returns : tie.Need-returns
 unfolding floatBucket
 returns c = (refl, mod-lt _ (c .before .before .before .pre))
 
-pub bucket-of-spec : {M : Type 1} → statement M
-bucket-of-spec =
+pub float-bucket-spec : {M : Type 1} → statement M
+float-bucket-spec =
     tie.close (tie.spec cast-d mul-d cast-d-2 mul-d-2 add-d cast-d-3 add-d-2 rem-result returns)

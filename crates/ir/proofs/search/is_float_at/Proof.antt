@@ -1,11 +1,11 @@
 -- The words of an entry, compared one by one.
 -- By what `load` ensures of each. Assumes nothing.
-use Rattle.ir.specs.Search.{fourAt}
+use Rattle.ir.specs.Search.{floatWordsAt}
 use borrow.Author.Needs.{needs}
-use Rattle.ir.proofs.search.is_four.Statement.{statement}
-use Rattle.ir.proofs.search.is_four.Tie as tie
-use Rattle.ir.proofs.search.is_four.Reads as reads
-use Rattle.ir.proofs.search.is_four.Lts as lts
+use Rattle.ir.proofs.search.is_float_at.Statement.{statement}
+use Rattle.ir.proofs.search.is_float_at.Tie as tie
+use Rattle.ir.proofs.search.is_float_at.Reads as reads
+use Rattle.ir.proofs.search.is_float_at.Lts as lts
 use Rattle.records.proofs.words.load.Reads as load-reads
 
 -- src/words.rt:109:26
@@ -54,11 +54,11 @@ load-requires-3 c κs = search needs
 
 -- src/words.rt:105:1
 returns : tie.Need-returns
-unfolding fourAt
+unfolding floatWordsAt
 returns c = cc
 
-pub is-four-spec : {M : Type 1} → statement M
-is-four-spec =
+pub is-float-at-spec : {M : Type 1} → statement M
+is-float-at-spec =
     tie.close
     (tie.spec
     mul-load

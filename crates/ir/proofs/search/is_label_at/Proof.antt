@@ -1,11 +1,11 @@
 -- The words of an entry, compared one by one.
 -- By what `load` ensures of each. Assumes nothing.
-use Rattle.ir.specs.Search.{pairAt}
+use Rattle.ir.specs.Search.{labelWordsAt}
 use borrow.Author.Needs.{needs}
-use Rattle.ir.proofs.search.is_pair.Statement.{statement}
-use Rattle.ir.proofs.search.is_pair.Tie as tie
-use Rattle.ir.proofs.search.is_pair.Reads as reads
-use Rattle.ir.proofs.search.is_pair.Lts as lts
+use Rattle.ir.proofs.search.is_label_at.Statement.{statement}
+use Rattle.ir.proofs.search.is_label_at.Tie as tie
+use Rattle.ir.proofs.search.is_label_at.Reads as reads
+use Rattle.ir.proofs.search.is_label_at.Lts as lts
 use Rattle.records.proofs.words.load.Reads as load-reads
 
 -- src/words.rt:85:26
@@ -38,11 +38,11 @@ load-requires-2 c κs = search needs
 
 -- src/words.rt:81:1
 returns : tie.Need-returns
-unfolding pairAt
+unfolding labelWordsAt
 returns c = cc
 
-pub is-pair-spec : {M : Type 1} → statement M
-is-pair-spec =
+pub is-label-at-spec : {M : Type 1} → statement M
+is-label-at-spec =
     tie.close
     (tie.spec
     mul-load
