@@ -1,6 +1,6 @@
 -- The functions by key and `main`, case by case as the code meets them: what a turn, a search and a check answer, and what the definitions say there.
 -- Each is the definition, its tests replaced by what the callees ensure. Assumes nothing.
-use mathlib.Core.Path.{_≡_, refl, sym, ap, _∙_}
+use mathlib.Core.Path.{_≡_, refl, sym, ap, subst, _∙_}
 use mathlib.Core.Logic.{_⊎_, inl, inr}
 use mathlib.Core.Bool.{Bool, true, false}
 use mathlib.Core.List.{List, [], _∷_, _++_}
@@ -310,6 +310,7 @@ module _ (tree text s₀ : List ℕ) (count : ℕ) (good : Good tree text) where
         good = good;
         numbered = w .numbered;
         distinct = left-end tree text j all (w .left);
-        listed = w .listed;
+        listed = subst (Listed tree s) (w .listed .counted) (w .listed);
         slots = rw (keys-all tree text j all) at (w .slots);
       })
+      (w .listed .counted)

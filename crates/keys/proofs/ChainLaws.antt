@@ -181,35 +181,32 @@ not-own tree f r at t e =
 
 -- ---- what stays
 
-pub count-most : (tree text s : List ℕ) (count : ℕ) → Mapped tree text s count → count ≤ records tree
-count-most tree text s count m = omega (arith, m .listed .counted, records-most tree (records tree))
-
-mapped-stays : (tree text s s′ : List ℕ) (count : ℕ) → length s′ ≡ length s
+mapped-stays : (tree text s s′ : List ℕ) → length s′ ≡ length s
     → ((j : ℕ) → j < records tree → wordAt s′ (4 * j) ≡ wordAt s (4 * j))
     → ((r : ℕ) → r < records tree → hasOwn tree r ≡ true → wordAt s′ (originalAt (records tree) r) ≡ wordAt s (originalAt (records tree) r))
     → ((r : ℕ) → r < records tree → hasOwn tree r ≡ true → wordAt s′ (keySlotAt (records tree) r) ≡ wordAt s (keySlotAt (records tree) r))
     → ((r : ℕ) → r < records tree → hasOwn tree r ≡ true → wordAt s′ (textDigestAt (records tree) r) ≡ wordAt s (textDigestAt (records tree) r))
-    → Mapped tree text s count → Mapped tree text s′ count
-mapped-stays tree text s s′ count long listed numbers slots digests m = record {
+    → Mapped tree text s → Mapped tree text s′
+mapped-stays tree text s s′ long listed numbers slots digests m = record {
   good = m .good;
   numbered = numbered-stays tree text s s′ numbers digests (m .numbered);
   distinct = m .distinct;
   listed = record {
     room = omega (arith, m .listed .room, long);
     counted = m .listed .counted;
-    listed = λ j h. listed j (omega (arith, count-most tree text s count m)) ∙ m .listed .listed j h;
+    listed = λ j h. listed j (omega (arith, records-most tree (records tree))) ∙ m .listed .listed j h;
   };
   slots = slots-stay tree text s s′ slots _ (m .slots);
 }
 
 -- the words of the list, and all from the texts' numbers to the slots of names, are as they were
-pub keyed-kept : (tree text s s′ : List ℕ) (count : ℕ) → length s′ ≡ length s → ((p : ℕ) → p + 4 ≤ 4 * records tree → wordAt s′ p ≡ wordAt s p)
-    → ((p : ℕ) → 40 * records tree ≤ p → p + 4 ≤ 60 * records tree → wordAt s′ p ≡ wordAt s p) → Keyed tree text s count → Keyed tree text s′ count
-keyed-kept tree text s s′ count long listed same k =
+pub keyed-kept : (tree text s s′ : List ℕ) → length s′ ≡ length s → ((p : ℕ) → p + 4 ≤ 4 * records tree → wordAt s′ p ≡ wordAt s p)
+    → ((p : ℕ) → 40 * records tree ≤ p → p + 4 ≤ 60 * records tree → wordAt s′ p ≡ wordAt s p) → Keyed tree text s → Keyed tree text s′
+keyed-kept tree text s s′ long listed same k =
     let n : ℕ = records tree in
-    let mapped : Mapped tree text s count = record { good = k .good; numbered = k .numbered; distinct = k .distinct; listed = k .listed; slots = k .slots } in
-    let m : Mapped tree text s′ count =
-    mapped-stays tree text s s′ count long (λ j h. listed (4 * j) (omega arith)) (λ r h t. same (originalAt n r) (omega arith) (omega arith))
+    let mapped : Mapped tree text s = record { good = k .good; numbered = k .numbered; distinct = k .distinct; listed = k .listed; slots = k .slots } in
+    let m : Mapped tree text s′ =
+    mapped-stays tree text s s′ long (λ j h. listed (4 * j) (omega arith)) (λ r h t. same (originalAt n r) (omega arith) (omega arith))
     (λ r h t. same (keySlotAt n r) (omega arith) (omega arith)) (λ r h t. same (textDigestAt n r) (omega arith) (omega arith)) mapped in
     record {
       good = m .good;
@@ -238,7 +235,7 @@ cleared-away from to s s′ c p (inl h) =
 cleared-away from to s s′ c p (inr h) =
     word-same s′ p s p (c .behind p (omega arith)) (c .behind (p + 1) (omega arith)) (c .behind (p + 2) (omega arith)) (c .behind (p + 3) (omega arith))
 
-module _ (tree text s s₁ s₂ : List ℕ) (count : ℕ) (m : Mapped tree text s count) (c₁ : Cleared (48 * records tree) (48 * records tree + 4 * records tree) s s₁)
+module _ (tree text s s₁ s₂ : List ℕ) (m : Mapped tree text s) (c₁ : Cleared (48 * records tree) (48 * records tree + 4 * records tree) s s₁)
     (c₂ : Cleared (56 * records tree) (56 * records tree + 4 * records tree) s₁ s₂) where
   cleared-stays : (p : ℕ) → (p + 4 ≤ 48 * records tree) ⊎ (52 * records tree ≤ p) → (p + 4 ≤ 56 * records tree) ⊎ (60 * records tree ≤ p) → wordAt s₂ p ≡ wordAt s p
   cleared-stays p a b = cleared-away _ _ s₁ s₂ c₂ p (behind b) ∙ cleared-away _ _ s s₁ c₁ p (between a)
@@ -251,10 +248,10 @@ module _ (tree text s s₁ s₂ : List ℕ) (count : ℕ) (m : Mapped tree text 
       behind (inl h) = inl h
       behind (inr h) = inr (omega arith)
 
-  pub chaining-none : Chaining tree text s₂ count 0 0
+  pub chaining-none : Chaining tree text s₂ 0 0
   chaining-none = record {
     mapped =
-        mapped-stays tree text s s₂ count (c₂ .long ∙ c₁ .long)
+        mapped-stays tree text s s₂ (c₂ .long ∙ c₁ .long)
         (λ j h. cleared-stays (4 * j) (inl (omega arith)) (inl (omega arith)))
         (λ r h t. cleared-stays (originalAt (records tree) r) (inl (omega arith)) (inl (omega arith)))
         (λ r h t. cleared-stays (keySlotAt (records tree) r) (inl (omega arith)) (inl (omega arith)))
@@ -270,8 +267,8 @@ module _ (tree text s s₁ s₂ : List ℕ) (count : ℕ) (m : Mapped tree text 
 
 -- ---- record r is passed
 
-module _ (tree text s : List ℕ) (count : ℕ) where
-  pub passed-other : (r : ℕ) → isFunction tree r ≡ false → Chaining tree text s count r r → Chaining tree text s count (r + 1) (r + 1)
+module _ (tree text s : List ℕ) where
+  pub passed-other : (r : ℕ) → isFunction tree r ≡ false → Chaining tree text s r r → Chaining tree text s (r + 1) (r + 1)
   passed-other r e c = record {
     mapped = c .mapped;
     digests =
@@ -284,7 +281,7 @@ module _ (tree text s : List ℕ) (count : ℕ) where
   }
 
   -- a function that is not mangled is in no chain of names
-  pub passed-plain : (r : ℕ) → is-mangled (functionOf tree text r) ≡ false → Chaining tree text s count (r + 1) r → Chaining tree text s count (r + 1) (r + 1)
+  pub passed-plain : (r : ℕ) → is-mangled (functionOf tree text r) ≡ false → Chaining tree text s (r + 1) r → Chaining tree text s (r + 1) (r + 1)
   passed-plain r e c = record {
     mapped = c .mapped;
     digests = c .digests;
@@ -296,7 +293,7 @@ module _ (tree text s : List ℕ) (count : ℕ) where
 
 -- ---- function f by its key: s₁ is the scratch once the digest is written
 
-module _ (tree text s s₁ s′ : List ℕ) (count f d b : ℕ) (c : Chaining tree text s count f f) (at : FunctionAt tree f) (hb : b < records tree)
+module _ (tree text s s₁ s′ : List ℕ) (f d b : ℕ) (c : Chaining tree text s f f) (at : FunctionAt tree f) (hb : b < records tree)
     (e₁ : s₁ ≡ splice s (textDigestAt (records tree) f) (word d)) (e : s′ ≡ linked (keyHeadAt (records tree) b) (originalAt (records tree) f) (f + 1) s₁) where
   room : 72 * records tree ≤ length s
   room = c .mapped .listed .room
@@ -325,9 +322,9 @@ module _ (tree text s s₁ s′ : List ℕ) (count f d b : ℕ) (c : Chaining tr
   away : (q : ℕ) → Away q (textDigestAt (records tree) f) → Away q (originalAt (records tree) f) → Away q (keyHeadAt (records tree) b) → wordAt s′ q ≡ wordAt s q
   away q x y z = away₂ q y z ∙ away₁ q x
 
-  key-mapped : Mapped tree text s′ count
+  key-mapped : Mapped tree text s′
   key-mapped =
-      mapped-stays tree text s s′ count key-long
+      mapped-stays tree text s s′ key-long
       (λ j h. away (4 * j) (inl (omega arith)) (inl (omega arith)) (inl (omega arith)))
       (λ r h t. away (originalAt (records tree) r) (inl (omega arith)) (slot-away (40 * records tree) r f (not-own tree f r at t)) (inl (omega arith)))
       (λ r h t. away (keySlotAt (records tree) r) (inl (omega arith)) (inr (omega (arith, at .below))) (inl (omega arith)))
@@ -350,7 +347,7 @@ module _ (tree text s s₁ s′ : List ℕ) (count f d b : ℕ) (c : Chaining tr
     head-fits : wordAt s₁ (keyHeadAt (records tree) b) < 4294967296
     head-fits = omega (arith, link-within (keyBucket tree text) f b _ (head-same ∙ c .by-key .heads b hb), at .below, c .mapped .good .few)
 
-    pub chained-key : Chaining tree text s′ count (f + 1) f
+    pub chained-key : Chaining tree text s′ (f + 1) f
     chained-key = record {
       mapped = key-mapped;
       digests =
@@ -375,7 +372,7 @@ module _ (tree text s s₁ s′ : List ℕ) (count f d b : ℕ) (c : Chaining tr
 
 -- ---- function f by its name
 
-module _ (tree text s s′ : List ℕ) (count f o : ℕ) (c : Chaining tree text s count (f + 1) f) (at : FunctionAt tree f) (mangled : is-mangled (functionOf tree text f) ≡ true)
+module _ (tree text s s′ : List ℕ) (f o : ℕ) (c : Chaining tree text s (f + 1) f) (at : FunctionAt tree f) (mangled : is-mangled (functionOf tree text f) ≡ true)
     (eo : o ≡ original tree text (wordOf tree f A)) (ho : o < records tree) (e : s′ ≡ linked (nameHeadAt (records tree) o) (keySlotAt (records tree) f) (f + 1) s) where
   name-fit-head : nameHeadAt (records tree) o + 4 ≤ length s
   name-fit-head = omega (arith, c .mapped .listed .room)
@@ -389,10 +386,10 @@ module _ (tree text s s′ : List ℕ) (count f o : ℕ) (c : Chaining tree text
   name-head-fits : wordAt s (nameHeadAt (records tree) o) < 4294967296
   name-head-fits = omega (arith, link-within (nameBucket tree text) f o _ (c .by-name .heads o ho), at .below, c .mapped .good .few)
 
-  pub chained-name : Chaining tree text s′ count (f + 1) (f + 1)
+  pub chained-name : Chaining tree text s′ (f + 1) (f + 1)
   chained-name = record {
     mapped =
-        mapped-stays tree text s s′ count
+        mapped-stays tree text s s′
         (linked-long s (nameHeadAt (records tree) o) (keySlotAt (records tree) f) (f + 1) name-fit-head name-fit-link s′ e)
         (λ j h. name-away (4 * j) (inl (omega arith)) (inl (omega arith)))
         (λ r h t. name-away (originalAt (records tree) r) (inl (omega arith)) (inl (omega arith)))
@@ -418,15 +415,15 @@ module _ (tree text s s′ : List ℕ) (count f o : ℕ) (c : Chaining tree text
 -- ---- all records
 
 -- the loop: the records below r are passed
-pub record Passing (tree text s₀ s : List ℕ) (count r : ℕ) : Type 0 where
+pub record Passing (tree text s₀ s : List ℕ) (r : ℕ) : Type 0 where
   pub below : r ≤ records tree
-  pub chaining : Chaining tree text s count r r
+  pub chaining : Chaining tree text s r r
   pub long : length s ≡ length s₀
 
-pub all-chained : (tree text s : List ℕ) (count r : ℕ) → r ≤ records tree → records tree ≤ r → Chaining tree text s count r r → Keyed tree text s count
-all-chained tree text s count r a b x =
+pub all-chained : (tree text s : List ℕ) (r : ℕ) → r ≤ records tree → records tree ≤ r → Chaining tree text s r r → Keyed tree text s
+all-chained tree text s r a b x =
     let q : r ≡ records tree = omega arith in
-    let c : Chaining tree text s count (records tree) (records tree) = rw q at x in
+    let c : Chaining tree text s (records tree) (records tree) = rw q at x in
     record {
       good = c .mapped .good;
       numbered = c .mapped .numbered;

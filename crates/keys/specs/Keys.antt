@@ -96,11 +96,11 @@ abbrev pub keyEntered : List ℕ → List ℕ → ℕ → List ℕ → List ℕ
 keyEntered tree text f s = splice s (keySlotAt (records tree) (original tree text (keyRecord tree text f))) (word (f + 1))
 
 -- `get_all_functions` went well: a good tree whose keys are distinct, its texts numbered, its functions listed in scratch and entered by their keys
-pub record Mapped (tree text s : List ℕ) (count : ℕ) : Type 0 where
+pub record Mapped (tree text s : List ℕ) : Type 0 where
   pub good : Good tree text
   pub numbered : Numbered tree text s
   pub distinct : get-all-functions (program tree text .functions) [] ≡ ok (allKeys tree text)
-  pub listed : Listed tree s count
+  pub listed : Listed tree s (length (functionPlaces tree))
   pub slots : KeySlots tree text s (allKeys tree text)
 
 -- ---- the functions in chains
@@ -150,18 +150,18 @@ module _ (tree text : List ℕ) where
   ByName s r = Chain nameBucket (nameHeadAt (records tree)) (keySlotAt (records tree)) (records tree) r s
 
 -- on the way: the functions below k are chained by key, those below m by name
-pub record Chaining (tree text s : List ℕ) (count k m : ℕ) : Type 0 where
-  pub mapped : Mapped tree text s count
+pub record Chaining (tree text s : List ℕ) (k m : ℕ) : Type 0 where
+  pub mapped : Mapped tree text s
   pub digests : KeyDigests tree text s k
   pub by-key : ByKey tree text s k
   pub by-name : ByName tree text s m
 
 -- all functions are
-pub record Keyed (tree text s : List ℕ) (count : ℕ) : Type 0 where
+pub record Keyed (tree text s : List ℕ) : Type 0 where
   pub good : Good tree text
   pub numbered : Numbered tree text s
   pub distinct : get-all-functions (program tree text .functions) [] ≡ ok (allKeys tree text)
-  pub listed : Listed tree s count
+  pub listed : Listed tree s (length (functionPlaces tree))
   pub slots : KeySlots tree text s (allKeys tree text)
   pub digests : KeyDigests tree text s (records tree)
   pub by-key : ByKey tree text s (records tree)

@@ -193,9 +193,9 @@ fn put_before(scratch: &mut [u8], head: usize, link: usize, next: u32)
 }
 
 // Function f gets the digest of its key, and goes before the others of the digest's bucket.
-fn chain_key(tree: &[u8], text: &[u8], scratch: &mut [u8], count: usize, f: usize)
-    requires { ⌜ Chaining (now tree) (now text) (now scratch) count f f × FunctionAt (now tree) f ⌝ }
-    ensures { λ _. ⌜ Chaining (now (tree .entry)) (now (text .entry)) (now (scratch .exit)) count (f + 1) f ⌝ }
+fn chain_key(tree: &[u8], text: &[u8], scratch: &mut [u8], f: usize)
+    requires { ⌜ Chaining (now tree) (now text) (now scratch) f f × FunctionAt (now tree) f ⌝ }
+    ensures { λ _. ⌜ Chaining (now (tree .entry)) (now (text .entry)) (now (scratch .exit)) (f + 1) f ⌝ }
 {
     let n = tree.len() / 32;
     let next = (f + 1) as u32;
@@ -211,9 +211,9 @@ fn chain_key(tree: &[u8], text: &[u8], scratch: &mut [u8], count: usize, f: usiz
 }
 
 // A mangled function goes before the others of its name.
-fn chain_name(tree: &[u8], text: &[u8], scratch: &mut [u8], count: usize, f: usize)
-    requires { ⌜ Chaining (now tree) (now text) (now scratch) count (f + 1) f × FunctionAt (now tree) f × (is-mangled (functionOf (now tree) (now text) f) ≡ true) ⌝ }
-    ensures { λ _. ⌜ Chaining (now (tree .entry)) (now (text .entry)) (now (scratch .exit)) count (f + 1) (f + 1) ⌝ }
+fn chain_name(tree: &[u8], text: &[u8], scratch: &mut [u8], f: usize)
+    requires { ⌜ Chaining (now tree) (now text) (now scratch) (f + 1) f × FunctionAt (now tree) f × (is-mangled (functionOf (now tree) (now text) f) ≡ true) ⌝ }
+    ensures { λ _. ⌜ Chaining (now (tree .entry)) (now (text .entry)) (now (scratch .exit)) (f + 1) (f + 1) ⌝ }
 {
     let n = tree.len() / 32;
     let next = (f + 1) as u32;
@@ -227,23 +227,23 @@ fn chain_name(tree: &[u8], text: &[u8], scratch: &mut [u8], count: usize, f: usi
 }
 
 // Record r, where it is a function.
-fn chain_record(tree: &[u8], text: &[u8], scratch: &mut [u8], count: usize, r: usize)
-    requires { ⌜ Chaining (now tree) (now text) (now scratch) count r r × (r < records (now tree)) ⌝ }
-    ensures { λ _. ⌜ Chaining (now (tree .entry)) (now (text .entry)) (now (scratch .exit)) count (r + 1) (r + 1) ⌝ }
+fn chain_record(tree: &[u8], text: &[u8], scratch: &mut [u8], r: usize)
+    requires { ⌜ Chaining (now tree) (now text) (now scratch) r r × (r < records (now tree)) ⌝ }
+    ensures { λ _. ⌜ Chaining (now (tree .entry)) (now (text .entry)) (now (scratch .exit)) (r + 1) (r + 1) ⌝ }
 {
     if kind(tree, r) != KIND_FUNCTION {
         return;
     }
-    chain_key(tree, text, scratch, count, r);
+    chain_key(tree, text, scratch, r);
     if is_mangled(tree, text, r) {
-        chain_name(tree, text, scratch, count, r);
+        chain_name(tree, text, scratch, r);
     }
 }
 
 // The functions are chained by the digests of their keys, and the mangled ones by their names, so that a call looks only at those that may be meant.
-pub fn chain_functions(tree: &[u8], text: &[u8], scratch: &mut [u8], count: usize)
-    requires { ⌜ Mapped (now tree) (now text) (now scratch) count ⌝ }
-    ensures { λ _. ⌜ Keyed (now (tree .entry)) (now (text .entry)) (now (scratch .exit)) count ⌝ }
+pub fn chain_functions(tree: &[u8], text: &[u8], scratch: &mut [u8])
+    requires { ⌜ Mapped (now tree) (now text) (now scratch) ⌝ }
+    ensures { λ _. ⌜ Keyed (now (tree .entry)) (now (text .entry)) (now (scratch .exit)) ⌝ }
 {
     let n = tree.len() / 32;
     let keys = KEY_HEADS * n;
@@ -252,7 +252,7 @@ pub fn chain_functions(tree: &[u8], text: &[u8], scratch: &mut [u8], count: usiz
     clear_run(scratch, names, names + NAME_HEAD_BYTES * n);
     let mut r = 0;
     while r < n {
-        chain_record(tree, text, scratch, count, r);
+        chain_record(tree, text, scratch, r);
         r += 1;
     }
 }

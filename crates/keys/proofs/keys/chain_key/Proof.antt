@@ -78,7 +78,7 @@ returns c =
     let start = c .before .before .before .before .before .before .before .before .before .before .before .before .before .before .before .before in
     let bucket = c .before .before .before .before .before .before .before .before .bucket .ensures in
     let digest = digest-read _ _ (start .pre .0 .mapped .good) _ (start .pre .1) _ _ (c .before .before .before .before .before .before .before .before .before .before .before .key-record .ensures) (start .pre .0 .mapped .numbered) _ (c .before .before .before .before .before .before .before .before .before .before .kept-digest .ensures) in
-    chained-key _ _ _ _ _ _ _ _ _ (start .pre .0) (start .pre .1) (bucket .1) (c .before .before .before .before .before .before .put-word .ensures) (c .before .before .put-before .ensures) (digest .0) (omega (arith, digest .1)) (bucket .0 ∙ ap (bucketOf _) (c .before .before .before .before .before .before .before .before .before .roll-digest .ensures))
+    chained-key _ _ _ _ _ _ _ _ (start .pre .0) (start .pre .1) (bucket .1) (c .before .before .before .before .before .before .put-word .ensures) (c .before .before .put-before .ensures) (digest .0) (omega (arith, digest .1)) (bucket .0 ∙ ap (bucketOf _) (c .before .before .before .before .before .before .before .before .before .roll-digest .ensures))
 
 pub chain-key-spec : {M : Type 1} → statement M
 chain-key-spec =

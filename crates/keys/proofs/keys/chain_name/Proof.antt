@@ -62,7 +62,7 @@ returns : tie.Need-returns
 returns c =
     let start = c .before .before .before .before .before .before .before .before .before .before in
     let number = name-number _ _ (start .pre .0 .mapped .good) _ (start .pre .1) _ _ (c .before .before .before .before .before .reference .ensures) (start .pre .0 .mapped .numbered) _ (c .before .before .before .before .original .ensures) in
-    chained-name _ _ _ _ _ _ _ (start .pre .0) (start .pre .1) (start .pre .2) (number .0) (number .1) (c .before .before .put-before .ensures)
+    chained-name _ _ _ _ _ _ (start .pre .0) (start .pre .1) (start .pre .2) (number .0) (number .1) (c .before .before .put-before .ensures)
 
 pub chain-name-spec : {M : Type 1} → statement M
 chain-name-spec =

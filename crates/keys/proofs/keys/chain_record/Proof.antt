@@ -16,7 +16,7 @@ kind-requires : tie.Need-kind-requires
 kind-requires c κs = search needs
 
 returns : tie.Need-returns
-returns c = passed-other _ _ _ _ _ (kind-other _ _ _ (c .before .kind .ensures) (c .if1 .taken)) (c .before .before .before .before .before .pre .0)
+returns c = passed-other _ _ _ _ (kind-other _ _ _ (c .before .kind .ensures) (c .if1 .taken)) (c .before .before .before .before .before .pre .0)
 
 chain-key-requires : tie.Need-chain-key-requires
 chain-key-requires c κs = search needs
@@ -39,7 +39,7 @@ same-length-2 : tie.Need-same-length-2
 same-length-2 c = search needs
 
 returns-3 : tie.Need-returns-3
-returns-3 c = passed-plain _ _ _ _ _ (sym (c .before .is-mangled .ensures) ∙ c .if2 .left) (c .before .before .before .before .chain-key .ensures)
+returns-3 c = passed-plain _ _ _ _ (sym (c .before .is-mangled .ensures) ∙ c .if2 .left) (c .before .before .before .before .chain-key .ensures)
 
 pub chain-record-spec : {M : Type 1} → statement M
 chain-record-spec =
