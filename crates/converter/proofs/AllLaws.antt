@@ -24,7 +24,7 @@ use Rattle.conversion.specs.Visits.{bodyVisits, functionsVisits}
 use Rattle.conversion.specs.Written.{bytesOf, word, wide, encodeAll, encodeFields, encodeInstr, encodeVar, encodeLabel, encodeFunctions, encodeString, encodeFloat, allCode, allVars, allLabels}
 use Rattle.ir.specs.declared.structs.Counters.{Counters}
 use Rattle.ir.specs.Arena.{Table, encodeDigest, LinkedEntries, entryBucket, noFloat, stringBucket, sameString, noString, Holds, Room}
-use Rattle.keys.specs.Keys.{functionPlaces, allKeys, Listed, Mapped, Keyed}
+use Rattle.keys.specs.Keys.{functionPlaces, allKeys, Mapped, Keyed}
 use Rattle.keys.proofs.KeyLaws.{from, from-start, from-one, from-end}
 use Rattle.keys.proofs.KeySearch.{records-most}
 use Rattle.texts.specs.Texts.{Kept}
@@ -130,9 +130,6 @@ all-start tree text l s count k keyed counted room turns e =
     })
 
 module _ (tree text l₀ s₀ : List ℕ) (count : ℕ) (k : Counters) (j : ℕ) (l s : List ℕ) (w : SoFar tree text l₀ s₀ count k j l s) where
-  pub still-listed : Listed tree s count
-  still-listed = subst (Listed tree s) (sym (w .counted)) (w .keyed .listed)
-
   pub few-functions : count ≤ mostRecords
   few-functions = omega (arith, w .counted, records-most tree (records tree), w .keyed .good .few)
 
@@ -140,7 +137,7 @@ module _ (tree text l₀ s₀ : List ℕ) (count : ℕ) (k : Counters) (j : ℕ)
     -- the function at hand, and those behind it
     one-more : from tree text j ≡ functionOf tree text f ∷ from tree text (j + 1)
     one-more = from-one tree text j (omega (arith, w .counted))
-        ∙ ap (λ (r : ℕ). functionOf tree text r ∷ from tree text (j + 1)) (sym (is ∙ still-listed .listed j h))
+        ∙ ap (λ (r : ℕ). functionOf tree text r ∷ from tree text (j + 1)) (sym (is ∙ w .keyed .listed .listed j (omega (arith, w .counted))))
 
     records-left : allRecords (from tree text j) ≡ functionRecords (functionOf tree text f) + allRecords (from tree text (j + 1))
     unfolding allRecords
@@ -271,9 +268,6 @@ module _ (tree text s s₁ : List ℕ) (r : AllFunctions) (m : AllMeet tree text
       go : (x : AllFunctions) → AllMeet tree text s s₁ x → x ≡ AllFunctions.Done count → Mapped tree text s₁ × (count ≡ length (functionPlaces tree))
       go x (done {count = n} p k c) z = let y : n ≡ count = cc in (k, sym y ∙ c)
       go x (refused p l g) z = absurd (let y : _≡_ {A = ℕ} 0 1 = cc in omega arith)
-
-  pub keys-listed : (count : ℕ) → r ≡ AllFunctions.Done count → Listed tree s₁ count
-  keys-listed count q = let d = keys-done count q in subst (Listed tree s₁) (sym (d .1)) (d .0 .listed)
 
   module _ (good : Good tree text) (room : 72 * records tree ≤ length s) where
     pub listed-long : length s₁ ≡ length s

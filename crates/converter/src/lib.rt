@@ -94,7 +94,7 @@ fn convert_all(
     let mut k = empty_tables(tree.len() / 32);
     let mut j = 0;
     while j < count {
-        let f = function_at(tree, scratch, count, j);
+        let f = function_at(tree, scratch, j);
         match convert_func(tree, text, arena, scratch, k, f) {
             Finished::Refused(e) => return Finished::Refused(e),
             Finished::Done(next) => k = next,

@@ -193,7 +193,6 @@ mapped-stays tree text s s′ long listed numbers slots digests m = record {
   distinct = m .distinct;
   listed = record {
     room = omega (arith, m .listed .room, long);
-    counted = m .listed .counted;
     listed = λ j h. listed j (omega (arith, records-most tree (records tree))) ∙ m .listed .listed j h;
   };
   slots = slots-stay tree text s s′ slots _ (m .slots);

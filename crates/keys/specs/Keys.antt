@@ -64,11 +64,10 @@ module _ (tree text : List ℕ) where
   unfolding keyed program
   allKeys = keyed (program tree text .functions)
 
--- the scratch has the functions' records, `count` of them
-pub record Listed (tree s : List ℕ) (count : ℕ) : Type 0 where
+-- the scratch has the functions' records, one after the other
+pub record Listed (tree s : List ℕ) : Type 0 where
   pub room : scratchEach * records tree ≤ length s
-  pub counted : count ≡ length (functionPlaces tree)
-  pub listed : (j : ℕ) → j < count → wordAt s (judging .each * j) ≡ getD (functionPlaces tree) j 0
+  pub listed : (j : ℕ) → j < length (functionPlaces tree) → wordAt s (judging .each * j) ≡ getD (functionPlaces tree) j 0
 
 -- ---- the functions by the numbers of their keys
 
@@ -100,7 +99,7 @@ pub record Mapped (tree text s : List ℕ) : Type 0 where
   pub good : Good tree text
   pub numbered : Numbered tree text s
   pub distinct : get-all-functions (program tree text .functions) [] ≡ ok (allKeys tree text)
-  pub listed : Listed tree s (length (functionPlaces tree))
+  pub listed : Listed tree s
   pub slots : KeySlots tree text s (allKeys tree text)
 
 -- ---- the functions in chains
@@ -161,7 +160,7 @@ pub record Keyed (tree text s : List ℕ) : Type 0 where
   pub good : Good tree text
   pub numbered : Numbered tree text s
   pub distinct : get-all-functions (program tree text .functions) [] ≡ ok (allKeys tree text)
-  pub listed : Listed tree s (length (functionPlaces tree))
+  pub listed : Listed tree s
   pub slots : KeySlots tree text s (allKeys tree text)
   pub digests : KeyDigests tree text s (records tree)
   pub by-key : ByKey tree text s (records tree)

@@ -12,7 +12,7 @@ ghost use Rattle.conversion.specs.Expressions.{is-mangled};
 ghost use Rattle.syntax.specs.Places.{FunctionAt, functionOf, ParamsAt, paramsAt};
 ghost use Rattle.keys.specs.Parts.{PartIs};
 ghost use Rattle.texts.specs.Texts.{original as originalOf, originalAt, Numbered};
-ghost use Rattle.keys.specs.Keys.{functionKey, Listed, Mapped, Chaining, Keyed, keyRecord, keySlotAt, keyEntered, linked, keyHeadAt, nameHeadAt, FindsKey, FindsOwnKey};
+ghost use Rattle.keys.specs.Keys.{functionKey, functionPlaces, Listed, Mapped, Chaining, Keyed, keyRecord, keySlotAt, keyEntered, linked, keyHeadAt, nameHeadAt, FindsKey, FindsOwnKey};
 use crate::parts::Part;
 use crate::parts::is_main;
 use crate::parts::text_part;
@@ -109,9 +109,9 @@ pub fn key_of(tree: &[u8], text: &[u8], f: usize) -> Part
 }
 
 // The j-th of the listed functions.
-pub fn function_at(tree: &[u8], scratch: &[u8], count: usize, j: usize) -> usize
-    requires { ⌜ Listed (now tree) (now scratch) count ⌝ }
-    requires { ⌜ j < count ⌝ }
+pub fn function_at(tree: &[u8], scratch: &[u8], j: usize) -> usize
+    requires { ⌜ Listed (now tree) (now scratch) ⌝ }
+    requires { ⌜ j < length (functionPlaces (now tree)) ⌝ }
     ensures { λ f. ⌜ (f ≡ wordAt (now (scratch .entry)) (judging .each * j)) × FunctionAt (now (tree .entry)) f ⌝ }
 {
     load(scratch, LISTED_BYTES * j) as usize

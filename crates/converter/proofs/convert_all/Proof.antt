@@ -4,7 +4,7 @@ use Prim.Native.Nat.{_-_}
 use mathlib.Core.Path.{_∙_}
 use native.Mathlib.Omega.{arith}
 use borrow.Author.Needs.{needs}
-use Rattle.converter.proofs.AllLaws.{SoFar, still-listed, few-functions, all-start, one-afforded, all-next, all-refused, all-end}
+use Rattle.converter.proofs.AllLaws.{SoFar, few-functions, all-start, one-afforded, all-next, all-refused, all-end}
 use Rattle.converter.proofs.convert_all.Statement.{statement}
 use Rattle.converter.proofs.convert_all.Tie as tie
 
@@ -23,7 +23,9 @@ loop-holds c =
     all-start _ _ _ _ _ _ (first .pre .0 .0) (first .pre .0 .1) (first .pre .0 .2) (first .pre .1) (c .empty-tables .ensures)
 
 function-at-requires : tie.Need-function-at-requires Inv-loop μ-loop
-function-at-requires c κs = (still-listed _ _ _ _ _ _ _ _ _ (c .before .before .loop .inv), c .before .loop-test .taken)
+function-at-requires c κs =
+    let w = c .before .before .loop .inv in
+    (w .keyed .listed, omega (arith, c .before .loop-test .taken, w .counted))
 
 convert-func-requires : tie.Need-convert-func-requires Inv-loop μ-loop
 convert-func-requires c κs =

@@ -3,7 +3,7 @@
 use mathlib.Core.Path.{_∙_}
 use native.Mathlib.Omega.{arith}
 use borrow.Author.Needs.{needs}
-use Rattle.converter.proofs.AllLaws.{forgets-keyed, forgets-turns, keys-done, keys-listed, listed-room, tree-unkeyed, tree-mainless, tree-all, room-numbered, tree-numbered}
+use Rattle.converter.proofs.AllLaws.{forgets-keyed, forgets-turns, keys-done, listed-room, tree-unkeyed, tree-mainless, tree-all, room-numbered, tree-numbered}
 use Rattle.converter.proofs.convert_program.Statement.{statement}
 use Rattle.converter.proofs.convert_program.Tie as tie
 use Rattle.converter.proofs.convert_program.Reads as reads
@@ -30,7 +30,8 @@ check-main-requires : tie.Need-check-main-requires
 check-main-requires c κs =
     let start = c .before .before .before .before .before .before .before .before .before .before .before .before .before .before .before .before in
     let listing = c .before .before .before .before .before .before in
-    (start .pre .0, keys-listed _ _ _ _ _ (listing .get-all-functions .ensures) _ (c .before .before .count .given .1))
+    let made = keys-done _ _ _ _ _ (listing .get-all-functions .ensures) _ (c .before .before .count .given .1) in
+    (start .pre .0, made .0 .listed, made .1)
 
 enum-known-e-2 : tie.Need-enum-known-e-2
 enum-known-e-2 c = search needs
