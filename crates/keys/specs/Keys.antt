@@ -148,23 +148,20 @@ module _ (tree text : List ℕ) where
   abbrev pub ByName : List ℕ → ℕ → Type 0
   ByName s r = Chain nameBucket (nameHeadAt (records tree)) (keySlotAt (records tree)) (records tree) r s
 
--- on the way: the functions below k are chained by key, those below m by name
+-- what `Mapped` says, and on the way: the functions below k are chained by key, those below m by name
 pub record Chaining (tree text s : List ℕ) (k m : ℕ) : Type 0 where
-  pub mapped : Mapped tree text s
-  pub digests : KeyDigests tree text s k
-  pub by-key : ByKey tree text s k
-  pub by-name : ByName tree text s m
-
--- all functions are
-pub record Keyed (tree text s : List ℕ) : Type 0 where
   pub good : Good tree text
   pub numbered : Numbered tree text s
   pub distinct : get-all-functions (program tree text .functions) [] ≡ ok (allKeys tree text)
   pub listed : Listed tree s
   pub slots : KeySlots tree text s (allKeys tree text)
-  pub digests : KeyDigests tree text s (records tree)
-  pub by-key : ByKey tree text s (records tree)
-  pub by-name : ByName tree text s (records tree)
+  pub digests : KeyDigests tree text s k
+  pub by-key : ByKey tree text s k
+  pub by-name : ByName tree text s m
+
+-- all functions are
+abbrev pub Keyed : List ℕ → List ℕ → List ℕ → Type 0
+Keyed tree text s = Chaining tree text s (records tree) (records tree)
 
 -- ---- what a search answers
 
