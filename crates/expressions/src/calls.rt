@@ -37,12 +37,7 @@ use texts::original;
 use types::casts::can_cast;
 
 // The mangled functions of the verb's name whose parameters take the arguments: the chain of the name's number has no others.
-fn find_functions_by_literals(
-    tree: &[u8],
-    text: &[u8],
-    scratch: &[u8],
-    call: Call,
-) -> Candidates
+fn find_functions_by_literals(tree: &[u8], text: &[u8], scratch: &[u8], call: Call) -> Candidates
     requires { ⌜ Keyed (now tree) (now text) (now scratch) ⌝ }
     requires { ⌜ Called (now tree) (now text) (now scratch) call ⌝ }
     ensures { λ r. ⌜ CandidatesAre (now (tree .entry)) (now (text .entry)) r (literalFits (now (tree .entry)) (now (text .entry)) (now (scratch .entry)) call) ⌝ }
@@ -100,13 +95,7 @@ fn refuse_call(kind: ConvertErrorKind, place: u32) -> Resolved
 }
 
 // Where the call is no cast.
-fn resolve_function(
-    tree: &[u8],
-    text: &[u8],
-    scratch: &[u8],
-    call: Call,
-    r: u32,
-) -> Resolved
+fn resolve_function(tree: &[u8], text: &[u8], scratch: &[u8], call: Call, r: u32) -> Resolved
     requires { ⌜ Keyed (now tree) (now text) (now scratch) ⌝ }
     requires { ⌜ Called (now tree) (now text) (now scratch) call ⌝ }
     ensures { λ a. ⌜ CalleeIs (now (tree .entry)) (now (text .entry)) a (functionFor (now (tree .entry)) (now (text .entry)) (now (scratch .entry)) call r) ⌝ }
@@ -141,12 +130,7 @@ fn call_of(tree: &[u8], text: &[u8], scratch: &[u8], r: usize) -> Call
 }
 
 // resolve_call from the typed arguments on.
-pub(crate) fn resolve_typed(
-    tree: &[u8],
-    text: &[u8],
-    scratch: &[u8],
-    r: usize,
-) -> Resolved
+pub(crate) fn resolve_typed(tree: &[u8], text: &[u8], scratch: &[u8], r: usize) -> Resolved
     requires { ⌜ Keyed (now tree) (now text) (now scratch) ⌝ }
     requires { ⌜ IsKind (now tree) kindCall r ⌝ }
     requires { ⌜ ArgsTyped (now tree) (now scratch) (argsAt (now tree) (now text) (wordOf (now tree) r Words.C)) ⌝ }

@@ -322,18 +322,10 @@ fn by_prefix(tree: &[u8], text: &[u8], scratch: &[u8], call: Call) -> Found
         k += 1;
     }
     let marked = marked_digest(digest);
-    later(
-        best,
-        by_marked(tree, text, scratch, call, k, size, marked),
-    )
+    later(best, by_marked(tree, text, scratch, call, k, size, marked))
 }
 
-pub(crate) fn find_exact_function(
-    tree: &[u8],
-    text: &[u8],
-    scratch: &[u8],
-    call: Call,
-) -> Found
+pub(crate) fn find_exact_function(tree: &[u8], text: &[u8], scratch: &[u8], call: Call) -> Found
     requires { ⌜ Keyed (now tree) (now text) (now scratch) ⌝ }
     requires { ⌜ Called (now tree) (now text) (now scratch) call ⌝ }
     ensures { λ r. ⌜ FunctionIs (now (tree .entry)) (now (text .entry)) r (exactly (now (tree .entry)) (now (text .entry)) (now (scratch .entry)) call) ⌝ }

@@ -62,12 +62,7 @@ fn declare_parameter(
 }
 
 // The scope with which the body of function f begins: its parameters, numbered from 0.
-pub fn declare_parameters(
-    tree: &[u8],
-    text: &[u8],
-    scratch: &mut [u8],
-    f: usize,
-) -> Parameters
+pub fn declare_parameters(tree: &[u8], text: &[u8], scratch: &mut [u8], f: usize) -> Parameters
     requires { ⌜ Keyed (now tree) (now text) (now scratch) ⌝ }
     requires { ⌜ FunctionAt (now tree) f ⌝ }
     ensures { λ a. ⌜ ParametersMeet (now (tree .entry)) (now (text .entry)) f (now (scratch .entry)) (now (scratch .exit)) a ⌝ }

@@ -224,9 +224,9 @@ keyed-kept tree text s s′ long listed same k =
     (λ r h t. same (keySlotAt n r) (omega arith) (omega arith)) (λ r h t. same (textDigestAt n r) (omega arith) (omega arith)) (still-mapped k))
     (λ f h at. same (textDigestAt n f) (omega arith) (omega arith) ∙ k .digests f h at)
     (chain-stays (keyBucket tree text) (keyHeadAt n) (originalAt n) n s s′ n (λ b h. same (keyHeadAt n b) (omega arith) (omega arith))
-          (λ r h. same (originalAt n r) (omega arith) (omega arith)) (k .by-key))
+    (λ r h. same (originalAt n r) (omega arith) (omega arith)) (k .by-key))
     (chain-stays (nameBucket tree text) (nameHeadAt n) (keySlotAt n) n s s′ n (λ b h. same (nameHeadAt n b) (omega arith) (omega arith))
-          (λ r h. same (keySlotAt n r) (omega arith) (omega arith)) (k .by-name))
+    (λ r h. same (keySlotAt n r) (omega arith) (omega arith)) (k .by-name))
 
 -- ---- the heads are cleared
 
@@ -257,15 +257,15 @@ module _ (tree text s s₁ s₂ : List ℕ) (m : Mapped tree text s) (c₁ : Cle
   chaining-none =
       with-chains tree text s₂ 0 0
       (mapped-stays tree text s s₂ (c₂ .long ∙ c₁ .long)
-        (λ j h. cleared-stays (4 * j) (inl (omega arith)) (inl (omega arith)))
-        (λ r h t. cleared-stays (originalAt (records tree) r) (inl (omega arith)) (inl (omega arith)))
-        (λ r h t. cleared-stays (keySlotAt (records tree) r) (inl (omega arith)) (inl (omega arith)))
-        (λ r h t. cleared-stays (textDigestAt (records tree) r) (inr (omega arith)) (inl (omega arith))) m)
+      (λ j h. cleared-stays (4 * j) (inl (omega arith)) (inl (omega arith)))
+      (λ r h t. cleared-stays (originalAt (records tree) r) (inl (omega arith)) (inl (omega arith)))
+      (λ r h t. cleared-stays (keySlotAt (records tree) r) (inl (omega arith)) (inl (omega arith)))
+      (λ r h t. cleared-stays (textDigestAt (records tree) r) (inr (omega arith)) (inl (omega arith))) m)
       (λ f h. absurd (omega arith))
       (chain-none (keyBucket tree text) (keyHeadAt (records tree)) (originalAt (records tree)) (records tree) s₂
-        (λ b h. cleared-away _ _ s₁ s₂ c₂ (keyHeadAt (records tree) b) (inl (omega arith)) ∙ cleared-word _ _ s s₁ c₁ (keyHeadAt (records tree) b) (omega arith) (omega arith)))
+      (λ b h. cleared-away _ _ s₁ s₂ c₂ (keyHeadAt (records tree) b) (inl (omega arith)) ∙ cleared-word _ _ s s₁ c₁ (keyHeadAt (records tree) b) (omega arith) (omega arith)))
       (chain-none (nameBucket tree text) (nameHeadAt (records tree)) (keySlotAt (records tree)) (records tree) s₂
-        (λ b h. cleared-word _ _ s₁ s₂ c₂ (nameHeadAt (records tree) b) (omega arith) (omega arith)))
+      (λ b h. cleared-word _ _ s₁ s₂ c₂ (nameHeadAt (records tree) b) (omega arith) (omega arith)))
 
 -- ---- record r is passed
 
@@ -275,10 +275,10 @@ module _ (tree text s : List ℕ) where
       with-chains tree text s (r + 1) (r + 1)
       (still-mapped c)
       (below-more (λ (f : ℕ). FunctionAt tree f → wordAt s (textDigestAt (records tree) f) ≡ keyRoll tree text f) r (c .digests)
-        (λ at. absurd (false≢true (sym e ∙ is-function tree text r at))))
+      (λ at. absurd (false≢true (sym e ∙ is-function tree text r at))))
       (chain-past (keyBucket tree text) (keyHeadAt (records tree)) (originalAt (records tree)) (records tree) s r (key-bucket-none tree text r e) (c .by-key))
       (chain-past (nameBucket tree text) (nameHeadAt (records tree)) (keySlotAt (records tree)) (records tree) s r
-        (name-bucket-none tree text r (rw e refl)) (c .by-name))
+      (name-bucket-none tree text r (rw e refl)) (c .by-name))
 
   -- a function that is not mangled is in no chain of names
   pub passed-plain : (r : ℕ) → is-mangled (functionOf tree text r) ≡ false → Chaining tree text s (r + 1) r → Chaining tree text s (r + 1) (r + 1)
@@ -288,7 +288,7 @@ module _ (tree text s : List ℕ) where
       (c .digests)
       (c .by-key)
       (chain-past (nameBucket tree text) (nameHeadAt (records tree)) (keySlotAt (records tree)) (records tree) s r
-        (name-bucket-none tree text r (tested (isFunction tree r) (λ t. rw (t, e) refl) (λ t. rw t refl))) (c .by-name))
+      (name-bucket-none tree text r (tested (isFunction tree r) (λ t. rw (t, e) refl) (λ t. rw t refl))) (c .by-name))
 
 -- ---- function f by its key: s₁ is the scratch once the digest is written
 
@@ -351,20 +351,20 @@ module _ (tree text s s₁ s′ : List ℕ) (f d b : ℕ) (c : Chaining tree tex
         with-chains tree text s′ (f + 1) f
         key-mapped
         (below-more (λ (g : ℕ). FunctionAt tree g → wordAt s′ (textDigestAt (records tree) g) ≡ keyRoll tree text g) f
-          (λ g h x.
-          away (textDigestAt (records tree) g) (inl (omega arith)) (inr (omega (arith, at .below))) (inr (omega (arith, hb)))
-          ∙ c .digests g h x)
-          (λ x. digest-there))
+        (λ g h x.
+        away (textDigestAt (records tree) g) (inl (omega arith)) (inr (omega (arith, at .below))) (inr (omega (arith, hb)))
+        ∙ c .digests g h x)
+        (λ x. digest-there))
         (chain-more (keyBucket tree text) (keyHeadAt (records tree)) (originalAt (records tree)) (records tree) s s′ f b bucket-is hb
-          (linked-head s₁ (keyHeadAt (records tree) b) (originalAt (records tree) f) (f + 1) fit-head fit-link s′ e (omega (arith, at .below, c .good .few)))
-          (linked-link s₁ (keyHeadAt (records tree) b) (originalAt (records tree) f) (f + 1) fit-head fit-link s′ e head-fits (inl (omega (arith, at .below))) ∙ head-same)
-          (λ x hx ne. away (keyHeadAt (records tree) x) (inl (omega arith)) (inr (omega (arith, at .below))) (slot-away (48 * records tree) x b ne))
-          (λ k h. away (originalAt (records tree) k) (inl (omega (arith, at .below))) (inl (omega arith)) (inl (omega (arith, at .below))))
-          (c .by-key))
+        (linked-head s₁ (keyHeadAt (records tree) b) (originalAt (records tree) f) (f + 1) fit-head fit-link s′ e (omega (arith, at .below, c .good .few)))
+        (linked-link s₁ (keyHeadAt (records tree) b) (originalAt (records tree) f) (f + 1) fit-head fit-link s′ e head-fits (inl (omega (arith, at .below))) ∙ head-same)
+        (λ x hx ne. away (keyHeadAt (records tree) x) (inl (omega arith)) (inr (omega (arith, at .below))) (slot-away (48 * records tree) x b ne))
+        (λ k h. away (originalAt (records tree) k) (inl (omega (arith, at .below))) (inl (omega arith)) (inl (omega (arith, at .below))))
+        (c .by-key))
         (chain-stays (nameBucket tree text) (nameHeadAt (records tree)) (keySlotAt (records tree)) (records tree) s s′ f
-          (λ x hx. away (nameHeadAt (records tree) x) (inr (omega (arith, at .below))) (inr (omega (arith, at .below))) (inr (omega (arith, hb))))
-          (λ k h. away (keySlotAt (records tree) k) (inl (omega (arith, at .below))) (inr (omega (arith, at .below))) (inl (omega (arith, at .below))))
-          (c .by-name))
+        (λ x hx. away (nameHeadAt (records tree) x) (inr (omega (arith, at .below))) (inr (omega (arith, at .below))) (inr (omega (arith, hb))))
+        (λ k h. away (keySlotAt (records tree) k) (inl (omega (arith, at .below))) (inr (omega (arith, at .below))) (inl (omega (arith, at .below))))
+        (c .by-name))
 
 -- ---- function f by its name
 
@@ -386,24 +386,24 @@ module _ (tree text s s′ : List ℕ) (f o : ℕ) (c : Chaining tree text s (f 
   chained-name =
       with-chains tree text s′ (f + 1) (f + 1)
       (mapped-stays tree text s s′
-        (linked-long s (nameHeadAt (records tree) o) (keySlotAt (records tree) f) (f + 1) name-fit-head name-fit-link s′ e)
-        (λ j h. name-away (4 * j) (inl (omega arith)) (inl (omega arith)))
-        (λ r h t. name-away (originalAt (records tree) r) (inl (omega arith)) (inl (omega arith)))
-        (λ r h t. name-away (keySlotAt (records tree) r) (slot-away (44 * records tree) r f (not-own tree f r at t)) (inl (omega arith)))
-        (λ r h t. name-away (textDigestAt (records tree) r) (inr (omega (arith, at .below))) (inl (omega arith)))
-        (still-mapped c))
+      (linked-long s (nameHeadAt (records tree) o) (keySlotAt (records tree) f) (f + 1) name-fit-head name-fit-link s′ e)
+      (λ j h. name-away (4 * j) (inl (omega arith)) (inl (omega arith)))
+      (λ r h t. name-away (originalAt (records tree) r) (inl (omega arith)) (inl (omega arith)))
+      (λ r h t. name-away (keySlotAt (records tree) r) (slot-away (44 * records tree) r f (not-own tree f r at t)) (inl (omega arith)))
+      (λ r h t. name-away (textDigestAt (records tree) r) (inr (omega (arith, at .below))) (inl (omega arith)))
+      (still-mapped c))
       (λ g h x. name-away (textDigestAt (records tree) g) (inr (omega (arith, at .below))) (inl (omega (arith, x .below))) ∙ c .digests g h x)
       (chain-stays (keyBucket tree text) (keyHeadAt (records tree)) (originalAt (records tree)) (records tree) s s′ (f + 1)
-        (λ x hx. name-away (keyHeadAt (records tree) x) (inr (omega (arith, at .below))) (inl (omega arith)))
-        (λ k h. name-away (originalAt (records tree) k) (inl (omega (arith, at .below))) (inl (omega (arith, at .below))))
-        (c .by-key))
+      (λ x hx. name-away (keyHeadAt (records tree) x) (inr (omega (arith, at .below))) (inl (omega arith)))
+      (λ k h. name-away (originalAt (records tree) k) (inl (omega (arith, at .below))) (inl (omega (arith, at .below))))
+      (c .by-key))
       (chain-more (nameBucket tree text) (nameHeadAt (records tree)) (keySlotAt (records tree)) (records tree) s s′ f o
-        (eo ∙ sym (name-bucket-is tree text f (is-function tree text f at) mangled)) ho
-        (linked-head s (nameHeadAt (records tree) o) (keySlotAt (records tree) f) (f + 1) name-fit-head name-fit-link s′ e (omega (arith, at .below, c .good .few)))
-        (linked-link s (nameHeadAt (records tree) o) (keySlotAt (records tree) f) (f + 1) name-fit-head name-fit-link s′ e name-head-fits (inl (omega (arith, at .below))))
-        (λ x hx ne. name-away (nameHeadAt (records tree) x) (inr (omega (arith, at .below))) (slot-away (56 * records tree) x o ne))
-        (λ k h. name-away (keySlotAt (records tree) k) (inl (omega arith)) (inl (omega (arith, at .below))))
-        (c .by-name))
+      (eo ∙ sym (name-bucket-is tree text f (is-function tree text f at) mangled)) ho
+      (linked-head s (nameHeadAt (records tree) o) (keySlotAt (records tree) f) (f + 1) name-fit-head name-fit-link s′ e (omega (arith, at .below, c .good .few)))
+      (linked-link s (nameHeadAt (records tree) o) (keySlotAt (records tree) f) (f + 1) name-fit-head name-fit-link s′ e name-head-fits (inl (omega (arith, at .below))))
+      (λ x hx ne. name-away (nameHeadAt (records tree) x) (inr (omega (arith, at .below))) (slot-away (56 * records tree) x o ne))
+      (λ k h. name-away (keySlotAt (records tree) k) (inl (omega arith)) (inl (omega (arith, at .below))))
+      (c .by-name))
 
 -- ---- all records
 
