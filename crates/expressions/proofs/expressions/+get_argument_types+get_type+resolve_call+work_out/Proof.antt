@@ -47,16 +47,16 @@ use Rattle.expressions.proofs.expressions.+get_argument_types+get_type+
 }
 
 abbrev μ-get-argument-types : Measures 3 get-argument-types-kinds.ps ℕ
-μ-get-argument-types κs a = 4 * a .1 .1 .1 .1 .1 .1 .0
+μ-get-argument-types κs a = 4 * a .1 .1 .1 .1 .1 .0
 
 abbrev μ-get-type : Measures 3 get-type-kinds.ps ℕ
-μ-get-type κs a = 4 * a .1 .1 .1 .1 .1 .1 .0 + 3
+μ-get-type κs a = 4 * a .1 .1 .1 .1 .1 .0 + 3
 
 abbrev μ-resolve-call : Measures 3 resolve-call-kinds.ps ℕ
-μ-resolve-call κs a = 4 * a .1 .1 .1 .1 .1 .1 .0 + 1
+μ-resolve-call κs a = 4 * a .1 .1 .1 .1 .1 .0 + 1
 
 abbrev μ-work-out : Measures 3 work-out-kinds.ps ℕ
-μ-work-out κs a = 4 * a .1 .1 .1 .1 .1 .1 .0 + 2
+μ-work-out κs a = 4 * a .1 .1 .1 .1 .1 .0 + 2
 
 abbrev get-argument-types-at : ℕ → In 3 get-argument-types-kinds.ps
 get-argument-types-at t =
