@@ -192,9 +192,9 @@ module _ (tree text s : List ℕ) (j : ℕ) (l : Listed tree s) where
     pub main-next : b ≡ false → MainLeft tree text j → MainLeft tree text (j + 1)
     main-next q w = main-more tree text j h (same false q) w
 
-  pub main-nowhere : length (functionPlaces tree) ≤ j → MainLeft tree text j → functionFound tree text Found.Nothing ≡ findMain (program tree text .functions)
+  pub main-nowhere : (count : ℕ) → count ≡ length (functionPlaces tree) → count ≤ j → MainLeft tree text j → functionFound tree text Found.Nothing ≡ findMain (program tree text .functions)
   unfolding functionFound
-  main-nowhere h w = sym (main-end tree text j h w)
+  main-nowhere count e h w = sym (main-end tree text j (omega (arith, e)) w)
 
 -- ---- all turns
 

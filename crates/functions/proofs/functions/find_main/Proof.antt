@@ -27,7 +27,7 @@ loop-holds c = (omega arith, main-start _ _)
 function-at-requires : tie.Need-function-at-requires Inv-loop μ-loop
 function-at-requires c κs =
     let first = c .before .before .before .before .before in
-    (first .pre .1 .0, omega (arith, c .before .loop-test .taken, first .pre .1 .1))
+    (first .pre .1 .0, omega (arith, c .loop-test .taken, first .pre .1 .1))
 
 -- src/functions.rt:111:26
 name-of-requires : tie.Need-name-of-requires Inv-loop μ-loop
@@ -73,7 +73,7 @@ loop-again c =
 returns-2 : tie.Need-returns-2 Inv-loop μ-loop
 returns-2 c =
     let first = c .before .before .before .before .before in
-    record { is = main-nowhere _ _ _ _ (first .pre .1 .0) (omega (arith, c .loop-test .left, first .pre .1 .1)) (c .before .loop .inv .1); function = no-function }
+    record { is = main-nowhere _ _ _ _ (first .pre .1 .0) _ (first .pre .1 .1) (c .loop-test .left) (c .before .loop .inv .1); function = no-function }
 
 pub find-main-spec : {M : Type 1} → statement M
 find-main-spec =
