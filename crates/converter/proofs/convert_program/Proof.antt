@@ -31,7 +31,7 @@ check-main-requires c κs =
     let start = c .before .before .before .before .before .before .before .before .before .before .before .before .before .before .before .before in
     let listing = c .before .before .before .before .before .before in
     let made = keys-done _ _ _ _ _ (listing .get-all-functions .ensures) _ (c .before .before .count .given .1) in
-    (start .pre .0, made .0 .listed, made .1)
+    (start .pre .0, (made .0 .listed, made .1))
 
 enum-known-e-2 : tie.Need-enum-known-e-2
 enum-known-e-2 c = search needs
