@@ -24,7 +24,7 @@ use Rattle.conversion.specs.Visits.{bodyVisits, functionsVisits}
 use Rattle.conversion.specs.Written.{bytesOf, word, wide, encodeAll, encodeFields, encodeInstr, encodeVar, encodeLabel, encodeFunctions, encodeString, encodeFloat, allCode, allVars, allLabels}
 use Rattle.ir.specs.declared.structs.Counters.{Counters}
 use Rattle.ir.specs.Arena.{Table, encodeDigest, LinkedEntries, floatEntryBucket, noFloat, stringBucket, sameString, noString, Holds, Room}
-use Rattle.keys.specs.Keys.{allKeys, Mapped, Keyed}
+use Rattle.keys.specs.Keys.{functionPlaces, allKeys, Mapped, Keyed}
 use Rattle.keys.proofs.KeyLaws.{from, from-start, from-one, from-end}
 use Rattle.keys.proofs.KeySearch.{records-most}
 use Rattle.texts.specs.Texts.{Kept}
@@ -86,7 +86,8 @@ nothing-held text n l = record {
 pub record SoFar (tree text l₀ s₀ : List ℕ) (count : ℕ) (k : Counters) (j : ℕ) (l s : List ℕ) : Type 0 where
   pub converted : List IrFunction
   pub pool : Pool
-  pub keyed : Keyed tree text s count
+  pub keyed : Keyed tree text s
+  pub counted : count ≡ length (functionPlaces tree)
   pub below : j ≤ count
   pub records-are : k .records ≡ records tree
   pub room : Room k l
@@ -105,16 +106,17 @@ all-afforded tree text good =
     subst (λ (fs : List Function). allRecords fs ≤ records tree) (from-start tree text)
     (functions-records tree text (records tree) (judged-complete tree text (good .ok)) (judged-once tree text (good .ok)))
 
-pub all-start : (tree text l s : List ℕ) (count : ℕ) (k : Counters) → Keyed tree text s count → 320 * records tree ≤ length l → Turns tree s (emptyCounters (records tree))
+pub all-start : (tree text l s : List ℕ) (count : ℕ) (k : Counters) → Keyed tree text s → count ≡ length (functionPlaces tree) → 320 * records tree ≤ length l → Turns tree s (emptyCounters (records tree))
     → k ≡ emptyCounters (records tree)
     → SoFar tree text l s count k 0 l s
-all-start tree text l s count k keyed room turns e =
+all-start tree text l s count k keyed counted room turns e =
     let few = keyed .good .few in
     let all = all-afforded tree text (keyed .good) in
     subst (λ (x : Counters). SoFar tree text l s count x 0 l s) (sym e) (record {
       converted = [];
       pool = emptyPool;
       keyed = keyed;
+      counted = counted;
       below = omega arith;
       records-are = refl;
       room = omega (arith, room, few);
@@ -129,13 +131,13 @@ all-start tree text l s count k keyed room turns e =
 
 module _ (tree text l₀ s₀ : List ℕ) (count : ℕ) (k : Counters) (j : ℕ) (l s : List ℕ) (w : SoFar tree text l₀ s₀ count k j l s) where
   pub few-functions : count ≤ mostRecords
-  few-functions = omega (arith, w .keyed .listed .counted, records-most tree (records tree), w .keyed .good .few)
+  few-functions = omega (arith, w .counted, records-most tree (records tree), w .keyed .good .few)
 
   module _ (h : j < count) (f : ℕ) (is : f ≡ wordAt s (4 * j)) where
     -- the function at hand, and those behind it
     one-more : from tree text j ≡ functionOf tree text f ∷ from tree text (j + 1)
-    one-more = from-one tree text j (omega (arith, w .keyed .listed .counted))
-        ∙ ap (λ (r : ℕ). functionOf tree text r ∷ from tree text (j + 1)) (sym (is ∙ w .keyed .listed .listed j h))
+    one-more = from-one tree text j (omega (arith, w .counted))
+        ∙ ap (λ (r : ℕ). functionOf tree text r ∷ from tree text (j + 1)) (sym (is ∙ w .keyed .listed .listed j (omega (arith, w .counted))))
 
     records-left : allRecords (from tree text j) ≡ functionRecords (functionOf tree text f) + allRecords (from tree text (j + 1))
     unfolding allRecords
@@ -169,7 +171,8 @@ module _ (tree text l₀ s₀ : List ℕ) (count : ℕ) (k : Counters) (j : ℕ)
       next-by k′ z d (ok q) e stands = record {
         converted = w .converted ++ (q .0 ∷ []);
         pool = q .1;
-        keyed = keyed-stays tree (m .stays) text count (w .keyed);
+        keyed = keyed-stays tree (m .stays) text (w .keyed);
+        counted = w .counted;
         below = omega arith;
         records-are = d .spent .records ∙ w .records-are;
         room = d .room;
@@ -205,7 +208,7 @@ module _ (tree text l₀ s₀ : List ℕ) (count : ℕ) (k : Counters) (j : ℕ)
   program-stands h = record {
     result = record { funcs = w .converted; strings = w .pool .strings; floats = w .pool .floats };
     converts = w .asked
-        ∙ ap (λ (fs : List Function). convertAll (program tree text) (allKeys tree text) fs (w .converted) (w .pool)) (from-end tree text j (omega (arith, w .keyed .listed .counted)));
+        ∙ ap (λ (fs : List Function). convertAll (program tree text) (allKeys tree text) fs (w .converted) (w .pool)) (from-end tree text j (omega (arith, w .counted)));
     records-are = w .records-are;
     room = w .room;
     holds = w .holds;
@@ -215,7 +218,7 @@ module _ (tree text l₀ s₀ : List ℕ) (count : ℕ) (k : Counters) (j : ℕ)
   all-visits : count ≤ j → visitsAt tree s ≡ functionsVisits (records tree) (program tree text .functions)
   unfolding functionsVisits
   all-visits h =
-      let none : functionsVisits (records tree) (from tree text j) ≡ 0 = ap (functionsVisits (records tree)) (from-end tree text j (omega (arith, w .keyed .listed .counted))) in
+      let none : functionsVisits (records tree) (from tree text j) ≡ 0 = ap (functionsVisits (records tree)) (from-end tree text j (omega (arith, w .counted))) in
       omega (arith, w .visits, none)
 
   pub all-end : count ≤ j → ConvertsTo tree text (allFunctions tree text) l₀ s₀ (Finished.Done k) l s
@@ -241,8 +244,8 @@ module _ (tree s s′ : List ℕ) (g : Forgets tree s s′) where
   }
 
   -- the functions by key are as they were
-  pub forgets-keyed : (text : List ℕ) (count : ℕ) → Keyed tree text s count → Keyed tree text s′ count
-  forgets-keyed text count = keyed-stays tree forgets-stays text count
+  pub forgets-keyed : (text : List ℕ) → Keyed tree text s → Keyed tree text s′
+  forgets-keyed text = keyed-stays tree forgets-stays text
 
   -- no turn has begun and no visit was made
   pub forgets-turns : 0 < records tree → Turns tree s′ (emptyCounters (records tree))
@@ -256,14 +259,14 @@ module _ (tree text s s₁ : List ℕ) (r : AllFunctions) (m : AllMeet tree text
   keys-refused e q = go r m q
     where
       go : (x : AllFunctions) → AllMeet tree text s s₁ x → x ≡ AllFunctions.Refused e → get-all-functions (program tree text .functions) [] ≡ refusal e
-      go x (done p k) z = absurd (let y : _≡_ {A = ℕ} 0 1 = cc in omega arith)
+      go x (done p k c) z = absurd (let y : _≡_ {A = ℕ} 0 1 = cc in omega arith)
       go x (refused {e = f} p l g) z = let y : f ≡ e = cc in g ∙ ap refusal y
 
-  pub keys-done : (count : ℕ) → r ≡ AllFunctions.Done count → Mapped tree text s₁ count
+  pub keys-done : (count : ℕ) → r ≡ AllFunctions.Done count → Mapped tree text s₁ × (count ≡ length (functionPlaces tree))
   keys-done count q = go r m q
     where
-      go : (x : AllFunctions) → AllMeet tree text s s₁ x → x ≡ AllFunctions.Done count → Mapped tree text s₁ count
-      go x (done {count = n} p k) z = let y : n ≡ count = cc in subst (Mapped tree text s₁) y k
+      go : (x : AllFunctions) → AllMeet tree text s s₁ x → x ≡ AllFunctions.Done count → Mapped tree text s₁ × (count ≡ length (functionPlaces tree))
+      go x (done {count = n} p k c) z = let y : n ≡ count = cc in (k, sym y ∙ c)
       go x (refused p l g) z = absurd (let y : _≡_ {A = ℕ} 0 1 = cc in omega arith)
 
   module _ (good : Good tree text) (room : 72 * records tree ≤ length s) where
@@ -271,7 +274,7 @@ module _ (tree text s s₁ : List ℕ) (r : AllFunctions) (m : AllMeet tree text
     listed-long = go r m
       where
         go : (x : AllFunctions) → AllMeet tree text s s₁ x → length s₁ ≡ length s
-        go x (done p k) = p .long
+        go x (done p k c) = p .long
         go x (refused p l g) = p .long
 
     pub listed-room : 72 * records tree ≤ length s₁
@@ -296,12 +299,12 @@ module _ (tree text s s₁ : List ℕ) (r : AllFunctions) (m : AllMeet tree text
           scratch-long = listed-long;
           gives = λ k z. absurd (let y : _≡_ {A = ℕ} 0 1 = cc in omega arith);
           visits = λ k z. absurd (let y : _≡_ {A = ℕ} 0 1 = cc in omega arith);
-          stops = λ x z. let y : o ≡ Outcome.Refused x = cc in rw (keys-done count q .distinct, c ∙ ap outcomeOf y);
+          stops = λ x z. let y : o ≡ Outcome.Refused x = cc in rw (keys-done count q .0 .distinct, c ∙ ap outcomeOf y);
         }
 
         all-asked : o ≡ Outcome.Done → convert (program tree text) needsMain ≡ allFunctions tree text
         unfolding convert _>>=_ outcomeOf
-        all-asked p = rw (keys-done count q .distinct, c ∙ ap outcomeOf p)
+        all-asked p = rw (keys-done count q .0 .distinct, c ∙ ap outcomeOf p)
 
         -- s₂ is what writing the keys' digests and forgetting leave of scratch
         pub tree-all : o ≡ Outcome.Done → (s₂ : List ℕ) → length s₂ ≡ length s₁ → (l l′ s′ : List ℕ) (a : Finished) → ConvertsTo tree text (allFunctions tree text) l s₂ a l′ s′

@@ -7,7 +7,7 @@ ghost use Rattle.records.specs.Layout.{scratchEach};
 ghost use Rattle.records.specs.Words.{records};
 ghost use Rattle.records.specs.Good.{Good};
 ghost use Rattle.ir.specs.Arena.{arenaEach};
-ghost use Rattle.keys.specs.Keys.{Keyed};
+ghost use Rattle.keys.specs.Keys.{functionPlaces, Keyed};
 ghost use Rattle.statements.specs.Turns.{Turns};
 ghost use Rattle.judge.specs.Judge.{buffers, lengthsOf};
 ghost use Rattle.demands.specs.Demands.{AsTheRust};
@@ -88,15 +88,15 @@ fn convert_all(
     scratch: &mut [u8],
     count: usize,
 ) -> Finished
-    requires { ⌜ Keyed (now tree) (now text) (now scratch) count × (arenaEach * records (now tree) ≤ length (now arena)) ⌝ }
+    requires { ⌜ Keyed (now tree) (now text) (now scratch) × (count ≡ length (functionPlaces (now tree))) × (arenaEach * records (now tree) ≤ length (now arena)) ⌝ }
     requires { ⌜ Turns (now tree) (now scratch) (emptyCounters (records (now tree))) ⌝ }
     ensures { λ a. ⌜ AllConvertTo (now (tree .entry)) (now (text .entry)) (now (arena .entry)) (now (scratch .entry)) a (now (arena .exit)) (now (scratch .exit)) ⌝ }
 {
     let mut k = empty_tables(tree.len() / RECORD_BYTES);
     let mut j = 0;
     while j < count {
-        let f = function_at(tree, scratch, count, j);
-        match convert_func(tree, text, arena, scratch, count, k, f) {
+        let f = function_at(tree, scratch, j);
+        match convert_func(tree, text, arena, scratch, k, f) {
             Finished::Refused(e) => return Finished::Refused(e),
             Finished::Done(next) => k = next,
         }
@@ -124,7 +124,7 @@ fn convert_program(
             match check_main(tree, text, scratch, count, needs_main) {
                 Outcome::Refused(e) => Finished::Refused(e),
                 Outcome::Done => {
-                    chain_functions(tree, text, scratch, count);
+                    chain_functions(tree, text, scratch);
                     expressions::turns::forget(tree, scratch);
                     convert_all(tree, text, arena, scratch, count)
                 }

@@ -52,9 +52,9 @@ pub record LeftIn (tree text : List ℕ) (S : Def.Scope) (turn : ℕ) (s₀ : Li
       → get-argument-types (program tree text) (allKeys tree text) (argsAt tree text o) S ≡ err k p
 
 -- the loop's invariant: of the arguments of the call at record r those from cell w on are left
-pub record Left (tree text s₀ : List ℕ) (count : ℕ) (sc : Scope) (turn r : ℕ) (s : List ℕ) (w : ℕ) : Type 0 where
+pub record Left (tree text s₀ : List ℕ) (sc : Scope) (turn r : ℕ) (s : List ℕ) (w : ℕ) : Type 0 where
   pub frame : Frame tree s₀ s
-  pub typing : Typing tree text s count sc turn
+  pub typing : Typing tree text s sc turn
   pub cells : ArgsAt tree w
   pub low : (w ≡ none) ⊎ (w < r)
   pub meets : LeftIn tree text (scopeAt tree text s₀ sc) turn s₀ (wordOf tree r C) s w
@@ -168,12 +168,12 @@ type-cell tree text w a y h q = go (subst (λ (z : Argument). ArgumentIs tree te
     go : ArgumentIs tree text w (Argument.ToType y) → TypeCell tree text w
     go (ArgumentIs.a-type r p k) = record { at = r; named = y; opens = p }
 
-module _ (tree text : List ℕ) (good : Good tree text) (s₀ : List ℕ) (count : ℕ) (sc : Scope) (turn r : ℕ) (typing : Typing tree text s₀ count sc turn) where
+module _ (tree text : List ℕ) (good : Good tree text) (s₀ : List ℕ) (sc : Scope) (turn r : ℕ) (typing : Typing tree text s₀ sc turn) where
   abbrev S : Def.Scope
   S = scopeAt tree text s₀ sc
 
-  pub loop-start : IsKind tree 11 r → (w : ℕ) → w ≡ wordOf tree r C → Left tree text s₀ count sc turn r s₀ w
-  loop-start k w e = subst (λ (z : ℕ). Left tree text s₀ count sc turn r s₀ z) (sym e) (record {
+  pub loop-start : IsKind tree 11 r → (w : ℕ) → w ≡ wordOf tree r C → Left tree text s₀ sc turn r s₀ w
+  loop-start k w e = subst (λ (z : ℕ). Left tree text s₀ sc turn r s₀ z) (sym e) (record {
     frame = frame-refl tree s₀;
     typing = typing;
     cells = call-list tree text good r k;
@@ -182,14 +182,14 @@ module _ (tree text : List ℕ) (good : Good tree text) (s₀ : List ℕ) (count
   })
 
   -- the same scratch and the same cell
-  moved : (s₁ s₂ : List ℕ) (n w : ℕ) → s₂ ≡ s₁ → n ≡ w → Left tree text s₀ count sc turn r s₁ w → Left tree text s₀ count sc turn r s₂ n
+  moved : (s₁ s₂ : List ℕ) (n w : ℕ) → s₂ ≡ s₁ → n ≡ w → Left tree text s₀ sc turn r s₁ w → Left tree text s₀ sc turn r s₂ n
   moved s₁ s₂ n w e q l =
-      subst (λ (z : List ℕ). Left tree text s₀ count sc turn r z n) (sym e) (subst (λ (z : ℕ). Left tree text s₀ count sc turn r s₁ z) (sym q) l)
+      subst (λ (z : List ℕ). Left tree text s₀ sc turn r z n) (sym e) (subst (λ (z : ℕ). Left tree text s₀ sc turn r s₁ z) (sym q) l)
 
-  module _ (s : List ℕ) (w : ℕ) (l : Left tree text s₀ count sc turn r s w) where
+  module _ (s : List ℕ) (w : ℕ) (l : Left tree text s₀ sc turn r s w) where
     -- the scope is still the one from the start
     now-scope : scopeAt tree text s sc ≡ S
-    now-scope = same-scope tree text s₀ count sc turn typing s (l .frame)
+    now-scope = same-scope tree text s₀ sc turn typing s (l .frame)
 
     pub loop-end : w ≡ none → ArgsMeet tree text s₀ sc turn (wordOf tree r C) Outcome.Done s
     unfolding doneWith slotted ArgsTyped argsExprs get-argument-types
@@ -233,7 +233,7 @@ module _ (tree text : List ℕ) (good : Good tree text) (s₀ : List ℕ) (count
           go (inr h) = rw (ne-eqb n none (λ q. omega (arith, here .inside, good .few))) (omega arith)
 
       module _ (a : Argument) (is : ArgumentIs tree text w a) where
-        pub turn-type : (y : ℕ) → a ≡ Argument.ToType y → (s′ : List ℕ) → s′ ≡ s → (n : ℕ) → n ≡ wordOf tree w B → Left tree text s₀ count sc turn r s′ n
+        pub turn-type : (y : ℕ) → a ≡ Argument.ToType y → (s′ : List ℕ) → s′ ≡ s → (n : ℕ) → n ≡ wordOf tree w B → Left tree text s₀ sc turn r s′ n
         turn-type y q s′ es n en =
             let t = type-cell tree text w a y is q in
             moved s s′ n (wordOf tree w B) es en (record {
@@ -253,7 +253,7 @@ module _ (tree text : List ℕ) (good : Good tree text) (s₀ : List ℕ) (count
 
           module _ (t : ExprType) (s₁ : List ℕ) (m : TypeMeets tree text s sc turn e t s₁) where
             typed-now : typeIn tree text S e ≡ typeResult t
-            typed-now = later-type tree text s₀ count sc turn typing s (l .frame) e t s₁ m
+            typed-now = later-type tree text s₀ sc turn typing s (l .frame) e t s₁ m
 
             pub turn-stop : (x : ConvertError) → t ≡ ExprType.Refused x → ArgsMeet tree text s₀ sc turn (wordOf tree r C) (Outcome.Refused x) s₁
             unfolding doneWith refusal
@@ -269,13 +269,13 @@ module _ (tree text : List ℕ) (good : Good tree text) (s₀ : List ℕ) (count
                 differ : Outcome.Refused x ≡ Outcome.Done → ⊥
                 differ z = let u : _≡_ {A = ℕ} 0 1 = cc in omega arith
 
-            pub turn-value : (y : ℕ) → t ≡ ExprType.Is y → (s′ : List ℕ) → s′ ≡ s₁ → (n : ℕ) → n ≡ wordOf tree w B → Left tree text s₀ count sc turn r s′ n
+            pub turn-value : (y : ℕ) → t ≡ ExprType.Is y → (s′ : List ℕ) → s′ ≡ s₁ → (n : ℕ) → n ≡ wordOf tree w B → Left tree text s₀ sc turn r s′ n
             turn-value y v s′ es n en = moved s₁ s′ n (wordOf tree w B) es en (record {
               frame = frame-trans (l .frame) (m .frame);
-              typing = typing-next tree text s count sc turn (l .typing) s₁ (m .frame) (exprs (exprAt tree text e)) (m .adds y v);
+              typing = typing-next tree text s sc turn (l .typing) s₁ (m .frame) (exprs (exprAt tree text e)) (m .adds y v);
               cells = here .rest;
               low = next-low;
               meets = value-in tree text good S turn s₀ (wordOf tree r C) s w (l .meets) (found .at) e (found .opens) (found .expression) s₁ y
                   (type-ok (typeIn tree text S e) t y typed-now v)
-                  (later-adds tree text s₀ count sc turn typing s (l .frame) e t s₁ m y v);
+                  (later-adds tree text s₀ sc turn typing s (l .frame) e t s₁ m y v);
             })

@@ -138,7 +138,7 @@ pub record NameWalk (tree text s : List ℕ) (c : Call) (v : ℕ) (found : Candi
   pub here : (k : ℕ) → v ≡ suc k → nameBucket tree text k ≡ c .verb
   pub so-far : SoFar tree text (everyOne tree text (verbOf tree text s c) (typedAt tree text s (c .first))) (literalsBelow tree text (verbOf tree text s c) (typedAt tree text s (c .first)) v) found
 
-module _ (tree text s : List ℕ) (count : ℕ) (K : Keyed tree text s count) (c : Call) (h : Called tree text s c) where
+module _ (tree text s : List ℕ) (K : Keyed tree text s) (c : Call) (h : Called tree text s c) where
   abbrev verb : Text
   verb = verbOf tree text s c
 
@@ -381,10 +381,10 @@ module _ (tree text s : List ℕ) (r : ℕ) (k : IsKind tree 11 r) where
   verb-number numbered o e = e ∙ numbered .number r (k .below) (kind-has tree kindCall r refl (k .kind))
 
 module _ (tree text s : List ℕ) (r : ℕ) (c : Call) (o : CallAt tree text r c) where
-  pub is-called : (count : ℕ) → Keyed tree text s count → IsKind tree 11 r → ArgsTyped tree s (argsAt tree text (wordOf tree r 2)) → ((i : ℕ) → getD tree i 0 < 256)
+  pub is-called : Keyed tree text s → IsKind tree 11 r → ArgsTyped tree s (argsAt tree text (wordOf tree r 2)) → ((i : ℕ) → getD tree i 0 < 256)
       → Called tree text s c
   unfolding typedAt hasText
-  is-called count k a t b = record {
+  is-called k a t b = record {
     argued = record { good = k .good; room = k .listed .room; cells = arguments-at tree text (k .good) r a (c .first) (o .first); typed = rw (o .first) t };
     inside = omega (arith, o .offset, o .len, call-a tree text (k .good) r (a .below) (a .kind));
     short = rw (o .len) (word-short tree r 1 b);

@@ -52,13 +52,13 @@ module _ (tree text s : List ℕ) (sc : Scope) (turn a b : ℕ) (t : ExprType) (
         (type-refused (typeIn tree text S a) t x (m .meets) q);
   }
 
-  module _ (count : ℕ) (typing : Typing tree text s count sc turn) (l : ℕ) (q : t ≡ ExprType.Is l) (u : ExprType) (s₂ : List ℕ) (m₂ : TypeMeets tree text s₁ sc turn b u s₂) where
+  module _ (typing : Typing tree text s sc turn) (l : ℕ) (q : t ≡ ExprType.Is l) (u : ExprType) (s₂ : List ℕ) (m₂ : TypeMeets tree text s₁ sc turn b u s₂) where
     right : typeIn tree text S b ≡ typeResult u
-    right = later-type tree text s count sc turn typing s₁ (m .frame) b u s₂ m₂
+    right = later-type tree text s sc turn typing s₁ (m .frame) b u s₂ m₂
 
     both-adds : (r : ℕ) → u ≡ ExprType.Is r → Typed tree text S turn s (exprs (exprAt tree text a) ++ exprs (exprAt tree text b)) s₂
     both-adds r w = typed-both tree text S turn s s₁ s₂ (exprs (exprAt tree text a)) (exprs (exprAt tree text b)) (m .adds l q)
-        (later-adds tree text s count sc turn typing s₁ (m .frame) b u s₂ m₂ r w)
+        (later-adds tree text s sc turn typing s₁ (m .frame) b u s₂ m₂ r w)
 
     with-left : common-type (program tree text) (allKeys tree text) (exprAt tree text a) (exprAt tree text b) S ≡ (typeIn tree text S b >>= λ r. ok (rule l r))
     with-left = common-is ∙ bind-ok (typeIn tree text S a) l (λ l. typeIn tree text S b >>= λ r. ok (rule l r))

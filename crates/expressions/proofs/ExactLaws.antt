@@ -118,16 +118,16 @@ module _ (tree text s : List ℕ) (c : Call) (h : Called tree text s c) where
       e ∙ ap (λ (o : ℕ). wordAt s (textDigestAt (records tree) o)) (q .number) ∙ original-digest tree text s numbered (q .of) (q .below) (q .has-text) ∙ ap rollOf (q .text-is) in
       (z, rw z (roll-small 1 (verbOf tree text s c) (omega arith)))
 
-  pub verb-found : (count : ℕ) → Keyed tree text s count → (v : Found) → FindsKey tree text s (c .verb) v → FunctionIs tree text v (getFunction (verbOf tree text s c) (allKeys tree text))
-  verb-found count K v finds =
+  pub verb-found : Keyed tree text s → (v : Found) → FindsKey tree text s (c .verb) v → FunctionIs tree text v (getFunction (verbOf tree text s c) (allKeys tree text))
+  verb-found K v finds =
       let q = h .numbered in
       rw (q .text-is) at (finds (allKeys tree text) (K .slots) (q .of) (q .below) (q .has-text) (q .number))
 
   -- without arguments the whole name is the verb
-  module _ (bare : c .count ≡ 0) (count : ℕ) (K : Keyed tree text s count) (v : Found) (finds : FindsKey tree text s (c .verb) v) where
+  module _ (bare : c .count ≡ 0) (K : Keyed tree text s) (v : Found) (finds : FindsKey tree text s (c .verb) v) where
     whole-is : getFunction (nameOf tree text s c (c .count)) (allKeys tree text) ≡ functionFound tree text v
     unfolding nameOf joined
-    whole-is = rw bare (sym (verb-found count K v finds .is))
+    whole-is = rw bare (sym (verb-found K v finds .is))
 
     pub verb-alone : (f : ℕ) → v ≡ Found.At f → (r : Found) → FunctionIs tree text r (filterOption is-mangled (some (functionOf tree text f)))
         → FunctionIs tree text r (mangledFunction (program tree text) (allKeys tree text) (nameOf tree text s c (c .count)))

@@ -59,7 +59,7 @@ pub name-asked : {tree text s : List ℕ} {sc : Scope} {r : ℕ} → Good tree t
 unfolding hasText
 name-asked {tree = tree} {r = r} g k i = record { good = g .0; numbered = g .1; scoped = k; below = i .below; has-text = kind-has tree kindName r refl (i .kind) }
 
-pub kind-asked : (k : ℕ) → hasText k ≡ true → {tree text s : List ℕ} {count : ℕ} {sc : Scope} {r : ℕ} → Ready tree text s count sc → IsKind tree k r → Asked tree text s sc r
+pub kind-asked : (k : ℕ) → hasText k ≡ true → {tree text s : List ℕ} {sc : Scope} {r : ℕ} → Ready tree text s sc → IsKind tree k r → Asked tree text s sc r
 kind-asked k t {tree = tree} {r = r} h i = record {
   good = h .keyed .good;
   numbered = h .keyed .numbered;

@@ -102,8 +102,8 @@ module _ (tree s s′ : List ℕ) (f : Frame tree s s′) where
       name-word : (j i p : ℕ) → j < sc .names → i ≤ 12 → p ≡ 8 * records tree + 16 * j + i → wordAt s′ p ≡ wordAt s p
       name-word j i p h l e = frame-word p (inr (omega arith, omega (arith, k .records-are, k .room .names-in)))
 
-  pub keyed-frame : (text : List ℕ) (count : ℕ) → Keyed tree text s count → Keyed tree text s′ count
-  keyed-frame text count = keyed-kept tree text s s′ count (f .same-length) (λ p h. frame-word p (inl h)) (λ p a b. frame-word p (inr (omega arith, omega arith)))
+  pub keyed-frame : (text : List ℕ) → Keyed tree text s → Keyed tree text s′
+  keyed-frame text = keyed-kept tree text s s′ (f .same-length) (λ p h. frame-word p (inl h)) (λ p a b. frame-word p (inr (omega arith, omega arith)))
 
-  pub ready-frame : (text : List ℕ) (count : ℕ) (sc : Scope) → Ready tree text s count sc → Ready tree text s′ count sc
-  ready-frame text count sc k = record { keyed = keyed-frame text count (k .keyed); scoped = scoped-frame sc (k .scoped) }
+  pub ready-frame : (text : List ℕ) (sc : Scope) → Ready tree text s sc → Ready tree text s′ sc
+  ready-frame text sc k = record { keyed = keyed-frame text (k .keyed); scoped = scoped-frame sc (k .scoped) }

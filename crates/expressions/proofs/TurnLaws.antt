@@ -320,14 +320,14 @@ module _ (tree text : List ℕ) (S : Def.Scope) (turn : ℕ) where
 
 -- ---- in the scope of the open names
 
-module _ (tree text s : List ℕ) (count : ℕ) (sc : Scope) (turn : ℕ) (k : Typing tree text s count sc turn) (s₁ : List ℕ) (f : Frame tree s s₁) where
+module _ (tree text s : List ℕ) (sc : Scope) (turn : ℕ) (k : Typing tree text s sc turn) (s₁ : List ℕ) (f : Frame tree s s₁) where
   -- the scope is still the one from before
   pub same-scope : scopeAt tree text s₁ sc ≡ scopeAt tree text s sc
   same-scope = scope-frame tree s s₁ f text sc (k .ready .scoped)
 
-  pub typing-next : (l : List ℕ) → Typed tree text (scopeAt tree text s sc) turn s l s₁ → Typing tree text s₁ count sc turn
+  pub typing-next : (l : List ℕ) → Typed tree text (scopeAt tree text s sc) turn s l s₁ → Typing tree text s₁ sc turn
   typing-next l t = record {
-    ready = ready-frame tree s s₁ f text count sc (k .ready);
+    ready = ready-frame tree s s₁ f text sc (k .ready);
     remembers = subst (λ (S : Def.Scope). Remembers tree text S turn s₁) (sym same-scope) (t .remembers);
   }
 

@@ -221,10 +221,10 @@ module _ (tree text : List ℕ) (good : Good tree text) where
               (type-refused (typeIn tree text S (wordOf tree e A)) t r left-type w);
         }
 
-        module _ (count : ℕ) (typing : Typing tree text s count sc turn) (l : ℕ) (w : t ≡ ExprType.Is l)
+        module _ (typing : Typing tree text s sc turn) (l : ℕ) (w : t ≡ ExprType.Is l)
             (b : ℕ) (eb : b ≡ wordOf tree e B) (u : ExprType) (s₂ : List ℕ) (m₂ : TypeMeets tree text s₁ sc turn b u s₂) where
           right-type : typeIn tree text S (wordOf tree e B) ≡ typeResult u
-          right-type = ap (typeIn tree text S) (sym eb) ∙ later-type tree text s count sc turn typing s₁ (m .frame) b u s₂ m₂
+          right-type = ap (typeIn tree text S) (sym eb) ∙ later-type tree text s sc turn typing s₁ (m .frame) b u s₂ m₂
 
           both-parts : partsExprs (exprAt tree text e) ≡ exprs (exprAt tree text a) ++ exprs (exprAt tree text b)
           both-parts = binary-parts tree text good e x (kind-at 10 q) ∙ rw (ea, eb)
@@ -232,7 +232,7 @@ module _ (tree text : List ℕ) (good : Good tree text) where
           both-adds : (y : ℕ) → u ≡ ExprType.Is y → Typed tree text S turn s (partsExprs (exprAt tree text e)) s₂
           both-adds y v = parts-as (exprs (exprAt tree text a) ++ exprs (exprAt tree text b)) both-parts s₂
               (typed-both tree text S turn s s₁ s₂ (exprs (exprAt tree text a)) (exprs (exprAt tree text b)) (m .adds l w)
-              (later-adds tree text s count sc turn typing s₁ (m .frame) b u s₂ m₂ y v))
+              (later-adds tree text s sc turn typing s₁ (m .frame) b u s₂ m₂ y v))
 
           with-left : typeIn tree text S e ≡ rule S l
           with-left =
@@ -283,9 +283,9 @@ module _ (tree text : List ℕ) (good : Good tree text) where
       }
 
       -- an expression without parts
-      pub leaf-meets : (count : ℕ) → Typing tree text s count sc turn → (k ≡ 9 → ⊥) → (k ≡ 10 → ⊥) → (k ≡ 11 → ⊥) → (a : ExprType)
+      pub leaf-meets : Typing tree text s sc turn → (k ≡ 9 → ⊥) → (k ≡ 10 → ⊥) → (k ≡ 11 → ⊥) → (a : ExprType)
           → TypeIs tree a (typeIn tree text S e) → WorksOut tree text s sc turn e a s
-      leaf-meets count typing n₉ n₁₀ n₁₁ a h = record {
+      leaf-meets typing n₉ n₁₀ n₁₁ a h = record {
         frame = frame-refl tree s;
         typed = h .type;
         adds = λ y v. parts-as [] (leaf-parts tree text good e x (leaf-kind n₉ n₁₀ n₁₁)) s (typed-none tree text S turn s (typing .remembers));
@@ -294,11 +294,11 @@ module _ (tree text : List ℕ) (good : Good tree text) where
 
   -- ---- a type that the turn remembers, or that is worked out in it
 
-  pub look-ready : (e : ℕ) → IsExpr tree e → (s : List ℕ) (count : ℕ) (sc : Scope) (turn : ℕ) → Typing tree text s count sc turn
+  pub look-ready : (e : ℕ) → IsExpr tree e → (s : List ℕ) (sc : Scope) (turn : ℕ) → Typing tree text s sc turn
       → (e < records tree) × (72 * records tree ≤ length s)
-  look-ready e x s count sc turn typing = (expr-low tree text good e x, typing .ready .keyed .listed .room)
+  look-ready e x s sc turn typing = (expr-low tree text good e x, typing .ready .keyed .listed .room)
 
-  module _ (e : ℕ) (x : IsExpr tree e) (s : List ℕ) (count : ℕ) (sc : Scope) (turn : ℕ) (typing : Typing tree text s count sc turn) where
+  module _ (e : ℕ) (x : IsExpr tree e) (s : List ℕ) (sc : Scope) (turn : ℕ) (typing : Typing tree text s sc turn) where
     abbrev U : Def.Scope
     U = scopeAt tree text s sc
 

@@ -165,11 +165,11 @@ NameDeclared tree text r v constant sc s s′ a =
     DeclareMeets text (originalOf tree s r) (originalWord tree s r A) (originalWord tree s r B) v constant sc s s′ a
 
 -- what typing needs: the functions by key, and the scope
-pub record Ready (tree text s : List ℕ) (count : ℕ) (sc : Scope) : Type 0 where
-  pub keyed : Keyed tree text s count
+pub record Ready (tree text s : List ℕ) (sc : Scope) : Type 0 where
+  pub keyed : Keyed tree text s
   pub scoped : Scoped tree s sc
 
 -- the same, in a turn that remembers what it worked out
-pub record Typing (tree text s : List ℕ) (count : ℕ) (sc : Scope) (turn : ℕ) : Type 0 where
-  pub ready : Ready tree text s count sc
+pub record Typing (tree text s : List ℕ) (sc : Scope) (turn : ℕ) : Type 0 where
+  pub ready : Ready tree text s sc
   pub remembers : Remembers tree text (scopeAt tree text s sc) turn s

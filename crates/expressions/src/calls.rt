@@ -38,14 +38,8 @@ use texts::original;
 use types::casts::can_cast;
 
 // The mangled functions of the verb's name whose parameters take the arguments: the chain of the name's number has no others.
-fn find_functions_by_literals(
-    tree: &[u8],
-    text: &[u8],
-    scratch: &[u8],
-    functions: usize,
-    call: Call,
-) -> Candidates
-    requires { ⌜ Keyed (now tree) (now text) (now scratch) functions ⌝ }
+fn find_functions_by_literals(tree: &[u8], text: &[u8], scratch: &[u8], call: Call) -> Candidates
+    requires { ⌜ Keyed (now tree) (now text) (now scratch) ⌝ }
     requires { ⌜ Called (now tree) (now text) (now scratch) call ⌝ }
     ensures { λ r. ⌜ CandidatesAre (now (tree .entry)) (now (text .entry)) r (literalFits (now (tree .entry)) (now (text .entry)) (now (scratch .entry)) call) ⌝ }
 {
@@ -102,22 +96,15 @@ fn refuse_call(kind: ConvertErrorKind, place: u32) -> Resolved
 }
 
 // Where the call is no cast.
-fn resolve_function(
-    tree: &[u8],
-    text: &[u8],
-    scratch: &[u8],
-    functions: usize,
-    call: Call,
-    r: u32,
-) -> Resolved
-    requires { ⌜ Keyed (now tree) (now text) (now scratch) functions ⌝ }
+fn resolve_function(tree: &[u8], text: &[u8], scratch: &[u8], call: Call, r: u32) -> Resolved
+    requires { ⌜ Keyed (now tree) (now text) (now scratch) ⌝ }
     requires { ⌜ Called (now tree) (now text) (now scratch) call ⌝ }
     ensures { λ a. ⌜ CalleeIs (now (tree .entry)) (now (text .entry)) a (functionFor (now (tree .entry)) (now (text .entry)) (now (scratch .entry)) call r) ⌝ }
 {
-    if let Found::At(f) = find_exact_function(tree, text, scratch, functions, call) {
+    if let Found::At(f) = find_exact_function(tree, text, scratch, call) {
         return Resolved::Function(f);
     }
-    match find_functions_by_literals(tree, text, scratch, functions, call) {
+    match find_functions_by_literals(tree, text, scratch, call) {
         Candidates::One(f) => Resolved::Function(f),
         Candidates::Nobody => refuse_call(ConvertErrorKind::UnknownFunction, r),
         Candidates::Several => refuse_call(ConvertErrorKind::AmbiguousCall, r),
@@ -144,14 +131,8 @@ fn call_of(tree: &[u8], text: &[u8], scratch: &[u8], r: usize) -> Call
 }
 
 // resolve_call from the typed arguments on.
-pub(crate) fn resolve_typed(
-    tree: &[u8],
-    text: &[u8],
-    scratch: &[u8],
-    functions: usize,
-    r: usize,
-) -> Resolved
-    requires { ⌜ Keyed (now tree) (now text) (now scratch) functions ⌝ }
+pub(crate) fn resolve_typed(tree: &[u8], text: &[u8], scratch: &[u8], r: usize) -> Resolved
+    requires { ⌜ Keyed (now tree) (now text) (now scratch) ⌝ }
     requires { ⌜ IsKind (now tree) kindCall r ⌝ }
     requires { ⌜ ArgsTyped (now tree) (now scratch) (argsAt (now tree) (now text) (wordOf (now tree) r Words.C)) ⌝ }
     ensures { λ a. ⌜ CalleeIs (now (tree .entry)) (now (text .entry)) a (resolvedAt (now (tree .entry)) (now (text .entry)) (now (scratch .entry)) r) ⌝ }
@@ -161,6 +142,6 @@ pub(crate) fn resolve_typed(
     match cast_type(tree, text, scratch, call, place) {
         Cast::Refused(e) => Resolved::Refused(e),
         Cast::To(y) => Resolved::Cast(y),
-        Cast::Not => resolve_function(tree, text, scratch, functions, call, place),
+        Cast::Not => resolve_function(tree, text, scratch, call, place),
     }
 }

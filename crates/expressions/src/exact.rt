@@ -119,8 +119,8 @@ fn is_name(tree: &[u8], text: &[u8], scratch: &[u8], call: Call, k: usize, key: 
 }
 
 // The verb as a key.
-fn by_name(tree: &[u8], text: &[u8], scratch: &[u8], functions: usize, call: Call) -> Found
-    requires { ⌜ Keyed (now tree) (now text) (now scratch) functions ⌝ }
+fn by_name(tree: &[u8], text: &[u8], scratch: &[u8], call: Call) -> Found
+    requires { ⌜ Keyed (now tree) (now text) (now scratch) ⌝ }
     requires { ⌜ Called (now tree) (now text) (now scratch) call ⌝ }
     ensures { λ r. ⌜ FunctionIs (now (tree .entry)) (now (text .entry)) r (byName (now (tree .entry)) (now (text .entry)) (now (scratch .entry)) call) ⌝ }
 {
@@ -170,8 +170,8 @@ fn full_digest(tree: &[u8], text: &[u8], scratch: &[u8], call: Call) -> u32
 
 // The verb with `$` and the key text of each type: of the functions in its digest's bucket few have another digest, and of those with the digest few
 // another key.
-fn by_full_name(tree: &[u8], text: &[u8], scratch: &[u8], functions: usize, call: Call) -> Found
-    requires { ⌜ Keyed (now tree) (now text) (now scratch) functions ⌝ }
+fn by_full_name(tree: &[u8], text: &[u8], scratch: &[u8], call: Call) -> Found
+    requires { ⌜ Keyed (now tree) (now text) (now scratch) ⌝ }
     requires { ⌜ Called (now tree) (now text) (now scratch) call ⌝ }
     ensures { λ r. ⌜ FunctionIs (now (tree .entry)) (now (text .entry)) r (byFullName (now (tree .entry)) (now (text .entry)) (now (scratch .entry)) call) ⌝ }
 {
@@ -196,8 +196,8 @@ fn by_full_name(tree: &[u8], text: &[u8], scratch: &[u8], functions: usize, call
 }
 
 // The same where there are no arguments: the whole name is the verb.
-fn by_verb(tree: &[u8], text: &[u8], scratch: &[u8], functions: usize, call: Call) -> Found
-    requires { ⌜ Keyed (now tree) (now text) (now scratch) functions ⌝ }
+fn by_verb(tree: &[u8], text: &[u8], scratch: &[u8], call: Call) -> Found
+    requires { ⌜ Keyed (now tree) (now text) (now scratch) ⌝ }
     requires { ⌜ Called (now tree) (now text) (now scratch) call × (call .count ≡ 0) ⌝ }
     ensures { λ r. ⌜ FunctionIs (now (tree .entry)) (now (text .entry)) r (byFullName (now (tree .entry)) (now (text .entry)) (now (scratch .entry)) call) ⌝ }
 {
@@ -208,15 +208,15 @@ fn by_verb(tree: &[u8], text: &[u8], scratch: &[u8], functions: usize, call: Cal
 }
 
 // The verb with its types, which are looked at only where there are any.
-fn by_whole_name(tree: &[u8], text: &[u8], scratch: &[u8], functions: usize, call: Call) -> Found
-    requires { ⌜ Keyed (now tree) (now text) (now scratch) functions ⌝ }
+fn by_whole_name(tree: &[u8], text: &[u8], scratch: &[u8], call: Call) -> Found
+    requires { ⌜ Keyed (now tree) (now text) (now scratch) ⌝ }
     requires { ⌜ Called (now tree) (now text) (now scratch) call ⌝ }
     ensures { λ r. ⌜ FunctionIs (now (tree .entry)) (now (text .entry)) r (byFullName (now (tree .entry)) (now (text .entry)) (now (scratch .entry)) call) ⌝ }
 {
     if call.count == 0 {
-        return by_verb(tree, text, scratch, functions, call);
+        return by_verb(tree, text, scratch, call);
     }
-    by_full_name(tree, text, scratch, functions, call)
+    by_full_name(tree, text, scratch, call)
 }
 
 // The digest of a text with `$...` behind it, from the text's.
@@ -269,13 +269,12 @@ fn by_marked(
     tree: &[u8],
     text: &[u8],
     scratch: &[u8],
-    functions: usize,
     call: Call,
     k: usize,
     size: usize,
     digest: u32,
 ) -> Found
-    requires { ⌜ Keyed (now tree) (now text) (now scratch) functions ⌝ }
+    requires { ⌜ Keyed (now tree) (now text) (now scratch) ⌝ }
     requires { ⌜ Called (now tree) (now text) (now scratch) call ⌝ }
     requires { ⌜ (k ≤ call .count) × (size ≡ length (nameOf (now tree) (now text) (now scratch) call k)) × (digest ≡ rollOf (nameOf (now tree) (now text) (now scratch) call k ++ variadicMark)) ⌝ }
     ensures { λ r. ⌜ FunctionIs (now (tree .entry)) (now (text .entry)) r (byMarked (now (tree .entry)) (now (text .entry)) (now (scratch .entry)) call k) ⌝ }
@@ -306,8 +305,8 @@ fn later(first: Found, then: Found) -> Found
 }
 
 // The Rust's `variadic`, the longest prefix with `$...`: each prefix is looked for by its digest, from the shortest on, and the last that is found is kept.
-fn by_prefix(tree: &[u8], text: &[u8], scratch: &[u8], functions: usize, call: Call) -> Found
-    requires { ⌜ Keyed (now tree) (now text) (now scratch) functions ⌝ }
+fn by_prefix(tree: &[u8], text: &[u8], scratch: &[u8], call: Call) -> Found
+    requires { ⌜ Keyed (now tree) (now text) (now scratch) ⌝ }
     requires { ⌜ Called (now tree) (now text) (now scratch) call ⌝ }
     ensures { λ r. ⌜ FunctionIs (now (tree .entry)) (now (text .entry)) r (byPrefix (now (tree .entry)) (now (text .entry)) (now (scratch .entry)) call) ⌝ }
 {
@@ -318,7 +317,7 @@ fn by_prefix(tree: &[u8], text: &[u8], scratch: &[u8], functions: usize, call: C
     let mut k = 0;
     while cell != END {
         let marked = marked_digest(digest);
-        let found = by_marked(tree, text, scratch, functions, call, k, size, marked);
+        let found = by_marked(tree, text, scratch, call, k, size, marked);
         best = later(best, found);
         let key = type_key(tree, text, argument_type(tree, text, scratch, cell));
         digest = roll(text, roll_byte(digest, DOLLAR), key.offset, key.len);
@@ -327,28 +326,19 @@ fn by_prefix(tree: &[u8], text: &[u8], scratch: &[u8], functions: usize, call: C
         k += 1;
     }
     let marked = marked_digest(digest);
-    later(
-        best,
-        by_marked(tree, text, scratch, functions, call, k, size, marked),
-    )
+    later(best, by_marked(tree, text, scratch, call, k, size, marked))
 }
 
-pub(crate) fn find_exact_function(
-    tree: &[u8],
-    text: &[u8],
-    scratch: &[u8],
-    functions: usize,
-    call: Call,
-) -> Found
-    requires { ⌜ Keyed (now tree) (now text) (now scratch) functions ⌝ }
+pub(crate) fn find_exact_function(tree: &[u8], text: &[u8], scratch: &[u8], call: Call) -> Found
+    requires { ⌜ Keyed (now tree) (now text) (now scratch) ⌝ }
     requires { ⌜ Called (now tree) (now text) (now scratch) call ⌝ }
     ensures { λ r. ⌜ FunctionIs (now (tree .entry)) (now (text .entry)) r (exactly (now (tree .entry)) (now (text .entry)) (now (scratch .entry)) call) ⌝ }
 {
-    if let Found::At(f) = by_name(tree, text, scratch, functions, call) {
+    if let Found::At(f) = by_name(tree, text, scratch, call) {
         return Found::At(f);
     }
-    if let Found::At(f) = by_whole_name(tree, text, scratch, functions, call) {
+    if let Found::At(f) = by_whole_name(tree, text, scratch, call) {
         return Found::At(f);
     }
-    by_prefix(tree, text, scratch, functions, call)
+    by_prefix(tree, text, scratch, call)
 }

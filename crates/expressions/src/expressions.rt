@@ -43,19 +43,18 @@ pub fn get_type(
     tree: &[u8],
     text: &[u8],
     scratch: &mut [u8],
-    functions: usize,
     scope: Scope,
     turn: u32,
     e: usize,
 ) -> ExprType
-    requires { ⌜ Typing (now tree) (now text) (now scratch) functions scope turn ⌝ }
+    requires { ⌜ Typing (now tree) (now text) (now scratch) scope turn ⌝ }
     requires { ⌜ IsExpr (now tree) e ⌝ }
     ensures { λ a. ⌜ TypeMeets (now (tree .entry)) (now (text .entry)) (now (scratch .entry)) scope turn e a (now (scratch .exit)) ⌝ }
 {
     if is_typed(tree, scratch, turn, e) {
         return ExprType::Is(slot(tree, scratch, e));
     }
-    work_out(tree, text, scratch, functions, scope, turn, e)
+    work_out(tree, text, scratch, scope, turn, e)
 }
 
 // The type of the expression e from those of its parts, kept at its slot: a visit. It may be made only where none was in this turn.
@@ -63,27 +62,26 @@ fn work_out(
     tree: &[u8],
     text: &[u8],
     scratch: &mut [u8],
-    functions: usize,
     scope: Scope,
     turn: u32,
     e: usize,
 ) -> ExprType
-    requires { ⌜ Typing (now tree) (now text) (now scratch) functions scope turn × (IsExpr (now tree) e × (inTurn (now tree) turn (now scratch) e ≡ false)) ⌝ }
+    requires { ⌜ Typing (now tree) (now text) (now scratch) scope turn × (IsExpr (now tree) e × (inTurn (now tree) turn (now scratch) e ≡ false)) ⌝ }
     ensures { λ a. ⌜ TypeMeets (now (tree .entry)) (now (text .entry)) (now (scratch .entry)) scope turn e a (now (scratch .exit)) ⌝ }
 {
     let k = kind(tree, e);
     let left = reference(tree, e, WORD_A);
     if k == KIND_UNARY {
-        return match get_type(tree, text, scratch, functions, scope, turn, left) {
+        return match get_type(tree, text, scratch, scope, turn, left) {
             ExprType::Refused(x) => ExprType::Refused(x),
             ExprType::Is(ty) => keep(tree, scratch, turn, e, unary_type(tree, text, e, ty)),
         };
     }
     if k == KIND_BINARY {
         let right = reference(tree, e, WORD_B);
-        return match get_type(tree, text, scratch, functions, scope, turn, left) {
+        return match get_type(tree, text, scratch, scope, turn, left) {
             ExprType::Refused(x) => ExprType::Refused(x),
-            ExprType::Is(l) => match get_type(tree, text, scratch, functions, scope, turn, right) {
+            ExprType::Is(l) => match get_type(tree, text, scratch, scope, turn, right) {
                 ExprType::Refused(x) => ExprType::Refused(x),
                 ExprType::Is(r) => {
                     let a = binary_type(tree, text, e, both_sides(left, l, right, r));
@@ -93,7 +91,7 @@ fn work_out(
         };
     }
     if k == KIND_CALL {
-        let callee = resolve_call(tree, text, scratch, functions, scope, turn, e);
+        let callee = resolve_call(tree, text, scratch, scope, turn, e);
         return keep(tree, scratch, turn, e, value_type(tree, text, e, callee));
     }
     let a = leaf_type(tree, text, scratch, scope, e);
@@ -105,18 +103,17 @@ pub fn resolve_call(
     tree: &[u8],
     text: &[u8],
     scratch: &mut [u8],
-    functions: usize,
     scope: Scope,
     turn: u32,
     r: usize,
 ) -> Resolved
-    requires { ⌜ Typing (now tree) (now text) (now scratch) functions scope turn ⌝ }
+    requires { ⌜ Typing (now tree) (now text) (now scratch) scope turn ⌝ }
     requires { ⌜ IsKind (now tree) kindCall r ⌝ }
     ensures { λ a. ⌜ CallMeets (now (tree .entry)) (now (text .entry)) (now (scratch .entry)) scope turn r a (now (scratch .exit)) ⌝ }
 {
-    match get_argument_types(tree, text, scratch, functions, scope, turn, r) {
+    match get_argument_types(tree, text, scratch, scope, turn, r) {
         Outcome::Refused(x) => Resolved::Refused(x),
-        Outcome::Done => resolve_typed(tree, text, scratch, functions, r),
+        Outcome::Done => resolve_typed(tree, text, scratch, r),
     }
 }
 
@@ -125,19 +122,18 @@ fn get_argument_types(
     tree: &[u8],
     text: &[u8],
     scratch: &mut [u8],
-    functions: usize,
     scope: Scope,
     turn: u32,
     r: usize,
 ) -> Outcome
-    requires { ⌜ Typing (now tree) (now text) (now scratch) functions scope turn ⌝ }
+    requires { ⌜ Typing (now tree) (now text) (now scratch) scope turn ⌝ }
     requires { ⌜ IsKind (now tree) kindCall r ⌝ }
     ensures { λ a. ⌜ ArgsMeet (now (tree .entry)) (now (text .entry)) (now (scratch .entry)) scope turn (wordOf (now (tree .entry)) r Words.C) a (now (scratch .exit)) ⌝ }
 {
     let mut cell = reference(tree, r, WORD_C);
     while cell != END {
         if let Argument::Expr(e) = argument_at(tree, text, cell) {
-            if let ExprType::Refused(x) = get_type(tree, text, scratch, functions, scope, turn, e) {
+            if let ExprType::Refused(x) = get_type(tree, text, scratch, scope, turn, e) {
                 return Outcome::Refused(x);
             }
         }
@@ -151,20 +147,19 @@ pub fn common_type(
     tree: &[u8],
     text: &[u8],
     scratch: &mut [u8],
-    functions: usize,
     scope: Scope,
     turn: u32,
     left: usize,
     right: usize,
 ) -> Common
-    requires { ⌜ Typing (now tree) (now text) (now scratch) functions scope turn ⌝ }
+    requires { ⌜ Typing (now tree) (now text) (now scratch) scope turn ⌝ }
     requires { ⌜ IsExpr (now tree) left ⌝ }
     requires { ⌜ IsExpr (now tree) right ⌝ }
     ensures { λ a. ⌜ CommonMeets (now (tree .entry)) (now (text .entry)) (now (scratch .entry)) scope turn left right a (now (scratch .exit)) ⌝ }
 {
-    match get_type(tree, text, scratch, functions, scope, turn, left) {
+    match get_type(tree, text, scratch, scope, turn, left) {
         ExprType::Refused(x) => Common::Refused(x),
-        ExprType::Is(l) => match get_type(tree, text, scratch, functions, scope, turn, right) {
+        ExprType::Is(l) => match get_type(tree, text, scratch, scope, turn, right) {
             ExprType::Refused(x) => Common::Refused(x),
             ExprType::Is(r) => match common_of(tree, text, both_sides(left, l, right, r)) {
                 Found::At(y) => Common::Is(y),

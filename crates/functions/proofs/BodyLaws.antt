@@ -306,31 +306,31 @@ unfolding variablesAt
 open-count text s n zero = refl
 open-count text s n (suc m) = ap suc (open-count text s n m)
 
-module _ (tree text : List ℕ) (functions f : ℕ) (s s₁ : List ℕ) where
+module _ (tree text : List ℕ) (f : ℕ) (s s₁ : List ℕ) where
   -- what a scope with the parameters is
   record Declared (sc : Scope) : Type 0 where
     pub asked : withParams (functionOf tree text f .params) 0 (emptyIn tree text f) ≡ ok (scopeAt tree text s₁ sc)
-    pub ready : Ready tree text s₁ functions sc
+    pub ready : Ready tree text s₁ sc
     pub no-loop : sc .inner ≡ none
     pub function : sc .function ≡ f
     pub names : sc .names ≡ length (functionOf tree text f .params)
 
-  declared : {a : Parameters} → ParametersMeet tree text functions f s s₁ a → {sc : Scope} → a ≡ Parameters.Done sc → Declared sc
+  declared : {a : Parameters} → ParametersMeet tree text f s s₁ a → {sc : Scope} → a ≡ Parameters.Done sc → Declared sc
   unfolding scopeAt
-  declared p {sc} q = go (subst (ParametersMeet tree text functions f s s₁) q p)
+  declared p {sc} q = go (subst (ParametersMeet tree text f s s₁) q p)
     where
       count : withParams (functionOf tree text f .params) 0 (emptyIn tree text f) ≡ ok (scopeAt tree text s₁ sc) → sc .names ≡ length (functionOf tree text f .params)
       count e = omega (arith, names-more (functionOf tree text f .params) 0 (emptyIn tree text f) (scopeAt tree text s₁ sc) e, open-count text s₁ (sc .records) (sc .names))
 
-      go : ParametersMeet tree text functions f s s₁ (Parameters.Done sc) → Declared sc
+      go : ParametersMeet tree text f s s₁ (Parameters.Done sc) → Declared sc
       go (ParametersMeet.done asked ready inner function only bytes) = record { asked = asked; ready = ready; no-loop = inner; function = function; names = count asked }
 
-  not-declared : {a : Parameters} → ParametersMeet tree text functions f s s₁ a → {x : ConvertError} → a ≡ Parameters.Refused x
+  not-declared : {a : Parameters} → ParametersMeet tree text f s s₁ a → {x : ConvertError} → a ≡ Parameters.Refused x
       → withParams (functionOf tree text f .params) 0 (emptyIn tree text f) ≡ err (x .kind) (x .place)
   unfolding refusal
-  not-declared p {x} q = go (subst (ParametersMeet tree text functions f s s₁) q p)
+  not-declared p {x} q = go (subst (ParametersMeet tree text f s s₁) q p)
     where
-      go : ParametersMeet tree text functions f s s₁ (Parameters.Refused x) → withParams (functionOf tree text f .params) 0 (emptyIn tree text f) ≡ err (x .kind) (x .place)
+      go : ParametersMeet tree text f s s₁ (Parameters.Refused x) → withParams (functionOf tree text f .params) 0 (emptyIn tree text f) ≡ err (x .kind) (x .place)
       go (ParametersMeet.refused asked only bytes) = asked
 
 -- ---- the function
@@ -417,7 +417,7 @@ counted {tree} {text} {f = f} good at v = record {
   at-most = λ k e. omega (arith, v k e .visits, function-at-most tree text good f at);
 }
 
-module _ {tree text l s : List ℕ} {functions f : ℕ} {k : Counters} (keyed : Keyed tree text s functions) (at : FunctionAt tree f) (room : Room k l)
+module _ {tree text l s : List ℕ} {f : ℕ} {k : Counters} (keyed : Keyed tree text s) (at : FunctionAt tree f) (room : Room k l)
     (are : k .records ≡ records tree) (h : FunctionsAfforded k (functionRecords (functionOf tree text f))) where
   pub function-room : Room k l × (k .functions < k .records)
   unfolding functionRecords
@@ -451,7 +451,7 @@ module _ {tree text l s : List ℕ} {functions f : ℕ} {k : Counters} (keyed : 
   unfolding functionRecords
   vars-room = record { room = room; affords = omega (arith, h .tables, room) }
 
-  module _ {b : Bool} (eb : b ≡ isSome (functionOf tree text f .body)) (q : not b ≡ false) {s₁ : List ℕ} {a : Parameters} (p : ParametersMeet tree text functions f s s₁ a) where
+  module _ {b : Bool} (eb : b ≡ isSome (functionOf tree text f .body)) (q : not b ≡ false) {s₁ : List ℕ} {a : Parameters} (p : ParametersMeet tree text f s s₁ a) where
     the-body : functionOf tree text f .body ≡ some (blockAt tree text (wordOf tree f E))
     the-body = body-there (keyed .good) at eb q
 
@@ -462,7 +462,7 @@ module _ {tree text l s : List ℕ} {functions f : ℕ} {k : Counters} (keyed : 
     pub function-refused : {x : ConvertError} → a ≡ Parameters.Refused x → ConvertsFunction tree text f k l s (Finished.Refused x) l s₁
     function-refused {x} d =
         function-stops refl (only-stays (names-only p))
-        (λ before pool held. refused-run tree text f pool the-body (not-declared tree text functions f s s₁ p d))
+        (λ before pool held. refused-run tree text f pool the-body (not-declared tree text f s s₁ p d))
 
     -- the visits are those of its body, which begins where nothing was typed yet
     pub function-visited : {s₂ : List ℕ} {z : Finished} → TurnsStay tree s s₁ → BlockVisited (wordOf tree f E) tree text s₁ z s₂ → FunctionVisited f tree text s z s₂
@@ -475,10 +475,10 @@ module _ {tree text l s : List ℕ} {functions f : ℕ} {k : Counters} (keyed : 
 
     module _ {sc : Scope} (d : a ≡ Parameters.Done sc) {k₁ : Counters} {l₁ : List ℕ} (v : VarsAdd (functionOf tree text f .params) k l k₁ l₁) where
       abbrev inner : Converter
-      inner = record { functions = functions; scope = sc; counters = k₁; operands = 0; turn = 0 }
+      inner = record { scope = sc; counters = k₁; operands = 0; turn = 0 }
 
-      is-declared : Declared tree text functions f s s₁ sc
-      is-declared = declared tree text functions f s s₁ p d
+      is-declared : Declared tree text f s s₁ sc
+      is-declared = declared tree text f s s₁ p d
 
       -- what the body needs
       pub body-needs : TurnsStay tree s s₁ → Turns tree s k → (Converting tree text l₁ s₁ inner × BlockAfforded tree text inner (wordOf tree f E))

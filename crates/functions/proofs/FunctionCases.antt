@@ -58,7 +58,7 @@ module _ (tree text : List ℕ) (o : Found) (m : Option Function) (e : functionF
 
 -- ---- a turn of `get_all_functions`
 
-module _ (tree text s : List ℕ) (count j f : ℕ) (good : Good tree text) (l : Listed tree s count) (h : j < count)
+module _ (tree text s : List ℕ) (j f : ℕ) (good : Good tree text) (l : Listed tree s) (h : j < length (functionPlaces tree))
     (is : (f ≡ wordAt s (4 * j)) × FunctionAt tree f) where
   -- what the turn owes of its answer
   abbrev Owed : Outcome → Type 0
@@ -77,7 +77,7 @@ module _ (tree text s : List ℕ) (count j f : ℕ) (good : Good tree text) (l :
   unfolding doneWith
   taken-in e =
       let p : getD (functionPlaces tree) j 0 ≡ f = sym (is .0 ∙ l .listed j h) in
-      start ∙ e ∙ rw (keys-more tree text j (omega (arith, l .counted)), p)
+      start ∙ e ∙ rw (keys-more tree text j h, p)
 
   module _ (m a : Bool) (n : Part) (em : m ≡ is-mangled (functionOf tree text f)) (named : PartIs text n (functionOf tree text f .name))
       (ea : a ≡ is-ascii (textAt text (n .offset) (n .len))) where
@@ -176,8 +176,8 @@ module _ (tree text : List ℕ) (o : Found) (needs : Bool) (e : functionFound tr
 
 -- ---- the search for `main`
 
-module _ (tree text s : List ℕ) (count j : ℕ) (l : Listed tree s count) where
-  module _ (h : j < count) (f : ℕ) (is : (f ≡ wordAt s (4 * j)) × FunctionAt tree f) (n : Part) (b : Bool) (named : PartIs text n (functionOf tree text f .name))
+module _ (tree text s : List ℕ) (j : ℕ) (l : Listed tree s) where
+  module _ (h : j < length (functionPlaces tree)) (f : ℕ) (is : (f ≡ wordAt s (4 * j)) × FunctionAt tree f) (n : Part) (b : Bool) (named : PartIs text n (functionOf tree text f .name))
       (eb : b ≡ sameText (textAt text (n .offset) (n .len)) mainName) where
     this : getD (functionPlaces tree) j 0 ≡ f
     this = sym (is .0 ∙ l .listed j h)
@@ -187,23 +187,24 @@ module _ (tree text s : List ℕ) (count j : ℕ) (l : Listed tree s count) wher
 
     pub main-here : b ≡ true → MainLeft tree text j → functionFound tree text (Found.At f) ≡ findMain (program tree text .functions)
     unfolding functionFound
-    main-here q w = sym (main-hit tree text j (omega (arith, l .counted)) (same true q) w ∙ ap (λ (x : ℕ). some (functionOf tree text x)) this)
+    main-here q w = sym (main-hit tree text j h (same true q) w ∙ ap (λ (x : ℕ). some (functionOf tree text x)) this)
 
     pub main-next : b ≡ false → MainLeft tree text j → MainLeft tree text (j + 1)
-    main-next q w = main-more tree text j (omega (arith, l .counted)) (same false q) w
+    main-next q w = main-more tree text j h (same false q) w
 
-  pub main-nowhere : count ≤ j → MainLeft tree text j → functionFound tree text Found.Nothing ≡ findMain (program tree text .functions)
+  pub main-nowhere : (count : ℕ) → count ≡ length (functionPlaces tree) → count ≤ j → MainLeft tree text j → functionFound tree text Found.Nothing ≡ findMain (program tree text .functions)
   unfolding functionFound
-  main-nowhere h w = sym (main-end tree text j (omega (arith, l .counted)) w)
+  main-nowhere count e h w = sym (main-end tree text j (omega (arith, e)) w)
 
 -- ---- all turns
 
 -- the first j functions are entered by their keys, and what was asked equals what is left; s₀ is the scratch where the turns begin
 pub record Entered (tree text s₀ s : List ℕ) (count j : ℕ) : Type 0 where
+  pub counted : count ≡ length (functionPlaces tree)
   pub below : j ≤ count
   pub left : Left tree text j
   pub numbered : Numbered tree text s
-  pub listed : Listed tree s count
+  pub listed : Listed tree s
   pub slots : KeySlots tree text s (keysBelow tree text j)
   pub keeps : ListKeeps tree s₀ s
 
@@ -213,11 +214,10 @@ module _ (tree s s′ : List ℕ) (long : length s′ ≡ length s) (same : (i :
   word-before p h =
       word-same s′ p s p (same p (omega arith)) (same (p + 1) (omega arith)) (same (p + 2) (omega arith)) (same (p + 3) (omega arith))
 
-  list-stays : (count : ℕ) → Listed tree s count → Listed tree s′ count
-  list-stays count l = record {
+  list-stays : Listed tree s → Listed tree s′
+  list-stays l = record {
     room = omega (arith, l .room, long);
-    counted = l .counted;
-    listed = λ j h. word-before (4 * j) (omega (arith, l .counted, records-most tree (records tree))) ∙ l .listed j h;
+    listed = λ j h. word-before (4 * j) (omega (arith, records-most tree (records tree))) ∙ l .listed j h;
   }
 
   module _ (rest : (i : ℕ) → 48 * records tree ≤ i → getD s′ i 0 ≡ getD s i 0) where
@@ -243,10 +243,11 @@ module _ (tree text s₀ : List ℕ) (count : ℕ) (good : Good tree text) (room
   pub entered-start : Numbered tree text s₀ → Entered tree text s s count 0
   entered-start numbered =
       record {
+        counted = made .1;
         below = omega arith;
         left = left-start tree text;
         numbered = texts-stay tree s₁ s (c .long) (c .before) (c .behind) text (rw (made .0) (still-numbered tree text s₀ good room numbered));
-        listed = list-stays tree s₁ s (c .long) (c .before) count (rw (made .0) (are-listed tree text s₀ good room count (made .1)));
+        listed = list-stays tree s₁ s (c .long) (c .before) (rw (made .0) (are-listed tree text s₀ good room));
         slots = rw (keys-none tree text) (slots-none tree text s₁ s c);
         keeps = record { long = refl; between = λ i a b. refl; behind = λ i a. refl };
       }
@@ -257,10 +258,10 @@ keeps-on a b = record { long = b .long ∙ a .long; between = λ i h k. b .betwe
 module _ (tree text s₀ : List ℕ) (count : ℕ) (good : Good tree text) where
   module _ (s : List ℕ) (j : ℕ) (w : Entered tree text s₀ s count j) (h : j < count) (o : Outcome) (e : TurnMeets tree text s j o) where
     inside-list : j < length (functionPlaces tree)
-    inside-list = omega (arith, w .listed .counted)
+    inside-list = omega (arith, w .counted)
 
     turn-is : addFunction (functionOf tree text (getD (functionPlaces tree) j 0)) (keysBelow tree text j) ≡ doneWith (keysBelow tree text (j + 1)) o
-    turn-is = rw (w .listed .listed j h) at e
+    turn-is = rw (w .listed .listed j inside-list) at e
 
     pub entered-refused : (t : List ℕ) → ListKeeps tree t s₀ → (x : ConvertError) → o ≡ Outcome.Refused x → AllMeet tree text t s (AllFunctions.Refused x)
     unfolding doneWith refusal
@@ -274,7 +275,7 @@ module _ (tree text s₀ : List ℕ) (count : ℕ) (good : Good tree text) where
       turn-done = turn-is ∙ ap (doneWith (keysBelow tree text (j + 1))) q
 
       listed-there : getD (functionPlaces tree) j 0 ≡ f
-      listed-there = sym (is .0 ∙ w .listed .listed j h)
+      listed-there = sym (is .0 ∙ w .listed .listed j inside-list)
 
       new : getFunction (functionKey (functionOf tree text f)) (keysBelow tree text j) ≡ nothing
       new = turn-new (functionOf tree text f) (keysBelow tree text j) (keysBelow tree text (j + 1)) (rw listed-there at turn-done)
@@ -291,10 +292,11 @@ module _ (tree text s₀ : List ℕ) (count : ℕ) (good : Good tree text) where
       pub entered-next : Entered tree text s₀ s′ count (j + 1)
       entered-next =
           record {
+            counted = w .counted;
             below = omega arith;
             left = left-more tree text j inside-list turn-done (w .left);
             numbered = texts-stay tree s s′ long stays (λ i a. entered-byte tree text s good (w .listed .room) f (is .1) s′ put i (inr a)) text (w .numbered);
-            listed = list-stays tree s s′ long stays count (w .listed);
+            listed = list-stays tree s s′ long stays (w .listed);
             slots = rw one-more (slots-more tree text s good (w .listed .room) f (is .1) s′ put (keysBelow tree text j) (w .slots) new);
             keeps = record {
               long = long ∙ w .keeps .long;
@@ -305,7 +307,7 @@ module _ (tree text s₀ : List ℕ) (count : ℕ) (good : Good tree text) where
 
   pub entered-done : (t : List ℕ) → ListKeeps tree t s₀ → (s : List ℕ) (j : ℕ) → Entered tree text s₀ s count j → count ≤ j → AllMeet tree text t s (AllFunctions.Done count)
   entered-done t first s j w h =
-      let all : length (functionPlaces tree) ≤ j = omega (arith, w .listed .counted) in
+      let all : length (functionPlaces tree) ≤ j = omega (arith, w .counted) in
       done (keeps-on first (w .keeps)) (record {
         good = good;
         numbered = w .numbered;
@@ -313,3 +315,4 @@ module _ (tree text s₀ : List ℕ) (count : ℕ) (good : Good tree text) where
         listed = w .listed;
         slots = rw (keys-all tree text j all) at (w .slots);
       })
+      (w .counted)

@@ -153,8 +153,8 @@ module _ (tree text s : List ℕ) (good : Good tree text) (room : 72 * records t
       (listed-byte (4 * j + 3) (omega arith))
       ∙ words-at (functionPlaces tree) j h (λ i k. omega (arith, listed-kind tree (records tree) i k .0, good .few))
 
-  pub are-listed : (count : ℕ) → count ≡ length (functionPlaces tree) → Listed tree (listedIn tree s) count
-  are-listed count e = record { room = omega (arith, listed-length); counted = e; listed = λ j h. listed-word j (omega arith) }
+  pub are-listed : Listed tree (listedIn tree s)
+  are-listed = record { room = omega (arith, listed-length); listed = λ j h. listed-word j h }
 
   -- the bytes behind the list
   pub listed-behind : (i : ℕ) → 4 * length (functionPlaces tree) ≤ i → getD (listedIn tree s) i 0 ≡ getD s i 0

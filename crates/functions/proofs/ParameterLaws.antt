@@ -71,15 +71,15 @@ only-stays p = record {
   told = λ j h. absurd (omega (arith, h));
 }
 
-pub names-only : {tree text s s′ : List ℕ} {functions f : ℕ} {a : Answered} → ParametersMeet tree text functions f s s′ a → NamesOnly tree s s′
+pub names-only : {tree text s s′ : List ℕ} {f : ℕ} {a : Answered} → ParametersMeet tree text f s s′ a → NamesOnly tree s s′
 names-only (ParametersMeet.done asked ready inner function only bytes) = only
 names-only (ParametersMeet.refused asked only bytes) = only
 
-one-only : {tree text s s′ : List ℕ} {functions : ℕ} {sc : Scope} {p : Param} {a : Answered} → OneMore tree text functions sc p s s′ a → NamesOnly tree s s′
+one-only : {tree text s s′ : List ℕ} {sc : Scope} {p : Param} {a : Answered} → OneMore tree text sc p s s′ a → NamesOnly tree s s′
 one-only (OneMore.done r is free adds only wrote) = only
 one-only {tree = tree} {s = s} (OneMore.refused e is same) = subst (NamesOnly tree s) (sym same) (only-refl tree s)
 
-pub one-more-turns : {tree text s s′ : List ℕ} {functions : ℕ} {sc : Scope} {p : Param} {a : Answered} → OneMore tree text functions sc p s s′ a → TurnsStay tree s s′
+pub one-more-turns : {tree text s s′ : List ℕ} {sc : Scope} {p : Param} {a : Answered} → OneMore tree text sc p s s′ a → TurnsStay tree s s′
 one-more-turns m = only-turns (one-only m)
 
 -- one more behind the others
@@ -91,7 +91,7 @@ added-more tree s (q ∷ l) p k m x e = added-more tree s l p (suc k) m (paramet
 
 -- ---- one parameter
 
-module _ (tree text s : List ℕ) (functions : ℕ) (sc : Scope) (ready : Ready tree text s functions sc) (cell : ℕ) (ps : ParamsAt tree cell)
+module _ (tree text s : List ℕ) (sc : Scope) (ready : Ready tree text s sc) (cell : ℕ) (ps : ParamsAt tree cell)
     (more-cells : cell ≡ Words.none → ⊥) (few : sc .names + cell < records tree) where
   abbrev item : ℕ
   item = wordOf tree cell A
@@ -140,7 +140,7 @@ module _ (tree text s : List ℕ) (functions : ℕ) (sc : Scope) (ready : Ready 
     module _ (s′ : List ℕ) where
       pub name-taken : (e : ConvertError) → e ≡ record { kind = AlreadyDeclared; place = item }
           → Taken text (originalOf tree s item) (originalWord tree s item A) (originalWord tree s item B) v false sc s s′
-          → OneMore tree text functions sc parameter s s′ (Answer.Refused e)
+          → OneMore tree text sc parameter s s′ (Answer.Refused e)
       unfolding isSome someAnd find-variable scopeAt
       name-taken e q t = OneMore.refused q (rw (← name-is, t .found) refl) (t .same)
 
@@ -160,7 +160,7 @@ module _ (tree text s : List ℕ) (functions : ℕ) (sc : Scope) (ready : Ready 
               behind = λ i h. byte i (inr (omega (arith, are, few))) (inr (omega (arith, are, inside)));
             }
 
-        pub one-more : OneMore tree text functions sc parameter s s′ (Answer.Done sc′)
+        pub one-more : OneMore tree text sc parameter s s′ (Answer.Done sc′)
         unfolding isSome someAnd find-variable scopeAt
         one-more =
             OneMore.done (added-ready item-asked is-afforded m (subst (TypeAt tree) (sym e₁) the-type) ready) (m .scope) (rw (← name-is, m .free) refl)
@@ -192,21 +192,21 @@ module _ (tree text s : List ℕ) (functions : ℕ) (sc : Scope) (ready : Ready 
             subst (λ (i : ℕ). DeclareMeets text (originalOf tree s i) (originalWord tree s i A) (originalWord tree s i B) v false sc s s′ x) ep
             (subst (DeclareMeets text (originalOf tree s p) (originalWord tree s p A) (originalWord tree s p B) v false sc s s′) q m)
 
-        pub met-done : (sc′ : Scope) → r ≡ Declared.Done sc′ → OneMore tree text functions sc parameter s s′ (Answer.Done sc′)
+        pub met-done : (sc′ : Scope) → r ≡ Declared.Done sc′ → OneMore tree text sc parameter s s′ (Answer.Done sc′)
         unfolding DeclareMeets
         met-done sc′ q = one-more v e₀ type-of-item s′ sc′ (met-as (Declared.Done sc′) q)
 
         pub met-taken : r ≡ Declared.Taken → (a : Answered) → a ≡ Answer.Refused (record { kind = AlreadyDeclared; place = p })
-            → OneMore tree text functions sc parameter s s′ a
+            → OneMore tree text sc parameter s s′ a
         unfolding DeclareMeets
         met-taken q a ea =
-            subst (OneMore tree text functions sc parameter s s′) (sym ea)
+            subst (OneMore tree text sc parameter s s′) (sym ea)
             (name-taken v e₀ type-of-item s′ (record { kind = AlreadyDeclared; place = p }) (rw ep refl) (met-as Declared.Taken q))
 
 -- ---- the loop
 
-pub record Turn (tree text : List ℕ) (functions f : ℕ) (s₀ s : List ℕ) (cell : ℕ) (sc : Scope) : Type 0 where
-  pub ready : Ready tree text s functions sc
+pub record Turn (tree text : List ℕ) (f : ℕ) (s₀ s : List ℕ) (cell : ℕ) (sc : Scope) : Type 0 where
+  pub ready : Ready tree text s sc
   pub cells : ParamsAt tree cell
   pub few : sc .names + left cell ≤ records tree
   pub no-loop : sc .inner ≡ Words.none
@@ -219,9 +219,9 @@ pub record Turn (tree text : List ℕ) (functions f : ℕ) (s₀ s : List ℕ) (
   pub declared : untilTaken (functionOf tree text f .params) 0 (emptyIn tree text f) ≡ before ++ untilTaken (paramsAt tree text cell) (sc .names) (scopeAt tree text s sc)
   pub bytes : s ≡ parametersAdded tree s₀ before 0 s₀
 
-module _ (tree text : List ℕ) (functions f : ℕ) (s₀ : List ℕ) where
-  pub start : (w : ℕ) (sc : Scope) → Keyed tree text s₀ functions → functionOf tree text f .params ≡ paramsAt tree text w → ParamsAt tree w
-      → sc ≡ record { records = records tree; names = 0; inner = Words.none; function = f } → Turn tree text functions f s₀ s₀ w sc
+module _ (tree text : List ℕ) (f : ℕ) (s₀ : List ℕ) where
+  pub start : (w : ℕ) (sc : Scope) → Keyed tree text s₀ → functionOf tree text f .params ≡ paramsAt tree text w → ParamsAt tree w
+      → sc ≡ record { records = records tree; names = 0; inner = Words.none; function = f } → Turn tree text f s₀ s₀ w sc
   unfolding variablesAt parametersAdded scopeAt loopNumber pick
   start w sc k e l q = record {
     ready = record {
@@ -252,8 +252,8 @@ module _ (tree text : List ℕ) (functions f : ℕ) (s₀ : List ℕ) where
       empty : scopeAt tree text s₀ (record { records = records tree; names = 0; inner = Words.none; function = f }) ≡ emptyIn tree text f
       empty = refl
 
-  module _ (s : List ℕ) (cell : ℕ) (sc : Scope) (t : Turn tree text functions f s₀ s cell sc) where
-    pub turn-end : cell ≡ Words.none → ParametersMeet tree text functions f s₀ s (Answer.Done sc)
+  module _ (s : List ℕ) (cell : ℕ) (sc : Scope) (t : Turn tree text f s₀ s cell sc) where
+    pub turn-end : cell ≡ Words.none → ParametersMeet tree text f s₀ s (Answer.Done sc)
     unfolding withParams
     turn-end e =
         ParametersMeet.done {sc = sc} (t .asked ∙ rw (e, params-end tree text (t .ready .keyed .good)) refl) (t .ready) (t .no-loop) (t .of-function) (t .only)
@@ -272,8 +272,8 @@ module _ (tree text : List ℕ) (functions f : ℕ) (s₀ : List ℕ) where
       split : paramsAt tree text cell ≡ here ∷ paramsAt tree text (wordOf tree cell B)
       split = parameter-item tree text (t .ready .keyed .good) cell (cell-is tree text (t .ready .keyed .good) Parameters cell (t .cells) n)
 
-      pub turn-refused : (s′ : List ℕ) (e : ConvertError) → OneMore tree text functions sc here s s′ (Answer.Refused e)
-          → ParametersMeet tree text functions f s₀ s′ (Answer.Refused e) × (length s′ ≡ length s₀)
+      pub turn-refused : (s′ : List ℕ) (e : ConvertError) → OneMore tree text sc here s s′ (Answer.Refused e)
+          → ParametersMeet tree text f s₀ s′ (Answer.Refused e) × (length s′ ≡ length s₀)
       unfolding withParams untilTaken pick refusal
       turn-refused s′ e (OneMore.refused q taken k) = (
         ParametersMeet.refused {e = e} (t .asked ∙ rw (split, taken, q) refl) (subst (NamesOnly tree s₀) (sym k) (t .only))
@@ -284,8 +284,8 @@ module _ (tree text : List ℕ) (functions f : ℕ) (s₀ : List ℕ) where
           those : untilTaken (functionOf tree text f .params) 0 (emptyIn tree text f) ≡ t .before
           those = t .declared ∙ rw (split, taken) (append-nil (t .before))
 
-      pub turn-next : (s′ : List ℕ) (sc′ : Scope) (w : ℕ) → w ≡ wordOf tree cell B → OneMore tree text functions sc here s s′ (Answer.Done sc′)
-          → Turn tree text functions f s₀ s′ w sc′
+      pub turn-next : (s′ : List ℕ) (sc′ : Scope) (w : ℕ) → w ≡ wordOf tree cell B → OneMore tree text sc here s s′ (Answer.Done sc′)
+          → Turn tree text f s₀ s′ w sc′
       unfolding withParams untilTaken pick withVariable
       turn-next s′ sc′ w e (OneMore.done r is free adds only wrote) = record {
         ready = r;
@@ -305,7 +305,7 @@ module _ (tree text : List ℕ) (functions f : ℕ) (s₀ : List ℕ) where
         where
           -- the name's number is read from the scratch at hand, and stands as it stood at the start
           number-same : parameterAdded tree s here (sc .names) s ≡ parameterAdded tree s₀ here (sc .names) s
-          number-same = rw (number-word tree (only-stays (t .only)) (wordOf tree cell A) (item-asked tree text s functions sc (t .ready) cell (t .cells) n still-few .below))
+          number-same = rw (number-word tree (only-stays (t .only)) (wordOf tree cell A) (item-asked tree text s sc (t .ready) cell (t .cells) n still-few .below))
 
           next-number : sc′ .names ≡ suc (sc .names)
           next-number = ap (λ (x : Scope). x .names) is ∙ omega arith

@@ -41,6 +41,6 @@ pub record ListKeeps (tree s s′ : List ℕ) : Type 0 where
 
 -- `get_all_functions`: the functions' records are listed, and their keys are distinct or the first function that is not fine is refused
 pub data AllMeet (tree text s s′ : List ℕ) : AllFunctions → Type 0 where
-  done : {count : ℕ} → ListKeeps tree s s′ → Mapped tree text s′ count → AllMeet tree text s s′ (AllFunctions.Done count)
-  refused : {e : ConvertError} {count : ℕ} → ListKeeps tree s s′ → Listed tree s′ count → get-all-functions (program tree text .functions) [] ≡ refusal e
+  done : {count : ℕ} → ListKeeps tree s s′ → Mapped tree text s′ → count ≡ length (functionPlaces tree) → AllMeet tree text s s′ (AllFunctions.Done count)
+  refused : {e : ConvertError} → ListKeeps tree s s′ → Listed tree s′ → get-all-functions (program tree text .functions) [] ≡ refusal e
       → AllMeet tree text s s′ (AllFunctions.Refused e)

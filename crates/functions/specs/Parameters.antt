@@ -77,20 +77,20 @@ pub record NamesOnly (tree s s′ : List ℕ) : Type 0 where
   pub behind : (i : ℕ) → endOf nameSlots * records tree ≤ i → byteAt s′ i ≡ byteAt s i
 
 -- one parameter more, or its name is taken
-pub data OneMore (tree text : List ℕ) (functions : ℕ) (sc : Scope) (p : Param) (s s′ : List ℕ) : Parameters → Type 0 where
-  done : {sc′ : Scope} → Ready tree text s′ functions sc′ → sc′ ≡ more sc
+pub data OneMore (tree text : List ℕ) (sc : Scope) (p : Param) (s s′ : List ℕ) : Parameters → Type 0 where
+  done : {sc′ : Scope} → Ready tree text s′ sc′ → sc′ ≡ more sc
       → isSome (find-variable (p .name) (scopeAt tree text s sc)) ≡ false
       → scopeAt tree text s′ sc′ ≡ withVariable (parameterOf p (sc .names)) (scopeAt tree text s sc)
-      → NamesOnly tree s s′ → s′ ≡ parameterAdded tree s p (sc .names) s → OneMore tree text functions sc p s s′ (Parameters.Done sc′)
+      → NamesOnly tree s s′ → s′ ≡ parameterAdded tree s p (sc .names) s → OneMore tree text sc p s s′ (Parameters.Done sc′)
   refused : {e : ConvertError} → e ≡ record { kind = AlreadyDeclared; place = p .recOf }
       → isSome (find-variable (p .name) (scopeAt tree text s sc)) ≡ true
-      → s′ ≡ s → OneMore tree text functions sc p s s′ (Parameters.Refused e)
+      → s′ ≡ s → OneMore tree text sc p s s′ (Parameters.Refused e)
 
 -- the scope of function f's body; only the entries and their slots are written: of all parameters or, where a name is taken, of those before
-pub data ParametersMeet (tree text : List ℕ) (functions f : ℕ) (s s′ : List ℕ) : Parameters → Type 0 where
+pub data ParametersMeet (tree text : List ℕ) (f : ℕ) (s s′ : List ℕ) : Parameters → Type 0 where
   done : {sc : Scope} → withParams (functionOf tree text f .params) 0 (emptyIn tree text f) ≡ ok (scopeAt tree text s′ sc)
-      → Ready tree text s′ functions sc → sc .inner ≡ Words.none → sc .function ≡ f
-      → NamesOnly tree s s′ → s′ ≡ parametersAdded tree s (functionOf tree text f .params) 0 s → ParametersMeet tree text functions f s s′ (Parameters.Done sc)
+      → Ready tree text s′ sc → sc .inner ≡ Words.none → sc .function ≡ f
+      → NamesOnly tree s s′ → s′ ≡ parametersAdded tree s (functionOf tree text f .params) 0 s → ParametersMeet tree text f s s′ (Parameters.Done sc)
   refused : {e : ConvertError} → withParams (functionOf tree text f .params) 0 (emptyIn tree text f) ≡ refusal e
       → NamesOnly tree s s′ → s′ ≡ parametersAdded tree s (untilTaken (functionOf tree text f .params) 0 (emptyIn tree text f)) 0 s
-      → ParametersMeet tree text functions f s s′ (Parameters.Refused e)
+      → ParametersMeet tree text f s s′ (Parameters.Refused e)

@@ -118,11 +118,10 @@ pub fn convert_func(
     text: &[u8],
     arena: &mut [u8],
     scratch: &mut [u8],
-    functions: usize,
     k: Counters,
     f: usize,
 ) -> Finished
-    requires { ⌜ Keyed (now tree) (now text) (now scratch) functions × FunctionAt (now tree) f ⌝ }
+    requires { ⌜ Keyed (now tree) (now text) (now scratch) × FunctionAt (now tree) f ⌝ }
     requires { ⌜ Room k (now arena) × (k .records ≡ records (now tree)) × FunctionsAfforded k (functionRecords (functionOf (now tree) (now text) f)) ⌝ }
     requires { ⌜ Turns (now tree) (now scratch) k ⌝ }
     ensures { λ a. ⌜ ConvertsFunction (now (tree .entry)) (now (text .entry)) f k (now (arena .entry)) (now (scratch .entry)) a (now (arena .exit)) (now (scratch .exit)) ⌝ }
@@ -131,12 +130,11 @@ pub fn convert_func(
     if !has_body(tree, text, f) {
         return Finished::Done(add_function(arena, k, f as u32, false));
     }
-    match declare_parameters(tree, text, scratch, functions, f) {
+    match declare_parameters(tree, text, scratch, f) {
         Parameters::Refused(x) => Finished::Refused(x),
         Parameters::Done(scope) => {
             let k1 = parameter_variables(tree, text, arena, k, f);
             let c = Converter {
-                functions,
                 scope,
                 counters: k1,
                 operands: 0,

@@ -68,13 +68,13 @@ fn list_functions(tree: &[u8], scratch: &mut [u8]) -> usize
 }
 
 // One turn of get_all_functions: the j-th function against those before it, which are entered by their keys.
-fn check_function(tree: &[u8], text: &[u8], scratch: &[u8], count: usize, j: usize) -> Outcome
+fn check_function(tree: &[u8], text: &[u8], scratch: &[u8], j: usize) -> Outcome
     requires { ⌜ Good (now tree) (now text) × Numbered (now tree) (now text) (now scratch) ⌝ }
-    requires { ⌜ Listed (now tree) (now scratch) count ⌝ }
-    requires { ⌜ (j < count) × KeySlots (now tree) (now text) (now scratch) (keysBelow (now tree) (now text) j) ⌝ }
+    requires { ⌜ Listed (now tree) (now scratch) ⌝ }
+    requires { ⌜ (j < length (functionPlaces (now tree))) × KeySlots (now tree) (now text) (now scratch) (keysBelow (now tree) (now text) j) ⌝ }
     ensures { λ r. ⌜ TurnMeets (now (tree .entry)) (now (text .entry)) (now (scratch .entry)) j r ⌝ }
 {
-    let f = function_at(tree, scratch, count, j);
+    let f = function_at(tree, scratch, j);
     let name = name_of(tree, text, f);
     if is_mangled(tree, text, f) {
         if is_ascii(text, name) {
@@ -105,11 +105,11 @@ pub fn get_all_functions(tree: &[u8], text: &[u8], scratch: &mut [u8]) -> AllFun
     clear_keys(scratch, tree.len() / RECORD_BYTES);
     let mut j = 0;
     while j < count {
-        match check_function(tree, text, scratch, count, j) {
+        match check_function(tree, text, scratch, j) {
             Outcome::Refused(e) => return AllFunctions::Refused(e),
             Outcome::Done => {}
         }
-        let added = function_at(tree, scratch, count, j);
+        let added = function_at(tree, scratch, j);
         enter_key(tree, text, scratch, added);
         j += 1;
     }
@@ -119,12 +119,12 @@ pub fn get_all_functions(tree: &[u8], text: &[u8], scratch: &mut [u8]) -> AllFun
 // The first function named `main`.
 fn find_main(tree: &[u8], text: &[u8], scratch: &[u8], count: usize) -> Found
     requires { ⌜ Good (now tree) (now text) ⌝ }
-    requires { ⌜ Listed (now tree) (now scratch) count ⌝ }
+    requires { ⌜ Listed (now tree) (now scratch) × (count ≡ length (functionPlaces (now tree))) ⌝ }
     ensures { λ r. ⌜ FunctionIs (now (tree .entry)) (now (text .entry)) r (findMain (program (now (tree .entry)) (now (text .entry)) .functions)) ⌝ }
 {
     let mut j = 0;
     while j < count {
-        let f = function_at(tree, scratch, count, j);
+        let f = function_at(tree, scratch, j);
         if is_main(text, name_of(tree, text, f)) {
             return Found::At(f);
         }
@@ -154,7 +154,7 @@ pub fn check_main(
     needs_main: bool,
 ) -> Outcome
     requires { ⌜ Good (now tree) (now text) ⌝ }
-    requires { ⌜ Listed (now tree) (now scratch) count ⌝ }
+    requires { ⌜ Listed (now tree) (now scratch) × (count ≡ length (functionPlaces (now tree))) ⌝ }
     ensures { λ r. ⌜ check-main (program (now (tree .entry)) (now (text .entry))) «needs_main» ≡ outcomeOf r ⌝ }
 {
     match find_main(tree, text, scratch, count) {

@@ -45,14 +45,13 @@ fn declare_parameter(
     tree: &[u8],
     text: &[u8],
     scratch: &mut [u8],
-    functions: usize,
     scope: Scope,
     cell: usize,
 ) -> Parameters
-    requires { ⌜ Ready (now tree) (now text) (now scratch) functions scope ⌝ }
+    requires { ⌜ Ready (now tree) (now text) (now scratch) scope ⌝ }
     requires { ⌜ ParamsAt (now tree) cell ⌝ }
     requires { ⌜ (cell ≡ none → ⊥) × (scope .names + cell < records (now tree)) ⌝ }
-    ensures { λ a. ⌜ OneMore (now (tree .entry)) (now (text .entry)) functions scope (parameterIn (now (tree .entry)) (now (text .entry)) cell) (now (scratch .entry)) (now (scratch .exit)) a ⌝ }
+    ensures { λ a. ⌜ OneMore (now (tree .entry)) (now (text .entry)) scope (parameterIn (now (tree .entry)) (now (text .entry)) cell) (now (scratch .entry)) (now (scratch .exit)) a ⌝ }
     ensures turns { λ _. ⌜ TurnsStay (now (tree .entry)) (now (scratch .entry)) (now (scratch .exit)) ⌝ }
 {
     let p = reference(tree, cell, WORD_A);
@@ -64,16 +63,10 @@ fn declare_parameter(
 }
 
 // The scope with which the body of function f begins: its parameters, numbered from 0.
-pub fn declare_parameters(
-    tree: &[u8],
-    text: &[u8],
-    scratch: &mut [u8],
-    functions: usize,
-    f: usize,
-) -> Parameters
-    requires { ⌜ Keyed (now tree) (now text) (now scratch) functions ⌝ }
+pub fn declare_parameters(tree: &[u8], text: &[u8], scratch: &mut [u8], f: usize) -> Parameters
+    requires { ⌜ Keyed (now tree) (now text) (now scratch) ⌝ }
     requires { ⌜ FunctionAt (now tree) f ⌝ }
-    ensures { λ a. ⌜ ParametersMeet (now (tree .entry)) (now (text .entry)) functions f (now (scratch .entry)) (now (scratch .exit)) a ⌝ }
+    ensures { λ a. ⌜ ParametersMeet (now (tree .entry)) (now (text .entry)) f (now (scratch .entry)) (now (scratch .exit)) a ⌝ }
     ensures turns { λ _. ⌜ TurnsStay (now (tree .entry)) (now (scratch .entry)) (now (scratch .exit)) ⌝ }
 {
     let mut cell = parameters_of(tree, text, f);
@@ -84,7 +77,7 @@ pub fn declare_parameters(
         function: f as u32,
     };
     while cell != END {
-        match declare_parameter(tree, text, scratch, functions, scope, cell) {
+        match declare_parameter(tree, text, scratch, scope, cell) {
             Parameters::Refused(e) => return Parameters::Refused(e),
             Parameters::Done(next) => scope = next,
         }

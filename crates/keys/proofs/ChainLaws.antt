@@ -28,7 +28,7 @@ use Rattle.syntax.specs.Places.{FunctionAt, functionOf}
 use Rattle.syntax.proofs.Records.{name-record}
 use Rattle.texts.specs.Texts.{hasText, hasOwn, original, originalAt, textDigestAt, Numbered}
 use Rattle.texts.proofs.TextLaws.{numbered-stays, original-below}
-use Rattle.keys.specs.Keys.{keySlotAt, Mapped, Chain, chainedBefore, keyHeadAt, nameHeadAt, isFunction, keyRoll, keyBucket, nameBucket, Chaining, Keyed, ChainKeeps}
+use Rattle.keys.specs.Keys.{keySlotAt, Mapped, Chain, chainedBefore, keyHeadAt, nameHeadAt, isFunction, keyRoll, keyBucket, nameBucket, KeyDigests, ByKey, ByName, Chaining, Keyed, ChainKeeps}
 use Rattle.keys.proofs.KeySearch.{records-most}
 use Rattle.keys.proofs.SlotLaws.{slots-stay, zero-word}
 
@@ -222,50 +222,52 @@ not-own tree f r at t e =
 
 -- ---- what stays
 
-pub count-most : (tree text s : List ℕ) (count : ℕ) → Mapped tree text s count → count ≤ records tree
-count-most tree text s count m = omega (arith, m .listed .counted, records-most tree (records tree))
-
-mapped-stays : (tree text s s′ : List ℕ) (count : ℕ) → length s′ ≡ length s
+mapped-stays : (tree text s s′ : List ℕ) → length s′ ≡ length s
     → ((j : ℕ) → j < records tree → wordAt s′ (4 * j) ≡ wordAt s (4 * j))
     → ((r : ℕ) → r < records tree → hasOwn tree r ≡ true → wordAt s′ (originalAt (records tree) r) ≡ wordAt s (originalAt (records tree) r))
     → ((r : ℕ) → r < records tree → hasOwn tree r ≡ true → wordAt s′ (keySlotAt (records tree) r) ≡ wordAt s (keySlotAt (records tree) r))
     → ((r : ℕ) → r < records tree → hasOwn tree r ≡ true → wordAt s′ (textDigestAt (records tree) r) ≡ wordAt s (textDigestAt (records tree) r))
-    → Mapped tree text s count → Mapped tree text s′ count
-mapped-stays tree text s s′ count long listed numbers slots digests m = record {
+    → Mapped tree text s → Mapped tree text s′
+mapped-stays tree text s s′ long listed numbers slots digests m = record {
   good = m .good;
   numbered = numbered-stays tree text s s′ numbers digests (m .numbered);
   distinct = m .distinct;
   listed = record {
     room = omega (arith, m .listed .room, long);
-    counted = m .listed .counted;
-    listed = λ j h. listed j (omega (arith, count-most tree text s count m)) ∙ m .listed .listed j h;
+    listed = λ j h. listed j (omega (arith, records-most tree (records tree))) ∙ m .listed .listed j h;
   };
   slots = slots-stay tree text s s′ slots _ (m .slots);
 }
 
+-- what is mapped, and the chains beside it
+with-chains : (tree text s : List ℕ) (k m : ℕ) → Mapped tree text s → KeyDigests tree text s k → ByKey tree text s k → ByName tree text s m → Chaining tree text s k m
+with-chains tree text s k m p digests by-key by-name = record {
+  good = p .good;
+  numbered = p .numbered;
+  distinct = p .distinct;
+  listed = p .listed;
+  slots = p .slots;
+  digests = digests;
+  by-key = by-key;
+  by-name = by-name;
+}
+
+still-mapped : {tree text s : List ℕ} {k m : ℕ} → Chaining tree text s k m → Mapped tree text s
+still-mapped c = record { good = c .good; numbered = c .numbered; distinct = c .distinct; listed = c .listed; slots = c .slots }
+
 -- the words of the list, and all from the texts' numbers to the slots of names, are as they were
-pub keyed-kept : (tree text s s′ : List ℕ) (count : ℕ) → length s′ ≡ length s → ((p : ℕ) → p + 4 ≤ 4 * records tree → wordAt s′ p ≡ wordAt s p)
-    → ((p : ℕ) → 40 * records tree ≤ p → p + 4 ≤ 60 * records tree → wordAt s′ p ≡ wordAt s p) → Keyed tree text s count → Keyed tree text s′ count
-keyed-kept tree text s s′ count long listed same k =
+pub keyed-kept : (tree text s s′ : List ℕ) → length s′ ≡ length s → ((p : ℕ) → p + 4 ≤ 4 * records tree → wordAt s′ p ≡ wordAt s p)
+    → ((p : ℕ) → 40 * records tree ≤ p → p + 4 ≤ 60 * records tree → wordAt s′ p ≡ wordAt s p) → Keyed tree text s → Keyed tree text s′
+keyed-kept tree text s s′ long listed same k =
     let n : ℕ = records tree in
-    let mapped : Mapped tree text s count = record { good = k .good; numbered = k .numbered; distinct = k .distinct; listed = k .listed; slots = k .slots } in
-    let m : Mapped tree text s′ count =
-    mapped-stays tree text s s′ count long (λ j h. listed (4 * j) (omega arith)) (λ r h t. same (originalAt n r) (omega arith) (omega arith))
-    (λ r h t. same (keySlotAt n r) (omega arith) (omega arith)) (λ r h t. same (textDigestAt n r) (omega arith) (omega arith)) mapped in
-    record {
-      good = m .good;
-      numbered = m .numbered;
-      distinct = m .distinct;
-      listed = m .listed;
-      slots = m .slots;
-      digests = λ f h at. same (textDigestAt n f) (omega arith) (omega arith) ∙ k .digests f h at;
-      by-key =
-          chain-stays (keyBucket tree text) (keyHeadAt n) (originalAt n) n s s′ n (λ b h. same (keyHeadAt n b) (omega arith) (omega arith))
-          (λ r h. same (originalAt n r) (omega arith) (omega arith)) (k .by-key);
-      by-name =
-          chain-stays (nameBucket tree text) (nameHeadAt n) (keySlotAt n) n s s′ n (λ b h. same (nameHeadAt n b) (omega arith) (omega arith))
-          (λ r h. same (keySlotAt n r) (omega arith) (omega arith)) (k .by-name);
-    }
+    with-chains tree text s′ n n
+    (mapped-stays tree text s s′ long (λ j h. listed (4 * j) (omega arith)) (λ r h t. same (originalAt n r) (omega arith) (omega arith))
+    (λ r h t. same (keySlotAt n r) (omega arith) (omega arith)) (λ r h t. same (textDigestAt n r) (omega arith) (omega arith)) (still-mapped k))
+    (λ f h at. same (textDigestAt n f) (omega arith) (omega arith) ∙ k .digests f h at)
+    (chain-stays (keyBucket tree text) (keyHeadAt n) (originalAt n) n s s′ n (λ b h. same (keyHeadAt n b) (omega arith) (omega arith))
+    (λ r h. same (originalAt n r) (omega arith) (omega arith)) (k .by-key))
+    (chain-stays (nameBucket tree text) (nameHeadAt n) (keySlotAt n) n s s′ n (λ b h. same (nameHeadAt n b) (omega arith) (omega arith))
+    (λ r h. same (keySlotAt n r) (omega arith) (omega arith)) (k .by-name))
 
 -- ---- the heads are cleared
 
@@ -279,7 +281,7 @@ cleared-away from to s s′ c p (inl h) =
 cleared-away from to s s′ c p (inr h) =
     word-same s′ p s p (c .behind p (omega arith)) (c .behind (p + 1) (omega arith)) (c .behind (p + 2) (omega arith)) (c .behind (p + 3) (omega arith))
 
-module _ (tree text s s₁ s₂ : List ℕ) (count : ℕ) (m : Mapped tree text s count) (c₁ : Cleared (48 * records tree) (48 * records tree + 4 * records tree) s s₁)
+module _ (tree text s s₁ s₂ : List ℕ) (m : Mapped tree text s) (c₁ : Cleared (48 * records tree) (48 * records tree + 4 * records tree) s s₁)
     (c₂ : Cleared (56 * records tree) (56 * records tree + 4 * records tree) s₁ s₂) where
   cleared-stays : (p : ℕ) → (p + 4 ≤ 48 * records tree) ⊎ (52 * records tree ≤ p) → (p + 4 ≤ 56 * records tree) ⊎ (60 * records tree ≤ p) → wordAt s₂ p ≡ wordAt s p
   cleared-stays p a b = cleared-away _ _ s₁ s₂ c₂ p (behind b) ∙ cleared-away _ _ s s₁ c₁ p (between a)
@@ -292,55 +294,49 @@ module _ (tree text s s₁ s₂ : List ℕ) (count : ℕ) (m : Mapped tree text 
       behind (inl h) = inl h
       behind (inr h) = inr (omega arith)
 
-  pub chaining-none : Chaining tree text s₂ count 0 0
-  chaining-none = record {
-    mapped =
-        mapped-stays tree text s s₂ count (c₂ .long ∙ c₁ .long)
-        (λ j h. cleared-stays (4 * j) (inl (omega arith)) (inl (omega arith)))
-        (λ r h t. cleared-stays (originalAt (records tree) r) (inl (omega arith)) (inl (omega arith)))
-        (λ r h t. cleared-stays (keySlotAt (records tree) r) (inl (omega arith)) (inl (omega arith)))
-        (λ r h t. cleared-stays (textDigestAt (records tree) r) (inr (omega arith)) (inl (omega arith))) m;
-    digests = λ f h. absurd (omega arith);
-    by-key =
-        chain-none (keyBucket tree text) (keyHeadAt (records tree)) (originalAt (records tree)) (records tree) s₂
-        (λ b h. cleared-away _ _ s₁ s₂ c₂ (keyHeadAt (records tree) b) (inl (omega arith)) ∙ cleared-word _ _ s s₁ c₁ (keyHeadAt (records tree) b) (omega arith) (omega arith));
-    by-name =
-        chain-none (nameBucket tree text) (nameHeadAt (records tree)) (keySlotAt (records tree)) (records tree) s₂
-        (λ b h. cleared-word _ _ s₁ s₂ c₂ (nameHeadAt (records tree) b) (omega arith) (omega arith));
-  }
+  pub chaining-none : Chaining tree text s₂ 0 0
+  chaining-none =
+      with-chains tree text s₂ 0 0
+      (mapped-stays tree text s s₂ (c₂ .long ∙ c₁ .long)
+      (λ j h. cleared-stays (4 * j) (inl (omega arith)) (inl (omega arith)))
+      (λ r h t. cleared-stays (originalAt (records tree) r) (inl (omega arith)) (inl (omega arith)))
+      (λ r h t. cleared-stays (keySlotAt (records tree) r) (inl (omega arith)) (inl (omega arith)))
+      (λ r h t. cleared-stays (textDigestAt (records tree) r) (inr (omega arith)) (inl (omega arith))) m)
+      (λ f h. absurd (omega arith))
+      (chain-none (keyBucket tree text) (keyHeadAt (records tree)) (originalAt (records tree)) (records tree) s₂
+      (λ b h. cleared-away _ _ s₁ s₂ c₂ (keyHeadAt (records tree) b) (inl (omega arith)) ∙ cleared-word _ _ s s₁ c₁ (keyHeadAt (records tree) b) (omega arith) (omega arith)))
+      (chain-none (nameBucket tree text) (nameHeadAt (records tree)) (keySlotAt (records tree)) (records tree) s₂
+      (λ b h. cleared-word _ _ s₁ s₂ c₂ (nameHeadAt (records tree) b) (omega arith) (omega arith)))
 
 -- ---- record r is passed
 
-module _ (tree text s : List ℕ) (count : ℕ) where
-  pub passed-other : (r : ℕ) → isFunction tree r ≡ false → Chaining tree text s count r r → Chaining tree text s count (r + 1) (r + 1)
-  passed-other r e c = record {
-    mapped = c .mapped;
-    digests =
-        below-more (λ (f : ℕ). FunctionAt tree f → wordAt s (textDigestAt (records tree) f) ≡ keyRoll tree text f) r (c .digests)
-        (λ at. absurd (false≢true (sym e ∙ is-function tree text r at)));
-    by-key = chain-past (keyBucket tree text) (keyHeadAt (records tree)) (originalAt (records tree)) (records tree) s r (key-bucket-none tree text r e) (c .by-key);
-    by-name =
-        chain-past (nameBucket tree text) (nameHeadAt (records tree)) (keySlotAt (records tree)) (records tree) s r
-        (name-bucket-none tree text r (rw e refl)) (c .by-name);
-  }
+module _ (tree text s : List ℕ) where
+  pub passed-other : (r : ℕ) → isFunction tree r ≡ false → Chaining tree text s r r → Chaining tree text s (r + 1) (r + 1)
+  passed-other r e c =
+      with-chains tree text s (r + 1) (r + 1)
+      (still-mapped c)
+      (below-more (λ (f : ℕ). FunctionAt tree f → wordAt s (textDigestAt (records tree) f) ≡ keyRoll tree text f) r (c .digests)
+      (λ at. absurd (false≢true (sym e ∙ is-function tree text r at))))
+      (chain-past (keyBucket tree text) (keyHeadAt (records tree)) (originalAt (records tree)) (records tree) s r (key-bucket-none tree text r e) (c .by-key))
+      (chain-past (nameBucket tree text) (nameHeadAt (records tree)) (keySlotAt (records tree)) (records tree) s r
+      (name-bucket-none tree text r (rw e refl)) (c .by-name))
 
   -- a function that is not mangled is in no chain of names
-  pub passed-plain : (r : ℕ) → is-mangled (functionOf tree text r) ≡ false → Chaining tree text s count (r + 1) r → Chaining tree text s count (r + 1) (r + 1)
-  passed-plain r e c = record {
-    mapped = c .mapped;
-    digests = c .digests;
-    by-key = c .by-key;
-    by-name =
-        chain-past (nameBucket tree text) (nameHeadAt (records tree)) (keySlotAt (records tree)) (records tree) s r
-        (name-bucket-none tree text r (tested (isFunction tree r) (λ t. rw (t, e) refl) (λ t. rw t refl))) (c .by-name);
-  }
+  pub passed-plain : (r : ℕ) → is-mangled (functionOf tree text r) ≡ false → Chaining tree text s (r + 1) r → Chaining tree text s (r + 1) (r + 1)
+  passed-plain r e c =
+      with-chains tree text s (r + 1) (r + 1)
+      (still-mapped c)
+      (c .digests)
+      (c .by-key)
+      (chain-past (nameBucket tree text) (nameHeadAt (records tree)) (keySlotAt (records tree)) (records tree) s r
+      (name-bucket-none tree text r (tested (isFunction tree r) (λ t. rw (t, e) refl) (λ t. rw t refl))) (c .by-name))
 
 -- ---- function f by its key: s₁ is the scratch once the digest is written
 
-module _ (tree text s s₁ s′ : List ℕ) (count f d b : ℕ) (c : Chaining tree text s count f f) (at : FunctionAt tree f) (hb : b < records tree)
+module _ (tree text s s₁ s′ : List ℕ) (f d b : ℕ) (c : Chaining tree text s f f) (at : FunctionAt tree f) (hb : b < records tree)
     (e₁ : s₁ ≡ splice s (textDigestAt (records tree) f) (word d)) (e : s′ ≡ chainedBefore (keyHeadAt (records tree) b) (originalAt (records tree) f) (f + 1) s₁) where
   room : 72 * records tree ≤ length s
-  room = c .mapped .listed .room
+  room = c .listed .room
 
   fit₁ : textDigestAt (records tree) f + 4 ≤ length s
   fit₁ = omega (arith, room, at .below)
@@ -372,14 +368,14 @@ module _ (tree text s s₁ s′ : List ℕ) (count f d b : ℕ) (c : Chaining tr
   away : (q : ℕ) → Away q (textDigestAt (records tree) f) → Away q (originalAt (records tree) f) → Away q (keyHeadAt (records tree) b) → wordAt s′ q ≡ wordAt s q
   away q x y z = away₂ q y z ∙ away₁ q x
 
-  key-mapped : Mapped tree text s′ count
+  key-mapped : Mapped tree text s′
   key-mapped =
-      mapped-stays tree text s s′ count key-long
+      mapped-stays tree text s s′ key-long
       (λ j h. away (4 * j) (inl (omega arith)) (inl (omega arith)) (inl (omega arith)))
       (λ r h t. away (originalAt (records tree) r) (inl (omega arith)) (slot-away (40 * records tree) r f (not-own tree f r at t)) (inl (omega arith)))
       (λ r h t. away (keySlotAt (records tree) r) (inl (omega arith)) (inr (omega (arith, at .below))) (inl (omega arith)))
       (λ r h t. away (textDigestAt (records tree) r) (slot-away (52 * records tree) r f (not-own tree f r at t)) (inr (omega (arith, at .below))) (inr (omega (arith, hb))))
-      (c .mapped)
+      (still-mapped c)
 
   module _ (ed : d ≡ keyRoll tree text f) (hd : d < 4294967296) (eb : b ≡ bucketOf (records tree) (digestEnd d)) where
     digest-there : wordAt s′ (textDigestAt (records tree) f) ≡ keyRoll tree text f
@@ -395,40 +391,37 @@ module _ (tree text s s₁ s′ : List ℕ) (count f d b : ℕ) (c : Chaining tr
     head-same = away₁ (keyHeadAt (records tree) b) (inl (omega arith))
 
     head-fits : wordAt s₁ (keyHeadAt (records tree) b) < 4294967296
-    head-fits = omega (arith, link-within (keyBucket tree text) f b _ (head-same ∙ c .by-key .heads b hb), at .below, c .mapped .good .few)
+    head-fits = omega (arith, link-within (keyBucket tree text) f b _ (head-same ∙ c .by-key .heads b hb), at .below, c .good .few)
 
-    pub chained-key : Chaining tree text s′ count (f + 1) f
-    chained-key = record {
-      mapped = key-mapped;
-      digests =
-          below-more (λ (g : ℕ). FunctionAt tree g → wordAt s′ (textDigestAt (records tree) g) ≡ keyRoll tree text g) f
-          (λ g h x.
-          away (textDigestAt (records tree) g) (inl (omega arith)) (inr (omega (arith, at .below))) (inr (omega (arith, hb)))
-          ∙ c .digests g h x)
-          (λ x. digest-there);
-      by-key =
-          chain-more (keyBucket tree text) (keyHeadAt (records tree)) (originalAt (records tree)) (records tree) s s′ f b bucket-is hb
-          (chained-head s₁ (keyHeadAt (records tree) b) (originalAt (records tree) f) (f + 1) fit-head fit-link s′ e (omega (arith, at .below, c .mapped .good .few)))
-          (chained-link s₁ (keyHeadAt (records tree) b) (originalAt (records tree) f) (f + 1) fit-head fit-link s′ e head-fits (inl (omega (arith, at .below))) ∙ head-same)
-          (λ x hx ne. away (keyHeadAt (records tree) x) (inl (omega arith)) (inr (omega (arith, at .below))) (slot-away (48 * records tree) x b ne))
-          (λ k h. away (originalAt (records tree) k) (inl (omega (arith, at .below))) (inl (omega arith)) (inl (omega (arith, at .below))))
-          (c .by-key);
-      by-name =
-          chain-stays (nameBucket tree text) (nameHeadAt (records tree)) (keySlotAt (records tree)) (records tree) s s′ f
-          (λ x hx. away (nameHeadAt (records tree) x) (inr (omega (arith, at .below))) (inr (omega (arith, at .below))) (inr (omega (arith, hb))))
-          (λ k h. away (keySlotAt (records tree) k) (inl (omega (arith, at .below))) (inr (omega (arith, at .below))) (inl (omega (arith, at .below))))
-          (c .by-name);
-    }
+    pub chained-key : Chaining tree text s′ (f + 1) f
+    chained-key =
+        with-chains tree text s′ (f + 1) f
+        key-mapped
+        (below-more (λ (g : ℕ). FunctionAt tree g → wordAt s′ (textDigestAt (records tree) g) ≡ keyRoll tree text g) f
+        (λ g h x.
+        away (textDigestAt (records tree) g) (inl (omega arith)) (inr (omega (arith, at .below))) (inr (omega (arith, hb)))
+        ∙ c .digests g h x)
+        (λ x. digest-there))
+        (chain-more (keyBucket tree text) (keyHeadAt (records tree)) (originalAt (records tree)) (records tree) s s′ f b bucket-is hb
+        (chained-head s₁ (keyHeadAt (records tree) b) (originalAt (records tree) f) (f + 1) fit-head fit-link s′ e (omega (arith, at .below, c .good .few)))
+        (chained-link s₁ (keyHeadAt (records tree) b) (originalAt (records tree) f) (f + 1) fit-head fit-link s′ e head-fits (inl (omega (arith, at .below))) ∙ head-same)
+        (λ x hx ne. away (keyHeadAt (records tree) x) (inl (omega arith)) (inr (omega (arith, at .below))) (slot-away (48 * records tree) x b ne))
+        (λ k h. away (originalAt (records tree) k) (inl (omega (arith, at .below))) (inl (omega arith)) (inl (omega (arith, at .below))))
+        (c .by-key))
+        (chain-stays (nameBucket tree text) (nameHeadAt (records tree)) (keySlotAt (records tree)) (records tree) s s′ f
+        (λ x hx. away (nameHeadAt (records tree) x) (inr (omega (arith, at .below))) (inr (omega (arith, at .below))) (inr (omega (arith, hb))))
+        (λ k h. away (keySlotAt (records tree) k) (inl (omega (arith, at .below))) (inr (omega (arith, at .below))) (inl (omega (arith, at .below))))
+        (c .by-name))
 
 -- ---- function f by its name
 
-module _ (tree text s s′ : List ℕ) (count f o : ℕ) (c : Chaining tree text s count (f + 1) f) (at : FunctionAt tree f) (mangled : is-mangled (functionOf tree text f) ≡ true)
+module _ (tree text s s′ : List ℕ) (f o : ℕ) (c : Chaining tree text s (f + 1) f) (at : FunctionAt tree f) (mangled : is-mangled (functionOf tree text f) ≡ true)
     (eo : o ≡ original tree text (wordOf tree f A)) (ho : o < records tree) (e : s′ ≡ chainedBefore (nameHeadAt (records tree) o) (keySlotAt (records tree) f) (f + 1) s) where
   name-fit-head : nameHeadAt (records tree) o + 4 ≤ length s
-  name-fit-head = omega (arith, c .mapped .listed .room)
+  name-fit-head = omega (arith, c .listed .room)
 
   name-fit-link : keySlotAt (records tree) f + 4 ≤ length s
-  name-fit-link = omega (arith, c .mapped .listed .room, at .below)
+  name-fit-link = omega (arith, c .listed .room, at .below)
 
   pub keeps-name : ChainKeeps tree s s′
   keeps-name =
@@ -438,53 +431,40 @@ module _ (tree text s s′ : List ℕ) (count f o : ℕ) (c : Chaining tree text
   name-away = chained-away s (nameHeadAt (records tree) o) (keySlotAt (records tree) f) (f + 1) name-fit-head name-fit-link s′ e
 
   name-head-fits : wordAt s (nameHeadAt (records tree) o) < 4294967296
-  name-head-fits = omega (arith, link-within (nameBucket tree text) f o _ (c .by-name .heads o ho), at .below, c .mapped .good .few)
+  name-head-fits = omega (arith, link-within (nameBucket tree text) f o _ (c .by-name .heads o ho), at .below, c .good .few)
 
-  pub chained-name : Chaining tree text s′ count (f + 1) (f + 1)
-  chained-name = record {
-    mapped =
-        mapped-stays tree text s s′ count
-        (chained-long s (nameHeadAt (records tree) o) (keySlotAt (records tree) f) (f + 1) name-fit-head name-fit-link s′ e)
-        (λ j h. name-away (4 * j) (inl (omega arith)) (inl (omega arith)))
-        (λ r h t. name-away (originalAt (records tree) r) (inl (omega arith)) (inl (omega arith)))
-        (λ r h t. name-away (keySlotAt (records tree) r) (slot-away (44 * records tree) r f (not-own tree f r at t)) (inl (omega arith)))
-        (λ r h t. name-away (textDigestAt (records tree) r) (inr (omega (arith, at .below))) (inl (omega arith)))
-        (c .mapped);
-    digests = λ g h x. name-away (textDigestAt (records tree) g) (inr (omega (arith, at .below))) (inl (omega (arith, x .below))) ∙ c .digests g h x;
-    by-key =
-        chain-stays (keyBucket tree text) (keyHeadAt (records tree)) (originalAt (records tree)) (records tree) s s′ (f + 1)
-        (λ x hx. name-away (keyHeadAt (records tree) x) (inr (omega (arith, at .below))) (inl (omega arith)))
-        (λ k h. name-away (originalAt (records tree) k) (inl (omega (arith, at .below))) (inl (omega (arith, at .below))))
-        (c .by-key);
-    by-name =
-        chain-more (nameBucket tree text) (nameHeadAt (records tree)) (keySlotAt (records tree)) (records tree) s s′ f o
-        (eo ∙ sym (name-bucket-is tree text f (is-function tree text f at) mangled)) ho
-        (chained-head s (nameHeadAt (records tree) o) (keySlotAt (records tree) f) (f + 1) name-fit-head name-fit-link s′ e (omega (arith, at .below, c .mapped .good .few)))
-        (chained-link s (nameHeadAt (records tree) o) (keySlotAt (records tree) f) (f + 1) name-fit-head name-fit-link s′ e name-head-fits (inl (omega (arith, at .below))))
-        (λ x hx ne. name-away (nameHeadAt (records tree) x) (inr (omega (arith, at .below))) (slot-away (56 * records tree) x o ne))
-        (λ k h. name-away (keySlotAt (records tree) k) (inl (omega arith)) (inl (omega (arith, at .below))))
-        (c .by-name);
-  }
+  pub chained-name : Chaining tree text s′ (f + 1) (f + 1)
+  chained-name =
+      with-chains tree text s′ (f + 1) (f + 1)
+      (mapped-stays tree text s s′
+      (chained-long s (nameHeadAt (records tree) o) (keySlotAt (records tree) f) (f + 1) name-fit-head name-fit-link s′ e)
+      (λ j h. name-away (4 * j) (inl (omega arith)) (inl (omega arith)))
+      (λ r h t. name-away (originalAt (records tree) r) (inl (omega arith)) (inl (omega arith)))
+      (λ r h t. name-away (keySlotAt (records tree) r) (slot-away (44 * records tree) r f (not-own tree f r at t)) (inl (omega arith)))
+      (λ r h t. name-away (textDigestAt (records tree) r) (inr (omega (arith, at .below))) (inl (omega arith)))
+      (still-mapped c))
+      (λ g h x. name-away (textDigestAt (records tree) g) (inr (omega (arith, at .below))) (inl (omega (arith, x .below))) ∙ c .digests g h x)
+      (chain-stays (keyBucket tree text) (keyHeadAt (records tree)) (originalAt (records tree)) (records tree) s s′ (f + 1)
+      (λ x hx. name-away (keyHeadAt (records tree) x) (inr (omega (arith, at .below))) (inl (omega arith)))
+      (λ k h. name-away (originalAt (records tree) k) (inl (omega (arith, at .below))) (inl (omega (arith, at .below))))
+      (c .by-key))
+      (chain-more (nameBucket tree text) (nameHeadAt (records tree)) (keySlotAt (records tree)) (records tree) s s′ f o
+      (eo ∙ sym (name-bucket-is tree text f (is-function tree text f at) mangled)) ho
+      (chained-head s (nameHeadAt (records tree) o) (keySlotAt (records tree) f) (f + 1) name-fit-head name-fit-link s′ e (omega (arith, at .below, c .good .few)))
+      (chained-link s (nameHeadAt (records tree) o) (keySlotAt (records tree) f) (f + 1) name-fit-head name-fit-link s′ e name-head-fits (inl (omega (arith, at .below))))
+      (λ x hx ne. name-away (nameHeadAt (records tree) x) (inr (omega (arith, at .below))) (slot-away (56 * records tree) x o ne))
+      (λ k h. name-away (keySlotAt (records tree) k) (inl (omega arith)) (inl (omega (arith, at .below))))
+      (c .by-name))
 
 -- ---- all records
 
 -- the loop: the records below r are passed
-pub record Passing (tree text s₀ s : List ℕ) (count r : ℕ) : Type 0 where
+pub record Passing (tree text s₀ s : List ℕ) (r : ℕ) : Type 0 where
   pub below : r ≤ records tree
-  pub chaining : Chaining tree text s count r r
+  pub chaining : Chaining tree text s r r
   pub keeps : ChainKeeps tree s₀ s
 
-pub all-chained : (tree text s : List ℕ) (count r : ℕ) → r ≤ records tree → records tree ≤ r → Chaining tree text s count r r → Keyed tree text s count
-all-chained tree text s count r a b x =
+pub all-chained : (tree text s : List ℕ) (r : ℕ) → r ≤ records tree → records tree ≤ r → Chaining tree text s r r → Keyed tree text s
+all-chained tree text s r a b x =
     let q : r ≡ records tree = omega arith in
-    let c : Chaining tree text s count (records tree) (records tree) = rw q at x in
-    record {
-      good = c .mapped .good;
-      numbered = c .mapped .numbered;
-      distinct = c .mapped .distinct;
-      listed = c .mapped .listed;
-      slots = c .mapped .slots;
-      digests = c .digests;
-      by-key = c .by-key;
-      by-name = c .by-name;
-    }
+    rw q at x

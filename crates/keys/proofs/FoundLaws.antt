@@ -123,7 +123,7 @@ module _ (tree text : List ℕ) where
   abbrev pub KeyWalk : Text → ℕ → ℕ → Type 0
   KeyWalk t d v = Walked (keyHit t) (keyBucket tree text) (records tree) (bucketOf (records tree) (digestEnd d)) v
 
-  module _ (s : List ℕ) (count : ℕ) (K : Keyed tree text s count) (t : Text) (d : ℕ) (ed : d ≡ rollOf t) where
+  module _ (s : List ℕ) (K : Keyed tree text s) (t : Text) (d : ℕ) (ed : d ≡ rollOf t) where
     together : (i : ℕ) → keyHit t i ≡ true → keyBucket tree text i ≡ bucketOf (records tree) (digestEnd d)
     together i h =
         chained.bucket-member (isFunction tree) (λ k. digestEnd (keyRoll tree text k)) (records tree) i (and-left (isFunction tree i) _ h)

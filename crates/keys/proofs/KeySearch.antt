@@ -17,7 +17,7 @@ use Rattle.conversion.specs.Expressions.{is-mangled, mainName}
 use Rattle.keys.specs.declared.parts.Part.{Part}
 use Rattle.syntax.specs.Places.{FunctionAt, ParamsAt, functionOf, paramsAt}
 use Rattle.keys.specs.Parts.{PartIs}
-use Rattle.keys.specs.Keys.{functionKey, recordsBelow, Listed}
+use Rattle.keys.specs.Keys.{functionKey, recordsBelow, functionPlaces, Listed}
 use Rattle.syntax.proofs.Records.{function-external, function-variadic, function-params, params-are}
 use Rattle.keys.proofs.FunctionLaws.{listed-function, name-part, mangled-part}
 
@@ -78,9 +78,9 @@ records-most tree zero = omega arith
 records-most tree (suc r) =
     rw length-append (omega (arith, records-most tree r, one-at-most r (eqb (kindOf tree r) 25)))
 
-module _ (tree s : List ℕ) (count : ℕ) (listed : Listed tree s count) where
-  pub listed-room : (j : ℕ) → j < count → 4 * j + 4 ≤ length s
-  listed-room j h = omega (arith, listed .room, listed .counted, records-most tree (records tree))
+module _ (tree s : List ℕ) (listed : Listed tree s) where
+  pub listed-room : (j : ℕ) → j < length (functionPlaces tree) → 4 * j + 4 ≤ length s
+  listed-room j h = omega (arith, listed .room, records-most tree (records tree))
 
-  pub listed-at : (j f : ℕ) → j < count → f ≡ wordAt s (4 * j) → FunctionAt tree f
-  listed-at j f h e = rw (e ∙ listed .listed j h) (listed-function tree j (omega (arith, listed .counted)))
+  pub listed-at : (j f : ℕ) → j < length (functionPlaces tree) → f ≡ wordAt s (4 * j) → FunctionAt tree f
+  listed-at j f h e = rw (e ∙ listed .listed j h) (listed-function tree j h)

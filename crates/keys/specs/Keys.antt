@@ -64,11 +64,10 @@ module _ (tree text : List ℕ) where
   unfolding keyed program
   allKeys = keyed (program tree text .functions)
 
--- the scratch has the functions' records, `count` of them
-pub record Listed (tree s : List ℕ) (count : ℕ) : Type 0 where
+-- the scratch has the functions' records, one after the other
+pub record Listed (tree s : List ℕ) : Type 0 where
   pub room : scratchEach * records tree ≤ length s
-  pub counted : count ≡ length (functionPlaces tree)
-  pub listed : (j : ℕ) → j < count → wordAt s (judging .each * j) ≡ getD (functionPlaces tree) j 0
+  pub listed : (j : ℕ) → j < length (functionPlaces tree) → wordAt s (judging .each * j) ≡ getD (functionPlaces tree) j 0
 
 -- ---- the functions by the numbers of their keys
 
@@ -96,11 +95,11 @@ abbrev pub keyEntered : List ℕ → List ℕ → ℕ → List ℕ → List ℕ
 keyEntered tree text f s = splice s (keySlotAt (records tree) (original tree text (keyRecord tree text f))) (word (f + 1))
 
 -- `get_all_functions` went well: a good tree whose keys are distinct, its texts numbered, its functions listed in scratch and entered by their keys
-pub record Mapped (tree text s : List ℕ) (count : ℕ) : Type 0 where
+pub record Mapped (tree text s : List ℕ) : Type 0 where
   pub good : Good tree text
   pub numbered : Numbered tree text s
   pub distinct : get-all-functions (program tree text .functions) [] ≡ ok (allKeys tree text)
-  pub listed : Listed tree s count
+  pub listed : Listed tree s
   pub slots : KeySlots tree text s (allKeys tree text)
 
 -- ---- the functions in chains
@@ -149,23 +148,20 @@ module _ (tree text : List ℕ) where
   abbrev pub ByName : List ℕ → ℕ → Type 0
   ByName s r = Chain nameBucket (nameHeadAt (records tree)) (keySlotAt (records tree)) (records tree) r s
 
--- on the way: the functions below k are chained by key, those below m by name
-pub record Chaining (tree text s : List ℕ) (count k m : ℕ) : Type 0 where
-  pub mapped : Mapped tree text s count
+-- what `Mapped` says, and on the way: the functions below k are chained by key, those below m by name
+pub record Chaining (tree text s : List ℕ) (k m : ℕ) : Type 0 where
+  pub good : Good tree text
+  pub numbered : Numbered tree text s
+  pub distinct : get-all-functions (program tree text .functions) [] ≡ ok (allKeys tree text)
+  pub listed : Listed tree s
+  pub slots : KeySlots tree text s (allKeys tree text)
   pub digests : KeyDigests tree text s k
   pub by-key : ByKey tree text s k
   pub by-name : ByName tree text s m
 
 -- all functions are
-pub record Keyed (tree text s : List ℕ) (count : ℕ) : Type 0 where
-  pub good : Good tree text
-  pub numbered : Numbered tree text s
-  pub distinct : get-all-functions (program tree text .functions) [] ≡ ok (allKeys tree text)
-  pub listed : Listed tree s count
-  pub slots : KeySlots tree text s (allKeys tree text)
-  pub digests : KeyDigests tree text s (records tree)
-  pub by-key : ByKey tree text s (records tree)
-  pub by-name : ByName tree text s (records tree)
+abbrev pub Keyed : List ℕ → List ℕ → List ℕ → Type 0
+Keyed tree text s = Chaining tree text s (records tree) (records tree)
 
 -- only five regions were written, which lie one behind the other: the numbers of the texts, the functions by key, the heads by key, the digests, the heads by name.
 -- All other bytes are as they were

@@ -13,7 +13,7 @@ ghost use Rattle.conversion.specs.Expressions.{is-mangled};
 ghost use Rattle.syntax.specs.Places.{FunctionAt, functionOf, ParamsAt, paramsAt};
 ghost use Rattle.keys.specs.Parts.{PartIs};
 ghost use Rattle.texts.specs.Texts.{original as originalOf, originalAt, Numbered};
-ghost use Rattle.keys.specs.Keys.{functionKey, Listed, Mapped, Chaining, Keyed, ChainKeeps, keyRecord, keySlotAt, keyEntered, chainedBefore, keyHeadAt, nameHeadAt, FindsKey, FindsOwnKey};
+ghost use Rattle.keys.specs.Keys.{functionKey, functionPlaces, Listed, Mapped, Chaining, Keyed, ChainKeeps, keyRecord, keySlotAt, keyEntered, chainedBefore, keyHeadAt, nameHeadAt, FindsKey, FindsOwnKey};
 use crate::parts::Part;
 use crate::parts::is_main;
 use crate::parts::text_part;
@@ -111,9 +111,9 @@ pub fn key_of(tree: &[u8], text: &[u8], f: usize) -> Part
 }
 
 // The j-th of the listed functions.
-pub fn function_at(tree: &[u8], scratch: &[u8], count: usize, j: usize) -> usize
-    requires { ⌜ Listed (now tree) (now scratch) count ⌝ }
-    requires { ⌜ j < count ⌝ }
+pub fn function_at(tree: &[u8], scratch: &[u8], j: usize) -> usize
+    requires { ⌜ Listed (now tree) (now scratch) ⌝ }
+    requires { ⌜ j < length (functionPlaces (now tree)) ⌝ }
     ensures { λ f. ⌜ (f ≡ wordAt (now (scratch .entry)) (judging .each * j)) × FunctionAt (now (tree .entry)) f ⌝ }
 {
     load(scratch, LISTED_BYTES * j) as usize
@@ -195,9 +195,9 @@ fn put_before(scratch: &mut [u8], head: usize, link: usize, next: u32)
 }
 
 // Function f gets the digest of its key, and goes before the others of the digest's bucket.
-fn chain_key(tree: &[u8], text: &[u8], scratch: &mut [u8], count: usize, f: usize)
-    requires { ⌜ Chaining (now tree) (now text) (now scratch) count f f × FunctionAt (now tree) f ⌝ }
-    ensures { λ _. ⌜ Chaining (now (tree .entry)) (now (text .entry)) (now (scratch .exit)) count (f + 1) f ⌝ }
+fn chain_key(tree: &[u8], text: &[u8], scratch: &mut [u8], f: usize)
+    requires { ⌜ Chaining (now tree) (now text) (now scratch) f f × FunctionAt (now tree) f ⌝ }
+    ensures { λ _. ⌜ Chaining (now (tree .entry)) (now (text .entry)) (now (scratch .exit)) (f + 1) f ⌝ }
     ensures { λ _. ⌜ ChainKeeps (now (tree .entry)) (now (scratch .entry)) (now (scratch .exit)) ⌝ }
 {
     let n = tree.len() / RECORD_BYTES;
@@ -214,9 +214,9 @@ fn chain_key(tree: &[u8], text: &[u8], scratch: &mut [u8], count: usize, f: usiz
 }
 
 // A mangled function goes before the others of its name.
-fn chain_name(tree: &[u8], text: &[u8], scratch: &mut [u8], count: usize, f: usize)
-    requires { ⌜ Chaining (now tree) (now text) (now scratch) count (f + 1) f × FunctionAt (now tree) f × (is-mangled (functionOf (now tree) (now text) f) ≡ true) ⌝ }
-    ensures { λ _. ⌜ Chaining (now (tree .entry)) (now (text .entry)) (now (scratch .exit)) count (f + 1) (f + 1) ⌝ }
+fn chain_name(tree: &[u8], text: &[u8], scratch: &mut [u8], f: usize)
+    requires { ⌜ Chaining (now tree) (now text) (now scratch) (f + 1) f × FunctionAt (now tree) f × (is-mangled (functionOf (now tree) (now text) f) ≡ true) ⌝ }
+    ensures { λ _. ⌜ Chaining (now (tree .entry)) (now (text .entry)) (now (scratch .exit)) (f + 1) (f + 1) ⌝ }
     ensures { λ _. ⌜ ChainKeeps (now (tree .entry)) (now (scratch .entry)) (now (scratch .exit)) ⌝ }
 {
     let n = tree.len() / RECORD_BYTES;
@@ -231,24 +231,24 @@ fn chain_name(tree: &[u8], text: &[u8], scratch: &mut [u8], count: usize, f: usi
 }
 
 // Record r, where it is a function.
-fn chain_record(tree: &[u8], text: &[u8], scratch: &mut [u8], count: usize, r: usize)
-    requires { ⌜ Chaining (now tree) (now text) (now scratch) count r r × (r < records (now tree)) ⌝ }
-    ensures { λ _. ⌜ Chaining (now (tree .entry)) (now (text .entry)) (now (scratch .exit)) count (r + 1) (r + 1) ⌝ }
+fn chain_record(tree: &[u8], text: &[u8], scratch: &mut [u8], r: usize)
+    requires { ⌜ Chaining (now tree) (now text) (now scratch) r r × (r < records (now tree)) ⌝ }
+    ensures { λ _. ⌜ Chaining (now (tree .entry)) (now (text .entry)) (now (scratch .exit)) (r + 1) (r + 1) ⌝ }
     ensures { λ _. ⌜ ChainKeeps (now (tree .entry)) (now (scratch .entry)) (now (scratch .exit)) ⌝ }
 {
     if kind(tree, r) != KIND_FUNCTION {
         return;
     }
-    chain_key(tree, text, scratch, count, r);
+    chain_key(tree, text, scratch, r);
     if is_mangled(tree, text, r) {
-        chain_name(tree, text, scratch, count, r);
+        chain_name(tree, text, scratch, r);
     }
 }
 
 // The functions are chained by the digests of their keys, and the mangled ones by their names, so that a call looks only at those that may be meant.
-pub fn chain_functions(tree: &[u8], text: &[u8], scratch: &mut [u8], count: usize)
-    requires { ⌜ Mapped (now tree) (now text) (now scratch) count ⌝ }
-    ensures { λ _. ⌜ Keyed (now (tree .entry)) (now (text .entry)) (now (scratch .exit)) count ⌝ }
+pub fn chain_functions(tree: &[u8], text: &[u8], scratch: &mut [u8])
+    requires { ⌜ Mapped (now tree) (now text) (now scratch) ⌝ }
+    ensures { λ _. ⌜ Keyed (now (tree .entry)) (now (text .entry)) (now (scratch .exit)) ⌝ }
     ensures { λ _. ⌜ ChainKeeps (now (tree .entry)) (now (scratch .entry)) (now (scratch .exit)) ⌝ }
 {
     let n = tree.len() / RECORD_BYTES;
@@ -258,7 +258,7 @@ pub fn chain_functions(tree: &[u8], text: &[u8], scratch: &mut [u8], count: usiz
     clear_run(scratch, names, names + NAME_HEAD_BYTES * n);
     let mut r = 0;
     while r < n {
-        chain_record(tree, text, scratch, count, r);
+        chain_record(tree, text, scratch, r);
         r += 1;
     }
 }

@@ -145,9 +145,9 @@ module _ {tree text s s′ : List ℕ} {sc sc′ : Scope} {r : ℕ} {v : VarId} 
     named-more j h (yes i) = kept .named j i
     named-more j h (no i) = let z : j ≡ sc .names = omega (arith, h, i) in subst (Original tree s′) (sym z) last-named
 
-    pub added-ready : {functions : ℕ} → Ready tree text s functions sc → Ready tree text s′ functions sc′
-    added-ready {functions} k = record {
-      keyed = keyed-stays tree (added-stays 0) text functions (k .keyed);
+    pub added-ready : Ready tree text s sc → Ready tree text s′ sc′
+    added-ready k = record {
+      keyed = keyed-stays tree (added-stays 0) text (k .keyed);
       scoped = record {
         records-are = rw (a .scope) is-records;
         room = added-room tree text number (originalWord tree s r A) (originalWord tree s r B) v constant sc s s′ sc′ a (q .scoped .room) f inside;

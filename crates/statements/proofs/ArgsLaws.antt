@@ -171,7 +171,6 @@ module _ {tree text l s : List ℕ} {c : Converter} {e : ℕ} (p : Converting tr
 pub record ArgsLeft (tree text l₀ s₀ : List ℕ) (c : Converter) (e : ℕ) (l s : List ℕ) (w : ℕ) (at : Converter) : Type 0 where
   pub count : ℕ
   pub below : ℕ
-  pub functions : at .functions ≡ c .functions
   pub scope : at .scope ≡ c .scope
   pub operands : at .operands ≡ c .operands + count
   pub converting : Converting tree text l s at
@@ -216,7 +215,6 @@ module _ {tree text l₀ s₀ : List ℕ} {c : Converter} {e : ℕ} (p : Convert
   loop-start t w q = subst (λ (z : ℕ). ArgsLeft tree text l₀ s₀ c e l₀ s₀ z c) (sym q) (record {
     count = 0;
     below = 0;
-    functions = refl;
     scope = refl;
     operands = omega arith;
     converting = p;
@@ -306,7 +304,6 @@ module _ {tree text l₀ s₀ : List ℕ} {c : Converter} {e : ℕ} (p : Convert
             (subst (λ (z : ℕ). ArgsLeft tree text l₀ s₀ c e l s z at) (sym ev) (record {
               count = i .count;
               below = i .below;
-              functions = i .functions;
               scope = i .scope;
               operands = i .operands;
               converting = i .converting;
@@ -376,7 +373,7 @@ module _ {tree text l₀ s₀ : List ℕ} {c : Converter} {e : ℕ} (p : Convert
             module _ {o : Operand} {k : Counters} (u : r ≡ Converted.Is o k) (ty : ConvertsTyped exprTypes at v tree text s r s₁) {s₂ : List ℕ} (put : s₂ ≡ splice s₁ (stackEntryAt (records tree) (at .operands)) (operandBytes (operandOf o)))
                 (back : operandAt s₂ (records tree) (at .operands) ≡ operandOf o) where
               abbrev pushed : Converter
-              pushed = record { functions = at .functions; scope = at .scope; counters = k; operands = at .operands + 1; turn = at .turn }
+              pushed = record { scope = at .scope; counters = k; operands = at .operands + 1; turn = at .turn }
 
               put-stays : (names operands : ℕ) → operands ≤ at .operands → names ≤ records tree → Stays tree names operands s₁ s₂
               put-stays names operands h m =
@@ -392,7 +389,7 @@ module _ {tree text l₀ s₀ : List ℕ} {c : Converter} {e : ℕ} (p : Convert
               pushed-converting : Converting tree text l₁ s₂ pushed
               pushed-converting =
                   let h = converting-after n u (i .converting) in record {
-                    ready = ready-stays tree (put-stays (at .scope .names) (at .operands) (omega arith) names-in) text (at .functions) (at .scope) (omega arith) (h .ready);
+                    ready = ready-stays tree (put-stays (at .scope .names) (at .operands) (omega arith) names-in) text (at .scope) (omega arith) (h .ready);
                     function = h .function;
                     loop = h .loop;
                     records-are = h .records-are;
@@ -457,7 +454,6 @@ module _ {tree text l₀ s₀ : List ℕ} {c : Converter} {e : ℕ} (p : Convert
                   (subst (λ (z : ℕ). ArgsLeft tree text l₀ s₀ c e l₁ s₂ z pushed) (sym eb) (record {
                     count = suc (i .count);
                     below = i .below + under (exprAt tree text v);
-                    functions = i .functions;
                     scope = i .scope;
                     operands = omega (arith, i .operands);
                     converting = pushed-converting;

@@ -88,7 +88,7 @@ module _ (tree : List ℕ) (r : ℕ) {node : ℕ} (e : node ≡ kindOf tree r) w
 
 -- behind the comment, in a turn of its own
 abbrev pub begun : Converter → Counters → Converter
-begun c k = record { functions = c .functions; scope = c .scope; counters = k; operands = c .operands; turn = k .instructions }
+begun c k = record { scope = c .scope; counters = k; operands = c .operands; turn = k .instructions }
 
 -- the kind that is left when all others are excluded
 pub last-kind : {node : ℕ} → 18 < node → node < 22 → (node ≡ 19 → ⊥) → (node ≡ 20 → ⊥) → node ≡ 21
@@ -234,7 +234,7 @@ module _ (tree text : List ℕ) (good : Good tree text) (r : ℕ) (h : r < recor
 -- ---- the body of a loop, whose scope is inside the loop
 
 abbrev pub placed : Converter → Scope → Counters → Converter
-placed c sc k = record { functions = c .functions; scope = sc; counters = k; operands = c .operands; turn = c .turn }
+placed c sc k = record { scope = sc; counters = k; operands = c .operands; turn = c .turn }
 
 module _ {tree text l s : List ℕ} (c : Converter) {r : ℕ} {sc inner : Scope} {k : Counters} (p : Converting tree text l s (placed c sc k)) (h : r < records tree) (e : inner ≡ within r sc) where
   pub inner-converting : Converting tree text l s (placed c inner k)

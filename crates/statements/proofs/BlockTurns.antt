@@ -47,7 +47,6 @@ visitsFrom tree text w = blockVisits (records tree) (blockAt tree text w)
 -- of the block that word `first` opens the statements from cell w on are left
 pub record BlockLeft (tree text l₀ s₀ : List ℕ) (c : Converter) (first : ℕ) (l s : List ℕ) (w : ℕ) (at : Converter) : Type 0 where
   pub passed : ℕ
-  pub functions : at .functions ≡ c .functions
   pub operands : at .operands ≡ c .operands
   pub converting : Converting tree text l s at
   pub cells : BodyAt tree w
@@ -70,7 +69,6 @@ module _ {tree text l₀ s₀ : List ℕ} {c : Converter} {first : ℕ} (p : Con
   pub block-start : Turns tree s₀ (c .counters) → BlockLeft tree text l₀ s₀ c first l₀ s₀ first c
   block-start t = record {
     passed = 0;
-    functions = refl;
     operands = refl;
     converting = p;
     cells = x;
@@ -183,7 +181,6 @@ module _ {tree text l₀ s₀ : List ℕ} {c : Converter} {first : ℕ} (p : Con
             pub turn-next : StatementVisited r tree text s a s₁ → (v : ℕ) → v ≡ wordOf tree w B → BlockLeft tree text l₀ s₀ c first l₁ s₁ v (placed at sc k)
             turn-next t v ev = subst (λ (z : ℕ). BlockLeft tree text l₀ s₀ c first l₁ s₁ z (placed at sc k)) (sym ev) (record {
               passed = i .passed + (1 + statementRecords (statementAt tree text r));
-              functions = i .functions;
               operands = i .operands;
               converting = turned-converting;
               cells = next-list tree text good Body w (wordOf tree w B) (i .cells) more refl;

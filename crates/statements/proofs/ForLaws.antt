@@ -121,7 +121,7 @@ abbrev boundsAt : List ℕ → List ℕ → List ℕ → Scope → ℕ → ℕ �
 boundsAt tree text s sc r y =
     forBounds (program tree text) (allKeys tree text) y (exprAt tree text (wordOf tree r B)) (exprAt tree text (wordOf tree r C)) (scopeAt tree text s sc)
 
-module _ {tree text s s₁ : List ℕ} {count turn : ℕ} {sc : Scope} {e : ℕ} {t : ExprType} (y : ℕ) (p : Ready tree text s count sc) (is : IsExpr tree e) (m : TypeMeets tree text s sc turn e t s₁) where
+module _ {tree text s s₁ : List ℕ} {turn : ℕ} {sc : Scope} {e : ℕ} {t : ExprType} (y : ℕ) (p : Ready tree text s sc) (is : IsExpr tree e) (m : TypeMeets tree text s sc turn e t s₁) where
   pub bound-asks : {q : ℕ} → TypeAt tree y → t ≡ ExprType.Is q → IsExpr tree e × IsType tree q × IsType tree y × (e < 4294967296) × (e < 4294967296)
   bound-asks {q} h w =
       let good = p .keyed .good in
@@ -233,7 +233,7 @@ module _ {tree text l l′ s s′ : List ℕ} {m : M (Ir.VarId × Def.Scope)} {c
   }
 
 -- the name of the variable can be looked for
-pub variable-asked : {tree text s : List ℕ} {count : ℕ} {sc : Scope} {r v : ℕ} → Ready tree text s count sc → IsKind tree 21 r → v ≡ wordOf tree r A → Asked tree text s sc v
+pub variable-asked : {tree text s : List ℕ} {sc : Scope} {r v : ℕ} → Ready tree text s sc → IsKind tree 21 r → v ≡ wordOf tree r A → Asked tree text s sc v
 unfolding hasText
 variable-asked h i e = kind-asked 24 refl h (variable-is (h .keyed .good) i e)
 
@@ -477,7 +477,7 @@ module _ {tree text l s l₁ s₁ : List ℕ} {c : Converter} (r : ℕ) (p : Con
           (meets-gave text refl (adds-in text (adds-pure (scopeAt tree text s₁ inner) k₁ l₂ (finished-next t d .next .room))))) (omega arith))
           .gives (scopeAt tree text s₂ inner) k₁ (ap (λ (S : Def.Scope). gave S k₁) (sym (scope-stays tree names text inner (h .ready .scoped) (omega arith)))))
           (record {
-            ready = ready-stays tree names text (c .functions) inner (omega arith) (h .ready);
+            ready = ready-stays tree names text inner (omega arith) (h .ready);
             function = h .function;
             inner = h .inner;
             least = h .least;

@@ -228,7 +228,7 @@ known-types {tree = tree} {text = text} {s = s} {s′ = s′} c r u =
 -- ---- a new name, behind its value
 
 -- an Init's name can be looked for
-pub init-asked : {tree text s : List ℕ} {count : ℕ} {sc : Scope} {r : ℕ} → Ready tree text s count sc → IsKind tree 16 r → Asked tree text s sc r
+pub init-asked : {tree text s : List ℕ} {sc : Scope} {r : ℕ} → Ready tree text s sc → IsKind tree 16 r → Asked tree text s sc r
 unfolding hasText
 init-asked h i = kind-asked 16 refl h i
 

@@ -24,7 +24,7 @@ use Rattle.statements.proofs.TurnLaws.{typed-next}
 use Rattle.statements.proofs.StatedLaws.{scope-later, type-stays}
 
 -- what typing asks, in a turn
-pub typing-in : {tree text l s : List ℕ} {c : Converter} → Converting tree text l s c → InTurn tree text s c → Typing tree text s (c .functions) (c .scope) (c .turn)
+pub typing-in : {tree text l s : List ℕ} {c : Converter} → Converting tree text l s c → InTurn tree text s c → Typing tree text s (c .scope) (c .turn)
 typing-in p i = record { ready = p .ready; remembers = i }
 
 -- a refusal owes nothing

@@ -119,7 +119,7 @@ module _ {tree text l s s′ : List ℕ} {c : Converter} (p : Converting tree te
 
   pub leaves-same : {q : ℕ} → Leaves tree text q c s′ (c .scope)
   leaves-same = record {
-    ready = ready-stays tree st text (c .functions) (c .scope) (omega arith) (p .ready);
+    ready = ready-stays tree st text (c .scope) (omega arith) (p .ready);
     function = refl;
     inner = refl;
     least = omega arith;

@@ -147,9 +147,9 @@ module _ (tree : List ℕ) {s s′ : List ℕ} {names operands : ℕ} (f : Stays
   pub original-word : (r k : ℕ) → r < records tree → originalWord tree s′ r k ≡ originalWord tree s r k
   original-word = word-stays tree s s′ number-word
 
-  pub keyed-stays : (text : List ℕ) (count : ℕ) → Keyed tree text s count → Keyed tree text s′ count
-  keyed-stays text count =
-      keyed-kept tree text s s′ count (f .long) listed-word (λ p a b. byte-word p (λ j q e k. f .behind q (omega arith) (omega arith)))
+  pub keyed-stays : (text : List ℕ) → Keyed tree text s → Keyed tree text s′
+  keyed-stays text =
+      keyed-kept tree text s s′ (f .long) listed-word (λ p a b. byte-word p (λ j q e k. f .behind q (omega arith) (omega arith)))
 
   pub scoped-stays : (sc : Scope) → sc .names ≤ names → Scoped tree s sc → Scoped tree s′ sc
   scoped-stays sc h r = record {
@@ -162,8 +162,8 @@ module _ (tree : List ℕ) {s s′ : List ℕ} {names operands : ℕ} (f : Stays
       low : (j : ℕ) → j < sc .names → j < records tree
       low j q = omega (arith, q, r .room .names-in, r .records-are)
 
-  pub ready-stays : (text : List ℕ) (count : ℕ) (sc : Scope) → sc .names ≤ names → Ready tree text s count sc → Ready tree text s′ count sc
-  ready-stays text count sc h r = record { keyed = keyed-stays text count (r .keyed); scoped = scoped-stays sc h (r .scoped) }
+  pub ready-stays : (text : List ℕ) (sc : Scope) → sc .names ≤ names → Ready tree text s sc → Ready tree text s′ sc
+  ready-stays text sc h r = record { keyed = keyed-stays text (r .keyed); scoped = scoped-stays sc h (r .scoped) }
 
   pub operand-kept : (j : ℕ) → j < operands → j < records tree → operandAt s′ (records tree) j ≡ operandAt s (records tree) j
   unfolding operandAt
@@ -207,7 +207,7 @@ loop-outside tree w e r q =
 pub converting-next : {A : Type 0} {tree text l s l′ s′ : List ℕ} {c : Converter} {k : Counters} {m : M A} {a : A}
     → Converting tree text l s c → NextIn text m (c .counters) l a k l′ → StaysFor tree c s s′ → Converting tree text l′ s′ (withCounters c k)
 converting-next {tree = tree} {text = text} {c = c} p q f = record {
-  ready = ready-stays tree f text (c .functions) (c .scope) (omega arith) (p .ready);
+  ready = ready-stays tree f text (c .scope) (omega arith) (p .ready);
   function = p .function;
   loop = p .loop;
   records-are = q .records ∙ p .records-are;
@@ -217,7 +217,7 @@ converting-next {tree = tree} {text = text} {c = c} p q f = record {
 -- what writes slots of types alone, and no table
 pub converting-frame : {tree text l s s′ : List ℕ} {c : Converter} → Converting tree text l s c → Frame tree s s′ → Converting tree text l s′ c
 converting-frame {tree = tree} {text = text} {s = s} {s′ = s′} {c = c} p f = record {
-  ready = ready-frame tree s s′ f text (c .functions) (c .scope) (p .ready);
+  ready = ready-frame tree s s′ f text (c .scope) (p .ready);
   function = p .function;
   loop = p .loop;
   records-are = p .records-are;

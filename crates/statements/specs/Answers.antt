@@ -117,7 +117,7 @@ pub record ConvertsArgs (tree text : List ℕ) (m : M (List Ir.Operand)) (n : Am
 
 -- the scope that a statement leaves: at most q names more, in the same function and loop
 pub record Leaves (tree text : List ℕ) (q : ℕ) (c : Converter) (s′ : List ℕ) (sc : Scope) : Type 0 where
-  pub ready : Ready tree text s′ (c .functions) sc
+  pub ready : Ready tree text s′ sc
   pub function : sc .function ≡ c .scope .function
   pub inner : sc .inner ≡ c .scope .inner
   pub least : c .scope .names ≤ sc .names

@@ -27,7 +27,7 @@ LoopIn tree w = (r : ℕ) → loopNumber w ≡ some r → r < records tree
 
 -- the functions by key and the scope stand in scratch, the tables in the arena
 pub record Converting (tree text l s : List ℕ) (c : Converter) : Type 0 where
-  pub ready : Ready tree text s (c .functions) (c .scope)
+  pub ready : Ready tree text s (c .scope)
   pub function : FunctionAt tree (c .scope .function)
   pub loop : LoopIn tree (c .scope .inner)
   pub records-are : c .counters .records ≡ records tree
@@ -35,7 +35,7 @@ pub record Converting (tree text l s : List ℕ) (c : Converter) : Type 0 where
 
 -- the same, further on in the tables
 abbrev pub withCounters : Converter → Counters → Converter
-withCounters c k = record { functions = c .functions; scope = c .scope; counters = k; operands = c .operands; turn = c .turn }
+withCounters c k = record { scope = c .scope; counters = k; operands = c .operands; turn = c .turn }
 
 -- the type of a variable is one of the tree's
 unfoldable pub OperandIn : List ℕ → Ir.Operand → Type 0

@@ -8,10 +8,9 @@ use records::convert_error::ConvertError;
 use records::convert_error::ConvertErrorKind;
 use scope::Scope;
 
-// How many functions are listed in scratch, the names known, how far the tables are written, how many operands wait in scratch for the calls
-// around (the values of the call at hand stand behind them), and the turn in which types are remembered.
+// The names known, how far the tables are written, how many operands wait in scratch for the calls around (the values of the call at hand stand
+// behind them), and the turn in which types are remembered.
 pub struct Converter {
-    pub functions: usize,
     pub scope: Scope,
     pub counters: Counters,
     pub operands: usize,

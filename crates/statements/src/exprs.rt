@@ -61,7 +61,7 @@ pub(crate) fn convert_expr(
     if node <= KIND_SIZE_OF {
         return operand(tree, text, arena, scratch, c, e);
     }
-    match get_type(tree, text, scratch, c.functions, scope, c.turn, e) {
+    match get_type(tree, text, scratch, scope, c.turn, e) {
         ExprType::Refused(x) => Converted::Refused(x),
         ExprType::Is(y) => {
             if node == KIND_UNARY {
@@ -222,7 +222,7 @@ fn convert_call_value(
     ensures types { λ a. ⌜ ConvertsTyped callTypes c e (now (tree .entry)) (now (text .entry)) (now (scratch .entry)) a (now (scratch .exit)) ⌝ }
 {
     let scope = c.scope;
-    let callee = resolve_call(tree, text, scratch, c.functions, scope, c.turn, e);
+    let callee = resolve_call(tree, text, scratch, scope, c.turn, e);
     if let Resolved::Refused(x) = callee {
         return Converted::Refused(x);
     }

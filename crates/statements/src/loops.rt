@@ -247,13 +247,13 @@ fn check_bound(
     e: usize,
     y: usize,
 ) -> Outcome
-    requires { ⌜ Ready (now tree) (now text) (now scratch) (c .functions) (c .scope) × IsExpr (now tree) e × TypeAt (now tree) y ⌝ }
+    requires { ⌜ Ready (now tree) (now text) (now scratch) (c .scope) × IsExpr (now tree) e × TypeAt (now tree) y ⌝ }
     requires { ⌜ InTurn (now tree) (now text) (now scratch) c ⌝ }
     ensures { λ a. ⌜ Checks (now (tree .entry)) (boundSteps (now (tree .entry)) (now (text .entry)) (now (scratch .entry)) c e y) (now (scratch .entry)) a (now (scratch .exit)) ⌝ }
     ensures types { λ a. ⌜ ChecksTyped boundTypes c e (now (tree .entry)) (now (text .entry)) (now (scratch .entry)) a (now (scratch .exit)) ⌝ }
 {
     let scope = c.scope;
-    match get_type(tree, text, scratch, c.functions, scope, c.turn, e) {
+    match get_type(tree, text, scratch, scope, c.turn, e) {
         ExprType::Refused(x) => Outcome::Refused(x),
         ExprType::Is(q) => check_fits(tree, e, q, y, ConvertErrorKind::NotInteger, e),
     }
@@ -268,7 +268,7 @@ fn for_bounds(
     r: usize,
     y: usize,
 ) -> Outcome
-    requires { ⌜ Ready (now tree) (now text) (now scratch) (c .functions) (c .scope) × IsKind (now tree) kindFor r × TypeAt (now tree) y ⌝ }
+    requires { ⌜ Ready (now tree) (now text) (now scratch) (c .scope) × IsKind (now tree) kindFor r × TypeAt (now tree) y ⌝ }
     requires { ⌜ InTurn (now tree) (now text) (now scratch) c ⌝ }
     ensures { λ a. ⌜ Checks (now (tree .entry)) (forBoundsSteps (now (tree .entry)) (now (text .entry)) (now (scratch .entry)) c r y) (now (scratch .entry)) a (now (scratch .exit)) ⌝ }
     ensures types { λ a. ⌜ ChecksTyped boundsTypes c r (now (tree .entry)) (now (text .entry)) (now (scratch .entry)) a (now (scratch .exit)) ⌝ }

@@ -158,7 +158,7 @@ pub(crate) fn operand_type(
     e: usize,
     y: usize,
 ) -> ExprType
-    requires { ⌜ Ready (now tree) (now text) (now scratch) (c .functions) (c .scope) ⌝ }
+    requires { ⌜ Ready (now tree) (now text) (now scratch) (c .scope) ⌝ }
     requires { ⌜ IsKind (now tree) kindBinary e × TypeAt (now tree) y ⌝ }
     requires { ⌜ InTurn (now tree) (now text) (now scratch) c ⌝ }
     ensures { λ a. ⌜ OperandTyped (now (tree .entry)) (now (text .entry)) (now (scratch .entry)) c e y a (now (scratch .exit)) ⌝ }
@@ -167,7 +167,7 @@ pub(crate) fn operand_type(
     let scope = c.scope;
     let left = reference(tree, e, WORD_A);
     let right = reference(tree, e, WORD_B);
-    match common_type(tree, text, scratch, c.functions, scope, c.turn, left, right) {
+    match common_type(tree, text, scratch, scope, c.turn, left, right) {
         Common::Refused(x) => ExprType::Refused(x),
         Common::Is(q) => ExprType::Is(q),
         Common::Neither => ExprType::Is(y),

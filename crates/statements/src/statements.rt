@@ -89,7 +89,7 @@ pub(crate) fn convert_cond(
     ensures types { λ a. ⌜ ConvertsTyped valueTypes c e (now (tree .entry)) (now (text .entry)) (now (scratch .entry)) a (now (scratch .exit)) ⌝ }
 {
     let scope = c.scope;
-    match get_type(tree, text, scratch, c.functions, scope, c.turn, e) {
+    match get_type(tree, text, scratch, scope, c.turn, e) {
         ExprType::Refused(x) => Converted::Refused(x),
         ExprType::Is(y) => {
             if y == BOOL_TYPE {
@@ -209,15 +209,7 @@ fn assign_to(
     let e = reference(tree, r, WORD_C);
     match convert_expr(tree, text, arena, scratch, c, e) {
         Converted::Refused(x) => Stated::Refused(x),
-        Converted::Is(src, k) => match get_type(
-            tree,
-            text,
-            scratch,
-            c.functions,
-            scope,
-            c.turn,
-            e,
-        ) {
+        Converted::Is(src, k) => match get_type(tree, text, scratch, scope, c.turn, e) {
             ExprType::Refused(x) => Stated::Refused(x),
             ExprType::Is(y) => {
                 let expected = v.1 as usize;
@@ -308,7 +300,7 @@ fn init_new(
 {
     let scope = c.scope;
     let e = reference(tree, r, WORD_C);
-    match get_type(tree, text, scratch, c.functions, scope, c.turn, e) {
+    match get_type(tree, text, scratch, scope, c.turn, e) {
         ExprType::Refused(x) => Stated::Refused(x),
         ExprType::Is(y) => match convert_expr(tree, text, arena, scratch, c, e) {
             Converted::Refused(x) => Stated::Refused(x),
@@ -397,7 +389,7 @@ pub(crate) fn convert_return(
     let scope = c.scope;
     let e = reference(tree, r, WORD_A);
     let expected = reference(tree, scope.function as usize, WORD_D);
-    match get_type(tree, text, scratch, c.functions, scope, c.turn, e) {
+    match get_type(tree, text, scratch, scope, c.turn, e) {
         ExprType::Refused(x) => Stated::Refused(x),
         ExprType::Is(y) => {
             if expected == NONE as usize {
@@ -453,7 +445,7 @@ fn call_statement(
     ensures types { λ a. ⌜ StatesTyped ownTypes c r (now (tree .entry)) (now (text .entry)) (now (scratch .entry)) a (now (scratch .exit)) ⌝ }
 {
     let scope = c.scope;
-    match resolve_call(tree, text, scratch, c.functions, scope, c.turn, e) {
+    match resolve_call(tree, text, scratch, scope, c.turn, e) {
         Resolved::Refused(x) => Stated::Refused(x),
         Resolved::Cast(_) => Stated::Refused(error_at(ConvertErrorKind::WouldPanic, r)),
         Resolved::Function(f) => call_only(tree, text, arena, scratch, c, e, f),
@@ -481,7 +473,7 @@ pub(crate) fn convert_call(
     if kind(tree, e) == KIND_CALL {
         return call_statement(tree, text, arena, scratch, c, r, e);
     }
-    match get_type(tree, text, scratch, c.functions, scope, c.turn, e) {
+    match get_type(tree, text, scratch, scope, c.turn, e) {
         ExprType::Refused(x) => Stated::Refused(x),
         ExprType::Is(_) => Stated::Done(scope, k),
     }

@@ -20,10 +20,12 @@ empty-tables-requires c κs = search needs
 loop-holds : tie.Need-loop-holds Inv-loop μ-loop
 loop-holds c =
     let first = c .before .before .before .before .before in
-    all-start _ _ _ _ _ _ (first .pre .0 .0) (first .pre .0 .1) (first .pre .1) (c .empty-tables .ensures)
+    all-start _ _ _ _ _ _ (first .pre .0 .0) (first .pre .0 .1) (first .pre .0 .2) (first .pre .1) (c .empty-tables .ensures)
 
 function-at-requires : tie.Need-function-at-requires Inv-loop μ-loop
-function-at-requires c κs = (c .before .before .loop .inv .keyed .listed, c .before .loop-test .taken)
+function-at-requires c κs =
+    let w = c .before .before .loop .inv in
+    (w .keyed .listed, omega (arith, c .before .loop-test .taken, w .counted))
 
 convert-func-requires : tie.Need-convert-func-requires Inv-loop μ-loop
 convert-func-requires c κs =

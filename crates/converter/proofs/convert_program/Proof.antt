@@ -30,7 +30,8 @@ check-main-requires : tie.Need-check-main-requires
 check-main-requires c κs =
     let start = c .before .before .before .before .before .before .before .before .before .before .before .before .before .before .before .before in
     let listing = c .before .before .before .before .before .before in
-    (start .pre .0, keys-done _ _ _ _ _ (listing .get-all-functions .ensures) _ (c .before .before .count .given .1) .listed)
+    let made = keys-done _ _ _ _ _ (listing .get-all-functions .ensures) _ (c .before .before .count .given .1) in
+    (start .pre .0, (made .0 .listed, made .1))
 
 enum-known-e-2 : tie.Need-enum-known-e-2
 enum-known-e-2 c = search needs
@@ -41,7 +42,7 @@ enum-told c = search needs
 chain-functions-requires : tie.Need-chain-functions-requires
 chain-functions-requires c κs =
     let listing = c .before .before .before .before .before .before .before .before .before .before in
-    keys-done _ _ _ _ _ (listing .get-all-functions .ensures) _ (c .before .before .before .before .before .before .count .given .1)
+    keys-done _ _ _ _ _ (listing .get-all-functions .ensures) _ (c .before .before .before .before .before .before .count .given .1) .0
 
 forget-requires : tie.Need-forget-requires
 forget-requires c κs =
@@ -54,9 +55,11 @@ forget-requires c κs =
 convert-all-requires : tie.Need-convert-all-requires
 convert-all-requires c κs =
     let start = c .before .before .before .before .before .before .before .before .before .before .before .before .before .before .before .before .before .before .before .before .before .before .before .before .before .before .before .before .before in
+    let listing = c .before .before .before .before .before .before .before .before .before .before .before .before .before .before .before .before .before .before .before in
+    let counted = keys-done _ _ _ _ _ (listing .get-all-functions .ensures) _ (c .before .before .before .before .before .before .before .before .before .before .before .before .before .before .before .count .given .1) .1 in
     let forgot = c .before .before .before .before in
     let chained = c .before .before .before .before .before .before .before .before in
-    ((forgets-keyed _ _ _ (forgot .forget .ensures) _ _ (chained .chain-functions .ensures .0), start .pre .1), forgets-turns _ _ _ (forgot .forget .ensures) (start .pre .3))
+    ((forgets-keyed _ _ _ (forgot .forget .ensures) _ (chained .chain-functions .ensures .0), counted, start .pre .1), forgets-turns _ _ _ (forgot .forget .ensures) (start .pre .3))
 
 same-length : tie.Need-same-length
 same-length c = search needs

@@ -23,7 +23,7 @@ cast-place c = search needs
 
 -- src/calls.rt:190:11
 cast-type-requires : tie.Need-cast-type-requires
-cast-type-requires c κs = is-called _ _ _ _ _ (c .call-of .ensures) _ (c .before .before .before .before .pre .0) (c .before .before .before .before .pre .1 .0) (c .before .before .before .before .pre .1 .1) (λ i. omega (arith, c .before .before .before .shared-slice-known .given i))
+cast-type-requires c κs = is-called _ _ _ _ _ (c .call-of .ensures) (c .before .before .before .before .pre .0) (c .before .before .before .before .pre .1 .0) (c .before .before .before .before .pre .1 .1) (λ i. omega (arith, c .before .before .before .shared-slice-known .given i))
 
 -- src/calls.rt:191:23
 enum-known-e : tie.Need-enum-known-e
@@ -39,7 +39,7 @@ enum-told c = search needs
 
 -- src/calls.rt:193:22
 resolve-function-requires : tie.Need-resolve-function-requires
-resolve-function-requires c κs = (c .before .before .before .before .before .before .before .pre .0, is-called _ _ _ _ _ (c .before .before .before .call-of .ensures) _ (c .before .before .before .before .before .before .before .pre .0) (c .before .before .before .before .before .before .before .pre .1 .0) (c .before .before .before .before .before .before .before .pre .1 .1) (λ i. omega (arith, c .before .before .before .before .before .before .shared-slice-known .given i)))
+resolve-function-requires c κs = (c .before .before .before .before .before .before .before .pre .0, is-called _ _ _ _ _ (c .before .before .before .call-of .ensures) (c .before .before .before .before .before .before .before .pre .0) (c .before .before .before .before .before .before .before .pre .1 .0) (c .before .before .before .before .before .before .before .pre .1 .1) (λ i. omega (arith, c .before .before .before .before .before .before .shared-slice-known .given i)))
 
 -- src/calls.rt:176:1
 returns : tie.Need-returns

@@ -20,10 +20,10 @@ use Rattle.keys.proofs.keys.key_of.Reads as key-of-reads
 use Rattle.texts.proofs.kept_digest.Reads as kept-digest-reads
 
 abbrev Inv-loop : tie.InvT-loop
-Inv-loop tree text scratch functions call n length digest count at₀ at = KeyWalk tree text (nameOf tree text scratch call (call .count)) digest at
+Inv-loop tree text scratch call n length digest count at₀ at = KeyWalk tree text (nameOf tree text scratch call (call .count)) digest at
 
 abbrev μ-loop : tie.MeasureT-loop
-μ-loop tree text scratch functions call n length digest count at₀ at = at
+μ-loop tree text scratch call n length digest count at₀ at = at
 
 full-length-requires : tie.Need-full-length-requires Inv-loop μ-loop
 full-length-requires c κs = c .before .before .before .pre .1
@@ -39,7 +39,7 @@ key-head-requires c κs =
 loop-holds : tie.Need-loop-holds Inv-loop μ-loop
 loop-holds c =
     let start = c .before .before .before .before .before .before in
-    key-start _ _ _ _ (start .pre .0) _ _ (c .before .full-digest .ensures) _ (omega (arith, verb-below _ _ _ _ (start .pre .1))) (c .key-head .ensures)
+    key-start _ _ _ (start .pre .0) _ _ (c .before .full-digest .ensures) _ (omega (arith, verb-below _ _ _ _ (start .pre .1))) (c .key-head .ensures)
 
 sub-f : tie.Need-sub-f Inv-loop μ-loop
 sub-f c = omega arith
@@ -48,26 +48,26 @@ kept-digest-requires : tie.Need-kept-digest-requires Inv-loop μ-loop
 kept-digest-requires c κs = omega (arith, c .before .loop .inv .within, c .loop-test .taken, c .before .before .before .before .before .before .before .before .pre .0 .listed .room)
 
 key-of-requires : tie.Need-key-of-requires Inv-loop μ-loop
-key-of-requires c κs = (c .before .before .before .before .before .before .before .before .before .before .pre .0 .good, key-function _ _ _ _ (c .before .before .before .before .before .before .before .before .before .before .pre .0) _ _ (c .before .before .before .before .before .full-digest .ensures) _ _ (c .before .before .before .loop .inv) (omega (arith, c .before .before .loop-test .taken)))
+key-of-requires c κs = (c .before .before .before .before .before .before .before .before .before .before .pre .0 .good, key-function _ _ _ (c .before .before .before .before .before .before .before .before .before .before .pre .0) _ _ (c .before .before .before .before .before .full-digest .ensures) _ _ (c .before .before .before .loop .inv) (omega (arith, c .before .before .loop-test .taken)))
 
 is-name-requires : tie.Need-is-name-requires Inv-loop μ-loop
 is-name-requires c κs = (c .before .before .before .before .before .before .before .before .before .before .before .before .before .pre .1, ((omega arith, c .before .before .key-of .ensures .inside), c .if2 .taken ∙ c .before .before .before .before .before .before .before .before .before .full-length .ensures))
 
 mangled-only-requires : tie.Need-mangled-only-requires Inv-loop μ-loop
-mangled-only-requires c κs = (c .before .before .before .before .before .before .before .before .before .before .before .before .before .before .before .pre .0 .good, key-function _ _ _ _ (c .before .before .before .before .before .before .before .before .before .before .before .before .before .before .before .pre .0) _ _ (c .before .before .before .before .before .before .before .before .before .before .full-digest .ensures) _ _ (c .before .before .before .before .before .before .before .before .loop .inv) (omega (arith, c .before .before .before .before .before .before .before .loop-test .taken)))
+mangled-only-requires c κs = (c .before .before .before .before .before .before .before .before .before .before .before .before .before .before .before .pre .0 .good, key-function _ _ _ (c .before .before .before .before .before .before .before .before .before .before .before .before .before .before .before .pre .0) _ _ (c .before .before .before .before .before .before .before .before .before .before .full-digest .ensures) _ _ (c .before .before .before .before .before .before .before .before .loop .inv) (omega (arith, c .before .before .before .before .before .before .before .loop-test .taken)))
 
 returns : tie.Need-returns Inv-loop μ-loop
 returns c =
     let same = key-told _ _ _ _ _ (c .before .before .before .before .before .key-of .ensures) _ _ (c .before .before .is-name .ensures) (c .before .if3 .taken) in
     name-found _ _ _ _ _
-    (key-here _ _ _ _ (c .before .before .before .before .before .before .before .before .before .before .before .before .before .before .before .before .pre .0) _ _ (c .before .before .before .before .before .before .before .before .before .before .before .full-digest .ensures) _ _ (c .before .before .before .before .before .before .before .before .before .loop .inv) (omega (arith, c .before .before .before .before .before .before .before .before .loop-test .taken)) same)
+    (key-here _ _ _ (c .before .before .before .before .before .before .before .before .before .before .before .before .before .before .before .before .pre .0) _ _ (c .before .before .before .before .before .before .before .before .before .before .before .full-digest .ensures) _ _ (c .before .before .before .before .before .before .before .before .before .loop .inv) (omega (arith, c .before .before .before .before .before .before .before .before .loop-test .taken)) same)
     (c .mangled-only .ensures)
 
 key-before-requires : tie.Need-key-before-requires Inv-loop μ-loop
 key-before-requires c κs = omega (arith, c .before .before .before .loop .inv .within, c .before .before .loop-test .taken, c .before .before .before .before .before .before .before .before .before .before .pre .0 .listed .room)
 
 loop-less : tie.Need-loop-less Inv-loop μ-loop
-loop-less c = key-less _ _ _ _ (c .before .before .before .before .before .before .before .before .before .before .before .pre .0) _ _ (c .before .before .before .before .before .before .full-digest .ensures) _ _ (c .before .before .before .before .loop .inv) (omega (arith, c .before .before .before .loop-test .taken)) _ (c .key-before .ensures)
+loop-less c = key-less _ _ _ (c .before .before .before .before .before .before .before .before .before .before .before .pre .0) _ _ (c .before .before .before .before .before .before .full-digest .ensures) _ _ (c .before .before .before .before .loop .inv) (omega (arith, c .before .before .before .loop-test .taken)) _ (c .key-before .ensures)
 
 loop-again : tie.Need-loop-again Inv-loop μ-loop
 loop-again c =
@@ -75,18 +75,18 @@ loop-again c =
     let digest = c .before .before .before .before .before .before .full-digest .ensures in
     let walked = c .before .before .before .before .loop .inv in
     let some = c .before .before .before .loop-test .taken in
-    key-next _ _ _ _ keyed _ _ digest _ _ walked (omega (arith, some)) _
+    key-next _ _ _ keyed _ _ digest _ _ walked (omega (arith, some)) _
     (⊎-elim
-    (λ w. hit-is _ _ _ _ keyed _ _ digest _ _ walked (omega (arith, some)) _ (key-told _ _ _ _ _ (w .1 .ensures) _ _ (w .4 .ensures) (w .5 .left)))
+    (λ w. hit-is _ _ _ keyed _ _ digest _ _ walked (omega (arith, some)) _ (key-told _ _ _ _ _ (w .1 .ensures) _ _ (w .4 .ensures) (w .5 .left)))
     (λ u. ⊎-elim
-    (λ w. hit-is _ _ _ _ keyed _ _ digest _ _ walked (omega (arith, some)) _ (key-longer _ _ _ _ _ (w .1 .ensures) _ (c .before .before .before .before .before .before .before .full-length .ensures) (w .3 .left)))
-    (λ w. key-skip _ _ _ _ keyed _ _ digest _ _ walked (omega (arith, some)) _ (c .before .before .kept-digest .ensures) (w .left))
+    (λ w. hit-is _ _ _ keyed _ _ digest _ _ walked (omega (arith, some)) _ (key-longer _ _ _ _ _ (w .1 .ensures) _ (c .before .before .before .before .before .before .before .full-length .ensures) (w .3 .left)))
+    (λ w. key-skip _ _ _ keyed _ _ digest _ _ walked (omega (arith, some)) _ (c .before .before .kept-digest .ensures) (w .left))
     u)
     (c .before .if1 .came))
     (c .key-before .ensures)
 
 returns-2 : tie.Need-returns-2 Inv-loop μ-loop
-returns-2 c = name-nowhere _ _ _ (key-end _ _ _ _ (c .before .before .before .before .before .before .before .before .pre .0) _ _ (c .before .before .before .full-digest .ensures) _ (c .loop-test .left) (c .before .loop .inv))
+returns-2 c = name-nowhere _ _ _ (key-end _ _ _ (c .before .before .before .before .before .before .before .before .pre .0) _ _ (c .before .before .before .full-digest .ensures) _ (c .loop-test .left) (c .before .loop .inv))
 
 pub by-full-name-spec : {M : Type 1} → statement M
 by-full-name-spec =

@@ -19,22 +19,22 @@ enum-known-f : tie.Need-enum-known-f
 enum-known-f c = search needs
 
 takes-call-requires : tie.Need-takes-call-requires
-takes-call-requires c κs = (c .before .before .before .before .before .before .before .pre .1, found-function _ _ _ (verb-found _ _ _ _ (c .before .before .before .before .before .before .before .pre .1) _ (c .before .before .before .before .before .before .before .pre .0) _ (c .before .before .before .find-key .ensures) .function) (c .before .f .given .1))
+takes-call-requires c κs = (c .before .before .before .before .before .before .before .pre .1, found-function _ _ _ (verb-found _ _ _ _ (c .before .before .before .before .before .before .before .pre .1) (c .before .before .before .before .before .before .before .pre .0) _ (c .before .before .before .find-key .ensures) .function) (c .before .f .given .1))
 
 returns : tie.Need-returns
 returns c =
-    filter-hit _ _ _ _ _ (verb-found _ _ _ _ (c .before .before .before .before .before .before .before .before .before .pre .1) _ (c .before .before .before .before .before .before .before .before .before .pre .0) _ (c .before .before .before .before .before .find-key .ensures) .is) _ _ (verb-found _ _ _ _ (c .before .before .before .before .before .before .before .before .before .pre .1) _ (c .before .before .before .before .before .before .before .before .before .pre .0) _ (c .before .before .before .before .before .find-key .ensures) .function) (c .before .before .before .f .given .1) (c .before .takes-call .ensures) (c .if1 .taken)
+    filter-hit _ _ _ _ _ (verb-found _ _ _ _ (c .before .before .before .before .before .before .before .before .before .pre .1) (c .before .before .before .before .before .before .before .before .before .pre .0) _ (c .before .before .before .before .before .find-key .ensures) .is) _ _ (verb-found _ _ _ _ (c .before .before .before .before .before .before .before .before .before .pre .1) (c .before .before .before .before .before .before .before .before .before .pre .0) _ (c .before .before .before .before .before .find-key .ensures) .function) (c .before .before .before .f .given .1) (c .before .takes-call .ensures) (c .if1 .taken)
 
 enum-told : tie.Need-enum-told
 enum-told c = search needs
 
 returns-2 : tie.Need-returns-2
 returns-2 c =
-    filter-left _ _ _ _ _ (verb-found _ _ _ _ (c .before .before .before .before .before .before .before .before .before .pre .1) _ (c .before .before .before .before .before .before .before .before .before .pre .0) _ (c .before .before .before .before .before .find-key .ensures) .is) _ _ (c .before .before .before .f .given .1) (c .before .takes-call .ensures) (c .if1 .left)
+    filter-left _ _ _ _ _ (verb-found _ _ _ _ (c .before .before .before .before .before .before .before .before .before .pre .1) (c .before .before .before .before .before .before .before .before .before .pre .0) _ (c .before .before .before .before .before .find-key .ensures) .is) _ _ (c .before .before .before .f .given .1) (c .before .takes-call .ensures) (c .if1 .left)
 
 returns-3 : tie.Need-returns-3
 returns-3 c =
-    filter-none _ _ _ _ _ (verb-found _ _ _ _ (c .before .before .before .before .before .before .pre .1) _ (c .before .before .before .before .before .before .pre .0) _ (c .before .before .find-key .ensures) .is) (c .enum-told .given .1)
+    filter-none _ _ _ _ _ (verb-found _ _ _ _ (c .before .before .before .before .before .before .pre .1) (c .before .before .before .before .before .before .pre .0) _ (c .before .before .find-key .ensures) .is) (c .enum-told .given .1)
 
 pub by-name-spec : {M : Type 1} → statement M
 by-name-spec =

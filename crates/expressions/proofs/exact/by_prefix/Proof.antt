@@ -20,10 +20,10 @@ use Rattle.records.proofs.texts.roll.Reads as roll-reads
 use Rattle.records.proofs.texts.roll_byte.Reads as roll-byte-reads
 
 abbrev Inv-loop : tie.InvT-loop
-Inv-loop tree text scratch functions call best₀ digest₀ size₀ cell₀ k₀ best digest size cell k = Prefixed tree text scratch call best digest size cell k
+Inv-loop tree text scratch call best₀ digest₀ size₀ cell₀ k₀ best digest size cell k = Prefixed tree text scratch call best digest size cell k
 
 abbrev μ-loop : tie.MeasureT-loop
-μ-loop tree text scratch functions call best₀ digest₀ size₀ cell₀ k₀ best digest size cell k = left cell
+μ-loop tree text scratch call best₀ digest₀ size₀ cell₀ k₀ best digest size cell k = left cell
 
 verb-digest-requires : tie.Need-verb-digest-requires Inv-loop μ-loop
 verb-digest-requires c κs = (c .before .before .before .pre .1, c .before .before .before .pre .0 .numbered)

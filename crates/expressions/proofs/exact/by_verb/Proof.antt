@@ -17,12 +17,12 @@ enum-known-f c = search needs
 mangled-only-requires : tie.Need-mangled-only-requires
 mangled-only-requires c κs =
     let first = c .before .before .before .before .before .before .before in
-    (first .pre .0 .good, found-function _ _ _ (verb-found _ _ _ _ (first .pre .1 .0) _ (first .pre .0) _ (c .before .before .before .find-key .ensures) .function) (c .before .f .given .1))
+    (first .pre .0 .good, found-function _ _ _ (verb-found _ _ _ _ (first .pre .1 .0) (first .pre .0) _ (c .before .before .before .find-key .ensures) .function) (c .before .f .given .1))
 
 returns : tie.Need-returns
 returns c =
     let first = c .before .before .before .before .before .before .before .before in
-    verb-alone _ _ _ _ (first .pre .1 .0) (first .pre .1 .1) _ (first .pre .0) _ (c .before .before .before .before .find-key .ensures) _ (c .before .before .f .given .1) _ (c .mangled-only .ensures)
+    verb-alone _ _ _ _ (first .pre .1 .0) (first .pre .1 .1) (first .pre .0) _ (c .before .before .before .before .find-key .ensures) _ (c .before .before .f .given .1) _ (c .mangled-only .ensures)
 
 enum-told : tie.Need-enum-told
 enum-told c = search needs
@@ -30,7 +30,7 @@ enum-told c = search needs
 returns-2 : tie.Need-returns-2
 returns-2 c =
     let first = c .before .before .before .before .before .before in
-    verb-missing _ _ _ _ (first .pre .1 .0) (first .pre .1 .1) _ (first .pre .0) _ (c .before .before .find-key .ensures) (c .enum-told .given .1)
+    verb-missing _ _ _ _ (first .pre .1 .0) (first .pre .1 .1) (first .pre .0) _ (c .before .before .find-key .ensures) (c .enum-told .given .1)
 
 pub by-verb-spec : {M : Type 1} → statement M
 by-verb-spec =

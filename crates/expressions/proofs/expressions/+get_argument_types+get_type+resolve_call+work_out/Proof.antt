@@ -47,16 +47,16 @@ use Rattle.expressions.proofs.expressions.+get_argument_types+get_type+
 }
 
 abbrev μ-get-argument-types : Measures 3 get-argument-types-kinds.ps ℕ
-μ-get-argument-types κs a = 4 * a .1 .1 .1 .1 .1 .1 .0
+μ-get-argument-types κs a = 4 * a .1 .1 .1 .1 .1 .0
 
 abbrev μ-get-type : Measures 3 get-type-kinds.ps ℕ
-μ-get-type κs a = 4 * a .1 .1 .1 .1 .1 .1 .0 + 3
+μ-get-type κs a = 4 * a .1 .1 .1 .1 .1 .0 + 3
 
 abbrev μ-resolve-call : Measures 3 resolve-call-kinds.ps ℕ
-μ-resolve-call κs a = 4 * a .1 .1 .1 .1 .1 .1 .0 + 1
+μ-resolve-call κs a = 4 * a .1 .1 .1 .1 .1 .0 + 1
 
 abbrev μ-work-out : Measures 3 work-out-kinds.ps ℕ
-μ-work-out κs a = 4 * a .1 .1 .1 .1 .1 .1 .0 + 2
+μ-work-out κs a = 4 * a .1 .1 .1 .1 .1 .0 + 2
 
 abbrev get-argument-types-at : ℕ → In 3 get-argument-types-kinds.ps
 get-argument-types-at t =
@@ -101,10 +101,10 @@ work-out-below t =
     and 3 work-out-kinds.ps (falls 3 work-out-kinds.ps _<_ μ-work-out t) work-out.Pre
 
 abbrev get-argument-types-Inv-loop : get-argument-types-lts.InvT-loop
-get-argument-types-Inv-loop tree text scratch₀ functions scope turn r cell₀ scratch cell = Left tree text scratch₀ functions scope turn r scratch cell
+get-argument-types-Inv-loop tree text scratch₀ scope turn r cell₀ scratch cell = Left tree text scratch₀ scope turn r scratch cell
 
 abbrev get-argument-types-μ-loop : get-argument-types-lts.MeasureT-loop
-get-argument-types-μ-loop tree text scratch₀ functions scope turn r cell₀ scratch cell = pick (eqb cell 4294967295) 0 (suc cell)
+get-argument-types-μ-loop tree text scratch₀ scope turn r cell₀ scratch cell = pick (eqb cell 4294967295) 0 (suc cell)
 
 -- src/expressions.rt:138:9
 get-argument-types-reference-requires : (t : ℕ) → get-argument-types-lts.Need-reference-requires (
@@ -138,7 +138,7 @@ get-argument-types-loop-holds : (t : ℕ) → get-argument-types-lts.Need-loop-h
     get-argument-types.Post
     get-argument-types-Inv-loop
     get-argument-types-μ-loop
-get-argument-types-loop-holds t c = loop-start _ _ (c .before .before .before .before .pre .1 .0 .ready .keyed .good) _ _ _ _ _ (c .before .before .before .before .pre .1 .0) (c .before .before .before .before .pre .1 .1) _ (c .reference .ensures)
+get-argument-types-loop-holds t c = loop-start _ _ (c .before .before .before .before .pre .1 .0 .ready .keyed .good) _ _ _ _ (c .before .before .before .before .pre .1 .0) (c .before .before .before .before .pre .1 .1) _ (c .reference .ensures)
 
 -- src/expressions.rt:140:36
 get-argument-types-argument-at-requires :
@@ -190,7 +190,7 @@ get-argument-types-get-type-requires : (t : ℕ) → get-argument-types-lts.Need
     get-argument-types.Post
     get-argument-types-Inv-loop
     get-argument-types-μ-loop
-get-argument-types-get-type-requires t c κs = let h = value-low _ _ (c .before .before .before .before .before .before .before .before .before .before .before .pre .1 .0 .ready .keyed .good) _ _ _ _ _ (c .before .before .before .before .before .before .before .before .before .before .before .pre .1 .0) _ _ (c .before .before .before .before .before .before .loop .inv) (c .before .before .before .before .before .loop-test .taken) _ (c .before .before .before .before .argument-at .ensures) _ (c .before .before .e .given .1) in
+get-argument-types-get-type-requires t c κs = let h = value-low _ _ (c .before .before .before .before .before .before .before .before .before .before .before .pre .1 .0 .ready .keyed .good) _ _ _ _ (c .before .before .before .before .before .before .before .before .before .before .before .pre .1 .0) _ _ (c .before .before .before .before .before .before .loop .inv) (c .before .before .before .before .before .loop-test .taken) _ (c .before .before .before .before .argument-at .ensures) _ (c .before .before .e .given .1) in
     (omega (arith, h .0, c .before .before .before .before .before .before .before .before .before .before .before .pre .0), (c .before .before .before .before .before .before .loop .inv .typing, h .1))
 
 -- src/expressions.rt:141:38
@@ -242,7 +242,7 @@ get-argument-types-returns : (t : ℕ) → get-argument-types-lts.Need-returns (
     get-argument-types.Post
     get-argument-types-Inv-loop
     get-argument-types-μ-loop
-get-argument-types-returns t c = turn-stop _ _ (c .before .before .before .before .before .before .before .before .before .before .before .before .before .before .before .before .before .pre .1 .0 .ready .keyed .good) _ _ _ _ _ (c .before .before .before .before .before .before .before .before .before .before .before .before .before .before .before .before .before .pre .1 .0) _ _ (c .before .before .before .before .before .before .before .before .before .before .before .before .loop .inv) (c .before .before .before .before .before .before .before .before .before .before .before .loop-test .taken) _ (c .before .before .before .before .before .before .before .before .before .before .argument-at .ensures) _ (c .before .before .before .before .before .before .before .before .e .given .1) _ _ (c .before .before .before .before .before .get-type .ensures) _ (c .before .x .given .1)
+get-argument-types-returns t c = turn-stop _ _ (c .before .before .before .before .before .before .before .before .before .before .before .before .before .before .before .before .before .pre .1 .0 .ready .keyed .good) _ _ _ _ (c .before .before .before .before .before .before .before .before .before .before .before .before .before .before .before .before .before .pre .1 .0) _ _ (c .before .before .before .before .before .before .before .before .before .before .before .before .loop .inv) (c .before .before .before .before .before .before .before .before .before .before .before .loop-test .taken) _ (c .before .before .before .before .before .before .before .before .before .before .argument-at .ensures) _ (c .before .before .before .before .before .before .before .before .e .given .1) _ _ (c .before .before .before .before .before .get-type .ensures) _ (c .before .x .given .1)
 
 get-argument-types-enum-told : (t : ℕ) → get-argument-types-lts.Need-enum-told (
   reference-reads.Asked,
@@ -291,7 +291,7 @@ get-argument-types-next-cell-requires : (t : ℕ) → get-argument-types-lts.Nee
     get-argument-types.Post
     get-argument-types-Inv-loop
     get-argument-types-μ-loop
-get-argument-types-next-cell-requires t c κs = (c .before .before .before .before .before .before .before .before .pre .1 .0 .ready .keyed .good, cell-inside _ _ (c .before .before .before .before .before .before .before .before .pre .1 .0 .ready .keyed .good) _ _ _ _ _ (c .before .before .before .before .before .before .before .before .pre .1 .0) _ _ (c .before .before .before .loop .inv) (c .before .before .loop-test .taken))
+get-argument-types-next-cell-requires t c κs = (c .before .before .before .before .before .before .before .before .pre .1 .0 .ready .keyed .good, cell-inside _ _ (c .before .before .before .before .before .before .before .before .pre .1 .0 .ready .keyed .good) _ _ _ _ (c .before .before .before .before .before .before .before .before .pre .1 .0) _ _ (c .before .before .before .loop .inv) (c .before .before .loop-test .taken))
 
 -- src/expressions.rt:139:5
 get-argument-types-loop-less : (t : ℕ) → get-argument-types-lts.Need-loop-less (
@@ -308,7 +308,7 @@ get-argument-types-loop-less : (t : ℕ) → get-argument-types-lts.Need-loop-le
     get-argument-types.Post
     get-argument-types-Inv-loop
     get-argument-types-μ-loop
-get-argument-types-loop-less t c = cell-falls _ _ (c .before .before .before .before .before .before .before .before .before .pre .1 .0 .ready .keyed .good) _ _ _ _ _ (c .before .before .before .before .before .before .before .before .before .pre .1 .0) _ _ (c .before .before .before .before .loop .inv) (c .before .before .before .loop-test .taken) _ (c .next-cell .ensures)
+get-argument-types-loop-less t c = cell-falls _ _ (c .before .before .before .before .before .before .before .before .before .pre .1 .0 .ready .keyed .good) _ _ _ _ (c .before .before .before .before .before .before .before .before .before .pre .1 .0) _ _ (c .before .before .before .before .loop .inv) (c .before .before .before .loop-test .taken) _ (c .next-cell .ensures)
 
 -- src/expressions.rt:139:5
 get-argument-types-loop-again : (t : ℕ) → get-argument-types-lts.Need-loop-again (
@@ -326,8 +326,8 @@ get-argument-types-loop-again : (t : ℕ) → get-argument-types-lts.Need-loop-a
     get-argument-types-Inv-loop
     get-argument-types-μ-loop
 get-argument-types-loop-again t c = ⊎-elim
-    (λ w. turn-value _ _ (c .before .before .before .before .before .before .before .before .before .pre .1 .0 .ready .keyed .good) _ _ _ _ _ (c .before .before .before .before .before .before .before .before .before .pre .1 .0) _ _ (c .before .before .before .before .loop .inv) (c .before .before .before .loop-test .taken) _ (c .before .before .argument-at .ensures) _ (w .1 .given .1) _ _ (w .4 .ensures) _ (w .8 .given .1) _ (w .9) _ (c .next-cell .ensures))
-    (λ w. turn-type _ _ (c .before .before .before .before .before .before .before .before .before .pre .1 .0 .ready .keyed .good) _ _ _ _ _ (c .before .before .before .before .before .before .before .before .before .pre .1 .0) _ _ (c .before .before .before .before .loop .inv) (c .before .before .before .loop-test .taken) _ (c .before .before .argument-at .ensures) _ (w .1 .given .1) _ (w .2) _ (c .next-cell .ensures))
+    (λ w. turn-value _ _ (c .before .before .before .before .before .before .before .before .before .pre .1 .0 .ready .keyed .good) _ _ _ _ (c .before .before .before .before .before .before .before .before .before .pre .1 .0) _ _ (c .before .before .before .before .loop .inv) (c .before .before .before .loop-test .taken) _ (c .before .before .argument-at .ensures) _ (w .1 .given .1) _ _ (w .4 .ensures) _ (w .8 .given .1) _ (w .9) _ (c .next-cell .ensures))
+    (λ w. turn-type _ _ (c .before .before .before .before .before .before .before .before .before .pre .1 .0 .ready .keyed .good) _ _ _ _ (c .before .before .before .before .before .before .before .before .before .pre .1 .0) _ _ (c .before .before .before .before .loop .inv) (c .before .before .before .loop-test .taken) _ (c .before .before .argument-at .ensures) _ (w .1 .given .1) _ (w .2) _ (c .next-cell .ensures))
     (c .before .match .came)
 
 -- src/expressions.rt:125:1
@@ -362,7 +362,7 @@ get-argument-types-returns-2 : (t : ℕ) → get-argument-types-lts.Need-returns
     get-argument-types.Post
     get-argument-types-Inv-loop
     get-argument-types-μ-loop
-get-argument-types-returns-2 t c = loop-end _ _ (c .before .before .before .before .before .before .pre .1 .0 .ready .keyed .good) _ _ _ _ _ (c .before .before .before .before .before .before .pre .1 .0) _ _ (c .before .loop .inv) (c .loop-test .left)
+get-argument-types-returns-2 t c = loop-end _ _ (c .before .before .before .before .before .before .pre .1 .0 .ready .keyed .good) _ _ _ _ (c .before .before .before .before .before .before .pre .1 .0) _ _ (c .before .loop .inv) (c .loop-test .left)
 
 -- src/expressions.rt:55:8
 get-type-is-typed-requires : (t : ℕ) → get-type-lts.Need-is-typed-requires (
@@ -373,7 +373,7 @@ get-type-is-typed-requires : (t : ℕ) → get-type-lts.Need-is-typed-requires (
   work-out-below t,
   work-out.Post,
 ) (get-type-at t) get-type.Post
-get-type-is-typed-requires t c κs = look-ready _ _ (c .before .before .before .before .pre .1 .0 .ready .keyed .good) _ (c .before .before .before .before .pre .1 .1) _ _ _ _ (c .before .before .before .before .pre .1 .0)
+get-type-is-typed-requires t c κs = look-ready _ _ (c .before .before .before .before .pre .1 .0 .ready .keyed .good) _ (c .before .before .before .before .pre .1 .1) _ _ _ (c .before .before .before .before .pre .1 .0)
 
 -- src/expressions.rt:56:29
 get-type-slot-requires : (t : ℕ) → get-type-lts.Need-slot-requires (
@@ -384,7 +384,7 @@ get-type-slot-requires : (t : ℕ) → get-type-lts.Need-slot-requires (
   work-out-below t,
   work-out.Post,
 ) (get-type-at t) get-type.Post
-get-type-slot-requires t c κs = look-ready _ _ (c .before .before .before .before .before .before .before .pre .1 .0 .ready .keyed .good) _ (c .before .before .before .before .before .before .before .pre .1 .1) _ _ _ _ (c .before .before .before .before .before .before .before .pre .1 .0)
+get-type-slot-requires t c κs = look-ready _ _ (c .before .before .before .before .before .before .before .pre .1 .0 .ready .keyed .good) _ (c .before .before .before .before .before .before .before .pre .1 .1) _ _ _ (c .before .before .before .before .before .before .before .pre .1 .0)
 
 -- src/expressions.rt:56:9
 get-type-same-length : (t : ℕ) → get-type-lts.Need-same-length (
@@ -406,7 +406,7 @@ get-type-returns : (t : ℕ) → get-type-lts.Need-returns (
   work-out-below t,
   work-out.Post,
 ) (get-type-at t) get-type.Post
-get-type-returns t c = type-known _ _ (c .before .before .before .before .before .before .before .before .pre .1 .0 .ready .keyed .good) _ (c .before .before .before .before .before .before .before .before .pre .1 .1) _ _ _ _ (c .before .before .before .before .before .before .before .before .pre .1 .0) _ (c .before .before .before .is-typed .ensures) (c .before .before .if1 .taken) _ (c .slot .ensures)
+get-type-returns t c = type-known _ _ (c .before .before .before .before .before .before .before .before .pre .1 .0 .ready .keyed .good) _ (c .before .before .before .before .before .before .before .before .pre .1 .1) _ _ _ (c .before .before .before .before .before .before .before .before .pre .1 .0) _ (c .before .before .before .is-typed .ensures) (c .before .before .if1 .taken) _ (c .slot .ensures)
 
 -- src/expressions.rt:58:5
 get-type-work-out-requires : (t : ℕ) → get-type-lts.Need-work-out-requires (
@@ -476,7 +476,7 @@ resolve-call-resolve-typed-requires : (t : ℕ) → resolve-call-lts.Need-resolv
   resolve-typed-reads.Asked,
   resolve-typed-reads.Learnt,
 ) (resolve-call-at t) resolve-call.Post
-resolve-call-resolve-typed-requires t c κs = (keyed-frame _ _ _ (c .before .before .before .before .before .get-argument-types .ensures .frame) _ _ (c .before .before .before .before .before .before .before .before .before .before .pre .1 .0 .ready .keyed), (c .before .before .before .before .before .before .before .before .before .before .pre .1 .1, c .before .before .before .before .before .get-argument-types .ensures .typed (c .before .enum-told .given .1)))
+resolve-call-resolve-typed-requires t c κs = (keyed-frame _ _ _ (c .before .before .before .before .before .get-argument-types .ensures .frame) _ (c .before .before .before .before .before .before .before .before .before .before .pre .1 .0 .ready .keyed), (c .before .before .before .before .before .before .before .before .before .before .pre .1 .1, c .before .before .before .before .before .get-argument-types .ensures .typed (c .before .enum-told .given .1)))
 
 -- src/expressions.rt:105:1
 resolve-call-same-length : (t : ℕ) → resolve-call-lts.Need-same-length (
@@ -688,7 +688,7 @@ work-out-keep-requires : (t : ℕ) → work-out-lts.Need-keep-requires (
   leaf-type-reads.Asked,
   leaf-type-reads.Learnt,
 ) (work-out-at t) work-out.Post
-work-out-keep-requires t c κs = keep-ready _ _ (c .before .before .before .before .before .before .before .before .before .before .before .before .before .before .before .pre .1 .0 .ready .keyed .good) _ (c .before .before .before .before .before .before .before .before .before .before .before .before .before .before .before .pre .1 .1 .0) _ _ _ _ (c .before .before .before .before .before .before .before .before .before .before .before .before .before .before .before .pre .1 .0) (c .before .before .before .before .before .before .before .before .before .before .before .before .before .before .before .pre .1 .1 .1) _ _ (unary-next _ _ (c .before .before .before .before .before .before .before .before .before .before .before .before .before .before .before .pre .1 .0 .ready .keyed .good) _ _ (c .before .before .before .before .before .before .before .before .before .before .before .before .before .before .before .pre .1 .1 .0) (c .before .before .before .before .before .before .before .before .before .before .before .kind .ensures) _ _ _ (c .before .before .before .before .before .before .before .before .before .if1 .taken) _ (c .before .before .before .before .before .before .before .before .before .before .reference .ensures) _ _ (c .before .before .before .before .before .before .before .get-type .ensures) _ (c .before .before .before .ty .given .1) _ (c .unary-type .ensures))
+work-out-keep-requires t c κs = keep-ready _ _ (c .before .before .before .before .before .before .before .before .before .before .before .before .before .before .before .pre .1 .0 .ready .keyed .good) _ (c .before .before .before .before .before .before .before .before .before .before .before .before .before .before .before .pre .1 .1 .0) _ _ _ (c .before .before .before .before .before .before .before .before .before .before .before .before .before .before .before .pre .1 .0) (c .before .before .before .before .before .before .before .before .before .before .before .before .before .before .before .pre .1 .1 .1) _ _ (unary-next _ _ (c .before .before .before .before .before .before .before .before .before .before .before .before .before .before .before .pre .1 .0 .ready .keyed .good) _ _ (c .before .before .before .before .before .before .before .before .before .before .before .before .before .before .before .pre .1 .1 .0) (c .before .before .before .before .before .before .before .before .before .before .before .kind .ensures) _ _ _ (c .before .before .before .before .before .before .before .before .before .if1 .taken) _ (c .before .before .before .before .before .before .before .before .before .before .reference .ensures) _ _ (c .before .before .before .before .before .before .before .get-type .ensures) _ (c .before .before .before .ty .given .1) _ (c .unary-type .ensures))
 
 -- src/expressions.rt:78:9
 work-out-same-length : (t : ℕ) → work-out-lts.Need-same-length (
@@ -788,7 +788,7 @@ work-out-returns-2 : (t : ℕ) → work-out-lts.Need-returns-2 (
   leaf-type-reads.Asked,
   leaf-type-reads.Learnt,
 ) (work-out-at t) work-out.Post
-work-out-returns-2 t c = keep-meets _ _ (c .before .before .before .before .before .before .before .before .before .before .before .before .before .before .before .before .before .before .pre .1 .0 .ready .keyed .good) _ (c .before .before .before .before .before .before .before .before .before .before .before .before .before .before .before .before .before .before .pre .1 .1 .0) _ _ _ _ (c .before .before .before .before .before .before .before .before .before .before .before .before .before .before .before .before .before .before .pre .1 .0) (c .before .before .before .before .before .before .before .before .before .before .before .before .before .before .before .before .before .before .pre .1 .1 .1) _ _ (unary-next _ _ (c .before .before .before .before .before .before .before .before .before .before .before .before .before .before .before .before .before .before .pre .1 .0 .ready .keyed .good) _ _ (c .before .before .before .before .before .before .before .before .before .before .before .before .before .before .before .before .before .before .pre .1 .1 .0) (c .before .before .before .before .before .before .before .before .before .before .before .before .before .before .kind .ensures) _ _ _ (c .before .before .before .before .before .before .before .before .before .before .before .before .if1 .taken) _ (c .before .before .before .before .before .before .before .before .before .before .before .before .before .reference .ensures) _ _ (c .before .before .before .before .before .before .before .before .before .before .get-type .ensures) _ (c .before .before .before .before .before .before .ty .given .1) _ (c .before .before .before .unary-type .ensures)) (c .before .before .before .before .before .before .before .before .before .before .before .before .before .before .before .before .before .before .fits .turn .fits) _ _ (c .before .before .keep .ensures)
+work-out-returns-2 t c = keep-meets _ _ (c .before .before .before .before .before .before .before .before .before .before .before .before .before .before .before .before .before .before .pre .1 .0 .ready .keyed .good) _ (c .before .before .before .before .before .before .before .before .before .before .before .before .before .before .before .before .before .before .pre .1 .1 .0) _ _ _ (c .before .before .before .before .before .before .before .before .before .before .before .before .before .before .before .before .before .before .pre .1 .0) (c .before .before .before .before .before .before .before .before .before .before .before .before .before .before .before .before .before .before .pre .1 .1 .1) _ _ (unary-next _ _ (c .before .before .before .before .before .before .before .before .before .before .before .before .before .before .before .before .before .before .pre .1 .0 .ready .keyed .good) _ _ (c .before .before .before .before .before .before .before .before .before .before .before .before .before .before .before .before .before .before .pre .1 .1 .0) (c .before .before .before .before .before .before .before .before .before .before .before .before .before .before .kind .ensures) _ _ _ (c .before .before .before .before .before .before .before .before .before .before .before .before .if1 .taken) _ (c .before .before .before .before .before .before .before .before .before .before .before .before .before .reference .ensures) _ _ (c .before .before .before .before .before .before .before .before .before .before .get-type .ensures) _ (c .before .before .before .before .before .before .ty .given .1) _ (c .before .before .before .unary-type .ensures)) (c .before .before .before .before .before .before .before .before .before .before .before .before .before .before .before .before .before .before .fits .turn .fits) _ _ (c .before .before .keep .ensures)
 
 -- src/expressions.rt:84:13
 work-out-reference-requires-2 : (t : ℕ) → work-out-lts.Need-reference-requires-2 (
@@ -915,7 +915,7 @@ work-out-get-type-requires-3 : (t : ℕ) → work-out-lts.Need-get-type-requires
   leaf-type-reads.Learnt,
 ) (work-out-at t) work-out.Post
 work-out-get-type-requires-3 t c κs = let h = right-expr _ _ (c .before .before .before .before .before .before .before .before .before .before .before .before .before .before .before .before .pre .1 .0 .ready .keyed .good) _ _ (c .before .before .before .before .before .before .before .before .before .before .before .before .before .before .before .before .pre .1 .1 .0) (c .before .before .before .before .before .before .before .before .before .before .before .before .kind .ensures) (c .before .before .before .before .before .before .before .before .before .if2 .taken) _ (c .before .before .before .before .before .before .before .before .reference2 .ensures) in
-    (omega (arith, h .0, c .before .before .before .before .before .before .before .before .before .before .before .before .before .before .before .before .pre .0), (typing-next _ _ _ _ _ _ (c .before .before .before .before .before .before .before .before .before .before .before .before .before .before .before .before .pre .1 .0) _ (c .before .before .before .before .before .before .get-type2 .ensures .frame) _ (c .before .before .before .before .before .before .get-type2 .ensures .adds _ (c .before .before .l .given .1)), h .1))
+    (omega (arith, h .0, c .before .before .before .before .before .before .before .before .before .before .before .before .before .before .before .before .pre .0), (typing-next _ _ _ _ _ (c .before .before .before .before .before .before .before .before .before .before .before .before .before .before .before .before .pre .1 .0) _ (c .before .before .before .before .before .before .get-type2 .ensures .frame) _ (c .before .before .before .before .before .before .get-type2 .ensures .adds _ (c .before .before .l .given .1)), h .1))
 
 -- src/expressions.rt:88:35
 work-out-enum-known-x-3 : (t : ℕ) → work-out-lts.Need-enum-known-x-3 (
@@ -1050,7 +1050,7 @@ work-out-keep-requires-2 : (t : ℕ) → work-out-lts.Need-keep-requires-2 (
   leaf-type-reads.Asked,
   leaf-type-reads.Learnt,
 ) (work-out-at t) work-out.Post
-work-out-keep-requires-2 t c κs = keep-ready _ _ (c .before .before .before .before .before .before .before .before .before .before .before .before .before .before .before .before .before .before .before .before .before .before .before .before .before .pre .1 .0 .ready .keyed .good) _ (c .before .before .before .before .before .before .before .before .before .before .before .before .before .before .before .before .before .before .before .before .before .before .before .before .before .pre .1 .1 .0) _ _ _ _ (c .before .before .before .before .before .before .before .before .before .before .before .before .before .before .before .before .before .before .before .before .before .before .before .before .before .pre .1 .0) (c .before .before .before .before .before .before .before .before .before .before .before .before .before .before .before .before .before .before .before .before .before .before .before .before .before .pre .1 .1 .1) _ _ (right-next _ _ (c .before .before .before .before .before .before .before .before .before .before .before .before .before .before .before .before .before .before .before .before .before .before .before .before .before .pre .1 .0 .ready .keyed .good) _ _ (c .before .before .before .before .before .before .before .before .before .before .before .before .before .before .before .before .before .before .before .before .before .before .before .before .before .pre .1 .1 .0) (c .before .before .before .before .before .before .before .before .before .before .before .before .before .before .before .before .before .before .before .before .before .kind .ensures) _ _ _ (c .before .before .before .before .before .before .before .before .before .before .before .before .before .before .before .before .before .before .if2 .taken) _ (c .before .before .before .before .before .before .before .before .before .before .before .before .before .before .before .before .before .before .before .before .reference .ensures) _ _ (c .before .before .before .before .before .before .before .before .before .before .before .before .before .before .before .get-type2 .ensures) _ (c .before .before .before .before .before .before .before .before .before .before .before .before .before .before .before .before .before .before .before .before .before .before .before .before .before .pre .1 .0) _ (c .before .before .before .before .before .before .before .before .before .before .before .l .given .1) _ (c .before .before .before .before .before .before .before .before .before .before .before .before .before .before .before .before .before .reference2 .ensures) _ _ (c .before .before .before .before .before .before .before .before .get-type3 .ensures) _ (c .before .before .before .before .r .given .1) _ (c .before .before .both-sides .ensures) _ (c .before .binary-type .ensures))
+work-out-keep-requires-2 t c κs = keep-ready _ _ (c .before .before .before .before .before .before .before .before .before .before .before .before .before .before .before .before .before .before .before .before .before .before .before .before .before .pre .1 .0 .ready .keyed .good) _ (c .before .before .before .before .before .before .before .before .before .before .before .before .before .before .before .before .before .before .before .before .before .before .before .before .before .pre .1 .1 .0) _ _ _ (c .before .before .before .before .before .before .before .before .before .before .before .before .before .before .before .before .before .before .before .before .before .before .before .before .before .pre .1 .0) (c .before .before .before .before .before .before .before .before .before .before .before .before .before .before .before .before .before .before .before .before .before .before .before .before .before .pre .1 .1 .1) _ _ (right-next _ _ (c .before .before .before .before .before .before .before .before .before .before .before .before .before .before .before .before .before .before .before .before .before .before .before .before .before .pre .1 .0 .ready .keyed .good) _ _ (c .before .before .before .before .before .before .before .before .before .before .before .before .before .before .before .before .before .before .before .before .before .before .before .before .before .pre .1 .1 .0) (c .before .before .before .before .before .before .before .before .before .before .before .before .before .before .before .before .before .before .before .before .before .kind .ensures) _ _ _ (c .before .before .before .before .before .before .before .before .before .before .before .before .before .before .before .before .before .before .if2 .taken) _ (c .before .before .before .before .before .before .before .before .before .before .before .before .before .before .before .before .before .before .before .before .reference .ensures) _ _ (c .before .before .before .before .before .before .before .before .before .before .before .before .before .before .before .get-type2 .ensures) (c .before .before .before .before .before .before .before .before .before .before .before .before .before .before .before .before .before .before .before .before .before .before .before .before .before .pre .1 .0) _ (c .before .before .before .before .before .before .before .before .before .before .before .l .given .1) _ (c .before .before .before .before .before .before .before .before .before .before .before .before .before .before .before .before .before .reference2 .ensures) _ _ (c .before .before .before .before .before .before .before .before .get-type3 .ensures) _ (c .before .before .before .before .r .given .1) _ (c .before .before .both-sides .ensures) _ (c .before .binary-type .ensures))
 
 -- src/expressions.rt:85:9
 work-out-same-length-3 : (t : ℕ) → work-out-lts.Need-same-length-3 (
@@ -1150,7 +1150,7 @@ work-out-returns-4 : (t : ℕ) → work-out-lts.Need-returns-4 (
   leaf-type-reads.Asked,
   leaf-type-reads.Learnt,
 ) (work-out-at t) work-out.Post
-work-out-returns-4 t c = right-stop _ _ (c .before .before .before .before .before .before .before .before .before .before .before .before .before .before .before .before .before .before .before .before .before .before .pre .1 .0 .ready .keyed .good) _ _ (c .before .before .before .before .before .before .before .before .before .before .before .before .before .before .before .before .before .before .before .before .before .before .pre .1 .1 .0) (c .before .before .before .before .before .before .before .before .before .before .before .before .before .before .before .before .before .before .kind .ensures) _ _ _ (c .before .before .before .before .before .before .before .before .before .before .before .before .before .before .before .if2 .taken) _ (c .before .before .before .before .before .before .before .before .before .before .before .before .before .before .before .before .before .reference .ensures) _ _ (c .before .before .before .before .before .before .before .before .before .before .before .before .get-type2 .ensures) _ (c .before .before .before .before .before .before .before .before .before .before .before .before .before .before .before .before .before .before .before .before .before .before .pre .1 .0) _ (c .before .before .before .before .before .before .before .before .l .given .1) _ (c .before .before .before .before .before .before .before .before .before .before .before .before .before .before .reference2 .ensures) _ _ (c .before .before .before .before .before .get-type3 .ensures) _ (c .before .x3 .given .1)
+work-out-returns-4 t c = right-stop _ _ (c .before .before .before .before .before .before .before .before .before .before .before .before .before .before .before .before .before .before .before .before .before .before .pre .1 .0 .ready .keyed .good) _ _ (c .before .before .before .before .before .before .before .before .before .before .before .before .before .before .before .before .before .before .before .before .before .before .pre .1 .1 .0) (c .before .before .before .before .before .before .before .before .before .before .before .before .before .before .before .before .before .before .kind .ensures) _ _ _ (c .before .before .before .before .before .before .before .before .before .before .before .before .before .before .before .if2 .taken) _ (c .before .before .before .before .before .before .before .before .before .before .before .before .before .before .before .before .before .reference .ensures) _ _ (c .before .before .before .before .before .before .before .before .before .before .before .before .get-type2 .ensures) (c .before .before .before .before .before .before .before .before .before .before .before .before .before .before .before .before .before .before .before .before .before .before .pre .1 .0) _ (c .before .before .before .before .before .before .before .before .l .given .1) _ (c .before .before .before .before .before .before .before .before .before .before .before .before .before .before .reference2 .ensures) _ _ (c .before .before .before .before .before .get-type3 .ensures) _ (c .before .x3 .given .1)
 
 -- src/expressions.rt:85:9
 work-out-same-length-5 : (t : ℕ) → work-out-lts.Need-same-length-5 (
@@ -1200,7 +1200,7 @@ work-out-returns-5 : (t : ℕ) → work-out-lts.Need-returns-5 (
   leaf-type-reads.Asked,
   leaf-type-reads.Learnt,
 ) (work-out-at t) work-out.Post
-work-out-returns-5 t c = keep-meets _ _ (c .before .before .before .before .before .before .before .before .before .before .before .before .before .before .before .before .before .before .before .before .before .before .before .before .before .before .before .before .pre .1 .0 .ready .keyed .good) _ (c .before .before .before .before .before .before .before .before .before .before .before .before .before .before .before .before .before .before .before .before .before .before .before .before .before .before .before .before .pre .1 .1 .0) _ _ _ _ (c .before .before .before .before .before .before .before .before .before .before .before .before .before .before .before .before .before .before .before .before .before .before .before .before .before .before .before .before .pre .1 .0) (c .before .before .before .before .before .before .before .before .before .before .before .before .before .before .before .before .before .before .before .before .before .before .before .before .before .before .before .before .pre .1 .1 .1) _ _ (right-next _ _ (c .before .before .before .before .before .before .before .before .before .before .before .before .before .before .before .before .before .before .before .before .before .before .before .before .before .before .before .before .pre .1 .0 .ready .keyed .good) _ _ (c .before .before .before .before .before .before .before .before .before .before .before .before .before .before .before .before .before .before .before .before .before .before .before .before .before .before .before .before .pre .1 .1 .0) (c .before .before .before .before .before .before .before .before .before .before .before .before .before .before .before .before .before .before .before .before .before .before .before .before .kind .ensures) _ _ _ (c .before .before .before .before .before .before .before .before .before .before .before .before .before .before .before .before .before .before .before .before .before .if2 .taken) _ (c .before .before .before .before .before .before .before .before .before .before .before .before .before .before .before .before .before .before .before .before .before .before .before .reference .ensures) _ _ (c .before .before .before .before .before .before .before .before .before .before .before .before .before .before .before .before .before .before .get-type2 .ensures) _ (c .before .before .before .before .before .before .before .before .before .before .before .before .before .before .before .before .before .before .before .before .before .before .before .before .before .before .before .before .pre .1 .0) _ (c .before .before .before .before .before .before .before .before .before .before .before .before .before .before .l .given .1) _ (c .before .before .before .before .before .before .before .before .before .before .before .before .before .before .before .before .before .before .before .before .reference2 .ensures) _ _ (c .before .before .before .before .before .before .before .before .before .before .before .get-type3 .ensures) _ (c .before .before .before .before .before .before .before .r .given .1) _ (c .before .before .before .before .before .both-sides .ensures) _ (c .before .before .before .before .binary-type .ensures)) (c .before .before .before .before .before .before .before .before .before .before .before .before .before .before .before .before .before .before .before .before .before .before .before .before .before .before .before .before .fits .turn .fits) _ _ (c .before .before .keep2 .ensures)
+work-out-returns-5 t c = keep-meets _ _ (c .before .before .before .before .before .before .before .before .before .before .before .before .before .before .before .before .before .before .before .before .before .before .before .before .before .before .before .before .pre .1 .0 .ready .keyed .good) _ (c .before .before .before .before .before .before .before .before .before .before .before .before .before .before .before .before .before .before .before .before .before .before .before .before .before .before .before .before .pre .1 .1 .0) _ _ _ (c .before .before .before .before .before .before .before .before .before .before .before .before .before .before .before .before .before .before .before .before .before .before .before .before .before .before .before .before .pre .1 .0) (c .before .before .before .before .before .before .before .before .before .before .before .before .before .before .before .before .before .before .before .before .before .before .before .before .before .before .before .before .pre .1 .1 .1) _ _ (right-next _ _ (c .before .before .before .before .before .before .before .before .before .before .before .before .before .before .before .before .before .before .before .before .before .before .before .before .before .before .before .before .pre .1 .0 .ready .keyed .good) _ _ (c .before .before .before .before .before .before .before .before .before .before .before .before .before .before .before .before .before .before .before .before .before .before .before .before .before .before .before .before .pre .1 .1 .0) (c .before .before .before .before .before .before .before .before .before .before .before .before .before .before .before .before .before .before .before .before .before .before .before .before .kind .ensures) _ _ _ (c .before .before .before .before .before .before .before .before .before .before .before .before .before .before .before .before .before .before .before .before .before .if2 .taken) _ (c .before .before .before .before .before .before .before .before .before .before .before .before .before .before .before .before .before .before .before .before .before .before .before .reference .ensures) _ _ (c .before .before .before .before .before .before .before .before .before .before .before .before .before .before .before .before .before .before .get-type2 .ensures) (c .before .before .before .before .before .before .before .before .before .before .before .before .before .before .before .before .before .before .before .before .before .before .before .before .before .before .before .before .pre .1 .0) _ (c .before .before .before .before .before .before .before .before .before .before .before .before .before .before .l .given .1) _ (c .before .before .before .before .before .before .before .before .before .before .before .before .before .before .before .before .before .before .before .before .reference2 .ensures) _ _ (c .before .before .before .before .before .before .before .before .before .before .before .get-type3 .ensures) _ (c .before .before .before .before .before .before .before .r .given .1) _ (c .before .before .before .before .before .both-sides .ensures) _ (c .before .before .before .before .binary-type .ensures)) (c .before .before .before .before .before .before .before .before .before .before .before .before .before .before .before .before .before .before .before .before .before .before .before .before .before .before .before .before .fits .turn .fits) _ _ (c .before .before .keep2 .ensures)
 
 -- src/expressions.rt:97:13
 work-out-resolve-call-requires : (t : ℕ) → work-out-lts.Need-resolve-call-requires (
@@ -1275,7 +1275,7 @@ work-out-keep-requires-3 : (t : ℕ) → work-out-lts.Need-keep-requires-3 (
   leaf-type-reads.Asked,
   leaf-type-reads.Learnt,
 ) (work-out-at t) work-out.Post
-work-out-keep-requires-3 t c κs = keep-ready _ _ (c .before .before .before .before .before .before .before .before .before .before .before .before .before .before .pre .1 .0 .ready .keyed .good) _ (c .before .before .before .before .before .before .before .before .before .before .before .before .before .before .pre .1 .1 .0) _ _ _ _ (c .before .before .before .before .before .before .before .before .before .before .before .before .before .before .pre .1 .0) (c .before .before .before .before .before .before .before .before .before .before .before .before .before .before .pre .1 .1 .1) _ _ (call-value _ _ (c .before .before .before .before .before .before .before .before .before .before .before .before .before .before .pre .1 .0 .ready .keyed .good) _ _ (c .before .before .before .before .before .before .before .before .before .before .before .before .before .before .pre .1 .1 .0) (c .before .before .before .before .before .before .before .before .before .before .kind .ensures) _ _ _ (c .before .before .before .before .before .before .if3 .taken) _ _ (c .before .before .before .before .resolve-call .ensures) _ (c .value-type .ensures))
+work-out-keep-requires-3 t c κs = keep-ready _ _ (c .before .before .before .before .before .before .before .before .before .before .before .before .before .before .pre .1 .0 .ready .keyed .good) _ (c .before .before .before .before .before .before .before .before .before .before .before .before .before .before .pre .1 .1 .0) _ _ _ (c .before .before .before .before .before .before .before .before .before .before .before .before .before .before .pre .1 .0) (c .before .before .before .before .before .before .before .before .before .before .before .before .before .before .pre .1 .1 .1) _ _ (call-value _ _ (c .before .before .before .before .before .before .before .before .before .before .before .before .before .before .pre .1 .0 .ready .keyed .good) _ _ (c .before .before .before .before .before .before .before .before .before .before .before .before .before .before .pre .1 .1 .0) (c .before .before .before .before .before .before .before .before .before .before .kind .ensures) _ _ _ (c .before .before .before .before .before .before .if3 .taken) _ _ (c .before .before .before .before .resolve-call .ensures) _ (c .value-type .ensures))
 
 -- src/expressions.rt:98:9
 work-out-same-length-6 : (t : ℕ) → work-out-lts.Need-same-length-6 (
@@ -1325,7 +1325,7 @@ work-out-returns-6 : (t : ℕ) → work-out-lts.Need-returns-6 (
   leaf-type-reads.Asked,
   leaf-type-reads.Learnt,
 ) (work-out-at t) work-out.Post
-work-out-returns-6 t c = keep-meets _ _ (c .before .before .before .before .before .before .before .before .before .before .before .before .before .before .before .before .before .pre .1 .0 .ready .keyed .good) _ (c .before .before .before .before .before .before .before .before .before .before .before .before .before .before .before .before .before .pre .1 .1 .0) _ _ _ _ (c .before .before .before .before .before .before .before .before .before .before .before .before .before .before .before .before .before .pre .1 .0) (c .before .before .before .before .before .before .before .before .before .before .before .before .before .before .before .before .before .pre .1 .1 .1) _ _ (call-value _ _ (c .before .before .before .before .before .before .before .before .before .before .before .before .before .before .before .before .before .pre .1 .0 .ready .keyed .good) _ _ (c .before .before .before .before .before .before .before .before .before .before .before .before .before .before .before .before .before .pre .1 .1 .0) (c .before .before .before .before .before .before .before .before .before .before .before .before .before .kind .ensures) _ _ _ (c .before .before .before .before .before .before .before .before .before .if3 .taken) _ _ (c .before .before .before .before .before .before .before .resolve-call .ensures) _ (c .before .before .before .value-type .ensures)) (c .before .before .before .before .before .before .before .before .before .before .before .before .before .before .before .before .before .fits .turn .fits) _ _ (c .before .before .keep3 .ensures)
+work-out-returns-6 t c = keep-meets _ _ (c .before .before .before .before .before .before .before .before .before .before .before .before .before .before .before .before .before .pre .1 .0 .ready .keyed .good) _ (c .before .before .before .before .before .before .before .before .before .before .before .before .before .before .before .before .before .pre .1 .1 .0) _ _ _ (c .before .before .before .before .before .before .before .before .before .before .before .before .before .before .before .before .before .pre .1 .0) (c .before .before .before .before .before .before .before .before .before .before .before .before .before .before .before .before .before .pre .1 .1 .1) _ _ (call-value _ _ (c .before .before .before .before .before .before .before .before .before .before .before .before .before .before .before .before .before .pre .1 .0 .ready .keyed .good) _ _ (c .before .before .before .before .before .before .before .before .before .before .before .before .before .before .before .before .before .pre .1 .1 .0) (c .before .before .before .before .before .before .before .before .before .before .before .before .before .kind .ensures) _ _ _ (c .before .before .before .before .before .before .before .before .before .if3 .taken) _ _ (c .before .before .before .before .before .before .before .resolve-call .ensures) _ (c .before .before .before .value-type .ensures)) (c .before .before .before .before .before .before .before .before .before .before .before .before .before .before .before .before .before .fits .turn .fits) _ _ (c .before .before .keep3 .ensures)
 
 -- src/expressions.rt:100:9
 work-out-leaf-type-requires : (t : ℕ) → work-out-lts.Need-leaf-type-requires (
@@ -1378,7 +1378,7 @@ work-out-keep-requires-4 : (t : ℕ) → work-out-lts.Need-keep-requires-4 (
   leaf-type-reads.Asked,
   leaf-type-reads.Learnt,
 ) (work-out-at t) work-out.Post
-work-out-keep-requires-4 t c κs = keep-ready _ _ (c .before .before .before .before .before .before .before .before .before .before .before .pre .1 .0 .ready .keyed .good) _ (c .before .before .before .before .before .before .before .before .before .before .before .pre .1 .1 .0) _ _ _ _ (c .before .before .before .before .before .before .before .before .before .before .before .pre .1 .0) (c .before .before .before .before .before .before .before .before .before .before .before .pre .1 .1 .1) _ _ (leaf-meets _ _ (c .before .before .before .before .before .before .before .before .before .before .before .pre .1 .0 .ready .keyed .good) _ _ (c .before .before .before .before .before .before .before .before .before .before .before .pre .1 .1 .0) (c .before .before .before .before .before .before .before .kind .ensures) _ _ _ _ (c .before .before .before .before .before .before .before .before .before .before .before .pre .1 .0) (c .before .before .before .before .before .if1 .left) (c .before .before .before .before .if2 .left) (c .before .before .before .if3 .left) _ (c .before .leaf-type .ensures))
+work-out-keep-requires-4 t c κs = keep-ready _ _ (c .before .before .before .before .before .before .before .before .before .before .before .pre .1 .0 .ready .keyed .good) _ (c .before .before .before .before .before .before .before .before .before .before .before .pre .1 .1 .0) _ _ _ (c .before .before .before .before .before .before .before .before .before .before .before .pre .1 .0) (c .before .before .before .before .before .before .before .before .before .before .before .pre .1 .1 .1) _ _ (leaf-meets _ _ (c .before .before .before .before .before .before .before .before .before .before .before .pre .1 .0 .ready .keyed .good) _ _ (c .before .before .before .before .before .before .before .before .before .before .before .pre .1 .1 .0) (c .before .before .before .before .before .before .before .kind .ensures) _ _ _ (c .before .before .before .before .before .before .before .before .before .before .before .pre .1 .0) (c .before .before .before .before .before .if1 .left) (c .before .before .before .before .if2 .left) (c .before .before .before .if3 .left) _ (c .before .leaf-type .ensures))
 
 -- src/expressions.rt:62:1
 work-out-same-length-7 : (t : ℕ) → work-out-lts.Need-same-length-7 (
@@ -1428,7 +1428,7 @@ work-out-returns-7 : (t : ℕ) → work-out-lts.Need-returns-7 (
   leaf-type-reads.Asked,
   leaf-type-reads.Learnt,
 ) (work-out-at t) work-out.Post
-work-out-returns-7 t c = keep-meets _ _ (c .before .before .before .before .before .before .before .before .before .before .before .before .before .before .pre .1 .0 .ready .keyed .good) _ (c .before .before .before .before .before .before .before .before .before .before .before .before .before .before .pre .1 .1 .0) _ _ _ _ (c .before .before .before .before .before .before .before .before .before .before .before .before .before .before .pre .1 .0) (c .before .before .before .before .before .before .before .before .before .before .before .before .before .before .pre .1 .1 .1) _ _ (leaf-meets _ _ (c .before .before .before .before .before .before .before .before .before .before .before .before .before .before .pre .1 .0 .ready .keyed .good) _ _ (c .before .before .before .before .before .before .before .before .before .before .before .before .before .before .pre .1 .1 .0) (c .before .before .before .before .before .before .before .before .before .before .kind .ensures) _ _ _ _ (c .before .before .before .before .before .before .before .before .before .before .before .before .before .before .pre .1 .0) (c .before .before .before .before .before .before .before .before .if1 .left) (c .before .before .before .before .before .before .before .if2 .left) (c .before .before .before .before .before .before .if3 .left) _ (c .before .before .before .before .leaf-type .ensures)) (c .before .before .before .before .before .before .before .before .before .before .before .before .before .before .fits .turn .fits) _ _ (c .before .before .keep4 .ensures)
+work-out-returns-7 t c = keep-meets _ _ (c .before .before .before .before .before .before .before .before .before .before .before .before .before .before .pre .1 .0 .ready .keyed .good) _ (c .before .before .before .before .before .before .before .before .before .before .before .before .before .before .pre .1 .1 .0) _ _ _ (c .before .before .before .before .before .before .before .before .before .before .before .before .before .before .pre .1 .0) (c .before .before .before .before .before .before .before .before .before .before .before .before .before .before .pre .1 .1 .1) _ _ (leaf-meets _ _ (c .before .before .before .before .before .before .before .before .before .before .before .before .before .before .pre .1 .0 .ready .keyed .good) _ _ (c .before .before .before .before .before .before .before .before .before .before .before .before .before .before .pre .1 .1 .0) (c .before .before .before .before .before .before .before .before .before .before .kind .ensures) _ _ _ (c .before .before .before .before .before .before .before .before .before .before .before .before .before .before .pre .1 .0) (c .before .before .before .before .before .before .before .before .if1 .left) (c .before .before .before .before .before .before .before .if2 .left) (c .before .before .before .before .before .before .if3 .left) _ (c .before .before .before .before .leaf-type .ensures)) (c .before .before .before .before .before .before .before .before .before .before .before .before .before .before .fits .turn .fits) _ _ (c .before .before .keep4 .ensures)
 
 pub +get-argument-types+get-type+resolve-call+work-out-spec : {M : Type 1} → statement M
 +get-argument-types+get-type+resolve-call+work-out-spec =

@@ -18,7 +18,7 @@ enum-known-l : tie.Need-enum-known-l
 enum-known-l c = search needs
 
 get-type-requires-2 : tie.Need-get-type-requires-2
-get-type-requires-2 c κs = (typing-next _ _ _ _ _ _ (c .before .before .before .before .before .before .before .before .before .before .before .pre .0) _ (c .before .before .before .before .before .before .get-type .ensures .frame) _ (c .before .before .before .before .before .before .get-type .ensures .adds _ (c .before .before .l .given .1)), c .before .before .before .before .before .before .before .before .before .before .before .pre .1 .1)
+get-type-requires-2 c κs = (typing-next _ _ _ _ _ (c .before .before .before .before .before .before .before .before .before .before .before .pre .0) _ (c .before .before .before .before .before .before .get-type .ensures .frame) _ (c .before .before .before .before .before .before .get-type .ensures .adds _ (c .before .before .l .given .1)), c .before .before .before .before .before .before .before .before .before .before .before .pre .1 .1)
 
 enum-known-x-2 : tie.Need-enum-known-x-2
 enum-known-x-2 c = search needs
@@ -52,19 +52,19 @@ same-length-2 : tie.Need-same-length-2
 same-length-2 c = search needs
 
 returns-2 : tie.Need-returns-2
-returns-2 c = right-refused _ _ _ _ _ _ _ _ _ (c .before .before .before .before .before .before .before .before .before .before .before .before .get-type .ensures) _ (c .before .before .before .before .before .before .before .before .before .before .before .before .before .before .before .before .before .pre .0) _ (c .before .before .before .before .before .before .before .before .l .given .1) _ _ (c .before .before .before .before .before .get-type2 .ensures) _ (c .before .x2 .given .1)
+returns-2 c = right-refused _ _ _ _ _ _ _ _ _ (c .before .before .before .before .before .before .before .before .before .before .before .before .get-type .ensures) (c .before .before .before .before .before .before .before .before .before .before .before .before .before .before .before .before .before .pre .0) _ (c .before .before .before .before .before .before .before .before .l .given .1) _ _ (c .before .before .before .before .before .get-type2 .ensures) _ (c .before .x2 .given .1)
 
 same-length-3 : tie.Need-same-length-3
 same-length-3 c = search needs
 
 returns-3 : tie.Need-returns-3
-returns-3 c = takes-one _ _ _ _ _ _ _ _ _ (c .before .before .before .before .before .before .before .before .before .before .before .before .before .before .before .before .before .get-type .ensures) _ (c .before .before .before .before .before .before .before .before .before .before .before .before .before .before .before .before .before .before .before .before .before .before .pre .0) _ (c .before .before .before .before .before .before .before .before .before .before .before .before .before .l .given .1) _ _ (c .before .before .before .before .before .before .before .before .before .before .get-type2 .ensures) _ (c .before .before .before .before .before .before .r .given .1) _ (c .before .before .before .before .both-sides .ensures) _ (c .before .before .before .common-of .ensures) _ (c .before .y .given .1)
+returns-3 c = takes-one _ _ _ _ _ _ _ _ _ (c .before .before .before .before .before .before .before .before .before .before .before .before .before .before .before .before .before .get-type .ensures) (c .before .before .before .before .before .before .before .before .before .before .before .before .before .before .before .before .before .before .before .before .before .before .pre .0) _ (c .before .before .before .before .before .before .before .before .before .before .before .before .before .l .given .1) _ _ (c .before .before .before .before .before .before .before .before .before .before .get-type2 .ensures) _ (c .before .before .before .before .before .before .r .given .1) _ (c .before .before .before .before .both-sides .ensures) _ (c .before .before .before .common-of .ensures) _ (c .before .y .given .1)
 
 same-length-4 : tie.Need-same-length-4
 same-length-4 c = search needs
 
 returns-4 : tie.Need-returns-4
-returns-4 c = takes-none _ _ _ _ _ _ _ _ _ (c .before .before .before .before .before .before .before .before .before .before .before .before .before .before .before .before .get-type .ensures) _ (c .before .before .before .before .before .before .before .before .before .before .before .before .before .before .before .before .before .before .before .before .before .pre .0) _ (c .before .before .before .before .before .before .before .before .before .before .before .before .l .given .1) _ _ (c .before .before .before .before .before .before .before .before .before .get-type2 .ensures) _ (c .before .before .before .before .before .r .given .1) _ (c .before .before .before .both-sides .ensures) _ (c .before .before .common-of .ensures) (c .enum-told .given .1)
+returns-4 c = takes-none _ _ _ _ _ _ _ _ _ (c .before .before .before .before .before .before .before .before .before .before .before .before .before .before .before .before .get-type .ensures) (c .before .before .before .before .before .before .before .before .before .before .before .before .before .before .before .before .before .before .before .before .before .pre .0) _ (c .before .before .before .before .before .before .before .before .before .before .before .before .l .given .1) _ _ (c .before .before .before .before .before .before .before .before .before .get-type2 .ensures) _ (c .before .before .before .before .before .r .given .1) _ (c .before .before .before .both-sides .ensures) _ (c .before .before .common-of .ensures) (c .enum-told .given .1)
 
 pub common-type-spec : {M : Type 1} → statement M
 common-type-spec =

@@ -39,7 +39,7 @@ returns c =
     let named = mangled .before in
     let at = named .before in
     let first = at .before .before .before .before in
-    is-latin _ _ _ _ _ _ (first .pre .0 .0) (first .pre .1 .0) (first .pre .1 .1 .0) (at .function-at .ensures) _ _ _ (mangled .is-mangled .ensures) (named .name-of .ensures) (c .before .before .is-ascii .ensures)
+    is-latin _ _ _ _ _ (first .pre .0 .0) (first .pre .1 .0) (first .pre .1 .1 .0) (at .function-at .ensures) _ _ _ (mangled .is-mangled .ensures) (named .name-of .ensures) (c .before .before .is-ascii .ensures)
     (c .before .before .before .if1 .taken) (c .before .if2 .taken) _ (c .refuse-function .ensures)
 
 find-own-key-requires : tie.Need-find-own-key-requires
@@ -63,7 +63,7 @@ returns-2 c =
     let named = mangled .before in
     let at = named .before in
     let first = at .before .before .before .before in
-    signature-taken _ _ _ _ _ _ (first .pre .0 .0) (first .pre .1 .0) (first .pre .1 .1 .0) (at .function-at .ensures) _ _ _ (mangled .is-mangled .ensures) (named .name-of .ensures) (c .before .before .before .before .before .is-ascii .ensures)
+    signature-taken _ _ _ _ _ (first .pre .0 .0) (first .pre .1 .0) (first .pre .1 .1 .0) (at .function-at .ensures) _ _ _ (mangled .is-mangled .ensures) (named .name-of .ensures) (c .before .before .before .before .before .is-ascii .ensures)
     _ (c .before .before .before .find-own-key .ensures _ (first .pre .1 .1 .1) .is) (c .before .before .before .before .before .before .if1 .taken) (c .before .before .before .before .if2 .left) _ (c .before .enum-told .given .1) _ (c .refuse-function2 .ensures)
 
 enum-told-2 : tie.Need-enum-told-2
@@ -75,7 +75,7 @@ returns-3 c =
     let named = mangled .before in
     let at = named .before in
     let first = at .before .before .before .before in
-    signature-new _ _ _ _ _ _ (first .pre .0 .0) (first .pre .1 .0) (first .pre .1 .1 .0) (at .function-at .ensures) _ _ _ (mangled .is-mangled .ensures) (named .name-of .ensures) (c .before .before .before .before .is-ascii .ensures)
+    signature-new _ _ _ _ _ (first .pre .0 .0) (first .pre .1 .0) (first .pre .1 .1 .0) (at .function-at .ensures) _ _ _ (mangled .is-mangled .ensures) (named .name-of .ensures) (c .before .before .before .before .is-ascii .ensures)
     _ (c .before .before .find-own-key .ensures _ (first .pre .1 .1 .1) .is) (c .before .before .before .before .before .if1 .taken) (c .before .before .before .if2 .left) (c .enum-told2 .given .1)
 
 is-ascii-requires-2 : tie.Need-is-ascii-requires-2
@@ -93,7 +93,7 @@ returns-4 c =
     let named = mangled .before in
     let at = named .before in
     let first = at .before .before .before .before in
-    is-foreign _ _ _ _ _ _ (first .pre .0 .0) (first .pre .1 .0) (first .pre .1 .1 .0) (at .function-at .ensures) _ _ _ (mangled .is-mangled .ensures) (named .name-of .ensures) (c .before .before .is-ascii2 .ensures)
+    is-foreign _ _ _ _ _ (first .pre .0 .0) (first .pre .1 .0) (first .pre .1 .1 .0) (at .function-at .ensures) _ _ _ (mangled .is-mangled .ensures) (named .name-of .ensures) (c .before .before .is-ascii2 .ensures)
     (c .before .before .before .if1 .left) (not-true _ (c .before .if3 .taken)) _ (c .refuse-function3 .ensures)
 
 find-own-key-requires-2 : tie.Need-find-own-key-requires-2
@@ -117,7 +117,7 @@ returns-5 c =
     let named = mangled .before in
     let at = named .before in
     let first = at .before .before .before .before in
-    symbol-taken _ _ _ _ _ _ (first .pre .0 .0) (first .pre .1 .0) (first .pre .1 .1 .0) (at .function-at .ensures) _ _ _ (mangled .is-mangled .ensures) (named .name-of .ensures) (c .before .before .before .before .before .is-ascii2 .ensures)
+    symbol-taken _ _ _ _ _ (first .pre .0 .0) (first .pre .1 .0) (first .pre .1 .1 .0) (at .function-at .ensures) _ _ _ (mangled .is-mangled .ensures) (named .name-of .ensures) (c .before .before .before .before .before .is-ascii2 .ensures)
     _ (c .before .before .before .find-own-key2 .ensures _ (first .pre .1 .1 .1) .is) (c .before .before .before .before .before .before .if1 .left) (not-false _ (c .before .before .before .before .if3 .left)) _ (c .before .enum-told3 .given .1) _ (c .refuse-function4 .ensures)
 
 enum-told-4 : tie.Need-enum-told-4
@@ -129,7 +129,7 @@ returns-6 c =
     let named = mangled .before in
     let at = named .before in
     let first = at .before .before .before .before in
-    symbol-new _ _ _ _ _ _ (first .pre .0 .0) (first .pre .1 .0) (first .pre .1 .1 .0) (at .function-at .ensures) _ _ _ (mangled .is-mangled .ensures) (named .name-of .ensures) (c .before .before .before .before .is-ascii2 .ensures)
+    symbol-new _ _ _ _ _ (first .pre .0 .0) (first .pre .1 .0) (first .pre .1 .1 .0) (at .function-at .ensures) _ _ _ (mangled .is-mangled .ensures) (named .name-of .ensures) (c .before .before .before .before .is-ascii2 .ensures)
     _ (c .before .before .find-own-key2 .ensures _ (first .pre .1 .1 .1) .is) (c .before .before .before .before .before .if1 .left) (not-false _ (c .before .before .before .if3 .left)) (c .enum-told4 .given .1)
 
 pub check-function-spec : {M : Type 1} → statement M

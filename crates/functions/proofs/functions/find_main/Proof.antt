@@ -25,7 +25,9 @@ loop-holds c = (omega arith, main-start _ _)
 
 -- src/functions.rt:110:13
 function-at-requires : tie.Need-function-at-requires Inv-loop μ-loop
-function-at-requires c κs = (c .before .before .before .before .before .pre .1, omega arith)
+function-at-requires c κs =
+    let first = c .before .before .before .before .before in
+    (first .pre .1 .0, omega (arith, c .loop-test .taken, first .pre .1 .1))
 
 -- src/functions.rt:111:26
 name-of-requires : tie.Need-name-of-requires Inv-loop μ-loop
@@ -42,7 +44,7 @@ returns c =
     let at = named .before in
     let loop = at .before .before in
     let first = loop .before .before .before .before in record {
-      is = main-here _ _ _ _ _ (first .pre .1) (at .before .loop-test .taken) _ (at .function-at .ensures) _ _ (named .name-of .ensures) (c .before .is-main .ensures)
+      is = main-here _ _ _ _ (first .pre .1 .0) (omega (arith, at .before .loop-test .taken, first .pre .1 .1)) _ (at .function-at .ensures) _ _ (named .name-of .ensures) (c .before .is-main .ensures)
           (c .if1 .taken) (loop .loop .inv .1);
       function = a-function (at .function-at .ensures .1);
     }
@@ -63,13 +65,15 @@ loop-again c =
     let loop = at .before .before in
     let first = loop .before .before .before .before in (
       omega arith,
-      main-next _ _ _ _ _ (first .pre .1) (at .before .loop-test .taken) _ (at .function-at .ensures) _ _ (named .name-of .ensures) (c .before .is-main .ensures)
+      main-next _ _ _ _ (first .pre .1 .0) (omega (arith, at .before .loop-test .taken, first .pre .1 .1)) _ (at .function-at .ensures) _ _ (named .name-of .ensures) (c .before .is-main .ensures)
           (c .if1 .left) (loop .loop .inv .1),
     )
 
 -- src/functions.rt:103:1
 returns-2 : tie.Need-returns-2 Inv-loop μ-loop
-returns-2 c = record { is = main-nowhere _ _ _ _ _ (c .before .before .before .before .before .pre .1) (c .loop-test .left) (c .before .loop .inv .1); function = no-function }
+returns-2 c =
+    let first = c .before .before .before .before .before in
+    record { is = main-nowhere _ _ _ _ (first .pre .1 .0) _ (first .pre .1 .1) (c .loop-test .left) (c .before .loop .inv .1); function = no-function }
 
 pub find-main-spec : {M : Type 1} → statement M
 find-main-spec =

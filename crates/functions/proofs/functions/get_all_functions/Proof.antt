@@ -40,7 +40,7 @@ check-function-requires : tie.Need-check-function-requires Inv-loop μ-loop
 check-function-requires c κs =
     let loop = c .before .before in
     let first = loop .before .before .before .before .before .before .before .before .before .before .before .before in
-    ((first .pre .0 .0, loop .loop .inv .numbered), (loop .loop .inv .listed, (c .before .loop-test .taken, loop .loop .inv .slots)))
+    ((first .pre .0 .0, loop .loop .inv .numbered), (loop .loop .inv .listed, (omega (arith, c .before .loop-test .taken, loop .loop .inv .counted), loop .loop .inv .slots)))
 
 enum-known-e : tie.Need-enum-known-e Inv-loop μ-loop
 enum-known-e c = search needs
@@ -65,7 +65,9 @@ enum-told : tie.Need-enum-told Inv-loop μ-loop
 enum-told c = search needs
 
 function-at-requires : tie.Need-function-at-requires Inv-loop μ-loop
-function-at-requires c κs = (c .before .before .before .before .before .before .loop .inv .listed, omega arith)
+function-at-requires c κs =
+    let loop = c .before .before .before .before .before .before in
+    (loop .loop .inv .listed, omega (arith, c .before .before .before .before .before .loop-test .taken, loop .loop .inv .counted))
 
 enter-key-requires : tie.Need-enter-key-requires Inv-loop μ-loop
 enter-key-requires c κs =

@@ -13,10 +13,10 @@ use Rattle.keys.proofs.keys.chain_record.Reads as chain-record-reads
 use Rattle.records.proofs.chains.clear_run.Reads as clear-run-reads
 
 abbrev Inv-loop : tie.InvT-loop
-Inv-loop tree text scratch₀ count n keys names r₀ scratch r = Passing tree text scratch₀ scratch count r
+Inv-loop tree text scratch₀ n keys names r₀ scratch r = Passing tree text scratch₀ scratch r
 
 abbrev μ-loop : tie.MeasureT-loop
-μ-loop tree text scratch₀ count n keys names r₀ scratch r = n - r
+μ-loop tree text scratch₀ n keys names r₀ scratch r = n - r
 
 mul-keys : tie.Need-mul-keys Inv-loop μ-loop
 mul-keys c = search needs
@@ -45,7 +45,7 @@ clear-run-requires-2 c κs = search needs
 loop-holds : tie.Need-loop-holds Inv-loop μ-loop
 loop-holds c =
     let start = c .before .before .before .before .before .before .before .before .before .before .before in
-    record { below = omega arith; chaining = chaining-none _ _ _ _ _ _ (start .pre) (c .before .before .before .before .before .before .clear-run .ensures) (c .before .before .clear-run2 .ensures); keeps = keeps-none _ _ }
+    record { below = omega arith; chaining = chaining-none _ _ _ _ _ (start .pre) (c .before .before .before .before .before .before .clear-run .ensures) (c .before .before .clear-run2 .ensures); keeps = keeps-none _ _ }
 
 chain-record-requires : tie.Need-chain-record-requires Inv-loop μ-loop
 chain-record-requires c κs = (c .before .before .loop .inv .chaining, c .before .loop-test .taken)
@@ -64,7 +64,7 @@ same-length c = c .before .loop .inv .keeps .long ∙ c .before .before .before 
 
 returns : tie.Need-returns Inv-loop μ-loop
 returns c =
-    (all-chained _ _ _ _ _ (c .before .loop .inv .below) (c .loop-test .left) (c .before .loop .inv .chaining), keeps-then _ _ _ _ (keeps-heads _ _ _ _ (c .before .before .before .before .before .before .before .before .clear-run .ensures) (c .before .before .before .before .clear-run2 .ensures)) (c .before .loop .inv .keeps))
+    (all-chained _ _ _ _ (c .before .loop .inv .below) (c .loop-test .left) (c .before .loop .inv .chaining), keeps-then _ _ _ _ (keeps-heads _ _ _ _ (c .before .before .before .before .before .before .before .before .clear-run .ensures) (c .before .before .before .before .clear-run2 .ensures)) (c .before .loop .inv .keeps))
 
 pub chain-functions-spec : {M : Type 1} → statement M
 chain-functions-spec =

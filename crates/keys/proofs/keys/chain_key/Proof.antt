@@ -29,7 +29,7 @@ key-record-requires c κs = search needs
 kept-digest-requires : tie.Need-kept-digest-requires
 kept-digest-requires c κs =
     let start = c .before .before .before .before .before in
-    digest-inside _ _ (start .pre .0 .mapped .good) _ (start .pre .1) (start .args .scratch .now) _ (c .key-record .ensures) (start .pre .0 .mapped .listed .room)
+    digest-inside _ _ (start .pre .0 .good) _ (start .pre .1) (start .args .scratch .now) _ (c .key-record .ensures) (start .pre .0 .listed .room)
 
 roll-digest-requires : tie.Need-roll-digest-requires
 roll-digest-requires c κs = search needs
@@ -77,9 +77,9 @@ returns : tie.Need-returns
 returns c =
     let start = c .before .before .before .before .before .before .before .before .before .before .before .before .before .before .before .before in
     let bucket = c .before .before .before .before .before .before .before .before .bucket .ensures in
-    let digest = digest-read _ _ (start .pre .0 .mapped .good) _ (start .pre .1) _ _ (c .before .before .before .before .before .before .before .before .before .before .before .key-record .ensures) (start .pre .0 .mapped .numbered) _ (c .before .before .before .before .before .before .before .before .before .before .kept-digest .ensures) in (
-      chained-key _ _ _ _ _ _ _ _ _ (start .pre .0) (start .pre .1) (bucket .1) (c .before .before .before .before .before .before .put-word .ensures) (c .before .before .put-before .ensures) (digest .0) (omega (arith, digest .1)) (bucket .0 ∙ ap (bucketOf _) (c .before .before .before .before .before .before .before .before .before .roll-digest .ensures)),
-      keeps-key _ _ _ _ _ _ _ _ _ (start .pre .0) (start .pre .1) (bucket .1) (c .before .before .before .before .before .before .put-word .ensures) (c .before .before .put-before .ensures),
+    let digest = digest-read _ _ (start .pre .0 .good) _ (start .pre .1) _ _ (c .before .before .before .before .before .before .before .before .before .before .before .key-record .ensures) (start .pre .0 .numbered) _ (c .before .before .before .before .before .before .before .before .before .before .kept-digest .ensures) in (
+      chained-key _ _ _ _ _ _ _ _ (start .pre .0) (start .pre .1) (bucket .1) (c .before .before .before .before .before .before .put-word .ensures) (c .before .before .put-before .ensures) (digest .0) (omega (arith, digest .1)) (bucket .0 ∙ ap (bucketOf _) (c .before .before .before .before .before .before .before .before .before .roll-digest .ensures)),
+      keeps-key _ _ _ _ _ _ _ _ (start .pre .0) (start .pre .1) (bucket .1) (c .before .before .before .before .before .before .put-word .ensures) (c .before .before .put-before .ensures),
     )
 
 pub chain-key-spec : {M : Type 1} → statement M

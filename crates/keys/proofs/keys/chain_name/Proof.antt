@@ -23,7 +23,7 @@ reference-requires c κs = search needs
 original-requires : tie.Need-original-requires
 original-requires c κs =
     let start = c .before .before .before .before .before in
-    name-inside _ _ (start .pre .0 .mapped .good) _ (start .pre .1) (start .args .scratch .now) _ (c .reference .ensures) (start .pre .0 .mapped .listed .room)
+    name-inside _ _ (start .pre .0 .good) _ (start .pre .1) (start .args .scratch .now) _ (c .reference .ensures) (start .pre .0 .listed .room)
 
 mul-put-before : tie.Need-mul-put-before
 mul-put-before c = search needs
@@ -31,14 +31,14 @@ mul-put-before c = search needs
 mul-put-before-2 : tie.Need-mul-put-before-2
 mul-put-before-2 c =
     let start = c .before .before .before .before .before .before .before in
-    let number = name-number _ _ (start .pre .0 .mapped .good) _ (start .pre .1) _ _ (c .before .before .reference .ensures) (start .pre .0 .mapped .numbered) _ (c .before .original .ensures) in
-    omega (arith, number .1, start .pre .0 .mapped .good .few)
+    let number = name-number _ _ (start .pre .0 .good) _ (start .pre .1) _ _ (c .before .before .reference .ensures) (start .pre .0 .numbered) _ (c .before .original .ensures) in
+    omega (arith, number .1, start .pre .0 .good .few)
 
 add-put-before : tie.Need-add-put-before
 add-put-before c =
     let start = c .before .before .before .before .before .before .before in
-    let number = name-number _ _ (start .pre .0 .mapped .good) _ (start .pre .1) _ _ (c .before .before .reference .ensures) (start .pre .0 .mapped .numbered) _ (c .before .original .ensures) in
-    omega (arith, number .1, start .pre .0 .mapped .good .few)
+    let number = name-number _ _ (start .pre .0 .good) _ (start .pre .1) _ _ (c .before .before .reference .ensures) (start .pre .0 .numbered) _ (c .before .original .ensures) in
+    omega (arith, number .1, start .pre .0 .good .few)
 
 mul-put-before-3 : tie.Need-mul-put-before-3
 mul-put-before-3 c = search needs
@@ -52,8 +52,8 @@ add-put-before-2 c = search needs
 put-before-requires : tie.Need-put-before-requires
 put-before-requires c κs =
     let start = c .before .before .before .before .before .before .before in
-    let number = name-number _ _ (start .pre .0 .mapped .good) _ (start .pre .1) _ _ (c .before .before .reference .ensures) (start .pre .0 .mapped .numbered) _ (c .before .original .ensures) in
-    (omega (arith, number .1, start .pre .0 .mapped .listed .room), omega (arith, start .pre .1 .below, start .pre .0 .mapped .listed .room))
+    let number = name-number _ _ (start .pre .0 .good) _ (start .pre .1) _ _ (c .before .before .reference .ensures) (start .pre .0 .numbered) _ (c .before .original .ensures) in
+    (omega (arith, number .1, start .pre .0 .listed .room), omega (arith, start .pre .1 .below, start .pre .0 .listed .room))
 
 same-length : tie.Need-same-length
 same-length c = search needs
@@ -61,9 +61,9 @@ same-length c = search needs
 returns : tie.Need-returns
 returns c =
     let start = c .before .before .before .before .before .before .before .before .before .before in
-    let number = name-number _ _ (start .pre .0 .mapped .good) _ (start .pre .1) _ _ (c .before .before .before .before .before .reference .ensures) (start .pre .0 .mapped .numbered) _ (c .before .before .before .before .original .ensures) in (
-      chained-name _ _ _ _ _ _ _ (start .pre .0) (start .pre .1) (start .pre .2) (number .0) (number .1) (c .before .before .put-before .ensures),
-      keeps-name _ _ _ _ _ _ _ (start .pre .0) (start .pre .1) (start .pre .2) (number .0) (number .1) (c .before .before .put-before .ensures),
+    let number = name-number _ _ (start .pre .0 .good) _ (start .pre .1) _ _ (c .before .before .before .before .before .reference .ensures) (start .pre .0 .numbered) _ (c .before .before .before .before .original .ensures) in (
+      chained-name _ _ _ _ _ _ (start .pre .0) (start .pre .1) (start .pre .2) (number .0) (number .1) (c .before .before .put-before .ensures),
+      keeps-name _ _ _ _ _ _ (start .pre .0) (start .pre .1) (start .pre .2) (number .0) (number .1) (c .before .before .put-before .ensures),
     )
 
 pub chain-name-spec : {M : Type 1} → statement M

@@ -16,7 +16,7 @@ kind-requires : tie.Need-kind-requires
 kind-requires c κs = search needs
 
 returns : tie.Need-returns
-returns c = (passed-other _ _ _ _ _ (kind-other _ _ _ (c .before .kind .ensures) (c .if1 .taken)) (c .before .before .before .before .before .pre .0), keeps-none _ _)
+returns c = (passed-other _ _ _ _ (kind-other _ _ _ (c .before .kind .ensures) (c .if1 .taken)) (c .before .before .before .before .before .pre .0), keeps-none _ _)
 
 chain-key-requires : tie.Need-chain-key-requires
 chain-key-requires c κs = search needs
@@ -41,7 +41,7 @@ same-length-2 c = search needs
 
 returns-3 : tie.Need-returns-3
 returns-3 c =
-    (passed-plain _ _ _ _ _ (sym (c .before .is-mangled .ensures) ∙ c .if2 .left) (c .before .before .before .before .chain-key .ensures .0), c .before .before .before .before .chain-key .ensures .1)
+    (passed-plain _ _ _ _ (sym (c .before .is-mangled .ensures) ∙ c .if2 .left) (c .before .before .before .before .chain-key .ensures .0), c .before .before .before .before .chain-key .ensures .1)
 
 pub chain-record-spec : {M : Type 1} → statement M
 chain-record-spec =

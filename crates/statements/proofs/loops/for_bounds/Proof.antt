@@ -23,7 +23,7 @@ enum-told : tie.Need-enum-told
 enum-told c = search needs
 
 check-bound-requires-2 : tie.Need-check-bound-requires-2
-check-bound-requires-2 c κs = ((ready-frame _ _ _ (c .before .before .before .before .before .check-bound .ensures .0 .frame) _ _ _ (c .before .before .before .before .before .before .before .before .before .before .before .before .pre .0 .0), second-bound (c .before .before .before .before .before .before .before .before .before .before .before .before .pre .0 .0 .keyed .good) (c .before .before .before .before .before .before .before .before .before .before .before .before .pre .0 .1) (c .before .before .before .before .before .before .before .reference2 .ensures), c .before .before .before .before .before .before .before .before .before .before .before .before .pre .0 .2), checked-in-turn (c .before .before .before .before .before .before .before .before .before .before .before .before .args .c) (c .before .before .before .before .before .before .before .before .before .before .before .before .pre .0 .0 .scoped) (c .before .before .before .before .before .check-bound .ensures .0) (c .before .before .before .before .before .check-bound .ensures .1) (c .before .enum-told .given .1))
+check-bound-requires-2 c κs = ((ready-frame _ _ _ (c .before .before .before .before .before .check-bound .ensures .0 .frame) _ _ (c .before .before .before .before .before .before .before .before .before .before .before .before .pre .0 .0), second-bound (c .before .before .before .before .before .before .before .before .before .before .before .before .pre .0 .0 .keyed .good) (c .before .before .before .before .before .before .before .before .before .before .before .before .pre .0 .1) (c .before .before .before .before .before .before .before .reference2 .ensures), c .before .before .before .before .before .before .before .before .before .before .before .before .pre .0 .2), checked-in-turn (c .before .before .before .before .before .before .before .before .before .before .before .before .args .c) (c .before .before .before .before .before .before .before .before .before .before .before .before .pre .0 .0 .scoped) (c .before .before .before .before .before .check-bound .ensures .0) (c .before .before .before .before .before .check-bound .ensures .1) (c .before .enum-told .given .1))
 
 same-length : tie.Need-same-length
 same-length c = search needs
