@@ -101,42 +101,42 @@ unfoldable pub classAt : List ℕ → (ℕ → ℕ) → ℕ → ℕ → ℕ → 
 unfolding pick cellClass
 classAt tree g r kind a b = pick (eqb kind kindList) (cellClass tree g r a b) 0
 
--- a record's key is four times its kind, and the number of its list
-abbrev pub keysEach : ℕ
-keysEach = 4
+-- a record's badge is four times its kind, and the number of its list
+abbrev pub badgesEach : ℕ
+badgesEach = 4
 
--- the keys from `lowKey` to `highKey` are right for a role
-abbrev pub lowKey : Role → ℕ
-lowKey Unused = 0
-lowKey Number = 0
-lowKey Text = 0
-lowKey Length = 0
-lowKey Expr = kindInt * keysEach
-lowKey TypeRef = kindType * keysEach
-lowKey TypeOrNone = kindType * keysEach
-lowKey Name = kindName * keysEach
-lowKey Variable = kindVariable * keysEach
-lowKey Arguments = kindList * keysEach + 1
-lowKey Parameters = kindList * keysEach + 2
-lowKey Body = kindList * keysEach + 3
-lowKey Item = 0
-lowKey Rest = kindList * keysEach
+-- the badges from `lowBadge` to `highBadge` are right for a role
+abbrev pub lowBadge : Role → ℕ
+lowBadge Unused = 0
+lowBadge Number = 0
+lowBadge Text = 0
+lowBadge Length = 0
+lowBadge Expr = kindInt * badgesEach
+lowBadge TypeRef = kindType * badgesEach
+lowBadge TypeOrNone = kindType * badgesEach
+lowBadge Name = kindName * badgesEach
+lowBadge Variable = kindVariable * badgesEach
+lowBadge Arguments = kindList * badgesEach + 1
+lowBadge Parameters = kindList * badgesEach + 2
+lowBadge Body = kindList * badgesEach + 3
+lowBadge Item = 0
+lowBadge Rest = kindList * badgesEach
 
-abbrev pub highKey : Role → ℕ
-highKey Unused = 0
-highKey Number = 0
-highKey Text = 0
-highKey Length = 0
-highKey Expr = kindCall * keysEach + 3
-highKey TypeRef = kindType * keysEach + 3
-highKey TypeOrNone = kindType * keysEach + 3
-highKey Name = kindName * keysEach + 3
-highKey Variable = kindVariable * keysEach + 3
-highKey Arguments = kindList * keysEach + 1
-highKey Parameters = kindList * keysEach + 2
-highKey Body = kindList * keysEach + 3
-highKey Item = 255 * keysEach + 3
-highKey Rest = kindList * keysEach + 3
+abbrev pub highBadge : Role → ℕ
+highBadge Unused = 0
+highBadge Number = 0
+highBadge Text = 0
+highBadge Length = 0
+highBadge Expr = kindCall * badgesEach + 3
+highBadge TypeRef = kindType * badgesEach + 3
+highBadge TypeOrNone = kindType * badgesEach + 3
+highBadge Name = kindName * badgesEach + 3
+highBadge Variable = kindVariable * badgesEach + 3
+highBadge Arguments = kindList * badgesEach + 1
+highBadge Parameters = kindList * badgesEach + 2
+highBadge Body = kindList * badgesEach + 3
+highBadge Item = 255 * badgesEach + 3
+highBadge Rest = kindList * badgesEach + 3
 
 abbrev pub noneOk : Role → Bool
 noneOk Unused = false

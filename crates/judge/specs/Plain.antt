@@ -14,7 +14,7 @@ use Rattle.records.specs.Words.{recordBytes, mostRecords, kindOf, detailOf, pad
 use Rattle.records.specs.Kinds.{kindList}
 use Rattle.records.specs.Shapes.{rowOf, refers}
 use Rattle.judge.specs.declared.pass.Words.{Words}
-use Rattle.judge.specs.Inner.{keysEach, lowKey, highKey, noneOk, TypesLead, KnownBelow, Counting, WordsOf, TookRecord}
+use Rattle.judge.specs.Inner.{badgesEach, lowBadge, highBadge, noneOk, TypesLead, KnownBelow, Counting, WordsOf, TookRecord}
 
 -- twenty numbers for each kind
 abbrev pub plainRules : List ℕ
@@ -46,13 +46,13 @@ plainRules =
     0 ∷ 0 ∷ 0 ∷ 255 ∷ 0 ∷ 0 ∷ 0 ∷ 0 ∷ 255 ∷ 0 ∷ 1 ∷ 0 ∷ 4 ∷ 7 ∷ 0 ∷ 1 ∷ 1 ∷ 0 ∷ 1 ∷ 2 ∷
     1 ∷ 1 ∷ 24 ∷ 27 ∷ 0 ∷ 1 ∷ 1 ∷ 24 ∷ 27 ∷ 0 ∷ 1 ∷ 0 ∷ 50 ∷ 50 ∷ 0 ∷ 0 ∷ 0 ∷ 0 ∷ 0 ∷ 0 ∷ []
 
--- the key of the record in slot p: four times its kind, and what its list holds
-abbrev pub keyIn : List ℕ → ℕ → ℕ
-keyIn known p = getD known (p * knownBytes + 3) 0 * keysEach + getD known (p * knownBytes + 2) 0
+-- the badge of the record in slot p: four times its kind, and what its list holds
+abbrev pub badgeIn : List ℕ → ℕ → ℕ
+badgeIn known p = getD known (p * knownBytes + 3) 0 * badgesEach + getD known (p * knownBytes + 2) 0
 
--- a word whose five numbers begin at `at` may refer to a record of this key
-abbrev pub keyWithin : List ℕ → ℕ → ℕ → Bool
-keyWithin rules at key = leb (getD rules (at + 2) 0) key && leb key (getD rules (at + 3) 0)
+-- a word whose five numbers begin at `at` may refer to a record of this badge
+abbrev pub badgeWithin : List ℕ → ℕ → ℕ → Bool
+badgeWithin rules at badge = leb (getD rules (at + 2) 0) badge && leb badge (getD rules (at + 3) 0)
 
 abbrev pub isUnused : Role → Bool
 isUnused Unused = true
@@ -86,14 +86,14 @@ isText Body = false
 isText Item = false
 isText Rest = false
 
--- the five numbers of a word are right for its role: whether it refers, whether it must, keys that are right where it refers, whether it must be zero
+-- the five numbers of a word are right for its role: whether it refers, whether it must, badges that are right where it refers, whether it must be zero
 unfoldable pub ruleFits : List ℕ → ℕ → Role → Bool
 unfolding boolNumber
 ruleFits rules at role =
     eqb (getD rules at 0) (boolNumber (refers role))
     && eqb (getD rules (at + 1) 0) (boolNumber (refers role && not (noneOk role)))
-    && (not (refers role) || leb (lowKey role) (getD rules (at + 2) 0))
-    && (not (refers role) || leb (getD rules (at + 3) 0) (highKey role))
+    && (not (refers role) || leb (lowBadge role) (getD rules (at + 2) 0))
+    && (not (refers role) || leb (getD rules (at + 3) 0) (highBadge role))
     && eqb (getD rules (at + 4) 0) (boolNumber (isUnused role))
     && leb (getD rules (at + 3) 0) 255
 

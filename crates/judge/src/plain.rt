@@ -10,14 +10,14 @@ ghost use Rattle.records.specs.Words.{recordBytes, mostRecords, kindOf};
 ghost use Rattle.records.specs.Kinds.{kindList};
 ghost use Rattle.records.specs.Shapes.{rowOf};
 ghost use Rattle.judge.specs.Inner.{classIn, itemClass, classAt};
-ghost use Rattle.judge.specs.Plain.{plainRules, keyIn, keyWithin, Place, Cells, Owned, PlainForm, WordSlots, TookSlots, PlainReady, TookPlain};
+ghost use Rattle.judge.specs.Plain.{plainRules, badgeIn, badgeWithin, Place, Cells, Owned, PlainForm, WordSlots, TookSlots, PlainReady, TookPlain};
 use crate::nesting::depth_over;
 use crate::nesting::max;
 use crate::pass::Words;
 use crate::pass::five_words;
 use crate::pass::put_known;
 use crate::references::Told;
-use crate::rules::KEYS_EACH;
+use crate::rules::BADGES_EACH;
 use records::layout::CLASS_AT;
 use records::layout::COUNT_AT;
 use records::layout::DEPTH_AT;
@@ -41,9 +41,9 @@ const WORDS: usize = 4294967296;
 // As deep as what a right record refers to may be.
 const DEEPEST_BELOW: u8 = 63;
 
-// Twenty numbers for each kind. For each of the words A, B and C: whether it refers to a record, whether it must, the keys that it may refer to, lowest and
+// Twenty numbers for each kind. For each of the words A, B and C: whether it refers to a record, whether it must, the badges that it may refer to, lowest and
 // highest, whether it must be zero. Then whether A is a text, the limit of the details (0 where D or E is used), and what stands in slot 0, class and kind: a
-// key that its words which may be none may refer to; and which list such a record may stand in.
+// badge that its words which may be none may refer to; and which list such a record may stand in.
 pub(crate) const RULES: [u8; 520] = [
     0,
     0,
@@ -592,13 +592,13 @@ fn place_ok(p: usize, r: usize, rules: &[u8; 520], at: usize) -> bool
 }
 
 // The record in slot p is one that such a word may refer to.
-fn key_ok(known: &[u8], p: usize, rules: &[u8; 520], at: usize) -> bool
+fn badge_ok(known: &[u8], p: usize, rules: &[u8; 520], at: usize) -> bool
     requires { ⌜ (at < 516) × (p ≤ mostRecords) × (p * knownBytes + knownBytes ≤ length (now known)) ⌝ }
-    ensures { λ v. ⌜ v ≡ keyWithin (now (rules .entry)) at (keyIn (now (known .entry)) p) ⌝ }
+    ensures { λ v. ⌜ v ≡ badgeWithin (now (rules .entry)) at (badgeIn (now (known .entry)) p) ⌝ }
 {
-    let key = wide(known[p * KNOWN_BYTES + KIND_AT]) * KEYS_EACH
+    let badge = wide(known[p * KNOWN_BYTES + KIND_AT]) * BADGES_EACH
         + wide(known[p * KNOWN_BYTES + CLASS_AT]);
-    (wide(rules[at + 2]) <= key) & (key <= wide(rules[at + 3]))
+    (wide(rules[at + 2]) <= badge) & (badge <= wide(rules[at + 3]))
 }
 
 // One more reference to the record in slot p: 1 after 0, and 2 or more after that.
@@ -697,14 +697,14 @@ fn take_slots(
 {
     let row = k as usize * 20;
     put_own(known, rules[row + 17], rules[row + 18]);
-    let keys = key_ok(known, pa, rules, row)
-        & key_ok(known, pb, rules, row + 5)
-        & key_ok(known, pc, rules, row + 10);
+    let badges = badge_ok(known, pa, rules, row)
+        & badge_ok(known, pb, rules, row + 5)
+        & badge_ok(known, pc, rules, row + 10);
     let below = max(
         known[pa * KNOWN_BYTES],
         max(known[pb * KNOWN_BYTES], known[pc * KNOWN_BYTES]),
     );
-    if !(keys & (below <= DEEPEST_BELOW)) {
+    if !(badges & (below <= DEEPEST_BELOW)) {
         return Told {
             ok: false,
             depth: 0,
