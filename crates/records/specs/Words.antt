@@ -68,6 +68,16 @@ spanStart = 5
 abbrev pub spanEnd : ℕ
 spanEnd = 6
 
+-- where the second, third and fourth word of an entry of words stand, from its beginning
+abbrev pub secondWord : ℕ
+secondWord = 4
+
+abbrev pub thirdWord : ℕ
+thirdWord = 8
+
+abbrev pub fourthWord : ℕ
+fourthWord = 12
+
 -- 'FFFFFFFF (hexadecimal) in a word means none'
 abbrev pub none : ℕ
 none = 4294967295
