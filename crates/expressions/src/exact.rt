@@ -51,7 +51,7 @@ fn suffix_bytes(tree: &[u8], text: &[u8], scratch: &[u8], first: usize) -> usize
     while cell != END {
         let key = type_key(tree, text, argument_type(tree, text, scratch, cell));
         n = n + 1 + key.len;
-        cell = next_cell(tree, text, cell);
+        cell = next_cell(tree, cell);
     }
     n
 }
@@ -95,7 +95,7 @@ fn are_suffixes(
             return false;
         }
         here = here + 1 + size;
-        cell = next_cell(tree, text, cell);
+        cell = next_cell(tree, cell);
         i += 1;
     }
     true
@@ -163,7 +163,7 @@ fn full_digest(tree: &[u8], text: &[u8], scratch: &[u8], call: Call) -> u32
     while cell != END {
         let key = type_key(tree, text, argument_type(tree, text, scratch, cell));
         d = roll(text, roll_byte(d, DOLLAR), key.offset, key.len);
-        cell = next_cell(tree, text, cell);
+        cell = next_cell(tree, cell);
     }
     d
 }
@@ -322,7 +322,7 @@ fn by_prefix(tree: &[u8], text: &[u8], scratch: &[u8], call: Call) -> Found
         let key = type_key(tree, text, argument_type(tree, text, scratch, cell));
         digest = roll(text, roll_byte(digest, DOLLAR), key.offset, key.len);
         size = size + 1 + key.len;
-        cell = next_cell(tree, text, cell);
+        cell = next_cell(tree, cell);
         k += 1;
     }
     let marked = marked_digest(digest);

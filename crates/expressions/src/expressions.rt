@@ -137,7 +137,7 @@ fn get_argument_types(
                 return Outcome::Refused(x);
             }
         }
-        cell = next_cell(tree, text, cell);
+        cell = next_cell(tree, cell);
     }
     Outcome::Done
 }

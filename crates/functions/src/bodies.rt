@@ -66,7 +66,7 @@ fn parameter_variables(
             word(tree, reference(tree, cell, WORD_A), WORD_C),
         );
         next = made.counters;
-        cell = next_cell(tree, text, cell);
+        cell = next_cell(tree, cell);
     }
     next
 }

@@ -163,7 +163,7 @@ pub fn convert_block(
                 at.counters = k;
             }
         }
-        cell = next_cell(tree, text, cell);
+        cell = next_cell(tree, cell);
     }
     let k = at.counters;
     Finished::Done(k)

@@ -267,7 +267,7 @@ pub(crate) fn convert_args(
                 }
             }
         }
-        cell = next_cell(tree, text, cell);
+        cell = next_cell(tree, cell);
     }
     let k = at.counters;
     ConvertedArgs::Done(at.operands - first, k)

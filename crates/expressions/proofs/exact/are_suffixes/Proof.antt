@@ -56,7 +56,7 @@ add-here-2 : tie.Need-add-here-2 Inv-loop μ-loop
 add-here-2 c = omega (arith, match-room _ _ _ _ _ _ _ _ _ _ (c .before .before .before .before .before .before .before .loop .inv) _ _ (c .before .before .before .before .before .before .loop-test .taken) (first-cell _ _ _ _ _ (c .before .before .before .before .before .before .before .loop .inv .argued) (match-cell _ _ _ _ _ _ _ _ _ _ (c .before .before .before .before .before .before .before .loop .inv) (c .before .before .before .before .before .before .loop-test .taken)) (c .before .before .before .before .before .argument-type .ensures .0)) (c .before .before .before .before .type-key .ensures))
 
 next-cell-requires : tie.Need-next-cell-requires Inv-loop μ-loop
-next-cell-requires c κs = (c .before .before .before .before .before .before .before .loop .inv .argued .good, first-cell _ _ _ _ _ (c .before .before .before .before .before .before .before .loop .inv .argued) (match-cell _ _ _ _ _ _ _ _ _ _ (c .before .before .before .before .before .before .before .loop .inv) (c .before .before .before .before .before .before .loop-test .taken)) (c .before .before .before .before .before .argument-type .ensures .0) .inside)
+next-cell-requires c κs = first-cell _ _ _ _ _ (c .before .before .before .before .before .before .before .loop .inv .argued) (match-cell _ _ _ _ _ _ _ _ _ _ (c .before .before .before .before .before .before .before .loop .inv) (c .before .before .before .before .before .before .loop-test .taken)) (c .before .before .before .before .before .argument-type .ensures .0) .inside
 
 add-i : tie.Need-add-i Inv-loop μ-loop
 add-i c = omega arith

@@ -230,7 +230,7 @@ convert-block-next-cell-requires : (t : ℕ) → convert-block-lts.Need-next-cel
   next-cell-reads.Asked,
   next-cell-reads.Learnt,
 ) (convert-block-at t) convert-block.Post convert-block-Inv-loop convert-block-μ-loop
-convert-block-next-cell-requires t c κs = (c .before .before .before .before .before .before .before .before .before .before .before .before .before .before .before .before .before .pre .1 .0 .0 .ready .keyed .good, cell-low (c .before .before .before .before .before .before .before .before .before .before .before .before .before .before .before .before .before .pre .1 .0 .0) (c .before .before .before .before .before .before .before .before .before .before .before .before .before .before .before .before .before .pre .1 .0 .1) (c .before .before .before .before .before .before .before .before .before .before .before .before .before .before .before .before .before .pre .1 .1 .0) (c .before .before .before .before .before .before .before .before .before .before .before .before .loop .inv) (c .before .before .before .before .before .before .before .before .before .before .before .loop-test .taken))
+convert-block-next-cell-requires t c κs = cell-low (c .before .before .before .before .before .before .before .before .before .before .before .before .before .before .before .before .before .pre .1 .0 .0) (c .before .before .before .before .before .before .before .before .before .before .before .before .before .before .before .before .before .pre .1 .0 .1) (c .before .before .before .before .before .before .before .before .before .before .before .before .before .before .before .before .before .pre .1 .1 .0) (c .before .before .before .before .before .before .before .before .before .before .before .before .loop .inv) (c .before .before .before .before .before .before .before .before .before .before .before .loop-test .taken)
 
 convert-block-loop-less : (t : ℕ) → convert-block-lts.Need-loop-less (
   reference-reads.Asked,

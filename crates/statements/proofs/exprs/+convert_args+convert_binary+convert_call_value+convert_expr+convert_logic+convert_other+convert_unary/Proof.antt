@@ -373,7 +373,7 @@ convert-args-next-cell-requires : (t : ℕ) → convert-args-lts.Need-next-cell-
   next-cell-reads.Asked,
   next-cell-reads.Learnt,
 ) (convert-args-at t) convert-args.Post convert-args-Inv-loop convert-args-μ-loop
-convert-args-next-cell-requires t c κs = ((c .before .before .before .before .before .before .before .before .before .pre .1 .0 .0 .ready .keyed .good), cell-low (c .before .before .before .before .before .before .before .before .before .pre .1 .0 .0) (c .before .before .before .before .before .before .before .before .before .pre .1 .0 .1) (c .before .before .before .before .before .before .before .before .before .pre .1 .1 .0) (c .before .before .before .loop .inv) (c .before .before .loop-test .taken))
+convert-args-next-cell-requires t c κs = cell-low (c .before .before .before .before .before .before .before .before .before .pre .1 .0 .0) (c .before .before .before .before .before .before .before .before .before .pre .1 .0 .1) (c .before .before .before .before .before .before .before .before .before .pre .1 .1 .0) (c .before .before .before .loop .inv) (c .before .before .loop-test .taken)
 
 convert-args-loop-less : (t : ℕ) → convert-args-lts.Need-loop-less (
   reference-reads.Asked,
