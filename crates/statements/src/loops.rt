@@ -16,7 +16,7 @@ ghost use Rattle.expressions.specs.Slots.{Ready};
 ghost use Rattle.statements.specs.Converting.{Converting, RoomFor, OperandIn, Afforded, BehindAfforded, BoundAfforded, forHeadAmount};
 ghost use Rattle.statements.specs.Meets.{Adds};
 ghost use Rattle.statements.specs.Parts.{ifMiddle, loopBack, testBound, placeLabel};
-ghost use Rattle.statements.specs.Answers.{countOnSteps, ofVariable, HeadAs, BoundAs, TurnsAs, ForHeadAs, VariableAs, Checks, ifHeadSteps, whileHeadSteps, forVariableSteps, boundSteps, forBoundsSteps, forBeginSteps, forTestSteps, forTurnsSteps, forHeadSteps, boundsUnder};
+ghost use Rattle.statements.specs.Answers.{countOnSteps, ofVar, HeadAs, BoundAs, TurnsAs, ForHeadAs, VariableAs, Checks, ifHeadSteps, whileHeadSteps, forVariableSteps, boundSteps, forBoundsSteps, forBeginSteps, forTestSteps, forTurnsSteps, forHeadSteps, boundsUnder};
 ghost use Rattle.statements.specs.Turns.{InTurn, headTypes, boundTypes, boundsTypes, forBeginTypes, forTestTypes, forTypes, StatesTyped, FinishesTyped, VariableTyped, ChecksTyped};
 use crate::answers::Converted;
 use crate::answers::Converter;
@@ -307,7 +307,7 @@ fn for_begin(
     requires { ⌜ Converting (now tree) (now text) (now arena) (now scratch) c × BoundAfforded (now tree) (now text) c r Words.B ⌝ }
     requires { ⌜ IsKind (now tree) kindFor r × TypeAt (now tree) (x .1) ⌝ }
     requires { ⌜ InTurn (now tree) (now text) (now scratch) c ⌝ }
-    ensures { λ a. ⌜ BoundAs (ofVariable forBeginSteps x) Words.B c r (now (tree .entry)) (now (text .entry)) (now (arena .entry)) (now (scratch .entry)) a (now (arena .exit)) (now (scratch .exit)) ⌝ }
+    ensures { λ a. ⌜ BoundAs (ofVar forBeginSteps x) Words.B c r (now (tree .entry)) (now (text .entry)) (now (arena .entry)) (now (scratch .entry)) a (now (arena .exit)) (now (scratch .exit)) ⌝ }
     ensures types { λ a. ⌜ FinishesTyped forBeginTypes c r (now (tree .entry)) (now (text .entry)) (now (scratch .entry)) a (now (scratch .exit)) ⌝ }
 {
     let from = reference(tree, r, WORD_B);
@@ -355,7 +355,7 @@ fn for_test(
     requires { ⌜ Converting (now tree) (now text) (now arena) (now scratch) c × BoundAfforded (now tree) (now text) c r Words.C ⌝ }
     requires { ⌜ IsKind (now tree) kindFor r × TypeAt (now tree) (x .1) ⌝ }
     requires { ⌜ InTurn (now tree) (now text) (now scratch) c ⌝ }
-    ensures { λ a. ⌜ BoundAs (ofVariable forTestSteps x) Words.C c r (now (tree .entry)) (now (text .entry)) (now (arena .entry)) (now (scratch .entry)) a (now (arena .exit)) (now (scratch .exit)) ⌝ }
+    ensures { λ a. ⌜ BoundAs (ofVar forTestSteps x) Words.C c r (now (tree .entry)) (now (text .entry)) (now (arena .entry)) (now (scratch .entry)) a (now (arena .exit)) (now (scratch .exit)) ⌝ }
     ensures types { λ a. ⌜ FinishesTyped forTestTypes c r (now (tree .entry)) (now (text .entry)) (now (scratch .entry)) a (now (scratch .exit)) ⌝ }
 {
     let until = reference(tree, r, WORD_C);
@@ -378,7 +378,7 @@ fn for_turns(
     requires { ⌜ Converting (now tree) (now text) (now arena) (now scratch) c × Afforded (now tree) c (forHeadAmount (boundsUnder (now tree) (now text) r)) (boundsUnder (now tree) (now text) r) 0 ⌝ }
     requires { ⌜ IsKind (now tree) kindFor r × TypeAt (now tree) (x .1) ⌝ }
     requires { ⌜ InTurn (now tree) (now text) (now scratch) c ⌝ }
-    ensures { λ a. ⌜ TurnsAs (ofVariable forTurnsSteps x) c r (now (tree .entry)) (now (text .entry)) (now (arena .entry)) (now (scratch .entry)) a (now (arena .exit)) (now (scratch .exit)) ⌝ }
+    ensures { λ a. ⌜ TurnsAs (ofVar forTurnsSteps x) c r (now (tree .entry)) (now (text .entry)) (now (arena .entry)) (now (scratch .entry)) a (now (arena .exit)) (now (scratch .exit)) ⌝ }
     ensures types { λ a. ⌜ FinishesTyped forTypes c r (now (tree .entry)) (now (text .entry)) (now (scratch .entry)) a (now (scratch .exit)) ⌝ }
 {
     let y = x.1 as usize;
