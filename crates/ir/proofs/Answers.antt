@@ -16,12 +16,11 @@ use Rattle.conversion.specs.Ir.{State, LabelName, StringEntry, FloatEntry, emit
 use Rattle.conversion.specs.Written.{bytesOf, word, boolNumber, encodeInstr, encodeVar, encodeLabel, encodeString, encodeFloat, allVars, allLabels}
 use Rattle.conversion.proofs.Bytes.{instr-length, float-length}
 use Rattle.ir.specs.declared.structs.Counters.{Counters}
-use Rattle.ir.specs.declared.structs.Instr.{Instr}
 use Rattle.ir.specs.declared.structs.Fields.{Fields}
 use Rattle.ir.specs.declared.structs.NewVariable.{NewVariable}
 use Rattle.ir.specs.declared.structs.LabelNumber.{LabelNumber}
 use Rattle.ir.specs.declared.pool.PoolNumber.{PoolNumber}
-use Rattle.ir.specs.Instructions.{varOf, instrOf, fieldBytes}
+use Rattle.ir.specs.Instructions.{varOf, fieldBytes}
 use Rattle.ir.specs.Amounts.{Amount, Spent}
 use Rattle.ir.specs.Arena.{encodeDigest, TablesSoFar, HasSlot, labelSlot, floatBucket, floatEntryBucket, digestBucket, stringBucket, sameString, Holds, Room}
 use Rattle.records.specs.declared.words.Found.{Found}
@@ -38,16 +37,16 @@ use Rattle.records.proofs.WordLaws.{wide-words}
 same-spent : {k k′ want : Counters} {a : Amount} → Spent k want a → k′ ≡ want → Spent k k′ a
 same-spent {k = k} {a = a} h e = subst (λ (x : Counters). Spent k x a) (sym e) h
 
-pub emit-done : (i : Instr) (f : Fields) (k : Counters) (l l′ : List ℕ) → Room k l → k .instructions < 4 * k .records
-    → fieldBytes f ≡ encodeInstr (instrOf i) → l′ ≡ splice l (32 * k .instructions) (fieldBytes f) → Emits i k l (moreInstructions k) l′
+pub emit-done : (i : Ir.Instr) (f : Fields) (k : Counters) (l l′ : List ℕ) → Room k l → k .instructions < 4 * k .records
+    → fieldBytes f ≡ encodeInstr i → l′ ≡ splice l (32 * k .instructions) (fieldBytes f) → Emits i k l (moreInstructions k) l′
 unfolding Stands emit
 emit-done i f k l l′ room small ef e =
-    let w : l′ ≡ splice l (32 * k .instructions) (encodeInstr (instrOf i)) = e ∙ ap (splice l (32 * k .instructions)) ef in
-    let len : length l′ ≡ length l = written-length l (32 * k .instructions) (encodeInstr (instrOf i)) l′ w (omega (arith, instr-length (instrOf i), room .arena)) in record {
+    let w : l′ ≡ splice l (32 * k .instructions) (encodeInstr i) = e ∙ ap (splice l (32 * k .instructions)) ef in
+    let len : length l′ ≡ length l = written-length l (32 * k .instructions) (encodeInstr i) l′ w (omega (arith, instr-length i, room .arena)) in record {
       next = record {
         room = omega (arith, room, len);
         records = refl;
-        stands = λ text t h. (refl, emit-holds text t k l room h (instrOf i) l′ small w);
+        stands = λ text t h. (refl, emit-holds text t k l room h i l′ small w);
       };
       spent = omega arith;
       entry = record { counts = refl; wrote = w };

@@ -1,21 +1,16 @@
--- What the code's operands and instructions stand for, and an instruction's 32 bytes from the code's fields. Assumes nothing: these are definitions.
+-- What the code's variables and operands stand for, and an instruction's 32 bytes from the code's fields. Assumes nothing: these are definitions.
 use Prim.Native.Nat.{ℕ}
 use mathlib.Core.Bool.{Bool}
 use mathlib.Core.List.{List, [], _∷_, _++_}
 use mathlib.Core.Option.{Option, none, some}
-use lib.ListN.{getD}
 use mir.Syntax.{w64}
 use mir.Val.{toZ}
-use Rattle.syntax.specs.Syntax.{unaryOps, binaryOps, Neg, Or}
 use Rattle.conversion.specs.Ir as Ir
 use Rattle.conversion.specs.Ir.{OVar, OInt, OFloat, OBool, ODataAddress, ONull}
 use Rattle.conversion.specs.Written.{word, wide, tag, operandValue, encodeFields}
-use Rattle.ir.specs.declared.structs.Label.{Label}
 use Rattle.ir.specs.declared.structs.VarId.{VarId}
 use Rattle.ir.specs.declared.structs.Operand.{Operand}
 use Rattle.ir.specs.declared.structs.Operand.the-variants.{Var as var, Int as int, Float as float, Bool as bool, DataAddress as dataAddress, Null as null}
-use Rattle.ir.specs.declared.structs.Instr.{Instr}
-use Rattle.ir.specs.declared.structs.Instr.the-variants.{Copy as copy, Unary as unary, Binary as binary, Cast as cast, Zero as zero, Arg as arg, Call as call, CallOnly as callOnly, Label as label, Jump as jump, JumpIfNot as jumpIfNot, Return as return, Comment as comment}
 use Rattle.ir.specs.declared.structs.Fields.{Fields}
 
 -- a variable's number and its type's record
@@ -30,22 +25,6 @@ operandOf (float i) = OFloat i
 operandOf (bool b) = OBool b
 operandOf (dataAddress i) = ODataAddress i
 operandOf null = ONull
-
--- an operator is its number, as a tree's record has it
-abbrev pub instrOf : Instr → Ir.Instr
-instrOf (copy v o) = Ir.Copy (varOf v) (operandOf o)
-instrOf (unary v u o) = Ir.Unary (varOf v) (getD unaryOps u Neg) (operandOf o)
-instrOf (binary v b o p) = Ir.Binary (varOf v) (getD binaryOps b Or) (operandOf o) (operandOf p)
-instrOf (cast v o) = Ir.Cast (varOf v) (operandOf o)
-instrOf (zero v) = Ir.Zero (varOf v)
-instrOf (arg o) = Ir.Arg (operandOf o)
-instrOf (call v f) = Ir.Call (some (varOf v)) f
-instrOf (callOnly f) = Ir.Call none f
-instrOf (label l) = Ir.Label (l .0)
-instrOf (jump l) = Ir.Jump (l .0)
-instrOf (jumpIfNot o l) = Ir.JumpIfNot (operandOf o) (l .0)
-instrOf (return o) = Ir.Return (operandOf o)
-instrOf (comment r) = Ir.Comment r
 
 -- 'byte 0 kind .., byte 1 operator, bytes 2 and 3 operand tags, word 4 destination or label, operands of 8 bytes at 8 and 16, word 24
 -- function or statement record, word 28 zero'

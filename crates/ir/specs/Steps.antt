@@ -14,11 +14,10 @@ use Rattle.conversion.specs.Ir as Ir
 use Rattle.conversion.specs.Ir.{State, Out, made, failed, M, LabelName, StringEntry, FloatEntry}
 use Rattle.conversion.specs.Written.{word, encodeInstr, encodeVar, encodeLabel, encodeString, encodeFloat}
 use Rattle.ir.specs.declared.structs.Counters.{Counters}
-use Rattle.ir.specs.declared.structs.Instr.{Instr}
 use Rattle.ir.specs.declared.structs.NewVariable.{NewVariable}
 use Rattle.ir.specs.declared.structs.LabelNumber.{LabelNumber}
 use Rattle.ir.specs.declared.pool.PoolNumber.{PoolNumber}
-use Rattle.ir.specs.Instructions.{varOf, instrOf}
+use Rattle.ir.specs.Instructions.{varOf}
 use Rattle.ir.specs.Amounts.{amount, Spent}
 use Rattle.ir.specs.Search.{floatHead, stringHead}
 use Rattle.ir.specs.Arena.{instructionEntryAt, variableEntryAt, labelEntryAt, stringEntryAt, stringDigestAt, stringLinkAt, stringHeadAt, floatEntryAt, floatLinkAt, floatHeadAt, encodeDigest, labelSlot, floatEntryBucket, stringBucket, TablesSoFar, Holds, Room}
@@ -95,10 +94,10 @@ pub record TablesStay (k : Counters) (l : List ℕ) (k′ : Counters) (l′ : Li
 
 -- ---- what each function owes: the definition's step, what it spends, and the entry that it writes
 
-pub record Emits (i : Instr) (k : Counters) (l : List ℕ) (k′ : Counters) (l′ : List ℕ) : Type 0 where
-  pub next : Next (Ir.emit (instrOf i)) k l tt k′ l′
+pub record Emits (i : Ir.Instr) (k : Counters) (l : List ℕ) (k′ : Counters) (l′ : List ℕ) : Type 0 where
+  pub next : Next (Ir.emit i) k l tt k′ l′
   pub spent : Spent k k′ (amount 1 0 0 0 0)
-  pub entry : Wrote l (instructionEntryAt (k .instructions)) (encodeInstr (instrOf i)) (moreInstructions k) k′ l′
+  pub entry : Wrote l (instructionEntryAt (k .instructions)) (encodeInstr i) (moreInstructions k) k′ l′
 
 pub record AddsVar (y : ℕ) (k : Counters) (l : List ℕ) (r : NewVariable) (l′ : List ℕ) : Type 0 where
   pub next : Next (Ir.new-var y) k l (varOf (r .var)) (r .counters) l′

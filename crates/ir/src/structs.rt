@@ -2,11 +2,13 @@
 // lent buffer, the arena; how many entries each has goes in and comes back by value.
 ghost use mathlib.Core.Path.{_≡_};
 ghost use Prim.Native.Nat.{_+_, _*_, _≤_, _<_};
+ghost use mathlib.Core.Option.{none, some};
 ghost use lib.ListN.{length, getD};
 ghost use Rattle.laws.specs.Splice.{splice};
 ghost use Rattle.syntax.specs.Syntax.{unaryOps, binaryOps, unaryNumber, binaryNumber, Neg, Or};
+ghost use Rattle.conversion.specs.Ir as Ir;
 ghost use Rattle.conversion.specs.Written.{tag, operandValue, encodeInstr};
-ghost use Rattle.ir.specs.Instructions.{operandOf, instrOf, fieldBytes, oneBytes, noneBytes, twoBytes};
+ghost use Rattle.ir.specs.Instructions.{varOf, operandOf, fieldBytes, oneBytes, noneBytes, twoBytes};
 ghost use Rattle.ir.specs.Arena.{HasSlot, Room};
 ghost use Rattle.ir.specs.Steps.{named, Emits, AddsVar, NumbersLabel, Closes};
 use crate::arena::FUNCTION_BYTES;
@@ -90,23 +92,6 @@ pub enum Operand {
     // Its number among the strings.
     DataAddress(u32),
     Null,
-}
-
-// An operator is its number.
-pub enum Instr {
-    Copy(VarId, Operand),
-    Unary(VarId, u8, Operand),
-    Binary(VarId, u8, Operand, Operand),
-    Cast(VarId, Operand),
-    Zero(VarId),
-    Arg(Operand),
-    Call(VarId, u32),
-    CallOnly(u32),
-    Label(Label),
-    Jump(Label),
-    JumpIfNot(Operand, Label),
-    Return(Operand),
-    Comment(u32),
 }
 
 // An operand as it is written.
@@ -261,27 +246,6 @@ fn with_two(operator: u8, target: u32, o: Operand, p: Operand) -> Fields
     }
 }
 
-// The twelve kinds, each as it is written.
-fn fields_of(i: Instr) -> Fields
-    ensures { λ r. ⌜ fieldBytes r ≡ encodeInstr (instrOf i) ⌝ }
-{
-    match i {
-        Instr::Copy(v, o) => with_one(COPY, NO_OPERATOR, v.0, o),
-        Instr::Unary(v, op, o) => with_one(UNARY, unary_number(op), v.0, o),
-        Instr::Binary(v, op, o, p) => with_two(binary_number(op), v.0, o, p),
-        Instr::Cast(v, o) => with_one(CAST, NO_OPERATOR, v.0, o),
-        Instr::Zero(v) => with_none(ZERO, v.0, 0),
-        Instr::Arg(o) => with_one(ARG, NO_OPERATOR, 0, o),
-        Instr::Call(v, f) => with_none(CALL, v.0, f),
-        Instr::CallOnly(f) => with_none(CALL, NONE, f),
-        Instr::Label(l) => with_none(LABEL, l.0, 0),
-        Instr::Jump(l) => with_none(JUMP, l.0, 0),
-        Instr::JumpIfNot(o, l) => with_one(JUMP_IF_NOT, NO_OPERATOR, l.0, o),
-        Instr::Return(o) => with_one(RETURN, NO_OPERATOR, 0, o),
-        Instr::Comment(r) => with_none(COMMENT, 0, r),
-    }
-}
-
 // The 32 bytes of an instruction.
 fn put_fields(arena: &mut [u8], at: usize, f: Fields)
     requires { ⌜ at + 32 ≤ length (now arena) ⌝ }
@@ -300,17 +264,119 @@ fn put_fields(arena: &mut [u8], at: usize, f: Fields)
     put_four(arena, back, b);
 }
 
-// `instrs.push`.
-pub fn emit(arena: &mut [u8], k: Counters, i: Instr) -> Counters
+// `instrs.push` of the instruction that is written so.
+fn push(arena: &mut [u8], k: Counters, f: Fields) -> Counters
     requires { ⌜ Room k (now arena) × (k .instructions < 4 * k .records) ⌝ }
-    ensures { λ r. ⌜ Emits i k (now (arena .entry)) r (now (arena .exit)) ⌝ }
+    ensures { λ r. ⌜ ((i : Ir.Instr) → fieldBytes f ≡ encodeInstr i → Emits i k (now (arena .entry)) r (now (arena .exit))) ⌝ }
 {
     let n = k.instructions;
-    let f = fields_of(i);
     let mut next = k;
     next.instructions = n + 1;
     put_fields(arena, INSTRUCTION_BYTES * n, f);
     next
+}
+
+// `instrs.push(Instr::..)`, a function for each kind: where one is called its kind is known, so that no `Instr` is made and taken apart again.
+pub fn emit_copy(arena: &mut [u8], k: Counters, dest: VarId, src: Operand) -> Counters
+    requires { ⌜ Room k (now arena) × (k .instructions < 4 * k .records) ⌝ }
+    ensures { λ r. ⌜ Emits (Ir.Copy (varOf dest) (operandOf src)) k (now (arena .entry)) r (now (arena .exit)) ⌝ }
+{
+    push(arena, k, with_one(COPY, NO_OPERATOR, dest.0, src))
+}
+
+// An operator is its number.
+pub fn emit_unary(arena: &mut [u8], k: Counters, dest: VarId, op: u8, src: Operand) -> Counters
+    requires { ⌜ Room k (now arena) × (k .instructions < 4 * k .records) ⌝ }
+    ensures { λ r. ⌜ Emits (Ir.Unary (varOf dest) (getD unaryOps op Neg) (operandOf src)) k (now (arena .entry)) r (now (arena .exit)) ⌝ }
+{
+    push(arena, k, with_one(UNARY, unary_number(op), dest.0, src))
+}
+
+pub fn emit_binary(
+    arena: &mut [u8],
+    k: Counters,
+    dest: VarId,
+    op: u8,
+    left: Operand,
+    right: Operand,
+) -> Counters
+    requires { ⌜ Room k (now arena) × (k .instructions < 4 * k .records) ⌝ }
+    ensures { λ r. ⌜ Emits (Ir.Binary (varOf dest) (getD binaryOps op Or) (operandOf left) (operandOf right)) k (now (arena .entry)) r (now (arena .exit)) ⌝ }
+{
+    push(arena, k, with_two(binary_number(op), dest.0, left, right))
+}
+
+pub fn emit_cast(arena: &mut [u8], k: Counters, dest: VarId, src: Operand) -> Counters
+    requires { ⌜ Room k (now arena) × (k .instructions < 4 * k .records) ⌝ }
+    ensures { λ r. ⌜ Emits (Ir.Cast (varOf dest) (operandOf src)) k (now (arena .entry)) r (now (arena .exit)) ⌝ }
+{
+    push(arena, k, with_one(CAST, NO_OPERATOR, dest.0, src))
+}
+
+pub fn emit_zero(arena: &mut [u8], k: Counters, dest: VarId) -> Counters
+    requires { ⌜ Room k (now arena) × (k .instructions < 4 * k .records) ⌝ }
+    ensures { λ r. ⌜ Emits (Ir.Zero (varOf dest)) k (now (arena .entry)) r (now (arena .exit)) ⌝ }
+{
+    push(arena, k, with_none(ZERO, dest.0, 0))
+}
+
+pub fn emit_arg(arena: &mut [u8], k: Counters, arg: Operand) -> Counters
+    requires { ⌜ Room k (now arena) × (k .instructions < 4 * k .records) ⌝ }
+    ensures { λ r. ⌜ Emits (Ir.Arg (operandOf arg)) k (now (arena .entry)) r (now (arena .exit)) ⌝ }
+{
+    push(arena, k, with_one(ARG, NO_OPERATOR, 0, arg))
+}
+
+// A call names its function's record.
+pub fn emit_call(arena: &mut [u8], k: Counters, dest: VarId, func: u32) -> Counters
+    requires { ⌜ Room k (now arena) × (k .instructions < 4 * k .records) ⌝ }
+    ensures { λ r. ⌜ Emits (Ir.Call (some (varOf dest)) func) k (now (arena .entry)) r (now (arena .exit)) ⌝ }
+{
+    push(arena, k, with_none(CALL, dest.0, func))
+}
+
+// A call whose value nothing takes.
+pub fn emit_call_only(arena: &mut [u8], k: Counters, func: u32) -> Counters
+    requires { ⌜ Room k (now arena) × (k .instructions < 4 * k .records) ⌝ }
+    ensures { λ r. ⌜ Emits (Ir.Call none func) k (now (arena .entry)) r (now (arena .exit)) ⌝ }
+{
+    push(arena, k, with_none(CALL, NONE, func))
+}
+
+pub fn emit_label(arena: &mut [u8], k: Counters, here: Label) -> Counters
+    requires { ⌜ Room k (now arena) × (k .instructions < 4 * k .records) ⌝ }
+    ensures { λ r. ⌜ Emits (Ir.Label (here .0)) k (now (arena .entry)) r (now (arena .exit)) ⌝ }
+{
+    push(arena, k, with_none(LABEL, here.0, 0))
+}
+
+pub fn emit_jump(arena: &mut [u8], k: Counters, target: Label) -> Counters
+    requires { ⌜ Room k (now arena) × (k .instructions < 4 * k .records) ⌝ }
+    ensures { λ r. ⌜ Emits (Ir.Jump (target .0)) k (now (arena .entry)) r (now (arena .exit)) ⌝ }
+{
+    push(arena, k, with_none(JUMP, target.0, 0))
+}
+
+pub fn emit_jump_if_not(arena: &mut [u8], k: Counters, cond: Operand, target: Label) -> Counters
+    requires { ⌜ Room k (now arena) × (k .instructions < 4 * k .records) ⌝ }
+    ensures { λ r. ⌜ Emits (Ir.JumpIfNot (operandOf cond) (target .0)) k (now (arena .entry)) r (now (arena .exit)) ⌝ }
+{
+    push(arena, k, with_one(JUMP_IF_NOT, NO_OPERATOR, target.0, cond))
+}
+
+pub fn emit_return(arena: &mut [u8], k: Counters, value: Operand) -> Counters
+    requires { ⌜ Room k (now arena) × (k .instructions < 4 * k .records) ⌝ }
+    ensures { λ r. ⌜ Emits (Ir.Return (operandOf value)) k (now (arena .entry)) r (now (arena .exit)) ⌝ }
+{
+    push(arena, k, with_one(RETURN, NO_OPERATOR, 0, value))
+}
+
+// A comment names its statement's record.
+pub fn emit_comment(arena: &mut [u8], k: Counters, statement: u32) -> Counters
+    requires { ⌜ Room k (now arena) × (k .instructions < 4 * k .records) ⌝ }
+    ensures { λ r. ⌜ Emits (Ir.Comment statement) k (now (arena .entry)) r (now (arena .exit)) ⌝ }
+{
+    push(arena, k, with_none(COMMENT, 0, statement))
 }
 
 // A new variable of this type: its number is its index among its function's variables.

@@ -26,8 +26,7 @@ use crate::statements::convert_init;
 use crate::statements::convert_return;
 use expressions::arguments::END;
 use expressions::arguments::next_cell;
-use ir::structs::Instr;
-use ir::structs::emit;
+use ir::structs::emit_comment;
 use records::numbers::KIND_BREAK;
 use records::numbers::KIND_CALL_STATEMENT;
 use records::numbers::KIND_DECLARE;
@@ -118,7 +117,7 @@ fn convert_statement(
     let scope = c.scope;
     let k = c.counters;
     let node = kind(tree, r);
-    let k1 = emit(arena, k, Instr::Comment(r as u32));
+    let k1 = emit_comment(arena, k, r as u32);
     let mut at = c;
     at.counters = k1;
     at.turn = k1.instructions as u32;

@@ -37,10 +37,10 @@ use ir::floats::float_entry;
 use ir::pool::float_bits;
 use ir::pool::float_id;
 use ir::structs::Counters;
-use ir::structs::Instr;
 use ir::structs::Operand;
 use ir::structs::VarId;
-use ir::structs::emit;
+use ir::structs::emit_arg;
+use ir::structs::emit_cast;
 use ir::structs::new_var;
 use keys::keys::parameters_of;
 use records::convert_error::ConvertErrorKind;
@@ -79,7 +79,7 @@ fn cast_operand(arena: &mut [u8], k: Counters, v: VarId, expected: usize) -> Fit
     let made = new_var(arena, k, expected as u32);
     let dest = made.var;
     let k1 = made.counters;
-    let next = emit(arena, k1, Instr::Cast(dest, Operand::Var(v)));
+    let next = emit_cast(arena, k1, dest, Operand::Var(v));
     Fitted {
         operand: Operand::Var(dest),
         counters: next,
@@ -256,7 +256,7 @@ fn emit_args(tree: &[u8], arena: &mut [u8], scratch: &[u8], c: Converter, count:
     let mut j = 0;
     while j < count {
         let o = operand_at(scratch, n, first + j);
-        k = emit(arena, k, Instr::Arg(o));
+        k = emit_arg(arena, k, o);
         j += 1;
     }
     k

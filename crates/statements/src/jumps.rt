@@ -7,9 +7,10 @@ ghost use Rattle.statements.specs.Converting.{RoomFor};
 ghost use Rattle.statements.specs.Meets.{Adds};
 ghost use Rattle.statements.specs.Parts.{placeLabel, emitJump, jumpIfNot};
 use ir::structs::Counters;
-use ir::structs::Instr;
 use ir::structs::Operand;
-use ir::structs::emit;
+use ir::structs::emit_jump;
+use ir::structs::emit_jump_if_not;
+use ir::structs::emit_label;
 use ir::structs::label_id;
 
 pub(crate) fn jump(arena: &mut [u8], k: Counters, kind: u32, opener: usize) -> Counters
@@ -19,7 +20,7 @@ pub(crate) fn jump(arena: &mut [u8], k: Counters, kind: u32, opener: usize) -> C
     let found = label_id(arena, k, kind, opener as u32);
     let target = found.label;
     let next = found.counters;
-    emit(arena, next, Instr::Jump(target))
+    emit_jump(arena, next, target)
 }
 
 pub(crate) fn jump_if_not(
@@ -35,7 +36,7 @@ pub(crate) fn jump_if_not(
     let found = label_id(arena, k, kind, opener as u32);
     let target = found.label;
     let next = found.counters;
-    emit(arena, next, Instr::JumpIfNot(cond, target))
+    emit_jump_if_not(arena, next, cond, target)
 }
 
 // The label stands here.
@@ -46,5 +47,5 @@ pub(crate) fn place_label(arena: &mut [u8], k: Counters, kind: u32, opener: usiz
     let found = label_id(arena, k, kind, opener as u32);
     let here = found.label;
     let next = found.counters;
-    emit(arena, next, Instr::Label(here))
+    emit_label(arena, next, here)
 }

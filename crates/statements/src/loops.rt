@@ -43,10 +43,9 @@ use expressions::expressions::get_type;
 use expressions::names::declare_name;
 use expressions::names::find_name;
 use ir::structs::Counters;
-use ir::structs::Instr;
 use ir::structs::Operand;
 use ir::structs::VarId;
-use ir::structs::emit;
+use ir::structs::emit_binary;
 use ir::structs::new_var;
 use records::convert_error::ConvertErrorKind;
 use records::numbers::ADD;
@@ -290,7 +289,7 @@ fn count_on(tree: &[u8], arena: &mut [u8], k: Counters, r: usize, x: VarId) -> C
     let one = Operand::Int(1, is_short(tree, y), is_unsigned(tree, y));
     let k1 = jump(arena, k, LOOP_CHECK, r);
     let k2 = place_label(arena, k1, LOOP_START, r);
-    let k3 = emit(arena, k2, Instr::Binary(x, ADD, Operand::Var(x), one));
+    let k3 = emit_binary(arena, k2, x, ADD, Operand::Var(x), one);
     place_label(arena, k3, LOOP_CHECK, r)
 }
 
@@ -338,7 +337,7 @@ fn test_bound(
     let made = new_var(arena, k1, BOOL_TYPE as u32);
     let cond = made.var;
     let k2 = made.counters;
-    let k3 = emit(arena, k2, Instr::Binary(cond, LT, Operand::Var(x), bound));
+    let k3 = emit_binary(arena, k2, cond, LT, Operand::Var(x), bound);
     jump_if_not(arena, k3, Operand::Var(cond), LOOP_END, r)
 }
 

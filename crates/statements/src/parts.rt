@@ -33,11 +33,14 @@ use expressions::answers::ExprType;
 use expressions::answers::Resolved;
 use expressions::expressions::common_type;
 use ir::structs::Counters;
-use ir::structs::Instr;
 use ir::structs::NewVariable;
 use ir::structs::Operand;
 use ir::structs::VarId;
-use ir::structs::emit;
+use ir::structs::emit_binary;
+use ir::structs::emit_call;
+use ir::structs::emit_cast;
+use ir::structs::emit_copy;
+use ir::structs::emit_unary;
 use ir::structs::label_id;
 use ir::structs::new_var;
 use records::convert_error::ConvertErrorKind;
@@ -55,7 +58,7 @@ pub(crate) fn finish_unary(arena: &mut [u8], k: Counters, op: u8, src: Operand, 
     let made = new_var(arena, k, y as u32);
     let dest = made.var;
     let k1 = made.counters;
-    let next = emit(arena, k1, Instr::Unary(dest, op, src));
+    let next = emit_unary(arena, k1, dest, op, src);
     Fitted {
         operand: Operand::Var(dest),
         counters: next,
@@ -92,7 +95,7 @@ pub(crate) fn join_and(
     requires { ⌜ RoomFor k (now arena) (amount 2 0 1 0 0) × (e < k .records) ⌝ }
     ensures { λ r. ⌜ Adds (joinAnd e (varOf dest) (operandOf left)) (amount 2 0 1 0 0) k (now (arena .entry)) tt r (now (arena .exit)) ⌝ }
 {
-    let k1 = emit(arena, k, Instr::Copy(dest, left));
+    let k1 = emit_copy(arena, k, dest, left);
     jump_if_not(arena, k1, Operand::Var(dest), LOGIC_END, e)
 }
 
@@ -107,7 +110,7 @@ pub(crate) fn join_or(
     requires { ⌜ RoomFor k (now arena) (amount 4 0 3 0 0) × (e < k .records) ⌝ }
     ensures { λ r. ⌜ Adds (joinOr e (varOf dest) (operandOf left)) (amount 4 0 3 0 0) k (now (arena .entry)) tt r (now (arena .exit)) ⌝ }
 {
-    let k1 = emit(arena, k, Instr::Copy(dest, left));
+    let k1 = emit_copy(arena, k, dest, left);
     let k2 = jump_if_not(arena, k1, Operand::Var(dest), LOGIC_RHS, e);
     let k3 = jump(arena, k2, LOGIC_END, e);
     place_label(arena, k3, LOGIC_RHS, e)
@@ -141,7 +144,7 @@ pub(crate) fn end_logic(
     requires { ⌜ RoomFor k (now arena) (amount 2 0 1 0 0) × (e < k .records) ⌝ }
     ensures { λ r. ⌜ ((tree : List ℕ) → TypeAt tree (dest .1) → FitAdds tree (endLogic e (varOf dest) (operandOf right)) (amount 2 0 1 0 0) k (now (arena .entry)) r (now (arena .exit))) ⌝ }
 {
-    let k1 = emit(arena, k, Instr::Copy(dest, right));
+    let k1 = emit_copy(arena, k, dest, right);
     let next = place_label(arena, k1, LOGIC_END, e);
     Fitted {
         operand: Operand::Var(dest),
@@ -199,7 +202,7 @@ pub(crate) fn finish_binary(
     let made = new_var(arena, k2, y as u32);
     let dest = made.var;
     let k3 = made.counters;
-    let next = emit(arena, k3, Instr::Binary(dest, op, a1, b1));
+    let next = emit_binary(arena, k3, dest, op, a1, b1);
     Fitted {
         operand: Operand::Var(dest),
         counters: next,
@@ -227,7 +230,7 @@ pub(crate) fn cast_first(
     let n = tree.len() / RECORD_BYTES;
     let k = c.counters;
     let first = operand_at(scratch, n, c.operands);
-    let next = emit(arena, k, Instr::Cast(dest, first));
+    let next = emit_cast(arena, k, dest, first);
     Converted::Is(Operand::Var(dest), next)
 }
 
@@ -249,7 +252,7 @@ pub(crate) fn call_function(
     ensures turns { λ _. ⌜ TurnsStay (now (tree .entry)) (now (scratch .entry)) (now (scratch .exit)) ⌝ }
 {
     let k = pass_args(tree, text, arena, scratch, c, e, f, count);
-    let next = emit(arena, k, Instr::Call(dest, f as u32));
+    let next = emit_call(arena, k, dest, f as u32);
     Converted::Is(Operand::Var(dest), next)
 }
 

@@ -43,10 +43,12 @@ use expressions::names::find_name;
 use ir::floats::float_entry;
 use ir::pool::float_id;
 use ir::structs::Counters;
-use ir::structs::Instr;
 use ir::structs::Operand;
 use ir::structs::VarId;
-use ir::structs::emit;
+use ir::structs::emit_call_only;
+use ir::structs::emit_copy;
+use ir::structs::emit_return;
+use ir::structs::emit_zero;
 use ir::structs::new_var;
 use records::convert_error::ConvertErrorKind;
 use records::numbers::ADDRESS_OF_NULL;
@@ -106,7 +108,7 @@ fn zero_float(arena: &mut [u8], k: Counters, v: VarId, short: bool) -> Counters
 {
     let p = float_id(arena, k, float_entry(0, short));
     let next = p.counters;
-    emit(arena, next, Instr::Copy(v, Operand::Float(p.number)))
+    emit_copy(arena, next, v, Operand::Float(p.number))
 }
 
 // The zero of a type that is neither Int nor Float nor Array nor Custom: Bool, Char and Byte have the bool, Address and Null the null.
@@ -129,18 +131,18 @@ fn zero_value(tree: &[u8], arena: &mut [u8], k: Counters, r: usize, v: VarId) ->
     let short = is_short(tree, y);
     if f == FORM_INT {
         let zero = Operand::Int(0, short, is_unsigned(tree, y));
-        return Finished::Done(emit(arena, k, Instr::Copy(v, zero)));
+        return Finished::Done(emit_copy(arena, k, v, zero));
     }
     if f == FORM_FLOAT {
         return Finished::Done(zero_float(arena, k, v, short));
     }
     if f == FORM_ARRAY {
-        return Finished::Done(emit(arena, k, Instr::Zero(v)));
+        return Finished::Done(emit_zero(arena, k, v));
     }
     if f == FORM_CUSTOM {
         return Finished::Refused(error_at(ConvertErrorKind::WouldPanic, r));
     }
-    Finished::Done(emit(arena, k, Instr::Copy(v, zero_operand(f))))
+    Finished::Done(emit_copy(arena, k, v, zero_operand(f)))
 }
 
 // The Declare r: the variable takes its number before its name is looked at.
@@ -186,7 +188,7 @@ pub(crate) fn copy_fitted(
     let a = fit_operand(tree, arena, k, src, v.1 as usize);
     let fitted = a.operand;
     let next = a.counters;
-    emit(arena, next, Instr::Copy(v, fitted))
+    emit_copy(arena, next, v, fitted)
 }
 
 // The Init r of the known variable v: its value is converted before its type is held against the variable's.
@@ -279,7 +281,7 @@ fn declare_init(
     let k1 = made.counters;
     match declare_name(tree, text, scratch, scope, r, v, constant) {
         Declared::Taken => Stated::Refused(error_at(ConvertErrorKind::AlreadyDeclared, r)),
-        Declared::Done(next) => Stated::Done(next, emit(arena, k1, Instr::Copy(v, src))),
+        Declared::Done(next) => Stated::Done(next, emit_copy(arena, k1, v, src)),
     }
 }
 
@@ -365,7 +367,7 @@ fn return_as(
                 let a = fit_operand(tree, arena, k, value, expected);
                 let fitted = a.operand;
                 let k1 = a.counters;
-                Stated::Done(scope, emit(arena, k1, Instr::Return(fitted)))
+                Stated::Done(scope, emit_return(arena, k1, fitted))
             }
         },
     }
@@ -423,7 +425,7 @@ fn call_only(
             let mut at = c;
             at.counters = k;
             let k1 = pass_args(tree, text, arena, scratch, at, e, f, count);
-            Stated::Done(scope, emit(arena, k1, Instr::CallOnly(f as u32)))
+            Stated::Done(scope, emit_call_only(arena, k1, f as u32))
         }
     }
 }

@@ -1,0 +1,23 @@
+-- An instruction more: a Zero.
+-- What `with_none` makes is how it is written. Assumes nothing.
+use Rattle.conversion.specs.Written.{encodeInstr, fieldsOf}
+use Rattle.ir.specs.Instructions.{noneBytes}
+use borrow.Author.Needs.{needs}
+use Rattle.ir.proofs.structs.emit_zero.Statement.{statement}
+use Rattle.ir.proofs.structs.emit_zero.Tie as tie
+
+with-none-requires : tie.Need-with-none-requires
+with-none-requires c κs = search needs
+
+push-requires : tie.Need-push-requires
+push-requires c κs = search needs
+
+same-length : tie.Need-same-length
+same-length c = search needs
+
+returns : tie.Need-returns
+unfolding noneBytes encodeInstr fieldsOf
+returns c = c .before .before .push .ensures _ (c .before .before .before .with-none .ensures)
+
+pub emit-zero-spec : {M : Type 1} → statement M
+emit-zero-spec = tie.close (tie.spec with-none-requires push-requires same-length returns)
