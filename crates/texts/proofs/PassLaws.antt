@@ -96,7 +96,7 @@ module _ (tree text : List ℕ) where
             behind = λ i k. refl;
           }
 
-      number-within : number ≤ r
+      pub number-within : number ≤ r
       number-within =
           ⊎-elim
           (λ (n : firstWith (ownText tree text) r entries ≡ r). omega (arith, at entries (c b hb) .found))

@@ -48,7 +48,12 @@ fn has_text(k: u8) -> bool
 
 // The number of record r's text: the entry of bucket b that has it, else r, which is then put into the bucket's chain. Only the first record with a text is
 // entered, so that the entry is the number.
-fn number_text(tree: &[u8], text: &[u8], r: usize, b: usize, scratch: &mut [u8]) -> u32 {
+fn number_text(tree: &[u8], text: &[u8], r: usize, b: usize, scratch: &mut [u8]) -> u32
+    requires { ⌜ Good (now tree) (now text) × (scratchEach * records (now tree) ≤ length (now scratch)) ⌝ }
+    requires { ⌜ (r < records (now tree)) × (hasOwn (now tree) r ≡ true) × (b ≡ textBucket (now tree) (now text) r) × (b < records (now tree)) ⌝ }
+    requires { ⌜ Chains (now tree) (now text) r (now scratch) ⌝ }
+    ensures { λ v. ⌜ (v ≡ originalOf (now (tree .entry)) (now (text .entry)) r) × Entered (now (tree .entry)) (now (text .entry)) r (now (scratch .entry)) (now (scratch .exit)) ⌝ }
+{
     let n = tree.len() / RECORD_BYTES;
     let place = find_place(tree, text, scratch, n, r, CHAIN_HEAD_BYTES * b);
     let number = place.number;
