@@ -10,6 +10,7 @@ pub mod KindsInOrder
 pub mod LayoutFits
 pub mod LinkedLaws
 pub mod ListLaws
+pub mod OrderComputed
 pub mod PlacedLaws
 pub mod RollLaws
 pub mod RuleLaws

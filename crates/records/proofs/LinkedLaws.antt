@@ -43,19 +43,19 @@ module _ (t : ℕ → List ℕ) (n : ℕ) where
       (a .0, k .0 .0 ∙ a .1, rw (k .0 .1) (linked-kept s s′ (t e) (wordAt s (entryAt n e + 4)) l (k .1) (a .2)))
 
   -- how many steps a walk from the link h on takes, at most f
-  unfoldable pub steps : List ℕ → ℕ → ℕ → ℕ
-  steps s zero h = 0
-  steps s (suc f) zero = 0
-  steps s (suc f) (suc k) = suc (steps s f (wordAt s (entryAt n k + 4)))
+  unfoldable pub steps-left : List ℕ → ℕ → ℕ → ℕ
+  steps-left s zero h = 0
+  steps-left s (suc f) zero = 0
+  steps-left s (suc f) (suc k) = suc (steps-left s f (wordAt s (entryAt n k + 4)))
 
-  pub linked-steps : (s before : List ℕ) (h : ℕ) (l : List ℕ) (f : ℕ) → Linked t n s before h l → length l ≤ f → steps s f h ≡ length l
-  unfolding steps
-  linked-steps s before h [] zero a k = refl
-  linked-steps s before h [] (suc f) a k = rw a refl
-  linked-steps s before h (e ∷ l) zero a k = absurd (omega arith)
-  linked-steps s before h (e ∷ l) (suc f) a k =
+  pub linked-steps-left : (s before : List ℕ) (h : ℕ) (l : List ℕ) (f : ℕ) → Linked t n s before h l → length l ≤ f → steps-left s f h ≡ length l
+  unfolding steps-left
+  linked-steps-left s before h [] zero a k = refl
+  linked-steps-left s before h [] (suc f) a k = rw a refl
+  linked-steps-left s before h (e ∷ l) zero a k = absurd (omega arith)
+  linked-steps-left s before h (e ∷ l) (suc f) a k =
       let z : h ≡ suc e = a .0 ∙ add-one e in
-      rw z (ap suc (linked-steps s (t e) (wordAt s (entryAt n e + 4)) l f (a .2) (omega arith)))
+      rw z (ap suc (linked-steps-left s (t e) (wordAt s (entryAt n e + 4)) l f (a .2) (omega arith)))
 
   -- ---- number r is placed
 

@@ -16,11 +16,11 @@ use Rattle.records.specs.Order.{common, Agrees, firstWith, linkPlace, te
 use Rattle.records.proofs.CommonLaws.{common-empty, common-other, common-least}
 use Rattle.records.proofs.DigestLaws.{same-equal}
 use Rattle.records.proofs.PlacedLaws.{first-same, first-on, first-none, place-here, place-on, text-here, text-on}
-use Rattle.records.proofs.LinkedLaws.{linked-one, steps, linked-steps}
+use Rattle.records.proofs.LinkedLaws.{linked-one, steps-left, linked-steps-left}
 
 module _ (t : ℕ → List ℕ) (n r head : ℕ) (s : List ℕ) where
   -- the place is to be found from the link at `link` on, behind an entry with the text `before`: the link is `at`, and leads to the entries that are left
-  pub record Left (link shared at : ℕ) (before rest : List ℕ) : Type 0 where
+  pub record Ahead (link shared at : ℕ) (before rest : List ℕ) : Type 0 where
     pub linked : Linked t n s before at rest
     pub ordered : Ordered t before rest
     pub inside : All (λ e. e < r) rest
@@ -34,20 +34,20 @@ module _ (t : ℕ → List ℕ) (n r head : ℕ) (s : List ℕ) where
   pub record Walk (link shared at : ℕ) : Type 0 where
     pub before : List ℕ
     pub rest : List ℕ
-    pub left : Left link shared at before rest
+    pub ahead : Ahead link shared at before rest
 
   -- the walk stands before entry k
   pub record Here (link shared at k : ℕ) : Type 0 where
     pub before : List ℕ
     pub rest : List ℕ
-    pub left : Left link shared at before (k ∷ rest)
+    pub ahead : Ahead link shared at before (k ∷ rest)
 
   pub walk-start : Leads t n r head s → head + 4 ≤ length s → (v : ℕ) → v ≡ wordAt s head → Walk head 0 v
   walk-start p h v e =
       record {
         before = [];
         rest = p .chain;
-        left =
+        ahead =
             record {
               linked = rw e (p .linked);
               ordered = p .ordered;
@@ -62,20 +62,20 @@ module _ (t : ℕ → List ℕ) (n r head : ℕ) (s : List ℕ) where
       }
 
   pub walk-here : (link shared at k : ℕ) → at ≡ k + 1 → Walk link shared at → Here link shared at k
-  walk-here link shared at k z w = go (w .rest) (w .left)
+  walk-here link shared at k z w = go (w .rest) (w .ahead)
     where
-      go : (rest : List ℕ) → Left link shared at (w .before) rest → Here link shared at k
+      go : (rest : List ℕ) → Ahead link shared at (w .before) rest → Here link shared at k
       go [] l = absurd (omega (arith, l .linked))
       go (e ∷ rest) l =
           let q : e ≡ k = omega (arith, l .linked .0) in
-          record { before = w .before; rest = rest; left = rw q at l }
+          record { before = w .before; rest = rest; ahead = rw q at l }
 
   -- at the end
   pub walk-end : (link shared at : ℕ) → at ≤ 0 → Walk link shared at → PlaceOf t n r head s r link shared
   unfolding firstWith linkPlace textBefore
-  walk-end link shared at z w = go (w .rest) (w .left)
+  walk-end link shared at z w = go (w .rest) (w .ahead)
     where
-      go : (rest : List ℕ) → Left link shared at (w .before) rest → PlaceOf t n r head s r link shared
+      go : (rest : List ℕ) → Ahead link shared at (w .before) rest → PlaceOf t n r head s r link shared
       go [] l = λ c k.
           record {
             found = sym (l .first c k);
@@ -86,7 +86,7 @@ module _ (t : ℕ → List ℕ) (n r head : ℕ) (s : List ℕ) where
 
   module _ (link shared at k : ℕ) (w : Here link shared at k) where
     pub here-below : k < r
-    here-below = w .left .inside .0
+    here-below = w .ahead .inside .0
 
     pub here-inside : ChainRoom n s → r < n → entryAt n k + 8 ≤ length s
     here-inside room hr = omega (arith, room .room, here-below)
@@ -94,26 +94,26 @@ module _ (t : ℕ → List ℕ) (n r head : ℕ) (s : List ℕ) where
     -- what stands there
     module _ (v : ℕ) (ev : v ≡ wordAt s (entryAt n k)) where
       word-is : v ≡ common (w .before) (t k)
-      word-is = ev ∙ w .left .linked .1
+      word-is = ev ∙ w .ahead .linked .1
 
       pub stops : v < shared → PlaceOf t n r head s r link shared
       stops h c l =
-          let less : common (w .before) (t k) < common (w .before) (t r) = omega (arith, word-is, w .left .shares) in
+          let less : common (w .before) (t k) < common (w .before) (t r) = omega (arith, word-is, w .ahead .shares) in
           let y : ltb (common (w .before) (t k)) (common (w .before) (t r)) ≡ true = lt-ltb _ _ less in
           record {
-            found = sym (w .left .first c l ∙ first-none t r (w .before) k (w .rest) (w .left .ordered) less);
-            there = λ q. sym (w .left .place c l ∙ place-here t r (w .before) k (w .rest) n link y);
-            shares = λ q. w .left .shares ∙ ap (λ (u : List ℕ). common u (t r)) (sym (w .left .text c l ∙ text-here t r (w .before) k (w .rest) y));
+            found = sym (w .ahead .first c l ∙ first-none t r (w .before) k (w .rest) (w .ahead .ordered) less);
+            there = λ q. sym (w .ahead .place c l ∙ place-here t r (w .before) k (w .rest) n link y);
+            shares = λ q. w .ahead .shares ∙ ap (λ (u : List ℕ). common u (t r)) (sym (w .ahead .text c l ∙ text-here t r (w .before) k (w .rest) y));
           }
 
       pub agrees-from : v ≡ shared → shared ≤ common (t k) (t r)
       agrees-from e =
-          common-least shared (w .before) (t r) (t k) (omega (arith, w .left .shares)) (omega (arith, word-is))
+          common-least shared (w .before) (t r) (t k) (omega (arith, w .ahead .shares)) (omega (arith, word-is))
 
       pub walk-found : (bytes : ℕ) (whole : Bool) → Agrees (t k) (t r) bytes whole → whole ≡ true → PlaceOf t n r head s k link shared
       walk-found bytes whole a y c l =
           record {
-            found = sym (w .left .first c l ∙ first-same t r [] k (w .rest) (sym (a .same) ∙ y));
+            found = sym (w .ahead .first c l ∙ first-same t r [] k (w .rest) (sym (a .same) ∙ y));
             there = λ q. absurd (omega (arith, here-below));
             shares = λ q. absurd (omega (arith, here-below));
           }
@@ -122,24 +122,24 @@ module _ (t : ℕ → List ℕ) (n r head : ℕ) (s : List ℕ) where
       module _ (shared′ at′ : ℕ) (room : ChainRoom n s) (hr : r < n) (le : shared ≤ v) (other : sameText (t k) (t r) ≡ false) (es : shared′ ≡ common (t k) (t r))
           (ea : at′ ≡ wordAt s (entryAt n k + 4)) where
         more : ltb (common (w .before) (t k)) (common (w .before) (t r)) ≡ false
-        more = le-ltb (common (w .before) (t k)) (common (w .before) (t r)) (omega (arith, word-is, w .left .shares))
+        more = le-ltb (common (w .before) (t k)) (common (w .before) (t r)) (omega (arith, word-is, w .ahead .shares))
 
         on : Walk (entryAt n k + 4) shared′ at′
         on =
             record {
               before = t k;
               rest = w .rest;
-              left =
+              ahead =
                   record {
-                    linked = rw ea (w .left .linked .2);
-                    ordered = w .left .ordered .1;
-                    inside = w .left .inside .1;
-                    short = omega (arith, w .left .short);
+                    linked = rw ea (w .ahead .linked .2);
+                    ordered = w .ahead .ordered .1;
+                    inside = w .ahead .inside .1;
+                    short = omega (arith, w .ahead .short);
                     shares = es;
                     fits = omega (arith, room .room, here-below);
-                    first = λ c l. w .left .first c l ∙ first-on t r [] k (w .rest) other;
-                    place = λ c l. w .left .place c l ∙ place-on t r (w .before) k (w .rest) n link more;
-                    text = λ c l. w .left .text c l ∙ text-on t r (w .before) k (w .rest) more;
+                    first = λ c l. w .ahead .first c l ∙ first-on t r [] k (w .rest) other;
+                    place = λ c l. w .ahead .place c l ∙ place-on t r (w .before) k (w .rest) n link more;
+                    text = λ c l. w .ahead .text c l ∙ text-on t r (w .before) k (w .rest) more;
                   };
             }
 
@@ -150,19 +150,19 @@ module _ (t : ℕ → List ℕ) (n r head : ℕ) (s : List ℕ) where
       pub walk-past : (shared′ at′ : ℕ) → ChainRoom n s → r < n → shared ≤ v → (v ≡ shared → ⊥) → shared′ ≡ shared → at′ ≡ wordAt s (entryAt n k + 4)
           → Walk (entryAt n k + 4) shared′ at′
       walk-past shared′ at′ room hr le ne es ea =
-          let less : common (w .before) (t r) < common (w .before) (t k) = omega (arith, word-is, w .left .shares) in
+          let less : common (w .before) (t r) < common (w .before) (t k) = omega (arith, word-is, w .ahead .shares) in
           on shared′ at′ room hr le
           (tested (sameText (t k) (t r))
           (λ y. absurd (let z : common (w .before) (t k) ≡ common (w .before) (t r) = ap (common (w .before)) (same-equal _ _ y) in omega arith))
           (λ m. m))
-          (es ∙ w .left .shares ∙ sym (common-other (w .before) (t r) (t k) less))
+          (es ∙ w .ahead .shares ∙ sym (common-other (w .before) (t r) (t k) less))
           ea
 
     -- each step leaves one entry less
-    pub walk-less : (at′ : ℕ) → at′ ≡ wordAt s (entryAt n k + 4) → steps t n s n at′ < steps t n s n at
+    pub walk-less : (at′ : ℕ) → at′ ≡ wordAt s (entryAt n k + 4) → steps-left t n s n at′ < steps-left t n s n at
     walk-less at′ ea =
         omega (
           arith,
-          linked-steps t n s (w .before) at (k ∷ w .rest) n (w .left .linked) (w .left .short),
-          linked-steps t n s (t k) at′ (w .rest) n (rw ea (w .left .linked .2)) (omega (arith, w .left .short)),
+          linked-steps-left t n s (w .before) at (k ∷ w .rest) n (w .ahead .linked) (w .ahead .short),
+          linked-steps-left t n s (t k) at′ (w .rest) n (rw ea (w .ahead .linked .2)) (omega (arith, w .ahead .short)),
         )

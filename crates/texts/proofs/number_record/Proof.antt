@@ -1,7 +1,6 @@
 -- A record is passed over, or entered with its text's number and digest written.
 -- By the laws of the pass, over what the calls ensure. Assumes nothing.
 use Rattle.texts.proofs.PassLaws.{passed-over, taken, kept-all, own-told, roll-told, bucket-told}
-use native.Mathlib.Omega.{arith}
 use borrow.Author.Tests.{not-true, not-false}
 use borrow.Author.Needs.{needs}
 use Rattle.texts.proofs.number_record.Statement.{statement}
@@ -42,7 +41,7 @@ bucket-requires : tie.Need-bucket-requires
 bucket-requires c κs = search needs
 
 number-text-requires : tie.Need-number-text-requires
-number-text-requires c κs = 
+number-text-requires c κs =
     let start = c .before .before .before .before .before .before .before .before .before .before .before .before in
     let has = own-told _ _ _ _ _ (c .before .before .before .before .before .before .before .before .kind .ensures) (c .before .before .before .before .before .before .before .has-text .ensures) (not-false _ (c .before .before .before .before .before .before .if1 .left)) in
     let rolled = roll-told _ _ _ _ _ _ (c .before .before .before .before .before .word .ensures) (c .before .before .before .before .word2 .ensures) (c .before .before .before .text-roll .ensures .0) in
@@ -77,7 +76,7 @@ same-length : tie.Need-same-length
 same-length c = search needs
 
 returns-2 : tie.Need-returns-2
-returns-2 c = 
+returns-2 c =
     let start = c .before .before .before .before .before .before .before .before .before .before .before .before .before .before .before .before .before .before .before .before .before .before .before in
     let has = own-told _ _ _ _ _ (c .before .before .before .before .before .before .before .before .before .before .before .before .before .before .before .before .before .before .before .kind .ensures) (c .before .before .before .before .before .before .before .before .before .before .before .before .before .before .before .before .before .before .has-text .ensures) (not-false _ (c .before .before .before .before .before .before .before .before .before .before .before .before .before .before .before .before .before .if1 .left)) in
     let rolled = roll-told _ _ _ _ _ _ (c .before .before .before .before .before .before .before .before .before .before .before .before .before .before .before .before .word .ensures) (c .before .before .before .before .before .before .before .before .before .before .before .before .before .before .before .word2 .ensures) (c .before .before .before .before .before .before .before .before .before .before .before .before .before .before .text-roll .ensures .0) in

@@ -6,7 +6,7 @@ use Prim.Native.Nat.{ℕ, _-_}
 use native.Mathlib.Omega.{arith}
 use borrow.Author.Needs.{needs}
 use Rattle.records.specs.Order.{recordText}
-use Rattle.records.proofs.LinkedLaws.{steps}
+use Rattle.records.proofs.LinkedLaws.{steps-left}
 use Rattle.records.proofs.WalkLaws.{Walk, walk-start, walk-here, walk-end, here-below, here-inside, stops, agrees-from, walk-found, walk-compared, walk-past, walk-less}
 use Rattle.records.proofs.order.find_place.Statement.{statement}
 use Rattle.records.proofs.order.find_place.Tie as tie
@@ -20,7 +20,7 @@ abbrev Inv-loop : tie.InvT-loop
 Inv-loop tree text scratch n r head link₀ shared₀ at₀ link shared at = Walk (recordText tree text) n r head scratch link shared at
 
 abbrev μ-loop : tie.MeasureT-loop
-μ-loop tree text scratch n r head link₀ shared₀ at₀ link shared at = steps (recordText tree text) n scratch n at
+μ-loop tree text scratch n r head link₀ shared₀ at₀ link shared at = steps-left (recordText tree text) n scratch n at
 
 load-requires : tie.Need-load-requires Inv-loop μ-loop
 load-requires c κs = omega (arith, c .before .before .before .pre .0 .3)
