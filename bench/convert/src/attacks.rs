@@ -36,7 +36,7 @@ const ALL: &[usize] = &[8];
 const SOME: &[usize] = &[1, 2, 3, 4, 6];
 const HIGH: &[usize] = &[1, 20, 48];
 
-pub const ATTACKS: [Attack; 26] = [
+pub const ATTACKS: [Attack; 27] = [
     Attack {
         name: "customs",
         what: "Customs with overlapping names",
@@ -68,6 +68,14 @@ pub const ATTACKS: [Attack; 26] = [
         shares: ALL,
         depths: &[1],
         tree: collisions,
+    },
+    Attack {
+        name: "short-collisions",
+        what: "as many such names as the text has room for, of one digest and 16 bytes or little more",
+        texts: true,
+        shares: ALL,
+        depths: &[1],
+        tree: short_collisions,
     },
     Attack {
         name: "calls",
@@ -495,9 +503,9 @@ fn digest_from(digest: u64, text: &[u8]) -> u64 {
     text.iter().fold(digest, |digest, byte| (digest * 256 + u64::from(*byte)) % DIGEST_PRIME)
 }
 
-/// The eight bytes that bring a digest back to `wanted`: the upper four are 1, the lower four what is missing.
-fn ending(digest: u64, wanted: u64) -> [u8; 8] {
-    let upper = 1 << 32;
+/// The eight bytes that bring a digest back to `wanted`: the upper four are as said, the lower four what is missing.
+fn ending(digest: u64, wanted: u64, upper: usize) -> [u8; 8] {
+    let upper = (upper as u64) << 32;
     let missing = wanted + DIGEST_PRIME - digest_from(digest, &u64::to_be_bytes(upper));
     (upper + missing % DIGEST_PRIME).to_be_bytes()
 }
@@ -512,16 +520,27 @@ impl Hostile {
         let wanted = digest_from(1, &text[base..]);
         for at in 1..count {
             let digest = digest_from(1, &text[base + 8 * at..]);
-            text.extend(ending(digest, wanted));
+            text.extend(ending(digest, wanted, at));
         }
         (base as u32, long as u32)
     }
 }
 
-/// Who knows the digest ends each name so that all have one: each is then compared with every earlier one, nearly to its end.
+/// Who knows the digest ends each name so that all have one: all stand in one bucket, and share a beginning that is nearly the whole name.
 fn collisions(knobs: Knobs) -> Hostile {
-    let mut tree = Hostile::new(knobs);
+    let tree = Hostile::new(knobs);
     let count = (tree.room() / 3).min(knobs.text / 48);
+    colliding_functions(tree, knobs, count)
+}
+
+/// The most names that can stand in one bucket, each eight bytes of the text.
+fn short_collisions(knobs: Knobs) -> Hostile {
+    let tree = Hostile::new(knobs);
+    let count = (tree.room() / 3).min((knobs.text - tree.layout.text.len() - 24) / 16);
+    colliding_functions(tree, knobs, count)
+}
+
+fn colliding_functions(mut tree: Hostile, knobs: Knobs, count: usize) -> Hostile {
     let (base, long) = tree.colliding(knobs.text, 2 * count);
     let text = |at: usize| (base + 8 * at as u32, long);
     (0..count).for_each(|at| tree.function(text(2 * at), text(2 * at + 1), &[], NONE, None));

@@ -21,7 +21,8 @@ pub const NEXT_CLASS: usize = 6;
 
 pub const NEXT_KIND: usize = 7;
 
-// The heads of a chain's buckets stand first, then an entry for each number: while equal types and equal texts are looked for (`records/specs/Chains.antt`).
+// The heads of a chain's buckets stand first, then an entry for each number: while equal types and equal texts are looked for (`records/specs/Chains.antt`,
+// `records/specs/Order.antt`).
 pub const CHAIN_HEAD_BYTES: usize = 4;
 
 pub const CHAIN_ENTRY_BYTES: usize = 8;
