@@ -64,14 +64,7 @@ fn stride_of(tree: &[u8], types: usize, bytes: usize, room: usize) -> usize
 }
 
 // The digest of what makes type r equal to another. The text's samples stand in scratch, from byte `at` on.
-fn type_digest(
-    tree: &[u8],
-    text: &[u8],
-    scratch: &[u8],
-    at: usize,
-    stride: usize,
-    r: usize,
-) -> u32
+fn type_digest(tree: &[u8], text: &[u8], scratch: &[u8], at: usize, stride: usize, r: usize) -> u32
     requires { ⌜ (r * recordBytes + recordBytes ≤ length (now tree)) × Sampled (now text) stride at (now scratch) ⌝ }
     ensures { λ v. ⌜ v ≡ typeDigest (now (tree .entry)) (now (text .entry)) r ⌝ }
 {

@@ -9,6 +9,7 @@ pub mod LayoutFits
 pub mod ListLaws
 pub mod RollLaws
 pub mod RuleLaws
+pub mod SampleLaws
 pub mod ShapeCases
 pub mod ShapeTable
 pub mod TextLaws

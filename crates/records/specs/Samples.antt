@@ -24,6 +24,10 @@ sampleBytes = 8
 abbrev pub sampleAt : ℕ → ℕ → ℕ
 sampleAt at k = at + sampleBytes * k
 
+-- a sample has the digest of the text up to it, and the power of so many bytes: over the run from one to another, from digest h on
+abbrev pub rollBetween : List ℕ → ℕ → ℕ → ℕ → ℕ → ℕ
+rollBetween l at h first last = rollAcross h (wordAt l (sampleAt at first)) (wordAt l (sampleAt at last)) (wordAt l (sampleAt at (last - first) + 4))
+
 -- each whole stride of a text of so many bytes has room for its sample before byte `end`; a stride of 0 has no samples
 abbrev pub SampleRoom : ℕ → ℕ → ℕ → ℕ → Type 0
 SampleRoom bytes stride at end = 0 < stride → (k : ℕ) → k * stride ≤ bytes → sampleAt at (k + 1) ≤ end

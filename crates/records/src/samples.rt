@@ -1,10 +1,10 @@
 // Samples of a text: the digests of its beginnings, a stride apart, from which the digest of any long part is found without reading it whole.
 ghost use mathlib.Core.Path.{_≡_};
-ghost use Prim.Native.Nat.{_*_, _%_, _≤_, _<_};
+ghost use Prim.Native.Nat.{_+_, _*_, _%_, _≤_, _<_};
 ghost use lib.ListN.{length};
-ghost use Rattle.records.specs.Words.{textAt};
+ghost use Rattle.records.specs.Words.{wordAt, textAt};
 ghost use Rattle.records.specs.Digest.{rollOf};
-ghost use Rattle.records.specs.Samples.{rollPower, rollAcross, SampleRoom, Sampled, Samples};
+ghost use Rattle.records.specs.Samples.{rollPower, rollAcross, rollBetween, sampleAt, SampleRoom, Sampled, Samples};
 use crate::layout::SAMPLE_BYTES;
 use crate::layout::SAMPLE_POWER;
 use crate::texts::reach;
@@ -46,28 +46,54 @@ pub fn sample(text: &[u8], scratch: &mut [u8], at: usize, stride: usize)
     let mut d: u32 = 1;
     let mut power: u32 = 1;
     let mut i = 0;
-    let mut e = at;
-    put_pair(scratch, e, d, power);
-    while text.len() - i >= stride {
+    let mut k = 0;
+    loop {
+        put_pair(scratch, at + SAMPLE_BYTES * k, d, power);
+        if text.len() - i < stride {
+            return;
+        }
         d = roll(text, d, i, stride);
         power = times(power, factor);
         i += stride;
-        e += SAMPLE_BYTES;
-        put_pair(scratch, e, d, power);
+        k += 1;
     }
 }
 
 // From digest h on over a run, by the digests of the text up to its ends and by its power.
 fn roll_across(h: u32, from: u32, to: u32, power: u32) -> u32
-    requires { ⌜ (h < 4294967291) × (from < 4294967291) × (to < 4294967291) ⌝ }
+    requires { ⌜ (h < 4294967291) × (from < 4294967291) ⌝ }
     ensures { λ r. ⌜ (r ≡ rollAcross h from to power) × (r < 4294967291) ⌝ }
 {
     let more = ((h as u64) + 4294967291 - (from as u64)) % 4294967291;
     (((to as u64) + more * (power as u64)) % 4294967291) as u32
 }
 
-// The digest of a text that goes on, as `text_roll` finds it: a long one is read up to its first sample and from its last on, and a stride
-// of 0 has none.
+// The same from one sample to another.
+fn roll_between(scratch: &[u8], at: usize, h: u32, first: usize, last: usize) -> u32
+    requires { ⌜ (first ≤ last) × (sampleAt at (last + 1) ≤ length (now scratch)) × (h < 4294967291) × (wordAt (now scratch) (sampleAt at first) < 4294967291) ⌝ }
+    ensures { λ r. ⌜ (r ≡ rollBetween (now (scratch .entry)) at h first last) × (r < 4294967291) ⌝ }
+{
+    let from = load(scratch, at + SAMPLE_BYTES * first);
+    let to = load(scratch, at + SAMPLE_BYTES * last);
+    let power = load(scratch, at + SAMPLE_BYTES * (last - first) + SAMPLE_POWER);
+    roll_across(h, from, to, power)
+}
+
+// The digest of the n bytes from i on, more than a stride: they are read up to the first sample and from the last on.
+fn roll_long(text: &[u8], scratch: &[u8], at: usize, stride: usize, i: usize, n: usize) -> u32
+    requires { ⌜ Sampled (now text) stride at (now scratch) × (0 < stride) × (stride < n) × (i + n ≤ length (now text)) ⌝ }
+    ensures { λ r. ⌜ (r ≡ rollOf (textAt (now (text .entry)) i n)) × (r < 4294967291) ⌝ }
+{
+    let first = i / stride + 1;
+    let last = (i + n) / stride;
+    let a = first * stride;
+    let b = last * stride;
+    let d = roll(text, 1, i, a - i);
+    let h = roll_between(scratch, at, d, first, last);
+    roll(text, h, b, i + n - b)
+}
+
+// The digest of a text that goes on, as `text_roll` finds it. A stride of 0 has no samples.
 pub fn sampled_roll(
     text: &[u8],
     scratch: &[u8],
@@ -83,16 +109,9 @@ pub fn sampled_roll(
         return text_roll(text, offset, len);
     }
     let i = offset as usize;
-    let end = i + reach(text, i, len as usize);
-    let first = i / stride + 1;
-    let last = end / stride;
-    if first >= last {
+    let n = reach(text, i, len as usize);
+    if n <= stride {
         return text_roll(text, offset, len);
     }
-    let d = roll(text, 1, i, first * stride - i);
-    let from = load(scratch, at + SAMPLE_BYTES * first);
-    let to = load(scratch, at + SAMPLE_BYTES * last);
-    let power = load(scratch, at + SAMPLE_BYTES * (last - first) + SAMPLE_POWER);
-    let h = roll_across(d, from, to, power);
-    roll(text, h, last * stride, end - last * stride)
+    roll_long(text, scratch, at, stride, i, n)
 }
