@@ -34,6 +34,17 @@ use records::words::load;
 use records::words::wide;
 use records::words::word;
 
+// How long the name of type r is: only a Custom has one.
+fn name_long(tree: &[u8], r: usize) -> usize
+    requires { ⌜ r * recordBytes + recordBytes ≤ length (now tree) ⌝ }
+    ensures { λ v. ⌜ v ≤ none ⌝ }
+{
+    if detail(tree, r) != FORM_CUSTOM {
+        return 0;
+    }
+    index(word(tree, r, WORD_B))
+}
+
 // How long the names of the leading types are in all.
 fn names_long(tree: &[u8], types: usize) -> usize
     requires { ⌜ (types * recordBytes ≤ length (now tree)) × (types ≤ mostRecords) ⌝ }
@@ -42,9 +53,7 @@ fn names_long(tree: &[u8], types: usize) -> usize
     let mut long = 0;
     let mut r = 0;
     while r < types {
-        if detail(tree, r) == FORM_CUSTOM {
-            long += index(word(tree, r, WORD_B));
-        }
+        long += name_long(tree, r);
         r += 1;
     }
     long

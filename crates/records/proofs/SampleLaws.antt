@@ -4,7 +4,7 @@ use mathlib.Core.Path.{_≡_, refl, sym, ap, ap₂, _∙_}
 use mathlib.Core.Logic.{inl, inr}
 use mathlib.Core.List.{List, [], _∷_, _++_}
 use Prim.Native.Nat.{ℕ, zero, suc, _+_, _-_, _*_, _/_, _%_, _≤_, _<_}
-use native.Mathlib.Nat.{mul-zero, zero-mul, mul-comm, mul-assoc, mul-add, mod-add-mod, add-mul, one-mul, mul-one, suc-add, add-assoc, mul-add-mod-self-right, mul-le-mul, mul-le-mul-right, lt-of-mul-lt-mul-right, div-mul-le-self, lt-div-mul-add, le-div-iff-mul-le}
+use native.Mathlib.Nat.{mul-zero, zero-mul, mul-comm, mul-assoc, mul-add, mod-add-mod, add-mul, one-mul, mul-one, suc-add, add-assoc, mul-add-mod-self-right, mul-le-mul, mul-le-mul-right, lt-of-mul-lt-mul-right, lt-mul-div-succ, div-mul-le-self, lt-div-mul-add, le-div-iff-mul-le}
 use native.Mathlib.Numerals.{add-one}
 use native.Mathlib.Omega.{arith}
 use lib.ListN.{length, take, drop, getD}
@@ -15,7 +15,7 @@ use Rattle.laws.proofs.Splices.{length-splice}
 use Rattle.records.specs.Words.{byteAt, wordAt, textAt, word, bytesOf}
 use Rattle.records.specs.Digest.{rollStep, rollFrom, rollOf}
 use Rattle.records.specs.Samples.{rollPower, rollAcross, rollBetween, sampleAt, SampleRoom, Sampled, Samples}
-use Rattle.records.proofs.Apart.{byte-apart, word-apart, word-there, word-back}
+use Rattle.records.proofs.Apart.{word-same, byte-apart, word-apart, word-there, word-back}
 use Rattle.records.proofs.TextLaws.{reach-whole}
 use Rattle.records.proofs.RollLaws.{roll-append, roll-small, text-split, step-exact}
 
@@ -297,3 +297,24 @@ module _ (text : List ℕ) (stride at : ℕ) (l₀ : List ℕ) (room : SampleRoo
           powered = ep ∙ ap₂ (λ (x y : ℕ). x * y % 4294967291) (s .powered) ef ∙ power-add i stride;
           filled = filled-more;
         }
+
+-- ---- a stride for which the samples have room, and samples that stay
+
+-- by sixteens, as near as so many bytes allow
+pub stride-room : (bytes room : ℕ) → 0 < room / 8 → SampleRoom bytes ((bytes / 16 / (room / 8) + 1) * 16) 0 room
+stride-room bytes room some z k h =
+    let entries : ℕ = room / 8 in
+    let c : ℕ = bytes / 16 / entries + 1 in
+    let q : k * c < entries * c = omega (arith, mul-assoc k c 16, lt-mul-div-succ (bytes / 16) some) in
+    omega (arith, lt-of-mul-lt-mul-right c q)
+
+pub sampled-kept : (text : List ℕ) (stride at : ℕ) (l l′ : List ℕ) → ((p : ℕ) → at ≤ p → getD l′ p 0 ≡ getD l p 0) → length l′ ≡ length l
+    → Sampled text stride at l → Sampled text stride at l′
+sampled-kept text stride at l l′ same long s =
+    let word-kept : (p : ℕ) → at ≤ p → wordAt l′ p ≡ wordAt l p =
+    λ p h. word-same l′ p l p (same p h) (same (p + 1) (omega arith)) (same (p + 2) (omega arith)) (same (p + 3) (omega arith)) in
+    record {
+      room = λ z k h. omega (arith, s .room z k h);
+      rolls = λ z k h. word-kept (sampleAt at k) (omega arith) ∙ s .rolls z k h;
+      powers = λ z k h. word-kept (sampleAt at k + 4) (omega arith) ∙ s .powers z k h;
+    }
