@@ -15,6 +15,7 @@ pub mod PlacedLaws
 pub mod RollLaws
 pub mod RuleLaws
 pub mod RunLaws
+pub mod SampleLaws
 pub mod ShapeCases
 pub mod ShapeTable
 pub mod TextLaws
