@@ -59,8 +59,11 @@ fn names_long(tree: &[u8], types: usize) -> usize
     long
 }
 
-// How far the samples of a text of so many bytes lie apart: as near as `room` bytes allow, but by sixteens, as texts are read; 0, for no
-// samples, where the names are no longer in all than the text, so that reading each costs no more than sampling would.
+// A digest goes on over so many bytes at once, so strides are multiples of it.
+const STRIDE_UNIT: usize = 16;
+
+// How far the samples of a text of so many bytes lie apart: as near as `room` bytes allow; 0, for no samples, where the names are no longer
+// in all than the text, so that reading each costs no more than sampling would.
 fn stride_of(tree: &[u8], types: usize, bytes: usize, room: usize) -> usize
     requires { ⌜ (types * recordBytes ≤ length (now tree)) × (types ≤ mostRecords) × (sampleBytes * types ≤ room) ⌝ }
     ensures { λ v. ⌜ SampleRoom bytes v 0 room ⌝ }
@@ -69,7 +72,7 @@ fn stride_of(tree: &[u8], types: usize, bytes: usize, room: usize) -> usize
         return 0;
     }
     let entries = room / SAMPLE_BYTES;
-    (bytes / 16 / entries + 1) * 16
+    (bytes / STRIDE_UNIT / entries + 1) * STRIDE_UNIT
 }
 
 // The digest of what makes type r equal to another. The text's samples stand in scratch, from byte `at` on.

@@ -4,11 +4,10 @@ use mathlib.Core.Path.{_≡_, refl, sym, ap, ap₂, _∙_}
 use mathlib.Core.Logic.{inl, inr}
 use mathlib.Core.List.{List, [], _∷_, _++_}
 use Prim.Native.Nat.{ℕ, zero, suc, _+_, _-_, _*_, _/_, _%_, _≤_, _<_}
-use native.Mathlib.Nat.{mul-zero, zero-mul, mul-comm, mul-assoc, mul-add, mod-add-mod, add-mul, one-mul, mul-one, suc-add, add-assoc, mul-add-mod-self-right, mul-le-mul, mul-le-mul-right, lt-of-mul-lt-mul-right, lt-mul-div-succ, div-mul-le-self, lt-div-mul-add, le-div-iff-mul-le}
+use native.Mathlib.Nat.{mul-zero, zero-mul, mul-comm, mul-assoc, mul-add, mod-add-mod, add-mul, one-mul, mul-one, suc-add, mul-le-mul, lt-of-mul-lt-mul-right, lt-mul-div-succ, div-mul-le-self, lt-div-mul-add, le-div-iff-mul-le}
 use native.Mathlib.Numerals.{add-one}
 use native.Mathlib.Omega.{arith}
-use lib.ListN.{length, take, drop, getD}
-use lib.Seq.{length-take-le}
+use lib.ListN.{length, getD}
 use borrow.Author.Count.{below-more}
 use Rattle.laws.specs.Splice.{splice}
 use Rattle.laws.proofs.Splices.{length-splice}

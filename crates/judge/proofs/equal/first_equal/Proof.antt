@@ -32,31 +32,24 @@ Inv-loop tree text types scratch₀ at stride r₀ scratch r = (r ≤ types) × 
 abbrev μ-loop : tie.MeasureT-loop
 μ-loop tree text types scratch₀ at stride r₀ scratch r = types - r
 
--- src/equal.rt:134:14
 mul-at : tie.Need-mul-at Inv-loop μ-loop
 mul-at c = omega (arith, c .before .before .before .pre .lead .within)
 
--- src/equal.rt:135:53
 sub-stride-of : tie.Need-sub-stride-of Inv-loop μ-loop
 sub-stride-of c = omega (arith, c .before .before .before .pre .lead .within)
 
--- src/equal.rt:135:9
 stride-of-requires : tie.Need-stride-of-requires Inv-loop μ-loop
 stride-of-requires c κs = (omega (arith, c .before .before .before .pre .lead .within), omega (arith, c .before .before .before .pre .lead .within), omega (arith, c .before .before .before .pre .lead .within))
 
--- src/equal.rt:136:5
 sample-requires : tie.Need-sample-requires Inv-loop μ-loop
 sample-requires c κs = λ z k h. omega (arith, c .before .stride-of .ensures z k h, c .before .before .before .before .before .pre .lead .within)
 
--- src/equal.rt:137:26
 mul-clear-heads : tie.Need-mul-clear-heads Inv-loop μ-loop
 mul-clear-heads c = omega (arith, c .before .before .before .before .before .before .before .before .before .pre .lead .within)
 
--- src/equal.rt:137:5
 clear-heads-requires : tie.Need-clear-heads-requires Inv-loop μ-loop
 clear-heads-requires c κs = omega (arith, c .before .before .before .before .before .before .before .before .before .pre .lead .within, c .before .before .before .sample .ensures .long)
 
--- src/equal.rt:139:5
 loop-holds : tie.Need-loop-holds Inv-loop μ-loop
 loop-holds c =
     let clear = c .before .before .clear-heads .ensures in (
@@ -68,47 +61,36 @@ loop-holds c =
       record { few = omega (arith, c .before .before .before .before .before .before .before .before .before .before .before .before .pre .lead .within); room = omega (arith, c .before .before .before .before .before .before .before .before .before .before .before .before .pre .lead .within, clear .long, c .before .before .before .before .before .before .sample .ensures .long) },
     )
 
--- src/equal.rt:140:13
 type-digest-requires : tie.Need-type-digest-requires Inv-loop μ-loop
 type-digest-requires c κs = (omega (arith, c .before .before .before .before .before .before .before .before .before .before .before .before .before .before .before .pre .lead .within), c .before .before .loop .inv .4)
 
--- src/equal.rt:141:13
 bucket-requires : tie.Need-bucket-requires Inv-loop μ-loop
 bucket-requires c κs = (omega arith, omega (arith, c .before .before .before .before .before .before .before .before .before .before .before .before .before .before .before .before .pre .lead .within))
 
--- src/equal.rt:142:34
 mul-load : tie.Need-mul-load Inv-loop μ-loop
 mul-load c = omega (arith, c .before .before .before .before .before .before .before .before .before .before .before .before .before .before .before .before .before .before .pre .lead .within, c .before .bucket .ensures .1)
 
--- src/equal.rt:142:13
 load-requires : tie.Need-load-requires Inv-loop μ-loop
 load-requires c κs = omega (arith, c .before .bucket .ensures .1, c .before .before .before .before .before .loop .inv .5 .room)
 
--- src/equal.rt:143:12
 has-equal-requires : tie.Need-has-equal-requires Inv-loop μ-loop
 has-equal-requires c κs = ((omega (arith, c .before .before .before .before .before .before .before .before .before .before .before .before .before .before .before .before .before .before .before .before .pre .lead .within), c .before .before .before .before .before .before .loop-test .taken, c .before .before .before .before .before .before .before .before .before .before .before .before .before .before .before .before .before .before .before .before .pre .lead .types), ((c .before .before .before .before .before .before .before .loop .inv .5, c .before .before .before .before .before .before .before .loop .inv .2), (c .before .before .before .before .type-digest .ensures, head-told _ _ _ _ _ _ _ (c .before .before .before .before .before .before .before .loop .inv .2) (c .before .before .before .bucket .ensures .1) (bucket-told _ _ _ _ _ _ refl (c .before .before .before .before .type-digest .ensures) (c .before .before .before .bucket .ensures .0)) (c .before .load .ensures))))
 
--- src/equal.rt:144:13
 same-length : tie.Need-same-length Inv-loop μ-loop
 same-length c = c .before .before .before .before .before .before .before .before .before .loop .inv .1 ∙ c .before .before .before .before .before .before .before .before .before .before .before .before .clear-heads .ensures .long ∙ c .before .before .before .before .before .before .before .before .before .before .before .before .before .before .before .before .sample .ensures .long
 
--- src/equal.rt:144:13
 returns : tie.Need-returns Inv-loop μ-loop
 returns c = (record { within = c .before .before .before .before .before .before .before .before .before .loop .inv .0; before = c .before .before .before .before .before .before .before .before .before .loop .inv .3; found = λ h. sym (c .before .has-equal .ensures) ∙ c .if1 .taken }, c .before .before .before .before .before .before .before .before .before .loop .inv .1 ∙ c .before .before .before .before .before .before .before .before .before .before .before .before .clear-heads .ensures .long ∙ c .before .before .before .before .before .before .before .before .before .before .before .before .before .before .before .before .sample .ensures .long)
 
--- src/equal.rt:146:9
 enter-requires : tie.Need-enter-requires Inv-loop μ-loop
 enter-requires c κs = (c .before .before .before .before .before .before .before .before .before .before .loop .inv .5, c .before .before .before .before .before .before .before .before .before .loop-test .taken, c .before .before .before .before .before .before .bucket .ensures .1)
 
--- src/equal.rt:147:9
 add-r : tie.Need-add-r Inv-loop μ-loop
 add-r c = omega arith
 
--- src/equal.rt:139:5
 loop-less : tie.Need-loop-less Inv-loop μ-loop
 loop-less c = omega arith
 
--- src/equal.rt:139:5
 loop-again : tie.Need-loop-again Inv-loop μ-loop
 loop-again c =
     let at-loop = c .before .before .before .before .before .before .before .before .before .before .before .before .before .loop in
@@ -126,11 +108,9 @@ loop-again c =
       record { few = room .few; room = omega (arith, long, room .room) },
     )
 
--- src/equal.rt:130:1
 same-length-2 : tie.Need-same-length-2 Inv-loop μ-loop
 same-length-2 c = c .before .loop .inv .1 ∙ c .before .before .before .before .clear-heads .ensures .long ∙ c .before .before .before .before .before .before .before .before .sample .ensures .long
 
--- src/equal.rt:130:1
 returns-2 : tie.Need-returns-2 Inv-loop μ-loop
 returns-2 c = (record { within = omega arith; before = λ k h. c .before .loop .inv .3 k (omega arith); found = λ h. absurd (omega arith) }, c .before .loop .inv .1 ∙ c .before .before .before .before .clear-heads .ensures .long ∙ c .before .before .before .before .before .before .before .before .sample .ensures .long)
 

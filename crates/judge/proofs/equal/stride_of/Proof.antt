@@ -11,27 +11,21 @@ use Rattle.judge.proofs.equal.stride_of.Reads as reads
 use Rattle.judge.proofs.equal.stride_of.Lts as lts
 use Rattle.judge.proofs.equal.names_long.Reads as names-long-reads
 
--- src/equal.rt:68:8
 names-long-requires : tie.Need-names-long-requires
 names-long-requires c κs = search needs
 
--- src/equal.rt:69:9
 returns : tie.Need-returns
 returns c = search needs
 
--- src/equal.rt:72:6
 div-result : tie.Need-div-result
 div-result c = search needs
 
--- src/equal.rt:72:6
 add-result : tie.Need-add-result
 add-result c = omega (arith, div-le-self (c .before .before .before .args .bytes / 16) (c .before .before .before .args .room / 8), c .before .names-long .ensures)
 
--- src/equal.rt:72:5
 mul-result : tie.Need-mul-result
 mul-result c = omega (arith, div-le-self (c .before .before .before .args .bytes / 16) (c .before .before .before .args .room / 8), c .before .names-long .ensures)
 
--- src/equal.rt:64:1
 returns-2 : tie.Need-returns-2
 returns-2 c = stride-room (c .before .before .before .args .bytes) (c .before .before .before .args .room) (omega (arith, c .before .names-long .ensures))
 

@@ -11,27 +11,21 @@ use Rattle.records.proofs.samples.roll_across.Tie as tie
 use Rattle.records.proofs.samples.roll_across.Reads as reads
 use Rattle.records.proofs.samples.roll_across.Lts as lts
 
--- src/samples.rt:67:17
 add-more : tie.Need-add-more
 add-more c = search needs
 
--- src/samples.rt:67:17
 sub-more : tie.Need-sub-more
 sub-more c = search needs
 
--- src/samples.rt:68:21
 mul-result : tie.Need-mul-result
 mul-result c = omega (arith, product-small ((c .args .h + 4294967291 - c .args .from) % 4294967291) (c .args .power) (omega arith) (search needs))
 
--- src/samples.rt:68:7
 add-result : tie.Need-add-result
 add-result c = omega (arith, product-small ((c .args .h + 4294967291 - c .args .from) % 4294967291) (c .args .power) (omega arith) (search needs))
 
--- src/samples.rt:68:5
 cast-result : tie.Need-cast-result
 cast-result c = search needs
 
--- src/samples.rt:63:1
 returns : tie.Need-returns
 unfolding rollAcross
 returns c = (refl, omega arith)

@@ -9,55 +9,42 @@ use Rattle.records.proofs.samples.roll_between.Lts as lts
 use Rattle.records.proofs.samples.roll_across.Reads as roll-across-reads
 use Rattle.records.proofs.words.load.Reads as load-reads
 
--- src/samples.rt:76:35
 mul-load : tie.Need-mul-load
 mul-load c = search needs
 
--- src/samples.rt:76:30
 add-load : tie.Need-add-load
 add-load c = search needs
 
--- src/samples.rt:76:9
 load-requires : tie.Need-load-requires
 load-requires c κs = search needs
 
--- src/samples.rt:77:33
 mul-load-2 : tie.Need-mul-load-2
 mul-load-2 c = search needs
 
--- src/samples.rt:77:28
 add-load-2 : tie.Need-add-load-2
 add-load-2 c = search needs
 
--- src/samples.rt:77:9
 load-requires-2 : tie.Need-load-requires-2
 load-requires-2 c κs = search needs
 
--- src/samples.rt:78:52
 sub-load : tie.Need-sub-load
 sub-load c = search needs
 
--- src/samples.rt:78:36
 mul-load-3 : tie.Need-mul-load-3
 mul-load-3 c = search needs
 
--- src/samples.rt:78:31
 add-load-3 : tie.Need-add-load-3
 add-load-3 c = search needs
 
--- src/samples.rt:78:31
 add-load-4 : tie.Need-add-load-4
 add-load-4 c = search needs
 
--- src/samples.rt:78:9
 load-requires-3 : tie.Need-load-requires-3
 load-requires-3 c κs = search needs
 
--- src/samples.rt:79:5
 roll-across-requires : tie.Need-roll-across-requires
 roll-across-requires c κs = search needs
 
--- src/samples.rt:72:1
 returns : tie.Need-returns
 returns c = (between-told _ _ _ _ _ _ _ _ _ (c .before .before .before .load .ensures) (c .before .before .load2 .ensures) (c .before .load3 .ensures) (c .roll-across .ensures .0), c .roll-across .ensures .1)
 

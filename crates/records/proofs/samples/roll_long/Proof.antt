@@ -11,55 +11,42 @@ use Rattle.records.proofs.samples.roll_long.Lts as lts
 use Rattle.records.proofs.samples.roll_between.Reads as roll-between-reads
 use Rattle.records.proofs.texts.roll.Reads as roll-reads
 
--- src/samples.rt:87:17
 div-first : tie.Need-div-first
 div-first c = search needs
 
--- src/samples.rt:87:17
 add-first : tie.Need-add-first
 add-first c = omega (arith, div-le-self (c .before .before .args .i) (c .before .before .args .stride))
 
--- src/samples.rt:88:17
 add-last : tie.Need-add-last
 add-last c = search needs
 
--- src/samples.rt:88:16
 div-last : tie.Need-div-last
 div-last c = search needs
 
--- src/samples.rt:89:13
 mul-a : tie.Need-mul-a
 mul-a c = omega (arith, first-near (c .before .before .args .i) (c .before .before .args .n) (c .before .before .args .stride) (c .before .before .pre .1) (c .before .before .pre .2))
 
--- src/samples.rt:90:13
 mul-b : tie.Need-mul-b
 mul-b c = omega (arith, last-before (c .before .before .args .i) (c .before .before .args .n) (c .before .before .args .stride) (c .before .before .pre .1) (c .before .before .pre .2))
 
--- src/samples.rt:91:30
 sub-roll : tie.Need-sub-roll
 sub-roll c = omega (arith, first-behind (c .before .before .args .i) (c .before .before .args .n) (c .before .before .args .stride) (c .before .before .pre .1) (c .before .before .pre .2))
 
--- src/samples.rt:91:9
 roll-requires : tie.Need-roll-requires
 roll-requires c κs = (omega (arith, first-behind (c .before .before .args .i) (c .before .before .args .n) (c .before .before .args .stride) (c .before .before .pre .1) (c .before .before .pre .2), first-near (c .before .before .args .i) (c .before .before .args .n) (c .before .before .args .stride) (c .before .before .pre .1) (c .before .before .pre .2)), omega arith)
 
--- src/samples.rt:92:9
 roll-between-requires : tie.Need-roll-between-requires
 roll-between-requires c κs = (in-order (c .before .before .before .args .i) (c .before .before .before .args .n) (c .before .before .before .args .stride) (c .before .before .before .pre .1) (c .before .before .before .pre .2), last-room (c .before .before .before .args .i) (c .before .before .before .args .n) (c .before .before .before .args .stride) (c .before .before .before .pre .1) (c .before .before .before .pre .2) _ _ (c .before .before .before .args .at) (c .before .before .before .pre .0) (c .before .before .before .pre .3), c .roll .ensures .1, first-small (c .before .before .before .args .i) (c .before .before .before .args .n) (c .before .before .before .args .stride) (c .before .before .before .pre .1) (c .before .before .before .pre .2) _ _ (c .before .before .before .args .at) (c .before .before .before .pre .0) (c .before .before .before .pre .3))
 
--- src/samples.rt:93:22
 add-roll : tie.Need-add-roll
 add-roll c = search needs
 
--- src/samples.rt:93:22
 sub-roll-2 : tie.Need-sub-roll-2
 sub-roll-2 c = omega (arith, last-before (c .before .before .before .before .args .i) (c .before .before .before .before .args .n) (c .before .before .before .before .args .stride) (c .before .before .before .before .pre .1) (c .before .before .before .before .pre .2))
 
--- src/samples.rt:93:5
 roll-requires-2 : tie.Need-roll-requires-2
 roll-requires-2 c κs = (omega (arith, last-before (c .before .before .before .before .args .i) (c .before .before .before .before .args .n) (c .before .before .before .before .args .stride) (c .before .before .before .before .pre .1) (c .before .before .before .before .pre .2)), c .roll-between .ensures .1)
 
--- src/samples.rt:83:1
 returns : tie.Need-returns
 returns c = (long-told (c .before .before .before .before .before .args .i) (c .before .before .before .before .before .args .n) (c .before .before .before .before .before .args .stride) (c .before .before .before .before .before .pre .1) (c .before .before .before .before .before .pre .2) _ _ (c .before .before .before .before .before .args .at) (c .before .before .before .before .before .pre .0) (c .before .before .before .before .before .pre .3) _ _ _ (c .before .before .roll .ensures) (c .before .roll-between .ensures .0) (c .roll2 .ensures .0), c .roll2 .ensures .1)
 

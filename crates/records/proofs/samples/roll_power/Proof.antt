@@ -17,28 +17,22 @@ Inv-loop n x₀ i₀ x i = (i ≤ n) × (x ≡ rollPower i) × (x < 4294967291)
 abbrev μ-loop : tie.MeasureT-loop
 μ-loop n x₀ i₀ x i = n - i
 
--- src/samples.rt:30:5
 loop-holds : tie.Need-loop-holds Inv-loop μ-loop
 unfolding rollPower
 loop-holds c = (omega arith, refl, omega arith)
 
--- src/samples.rt:31:9
 roll-byte-requires : tie.Need-roll-byte-requires Inv-loop μ-loop
 roll-byte-requires c κs = omega arith
 
--- src/samples.rt:32:9
 add-i : tie.Need-add-i Inv-loop μ-loop
 add-i c = omega arith
 
--- src/samples.rt:30:5
 loop-less : tie.Need-loop-less Inv-loop μ-loop
 loop-less c = omega arith
 
--- src/samples.rt:30:5
 loop-again : tie.Need-loop-again Inv-loop μ-loop
 loop-again c = (omega arith, power-one _ _ _ (c .before .before .loop .inv .1) (c .roll-byte .ensures .0), c .roll-byte .ensures .1)
 
--- src/samples.rt:25:1
 returns : tie.Need-returns Inv-loop μ-loop
 returns c = let z : c .before .loop .i ≡ c .before .before .args .n = omega arith in (rw z at (c .before .loop .inv .1), c .before .loop .inv .2)
 

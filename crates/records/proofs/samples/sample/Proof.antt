@@ -21,63 +21,48 @@ Inv-loop text scratch₀ at stride factor d₀ power₀ i₀ k₀ scratch d powe
 abbrev μ-loop : tie.MeasureT-loop
 μ-loop text scratch₀ at stride factor d₀ power₀ i₀ k₀ scratch d power i k = length text - i
 
--- src/samples.rt:43:9
 returns : tie.Need-returns Inv-loop μ-loop
 returns c = samples-none _ _ _ _ (c .if1 .taken)
 
--- src/samples.rt:45:9
 roll-power-requires : tie.Need-roll-power-requires Inv-loop μ-loop
 roll-power-requires c κs = search needs
 
--- src/samples.rt:50:5
 loop-holds : tie.Need-loop-holds Inv-loop μ-loop
 loop-holds c = sampling-none _ _ _ _
 
--- src/samples.rt:51:32
 mul-put-pair : tie.Need-mul-put-pair Inv-loop μ-loop
 mul-put-pair c = omega (arith, sample-fits _ _ _ _ (c .before .before .before .before .before .before .pre) (omega arith) _ _ _ _ _ (c .before .loop .inv))
 
--- src/samples.rt:51:27
 add-put-pair : tie.Need-add-put-pair Inv-loop μ-loop
 add-put-pair c = omega (arith, sample-fits _ _ _ _ (c .before .before .before .before .before .before .pre) (omega arith) _ _ _ _ _ (c .before .loop .inv))
 
--- src/samples.rt:51:9
 put-pair-requires : tie.Need-put-pair-requires Inv-loop μ-loop
 put-pair-requires c κs = omega (arith, sample-fits _ _ _ _ (c .before .before .before .before .before .before .pre) (omega arith) _ _ _ _ _ (c .before .loop .inv))
 
--- src/samples.rt:52:12
 sub-if2 : tie.Need-sub-if2 Inv-loop μ-loop
 sub-if2 c = c .before .before .before .before .loop .inv .within
 
--- src/samples.rt:53:13
 same-length : tie.Need-same-length Inv-loop μ-loop
 same-length c = (filled-more _ _ _ _ (c .before .before .before .before .before .before .before .before .before .before .pre) (omega arith) _ _ _ _ _ (c .before .before .before .before .before .loop .inv) _ (c .before .before .before .put-pair .ensures)) .long
 
--- src/samples.rt:53:13
 returns-2 : tie.Need-returns-2 Inv-loop μ-loop
 returns-2 c = filled-all _ _ _ _ (c .before .before .before .before .before .before .before .before .before .before .pre) (omega arith) _ _ _ _ _ (c .before .before .before .before .before .loop .inv) _ (c .before .before .before .put-pair .ensures) (c .if2 .taken)
 
--- src/samples.rt:55:9
 roll-requires : tie.Need-roll-requires Inv-loop μ-loop
 roll-requires c κs = (omega (arith, c .before .before .before .before .before .loop .inv .within), digest-small _ _ _ _ (c .before .before .before .before .before .before .before .before .before .before .pre) (omega arith) _ _ _ _ _ (c .before .before .before .before .before .loop .inv))
 
--- src/samples.rt:56:9
 times-requires : tie.Need-times-requires Inv-loop μ-loop
 times-requires c κs = search needs
 
--- src/samples.rt:57:9
 add-i : tie.Need-add-i Inv-loop μ-loop
 add-i c = omega (arith, c .before .before .before .before .before .before .before .loop .inv .within)
 
--- src/samples.rt:58:9
 add-k : tie.Need-add-k Inv-loop μ-loop
 add-k c = omega (arith, sample-fits _ _ _ _ (c .before .before .before .before .before .before .before .before .before .before .before .before .pre) (omega arith) _ _ _ _ _ (c .before .before .before .before .before .before .before .loop .inv))
 
--- src/samples.rt:50:5
 loop-less : tie.Need-loop-less Inv-loop μ-loop
 loop-less c = omega (arith, c .before .before .before .before .before .before .before .loop .inv .within)
 
--- src/samples.rt:50:5
 loop-again : tie.Need-loop-again Inv-loop μ-loop
 loop-again c = sampling-more _ _ _ _ (c .before .before .before .before .before .before .before .before .before .before .before .before .pre) (omega arith) _ _ _ _ _ (c .before .before .before .before .before .before .before .loop .inv) _ (c .before .before .before .before .before .put-pair .ensures) _ _ _ (c .before .before .if2 .left) (c .before .before .before .before .before .before .before .before .roll-power .ensures .0) (c .before .roll .ensures .0) (c .times .ensures .0)
 

@@ -8,15 +8,12 @@ use Rattle.records.proofs.samples.times.Tie as tie
 use Rattle.records.proofs.samples.times.Reads as reads
 use Rattle.records.proofs.samples.times.Lts as lts
 
--- src/samples.rt:21:6
 mul-result : tie.Need-mul-result
 mul-result c = omega (arith, product-small (c .args .a) (c .args .b) (search needs) (search needs))
 
--- src/samples.rt:21:5
 cast-result : tie.Need-cast-result
 cast-result c = search needs
 
--- src/samples.rt:18:1
 returns : tie.Need-returns
 returns c = search needs
 
