@@ -28,11 +28,11 @@ use records::words::kind;
 use records::words::word;
 
 // What the items of a list are, all of them: the third of a cell's four bytes.
-const MIXED: u8 = 0;
+pub(crate) const MIXED: u8 = 0;
 
 const ARGUMENTS: u8 = 1;
 
-const PARAMETERS: u8 = 2;
+pub(crate) const PARAMETERS: u8 = 2;
 
 const STATEMENTS: u8 = 3;
 
