@@ -154,6 +154,22 @@ noneOk Body = true
 noneOk Item = false
 noneOk Rest = true
 
+abbrev pub isUnused : Role → Bool
+isUnused Unused = true
+isUnused Number = false
+isUnused Text = false
+isUnused Length = false
+isUnused Expr = false
+isUnused TypeRef = false
+isUnused TypeOrNone = false
+isUnused Name = false
+isUnused Variable = false
+isUnused Arguments = false
+isUnused Parameters = false
+isUnused Body = false
+isUnused Item = false
+isUnused Rest = false
+
 -- ---- what is known when record r is reached
 
 -- of each record below r: what its list holds, how deep it is, its kind

@@ -15,7 +15,7 @@ use Rattle.records.specs.Kinds.{kindType, kindList, kindValue, kindTypeArgument
 use Rattle.records.specs.Shapes.{rowOf, refers}
 use Rattle.judge.specs.declared.pass.Words.{Words}
 use Rattle.judge.specs.Judge.{fewestRecords}
-use Rattle.judge.specs.Inner.{badgesEach, lowBadge, highBadge, noneOk, TypesLead, KnownBelow, Counting, WordsOf, TookRecord}
+use Rattle.judge.specs.Inner.{badgesEach, lowBadge, highBadge, noneOk, isUnused, TypesLead, KnownBelow, Counting, WordsOf, TookRecord}
 
 -- a row of twenty numbers for each kind: five for each of the words A, B and C, and five for the record
 abbrev pub plainRules : List ℕ
@@ -104,22 +104,6 @@ badgeIn known p = getD known (p * knownBytes + slotKind) 0 * badgesEach + getD k
 -- a word whose five numbers begin at `at` may refer to a record of this badge
 abbrev pub badgeWithin : List ℕ → ℕ → ℕ → Bool
 badgeWithin rules at badge = leb (getD rules (at + badgeFrom) 0) badge && leb badge (getD rules (at + badgeTo) 0)
-
-abbrev pub isUnused : Role → Bool
-isUnused Unused = true
-isUnused Number = false
-isUnused Text = false
-isUnused Length = false
-isUnused Expr = false
-isUnused TypeRef = false
-isUnused TypeOrNone = false
-isUnused Name = false
-isUnused Variable = false
-isUnused Arguments = false
-isUnused Parameters = false
-isUnused Body = false
-isUnused Item = false
-isUnused Rest = false
 
 abbrev pub isText : Role → Bool
 isText Unused = false
