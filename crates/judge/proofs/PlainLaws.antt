@@ -20,12 +20,12 @@ use Rattle.records.specs.Rules.{wordOk, refersTo}
 use Rattle.records.specs.Depth.{depthBelow}
 use Rattle.records.specs.Words.{kindOf, detailOf, none, boolNumber, mostRecords}
 use Rattle.records.specs.Shapes.{refers, rowOf, rowAt, shapeOf}
-use Rattle.judge.specs.Inner.{capped, shallowDepth, classIn, depthIn, countIn, kindIn, listNumber, lowBadge, highBadge, noneOk, KnownBelow, Counting, Counted}
+use Rattle.judge.specs.Inner.{capped, shallowDepth, classIn, depthIn, countIn, kindIn, listNumber, lowBadge, highBadge, noneOk, KnownBelow, Counting, Counted, isUnused}
 use Rattle.judge.proofs.CapLaws.{cap-high}
 use Rattle.judge.proofs.CountLaws.{refers-not, refers-other, refers-same, cap-plus}
 use Rattle.judge.proofs.DepthLaws.{below-none, below-told, below-later}
 use Rattle.judge.proofs.BadgeLaws.{reference-out, reference-in}
-use Rattle.judge.specs.Plain.{plainRules, isUnused, isText, ruleFits, rowFits, Place, Owned}
+use Rattle.judge.specs.Plain.{plainRules, isText, ruleFits, rowFits, Place, Owned}
 
 pub scaled-small : (x y : ℕ) → x ≤ 8589934592 → y < 256 → x * y ≤ 2190433320960
 scaled-small x y h b = omega (arith, mul-le-mul-right y h)

@@ -17,28 +17,13 @@ use Rattle.records.specs.Shapes.{rowOf, rowAt}
 use Rattle.records.specs.Rules.{wordsOk, isFirstType}
 use Rattle.records.specs.Depth.{larger}
 use Rattle.judge.specs.declared.pass.Words.{Words}
-use Rattle.judge.specs.Inner.{TypesLead, capped, classIn, stored, classAt, KnownBelow, Counting, WordsOf, Took, TookWords, otherRules, TookRecord}
-use Rattle.judge.specs.Plain.{isUnused, isText, Place, Cells, Owned, PlainForm, PlainReady, WordSlots, TookSlots, TookPlain}
+use Rattle.judge.specs.Inner.{TypesLead, capped, classIn, stored, classAt, KnownBelow, Counting, WordsOf, Took, TookWords, otherRules, TookRecord, isUnused}
+use Rattle.judge.specs.Plain.{isText, Place, Cells, Owned, PlainForm, PlainReady, WordSlots, TookSlots, TookPlain}
 use Rattle.judge.proofs.CapLaws.{larger-none}
+use Rattle.judge.proofs.RoleCases.{unused-role}
 use Rattle.judge.proofs.CountLaws.{known-counted, stored-length}
 use Rattle.judge.proofs.TakeLaws.{unused-took, took-words, rules-told, bytes-told}
 use Rattle.judge.proofs.PlainLaws.{RuleFacts, RowFacts, row-facts, plain-row, placed, counted-slot, slot-depth, slot-right, known-owned, counting-owned}
-
-unused-role : (role : Role) → isUnused role ≡ true → role ≡ Unused
-unused-role Unused e = refl
-unused-role Number e = absurd (false≢true e)
-unused-role Text e = absurd (false≢true e)
-unused-role Length e = absurd (false≢true e)
-unused-role Expr e = absurd (false≢true e)
-unused-role TypeRef e = absurd (false≢true e)
-unused-role TypeOrNone e = absurd (false≢true e)
-unused-role Name e = absurd (false≢true e)
-unused-role Variable e = absurd (false≢true e)
-unused-role Arguments e = absurd (false≢true e)
-unused-role Parameters e = absurd (false≢true e)
-unused-role Body e = absurd (false≢true e)
-unused-role Item e = absurd (false≢true e)
-unused-role Rest e = absurd (false≢true e)
 
 -- the badge of the record in slot p is one that the rule at `at` allows
 abbrev badgeAllowed : List ℕ → ℕ → List ℕ → ℕ → Bool

@@ -10,7 +10,7 @@ use Rattle.laws.specs.Fix.{pick, below, fix}
 use Rattle.laws.specs.Below.{sumBelow}
 use Rattle.records.specs.declared.shape.Role.{Role}
 use Rattle.records.specs.declared.shape.Role.the-variants.{Unused, Number, Text, Length, Expr, TypeRef, TypeOrNone, Name, Variable, Arguments, Parameters, Body, Item, Rest}
-use Rattle.records.specs.Layout.{knownBytes, scratchEach}
+use Rattle.records.specs.Layout.{knownBytes, nextDepth, nextCount, nextClass, nextKind, scratchEach}
 use Rattle.records.specs.Words.{recordBytes, mostRecords, kindOf, wordOf, none, A, B, C, D, E}
 use Rattle.records.specs.Kinds.{kindType, kindInt, kindName, kindCall, kindList, kindValue, kindTypeArgument, kindDeclare, kindContinue, kindVariable}
 use Rattle.records.specs.Shapes.{rowAt}
@@ -45,23 +45,23 @@ capped most x = pick (ltb x most) x most
 abbrev pub shallowDepth : List ℕ → ℕ → ℕ
 shallowDepth tree r = capped 65 (depth tree r)
 
--- ---- the bytes of record k, behind four that belong to no record: depth, count, list, kind
+-- ---- the bytes of record k, in the slot behind k others, the first of which belongs to no record
 
 abbrev pub classIn : List ℕ → ℕ → ℕ
-classIn l k = getD l (k * knownBytes + 6) 0
+classIn l k = getD l (k * knownBytes + nextClass) 0
 
 abbrev pub depthIn : List ℕ → ℕ → ℕ
-depthIn l k = getD l (k * knownBytes + 4) 0
+depthIn l k = getD l (k * knownBytes + nextDepth) 0
 
 abbrev pub countIn : List ℕ → ℕ → ℕ
-countIn l k = getD l (k * knownBytes + 5) 0
+countIn l k = getD l (k * knownBytes + nextCount) 0
 
 abbrev pub kindIn : List ℕ → ℕ → ℕ
-kindIn l k = getD l (k * knownBytes + 7) 0
+kindIn l k = getD l (k * knownBytes + nextKind) 0
 
 -- the bytes of record r are written, with a count of 0
 abbrev pub stored : List ℕ → ℕ → ℕ → ℕ → ℕ → List ℕ
-stored l r class depth kind = set (set (set (set l (r * knownBytes + 4) depth) (r * knownBytes + 5) 0) (r * knownBytes + 6) class) (r * knownBytes + 7) kind
+stored l r class depth kind = set (set (set (set l (r * knownBytes + nextDepth) depth) (r * knownBytes + nextCount) 0) (r * knownBytes + nextClass) class) (r * knownBytes + nextKind) kind
 
 -- ---- what a list holds
 
@@ -153,6 +153,22 @@ noneOk Parameters = true
 noneOk Body = true
 noneOk Item = false
 noneOk Rest = true
+
+abbrev pub isUnused : Role → Bool
+isUnused Unused = true
+isUnused Number = false
+isUnused Text = false
+isUnused Length = false
+isUnused Expr = false
+isUnused TypeRef = false
+isUnused TypeOrNone = false
+isUnused Name = false
+isUnused Variable = false
+isUnused Arguments = false
+isUnused Parameters = false
+isUnused Body = false
+isUnused Item = false
+isUnused Rest = false
 
 -- ---- what is known when record r is reached
 

@@ -172,7 +172,12 @@ pub fn clear_outputs(
     strings: &mut [u8],
     floats: &mut [u8],
 )
-    ensures { λ _. ⌜ (now (instructions .exit) ≡ cleared (now (instructions .entry))) × (now (variables .exit) ≡ cleared (now (variables .entry))) × (now (labels .exit) ≡ cleared (now (labels .entry))) × (now (functions .exit) ≡ cleared (now (functions .entry))) × (now (strings .exit) ≡ cleared (now (strings .entry))) × (now (floats .exit) ≡ cleared (now (floats .entry))) ⌝ }
+    ensures instructions { λ _. ⌜ now (instructions .exit) ≡ cleared (now (instructions .entry)) ⌝ }
+    ensures variables { λ _. ⌜ now (variables .exit) ≡ cleared (now (variables .entry)) ⌝ }
+    ensures labels { λ _. ⌜ now (labels .exit) ≡ cleared (now (labels .entry)) ⌝ }
+    ensures functions { λ _. ⌜ now (functions .exit) ≡ cleared (now (functions .entry)) ⌝ }
+    ensures strings { λ _. ⌜ now (strings .exit) ≡ cleared (now (strings .entry)) ⌝ }
+    ensures floats { λ _. ⌜ now (floats .exit) ≡ cleared (now (floats .entry)) ⌝ }
 {
     clear(instructions);
     clear(variables);

@@ -1,6 +1,6 @@
 // The rules for one record, over what is known of the records below it.
 ghost use mathlib.Core.Path.{_≡_};
-ghost use mathlib.Core.Bool.{true, not, _&&_, _||_};
+ghost use mathlib.Core.Bool.{not, _&&_, _||_};
 ghost use Prim.Native.Nat.{_+_, _*_, _≤_};
 ghost use lib.Dec.{eqb, leb};
 ghost use lib.ListN.{length};
@@ -8,8 +8,7 @@ ghost use Rattle.laws.specs.Fix.{below};
 ghost use Rattle.records.specs.Layout.{knownBytes};
 ghost use Rattle.records.specs.Words.{recordBytes, none};
 ghost use Rattle.records.specs.Kinds.{kindIf, kindFunction};
-ghost use Rattle.records.specs.declared.shape.Role.the-variants.{Unused};
-ghost use Rattle.judge.specs.Inner.{itemClass, cellClass, classAt, classIn, lowBadge, highBadge, noneOk};
+ghost use Rattle.judge.specs.Inner.{itemClass, cellClass, classAt, classIn, lowBadge, highBadge, noneOk, isUnused};
 use records::layout::KNOWN_BYTES;
 use records::layout::NEXT_CLASS;
 use records::numbers::KIND_CONTINUE;
@@ -28,11 +27,11 @@ use records::words::kind;
 use records::words::word;
 
 // What the items of a list are, all of them: the third of a cell's four bytes.
-const MIXED: u8 = 0;
+pub(crate) const MIXED: u8 = 0;
 
 const ARGUMENTS: u8 = 1;
 
-const PARAMETERS: u8 = 2;
+pub(crate) const PARAMETERS: u8 = 2;
 
 const STATEMENTS: u8 = 3;
 
@@ -198,12 +197,25 @@ pub(crate) fn none_ok(role: Role) -> bool
     }
 }
 
+// A word of this role is not used.
 pub(crate) fn is_unused(role: Role) -> bool
-    ensures { λ v. ⌜ (v ≡ true → role ≡ Unused) ⌝ }
+    ensures { λ v. ⌜ v ≡ isUnused role ⌝ }
 {
     match role {
         Role::Unused => true,
-        _ => false,
+        Role::Number => false,
+        Role::Text => false,
+        Role::Length => false,
+        Role::Expr => false,
+        Role::TypeRef => false,
+        Role::TypeOrNone => false,
+        Role::Name => false,
+        Role::Variable => false,
+        Role::Arguments => false,
+        Role::Parameters => false,
+        Role::Body => false,
+        Role::Item => false,
+        Role::Rest => false,
     }
 }
 

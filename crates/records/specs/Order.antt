@@ -10,7 +10,7 @@ use Rattle.laws.specs.All.{All}
 use Rattle.laws.specs.Fix.{pick}
 use Rattle.laws.specs.Splice.{splice}
 use Rattle.records.specs.Chains.{headAt, entryAt}
-use Rattle.records.specs.Words.{wordAt, wordOf, textAt, sameText, word, A, B}
+use Rattle.records.specs.Words.{wordAt, wordOf, textAt, sameText, word, A, B, secondWord}
 
 -- how many bytes two texts share, from the first on
 unfoldable pub common : List ℕ → List ℕ → ℕ
@@ -56,7 +56,7 @@ firstWith t r (e ∷ l) = pick (sameText (t e) (t r)) e (firstWith t r l)
 unfoldable pub linkPlace : (ℕ → List ℕ) → ℕ → ℕ → List ℕ → ℕ → List ℕ → ℕ
 unfolding pick common
 linkPlace t n r before link [] = link
-linkPlace t n r before link (e ∷ l) = pick (ltb (common before (t e)) (common before (t r))) link (linkPlace t n r (t e) (entryAt n e + 4) l)
+linkPlace t n r before link (e ∷ l) = pick (ltb (common before (t e)) (common before (t r))) link (linkPlace t n r (t e) (entryAt n e + secondWord) l)
 
 unfoldable pub textBefore : (ℕ → List ℕ) → ℕ → List ℕ → List ℕ → List ℕ
 unfolding pick common
@@ -73,7 +73,7 @@ Ordered t before (e ∷ l) = All (λ g. common before (t g) ≤ common before (t
 -- the link h leads to the chain: a link is one more than the entry it leads to, 0 behind the last; each entry has what it shares with the one before, and its link
 abbrev pub Linked : (ℕ → List ℕ) → ℕ → List ℕ → List ℕ → ℕ → List ℕ → Type 0
 Linked t n s before h [] = h ≡ 0
-Linked t n s before h (e ∷ l) = (h ≡ e + 1) × (wordAt s (entryAt n e) ≡ common before (t e)) × Linked t n s (t e) (wordAt s (entryAt n e + 4)) l
+Linked t n s before h (e ∷ l) = (h ≡ e + 1) × (wordAt s (entryAt n e) ≡ common before (t e)) × Linked t n s (t e) (wordAt s (entryAt n e + secondWord)) l
 
 -- the numbers below r are placed, in n buckets
 abbrev pub Placed : (ℕ → List ℕ) → (ℕ → ℕ) → ℕ → ℕ → List ℕ → Type 0

@@ -11,6 +11,7 @@ use crate::texts::reach;
 use crate::texts::same_eight;
 use crate::texts::same_sixty_four;
 use crate::texts::same_text;
+use crate::words::SECOND_WORD;
 use crate::words::WORD_A;
 use crate::words::WORD_B;
 use crate::words::index;
@@ -165,7 +166,7 @@ pub fn find_place(
             }
             shared = a.bytes;
         }
-        link = e + 4;
+        link = e + SECOND_WORD;
         at = index(load(scratch, link));
     }
     Place {

@@ -41,12 +41,13 @@ same-length-7 c = search needs
 returns : tie.Need-returns
 returns c =
     let at-clear-outputs = c .before .before .before .before .before .before .before .before .before .before .before .before in
+    let six = at-clear-outputs .clear-outputs .ensures in
     let at-if1 = at-clear-outputs .before .before .before .before .before .before .before in
     let at-has-place = at-if1 .before in
     let at-judge-tree = at-has-place .before .before .before in
     let long = at-judge-tree .before .before .lengths-of .ensures in (
       answer-in _ _ _ _ (long-judged _ _ _ _ _ long _ (at-judge-tree .judge-tree .ensures .0)) _ (at-has-place .has-place .ensures),
-      outputs-cleared _ _ _ _ (long-judged _ _ _ _ _ long _ (at-judge-tree .judge-tree .ensures .0)) _ (at-has-place .has-place .ensures) _ (long-after _ _ _ _ _ long _ _ (at-judge-tree .judge-tree .ensures .1)) (at-if1 .if1 .taken) _ _ _ _ _ _ (at-clear-outputs .clear-outputs .ensures),
+      outputs-cleared _ _ _ _ (long-judged _ _ _ _ _ long _ (at-judge-tree .judge-tree .ensures .0)) _ (at-has-place .has-place .ensures) _ (long-after _ _ _ _ _ long _ _ (at-judge-tree .judge-tree .ensures .1)) (at-if1 .if1 .taken) _ _ _ _ _ _ (six .0, six .1 .0, six .1 .1 .0, six .1 .1 .1 .0, six .1 .1 .1 .1 .0, six .1 .1 .1 .1 .1),
     )
 
 same-length-8 : tie.Need-same-length-8
