@@ -6,7 +6,7 @@ ghost use Rattle.records.specs.Words.{wordOf};
 ghost use Rattle.records.specs.Kinds.{kindUnary, kindBinary, kindCall};
 ghost use Rattle.syntax.specs.Places.{IsExpr, IsKind, TypeAt};
 ghost use Rattle.statements.specs.Converting.{Converting, ExprAfforded, ArgsAfforded};
-ghost use Rattle.statements.specs.Answers.{given₂, given, exprSteps, unarySteps, logicSteps, otherSteps, binarySteps, callSteps, argsSteps, ConvertsAs, CallArgsAs};
+ghost use Rattle.statements.specs.Answers.{givens, given, exprSteps, unarySteps, logicSteps, otherSteps, binarySteps, callSteps, argsSteps, ConvertsAs, CallArgsAs};
 ghost use Rattle.statements.specs.Turns.{InTurn, exprTypes, unaryTypes, sidesTypes, binaryTypes, argsTypes, callTypes, ConvertsTyped, ArgumentsTyped};
 use crate::answers::Converted;
 use crate::answers::ConvertedArgs;
@@ -183,7 +183,7 @@ fn convert_other(
     requires { ⌜ Converting (now tree) (now text) (now arena) (now scratch) c × ExprAfforded (now tree) (now text) c e ⌝ }
     requires { ⌜ IsKind (now tree) kindBinary e × TypeAt (now tree) y × TypeAt (now tree) q ⌝ }
     requires { ⌜ InTurn (now tree) (now text) (now scratch) c ⌝ }
-    ensures { λ a. ⌜ ConvertsAs (given₂ otherSteps y q) c e (now (tree .entry)) (now (text .entry)) (now (arena .entry)) (now (scratch .entry)) a (now (arena .exit)) (now (scratch .exit)) ⌝ }
+    ensures { λ a. ⌜ ConvertsAs (givens otherSteps y q) c e (now (tree .entry)) (now (text .entry)) (now (arena .entry)) (now (scratch .entry)) a (now (arena .exit)) (now (scratch .exit)) ⌝ }
     ensures types { λ a. ⌜ ConvertsTyped sidesTypes c e (now (tree .entry)) (now (text .entry)) (now (scratch .entry)) a (now (scratch .exit)) ⌝ }
 {
     let op = detail(tree, e);

@@ -31,6 +31,7 @@ use crate::numbers::TAG_FLOAT;
 use crate::numbers::TAG_INT;
 use crate::numbers::TAG_NULL;
 use crate::numbers::TAG_STRING;
+use crate::numbers::TAG_UNSIGNED;
 use crate::numbers::TAG_VARIABLE;
 use expressions::names::find_name;
 use ir::floats::float_entry;
@@ -99,7 +100,7 @@ fn operand_of(w: Four) -> Operand
     }
     if tag < TAG_FLOAT {
         let bits = w.2 as u64 + w.3 as u64 * 4294967296;
-        return Operand::Int(bits, tag % 2 == 1, tag >= 4);
+        return Operand::Int(bits, tag % 2 == 1, tag >= TAG_UNSIGNED);
     }
     if tag == TAG_FLOAT {
         return Operand::Float(w.2);
