@@ -128,7 +128,7 @@ pub struct Place {
 }
 
 // The chain is walked from the link at `head` on. An entry tells how far its text agrees with that of the one before: only where r's text agrees just as far
-// is it compared, from there on, so that no byte of r's text is compared twice.
+// is it compared, from there on, so that no byte of r's text is compared more than twice.
 pub fn find_place(
     tree: &[u8],
     text: &[u8],
