@@ -25,6 +25,7 @@ use records::samples::sample;
 use records::samples::sampled_roll;
 use records::texts::roll_digest;
 use records::texts::word_digest;
+use records::words::SECOND_WORD;
 use records::words::WORD_A;
 use records::words::WORD_B;
 use records::words::WORD_C;
@@ -124,7 +125,7 @@ fn has_equal(
         if equals(tree, text, k, r, digest, d) {
             return true;
         }
-        at = index(load(scratch, e + 4));
+        at = index(load(scratch, e + SECOND_WORD));
     }
     false
 }
