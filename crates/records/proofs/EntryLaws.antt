@@ -16,7 +16,7 @@ use Rattle.laws.proofs.Splices.{length-splice}
 use Rattle.laws.proofs.Tests.{tested}
 use Rattle.records.specs.Chains.{headAt, entryAt, ChainRoom}
 use Rattle.records.specs.Words.{byteAt, wordAt, bytesOf, word}
-use Rattle.records.specs.Order.{common, chainOf, firstWith, linkPlace, Linked, Placed, Leads, PlaceIn, PlaceOf, placedAt}
+use Rattle.records.specs.Order.{common, chainOf, firstWith, linkPlace, LinkedChain, Placed, Leads, PlaceIn, PlaceOf, placedAt}
 use Rattle.records.proofs.Apart.{byte-apart, word-apart, word-there, word-back}
 use Rattle.records.proofs.PlacedLaws.{all-map, placed-found, chain-here, chain-other, chain-below, chain-ordered, chain-short}
 use Rattle.records.proofs.LinkedLaws.{Off, Stays, all-of, linked-kept, place-holds, placed-more}

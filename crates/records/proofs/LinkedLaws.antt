@@ -15,7 +15,7 @@ use Rattle.laws.specs.Fix.{pick}
 use Rattle.laws.proofs.Tests.{tested}
 use Rattle.records.specs.Chains.{headAt, entryAt}
 use Rattle.records.specs.Words.{byteAt, wordAt, sameText}
-use Rattle.records.specs.Order.{common, placed, chainOf, firstWith, linkPlace, textBefore, Ordered, Linked, Placed}
+use Rattle.records.specs.Order.{common, placedIn, chainOf, firstWith, linkPlace, textBefore, Ordered, LinkedChain, Placed}
 use Rattle.records.proofs.CommonLaws.{common-other}
 use Rattle.records.proofs.PlacedLaws.{all-map, Distinct, placed-here, placed-on, placed-found, place-here, place-on, text-here, text-on, first-not, chain-here, chain-other, chain-inside, chain-below, chain-ordered, chain-distinct}
 
@@ -24,20 +24,20 @@ all-of [] f = tt
 all-of (e ∷ l) f = (f e, all-of l f)
 
 module _ (t : ℕ → List ℕ) (n : ℕ) where
-  pub linked-one : (s before : List ℕ) (h : ℕ) (l m : List ℕ) → Linked t n s before h l → Linked t n s before h m → l ≡ m
+  pub linked-one : (s before : List ℕ) (h : ℕ) (l m : List ℕ) → LinkedChain t n s before h l → LinkedChain t n s before h m → l ≡ m
   linked-one s before h [] [] a b = refl
   linked-one s before h [] (e ∷ m) a b = absurd (omega (arith, a, b .0))
   linked-one s before h (e ∷ l) [] a b = absurd (omega (arith, a .0, b))
   linked-one s before h (e ∷ l) (f ∷ m) a b =
       let z : f ≡ e = omega (arith, a .0, b .0) in
-      let c : Linked t n s (t e) (wordAt s (entryAt n e + 4)) m = rw z at (b .2) in
+      let c : LinkedChain t n s (t e) (wordAt s (entryAt n e + 4)) m = rw z at (b .2) in
       ap₂ (λ (x : ℕ) (y : List ℕ). x ∷ y) (sym z) (linked-one s (t e) (wordAt s (entryAt n e + 4)) l m (a .2) c)
 
   -- the two words of entry e stay
   abbrev pub Stays : List ℕ → List ℕ → ℕ → Type 0
   Stays s s′ e = (wordAt s′ (entryAt n e) ≡ wordAt s (entryAt n e)) × (wordAt s′ (entryAt n e + 4) ≡ wordAt s (entryAt n e + 4))
 
-  pub linked-kept : (s s′ before : List ℕ) (h : ℕ) (l : List ℕ) → All (Stays s s′) l → Linked t n s before h l → Linked t n s′ before h l
+  pub linked-kept : (s s′ before : List ℕ) (h : ℕ) (l : List ℕ) → All (Stays s s′) l → LinkedChain t n s before h l → LinkedChain t n s′ before h l
   linked-kept s s′ before h [] k a = a
   linked-kept s s′ before h (e ∷ l) k a =
       (a .0, k .0 .0 ∙ a .1, rw (k .0 .1) (linked-kept s s′ (t e) (wordAt s (entryAt n e + 4)) l (k .1) (a .2)))
@@ -48,7 +48,7 @@ module _ (t : ℕ → List ℕ) (n : ℕ) where
   steps-left s (suc f) zero = 0
   steps-left s (suc f) (suc k) = suc (steps-left s f (wordAt s (entryAt n k + 4)))
 
-  pub linked-steps-left : (s before : List ℕ) (h : ℕ) (l : List ℕ) (f : ℕ) → Linked t n s before h l → length l ≤ f → steps-left s f h ≡ length l
+  pub linked-steps-left : (s before : List ℕ) (h : ℕ) (l : List ℕ) (f : ℕ) → LinkedChain t n s before h l → length l ≤ f → steps-left s f h ≡ length l
   unfolding steps-left
   linked-steps-left s before h [] zero a k = refl
   linked-steps-left s before h [] (suc f) a k = rw a refl
@@ -100,9 +100,9 @@ module _ (t : ℕ → List ℕ) (n : ℕ) where
       entries-stay (e ∷ l) a b = (entry-stays e (a .0) (b .0), entries-stay l (a .1) (b .1))
 
       linked-placed : (before : List ℕ) (link : ℕ) (l : List ℕ) → link + 4 ≤ entryAt n r → All (λ e. e < r) l → Distinct l → All (Apart link) l
-          → Linked t n s before (wordAt s link) l → All (λ e. sameText (t e) (t r) ≡ false) l → place ≡ linkPlace t n r before link l
-          → shared ≡ common (textBefore t r before l) (t r) → Linked t n s′ before (wordAt s′ link) (placed t r before l)
-      unfolding placed linkPlace textBefore
+          → LinkedChain t n s before (wordAt s link) l → All (λ e. sameText (t e) (t r) ≡ false) l → place ≡ linkPlace t n r before link l
+          → shared ≡ common (textBefore t r before l) (t r) → LinkedChain t n s′ before (wordAt s′ link) (placedIn t r before l)
+      unfolding placedIn linkPlace textBefore
       linked-placed before link [] low a d x k none ep es =
           (rw ep at there, its-shared ∙ es, its-link ∙ ap (wordAt s) ep ∙ k)
       linked-placed before link (e ∷ l) low a d x k none ep es =
@@ -144,7 +144,7 @@ module _ (t : ℕ → List ℕ) (n : ℕ) where
         chain : ℕ → List ℕ
         chain c = chainOf t bucket r c
 
-        here : Linked t n s′ [] (wordAt s′ (headAt b)) (chainOf t bucket (suc r) b)
+        here : LinkedChain t n s′ [] (wordAt s′ (headAt b)) (chainOf t bucket (suc r) b)
         here =
             rw (chain-here t bucket b r eb)
             (linked-placed [] (headAt b) (chainOf t bucket r b) (omega arith) (chain-below t bucket b r) (chain-distinct t bucket b r)
@@ -174,7 +174,7 @@ module _ (t : ℕ → List ℕ) (n : ℕ) where
               (inl (omega arith))
               (all-map (chainOf t bucket r b) (λ g k. apart-entries g e (λ z. ne (sym (k .1) ∙ ap bucket (sym z) ∙ h .1))) (chain-inside t bucket b r)))
 
-          there-too : Linked t n s′ [] (wordAt s′ (headAt c)) (chainOf t bucket (suc r) c)
+          there-too : LinkedChain t n s′ [] (wordAt s′ (headAt c)) (chainOf t bucket (suc r) c)
           there-too =
               rw (chain-other t bucket c r (λ z. ne (sym eb ∙ z)), stays (headAt c) (omega arith) off-head)
               (linked-kept s s′ [] (wordAt s (headAt c)) (chainOf t bucket r c)

@@ -12,7 +12,7 @@ use Rattle.laws.specs.All.{All}
 use Rattle.laws.proofs.Tests.{tested}
 use Rattle.records.specs.Chains.{entryAt, ChainRoom}
 use Rattle.records.specs.Words.{wordAt, sameText}
-use Rattle.records.specs.Order.{common, Agrees, firstWith, linkPlace, textBefore, Ordered, Linked, Leads, PlaceIn, PlaceOf}
+use Rattle.records.specs.Order.{common, Agrees, firstWith, linkPlace, textBefore, Ordered, LinkedChain, Leads, PlaceIn, PlaceOf}
 use Rattle.records.proofs.CommonLaws.{common-empty, common-other, common-least}
 use Rattle.records.proofs.DigestLaws.{same-equal}
 use Rattle.records.proofs.PlacedLaws.{first-same, first-on, first-none, place-here, place-on, text-here, text-on}
@@ -21,15 +21,15 @@ use Rattle.records.proofs.LinkedLaws.{linked-one, steps-left, linked-st
 module _ (t : ℕ → List ℕ) (n r head : ℕ) (s : List ℕ) where
   -- the place is to be found from the link at `link` on, behind an entry with the text `before`: the link is `at`, and leads to the entries that are left
   pub record Ahead (link shared at : ℕ) (before rest : List ℕ) : Type 0 where
-    pub linked : Linked t n s before at rest
+    pub linked : LinkedChain t n s before at rest
     pub ordered : Ordered t before rest
     pub inside : All (λ e. e < r) rest
     pub short : length rest ≤ n
     pub shares : shared ≡ common before (t r)
     pub fits : link + 4 ≤ length s
-    pub first : (chain : List ℕ) → Linked t n s [] (wordAt s head) chain → firstWith t r chain ≡ firstWith t r rest
-    pub place : (chain : List ℕ) → Linked t n s [] (wordAt s head) chain → linkPlace t n r [] head chain ≡ linkPlace t n r before link rest
-    pub text : (chain : List ℕ) → Linked t n s [] (wordAt s head) chain → textBefore t r [] chain ≡ textBefore t r before rest
+    pub first : (chain : List ℕ) → LinkedChain t n s [] (wordAt s head) chain → firstWith t r chain ≡ firstWith t r rest
+    pub place : (chain : List ℕ) → LinkedChain t n s [] (wordAt s head) chain → linkPlace t n r [] head chain ≡ linkPlace t n r before link rest
+    pub text : (chain : List ℕ) → LinkedChain t n s [] (wordAt s head) chain → textBefore t r [] chain ≡ textBefore t r before rest
 
   pub record Walk (link shared at : ℕ) : Type 0 where
     pub before : List ℕ

@@ -32,19 +32,19 @@ recordText tree text k = textAt text (wordOf tree k A) (wordOf tree k B)
 
 -- number r put into a chain, behind an entry with the text `before` (the head of a chain counts as one without a byte): nowhere where an entry has its text, else before
 -- the first entry that shares less with the one before than r does
-unfoldable pub placed : (ℕ → List ℕ) → ℕ → List ℕ → List ℕ → List ℕ
+unfoldable pub placedIn : (ℕ → List ℕ) → ℕ → List ℕ → List ℕ → List ℕ
 unfolding pick common sameText
-placed t r before [] = r ∷ []
-placed t r before (e ∷ l) =
+placedIn t r before [] = r ∷ []
+placedIn t r before (e ∷ l) =
     pick (sameText (t e) (t r))
     (e ∷ l)
-    (pick (ltb (common before (t e)) (common before (t r))) (r ∷ e ∷ l) (e ∷ placed t r (t e) l))
+    (pick (ltb (common before (t e)) (common before (t r))) (r ∷ e ∷ l) (e ∷ placedIn t r (t e) l))
 
 -- the chain of bucket b, once the numbers below r are placed
 unfoldable pub chainOf : (ℕ → List ℕ) → (ℕ → ℕ) → ℕ → ℕ → List ℕ
-unfolding pick placed
+unfolding pick placedIn
 chainOf t bucket zero b = []
-chainOf t bucket (suc r) b = pick (eqb (bucket r) b) (placed t r [] (chainOf t bucket r b)) (chainOf t bucket r b)
+chainOf t bucket (suc r) b = pick (eqb (bucket r) b) (placedIn t r [] (chainOf t bucket r b)) (chainOf t bucket r b)
 
 -- the entry that has number r's text, or r where none has
 unfoldable pub firstWith : (ℕ → List ℕ) → ℕ → List ℕ → ℕ
@@ -71,18 +71,18 @@ Ordered t before (e ∷ l) = All (λ g. common before (t g) ≤ common before (t
 -- ---- chains in bytes
 
 -- the link h leads to the chain: a link is one more than the entry it leads to, 0 behind the last; each entry has what it shares with the one before, and its link
-abbrev pub Linked : (ℕ → List ℕ) → ℕ → List ℕ → List ℕ → ℕ → List ℕ → Type 0
-Linked t n s before h [] = h ≡ 0
-Linked t n s before h (e ∷ l) = (h ≡ e + 1) × (wordAt s (entryAt n e) ≡ common before (t e)) × Linked t n s (t e) (wordAt s (entryAt n e + secondWord)) l
+abbrev pub LinkedChain : (ℕ → List ℕ) → ℕ → List ℕ → List ℕ → ℕ → List ℕ → Type 0
+LinkedChain t n s before h [] = h ≡ 0
+LinkedChain t n s before h (e ∷ l) = (h ≡ e + 1) × (wordAt s (entryAt n e) ≡ common before (t e)) × LinkedChain t n s (t e) (wordAt s (entryAt n e + secondWord)) l
 
 -- the numbers below r are placed, in n buckets
 abbrev pub Placed : (ℕ → List ℕ) → (ℕ → ℕ) → ℕ → ℕ → List ℕ → Type 0
-Placed t bucket n r s = (b : ℕ) → b < n → Linked t n s [] (wordAt s (headAt b)) (chainOf t bucket r b)
+Placed t bucket n r s = (b : ℕ) → b < n → LinkedChain t n s [] (wordAt s (headAt b)) (chainOf t bucket r b)
 
 -- the link at this place leads to a chain of numbers below r
 pub record Leads (t : ℕ → List ℕ) (n r link : ℕ) (s : List ℕ) : Type 0 where
   pub chain : List ℕ
-  pub linked : Linked t n s [] (wordAt s link) chain
+  pub linked : LinkedChain t n s [] (wordAt s link) chain
   pub ordered : Ordered t [] chain
   pub inside : All (λ e. e < r) chain
   pub short : length chain ≤ n
@@ -96,7 +96,7 @@ pub record PlaceIn (t : ℕ → List ℕ) (n r link : ℕ) (chain : List ℕ) (n
 
 abbrev pub PlaceOf : (ℕ → List ℕ) → ℕ → ℕ → ℕ → List ℕ → ℕ → ℕ → ℕ → Type 0
 PlaceOf t n r link s number place shared =
-    (chain : List ℕ) → Linked t n s [] (wordAt s link) chain → PlaceIn t n r link chain number place shared
+    (chain : List ℕ) → LinkedChain t n s [] (wordAt s link) chain → PlaceIn t n r link chain number place shared
 
 -- number r is placed: the link at this place leads to it, and it has what it shares with the entry before, and the link that stood there
 abbrev pub placedAt : ℕ → ℕ → ℕ → ℕ → ℕ → List ℕ → List ℕ

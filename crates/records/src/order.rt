@@ -121,7 +121,7 @@ fn records_agree(tree: &[u8], text: &[u8], k: usize, r: usize, from: u32) -> Agr
 
 // Where a record belongs in a chain: the entry that has its text, or itself; and then the place of the link that is to lead to it, and how far its text agrees
 // with that of the entry before.
-pub struct Place {
+pub struct ChainPlace {
     pub number: usize,
     pub link: usize,
     pub shared: u32,
@@ -136,7 +136,7 @@ pub fn find_place(
     n: usize,
     r: usize,
     head: usize,
-) -> Place
+) -> ChainPlace
     requires { ⌜ ChainRoom n (now scratch) × (n * recordBytes ≤ length (now tree)) × (r < n) × (head + 4 ≤ length (now scratch)) ⌝ }
     requires { ⌜ Leads (recordText (now tree) (now text)) n r head (now scratch) ⌝ }
     ensures { λ v. ⌜ PlaceOf (recordText (now (tree .entry)) (now (text .entry))) n r head (now (scratch .entry)) (v .number) (v .link) (v .shared) ⌝ }
@@ -149,7 +149,7 @@ pub fn find_place(
         let e = CHAIN_HEAD_BYTES * n + CHAIN_ENTRY_BYTES * k;
         let before = load(scratch, e);
         if before < shared {
-            return Place {
+            return ChainPlace {
                 number: r,
                 link: link,
                 shared: shared,
@@ -158,7 +158,7 @@ pub fn find_place(
         if before == shared {
             let a = records_agree(tree, text, k, r, shared);
             if a.whole {
-                return Place {
+                return ChainPlace {
                     number: k,
                     link: link,
                     shared: shared,
@@ -169,7 +169,7 @@ pub fn find_place(
         link = e + SECOND_WORD;
         at = index(load(scratch, link));
     }
-    Place {
+    ChainPlace {
         number: r,
         link: link,
         shared: shared,
