@@ -128,7 +128,8 @@ pub struct ChainPlace {
 }
 
 // The chain is walked from the link at `head` on. An entry tells how far its text agrees with that of the one before: only where r's text agrees just as far
-// is it compared, from there on, so that no byte of r's text is compared more than twice.
+// is it compared, from there on. So a byte of r's text that agreed is read at no later entry; the one that differed, and up to 63 that are compared along with
+// it, at each that agrees just as far.
 pub fn find_place(
     tree: &[u8],
     text: &[u8],
