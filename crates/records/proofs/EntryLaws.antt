@@ -115,9 +115,9 @@ module _ (t : ℕ → List ℕ) (bucket : ℕ → ℕ) (n : ℕ) where
             short = omega (arith, chain-short t bucket b r);
           }
 
-      module _ (number place shared : ℕ) (at : PlaceOf t n r (headAt b) s number place shared) where
+      module _ (number place shared : ℕ) (belongs : PlaceOf t n r (headAt b) s number place shared) where
         here : PlaceIn t n r (headAt b) (chainOf t bucket r b) number place shared
-        here = at (chainOf t bucket r b) (p b hb)
+        here = belongs (chainOf t bucket r b) (p b hb)
 
         -- an entry has r's text: nothing is entered
         pub chains-found : number < r → Placed t bucket n (r + 1) s

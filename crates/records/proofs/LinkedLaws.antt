@@ -80,13 +80,13 @@ module _ (t : ℕ → List ℕ) (n : ℕ) where
       (λ m. let h : e ≤ g = ltb-false g e m in inl (omega arith))
 
   module _ (r : ℕ) where
-    pub place-holds : (P : ℕ → Type 0) (before : List ℕ) (link : ℕ) (l : List ℕ) → P link → All (λ e. P (entryAt n e + 4)) l → P (linkPlace t n r before link l)
+    pub place-holds : (P : ℕ → Type 0) (before : List ℕ) (at : ℕ) (l : List ℕ) → P at → All (λ e. P (entryAt n e + 4)) l → P (linkPlace t n r before at l)
     unfolding linkPlace
-    place-holds P before link [] p a = p
-    place-holds P before link (e ∷ l) p a =
+    place-holds P before at [] p a = p
+    place-holds P before at (e ∷ l) p a =
         tested (ltb (common before (t e)) (common before (t r)))
-        (λ y. rw (place-here t r before e l n link y) p)
-        (λ m. rw (place-on t r before e l n link m) (place-holds P (t e) (entryAt n e + 4) l (a .0) (a .1)))
+        (λ y. rw (place-here t r before e l n at y) p)
+        (λ m. rw (place-on t r before e l n at m) (place-holds P (t e) (entryAt n e + 4) l (a .0) (a .1)))
 
     module _ (s s′ : List ℕ) (shared place : ℕ)
         (stays : (q : ℕ) → q + 4 ≤ entryAt n r → Off q place → wordAt s′ q ≡ wordAt s q)
@@ -99,16 +99,16 @@ module _ (t : ℕ → List ℕ) (n : ℕ) where
       entries-stay [] a b = tt
       entries-stay (e ∷ l) a b = (entry-stays e (a .0) (b .0), entries-stay l (a .1) (b .1))
 
-      linked-placed : (before : List ℕ) (link : ℕ) (l : List ℕ) → link + 4 ≤ entryAt n r → All (λ e. e < r) l → Distinct l → All (Apart link) l
-          → LinkedChain t n s before (wordAt s link) l → All (λ e. sameText (t e) (t r) ≡ false) l → place ≡ linkPlace t n r before link l
-          → shared ≡ common (textBefore t r before l) (t r) → LinkedChain t n s′ before (wordAt s′ link) (placedIn t r before l)
+      linked-placed : (before : List ℕ) (at : ℕ) (l : List ℕ) → at + 4 ≤ entryAt n r → All (λ e. e < r) l → Distinct l → All (Apart at) l
+          → LinkedChain t n s before (wordAt s at) l → All (λ e. sameText (t e) (t r) ≡ false) l → place ≡ linkPlace t n r before at l
+          → shared ≡ common (textBefore t r before l) (t r) → LinkedChain t n s′ before (wordAt s′ at) (placedIn t r before l)
       unfolding placedIn linkPlace textBefore
-      linked-placed before link [] low a d x k none ep es =
+      linked-placed before at [] low a d x k none ep es =
           (rw ep at there, its-shared ∙ es, its-link ∙ ap (wordAt s) ep ∙ k)
-      linked-placed before link (e ∷ l) low a d x k none ep es =
+      linked-placed before at (e ∷ l) low a d x k none ep es =
           tested (ltb (common before (t e)) (common before (t r)))
           (λ y.
-          let q : place ≡ link = ep ∙ place-here t r before e l n link y in
+          let q : place ≡ at = ep ∙ place-here t r before e l n at y in
           let st : All (Stays s s′) (e ∷ l) = entries-stay (e ∷ l) a (rw q x) in
           rw (placed-here t r before e l (none .0) y) (
             rw q at there,
@@ -120,19 +120,19 @@ module _ (t : ℕ → List ℕ) (n : ℕ) where
             ),
           ))
           (λ m.
-          let q : place ≡ linkPlace t n r (t e) (entryAt n e + 4) l = ep ∙ place-on t r before e l n link m in
+          let q : place ≡ linkPlace t n r (t e) (entryAt n e + 4) l = ep ∙ place-on t r before e l n at m in
           let z : shared ≡ common (textBefore t r (t e) l) (t r) = es ∙ ap (λ (u : List ℕ). common u (t r)) (text-on t r before e l m) in
-          let off-link : Off link place =
-          rw q (place-holds (Off link) (t e) (entryAt n e + 4) l (off e (x .0)) (all-map l (λ g h. off g h) (x .1))) in
+          let off-link : Off at place =
+          rw q (place-holds (Off at) (t e) (entryAt n e + 4) l (off e (x .0)) (all-map l (λ g h. off g h) (x .1))) in
           let off-e : Off (entryAt n e) place =
           rw q (place-holds (Off (entryAt n e)) (t e) (entryAt n e + 4) l (off-entry e e) (all-of l (λ g. off-entry e g))) in
           rw (placed-on t r before e l (none .0) m) (
-            stays link low off-link ∙ k .0,
+            stays at low off-link ∙ k .0,
             stays (entryAt n e) (omega (arith, a .0)) off-e ∙ k .1,
             linked-placed (t e) (entryAt n e + 4) l (omega (arith, a .0)) (a .1) (d .1) (all-map l (λ g h. apart-entries e g h) (d .0)) (k .2) (none .1) q z,
           ))
         where
-          off : (g : ℕ) → Apart link g → Off link (entryAt n g + 4)
+          off : (g : ℕ) → Apart at g → Off at (entryAt n g + 4)
           off g (inl h) = inl (omega arith)
           off g (inr h) = inr (omega arith)
 

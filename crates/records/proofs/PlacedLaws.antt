@@ -60,13 +60,13 @@ module _ (t : ℕ → List ℕ) (r : ℕ) where
     unfolding firstWith pick
     first-on n = rw n refl
 
-    pub place-here : (n link : ℕ) → less ≡ true → linkPlace t n r before link (e ∷ l) ≡ link
+    pub place-here : (n at : ℕ) → less ≡ true → linkPlace t n r before at (e ∷ l) ≡ at
     unfolding linkPlace pick
-    place-here n link y = rw y refl
+    place-here n at y = rw y refl
 
-    pub place-on : (n link : ℕ) → less ≡ false → linkPlace t n r before link (e ∷ l) ≡ linkPlace t n r (t e) (entryAt n e + 4) l
+    pub place-on : (n at : ℕ) → less ≡ false → linkPlace t n r before at (e ∷ l) ≡ linkPlace t n r (t e) (entryAt n e + 4) l
     unfolding linkPlace pick
-    place-on n link m = rw m refl
+    place-on n at m = rw m refl
 
     pub text-here : less ≡ true → textBefore t r before (e ∷ l) ≡ before
     unfolding textBefore pick
