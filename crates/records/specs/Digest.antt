@@ -4,6 +4,7 @@ use Prim.Native.Nat.{ℕ, _+_, _*_, _/_, _%_}
 use mathlib.Core.List.{List, [], _∷_}
 use lib.Dec.{eqb}
 use Rattle.laws.specs.Fix.{pick}
+use Rattle.records.specs.Kinds.{formCustom}
 use Rattle.records.specs.Words.{byteAt, detailOf, wordOf, textAt, A, B, C}
 
 -- the upper half is added to the lower, so that every bit of a product counts and nothing is lost upwards
@@ -55,6 +56,6 @@ digestFour a b c d = digestEnd (digestStep (digestStep 1 a b) c d)
 unfoldable pub typeDigest : List ℕ → List ℕ → ℕ → ℕ
 unfolding pick digestOf digestFour textAt detailOf wordOf
 typeDigest tree text r =
-    pick (eqb (detailOf tree r) 8)
+    pick (eqb (detailOf tree r) formCustom)
     (digestOf (textAt text (wordOf tree r A) (wordOf tree r B)))
     (digestFour (detailOf tree r) (wordOf tree r A) (wordOf tree r B) (wordOf tree r C))
