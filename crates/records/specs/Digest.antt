@@ -21,9 +21,13 @@ digestEnd h = folded (h * 1481765933) % 4294967296
 
 -- ---- texts: a digest that goes on: that of a text with another behind it is found from that of the first
 
--- a byte more: a text is a number to the base 256, modulo 2^32 - 5, which is prime; 2 has the order 2^32 - 6 there, so that a byte counts otherwise at each place
+-- a text is a number to the base 256, modulo 2^32 - 5, which is prime; 2 has the order 2^32 - 6 there, so that a byte counts otherwise at each place
+abbrev pub rollModulus : ℕ
+rollModulus = 4294967291
+
+-- a byte more
 unfoldable pub rollStep : ℕ → ℕ → ℕ
-rollStep h b = (h * 256 + b) % 4294967291
+rollStep h b = (h * 256 + b) % rollModulus
 
 -- from h on, over the bytes of a text
 unfoldable pub rollFrom : ℕ → List ℕ → ℕ

@@ -5,7 +5,7 @@ use Prim.Native.Nat.{ℕ, zero, suc, _+_, _-_, _*_, _%_, _≤_, _<_}
 use mathlib.Core.List.{List}
 use lib.ListN.{length, getD}
 use Rattle.records.specs.Words.{wordAt, textAt}
-use Rattle.records.specs.Digest.{rollStep, rollOf}
+use Rattle.records.specs.Digest.{rollModulus, rollStep, rollOf}
 
 -- what a digest is multiplied by over n bytes: 256 for each
 unfoldable pub rollPower : ℕ → ℕ
@@ -15,7 +15,7 @@ rollPower (suc n) = rollStep (rollPower n) 0
 
 -- from digest h on over a run of bytes: the digest of the text up to the run's first byte is `from`, up to its end `to`, and the run's power is `power`
 unfoldable pub rollAcross : ℕ → ℕ → ℕ → ℕ → ℕ
-rollAcross h from to power = (to + (h + 4294967291 - from) % 4294967291 * power) % 4294967291
+rollAcross h from to power = (to + (h + rollModulus - from) % rollModulus * power) % rollModulus
 
 -- two words a sample, from byte `at` on, the power behind the digest
 abbrev pub sampleBytes : ℕ
