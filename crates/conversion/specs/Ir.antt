@@ -74,8 +74,11 @@ conditionEnd r = record { kind = 5; opener = r }
 abbrev pub logicRhs : ℕ → LabelName
 logicRhs r = record { kind = 6; opener = r }
 
+abbrev pub lastLabelKind : ℕ
+lastLabelKind = 7
+
 abbrev pub logicEnd : ℕ → LabelName
-logicEnd r = record { kind = 7; opener = r }
+logicEnd r = record { kind = lastLabelKind; opener = r }
 
 -- a string: 'offset and length of its first use', and its text, by which it is found
 pub record StringEntry : Type 0 where

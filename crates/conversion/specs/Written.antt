@@ -63,12 +63,16 @@ unfoldable pub destination : Option VarId → ℕ
 destination nothing = none
 destination (some x) = x .id
 
+-- the kind of the one instruction with two operands
+abbrev pub binaryKind : ℕ
+binaryKind = 3
+
 -- 'what a kind does not use is zero', 'a single one at 8'
 unfoldable pub fieldsOf : Instr → Fields
 unfolding destination
 fieldsOf (Copy x o) = record { kind = 1; operator = 0; first = some o; second = nothing; target = x .id; recordWord = 0 }
 fieldsOf (Unary x u o) = record { kind = 2; operator = unaryNumber u; first = some o; second = nothing; target = x .id; recordWord = 0 }
-fieldsOf (Binary x b o p) = record { kind = 3; operator = binaryNumber b; first = some o; second = some p; target = x .id; recordWord = 0 }
+fieldsOf (Binary x b o p) = record { kind = binaryKind; operator = binaryNumber b; first = some o; second = some p; target = x .id; recordWord = 0 }
 fieldsOf (Cast x o) = record { kind = 4; operator = 0; first = some o; second = nothing; target = x .id; recordWord = 0 }
 fieldsOf (Zero x) = record { kind = 5; operator = 0; first = nothing; second = nothing; target = x .id; recordWord = 0 }
 fieldsOf (Arg o) = record { kind = 6; operator = 0; first = some o; second = nothing; target = 0; recordWord = 0 }

@@ -10,7 +10,7 @@ use Rattle.records.specs.Digest.{digestOf}
 use Rattle.records.specs.Layout.{Region}
 use Rattle.records.specs.Words.{wordAt}
 use Rattle.conversion.specs.Ir as Ir
-use Rattle.conversion.specs.Ir.{LabelName, StringEntry, FloatEntry, State, IrFunction, sameText, sameFloat}
+use Rattle.conversion.specs.Ir.{LabelName, StringEntry, FloatEntry, State, IrFunction, sameText, sameFloat, lastLabelKind}
 use Rattle.conversion.specs.Fits.{StringStands, FloatFits}
 use Rattle.conversion.specs.Written.{word, boolNumber, encodeAll, encodeInstr, encodeVar, encodeLabel, encodeFunctions, encodeString, encodeFloat, allCode, allVars, allLabels, instructionBytes, variableBytes, labelBytes, stringBytes, floatBytes}
 use Rattle.ir.specs.declared.structs.Counters.{Counters}
@@ -138,7 +138,7 @@ pub record LabelFits (l : LabelName) : Type 0 where
 -- a label has a slot in the tables of n records: its kind is one of document 01's seven, its opener one of the records
 pub record HasSlot (n : ℕ) (x : LabelName) : Type 0 where
   pub least : 1 ≤ x .kind
-  pub most : x .kind ≤ 7
+  pub most : x .kind ≤ lastLabelKind
   pub opener : x .opener < n
 
 abbrev pub labelSlot : ℕ → LabelName → ℕ

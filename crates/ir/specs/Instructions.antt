@@ -7,7 +7,7 @@ use mir.Syntax.{w64}
 use mir.Val.{toZ}
 use Rattle.conversion.specs.Ir as Ir
 use Rattle.conversion.specs.Ir.{OVar, OInt, OFloat, OBool, ODataAddress, ONull}
-use Rattle.conversion.specs.Written.{word, wide, tag, operandValue, encodeFields}
+use Rattle.conversion.specs.Written.{word, wide, tag, operandValue, encodeFields, binaryKind}
 use Rattle.ir.specs.declared.structs.VarId.{VarId}
 use Rattle.ir.specs.declared.structs.Operand.{Operand}
 use Rattle.ir.specs.declared.structs.Operand.the-variants.{Var as var, Int as int, Float as float, Bool as bool, DataAddress as dataAddress, Null as null}
@@ -44,4 +44,4 @@ oneBytes kind operator target o = encodeFields (record { kind = kind; operator =
 
 unfoldable pub twoBytes : ℕ → ℕ → Ir.Operand → Ir.Operand → List ℕ
 unfolding encodeFields
-twoBytes operator target o p = encodeFields (record { kind = 3; operator = operator; first = some o; second = some p; target = target; recordWord = 0 })
+twoBytes operator target o p = encodeFields (record { kind = binaryKind; operator = operator; first = some o; second = some p; target = target; recordWord = 0 })

@@ -9,7 +9,7 @@ use Rattle.laws.specs.Fix.{pick}
 use Rattle.records.specs.declared.shape.Role.{Role}
 use Rattle.records.specs.declared.shape.Role.the-variants.{Unused, Number, Text, Length, Expr, TypeRef, TypeOrNone, Name, Variable, Arguments, Parameters, Body, Item, Rest}
 use Rattle.records.specs.declared.shape.Row.{Row}
-use Rattle.records.specs.Kinds.{kindType, kindFunction}
+use Rattle.records.specs.Kinds.{kindType, kindFunction, formAddress, formArray, formCustom}
 use Rattle.records.specs.Words.{kindOf, detailOf}
 
 -- details below `limit`, and what the words A to E are for
@@ -98,7 +98,7 @@ plainType d =
 -- '6 Address, 7 Array, 8 Custom': their rows
 unfoldable pub typeShape : ℕ → ℕ
 unfolding pick plainType
-typeShape d = pick (plainType d) 1 (pick (eqb d 6) 26 (pick (eqb d 7) 27 (pick (eqb d 8) 28 0)))
+typeShape d = pick (plainType d) 1 (pick (eqb d formAddress) 26 (pick (eqb d formArray) 27 (pick (eqb d formCustom) 28 0)))
 
 -- the row for a kind and a detail; 0 for an unknown kind and for a type of unknown detail
 unfoldable pub shapeOf : ℕ → ℕ → ℕ

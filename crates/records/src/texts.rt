@@ -147,8 +147,8 @@ fn same_long(s: &[u8], a: usize, t: &[u8], b: usize, n: usize) -> bool
     same_short(s, i, t, j, left)
 }
 
-// Whether n bytes of s from a on and of t from b on are the same: the one place where bytes are compared, eight at a time and the rest
-// singly. The first eight stand alone: texts that differ mostly differ there.
+// Whether n bytes of s from a on and of t from b on are the same: the one place where that is asked, eight at a time and the rest singly
+// (how far two texts agree: `common` in order.rt). The first eight stand alone: texts that differ mostly differ there.
 pub fn same_run(s: &[u8], a: usize, t: &[u8], b: usize, n: usize) -> bool
     requires { ⌜ (a + n ≤ length (now s)) × (b + n ≤ length (now t)) ⌝ }
     ensures { λ r. ⌜ r ≡ sameText (textAt (now (s .entry)) a n) (textAt (now (t .entry)) b n) ⌝ }

@@ -26,9 +26,16 @@ unfolding wordsOf
 judgedWords tree Accepted = record { number = 0; place = none; start = 0; end = 0 }
 judgedWords tree (Refused e) = wordsOf tree e
 
+-- how many bytes the four words of an answer take, and the eight of a conversion's
+abbrev pub fourWords : ℕ
+fourWords = 16
+
+abbrev pub eightWords : ℕ
+eightWords = 32
+
 -- the answer fits the buffer lent for it
 unfoldable pub roomy : List ℕ → Bool
-roomy answer = leb 16 (length answer)
+roomy answer = leb fourWords (length answer)
 
 -- what the call returns: 1 where an answer was written, else 0
 unfoldable pub returned : List ℕ → ℕ
@@ -69,7 +76,7 @@ conversionBytes (Counted c seventh) =
 
 -- the eight words fit the buffer lent for them
 unfoldable pub roomyForEight : List ℕ → Bool
-roomyForEight answer = leb 32 (length answer)
+roomyForEight answer = leb eightWords (length answer)
 
 unfoldable pub returnedEight : List ℕ → ℕ
 unfolding roomyForEight pick

@@ -8,7 +8,7 @@ ghost use Rattle.records.specs.Answer.{wordsOf};
 ghost use Rattle.records.specs.Words.{word};
 ghost use Rattle.demands.specs.Call as Call;
 ghost use Rattle.converter.specs.Convert.{countsFrom, answerFrom};
-ghost use Rattle.rudderplum.specs.Boundary.{answerBytes, judgedWords, returned, lent, judgeCall, conversionBytes, returnedEight, asksMain, convertCall};
+ghost use Rattle.rudderplum.specs.Boundary.{fourWords, eightWords, answerBytes, judgedWords, returned, lent, judgeCall, conversionBytes, returnedEight, asksMain, convertCall};
 use converter::Answer;
 use converter::Counts;
 use judge::Judged;
@@ -17,9 +17,14 @@ use records::words::Four;
 use records::words::NONE;
 use records::words::put_four;
 
+// How many bytes an answer's words take.
+const FOUR_WORDS: usize = 16;
+
+const EIGHT_WORDS: usize = 32;
+
 // Writes the four words of an answer to the start of the buffer.
 fn put_answer(buffer: &mut [u8], a: AnswerWords)
-    requires { ⌜ 16 ≤ length (now buffer) ⌝ }
+    requires { ⌜ fourWords ≤ length (now buffer) ⌝ }
     ensures { λ _. ⌜ now (buffer .exit) ≡ splice (now (buffer .entry)) 0 (answerBytes a) ⌝ }
 {
     put_four(buffer, 0, Four(a.number, a.place, a.start, a.end));
@@ -58,7 +63,7 @@ pub extern "C" fn rudderplum_judge(
     ensures { λ r. ⌜ r ≡ returned (now (answer .entry)) ⌝ }
     ensures { λ _. ⌜ lent (now (instructions .exit)) (now (variables .exit)) (now (labels .exit)) (now (functions .exit)) (now (strings .exit)) (now (floats .exit)) (now (scratch .exit)) (now (answer .exit)) ≡ judgeCall (now (tree .entry)) (now (text .entry)) (lent (now (instructions .entry)) (now (variables .entry)) (now (labels .entry)) (now (functions .entry)) (now (strings .entry)) (now (floats .entry)) (now (scratch .entry)) (now (answer .entry))) ⌝ }
 {
-    if answer.len() < 16 {
+    if answer.len() < FOUR_WORDS {
         return 0;
     }
     let judged = judge::judge(
@@ -86,7 +91,7 @@ fn count_word(n: usize) -> u32
 
 // Writes a converted tree's eight words: 0, the six counts, and the visits.
 fn put_counts(buffer: &mut [u8], c: Counts)
-    requires { ⌜ 32 ≤ length (now buffer) ⌝ }
+    requires { ⌜ eightWords ≤ length (now buffer) ⌝ }
     ensures { λ _. ⌜ now (buffer .exit) ≡ splice (now (buffer .entry)) 0 (conversionBytes (Call.Counted (countsFrom c) (c .visits))) ⌝ }
 {
     let functions = count_word(c.functions);
@@ -97,21 +102,21 @@ fn put_counts(buffer: &mut [u8], c: Counts)
     let floats = count_word(c.floats);
     let visits = count_word(c.visits);
     put_four(buffer, 0, Four(0, functions, instructions, variables));
-    put_four(buffer, 16, Four(labels, strings, floats, visits));
+    put_four(buffer, FOUR_WORDS, Four(labels, strings, floats, visits));
 }
 
 // Writes a refusal's eight words: number, place, span start, span end, and zeros.
 fn put_refusal(buffer: &mut [u8], a: AnswerWords)
-    requires { ⌜ 32 ≤ length (now buffer) ⌝ }
+    requires { ⌜ eightWords ≤ length (now buffer) ⌝ }
     ensures { λ _. ⌜ now (buffer .exit) ≡ splice (now (buffer .entry)) 0 (conversionBytes (Call.Refusal a)) ⌝ }
 {
     put_answer(buffer, a);
-    put_four(buffer, 16, Four(0, 0, 0, 0));
+    put_four(buffer, FOUR_WORDS, Four(0, 0, 0, 0));
 }
 
 // Writes the eight words of a conversion's answer to the start of the buffer.
 fn put_conversion(buffer: &mut [u8], tree: &[u8], a: Answer)
-    requires { ⌜ 32 ≤ length (now buffer) ⌝ }
+    requires { ⌜ eightWords ≤ length (now buffer) ⌝ }
     ensures { λ _. ⌜ now (buffer .exit) ≡ splice (now (buffer .entry)) 0 (conversionBytes (answerFrom (now (tree .entry)) a)) ⌝ }
 {
     match a {
@@ -140,7 +145,7 @@ pub extern "C" fn rudderplum_convert(
     ensures { λ r. ⌜ r ≡ returnedEight (now (answer .entry)) ⌝ }
     ensures { λ _. ⌜ lent (now (instructions .exit)) (now (variables .exit)) (now (labels .exit)) (now (functions .exit)) (now (strings .exit)) (now (floats .exit)) (now (scratch .exit)) (now (answer .exit)) ≡ convertCall (now (tree .entry)) (now (text .entry)) (asksMain «needs_main») (lent (now (instructions .entry)) (now (variables .entry)) (now (labels .entry)) (now (functions .entry)) (now (strings .entry)) (now (floats .entry)) (now (scratch .entry)) (now (answer .entry))) ⌝ }
 {
-    if answer.len() < 32 {
+    if answer.len() < EIGHT_WORDS {
         return 0;
     }
     let converted = converter::convert(

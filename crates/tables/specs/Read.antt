@@ -13,7 +13,7 @@ use mir.Val.{toZ}
 use Rattle.laws.specs.Fix.{pick}
 use Rattle.records.specs.Words.{byteAt, wordAt, textAt, none, secondWord}
 use Rattle.syntax.specs.Syntax.{Text, unaryOps, binaryOps}
-use Rattle.conversion.specs.Ir.{VarId, Operand, OVar, OInt, OFloat, OBool, ODataAddress, ONull, Instr, Copy, Unary, Binary, Cast, Zero, Arg, Call, Label, Jump, JumpIfNot, Return, Comment, LabelName, StringEntry, texts, FloatEntry}
+use Rattle.conversion.specs.Ir.{VarId, Operand, OVar, OInt, OFloat, OBool, ODataAddress, ONull, Instr, Copy, Unary, Binary, Cast, Zero, Arg, Call, Label, Jump, JumpIfNot, Return, Comment, LabelName, StringEntry, texts, FloatEntry, lastLabelKind}
 use Rattle.conversion.specs.Written.{Fields, tagOf, Tables, Counts, instructionBytes, variableBytes, labelBytes, functionBytes, stringBytes, floatBytes}
 
 -- ---- reading
@@ -225,7 +225,7 @@ variableIn b = some (wordAt b 0)
 unfoldable pub labelIn : List ℕ → Option LabelName
 unfolding _>>=_ check wordAt
 labelIn b = do
-  _ ← check (ltb 0 (wordAt b 0) && ltb (wordAt b 0) 8)
+  _ ← check (ltb 0 (wordAt b 0) && ltb (wordAt b 0) (lastLabelKind + 1))
   some (record { kind = wordAt b 0; opener = wordAt b 4 })
 
 -- 'A string is offset and length', into the text buffer
