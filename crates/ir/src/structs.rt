@@ -1,5 +1,5 @@
 // ir/structs.rs: operands, instructions, and the numbering of a function's variables and labels. The tables stand as regions of one
-// lent buffer, the arena; how many entries each has goes in and comes back by value.
+// lent buffer, the arena; how many entries each has is lent as words, or goes in and comes back by value.
 ghost use mathlib.Core.Path.{_≡_};
 ghost use Prim.Native.Nat.{_+_, _*_, _≤_, _<_};
 ghost use mathlib.Core.Option.{none, some};
@@ -10,11 +10,13 @@ ghost use Rattle.conversion.specs.Ir as Ir;
 ghost use Rattle.conversion.specs.Written.{tag, operandValue, encodeInstr};
 ghost use Rattle.ir.specs.Instructions.{varOf, operandOf, fieldBytes, oneBytes, noneBytes, twoBytes};
 ghost use Rattle.ir.specs.Arena.{HasSlot, Room};
+ghost use Rattle.ir.specs.Counted.{counted};
 ghost use Rattle.ir.specs.Steps.{named, Emits, AddsVar, NumbersLabel, Closes};
 use crate::arena::FUNCTION_BYTES;
 use crate::arena::FUNCTIONS;
 use crate::arena::INSTRUCTION_BYTES;
 use crate::counter;
+use crate::lent::INSTRUCTIONS;
 use records::numbers::BINARY_OPS;
 use records::numbers::NEG;
 use records::numbers::OR;
@@ -265,118 +267,116 @@ fn put_fields(arena: &mut [u8], at: usize, f: Fields)
 }
 
 // `instrs.push` of the instruction that is written so.
-fn push(arena: &mut [u8], k: Counters, f: Fields) -> Counters
-    requires { ⌜ Room k (now arena) × (k .instructions < 4 * k .records) ⌝ }
-    ensures { λ r. ⌜ ((i : Ir.Instr) → fieldBytes f ≡ encodeInstr i → Emits i k (now (arena .entry)) r (now (arena .exit))) ⌝ }
+fn push(arena: &mut [u8], k: &mut [usize], f: Fields)
+    requires { ⌜ Room (counted (now k)) (now arena) × (counted (now k) .instructions < 4 * counted (now k) .records) ⌝ }
+    ensures { λ _. ⌜ ((i : Ir.Instr) → fieldBytes f ≡ encodeInstr i → Emits i (counted (now (k .entry))) (now (arena .entry)) (counted (now (k .exit))) (now (arena .exit))) ⌝ }
 {
-    let n = k.instructions;
-    let mut next = k;
-    next.instructions = n + 1;
+    let n = k[INSTRUCTIONS];
+    k[INSTRUCTIONS] = n + 1;
     put_fields(arena, INSTRUCTION_BYTES * n, f);
-    next
 }
 
 // `instrs.push(Instr::..)`, a function for each kind: where one is called its kind is known, so that no `Instr` is made and taken apart again.
-pub fn emit_copy(arena: &mut [u8], k: Counters, dest: VarId, src: Operand) -> Counters
-    requires { ⌜ Room k (now arena) × (k .instructions < 4 * k .records) ⌝ }
-    ensures { λ r. ⌜ Emits (Ir.Copy (varOf dest) (operandOf src)) k (now (arena .entry)) r (now (arena .exit)) ⌝ }
+pub fn emit_copy(arena: &mut [u8], k: &mut [usize], dest: VarId, src: Operand)
+    requires { ⌜ Room (counted (now k)) (now arena) × (counted (now k) .instructions < 4 * counted (now k) .records) ⌝ }
+    ensures { λ _. ⌜ Emits (Ir.Copy (varOf dest) (operandOf src)) (counted (now (k .entry))) (now (arena .entry)) (counted (now (k .exit))) (now (arena .exit)) ⌝ }
 {
-    push(arena, k, with_one(COPY, NO_OPERATOR, dest.0, src))
+    push(arena, k, with_one(COPY, NO_OPERATOR, dest.0, src));
 }
 
 // An operator is its number.
-pub fn emit_unary(arena: &mut [u8], k: Counters, dest: VarId, op: u8, src: Operand) -> Counters
-    requires { ⌜ Room k (now arena) × (k .instructions < 4 * k .records) ⌝ }
-    ensures { λ r. ⌜ Emits (Ir.Unary (varOf dest) (getD unaryOps op Neg) (operandOf src)) k (now (arena .entry)) r (now (arena .exit)) ⌝ }
+pub fn emit_unary(arena: &mut [u8], k: &mut [usize], dest: VarId, op: u8, src: Operand)
+    requires { ⌜ Room (counted (now k)) (now arena) × (counted (now k) .instructions < 4 * counted (now k) .records) ⌝ }
+    ensures { λ _. ⌜ Emits (Ir.Unary (varOf dest) (getD unaryOps op Neg) (operandOf src)) (counted (now (k .entry))) (now (arena .entry)) (counted (now (k .exit))) (now (arena .exit)) ⌝ }
 {
-    push(arena, k, with_one(UNARY, unary_number(op), dest.0, src))
+    push(arena, k, with_one(UNARY, unary_number(op), dest.0, src));
 }
 
 pub fn emit_binary(
     arena: &mut [u8],
-    k: Counters,
+    k: &mut [usize],
     dest: VarId,
     op: u8,
     left: Operand,
     right: Operand,
-) -> Counters
-    requires { ⌜ Room k (now arena) × (k .instructions < 4 * k .records) ⌝ }
-    ensures { λ r. ⌜ Emits (Ir.Binary (varOf dest) (getD binaryOps op Or) (operandOf left) (operandOf right)) k (now (arena .entry)) r (now (arena .exit)) ⌝ }
+)
+    requires { ⌜ Room (counted (now k)) (now arena) × (counted (now k) .instructions < 4 * counted (now k) .records) ⌝ }
+    ensures { λ _. ⌜ Emits (Ir.Binary (varOf dest) (getD binaryOps op Or) (operandOf left) (operandOf right)) (counted (now (k .entry))) (now (arena .entry)) (counted (now (k .exit))) (now (arena .exit)) ⌝ }
 {
-    push(arena, k, with_two(binary_number(op), dest.0, left, right))
+    push(arena, k, with_two(binary_number(op), dest.0, left, right));
 }
 
-pub fn emit_cast(arena: &mut [u8], k: Counters, dest: VarId, src: Operand) -> Counters
-    requires { ⌜ Room k (now arena) × (k .instructions < 4 * k .records) ⌝ }
-    ensures { λ r. ⌜ Emits (Ir.Cast (varOf dest) (operandOf src)) k (now (arena .entry)) r (now (arena .exit)) ⌝ }
+pub fn emit_cast(arena: &mut [u8], k: &mut [usize], dest: VarId, src: Operand)
+    requires { ⌜ Room (counted (now k)) (now arena) × (counted (now k) .instructions < 4 * counted (now k) .records) ⌝ }
+    ensures { λ _. ⌜ Emits (Ir.Cast (varOf dest) (operandOf src)) (counted (now (k .entry))) (now (arena .entry)) (counted (now (k .exit))) (now (arena .exit)) ⌝ }
 {
-    push(arena, k, with_one(CAST, NO_OPERATOR, dest.0, src))
+    push(arena, k, with_one(CAST, NO_OPERATOR, dest.0, src));
 }
 
-pub fn emit_zero(arena: &mut [u8], k: Counters, dest: VarId) -> Counters
-    requires { ⌜ Room k (now arena) × (k .instructions < 4 * k .records) ⌝ }
-    ensures { λ r. ⌜ Emits (Ir.Zero (varOf dest)) k (now (arena .entry)) r (now (arena .exit)) ⌝ }
+pub fn emit_zero(arena: &mut [u8], k: &mut [usize], dest: VarId)
+    requires { ⌜ Room (counted (now k)) (now arena) × (counted (now k) .instructions < 4 * counted (now k) .records) ⌝ }
+    ensures { λ _. ⌜ Emits (Ir.Zero (varOf dest)) (counted (now (k .entry))) (now (arena .entry)) (counted (now (k .exit))) (now (arena .exit)) ⌝ }
 {
-    push(arena, k, with_none(ZERO, dest.0, 0))
+    push(arena, k, with_none(ZERO, dest.0, 0));
 }
 
-pub fn emit_arg(arena: &mut [u8], k: Counters, arg: Operand) -> Counters
-    requires { ⌜ Room k (now arena) × (k .instructions < 4 * k .records) ⌝ }
-    ensures { λ r. ⌜ Emits (Ir.Arg (operandOf arg)) k (now (arena .entry)) r (now (arena .exit)) ⌝ }
+pub fn emit_arg(arena: &mut [u8], k: &mut [usize], arg: Operand)
+    requires { ⌜ Room (counted (now k)) (now arena) × (counted (now k) .instructions < 4 * counted (now k) .records) ⌝ }
+    ensures { λ _. ⌜ Emits (Ir.Arg (operandOf arg)) (counted (now (k .entry))) (now (arena .entry)) (counted (now (k .exit))) (now (arena .exit)) ⌝ }
 {
-    push(arena, k, with_one(ARG, NO_OPERATOR, 0, arg))
+    push(arena, k, with_one(ARG, NO_OPERATOR, 0, arg));
 }
 
 // A call names its function's record.
-pub fn emit_call(arena: &mut [u8], k: Counters, dest: VarId, func: u32) -> Counters
-    requires { ⌜ Room k (now arena) × (k .instructions < 4 * k .records) ⌝ }
-    ensures { λ r. ⌜ Emits (Ir.Call (some (varOf dest)) func) k (now (arena .entry)) r (now (arena .exit)) ⌝ }
+pub fn emit_call(arena: &mut [u8], k: &mut [usize], dest: VarId, func: u32)
+    requires { ⌜ Room (counted (now k)) (now arena) × (counted (now k) .instructions < 4 * counted (now k) .records) ⌝ }
+    ensures { λ _. ⌜ Emits (Ir.Call (some (varOf dest)) func) (counted (now (k .entry))) (now (arena .entry)) (counted (now (k .exit))) (now (arena .exit)) ⌝ }
 {
-    push(arena, k, with_none(CALL, dest.0, func))
+    push(arena, k, with_none(CALL, dest.0, func));
 }
 
 // A call whose value nothing takes.
-pub fn emit_call_only(arena: &mut [u8], k: Counters, func: u32) -> Counters
-    requires { ⌜ Room k (now arena) × (k .instructions < 4 * k .records) ⌝ }
-    ensures { λ r. ⌜ Emits (Ir.Call none func) k (now (arena .entry)) r (now (arena .exit)) ⌝ }
+pub fn emit_call_only(arena: &mut [u8], k: &mut [usize], func: u32)
+    requires { ⌜ Room (counted (now k)) (now arena) × (counted (now k) .instructions < 4 * counted (now k) .records) ⌝ }
+    ensures { λ _. ⌜ Emits (Ir.Call none func) (counted (now (k .entry))) (now (arena .entry)) (counted (now (k .exit))) (now (arena .exit)) ⌝ }
 {
-    push(arena, k, with_none(CALL, NONE, func))
+    push(arena, k, with_none(CALL, NONE, func));
 }
 
-pub fn emit_label(arena: &mut [u8], k: Counters, here: Label) -> Counters
-    requires { ⌜ Room k (now arena) × (k .instructions < 4 * k .records) ⌝ }
-    ensures { λ r. ⌜ Emits (Ir.Label (here .0)) k (now (arena .entry)) r (now (arena .exit)) ⌝ }
+pub fn emit_label(arena: &mut [u8], k: &mut [usize], here: Label)
+    requires { ⌜ Room (counted (now k)) (now arena) × (counted (now k) .instructions < 4 * counted (now k) .records) ⌝ }
+    ensures { λ _. ⌜ Emits (Ir.Label (here .0)) (counted (now (k .entry))) (now (arena .entry)) (counted (now (k .exit))) (now (arena .exit)) ⌝ }
 {
-    push(arena, k, with_none(LABEL, here.0, 0))
+    push(arena, k, with_none(LABEL, here.0, 0));
 }
 
-pub fn emit_jump(arena: &mut [u8], k: Counters, target: Label) -> Counters
-    requires { ⌜ Room k (now arena) × (k .instructions < 4 * k .records) ⌝ }
-    ensures { λ r. ⌜ Emits (Ir.Jump (target .0)) k (now (arena .entry)) r (now (arena .exit)) ⌝ }
+pub fn emit_jump(arena: &mut [u8], k: &mut [usize], target: Label)
+    requires { ⌜ Room (counted (now k)) (now arena) × (counted (now k) .instructions < 4 * counted (now k) .records) ⌝ }
+    ensures { λ _. ⌜ Emits (Ir.Jump (target .0)) (counted (now (k .entry))) (now (arena .entry)) (counted (now (k .exit))) (now (arena .exit)) ⌝ }
 {
-    push(arena, k, with_none(JUMP, target.0, 0))
+    push(arena, k, with_none(JUMP, target.0, 0));
 }
 
-pub fn emit_jump_if_not(arena: &mut [u8], k: Counters, cond: Operand, target: Label) -> Counters
-    requires { ⌜ Room k (now arena) × (k .instructions < 4 * k .records) ⌝ }
-    ensures { λ r. ⌜ Emits (Ir.JumpIfNot (operandOf cond) (target .0)) k (now (arena .entry)) r (now (arena .exit)) ⌝ }
+pub fn emit_jump_if_not(arena: &mut [u8], k: &mut [usize], cond: Operand, target: Label)
+    requires { ⌜ Room (counted (now k)) (now arena) × (counted (now k) .instructions < 4 * counted (now k) .records) ⌝ }
+    ensures { λ _. ⌜ Emits (Ir.JumpIfNot (operandOf cond) (target .0)) (counted (now (k .entry))) (now (arena .entry)) (counted (now (k .exit))) (now (arena .exit)) ⌝ }
 {
-    push(arena, k, with_one(JUMP_IF_NOT, NO_OPERATOR, target.0, cond))
+    push(arena, k, with_one(JUMP_IF_NOT, NO_OPERATOR, target.0, cond));
 }
 
-pub fn emit_return(arena: &mut [u8], k: Counters, value: Operand) -> Counters
-    requires { ⌜ Room k (now arena) × (k .instructions < 4 * k .records) ⌝ }
-    ensures { λ r. ⌜ Emits (Ir.Return (operandOf value)) k (now (arena .entry)) r (now (arena .exit)) ⌝ }
+pub fn emit_return(arena: &mut [u8], k: &mut [usize], value: Operand)
+    requires { ⌜ Room (counted (now k)) (now arena) × (counted (now k) .instructions < 4 * counted (now k) .records) ⌝ }
+    ensures { λ _. ⌜ Emits (Ir.Return (operandOf value)) (counted (now (k .entry))) (now (arena .entry)) (counted (now (k .exit))) (now (arena .exit)) ⌝ }
 {
-    push(arena, k, with_one(RETURN, NO_OPERATOR, 0, value))
+    push(arena, k, with_one(RETURN, NO_OPERATOR, 0, value));
 }
 
 // A comment names its statement's record.
-pub fn emit_comment(arena: &mut [u8], k: Counters, statement: u32) -> Counters
-    requires { ⌜ Room k (now arena) × (k .instructions < 4 * k .records) ⌝ }
-    ensures { λ r. ⌜ Emits (Ir.Comment statement) k (now (arena .entry)) r (now (arena .exit)) ⌝ }
+pub fn emit_comment(arena: &mut [u8], k: &mut [usize], statement: u32)
+    requires { ⌜ Room (counted (now k)) (now arena) × (counted (now k) .instructions < 4 * counted (now k) .records) ⌝ }
+    ensures { λ _. ⌜ Emits (Ir.Comment statement) (counted (now (k .entry))) (now (arena .entry)) (counted (now (k .exit))) (now (arena .exit)) ⌝ }
 {
-    push(arena, k, with_none(COMMENT, 0, statement))
+    push(arena, k, with_none(COMMENT, 0, statement));
 }
 
 // A new variable of this type: its number is its index among its function's variables.
