@@ -36,6 +36,9 @@ pub const VARIABLES_BEFORE: usize = 8;
 
 pub const LABELS_BEFORE: usize = 9;
 
+// How many there are.
+pub const COUNTERS: usize = 10;
+
 // The words as a struct.
 pub fn counters_of(k: &[usize]) -> Counters
     requires { ⌜ 9 < length (now k) ⌝ }

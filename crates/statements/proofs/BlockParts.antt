@@ -33,11 +33,7 @@ use Rattle.ir.proofs.StepLaws.{next-in, stop-first}
 use Rattle.scope.specs.declared.Scope.{Scope}
 use Rattle.scope.specs.Open.{scopeAt, within}
 use Rattle.keys.specs.Keys.{allKeys}
-use Rattle.statements.specs.declared.answers.Converter.{Converter}
-use Rattle.statements.specs.declared.answers.Stated.{Stated}
-use Rattle.statements.specs.declared.answers.Stated.the-variants as Stated
-use Rattle.statements.specs.declared.answers.Finished.{Finished}
-use Rattle.statements.specs.declared.answers.Finished.the-variants as Finished
+use Rattle.statements.specs.Lent.{Converter, Stated, Finished}
 use Rattle.statements.proofs.answers.Finished.{the-type}
 use Rattle.statements.specs.Meets.{StepAnswer, gave, Adds, AddsIn, Meets}
 use Rattle.statements.specs.Converting.{Converting, withCounters, RoomFor, BehindAfforded, BlockAfforded, StaysFor, blockAmount, headAmount, forHeadAmount, LoopIn}

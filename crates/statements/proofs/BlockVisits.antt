@@ -21,11 +21,7 @@ use Rattle.ir.specs.Amounts.{Amount}
 use Rattle.ir.specs.Steps.{Emits}
 use Rattle.scope.specs.declared.Scope.{Scope}
 use Rattle.scope.specs.Open.{scopeAt}
-use Rattle.statements.specs.declared.answers.Converter.{Converter}
-use Rattle.statements.specs.declared.answers.Stated.{Stated}
-use Rattle.statements.specs.declared.answers.Stated.the-variants as Stated
-use Rattle.statements.specs.declared.answers.Finished.{Finished}
-use Rattle.statements.specs.declared.answers.Finished.the-variants as Finished
+use Rattle.statements.specs.Lent.{Converter, Stated, Finished}
 use Rattle.statements.proofs.answers.Finished.{the-type}
 use Rattle.statements.specs.Meets.{Adds}
 use Rattle.statements.specs.Converting.{Converting, BehindAfforded, StatementAfforded}

@@ -35,19 +35,8 @@ use Rattle.expressions.specs.Slots.{Frame, Ready}
 use Rattle.expressions.specs.declared.answers.Outcome.{Outcome}
 use Rattle.expressions.specs.declared.answers.Resolved.{Resolved}
 use Rattle.expressions.specs.Answers.{IsTyped, typeResult, outcomeOf, calleeOf}
-use Rattle.statements.specs.declared.answers.Converter.{Converter}
-use Rattle.statements.specs.declared.answers.Converted.{Converted}
-use Rattle.statements.specs.declared.answers.Converted.the-variants as Converted
-use Rattle.statements.specs.declared.answers.Fitted.{Fitted}
+use Rattle.statements.specs.Lent.{Converter, Converted, ConvertedArgs, Stated, Finished, ForVariable, Fitted}
 use Rattle.statements.specs.declared.answers.AtValue.{AtValue}
-use Rattle.statements.specs.declared.answers.ConvertedArgs.{ConvertedArgs}
-use Rattle.statements.specs.declared.answers.ConvertedArgs.the-variants as ConvertedArgs
-use Rattle.statements.specs.declared.answers.ForVariable.{ForVariable}
-use Rattle.statements.specs.declared.answers.ForVariable.the-variants as ForVariable
-use Rattle.statements.specs.declared.answers.Stated.{Stated}
-use Rattle.statements.specs.declared.answers.Stated.the-variants as Stated
-use Rattle.statements.specs.declared.answers.Finished.{Finished}
-use Rattle.statements.specs.declared.answers.Finished.the-variants as Finished
 use Rattle.statements.specs.Meets.{StepAnswer, gave, refused, Adds, AddsIn, Meets}
 use Rattle.statements.specs.Parts.{operandType, joinAnd, joinOr, finishBinary, countOn, ifHead, whileHead, forVariable, forBounds, forBegin, forTest, forTurns, forHead, declareInit, passArgs, finishCall}
 use Rattle.statements.specs.Stack.{stackAt}
