@@ -6,14 +6,14 @@ use mathlib.Core.Option.{Option, none, some}
 use Prim.Native.Nat.{ℕ, zero, suc, _+_, _*_, _<_}
 use native.Mathlib.Omega.{arith}
 use lib.Dec.{eqb}
-use lib.ListN.{length, getD}
+use lib.ListN.{length}
 use borrow.Author.Tests.{eq-eqb, ne-eqb}
 use Rattle.laws.specs.Fix.{pick}
 use Rattle.records.specs.Words.{detailOf, wordOf, records, A, B}
 use Rattle.records.specs.declared.convert_error.ConvertError.{ConvertError}
 use Rattle.records.specs.Rules.{isExpr}
 use Rattle.records.specs.Good.{Good}
-use Rattle.syntax.specs.Syntax.{unaryOps, binaryOps, Neg, Or, Args, Program, Function}
+use Rattle.syntax.specs.Syntax.{UnaryOp, BinaryOp, Args, Program, Function}
 use Rattle.syntax.specs.Decode.{program}
 use Rattle.syntax.specs.Places.{IsExpr, IsKind, TypeAt, FunctionAt, functionOf, exprAt}
 use Rattle.syntax.proofs.Records.{function-rec}
@@ -28,7 +28,6 @@ use Rattle.ir.specs.declared.structs.Counters.{Counters}
 use Rattle.ir.specs.declared.structs.VarId.{VarId}
 use Rattle.ir.specs.declared.structs.Operand.{Operand}
 use Rattle.ir.specs.declared.structs.Operand.the-variants.{Var as var}
-use Rattle.ir.specs.declared.structs.Instr.the-variants.{Copy as copy, Unary as unary, Binary as binary, Cast as cast, Call as call}
 use Rattle.ir.specs.declared.structs.NewVariable.{NewVariable}
 use Rattle.ir.specs.declared.structs.LabelNumber.{LabelNumber}
 use Rattle.ir.specs.Amounts.{amount}
@@ -62,12 +61,12 @@ use Rattle.statements.proofs.ConvertLaws.{converts-gave, converts-refus
 pub variable-type : {tree : List ℕ} {v y : ℕ} → v ≡ y → TypeAt tree y → TypeAt tree v
 variable-type {tree = tree} e t = subst (λ (x : ℕ). TypeAt tree x) (sym e) t
 
-pub unary-adds : {tree : List ℕ} {op y : ℕ} {src : Operand} {r : NewVariable} {k k₂ : Counters} {l l₁ l₂ : List ℕ}
-    → length l₁ ≡ length l → AddsVar y k l r l₁ → length l₂ ≡ length l₁ → Emits (unary (r .var) op src) (r .counters) l₁ k₂ l₂ → TypeAt tree (r .var .1)
-    → FitAdds tree (finishUnary (getD unaryOps op Neg) y (operandOf src)) (amount 1 1 0 0 0) k l (record { operand = var (r .var); counters = k₂ }) l₂
+pub unary-adds : {tree : List ℕ} {op : UnaryOp} {y : ℕ} {src : Ir.Operand} {r : NewVariable} {k k₂ : Counters} {l l₁ l₂ : List ℕ}
+    → length l₁ ≡ length l → AddsVar y k l r l₁ → length l₂ ≡ length l₁ → Emits (Unary (varOf (r .var)) op src) (r .counters) l₁ k₂ l₂ → TypeAt tree (r .var .1)
+    → FitAdds tree (finishUnary op y src) (amount 1 1 0 0 0) k l (record { operand = var (r .var); counters = k₂ }) l₂
 unfolding finishUnary OperandIn
 unary-adds {op = op} {src = src} {r = r} {k₂ = k₂} {l₂ = l₂} h p h′ q t = record {
-  adds = adds-most (adds-then (λ (dest : Ir.VarId). emit (Unary dest (getD unaryOps op Neg) (operandOf src)) >> pure (OVar dest)) (var-adds h p)
+  adds = adds-most (adds-then (λ (dest : Ir.VarId). emit (Unary dest op src) >> pure (OVar dest)) (var-adds h p)
       (adds-seq (pure (OVar (varOf (r .var)))) (emit-adds h′ q) (adds-pure (OVar (varOf (r .var))) k₂ l₂ (q .next .room)))) (omega arith);
   operand = t;
 }
@@ -84,22 +83,22 @@ begin-adds {e = e} {r = r} {b = b} {l₃ = l₃} h p h₁ q h₂ q₂ =
     (adds-then (λ (i : ℕ). label-id (logicEnd e) >>= (λ (j : ℕ). pure (varOf (r .var)))) (label-adds h₁ q)
     (adds-then (λ (j : ℕ). pure (varOf (r .var))) (label-adds h₂ q₂) (adds-pure (varOf (r .var)) (b .counters) l₃ (q₂ .next .room))))) (omega arith)
 
-module _ (e : ℕ) {dest : VarId} {o : Operand} {k k₁ k₂ : Counters} {l l₁ l₂ : List ℕ} (h : length l₁ ≡ length l) (p : Emits (copy dest o) k l k₁ l₁) where
+module _ (e : ℕ) {dest : VarId} {o : Ir.Operand} {k k₁ k₂ : Counters} {l l₁ l₂ : List ℕ} (h : length l₁ ≡ length l) (p : Emits (Ir.Copy (varOf dest) o) k l k₁ l₁) where
   pub and-adds : Adds (jumpIfNot (OVar (varOf dest)) (named 7 e)) (amount 1 0 1 0 0) k₁ l₁ tt k₂ l₂
-      → Adds (joinAnd e (varOf dest) (operandOf o)) (amount 2 0 1 0 0) k l tt k₂ l₂
+      → Adds (joinAnd e (varOf dest) o) (amount 2 0 1 0 0) k l tt k₂ l₂
   unfolding joinAnd
   and-adds q = adds-most (adds-seq (jumpIfNot (OVar (varOf dest)) (logicEnd e)) (emit-adds h p) q) (omega arith)
 
   pub or-adds : {k₃ k₄ : Counters} {l₃ l₄ : List ℕ} → Adds (jumpIfNot (OVar (varOf dest)) (named 6 e)) (amount 1 0 1 0 0) k₁ l₁ tt k₂ l₂
       → Adds (emitJump (named 7 e)) (amount 1 0 1 0 0) k₂ l₂ tt k₃ l₃ → Adds (placeLabel (named 6 e)) (amount 1 0 1 0 0) k₃ l₃ tt k₄ l₄
-      → Adds (joinOr e (varOf dest) (operandOf o)) (amount 4 0 3 0 0) k l tt k₄ l₄
+      → Adds (joinOr e (varOf dest) o) (amount 4 0 3 0 0) k l tt k₄ l₄
   unfolding joinOr
   or-adds a b c =
       adds-most (adds-seq (jumpIfNot (OVar (varOf dest)) (logicRhs e) >> (emitJump (logicEnd e) >> placeLabel (logicRhs e))) (emit-adds h p)
       (adds-seq (emitJump (logicEnd e) >> placeLabel (logicRhs e)) a (adds-seq (placeLabel (logicRhs e)) b c))) (omega arith)
 
   pub end-adds : {tree : List ℕ} → Adds (placeLabel (named 7 e)) (amount 1 0 1 0 0) k₁ l₁ tt k₂ l₂ → TypeAt tree (dest .1)
-      → FitAdds tree (endLogic e (varOf dest) (operandOf o)) (amount 2 0 1 0 0) k l (record { operand = var dest; counters = k₂ }) l₂
+      → FitAdds tree (endLogic e (varOf dest) o) (amount 2 0 1 0 0) k l (record { operand = var dest; counters = k₂ }) l₂
   unfolding endLogic OperandIn
   end-adds q t = record {
     adds = adds-most (adds-seq (placeLabel (logicEnd e) >> pure (OVar (varOf dest))) (emit-adds h p)
@@ -122,18 +121,18 @@ module _ (tree : List ℕ) (e : ℕ) {d : ℕ} (dest : VarId) (o : Operand) {k k
 
 -- ---- any other binary
 
-pub binary-adds : {tree : List ℕ} (P : Program) {op y : ℕ} (q : ℕ) (left right : Operand) {a b : Fitted} {r : NewVariable} {k k₄ : Counters} {l l₁ l₂ l₃ l₄ : List ℕ}
+pub binary-adds : {tree : List ℕ} (P : Program) {op : BinaryOp} {y : ℕ} (q : ℕ) (left right : Operand) {a b : Fitted} {r : NewVariable} {k k₄ : Counters} {l l₁ l₂ l₃ l₄ : List ℕ}
     → FitAdds tree (fit-operand P (operandOf left) q) (amount 1 1 0 0 1) k l a l₁
     → FitAdds tree (fit-operand P (operandOf right) q) (amount 1 1 0 0 1) (a .counters) l₁ b l₂
     → length l₃ ≡ length l₂ → AddsVar y (b .counters) l₂ r l₃
-    → length l₄ ≡ length l₃ → Emits (binary (r .var) op (a .operand) (b .operand)) (r .counters) l₃ k₄ l₄ → TypeAt tree (r .var .1)
-    → FitAdds tree (finishBinary P (getD binaryOps op Or) y q (operandOf left) (operandOf right)) (amount 3 3 0 0 2) k l (record { operand = var (r .var); counters = k₄ }) l₄
+    → length l₄ ≡ length l₃ → Emits (Binary (varOf (r .var)) op (operandOf (a .operand)) (operandOf (b .operand))) (r .counters) l₃ k₄ l₄ → TypeAt tree (r .var .1)
+    → FitAdds tree (finishBinary P op y q (operandOf left) (operandOf right)) (amount 3 3 0 0 2) k l (record { operand = var (r .var); counters = k₄ }) l₄
 unfolding finishBinary OperandIn
 binary-adds P {op = op} {y = y} q left right {a = a} {b = b} {r = r} {k₄ = k₄} {l₄ = l₄} u v h p h′ i t = record {
   adds = adds-most (adds-then (λ (a1 : Ir.Operand). fit-operand P (operandOf right) q >>= (λ (b1 : Ir.Operand). Ir.new-var y >>= (λ (dest : Ir.VarId).
-      emit (Binary dest (getD binaryOps op Or) a1 b1) >> pure (OVar dest)))) (u .adds)
-      (adds-then (λ (b1 : Ir.Operand). Ir.new-var y >>= (λ (dest : Ir.VarId). emit (Binary dest (getD binaryOps op Or) (operandOf (a .operand)) b1) >> pure (OVar dest))) (v .adds)
-      (adds-then (λ (dest : Ir.VarId). emit (Binary dest (getD binaryOps op Or) (operandOf (a .operand)) (operandOf (b .operand))) >> pure (OVar dest)) (var-adds h p)
+      emit (Binary dest op a1 b1) >> pure (OVar dest)))) (u .adds)
+      (adds-then (λ (b1 : Ir.Operand). Ir.new-var y >>= (λ (dest : Ir.VarId). emit (Binary dest op (operandOf (a .operand)) b1) >> pure (OVar dest))) (v .adds)
+      (adds-then (λ (dest : Ir.VarId). emit (Binary dest op (operandOf (a .operand)) (operandOf (b .operand))) >> pure (OVar dest)) (var-adds h p)
       (adds-seq (pure (OVar (varOf (r .var)))) (emit-adds h′ i) (adds-pure (OVar (varOf (r .var))) k₄ l₄ (i .next .room)))))) (omega arith);
   operand = t;
 }
@@ -207,8 +206,8 @@ module _ {tree text l s : List ℕ} {c : Converter} (e : ℕ) (dest : VarId) whe
       (converts-refused refl (subst (λ (z : ConvertError). StopsIn text (castFirst e (varOf dest) []) (c .counters) l (z .kind) (z .place)) (sym q)
       (fail-stops text (c .counters) l WouldPanic e)) (stays-refl tree (c .scope .names) (c .operands) s) (names-refl tree s))
 
-  pub cast-some : (count : ℕ) {first : Operand} {k : Counters} {l′ : List ℕ} → (count ≡ 0 → ⊥) → operandOf first ≡ operandAt s (records tree) (c .operands)
-      → length l′ ≡ length l → Emits (cast dest first) (c .counters) l k l′ → TypeAt tree (dest .1)
+  pub cast-some : (count : ℕ) {first : Ir.Operand} {k : Counters} {l′ : List ℕ} → (count ≡ 0 → ⊥) → first ≡ operandAt s (records tree) (c .operands)
+      → length l′ ≡ length l → Emits (Cast (varOf dest) first) (c .counters) l k l′ → TypeAt tree (dest .1)
       → Converts tree text (castFirst e (varOf dest) (stackAt s (records tree) (c .operands) count)) (amount 1 0 0 0 0) c l s (Converted.Is (var dest) k) l′ s
   unfolding castFirst stackAt OperandIn
   cast-some zero n q h p t = absurd (n refl)
@@ -226,7 +225,7 @@ call-parts P F r dest f given operands = simp (seq-is, regroup)
 pub call-adds : {tree text l l₁ l₂ s s′ : List ℕ} {c : Converter} (F : Functions) (e : ℕ) {f count : ℕ} {dest : VarId} (given : Args) (operands : List Ir.Operand) {k₁ k₂ : Counters}
     → Good tree text → FunctionAt tree f → TypeAt tree (dest .1)
     → Adds (passArgs (program tree text) (functionOf tree text f) given operands) (amount (2 * count) count 0 0 count) (c .counters) l tt k₁ l₁ → StaysFor tree c s s′ → NamesStay tree s s′
-    → length l₂ ≡ length l₁ → Emits (call dest f) k₁ l₁ k₂ l₂
+    → length l₂ ≡ length l₁ → Emits (Call (some (varOf dest)) f) k₁ l₁ k₂ l₂
     → Converts tree text (callValue (program tree text) F e (varOf dest) given operands (CallFunction (functionOf tree text f))) (amount (2 * count + 1) count 0 0 count) c l s (Converted.Is (var dest) k₂) l₂ s′
 unfolding OperandIn
 call-adds {tree = tree} {text = text} {l₁ = l₁} {l₂ = l₂} F e {f = f} {dest = dest} given operands {k₁ = k₁} {k₂ = k₂} good at t p stays names h q =

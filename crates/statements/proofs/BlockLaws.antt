@@ -28,7 +28,6 @@ use Rattle.conversion.specs.Scope.{withLoop}
 use Rattle.conversion.specs.Statements.{convertStatement, convert-block}
 use Rattle.conversion.proofs.MonadLaws.{regroup, seq-is, pure-first}
 use Rattle.ir.specs.declared.structs.Counters.{Counters}
-use Rattle.ir.specs.declared.structs.Instr.the-variants as Instr
 use Rattle.ir.specs.Amounts.{Amount, amount, both}
 use Rattle.ir.specs.Steps.{Emits}
 use Rattle.ir.proofs.StepLaws.{next-in, stop-first}
@@ -124,7 +123,7 @@ module _ (tree text : List ℕ) (good : Good tree text) (s : List ℕ) (c : Conv
   for-is e = rw (statement-for tree text good r h e)
 
 module _ {tree text l s : List ℕ} {c : Converter} {r : ℕ} (p : Converting tree text l s c) (f : StatementAfforded tree text c r) (x : IsStatement tree r)
-    {k : Counters} {l₁ : List ℕ} (long : length l₁ ≡ length l) (i : Emits (Instr.Comment r) (c .counters) l k l₁) where
+    {k : Counters} {l₁ : List ℕ} (long : length l₁ ≡ length l) (i : Emits (Comment r) (c .counters) l k l₁) where
   abbrev good : Good tree text
   good = p .ready .keyed .good
 

@@ -12,11 +12,10 @@ use Rattle.records.specs.Good.{Good}
 use Rattle.syntax.specs.Decode.{bit}
 use Rattle.syntax.specs.Places.{IsStatement, IsKind, statementAt}
 use Rattle.syntax.proofs.Records.{statement-declare, statement-init, statement-return, statement-call, statement-if, statement-ifElse, statement-while, statement-for, statement-break, statement-continue}
-use Rattle.conversion.specs.Ir.{M}
+use Rattle.conversion.specs.Ir.{M, Comment}
 use Rattle.conversion.specs.Scope as Def
 use Rattle.conversion.specs.Visits.{typedOwn, statementVisits}
 use Rattle.ir.specs.declared.structs.Counters.{Counters}
-use Rattle.ir.specs.declared.structs.Instr.the-variants as Instr
 use Rattle.ir.specs.Amounts.{Amount}
 use Rattle.ir.specs.Steps.{Emits}
 use Rattle.scope.specs.declared.Scope.{Scope}
@@ -77,7 +76,7 @@ module _ (tree text : List ℕ) (good : Good tree text) (r : ℕ) (h : r < recor
 -- ---- a turn begins behind the comment
 
 module _ {tree text l s : List ℕ} {c : Converter} {r : ℕ} (p : Converting tree text l s c) (f : StatementAfforded tree text c r) (x : IsStatement tree r) (t : Turns tree s (c .counters))
-    {k : Counters} {l₁ : List ℕ} (i : Emits (Instr.Comment r) (c .counters) l k l₁) where
+    {k : Counters} {l₁ : List ℕ} (i : Emits (Comment r) (c .counters) l k l₁) where
   pub comment-fresh : Fresh tree s (begun c k)
   comment-fresh = fresh-begins (c .counters) (begun c k) t (ap (λ (z : Counters). z .instructions) (i .entry .counts) ∙ omega arith) refl
 

@@ -28,8 +28,6 @@ use Rattle.conversion.specs.Statements.{zeroValue, convert-declare, convert-bre
 use Rattle.conversion.proofs.MonadLaws.{regroup, seq-is}
 use Rattle.types.specs.Fits.{IsType}
 use Rattle.ir.specs.declared.structs.Counters.{Counters}
-use Rattle.ir.specs.declared.structs.Instr.{Instr}
-use Rattle.ir.specs.declared.structs.Instr.the-variants as Instr
 use Rattle.ir.specs.declared.structs.NewVariable.{NewVariable}
 use Rattle.ir.specs.declared.structs.Operand.{Operand}
 use Rattle.ir.specs.declared.structs.Operand.the-variants as Operand
@@ -38,7 +36,7 @@ use Rattle.ir.specs.declared.pool.PoolNumber.{PoolNumber}
 use Rattle.ir.specs.Amounts.{Amount, amount, both}
 use Rattle.ir.specs.Arena.{HasSlot}
 use Rattle.ir.specs.Floats.{entry}
-use Rattle.ir.specs.Instructions.{varOf, operandOf, instrOf}
+use Rattle.ir.specs.Instructions.{varOf, operandOf}
 use Rattle.ir.specs.Steps.{Next, Emits, AddsVar, NumbersFloat, named}
 use Rattle.ir.proofs.StepLaws.{next-in, lift-stops, fail-stops, stop-first, then-stop}
 use Rattle.scope.specs.declared.Scope.{Scope}
@@ -201,7 +199,7 @@ unfolding pick
 least-picks {f = f} {n = n} x y h = rw (le-ltb f n h)
 
 pub zero-float-adds : {k k′ : Counters} {l l₁ l′ : List ℕ} {e : FloatEntry} {p : PoolNumber} (v : VarId) (short : Bool) → e ≡ entry 0 short → length l₁ ≡ length l
-    → NumbersFloat e k l p l₁ → length l′ ≡ length l₁ → Emits (Instr.Copy v (Operand.Float (p .number))) (p .counters) l₁ k′ l′
+    → NumbersFloat e k l p l₁ → length l′ ≡ length l₁ → Emits (Ir.Copy (varOf v) (Ir.OFloat (p .number))) (p .counters) l₁ k′ l′
     → Adds (zeroFloat (varOf v) short) (amount 1 0 0 0 1) k l tt k′ l′
 unfolding zeroFloat
 zero-float-adds {k = k} {l = l} {l₁ = l₁} {p = p} v short q h m d i =
@@ -241,11 +239,11 @@ module _ (tree text : List ℕ) (F : Functions) (r : ℕ) (v : VarId) (f : ℕ) 
   zero-custom {k = k} {l = l} e w = meets-same {m = fail WouldPanic r} text (rw (type-is tree text (v .1) f ef, e)) (meets-refused text refl (rw w (fail-stops text k l WouldPanic r)))
 
   module _ {k : Counters} {l l′ : List ℕ} where
-    emitted : {i : Instr} {k′ : Counters} → zeros ≡ Ir.emit (instrOf i) → length l′ ≡ length l → Emits i k l k′ l′ → Meets text zeros (amount 1 0 0 0 1) k l l′ (gave tt k′)
+    emitted : {i : Ir.Instr} {k′ : Counters} → zeros ≡ Ir.emit i → length l′ ≡ length l → Emits i k l k′ l′ → Meets text zeros (amount 1 0 0 0 1) k l l′ (gave tt k′)
     emitted e h p = meets-gave text h (adds-in text (adds-most (adds-same (sym e) (emit-adds h p)) (omega arith)))
 
     pub zero-int : {k′ : Counters} {short unsigned : Bool} → f ≡ 1 → short ≡ bit 16 (detailOf tree (v .1)) → unsigned ≡ bit 32 (detailOf tree (v .1)) → length l′ ≡ length l
-        → Emits (Instr.Copy v (Operand.Int 0 short unsigned)) k l k′ l′ → Meets text zeros (amount 1 0 0 0 1) k l l′ (gave tt k′)
+        → Emits (Ir.Copy (varOf v) (operandOf (Operand.Int 0 short unsigned))) k l k′ l′ → Meets text zeros (amount 1 0 0 0 1) k l l′ (gave tt k′)
     unfolding zeroValue
     zero-int e s u h p = emitted (rw (type-is tree text (v .1) f ef, e, s, u)) h p
 
@@ -254,12 +252,12 @@ module _ (tree text : List ℕ) (F : Functions) (r : ℕ) (v : VarId) (f : ℕ) 
     unfolding zeroValue zeroFloat
     zero-float e s p = meets-gave text (p .long) (adds-in text (adds-same (rw (type-is tree text (v .1) f ef, e, s)) p))
 
-    pub zero-array : {k′ : Counters} → f ≡ 7 → length l′ ≡ length l → Emits (Instr.Zero v) k l k′ l′ → Meets text zeros (amount 1 0 0 0 1) k l l′ (gave tt k′)
+    pub zero-array : {k′ : Counters} → f ≡ 7 → length l′ ≡ length l → Emits (Ir.Zero (varOf v)) k l k′ l′ → Meets text zeros (amount 1 0 0 0 1) k l l′ (gave tt k′)
     unfolding zeroValue
     zero-array e h p = emitted (rw (type-is tree text (v .1) f ef, e)) h p
 
     pub zero-other : {k′ : Counters} {o : Operand} → 1 ≤ f → (f ≡ 1 → ⊥) → (f ≡ 2 → ⊥) → (f ≡ 7 → ⊥) → (f ≡ 8 → ⊥) → o ≡ pick (ltb f 6) (Operand.Bool false) Operand.Null
-        → length l′ ≡ length l → Emits (Instr.Copy v o) k l k′ l′ → Meets text zeros (amount 1 0 0 0 1) k l l′ (gave tt k′)
+        → length l′ ≡ length l → Emits (Ir.Copy (varOf v) (operandOf o)) k l k′ l′ → Meets text zeros (amount 1 0 0 0 1) k l l′ (gave tt k′)
     zero-other n₀ n₁ n₂ n₇ n₈ q h p = emitted (other-zero n₀ n₁ n₂ n₇ n₈ q) h p
 
 -- ---- the Declare r

@@ -4,18 +4,17 @@ use mathlib.Core.Path.{_≡_}
 use mathlib.Core.List.{List}
 use Prim.Native.Nat.{ℕ}
 use lib.ListN.{length}
-use Rattle.conversion.specs.Ir.{emit, new-var, label-id}
+use Rattle.conversion.specs.Ir.{Instr, emit, new-var, label-id}
 use Rattle.ir.specs.declared.structs.Counters.{Counters}
-use Rattle.ir.specs.declared.structs.Instr.{Instr}
 use Rattle.ir.specs.declared.structs.NewVariable.{NewVariable}
 use Rattle.ir.specs.declared.structs.LabelNumber.{LabelNumber}
 use Rattle.ir.specs.Amounts.{amount}
-use Rattle.ir.specs.Instructions.{varOf, instrOf}
+use Rattle.ir.specs.Instructions.{varOf}
 use Rattle.ir.specs.Steps.{Emits, AddsVar, named, NumbersLabel}
 use Rattle.statements.specs.Meets.{Adds}
 
 module _ {k : Counters} {l l′ : List ℕ} (long : length l′ ≡ length l) where
-  pub emit-adds : {i : Instr} {k′ : Counters} → Emits i k l k′ l′ → Adds (emit (instrOf i)) (amount 1 0 0 0 0) k l tt k′ l′
+  pub emit-adds : {i : Instr} {k′ : Counters} → Emits i k l k′ l′ → Adds (emit i) (amount 1 0 0 0 0) k l tt k′ l′
   emit-adds p = record { next = p .next; spent = p .spent; long = long }
 
   pub var-adds : {y : ℕ} {r : NewVariable} → AddsVar y k l r l′ → Adds (new-var y) (amount 0 1 0 0 0) k l (varOf (r .var)) (r .counters) l′

@@ -31,7 +31,6 @@ use Rattle.ir.specs.declared.structs.VarId.{VarId}
 use Rattle.ir.specs.declared.structs.NewVariable.{NewVariable}
 use Rattle.ir.specs.declared.structs.Operand.{Operand}
 use Rattle.ir.specs.declared.structs.Operand.the-variants as Operand
-use Rattle.ir.specs.declared.structs.Instr.the-variants as Instr
 use Rattle.ir.specs.declared.pool.PoolNumber.{PoolNumber}
 use Rattle.ir.specs.declared.floats.FloatBits.{FloatBits}
 use Rattle.ir.specs.Amounts.{Amount, amount}
@@ -82,7 +81,7 @@ module _ {tree : List ℕ} {k : Counters} {l : List ℕ} where
   }
 
   pub cast-fits : {k₂ : Counters} {l₁ l₂ : List ℕ} (v : VarId) (y : ℕ) (made : NewVariable) → length l₂ ≡ length l → AddsVar y k l made l₁
-      → Emits (Instr.Cast (made .var) (Operand.Var v)) (made .counters) l₁ k₂ l₂ → made .var .1 ≡ y → TypeAt tree y
+      → Emits (Ir.Cast (varOf (made .var)) (OVar (varOf v))) (made .counters) l₁ k₂ l₂ → made .var .1 ≡ y → TypeAt tree y
       → FitAdds tree (castOperand true (varOf v) y) (amount 1 1 0 0 0) k l (record { operand = Operand.Var (made .var); counters = k₂ }) l₂
   unfolding OperandIn
   cast-fits {k₂} {l₁} {l₂} v y made long a e typed t = record {

@@ -17,7 +17,6 @@ use Rattle.conversion.specs.Ir.{Arg, M, _>>=_, _>>_, pure, emit}
 use Rattle.conversion.specs.Statements.{fit-operand, fitFrom, fit-args, emitArgs, parameterType, valuePosition, expectedType}
 use Rattle.ir.specs.declared.structs.Counters.{Counters}
 use Rattle.ir.specs.declared.structs.Operand.{Operand}
-use Rattle.ir.specs.declared.structs.Instr.the-variants as Instr
 use Rattle.ir.specs.Amounts.{amount}
 use Rattle.ir.specs.Instructions.{operandOf}
 use Rattle.ir.specs.Steps.{Emits}
@@ -75,8 +74,8 @@ emit-start s n first count k l h = record {
 }
 
 module _ (s : List ℕ) (n first count : ℕ) (k₀ : Counters) (l₀ : List ℕ) (j : ℕ) (k : Counters) (l : List ℕ) (x : EmitLeft s n first count k₀ l₀ j k l) where
-  pub emit-turn : j < count → (o : Operand) → operandOf o ≡ operandAt s n (first + j) → (k₁ : Counters) (l₁ : List ℕ) → length l₁ ≡ length l
-      → Emits (Instr.Arg o) k l k₁ l₁ → EmitLeft s n first count k₀ l₀ (j + 1) k₁ l₁
+  pub emit-turn : j < count → (o : Ir.Operand) → o ≡ operandAt s n (first + j) → (k₁ : Counters) (l₁ : List ℕ) → length l₁ ≡ length l
+      → Emits (Arg o) k l k₁ l₁ → EmitLeft s n first count k₀ l₀ (j + 1) k₁ l₁
   unfolding emitArgs
   emit-turn h o eo k₁ l₁ long e = record {
     most = omega arith;

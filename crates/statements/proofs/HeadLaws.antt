@@ -9,6 +9,7 @@ use lib.Dec.{lit<}
 use lib.IntN.{ℤ, pos}
 use lib.ListN.{length}
 use mir.Syntax.{w64}
+use mir.Val.{toZ}
 use mir.Facts.{toZ-pos}
 use Rattle.laws.specs.Fix.{pick}
 use Rattle.laws.proofs.Tests.{tested}
@@ -28,8 +29,6 @@ use Rattle.types.proofs.FromGood.{is-expr}
 use Rattle.ir.specs.declared.structs.Counters.{Counters}
 use Rattle.ir.specs.declared.structs.VarId.{VarId}
 use Rattle.ir.specs.declared.structs.Operand.{Operand}
-use Rattle.ir.specs.declared.structs.Operand.the-variants.{Var as var, Int as int}
-use Rattle.ir.specs.declared.structs.Instr.the-variants.{Binary as binary}
 use Rattle.ir.specs.declared.structs.NewVariable.{NewVariable}
 use Rattle.ir.specs.Amounts.{Amount, amount, both}
 use Rattle.ir.specs.Arena.{HasSlot}
@@ -75,7 +74,7 @@ module _ (r : ℕ) {k k₁ k₂ : Counters} {l l₁ l₂ : List ℕ} where
 
 -- the variable's Add of the 1 of its type
 one-more : (x : VarId) {short unsigned s u : Bool} {k k′ : Counters} {l l′ : List ℕ} → short ≡ s → unsigned ≡ u
-    → length l′ ≡ length l → Emits (binary x 13 (var x) (int 1 short unsigned)) k l k′ l′
+    → length l′ ≡ length l → Emits (Binary (varOf x) Add (OVar (varOf x)) (OInt (toZ w64 1) short unsigned)) k l k′ l′
     → Adds (emit (Binary (varOf x) Add (OVar (varOf x)) (OInt (pos 1) s u))) (amount 1 0 0 0 0) k l tt k′ l′
 one-more x {short = short} {unsigned = unsigned} {s = s} {u = u} es eu h p =
     adds-same (ap (λ (z : ℤ). emit (Binary (varOf x) Add (OVar (varOf x)) (OInt z short unsigned))) (toZ-pos w64 {n = 1} (lit< tt))
@@ -84,7 +83,7 @@ one-more x {short = short} {unsigned = unsigned} {s = s} {u = u} es eu h p =
 
 pub count-adds : (r : ℕ) {x : VarId} {short unsigned s u : Bool} {k k₁ k₂ k₃ k₄ : Counters} {l l₁ l₂ l₃ l₄ : List ℕ} → short ≡ s → unsigned ≡ u
     → Adds (emitJump (named 3 r)) (amount 1 0 1 0 0) k l tt k₁ l₁ → Adds (placeLabel (named 1 r)) (amount 1 0 1 0 0) k₁ l₁ tt k₂ l₂
-    → length l₃ ≡ length l₂ → Emits (binary x 13 (var x) (int 1 short unsigned)) k₂ l₂ k₃ l₃
+    → length l₃ ≡ length l₂ → Emits (Binary (varOf x) Add (OVar (varOf x)) (OInt (toZ w64 1) short unsigned)) k₂ l₂ k₃ l₃
     → Adds (placeLabel (named 3 r)) (amount 1 0 1 0 0) k₃ l₃ tt k₄ l₄
     → Adds (countOn r (varOf x) s u) (amount 4 0 3 0 0) k l tt k₄ l₄
 unfolding countOn
@@ -97,7 +96,7 @@ count-adds r {x = x} {s = s} {u = u} es eu a b h p d =
 pub test-adds : {tree : List ℕ} (P : Program) (r : ℕ) {x : VarId} (b : Operand) {a : Fitted} {v : NewVariable} {k k₃ k₄ : Counters} {l l₁ l₂ l₃ l₄ : List ℕ}
     → FitAdds tree (fit-operand P (operandOf b) (x .1)) (amount 1 1 0 0 1) k l a l₁
     → length l₂ ≡ length l₁ → AddsVar 6 (a .counters) l₁ v l₂
-    → length l₃ ≡ length l₂ → Emits (binary (v .var) 7 (var x) (a .operand)) (v .counters) l₂ k₃ l₃
+    → length l₃ ≡ length l₂ → Emits (Binary (varOf (v .var)) Lt (OVar (varOf x)) (operandOf (a .operand))) (v .counters) l₂ k₃ l₃
     → Adds (jumpIfNot (OVar (varOf (v .var))) (named 2 r)) (amount 1 0 1 0 0) k₃ l₃ tt k₄ l₄
     → Adds (testBound P r (varOf x) (operandOf b)) (amount 3 2 1 0 1) k l tt k₄ l₄
 unfolding testBound

@@ -36,7 +36,6 @@ use Rattle.types.proofs.FromGood.{is-expr}
 use Rattle.ir.specs.declared.structs.Counters.{Counters}
 use Rattle.ir.specs.declared.structs.VarId.{VarId}
 use Rattle.ir.specs.declared.structs.Operand.{Operand}
-use Rattle.ir.specs.declared.structs.Instr.the-variants.{Copy as copy}
 use Rattle.ir.specs.declared.structs.NewVariable.{NewVariable}
 use Rattle.ir.specs.Amounts.{Amount, amount}
 use Rattle.ir.specs.Instructions.{operandOf, varOf}
@@ -79,7 +78,7 @@ use Rattle.statements.proofs.DeclareLaws.{found-typed, declaredThen, de
 -- ---- the copy
 
 pub copy-adds : {tree : List ℕ} (P : Program) (v : VarId) (src : Operand) {a : Fitted} {k k₂ : Counters} {l l₁ l₂ : List ℕ}
-    → FitAdds tree (fit-operand P (operandOf src) (v .1)) (amount 1 1 0 0 1) k l a l₁ → length l₂ ≡ length l₁ → Emits (copy v (a .operand)) (a .counters) l₁ k₂ l₂
+    → FitAdds tree (fit-operand P (operandOf src) (v .1)) (amount 1 1 0 0 1) k l a l₁ → length l₂ ≡ length l₁ → Emits (Copy (varOf v) (operandOf (a .operand))) (a .counters) l₁ k₂ l₂
     → Adds (copyFitted P (varOf v) (operandOf src)) (amount 2 1 0 0 1) k l tt k₂ l₂
 unfolding copyFitted
 copy-adds P v src u h p = adds-most (adds-then (λ (o : Ir.Operand). emit (Copy (varOf v) o)) (u .adds) (emit-adds h p)) (omega arith)
@@ -264,7 +263,7 @@ module _ {tree text l s : List ℕ} {c : Converter} {r y : ℕ} (p : Converting 
       pub new-types : {sc : Scope} → g ≡ Declared.Done sc → InTurn tree text s c → TypedIn tree text c s [] s′
       new-types q i = declared-types p (made .var) more-names (var-typed p long new more-names new-type) r (init-asked (p .ready) x) (eqb d 1) s′ m q i
 
-      pub new-declared : {sc : Scope} {k₂ : Counters} {l₂ : List ℕ} → g ≡ Declared.Done sc → length l₂ ≡ length l₁ → Emits (copy (made .var) src) (made .counters) l₁ k₂ l₂
+      pub new-declared : {sc : Scope} {k₂ : Counters} {l₂ : List ℕ} → g ≡ Declared.Done sc → length l₂ ≡ length l₁ → Emits (Copy (varOf (made .var)) (operandOf src)) (made .counters) l₁ k₂ l₂
           → DeclaresAs (λ t u i k j. declareInitSteps t u i k j y src) c r tree text l s (Stated.Done sc k₂) l₂ s′
       new-declared {sc} {k₂} {l₂} q h i =
           let at : TypeAt tree (made .var .1) = var-typed p long new more-names new-type in

@@ -35,7 +35,6 @@ use Rattle.conversion.proofs.Sizes.{args-count}
 use Rattle.types.proofs.FromGood.{is-expr}
 use Rattle.ir.specs.declared.structs.Counters.{Counters}
 use Rattle.ir.specs.declared.structs.Operand.{Operand}
-use Rattle.ir.specs.declared.structs.Instr.the-variants.{Return as return, CallOnly as callOnly}
 use Rattle.ir.specs.Amounts.{Amount, amount, both}
 use Rattle.ir.specs.Arena.{Room}
 use Rattle.ir.specs.Instructions.{operandOf}
@@ -204,7 +203,7 @@ module _ {tree text l s : List ℕ} {c : Converter} {r e : ℕ} (p : Converting 
 
         pub return-done : {a : Operand} {k k₃ : Counters} {g : Fitted} {l₂ l₃ : List ℕ} → v ≡ Converted.Is a k
             → FitAdds tree (fit-operand (program tree text) (operandOf a) expected) (amount 1 1 0 0 1) k l₁ g l₂
-            → length l₃ ≡ length l₂ → Emits (return (g .operand)) (g .counters) l₂ k₃ l₃
+            → length l₃ ≡ length l₂ → Emits (Return (operandOf (g .operand))) (g .counters) l₂ k₃ l₃
             → StatesAs (λ t x s k q. returnAsSteps t x s k q y expected) c r tree text l s (Stated.Done (c .scope) k₃) l₃ s₁
         unfolding returnAs
         return-done {k₃ = k₃} {l₃ = l₃} w i h j =
@@ -312,7 +311,7 @@ module _ {tree text l s : List ℕ} {c : Converter} {e : ℕ} (p : Converting tr
 
       pub values-called : (g : ℕ) {k₁ k₂ : Counters} {l₂ l₃ s₂ : List ℕ} → FunctionAt tree g
           → Adds (passArgs (program tree text) (functionOf tree text g) values (stackAt s₁ (records tree) (c .operands) count)) (amount (2 * count) count 0 0 count) k l₁ tt k₁ l₂
-          → StaysFor tree c s₁ s₂ → length l₃ ≡ length l₂ → Emits (callOnly g) k₁ l₂ k₂ l₃
+          → StaysFor tree c s₁ s₂ → length l₃ ≡ length l₂ → Emits (Call nothing g) k₁ l₂ k₂ l₃
           → CallOnlyAs (λ t x s k q. callOnlySteps t x s k q g) c e tree text l s (Stated.Done (c .scope) k₂) l₃ s₂
       values-called g {k₁ = k₁} {k₂ = k₂} {l₂ = l₂} {l₃ = l₃} at i st h j =
           let S = scopeAt tree text s (c .scope) in

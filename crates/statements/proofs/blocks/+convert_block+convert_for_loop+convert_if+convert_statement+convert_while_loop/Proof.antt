@@ -31,7 +31,7 @@ use Rattle.statements.proofs.blocks.convert_while_loop.Reads as convert
 use Rattle.statements.proofs.blocks.convert_while_loop.Kinds as convert-while-loop-kinds
 use Rattle.statements.proofs.blocks.+convert_block+convert_for_loop+convert_if+convert_statement+convert_while_loop.Lts-convert_while_loop as convert-while-loop-lts
 use Rattle.expressions.proofs.arguments.next_cell.Reads as next-cell-reads
-use Rattle.ir.proofs.structs.emit.Reads as emit-reads
+use Rattle.ir.proofs.structs.emit_comment.Reads as emit-comment-reads
 use Rattle.records.proofs.words.kind.Reads as kind-reads
 use Rattle.records.proofs.words.reference.Reads as reference-reads
 use Rattle.scope.proofs.Scope.with_loop.Reads as with-loop-reads
@@ -1032,8 +1032,8 @@ convert-if-returns-5 t c = (if-else-next (c .before .before .before .before .bef
 convert-statement-kind-requires : (t : ℕ) → convert-statement-lts.Need-kind-requires (
   kind-reads.Asked,
   kind-reads.Learnt,
-  emit-reads.Asked,
-  emit-reads.Learnt,
+  emit-comment-reads.Asked,
+  emit-comment-reads.Learnt,
   convert-plain-reads.Asked,
   convert-plain-reads.Learnt,
   convert-jump-reads.Asked,
@@ -1049,11 +1049,11 @@ convert-statement-kind-requires : (t : ℕ) → convert-statement-lts.Need-kind-
 ) (convert-statement-at t) convert-statement.Post
 convert-statement-kind-requires t c κs = omega (arith, (c .before .before .before .before .before .before .pre .1 .1 .0) .below, c .before .before .before .before .before .before .pre .1 .0 .0 .ready .keyed .good .whole)
 
-convert-statement-cast-t14 : (t : ℕ) → convert-statement-lts.Need-cast-t14 (
+convert-statement-cast-emit-comment : (t : ℕ) → convert-statement-lts.Need-cast-emit-comment (
   kind-reads.Asked,
   kind-reads.Learnt,
-  emit-reads.Asked,
-  emit-reads.Learnt,
+  emit-comment-reads.Asked,
+  emit-comment-reads.Learnt,
   convert-plain-reads.Asked,
   convert-plain-reads.Learnt,
   convert-jump-reads.Asked,
@@ -1067,13 +1067,13 @@ convert-statement-cast-t14 : (t : ℕ) → convert-statement-lts.Need-cast-t14 (
   convert-for-loop-below t,
   convert-for-loop.Post,
 ) (convert-statement-at t) convert-statement.Post
-convert-statement-cast-t14 t c = omega (arith, (c .before .before .before .before .before .before .before .before .pre .1 .1 .0) .below, c .before .before .before .before .before .before .before .before .pre .1 .0 .0 .ready .keyed .good .few)
+convert-statement-cast-emit-comment t c = omega (arith, (c .before .before .before .before .before .before .before .before .pre .1 .1 .0) .below, c .before .before .before .before .before .before .before .before .pre .1 .0 .0 .ready .keyed .good .few)
 
-convert-statement-emit-requires : (t : ℕ) → convert-statement-lts.Need-emit-requires (
+convert-statement-emit-comment-requires : (t : ℕ) → convert-statement-lts.Need-emit-comment-requires (
   kind-reads.Asked,
   kind-reads.Learnt,
-  emit-reads.Asked,
-  emit-reads.Learnt,
+  emit-comment-reads.Asked,
+  emit-comment-reads.Learnt,
   convert-plain-reads.Asked,
   convert-plain-reads.Learnt,
   convert-jump-reads.Asked,
@@ -1087,13 +1087,13 @@ convert-statement-emit-requires : (t : ℕ) → convert-statement-lts.Need-emit-
   convert-for-loop-below t,
   convert-for-loop.Post,
 ) (convert-statement-at t) convert-statement.Post
-convert-statement-emit-requires t c κs = ((c .before .before .before .before .before .before .before .before .pre .1 .0 .0) .room, omega (arith, (c .before .before .before .before .before .before .before .before .pre .1 .0 .1) .tables))
+convert-statement-emit-comment-requires t c κs = ((c .before .before .before .before .before .before .before .before .pre .1 .0 .0) .room, omega (arith, (c .before .before .before .before .before .before .before .before .pre .1 .0 .1) .tables))
 
 convert-statement-cast-at : (t : ℕ) → convert-statement-lts.Need-cast-at (
   kind-reads.Asked,
   kind-reads.Learnt,
-  emit-reads.Asked,
-  emit-reads.Learnt,
+  emit-comment-reads.Asked,
+  emit-comment-reads.Learnt,
   convert-plain-reads.Asked,
   convert-plain-reads.Learnt,
   convert-jump-reads.Asked,
@@ -1107,14 +1107,14 @@ convert-statement-cast-at : (t : ℕ) → convert-statement-lts.Need-cast-at (
   convert-for-loop-below t,
   convert-for-loop.Post,
 ) (convert-statement-at t) convert-statement.Post
-convert-statement-cast-at t c = omega (arith, comment-small (c .before .before .before .before .before .before .before .before .before .before .before .before .pre .1 .0 .0) (c .before .before .before .before .before .before .before .before .before .before .before .before .pre .1 .0 .1) (c .before .before .before .before .before .before .before .before .before .before .before .before .pre .1 .1 .0) (c .before .before .before .before .before .before .before .before .before .before .before .before .pre .1 .1 .1) (c .before .before .before .emit .ensures))
+convert-statement-cast-at t c = omega (arith, comment-small (c .before .before .before .before .before .before .before .before .before .before .before .before .pre .1 .0 .0) (c .before .before .before .before .before .before .before .before .before .before .before .before .pre .1 .0 .1) (c .before .before .before .before .before .before .before .before .before .before .before .before .pre .1 .1 .0) (c .before .before .before .before .before .before .before .before .before .before .before .before .pre .1 .1 .1) (c .before .before .before .emit-comment .ensures))
 
 convert-statement-convert-plain-requires :
     (t : ℕ) → convert-statement-lts.Need-convert-plain-requires (
       kind-reads.Asked,
       kind-reads.Learnt,
-      emit-reads.Asked,
-      emit-reads.Learnt,
+      emit-comment-reads.Asked,
+      emit-comment-reads.Learnt,
       convert-plain-reads.Asked,
       convert-plain-reads.Learnt,
       convert-jump-reads.Asked,
@@ -1128,13 +1128,13 @@ convert-statement-convert-plain-requires :
       convert-for-loop-below t,
       convert-for-loop.Post,
     ) (convert-statement-at t) convert-statement.Post
-convert-statement-convert-plain-requires t c κs = ((comment-converting (c .before .before .before .before .before .before .before .before .before .before .before .before .before .before .before .pre .1 .0 .0) (c .before .before .before .before .before .before .before .before .before .before .before .before .before .before .before .pre .1 .0 .1) (c .before .before .before .before .before .before .before .before .before .before .before .before .before .before .before .pre .1 .1 .0) (omega arith) (c .before .before .before .before .before .before .emit .ensures), comment-afforded (c .before .before .before .before .before .before .before .before .before .before .before .before .before .before .before .pre .1 .0 .0) (c .before .before .before .before .before .before .before .before .before .before .before .before .before .before .before .pre .1 .0 .1) (c .before .before .before .before .before .before .before .before .before .before .before .before .before .before .before .pre .1 .1 .0) (omega arith) (c .before .before .before .before .before .before .emit .ensures)), (((c .before .before .before .before .before .before .before .before .before .before .before .before .before .before .before .pre .1 .1 .0), omega (arith, (c .before .before .before .before .before .before .before .before .kind .ensures), c .before .before .if1 .taken)), comment-in-turn (c .before .before .before .before .before .before .before .before .before .before .before .before .before .before .before .pre .1 .0 .0) (c .before .before .before .before .before .before .before .before .before .before .before .before .before .before .before .pre .1 .0 .1) (c .before .before .before .before .before .before .before .before .before .before .before .before .before .before .before .pre .1 .1 .0) (c .before .before .before .before .before .before .before .before .before .before .before .before .before .before .before .pre .1 .1 .1) (c .before .before .before .before .before .before .emit .ensures)))
+convert-statement-convert-plain-requires t c κs = ((comment-converting (c .before .before .before .before .before .before .before .before .before .before .before .before .before .before .before .pre .1 .0 .0) (c .before .before .before .before .before .before .before .before .before .before .before .before .before .before .before .pre .1 .0 .1) (c .before .before .before .before .before .before .before .before .before .before .before .before .before .before .before .pre .1 .1 .0) (omega arith) (c .before .before .before .before .before .before .emit-comment .ensures), comment-afforded (c .before .before .before .before .before .before .before .before .before .before .before .before .before .before .before .pre .1 .0 .0) (c .before .before .before .before .before .before .before .before .before .before .before .before .before .before .before .pre .1 .0 .1) (c .before .before .before .before .before .before .before .before .before .before .before .before .before .before .before .pre .1 .1 .0) (omega arith) (c .before .before .before .before .before .before .emit-comment .ensures)), (((c .before .before .before .before .before .before .before .before .before .before .before .before .before .before .before .pre .1 .1 .0), omega (arith, (c .before .before .before .before .before .before .before .before .kind .ensures), c .before .before .if1 .taken)), comment-in-turn (c .before .before .before .before .before .before .before .before .before .before .before .before .before .before .before .pre .1 .0 .0) (c .before .before .before .before .before .before .before .before .before .before .before .before .before .before .before .pre .1 .0 .1) (c .before .before .before .before .before .before .before .before .before .before .before .before .before .before .before .pre .1 .1 .0) (c .before .before .before .before .before .before .before .before .before .before .before .before .before .before .before .pre .1 .1 .1) (c .before .before .before .before .before .before .emit-comment .ensures)))
 
 convert-statement-same-length : (t : ℕ) → convert-statement-lts.Need-same-length (
   kind-reads.Asked,
   kind-reads.Learnt,
-  emit-reads.Asked,
-  emit-reads.Learnt,
+  emit-comment-reads.Asked,
+  emit-comment-reads.Learnt,
   convert-plain-reads.Asked,
   convert-plain-reads.Learnt,
   convert-jump-reads.Asked,
@@ -1153,8 +1153,8 @@ convert-statement-same-length t c = search needs
 convert-statement-same-length-2 : (t : ℕ) → convert-statement-lts.Need-same-length-2 (
   kind-reads.Asked,
   kind-reads.Learnt,
-  emit-reads.Asked,
-  emit-reads.Learnt,
+  emit-comment-reads.Asked,
+  emit-comment-reads.Learnt,
   convert-plain-reads.Asked,
   convert-plain-reads.Learnt,
   convert-jump-reads.Asked,
@@ -1173,8 +1173,8 @@ convert-statement-same-length-2 t c = search needs
 convert-statement-returns : (t : ℕ) → convert-statement-lts.Need-returns (
   kind-reads.Asked,
   kind-reads.Learnt,
-  emit-reads.Asked,
-  emit-reads.Learnt,
+  emit-comment-reads.Asked,
+  emit-comment-reads.Learnt,
   convert-plain-reads.Asked,
   convert-plain-reads.Learnt,
   convert-jump-reads.Asked,
@@ -1188,14 +1188,14 @@ convert-statement-returns : (t : ℕ) → convert-statement-lts.Need-returns (
   convert-for-loop-below t,
   convert-for-loop.Post,
 ) (convert-statement-at t) convert-statement.Post
-convert-statement-returns t c = (commented-plain (c .before .before .before .before .before .before .before .before .before .before .before .before .before .before .before .before .before .before .before .before .pre .1 .0 .0) (c .before .before .before .before .before .before .before .before .before .before .before .before .before .before .before .before .before .before .before .before .pre .1 .0 .1) (c .before .before .before .before .before .before .before .before .before .before .before .before .before .before .before .before .before .before .before .before .pre .1 .1 .0) (omega arith) (c .before .before .before .before .before .before .before .before .before .before .before .emit .ensures) (c .before .before .before .before .before .before .before .before .before .before .before .before .before .kind .ensures) (c .before .before .before .before .before .before .before .if1 .taken) (c .before .before .before .before .convert-plain .ensures .0), plain-visited (c .before .before .before .before .before .before .before .before .before .before .before .before .before .before .before .before .before .before .before .before .pre .1 .0 .0) (c .before .before .before .before .before .before .before .before .before .before .before .before .before .before .before .before .before .before .before .before .pre .1 .0 .1) (c .before .before .before .before .before .before .before .before .before .before .before .before .before .before .before .before .before .before .before .before .pre .1 .1 .0) (c .before .before .before .before .before .before .before .before .before .before .before .before .before .before .before .before .before .before .before .before .pre .1 .1 .1) (c .before .before .before .before .before .before .before .before .before .before .before .emit .ensures) (c .before .before .before .before .convert-plain .ensures .0) (c .before .before .before .before .before .before .before .before .before .before .before .before .before .kind .ensures) (c .before .before .before .before .before .before .before .if1 .taken) (c .before .before .before .before .convert-plain .ensures .1))
+convert-statement-returns t c = (commented-plain (c .before .before .before .before .before .before .before .before .before .before .before .before .before .before .before .before .before .before .before .before .pre .1 .0 .0) (c .before .before .before .before .before .before .before .before .before .before .before .before .before .before .before .before .before .before .before .before .pre .1 .0 .1) (c .before .before .before .before .before .before .before .before .before .before .before .before .before .before .before .before .before .before .before .before .pre .1 .1 .0) (omega arith) (c .before .before .before .before .before .before .before .before .before .before .before .emit-comment .ensures) (c .before .before .before .before .before .before .before .before .before .before .before .before .before .kind .ensures) (c .before .before .before .before .before .before .before .if1 .taken) (c .before .before .before .before .convert-plain .ensures .0), plain-visited (c .before .before .before .before .before .before .before .before .before .before .before .before .before .before .before .before .before .before .before .before .pre .1 .0 .0) (c .before .before .before .before .before .before .before .before .before .before .before .before .before .before .before .before .before .before .before .before .pre .1 .0 .1) (c .before .before .before .before .before .before .before .before .before .before .before .before .before .before .before .before .before .before .before .before .pre .1 .1 .0) (c .before .before .before .before .before .before .before .before .before .before .before .before .before .before .before .before .before .before .before .before .pre .1 .1 .1) (c .before .before .before .before .before .before .before .before .before .before .before .emit-comment .ensures) (c .before .before .before .before .convert-plain .ensures .0) (c .before .before .before .before .before .before .before .before .before .before .before .before .before .kind .ensures) (c .before .before .before .before .before .before .before .if1 .taken) (c .before .before .before .before .convert-plain .ensures .1))
 
 convert-statement-convert-jump-requires :
     (t : ℕ) → convert-statement-lts.Need-convert-jump-requires (
       kind-reads.Asked,
       kind-reads.Learnt,
-      emit-reads.Asked,
-      emit-reads.Learnt,
+      emit-comment-reads.Asked,
+      emit-comment-reads.Learnt,
       convert-plain-reads.Asked,
       convert-plain-reads.Learnt,
       convert-jump-reads.Asked,
@@ -1209,13 +1209,13 @@ convert-statement-convert-jump-requires :
       convert-for-loop-below t,
       convert-for-loop.Post,
     ) (convert-statement-at t) convert-statement.Post
-convert-statement-convert-jump-requires t c κs = ((comment-converting (c .before .before .before .before .before .before .before .before .before .before .before .before .before .before .before .before .pre .1 .0 .0) (c .before .before .before .before .before .before .before .before .before .before .before .before .before .before .before .before .pre .1 .0 .1) (c .before .before .before .before .before .before .before .before .before .before .before .before .before .before .before .before .pre .1 .1 .0) (omega arith) (c .before .before .before .before .before .before .before .emit .ensures), comment-afforded (c .before .before .before .before .before .before .before .before .before .before .before .before .before .before .before .before .pre .1 .0 .0) (c .before .before .before .before .before .before .before .before .before .before .before .before .before .before .before .before .pre .1 .0 .1) (c .before .before .before .before .before .before .before .before .before .before .before .before .before .before .before .before .pre .1 .1 .0) (omega arith) (c .before .before .before .before .before .before .before .emit .ensures)), ((c .before .before .before .before .before .before .before .before .before .before .before .before .before .before .before .before .pre .1 .1 .0), omega (arith, (c .before .before .before .before .before .before .before .before .before .kind .ensures), c .before .before .if2 .taken)))
+convert-statement-convert-jump-requires t c κs = ((comment-converting (c .before .before .before .before .before .before .before .before .before .before .before .before .before .before .before .before .pre .1 .0 .0) (c .before .before .before .before .before .before .before .before .before .before .before .before .before .before .before .before .pre .1 .0 .1) (c .before .before .before .before .before .before .before .before .before .before .before .before .before .before .before .before .pre .1 .1 .0) (omega arith) (c .before .before .before .before .before .before .before .emit-comment .ensures), comment-afforded (c .before .before .before .before .before .before .before .before .before .before .before .before .before .before .before .before .pre .1 .0 .0) (c .before .before .before .before .before .before .before .before .before .before .before .before .before .before .before .before .pre .1 .0 .1) (c .before .before .before .before .before .before .before .before .before .before .before .before .before .before .before .before .pre .1 .1 .0) (omega arith) (c .before .before .before .before .before .before .before .emit-comment .ensures)), ((c .before .before .before .before .before .before .before .before .before .before .before .before .before .before .before .before .pre .1 .1 .0), omega (arith, (c .before .before .before .before .before .before .before .before .before .kind .ensures), c .before .before .if2 .taken)))
 
 convert-statement-same-length-3 : (t : ℕ) → convert-statement-lts.Need-same-length-3 (
   kind-reads.Asked,
   kind-reads.Learnt,
-  emit-reads.Asked,
-  emit-reads.Learnt,
+  emit-comment-reads.Asked,
+  emit-comment-reads.Learnt,
   convert-plain-reads.Asked,
   convert-plain-reads.Learnt,
   convert-jump-reads.Asked,
@@ -1234,8 +1234,8 @@ convert-statement-same-length-3 t c = search needs
 convert-statement-same-length-4 : (t : ℕ) → convert-statement-lts.Need-same-length-4 (
   kind-reads.Asked,
   kind-reads.Learnt,
-  emit-reads.Asked,
-  emit-reads.Learnt,
+  emit-comment-reads.Asked,
+  emit-comment-reads.Learnt,
   convert-plain-reads.Asked,
   convert-plain-reads.Learnt,
   convert-jump-reads.Asked,
@@ -1254,8 +1254,8 @@ convert-statement-same-length-4 t c = search needs
 convert-statement-returns-2 : (t : ℕ) → convert-statement-lts.Need-returns-2 (
   kind-reads.Asked,
   kind-reads.Learnt,
-  emit-reads.Asked,
-  emit-reads.Learnt,
+  emit-comment-reads.Asked,
+  emit-comment-reads.Learnt,
   convert-plain-reads.Asked,
   convert-plain-reads.Learnt,
   convert-jump-reads.Asked,
@@ -1269,13 +1269,13 @@ convert-statement-returns-2 : (t : ℕ) → convert-statement-lts.Need-returns-2
   convert-for-loop-below t,
   convert-for-loop.Post,
 ) (convert-statement-at t) convert-statement.Post
-convert-statement-returns-2 t c = (commented-jump (c .before .before .before .before .before .before .before .before .before .before .before .before .before .before .before .before .before .before .before .pre .1 .0 .0) (c .before .before .before .before .before .before .before .before .before .before .before .before .before .before .before .before .before .before .before .pre .1 .0 .1) (c .before .before .before .before .before .before .before .before .before .before .before .before .before .before .before .before .before .before .before .pre .1 .1 .0) (omega arith) (c .before .before .before .before .before .before .before .before .before .before .emit .ensures) (c .before .before .before .before .before .before .before .before .before .before .before .before .kind .ensures) (c .before .before .before .before .before .if2 .taken) (c .before .before .convert-jump .ensures), jump-visited (c .before .before .before .before .before .before .before .before .before .before .before .before .before .before .before .before .before .before .before .pre .1 .0 .0) (c .before .before .before .before .before .before .before .before .before .before .before .before .before .before .before .before .before .before .before .pre .1 .0 .1) (c .before .before .before .before .before .before .before .before .before .before .before .before .before .before .before .before .before .before .before .pre .1 .1 .0) (c .before .before .before .before .before .before .before .before .before .before .before .before .before .before .before .before .before .before .before .pre .1 .1 .1) (c .before .before .before .before .before .before .before .before .before .before .emit .ensures) (c .before .before .convert-jump .ensures) (c .before .before .before .before .before .before .before .before .before .before .before .before .kind .ensures) (c .before .before .before .before .before .if2 .taken) refl)
+convert-statement-returns-2 t c = (commented-jump (c .before .before .before .before .before .before .before .before .before .before .before .before .before .before .before .before .before .before .before .pre .1 .0 .0) (c .before .before .before .before .before .before .before .before .before .before .before .before .before .before .before .before .before .before .before .pre .1 .0 .1) (c .before .before .before .before .before .before .before .before .before .before .before .before .before .before .before .before .before .before .before .pre .1 .1 .0) (omega arith) (c .before .before .before .before .before .before .before .before .before .before .emit-comment .ensures) (c .before .before .before .before .before .before .before .before .before .before .before .before .kind .ensures) (c .before .before .before .before .before .if2 .taken) (c .before .before .convert-jump .ensures), jump-visited (c .before .before .before .before .before .before .before .before .before .before .before .before .before .before .before .before .before .before .before .pre .1 .0 .0) (c .before .before .before .before .before .before .before .before .before .before .before .before .before .before .before .before .before .before .before .pre .1 .0 .1) (c .before .before .before .before .before .before .before .before .before .before .before .before .before .before .before .before .before .before .before .pre .1 .1 .0) (c .before .before .before .before .before .before .before .before .before .before .before .before .before .before .before .before .before .before .before .pre .1 .1 .1) (c .before .before .before .before .before .before .before .before .before .before .emit-comment .ensures) (c .before .before .convert-jump .ensures) (c .before .before .before .before .before .before .before .before .before .before .before .before .kind .ensures) (c .before .before .before .before .before .if2 .taken) refl)
 
 convert-statement-convert-if-requires : (t : ℕ) → convert-statement-lts.Need-convert-if-requires (
   kind-reads.Asked,
   kind-reads.Learnt,
-  emit-reads.Asked,
-  emit-reads.Learnt,
+  emit-comment-reads.Asked,
+  emit-comment-reads.Learnt,
   convert-plain-reads.Asked,
   convert-plain-reads.Learnt,
   convert-jump-reads.Asked,
@@ -1289,13 +1289,13 @@ convert-statement-convert-if-requires : (t : ℕ) → convert-statement-lts.Need
   convert-for-loop-below t,
   convert-for-loop.Post,
 ) (convert-statement-at t) convert-statement.Post
-convert-statement-convert-if-requires t c κs = (omega (arith, c .before .before .before .before .before .before .before .before .before .before .before .before .before .before .before .before .before .pre .0), ((comment-converting (c .before .before .before .before .before .before .before .before .before .before .before .before .before .before .before .before .before .pre .1 .0 .0) (c .before .before .before .before .before .before .before .before .before .before .before .before .before .before .before .before .before .pre .1 .0 .1) (c .before .before .before .before .before .before .before .before .before .before .before .before .before .before .before .before .before .pre .1 .1 .0) (omega arith) (c .before .before .before .before .before .before .before .before .emit .ensures), comment-afforded (c .before .before .before .before .before .before .before .before .before .before .before .before .before .before .before .before .before .pre .1 .0 .0) (c .before .before .before .before .before .before .before .before .before .before .before .before .before .before .before .before .before .pre .1 .0 .1) (c .before .before .before .before .before .before .before .before .before .before .before .before .before .before .before .before .before .pre .1 .1 .0) (omega arith) (c .before .before .before .before .before .before .before .before .emit .ensures)), (record { below = (c .before .before .before .before .before .before .before .before .before .before .before .before .before .before .before .before .before .pre .1 .1 .0) .below; kind = sym (c .before .before .before .before .before .before .before .before .before .before .kind .ensures) ∙ c .before .before .if3 .taken }, comment-fresh (c .before .before .before .before .before .before .before .before .before .before .before .before .before .before .before .before .before .pre .1 .0 .0) (c .before .before .before .before .before .before .before .before .before .before .before .before .before .before .before .before .before .pre .1 .0 .1) (c .before .before .before .before .before .before .before .before .before .before .before .before .before .before .before .before .before .pre .1 .1 .0) (c .before .before .before .before .before .before .before .before .before .before .before .before .before .before .before .before .before .pre .1 .1 .1) (c .before .before .before .before .before .before .before .before .emit .ensures))))
+convert-statement-convert-if-requires t c κs = (omega (arith, c .before .before .before .before .before .before .before .before .before .before .before .before .before .before .before .before .before .pre .0), ((comment-converting (c .before .before .before .before .before .before .before .before .before .before .before .before .before .before .before .before .before .pre .1 .0 .0) (c .before .before .before .before .before .before .before .before .before .before .before .before .before .before .before .before .before .pre .1 .0 .1) (c .before .before .before .before .before .before .before .before .before .before .before .before .before .before .before .before .before .pre .1 .1 .0) (omega arith) (c .before .before .before .before .before .before .before .before .emit-comment .ensures), comment-afforded (c .before .before .before .before .before .before .before .before .before .before .before .before .before .before .before .before .before .pre .1 .0 .0) (c .before .before .before .before .before .before .before .before .before .before .before .before .before .before .before .before .before .pre .1 .0 .1) (c .before .before .before .before .before .before .before .before .before .before .before .before .before .before .before .before .before .pre .1 .1 .0) (omega arith) (c .before .before .before .before .before .before .before .before .emit-comment .ensures)), (record { below = (c .before .before .before .before .before .before .before .before .before .before .before .before .before .before .before .before .before .pre .1 .1 .0) .below; kind = sym (c .before .before .before .before .before .before .before .before .before .before .kind .ensures) ∙ c .before .before .if3 .taken }, comment-fresh (c .before .before .before .before .before .before .before .before .before .before .before .before .before .before .before .before .before .pre .1 .0 .0) (c .before .before .before .before .before .before .before .before .before .before .before .before .before .before .before .before .before .pre .1 .0 .1) (c .before .before .before .before .before .before .before .before .before .before .before .before .before .before .before .before .before .pre .1 .1 .0) (c .before .before .before .before .before .before .before .before .before .before .before .before .before .before .before .before .before .pre .1 .1 .1) (c .before .before .before .before .before .before .before .before .emit-comment .ensures))))
 
 convert-statement-stated-requires : (t : ℕ) → convert-statement-lts.Need-stated-requires (
   kind-reads.Asked,
   kind-reads.Learnt,
-  emit-reads.Asked,
-  emit-reads.Learnt,
+  emit-comment-reads.Asked,
+  emit-comment-reads.Learnt,
   convert-plain-reads.Asked,
   convert-plain-reads.Learnt,
   convert-jump-reads.Asked,
@@ -1314,8 +1314,8 @@ convert-statement-stated-requires t c κs = search needs
 convert-statement-same-length-5 : (t : ℕ) → convert-statement-lts.Need-same-length-5 (
   kind-reads.Asked,
   kind-reads.Learnt,
-  emit-reads.Asked,
-  emit-reads.Learnt,
+  emit-comment-reads.Asked,
+  emit-comment-reads.Learnt,
   convert-plain-reads.Asked,
   convert-plain-reads.Learnt,
   convert-jump-reads.Asked,
@@ -1334,8 +1334,8 @@ convert-statement-same-length-5 t c = search needs
 convert-statement-same-length-6 : (t : ℕ) → convert-statement-lts.Need-same-length-6 (
   kind-reads.Asked,
   kind-reads.Learnt,
-  emit-reads.Asked,
-  emit-reads.Learnt,
+  emit-comment-reads.Asked,
+  emit-comment-reads.Learnt,
   convert-plain-reads.Asked,
   convert-plain-reads.Learnt,
   convert-jump-reads.Asked,
@@ -1354,8 +1354,8 @@ convert-statement-same-length-6 t c = search needs
 convert-statement-returns-3 : (t : ℕ) → convert-statement-lts.Need-returns-3 (
   kind-reads.Asked,
   kind-reads.Learnt,
-  emit-reads.Asked,
-  emit-reads.Learnt,
+  emit-comment-reads.Asked,
+  emit-comment-reads.Learnt,
   convert-plain-reads.Asked,
   convert-plain-reads.Learnt,
   convert-jump-reads.Asked,
@@ -1369,14 +1369,14 @@ convert-statement-returns-3 : (t : ℕ) → convert-statement-lts.Need-returns-3
   convert-for-loop-below t,
   convert-for-loop.Post,
 ) (convert-statement-at t) convert-statement.Post
-convert-statement-returns-3 t c = (commented-if (c .before .before .before .before .before .before .before .before .before .before .before .before .before .before .before .before .before .before .before .before .before .before .before .pre .1 .0 .0) (c .before .before .before .before .before .before .before .before .before .before .before .before .before .before .before .before .before .before .before .before .before .before .before .pre .1 .0 .1) (c .before .before .before .before .before .before .before .before .before .before .before .before .before .before .before .before .before .before .before .before .before .before .before .pre .1 .1 .0) (omega arith) (c .before .before .before .before .before .before .before .before .before .before .before .before .before .before .emit .ensures) (c .before .before .before .before .before .before .before .before .before .before .before .before .before .before .before .before .kind .ensures) (c .stated .ensures) (c .before .before .before .before .before .before .before .before .if3 .taken) (c .before .before .before .before .before .convert-if .ensures .0), stated-visited _ _ _ _ (c .stated .ensures) (c .before .before .before .before .before .convert-if .ensures .1))
+convert-statement-returns-3 t c = (commented-if (c .before .before .before .before .before .before .before .before .before .before .before .before .before .before .before .before .before .before .before .before .before .before .before .pre .1 .0 .0) (c .before .before .before .before .before .before .before .before .before .before .before .before .before .before .before .before .before .before .before .before .before .before .before .pre .1 .0 .1) (c .before .before .before .before .before .before .before .before .before .before .before .before .before .before .before .before .before .before .before .before .before .before .before .pre .1 .1 .0) (omega arith) (c .before .before .before .before .before .before .before .before .before .before .before .before .before .before .emit-comment .ensures) (c .before .before .before .before .before .before .before .before .before .before .before .before .before .before .before .before .kind .ensures) (c .stated .ensures) (c .before .before .before .before .before .before .before .before .if3 .taken) (c .before .before .before .before .before .convert-if .ensures .0), stated-visited _ _ _ _ (c .stated .ensures) (c .before .before .before .before .before .convert-if .ensures .1))
 
 convert-statement-convert-while-loop-requires :
     (t : ℕ) → convert-statement-lts.Need-convert-while-loop-requires (
       kind-reads.Asked,
       kind-reads.Learnt,
-      emit-reads.Asked,
-      emit-reads.Learnt,
+      emit-comment-reads.Asked,
+      emit-comment-reads.Learnt,
       convert-plain-reads.Asked,
       convert-plain-reads.Learnt,
       convert-jump-reads.Asked,
@@ -1390,13 +1390,13 @@ convert-statement-convert-while-loop-requires :
       convert-for-loop-below t,
       convert-for-loop.Post,
     ) (convert-statement-at t) convert-statement.Post
-convert-statement-convert-while-loop-requires t c κs = (omega (arith, c .before .before .before .before .before .before .before .before .before .before .before .before .before .before .before .before .before .before .pre .0), ((comment-converting (c .before .before .before .before .before .before .before .before .before .before .before .before .before .before .before .before .before .before .pre .1 .0 .0) (c .before .before .before .before .before .before .before .before .before .before .before .before .before .before .before .before .before .before .pre .1 .0 .1) (c .before .before .before .before .before .before .before .before .before .before .before .before .before .before .before .before .before .before .pre .1 .1 .0) (omega arith) (c .before .before .before .before .before .before .before .before .before .emit .ensures), comment-afforded (c .before .before .before .before .before .before .before .before .before .before .before .before .before .before .before .before .before .before .pre .1 .0 .0) (c .before .before .before .before .before .before .before .before .before .before .before .before .before .before .before .before .before .before .pre .1 .0 .1) (c .before .before .before .before .before .before .before .before .before .before .before .before .before .before .before .before .before .before .pre .1 .1 .0) (omega arith) (c .before .before .before .before .before .before .before .before .before .emit .ensures)), (record { below = (c .before .before .before .before .before .before .before .before .before .before .before .before .before .before .before .before .before .before .pre .1 .1 .0) .below; kind = sym (c .before .before .before .before .before .before .before .before .before .before .before .kind .ensures) ∙ c .before .before .if4 .taken }, comment-fresh (c .before .before .before .before .before .before .before .before .before .before .before .before .before .before .before .before .before .before .pre .1 .0 .0) (c .before .before .before .before .before .before .before .before .before .before .before .before .before .before .before .before .before .before .pre .1 .0 .1) (c .before .before .before .before .before .before .before .before .before .before .before .before .before .before .before .before .before .before .pre .1 .1 .0) (c .before .before .before .before .before .before .before .before .before .before .before .before .before .before .before .before .before .before .pre .1 .1 .1) (c .before .before .before .before .before .before .before .before .before .emit .ensures))))
+convert-statement-convert-while-loop-requires t c κs = (omega (arith, c .before .before .before .before .before .before .before .before .before .before .before .before .before .before .before .before .before .before .pre .0), ((comment-converting (c .before .before .before .before .before .before .before .before .before .before .before .before .before .before .before .before .before .before .pre .1 .0 .0) (c .before .before .before .before .before .before .before .before .before .before .before .before .before .before .before .before .before .before .pre .1 .0 .1) (c .before .before .before .before .before .before .before .before .before .before .before .before .before .before .before .before .before .before .pre .1 .1 .0) (omega arith) (c .before .before .before .before .before .before .before .before .before .emit-comment .ensures), comment-afforded (c .before .before .before .before .before .before .before .before .before .before .before .before .before .before .before .before .before .before .pre .1 .0 .0) (c .before .before .before .before .before .before .before .before .before .before .before .before .before .before .before .before .before .before .pre .1 .0 .1) (c .before .before .before .before .before .before .before .before .before .before .before .before .before .before .before .before .before .before .pre .1 .1 .0) (omega arith) (c .before .before .before .before .before .before .before .before .before .emit-comment .ensures)), (record { below = (c .before .before .before .before .before .before .before .before .before .before .before .before .before .before .before .before .before .before .pre .1 .1 .0) .below; kind = sym (c .before .before .before .before .before .before .before .before .before .before .before .kind .ensures) ∙ c .before .before .if4 .taken }, comment-fresh (c .before .before .before .before .before .before .before .before .before .before .before .before .before .before .before .before .before .before .pre .1 .0 .0) (c .before .before .before .before .before .before .before .before .before .before .before .before .before .before .before .before .before .before .pre .1 .0 .1) (c .before .before .before .before .before .before .before .before .before .before .before .before .before .before .before .before .before .before .pre .1 .1 .0) (c .before .before .before .before .before .before .before .before .before .before .before .before .before .before .before .before .before .before .pre .1 .1 .1) (c .before .before .before .before .before .before .before .before .before .emit-comment .ensures))))
 
 convert-statement-stated-requires-2 : (t : ℕ) → convert-statement-lts.Need-stated-requires-2 (
   kind-reads.Asked,
   kind-reads.Learnt,
-  emit-reads.Asked,
-  emit-reads.Learnt,
+  emit-comment-reads.Asked,
+  emit-comment-reads.Learnt,
   convert-plain-reads.Asked,
   convert-plain-reads.Learnt,
   convert-jump-reads.Asked,
@@ -1415,8 +1415,8 @@ convert-statement-stated-requires-2 t c κs = search needs
 convert-statement-same-length-7 : (t : ℕ) → convert-statement-lts.Need-same-length-7 (
   kind-reads.Asked,
   kind-reads.Learnt,
-  emit-reads.Asked,
-  emit-reads.Learnt,
+  emit-comment-reads.Asked,
+  emit-comment-reads.Learnt,
   convert-plain-reads.Asked,
   convert-plain-reads.Learnt,
   convert-jump-reads.Asked,
@@ -1435,8 +1435,8 @@ convert-statement-same-length-7 t c = search needs
 convert-statement-same-length-8 : (t : ℕ) → convert-statement-lts.Need-same-length-8 (
   kind-reads.Asked,
   kind-reads.Learnt,
-  emit-reads.Asked,
-  emit-reads.Learnt,
+  emit-comment-reads.Asked,
+  emit-comment-reads.Learnt,
   convert-plain-reads.Asked,
   convert-plain-reads.Learnt,
   convert-jump-reads.Asked,
@@ -1455,8 +1455,8 @@ convert-statement-same-length-8 t c = search needs
 convert-statement-returns-4 : (t : ℕ) → convert-statement-lts.Need-returns-4 (
   kind-reads.Asked,
   kind-reads.Learnt,
-  emit-reads.Asked,
-  emit-reads.Learnt,
+  emit-comment-reads.Asked,
+  emit-comment-reads.Learnt,
   convert-plain-reads.Asked,
   convert-plain-reads.Learnt,
   convert-jump-reads.Asked,
@@ -1470,14 +1470,14 @@ convert-statement-returns-4 : (t : ℕ) → convert-statement-lts.Need-returns-4
   convert-for-loop-below t,
   convert-for-loop.Post,
 ) (convert-statement-at t) convert-statement.Post
-convert-statement-returns-4 t c = (commented-while (c .before .before .before .before .before .before .before .before .before .before .before .before .before .before .before .before .before .before .before .before .before .before .before .before .pre .1 .0 .0) (c .before .before .before .before .before .before .before .before .before .before .before .before .before .before .before .before .before .before .before .before .before .before .before .before .pre .1 .0 .1) (c .before .before .before .before .before .before .before .before .before .before .before .before .before .before .before .before .before .before .before .before .before .before .before .before .pre .1 .1 .0) (omega arith) (c .before .before .before .before .before .before .before .before .before .before .before .before .before .before .before .emit .ensures) (c .before .before .before .before .before .before .before .before .before .before .before .before .before .before .before .before .before .kind .ensures) (c .stated2 .ensures) (c .before .before .before .before .before .before .before .before .if4 .taken) (c .before .before .before .before .before .convert-while-loop .ensures .0), stated-visited _ _ _ _ (c .stated2 .ensures) (c .before .before .before .before .before .convert-while-loop .ensures .1))
+convert-statement-returns-4 t c = (commented-while (c .before .before .before .before .before .before .before .before .before .before .before .before .before .before .before .before .before .before .before .before .before .before .before .before .pre .1 .0 .0) (c .before .before .before .before .before .before .before .before .before .before .before .before .before .before .before .before .before .before .before .before .before .before .before .before .pre .1 .0 .1) (c .before .before .before .before .before .before .before .before .before .before .before .before .before .before .before .before .before .before .before .before .before .before .before .before .pre .1 .1 .0) (omega arith) (c .before .before .before .before .before .before .before .before .before .before .before .before .before .before .before .emit-comment .ensures) (c .before .before .before .before .before .before .before .before .before .before .before .before .before .before .before .before .before .kind .ensures) (c .stated2 .ensures) (c .before .before .before .before .before .before .before .before .if4 .taken) (c .before .before .before .before .before .convert-while-loop .ensures .0), stated-visited _ _ _ _ (c .stated2 .ensures) (c .before .before .before .before .before .convert-while-loop .ensures .1))
 
 convert-statement-convert-for-loop-requires :
     (t : ℕ) → convert-statement-lts.Need-convert-for-loop-requires (
       kind-reads.Asked,
       kind-reads.Learnt,
-      emit-reads.Asked,
-      emit-reads.Learnt,
+      emit-comment-reads.Asked,
+      emit-comment-reads.Learnt,
       convert-plain-reads.Asked,
       convert-plain-reads.Learnt,
       convert-jump-reads.Asked,
@@ -1491,13 +1491,13 @@ convert-statement-convert-for-loop-requires :
       convert-for-loop-below t,
       convert-for-loop.Post,
     ) (convert-statement-at t) convert-statement.Post
-convert-statement-convert-for-loop-requires t c κs = (omega (arith, c .before .before .before .before .before .before .before .before .before .before .before .before .before .before .before .before .before .before .pre .0), ((comment-converting (c .before .before .before .before .before .before .before .before .before .before .before .before .before .before .before .before .before .before .pre .1 .0 .0) (c .before .before .before .before .before .before .before .before .before .before .before .before .before .before .before .before .before .before .pre .1 .0 .1) (c .before .before .before .before .before .before .before .before .before .before .before .before .before .before .before .before .before .before .pre .1 .1 .0) (omega arith) (c .before .before .before .before .before .before .before .before .before .emit .ensures), comment-afforded (c .before .before .before .before .before .before .before .before .before .before .before .before .before .before .before .before .before .before .pre .1 .0 .0) (c .before .before .before .before .before .before .before .before .before .before .before .before .before .before .before .before .before .before .pre .1 .0 .1) (c .before .before .before .before .before .before .before .before .before .before .before .before .before .before .before .before .before .before .pre .1 .1 .0) (omega arith) (c .before .before .before .before .before .before .before .before .before .emit .ensures)), (record { below = (c .before .before .before .before .before .before .before .before .before .before .before .before .before .before .before .before .before .before .pre .1 .1 .0) .below; kind = sym (c .before .before .before .before .before .before .before .before .before .before .before .kind .ensures) ∙ last-kind (c .before .before .before .before .before .if1 .left) (c .before .before .before .before .if2 .left) (c .before .before .before .if3 .left) (c .before .before .if4 .left) }, comment-fresh (c .before .before .before .before .before .before .before .before .before .before .before .before .before .before .before .before .before .before .pre .1 .0 .0) (c .before .before .before .before .before .before .before .before .before .before .before .before .before .before .before .before .before .before .pre .1 .0 .1) (c .before .before .before .before .before .before .before .before .before .before .before .before .before .before .before .before .before .before .pre .1 .1 .0) (c .before .before .before .before .before .before .before .before .before .before .before .before .before .before .before .before .before .before .pre .1 .1 .1) (c .before .before .before .before .before .before .before .before .before .emit .ensures))))
+convert-statement-convert-for-loop-requires t c κs = (omega (arith, c .before .before .before .before .before .before .before .before .before .before .before .before .before .before .before .before .before .before .pre .0), ((comment-converting (c .before .before .before .before .before .before .before .before .before .before .before .before .before .before .before .before .before .before .pre .1 .0 .0) (c .before .before .before .before .before .before .before .before .before .before .before .before .before .before .before .before .before .before .pre .1 .0 .1) (c .before .before .before .before .before .before .before .before .before .before .before .before .before .before .before .before .before .before .pre .1 .1 .0) (omega arith) (c .before .before .before .before .before .before .before .before .before .emit-comment .ensures), comment-afforded (c .before .before .before .before .before .before .before .before .before .before .before .before .before .before .before .before .before .before .pre .1 .0 .0) (c .before .before .before .before .before .before .before .before .before .before .before .before .before .before .before .before .before .before .pre .1 .0 .1) (c .before .before .before .before .before .before .before .before .before .before .before .before .before .before .before .before .before .before .pre .1 .1 .0) (omega arith) (c .before .before .before .before .before .before .before .before .before .emit-comment .ensures)), (record { below = (c .before .before .before .before .before .before .before .before .before .before .before .before .before .before .before .before .before .before .pre .1 .1 .0) .below; kind = sym (c .before .before .before .before .before .before .before .before .before .before .before .kind .ensures) ∙ last-kind (c .before .before .before .before .before .if1 .left) (c .before .before .before .before .if2 .left) (c .before .before .before .if3 .left) (c .before .before .if4 .left) }, comment-fresh (c .before .before .before .before .before .before .before .before .before .before .before .before .before .before .before .before .before .before .pre .1 .0 .0) (c .before .before .before .before .before .before .before .before .before .before .before .before .before .before .before .before .before .before .pre .1 .0 .1) (c .before .before .before .before .before .before .before .before .before .before .before .before .before .before .before .before .before .before .pre .1 .1 .0) (c .before .before .before .before .before .before .before .before .before .before .before .before .before .before .before .before .before .before .pre .1 .1 .1) (c .before .before .before .before .before .before .before .before .before .emit-comment .ensures))))
 
 convert-statement-stated-requires-3 : (t : ℕ) → convert-statement-lts.Need-stated-requires-3 (
   kind-reads.Asked,
   kind-reads.Learnt,
-  emit-reads.Asked,
-  emit-reads.Learnt,
+  emit-comment-reads.Asked,
+  emit-comment-reads.Learnt,
   convert-plain-reads.Asked,
   convert-plain-reads.Learnt,
   convert-jump-reads.Asked,
@@ -1516,8 +1516,8 @@ convert-statement-stated-requires-3 t c κs = search needs
 convert-statement-same-length-9 : (t : ℕ) → convert-statement-lts.Need-same-length-9 (
   kind-reads.Asked,
   kind-reads.Learnt,
-  emit-reads.Asked,
-  emit-reads.Learnt,
+  emit-comment-reads.Asked,
+  emit-comment-reads.Learnt,
   convert-plain-reads.Asked,
   convert-plain-reads.Learnt,
   convert-jump-reads.Asked,
@@ -1536,8 +1536,8 @@ convert-statement-same-length-9 t c = search needs
 convert-statement-same-length-10 : (t : ℕ) → convert-statement-lts.Need-same-length-10 (
   kind-reads.Asked,
   kind-reads.Learnt,
-  emit-reads.Asked,
-  emit-reads.Learnt,
+  emit-comment-reads.Asked,
+  emit-comment-reads.Learnt,
   convert-plain-reads.Asked,
   convert-plain-reads.Learnt,
   convert-jump-reads.Asked,
@@ -1556,8 +1556,8 @@ convert-statement-same-length-10 t c = search needs
 convert-statement-returns-5 : (t : ℕ) → convert-statement-lts.Need-returns-5 (
   kind-reads.Asked,
   kind-reads.Learnt,
-  emit-reads.Asked,
-  emit-reads.Learnt,
+  emit-comment-reads.Asked,
+  emit-comment-reads.Learnt,
   convert-plain-reads.Asked,
   convert-plain-reads.Learnt,
   convert-jump-reads.Asked,
@@ -1571,7 +1571,7 @@ convert-statement-returns-5 : (t : ℕ) → convert-statement-lts.Need-returns-5
   convert-for-loop-below t,
   convert-for-loop.Post,
 ) (convert-statement-at t) convert-statement.Post
-convert-statement-returns-5 t c = (commented-for (c .before .before .before .before .before .before .before .before .before .before .before .before .before .before .before .before .before .before .before .before .before .before .before .before .pre .1 .0 .0) (c .before .before .before .before .before .before .before .before .before .before .before .before .before .before .before .before .before .before .before .before .before .before .before .before .pre .1 .0 .1) (c .before .before .before .before .before .before .before .before .before .before .before .before .before .before .before .before .before .before .before .before .before .before .before .before .pre .1 .1 .0) (omega arith) (c .before .before .before .before .before .before .before .before .before .before .before .before .before .before .before .emit .ensures) (c .before .before .before .before .before .before .before .before .before .before .before .before .before .before .before .before .before .kind .ensures) (c .stated3 .ensures) (last-kind (c .before .before .before .before .before .before .before .before .before .before .before .if1 .left) (c .before .before .before .before .before .before .before .before .before .before .if2 .left) (c .before .before .before .before .before .before .before .before .before .if3 .left) (c .before .before .before .before .before .before .before .before .if4 .left)) (c .before .before .before .before .before .convert-for-loop .ensures .0), stated-visited _ _ _ _ (c .stated3 .ensures) (c .before .before .before .before .before .convert-for-loop .ensures .1))
+convert-statement-returns-5 t c = (commented-for (c .before .before .before .before .before .before .before .before .before .before .before .before .before .before .before .before .before .before .before .before .before .before .before .before .pre .1 .0 .0) (c .before .before .before .before .before .before .before .before .before .before .before .before .before .before .before .before .before .before .before .before .before .before .before .before .pre .1 .0 .1) (c .before .before .before .before .before .before .before .before .before .before .before .before .before .before .before .before .before .before .before .before .before .before .before .before .pre .1 .1 .0) (omega arith) (c .before .before .before .before .before .before .before .before .before .before .before .before .before .before .before .emit-comment .ensures) (c .before .before .before .before .before .before .before .before .before .before .before .before .before .before .before .before .before .kind .ensures) (c .stated3 .ensures) (last-kind (c .before .before .before .before .before .before .before .before .before .before .before .if1 .left) (c .before .before .before .before .before .before .before .before .before .before .if2 .left) (c .before .before .before .before .before .before .before .before .before .if3 .left) (c .before .before .before .before .before .before .before .before .if4 .left)) (c .before .before .before .before .before .convert-for-loop .ensures .0), stated-visited _ _ _ _ (c .stated3 .ensures) (c .before .before .before .before .before .convert-for-loop .ensures .1))
 
 convert-while-loop-cast-with-loop : (t : ℕ) → convert-while-loop-lts.Need-cast-with-loop (
   with-loop-reads.Asked,
@@ -1957,8 +1957,8 @@ pub +convert-block+convert-for-loop+convert-if+convert-statement+convert-while-l
     (λ t. convert-statement-lts.spec (
       kind-reads.Asked,
       kind-reads.Learnt,
-      emit-reads.Asked,
-      emit-reads.Learnt,
+      emit-comment-reads.Asked,
+      emit-comment-reads.Learnt,
       convert-plain-reads.Asked,
       convert-plain-reads.Learnt,
       convert-jump-reads.Asked,
@@ -1975,8 +1975,8 @@ pub +convert-block+convert-for-loop+convert-if+convert-statement+convert-while-l
     (convert-statement-at t)
     convert-statement.Post
     (convert-statement-kind-requires t)
-    (convert-statement-cast-t14 t)
-    (convert-statement-emit-requires t) (convert-statement-cast-at t)
+    (convert-statement-cast-emit-comment t)
+    (convert-statement-emit-comment-requires t) (convert-statement-cast-at t)
     (convert-statement-convert-plain-requires t)
     (convert-statement-same-length t)
     (convert-statement-same-length-2 t)

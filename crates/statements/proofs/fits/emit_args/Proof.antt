@@ -8,7 +8,7 @@ use Rattle.statements.proofs.fits.emit_args.Statement.{statement}
 use Rattle.statements.proofs.fits.emit_args.Tie as tie
 use Rattle.statements.proofs.fits.emit_args.Reads as reads
 use Rattle.statements.proofs.fits.emit_args.Lts as lts
-use Rattle.ir.proofs.structs.emit.Reads as emit-reads
+use Rattle.ir.proofs.structs.emit_arg.Reads as emit-arg-reads
 use Rattle.statements.proofs.operands.operand_at.Reads as operand-at-reads
 
 abbrev Inv-loop : tie.InvT-loop
@@ -30,8 +30,8 @@ operand-at-requires : tie.Need-operand-at-requires Inv-loop μ-loop
 operand-at-requires c κs = omega (arith, c .before .before .before .before .before .before .pre .1 .0, c .before .before .before .before .before .before .pre .1 .1)
 
 -- src/fits.rt:256:9
-emit-requires : tie.Need-emit-requires Inv-loop μ-loop
-emit-requires c κs = (c .before .before .before .loop .inv .room .room, omega (arith, c .before .before .before .loop .inv .room .affords))
+emit-arg-requires : tie.Need-emit-arg-requires Inv-loop μ-loop
+emit-arg-requires c κs = (c .before .before .before .loop .inv .room .room, omega (arith, c .before .before .before .loop .inv .room .affords))
 
 -- src/fits.rt:257:9
 add-j : tie.Need-add-j Inv-loop μ-loop
@@ -43,7 +43,7 @@ loop-less c = omega arith
 
 -- src/fits.rt:254:5
 loop-again : tie.Need-loop-again Inv-loop μ-loop
-loop-again c = emit-turn _ _ _ _ _ _ _ _ _ (c .before .before .before .before .before .before .loop .inv) (c .before .before .before .before .before .loop-test .taken) _ (c .before .before .before .before .operand-at .ensures) _ _ (omega arith) (c .before .before .emit .ensures)
+loop-again c = emit-turn _ _ _ _ _ _ _ _ _ (c .before .before .before .before .before .before .loop .inv) (c .before .before .before .before .before .loop-test .taken) _ (c .before .before .before .before .operand-at .ensures) _ _ (omega arith) (c .before .before .emit-arg .ensures)
 
 -- src/fits.rt:245:1
 same-length : tie.Need-same-length Inv-loop μ-loop
@@ -62,7 +62,7 @@ emit-args-spec =
     loop-holds
     add-operand-at
     operand-at-requires
-    emit-requires
+    emit-arg-requires
     add-j
     loop-less
     loop-again

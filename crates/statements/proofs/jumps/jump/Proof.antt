@@ -6,7 +6,7 @@ use Rattle.statements.proofs.jumps.jump.Statement.{statement}
 use Rattle.statements.proofs.jumps.jump.Tie as tie
 use Rattle.statements.proofs.jumps.jump.Reads as reads
 use Rattle.statements.proofs.jumps.jump.Lts as lts
-use Rattle.ir.proofs.structs.emit.Reads as emit-reads
+use Rattle.ir.proofs.structs.emit_jump.Reads as emit-jump-reads
 use Rattle.ir.proofs.structs.label_id.Reads as label-id-reads
 
 -- src/jumps.rt:19:42
@@ -18,8 +18,8 @@ label-id-requires : tie.Need-label-id-requires
 label-id-requires c κs = search needs
 
 -- src/jumps.rt:22:5
-emit-requires : tie.Need-emit-requires
-emit-requires c κs = search needs
+emit-jump-requires : tie.Need-emit-jump-requires
+emit-jump-requires c κs = search needs
 
 -- src/jumps.rt:15:1
 same-length : tie.Need-same-length
@@ -30,4 +30,4 @@ returns : tie.Need-returns
 returns c = search jump-adds
 
 pub jump-spec : {M : Type 1} → statement M
-jump-spec = tie.close (tie.spec cast-label-id label-id-requires emit-requires same-length returns)
+jump-spec = tie.close (tie.spec cast-label-id label-id-requires emit-jump-requires same-length returns)

@@ -6,7 +6,7 @@ use Rattle.statements.proofs.jumps.jump_if_not.Statement.{statement}
 use Rattle.statements.proofs.jumps.jump_if_not.Tie as tie
 use Rattle.statements.proofs.jumps.jump_if_not.Reads as reads
 use Rattle.statements.proofs.jumps.jump_if_not.Lts as lts
-use Rattle.ir.proofs.structs.emit.Reads as emit-reads
+use Rattle.ir.proofs.structs.emit_jump_if_not.Reads as emit-jump-if-not-reads
 use Rattle.ir.proofs.structs.label_id.Reads as label-id-reads
 
 -- src/jumps.rt:35:42
@@ -18,8 +18,8 @@ label-id-requires : tie.Need-label-id-requires
 label-id-requires c κs = search needs
 
 -- src/jumps.rt:38:5
-emit-requires : tie.Need-emit-requires
-emit-requires c κs = search needs
+emit-jump-if-not-requires : tie.Need-emit-jump-if-not-requires
+emit-jump-if-not-requires c κs = search needs
 
 -- src/jumps.rt:25:1
 same-length : tie.Need-same-length
@@ -31,4 +31,4 @@ returns c = search jump-if-not-adds
 
 pub jump-if-not-spec : {M : Type 1} → statement M
 jump-if-not-spec =
-    tie.close (tie.spec cast-label-id label-id-requires emit-requires same-length returns)
+    tie.close (tie.spec cast-label-id label-id-requires emit-jump-if-not-requires same-length returns)

@@ -6,7 +6,7 @@ use Rattle.statements.proofs.jumps.place_label.Statement.{statement}
 use Rattle.statements.proofs.jumps.place_label.Tie as tie
 use Rattle.statements.proofs.jumps.place_label.Reads as reads
 use Rattle.statements.proofs.jumps.place_label.Lts as lts
-use Rattle.ir.proofs.structs.emit.Reads as emit-reads
+use Rattle.ir.proofs.structs.emit_label.Reads as emit-label-reads
 use Rattle.ir.proofs.structs.label_id.Reads as label-id-reads
 
 -- src/jumps.rt:46:42
@@ -18,8 +18,8 @@ label-id-requires : tie.Need-label-id-requires
 label-id-requires c κs = search needs
 
 -- src/jumps.rt:49:5
-emit-requires : tie.Need-emit-requires
-emit-requires c κs = search needs
+emit-label-requires : tie.Need-emit-label-requires
+emit-label-requires c κs = search needs
 
 -- src/jumps.rt:42:1
 same-length : tie.Need-same-length
@@ -31,4 +31,4 @@ returns c = search place-adds
 
 pub place-label-spec : {M : Type 1} → statement M
 place-label-spec =
-    tie.close (tie.spec cast-label-id label-id-requires emit-requires same-length returns)
+    tie.close (tie.spec cast-label-id label-id-requires emit-label-requires same-length returns)

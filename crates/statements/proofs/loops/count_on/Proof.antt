@@ -21,17 +21,17 @@ jump-requires c κs = search needs
 place-label-requires : tie.Need-place-label-requires
 place-label-requires c κs = search needs
 
-emit-requires : tie.Need-emit-requires
-emit-requires c κs = (c .before .before .before .place-label .ensures .next .room, omega (arith, c .before .before .before .before .before .before .before .before .before .before .before .before .before .before .pre .0 .affords, c .before .before .before .before .before .before .before .jump .ensures .spent, c .before .before .before .place-label .ensures .spent))
+emit-binary-requires : tie.Need-emit-binary-requires
+emit-binary-requires c κs = (c .before .before .before .place-label .ensures .next .room, omega (arith, c .before .before .before .before .before .before .before .before .before .before .before .before .before .before .pre .0 .affords, c .before .before .before .before .before .before .before .jump .ensures .spent, c .before .before .before .place-label .ensures .spent))
 
 place-label-requires-2 : tie.Need-place-label-requires-2
-place-label-requires-2 c κs = (record { room = c .before .before .before .emit .ensures .next .room; affords = omega (arith, c .before .before .before .before .before .before .before .before .before .before .before .before .before .before .before .before .before .before .pre .0 .affords, c .before .before .before .before .before .before .before .before .before .before .before .jump .ensures .spent, c .before .before .before .before .before .before .before .place-label .ensures .spent, c .before .before .before .emit .ensures .spent) }, omega (arith, c .before .before .before .before .before .before .before .before .before .before .before .before .before .before .before .before .before .before .pre .1, c .before .before .before .before .before .before .before .before .before .before .before .jump .ensures .spent, c .before .before .before .before .before .before .before .place-label .ensures .spent, c .before .before .before .emit .ensures .spent))
+place-label-requires-2 c κs = (record { room = c .before .before .before .emit-binary .ensures .next .room; affords = omega (arith, c .before .before .before .before .before .before .before .before .before .before .before .before .before .before .before .before .before .before .pre .0 .affords, c .before .before .before .before .before .before .before .before .before .before .before .jump .ensures .spent, c .before .before .before .before .before .before .before .place-label .ensures .spent, c .before .before .before .emit-binary .ensures .spent) }, omega (arith, c .before .before .before .before .before .before .before .before .before .before .before .before .before .before .before .before .before .before .pre .1, c .before .before .before .before .before .before .before .before .before .before .before .jump .ensures .spent, c .before .before .before .before .before .before .before .place-label .ensures .spent, c .before .before .before .emit-binary .ensures .spent))
 
 same-length : tie.Need-same-length
 same-length c = search needs
 
 returns : tie.Need-returns
-returns c = count-adds _ (c .before .before .before .before .before .before .before .before .before .before .before .before .before .before .before .before .before .is-short .ensures) (c .before .before .before .before .before .before .before .before .before .before .before .before .before .before .before .before .is-unsigned .ensures) (c .before .before .before .before .before .before .before .before .before .before .before .before .before .before .jump .ensures) (c .before .before .before .before .before .before .before .before .before .before .place-label .ensures) (omega (arith, c .before .before .before .before .before .arena3 .given)) (c .before .before .before .before .before .before .emit .ensures) (c .before .before .place-label2 .ensures)
+returns c = count-adds _ (c .before .before .before .before .before .before .before .before .before .before .before .before .before .before .before .before .before .is-short .ensures) (c .before .before .before .before .before .before .before .before .before .before .before .before .before .before .before .before .is-unsigned .ensures) (c .before .before .before .before .before .before .before .before .before .before .before .before .before .before .jump .ensures) (c .before .before .before .before .before .before .before .before .before .before .place-label .ensures) (omega (arith, c .before .before .before .before .before .arena3 .given)) (c .before .before .before .before .before .before .emit-binary .ensures) (c .before .before .place-label2 .ensures)
 
 pub count-on-spec : {M : Type 1} → statement M
 count-on-spec =
@@ -42,7 +42,7 @@ count-on-spec =
     is-unsigned-requires
     jump-requires
     place-label-requires
-    emit-requires
+    emit-binary-requires
     place-label-requires-2
     same-length
     returns)

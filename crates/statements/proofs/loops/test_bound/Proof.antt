@@ -20,17 +20,17 @@ cast-new-var c = search needs
 new-var-requires : tie.Need-new-var-requires
 new-var-requires c κs = (c .before .before .before .before .fit-operand .ensures [] .adds .next .room, omega (arith, c .before .before .before .before .before .before .before .before .before .pre .0 .affords, c .before .before .before .before .fit-operand .ensures [] .adds .spent))
 
-emit-requires : tie.Need-emit-requires
-emit-requires c κs = (c .before .before .before .before .before .new-var .ensures .next .room, omega (arith, c .before .before .before .before .before .before .before .before .before .before .before .before .before .before .before .pre .0 .affords, c .before .before .before .before .before .before .before .before .before .before .fit-operand .ensures [] .adds .spent, c .before .before .before .before .before .new-var .ensures .spent))
+emit-binary-requires : tie.Need-emit-binary-requires
+emit-binary-requires c κs = (c .before .before .before .before .before .new-var .ensures .next .room, omega (arith, c .before .before .before .before .before .before .before .before .before .before .before .before .before .before .before .pre .0 .affords, c .before .before .before .before .before .before .before .before .before .before .fit-operand .ensures [] .adds .spent, c .before .before .before .before .before .new-var .ensures .spent))
 
 jump-if-not-requires : tie.Need-jump-if-not-requires
-jump-if-not-requires c κs = (record { room = c .before .before .before .emit .ensures .next .room; affords = omega (arith, c .before .before .before .before .before .before .before .before .before .before .before .before .before .before .before .before .before .before .before .pre .0 .affords, c .before .before .before .before .before .before .before .before .before .before .before .before .before .before .fit-operand .ensures [] .adds .spent, c .before .before .before .before .before .before .before .before .before .new-var .ensures .spent, c .before .before .before .emit .ensures .spent) }, omega (arith, c .before .before .before .before .before .before .before .before .before .before .before .before .before .before .before .before .before .before .before .pre .1, c .before .before .before .before .before .before .before .before .before .before .before .before .before .before .fit-operand .ensures [] .adds .spent, c .before .before .before .before .before .before .before .before .before .new-var .ensures .spent, c .before .before .before .emit .ensures .spent))
+jump-if-not-requires c κs = (record { room = c .before .before .before .emit-binary .ensures .next .room; affords = omega (arith, c .before .before .before .before .before .before .before .before .before .before .before .before .before .before .before .before .before .before .before .pre .0 .affords, c .before .before .before .before .before .before .before .before .before .before .before .before .before .before .fit-operand .ensures [] .adds .spent, c .before .before .before .before .before .before .before .before .before .new-var .ensures .spent, c .before .before .before .emit-binary .ensures .spent) }, omega (arith, c .before .before .before .before .before .before .before .before .before .before .before .before .before .before .before .before .before .before .before .pre .1, c .before .before .before .before .before .before .before .before .before .before .before .before .before .before .fit-operand .ensures [] .adds .spent, c .before .before .before .before .before .before .before .before .before .new-var .ensures .spent, c .before .before .before .emit-binary .ensures .spent))
 
 same-length : tie.Need-same-length
 same-length c = omega (arith, c .before .before .before .before .before .before .before .before .before .before .before .before .before .before .before .before .before .fit-operand .ensures [] .adds .long, c .before .before .before .before .before .before .before .before .before .before .before .arena2 .given, c .before .before .before .before .before .arena3 .given, c .before .before .jump-if-not .ensures .long)
 
 returns : tie.Need-returns
-returns c = λ text. test-adds (program _ text) _ (c .before .before .before .before .before .before .before .before .before .before .before .before .before .before .before .before .before .before .before .before .before .before .args .until) (c .before .before .before .before .before .before .before .before .before .before .before .before .before .before .before .before .before .fit-operand .ensures text) (omega (arith, c .before .before .before .before .before .before .before .before .before .before .before .arena2 .given)) (c .before .before .before .before .before .before .before .before .before .before .before .before .new-var .ensures) (omega (arith, c .before .before .before .before .before .arena3 .given)) (c .before .before .before .before .before .before .emit .ensures) (c .before .before .jump-if-not .ensures)
+returns c = λ text. test-adds (program _ text) _ (c .before .before .before .before .before .before .before .before .before .before .before .before .before .before .before .before .before .before .before .before .before .before .args .until) (c .before .before .before .before .before .before .before .before .before .before .before .before .before .before .before .before .before .fit-operand .ensures text) (omega (arith, c .before .before .before .before .before .before .before .before .before .before .before .arena2 .given)) (c .before .before .before .before .before .before .before .before .before .before .before .before .new-var .ensures) (omega (arith, c .before .before .before .before .before .arena3 .given)) (c .before .before .before .before .before .before .emit-binary .ensures) (c .before .before .jump-if-not .ensures)
 
 pub test-bound-spec : {M : Type 1} → statement M
 test-bound-spec =
@@ -40,7 +40,7 @@ test-bound-spec =
     fit-operand-requires
     cast-new-var
     new-var-requires
-    emit-requires
+    emit-binary-requires
     jump-if-not-requires
     same-length
     returns)

@@ -9,11 +9,11 @@ use Rattle.statements.proofs.parts.call_function.Tie as tie
 pass-args-requires : tie.Need-pass-args-requires
 pass-args-requires c κs = ((c .before .before .before .before .before .before .pre .0 .0, c .before .before .before .before .before .before .pre .1 .0, c .before .before .before .before .before .before .pre .1 .1), (omega (arith, c .before .before .before .before .before .before .pre .0 .1), c .before .before .before .before .before .before .pre .1 .3))
 
-cast-t18 : tie.Need-cast-t18
-cast-t18 c = omega (arith, c .before .before .before .before .before .before .before .before .before .before .before .before .pre .1 .0 .below, c .before .before .before .before .before .before .before .before .before .before .before .before .pre .0 .0 .ready .keyed .good .few)
+cast-emit-call : tie.Need-cast-emit-call
+cast-emit-call c = omega (arith, c .before .before .before .before .before .before .before .before .before .before .before .before .pre .1 .0 .below, c .before .before .before .before .before .before .before .before .before .before .before .before .pre .0 .0 .ready .keyed .good .few)
 
-emit-requires : tie.Need-emit-requires
-emit-requires c κs = (c .before .before .before .before .before .pass-args .ensures .0 .next .room, omega (arith, c .before .before .before .before .before .before .before .before .before .before .before .before .pre .0 .0 .room, c .before .before .before .before .before .before .before .before .before .before .before .before .pre .0 .1 .tables, c .before .before .before .before .before .pass-args .ensures .0 .spent))
+emit-call-requires : tie.Need-emit-call-requires
+emit-call-requires c κs = (c .before .before .before .before .before .pass-args .ensures .0 .next .room, omega (arith, c .before .before .before .before .before .before .before .before .before .before .before .before .pre .0 .0 .room, c .before .before .before .before .before .before .before .before .before .before .before .before .pre .0 .1 .tables, c .before .before .before .before .before .pass-args .ensures .0 .spent))
 
 same-length : tie.Need-same-length
 same-length c = search needs
@@ -22,7 +22,7 @@ same-length-2 : tie.Need-same-length-2
 same-length-2 c = search needs
 
 returns : tie.Need-returns
-returns c = (call-adds _ _ _ _ (c .before .before .before .before .before .before .before .before .before .before .before .before .before .before .before .pre .0 .0 .ready .keyed .good) (c .before .before .before .before .before .before .before .before .before .before .before .before .before .before .before .pre .1 .0) (c .before .before .before .before .before .before .before .before .before .before .before .before .before .before .before .pre .1 .2) (c .before .before .before .before .before .before .before .before .pass-args .ensures .0) (c .before .before .before .before .before .before .before .before .pass-args .ensures .1 .0 .0) (c .before .before .before .before .before .before .before .before .pass-args .ensures .1 .0 .1) (omega arith) (c .before .before .emit .ensures), c .before .before .before .before .before .before .before .before .pass-args .ensures .1 .1)
+returns c = (call-adds _ _ _ _ (c .before .before .before .before .before .before .before .before .before .before .before .before .before .before .before .pre .0 .0 .ready .keyed .good) (c .before .before .before .before .before .before .before .before .before .before .before .before .before .before .before .pre .1 .0) (c .before .before .before .before .before .before .before .before .before .before .before .before .before .before .before .pre .1 .2) (c .before .before .before .before .before .before .before .before .pass-args .ensures .0) (c .before .before .before .before .before .before .before .before .pass-args .ensures .1 .0 .0) (c .before .before .before .before .before .before .before .before .pass-args .ensures .1 .0 .1) (omega arith) (c .before .before .emit-call .ensures), c .before .before .before .before .before .before .before .before .pass-args .ensures .1 .1)
 
 pub call-function-spec : {M : Type 1} → statement M
-call-function-spec = tie.close (tie.spec pass-args-requires cast-t18 emit-requires same-length same-length-2 returns)
+call-function-spec = tie.close (tie.spec pass-args-requires cast-emit-call emit-call-requires same-length same-length-2 returns)

@@ -15,14 +15,14 @@ returns c = cast-none _ _ (c .before .if1 .taken) (c .error-at .ensures)
 operand-at-requires : tie.Need-operand-at-requires
 operand-at-requires c κs = search needs
 
-emit-requires : tie.Need-emit-requires
-emit-requires c κs = search needs
+emit-cast-requires : tie.Need-emit-cast-requires
+emit-cast-requires c κs = search needs
 
 same-length : tie.Need-same-length
 same-length c = search needs
 
 returns-2 : tie.Need-returns-2
-returns-2 c = cast-some _ _ _ (c .before .before .before .before .before .before .if1 .left) (c .before .before .before .before .operand-at .ensures) (omega arith) (c .before .before .emit .ensures) (c .before .before .before .before .before .before .before .before .before .before .before .pre .1 .1)
+returns-2 c = cast-some _ _ _ (c .before .before .before .before .before .before .if1 .left) (c .before .before .before .before .operand-at .ensures) (omega arith) (c .before .before .emit-cast .ensures) (c .before .before .before .before .before .before .before .before .before .before .before .pre .1 .1)
 
 pub cast-first-spec : {M : Type 1} → statement M
-cast-first-spec = tie.close (tie.spec error-at-requires returns operand-at-requires emit-requires same-length returns-2)
+cast-first-spec = tie.close (tie.spec error-at-requires returns operand-at-requires emit-cast-requires same-length returns-2)

@@ -6,8 +6,8 @@ use native.Mathlib.Omega.{arith}
 use Rattle.statements.proofs.parts.end_logic.Statement.{statement}
 use Rattle.statements.proofs.parts.end_logic.Tie as tie
 
-emit-requires : tie.Need-emit-requires
-emit-requires c κs = search needs
+emit-copy-requires : tie.Need-emit-copy-requires
+emit-copy-requires c κs = search needs
 
 place-label-requires : tie.Need-place-label-requires
 place-label-requires c κs = search needs
@@ -16,7 +16,7 @@ same-length : tie.Need-same-length
 same-length c = search needs
 
 returns : tie.Need-returns
-returns c = λ tree t. end-adds _ (omega arith) (c .before .before .before .before .before .before .emit .ensures) (c .before .before .place-label .ensures) t
+returns c = λ tree t. end-adds _ (omega arith) (c .before .before .before .before .before .before .emit-copy .ensures) (c .before .before .place-label .ensures) t
 
 pub end-logic-spec : {M : Type 1} → statement M
-end-logic-spec = tie.close (tie.spec emit-requires place-label-requires same-length returns)
+end-logic-spec = tie.close (tie.spec emit-copy-requires place-label-requires same-length returns)

@@ -20,14 +20,14 @@ cast-new-var c = search needs
 new-var-requires : tie.Need-new-var-requires
 new-var-requires c κs = (c .before .before .before .before .fit-operand2 .ensures [] .adds .next .room, omega (arith, c .before .before .before .before .before .before .before .before .before .before .before .before .before .pre .0 .0 .affords, c .before .before .before .before .before .before .before .before .before .fit-operand .ensures [] .adds .spent, c .before .before .before .before .fit-operand2 .ensures [] .adds .spent))
 
-emit-requires : tie.Need-emit-requires
-emit-requires c κs = (c .before .before .before .before .before .new-var .ensures .next .room, omega (arith, c .before .before .before .before .before .before .before .before .before .before .before .before .before .before .before .before .before .before .before .pre .0 .0 .affords, c .before .before .before .before .before .before .before .before .before .before .before .before .before .before .before .fit-operand .ensures [] .adds .spent, c .before .before .before .before .before .before .before .before .before .before .fit-operand2 .ensures [] .adds .spent, c .before .before .before .before .before .new-var .ensures .spent))
+emit-binary-requires : tie.Need-emit-binary-requires
+emit-binary-requires c κs = (c .before .before .before .before .before .new-var .ensures .next .room, omega (arith, c .before .before .before .before .before .before .before .before .before .before .before .before .before .before .before .before .before .before .before .pre .0 .0 .affords, c .before .before .before .before .before .before .before .before .before .before .before .before .before .before .before .fit-operand .ensures [] .adds .spent, c .before .before .before .before .before .before .before .before .before .before .fit-operand2 .ensures [] .adds .spent, c .before .before .before .before .before .new-var .ensures .spent))
 
 same-length : tie.Need-same-length
 same-length c = omega (arith, c .before .before .before .before .before .before .before .before .before .before .before .before .before .before .before .before .before .before .fit-operand .ensures [] .adds .long, c .before .before .before .before .before .before .before .before .before .before .before .before .before .fit-operand2 .ensures [] .adds .long, c .before .before .before .before .before .before .before .arena3 .given, c .before .arena4 .given)
 
 returns : tie.Need-returns
-returns c = λ text. binary-adds (program _ text) _ (c .before .before .before .before .before .before .before .before .before .before .before .before .before .before .before .before .before .before .before .before .before .before .args .left) (c .before .before .before .before .before .before .before .before .before .before .before .before .before .before .before .before .before .before .before .before .before .before .args .right) (c .before .before .before .before .before .before .before .before .before .before .before .before .before .before .before .before .before .before .fit-operand .ensures text) (c .before .before .before .before .before .before .before .before .before .before .before .before .before .fit-operand2 .ensures text) (omega (arith, c .before .before .before .before .before .before .before .arena3 .given)) (c .before .before .before .before .before .before .before .before .new-var .ensures) (omega (arith, c .before .arena4 .given)) (c .before .before .emit .ensures) (variable-type (c .before .before .before .before .before .before .before .before .new-var .ensures .typed) (c .before .before .before .before .before .before .before .before .before .before .before .before .before .before .before .before .before .before .before .before .before .before .pre .1 .0 .0))
+returns c = λ text. binary-adds (program _ text) _ (c .before .before .before .before .before .before .before .before .before .before .before .before .before .before .before .before .before .before .before .before .before .before .args .left) (c .before .before .before .before .before .before .before .before .before .before .before .before .before .before .before .before .before .before .before .before .before .before .args .right) (c .before .before .before .before .before .before .before .before .before .before .before .before .before .before .before .before .before .before .fit-operand .ensures text) (c .before .before .before .before .before .before .before .before .before .before .before .before .before .fit-operand2 .ensures text) (omega (arith, c .before .before .before .before .before .before .before .arena3 .given)) (c .before .before .before .before .before .before .before .before .new-var .ensures) (omega (arith, c .before .arena4 .given)) (c .before .before .emit-binary .ensures) (variable-type (c .before .before .before .before .before .before .before .before .new-var .ensures .typed) (c .before .before .before .before .before .before .before .before .before .before .before .before .before .before .before .before .before .before .before .before .before .before .pre .1 .0 .0))
 
 pub finish-binary-spec : {M : Type 1} → statement M
-finish-binary-spec = tie.close (tie.spec fit-operand-requires fit-operand-requires-2 cast-new-var new-var-requires emit-requires same-length returns)
+finish-binary-spec = tie.close (tie.spec fit-operand-requires fit-operand-requires-2 cast-new-var new-var-requires emit-binary-requires same-length returns)

@@ -12,14 +12,14 @@ cast-new-var c = search needs
 new-var-requires : tie.Need-new-var-requires
 new-var-requires c κs = search needs
 
-emit-requires : tie.Need-emit-requires
-emit-requires c κs = search needs
+emit-unary-requires : tie.Need-emit-unary-requires
+emit-unary-requires c κs = search needs
 
 same-length : tie.Need-same-length
 same-length c = search needs
 
 returns : tie.Need-returns
-returns c = λ tree t. unary-adds (omega arith) (c .before .before .before .before .before .before .before .before .new-var .ensures) (omega arith) (c .before .before .emit .ensures) (variable-type (c .before .before .before .before .before .before .before .before .new-var .ensures .typed) t)
+returns c = λ tree t. unary-adds (omega arith) (c .before .before .before .before .before .before .before .before .new-var .ensures) (omega arith) (c .before .before .emit-unary .ensures) (variable-type (c .before .before .before .before .before .before .before .before .new-var .ensures .typed) t)
 
 pub finish-unary-spec : {M : Type 1} → statement M
-finish-unary-spec = tie.close (tie.spec cast-new-var new-var-requires emit-requires same-length returns)
+finish-unary-spec = tie.close (tie.spec cast-new-var new-var-requires emit-unary-requires same-length returns)

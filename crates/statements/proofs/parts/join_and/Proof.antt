@@ -6,8 +6,8 @@ use native.Mathlib.Omega.{arith}
 use Rattle.statements.proofs.parts.join_and.Statement.{statement}
 use Rattle.statements.proofs.parts.join_and.Tie as tie
 
-emit-requires : tie.Need-emit-requires
-emit-requires c κs = search needs
+emit-copy-requires : tie.Need-emit-copy-requires
+emit-copy-requires c κs = search needs
 
 jump-if-not-requires : tie.Need-jump-if-not-requires
 jump-if-not-requires c κs = search needs
@@ -16,7 +16,7 @@ same-length : tie.Need-same-length
 same-length c = search needs
 
 returns : tie.Need-returns
-returns c = and-adds _ (omega arith) (c .before .before .before .before .before .before .emit .ensures) (c .before .before .jump-if-not .ensures)
+returns c = and-adds _ (omega arith) (c .before .before .before .before .before .before .emit-copy .ensures) (c .before .before .jump-if-not .ensures)
 
 pub join-and-spec : {M : Type 1} → statement M
-join-and-spec = tie.close (tie.spec emit-requires jump-if-not-requires same-length returns)
+join-and-spec = tie.close (tie.spec emit-copy-requires jump-if-not-requires same-length returns)

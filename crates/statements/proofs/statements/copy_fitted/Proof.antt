@@ -14,15 +14,15 @@ cast-fit-operand c = search needs
 fit-operand-requires : tie.Need-fit-operand-requires
 fit-operand-requires c κs = search needs
 
-emit-requires : tie.Need-emit-requires
-emit-requires c κs = (c .before .before .before .before .fit-operand .ensures [] .adds .next .room, omega (arith, c .before .before .before .before .before .before .before .before .before .pre .0 .affords, c .before .before .before .before .fit-operand .ensures [] .adds .spent))
+emit-copy-requires : tie.Need-emit-copy-requires
+emit-copy-requires c κs = (c .before .before .before .before .fit-operand .ensures [] .adds .next .room, omega (arith, c .before .before .before .before .before .before .before .before .before .pre .0 .affords, c .before .before .before .before .fit-operand .ensures [] .adds .spent))
 
 same-length : tie.Need-same-length
 same-length c = search needs
 
 returns : tie.Need-returns
-returns c = λ text. copy-adds (program _ text) (c .before .before .before .before .before .before .before .before .before .before .before .before .args .v) (c .before .before .before .before .before .before .before .before .before .before .before .before .args .src) (c .before .before .before .before .before .before .before .fit-operand .ensures text) (omega (arith, c .before .arena2 .given)) (c .before .before .emit .ensures)
+returns c = λ text. copy-adds (program _ text) (c .before .before .before .before .before .before .before .before .before .before .before .before .args .v) (c .before .before .before .before .before .before .before .before .before .before .before .before .args .src) (c .before .before .before .before .before .before .before .fit-operand .ensures text) (omega (arith, c .before .arena2 .given)) (c .before .before .emit-copy .ensures)
 
 pub copy-fitted-spec : {M : Type 1} → statement M
 copy-fitted-spec =
-    tie.close (tie.spec cast-fit-operand fit-operand-requires emit-requires same-length returns)
+    tie.close (tie.spec cast-fit-operand fit-operand-requires emit-copy-requires same-length returns)

@@ -12,15 +12,15 @@ float-entry-requires c κs = search needs
 float-id-requires : tie.Need-float-id-requires
 float-id-requires c κs = search needs
 
-emit-requires : tie.Need-emit-requires
-emit-requires c κs = search needs
+emit-copy-requires : tie.Need-emit-copy-requires
+emit-copy-requires c κs = search needs
 
 same-length : tie.Need-same-length
 same-length c = search needs
 
 returns : tie.Need-returns
-returns c = zero-float-adds _ _ (c .before .before .before .before .before .before .before .before .float-entry .ensures) (omega arith) (c .before .before .before .before .before .before .before .float-id .ensures) (omega arith) (c .before .before .emit .ensures)
+returns c = zero-float-adds _ _ (c .before .before .before .before .before .before .before .before .float-entry .ensures) (omega arith) (c .before .before .before .before .before .before .before .float-id .ensures) (omega arith) (c .before .before .emit-copy .ensures)
 
 pub zero-float-spec : {M : Type 1} → statement M
 zero-float-spec =
-    tie.close (tie.spec float-entry-requires float-id-requires emit-requires same-length returns)
+    tie.close (tie.spec float-entry-requires float-id-requires emit-copy-requires same-length returns)

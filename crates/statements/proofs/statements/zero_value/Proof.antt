@@ -18,14 +18,14 @@ is-short-requires c κs = search needs
 is-unsigned-requires : tie.Need-is-unsigned-requires
 is-unsigned-requires c κs = search needs
 
-emit-requires : tie.Need-emit-requires
-emit-requires c κs = search needs
+emit-copy-requires : tie.Need-emit-copy-requires
+emit-copy-requires c κs = search needs
 
 same-length : tie.Need-same-length
 same-length c = search needs
 
 returns : tie.Need-returns
-returns c = λ text F. zero-int _ text F _ _ _ (c .before .before .before .before .before .before .before .form .ensures) (c .before .before .before .before .before .if1 .taken) (c .before .before .before .before .before .before .is-short .ensures) (c .before .before .before .before .is-unsigned .ensures) (omega arith) (c .before .before .emit .ensures)
+returns c = λ text F. zero-int _ text F _ _ _ (c .before .before .before .before .before .before .before .form .ensures) (c .before .before .before .before .before .if1 .taken) (c .before .before .before .before .before .before .is-short .ensures) (c .before .before .before .before .is-unsigned .ensures) (omega arith) (c .before .before .emit-copy .ensures)
 
 zero-float-requires : tie.Need-zero-float-requires
 zero-float-requires c κs = search needs
@@ -36,14 +36,14 @@ same-length-2 c = search needs
 returns-2 : tie.Need-returns-2
 returns-2 c = λ text F. zero-float _ text F _ _ _ (c .before .before .before .before .before .before .before .form .ensures) (c .before .before .before .before .if2 .taken) (c .before .before .before .before .before .before .is-short .ensures) (c .before .before .zero-float .ensures)
 
-emit-requires-2 : tie.Need-emit-requires-2
-emit-requires-2 c κs = search needs
+emit-zero-requires : tie.Need-emit-zero-requires
+emit-zero-requires c κs = search needs
 
 same-length-3 : tie.Need-same-length-3
 same-length-3 c = search needs
 
 returns-3 : tie.Need-returns-3
-returns-3 c = λ text F. zero-array _ text F _ _ _ (c .before .before .before .before .before .before .before .before .form .ensures) (c .before .before .before .before .if3 .taken) (omega arith) (c .before .before .emit2 .ensures)
+returns-3 c = λ text F. zero-array _ text F _ _ _ (c .before .before .before .before .before .before .before .before .form .ensures) (c .before .before .before .before .if3 .taken) (omega arith) (c .before .before .emit-zero .ensures)
 
 error-at-requires : tie.Need-error-at-requires
 error-at-requires c κs = search needs
@@ -54,14 +54,14 @@ returns-4 c = λ text F. zero-custom _ text F _ _ _ (c .before .before .before .
 zero-operand-requires : tie.Need-zero-operand-requires
 zero-operand-requires c κs = search needs
 
-emit-requires-3 : tie.Need-emit-requires-3
-emit-requires-3 c κs = search needs
+emit-copy-requires-2 : tie.Need-emit-copy-requires-2
+emit-copy-requires-2 c κs = search needs
 
 same-length-4 : tie.Need-same-length-4
 same-length-4 c = search needs
 
 returns-5 : tie.Need-returns-5
-returns-5 c = λ text F. zero-other _ text F _ _ _ (c .before .before .before .before .before .before .before .before .before .before .form .ensures) (omega (arith, c .before .before .before .before .before .before .before .before .before .before .before .before .before .before .pre .1 .least, c .before .before .before .before .before .before .before .before .before .before .form .ensures)) (c .before .before .before .before .before .before .before .before .if1 .left) (c .before .before .before .before .before .before .before .if2 .left) (c .before .before .before .before .before .before .if3 .left) (c .before .before .before .before .before .if4 .left) (c .before .before .before .zero-operand .ensures) (omega arith) (c .before .before .emit3 .ensures)
+returns-5 c = λ text F. zero-other _ text F _ _ _ (c .before .before .before .before .before .before .before .before .before .before .form .ensures) (omega (arith, c .before .before .before .before .before .before .before .before .before .before .before .before .before .before .pre .1 .least, c .before .before .before .before .before .before .before .before .before .before .form .ensures)) (c .before .before .before .before .before .before .before .before .if1 .left) (c .before .before .before .before .before .before .before .if2 .left) (c .before .before .before .before .before .before .if3 .left) (c .before .before .before .before .before .if4 .left) (c .before .before .before .zero-operand .ensures) (omega arith) (c .before .before .emit-copy2 .ensures)
 
 pub zero-value-spec : {M : Type 1} → statement M
 zero-value-spec =
@@ -71,18 +71,18 @@ zero-value-spec =
     form-requires
     is-short-requires
     is-unsigned-requires
-    emit-requires
+    emit-copy-requires
     same-length
     returns
     zero-float-requires
     same-length-2
     returns-2
-    emit-requires-2
+    emit-zero-requires
     same-length-3
     returns-3
     error-at-requires
     returns-4
     zero-operand-requires
-    emit-requires-3
+    emit-copy-requires-2
     same-length-4
     returns-5)
