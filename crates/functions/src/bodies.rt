@@ -10,10 +10,10 @@ ghost use Rattle.syntax.specs.Places.{FunctionAt, functionOf};
 ghost use Rattle.conversion.specs.Types.{isSome};
 ghost use Rattle.ir.specs.Amounts.{amount};
 ghost use Rattle.ir.specs.Arena.{Room};
-ghost use Rattle.ir.specs.Counted.{counted};
+ghost use Rattle.ir.specs.Counted.{counted, was, is};
 ghost use Rattle.keys.specs.Keys.{Keyed};
 ghost use Rattle.statements.specs.Converting.{Converting, RoomFor, BlockAfforded};
-ghost use Rattle.statements.specs.Lent.{at, was, is, finished};
+ghost use Rattle.statements.specs.Lent.{at, finished};
 ghost use Rattle.statements.specs.Turns.{Turns, BlockVisited};
 ghost use Rattle.functions.specs.Bodies.{ParametersAdd, missesReturn, FunctionsAfforded, BodyAs, ConvertsFunction, FunctionVisited};
 use crate::parameters::Parameters;
@@ -41,7 +41,7 @@ use statements::blocks::convert_block;
 // A function's detail has 4 where it has a body.
 fn has_body(tree: &[u8], text: &[u8], f: usize) -> bool
     requires { ⌜ Good (now tree) (now text) × FunctionAt (now tree) f ⌝ }
-    ensures { λ b. ⌜ b ≡ isSome (functionOf (now (tree .entry)) (now (text .entry)) f .body) ⌝ }
+    ensures { λ b. ⌜ b ≡ isSome (functionOf (was tree) (was text) f .body) ⌝ }
 {
     detail(tree, f) / 4 % 2 == 1
 }
@@ -62,7 +62,7 @@ fn parameter_variables(tree: &[u8], text: &[u8], arena: &mut [u8], k: &mut [usiz
 // f has a type to return, and a path through its body that returns nothing.
 fn misses_return(tree: &[u8], text: &[u8], f: usize) -> bool
     requires { ⌜ Good (now tree) (now text) × FunctionAt (now tree) f ⌝ }
-    ensures { λ b. ⌜ b ≡ missesReturn (now (tree .entry)) (now (text .entry)) f ⌝ }
+    ensures { λ b. ⌜ b ≡ missesReturn (was tree) (was text) f ⌝ }
 {
     if reference(tree, f, WORD_D) == NONE as usize {
         return false;

@@ -5,7 +5,7 @@ ghost use Prim.Native.Nat.{_*_, _<_};
 ghost use lib.ListN.{length};
 ghost use Rattle.conversion.specs.Ir.{floatBits};
 ghost use Rattle.ir.specs.Arena.{HasSlot, Room};
-ghost use Rattle.ir.specs.Counted.{counted};
+ghost use Rattle.ir.specs.Counted.{counted, was, is};
 ghost use Rattle.ir.specs.Floats.{entryOfFloat};
 ghost use Rattle.ir.specs.Steps.{named, entryOfString, AddsVar, NumbersLabel, NumbersString, NumbersFloat, Closes, Next};
 use crate::floats::FloatBits;
@@ -42,7 +42,7 @@ pub const COUNTERS: usize = 10;
 // The words as a struct.
 pub fn counters_of(k: &[usize]) -> Counters
     requires { ⌜ 9 < length (now k) ⌝ }
-    ensures { λ r. ⌜ r ≡ counted (now (k .entry)) ⌝ }
+    ensures { λ r. ⌜ r ≡ counted (was k) ⌝ }
 {
     Counters {
         records: k[RECORDS],
@@ -61,7 +61,7 @@ pub fn counters_of(k: &[usize]) -> Counters
 // A new variable of this type.
 pub fn new_var(arena: &mut [u8], k: &mut [usize], ty: u32) -> VarId
     requires { ⌜ Room (counted (now k)) (now arena) × (counted (now k) .variables < 3 * counted (now k) .records) ⌝ }
-    ensures { λ r. ⌜ AddsVar ty (counted (now (k .entry))) (now (arena .entry)) (record { var = r; counters = counted (now (k .exit)) }) (now (arena .exit)) ⌝ }
+    ensures { λ r. ⌜ AddsVar ty (counted (was k)) (was arena) (record { var = r; counters = counted (is k) }) (is arena) ⌝ }
 {
     let c = counters_of(k);
     let made = structs::new_var(arena, c, ty);
@@ -73,7 +73,7 @@ pub fn new_var(arena: &mut [u8], k: &mut [usize], ty: u32) -> VarId
 // The label of this kind that this record opens.
 pub fn label_id(arena: &mut [u8], k: &mut [usize], kind: u32, opener: u32) -> Label
     requires { ⌜ Room (counted (now k)) (now arena) × (counted (now k) .labels < 3 * counted (now k) .records) × HasSlot (counted (now k) .records) (named kind opener) ⌝ }
-    ensures { λ r. ⌜ NumbersLabel kind opener (counted (now (k .entry))) (now (arena .entry)) (record { label = r; counters = counted (now (k .exit)) }) (now (arena .exit)) ⌝ }
+    ensures { λ r. ⌜ NumbersLabel kind opener (counted (was k)) (was arena) (record { label = r; counters = counted (is k) }) (is arena) ⌝ }
 {
     let c = counters_of(k);
     let found = structs::label_id(arena, c, kind, opener);
@@ -85,7 +85,7 @@ pub fn label_id(arena: &mut [u8], k: &mut [usize], kind: u32, opener: u32) -> La
 // The string with this text.
 pub fn string_id(text: &[u8], arena: &mut [u8], k: &mut [usize], offset: u32, len: u32) -> u32
     requires { ⌜ Room (counted (now k)) (now arena) × (counted (now k) .strings < counted (now k) .records) ⌝ }
-    ensures { λ r. ⌜ NumbersString (now (text .entry)) (entryOfString (now (text .entry)) offset len) (counted (now (k .entry))) (now (arena .entry)) (record { number = r; counters = counted (now (k .exit)) }) (now (arena .exit)) ⌝ }
+    ensures { λ r. ⌜ NumbersString (was text) (entryOfString (was text) offset len) (counted (was k)) (was arena) (record { number = r; counters = counted (is k) }) (is arena) ⌝ }
 {
     let c = counters_of(k);
     let found = pool::string_id(text, arena, c, offset, len);
@@ -97,7 +97,7 @@ pub fn string_id(text: &[u8], arena: &mut [u8], k: &mut [usize], offset: u32, le
 // The float with these bits and this mark.
 pub fn float_id(arena: &mut [u8], k: &mut [usize], f: FloatBits) -> u32
     requires { ⌜ Room (counted (now k)) (now arena) × (counted (now k) .floats < 2 * counted (now k) .records) ⌝ }
-    ensures { λ r. ⌜ NumbersFloat (entryOfFloat f) (counted (now (k .entry))) (now (arena .entry)) (record { number = r; counters = counted (now (k .exit)) }) (now (arena .exit)) ⌝ }
+    ensures { λ r. ⌜ NumbersFloat (entryOfFloat f) (counted (was k)) (was arena) (record { number = r; counters = counted (is k) }) (is arena) ⌝ }
 {
     let c = counters_of(k);
     let found = pool::float_id(arena, c, f);
@@ -109,7 +109,7 @@ pub fn float_id(arena: &mut [u8], k: &mut [usize], f: FloatBits) -> u32
 // The bits of a float that was numbered; 0 for a number that none has.
 pub fn float_bits(arena: &[u8], k: &[usize], i: u32) -> u64
     requires { ⌜ Room (counted (now k)) (now arena) ⌝ }
-    ensures { λ r. ⌜ Next (floatBits i) (counted (now (k .entry))) (now (arena .entry)) r (counted (now (k .entry))) (now (arena .entry)) ⌝ }
+    ensures { λ r. ⌜ Next (floatBits i) (counted (was k)) (was arena) r (counted (was k)) (was arena) ⌝ }
 {
     pool::float_bits(arena, counters_of(k), i)
 }
@@ -117,7 +117,7 @@ pub fn float_bits(arena: &[u8], k: &[usize], i: u32) -> u64
 // The function at hand is done: its entry, and the next one begins.
 pub fn add_function(arena: &mut [u8], k: &mut [usize], owner: u32, body: bool)
     requires { ⌜ Room (counted (now k)) (now arena) × (counted (now k) .functions < counted (now k) .records) ⌝ }
-    ensures { λ _. ⌜ Closes owner body (counted (now (k .entry))) (now (arena .entry)) (counted (now (k .exit))) (now (arena .exit)) ⌝ }
+    ensures { λ _. ⌜ Closes owner body (counted (was k)) (was arena) (counted (is k)) (is arena) ⌝ }
 {
     let c = counters_of(k);
     let next = structs::add_function(arena, c, owner, body);

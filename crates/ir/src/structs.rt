@@ -10,7 +10,7 @@ ghost use Rattle.conversion.specs.Ir as Ir;
 ghost use Rattle.conversion.specs.Written.{tag, operandValue, encodeInstr};
 ghost use Rattle.ir.specs.Instructions.{varOf, operandOf, fieldBytes, oneBytes, noneBytes, twoBytes};
 ghost use Rattle.ir.specs.Arena.{HasSlot, Room};
-ghost use Rattle.ir.specs.Counted.{counted};
+ghost use Rattle.ir.specs.Counted.{counted, was, is};
 ghost use Rattle.ir.specs.Steps.{named, Emits, AddsVar, NumbersLabel, Closes};
 use crate::arena::FUNCTION_BYTES;
 use crate::arena::FUNCTIONS;
@@ -251,7 +251,7 @@ fn with_two(operator: u8, target: u32, o: Operand, p: Operand) -> Fields
 // The 32 bytes of an instruction.
 fn put_fields(arena: &mut [u8], at: usize, f: Fields)
     requires { ⌜ at + 32 ≤ length (now arena) ⌝ }
-    ensures { λ _. ⌜ now (arena .exit) ≡ splice (now (arena .entry)) at (fieldBytes f) ⌝ }
+    ensures { λ _. ⌜ is arena ≡ splice (was arena) at (fieldBytes f) ⌝ }
 {
     let one = f.first;
     let two = f.second;
@@ -269,7 +269,7 @@ fn put_fields(arena: &mut [u8], at: usize, f: Fields)
 // `instrs.push` of the instruction that is written so.
 fn push(arena: &mut [u8], k: &mut [usize], f: Fields)
     requires { ⌜ Room (counted (now k)) (now arena) × (counted (now k) .instructions < 4 * counted (now k) .records) ⌝ }
-    ensures { λ _. ⌜ ((i : Ir.Instr) → fieldBytes f ≡ encodeInstr i → Emits i (counted (now (k .entry))) (now (arena .entry)) (counted (now (k .exit))) (now (arena .exit))) ⌝ }
+    ensures { λ _. ⌜ ((i : Ir.Instr) → fieldBytes f ≡ encodeInstr i → Emits i (counted (was k)) (was arena) (counted (is k)) (is arena)) ⌝ }
 {
     let n = k[INSTRUCTIONS];
     k[INSTRUCTIONS] = n + 1;
@@ -279,7 +279,7 @@ fn push(arena: &mut [u8], k: &mut [usize], f: Fields)
 // `instrs.push(Instr::..)`, a function for each kind: where one is called its kind is known, so that no `Instr` is made and taken apart again.
 pub fn emit_copy(arena: &mut [u8], k: &mut [usize], dest: VarId, src: Operand)
     requires { ⌜ Room (counted (now k)) (now arena) × (counted (now k) .instructions < 4 * counted (now k) .records) ⌝ }
-    ensures { λ _. ⌜ Emits (Ir.Copy (varOf dest) (operandOf src)) (counted (now (k .entry))) (now (arena .entry)) (counted (now (k .exit))) (now (arena .exit)) ⌝ }
+    ensures { λ _. ⌜ Emits (Ir.Copy (varOf dest) (operandOf src)) (counted (was k)) (was arena) (counted (is k)) (is arena) ⌝ }
 {
     push(arena, k, with_one(COPY, NO_OPERATOR, dest.0, src));
 }
@@ -287,7 +287,7 @@ pub fn emit_copy(arena: &mut [u8], k: &mut [usize], dest: VarId, src: Operand)
 // An operator is its number.
 pub fn emit_unary(arena: &mut [u8], k: &mut [usize], dest: VarId, op: u8, src: Operand)
     requires { ⌜ Room (counted (now k)) (now arena) × (counted (now k) .instructions < 4 * counted (now k) .records) ⌝ }
-    ensures { λ _. ⌜ Emits (Ir.Unary (varOf dest) (getD unaryOps op Neg) (operandOf src)) (counted (now (k .entry))) (now (arena .entry)) (counted (now (k .exit))) (now (arena .exit)) ⌝ }
+    ensures { λ _. ⌜ Emits (Ir.Unary (varOf dest) (getD unaryOps op Neg) (operandOf src)) (counted (was k)) (was arena) (counted (is k)) (is arena) ⌝ }
 {
     push(arena, k, with_one(UNARY, unary_number(op), dest.0, src));
 }
@@ -301,28 +301,28 @@ pub fn emit_binary(
     right: Operand,
 )
     requires { ⌜ Room (counted (now k)) (now arena) × (counted (now k) .instructions < 4 * counted (now k) .records) ⌝ }
-    ensures { λ _. ⌜ Emits (Ir.Binary (varOf dest) (getD binaryOps op Or) (operandOf left) (operandOf right)) (counted (now (k .entry))) (now (arena .entry)) (counted (now (k .exit))) (now (arena .exit)) ⌝ }
+    ensures { λ _. ⌜ Emits (Ir.Binary (varOf dest) (getD binaryOps op Or) (operandOf left) (operandOf right)) (counted (was k)) (was arena) (counted (is k)) (is arena) ⌝ }
 {
     push(arena, k, with_two(binary_number(op), dest.0, left, right));
 }
 
 pub fn emit_cast(arena: &mut [u8], k: &mut [usize], dest: VarId, src: Operand)
     requires { ⌜ Room (counted (now k)) (now arena) × (counted (now k) .instructions < 4 * counted (now k) .records) ⌝ }
-    ensures { λ _. ⌜ Emits (Ir.Cast (varOf dest) (operandOf src)) (counted (now (k .entry))) (now (arena .entry)) (counted (now (k .exit))) (now (arena .exit)) ⌝ }
+    ensures { λ _. ⌜ Emits (Ir.Cast (varOf dest) (operandOf src)) (counted (was k)) (was arena) (counted (is k)) (is arena) ⌝ }
 {
     push(arena, k, with_one(CAST, NO_OPERATOR, dest.0, src));
 }
 
 pub fn emit_zero(arena: &mut [u8], k: &mut [usize], dest: VarId)
     requires { ⌜ Room (counted (now k)) (now arena) × (counted (now k) .instructions < 4 * counted (now k) .records) ⌝ }
-    ensures { λ _. ⌜ Emits (Ir.Zero (varOf dest)) (counted (now (k .entry))) (now (arena .entry)) (counted (now (k .exit))) (now (arena .exit)) ⌝ }
+    ensures { λ _. ⌜ Emits (Ir.Zero (varOf dest)) (counted (was k)) (was arena) (counted (is k)) (is arena) ⌝ }
 {
     push(arena, k, with_none(ZERO, dest.0, 0));
 }
 
 pub fn emit_arg(arena: &mut [u8], k: &mut [usize], arg: Operand)
     requires { ⌜ Room (counted (now k)) (now arena) × (counted (now k) .instructions < 4 * counted (now k) .records) ⌝ }
-    ensures { λ _. ⌜ Emits (Ir.Arg (operandOf arg)) (counted (now (k .entry))) (now (arena .entry)) (counted (now (k .exit))) (now (arena .exit)) ⌝ }
+    ensures { λ _. ⌜ Emits (Ir.Arg (operandOf arg)) (counted (was k)) (was arena) (counted (is k)) (is arena) ⌝ }
 {
     push(arena, k, with_one(ARG, NO_OPERATOR, 0, arg));
 }
@@ -330,7 +330,7 @@ pub fn emit_arg(arena: &mut [u8], k: &mut [usize], arg: Operand)
 // A call names its function's record.
 pub fn emit_call(arena: &mut [u8], k: &mut [usize], dest: VarId, func: u32)
     requires { ⌜ Room (counted (now k)) (now arena) × (counted (now k) .instructions < 4 * counted (now k) .records) ⌝ }
-    ensures { λ _. ⌜ Emits (Ir.Call (some (varOf dest)) func) (counted (now (k .entry))) (now (arena .entry)) (counted (now (k .exit))) (now (arena .exit)) ⌝ }
+    ensures { λ _. ⌜ Emits (Ir.Call (some (varOf dest)) func) (counted (was k)) (was arena) (counted (is k)) (is arena) ⌝ }
 {
     push(arena, k, with_none(CALL, dest.0, func));
 }
@@ -338,35 +338,35 @@ pub fn emit_call(arena: &mut [u8], k: &mut [usize], dest: VarId, func: u32)
 // A call whose value nothing takes.
 pub fn emit_call_only(arena: &mut [u8], k: &mut [usize], func: u32)
     requires { ⌜ Room (counted (now k)) (now arena) × (counted (now k) .instructions < 4 * counted (now k) .records) ⌝ }
-    ensures { λ _. ⌜ Emits (Ir.Call none func) (counted (now (k .entry))) (now (arena .entry)) (counted (now (k .exit))) (now (arena .exit)) ⌝ }
+    ensures { λ _. ⌜ Emits (Ir.Call none func) (counted (was k)) (was arena) (counted (is k)) (is arena) ⌝ }
 {
     push(arena, k, with_none(CALL, NONE, func));
 }
 
 pub fn emit_label(arena: &mut [u8], k: &mut [usize], here: Label)
     requires { ⌜ Room (counted (now k)) (now arena) × (counted (now k) .instructions < 4 * counted (now k) .records) ⌝ }
-    ensures { λ _. ⌜ Emits (Ir.Label (here .0)) (counted (now (k .entry))) (now (arena .entry)) (counted (now (k .exit))) (now (arena .exit)) ⌝ }
+    ensures { λ _. ⌜ Emits (Ir.Label (here .0)) (counted (was k)) (was arena) (counted (is k)) (is arena) ⌝ }
 {
     push(arena, k, with_none(LABEL, here.0, 0));
 }
 
 pub fn emit_jump(arena: &mut [u8], k: &mut [usize], target: Label)
     requires { ⌜ Room (counted (now k)) (now arena) × (counted (now k) .instructions < 4 * counted (now k) .records) ⌝ }
-    ensures { λ _. ⌜ Emits (Ir.Jump (target .0)) (counted (now (k .entry))) (now (arena .entry)) (counted (now (k .exit))) (now (arena .exit)) ⌝ }
+    ensures { λ _. ⌜ Emits (Ir.Jump (target .0)) (counted (was k)) (was arena) (counted (is k)) (is arena) ⌝ }
 {
     push(arena, k, with_none(JUMP, target.0, 0));
 }
 
 pub fn emit_jump_if_not(arena: &mut [u8], k: &mut [usize], cond: Operand, target: Label)
     requires { ⌜ Room (counted (now k)) (now arena) × (counted (now k) .instructions < 4 * counted (now k) .records) ⌝ }
-    ensures { λ _. ⌜ Emits (Ir.JumpIfNot (operandOf cond) (target .0)) (counted (now (k .entry))) (now (arena .entry)) (counted (now (k .exit))) (now (arena .exit)) ⌝ }
+    ensures { λ _. ⌜ Emits (Ir.JumpIfNot (operandOf cond) (target .0)) (counted (was k)) (was arena) (counted (is k)) (is arena) ⌝ }
 {
     push(arena, k, with_one(JUMP_IF_NOT, NO_OPERATOR, target.0, cond));
 }
 
 pub fn emit_return(arena: &mut [u8], k: &mut [usize], value: Operand)
     requires { ⌜ Room (counted (now k)) (now arena) × (counted (now k) .instructions < 4 * counted (now k) .records) ⌝ }
-    ensures { λ _. ⌜ Emits (Ir.Return (operandOf value)) (counted (now (k .entry))) (now (arena .entry)) (counted (now (k .exit))) (now (arena .exit)) ⌝ }
+    ensures { λ _. ⌜ Emits (Ir.Return (operandOf value)) (counted (was k)) (was arena) (counted (is k)) (is arena) ⌝ }
 {
     push(arena, k, with_one(RETURN, NO_OPERATOR, 0, value));
 }
@@ -374,7 +374,7 @@ pub fn emit_return(arena: &mut [u8], k: &mut [usize], value: Operand)
 // A comment names its statement's record.
 pub fn emit_comment(arena: &mut [u8], k: &mut [usize], statement: u32)
     requires { ⌜ Room (counted (now k)) (now arena) × (counted (now k) .instructions < 4 * counted (now k) .records) ⌝ }
-    ensures { λ _. ⌜ Emits (Ir.Comment statement) (counted (now (k .entry))) (now (arena .entry)) (counted (now (k .exit))) (now (arena .exit)) ⌝ }
+    ensures { λ _. ⌜ Emits (Ir.Comment statement) (counted (was k)) (was arena) (counted (is k)) (is arena) ⌝ }
 {
     push(arena, k, with_none(COMMENT, 0, statement));
 }
@@ -382,7 +382,7 @@ pub fn emit_comment(arena: &mut [u8], k: &mut [usize], statement: u32)
 // A new variable of this type: its number is its index among its function's variables.
 pub fn new_var(arena: &mut [u8], k: Counters, ty: u32) -> NewVariable
     requires { ⌜ Room k (now arena) × (k .variables < 3 * k .records) ⌝ }
-    ensures { λ r. ⌜ AddsVar ty k (now (arena .entry)) r (now (arena .exit)) ⌝ }
+    ensures { λ r. ⌜ AddsVar ty k (was arena) r (is arena) ⌝ }
 {
     let mut f = k;
     let var = counter::new_var(arena, &mut f, ty);
@@ -392,7 +392,7 @@ pub fn new_var(arena: &mut [u8], k: Counters, ty: u32) -> NewVariable
 // The label of this kind that this record opens: its number is its index among its function's labels, added the first time it is asked.
 pub fn label_id(arena: &mut [u8], k: Counters, kind: u32, opener: u32) -> LabelNumber
     requires { ⌜ Room k (now arena) × (k .labels < 3 * k .records) × HasSlot (k .records) (named kind opener) ⌝ }
-    ensures { λ r. ⌜ NumbersLabel kind opener k (now (arena .entry)) r (now (arena .exit)) ⌝ }
+    ensures { λ r. ⌜ NumbersLabel kind opener k (was arena) r (is arena) ⌝ }
 {
     let mut f = k;
     let label = counter::label_id(arena, &mut f, kind, opener);
@@ -402,7 +402,7 @@ pub fn label_id(arena: &mut [u8], k: Counters, kind: u32, opener: u32) -> LabelN
 // The function at hand is done: its entry, and the next one begins.
 pub fn add_function(arena: &mut [u8], k: Counters, owner: u32, body: bool) -> Counters
     requires { ⌜ Room k (now arena) × (k .functions < k .records) ⌝ }
-    ensures { λ r. ⌜ Closes owner body k (now (arena .entry)) r (now (arena .exit)) ⌝ }
+    ensures { λ r. ⌜ Closes owner body k (was arena) r (is arena) ⌝ }
 {
     let n = k.functions;
     let at = FUNCTIONS * k.records + FUNCTION_BYTES * n;

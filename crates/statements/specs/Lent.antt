@@ -2,8 +2,6 @@
 -- owes is said of these. Assumes nothing: these are definitions.
 use Prim.Native.Nat.{ℕ}
 use mathlib.Core.List.{List}
-use denote.Ref.{RefT}
-use denote.Triple.Both.{Both}
 use Rattle.records.specs.declared.convert_error.ConvertError.{ConvertError}
 use Rattle.ir.specs.declared.structs.Counters.{Counters}
 use Rattle.ir.specs.declared.structs.Operand.{Operand}
@@ -21,14 +19,6 @@ use Rattle.statements.specs.declared.answers.ConvertedArgs.the-variants 
 use Rattle.statements.specs.declared.answers.Stated.the-variants as Stated-is
 use Rattle.statements.specs.declared.answers.Finished.the-variants as Finished-is
 use Rattle.statements.specs.declared.answers.ForVariable.the-variants as ForVariable-is
-
--- ---- what lies in something lent, when a function is entered and when it is left
-
-abbrev pub was : {B : Type 0} → Both (RefT (List ℕ)) B → List ℕ
-was x = x .entry .now
-
-abbrev pub is : {A : Type 0} → Both A (RefT (List ℕ)) → List ℕ
-is x = x .exit .now
 
 -- ---- what everything that converts takes
 

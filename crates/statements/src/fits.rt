@@ -16,11 +16,11 @@ ghost use Rattle.conversion.specs.Expressions.{Functions};
 ghost use Rattle.conversion.specs.Statements.{refloat, castOperand, emitArgs, checkFits, parameterType};
 ghost use Rattle.types.specs.Fits.{IsType};
 ghost use Rattle.ir.specs.Amounts.{amount};
-ghost use Rattle.ir.specs.Counted.{counted};
+ghost use Rattle.ir.specs.Counted.{counted, was, is};
 ghost use Rattle.ir.specs.Instructions.{operandOf, varOf};
 ghost use Rattle.expressions.specs.Answers.{outcomeOf};
 ghost use Rattle.statements.specs.Converting.{Converting, Afforded, RoomFor, OperandIn, StackIn, StaysFor, NamesStay};
-ghost use Rattle.statements.specs.Lent.{at, was, is, fitted};
+ghost use Rattle.statements.specs.Lent.{at, fitted};
 ghost use Rattle.statements.specs.Meets.{Adds};
 ghost use Rattle.statements.specs.Answers.{FitAdds, OperandFits, IntFits, ParameterBehind, waiting, FirstValue, FitsAs, PassesAs};
 ghost use Rattle.statements.specs.Turns.{TurnsStay};
@@ -141,7 +141,7 @@ pub(crate) fn fit_operand(
 // The type of the parameter in a cell; behind the parameters long Float.
 fn parameter_type(tree: &[u8], text: &[u8], parameter: usize) -> usize
     requires { ⌜ Good (now tree) (now text) × ParamsAt (now tree) parameter × TypeAt (now tree) (floatType false) ⌝ }
-    ensures { λ y. ⌜ (y ≡ parameterType (paramsAt (now (tree .entry)) (now (text .entry)) parameter) 0) × TypeAt (now (tree .entry)) y ⌝ }
+    ensures { λ y. ⌜ (y ≡ parameterType (paramsAt (was tree) (was text) parameter) 0) × TypeAt (was tree) y ⌝ }
 {
     if parameter == END {
         return FLOAT_LONG;
@@ -151,7 +151,7 @@ fn parameter_type(tree: &[u8], text: &[u8], parameter: usize) -> usize
 
 fn next_parameter(tree: &[u8], text: &[u8], parameter: usize) -> usize
     requires { ⌜ Good (now tree) (now text) × ParamsAt (now tree) parameter ⌝ }
-    ensures { λ p. ⌜ ParameterBehind (now (tree .entry)) (now (text .entry)) parameter p ⌝ }
+    ensures { λ p. ⌜ ParameterBehind (was tree) (was text) parameter p ⌝ }
 {
     if parameter == END {
         return END;
@@ -162,7 +162,7 @@ fn next_parameter(tree: &[u8], text: &[u8], parameter: usize) -> usize
 // The first value from this argument on, beside the parameters from this one on. A type gives no Arg, and takes a parameter's place.
 fn first_value(tree: &[u8], text: &[u8], argument: usize, parameter: usize) -> AtValue
     requires { ⌜ Good (now tree) (now text) × ArgsAt (now tree) argument × ParamsAt (now tree) parameter ⌝ }
-    ensures { λ r. ⌜ FirstValue (now (tree .entry)) (now (text .entry)) argument parameter r ⌝ }
+    ensures { λ r. ⌜ FirstValue (was tree) (was text) argument parameter r ⌝ }
 {
     let mut cell = argument;
     let mut beside = parameter;
@@ -272,7 +272,7 @@ pub(crate) fn check_fits(
     place: usize,
 ) -> Outcome
     requires { ⌜ IsExpr (now tree) e × IsType (now tree) y × IsType (now tree) expected × (e < 4294967296) × (place < 4294967296) ⌝ }
-    ensures { λ a. ⌜ ((text : List ℕ) (F : Functions) → checkFits (program (now (tree .entry)) text) F (exprAt (now (tree .entry)) text e) y expected kind place ≡ lift (outcomeOf a)) ⌝ }
+    ensures { λ a. ⌜ ((text : List ℕ) (F : Functions) → checkFits (program (was tree) text) F (exprAt (was tree) text e) y expected kind place ≡ lift (outcomeOf a)) ⌝ }
 {
     if fits(tree, e, y, expected) {
         return Outcome::Done;

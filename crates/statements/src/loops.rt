@@ -11,14 +11,14 @@ ghost use Rattle.syntax.specs.Decode.{program, bit};
 ghost use Rattle.syntax.specs.Places.{IsExpr, IsKind, TypeAt};
 ghost use Rattle.conversion.specs.Ir.{conditionEnd, otherwiseLabel};
 ghost use Rattle.ir.specs.Amounts.{amount};
-ghost use Rattle.ir.specs.Counted.{counted};
+ghost use Rattle.ir.specs.Counted.{counted, was, is};
 ghost use Rattle.ir.specs.Instructions.{operandOf, varOf};
 ghost use Rattle.expressions.specs.Slots.{Ready};
-ghost use Rattle.statements.specs.Converting.{Converting, RoomFor, OperandIn, Afforded, BehindAfforded, BoundAfforded, forHeadAmount};
-ghost use Rattle.statements.specs.Lent.{at, was, is, stated, finished, foundVariable};
+ghost use Rattle.statements.specs.Converting.{Converting, RoomFor, OperandIn, BehindAfforded, BoundAfforded};
+ghost use Rattle.statements.specs.Lent.{at, stated, finished, foundVariable};
 ghost use Rattle.statements.specs.Meets.{Adds};
 ghost use Rattle.statements.specs.Parts.{ifMiddle, loopBack, testBound, placeLabel};
-ghost use Rattle.statements.specs.Answers.{countOnSteps, ofVariable, HeadAs, BoundAs, TurnsAs, ForHeadAs, VariableAs, Checks, ifHeadSteps, whileHeadSteps, forVariableSteps, boundSteps, forBoundsSteps, forBeginSteps, forTestSteps, forTurnsSteps, forHeadSteps, boundsUnder};
+ghost use Rattle.statements.specs.Answers.{countOnSteps, ofVariable, HeadAs, BoundAs, TurnsAs, TurnsAfforded, ForHeadAs, VariableAs, Checks, ifHeadSteps, whileHeadSteps, forVariableSteps, boundSteps, forBoundsSteps, forBeginSteps, forTestSteps, forTurnsSteps, forHeadSteps};
 ghost use Rattle.statements.specs.Turns.{InTurn, headTypes, boundTypes, boundsTypes, forBeginTypes, forTestTypes, forTypes, StatesTyped, FinishesTyped, VariableTyped, ChecksTyped};
 use crate::answers::Converted;
 use crate::answers::Converter;
@@ -70,7 +70,7 @@ use types::form::is_unsigned;
 pub(crate) fn has_otherwise(tree: &[u8], r: usize) -> bool
     requires { ⌜ r * recordBytes + recordBytes ≤ length (now tree) ⌝ }
     requires { ⌜ detailOf (now tree) r ≤ 1 ⌝ }
-    ensures { λ b. ⌜ b ≡ bit 1 (detailOf (now (tree .entry)) r) ⌝ }
+    ensures { λ b. ⌜ b ≡ bit 1 (detailOf (was tree) r) ⌝ }
 {
     detail(tree, r) == 1
 }
@@ -79,7 +79,7 @@ pub(crate) fn has_otherwise(tree: &[u8], r: usize) -> bool
 fn if_not_label(tree: &[u8], r: usize) -> u32
     requires { ⌜ r * recordBytes + recordBytes ≤ length (now tree) ⌝ }
     requires { ⌜ detailOf (now tree) r ≤ 1 ⌝ }
-    ensures { λ k. ⌜ k ≡ pick (bit 1 (detailOf (now (tree .entry)) r)) (otherwiseLabel r .kind) (conditionEnd r .kind) ⌝ }
+    ensures { λ k. ⌜ k ≡ pick (bit 1 (detailOf (was tree) r)) (otherwiseLabel r .kind) (conditionEnd r .kind) ⌝ }
 {
     if has_otherwise(tree, r) {
         return OTHERWISE;
@@ -375,7 +375,7 @@ fn for_turns(
     r: usize,
     x: VarId,
 ) -> Finished
-    requires { ⌜ Converting (now tree) (now text) (now arena) (now scratch) (at c (now k)) × Afforded (now tree) (at c (now k)) (forHeadAmount (boundsUnder (now tree) (now text) r)) (boundsUnder (now tree) (now text) r) 0 ⌝ }
+    requires { ⌜ Converting (now tree) (now text) (now arena) (now scratch) (at c (now k)) × TurnsAfforded (now tree) (now text) (at c (now k)) r ⌝ }
     requires { ⌜ IsKind (now tree) kindFor r × TypeAt (now tree) (x .1) ⌝ }
     requires { ⌜ InTurn (now tree) (now text) (now scratch) (at c (now k)) ⌝ }
     ensures { λ a. ⌜ TurnsAs (ofVariable forTurnsSteps x) (at c (was k)) r (was tree) (was text) (was arena) (was scratch) (finished (is k) a) (is arena) (is scratch) ⌝ }

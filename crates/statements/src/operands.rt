@@ -17,11 +17,11 @@ ghost use Rattle.syntax.specs.Places.{IsExpr, IsKind};
 ghost use Rattle.conversion.specs.Ir.{OInt};
 ghost use Rattle.conversion.specs.Written.{word};
 ghost use Rattle.ir.specs.Amounts.{amount, Affords};
-ghost use Rattle.ir.specs.Counted.{counted};
+ghost use Rattle.ir.specs.Counted.{counted, was, is};
 ghost use Rattle.ir.specs.Instructions.{operandOf};
 ghost use Rattle.statements.specs.Stack.{operandBytes, operandFrom, stackEntryAt, operandAt};
 ghost use Rattle.statements.specs.Converting.{Converting, RoomFor, exprAmount};
-ghost use Rattle.statements.specs.Lent.{at, was, is, converted, fitted};
+ghost use Rattle.statements.specs.Lent.{at, converted, fitted};
 ghost use Rattle.statements.specs.Answers.{LeafAdds, LeafConverts};
 use crate::answers::Converted;
 use crate::answers::Converter;
@@ -112,8 +112,8 @@ fn operand_of(w: Four) -> Operand
 // Writes the operand at place j of the stack, for a tree of so many records.
 pub(crate) fn push_operand(scratch: &mut [u8], records: usize, j: usize, o: Operand)
     requires { ⌜ stackEntryAt records j + operands .each ≤ length (now scratch) ⌝ }
-    ensures written { λ _. ⌜ now (scratch .exit) ≡ splice (now (scratch .entry)) (stackEntryAt records j) (operandBytes (operandOf o)) ⌝ }
-    ensures back { λ _. ⌜ operandAt (now (scratch .exit)) records j ≡ operandOf o ⌝ }
+    ensures written { λ _. ⌜ is scratch ≡ splice (was scratch) (stackEntryAt records j) (operandBytes (operandOf o)) ⌝ }
+    ensures back { λ _. ⌜ operandAt (is scratch) records j ≡ operandOf o ⌝ }
 {
     let w = operand_words(o);
     put_four(scratch, OPERANDS * records + OPERAND_BYTES * j, w);
@@ -122,7 +122,7 @@ pub(crate) fn push_operand(scratch: &mut [u8], records: usize, j: usize, o: Oper
 // The operand at place j of the stack.
 pub(crate) fn operand_at(scratch: &[u8], records: usize, j: usize) -> Operand
     requires { ⌜ stackEntryAt records j + operands .each ≤ length (now scratch) ⌝ }
-    ensures { λ r. ⌜ operandOf r ≡ operandAt (now (scratch .entry)) records j ⌝ }
+    ensures { λ r. ⌜ operandOf r ≡ operandAt (was scratch) records j ⌝ }
 {
     let at = OPERANDS * records + OPERAND_BYTES * j;
     let a = load(scratch, at);
@@ -135,7 +135,7 @@ pub(crate) fn operand_at(scratch: &[u8], records: usize, j: usize) -> Operand
 // Detail 1 is short, 2 unsigned.
 fn int_operand(tree: &[u8], e: usize) -> Operand
     requires { ⌜ e * recordBytes + recordBytes ≤ length (now tree) ⌝ }
-    ensures { λ r. ⌜ ((text : List ℕ) → operandOf r ≡ OInt (toZ w64 (wideOf (now (tree .entry)) text e Words.A)) (bit 1 (detailOf (now (tree .entry)) e)) (bit 2 (detailOf (now (tree .entry)) e))) ⌝ }
+    ensures { λ r. ⌜ ((text : List ℕ) → operandOf r ≡ OInt (toZ w64 (wideOf (was tree) text e Words.A)) (bit 1 (detailOf (was tree) e)) (bit 2 (detailOf (was tree) e))) ⌝ }
 {
     let marks = detail(tree, e);
     let bits = two_words(tree, e, WORD_A);

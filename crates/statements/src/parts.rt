@@ -8,12 +8,12 @@ ghost use Rattle.records.specs.Kinds.{kindBinary, kindCall};
 ghost use Rattle.syntax.specs.Syntax.{unaryOps, binaryOps, Neg, Or, And};
 ghost use Rattle.syntax.specs.Places.{IsKind, TypeAt, FunctionAt};
 ghost use Rattle.ir.specs.Amounts.{amount};
-ghost use Rattle.ir.specs.Counted.{counted};
+ghost use Rattle.ir.specs.Counted.{counted, was, is};
 ghost use Rattle.ir.specs.Instructions.{operandOf, varOf};
 ghost use Rattle.expressions.specs.Slots.{Ready};
 ghost use Rattle.expressions.specs.Answers.{IsCallee};
 ghost use Rattle.statements.specs.Converting.{Converting, RoomFor, OperandIn, StackIn, Afforded};
-ghost use Rattle.statements.specs.Lent.{at, was, is, converted, fitted};
+ghost use Rattle.statements.specs.Lent.{at, converted, fitted};
 ghost use Rattle.statements.specs.Meets.{Adds};
 ghost use Rattle.statements.specs.Parts.{finishUnary, beginLogic, joinAnd, joinOr, endLogic};
 ghost use Rattle.statements.specs.Answers.{FitAdds, BinaryFinishes, joinSteps, OperandTyped, CastsAs, CallsAs, CallEndsAs};
@@ -58,7 +58,7 @@ pub(crate) fn finish_unary(
     y: usize,
 ) -> Operand
     requires { ⌜ RoomFor (counted (now k)) (now arena) (amount 1 1 0 0 0) × (y < 4294967296) ⌝ }
-    ensures { λ r. ⌜ ((tree : List ℕ) → TypeAt tree y → FitAdds tree (finishUnary (getD unaryOps op Neg) y (operandOf src)) (amount 1 1 0 0 0) (counted (was k)) (was arena) (fitted (is k) r) (is arena)) ⌝ }
+    ensures { λ r. ⌜ ((t : List ℕ) → TypeAt t y → FitAdds t (finishUnary (getD unaryOps op Neg) y (operandOf src)) (amount 1 1 0 0 0) (counted (was k)) (was arena) (fitted (is k) r) (is arena)) ⌝ }
 {
     let dest = new_var(arena, k, y as u32);
     emit_unary(arena, k, dest, op, src);

@@ -1,10 +1,12 @@
 -- The variable of an And or Or, and its two labels.
 -- Three steps in a row. Assumes nothing.
-use borrow.Author.Needs.{needs}
 use Rattle.statements.proofs.AroundLaws.{begin-adds}
 use native.Mathlib.Omega.{arith}
+use borrow.Author.Needs.{needs}
 use Rattle.statements.proofs.parts.begin_logic.Statement.{statement}
 use Rattle.statements.proofs.parts.begin_logic.Tie as tie
+use Rattle.statements.proofs.parts.begin_logic.Reads as reads
+use Rattle.statements.proofs.parts.begin_logic.Lts as lts
 
 cast-new-var : tie.Need-cast-new-var
 cast-new-var c = search needs
@@ -27,8 +29,22 @@ label-id-requires-2 c κs = search needs
 same-length : tie.Need-same-length
 same-length c = search needs
 
+same-length-2 : tie.Need-same-length-2
+same-length-2 c = ?
+
 returns : tie.Need-returns
-returns c = (begin-adds (omega arith) (c .before .before .before .before .before .before .before .before .before .before .before .before .before .before .new-var .ensures) (omega arith) (c .before .before .before .before .before .before .before .before .label-id .ensures) (omega arith) (c .before .before .before .label-id2 .ensures), c .before .before .before .before .before .before .before .before .before .before .before .before .before .before .new-var .ensures .typed)
+returns c = (begin-adds (omega arith) (c .before .before .before .before .before .before .before .before .before .before .before .before .before .before .before .before .before .before .new-var .ensures) (omega arith) (c .before .before .before .before .before .before .before .before .before .before .before .label-id .ensures) (omega arith) (c .before .before .before .before .label-id2 .ensures), c .before .before .before .before .before .before .before .before .before .before .before .before .before .before .before .before .before .before .new-var .ensures .typed)
 
 pub begin-logic-spec : {M : Type 1} → statement M
-begin-logic-spec = tie.close (tie.spec cast-new-var new-var-requires cast-label-id label-id-requires cast-label-id-2 label-id-requires-2 same-length returns)
+begin-logic-spec =
+    tie.close
+    (tie.spec
+    cast-new-var
+    new-var-requires
+    cast-label-id
+    label-id-requires
+    cast-label-id-2
+    label-id-requires-2
+    same-length
+    same-length-2
+    returns)
