@@ -1,5 +1,6 @@
 -- Between the blocks of the If.
 -- A jump and a label in a row. Assumes nothing.
+use Rattle.ir.specs.Counted.{counted}
 use Rattle.statements.proofs.HeadLaws.{middle-adds}
 use borrow.Author.Needs.{needs}
 use Rattle.statements.proofs.loops.if_middle.Statement.{statement}
@@ -11,6 +12,7 @@ jump-requires : tie.Need-jump-requires
 jump-requires c κs = search needs
 
 place-label-requires : tie.Need-place-label-requires
+unfolding counted
 place-label-requires c κs = search needs
 
 same-length : tie.Need-same-length

@@ -1,5 +1,6 @@
 -- Behind the right side of an And or Or.
 -- A copy and a label in a row. Assumes nothing.
+use Rattle.ir.specs.Counted.{counted}
 use Rattle.statements.proofs.AroundLaws.{end-adds}
 use native.Mathlib.Omega.{arith}
 use borrow.Author.Needs.{needs}
@@ -12,6 +13,7 @@ emit-copy-requires : tie.Need-emit-copy-requires
 emit-copy-requires c κs = search needs
 
 place-label-requires : tie.Need-place-label-requires
+unfolding counted
 place-label-requires c κs = search needs
 
 same-length : tie.Need-same-length

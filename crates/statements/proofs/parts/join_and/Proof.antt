@@ -1,5 +1,6 @@
 -- Between the sides of And.
 -- A copy and a jump in a row. Assumes nothing.
+use Rattle.ir.specs.Counted.{counted}
 use Rattle.statements.proofs.AroundLaws.{and-adds}
 use native.Mathlib.Omega.{arith}
 use borrow.Author.Needs.{needs}
@@ -12,6 +13,7 @@ emit-copy-requires : tie.Need-emit-copy-requires
 emit-copy-requires c κs = search needs
 
 jump-if-not-requires : tie.Need-jump-if-not-requires
+unfolding counted
 jump-if-not-requires c κs = search needs
 
 same-length : tie.Need-same-length
