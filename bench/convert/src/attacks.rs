@@ -36,7 +36,7 @@ const ALL: &[usize] = &[8];
 const SOME: &[usize] = &[1, 2, 3, 4, 6];
 const HIGH: &[usize] = &[1, 20, 48];
 
-pub const ATTACKS: [Attack; 26] = [
+pub const ATTACKS: [Attack; 30] = [
     Attack {
         name: "customs",
         what: "Customs with overlapping names",
@@ -68,6 +68,38 @@ pub const ATTACKS: [Attack; 26] = [
         shares: ALL,
         depths: &[1],
         tree: collisions,
+    },
+    Attack {
+        name: "short-collisions",
+        what: "as many such names as the text has room for, of one digest and 16 bytes or little more",
+        texts: true,
+        shares: ALL,
+        depths: &[1],
+        tree: short_collisions,
+    },
+    Attack {
+        name: "spread-collisions",
+        what: "such names, of which 255 part from each other at each byte, so that each is compared with all before it",
+        texts: true,
+        shares: ALL,
+        depths: &[1],
+        tree: spread_collisions,
+    },
+    Attack {
+        name: "string-collisions",
+        what: "strings that share their digest and a long beginning",
+        texts: true,
+        shares: ALL,
+        depths: &[28],
+        tree: string_collisions,
+    },
+    Attack {
+        name: "custom-collisions",
+        what: "Customs whose names do",
+        texts: true,
+        shares: ALL,
+        depths: &[1],
+        tree: custom_collisions,
     },
     Attack {
         name: "calls",
@@ -495,9 +527,9 @@ fn digest_from(digest: u64, text: &[u8]) -> u64 {
     text.iter().fold(digest, |digest, byte| (digest * 256 + u64::from(*byte)) % DIGEST_PRIME)
 }
 
-/// The eight bytes that bring a digest back to `wanted`: the upper four are 1, the lower four what is missing.
-fn ending(digest: u64, wanted: u64) -> [u8; 8] {
-    let upper = 1 << 32;
+/// The eight bytes that bring a digest back to `wanted`: the mark, three with a number, by which they differ, and four with what is missing.
+fn ending(digest: u64, wanted: u64, number: usize) -> [u8; 8] {
+    let upper = (u64::from(MARK) << 56) + ((number as u64) << 32);
     let missing = wanted + DIGEST_PRIME - digest_from(digest, &u64::to_be_bytes(upper));
     (upper + missing % DIGEST_PRIME).to_be_bytes()
 }
@@ -512,19 +544,53 @@ impl Hostile {
         let wanted = digest_from(1, &text[base..]);
         for at in 1..count {
             let digest = digest_from(1, &text[base + 8 * at..]);
-            text.extend(ending(digest, wanted));
+            text.extend(ending(digest, wanted, at));
         }
         (base as u32, long as u32)
     }
 }
 
-/// Who knows the digest ends each name so that all have one: each is then compared with every earlier one, nearly to its end.
+/// Who knows the digest ends each name so that all have one: all stand in one bucket, and share a beginning that is nearly the whole name.
 fn collisions(knobs: Knobs) -> Hostile {
-    let mut tree = Hostile::new(knobs);
+    let tree = Hostile::new(knobs);
     let count = (tree.room() / 3).min(knobs.text / 48);
+    colliding_functions(tree, knobs, count)
+}
+
+/// The most names that can stand in one bucket, each eight bytes of the text.
+fn short_collisions(knobs: Knobs) -> Hostile {
+    let tree = Hostile::new(knobs);
+    let count = (tree.room() / 3).min((knobs.text - tree.layout.text.len() - 24) / 16);
+    colliding_functions(tree, knobs, count)
+}
+
+fn colliding_functions(mut tree: Hostile, knobs: Knobs, count: usize) -> Hostile {
     let (base, long) = tree.colliding(knobs.text, 2 * count);
     let text = |at: usize| (base + 8 * at as u32, long);
     (0..count).for_each(|at| tree.function(text(2 * at), text(2 * at + 1), &[], NONE, None));
+    tree
+}
+
+/// Who knows the order as well makes each name part from every earlier one where that parted from those before it: a run of marks, longer by one after every
+/// 255 names, another byte, and the ending.
+fn spread_collisions(knobs: Knobs) -> Hostile {
+    let mut tree = Hostile::new(knobs);
+    let room = tree.room() / 3;
+    let mut texts = Vec::new();
+    while texts.len() < 2 * room {
+        let (run, other) = (texts.len() / 255, texts.len() % 255);
+        let text = &mut tree.layout.text;
+        let start = text.len();
+        if start + run + 9 > knobs.text {
+            break;
+        }
+        text.extend(std::iter::repeat_n(MARK, run));
+        text.push(if other < usize::from(MARK) { other as u8 } else { other as u8 + 1 });
+        let digest = digest_from(1, &text[start..]);
+        text.extend(ending(digest, 1, texts.len()));
+        texts.push((start as u32, run as u32 + 9));
+    }
+    texts.chunks_exact(2).for_each(|pair| tree.function(pair[0], pair[1], &[], NONE, None));
     tree
 }
 
@@ -764,6 +830,31 @@ fn strings(knobs: Knobs) -> Hostile {
         made += 2;
         tree.binary(EQ, left, right)
     })
+}
+
+/// The same with strings of one digest.
+fn string_collisions(knobs: Knobs) -> Hostile {
+    let mut tree = Hostile::new(knobs);
+    let count = (knobs.records / 2).min(knobs.text / 24);
+    let (base, long) = tree.colliding(knobs.text, count);
+    let mut made = 0;
+    nests(tree, (knobs.depth, AND), BOOL_TYPE, move |tree| {
+        let mut next = || {
+            made += 1;
+            (base + 8 * (made % count) as u32, long)
+        };
+        let (left, right) = (next(), next());
+        let (left, right) = (tree.text_of(STR, left), tree.text_of(STR, right));
+        tree.binary(EQ, left, right)
+    })
+}
+
+fn custom_collisions(knobs: Knobs) -> Hostile {
+    let mut tree = Hostile::new(knobs);
+    let count = tree.room().min(knobs.text / 24);
+    let (base, long) = tree.colliding(knobs.text, count);
+    (0..count as u32).for_each(|at| tree.layout.records.push(Record::new(TYPE, 8, [base + 8 * at, long, 0, 0, 0])));
+    tree
 }
 
 fn labels(knobs: Knobs) -> Hostile {

@@ -233,7 +233,7 @@ module _ (P : Program) (F : Functions) where
   unfoldable mutual
     unfolding _>>=_ pure lift float-id string-id find-variable nameOperand sizeOperand size get-type convert-unary convert-binary convert-call-value
 
-    -- `convert_expr`, with `operand` for the leaves
+    -- `convert_expr`, with `operand` of expressions.rs for the leaves: an Int, a Float, a Bool, a Null, a Name
     pub convert-expr : Expr → Scope → M Operand
     convert-expr (EInt r v short unsigned) sc = pure (OInt v short unsigned)
     convert-expr (EFloat r b short) sc = do

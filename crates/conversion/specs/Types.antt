@@ -11,7 +11,7 @@ use lib.Ieee as Ieee
 use lib.Ieee.{Float, nan, inf, fin, binary64}
 use Rattle.laws.specs.Fix.{pick, below, fix}
 use Rattle.syntax.specs.Syntax.{Ty, TInt, TFloat, TBool, TChar, TByte, TAddress, TArray, TCustom, TNull, UnaryOp, Neg, BitNot, Not, BinaryOp, Or, And, BitOr, BitXor, BitAnd, Eq, NotEq, Lt, Le, Gt, Ge, Shl, Shr, Add, Sub, Mul, Div, Rem, Expr, EInt, EFloat, EStr, EBool, EName, ENull, ESizeOf, EUnary, EBinary, ECall, nullType}
-use Rattle.int128.specs.Ops.{negOf, notOf, addOf, subOf, mulOf, divOf, remOf, andOf, orOf, xorOf, shlOf, shrOf, byCount, intFits}
+use Rattle.int128.specs.Ops.{negOf, notOf, addOf, subOf, mulOf, divOf, remOf, andOf, orOf, xorOf, shlOf, shrOf, byCount, int-fits}
 
 -- ---- a type taken apart: `matches!(ty, Type::Int { .. })` and its like
 
@@ -218,7 +218,7 @@ isNullLiteral (ECall r v l) = false
 -- e, of the first type, into a place of the second, the two not being equal
 unfoldable pub fitsInto : Expr → Ty → Ty → Bool
 unfolding onInt onFloat onAddress int-value float-value float-fits someAnd isNullLiteral
-fitsInto e (TInt s u) x = onInt x false (λ short unsigned. someAnd (int-value e) (λ v. intFits v short unsigned))
+fitsInto e (TInt s u) x = onInt x false (λ short unsigned. someAnd (int-value e) (λ v. int-fits v short unsigned))
 fitsInto e (TFloat s) x = onFloat x false (λ short. someAnd (float-value e) (λ v. float-fits v short))
 fitsInto e TNull x = onAddress x false (λ y. isNullLiteral e)
 fitsInto e (TAddress from) x = onAddress x false (λ to. eqb from nullType || eqb to nullType)

@@ -8,6 +8,7 @@ use native.Mathlib.Omega.{arith}
 use lib.Dec.{eqb}
 use lib.ListN.{length, getD, replicate}
 use Rattle.laws.specs.All.{All}
+use Rattle.laws.specs.Splice.{filled}
 use Rattle.records.specs.Words.{records, none}
 use Rattle.records.specs.Good.{Good}
 use Rattle.records.specs.Answer.{wordsOf}
@@ -23,7 +24,6 @@ use Rattle.tables.specs.Bytes.{Byte}
 use Rattle.ir.specs.declared.structs.Counters.{Counters}
 use Rattle.ir.specs.Arena.{Holds}
 use Rattle.ir.specs.Cut as Cut
-use Rattle.ir.specs.Cut.{alone}
 use Rattle.ir.proofs.CutLaws as CutLaws
 use Rattle.ir.proofs.CutLaws.{instructions-are, variables-are, labels-are, functions-are, strings-are, floats-are}
 use Rattle.judge.specs.Judge.{Buffers, buffers, lengthsOf, verdict, judged, cleared, judgedIn, judgeLeaves}
@@ -35,7 +35,7 @@ use Rattle.judge.proofs.RowLaws.{cleared-length, core-kept, core-cleared, answe
 use Rattle.expressions.specs.Slots.{visitsAt}
 use Rattle.statements.specs.Lent.{Finished}
 use Rattle.functions.specs.Bodies.{begun}
-use Rattle.demands.specs.Call.{visitsIn, Counted, Refusal, filled, buffersAfter, Calls}
+use Rattle.demands.specs.Call.{visitsIn, Counted, Refusal, buffersAfter, Calls}
 use Rattle.demands.specs.Demands.{allZero, AsTheRust}
 use Rattle.demands.proofs.GoodLaws.{good-visits}
 use Rattle.demands.proofs.WaysOut.{refused-run, good-in, some-in, enough-in, failed-run, converted-run}
@@ -126,16 +126,16 @@ module _ (tree text : List ℕ) (needsMain : Bool) (i v l f s x t : List ℕ) (d
     abbrev Stand : IrProgram → Type 0
     Stand p = (answerFrom tree a ≡ Counted (countsOf p) (visitsIn tree text))
         × (buffers i′ v′ l′ f′ s′ x′ t′ ≡ buffers
-        (filled (tablesOf p .instructions) i)
-        (filled (tablesOf p .variables) v)
-        (filled (tablesOf p .labels) l)
-        (filled (tablesOf p .functions) f)
-        (filled (tablesOf p .strings) s)
-        (filled (tablesOf p .floats) x)
+        (filled (tablesOf p .instructions) (length i))
+        (filled (tablesOf p .variables) (length v))
+        (filled (tablesOf p .labels) (length l))
+        (filled (tablesOf p .functions) (length f))
+        (filled (tablesOf p .strings) (length s))
+        (filled (tablesOf p .floats) (length x))
         (cleared t))
 
     bodies-stand : (k : Counters) → done ≡ Finished.Done k → (p : IrProgram) → convert (program tree text) needsMain ≡ ok p → Stand p
-    unfolding answerFrom alone filled
+    unfolding answerFrom filled
     bodies-stand k q p w =
         let st = m .gives k q in
         let c = e .converted k q in
@@ -145,12 +145,12 @@ module _ (tree text : List ℕ) (needsMain : Bool) (i v l f s x t : List ℕ) (d
         subst Stand y (
           ap (answerFrom tree) (c .0) ∙ ap₂ Counted (counts-are text (st .result) k n j (st .holds)) (read ∙ m .visits k q ∙ good-visits tree text good),
           seven-buffers
-              (instructions-are text b k j i′ v′ l′ f′ s′ x′ (st .holds) none (c .1) ∙ ap (alone (tablesOf (st .result) .instructions)) (m .long))
-              (variables-are text b k j i′ v′ l′ f′ s′ x′ (st .holds) none (c .1) ∙ ap (alone (tablesOf (st .result) .variables)) (e .long .variables))
-              (labels-are text b k j i′ v′ l′ f′ s′ x′ (st .holds) none (c .1) ∙ ap (alone (tablesOf (st .result) .labels)) (e .long .labels))
-              (functions-are text b k j i′ v′ l′ f′ s′ x′ (st .holds) none (c .1) ∙ ap (alone (tablesOf (st .result) .functions)) (e .long .functions))
-              (strings-are text b k j i′ v′ l′ f′ s′ x′ (st .holds) none (c .1) ∙ ap (alone (tablesOf (st .result) .strings)) (e .long .strings))
-              (floats-are text b k j i′ v′ l′ f′ s′ x′ (st .holds) none (c .1) ∙ ap (alone (tablesOf (st .result) .floats)) (e .long .floats))
+              (instructions-are text b k j i′ v′ l′ f′ s′ x′ (st .holds) none (c .1) ∙ ap (filled (tablesOf (st .result) .instructions)) (m .long))
+              (variables-are text b k j i′ v′ l′ f′ s′ x′ (st .holds) none (c .1) ∙ ap (filled (tablesOf (st .result) .variables)) (e .long .variables))
+              (labels-are text b k j i′ v′ l′ f′ s′ x′ (st .holds) none (c .1) ∙ ap (filled (tablesOf (st .result) .labels)) (e .long .labels))
+              (functions-are text b k j i′ v′ l′ f′ s′ x′ (st .holds) none (c .1) ∙ ap (filled (tablesOf (st .result) .functions)) (e .long .functions))
+              (strings-are text b k j i′ v′ l′ f′ s′ x′ (st .holds) none (c .1) ∙ ap (filled (tablesOf (st .result) .strings)) (e .long .strings))
+              (floats-are text b k j i′ v′ l′ f′ s′ x′ (st .holds) none (c .1) ∙ ap (filled (tablesOf (st .result) .floats)) (e .long .floats))
               scratch-zero,
         )
 

@@ -1,7 +1,6 @@
 // The call: a tree of any bytes is judged, and a good one is converted. Krc's converter/converter.rs.
 ghost use mathlib.Core.Path.{_≡_};
 ghost use Prim.Native.Nat.{_*_, _≤_, _<_};
-ghost use mathlib.Core.List.{[]};
 ghost use lib.ListN.{length};
 ghost use Rattle.records.specs.Layout.{scratchEach};
 ghost use Rattle.records.specs.Words.{records};
@@ -11,7 +10,7 @@ ghost use Rattle.ir.specs.Counted.{counted, was, is};
 ghost use Rattle.keys.specs.Keys.{functionPlaces, Keyed};
 ghost use Rattle.statements.specs.Lent.{finished};
 ghost use Rattle.statements.specs.Turns.{Turns};
-ghost use Rattle.judge.specs.Judge.{buffers, lengthsOf};
+ghost use Rattle.judge.specs.Judge.{buffers};
 ghost use Rattle.demands.specs.Demands.{AsTheRust};
 ghost use Rattle.converter.specs.Convert.{AllConvertTo, ProgramConvertsTo, emptyCounters, countsIn, answerFrom, outputs, SevenLong, CutAfforded, FinishesIn, Promised};
 use expressions::answers::Outcome;
@@ -25,11 +24,11 @@ use ir::lent::RECORDS;
 use ir::lent::counters_of;
 use ir::structs::Counters;
 use judge::Judged;
-use judge::Lengths;
 use judge::clear;
 use judge::clear_outputs;
 use judge::has_place;
 use judge::judge_rows;
+use judge::lengths_of;
 use keys::keys::chain_functions;
 use keys::keys::function_at;
 use records::convert_error::ConvertError;
@@ -191,27 +190,6 @@ fn convert_good(
         strings,
         floats,
     )
-}
-
-// How long the six outputs are.
-fn lengths_of(
-    instructions: &[u8],
-    variables: &[u8],
-    labels: &[u8],
-    functions: &[u8],
-    strings: &[u8],
-    floats: &[u8],
-) -> Lengths
-    ensures { λ l. ⌜ l ≡ lengthsOf (buffers (now (instructions .entry)) (now (variables .entry)) (now (labels .entry)) (now (functions .entry)) (now (strings .entry)) (now (floats .entry)) []) ⌝ }
-{
-    Lengths {
-        instructions: instructions.len(),
-        variables: variables.len(),
-        labels: labels.len(),
-        functions: functions.len(),
-        strings: strings.len(),
-        floats: floats.len(),
-    }
 }
 
 // Converts a tree. A refusal by lengths or buffers writes nothing, any other leaves every buffer zero; a converted tree leaves each table

@@ -6,8 +6,10 @@ use mathlib.Core.Bool.{Bool, true, false}
 use mathlib.Core.Option.{Option, none as nothing, some}
 use mathlib.Core.List.{List}
 use native.Mathlib.Omega.{arith}
-use lib.ListN.{length, replicate, getElem?, length-append, length-replicate}
+use lib.ListN.{length, replicate, getElem?, length-replicate}
 use Rattle.laws.specs.All.{All}
+use Rattle.laws.specs.Splice.{filled}
+use Rattle.laws.proofs.Splices.{filled-length}
 use Rattle.records.specs.Words.{records, none}
 use Rattle.records.specs.Answer.{numberOf, wordsOf}
 use Rattle.records.specs.declared.convert_error.ConvertErrorKind.{ConvertErrorKind}
@@ -27,7 +29,7 @@ use Rattle.conversion.proofs.Bytes.{Fit}
 use Rattle.tables.specs.Bytes.{Byte}
 use Rattle.tables.specs.Read.{Begin}
 use Rattle.demands.specs.Demand3.{RunsAlike}
-use Rattle.demands.specs.Call.{CallOutcome, RefusedAt, Success, visitsIn, conversionRow, judgedRows, callOf, Answer, Counted, answerOf, filled, buffersAfter, Calls}
+use Rattle.demands.specs.Call.{CallOutcome, RefusedAt, Success, visitsIn, conversionRow, judgedRows, callOf, Answer, Counted, answerOf, buffersAfter, Calls}
 use Rattle.demands.specs.Demands.{allZero, spanless, PastBuffers, Left, untouched, zeroed, SameLengths, Sound, InLimits, ByRows, AsTheRust, outputsOf, AllRunAlike, VisitsCounted, OfEveryCall}
 use Rattle.demands.proofs.GoodLaws.{good-fits, good-visits, good-at-most}
 use Rattle.demands.proofs.Demand3.{good-demand3}
@@ -82,20 +84,15 @@ left-lengths b c (zeroed e) = subst (SameLengths b) (sym e) (zero-lengths b)
 
 -- ---- what a success leaves: 'These sizes always suffice'
 
-filled-length : (table buffer : List ℕ) → length table ≤ length buffer → length (filled table buffer) ≡ length buffer
-unfolding filled
-filled-length table buffer h =
-    length-append table (replicate (length buffer - length table) 0) ∙ rw (length-replicate {A = ℕ} (length buffer - length table) 0) (omega arith)
-
 pub tables-fit-buffers : (n : ℕ) (c : Counts) (m : ℕ) (t : Tables) (b : Buffers) → Fit n t → Enough n (lengthsOf b) (length (b .scratch)) → SameLengths b (buffersAfter (Success c m t) b)
 unfolding buffersAfter
 tables-fit-buffers n c m t b f e = record {
-  instructions = filled-length (t .instructions) (b .instructions) (omega (arith, f .instructions, e .instructions));
-  variables = filled-length (t .variables) (b .variables) (omega (arith, f .variables, e .variables));
-  labels = filled-length (t .labels) (b .labels) (omega (arith, f .labels, e .labels));
-  functions = filled-length (t .functions) (b .functions) (omega (arith, f .functions, e .functions));
-  strings = filled-length (t .strings) (b .strings) (omega (arith, f .strings, e .strings));
-  floats = filled-length (t .floats) (b .floats) (omega (arith, f .floats, e .floats));
+  instructions = filled-length (t .instructions) (length (b .instructions)) (omega (arith, f .instructions, e .instructions));
+  variables = filled-length (t .variables) (length (b .variables)) (omega (arith, f .variables, e .variables));
+  labels = filled-length (t .labels) (length (b .labels)) (omega (arith, f .labels, e .labels));
+  functions = filled-length (t .functions) (length (b .functions)) (omega (arith, f .functions, e .functions));
+  strings = filled-length (t .strings) (length (b .strings)) (omega (arith, f .strings, e .strings));
+  floats = filled-length (t .floats) (length (b .floats)) (omega (arith, f .floats, e .floats));
   scratch = length-replicate (length (b .scratch)) 0;
 }
 

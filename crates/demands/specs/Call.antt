@@ -9,10 +9,11 @@
 --   no row        seven counts `convert` gives bodies                                each table, then zeros; scratch zero
 -- Each line is a theorem of proofs/Rows.antt and proofs/Demands.antt.
 use mathlib.Core.Path.{_≡_}
-use Prim.Native.Nat.{ℕ, _-_}
+use Prim.Native.Nat.{ℕ}
 use mathlib.Core.Bool.{Bool}
-use mathlib.Core.List.{List, _++_}
-use lib.ListN.{length, replicate}
+use mathlib.Core.List.{List}
+use lib.ListN.{length}
+use Rattle.laws.specs.Splice.{filled}
 use Rattle.records.specs.Words.{records}
 use Rattle.records.specs.Answer.{wordsOf}
 use Rattle.records.specs.declared.convert_error.AnswerWords.{AnswerWords}
@@ -60,12 +61,8 @@ answerOf (Success counts seventh tables) = Counted counts seventh
 
 -- ---- the buffers
 
--- 'Success leaves .. unused output bytes zero': a table, and zeros to the buffer's end
-unfoldable pub filled : List ℕ → List ℕ → List ℕ
-filled table buffer = table ++ replicate (length buffer - length table) 0
-
 -- 'Rows one and two write nothing. Every other refusal leaves all outputs and scratch zero' (`refusalLeaves`).
--- 'Success leaves scratch and unused output bytes zero.'
+-- 'Success leaves scratch and unused output bytes zero': each buffer has its table, and zeros to its end.
 unfoldable pub buffersAfter : CallOutcome → Buffers → Buffers
 unfolding refusalLeaves filled
 buffersAfter (RefusedAt row words) b =
@@ -79,12 +76,12 @@ buffersAfter (RefusedAt row words) b =
     (refusalLeaves row (b .scratch))
 buffersAfter (Success counts seventh tables) b =
     buffers
-    (filled (tables .instructions) (b .instructions))
-    (filled (tables .variables) (b .variables))
-    (filled (tables .labels) (b .labels))
-    (filled (tables .functions) (b .functions))
-    (filled (tables .strings) (b .strings))
-    (filled (tables .floats) (b .floats))
+    (filled (tables .instructions) (length (b .instructions)))
+    (filled (tables .variables) (length (b .variables)))
+    (filled (tables .labels) (length (b .labels)))
+    (filled (tables .functions) (length (b .functions)))
+    (filled (tables .strings) (length (b .strings)))
+    (filled (tables .floats) (length (b .floats)))
     (cleared (b .scratch))
 
 -- ---- the relation that a call is held to: its answer, and each byte of the seven buffers afterwards

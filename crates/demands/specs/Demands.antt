@@ -15,6 +15,7 @@ use mathlib.Core.List.{List}
 use mathlib.Core.Option.{none as nothing, some}
 use lib.ListN.{length, getElem?}
 use Rattle.laws.specs.All.{All}
+use Rattle.laws.specs.Splice.{filled}
 use Rattle.records.specs.Words.{records, none}
 use Rattle.records.specs.Answer.{wordsOf}
 use Rattle.records.specs.declared.convert_error.ConvertErrorKind.{ConvertErrorKind}
@@ -29,7 +30,7 @@ use Rattle.conversion.specs.Converter.{convert}
 use Rattle.conversion.specs.Visits.{visits, bodyVisits, functionsVisits}
 use Rattle.conversion.specs.Written.{Counts, Tables, tablesOf, countsOf}
 use Rattle.tables.specs.Bytes.{Byte}
-use Rattle.demands.specs.Call.{Answer, Refusal, Counted, visitsIn, filled, Calls}
+use Rattle.demands.specs.Call.{Answer, Refusal, Counted, visitsIn, Calls}
 use Rattle.demands.specs.Demand3.{RunsAlike}
 
 -- ---- DEMAND 1: 'Every input gets a sound answer. Bad trees, short buffers and forms that make the Rust panic are refused by number and
@@ -98,12 +99,12 @@ pub record Sound (before : Buffers) (answer : Answer) (after : Buffers) : Type 0
 pub record AsTheRust (tree text : List ℕ) (needsMain : Bool) (before : Buffers) (answer : Answer) (after : Buffers) : Type 0 where
   pub bodies : (p : IrProgram) → convert (program tree text) needsMain ≡ ok p → (answer ≡ Counted (countsOf p) (visitsIn tree text))
       × (after ≡ buffers
-      (filled (tablesOf p .instructions) (before .instructions))
-      (filled (tablesOf p .variables) (before .variables))
-      (filled (tablesOf p .labels) (before .labels))
-      (filled (tablesOf p .functions) (before .functions))
-      (filled (tablesOf p .strings) (before .strings))
-      (filled (tablesOf p .floats) (before .floats))
+      (filled (tablesOf p .instructions) (length (before .instructions)))
+      (filled (tablesOf p .variables) (length (before .variables)))
+      (filled (tablesOf p .labels) (length (before .labels)))
+      (filled (tablesOf p .functions) (length (before .functions)))
+      (filled (tablesOf p .strings) (length (before .strings)))
+      (filled (tablesOf p .floats) (length (before .floats)))
       (cleared (before .scratch)))
   pub error : (kind : ConvertErrorKind) (place : ℕ) → convert (program tree text) needsMain ≡ err kind place
       → (answer ≡ Refusal (wordsOf tree (record { kind = kind; place = place }))) × (after ≡ allZero before)

@@ -26,7 +26,7 @@ use Rattle.keys.specs.Parts.{PartIs}
 use Rattle.texts.specs.Texts.{textDigestAt, Numbered}
 use Rattle.texts.proofs.TextLaws.{original-below, original-digest}
 use Rattle.keys.specs.Keys.{functionKey, allKeys, Keyed, FindsKey, functionFound, FunctionFound, FunctionIs, a-function, no-function}
-use Rattle.expressions.specs.Calls.{typedAt, suffixesAt, verbOf, nameOf, bytesIn, Called}
+use Rattle.expressions.specs.Calls.{typedAt, suffixesAt, verbOf, nameOf, bytesIn, Called, suffixText, suffixesStand}
 use Rattle.keys.proofs.FunctionLaws.{found-function}
 use Rattle.expressions.proofs.NameLaws.{same-turned, part-length, name-length, name-pieces, all-taken}
 
@@ -76,17 +76,20 @@ module _ (tree text s : List ℕ) (c : Call) where
     pub verb-inside : c .len ≤ p .len
     verb-inside = omega (arith, name-length tree text s c k h)
 
-    pub left-bytes : p .len - c .len ≡ bytesIn (take k (suffixesAt tree text s (c .first)))
+    left-bytes : p .len - c .len ≡ bytesIn (take k (suffixesAt tree text s (c .first)))
     left-bytes = omega (arith, name-length tree text s c k h)
+
+    pub suffixes-inside : p .offset + p .len ≤ length text → p .offset + c .len + bytesIn (take k (suffixesAt tree text s (c .first))) ≤ length text
+    suffixes-inside room = omega (arith, room, name-length tree text s c k h)
 
     module _ (room : p .offset + p .len ≤ length text) (r : Bool) (e : r ≡ sameText (textAt text (p .offset) (c .len)) (textAt text (c .offset) (c .len))) where
       pub name-other : r ≡ false → false ≡ sameText (textAt text (p .offset) (p .len)) (nameOf tree text s c k)
       name-other q = sym (name-pieces tree text s c k (p .offset) (p .len) h size room ∙ rw (sym e ∙ q) refl)
 
       pub name-same : r ≡ true → (b : Bool)
-          → b ≡ sameText (textAt text (p .offset + c .len) (p .len - c .len)) (joined (program tree text) (allKeys tree text) [] (take k (suffixesAt tree text s (c .first))))
+          → b ≡ suffixesStand tree text s (c .first) k (p .offset + c .len)
           → b ≡ sameText (textAt text (p .offset) (p .len)) (nameOf tree text s c k)
-      name-same q b w = w ∙ sym (name-pieces tree text s c k (p .offset) (p .len) h size room ∙ rw (sym e ∙ q) refl)
+      name-same q b w = w ∙ ap (λ (n : ℕ). sameText (textAt text (p .offset + c .len) n) (suffixText tree text s (c .first) k)) (sym left-bytes) ∙ sym (name-pieces tree text s c k (p .offset) (p .len) h size room ∙ rw (sym e ∙ q) refl)
 
 -- ---- by the verb, and by the whole name
 

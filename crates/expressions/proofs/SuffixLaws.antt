@@ -24,7 +24,7 @@ use Rattle.syntax.specs.Places.{exprAt, argsAt}
 use Rattle.keys.specs.Parts.{PartIs}
 use Rattle.keys.specs.Keys.{allKeys}
 use Rattle.expressions.specs.Slots.{slotAt, slotted, ArgsTyped, FirstType}
-use Rattle.expressions.specs.Calls.{typedAt, suffixesAt, bytesIn, Argued}
+use Rattle.expressions.specs.Calls.{typedAt, suffixesAt, suffixesStand, bytesIn, Argued}
 use Rattle.syntax.proofs.Lists.{args-end, left, left-most, next-falls, Cell, cell-is, value-item, type-item}
 use Rattle.expressions.proofs.NameLaws.{same-append, part-length, part-one, joined-verb}
 
@@ -155,26 +155,26 @@ module _ (tree text s : List ℕ) where
 -- ---- the suffixes in the text, piece by piece
 
 -- i of k suffixes stand before `here`, and cell w is the next
-pub record Matched (tree text s : List ℕ) (first k at n here w i : ℕ) : Type 0 where
+pub record Matched (tree text s : List ℕ) (first k at here w i : ℕ) : Type 0 where
   pub argued : Argued tree text s w
   pub most : i ≤ k
   pub inside : k - i ≤ length (suffixesAt tree text s w)
   pub room : here + bytesIn (take (k - i) (suffixesAt tree text s w)) ≤ length text
-  pub asked : sameText (textAt text at n) (joined (program tree text) (allKeys tree text) [] (take k (suffixesAt tree text s first)))
+  pub asked : suffixesStand tree text s first k at
       ≡ sameText (textAt text here (bytesIn (take (k - i) (suffixesAt tree text s w))))
       (joined (program tree text) (allKeys tree text) [] (take (k - i) (suffixesAt tree text s w)))
 
-module _ (tree text s : List ℕ) (first k at n : ℕ) where
+module _ (tree text s : List ℕ) (first k at : ℕ) where
   abbrev Asked : Bool
-  Asked = sameText (textAt text at n) (joined (program tree text) (allKeys tree text) [] (take k (suffixesAt tree text s first)))
+  Asked = suffixesStand tree text s first k at
 
-  pub match-start : Argued tree text s first → k ≤ length (suffixesAt tree text s first) → at + n ≤ length text
-      → n ≡ bytesIn (take k (suffixesAt tree text s first)) → Matched tree text s first k at n at first 0
-  match-start a m room e =
+  pub match-start : Argued tree text s first → k ≤ length (suffixesAt tree text s first) → at + bytesIn (take k (suffixesAt tree text s first)) ≤ length text
+      → Matched tree text s first k at at first 0
+  match-start a m room =
       let z : k - 0 ≡ k = omega arith in
-      record { argued = a; most = omega arith; inside = omega arith; room = rw (z, ← e) room; asked = rw (z, ← e) refl }
+      record { argued = a; most = omega arith; inside = omega arith; room = rw z room; asked = rw z refl }
 
-  module _ (here w i : ℕ) (h : Matched tree text s first k at n here w i) where
+  module _ (here w i : ℕ) (h : Matched tree text s first k at here w i) where
     pub match-cell : i < k → w ≡ none → ⊥
     match-cell m e = omega (arith, h .inside, ap length (no-suffixes tree text s w (h .argued .good) e))
 
@@ -234,7 +234,7 @@ module _ (tree text s : List ℕ) (first k at n : ℕ) where
         pub match-other : r ≡ false → false ≡ Asked
         match-other q = sym (match-by ∙ rw (eq-eqb (getD text here 0) dollar d, sym e ∙ q) refl)
 
-        pub match-more : r ≡ true → Matched tree text s first k at n (here + 1 + p .len) (wordOf tree w B) (i + 1)
+        pub match-more : r ≡ true → Matched tree text s first k at (here + 1 + p .len) (wordOf tree w B) (i + 1)
         match-more q =
             record {
               argued = f .rest;

@@ -11,6 +11,7 @@ use Rattle.records.specs.Good.{Good}
 use Rattle.syntax.specs.Syntax.{Text, Param, Function}
 use Rattle.syntax.specs.Decode.{program, textOf}
 use Rattle.conversion.specs.ConvertError.{Result}
+use Rattle.conversion.specs.Ir.{sameText}
 use Rattle.conversion.specs.Expressions.{TypedArg, Callee, suffixes, joined, takesArg, takes-args, takesBoth, variadicMark, filterOption, getFunction, mangledFunction, variadicFunction, find-exact-function, find-functions-by-literals, cast-type, resolveFunction, resolveTyped}
 use Rattle.records.specs.declared.words.Found.{Found}
 use Rattle.records.specs.declared.words.Found.the-variants as Found
@@ -102,6 +103,10 @@ module _ (tree text s : List ℕ) where
   -- the first k suffixes, one after the other
   abbrev pub suffixText : ℕ → ℕ → Text
   suffixText w k = joined (program tree text) (allKeys tree text) [] (take k (suffixesAt w))
+
+  -- they stand in the text from `at` on
+  abbrev pub suffixesStand : ℕ → ℕ → ℕ → Bool
+  suffixesStand w k at = sameText (textAt text at (bytesIn (take k (suffixesAt w)))) (suffixText w k)
 
   -- `find_exact_function` and its three steps
   abbrev pub byName : Call → Option Function

@@ -14,7 +14,7 @@ use Rattle.laws.specs.Splice.{splice}
 use Rattle.laws.specs.Different.{has}
 use Rattle.records.specs.Layout as Layout
 use Rattle.records.specs.Layout.{endOf, typeSlots, visitCount}
-use Rattle.records.specs.Words.{byteAt, wordAt, wordOf, records, A, B}
+use Rattle.records.specs.Words.{byteAt, wordAt, wordOf, records, A, B, secondWord, fourthWord}
 use Rattle.records.specs.Good.{Good}
 use Rattle.syntax.specs.Syntax.{Args, noArgs, Value, ToType, place}
 use Rattle.syntax.specs.Decode.{program}
@@ -102,7 +102,7 @@ module _ (tree : List ℕ) where
     pub has-text : hasOwn tree of ≡ true
     pub inside : originalOf s of < records tree
     pub offset : wordAt s (openNameAt (records tree) j) ≡ originalWord s of A
-    pub len : wordAt s (openNameAt (records tree) j + 4) ≡ originalWord s of B
+    pub len : wordAt s (openNameAt (records tree) j + secondWord) ≡ originalWord s of B
     pub slot : wordAt s (nameSlotAt (records tree) (originalOf s of)) ≡ j
 
   -- the scope is one of this tree, the open names' types are types of this tree, and each says its text by the lowest record that has it and is found
@@ -110,7 +110,7 @@ module _ (tree : List ℕ) where
   pub record Scoped (s : List ℕ) (sc : Scope) : Type 0 where
     pub records-are : sc .records ≡ records tree
     pub room : NamesRoom sc s
-    pub types : (j : ℕ) → j < sc .names → TypeAt tree (wordAt s (openNameAt (records tree) j + 12) / 2)
+    pub types : (j : ℕ) → j < sc .names → TypeAt tree (wordAt s (openNameAt (records tree) j + fourthWord) / 2)
     pub named : (j : ℕ) → j < sc .names → Original s j
 
   -- below the turns only the region of the slots may differ

@@ -63,8 +63,7 @@ pub fn argument_at(tree: &[u8], text: &[u8], cell: usize) -> Argument
 }
 
 // The cell behind a cell, or END.
-pub fn next_cell(tree: &[u8], text: &[u8], cell: usize) -> usize
-    requires { ⌜ Good (now tree) (now text) ⌝ }
+pub fn next_cell(tree: &[u8], cell: usize) -> usize
     requires { ⌜ cell < records (now tree) ⌝ }
     ensures { λ w. ⌜ w ≡ wordOf (now (tree .entry)) cell Words.B ⌝ }
 {
@@ -110,7 +109,7 @@ pub(crate) fn count_arguments(tree: &[u8], text: &[u8], first: usize) -> usize
     let mut cell = first;
     while cell != END {
         n += 1;
-        cell = next_cell(tree, text, cell);
+        cell = next_cell(tree, cell);
     }
     n
 }
@@ -124,7 +123,7 @@ pub(crate) fn count_parameters(tree: &[u8], text: &[u8], first: usize) -> usize
     let mut cell = first;
     while cell != END {
         n += 1;
-        cell = next_cell(tree, text, cell);
+        cell = next_cell(tree, cell);
     }
     n
 }
@@ -140,7 +139,7 @@ pub(crate) fn target_type(tree: &[u8], text: &[u8], first: usize) -> Found
         if let Argument::ToType(y) = argument_at(tree, text, cell) {
             return Found::At(y);
         }
-        cell = next_cell(tree, text, cell);
+        cell = next_cell(tree, cell);
     }
     Found::Nothing
 }
@@ -155,7 +154,7 @@ pub(crate) fn source_type(tree: &[u8], text: &[u8], scratch: &[u8], first: usize
         if let Argument::Expr(e) = argument_at(tree, text, cell) {
             return Found::At(slot(tree, scratch, e));
         }
-        cell = next_cell(tree, text, cell);
+        cell = next_cell(tree, cell);
     }
     Found::Nothing
 }

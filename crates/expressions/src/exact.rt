@@ -13,7 +13,7 @@ ghost use Rattle.conversion.specs.Expressions.{is-mangled, filterOption, variad
 ghost use Rattle.syntax.specs.Places.{FunctionAt, functionOf};
 ghost use Rattle.texts.specs.Texts.{Numbered};
 ghost use Rattle.keys.specs.Keys.{Keyed, FunctionIs};
-ghost use Rattle.expressions.specs.Calls.{suffixesAt, verbOf, nameOf, bytesIn, Argued, Called, suffixText, byName, byFullName, byMarked, laterOf, byPrefix, exactly};
+ghost use Rattle.expressions.specs.Calls.{suffixesAt, verbOf, nameOf, bytesIn, Argued, Called, suffixesStand, byName, byFullName, byMarked, laterOf, byPrefix, exactly};
 use crate::arguments::Call;
 use crate::arguments::END;
 use crate::arguments::argument_type;
@@ -51,7 +51,7 @@ fn suffix_bytes(tree: &[u8], text: &[u8], scratch: &[u8], first: usize) -> usize
     while cell != END {
         let key = type_key(tree, text, argument_type(tree, text, scratch, cell));
         n = n + 1 + key.len;
-        cell = next_cell(tree, text, cell);
+        cell = next_cell(tree, cell);
     }
     n
 }
@@ -66,20 +66,12 @@ fn full_length(tree: &[u8], text: &[u8], scratch: &[u8], call: Call) -> usize
     len + suffix_bytes(tree, text, scratch, first)
 }
 
-// Whether the n bytes from `at` on are the first k suffixes, piece by piece.
-fn are_suffixes(
-    tree: &[u8],
-    text: &[u8],
-    scratch: &[u8],
-    first: usize,
-    k: usize,
-    at: usize,
-    n: usize,
-) -> bool
+// Whether the first k suffixes stand from `at` on, piece by piece.
+fn are_suffixes(tree: &[u8], text: &[u8], scratch: &[u8], first: usize, k: usize, at: usize) -> bool
     requires { ⌜ Argued (now tree) (now text) (now scratch) first ⌝ }
-    requires { ⌜ (k ≤ length (suffixesAt (now tree) (now text) (now scratch) first)) × (at + n ≤ length (now text)) ⌝ }
-    requires { ⌜ n ≡ bytesIn (take k (suffixesAt (now tree) (now text) (now scratch) first)) ⌝ }
-    ensures { λ r. ⌜ r ≡ sameText (textAt (now (text .entry)) at n) (suffixText (now (tree .entry)) (now (text .entry)) (now (scratch .entry)) first k) ⌝ }
+    requires { ⌜ k ≤ length (suffixesAt (now tree) (now text) (now scratch) first) ⌝ }
+    requires { ⌜ at + bytesIn (take k (suffixesAt (now tree) (now text) (now scratch) first)) ≤ length (now text) ⌝ }
+    ensures { λ r. ⌜ r ≡ suffixesStand (now (tree .entry)) (now (text .entry)) (now (scratch .entry)) first k at ⌝ }
 {
     let mut here = at;
     let mut cell = first;
@@ -95,7 +87,7 @@ fn are_suffixes(
             return false;
         }
         here = here + 1 + size;
-        cell = next_cell(tree, text, cell);
+        cell = next_cell(tree, cell);
         i += 1;
     }
     true
@@ -111,11 +103,10 @@ fn is_name(tree: &[u8], text: &[u8], scratch: &[u8], call: Call, k: usize, key: 
     let at = key.offset;
     let len = call.len;
     let first = call.first;
-    let left = key.len - len;
     if !same_part(text, at, call.offset, len) {
         return false;
     }
-    are_suffixes(tree, text, scratch, first, k, at + len, left)
+    are_suffixes(tree, text, scratch, first, k, at + len)
 }
 
 // The verb as a key.
@@ -163,7 +154,7 @@ fn full_digest(tree: &[u8], text: &[u8], scratch: &[u8], call: Call) -> u32
     while cell != END {
         let key = type_key(tree, text, argument_type(tree, text, scratch, cell));
         d = roll(text, roll_byte(d, DOLLAR), key.offset, key.len);
-        cell = next_cell(tree, text, cell);
+        cell = next_cell(tree, cell);
     }
     d
 }
@@ -322,7 +313,7 @@ fn by_prefix(tree: &[u8], text: &[u8], scratch: &[u8], call: Call) -> Found
         let key = type_key(tree, text, argument_type(tree, text, scratch, cell));
         digest = roll(text, roll_byte(digest, DOLLAR), key.offset, key.len);
         size = size + 1 + key.len;
-        cell = next_cell(tree, text, cell);
+        cell = next_cell(tree, cell);
         k += 1;
     }
     let marked = marked_digest(digest);

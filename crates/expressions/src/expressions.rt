@@ -66,7 +66,8 @@ fn work_out(
     turn: u32,
     e: usize,
 ) -> ExprType
-    requires { ⌜ Typing (now tree) (now text) (now scratch) scope turn × (IsExpr (now tree) e × (inTurn (now tree) turn (now scratch) e ≡ false)) ⌝ }
+    requires { ⌜ Typing (now tree) (now text) (now scratch) scope turn ⌝ }
+    requires { ⌜ IsExpr (now tree) e × (inTurn (now tree) turn (now scratch) e ≡ false) ⌝ }
     ensures { λ a. ⌜ TypeMeets (now (tree .entry)) (now (text .entry)) (now (scratch .entry)) scope turn e a (now (scratch .exit)) ⌝ }
 {
     let k = kind(tree, e);
@@ -137,7 +138,7 @@ fn get_argument_types(
                 return Outcome::Refused(x);
             }
         }
-        cell = next_cell(tree, text, cell);
+        cell = next_cell(tree, cell);
     }
     Outcome::Done
 }

@@ -65,8 +65,8 @@ fn takes_args(tree: &[u8], text: &[u8], scratch: &[u8], parameters: usize, first
         if !takes_arg(tree, text, scratch, parameter, cell) {
             return false;
         }
-        parameter = next_cell(tree, text, parameter);
-        cell = next_cell(tree, text, cell);
+        parameter = next_cell(tree, parameter);
+        cell = next_cell(tree, cell);
     }
     true
 }

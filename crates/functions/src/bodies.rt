@@ -55,7 +55,7 @@ fn parameter_variables(tree: &[u8], text: &[u8], arena: &mut [u8], k: &mut [usiz
     let mut cell = parameters_of(tree, text, f);
     while cell != END {
         new_var(arena, k, word(tree, reference(tree, cell, WORD_A), WORD_C));
-        cell = next_cell(tree, text, cell);
+        cell = next_cell(tree, cell);
     }
 }
 

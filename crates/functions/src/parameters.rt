@@ -81,7 +81,7 @@ pub fn declare_parameters(tree: &[u8], text: &[u8], scratch: &mut [u8], f: usize
             Parameters::Refused(e) => return Parameters::Refused(e),
             Parameters::Done(next) => scope = next,
         }
-        cell = next_cell(tree, text, cell);
+        cell = next_cell(tree, cell);
     }
     Parameters::Done(scope)
 }

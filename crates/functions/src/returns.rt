@@ -46,7 +46,7 @@ pub fn always_returns(tree: &[u8], text: &[u8], first: usize) -> bool
         if statement_returns(tree, text, reference(tree, cell, WORD_A)) {
             return true;
         }
-        cell = next_cell(tree, text, cell);
+        cell = next_cell(tree, cell);
     }
     false
 }

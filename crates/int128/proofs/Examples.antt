@@ -7,7 +7,7 @@ use Prim.Native.Nat.{ℕ, _+_, _-_, _^_}
 use lib.IntN.{ℤ, pos, negsuc, negℤ}
 use Rattle.int128.specs.declared.Int128.{Int128}
 use Rattle.int128.specs.Value.{valueOf}
-use Rattle.int128.specs.Ops.{addOf, subOf, mulOf, negOf, divOf, remOf, notOf, andOf, orOf, xorOf, shlOf, shrOf, byCount, intFits}
+use Rattle.int128.specs.Ops.{addOf, subOf, mulOf, negOf, divOf, remOf, notOf, andOf, orOf, xorOf, shlOf, shrOf, byCount, int-fits}
 
 -- -2 ^ 127 and 2 ^ 127 - 1
 abbrev least : ℤ
@@ -85,8 +85,8 @@ shr-floor = refl
 shr-below : byCount (shrOf (pos 8)) (negℤ (pos 1)) ≡ none
 shr-below = refl
 
-fits-least : intFits (negℤ (pos (2 ^ 31))) true false ≡ true
+fits-least : int-fits (negℤ (pos (2 ^ 31))) true false ≡ true
 fits-least = refl
 
-fits-below : intFits (negℤ (pos (2 ^ 63 + 1))) false false ≡ false
+fits-below : int-fits (negℤ (pos (2 ^ 63 + 1))) false false ≡ false
 fits-below = refl

@@ -48,8 +48,8 @@ greatestOf true true = pos (2 ^ 32 - 1)
 greatestOf false false = pos (2 ^ 63 - 1)
 greatestOf false true = pos (2 ^ 64 - 1)
 
-abbrev pub intFits : ℤ → Bool → Bool → Bool
-intFits z short unsigned = leZ (leastOf short unsigned) z && leZ z (greatestOf short unsigned)
+abbrev pub int-fits : ℤ → Bool → Bool → Bool
+int-fits z short unsigned = leZ (leastOf short unsigned) z && leZ z (greatestOf short unsigned)
 
 -- z where an i64 or a u64 holds it, else nothing: `i64::try_from(z).ok()`, `u64::try_from(z).ok()`
 abbrev pub toI64Of : ℤ → Option ℤ

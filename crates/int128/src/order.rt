@@ -4,7 +4,7 @@ ghost use mathlib.Core.Bool.{true};
 ghost use lib.Dec.{ltb};
 ghost use lib.Signed.{ltZ, leZ};
 ghost use Rattle.int128.specs.Value.{bitsOf, valueOf};
-ghost use Rattle.int128.specs.Ops.{leastOf, greatestOf, intFits};
+ghost use Rattle.int128.specs.Ops.{leastOf, greatestOf, int-fits};
 use super::Int128;
 use super::SIGN;
 
@@ -98,7 +98,7 @@ fn greatest(short: bool, unsigned: bool) -> Int128
 
 // Whether the value lies in the range of a number of 32 bits where short, else of 64, and not below 0 where unsigned.
 pub fn int_fits(value: Int128, short: bool, unsigned: bool) -> bool
-    ensures { λ r. ⌜ r ≡ intFits (valueOf value) short unsigned ⌝ }
+    ensures { λ r. ⌜ r ≡ int-fits (valueOf value) short unsigned ⌝ }
 {
     if least(short, unsigned).le(value) {
         return value.le(greatest(short, unsigned));

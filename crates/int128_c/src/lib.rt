@@ -1,6 +1,6 @@
 // The operations of int128 for C and Rust: numbers as two halves. An answer is true with its halves in the two words that the caller lends,
 // or false with zeros there.
-ghost use Rattle.int128.specs.Ops.{addOf, subOf, mulOf, divOf, remOf, negOf, notOf, andOf, orOf, xorOf, shlOf, shrOf, byCount, intFits};
+ghost use Rattle.int128.specs.Ops.{addOf, subOf, mulOf, divOf, remOf, negOf, notOf, andOf, orOf, xorOf, shlOf, shrOf, byCount, int-fits};
 ghost use lib.Signed.{ltZ};
 ghost use mathlib.Core.Option.{some};
 ghost use mathlib.Core.Path.{_≡_};
@@ -213,7 +213,7 @@ pub extern "C" fn int128_c_lt(ah: u64, al: u64, bh: u64, bl: u64) -> bool
 
 #[no_mangle]
 pub extern "C" fn int128_c_fits(ah: u64, al: u64, short: bool, unsigned: bool) -> bool
-    ensures { λ r. ⌜ r ≡ intFits (valueIn ah al) short unsigned ⌝ }
+    ensures { λ r. ⌜ r ≡ int-fits (valueIn ah al) short unsigned ⌝ }
 {
     let a = Int128 { hi: ah, lo: al };
     int128::int_fits(a, short, unsigned)

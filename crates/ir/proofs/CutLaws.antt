@@ -6,12 +6,14 @@ use Prim.Native.Nat.{ℕ, zero, suc, _+_, _-_, _*_, _≤_, _<_}
 use native.Mathlib.Omega.{arith}
 use lib.ListN.{length, take, drop, getD, set, replicate, length-append, length-drop, length-replicate, getD-replicate}
 use lib.Seq.{paste, paste-zero, paste-suc, getD-drop, length-take-le, take-at, drop-length}
+use Rattle.laws.specs.Splice.{part, filled}
+use Rattle.laws.proofs.Splices.{filled-length}
 use Rattle.conversion.specs.Ir.{IrProgram}
 use Rattle.conversion.specs.Written.{encodeAll, encodeInstr, encodeVar, encodeLabel, encodeFunctions, allCode, allVars, allLabels, tablesOf}
 use Rattle.conversion.proofs.Bytes.{functions-length}
 use Rattle.ir.specs.declared.structs.Counters.{Counters}
 use Rattle.ir.specs.Arena.{Table, TablesSoFar, Holds}
-use Rattle.ir.specs.Cut.{alone, part, Cut}
+use Rattle.ir.specs.Cut.{Cut}
 use Rattle.ir.proofs.Entries.{bytes-length}
 
 -- ---- copying
@@ -49,8 +51,8 @@ take-zeros zero n h = refl
 take-zeros (suc m) zero h = absurd (omega arith)
 take-zeros (suc m) (suc n) h = ap (λ (r : List ℕ). 0 ∷ r) (take-zeros m n (omega arith))
 
-pub clear-end : (d : List ℕ) (at i : ℕ) → at ≤ length d → i ≡ length d - at → paste d at (zeros d) i ≡ alone (part d 0 at) (length d)
-unfolding alone
+pub clear-end : (d : List ℕ) (at i : ℕ) → at ≤ length d → i ≡ length d - at → paste d at (zeros d) i ≡ filled (part d 0 at) (length d)
+unfolding filled
 clear-end d at i h e =
     let z : at + i ≡ length d = omega arith in
     let n : length (take at d) ≡ at = length-take-le at d h in
@@ -60,21 +62,17 @@ clear-end d at i h e =
 
 -- ---- both
 
-alone-length : (bs : List ℕ) (m : ℕ) → length bs ≤ m → length (alone bs m) ≡ m
-unfolding alone
-alone-length bs m h = length-append bs (replicate {A = ℕ} (m - length bs) 0) ∙ rw (length-replicate {A = ℕ} (m - length bs) 0) (omega arith)
-
 part-length : (l : List ℕ) (from len : ℕ) → from + len ≤ length l → length (part l from len) ≡ len
 part-length l from len h = length-take-le len (drop from l) (rw length-drop (omega arith))
 
 pub cut-done : (l d d₁ d₂ : List ℕ) (from len : ℕ) → from + len ≤ length l → len ≤ length d → d₁ ≡ part l from len ++ drop len d
-    → d₂ ≡ alone (part d₁ 0 len) (length d₁) → d₂ ≡ alone (part l from len) (length d₂)
+    → d₂ ≡ filled (part d₁ 0 len) (length d₁) → d₂ ≡ filled (part l from len) (length d₂)
 cut-done l d d₁ d₂ from len hl hd e₁ e₂ =
     let n : length (part l from len) ≡ len = part-length l from len hl in
     let p : take len d₁ ≡ part l from len = ap (take len) e₁ ∙ take-at (part l from len) (drop len d) len n in
     let m : length d₁ ≡ length d = ap length e₁ ∙ length-append (part l from len) (drop len d) ∙ rw (n, length-drop) (omega arith) in
-    let k : length d₂ ≡ length d₁ = ap length e₂ ∙ alone-length (take len d₁) (length d₁) (omega (arith, ap length p, n, m)) in
-    e₂ ∙ ap₂ alone p (sym k)
+    let k : length d₂ ≡ length d₁ = ap length e₂ ∙ filled-length (take len d₁) (length d₁) (omega (arith, ap length p, n, m)) in
+    e₂ ∙ ap₂ filled p (sym k)
 
 -- ---- what the buffers then hold
 
@@ -96,33 +94,33 @@ abbrev pub written : TablesSoFar → IrProgram
 written t = record { funcs = t .done; strings = t .state .strings; floats = t .state .floats }
 
 module _ (text : List ℕ) (t : TablesSoFar) (k : Counters) (l l′ vs ys fs ss xs : List ℕ) (h : Holds text t k l) (d : Finished t) (c : Cut k l l′ vs ys fs ss xs) where
-  pub instructions-are : l′ ≡ alone (tablesOf (written t) .instructions) (length l)
+  pub instructions-are : l′ ≡ filled (tablesOf (written t) .instructions) (length l)
   unfolding tablesOf
   instructions-are =
       let z : 0 ≡ 0 * k .records = omega arith in
-      c .instructions-cut ∙ ap (λ (b : List ℕ). alone b (length l))
+      c .instructions-cut ∙ ap (λ (b : List ℕ). filled b (length l))
       (ap (λ (at : ℕ). part l at (32 * k .instructions)) z ∙ table-part (h .instructions-hold) ∙ ap (encodeAll encodeInstr) (no-more (allCode (t .done)) (t .code) (d .code)))
 
-  pub variables-are : vs ≡ alone (tablesOf (written t) .variables) (length vs)
+  pub variables-are : vs ≡ filled (tablesOf (written t) .variables) (length vs)
   unfolding tablesOf
-  variables-are = c .of-functions .variables-cut ∙ ap (λ (b : List ℕ). alone b (length vs))
+  variables-are = c .of-functions .variables-cut ∙ ap (λ (b : List ℕ). filled b (length vs))
       (table-part (h .variables-hold) ∙ ap (encodeAll encodeVar) (no-more (allVars (t .done)) (t .state .vars) (d .vars)))
 
-  pub labels-are : ys ≡ alone (tablesOf (written t) .labels) (length ys)
+  pub labels-are : ys ≡ filled (tablesOf (written t) .labels) (length ys)
   unfolding tablesOf
-  labels-are = c .of-functions .labels-cut ∙ ap (λ (b : List ℕ). alone b (length ys))
+  labels-are = c .of-functions .labels-cut ∙ ap (λ (b : List ℕ). filled b (length ys))
       (table-part (h .labels-hold) ∙ ap (encodeAll encodeLabel) (no-more (allLabels (t .done)) (t .state .labels) (d .labels)))
 
-  pub functions-are : fs ≡ alone (tablesOf (written t) .functions) (length fs)
+  pub functions-are : fs ≡ filled (tablesOf (written t) .functions) (length fs)
   unfolding tablesOf
   functions-are =
       let n : 32 * k .functions ≡ length (encodeFunctions 0 0 0 (t .done)) = omega (arith, functions-length 0 0 0 (t .done), h .before .functions-count) in
-      c .of-functions .functions-cut ∙ ap (λ (b : List ℕ). alone b (length fs)) (ap (part l (164 * k .records)) n ∙ h .functions-hold .is)
+      c .of-functions .functions-cut ∙ ap (λ (b : List ℕ). filled b (length fs)) (ap (part l (164 * k .records)) n ∙ h .functions-hold .is)
 
-  pub strings-are : ss ≡ alone (tablesOf (written t) .strings) (length ss)
+  pub strings-are : ss ≡ filled (tablesOf (written t) .strings) (length ss)
   unfolding tablesOf
-  strings-are = c .of-pool .strings-cut ∙ ap (λ (b : List ℕ). alone b (length ss)) (table-part (h .strings-hold))
+  strings-are = c .of-pool .strings-cut ∙ ap (λ (b : List ℕ). filled b (length ss)) (table-part (h .strings-hold))
 
-  pub floats-are : xs ≡ alone (tablesOf (written t) .floats) (length xs)
+  pub floats-are : xs ≡ filled (tablesOf (written t) .floats) (length xs)
   unfolding tablesOf
-  floats-are = c .of-pool .floats-cut ∙ ap (λ (b : List ℕ). alone b (length xs)) (table-part (h .floats-hold))
+  floats-are = c .of-pool .floats-cut ∙ ap (λ (b : List ℕ). filled b (length xs)) (table-part (h .floats-hold))

@@ -100,9 +100,6 @@ variableEntryAt n i = variables .from * n + variableBytes * i
 abbrev pub labelEntryAt : ℕ → ℕ → ℕ
 labelEntryAt n i = labels .from * n + labelBytes * i
 
-abbrev pub functionEntryAt : ℕ → ℕ → ℕ
-functionEntryAt n i = functions .from * n + functionBytes * i
-
 abbrev pub stringEntryAt : ℕ → ℕ → ℕ
 stringEntryAt n i = strings .from * n + stringBytes * i
 

@@ -7,7 +7,7 @@ use mathlib.Core.List.{List}
 use mathlib.Core.Option.{Option, none, some}
 use lib.Dec.{eqb, ltb}
 use Rattle.laws.specs.Fix.{pick}
-use Rattle.records.specs.Words.{wordAt, textAt}
+use Rattle.records.specs.Words.{wordAt, textAt, secondWord, thirdWord}
 use Rattle.conversion.specs.Ir.{sameText}
 use Rattle.ir.specs.declared.structs.Counters.{Counters}
 use Rattle.ir.specs.Arena.{labelBytes, strings, stringBytes, floatBytes, labelEntryAt, floatEntryAt, floatHeadAt, stringDigestAt, stringHeadAt, floatBucket, digestBucket}
@@ -21,7 +21,7 @@ foundOf (some i) = At i
 
 -- label j of those from byte `at` on is the two words a and b
 unfoldable pub labelWordsAt : List ℕ → ℕ → ℕ → ℕ → ℕ → Bool
-labelWordsAt l at a b j = eqb a (wordAt l (at + labelBytes * j)) && eqb b (wordAt l (at + labelBytes * j + 4))
+labelWordsAt l at a b j = eqb a (wordAt l (at + labelBytes * j)) && eqb b (wordAt l (at + labelBytes * j + secondWord))
 
 -- label j of the function at hand, if it has so many, is of this kind and opened by this record
 unfoldable pub labelIs : List ℕ → Counters → ℕ → ℕ → ℕ → Bool
@@ -31,7 +31,7 @@ labelIs l k kind opener j = ltb j (k .labels - k .«labels_before») && labelWor
 -- string j of those from byte `at` on is the place of a text that is the same as t
 unfoldable pub sameTextAt : List ℕ → List ℕ → ℕ → List ℕ → ℕ → Bool
 unfolding textAt
-sameTextAt text l at t j = sameText t (textAt text (wordAt l (at + stringBytes * j)) (wordAt l (at + stringBytes * j + 4)))
+sameTextAt text l at t j = sameText t (textAt text (wordAt l (at + stringBytes * j)) (wordAt l (at + stringBytes * j + secondWord)))
 
 -- string j, of the tables of n records, has this digest and the text t
 unfoldable pub stringIs : List ℕ → List ℕ → ℕ → ℕ → List ℕ → ℕ → Bool
@@ -41,7 +41,7 @@ stringIs text l n digest t j = eqb digest (wordAt l (stringDigestAt n j)) && sam
 -- the first three words (of four) of float j of those from byte `at` on are a, b and c
 unfoldable pub floatWordsAt : List ℕ → ℕ → ℕ → ℕ → ℕ → ℕ → Bool
 floatWordsAt l at a b c j =
-    (eqb a (wordAt l (at + floatBytes * j)) && eqb b (wordAt l (at + floatBytes * j + 4))) && eqb c (wordAt l (at + floatBytes * j + 8))
+    (eqb a (wordAt l (at + floatBytes * j)) && eqb b (wordAt l (at + floatBytes * j + secondWord))) && eqb c (wordAt l (at + floatBytes * j + thirdWord))
 
 -- a walk down a chain, from one past a number on, and what it finds: the first number of which f holds. A link is one past the next number, or 0 at the end; one that
 -- does not lead lower ends the walk
@@ -54,7 +54,7 @@ pub data Walks (link : ℕ → ℕ) (f : ℕ → Bool) : ℕ → Found → Type 
 -- the bucket, one of n, of entry j of the floats
 unfoldable pub floatBucketAt : List ℕ → ℕ → ℕ → ℕ
 unfolding floatBucket
-floatBucketAt l n j = floatBucket n (wordAt l (floatEntryAt n j)) (wordAt l (floatEntryAt n j + 4)) (wordAt l (floatEntryAt n j + 8))
+floatBucketAt l n j = floatBucket n (wordAt l (floatEntryAt n j)) (wordAt l (floatEntryAt n j + secondWord)) (wordAt l (floatEntryAt n j + thirdWord))
 
 -- and of string j, by its digest
 unfoldable pub stringBucketAt : List ℕ → ℕ → ℕ → ℕ

@@ -5,7 +5,8 @@ ghost use Prim.Native.Nat.{_+_, _*_, _≤_};
 ghost use lib.ListN.{length, drop};
 ghost use Rattle.ir.specs.Arena as Arena;
 ghost use Rattle.ir.specs.Arena.{Room};
-ghost use Rattle.ir.specs.Cut.{alone, part, FiveLong, ThreeLong, FunctionsCut, PoolCut, Cut};
+ghost use Rattle.laws.specs.Splice.{part, filled};
+ghost use Rattle.ir.specs.Cut.{FiveLong, ThreeLong, FunctionsCut, PoolCut, Cut};
 use crate::arena::FLOAT_BYTES;
 use crate::arena::FLOATS;
 use crate::arena::FUNCTION_BYTES;
@@ -34,7 +35,7 @@ fn copy(src: &[u8], from: usize, len: usize, out: &mut [u8])
 // Zero from byte `at` on.
 fn clear_from(out: &mut [u8], at: usize)
     requires { ⌜ at ≤ length (now out) ⌝ }
-    ensures { λ _. ⌜ now (out .exit) ≡ alone (part (now (out .entry)) 0 at) (length (now (out .entry))) ⌝ }
+    ensures { λ _. ⌜ now (out .exit) ≡ filled (part (now (out .entry)) 0 at) (length (now (out .entry))) ⌝ }
 {
     let rest = out.len() - at;
     let mut i = 0;
@@ -47,7 +48,7 @@ fn clear_from(out: &mut [u8], at: usize)
 // These bytes alone.
 fn cut(src: &[u8], from: usize, len: usize, out: &mut [u8])
     requires { ⌜ (from + len ≤ length (now src)) × (len ≤ length (now out)) ⌝ }
-    ensures { λ _. ⌜ now (out .exit) ≡ alone (part (now (src .entry)) from len) (length (now (out .exit))) ⌝ }
+    ensures { λ _. ⌜ now (out .exit) ≡ filled (part (now (src .entry)) from len) (length (now (out .exit))) ⌝ }
 {
     copy(src, from, len, out);
     clear_from(out, len);

@@ -30,6 +30,8 @@ use records::texts::same_text;
 use records::texts::text_digest;
 use records::words::Found;
 use records::words::Four;
+use records::words::SECOND_WORD;
+use records::words::THIRD_WORD;
 use records::words::high;
 use records::words::index;
 use records::words::load;
@@ -55,7 +57,7 @@ fn is_text(text: &[u8], s: &[u8], n: usize, j: usize, d: u32, offset: u32, len: 
     }
     let at = STRINGS * n + STRING_BYTES * j;
     let x = load(s, at);
-    let y = load(s, at + 4);
+    let y = load(s, at + SECOND_WORD);
     same_text(text, offset, len, x, y)
 }
 
@@ -185,7 +187,12 @@ fn float_head(arena: &[u8], k: Counters, b: usize) -> usize
         return 0;
     }
     let at = FLOATS * n + FLOAT_BYTES * i;
-    let w = Four(load(arena, at), load(arena, at + 4), load(arena, at + 8), 0);
+    let w = Four(
+        load(arena, at),
+        load(arena, at + SECOND_WORD),
+        load(arena, at + THIRD_WORD),
+        0,
+    );
     if float_bucket(n, w) != b {
         return 0;
     }
@@ -244,6 +251,6 @@ pub fn float_bits(arena: &[u8], k: Counters, i: u32) -> u64
         return 0;
     }
     let x = load(arena, FLOATS * n + FLOAT_BYTES * j);
-    let y = load(arena, FLOATS * n + FLOAT_BYTES * j + 4);
+    let y = load(arena, FLOATS * n + FLOAT_BYTES * j + SECOND_WORD);
     x as u64 + y as u64 * 4294967296
 }

@@ -10,6 +10,8 @@ use crate::arena::LABEL_BYTES;
 use crate::arena::SEARCH_BYTES;
 use records::words::Found;
 use records::words::Four;
+use records::words::SECOND_WORD;
+use records::words::THIRD_WORD;
 use records::words::index;
 use records::words::load;
 
@@ -19,7 +21,7 @@ pub fn is_label_at(s: &[u8], at: usize, j: usize, a: u32, b: u32) -> bool
     ensures { λ r. ⌜ r ≡ labelWordsAt (now (s .entry)) at a b j ⌝ }
 {
     let x = load(s, at + LABEL_BYTES * j);
-    let y = load(s, at + LABEL_BYTES * j + 4);
+    let y = load(s, at + LABEL_BYTES * j + SECOND_WORD);
     (a == x) & (b == y)
 }
 
@@ -29,8 +31,8 @@ fn is_float_at(s: &[u8], at: usize, j: usize, w: Four) -> bool
     ensures { λ r. ⌜ r ≡ floatWordsAt (now (s .entry)) at (w .0) (w .1) (w .2) j ⌝ }
 {
     let x = load(s, at + FLOAT_BYTES * j);
-    let y = load(s, at + FLOAT_BYTES * j + 4);
-    let z = load(s, at + FLOAT_BYTES * j + 8);
+    let y = load(s, at + FLOAT_BYTES * j + SECOND_WORD);
+    let z = load(s, at + FLOAT_BYTES * j + THIRD_WORD);
     (w.0 == x) & (w.1 == y) & (w.2 == z)
 }
 

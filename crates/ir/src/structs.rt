@@ -9,7 +9,7 @@ ghost use Rattle.syntax.specs.Syntax.{unaryOps, binaryOps, unaryNumber, binaryN
 ghost use Rattle.conversion.specs.Ir as Ir;
 ghost use Rattle.conversion.specs.Written.{tag, operandValue, encodeInstr};
 ghost use Rattle.ir.specs.Instructions.{varOf, operandOf, fieldBytes, oneBytes, noneBytes, twoBytes};
-ghost use Rattle.ir.specs.Arena.{HasSlot, Room};
+ghost use Rattle.ir.specs.Arena.{instructionBytes, HasSlot, Room};
 ghost use Rattle.ir.specs.Counted.{counted, was, is};
 ghost use Rattle.ir.specs.Steps.{named, Emits, AddsVar, NumbersLabel, Closes};
 use crate::arena::FUNCTION_BYTES;
@@ -53,6 +53,9 @@ const JUMP_IF_NOT: u8 = 10;
 const RETURN: u8 = 11;
 
 const COMMENT: u8 = 12;
+
+// An instruction, and a function's entry, are eight words: where the second four begin.
+const SECOND_FOUR: usize = 16;
 
 // Where a kind has no operator.
 const NO_OPERATOR: u8 = 0;
@@ -102,7 +105,7 @@ pub struct WrittenOperand {
     pub value: u64,
 }
 
-// An instruction as it is written; the last of its 32 bytes are zero.
+// An instruction as it is written; the last of its bytes are zero.
 pub struct Fields {
     pub kind: u8,
     pub operator: u8,
@@ -248,9 +251,9 @@ fn with_two(operator: u8, target: u32, o: Operand, p: Operand) -> Fields
     }
 }
 
-// The 32 bytes of an instruction.
+// The bytes of an instruction.
 fn put_fields(arena: &mut [u8], at: usize, f: Fields)
-    requires { ⌜ at + 32 ≤ length (now arena) ⌝ }
+    requires { ⌜ at + instructionBytes ≤ length (now arena) ⌝ }
     ensures { λ _. ⌜ is arena ≡ splice (was arena) at (fieldBytes f) ⌝ }
 {
     let one = f.first;
@@ -259,7 +262,7 @@ fn put_fields(arena: &mut [u8], at: usize, f: Fields)
         + wide(f.operator) * 256
         + wide(one.tag) * 65536
         + wide(two.tag) * 16777216;
-    let back = at + 16;
+    let back = at + SECOND_FOUR;
     let a = Four(head, f.target, low(one.value), high(one.value));
     let b = Four(low(two.value), high(two.value), f.owner, 0);
     put_four(arena, at, a);
@@ -406,7 +409,7 @@ pub fn add_function(arena: &mut [u8], k: Counters, owner: u32, body: bool) -> Co
 {
     let n = k.functions;
     let at = FUNCTIONS * k.records + FUNCTION_BYTES * n;
-    let back = at + 16;
+    let back = at + SECOND_FOUR;
     let a = Four(
         owner,
         mark(body),

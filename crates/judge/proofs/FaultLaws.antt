@@ -18,7 +18,7 @@ use Rattle.records.specs.Shapes.{rowAt}
 use Rattle.records.specs.Rules.{wordOk, wordsOk, formOk, otherwiseMarked, bodyMarked, isFirstType, typesFirst, typeIsNew, refersFrom, references, referredOnce, recordOk}
 use Rattle.judge.specs.Inner.{Lowest, TypesLead, capped, laterRefs, countIn, Counting, ReferenceCounts, otherRules}
 use Rattle.judge.proofs.CapLaws.{cap-one}
-use Rattle.judge.proofs.KeyLaws.{refers-down}
+use Rattle.judge.proofs.BadgeLaws.{refers-down}
 
 -- ---- a lowest number, with one more
 

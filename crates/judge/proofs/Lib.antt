@@ -1,9 +1,9 @@
+pub mod BadgeLaws
 pub mod CapLaws
 pub mod CountLaws
 pub mod DepthLaws
 pub mod EqualLaws
 pub mod FaultLaws
-pub mod KeyLaws
 pub mod ListClass
 pub mod PlainClass
 pub mod PlainLaws

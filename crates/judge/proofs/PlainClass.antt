@@ -16,12 +16,12 @@ use Rattle.records.specs.declared.shape.Role.the-variants.{Item, Rest}
 use Rattle.records.specs.Words.{mostRecords, kindOf, wordOf, none, C}
 use Rattle.records.specs.Shapes.{rowOf}
 use Rattle.judge.specs.Inner.{classIn, itemClass, cellClass, classAt}
-use Rattle.judge.specs.Plain.{plainRules, itemNumber, Place}
+use Rattle.judge.specs.Plain.{plainRules, itemNumber, Place, rowNumbers, ruleRows, itemRule}
 use Rattle.judge.proofs.ListClass.{item-none, item-untyped, item-typed, class-lower, cell-last, cell-mixed, cell-same, class-cell}
 
 -- ---- the item
 
-items : allBelow 26 (λ k. eqb (getD plainRules (k * 20 + 19) 0) (itemNumber k)) ≡ true
+items : allBelow ruleRows (λ k. eqb (getD plainRules (k * rowNumbers + itemRule) 0) (itemNumber k)) ≡ true
 unfolding allBelow itemNumber
 items = refl
 
@@ -42,8 +42,8 @@ module _ (tree : List ℕ) (a k : ℕ) (kIs : k ≡ kindOf tree a) where
   unfolding itemNumber itemClass pick
   number-told n = rw (sym kIs, ne-eqb k 24 n) refl
 
-  pub item-table : (rules : List ℕ) → rules ≡ plainRules → k < 26 → (k ≡ 24 → ⊥) → getD rules (k * 20 + 19) 0 ≡ itemClass tree a
-  item-table rules e h n = rw e (eqb-true _ _ (all-at (λ i. eqb (getD plainRules (i * 20 + 19) 0) (itemNumber i)) 26 k items h) ∙ number-told n)
+  pub item-table : (rules : List ℕ) → rules ≡ plainRules → k < ruleRows → (k ≡ 24 → ⊥) → getD rules (k * rowNumbers + itemRule) 0 ≡ itemClass tree a
+  item-table rules e h n = rw e (eqb-true _ _ (all-at (λ i. eqb (getD plainRules (i * rowNumbers + itemRule) 0) (itemNumber i)) ruleRows k items h) ∙ number-told n)
 
 -- ---- the list
 

@@ -20,12 +20,12 @@ use Rattle.records.specs.Rules.{wordOk, refersTo}
 use Rattle.records.specs.Depth.{depthBelow}
 use Rattle.records.specs.Words.{kindOf, detailOf, none, boolNumber, mostRecords}
 use Rattle.records.specs.Shapes.{refers, rowOf, rowAt, shapeOf}
-use Rattle.judge.specs.Inner.{capped, shallowDepth, classIn, depthIn, countIn, kindIn, listNumber, lowKey, highKey, noneOk, KnownBelow, Counting, Counted}
+use Rattle.judge.specs.Inner.{capped, shallowDepth, classIn, depthIn, countIn, kindIn, listNumber, lowBadge, highBadge, noneOk, KnownBelow, Counting, Counted, isUnused}
 use Rattle.judge.proofs.CapLaws.{cap-high}
 use Rattle.judge.proofs.CountLaws.{refers-not, refers-other, refers-same, cap-plus}
 use Rattle.judge.proofs.DepthLaws.{below-none, below-told, below-later}
-use Rattle.judge.proofs.KeyLaws.{reference-out, reference-in}
-use Rattle.judge.specs.Plain.{plainRules, isUnused, isText, ruleFits, rowFits, Place, Owned}
+use Rattle.judge.proofs.BadgeLaws.{reference-out, reference-in}
+use Rattle.judge.specs.Plain.{plainRules, isText, ruleFits, rowFits, Place, Owned}
 
 pub scaled-small : (x y : ℕ) → x ≤ 8589934592 → y < 256 → x * y ≤ 2190433320960
 scaled-small x y h b = omega (arith, mul-le-mul-right y h)
@@ -53,8 +53,8 @@ row-fits k h = all-at (rowFits plainRules) 26 k table h
 pub record RuleFacts (rules : List ℕ) (at : ℕ) (role : Role) : Type 0 where
   pub refersIs : getD rules at 0 ≡ boolNumber (refers role)
   pub leastIs : getD rules (at + 1) 0 ≡ boolNumber (refers role && not (noneOk role))
-  pub low : refers role ≡ true → lowKey role ≤ getD rules (at + 2) 0
-  pub high : refers role ≡ true → getD rules (at + 3) 0 ≤ highKey role
+  pub low : refers role ≡ true → lowBadge role ≤ getD rules (at + 2) 0
+  pub high : refers role ≡ true → getD rules (at + 3) 0 ≤ highBadge role
   pub zeroIs : getD rules (at + 4) 0 ≡ boolNumber (isUnused role)
   pub small : getD rules (at + 3) 0 ≤ 255
 
@@ -76,16 +76,16 @@ unfolding ruleFits
 rule-facts rules at role e =
     let is : Bool = eqb (getD rules at 0) (boolNumber (refers role)) in
     let least : Bool = eqb (getD rules (at + 1) 0) (boolNumber (refers role && not (noneOk role))) in
-    let low : Bool = not (refers role) || leb (lowKey role) (getD rules (at + 2) 0) in
-    let high : Bool = not (refers role) || leb (getD rules (at + 3) 0) (highKey role) in
+    let low : Bool = not (refers role) || leb (lowBadge role) (getD rules (at + 2) 0) in
+    let high : Bool = not (refers role) || leb (getD rules (at + 3) 0) (highBadge role) in
     let nought : Bool = eqb (getD rules (at + 4) 0) (boolNumber (isUnused role)) in
     let small : Bool = leb (getD rules (at + 3) 0) 255 in
     let f = six is least low high nought small e in
     record {
       refersIs = eqb-true _ _ (f .0);
       leastIs = eqb-true _ _ (f .1);
-      low = λ h. leb-true _ _ (implied (refers role) (leb (lowKey role) (getD rules (at + 2) 0)) (f .2) h);
-      high = λ h. leb-true _ _ (implied (refers role) (leb (getD rules (at + 3) 0) (highKey role)) (f .3) h);
+      low = λ h. leb-true _ _ (implied (refers role) (leb (lowBadge role) (getD rules (at + 2) 0)) (f .2) h);
+      high = λ h. leb-true _ _ (implied (refers role) (leb (getD rules (at + 3) 0) (highBadge role)) (f .3) h);
       zeroIs = eqb-true _ _ (f .4);
       small = leb-true _ _ (f .5);
     }
@@ -212,7 +212,7 @@ module _ (rules : List ℕ) (at : ℕ) (role : Role) (facts : RuleFacts rules at
             let fh = facts .high t in
             sym
             (reference-in tree bytes r w next (kindIn l x) (classIn l x) l known few (omega (arith, f .1)) (ap (kindIn l) (f .1)) (ap (classIn l) (f .1)) (omega (arith, facts .small)) role t
-            ∙ rw (le-leb (lowKey role) (kindIn l x * 4 + classIn l x) (omega arith), le-leb (kindIn l x * 4 + classIn l x) (highKey role) (omega arith)) refl)
+            ∙ rw (le-leb (lowBadge role) (kindIn l x * 4 + classIn l x) (omega arith), le-leb (kindIn l x * 4 + classIn l x) (highBadge role) (omega arith)) refl)
 
 -- ---- slot 0 is written
 

@@ -17,32 +17,17 @@ use Rattle.records.specs.Shapes.{rowOf, rowAt}
 use Rattle.records.specs.Rules.{wordsOk, isFirstType}
 use Rattle.records.specs.Depth.{larger}
 use Rattle.judge.specs.declared.pass.Words.{Words}
-use Rattle.judge.specs.Inner.{TypesLead, capped, classIn, stored, classAt, KnownBelow, Counting, WordsOf, Took, TookWords, otherRules, TookRecord}
-use Rattle.judge.specs.Plain.{isUnused, isText, Place, Cells, Owned, PlainForm, PlainReady, WordSlots, TookSlots, TookPlain}
+use Rattle.judge.specs.Inner.{TypesLead, capped, classIn, stored, classAt, KnownBelow, Counting, WordsOf, Took, TookWords, otherRules, TookRecord, isUnused}
+use Rattle.judge.specs.Plain.{isText, Place, Cells, Owned, PlainForm, PlainReady, WordSlots, TookSlots, TookPlain}
 use Rattle.judge.proofs.CapLaws.{larger-none}
+use Rattle.judge.proofs.RoleCases.{unused-role}
 use Rattle.judge.proofs.CountLaws.{known-counted, stored-length}
 use Rattle.judge.proofs.TakeLaws.{unused-took, took-words, rules-told, bytes-told}
 use Rattle.judge.proofs.PlainLaws.{RuleFacts, RowFacts, row-facts, plain-row, placed, counted-slot, slot-depth, slot-right, known-owned, counting-owned}
 
-unused-role : (role : Role) → isUnused role ≡ true → role ≡ Unused
-unused-role Unused e = refl
-unused-role Number e = absurd (false≢true e)
-unused-role Text e = absurd (false≢true e)
-unused-role Length e = absurd (false≢true e)
-unused-role Expr e = absurd (false≢true e)
-unused-role TypeRef e = absurd (false≢true e)
-unused-role TypeOrNone e = absurd (false≢true e)
-unused-role Name e = absurd (false≢true e)
-unused-role Variable e = absurd (false≢true e)
-unused-role Arguments e = absurd (false≢true e)
-unused-role Parameters e = absurd (false≢true e)
-unused-role Body e = absurd (false≢true e)
-unused-role Item e = absurd (false≢true e)
-unused-role Rest e = absurd (false≢true e)
-
--- the key of the record in slot p is one that the rule at `at` allows
-abbrev keyAllowed : List ℕ → ℕ → List ℕ → ℕ → Bool
-keyAllowed rules at l p =
+-- the badge of the record in slot p is one that the rule at `at` allows
+abbrev badgeAllowed : List ℕ → ℕ → List ℕ → ℕ → Bool
+badgeAllowed rules at l p =
     leb (getD rules (at + 2) 0) (getD l (p * 4 + 3) 0 * 4 + getD l (p * 4 + 2) 0)
     && leb (getD l (p * 4 + 3) 0 * 4 + getD l (p * 4 + 2) 0) (getD rules (at + 3) 0)
 
@@ -54,16 +39,16 @@ counted-length : (l l′ : List ℕ) (p : ℕ) → l′ ≡ counted l p → leng
 counted-length l l′ p e = ap length e ∙ length-set l (p * 4 + 1) ((getD l (p * 4 + 1) 0 + 3) / 2)
 
 -- such a record is not deep
-pub shallow : (keys : Bool) (below : ℕ) → not (keys && leb below 63) ≡ false → below ≤ 65
-shallow keys below e = omega (arith, leb-true below 63 (and-right keys (leb below 63) (not-false (keys && leb below 63) e)))
+pub shallow : (badges : Bool) (below : ℕ) → not (badges && leb below 63) ≡ false → below ≤ 65
+shallow badges below e = omega (arith, leb-true below 63 (and-right badges (leb below 63) (not-false (badges && leb below 63) e)))
 
 slot-took : (tree : List ℕ) (bytes r : ℕ) (rules : List ℕ) (at : ℕ) (role : Role) (w next p : ℕ) → RuleFacts rules at role → Place r role w p → r < mostRecords
     → (l : List ℕ) → KnownBelow tree r l → getD l 0 0 ≡ 0 → (m m′ : List ℕ) → p * 4 + 4 ≤ length m → m′ ≡ counted m p
-    → keyAllowed rules at l p ≡ true → w * getD rules (at + 4) 0 ≡ 0 → (isText role ≡ true → w + next ≤ bytes)
+    → badgeAllowed rules at l p ≡ true → w * getD rules (at + 4) 0 ≡ 0 → (isText role ≡ true → w + next ≤ bytes)
     → Took tree bytes r role w next m m′ true (getD l (p * 4) 0)
-slot-took tree bytes r rules at role w next p facts place few l known free m m′ room e key free₂ text =
+slot-took tree bytes r rules at role w next p facts place few l known free m m′ room e badge free₂ text =
     record {
-      right = slot-right rules at role facts r w p place l tree few known bytes next key free₂ text;
+      right = slot-right rules at role facts r w p place l tree few known bytes next badge free₂ text;
       depth = slot-depth rules at role facts r w p place l tree few known free;
       counted = rw e (counted-slot rules at role facts r w p place m tree few room);
     }
@@ -129,7 +114,7 @@ module _ (tree : List ℕ) (r k : ℕ) (words : Words) (pa pb pc : ℕ) (rules l
         ap length e ∙ stored-length l₃ r class d k slots-room ∙ counted-length l₂ l₃ pc three ∙ counted-length l₁ l₂ pb two ∙ counted-length l₀ l₁ pa one ∙ own .same
 
   module _ (l₁ l₂ l₃ : List ℕ) (one : l₁ ≡ counted l₀ pa) (two : l₂ ≡ counted l₁ pb) (three : l₃ ≡ counted l₂ pc)
-      (keyA : keyAllowed rules (k * 20) l₀ pa ≡ true) (keyB : keyAllowed rules (k * 20 + 5) l₀ pb ≡ true) (keyC : keyAllowed rules (k * 20 + 10) l₀ pc ≡ true)
+      (badgeA : badgeAllowed rules (k * 20) l₀ pa ≡ true) (badgeB : badgeAllowed rules (k * 20 + 5) l₀ pb ≡ true) (badgeC : badgeAllowed rules (k * 20 + 10) l₀ pc ≡ true)
       (below last : ℕ) (lastIs : last ≡ larger (getD l₀ (pb * 4) 0) (getD l₀ (pc * 4) 0)) (belowIs : below ≡ larger (getD l₀ (pa * 4) 0) last)
       (bytes : ℕ) (form : PlainForm tree bytes r k words rules) where
     limit : (getD rules (k * 20 + 16) 0 ≡ rowOf k .limit) × (k ≡ 1 → ⊥) × (isUnused (rowOf k .d) ≡ true) × (isUnused (rowOf k .e) ≡ true)
@@ -142,7 +127,7 @@ module _ (tree : List ℕ) (r k : ℕ) (words : Words) (pa pb pc : ℕ) (rules l
     unfolding boolNumber
     tookA =
         slot-took tree bytes r rules (k * 20) (rowOf k .a) (words .a) (words .b) pa (facts .a) (s .a) (s .ready .few) l₀ known-own (own .depth) l₀ l₁
-        (omega (arith, s .a .within, s .ready .room, own .same)) one keyA (form .zeroA)
+        (omega (arith, s .a .within, s .ready .room, own .same)) one badgeA (form .zeroA)
         (λ t.
         let q : getD rules (k * 20 + 15) 0 ≡ 1 = rw t at (facts .textIs) in
         let x : (words .a + words .b) * 1 ≤ bytes = rw q at (form .text) in
@@ -152,14 +137,14 @@ module _ (tree : List ℕ) (r k : ℕ) (words : Words) (pa pb pc : ℕ) (rules l
     tookB =
         let q : k * 20 + 5 + 4 ≡ k * 20 + 9 = omega arith in
         slot-took tree bytes r rules (k * 20 + 5) (rowOf k .b) (words .b) (words .c) pb (facts .b) (s .b) (s .ready .few) l₀ known-own (own .depth) l₁ l₂
-        (omega (arith, s .b .within, s .ready .room, own .same, tookA .counted .same)) two keyB (rw q (form .zeroB))
+        (omega (arith, s .b .within, s .ready .room, own .same, tookA .counted .same)) two badgeB (rw q (form .zeroB))
         (λ t. absurd (false≢true (sym (facts .noTextB) ∙ t)))
 
     tookC : Took tree bytes r (rowOf k .c) (words .c) (words .d) l₂ l₃ true (getD l₀ (pc * 4) 0)
     tookC =
         let q : k * 20 + 10 + 4 ≡ k * 20 + 14 = omega arith in
         slot-took tree bytes r rules (k * 20 + 10) (rowOf k .c) (words .c) (words .d) pc (facts .c) (s .c) (s .ready .few) l₀ known-own (own .depth) l₂ l₃
-        (omega (arith, s .c .within, s .ready .room, own .same, tookA .counted .same, tookB .counted .same)) three keyC (rw q (form .zeroC))
+        (omega (arith, s .c .within, s .ready .room, own .same, tookA .counted .same, tookB .counted .same)) three badgeC (rw q (form .zeroC))
         (λ t. absurd (false≢true (sym (facts .noTextC) ∙ t)))
 
     words-took : TookWords tree bytes r l₀ l₃ (true && true && true && eqb (words .d) 0 && eqb (words .e) 0) below
@@ -195,18 +180,18 @@ module _ (tree : List ℕ) (r k : ℕ) (words : Words) (pa pb pc : ℕ) (rules l
           record { right = t .right; depth = t .depth; same = t .same ∙ own .same; known = t .known; counting = t .counting }
 
   -- as the code meets it
-  pub slots-took : (ka kb kc : Bool) (below last : ℕ) → ka ≡ keyAllowed rules (k * 20) l₀ pa → kb ≡ keyAllowed rules (k * 20 + 5) l₀ pb → kc ≡ keyAllowed rules (k * 20 + 10) l₀ pc
+  pub slots-took : (ka kb kc : Bool) (below last : ℕ) → ka ≡ badgeAllowed rules (k * 20) l₀ pa → kb ≡ badgeAllowed rules (k * 20 + 5) l₀ pb → kc ≡ badgeAllowed rules (k * 20 + 10) l₀ pc
       → not ((ka && kb && kc) && leb below 63) ≡ false
       → last ≡ larger (getD l₀ (pb * 4) 0) (getD l₀ (pc * 4) 0) → below ≡ larger (getD l₀ (pa * 4) 0) last
       → (l₁ l₂ l₃ m : List ℕ) → l₁ ≡ counted l₀ pa → l₂ ≡ counted l₁ pb → l₃ ≡ counted l₂ pc
       → (class d : ℕ) → ((x b : ℕ) → x < mostRecords → (k ≡ 12 → words .a < x) → Place x (rowOf k .b) b pb → class ≡ classAt tree (classIn l₃) x k (words .a) b) → d ≡ pick (eqb k 12) below (capped 65 (below + 1)) → m ≡ stored l₃ r class d k
       → TookSlots tree r k words rules l m true d
   slots-took ka kb kc below last a b c ok lastIs belowIs l₁ l₂ l₃ m one two three class d classIs dIs mIs =
-      let keys : (ka && kb && kc) ≡ true = and-left (ka && kb && kc) (leb below 63) (not-false ((ka && kb && kc) && leb below 63) ok) in
-      let kab : (ka && kb) ≡ true = and-left (ka && kb) kc keys in
+      let badges : (ka && kb && kc) ≡ true = and-left (ka && kb && kc) (leb below 63) (not-false ((ka && kb && kc) && leb below 63) ok) in
+      let kab : (ka && kb) ≡ true = and-left (ka && kb) kc badges in
       record {
         took = λ e bytes n types form lead h.
-            record-took l₁ l₂ l₃ one two three (sym a ∙ and-left ka kb kab) (sym b ∙ and-right ka kb kab) (sym c ∙ and-right (ka && kb) kc keys) below last lastIs belowIs bytes form n types lead h class d m (classIs r (words .b) (s .ready .few) (λ q. item-lower q .0) (s .b)) dIs mIs;
+            record-took l₁ l₂ l₃ one two three (sym a ∙ and-left ka kb kab) (sym b ∙ and-right ka kb kab) (sym c ∙ and-right (ka && kb) kc badges) below last lastIs belowIs bytes form n types lead h class d m (classIs r (words .b) (s .ready .few) (λ q. item-lower q .0) (s .b)) dIs mIs;
         left = λ e. absurd (false≢true (sym e));
         same = slots-length l₁ l₂ l₃ one two three m class d mIs;
       }

@@ -1,5 +1,5 @@
--- The last arm of a match on roles: its keys leave out the roles of the arms before it. By the cases of the role. Assumes nothing.
-use mathlib.Core.Path.{_≡_, refl, sym}
+-- The last arm of a match on roles: its keys leave out the roles of the arms before it; and what an unused role is. By the cases of the role. Assumes nothing.
+use mathlib.Core.Path.{_≡_, refl, sym, _∙_}
 use Prim.Native.Nat.{ℕ}
 use mathlib.Core.Bool.{Bool, true, false, _||_, _&&_, or-true, false≢true}
 use mathlib.Core.Logic.{inl, inr}
@@ -14,6 +14,7 @@ use Rattle.records.specs.declared.shape.Role.the-variants.{Unused, Number, Text
 use Rattle.records.proofs.shape.Role.{the-type}
 use Rattle.records.specs.Shapes.{refers}
 use Rattle.records.specs.Rules.{wordOk}
+use Rattle.judge.specs.Inner.{isUnused}
 
 isKey : ℕ → List ℕ → ℕ → Bool
 isKey k [] x = eqb x k
@@ -46,8 +47,24 @@ plain-other tree bytes r Body w next h e = absurd (false≢true (sym e))
 plain-other tree bytes r Item w next h e = absurd (false≢true (sym e))
 plain-other tree bytes r Rest w next h e = absurd (false≢true (sym e))
 
+pub unused-role : (role : Role) → isUnused role ≡ true → role ≡ Unused
+unused-role Unused e = refl
+unused-role Number e = absurd (false≢true e)
+unused-role Text e = absurd (false≢true e)
+unused-role Length e = absurd (false≢true e)
+unused-role Expr e = absurd (false≢true e)
+unused-role TypeRef e = absurd (false≢true e)
+unused-role TypeOrNone e = absurd (false≢true e)
+unused-role Name e = absurd (false≢true e)
+unused-role Variable e = absurd (false≢true e)
+unused-role Arguments e = absurd (false≢true e)
+unused-role Parameters e = absurd (false≢true e)
+unused-role Body e = absurd (false≢true e)
+unused-role Item e = absurd (false≢true e)
+unused-role Rest e = absurd (false≢true e)
+
 -- three tests of a role, all passed
-pub all-unused : (c d e : Role) (s t u : Bool) → (s ≡ true → c ≡ Unused) → (t ≡ true → d ≡ Unused) → (u ≡ true → e ≡ Unused) → (s && t && u) ≡ true → (c ≡ Unused) × (d ≡ Unused) × (e ≡ Unused)
+pub all-unused : (c d e : Role) (s t u : Bool) → s ≡ isUnused c → t ≡ isUnused d → u ≡ isUnused e → (s && t && u) ≡ true → (c ≡ Unused) × (d ≡ Unused) × (e ≡ Unused)
 all-unused c d e s t u x y z h =
     let both = and-left (s && t) u h in
-    (x (and-left s t both), y (and-right s t both), z (and-right (s && t) u h))
+    (unused-role c (sym x ∙ and-left s t both), unused-role d (sym y ∙ and-right s t both), unused-role e (sym z ∙ and-right (s && t) u h))

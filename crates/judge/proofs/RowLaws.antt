@@ -276,6 +276,14 @@ output-kept (RefusedBy atNesting e) l h = absurd (false≢true (sym h))
 output-kept (RefusedBy atConversion e) l h = absurd (false≢true (sym h))
 output-kept Passed l h = refl
 
+-- the core's answer and scratch, where the lengths are known to be others
+module _ (tree text : List ℕ) (l m : Lengths) (n : ℕ) (e : l ≡ m) where
+  pub long-judged : (r : Judged) → r ≡ judged tree text l n → r ≡ judged tree text m n
+  long-judged r h = h ∙ ap (λ (x : Lengths). judged tree text x n) e
+
+  pub long-after : (s s′ : List ℕ) → s′ ≡ scratchAfter (verdict tree text l n) s → s′ ≡ scratchAfter (verdict tree text m n) s
+  long-after s s′ h = h ∙ ap (λ (x : Lengths). scratchAfter (verdict tree text x n) s) e
+
 -- the entry: the core's answer r and scratch, and b, the code's test whether r has a place
 module _ (tree text : List ℕ) (b : Buffers) (r : Judged) (rIs : r ≡ judged tree text (lengthsOf b) (length (b .scratch))) (p : Bool) (pIs : p ≡ placed r) where
   pub answer-in : r ≡ judgedIn tree text b

@@ -1,5 +1,5 @@
 -- What taking a word, the five words of a record, and the whole record says and leaves.
--- A word by the key that it refers to; the words one after the other; a record by its words and its own tests. Assumes nothing.
+-- A word by the badge that it refers to; the words one after the other; a record by its words and its own tests. Assumes nothing.
 use mathlib.Core.Path.{_≡_, refl, sym, ap, _∙_}
 use Prim.Native.Nat.{ℕ, _+_, _*_, _≤_, _<_}
 use mathlib.Core.Bool.{Bool, true, false, not, _&&_, _||_}
@@ -19,10 +19,10 @@ use Rattle.records.specs.Shapes.{refers, rowAt}
 use Rattle.records.specs.Rules.{wordOk, wordsOk, formOk, otherwiseMarked, bodyMarked, isFirstType, typesFirst, refersTo}
 use Rattle.records.specs.Depth.{larger}
 use Rattle.judge.specs.declared.pass.Words.{Words}
-use Rattle.judge.specs.Inner.{TypesLead, capped, shallowDepth, classIn, depthIn, kindIn, stored, listNumber, classAt, lowKey, highKey, noneOk, KnownBelow, Counting, Counted, Took, WordsOf, TookWords, otherRules, TookRecord}
+use Rattle.judge.specs.Inner.{TypesLead, capped, shallowDepth, classIn, depthIn, kindIn, stored, listNumber, classAt, lowBadge, highBadge, noneOk, KnownBelow, Counting, Counted, Took, WordsOf, TookWords, otherRules, TookRecord}
 use Rattle.judge.proofs.CapLaws.{larger-none}
 use Rattle.judge.proofs.DepthLaws.{below-none, below-told, below-later, deepest-words, depth-told}
-use Rattle.judge.proofs.KeyLaws.{reference-out, reference-in}
+use Rattle.judge.proofs.BadgeLaws.{reference-out, reference-in}
 use Rattle.judge.proofs.ListClass.{cell-told, class-small, class-other}
 use Rattle.judge.proofs.CountLaws.{refers-not, counted-none, word-out, counted-words, known-counted, stored-length, known-stored, counting-stored}
 
@@ -46,7 +46,7 @@ module _ (tree : List ℕ) (bytes r : ℕ) (role : Role) (w next : ℕ) (l : Lis
           counted = word-out tree role w r i l same h;
         }
 
-    pub took-in : KnownBelow tree r l → r < mostRecords → i < r → (k c low high : ℕ) → (k ≡ kindIn l i) × (k < 256) → c ≡ classIn l i → low ≡ lowKey role → high ≡ highKey role
+    pub took-in : KnownBelow tree r l → r < mostRecords → i < r → (k c low high : ℕ) → (k ≡ kindIn l i) × (k < 256) → c ≡ classIn l i → low ≡ lowBadge role → high ≡ highBadge role
         → (l′ : List ℕ) → Counted tree r (refersTo role w) l l′
         → Took tree bytes r role w next l l′ (leb low (k * 4 + c) && leb (k * 4 + c) high) (depthIn l i)
     took-in known few h k c low high kIs cIs lIs hIs l′ n =

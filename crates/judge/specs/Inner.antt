@@ -10,7 +10,7 @@ use Rattle.laws.specs.Fix.{pick, below, fix}
 use Rattle.laws.specs.Below.{sumBelow}
 use Rattle.records.specs.declared.shape.Role.{Role}
 use Rattle.records.specs.declared.shape.Role.the-variants.{Unused, Number, Text, Length, Expr, TypeRef, TypeOrNone, Name, Variable, Arguments, Parameters, Body, Item, Rest}
-use Rattle.records.specs.Layout.{knownBytes, scratchEach}
+use Rattle.records.specs.Layout.{knownBytes, nextDepth, nextCount, nextClass, nextKind, scratchEach}
 use Rattle.records.specs.Words.{recordBytes, mostRecords, kindOf, wordOf, none, A, B, C, D, E}
 use Rattle.records.specs.Kinds.{kindType, kindInt, kindName, kindCall, kindList, kindValue, kindTypeArgument, kindDeclare, kindContinue, kindVariable}
 use Rattle.records.specs.Shapes.{rowAt}
@@ -45,23 +45,23 @@ capped most x = pick (ltb x most) x most
 abbrev pub shallowDepth : List ℕ → ℕ → ℕ
 shallowDepth tree r = capped 65 (depth tree r)
 
--- ---- the bytes of record k, behind four that belong to no record: depth, count, list, kind
+-- ---- the bytes of record k, in the slot behind k others, the first of which belongs to no record
 
 abbrev pub classIn : List ℕ → ℕ → ℕ
-classIn l k = getD l (k * knownBytes + 6) 0
+classIn l k = getD l (k * knownBytes + nextClass) 0
 
 abbrev pub depthIn : List ℕ → ℕ → ℕ
-depthIn l k = getD l (k * knownBytes + 4) 0
+depthIn l k = getD l (k * knownBytes + nextDepth) 0
 
 abbrev pub countIn : List ℕ → ℕ → ℕ
-countIn l k = getD l (k * knownBytes + 5) 0
+countIn l k = getD l (k * knownBytes + nextCount) 0
 
 abbrev pub kindIn : List ℕ → ℕ → ℕ
-kindIn l k = getD l (k * knownBytes + 7) 0
+kindIn l k = getD l (k * knownBytes + nextKind) 0
 
 -- the bytes of record r are written, with a count of 0
 abbrev pub stored : List ℕ → ℕ → ℕ → ℕ → ℕ → List ℕ
-stored l r class depth kind = set (set (set (set l (r * knownBytes + 4) depth) (r * knownBytes + 5) 0) (r * knownBytes + 6) class) (r * knownBytes + 7) kind
+stored l r class depth kind = set (set (set (set l (r * knownBytes + nextDepth) depth) (r * knownBytes + nextCount) 0) (r * knownBytes + nextClass) class) (r * knownBytes + nextKind) kind
 
 -- ---- what a list holds
 
@@ -101,42 +101,42 @@ unfoldable pub classAt : List ℕ → (ℕ → ℕ) → ℕ → ℕ → ℕ → 
 unfolding pick cellClass
 classAt tree g r kind a b = pick (eqb kind kindList) (cellClass tree g r a b) 0
 
--- a record's key is four times its kind, and the number of its list
-abbrev pub keysEach : ℕ
-keysEach = 4
+-- a record's badge is four times its kind, and the number of its list
+abbrev pub badgesEach : ℕ
+badgesEach = 4
 
--- the keys from `lowKey` to `highKey` are right for a role
-abbrev pub lowKey : Role → ℕ
-lowKey Unused = 0
-lowKey Number = 0
-lowKey Text = 0
-lowKey Length = 0
-lowKey Expr = kindInt * keysEach
-lowKey TypeRef = kindType * keysEach
-lowKey TypeOrNone = kindType * keysEach
-lowKey Name = kindName * keysEach
-lowKey Variable = kindVariable * keysEach
-lowKey Arguments = kindList * keysEach + 1
-lowKey Parameters = kindList * keysEach + 2
-lowKey Body = kindList * keysEach + 3
-lowKey Item = 0
-lowKey Rest = kindList * keysEach
+-- the badges from `lowBadge` to `highBadge` are right for a role
+abbrev pub lowBadge : Role → ℕ
+lowBadge Unused = 0
+lowBadge Number = 0
+lowBadge Text = 0
+lowBadge Length = 0
+lowBadge Expr = kindInt * badgesEach
+lowBadge TypeRef = kindType * badgesEach
+lowBadge TypeOrNone = kindType * badgesEach
+lowBadge Name = kindName * badgesEach
+lowBadge Variable = kindVariable * badgesEach
+lowBadge Arguments = kindList * badgesEach + 1
+lowBadge Parameters = kindList * badgesEach + 2
+lowBadge Body = kindList * badgesEach + 3
+lowBadge Item = 0
+lowBadge Rest = kindList * badgesEach
 
-abbrev pub highKey : Role → ℕ
-highKey Unused = 0
-highKey Number = 0
-highKey Text = 0
-highKey Length = 0
-highKey Expr = kindCall * keysEach + 3
-highKey TypeRef = kindType * keysEach + 3
-highKey TypeOrNone = kindType * keysEach + 3
-highKey Name = kindName * keysEach + 3
-highKey Variable = kindVariable * keysEach + 3
-highKey Arguments = kindList * keysEach + 1
-highKey Parameters = kindList * keysEach + 2
-highKey Body = kindList * keysEach + 3
-highKey Item = 255 * keysEach + 3
-highKey Rest = kindList * keysEach + 3
+abbrev pub highBadge : Role → ℕ
+highBadge Unused = 0
+highBadge Number = 0
+highBadge Text = 0
+highBadge Length = 0
+highBadge Expr = kindCall * badgesEach + 3
+highBadge TypeRef = kindType * badgesEach + 3
+highBadge TypeOrNone = kindType * badgesEach + 3
+highBadge Name = kindName * badgesEach + 3
+highBadge Variable = kindVariable * badgesEach + 3
+highBadge Arguments = kindList * badgesEach + 1
+highBadge Parameters = kindList * badgesEach + 2
+highBadge Body = kindList * badgesEach + 3
+highBadge Item = 255 * badgesEach + 3
+highBadge Rest = kindList * badgesEach + 3
 
 abbrev pub noneOk : Role → Bool
 noneOk Unused = false
@@ -153,6 +153,22 @@ noneOk Parameters = true
 noneOk Body = true
 noneOk Item = false
 noneOk Rest = true
+
+abbrev pub isUnused : Role → Bool
+isUnused Unused = true
+isUnused Number = false
+isUnused Text = false
+isUnused Length = false
+isUnused Expr = false
+isUnused TypeRef = false
+isUnused TypeOrNone = false
+isUnused Name = false
+isUnused Variable = false
+isUnused Arguments = false
+isUnused Parameters = false
+isUnused Body = false
+isUnused Item = false
+isUnused Rest = false
 
 -- ---- what is known when record r is reached
 

@@ -1,11 +1,12 @@
 // A tree of any bytes is judged, exactly as document 01's rows 'lengths', 'buffers', 'records' and 'nesting' say.
 ghost use mathlib.Core.Path.{_≡_};
 ghost use Prim.Native.Nat.{_*_, _≤_};
+ghost use mathlib.Core.List.{[]};
 ghost use lib.ListN.{length};
 ghost use Rattle.records.specs.Layout.{scratchEach};
 ghost use Rattle.records.specs.Words.{recordBytes, mostRecords};
 ghost use Rattle.judge.specs.Keeps.{JudgeKeeps, placed, unplaced};
-ghost use Rattle.judge.specs.Judge.{lengthsOk, buffersOk, buffers, recordsVerdict, verdict, judgedBy, judged, judgedIn, scratchAfter, judgeLeaves, cleared};
+ghost use Rattle.judge.specs.Judge.{lengthsOk, buffersOk, buffers, lengthsOf, recordsVerdict, verdict, judgedBy, judged, judgedIn, scratchAfter, judgeLeaves, cleared};
 use records::convert_error::ConvertError;
 use records::convert_error::ConvertErrorKind;
 use records::layout::SCRATCH;
@@ -171,7 +172,12 @@ pub fn clear_outputs(
     strings: &mut [u8],
     floats: &mut [u8],
 )
-    ensures { λ _. ⌜ (now (instructions .exit) ≡ cleared (now (instructions .entry))) × (now (variables .exit) ≡ cleared (now (variables .entry))) × (now (labels .exit) ≡ cleared (now (labels .entry))) × (now (functions .exit) ≡ cleared (now (functions .entry))) × (now (strings .exit) ≡ cleared (now (strings .entry))) × (now (floats .exit) ≡ cleared (now (floats .entry))) ⌝ }
+    ensures instructions { λ _. ⌜ now (instructions .exit) ≡ cleared (now (instructions .entry)) ⌝ }
+    ensures variables { λ _. ⌜ now (variables .exit) ≡ cleared (now (variables .entry)) ⌝ }
+    ensures labels { λ _. ⌜ now (labels .exit) ≡ cleared (now (labels .entry)) ⌝ }
+    ensures functions { λ _. ⌜ now (functions .exit) ≡ cleared (now (functions .entry)) ⌝ }
+    ensures strings { λ _. ⌜ now (strings .exit) ≡ cleared (now (strings .entry)) ⌝ }
+    ensures floats { λ _. ⌜ now (floats .exit) ≡ cleared (now (floats .entry)) ⌝ }
 {
     clear(instructions);
     clear(variables);
@@ -179,6 +185,27 @@ pub fn clear_outputs(
     clear(functions);
     clear(strings);
     clear(floats);
+}
+
+// How long the six outputs are.
+pub fn lengths_of(
+    instructions: &[u8],
+    variables: &[u8],
+    labels: &[u8],
+    functions: &[u8],
+    strings: &[u8],
+    floats: &[u8],
+) -> Lengths
+    ensures { λ l. ⌜ l ≡ lengthsOf (buffers (now (instructions .entry)) (now (variables .entry)) (now (labels .entry)) (now (functions .entry)) (now (strings .entry)) (now (floats .entry)) []) ⌝ }
+{
+    Lengths {
+        instructions: instructions.len(),
+        variables: variables.len(),
+        labels: labels.len(),
+        functions: functions.len(),
+        strings: strings.len(),
+        floats: floats.len(),
+    }
 }
 
 // Judges a tree. Rows one and two leave every buffer as found, the others leave all of them zero; an accepted tree leaves the
@@ -197,14 +224,7 @@ pub fn judge(
     ensures { λ r. ⌜ r ≡ judgedIn (now (tree .entry)) (now (text .entry)) (buffers (now (instructions .entry)) (now (variables .entry)) (now (labels .entry)) (now (functions .entry)) (now (strings .entry)) (now (floats .entry)) (now (scratch .entry))) ⌝ }
     ensures { λ _. ⌜ buffers (now (instructions .exit)) (now (variables .exit)) (now (labels .exit)) (now (functions .exit)) (now (strings .exit)) (now (floats .exit)) (now (scratch .exit)) ≡ judgeLeaves (now (tree .entry)) (now (text .entry)) (buffers (now (instructions .entry)) (now (variables .entry)) (now (labels .entry)) (now (functions .entry)) (now (strings .entry)) (now (floats .entry)) (now (scratch .entry))) ⌝ }
 {
-    let l = Lengths {
-        instructions: instructions.len(),
-        variables: variables.len(),
-        labels: labels.len(),
-        functions: functions.len(),
-        strings: strings.len(),
-        floats: floats.len(),
-    };
+    let l = lengths_of(instructions, variables, labels, functions, strings, floats);
     let answer = judge_tree(tree, text, l, scratch);
     if has_place(answer) {
         clear_outputs(instructions, variables, labels, functions, strings, floats);

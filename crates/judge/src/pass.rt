@@ -16,6 +16,7 @@ ghost use Rattle.judge.specs.Inner.{Lowest, Passing, KnownBelow, Countin
 use crate::equal::first_equal;
 use crate::nesting::depth_over;
 use crate::nesting::max;
+use crate::plain::RULE_NUMBERS;
 use crate::plain::RULES;
 use crate::plain::take_plain;
 use crate::references::Told;
@@ -195,7 +196,7 @@ fn take_record(
     r: usize,
     types: usize,
     known: &mut [u8],
-    rules: &[u8; 520],
+    rules: &[u8; RULE_NUMBERS],
 ) -> Told
     requires { ⌜ (r < records (now tree)) × Passing (now tree) (records (now tree)) types (now known) × (now rules ≡ plainRules) ⌝ }
     requires { ⌜ KnownBelow (now tree) r (now known) × Counting (now tree) r (now known) ⌝ }

@@ -5,19 +5,21 @@ ghost use mathlib.Core.Bool.{true, false, _&&_};
 ghost use Prim.Native.Nat.{ℕ, _+_, _*_, _/_, _%_, _≤_, _<_};
 ghost use lib.Dec.{leb};
 ghost use lib.ListN.{length, getD, set};
-ghost use Rattle.records.specs.Layout.{knownBytes};
+ghost use Rattle.records.specs.Layout.{knownBytes, slotCount};
 ghost use Rattle.records.specs.Words.{recordBytes, mostRecords, kindOf};
 ghost use Rattle.records.specs.Kinds.{kindList};
 ghost use Rattle.records.specs.Shapes.{rowOf};
 ghost use Rattle.judge.specs.Inner.{classIn, itemClass, classAt};
-ghost use Rattle.judge.specs.Plain.{plainRules, keyIn, keyWithin, Place, Cells, Owned, PlainForm, WordSlots, TookSlots, PlainReady, TookPlain};
+ghost use Rattle.judge.specs.Plain.{plainRules, ruleRows, ruleNumbers, mustRefer, mustBeZero, badgeIn, badgeWithin, Place, Cells, Owned, PlainForm, WordSlots, TookSlots, PlainReady, TookPlain};
 use crate::nesting::depth_over;
 use crate::nesting::max;
 use crate::pass::Words;
 use crate::pass::five_words;
 use crate::pass::put_known;
 use crate::references::Told;
-use crate::rules::KEYS_EACH;
+use crate::rules::BADGES_EACH;
+use crate::rules::MIXED;
+use crate::rules::PARAMETERS;
 use records::layout::CLASS_AT;
 use records::layout::COUNT_AT;
 use records::layout::DEPTH_AT;
@@ -41,10 +43,43 @@ const WORDS: usize = 4294967296;
 // As deep as what a right record refers to may be.
 const DEEPEST_BELOW: u8 = 63;
 
-// Twenty numbers for each kind. For each of the words A, B and C: whether it refers to a record, whether it must, the keys that it may refer to, lowest and
+// Where the numbers stand in the table of rules below: how many a row has, and all of them.
+const ROW_NUMBERS: usize = 20;
+
+pub(crate) const RULE_NUMBERS: usize = 520;
+
+// Among a word's five, behind whether it refers: whether it must, the lowest and the highest badge, whether it must be zero.
+const MUST_REFER: usize = 1;
+
+const BADGE_FROM: usize = 2;
+
+const BADGE_TO: usize = 3;
+
+const MUST_BE_ZERO: usize = 4;
+
+// In a row, behind the five of A: those of B and C, and the last of each.
+const RULE_OF_B: usize = 5;
+
+const RULE_OF_C: usize = 10;
+
+const ZERO_OF_B: usize = 9;
+
+const ZERO_OF_C: usize = 14;
+
+const TEXT_RULE: usize = 15;
+
+const LIMIT_RULE: usize = 16;
+
+const OWN_CLASS: usize = 17;
+
+const OWN_KIND: usize = 18;
+
+const ITEM_RULE: usize = 19;
+
+// A row of numbers for each kind. For each of the words A, B and C: whether it refers to a record, whether it must, the badges that it may refer to, lowest and
 // highest, whether it must be zero. Then whether A is a text, the limit of the details (0 where D or E is used), and what stands in slot 0, class and kind: a
-// key that its words which may be none may refer to; and which list such a record may stand in.
-pub(crate) const RULES: [u8; 520] = [
+// badge that its words which may be none may refer to; and which list such a record may stand in.
+pub(crate) const RULES: [u8; RULE_NUMBERS] = [
     0,
     0,
     0,
@@ -576,35 +611,35 @@ fn scaled(x: usize, by: u8) -> usize
 }
 
 // The slot that word w leads to, by the rule that starts at `at`.
-fn place_of(w: u32, rules: &[u8; 520], at: usize) -> usize
-    requires { ⌜ at < 516 ⌝ }
+fn place_of(w: u32, rules: &[u8; RULE_NUMBERS], at: usize) -> usize
+    requires { ⌜ at + mustBeZero < ruleNumbers ⌝ }
     ensures { λ v. ⌜ (v ≡ (w + 1) % 4294967296 * getD (now (rules .entry)) at 0) × (w < 4294967296) ⌝ }
 {
     scaled((index(w) + 1) % WORDS, rules[at])
 }
 
 // Slot p is one that such a word of record r may lead to.
-fn place_ok(p: usize, r: usize, rules: &[u8; 520], at: usize) -> bool
-    requires { ⌜ at < 516 ⌝ }
-    ensures { λ v. ⌜ v ≡ (leb (getD (now (rules .entry)) (at + 1) 0) p && leb p r) ⌝ }
+fn place_ok(p: usize, r: usize, rules: &[u8; RULE_NUMBERS], at: usize) -> bool
+    requires { ⌜ at + mustBeZero < ruleNumbers ⌝ }
+    ensures { λ v. ⌜ v ≡ (leb (getD (now (rules .entry)) (at + mustRefer) 0) p && leb p r) ⌝ }
 {
-    (index(wide(rules[at + 1])) <= p) & (p <= r)
+    (index(wide(rules[at + MUST_REFER])) <= p) & (p <= r)
 }
 
 // The record in slot p is one that such a word may refer to.
-fn key_ok(known: &[u8], p: usize, rules: &[u8; 520], at: usize) -> bool
-    requires { ⌜ (at < 516) × (p ≤ mostRecords) × (p * knownBytes + knownBytes ≤ length (now known)) ⌝ }
-    ensures { λ v. ⌜ v ≡ keyWithin (now (rules .entry)) at (keyIn (now (known .entry)) p) ⌝ }
+fn badge_ok(known: &[u8], p: usize, rules: &[u8; RULE_NUMBERS], at: usize) -> bool
+    requires { ⌜ (at + mustBeZero < ruleNumbers) × (p ≤ mostRecords) × (p * knownBytes + knownBytes ≤ length (now known)) ⌝ }
+    ensures { λ v. ⌜ v ≡ badgeWithin (now (rules .entry)) at (badgeIn (now (known .entry)) p) ⌝ }
 {
-    let key = wide(known[p * KNOWN_BYTES + KIND_AT]) * KEYS_EACH
+    let badge = wide(known[p * KNOWN_BYTES + KIND_AT]) * BADGES_EACH
         + wide(known[p * KNOWN_BYTES + CLASS_AT]);
-    (wide(rules[at + 2]) <= key) & (key <= wide(rules[at + 3]))
+    (wide(rules[at + BADGE_FROM]) <= badge) & (badge <= wide(rules[at + BADGE_TO]))
 }
 
 // One more reference to the record in slot p: 1 after 0, and 2 or more after that.
 fn count_one(known: &mut [u8], p: usize)
     requires { ⌜ (p ≤ mostRecords) × (p * knownBytes + knownBytes ≤ length (now known)) ⌝ }
-    ensures { λ _. ⌜ now (known .exit) ≡ set (now (known .entry)) (p * knownBytes + 1) ((getD (now (known .entry)) (p * knownBytes + 1) 0 + 3) / 2) ⌝ }
+    ensures { λ _. ⌜ now (known .exit) ≡ set (now (known .entry)) (p * knownBytes + slotCount) ((getD (now (known .entry)) (p * knownBytes + slotCount) 0 + 3) / 2) ⌝ }
 {
     let count = wide(known[p * KNOWN_BYTES + COUNT_AT]);
     known[p * KNOWN_BYTES + COUNT_AT] = ((count + 3) / 2) as u8;
@@ -621,19 +656,26 @@ fn put_own(known: &mut [u8], class: u8, k: u8)
 }
 
 // What a record must be aside from what it refers to, by the row of its kind; an If without the mark has no otherwise.
-fn form_ok(tree: &[u8], bytes: usize, r: usize, k: u8, words: Words, rules: &[u8; 520]) -> bool
-    requires { ⌜ (r * recordBytes + recordBytes ≤ length (now tree)) × (k < 26) ⌝ }
+fn form_ok(
+    tree: &[u8],
+    bytes: usize,
+    r: usize,
+    k: u8,
+    words: Words,
+    rules: &[u8; RULE_NUMBERS],
+) -> bool
+    requires { ⌜ (r * recordBytes + recordBytes ≤ length (now tree)) × (k < ruleRows) ⌝ }
     ensures { λ v. ⌜ (v ≡ true → PlainForm (now (tree .entry)) bytes r k words (now (rules .entry))) ⌝ }
 {
-    let row = k as usize * 20;
+    let row = k as usize * ROW_NUMBERS;
     let a = index(words.a);
     let b = index(words.b);
     let c = index(words.c);
-    let za = scaled(a, rules[row + 4]);
-    let zb = scaled(b, rules[row + 9]);
-    let zc = scaled(c, rules[row + 14]);
+    let za = scaled(a, rules[row + MUST_BE_ZERO]);
+    let zb = scaled(b, rules[row + ZERO_OF_B]);
+    let zc = scaled(c, rules[row + ZERO_OF_C]);
     let zero = za + zb + zc + index(words.d) + index(words.e) + index(pad(tree, r));
-    let text = scaled(a + b, rules[row + 15]);
+    let text = scaled(a + b, rules[row + TEXT_RULE]);
     let found = detail(tree, r);
     if zero != 0 {
         return false;
@@ -641,41 +683,49 @@ fn form_ok(tree: &[u8], bytes: usize, r: usize, k: u8, words: Words, rules: &[u8
     if text > bytes {
         return false;
     }
-    if found >= rules[row + 16] {
+    if found >= rules[row + LIMIT_RULE] {
         return false;
     }
     (k != KIND_IF) | (found == 1) | (words.c == NONE)
 }
 
 // Which list the record a of kind k may stand in.
-fn item_of(tree: &[u8], a: usize, k: u8, rules: &[u8; 520]) -> u8
+fn item_of(tree: &[u8], a: usize, k: u8, rules: &[u8; RULE_NUMBERS]) -> u8
     requires { ⌜ (a * recordBytes + recordBytes ≤ length (now tree)) × (k ≡ kindOf (now tree) a) × (now rules ≡ plainRules) ⌝ }
     ensures { λ v. ⌜ v ≡ itemClass (now (tree .entry)) a ⌝ }
 {
     if k > KIND_FUNCTION {
-        return 0;
+        return MIXED;
     }
     if k == KIND_VARIABLE {
         if word(tree, a, WORD_C) == NONE {
-            return 0;
+            return MIXED;
         }
-        return 2;
+        return PARAMETERS;
     }
-    rules[k as usize * 20 + 19]
+    rules[k as usize * ROW_NUMBERS + ITEM_RULE]
 }
 
 // What the list holds whose first cell is a record of kind k with the word a, where A and B lead to the slots pa and pb; 0 where it is no cell.
-fn class_of(tree: &[u8], k: u8, a: u32, pa: usize, pb: usize, known: &[u8], rules: &[u8; 520]) -> u8
+fn class_of(
+    tree: &[u8],
+    k: u8,
+    a: u32,
+    pa: usize,
+    pb: usize,
+    known: &[u8],
+    rules: &[u8; RULE_NUMBERS],
+) -> u8
     requires { ⌜ Cells (now tree) k a pa pb (now known) (now rules) ⌝ }
     ensures { λ v. ⌜ ((r b : ℕ) → r < mostRecords → (k ≡ kindList → a < r) → Place r (rowOf k .b) b pb → v ≡ classAt (now (tree .entry)) (classIn (now (known .entry))) r k a b) ⌝ }
 {
     if k != KIND_LIST {
-        return 0;
+        return MIXED;
     }
     let item = item_of(tree, index(a), known[pa * KNOWN_BYTES + KIND_AT], rules);
     let rest = known[pb * KNOWN_BYTES + CLASS_AT];
     if (pb != 0) & (rest != item) {
-        return 0;
+        return MIXED;
     }
     item
 }
@@ -690,21 +740,24 @@ fn take_slots(
     pb: usize,
     pc: usize,
     known: &mut [u8],
-    rules: &[u8; 520],
+    rules: &[u8; RULE_NUMBERS],
 ) -> Told
     requires { ⌜ WordSlots (now tree) r k words pa pb pc (now known) (now rules) ⌝ }
     ensures { λ t. ⌜ TookSlots (now (tree .entry)) r k words (now (rules .entry)) (now (known .entry)) (now (known .exit)) (t .ok) (t .depth) ⌝ }
 {
-    let row = k as usize * 20;
-    put_own(known, rules[row + 17], rules[row + 18]);
-    let keys = key_ok(known, pa, rules, row)
-        & key_ok(known, pb, rules, row + 5)
-        & key_ok(known, pc, rules, row + 10);
+    let row = k as usize * ROW_NUMBERS;
+    put_own(known, rules[row + OWN_CLASS], rules[row + OWN_KIND]);
+    let badges = badge_ok(known, pa, rules, row)
+        & badge_ok(known, pb, rules, row + RULE_OF_B)
+        & badge_ok(known, pc, rules, row + RULE_OF_C);
     let below = max(
-        known[pa * KNOWN_BYTES],
-        max(known[pb * KNOWN_BYTES], known[pc * KNOWN_BYTES]),
+        known[pa * KNOWN_BYTES + DEPTH_AT],
+        max(
+            known[pb * KNOWN_BYTES + DEPTH_AT],
+            known[pc * KNOWN_BYTES + DEPTH_AT],
+        ),
     );
-    if !(keys & (below <= DEEPEST_BELOW)) {
+    if !(badges & (below <= DEEPEST_BELOW)) {
         return Told {
             ok: false,
             depth: 0,
@@ -726,20 +779,20 @@ pub(crate) fn take_plain(
     r: usize,
     k: u8,
     known: &mut [u8],
-    rules: &[u8; 520],
+    rules: &[u8; RULE_NUMBERS],
 ) -> Told
     requires { ⌜ PlainReady (now tree) r k (now known) (now rules) ⌝ }
     ensures { λ t. ⌜ TookPlain (now (tree .entry)) bytes r (now (known .entry)) (now (known .exit)) (t .ok) (t .depth) ⌝ }
 {
-    let row = k as usize * 20;
+    let row = k as usize * ROW_NUMBERS;
     let words = five_words(tree, r);
     let pa = place_of(words.a, rules, row);
-    let pb = place_of(words.b, rules, row + 5);
-    let pc = place_of(words.c, rules, row + 10);
+    let pb = place_of(words.b, rules, row + RULE_OF_B);
+    let pc = place_of(words.c, rules, row + RULE_OF_C);
     let form = form_ok(tree, bytes, r, k, words, rules);
     let placed = place_ok(pa, r, rules, row)
-        & place_ok(pb, r, rules, row + 5)
-        & place_ok(pc, r, rules, row + 10);
+        & place_ok(pb, r, rules, row + RULE_OF_B)
+        & place_ok(pc, r, rules, row + RULE_OF_C);
     if !(form & placed) {
         return Told {
             ok: false,

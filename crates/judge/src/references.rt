@@ -8,9 +8,9 @@ ghost use Rattle.records.specs.Words.{recordBytes, mostRecords};
 ghost use Rattle.records.specs.Shapes.{refers};
 ghost use Rattle.records.specs.Rules.{referredOnce};
 ghost use Rattle.judge.specs.Inner.{Lowest, KnownBelow, ReferenceCounts, Took};
-use crate::rules::KEYS_EACH;
-use crate::rules::high_key;
-use crate::rules::low_key;
+use crate::rules::BADGES_EACH;
+use crate::rules::high_badge;
+use crate::rules::low_badge;
 use crate::rules::none_ok;
 use records::layout::KNOWN_BYTES;
 use records::layout::NEXT_CLASS;
@@ -44,9 +44,9 @@ pub(crate) fn take_reference(tree: &[u8], r: usize, role: Role, w: u32, known: &
             depth: 0,
         };
     }
-    let key = wide(known[i * KNOWN_BYTES + NEXT_KIND]) * KEYS_EACH
+    let badge = wide(known[i * KNOWN_BYTES + NEXT_KIND]) * BADGES_EACH
         + wide(known[i * KNOWN_BYTES + NEXT_CLASS]);
-    let ok = (low_key(role) <= key) & (key <= high_key(role));
+    let ok = (low_badge(role) <= badge) & (badge <= high_badge(role));
     let depth = known[i * KNOWN_BYTES + NEXT_DEPTH];
     let count = known[i * KNOWN_BYTES + NEXT_COUNT];
     if count >= 2 {

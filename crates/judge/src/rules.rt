@@ -1,6 +1,6 @@
 // The rules for one record, over what is known of the records below it.
 ghost use mathlib.Core.Path.{_≡_};
-ghost use mathlib.Core.Bool.{true, not, _&&_, _||_};
+ghost use mathlib.Core.Bool.{not, _&&_, _||_};
 ghost use Prim.Native.Nat.{_+_, _*_, _≤_};
 ghost use lib.Dec.{eqb, leb};
 ghost use lib.ListN.{length};
@@ -8,8 +8,7 @@ ghost use Rattle.laws.specs.Fix.{below};
 ghost use Rattle.records.specs.Layout.{knownBytes};
 ghost use Rattle.records.specs.Words.{recordBytes, none};
 ghost use Rattle.records.specs.Kinds.{kindIf, kindFunction};
-ghost use Rattle.records.specs.declared.shape.Role.the-variants.{Unused};
-ghost use Rattle.judge.specs.Inner.{itemClass, cellClass, classAt, classIn, lowKey, highKey, noneOk};
+ghost use Rattle.judge.specs.Inner.{itemClass, cellClass, classAt, classIn, lowBadge, highBadge, noneOk, isUnused};
 use records::layout::KNOWN_BYTES;
 use records::layout::NEXT_CLASS;
 use records::numbers::KIND_CONTINUE;
@@ -28,18 +27,18 @@ use records::words::kind;
 use records::words::word;
 
 // What the items of a list are, all of them: the third of a cell's four bytes.
-const MIXED: u8 = 0;
+pub(crate) const MIXED: u8 = 0;
 
 const ARGUMENTS: u8 = 1;
 
-const PARAMETERS: u8 = 2;
+pub(crate) const PARAMETERS: u8 = 2;
 
 const STATEMENTS: u8 = 3;
 
-// A record's key is four times its kind, and what its list holds.
-pub(crate) const KEYS_EACH: u32 = 4;
+// A record's badge is four times its kind, and what its list holds.
+pub(crate) const BADGES_EACH: u32 = 4;
 
-// The keys of types, expressions, names, cells and variables, each from the lowest to the highest; those of the cells that begin one sort of list; and the
+// The badges of types, expressions, names, cells and variables, each from the lowest to the highest; those of the cells that begin one sort of list; and the
 // highest of all.
 const TYPE_LOW: u32 = 4;
 
@@ -61,11 +60,11 @@ const VARIABLE_LOW: u32 = 96;
 
 const VARIABLE_HIGH: u32 = 99;
 
-const ARGUMENTS_KEY: u32 = 49;
+const ARGUMENTS_BADGE: u32 = 49;
 
-const PARAMETERS_KEY: u32 = 50;
+const PARAMETERS_BADGE: u32 = 50;
 
-const STATEMENTS_KEY: u32 = 51;
+const STATEMENTS_BADGE: u32 = 51;
 
 const HIGHEST: u32 = 1023;
 
@@ -132,9 +131,9 @@ pub(crate) fn class_at(tree: &[u8], r: usize, k: u8, a: u32, b: u32, known: &[u8
     MIXED
 }
 
-// The keys that a word of this role may refer to, from the lowest ..
-pub(crate) fn low_key(role: Role) -> u32
-    ensures { λ v. ⌜ v ≡ lowKey role ⌝ }
+// The badges that a word of this role may refer to, from the lowest ..
+pub(crate) fn low_badge(role: Role) -> u32
+    ensures { λ v. ⌜ v ≡ lowBadge role ⌝ }
 {
     match role {
         Role::Unused => 0,
@@ -146,17 +145,17 @@ pub(crate) fn low_key(role: Role) -> u32
         Role::TypeOrNone => TYPE_LOW,
         Role::Name => NAME_LOW,
         Role::Variable => VARIABLE_LOW,
-        Role::Arguments => ARGUMENTS_KEY,
-        Role::Parameters => PARAMETERS_KEY,
-        Role::Body => STATEMENTS_KEY,
+        Role::Arguments => ARGUMENTS_BADGE,
+        Role::Parameters => PARAMETERS_BADGE,
+        Role::Body => STATEMENTS_BADGE,
         Role::Item => 0,
         Role::Rest => CELL_LOW,
     }
 }
 
 // .. to the highest.
-pub(crate) fn high_key(role: Role) -> u32
-    ensures { λ v. ⌜ v ≡ highKey role ⌝ }
+pub(crate) fn high_badge(role: Role) -> u32
+    ensures { λ v. ⌜ v ≡ highBadge role ⌝ }
 {
     match role {
         Role::Unused => 0,
@@ -168,9 +167,9 @@ pub(crate) fn high_key(role: Role) -> u32
         Role::TypeOrNone => TYPE_HIGH,
         Role::Name => NAME_HIGH,
         Role::Variable => VARIABLE_HIGH,
-        Role::Arguments => ARGUMENTS_KEY,
-        Role::Parameters => PARAMETERS_KEY,
-        Role::Body => STATEMENTS_KEY,
+        Role::Arguments => ARGUMENTS_BADGE,
+        Role::Parameters => PARAMETERS_BADGE,
+        Role::Body => STATEMENTS_BADGE,
         Role::Item => HIGHEST,
         Role::Rest => CELL_HIGH,
     }
@@ -198,12 +197,25 @@ pub(crate) fn none_ok(role: Role) -> bool
     }
 }
 
+// A word of this role is not used.
 pub(crate) fn is_unused(role: Role) -> bool
-    ensures { λ v. ⌜ (v ≡ true → role ≡ Unused) ⌝ }
+    ensures { λ v. ⌜ v ≡ isUnused role ⌝ }
 {
     match role {
         Role::Unused => true,
-        _ => false,
+        Role::Number => false,
+        Role::Text => false,
+        Role::Length => false,
+        Role::Expr => false,
+        Role::TypeRef => false,
+        Role::TypeOrNone => false,
+        Role::Name => false,
+        Role::Variable => false,
+        Role::Arguments => false,
+        Role::Parameters => false,
+        Role::Body => false,
+        Role::Item => false,
+        Role::Rest => false,
     }
 }
 

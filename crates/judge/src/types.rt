@@ -5,8 +5,21 @@ ghost use lib.ListN.{length};
 ghost use Rattle.records.specs.Words.{recordBytes};
 ghost use Rattle.records.specs.Rules.{isFirstType, sameType};
 ghost use Rattle.judge.specs.Inner.{TypesLead};
+use records::numbers::CHAR_TYPE;
+use records::numbers::FORM_ADDRESS;
+use records::numbers::FORM_BOOL;
+use records::numbers::FORM_BYTE;
+use records::numbers::FORM_CHAR;
 use records::numbers::FORM_CUSTOM;
+use records::numbers::FORM_FLOAT;
+use records::numbers::FORM_INT;
+use records::numbers::FORM_NULL;
+use records::numbers::FORM_SHORT_FLOAT;
+use records::numbers::FORM_SHORT_INT;
+use records::numbers::FORM_SHORT_UNSIGNED;
+use records::numbers::FORM_UNSIGNED;
 use records::numbers::KIND_TYPE;
+use records::numbers::NULL_TYPE;
 use records::texts::same_text;
 use records::words::FEWEST_RECORDS;
 use records::words::WORD_A;
@@ -17,10 +30,36 @@ use records::words::kind;
 use records::words::word;
 
 // The details of the twelve types that every tree begins with.
-const TWELVE: [u8; 12] = [1, 17, 33, 49, 2, 18, 3, 4, 5, 9, 6, 6];
+const TWELVE: [u8; FEWEST_RECORDS] = [
+    FORM_INT,
+    FORM_SHORT_INT,
+    FORM_UNSIGNED,
+    FORM_SHORT_UNSIGNED,
+    FORM_FLOAT,
+    FORM_SHORT_FLOAT,
+    FORM_BOOL,
+    FORM_CHAR,
+    FORM_BYTE,
+    FORM_NULL,
+    FORM_ADDRESS,
+    FORM_ADDRESS,
+];
 
 // What the two addresses among them are of: Char and Null.
-const INNER: [u32; 12] = [0, 0, 0, 0, 0, 0, 0, 0, 0, 0, 7, 9];
+const INNER: [u32; FEWEST_RECORDS] = [
+    0,
+    0,
+    0,
+    0,
+    0,
+    0,
+    0,
+    0,
+    0,
+    0,
+    CHAR_TYPE as u32,
+    NULL_TYPE as u32,
+];
 
 // Record r is not among the first twelve, or it is the type that stands there in every tree.
 pub(crate) fn is_first_type(tree: &[u8], r: usize) -> bool

@@ -1,13 +1,13 @@
--- Laws of `splice`: how long it is, what a run of stores is, two in a row, and what a part of the list is afterwards: before it, behind it, grown by it.
+-- Laws of `splice`: how long it is, what a run of stores is, two in a row, and what a part of the list is afterwards: before it, behind it, grown by it; and how long a list filled up is.
 -- By the laws of `take` and `drop` over the three pieces. Assumes nothing.
 use mathlib.Core.Path.{_≡_, refl, sym, ap, _∙_}
 use mathlib.Core.List.{List, [], _∷_, _++_, append-assoc, append-nil}
 use Prim.Native.Nat.{ℕ, suc, _+_, _-_, _≤_, _<_}
 use native.Mathlib.Nat.{add-assoc, add-zero}
 use native.Mathlib.Omega.{arith}
-use lib.ListN.{length, take, drop, getD, set, length-append, length-drop, take-append-drop}
+use lib.ListN.{length, take, drop, getD, set, replicate, length-append, length-drop, length-replicate, take-append-drop}
 use lib.Seq.{length-take-le, take-at, drop-at, drop-drop, sets, sets-eq, take-append-le, drop-append-le, take-take, take-add, getD-take, getD-drop}
-use Rattle.laws.specs.Splice.{splice}
+use Rattle.laws.specs.Splice.{splice, filled}
 
 pub length-splice : (l : List ℕ) (i : ℕ) (vs : List ℕ) → i + length vs ≤ length l → length (splice l i vs) ≡ length l
 unfolding splice
@@ -100,3 +100,7 @@ part-grown l i vs b bs h e is =
 pub part-element : (l : List ℕ) (b : ℕ) (bs : List ℕ) (j : ℕ) → take (length bs) (drop b l) ≡ bs → j < length bs → getD l (b + j) 0 ≡ getD bs j 0
 part-element l b bs j is h =
     sym (getD-drop b l j 0) ∙ sym (getD-take (length bs) (drop b l) j 0 h) ∙ ap (λ (x : List ℕ). getD x j 0) is
+
+pub filled-length : (l : List ℕ) (m : ℕ) → length l ≤ m → length (filled l m) ≡ m
+unfolding filled
+filled-length l m h = length-append l (replicate {A = ℕ} (m - length l) 0) ∙ rw (length-replicate {A = ℕ} (m - length l) 0) (omega arith)

@@ -34,7 +34,7 @@ pub step-is : (d b r : ℕ) → r ≡ (d * 256 + b) % 4294967291 → (r ≡ roll
 unfolding rollStep
 step-is d b r e = (e, omega (arith, e))
 
-step-exact : (y b : ℕ) → rollStep (y % 4294967291) b ≡ (y * 256 + b) % 4294967291
+pub step-exact : (y b : ℕ) → rollStep (y % 4294967291) b ≡ (y * 256 + b) % 4294967291
 unfolding rollStep
 step-exact y b =
     let z : y * 256 + b ≡ y / 4294967291 * 256 * 4294967291 + (y % 4294967291 * 256 + b) = omega arith in

@@ -9,7 +9,7 @@ use Rattle.laws.specs.Fix.{pick}
 use Rattle.laws.specs.Chain.{linkTo}
 use Rattle.laws.specs.Splice.{splice}
 use Rattle.records.specs.Layout.{Region}
-use Rattle.records.specs.Words.{wordAt, word, mostRecords}
+use Rattle.records.specs.Words.{wordAt, word, mostRecords, secondWord}
 
 -- the bucket of a digest: there are n, and the digest's high bits say which
 abbrev pub bucketOf : ℕ → ℕ → ℕ
@@ -40,7 +40,7 @@ entryAt n k = chainEntries .from * n + chainEntries .each * k
 pub record Chained (member : ℕ → Bool) (digest : ℕ → ℕ) (n r : ℕ) (l : List ℕ) : Type 0 where
   pub heads : (b : ℕ) → b < n → wordAt l (headAt b) ≡ linkTo (memberBucket member digest n) r b
   pub digests : (k : ℕ) → k < r → member k ≡ true → wordAt l (entryAt n k) ≡ digest k
-  pub links : (k : ℕ) → k < r → member k ≡ true → wordAt l (entryAt n k + 4) ≡ linkTo (memberBucket member digest n) k (memberBucket member digest n k)
+  pub links : (k : ℕ) → k < r → member k ≡ true → wordAt l (entryAt n k + secondWord) ≡ linkTo (memberBucket member digest n) k (memberBucket member digest n k)
 
 -- number r is entered, with its digest d and the head h of its bucket b
 abbrev pub entered : ℕ → ℕ → ℕ → ℕ → ℕ → List ℕ → List ℕ

@@ -18,8 +18,34 @@ endOf g = g .from + g .each
 abbrev pub knownBytes : ℕ
 knownBytes = 4
 
+-- within a slot: how deep the record is, how often it is referred to, what its list holds, its kind
+abbrev pub slotDepth : ℕ
+slotDepth = 0
+
+abbrev pub slotCount : ℕ
+slotCount = 1
+
+abbrev pub slotClass : ℕ
+slotClass = 2
+
+abbrev pub slotKind : ℕ
+slotKind = 3
+
+-- the same in the slot behind, so that record r's stand at `r * knownBytes + nextDepth` and so on
+abbrev pub nextDepth : ℕ
+nextDepth = knownBytes + slotDepth
+
+abbrev pub nextCount : ℕ
+nextCount = knownBytes + slotCount
+
+abbrev pub nextClass : ℕ
+nextClass = knownBytes + slotClass
+
+abbrev pub nextKind : ℕ
+nextKind = knownBytes + slotKind
+
 -- what the judge knows: the first slot and one for each record, so that the last lies in the region behind, which has nothing yet; before that, twelve bytes for each
--- type, while equal types are looked for; once the tree is judged, twelve for each record, while equal texts are looked for (`specs/Chains.antt`); then the functions'
+-- type, while equal types are looked for, and behind them, where names overlap, the samples of the text (`specs/Samples.antt`); once the tree is judged, twelve for each record, while equal texts are looked for (`specs/Chains.antt`, `specs/Order.antt`); then the functions'
 -- records in their order, a word each
 abbrev pub judging : Region
 judging = record { from = 0; each = 4 }

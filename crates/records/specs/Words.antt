@@ -4,7 +4,8 @@ use Prim.Native.Nat.{ℕ, zero, suc, _+_, _*_, _/_, _%_}
 use mathlib.Core.Bool.{Bool, true, false, _&&_}
 use mathlib.Core.List.{List, [], _∷_}
 use lib.Dec.{eqb}
-use lib.ListN.{length, take, drop, getD}
+use lib.ListN.{length, getD}
+use Rattle.laws.specs.Splice.{part}
 
 -- the byte at i, 0 past the end
 unfoldable pub byteAt : List ℕ → ℕ → ℕ
@@ -67,13 +68,23 @@ spanStart = 5
 abbrev pub spanEnd : ℕ
 spanEnd = 6
 
+-- where the second, third and fourth word of an entry of words stand, from its beginning
+abbrev pub secondWord : ℕ
+secondWord = 4
+
+abbrev pub thirdWord : ℕ
+thirdWord = 8
+
+abbrev pub fourthWord : ℕ
+fourthWord = 12
+
 -- 'FFFFFFFF (hexadecimal) in a word means none'
 abbrev pub none : ℕ
 none = 4294967295
 
 -- 'A text is an offset and a length into the text buffer'
 unfoldable pub textAt : List ℕ → ℕ → ℕ → List ℕ
-textAt text offset len = take len (drop offset text)
+textAt text offset len = part text offset len
 
 -- two texts are the same, byte for byte
 unfoldable pub sameText : List ℕ → List ℕ → Bool

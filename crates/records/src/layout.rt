@@ -21,10 +21,19 @@ pub const NEXT_CLASS: usize = 6;
 
 pub const NEXT_KIND: usize = 7;
 
-// The heads of a chain's buckets stand first, then an entry for each number: while equal types and equal texts are looked for (`records/specs/Chains.antt`).
+// The heads of a chain's buckets stand first, then an entry for each number: while equal types and equal texts are looked for (`records/specs/Chains.antt`,
+// `records/specs/Order.antt`).
 pub const CHAIN_HEAD_BYTES: usize = 4;
 
 pub const CHAIN_ENTRY_BYTES: usize = 8;
+
+// Heads and entries together.
+pub const CHAIN_EACH: usize = 12;
+
+// A sample of the text: two words, the digest and the power (`records/specs/Samples.antt`).
+pub const SAMPLE_BYTES: usize = 8;
+
+pub const SAMPLE_POWER: usize = 4;
 
 // The functions' records, from byte 0 on.
 pub const LISTED_BYTES: usize = 4;

@@ -3,6 +3,8 @@ pub mod chains;
 pub mod convert_error;
 pub mod layout;
 pub mod numbers;
+pub mod order;
+pub mod samples;
 pub mod shape;
 pub mod texts;
 pub mod words;

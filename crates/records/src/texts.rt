@@ -8,7 +8,7 @@ use crate::words::load;
 use crate::words::wide;
 
 // How many bytes a text has: none of them lie past the buffer's end.
-fn reach(text: &[u8], offset: usize, len: usize) -> usize
+pub(crate) fn reach(text: &[u8], offset: usize, len: usize) -> usize
     ensures { λ r. ⌜ r ≡ length (textAt (now (text .entry)) offset len) ⌝ }
 {
     let all = text.len();
@@ -23,7 +23,7 @@ fn reach(text: &[u8], offset: usize, len: usize) -> usize
 
 // Whether eight bytes of s from i on and of t from j on are the same. The compiler makes one load of 64 bits of the two words, and of the
 // functions below wider ones; so nothing here may branch.
-fn same_eight(s: &[u8], i: usize, t: &[u8], j: usize) -> bool
+pub fn same_eight(s: &[u8], i: usize, t: &[u8], j: usize) -> bool
     requires { ⌜ (i + 8 ≤ length (now s)) × (j + 8 ≤ length (now t)) ⌝ }
     ensures { λ r. ⌜ r ≡ sameText (textAt (now (s .entry)) i 8) (textAt (now (t .entry)) j 8) ⌝ }
 {
@@ -47,7 +47,7 @@ fn same_thirty_two(s: &[u8], i: usize, t: &[u8], j: usize) -> bool
 }
 
 // Eight eights.
-fn same_sixty_four(s: &[u8], i: usize, t: &[u8], j: usize) -> bool
+pub fn same_sixty_four(s: &[u8], i: usize, t: &[u8], j: usize) -> bool
     requires { ⌜ (i + 64 ≤ length (now s)) × (j + 64 ≤ length (now t)) ⌝ }
     ensures { λ r. ⌜ r ≡ sameText (textAt (now (s .entry)) i 64) (textAt (now (t .entry)) j 64) ⌝ }
 {

@@ -28,6 +28,13 @@ pub const SPAN_START: usize = 5;
 
 pub const SPAN_END: usize = 6;
 
+// Where the second, third and fourth of an entry's words stand, from its beginning.
+pub const SECOND_WORD: usize = 4;
+
+pub const THIRD_WORD: usize = 8;
+
+pub const FOURTH_WORD: usize = 12;
+
 // How many records a tree has at least, which are the types that each begins with, and at most.
 pub const FEWEST_RECORDS: usize = 12;
 
@@ -129,7 +136,7 @@ pub fn put_pair(buf: &mut [u8], at: usize, a: u32, b: u32)
     requires { ⌜ at + 8 ≤ length (now buf) ⌝ }
     ensures { λ _. ⌜ now (buf .exit) ≡ splice (now (buf .entry)) at (wordBytes a ++ wordBytes b) ⌝ }
 {
-    let second = at + 4;
+    let second = at + SECOND_WORD;
     put_word(buf, at, a);
     put_word(buf, second, b);
 }
@@ -141,9 +148,9 @@ pub fn put_four(buf: &mut [u8], at: usize, w: Four)
     requires { ⌜ at + 16 ≤ length (now buf) ⌝ }
     ensures { λ _. ⌜ now (buf .exit) ≡ splice (now (buf .entry)) at (wordBytes (w .0) ++ wordBytes (w .1) ++ wordBytes (w .2) ++ wordBytes (w .3)) ⌝ }
 {
-    let second = at + 8;
+    let third = at + THIRD_WORD;
     put_pair(buf, at, w.0, w.1);
-    put_pair(buf, second, w.2, w.3);
+    put_pair(buf, third, w.2, w.3);
 }
 
 // What a search answers: the number of the entry, or that there is none.

@@ -11,7 +11,7 @@ use Rattle.laws.specs.Fix.{pick}
 use Rattle.laws.specs.Splice.{splice}
 use Rattle.records.specs.Layout.{scratchEach, openNames, nameSlots}
 use Rattle.records.specs.Words as Words
-use Rattle.records.specs.Words.{wordAt, textAt}
+use Rattle.records.specs.Words.{wordAt, textAt, secondWord, thirdWord, fourthWord}
 use Rattle.syntax.specs.Places.{functionOf}
 use Rattle.conversion.specs.Ir as Ir
 use Rattle.conversion.specs.Ir.{sameText}
@@ -32,13 +32,13 @@ use Rattle.scope.specs.declared.InLoop.the-variants as InLoop
 
 -- the entry at byte p: offset and length of its name, its number, twice its type and 1 if constant
 abbrev pub varAt : List ℕ → ℕ → Ir.VarId
-varAt s p = record { id = wordAt s (p + 8); ty = wordAt s (p + 12) / 2 }
+varAt s p = record { id = wordAt s (p + thirdWord); ty = wordAt s (p + fourthWord) / 2 }
 
 abbrev pub constantAt : List ℕ → ℕ → Bool
-constantAt s p = eqb (wordAt s (p + 12) % 2) 1
+constantAt s p = eqb (wordAt s (p + fourthWord) % 2) 1
 
 abbrev pub openVariable : List ℕ → List ℕ → ℕ → Variable
-openVariable text s p = record { name = textAt text (wordAt s p) (wordAt s (p + 4)); constant = constantAt s p; var-id = varAt s p }
+openVariable text s p = record { name = textAt text (wordAt s p) (wordAt s (p + secondWord)); constant = constantAt s p; var-id = varAt s p }
 
 -- where entry j stands in the scratch of n records
 abbrev pub openNameAt : ℕ → ℕ → ℕ
@@ -72,11 +72,11 @@ pub record NamesRoom (sc : Scope) (s : List ℕ) : Type 0 where
 
 -- the name of entry j is the text u
 unfoldable pub nameIs : List ℕ → List ℕ → ℕ → List ℕ → ℕ → Bool
-nameIs text s n u j = sameText u (textAt text (wordAt s (openNameAt n j)) (wordAt s (openNameAt n j + 4)))
+nameIs text s n u j = sameText u (textAt text (wordAt s (openNameAt n j)) (wordAt s (openNameAt n j + secondWord)))
 
 -- offset and length of entry j are these two words
 unfoldable pub wordsAre : List ℕ → ℕ → ℕ → ℕ → ℕ → Bool
-wordsAre s n offset len j = eqb offset (wordAt s (openNameAt n j)) && eqb len (wordAt s (openNameAt n j + 4))
+wordsAre s n offset len j = eqb offset (wordAt s (openNameAt n j)) && eqb len (wordAt s (openNameAt n j + secondWord))
 
 -- where the slot of the text with number o stands in the scratch of n records
 abbrev pub nameSlotAt : ℕ → ℕ → ℕ
@@ -149,7 +149,7 @@ module _ (text : List ℕ) (o offset len : ℕ) (v : VarId) (constant : Bool) (s
     pub free : findIn (textAt text offset len) (variablesOf text s sc) ≡ none
     pub new : (j : ℕ) → j < sc .names → wordsAre s (sc .records) offset len j ≡ false
     pub offset-is : wordAt s′ (openNameAt (sc .records) (sc .names)) ≡ offset
-    pub length-is : wordAt s′ (openNameAt (sc .records) (sc .names) + 4) ≡ len
+    pub length-is : wordAt s′ (openNameAt (sc .records) (sc .names) + secondWord) ≡ len
     pub slot-is : wordAt s′ (nameSlotAt (sc .records) o) ≡ sc .names
     pub added : variablesOf text s′ sc′ ≡ variableNamed text offset len v constant ∷ variablesOf text s sc
 

@@ -13,9 +13,12 @@ use records::layout::NAME_SLOT_BYTES;
 use records::layout::NAME_SLOTS;
 use records::layout::OPEN_NAME_BYTES;
 use records::layout::OPEN_NAMES;
+use records::words::FOURTH_WORD;
 use records::words::Found;
 use records::words::Four;
 use records::words::NONE;
+use records::words::SECOND_WORD;
+use records::words::THIRD_WORD;
 use records::words::index;
 use records::words::load;
 use records::words::mark;
@@ -54,7 +57,10 @@ fn entry_is(scratch: &[u8], records: usize, j: usize, offset: u32, len: u32) -> 
     ensures { λ r. ⌜ r ≡ wordsAre (now (scratch .entry)) records offset len j ⌝ }
 {
     let a = load(scratch, OPEN_NAMES * records + OPEN_NAME_BYTES * j);
-    let n = load(scratch, OPEN_NAMES * records + OPEN_NAME_BYTES * j + 4);
+    let n = load(
+        scratch,
+        OPEN_NAMES * records + OPEN_NAME_BYTES * j + SECOND_WORD,
+    );
     (offset == a) & (len == n)
 }
 
@@ -78,8 +84,14 @@ fn variable_at(scratch: &[u8], records: usize, j: usize) -> Known
     requires { ⌜ openNameAt records j + openNames .each ≤ length (now scratch) ⌝ }
     ensures { λ r. ⌜ VariableAt (now (scratch .entry)) (openNameAt records j) r ⌝ }
 {
-    let id = load(scratch, OPEN_NAMES * records + OPEN_NAME_BYTES * j + 8);
-    let w = load(scratch, OPEN_NAMES * records + OPEN_NAME_BYTES * j + 12);
+    let id = load(
+        scratch,
+        OPEN_NAMES * records + OPEN_NAME_BYTES * j + THIRD_WORD,
+    );
+    let w = load(
+        scratch,
+        OPEN_NAMES * records + OPEN_NAME_BYTES * j + FOURTH_WORD,
+    );
     Known::Is(VarId(id, w / 2), w % 2 == 1)
 }
 

@@ -308,11 +308,11 @@ StepsAt X = List ℕ → List ℕ → List ℕ → Converter → ℕ → M X
 abbrev pub given : {X Y : Type 0} → (List ℕ → List ℕ → List ℕ → Converter → ℕ → Y → M X) → Y → StepsAt X
 given steps y = λ tree text s c r. steps tree text s c r y
 
-abbrev pub givenTwo : {X Y Z : Type 0} → (List ℕ → List ℕ → List ℕ → Converter → ℕ → Y → Z → M X) → Y → Z → StepsAt X
-givenTwo steps y z = λ tree text s c r. steps tree text s c r y z
+abbrev pub givens : {X Y Z : Type 0} → (List ℕ → List ℕ → List ℕ → Converter → ℕ → Y → Z → M X) → Y → Z → StepsAt X
+givens steps y z = λ tree text s c r. steps tree text s c r y z
 
-abbrev pub ofVariable : {X : Type 0} → (List ℕ → List ℕ → List ℕ → Converter → VarId → ℕ → M X) → VarId → StepsAt X
-ofVariable steps x = λ tree text s c r. steps tree text s c x r
+abbrev pub ofVar : {X : Type 0} → (List ℕ → List ℕ → List ℕ → Converter → VarId → ℕ → M X) → VarId → StepsAt X
+ofVar steps x = λ tree text s c r. steps tree text s c x r
 
 -- the condition or operand of the expression e
 abbrev pub ConvertsAs : StepsAt Ir.Operand → Converter → ℕ → List ℕ → List ℕ → List ℕ → List ℕ → Converted → List ℕ → List ℕ → Type 0

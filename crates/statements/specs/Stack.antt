@@ -8,7 +8,7 @@ use lib.ListN.{getD}
 use mir.Syntax.{w64}
 use mir.Val.{toZ}
 use Rattle.records.specs.Layout.{operands}
-use Rattle.records.specs.Words.{wordAt}
+use Rattle.records.specs.Words.{wordAt, secondWord, thirdWord, fourthWord}
 use Rattle.conversion.specs.Ir.{Operand, OVar, OInt, OFloat, OBool, ODataAddress, ONull}
 use Rattle.conversion.specs.Written.{word, wide, tag, operandValue}
 
@@ -40,7 +40,7 @@ stackEntryAt n j = operands .from * n + operands .each * j
 -- the operand of entry j
 unfoldable pub operandAt : List ℕ → ℕ → ℕ → Operand
 unfolding operandFrom wordAt
-operandAt s n j = operandFrom (wordAt s (stackEntryAt n j)) (wordAt s (stackEntryAt n j + 4)) (wordAt s (stackEntryAt n j + 8)) (wordAt s (stackEntryAt n j + 12))
+operandAt s n j = operandFrom (wordAt s (stackEntryAt n j)) (wordAt s (stackEntryAt n j + secondWord)) (wordAt s (stackEntryAt n j + thirdWord)) (wordAt s (stackEntryAt n j + fourthWord))
 
 -- the operands of `count` entries from entry j on
 unfoldable pub stackAt : List ℕ → ℕ → ℕ → ℕ → List Operand

@@ -171,7 +171,7 @@ pub fn convert_block(
             Stated::Refused(x) => return Finished::Refused(x),
             Stated::Done(scope) => at.scope = scope,
         }
-        cell = next_cell(tree, text, cell);
+        cell = next_cell(tree, cell);
     }
     Finished::Done
 }

@@ -8,7 +8,7 @@ ghost use Rattle.syntax.specs.Places.{IsExpr, IsKind, TypeAt};
 ghost use Rattle.ir.specs.Counted.{was, is};
 ghost use Rattle.statements.specs.Converting.{Converting, ExprAfforded, ArgsAfforded};
 ghost use Rattle.statements.specs.Lent.{at, converted, convertedArgs};
-ghost use Rattle.statements.specs.Answers.{givenTwo, given, exprSteps, unarySteps, logicSteps, otherSteps, binarySteps, callSteps, argsSteps, ConvertsAs, CallArgsAs};
+ghost use Rattle.statements.specs.Answers.{givens, given, exprSteps, unarySteps, logicSteps, otherSteps, binarySteps, callSteps, argsSteps, ConvertsAs, CallArgsAs};
 ghost use Rattle.statements.specs.Turns.{InTurn, exprTypes, unaryTypes, sidesTypes, binaryTypes, argsTypes, callTypes, ConvertsTyped, ArgumentsTyped};
 use crate::answers::Converted;
 use crate::answers::ConvertedArgs;
@@ -177,7 +177,7 @@ fn convert_other(
     requires { ⌜ Converting (now tree) (now text) (now arena) (now scratch) (at c (now k)) × ExprAfforded (now tree) (now text) (at c (now k)) e ⌝ }
     requires { ⌜ IsKind (now tree) kindBinary e × TypeAt (now tree) y × TypeAt (now tree) q ⌝ }
     requires { ⌜ InTurn (now tree) (now text) (now scratch) (at c (now k)) ⌝ }
-    ensures { λ a. ⌜ ConvertsAs (givenTwo otherSteps y q) (at c (was k)) e (was tree) (was text) (was arena) (was scratch) (converted (is k) a) (is arena) (is scratch) ⌝ }
+    ensures { λ a. ⌜ ConvertsAs (givens otherSteps y q) (at c (was k)) e (was tree) (was text) (was arena) (was scratch) (converted (is k) a) (is arena) (is scratch) ⌝ }
     ensures types { λ a. ⌜ ConvertsTyped sidesTypes (at c (was k)) e (was tree) (was text) (was scratch) (converted (is k) a) (is scratch) ⌝ }
 {
     let op = detail(tree, e);
@@ -253,7 +253,7 @@ pub(crate) fn convert_args(
                 }
             }
         }
-        cell = next_cell(tree, text, cell);
+        cell = next_cell(tree, cell);
     }
     ConvertedArgs::Done(at.operands - first)
 }

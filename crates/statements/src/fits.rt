@@ -156,7 +156,7 @@ fn next_parameter(tree: &[u8], text: &[u8], parameter: usize) -> usize
     if parameter == END {
         return END;
     }
-    next_cell(tree, text, parameter)
+    next_cell(tree, parameter)
 }
 
 // The first value from this argument on, beside the parameters from this one on. A type gives no Arg, and takes a parameter's place.
@@ -167,7 +167,7 @@ fn first_value(tree: &[u8], text: &[u8], argument: usize, parameter: usize) -> A
     let mut cell = argument;
     let mut beside = parameter;
     while cell != END {
-        let next = next_cell(tree, text, cell);
+        let next = next_cell(tree, cell);
         if let Argument::Expr(_) = argument_at(tree, text, cell) {
             return AtValue {
                 parameter: beside,

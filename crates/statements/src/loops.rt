@@ -18,7 +18,7 @@ ghost use Rattle.statements.specs.Converting.{Converting, RoomFor, Opera
 ghost use Rattle.statements.specs.Lent.{at, stated, finished, foundVariable};
 ghost use Rattle.statements.specs.Meets.{Adds};
 ghost use Rattle.statements.specs.Parts.{ifMiddle, loopBack, testBound, placeLabel};
-ghost use Rattle.statements.specs.Answers.{countOnSteps, ofVariable, HeadAs, BoundAs, TurnsAs, TurnsAfforded, ForHeadAs, VariableAs, Checks, ifHeadSteps, whileHeadSteps, forVariableSteps, boundSteps, forBoundsSteps, forBeginSteps, forTestSteps, forTurnsSteps, forHeadSteps};
+ghost use Rattle.statements.specs.Answers.{countOnSteps, ofVar, HeadAs, BoundAs, TurnsAs, TurnsAfforded, ForHeadAs, VariableAs, Checks, ifHeadSteps, whileHeadSteps, forVariableSteps, boundSteps, forBoundsSteps, forBeginSteps, forTestSteps, forTurnsSteps, forHeadSteps};
 ghost use Rattle.statements.specs.Turns.{InTurn, headTypes, boundTypes, boundsTypes, forBeginTypes, forTestTypes, forTypes, StatesTyped, FinishesTyped, VariableTyped, ChecksTyped};
 use crate::answers::Converted;
 use crate::answers::Converter;
@@ -312,7 +312,7 @@ fn for_begin(
     requires { ⌜ Converting (now tree) (now text) (now arena) (now scratch) (at c (now k)) × BoundAfforded (now tree) (now text) (at c (now k)) r Words.B ⌝ }
     requires { ⌜ IsKind (now tree) kindFor r × TypeAt (now tree) (x .1) ⌝ }
     requires { ⌜ InTurn (now tree) (now text) (now scratch) (at c (now k)) ⌝ }
-    ensures { λ a. ⌜ BoundAs (ofVariable forBeginSteps x) Words.B (at c (was k)) r (was tree) (was text) (was arena) (was scratch) (finished (is k) a) (is arena) (is scratch) ⌝ }
+    ensures { λ a. ⌜ BoundAs (ofVar forBeginSteps x) Words.B (at c (was k)) r (was tree) (was text) (was arena) (was scratch) (finished (is k) a) (is arena) (is scratch) ⌝ }
     ensures types { λ a. ⌜ FinishesTyped forBeginTypes (at c (was k)) r (was tree) (was text) (was scratch) (finished (is k) a) (is scratch) ⌝ }
 {
     let from = reference(tree, r, WORD_B);
@@ -351,7 +351,7 @@ fn for_test(
     requires { ⌜ Converting (now tree) (now text) (now arena) (now scratch) (at c (now k)) × BoundAfforded (now tree) (now text) (at c (now k)) r Words.C ⌝ }
     requires { ⌜ IsKind (now tree) kindFor r × TypeAt (now tree) (x .1) ⌝ }
     requires { ⌜ InTurn (now tree) (now text) (now scratch) (at c (now k)) ⌝ }
-    ensures { λ a. ⌜ BoundAs (ofVariable forTestSteps x) Words.C (at c (was k)) r (was tree) (was text) (was arena) (was scratch) (finished (is k) a) (is arena) (is scratch) ⌝ }
+    ensures { λ a. ⌜ BoundAs (ofVar forTestSteps x) Words.C (at c (was k)) r (was tree) (was text) (was arena) (was scratch) (finished (is k) a) (is arena) (is scratch) ⌝ }
     ensures types { λ a. ⌜ FinishesTyped forTestTypes (at c (was k)) r (was tree) (was text) (was scratch) (finished (is k) a) (is scratch) ⌝ }
 {
     let until = reference(tree, r, WORD_C);
@@ -378,7 +378,7 @@ fn for_turns(
     requires { ⌜ Converting (now tree) (now text) (now arena) (now scratch) (at c (now k)) × TurnsAfforded (now tree) (now text) (at c (now k)) r ⌝ }
     requires { ⌜ IsKind (now tree) kindFor r × TypeAt (now tree) (x .1) ⌝ }
     requires { ⌜ InTurn (now tree) (now text) (now scratch) (at c (now k)) ⌝ }
-    ensures { λ a. ⌜ TurnsAs (ofVariable forTurnsSteps x) (at c (was k)) r (was tree) (was text) (was arena) (was scratch) (finished (is k) a) (is arena) (is scratch) ⌝ }
+    ensures { λ a. ⌜ TurnsAs (ofVar forTurnsSteps x) (at c (was k)) r (was tree) (was text) (was arena) (was scratch) (finished (is k) a) (is arena) (is scratch) ⌝ }
     ensures types { λ a. ⌜ FinishesTyped forTypes (at c (was k)) r (was tree) (was text) (was scratch) (finished (is k) a) (is scratch) ⌝ }
 {
     let y = x.1 as usize;

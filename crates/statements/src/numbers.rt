@@ -20,6 +20,8 @@ pub(crate) const TAG_VARIABLE: u32 = ir::structs::TAG_VARIABLE as u32;
 
 pub(crate) const TAG_INT: u32 = ir::structs::TAG_INT as u32;
 
+pub(crate) const TAG_UNSIGNED: u32 = ir::structs::TAG_UNSIGNED as u32;
+
 pub(crate) const TAG_FLOAT: u32 = ir::structs::TAG_FLOAT as u32;
 
 pub(crate) const TAG_BOOL: u32 = ir::structs::TAG_BOOL as u32;

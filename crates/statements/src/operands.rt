@@ -31,6 +31,7 @@ use crate::numbers::TAG_FLOAT;
 use crate::numbers::TAG_INT;
 use crate::numbers::TAG_NULL;
 use crate::numbers::TAG_STRING;
+use crate::numbers::TAG_UNSIGNED;
 use crate::numbers::TAG_VARIABLE;
 use expressions::names::find_name;
 use ir::floats::float_entry;
@@ -47,7 +48,10 @@ use records::numbers::KIND_INT;
 use records::numbers::KIND_NAME;
 use records::numbers::KIND_NULL;
 use records::numbers::KIND_STR;
+use records::words::FOURTH_WORD;
 use records::words::Four;
+use records::words::SECOND_WORD;
+use records::words::THIRD_WORD;
 use records::words::WORD_A;
 use records::words::WORD_B;
 use records::words::detail;
@@ -95,7 +99,7 @@ fn operand_of(w: Four) -> Operand
     }
     if tag < TAG_FLOAT {
         let bits = w.2 as u64 + w.3 as u64 * 4294967296;
-        return Operand::Int(bits, tag % 2 == 1, tag >= 4);
+        return Operand::Int(bits, tag % 2 == 1, tag >= TAG_UNSIGNED);
     }
     if tag == TAG_FLOAT {
         return Operand::Float(w.2);
@@ -126,9 +130,9 @@ pub(crate) fn operand_at(scratch: &[u8], records: usize, j: usize) -> Operand
 {
     let at = OPERANDS * records + OPERAND_BYTES * j;
     let a = load(scratch, at);
-    let b = load(scratch, at + 4);
-    let c = load(scratch, at + 8);
-    let d = load(scratch, at + 12);
+    let b = load(scratch, at + SECOND_WORD);
+    let c = load(scratch, at + THIRD_WORD);
+    let d = load(scratch, at + FOURTH_WORD);
     operand_of(Four(a, b, c, d))
 }
 

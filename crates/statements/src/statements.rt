@@ -19,7 +19,7 @@ ghost use Rattle.statements.specs.Converting.{Converting, RoomFor, Opera
 ghost use Rattle.statements.specs.Lent.{at, converted, stated, finished};
 ghost use Rattle.statements.specs.Meets.{Adds};
 ghost use Rattle.statements.specs.Parts.{copyFitted, zeroFloat};
-ghost use Rattle.statements.specs.Answers.{ZeroMeets, givenTwo, given, ConvertsAs, StatesAs, CallOnlyAs, DeclaresAs, condSteps, declareSteps, initSteps, initNewSteps, assignSteps, assignToSteps, returnSteps, returnAsSteps, callStatementSteps, callOnlySteps, breakSteps, continueSteps, declareInitSteps};
+ghost use Rattle.statements.specs.Answers.{ZeroMeets, givens, given, ConvertsAs, StatesAs, CallOnlyAs, DeclaresAs, condSteps, declareSteps, initSteps, initNewSteps, assignSteps, assignToSteps, returnSteps, returnAsSteps, callStatementSteps, callOnlySteps, breakSteps, continueSteps, declareInitSteps};
 ghost use Rattle.statements.specs.Turns.{InTurn, noTypes, callOnlyTypes, valueTypes, assignTypes, initTypes, headTypes, returnAsTypes, ownTypes, ConvertsTyped, StatesTyped};
 use crate::answers::Converted;
 use crate::answers::ConvertedArgs;
@@ -237,7 +237,7 @@ fn convert_assign(
     requires { ⌜ Converting (now tree) (now text) (now arena) (now scratch) (at c (now k)) × BehindAfforded (now tree) (now text) (at c (now k)) r ⌝ }
     requires { ⌜ IsKind (now tree) kindInit r × TypeAt (now tree) (v .1) ⌝ }
     requires { ⌜ InTurn (now tree) (now text) (now scratch) (at c (now k)) ⌝ }
-    ensures { λ a. ⌜ StatesAs (givenTwo assignSteps v constant) (at c (was k)) r (was tree) (was text) (was arena) (was scratch) (stated (is k) a) (is arena) (is scratch) ⌝ }
+    ensures { λ a. ⌜ StatesAs (givens assignSteps v constant) (at c (was k)) r (was tree) (was text) (was arena) (was scratch) (stated (is k) a) (is arena) (is scratch) ⌝ }
     ensures types { λ a. ⌜ StatesTyped assignTypes (at c (was k)) r (was tree) (was text) (was scratch) (stated (is k) a) (is scratch) ⌝ }
 {
     if constant {
@@ -271,7 +271,7 @@ fn declare_init(
     requires { ⌜ Converting (now tree) (now text) (now arena) (now scratch) (at c (now k)) × Afforded (now tree) (at c (now k)) (amount 1 1 0 0 0) 0 1 ⌝ }
     requires { ⌜ IsKind (now tree) kindInit r × TypeAt (now tree) y ⌝ }
     requires { ⌜ InTurn (now tree) (now text) (now scratch) (at c (now k)) ⌝ }
-    ensures { λ a. ⌜ DeclaresAs (givenTwo declareInitSteps y src) (at c (was k)) r (was tree) (was text) (was arena) (was scratch) (stated (is k) a) (is arena) (is scratch) ⌝ }
+    ensures { λ a. ⌜ DeclaresAs (givens declareInitSteps y src) (at c (was k)) r (was tree) (was text) (was arena) (was scratch) (stated (is k) a) (is arena) (is scratch) ⌝ }
     ensures types { λ a. ⌜ StatesTyped noTypes (at c (was k)) r (was tree) (was text) (was scratch) (stated (is k) a) (is scratch) ⌝ }
 {
     let scope = c.scope;
@@ -356,7 +356,7 @@ fn return_as(
     requires { ⌜ Converting (now tree) (now text) (now arena) (now scratch) (at c (now k)) × BehindAfforded (now tree) (now text) (at c (now k)) r ⌝ }
     requires { ⌜ IsKind (now tree) kindReturn r × TypeAt (now tree) y × TypeAt (now tree) expected ⌝ }
     requires { ⌜ InTurn (now tree) (now text) (now scratch) (at c (now k)) ⌝ }
-    ensures { λ a. ⌜ StatesAs (givenTwo returnAsSteps y expected) (at c (was k)) r (was tree) (was text) (was arena) (was scratch) (stated (is k) a) (is arena) (is scratch) ⌝ }
+    ensures { λ a. ⌜ StatesAs (givens returnAsSteps y expected) (at c (was k)) r (was tree) (was text) (was arena) (was scratch) (stated (is k) a) (is arena) (is scratch) ⌝ }
     ensures types { λ a. ⌜ StatesTyped returnAsTypes (at c (was k)) r (was tree) (was text) (was scratch) (stated (is k) a) (is scratch) ⌝ }
 {
     let scope = c.scope;

@@ -1,7 +1,7 @@
--- The pass over the records: what the walk along a chain of texts shows of a record's number, and what is left once the record is entered and its number and digest written.
+-- The pass over the records: what a walk along a chain of texts shows of a record's number, and what is left once the record is entered and its number and digest written.
 -- By the laws of chains and of texts, and word for word where these are written. Assumes nothing.
 use mathlib.Core.Path.{_≡_, refl, sym, ap, _∙_}
-use mathlib.Core.Logic.{_⊎_, inl, inr}
+use mathlib.Core.Logic.{_⊎_, inl, inr, ⊎-elim}
 use Prim.Native.Nat.{ℕ, suc, _+_, _*_, _≤_, _<_}
 use mathlib.Core.Bool.{Bool, true, false, _&&_, false≢true}
 use mathlib.Core.List.{List}
@@ -9,107 +9,116 @@ use mathlib.Core.Option.{Option}
 use native.Mathlib.Omega.{arith}
 use lib.ListN.{length, getD}
 use borrow.Author.Count.{below-more}
-use Rattle.laws.specs.Chain.{linkTo, Met}
 use Rattle.laws.specs.Splice.{splice}
 use Rattle.laws.proofs.BelowLaws.{lowest-some}
-use Rattle.laws.proofs.ChainLaws.{walk-end}
 use Rattle.laws.proofs.Splices.{length-splice}
 use Rattle.laws.proofs.Tests.{tested, and-left, and-right}
-use Rattle.records.specs.Chains.{bucketOf, entryAt, ChainRoom, Emptied, entered}
+use Rattle.records.specs.Chains.{bucketOf, headAt, entryAt, ChainRoom, Emptied}
 use Rattle.records.specs.Digest.{digestEnd, digestOf, rollOf}
+use Rattle.records.specs.Order.{chainOf, firstWith, PlaceOf, placedAt}
 use Rattle.records.specs.Words.{byteAt, wordAt, kindOf, wordOf, textAt, sameText, bytesOf, word, records, mostRecords, A, B}
 use Rattle.records.proofs.Apart.{byte-apart, word-apart, word-there, word-back, word-same}
 use Rattle.records.proofs.ChainedLaws as chained
 use Rattle.records.proofs.DigestLaws.{same-equal, digest-is}
+use Rattle.records.proofs.EntryLaws.{entered-long, entered-behind, chains-none, chains-kept, chains-past, chains-found, chains-more, place-low}
+use Rattle.records.proofs.PlacedLaws.{all-and, first-is, First, chain-inside, chain-below, chain-none, chain-first}
+use Rattle.records.proofs.TextLaws.{same-texts}
 use Rattle.texts.specs.Texts.{hasText, hasOwn, ownText, sameOwn, numberOr, original, originalAt, textDigestAt, Kept}
-use Rattle.texts.specs.Pass.{ownDigest, textBucket, Passed}
-use Rattle.texts.proofs.TextLaws.{same-own, same-original, original-below}
+use Rattle.texts.specs.Pass.{ownDigest, textBucket, Chains, Entered, Passed}
+use Rattle.texts.proofs.TextLaws.{same-own, original-below}
 
 -- whether record r has a text, as the code tests it
 pub own-told : (tree : List ℕ) (r k : ℕ) (v b : Bool) → k ≡ kindOf tree r → v ≡ hasText k → v ≡ b → hasOwn tree r ≡ b
 own-told tree r k v b ek ev e = ap hasText (sym ek) ∙ sym ev ∙ e
 
--- ---- the walk
-
--- records j and r have a text, and it is the same
-unfoldable pub sameBoth : List ℕ → List ℕ → ℕ → ℕ → Bool
-sameBoth tree text j r = hasOwn tree r && sameOwn tree text r j
+-- ---- the number
 
 module _ (tree text : List ℕ) where
-  pub texts-differ : (k r x d : ℕ) → x ≡ ownDigest tree text k → d ≡ ownDigest tree text r → (x ≡ d → ⊥)
-      → false ≡ sameText (ownText tree text k) (ownText tree text r)
-  texts-differ k r x d ex ed n =
-      tested (sameText (ownText tree text k) (ownText tree text r))
-      (λ t. absurd (n (ex ∙ ap digestOf (same-equal _ _ t) ∙ sym ed)))
-      (λ t. sym t)
-
-  pub texts-told : (k r a b x y : ℕ) (v : Bool) → a ≡ wordOf tree k A → b ≡ wordOf tree k B → x ≡ wordOf tree r A → y ≡ wordOf tree r B
-      → v ≡ sameText (textAt text a b) (textAt text x y) → v ≡ sameText (ownText tree text k) (ownText tree text r)
-  texts-told k r a b x y v ea eb ex ey e = e ∙ rw (ea, eb, ex, ey) refl
-
   -- what the code reads of record r
   pub roll-told : (r a b x : ℕ) → a ≡ wordOf tree r A → b ≡ wordOf tree r B → x ≡ rollOf (textAt text a b) → x ≡ rollOf (ownText tree text r)
   roll-told r a b x ea eb e = e ∙ rw (ea, eb) refl
 
-  pub digest-told : (r x d : ℕ) → x ≡ rollOf (ownText tree text r) → d ≡ digestEnd x → d ≡ ownDigest tree text r
-  digest-told r x d ex e = digest-is (ownText tree text r) x d ex e
+  pub bucket-told : (r x d b : ℕ) → hasOwn tree r ≡ true → x ≡ rollOf (ownText tree text r) → d ≡ digestEnd x → b ≡ bucketOf (records tree) d → b ≡ textBucket tree text r
+  bucket-told r x d b tr ex e eb =
+      chained.bucket-told (hasOwn tree) (ownDigest tree text) (records tree) r d b tr (digest-is (ownText tree text r) x d ex e) eb
 
-  module _ (r d b : ℕ) (tr : hasOwn tree r ≡ true) (ed : d ≡ ownDigest tree text r) (eb : b ≡ bucketOf (records tree) d) where
-    pub bucket-told : b ≡ textBucket tree text r
-    bucket-told = chained.bucket-told (hasOwn tree) (ownDigest tree text) (records tree) r d b tr ed eb
+  module _ (r b : ℕ) (hr : r < records tree) (tr : hasOwn tree r ≡ true) (eb : b ≡ textBucket tree text r) (hb : b < records tree) where
+    abbrev entries : List ℕ
+    entries = chainOf (ownText tree text) (textBucket tree text) r b
 
-    pub head-told : (s : List ℕ) (h : ℕ) → Passed tree text r s → b < records tree → h ≡ wordAt s (4 * b) → h ≡ linkTo (textBucket tree text) r (textBucket tree text r)
-    head-told s h p hb eh = chained.head-told (hasOwn tree) (ownDigest tree text) (records tree) s r b h (p .chained) hb bucket-told eh
+    -- record k has not r's text, if it has not that of e in bucket b, which is the same
+    apart : (e k : ℕ) → ownText tree text e ≡ ownText tree text r → (textBucket tree text k ≡ b → sameText (ownText tree text k) (ownText tree text e) ≡ false)
+        → sameOwn tree text r k ≡ false
+    unfolding sameOwn
+    apart e k q other =
+        tested (sameOwn tree text r k)
+        (λ y.
+        let hk : hasOwn tree k ≡ true = and-left (hasOwn tree k) _ y in
+        let s : ownText tree text k ≡ ownText tree text r = same-equal _ _ (and-right (hasOwn tree k) _ y) in
+        let z : textBucket tree text k ≡ b = chained.together (hasOwn tree) (ownDigest tree text) (records tree) k r hk tr (ap digestOf s) ∙ sym eb in
+        absurd (false≢true (sym (other z) ∙ same-texts _ _ (s ∙ sym q))))
+        (λ n. n)
 
-  pub both-is : (k r : ℕ) (b : Bool) → hasOwn tree k ≡ true → hasOwn tree r ≡ true → b ≡ sameText (ownText tree text k) (ownText tree text r) → sameBoth tree text k r ≡ b
-  unfolding sameBoth sameOwn
-  both-is k r b tk tr e = rw (tr, tk) (sym e)
-
-  pub together : (j r : ℕ) → sameBoth tree text j r ≡ true → textBucket tree text j ≡ textBucket tree text r
-  unfolding sameBoth sameOwn
-  together j r e =
-      let own : sameOwn tree text r j ≡ true = and-right (hasOwn tree r) (sameOwn tree text r j) e in
-      chained.together (hasOwn tree) (ownDigest tree text) (records tree) j r
-      (and-left (hasOwn tree j) _ own)
-      (and-left (hasOwn tree r) _ e)
-      (ap digestOf (same-equal _ _ (and-right (hasOwn tree j) _ own)))
-
-  module _ (r : ℕ) (hr : r < records tree) (tr : hasOwn tree r ≡ true) where
-    -- a record with the same text was met
-    pub found-here : (k w : ℕ) → true ≡ sameText (ownText tree text k) (ownText tree text r) → w ≡ original tree text k → w ≡ original tree text r
-    found-here k w e ew = ew ∙ same-original tree text k r hr tr (same-equal _ _ (sym e))
-
-    -- the walk stands one past k: what stands there is record k's
-    module _ (s : List ℕ) (d v k : ℕ) (p : Passed tree text r s) (ed : d ≡ ownDigest tree text r) (hd : d < 4294967296)
-        (m : Met (sameBoth tree text) (textBucket tree text) r v) (z : v ≡ suc k) where
-      within : textBucket tree text r < records tree
-      within = chained.bucket-within (hasOwn tree) (ownDigest tree text) (records tree) r d tr ed hd (omega arith)
-
-      pub met-member : hasOwn tree k ≡ true
-      met-member = chained.walked-member (hasOwn tree) (ownDigest tree text) (records tree) (sameBoth tree text) s r v k (p .chained) m z within
-
-      pub met-digest : wordAt s (entryAt (records tree) k) ≡ ownDigest tree text k
-      met-digest = chained.walked-digest (hasOwn tree) (ownDigest tree text) (records tree) (sameBoth tree text) s r v k (p .chained) m z within
-
-      pub met-link : wordAt s (entryAt (records tree) k + 4) ≡ linkTo (textBucket tree text) k (textBucket tree text k)
-      met-link = chained.walked-link (hasOwn tree) (ownDigest tree text) (records tree) (sameBoth tree text) s r v k (p .chained) m z within
-
-      pub met-number : wordAt s (originalAt (records tree) k) ≡ original tree text k
-      met-number = p .numbered k (omega (arith, m .within)) met-member
-
-    own-other : (k : ℕ) → sameBoth tree text k r ≡ false → sameOwn tree text r k ≡ false
-    unfolding sameBoth
-    own-other k e = rw tr at e
-
-    -- none was met
-    pub found-none : (v : ℕ) → v ≤ 0 → Met (sameBoth tree text) (textBucket tree text) r v → r ≡ original tree text r
+    -- the first in the bucket with r's text is its number
+    number-is : (e : ℕ) → e < records tree → hasOwn tree e ≡ true → ownText tree text e ≡ ownText tree text r
+        → First (ownText tree text) (textBucket tree text) b e → original tree text r ≡ e
     unfolding original numberOr
-    found-none v z m =
+    number-is e he te q first =
+        ap (λ (o : Option ℕ). numberOr o r)
+        (lowest-some (records tree) (sameOwn tree text r) e he (λ k h. apart e k q (first k h)) (same-own tree text r e te q))
+
+    pub number-found : firstWith (ownText tree text) r entries ≡ original tree text r
+    number-found =
+        ⊎-elim
+        (λ (n : firstWith (ownText tree text) r entries ≡ r). n ∙ sym (number-is r hr tr refl (λ k h z. chain-none (ownText tree text) (textBucket tree text) b r k n h z)))
+        (λ (y : (((firstWith (ownText tree text) r entries < r) × (textBucket tree text (firstWith (ownText tree text) r entries) ≡ b))
+        × First (ownText tree text) (textBucket tree text) b (firstWith (ownText tree text) r entries))
+        × (ownText tree text (firstWith (ownText tree text) r entries) ≡ ownText tree text r)).
         sym
-        (ap (λ (o : Option ℕ). numberOr o r)
-        (lowest-some (records tree) (sameOwn tree text r) r hr
-        (λ k h. own-other k (walk-end (sameBoth tree text) (textBucket tree text) together r v z m k h))
-        (same-own tree text r r tr refl)))
+        (number-is (firstWith (ownText tree text) r entries) (omega (arith, y .0 .0 .0))
+        (chained.member-here (hasOwn tree) (ownDigest tree text) (records tree) (firstWith (ownText tree text) r entries) (omega (arith, y .0 .0 .1)))
+        (y .1) (y .0 .1)))
+        (first-is (ownText tree text) r (λ e. ((e < r) × (textBucket tree text e ≡ b)) × First (ownText tree text) (textBucket tree text) b e) entries
+        (all-and (λ e. (e < r) × (textBucket tree text e ≡ b)) (First (ownText tree text) (textBucket tree text) b) entries
+        (chain-inside (ownText tree text) (textBucket tree text) b r)
+        (chain-first (ownText tree text) (textBucket tree text) b r)))
+
+    module _ (s : List ℕ) (c : Chains tree text r s) (number place shared : ℕ) (at : PlaceOf (ownText tree text) (records tree) r (headAt b) s number place shared) where
+      pub number-told : number ≡ original tree text r
+      number-told = at entries (c b hb) .found ∙ number-found
+
+      -- nothing is entered
+      pub found-entered : number < r → Entered tree text r s s
+      found-entered h =
+          record {
+            chained = chains-found (ownText tree text) (textBucket tree text) (records tree) s r c b hr hb eb number place shared at h;
+            long = refl;
+            behind = λ i k. refl;
+          }
+
+      pub number-within : number ≤ r
+      number-within =
+          ⊎-elim
+          (λ (n : firstWith (ownText tree text) r entries ≡ r). omega (arith, at entries (c b hb) .found))
+          (λ (y : (firstWith (ownText tree text) r entries < r) × (ownText tree text (firstWith (ownText tree text) r entries) ≡ ownText tree text r)).
+          omega (arith, at entries (c b hb) .found, y .0))
+          (first-is (ownText tree text) r (λ e. e < r) entries (chain-below (ownText tree text) (textBucket tree text) b r))
+
+      module _ (new : r ≤ number) where
+        itself : number ≡ r
+        itself = omega (arith, number-within)
+
+        pub place-inside : place + 4 ≤ entryAt (records tree) r
+        place-inside = place-low (ownText tree text) (textBucket tree text) (records tree) s r c b hr hb eb number place shared at itself
+
+        pub new-entered : (next : ℕ) (s′ : List ℕ) → ChainRoom (records tree) s → shared < 4294967296 → next < 4294967296 → next ≡ wordAt s place
+            → s′ ≡ placedAt (records tree) r shared place next s → Entered tree text r s s′
+        new-entered next s′ room hs hn en e =
+            record {
+              chained = chains-more (ownText tree text) (textBucket tree text) (records tree) s r c b hr hb eb number place shared at itself next s′ room hs hn en e;
+              long = entered-long (records tree) r shared place next s s′ room hr place-inside e;
+              behind = entered-behind (records tree) r shared place next s s′ room hr place-inside e;
+            }
 
 -- ---- the bytes that stay
 
@@ -142,7 +151,7 @@ module _ (tree text : List ℕ) where
   pub passed-none : (s s′ : List ℕ) → Emptied (4 * records tree) s s′ → Passed tree text 0 s′
   passed-none s s′ e =
       record {
-        chained = chained.chained-none (hasOwn tree) (ownDigest tree text) (records tree) s′ (e .heads);
+        chained = chains-none (ownText tree text) (textBucket tree text) (records tree) s′ (e .heads);
         numbered = λ k h. absurd (omega arith);
         rolled = λ k h. absurd (omega arith);
       }
@@ -151,7 +160,9 @@ module _ (tree text : List ℕ) where
   pub passed-over : (r : ℕ) (s : List ℕ) → Passed tree text r s → hasOwn tree r ≡ false → Passed tree text (r + 1) s
   passed-over r s p m =
       record {
-        chained = chained.chained-past (hasOwn tree) (ownDigest tree text) (records tree) s r (p .chained) m;
+        chained =
+            chains-past (ownText tree text) (textBucket tree text) (records tree) s r (p .chained)
+            (omega (arith, chained.bucket-other (hasOwn tree) (ownDigest tree text) (records tree) r m));
         numbered =
             below-more (λ (k : ℕ). hasOwn tree k ≡ true → wordAt s (originalAt (records tree) k) ≡ original tree text k) r
             (p .numbered)
@@ -163,17 +174,13 @@ module _ (tree text : List ℕ) where
       }
 
   -- a record with a text: s₁ is the scratch once it is entered, s₂ once its number is written, s₃ once its digest is
-  module _ (s : List ℕ) (r d b h o x : ℕ) (few : records tree ≤ mostRecords) (room : 72 * records tree ≤ length s) (hr : r < records tree) (hb : b < records tree)
-      (hd : d < 4294967296) (hh : h < 4294967296) (s₁ s₂ s₃ : List ℕ) (e₁ : s₁ ≡ entered (records tree) r d b h s)
+  module _ (s : List ℕ) (r o x : ℕ) (room : 72 * records tree ≤ length s) (hr : r < records tree) (s₁ s₂ s₃ : List ℕ) (e₁ : Entered tree text r s s₁)
       (e₂ : s₂ ≡ splice s₁ (originalAt (records tree) r) (word o)) (e₃ : s₃ ≡ splice s₂ (textDigestAt (records tree) r) (word x)) where
-    chain-room : ChainRoom (records tree) s
-    chain-room = record { few = few; room = omega arith }
-
     long₁ : length s₁ ≡ length s
-    long₁ = chained.entered-long (records tree) s r d b h chain-room hr hb hd hh s₁ e₁
+    long₁ = e₁ .long
 
     behind₁ : (i : ℕ) → 12 * records tree ≤ i → getD s₁ i 0 ≡ getD s i 0
-    behind₁ = chained.entered-behind (records tree) s r d b h chain-room hr hb hd hh s₁ e₁
+    behind₁ = e₁ .behind
 
     fit : originalAt (records tree) r + length (word o) ≤ length s₁
     unfolding word bytesOf
@@ -231,15 +238,15 @@ module _ (tree text : List ℕ) where
           behind = λ i k. byte₃ i (inr (omega arith)) ∙ byte₂ i (inr (omega arith)) ∙ behind₁ i (omega arith);
         }
 
-    module _ (p : Passed tree text r s) (tr : hasOwn tree r ≡ true) (ex : x ≡ rollOf (ownText tree text r)) (hx : x < 4294967296) (ed : d ≡ ownDigest tree text r)
-        (eb : b ≡ textBucket tree text r) (eh : h ≡ wordAt s (4 * b)) (eo : o ≡ original tree text r) where
+    module _ (p : Passed tree text r s) (few : records tree ≤ mostRecords) (tr : hasOwn tree r ≡ true) (ex : x ≡ rollOf (ownText tree text r)) (hx : x < 4294967296)
+        (eo : o ≡ original tree text r) where
       passed : Passed tree text (r + 1) s₃
       passed =
           record {
             chained =
-                chained.chained-kept (hasOwn tree) (ownDigest tree text) (records tree) s₁ s₃ (r + 1) (omega arith)
+                chains-kept (ownText tree text) (textBucket tree text) (records tree) s₁ s₃ (r + 1) (omega arith)
                 (λ z k. apart₃ z (omega arith) ∙ apart₂ z (omega arith))
-                (chained.chained-more (records tree) s r d b h chain-room hr hb hd hh (hasOwn tree) (ownDigest tree text) s₁ e₁ (p .chained) ed eb eh);
+                (e₁ .chained);
             numbered =
                 below-more (λ (k : ℕ). hasOwn tree k ≡ true → wordAt s₃ (originalAt (records tree) k) ≡ original tree text k) r
                 (λ k hk t.

@@ -1,11 +1,13 @@
--- What the pass over the records is held to: the texts of the records passed are entered by their digests, and have their numbers and digests.
+-- What the pass over the records is held to: the texts of the records passed are in the chains of their digests, and have their numbers and digests.
 -- Assumes nothing: these are definitions.
 use mathlib.Core.Path.{_≡_}
-use Prim.Native.Nat.{ℕ, _<_}
+use Prim.Native.Nat.{ℕ, _+_, _*_, _≤_, _<_}
 use mathlib.Core.Bool.{true}
 use mathlib.Core.List.{List}
-use Rattle.records.specs.Chains.{memberBucket, Chained}
+use lib.ListN.{length, getD}
+use Rattle.records.specs.Chains.{chainEach, memberBucket}
 use Rattle.records.specs.Digest.{digestOf, rollOf}
+use Rattle.records.specs.Order.{Placed}
 use Rattle.records.specs.Words.{wordAt, records}
 use Rattle.texts.specs.Texts.{hasOwn, ownText, original, originalAt, textDigestAt}
 
@@ -16,8 +18,18 @@ ownDigest tree text r = digestOf (ownText tree text r)
 abbrev pub textBucket : List ℕ → List ℕ → ℕ → ℕ
 textBucket tree text = memberBucket (hasOwn tree) (ownDigest tree text) (records tree)
 
+-- the texts of the records below r are in the chains of their buckets
+abbrev pub Chains : List ℕ → List ℕ → ℕ → List ℕ → Type 0
+Chains tree text r s = Placed (ownText tree text) (textBucket tree text) (records tree) r s
+
+-- record r too: the bytes behind the chains are as they were
+pub record Entered (tree text : List ℕ) (r : ℕ) (s s′ : List ℕ) : Type 0 where
+  pub chained : Chains tree text (r + 1) s′
+  pub long : length s′ ≡ length s
+  pub behind : (i : ℕ) → chainEach * records tree ≤ i → getD s′ i 0 ≡ getD s i 0
+
 -- the records below r are passed
 pub record Passed (tree text : List ℕ) (r : ℕ) (s : List ℕ) : Type 0 where
-  pub chained : Chained (hasOwn tree) (ownDigest tree text) (records tree) r s
+  pub chained : Chains tree text r s
   pub numbered : (k : ℕ) → k < r → hasOwn tree k ≡ true → wordAt s (originalAt (records tree) k) ≡ original tree text k
   pub rolled : (k : ℕ) → k < r → hasOwn tree k ≡ true → wordAt s (textDigestAt (records tree) k) ≡ rollOf (ownText tree text k)

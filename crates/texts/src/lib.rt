@@ -3,16 +3,13 @@ ghost use mathlib.Core.Path.{_≡_};
 ghost use mathlib.Core.Bool.{true};
 ghost use Prim.Native.Nat.{_+_, _*_, _≤_, _<_};
 ghost use lib.ListN.{length};
-ghost use Rattle.laws.specs.Chain.{linkTo};
 ghost use Rattle.records.specs.Layout.{scratchEach};
 ghost use Rattle.records.specs.Good.{Good};
-ghost use Rattle.records.specs.Words.{recordBytes, wordAt, sameText, records};
-ghost use Rattle.texts.specs.Texts.{hasText, hasOwn, ownText, original as originalOf, originalAt, textDigestAt, Numbered, Kept};
-ghost use Rattle.texts.specs.Pass.{ownDigest, textBucket, Passed};
+ghost use Rattle.records.specs.Words.{wordAt, records};
+ghost use Rattle.texts.specs.Texts.{hasText, hasOwn, original as originalOf, originalAt, textDigestAt, Numbered, Kept};
+ghost use Rattle.texts.specs.Pass.{textBucket, Chains, Entered, Passed};
 use records::chains::bucket;
 use records::chains::clear_heads;
-use records::chains::enter;
-use records::layout::CHAIN_ENTRY_BYTES;
 use records::layout::CHAIN_HEAD_BYTES;
 use records::layout::ORIGINAL_BYTES;
 use records::layout::ORIGINALS;
@@ -24,8 +21,9 @@ use records::numbers::KIND_INIT;
 use records::numbers::KIND_NAME;
 use records::numbers::KIND_STR;
 use records::numbers::KIND_VARIABLE;
+use records::order::enter_at;
+use records::order::find_place;
 use records::texts::roll_digest;
-use records::texts::same_text;
 use records::texts::text_roll;
 use records::words::RECORD_BYTES;
 use records::words::WORD_A;
@@ -48,43 +46,27 @@ fn has_text(k: u8) -> bool
         | (k == KIND_VARIABLE)
 }
 
-// Whether the texts of records k and r are the same, by their digests first. Few texts of one digest differ, so few are compared in vain.
-fn same_own(tree: &[u8], text: &[u8], k: usize, r: usize, digest: u32, d: u32) -> bool
-    requires { ⌜ (k * recordBytes + recordBytes ≤ length (now tree)) × (r * recordBytes + recordBytes ≤ length (now tree)) ⌝ }
-    requires { ⌜ (digest ≡ ownDigest (now tree) (now text) k) × (d ≡ ownDigest (now tree) (now text) r) ⌝ }
-    ensures { λ v. ⌜ v ≡ sameText (ownText (now (tree .entry)) (now (text .entry)) k) (ownText (now (tree .entry)) (now (text .entry)) r) ⌝ }
-{
-    if digest != d {
-        return false;
-    }
-    let a = word(tree, k, WORD_A);
-    let b = word(tree, k, WORD_B);
-    same_text(text, a, b, word(tree, r, WORD_A), word(tree, r, WORD_B))
-}
-
-// The number of record r's text: that of a lower record with the same text, else r. The chain of its bucket is walked from the head on.
-fn find_original(tree: &[u8], text: &[u8], scratch: &[u8], r: usize, d: u32, head: u32) -> u32
+// The number of record r's text: the entry of bucket b that has it, else r, which is then put into the bucket's chain. Only the first record with a text is
+// entered, so that the entry is the number.
+fn number_text(tree: &[u8], text: &[u8], r: usize, b: usize, scratch: &mut [u8]) -> u32
     requires { ⌜ Good (now tree) (now text) × (scratchEach * records (now tree) ≤ length (now scratch)) ⌝ }
-    requires { ⌜ (r < records (now tree)) × (hasOwn (now tree) r ≡ true) × Passed (now tree) (now text) r (now scratch) ⌝ }
-    requires { ⌜ (d ≡ ownDigest (now tree) (now text) r) × (head ≡ linkTo (textBucket (now tree) (now text)) r (textBucket (now tree) (now text) r)) ⌝ }
-    ensures { λ v. ⌜ v ≡ originalOf (now (tree .entry)) (now (text .entry)) r ⌝ }
+    requires { ⌜ (r < records (now tree)) × (hasOwn (now tree) r ≡ true) × (b ≡ textBucket (now tree) (now text) r) × (b < records (now tree)) ⌝ }
+    requires { ⌜ Chains (now tree) (now text) r (now scratch) ⌝ }
+    ensures { λ v. ⌜ (v ≡ originalOf (now (tree .entry)) (now (text .entry)) r) × Entered (now (tree .entry)) (now (text .entry)) r (now (scratch .entry)) (now (scratch .exit)) ⌝ }
 {
     let n = tree.len() / RECORD_BYTES;
-    let mut at = index(head);
-    while at > 0 {
-        let k = at - 1;
-        let e = CHAIN_HEAD_BYTES * n + CHAIN_ENTRY_BYTES * k;
-        let digest = load(scratch, e);
-        if same_own(tree, text, k, r, digest, d) {
-            return load(scratch, ORIGINALS * n + ORIGINAL_BYTES * k);
-        }
-        at = index(load(scratch, e + 4));
+    let place = find_place(tree, text, scratch, n, r, CHAIN_HEAD_BYTES * b);
+    let number = place.number;
+    if number < r {
+        return number as u32;
     }
-    r as u32
+    let link = place.link;
+    let next = load(scratch, link);
+    enter_at(scratch, n, r, place.shared, link, next);
+    number as u32
 }
 
-// Record r: where it has a text, the text's number is found, the record goes before the others of its bucket, and the number is written, with the digest
-// that goes on, so that the text need not be read for a digest again.
+// Record r: where it has a text, the text's number is found and written, with the digest that goes on, so that the text need not be read for a digest again.
 fn number_record(tree: &[u8], text: &[u8], r: usize, scratch: &mut [u8])
     requires { ⌜ Good (now tree) (now text) × (scratchEach * records (now tree) ≤ length (now scratch)) ⌝ }
     requires { ⌜ (r < records (now tree)) × Passed (now tree) (now text) r (now scratch) ⌝ }
@@ -95,16 +77,13 @@ fn number_record(tree: &[u8], text: &[u8], r: usize, scratch: &mut [u8])
     }
     let n = tree.len() / RECORD_BYTES;
     let rolled = text_roll(text, word(tree, r, WORD_A), word(tree, r, WORD_B));
-    let d = roll_digest(rolled);
-    let b = bucket(d, n);
-    let head = load(scratch, CHAIN_HEAD_BYTES * b);
-    let number = find_original(tree, text, scratch, r, d, head);
-    enter(scratch, n, r, d, b, head);
+    let b = bucket(roll_digest(rolled), n);
+    let number = number_text(tree, text, r, b, scratch);
     put_word(scratch, ORIGINALS * n + ORIGINAL_BYTES * r, number);
     put_word(scratch, TEXT_DIGESTS * n + TEXT_DIGEST_BYTES * r, rolled);
 }
 
-// Every text of a good tree gets its number and its digest, in one pass over the records. The heads, digests and links stand where nothing else does yet.
+// Every text of a good tree gets its number and its digest, in one pass over the records. The chains stand where nothing else does yet.
 pub fn number_texts(tree: &[u8], text: &[u8], scratch: &mut [u8])
     requires { ⌜ Good (now tree) (now text) × (scratchEach * records (now tree) ≤ length (now scratch)) ⌝ }
     ensures { λ _. ⌜ Numbered (now (tree .entry)) (now (text .entry)) (now (scratch .exit)) × Kept (records (now (tree .entry))) (now (scratch .entry)) (now (scratch .exit)) ⌝ }

@@ -15,7 +15,7 @@ use Rattle.int128.specs.declared.Int128.{Int128}
 use Rattle.int128.specs.declared.Checked.{Checked}
 use Rattle.int128.specs.declared.Checked.the-variants.{Value, Nothing}
 use Rattle.int128.specs.Value.{valueOf, checkedOf}
-use Rattle.int128.specs.Ops.{intFits}
+use Rattle.int128.specs.Ops.{int-fits}
 use Rattle.syntax.specs.Syntax.{Ty}
 use Rattle.syntax.specs.Decode.{bit, exprOf, node, typeAt}
 use Rattle.conversion.specs.Types.{onInt, onFloat, onAddress, someAnd, isSome, int-value, float-value, float-fits, isNullLiteral, fitsInto, isLiteral, fits, range-error}
@@ -28,8 +28,8 @@ use Rattle.types.proofs.TypeCases.{type-is, type-int, type-float, type-
 -- ---- what a constant folds to
 
 module _ (o : Option ℤ) (x : Checked) (ex : checkedOf x ≡ o) where
-  pub int-fits-value : (v : Int128) → x ≡ Value v → (s u a b r : Bool) → s ≡ a → u ≡ b → r ≡ intFits (valueOf v) s u
-      → r ≡ someAnd o (λ z. intFits z a b)
+  pub int-fits-value : (v : Int128) → x ≡ Value v → (s u a b r : Bool) → s ≡ a → u ≡ b → r ≡ int-fits (valueOf v) s u
+      → r ≡ someAnd o (λ z. int-fits z a b)
   unfolding someAnd
   int-fits-value v e s u a b r es eu er = rw (← ex, e, ← es, ← eu) er
 
@@ -93,7 +93,7 @@ module _ (tree text : List ℕ) (y : ℕ) where
 module _ (tree text : List ℕ) (e ty expected f : ℕ) (ef : f ≡ detailOf tree ty % 16) (g : ℕ) (eg : g ≡ detailOf tree expected % 16) where
   module _ (q : f ≡ 1) where
     pub into-int : g ≡ 1 → (r : Bool)
-        → r ≡ someAnd (int-value (exprOf (node tree text e))) (λ v. intFits v (bit 16 (detailOf tree expected)) (bit 32 (detailOf tree expected)))
+        → r ≡ someAnd (int-value (exprOf (node tree text e))) (λ v. int-fits v (bit 16 (detailOf tree expected)) (bit 32 (detailOf tree expected)))
         → r ≡ intoAt tree text e ty expected
     unfolding intoAt fitsInto onInt
     into-int p r h = rw (type-int tree text ty f ef q, type-int tree text expected g eg p) h

@@ -5,7 +5,7 @@ use mathlib.Core.List.{List}
 use lib.ListN.{length}
 use Rattle.records.specs.Words.{recordBytes, detailOf}
 use lib.IntN.{ℤ}
-use Rattle.int128.specs.Ops.{intFits}
+use Rattle.int128.specs.Ops.{int-fits}
 use Rattle.syntax.specs.Decode.{exprOf, node, typeAt, bit}
 use Rattle.conversion.specs.Types.{fitsInto, isLiteral, fits, range-error}
 
@@ -17,7 +17,7 @@ pub record IsType (tree : List ℕ) (y : ℕ) : Type 0 where
 
 -- v is in the range that the marks of the integer type y say: of weight 16 short, of weight 32 unsigned
 abbrev pub inRangeOf : List ℕ → ℕ → ℤ → Bool
-inRangeOf tree y v = intFits v (bit 16 (detailOf tree y)) (bit 32 (detailOf tree y))
+inRangeOf tree y v = int-fits v (bit 16 (detailOf tree y)) (bit 32 (detailOf tree y))
 
 module _ (tree text : List ℕ) (e ty expected : ℕ) where
   unfoldable pub fitsAt : Bool

@@ -44,7 +44,8 @@ same-length-6 c = search needs
 returns : tie.Need-returns
 returns c =
     let cleared = c .before .before .before .before .before .before .before .before .before .before .before .before in
-    finish-refused _ _ _ _ _ _ _ _ _ _ _ _ _ _ _ (cleared .before .before .before .before .before .before .before .before .done .given .1) (cleared .clear-outputs .ensures)
+    let six = cleared .clear-outputs .ensures in
+    finish-refused _ _ _ _ _ _ _ _ _ _ _ _ _ _ _ (cleared .before .before .before .before .before .before .before .before .done .given .1) (six .0, six .1 .0, six .1 .1 .0, six .1 .1 .1 .0, six .1 .1 .1 .1 .0, six .1 .1 .1 .1 .1)
 
 same-length-7 : tie.Need-same-length-7
 same-length-7 c = search needs

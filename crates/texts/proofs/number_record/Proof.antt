@@ -1,23 +1,20 @@
 -- A record is passed over, or entered with its text's number and digest written.
 -- By the laws of the pass, over what the calls ensure. Assumes nothing.
-use Rattle.texts.proofs.PassLaws.{passed-over, taken, kept-all, own-told, roll-told, digest-told, bucket-told, head-told}
-use native.Mathlib.Omega.{arith}
-use borrow.Author.Needs.{needs}
+use Rattle.texts.proofs.PassLaws.{passed-over, taken, kept-all, own-told, roll-told, bucket-told}
 use borrow.Author.Tests.{not-true, not-false}
+use borrow.Author.Needs.{needs}
 use Rattle.texts.proofs.number_record.Statement.{statement}
 use Rattle.texts.proofs.number_record.Tie as tie
 use Rattle.texts.proofs.number_record.Reads as reads
 use Rattle.texts.proofs.number_record.Lts as lts
 use Rattle.records.proofs.chains.bucket.Reads as bucket-reads
-use Rattle.records.proofs.chains.enter.Reads as enter-reads
 use Rattle.records.proofs.texts.roll_digest.Reads as roll-digest-reads
 use Rattle.records.proofs.texts.text_roll.Reads as text-roll-reads
 use Rattle.records.proofs.words.kind.Reads as kind-reads
-use Rattle.records.proofs.words.load.Reads as load-reads
 use Rattle.records.proofs.words.put_word.Reads as put-word-reads
 use Rattle.records.proofs.words.word.Reads as word-reads
-use Rattle.texts.proofs.find_original.Reads as find-original-reads
 use Rattle.texts.proofs.has_text.Reads as has-text-reads
+use Rattle.texts.proofs.number_text.Reads as number-text-reads
 
 kind-requires : tie.Need-kind-requires
 kind-requires c κs = search needs
@@ -26,8 +23,7 @@ has-text-requires : tie.Need-has-text-requires
 has-text-requires c κs = search needs
 
 returns : tie.Need-returns
-returns c =
-    (passed-over _ _ _ _ (c .before .before .before .before .before .before .pre .1 .1) (own-told _ _ _ _ _ (c .before .before .kind .ensures) (c .before .has-text .ensures) (not-true _ (c .if1 .taken))), kept-all _ _)
+returns c = (passed-over _ _ _ _ (c .before .before .before .before .before .before .pre .1 .1) (own-told _ _ _ _ _ (c .before .before .kind .ensures) (c .before .has-text .ensures) (not-true _ (c .if1 .taken))), kept-all _ _)
 
 word-requires : tie.Need-word-requires
 word-requires c κs = search needs
@@ -44,24 +40,13 @@ roll-digest-requires c κs = search needs
 bucket-requires : tie.Need-bucket-requires
 bucket-requires c κs = search needs
 
-mul-load : tie.Need-mul-load
-mul-load c = search needs
-
-load-requires : tie.Need-load-requires
-load-requires c κs = search needs
-
-find-original-requires : tie.Need-find-original-requires
-find-original-requires c κs =
-    let start = c .before .before .before .before .before .before .before .before .before .before .before .before .before .before in
-    let has = own-told _ _ _ _ _ (c .before .before .before .before .before .before .before .before .before .before .kind .ensures) (c .before .before .before .before .before .before .before .before .before .has-text .ensures) (not-false _ (c .before .before .before .before .before .before .before .before .if1 .left)) in
-    let rolled = roll-told _ _ _ _ _ _ (c .before .before .before .before .before .before .before .word .ensures) (c .before .before .before .before .before .before .word2 .ensures) (c .before .before .before .before .before .text-roll .ensures .0) in
-    let digest = digest-told _ _ _ _ _ rolled (c .before .before .before .before .roll-digest .ensures) in
-    let bucket = c .before .before .before .bucket .ensures in
-    let head = c .before .load .ensures in
-    (start .pre .0, ((start .pre .1 .0, has, start .pre .1 .1), (digest, head-told _ _ _ _ _ has digest (bucket .0) _ _ (start .pre .1 .1) (bucket .1) head)))
-
-enter-requires : tie.Need-enter-requires
-enter-requires c κs = search needs
+number-text-requires : tie.Need-number-text-requires
+number-text-requires c κs =
+    let start = c .before .before .before .before .before .before .before .before .before .before .before .before in
+    let has = own-told _ _ _ _ _ (c .before .before .before .before .before .before .before .before .kind .ensures) (c .before .before .before .before .before .before .before .has-text .ensures) (not-false _ (c .before .before .before .before .before .before .if1 .left)) in
+    let rolled = roll-told _ _ _ _ _ _ (c .before .before .before .before .before .word .ensures) (c .before .before .before .before .word2 .ensures) (c .before .before .before .text-roll .ensures .0) in
+    let bucket = c .before .bucket .ensures in
+    (start .pre .0, ((start .pre .1 .0, has, bucket-told _ _ _ _ _ _ has rolled (c .before .before .roll-digest .ensures) (bucket .0), bucket .1), start .pre .1 .1 .chained))
 
 mul-put-word : tie.Need-mul-put-word
 mul-put-word c = search needs
@@ -76,30 +61,28 @@ put-word-requires : tie.Need-put-word-requires
 put-word-requires c κs = search needs
 
 mul-put-word-3 : tie.Need-mul-put-word-3
-mul-put-word-3 c = omega (arith, c .before .before .before .before .before .before .before .before .before .before .before .before .before .before .before .before .before .before .before .before .before .before .before .before .pre .0 .0 .few)
+mul-put-word-3 c = search needs
 
 mul-put-word-4 : tie.Need-mul-put-word-4
-mul-put-word-4 c = omega (arith, c .before .before .before .before .before .before .before .before .before .before .before .before .before .before .before .before .before .before .before .before .before .before .before .before .pre .0 .0 .few, c .before .before .before .before .before .before .before .before .before .before .before .before .before .before .before .before .before .before .before .before .before .before .before .before .pre .1 .0)
+mul-put-word-4 c = search needs
 
 add-put-word-2 : tie.Need-add-put-word-2
-add-put-word-2 c = omega (arith, c .before .before .before .before .before .before .before .before .before .before .before .before .before .before .before .before .before .before .before .before .before .before .before .before .pre .0 .0 .few, c .before .before .before .before .before .before .before .before .before .before .before .before .before .before .before .before .before .before .before .before .before .before .before .before .pre .1 .0)
+add-put-word-2 c = search needs
 
 put-word-requires-2 : tie.Need-put-word-requires-2
-put-word-requires-2 c κs = omega (arith, c .before .before .before .before .before .before .scratch .given, c .before .before .scratch2 .given, c .before .before .before .before .before .before .before .before .before .before .before .before .before .before .before .before .before .before .before .before .before .before .before .before .pre .0 .1, c .before .before .before .before .before .before .before .before .before .before .before .before .before .before .before .before .before .before .before .before .before .before .before .before .pre .1 .0)
+put-word-requires-2 c κs = search needs
 
 same-length : tie.Need-same-length
 same-length c = search needs
 
 returns-2 : tie.Need-returns-2
 returns-2 c =
-    let start = c .before .before .before .before .before .before .before .before .before .before .before .before .before .before .before .before .before .before .before .before .before .before .before .before .before .before .before in
-    let has = own-told _ _ _ _ _ (c .before .before .before .before .before .before .before .before .before .before .before .before .before .before .before .before .before .before .before .before .before .before .before .kind .ensures) (c .before .before .before .before .before .before .before .before .before .before .before .before .before .before .before .before .before .before .before .before .before .before .has-text .ensures) (not-false _ (c .before .before .before .before .before .before .before .before .before .before .before .before .before .before .before .before .before .before .before .before .before .if1 .left)) in
-    let rolled = roll-told _ _ _ _ _ _ (c .before .before .before .before .before .before .before .before .before .before .before .before .before .before .before .before .before .before .before .before .word .ensures) (c .before .before .before .before .before .before .before .before .before .before .before .before .before .before .before .before .before .before .before .word2 .ensures) (c .before .before .before .before .before .before .before .before .before .before .before .before .before .before .before .before .before .before .text-roll .ensures .0) in
-    let digest = digest-told _ _ _ _ _ rolled (c .before .before .before .before .before .before .before .before .before .before .before .before .before .before .before .before .before .roll-digest .ensures) in
-    let bucket = c .before .before .before .before .before .before .before .before .before .before .before .before .before .before .before .before .bucket .ensures in
-    let head = c .before .before .before .before .before .before .before .before .before .before .before .before .before .before .load .ensures in
-    let number = c .before .before .before .before .before .before .before .before .before .before .before .before .find-original .ensures in
-    taken _ _ _ _ _ _ _ _ _ (start .pre .0 .0 .few) (start .pre .0 .1) (start .pre .1 .0) (bucket .1) (search needs) (search needs) _ _ _ (c .before .before .before .before .before .before .before .before .before .before .enter .ensures) (c .before .before .before .before .before .before .put-word .ensures) (c .before .before .put-word2 .ensures) (start .pre .1 .1) has rolled (search needs) digest (bucket-told _ _ _ _ _ has digest (bucket .0)) head number
+    let start = c .before .before .before .before .before .before .before .before .before .before .before .before .before .before .before .before .before .before .before .before .before .before .before in
+    let has = own-told _ _ _ _ _ (c .before .before .before .before .before .before .before .before .before .before .before .before .before .before .before .before .before .before .before .kind .ensures) (c .before .before .before .before .before .before .before .before .before .before .before .before .before .before .before .before .before .before .has-text .ensures) (not-false _ (c .before .before .before .before .before .before .before .before .before .before .before .before .before .before .before .before .before .if1 .left)) in
+    let rolled = roll-told _ _ _ _ _ _ (c .before .before .before .before .before .before .before .before .before .before .before .before .before .before .before .before .word .ensures) (c .before .before .before .before .before .before .before .before .before .before .before .before .before .before .before .word2 .ensures) (c .before .before .before .before .before .before .before .before .before .before .before .before .before .before .text-roll .ensures .0) in
+    let bucket = c .before .before .before .before .before .before .before .before .before .before .before .before .bucket .ensures in
+    let numbered = c .before .before .before .before .before .before .before .before .before .before .number-text .ensures in
+    taken _ _ _ _ _ _ (start .pre .0 .1) (start .pre .1 .0) _ _ _ (numbered .1) (c .before .before .before .before .before .before .put-word .ensures) (c .before .before .put-word2 .ensures) (start .pre .1 .1) (start .pre .0 .0 .few) has rolled (search needs) (numbered .0)
 
 pub number-record-spec : {M : Type 1} → statement M
 number-record-spec =
@@ -113,10 +96,7 @@ number-record-spec =
     text-roll-requires
     roll-digest-requires
     bucket-requires
-    mul-load
-    load-requires
-    find-original-requires
-    enter-requires
+    number-text-requires
     mul-put-word
     mul-put-word-2
     add-put-word

@@ -30,7 +30,7 @@ add-n c = omega (arith, c .before .loop .inv .1, c .before .before .before .befo
 
 -- src/arguments.rt:115:9
 next-cell-requires : tie.Need-next-cell-requires Inv-loop μ-loop
-next-cell-requires c κs = (c .before .before .before .before .pre .0, cell-below _ _ (c .before .before .before .before .pre .0) _ _ (c .before .loop .inv .0) (c .loop-test .taken))
+next-cell-requires c κs = cell-below _ _ (c .before .before .before .before .pre .0) _ _ (c .before .loop .inv .0) (c .loop-test .taken)
 
 -- src/arguments.rt:113:5
 loop-less : tie.Need-loop-less Inv-loop μ-loop

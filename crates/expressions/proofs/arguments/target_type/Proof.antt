@@ -44,7 +44,7 @@ enum-told c = search needs
 
 -- src/arguments.rt:131:9
 next-cell-requires : tie.Need-next-cell-requires Inv-loop μ-loop
-next-cell-requires c κs = (c .before .before .before .before .before .before .before .pre .0, cell-below _ _ (c .before .before .before .before .before .before .before .pre .0) _ _ (c .before .before .before .before .loop .inv .0) (c .before .before .before .loop-test .taken))
+next-cell-requires c κs = cell-below _ _ (c .before .before .before .before .before .before .before .pre .0) _ _ (c .before .before .before .before .loop .inv .0) (c .before .before .before .loop-test .taken)
 
 -- src/arguments.rt:127:5
 loop-less : tie.Need-loop-less Inv-loop μ-loop

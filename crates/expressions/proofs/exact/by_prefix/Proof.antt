@@ -60,7 +60,7 @@ add-size-2 c = omega (arith, c .before .before .before .before .before .before .
 
 next-cell-requires : tie.Need-next-cell-requires Inv-loop μ-loop
 next-cell-requires c κs =
-    (c .before .before .before .before .before .before .before .before .before .loop .inv .argued .good, first-cell _ _ _ _ _ (c .before .before .before .before .before .before .before .before .before .loop .inv .argued) (c .before .before .before .before .before .before .before .before .loop-test .taken) (c .before .before .before .before .argument-type .ensures .0) .inside)
+    first-cell _ _ _ _ _ (c .before .before .before .before .before .before .before .before .before .loop .inv .argued) (c .before .before .before .before .before .before .before .before .loop-test .taken) (c .before .before .before .before .argument-type .ensures .0) .inside
 
 add-k : tie.Need-add-k Inv-loop μ-loop
 add-k c = omega (arith, c .before .before .before .before .before .before .before .before .before .before .loop .inv .few, c .before .before .before .before .before .before .before .before .before .before .loop .inv .short)

@@ -41,7 +41,7 @@ roll-requires c κs = (c .before .type-key .ensures .inside, c .roll-byte .ensur
 
 next-cell-requires : tie.Need-next-cell-requires Inv-loop μ-loop
 next-cell-requires c κs =
-    (c .before .before .before .before .before .loop .inv .argued .good, first-cell _ _ _ _ _ (c .before .before .before .before .before .loop .inv .argued) (c .before .before .before .before .loop-test .taken) (c .before .before .before .argument-type .ensures .0) .inside)
+    first-cell _ _ _ _ _ (c .before .before .before .before .before .loop .inv .argued) (c .before .before .before .before .loop-test .taken) (c .before .before .before .argument-type .ensures .0) .inside
 
 loop-less : tie.Need-loop-less Inv-loop μ-loop
 loop-less c =

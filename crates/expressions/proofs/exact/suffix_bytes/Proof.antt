@@ -34,7 +34,7 @@ add-n-2 c = omega (arith, c .before .before .before .before .loop .inv .small, k
 
 next-cell-requires : tie.Need-next-cell-requires Inv-loop μ-loop
 next-cell-requires c κs =
-    (c .before .before .before .before .loop .inv .argued .good, first-cell _ _ _ _ _ (c .before .before .before .before .loop .inv .argued) (c .before .before .before .loop-test .taken) (c .before .before .argument-type .ensures .0) .inside)
+    first-cell _ _ _ _ _ (c .before .before .before .before .loop .inv .argued) (c .before .before .before .loop-test .taken) (c .before .before .argument-type .ensures .0) .inside
 
 loop-less : tie.Need-loop-less Inv-loop μ-loop
 loop-less c =

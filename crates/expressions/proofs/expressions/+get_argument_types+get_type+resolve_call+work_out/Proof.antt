@@ -291,7 +291,7 @@ get-argument-types-next-cell-requires : (t : ℕ) → get-argument-types-lts.Nee
     get-argument-types.Post
     get-argument-types-Inv-loop
     get-argument-types-μ-loop
-get-argument-types-next-cell-requires t c κs = (c .before .before .before .before .before .before .before .before .pre .1 .0 .ready .keyed .good, cell-inside _ _ (c .before .before .before .before .before .before .before .before .pre .1 .0 .ready .keyed .good) _ _ _ _ (c .before .before .before .before .before .before .before .before .pre .1 .0) _ _ (c .before .before .before .loop .inv) (c .before .before .loop-test .taken))
+get-argument-types-next-cell-requires t c κs = cell-inside _ _ (c .before .before .before .before .before .before .before .before .pre .1 .0 .ready .keyed .good) _ _ _ _ (c .before .before .before .before .before .before .before .before .pre .1 .0) _ _ (c .before .before .before .loop .inv) (c .before .before .loop-test .taken)
 
 -- src/expressions.rt:139:5
 get-argument-types-loop-less : (t : ℕ) → get-argument-types-lts.Need-loop-less (

@@ -40,11 +40,11 @@ returns-2 c = all-no _ _ _ _ _ _ _ (c .before .before .before .before .loop .inv
 
 -- src/takes.rt:68:9
 next-cell-requires : tie.Need-next-cell-requires Inv-loop μ-loop
-next-cell-requires c κs = (c .before .before .before .before .before .before .before .before .pre .0 .good, cell-below _ _ (c .before .before .before .before .before .before .before .before .pre .0 .good) _ _ (c .before .before .before .before .loop .inv .0) (c .before .before .before .loop-test .taken))
+next-cell-requires c κs = cell-below _ _ (c .before .before .before .before .before .before .before .before .pre .0 .good) _ _ (c .before .before .before .before .loop .inv .0) (c .before .before .before .loop-test .taken)
 
 -- src/takes.rt:69:9
 next-cell-requires-2 : tie.Need-next-cell-requires-2 Inv-loop μ-loop
-next-cell-requires-2 c κs = (c .before .before .before .before .before .before .before .before .before .pre .0 .good, cell-below _ _ (c .before .before .before .before .before .before .before .before .before .pre .0 .good) _ _ (c .before .before .before .before .before .loop .inv .1) (c .before .before .before .if1 .left))
+next-cell-requires-2 c κs = cell-below _ _ (c .before .before .before .before .before .before .before .before .before .pre .0 .good) _ _ (c .before .before .before .before .before .loop .inv .1) (c .before .before .before .if1 .left)
 
 -- src/takes.rt:61:5
 loop-less : tie.Need-loop-less Inv-loop μ-loop

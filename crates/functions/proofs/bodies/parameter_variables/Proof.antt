@@ -30,7 +30,7 @@ new-var-requires c κs = var-room (c .before .before .before .before .before .be
 next-cell-requires : tie.Need-next-cell-requires Inv-loop μ-loop
 next-cell-requires c κs =
     let first = c .before .before .before .before .before .before .before .before .before .before .before .before .before in
-    (first .pre .0 .0, cell-below (first .pre .0 .0) (c .before .before .before .before .before .before .before .before .loop .inv) (c .before .before .before .before .before .before .before .loop-test .taken))
+    cell-below (first .pre .0 .0) (c .before .before .before .before .before .before .before .before .loop .inv) (c .before .before .before .before .before .before .before .loop-test .taken)
 
 loop-less : tie.Need-loop-less Inv-loop μ-loop
 loop-less c = cell-falls (c .before .before .before .before .before .before .before .before .before .before .before .before .before .before .pre .0 .0) (c .before .before .before .before .before .before .before .before .before .loop .inv) (c .before .before .before .before .before .before .before .before .loop-test .taken) (c .next-cell .ensures)

@@ -62,7 +62,7 @@ enum-known-next c = search needs
 next-cell-requires : tie.Need-next-cell-requires Inv-loop μ-loop
 next-cell-requires c κs =
     let loop = c .before .before .before .before .before .before .before .before in
-    (loop .loop .inv .ready .keyed .good, omega (arith, still-few _ _ _ _ _ _ _ (loop .loop .inv) (c .before .before .before .before .before .before .before .loop-test .taken)))
+    omega (arith, still-few _ _ _ _ _ _ _ (loop .loop .inv) (c .before .before .before .before .before .before .before .loop-test .taken))
 
 -- src/parameters.rt:83:5
 loop-less : tie.Need-loop-less Inv-loop μ-loop

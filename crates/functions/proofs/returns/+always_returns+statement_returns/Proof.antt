@@ -114,7 +114,7 @@ always-returns-next-cell-requires : (t : ℕ) → always-returns-lts.Need-next-c
   next-cell-reads.Asked,
   next-cell-reads.Learnt,
 ) (always-returns-at t) always-returns.Post always-returns-Inv-loop always-returns-μ-loop
-always-returns-next-cell-requires t c κs = (c .before .before .before .before .before .before .before .pre .1 .0, omega (arith, cell-inside (c .before .before .before .before .before .before .before .pre .1 .0) (c .before .before .before .before .loop .inv) (c .before .before .before .loop-test .taken), c .before .before .before .before .before .before .before .pre .1 .0 .whole))
+always-returns-next-cell-requires t c κs = omega (arith, cell-inside (c .before .before .before .before .before .before .before .pre .1 .0) (c .before .before .before .before .loop .inv) (c .before .before .before .loop-test .taken), c .before .before .before .before .before .before .before .pre .1 .0 .whole)
 
 always-returns-loop-less : (t : ℕ) → always-returns-lts.Need-loop-less (
   reference-reads.Asked,

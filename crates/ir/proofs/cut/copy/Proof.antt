@@ -5,7 +5,7 @@ use mathlib.Core.List.{_++_}
 use Prim.Native.Nat.{_≤_, _-_}
 use native.Mathlib.Omega.{arith}
 use lib.ListN.{length, drop, length-set}
-use Rattle.ir.specs.Cut.{part}
+use Rattle.laws.specs.Splice.{part}
 use Rattle.ir.proofs.CutLaws.{copy-more}
 use Rattle.ir.proofs.cut.copy.Statement.{statement}
 use Rattle.ir.proofs.cut.copy.Tie as tie

@@ -2,6 +2,7 @@
 -- By the laws of `PlainTaken`, over what the calls ensure. Assumes nothing.
 use mathlib.Core.Bool.{_&&_}
 use Rattle.judge.proofs.PlainTaken.{shallow, slots-left, third-room, slots-room, slots-cells, slots-length, slots-took}
+use native.Mathlib.Numerals.{unary-clauses}
 use borrow.Author.Needs.{needs}
 use Rattle.judge.proofs.plain.take_slots.Statement.{statement}
 use Rattle.judge.proofs.plain.take_slots.Tie as tie
@@ -24,23 +25,26 @@ element-copy-out-put-own-2 c = search needs
 put-own-requires : tie.Need-put-own-requires
 put-own-requires c κs = search needs
 
-key-ok-requires : tie.Need-key-ok-requires
-key-ok-requires c κs = search needs
+badge-ok-requires : tie.Need-badge-ok-requires
+badge-ok-requires c κs = search needs
 
-add-key-ok : tie.Need-add-key-ok
-add-key-ok c = search needs
+add-badge-ok : tie.Need-add-badge-ok
+add-badge-ok c = search needs
 
-key-ok-requires-2 : tie.Need-key-ok-requires-2
-key-ok-requires-2 c κs = search needs
+badge-ok-requires-2 : tie.Need-badge-ok-requires-2
+badge-ok-requires-2 c κs = search needs
 
-add-key-ok-2 : tie.Need-add-key-ok-2
-add-key-ok-2 c = search needs
+add-badge-ok-2 : tie.Need-add-badge-ok-2
+add-badge-ok-2 c = search needs
 
-key-ok-requires-3 : tie.Need-key-ok-requires-3
-key-ok-requires-3 c κs = search needs
+badge-ok-requires-3 : tie.Need-badge-ok-requires-3
+badge-ok-requires-3 c κs = search needs
 
 mul-max : tie.Need-mul-max
 mul-max c = search needs
+
+add-max : tie.Need-add-max
+add-max c = search needs
 
 slice-read-max : tie.Need-slice-read-max
 slice-read-max c = search needs
@@ -48,11 +52,17 @@ slice-read-max c = search needs
 mul-max-2 : tie.Need-mul-max-2
 mul-max-2 c = search needs
 
+add-max-2 : tie.Need-add-max-2
+add-max-2 c = search needs
+
 slice-read-max-2 : tie.Need-slice-read-max-2
 slice-read-max-2 c = search needs
 
 mul-max-3 : tie.Need-mul-max-3
 mul-max-3 c = search needs
+
+add-max-3 : tie.Need-add-max-3
+add-max-3 c = search needs
 
 slice-read-max-3 : tie.Need-slice-read-max-3
 slice-read-max-3 c = search needs
@@ -86,7 +96,7 @@ class-of-requires c κs =
 
 depth-over-requires : tie.Need-depth-over-requires
 depth-over-requires c κs =
-    shallow (c .before .before .before .before .before .before .before .before .before .before .before .before .before .before .before .before .before .before .before .before .before .before .before .before .key-ok .result && c .before .before .before .before .before .before .before .before .before .before .before .before .before .before .before .before .before .before .before .before .before .before .key-ok2 .result && c .before .before .before .before .before .before .before .before .before .before .before .before .before .before .before .before .before .before .before .before .key-ok3 .result) _ (c .before .before .before .before .before .before .before .before .before .before .before .before .before .before .if1 .left)
+    shallow (c .before .before .before .before .before .before .before .before .before .before .before .before .before .before .before .before .before .before .before .before .before .before .before .before .badge-ok .result && c .before .before .before .before .before .before .before .before .before .before .before .before .before .before .before .before .before .before .before .before .before .before .badge-ok2 .result && c .before .before .before .before .before .before .before .before .before .before .before .before .before .before .before .before .before .before .before .before .badge-ok3 .result) _ (c .before .before .before .before .before .before .before .before .before .before .before .before .before .before .if1 .left)
 
 put-known-requires : tie.Need-put-known-requires
 put-known-requires c κs =
@@ -98,7 +108,7 @@ same-length-2 c =
 
 returns-2 : tie.Need-returns-2
 returns-2 c =
-    slots-took _ _ _ _ _ _ _ _ _ _ (c .before .before .before .before .before .before .before .before .before .before .before .before .before .before .before .before .before .before .before .before .before .before .before .before .before .before .before .before .before .before .before .before .before .before .before .before .before .before .before .pre) (c .before .before .before .before .before .before .before .before .before .before .before .before .before .before .before .before .before .before .before .before .before .before .before .before .before .before .before .before .before .before .before .before .before .put-own .ensures) _ _ _ _ _ (c .before .before .before .before .before .before .before .before .before .before .before .before .before .before .before .before .before .before .before .before .before .before .before .before .before .before .before .before .before .key-ok .ensures) (c .before .before .before .before .before .before .before .before .before .before .before .before .before .before .before .before .before .before .before .before .before .before .before .before .before .before .before .key-ok2 .ensures) (c .before .before .before .before .before .before .before .before .before .before .before .before .before .before .before .before .before .before .before .before .before .before .before .before .before .key-ok3 .ensures) (c .before .before .before .before .before .before .before .before .before .before .before .before .before .before .before .before .before .before .before .if1 .left) (c .before .before .before .before .before .before .before .before .before .before .before .before .before .before .before .before .before .before .before .before .before .max .ensures) (c .before .before .before .before .before .before .before .before .before .before .before .before .before .before .before .before .before .before .before .before .max2 .ensures) _ _ _ _ (c .before .before .before .before .before .before .before .before .before .before .before .before .before .before .before .before .before .count-one .ensures) (c .before .before .before .before .before .before .before .before .before .before .before .before .before .count-one2 .ensures) (c .before .before .before .before .before .before .before .before .before .count-one3 .ensures) _ _ (c .before .before .before .before .before .class-of .ensures) (c .before .before .before .before .depth-over .ensures) (c .before .before .put-known .ensures)
+    slots-took _ _ _ _ _ _ _ _ _ _ (c .before .before .before .before .before .before .before .before .before .before .before .before .before .before .before .before .before .before .before .before .before .before .before .before .before .before .before .before .before .before .before .before .before .before .before .before .before .before .before .pre) (c .before .before .before .before .before .before .before .before .before .before .before .before .before .before .before .before .before .before .before .before .before .before .before .before .before .before .before .before .before .before .before .before .before .put-own .ensures) _ _ _ _ _ (c .before .before .before .before .before .before .before .before .before .before .before .before .before .before .before .before .before .before .before .before .before .before .before .before .before .before .before .before .before .badge-ok .ensures) (c .before .before .before .before .before .before .before .before .before .before .before .before .before .before .before .before .before .before .before .before .before .before .before .before .before .before .before .badge-ok2 .ensures) (c .before .before .before .before .before .before .before .before .before .before .before .before .before .before .before .before .before .before .before .before .before .before .before .before .before .badge-ok3 .ensures) (c .before .before .before .before .before .before .before .before .before .before .before .before .before .before .before .before .before .before .before .if1 .left) (simp unary-clauses at (c .before .before .before .before .before .before .before .before .before .before .before .before .before .before .before .before .before .before .before .before .before .max .ensures)) (simp unary-clauses at (c .before .before .before .before .before .before .before .before .before .before .before .before .before .before .before .before .before .before .before .before .max2 .ensures)) _ _ _ _ (c .before .before .before .before .before .before .before .before .before .before .before .before .before .before .before .before .before .count-one .ensures) (c .before .before .before .before .before .before .before .before .before .before .before .before .before .count-one2 .ensures) (c .before .before .before .before .before .before .before .before .before .count-one3 .ensures) _ _ (c .before .before .before .before .before .class-of .ensures) (c .before .before .before .before .depth-over .ensures) (c .before .before .put-known .ensures)
 
 pub take-slots-spec : {M : Type 1} → statement M
 take-slots-spec =
@@ -110,16 +120,19 @@ take-slots-spec =
     add-put-own-2
     element-copy-out-put-own-2
     put-own-requires
-    key-ok-requires
-    add-key-ok
-    key-ok-requires-2
-    add-key-ok-2
-    key-ok-requires-3
+    badge-ok-requires
+    add-badge-ok
+    badge-ok-requires-2
+    add-badge-ok-2
+    badge-ok-requires-3
     mul-max
+    add-max
     slice-read-max
     mul-max-2
+    add-max-2
     slice-read-max-2
     mul-max-3
+    add-max-3
     slice-read-max-3
     max-requires
     max-requires-2

@@ -1,4 +1,4 @@
--- A word that refers is judged by the key of what it refers to, and counted.
+-- A word that refers is judged by the badge of what it refers to, and counted.
 -- Each way through the code is a case of `TakeLaws` and `CountLaws`. Assumes nothing.
 use borrow.Author.Needs.{needs}
 use Rattle.judge.proofs.CountLaws.{word-full, word-more}
@@ -29,8 +29,8 @@ slice-read-wide c = search needs
 wide-requires : tie.Need-wide-requires
 wide-requires c κs = search needs
 
-mul-key : tie.Need-mul-key
-mul-key c = search needs
+mul-badge : tie.Need-mul-badge
+mul-badge c = search needs
 
 mul-wide-2 : tie.Need-mul-wide-2
 mul-wide-2 c = search needs
@@ -44,14 +44,14 @@ slice-read-wide-2 c = search needs
 wide-requires-2 : tie.Need-wide-requires-2
 wide-requires-2 c κs = search needs
 
-add-key : tie.Need-add-key
-add-key c = search needs
+add-badge : tie.Need-add-badge
+add-badge c = search needs
 
-low-key-requires : tie.Need-low-key-requires
-low-key-requires c κs = search needs
+low-badge-requires : tie.Need-low-badge-requires
+low-badge-requires c κs = search needs
 
-high-key-requires : tie.Need-high-key-requires
-high-key-requires c κs = search needs
+high-badge-requires : tie.Need-high-badge-requires
+high-badge-requires c κs = search needs
 
 mul-depth : tie.Need-mul-depth
 mul-depth c = search needs
@@ -73,7 +73,7 @@ slice-read-count c = search needs
 
 returns-2 : tie.Need-returns-2
 returns-2 c =
-    λ bytes next. took-in _ _ _ _ _ _ _ (c .before .before .before .before .before .before .before .before .before .before .before .before .before .pre .3) _ (c .before .before .before .before .before .before .before .before .before .before .index .ensures) (c .before .before .before .before .before .before .before .before .before .before .before .before .before .pre .2) (c .before .before .before .before .before .before .before .before .before .before .before .before .before .pre .0) (c .before .before .before .before .before .before .before .before .before .if1 .left) _ _ _ _ (c .before .before .before .before .before .before .before .wide .ensures) (c .before .before .before .before .before .wide2 .ensures .0) (c .before .before .before .before .low-key .ensures) (c .before .before .before .high-key .ensures) _ (word-full _ _ _ _ _ _ (c .before .before .before .before .before .before .before .before .before .before .index .ensures) (c .before .before .before .before .before .before .before .before .before .before .before .before .before .pre .3) (c .if2 .taken))
+    λ bytes next. took-in _ _ _ _ _ _ _ (c .before .before .before .before .before .before .before .before .before .before .before .before .before .pre .3) _ (c .before .before .before .before .before .before .before .before .before .before .index .ensures) (c .before .before .before .before .before .before .before .before .before .before .before .before .before .pre .2) (c .before .before .before .before .before .before .before .before .before .before .before .before .before .pre .0) (c .before .before .before .before .before .before .before .before .before .if1 .left) _ _ _ _ (c .before .before .before .before .before .before .before .wide .ensures) (c .before .before .before .before .before .wide2 .ensures .0) (c .before .before .before .before .low-badge .ensures) (c .before .before .before .high-badge .ensures) _ (word-full _ _ _ _ _ _ (c .before .before .before .before .before .before .before .before .before .before .index .ensures) (c .before .before .before .before .before .before .before .before .before .before .before .before .before .pre .3) (c .if2 .taken))
 
 add-known : tie.Need-add-known
 add-known c = search needs
@@ -92,7 +92,7 @@ same-length c = search needs
 
 returns-3 : tie.Need-returns-3
 returns-3 c =
-    λ bytes next. took-in _ _ _ _ _ _ _ (c .before .before .before .before .before .before .before .before .before .before .before .before .before .pre .3) _ (c .before .before .before .before .before .before .before .before .before .before .index .ensures) (c .before .before .before .before .before .before .before .before .before .before .before .before .before .pre .2) (c .before .before .before .before .before .before .before .before .before .before .before .before .before .pre .0) (c .before .before .before .before .before .before .before .before .before .if1 .left) _ _ _ _ (c .before .before .before .before .before .before .before .wide .ensures) (c .before .before .before .before .before .wide2 .ensures .0) (c .before .before .before .before .low-key .ensures) (c .before .before .before .high-key .ensures) _ (word-more _ _ _ _ _ _ (c .before .before .before .before .before .before .before .before .before .before .index .ensures) (c .before .before .before .before .before .before .before .before .before .before .before .before .before .pre .3) (omega arith) (c .if2 .left))
+    λ bytes next. took-in _ _ _ _ _ _ _ (c .before .before .before .before .before .before .before .before .before .before .before .before .before .pre .3) _ (c .before .before .before .before .before .before .before .before .before .before .index .ensures) (c .before .before .before .before .before .before .before .before .before .before .before .before .before .pre .2) (c .before .before .before .before .before .before .before .before .before .before .before .before .before .pre .0) (c .before .before .before .before .before .before .before .before .before .if1 .left) _ _ _ _ (c .before .before .before .before .before .before .before .wide .ensures) (c .before .before .before .before .before .wide2 .ensures .0) (c .before .before .before .before .low-badge .ensures) (c .before .before .before .high-badge .ensures) _ (word-more _ _ _ _ _ _ (c .before .before .before .before .before .before .before .before .before .before .index .ensures) (c .before .before .before .before .before .before .before .before .before .before .before .before .before .pre .3) (omega arith) (c .if2 .left))
 
 pub take-reference-spec : {M : Type 1} → statement M
 take-reference-spec =
@@ -105,14 +105,14 @@ take-reference-spec =
     add-wide
     slice-read-wide
     wide-requires
-    mul-key
+    mul-badge
     mul-wide-2
     add-wide-2
     slice-read-wide-2
     wide-requires-2
-    add-key
-    low-key-requires
-    high-key-requires
+    add-badge
+    low-badge-requires
+    high-badge-requires
     mul-depth
     add-depth
     slice-read-depth

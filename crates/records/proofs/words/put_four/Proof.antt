@@ -9,8 +9,8 @@ use Rattle.records.proofs.words.put_four.Lts as lts
 use Rattle.records.proofs.words.put_pair.Reads as put-pair-reads
 
 -- src/words.rt:70:18
-add-second : tie.Need-add-second
-add-second c = search needs
+add-third : tie.Need-add-third
+add-third c = search needs
 
 -- src/words.rt:71:5
 put-pair-requires : tie.Need-put-pair-requires
@@ -30,4 +30,4 @@ returns c = search put-four
 
 pub put-four-spec : {M : Type 1} → statement M
 put-four-spec =
-    tie.close (tie.spec add-second put-pair-requires put-pair-requires-2 same-length returns)
+    tie.close (tie.spec add-third put-pair-requires put-pair-requires-2 same-length returns)

@@ -23,7 +23,7 @@ loop-holds c = walk-start _ _ _ _ (c .before .before .pre .1) (c .before .before
 
 -- src/fits.rt:193:13
 next-cell-requires : tie.Need-next-cell-requires Inv-loop μ-loop
-next-cell-requires c κs = (c .before .before .before .before .pre .0, cell-below _ _ (c .before .before .before .before .pre .0) _ _ (c .before .loop .inv .args) (c .loop-test .taken))
+next-cell-requires c κs = cell-below _ _ (c .before .before .before .before .pre .0) _ _ (c .before .loop .inv .args) (c .loop-test .taken)
 
 -- src/fits.rt:194:36
 argument-at-requires : tie.Need-argument-at-requires Inv-loop μ-loop

@@ -14,7 +14,7 @@ returns c = behind-next _ _ (c .before .before .before .pre .0) _ (c .before .be
 
 -- src/fits.rt:182:5
 next-cell-requires : tie.Need-next-cell-requires
-next-cell-requires c κs = (c .before .before .before .pre .0, cell-below _ _ (c .before .before .before .pre .0) _ _ (c .before .before .before .pre .1) (c .if1 .left))
+next-cell-requires c κs = cell-below _ _ (c .before .before .before .pre .0) _ _ (c .before .before .before .pre .1) (c .if1 .left)
 
 -- src/fits.rt:175:1
 returns-2 : tie.Need-returns-2

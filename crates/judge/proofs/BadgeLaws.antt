@@ -1,4 +1,4 @@
--- A word that refers is judged by the key of the lower record that it refers to: four times its kind, and the number of its list.
+-- A word that refers is judged by the badge of the lower record that it refers to: four times its kind, and the number of its list.
 -- By the cases of the role. What is not lower is right only where it is none and the role allows that. Assumes nothing.
 use mathlib.Core.Path.{_≡_, refl, sym, ap, _∙_}
 use Prim.Native.Nat.{ℕ, _+_, _*_, _≤_, _<_}
@@ -16,34 +16,34 @@ use Rattle.records.specs.Words.{kindOf, none, mostRecords}
 use Rattle.records.specs.Shapes.{refers}
 use Rattle.records.specs.Rules.{kindBelow, isExpr, listOk, wordOk, refersTo}
 use Rattle.records.proofs.ListLaws.{list-end}
-use Rattle.judge.specs.Inner.{classIn, kindIn, listNumber, lowKey, highKey, noneOk, KnownBelow}
+use Rattle.judge.specs.Inner.{classIn, kindIn, listNumber, lowBadge, highBadge, noneOk, KnownBelow}
 use Rattle.judge.proofs.ListClass.{list-told}
 use Rattle.judge.proofs.RowLaws.{divided}
 
 -- a test says the same as two bounds
-bounds : (b : Bool) (low key high : ℕ) → (b ≡ true → (low ≤ key) × (key ≤ high)) → (low ≤ key → key ≤ high → b ≡ true) → b ≡ (leb low key && leb key high)
-bounds true low key high there back = rw (le-leb low key (there refl .0), le-leb key high (there refl .1)) refl
-bounds false low key high there back =
-    tested (leb low key)
+bounds : (b : Bool) (low badge high : ℕ) → (b ≡ true → (low ≤ badge) × (badge ≤ high)) → (low ≤ badge → badge ≤ high → b ≡ true) → b ≡ (leb low badge && leb badge high)
+bounds true low badge high there back = rw (le-leb low badge (there refl .0), le-leb badge high (there refl .1)) refl
+bounds false low badge high there back =
+    tested (leb low badge)
     (λ t.
     rw t
-    (tested (leb key high)
-    (λ s. absurd (false≢true (back (leb-true low key t) (leb-true key high s))))
+    (tested (leb badge high)
+    (λ s. absurd (false≢true (back (leb-true low badge t) (leb-true badge high s))))
     (λ s. sym s)))
     (λ t. rw t refl)
 
-key-kind : (v k c low high : ℕ) → c ≤ 3 → low ≡ v * 4 → high ≡ v * 4 + 3 → eqb k v ≡ (leb low (k * 4 + c) && leb (k * 4 + c) high)
-key-kind v k c low high h el eh =
+badge-kind : (v k c low high : ℕ) → c ≤ 3 → low ≡ v * 4 → high ≡ v * 4 + 3 → eqb k v ≡ (leb low (k * 4 + c) && leb (k * 4 + c) high)
+badge-kind v k c low high h el eh =
     bounds (eqb k v) low (k * 4 + c) high
     (λ t. let e : k ≡ v = eqb-true k v t in (omega arith, omega arith))
     (λ x y. eq-eqb k v (omega arith))
 
-key-expr : (k c : ℕ) → c ≤ 3 → isExpr k ≡ (leb 8 (k * 4 + c) && leb (k * 4 + c) 47)
-key-expr k c h =
+badge-expr : (k c : ℕ) → c ≤ 3 → isExpr k ≡ (leb 8 (k * 4 + c) && leb (k * 4 + c) 47)
+badge-expr k c h =
     rw (divided 2 k 8 (k * 4 + c) (λ x. omega arith) (λ x. omega arith), divided k 11 (k * 4 + c) 47 (λ x. omega arith) (λ x. omega arith)) refl
 
-key-list : (v k c at : ℕ) → (eqb v 0 ≡ false) → at ≡ 48 + v → v ≤ 3 → c ≤ 3 → ((k ≡ 12 → ⊥) → c ≡ 0) → eqb c v ≡ (leb at (k * 4 + c) && leb (k * 4 + c) at)
-key-list v k c at some e small h cell =
+badge-list : (v k c at : ℕ) → (eqb v 0 ≡ false) → at ≡ 48 + v → v ≤ 3 → c ≤ 3 → ((k ≡ 12 → ⊥) → c ≡ 0) → eqb c v ≡ (leb at (k * 4 + c) && leb (k * 4 + c) at)
+badge-list v k c at some e small h cell =
     bounds (eqb c v) at (k * 4 + c) at
     (λ t.
     let q : c ≡ v = eqb-true c v t in
@@ -104,18 +104,18 @@ module _ (tree : List ℕ) (bytes r w next k c : ℕ) (l : List ℕ) (known : Kn
   list-is : (role : Role) → listOk tree role r w ≡ eqb c (listNumber role)
   list-is role = list-told tree r l known role w ∙ ap (λ (x : ℕ). eqb x (listNumber role)) (below-in (classIn l) r w 0 lower ∙ sym cIs)
 
-  pub reference-in : (role : Role) → refers role ≡ true → wordOk tree bytes r role w next ≡ (leb (lowKey role) (k * 4 + c) && leb (k * 4 + c) (highKey role))
+  pub reference-in : (role : Role) → refers role ≡ true → wordOk tree bytes r role w next ≡ (leb (lowBadge role) (k * 4 + c) && leb (k * 4 + c) (highBadge role))
   unfolding wordOk
-  reference-in Expr e = rw kind-is (key-expr k c small)
-  reference-in TypeRef e = rw kind-is (key-kind 1 k c 4 7 small refl refl)
-  reference-in TypeOrNone e = rw (some, kind-is) (key-kind 1 k c 4 7 small refl refl)
-  reference-in Name e = rw kind-is (key-kind 6 k c 24 27 small refl refl)
-  reference-in Variable e = rw kind-is (key-kind 24 k c 96 99 small refl refl)
-  reference-in Arguments e = rw (some, list-is Arguments) (key-list 1 k c 49 refl refl (omega arith) small cell)
-  reference-in Parameters e = rw (some, list-is Parameters) (key-list 2 k c 50 refl refl (omega arith) small cell)
-  reference-in Body e = rw (some, list-is Body) (key-list 3 k c 51 refl refl (omega arith) small cell)
+  reference-in Expr e = rw kind-is (badge-expr k c small)
+  reference-in TypeRef e = rw kind-is (badge-kind 1 k c 4 7 small refl refl)
+  reference-in TypeOrNone e = rw (some, kind-is) (badge-kind 1 k c 4 7 small refl refl)
+  reference-in Name e = rw kind-is (badge-kind 6 k c 24 27 small refl refl)
+  reference-in Variable e = rw kind-is (badge-kind 24 k c 96 99 small refl refl)
+  reference-in Arguments e = rw (some, list-is Arguments) (badge-list 1 k c 49 refl refl (omega arith) small cell)
+  reference-in Parameters e = rw (some, list-is Parameters) (badge-list 2 k c 50 refl refl (omega arith) small cell)
+  reference-in Body e = rw (some, list-is Body) (badge-list 3 k c 51 refl refl (omega arith) small cell)
   reference-in Item e = rw (lt-ltb w r lower, le-leb 0 (k * 4 + c) (omega arith), le-leb (k * 4 + c) 1023 (omega (arith, small))) refl
-  reference-in Rest e = rw (some, kind-is) (key-kind 12 k c 48 51 small refl refl)
+  reference-in Rest e = rw (some, kind-is) (badge-kind 12 k c 48 51 small refl refl)
   reference-in Unused e = absurd (false≢true e)
   reference-in Number e = absurd (false≢true e)
   reference-in Text e = absurd (false≢true e)

@@ -1,11 +1,11 @@
--- A record is one that a word may refer to, by its key.
+-- A record is one that a word may refer to, by its badge.
 -- What the calls ensure. Assumes nothing.
 use borrow.Author.Needs.{needs}
 use mathlib.Core.Path.{refl}
-use Rattle.judge.proofs.plain.key_ok.Statement.{statement}
-use Rattle.judge.proofs.plain.key_ok.Tie as tie
-use Rattle.judge.proofs.plain.key_ok.Reads as reads
-use Rattle.judge.proofs.plain.key_ok.Lts as lts
+use Rattle.judge.proofs.plain.badge_ok.Statement.{statement}
+use Rattle.judge.proofs.plain.badge_ok.Tie as tie
+use Rattle.judge.proofs.plain.badge_ok.Reads as reads
+use Rattle.judge.proofs.plain.badge_ok.Lts as lts
 use Rattle.records.proofs.words.wide.Reads as wide-reads
 
 -- src/plain.rt:91:26
@@ -25,8 +25,8 @@ wide-requires : tie.Need-wide-requires
 wide-requires c κs = search needs
 
 -- src/plain.rt:91:15
-mul-key : tie.Need-mul-key
-mul-key c = search needs
+mul-badge : tie.Need-mul-badge
+mul-badge c = search needs
 
 -- src/plain.rt:91:55
 mul-wide-2 : tie.Need-mul-wide-2
@@ -45,8 +45,8 @@ wide-requires-2 : tie.Need-wide-requires-2
 wide-requires-2 c κs = search needs
 
 -- src/plain.rt:91:15
-add-key : tie.Need-add-key
-add-key c = search needs
+add-badge : tie.Need-add-badge
+add-badge c = search needs
 
 -- src/plain.rt:92:17
 add-wide-3 : tie.Need-add-wide-3
@@ -77,20 +77,20 @@ returns : tie.Need-returns
 returns c =
     rw (c .wide4 .ensures .0, c .before .before .wide3 .ensures .0, c .before .before .before .before .wide2 .ensures .0, c .before .before .before .before .before .before .wide .ensures .0) refl
 
-pub key-ok-spec : {M : Type 1} → statement M
-key-ok-spec =
+pub badge-ok-spec : {M : Type 1} → statement M
+badge-ok-spec =
     tie.close
     (tie.spec
     mul-wide
     add-wide
     shared-slice-read-wide
     wide-requires
-    mul-key
+    mul-badge
     mul-wide-2
     add-wide-2
     shared-slice-read-wide-2
     wide-requires-2
-    add-key
+    add-badge
     add-wide-3
     element-copy-out-wide
     wide-requires-3

@@ -1,0 +1,103 @@
+-- Texts found in chains whose entries stand in an order of common beginnings: an entry is a record, its text that of its words A and B, and beside its link stands how
+-- many bytes its text shares with that of the entry before. Assumes nothing: these are definitions.
+use mathlib.Core.Path.{_≡_}
+use Prim.Native.Nat.{ℕ, zero, suc, _+_, _≤_, _<_}
+use mathlib.Core.Bool.{Bool}
+use mathlib.Core.List.{List, [], _∷_, _++_}
+use lib.Dec.{eqb, ltb}
+use lib.ListN.{length}
+use Rattle.laws.specs.All.{All}
+use Rattle.laws.specs.Fix.{pick}
+use Rattle.laws.specs.Splice.{splice}
+use Rattle.records.specs.Chains.{headAt, entryAt}
+use Rattle.records.specs.Words.{wordAt, wordOf, textAt, sameText, word, A, B, secondWord}
+
+-- how many bytes two texts share, from the first on
+unfoldable pub common : List ℕ → List ℕ → ℕ
+unfolding pick
+common [] u = 0
+common (a ∷ t) [] = 0
+common (a ∷ t) (b ∷ u) = pick (eqb a b) (suc (common t u)) 0
+
+-- two texts agree in so many bytes, and are the same or not
+pub record Agrees (t u : List ℕ) (bytes : ℕ) (whole : Bool) : Type 0 where
+  pub far : bytes ≡ common t u
+  pub same : whole ≡ sameText t u
+
+-- the text of record k
+abbrev pub recordText : List ℕ → List ℕ → ℕ → List ℕ
+recordText tree text k = textAt text (wordOf tree k A) (wordOf tree k B)
+
+-- ---- chains as lists: t is the text of each number
+
+-- number r put into a chain, behind an entry with the text `before` (the head of a chain counts as one without a byte): nowhere where an entry has its text, else before
+-- the first entry that shares less with the one before than r does
+unfoldable pub placed : (ℕ → List ℕ) → ℕ → List ℕ → List ℕ → List ℕ
+unfolding pick common sameText
+placed t r before [] = r ∷ []
+placed t r before (e ∷ l) =
+    pick (sameText (t e) (t r))
+    (e ∷ l)
+    (pick (ltb (common before (t e)) (common before (t r))) (r ∷ e ∷ l) (e ∷ placed t r (t e) l))
+
+-- the chain of bucket b, once the numbers below r are placed
+unfoldable pub chainOf : (ℕ → List ℕ) → (ℕ → ℕ) → ℕ → ℕ → List ℕ
+unfolding pick placed
+chainOf t bucket zero b = []
+chainOf t bucket (suc r) b = pick (eqb (bucket r) b) (placed t r [] (chainOf t bucket r b)) (chainOf t bucket r b)
+
+-- the entry that has number r's text, or r where none has
+unfoldable pub firstWith : (ℕ → List ℕ) → ℕ → List ℕ → ℕ
+unfolding pick sameText
+firstWith t r [] = r
+firstWith t r (e ∷ l) = pick (sameText (t e) (t r)) e (firstWith t r l)
+
+-- the place of the link that is to lead to r, where `link` is the place of the one that leads to the chain, and the text of the entry before r
+unfoldable pub linkPlace : (ℕ → List ℕ) → ℕ → ℕ → List ℕ → ℕ → List ℕ → ℕ
+unfolding pick common
+linkPlace t n r before link [] = link
+linkPlace t n r before link (e ∷ l) = pick (ltb (common before (t e)) (common before (t r))) link (linkPlace t n r (t e) (entryAt n e + secondWord) l)
+
+unfoldable pub textBefore : (ℕ → List ℕ) → ℕ → List ℕ → List ℕ → List ℕ
+unfolding pick common
+textBefore t r before [] = before
+textBefore t r before (e ∷ l) = pick (ltb (common before (t e)) (common before (t r))) before (textBefore t r (t e) l)
+
+-- what the order is: no later entry shares more with the one before than the first does
+abbrev pub Ordered : (ℕ → List ℕ) → List ℕ → List ℕ → Type 0
+Ordered t before [] = Unit {0}
+Ordered t before (e ∷ l) = All (λ g. common before (t g) ≤ common before (t e)) l × Ordered t (t e) l
+
+-- ---- chains in bytes
+
+-- the link h leads to the chain: a link is one more than the entry it leads to, 0 behind the last; each entry has what it shares with the one before, and its link
+abbrev pub Linked : (ℕ → List ℕ) → ℕ → List ℕ → List ℕ → ℕ → List ℕ → Type 0
+Linked t n s before h [] = h ≡ 0
+Linked t n s before h (e ∷ l) = (h ≡ e + 1) × (wordAt s (entryAt n e) ≡ common before (t e)) × Linked t n s (t e) (wordAt s (entryAt n e + secondWord)) l
+
+-- the numbers below r are placed, in n buckets
+abbrev pub Placed : (ℕ → List ℕ) → (ℕ → ℕ) → ℕ → ℕ → List ℕ → Type 0
+Placed t bucket n r s = (b : ℕ) → b < n → Linked t n s [] (wordAt s (headAt b)) (chainOf t bucket r b)
+
+-- the link at this place leads to a chain of numbers below r
+pub record Leads (t : ℕ → List ℕ) (n r link : ℕ) (s : List ℕ) : Type 0 where
+  pub chain : List ℕ
+  pub linked : Linked t n s [] (wordAt s link) chain
+  pub ordered : Ordered t [] chain
+  pub inside : All (λ e. e < r) chain
+  pub short : length chain ≤ n
+
+-- where number r belongs in the chain that the link at this place leads to: the entry with its text, or r; and then where the link to it is to stand, and what it
+-- shares with the entry before
+pub record PlaceIn (t : ℕ → List ℕ) (n r link : ℕ) (chain : List ℕ) (number place shared : ℕ) : Type 0 where
+  pub found : number ≡ firstWith t r chain
+  pub there : number ≡ r → place ≡ linkPlace t n r [] link chain
+  pub shares : number ≡ r → shared ≡ common (textBefore t r [] chain) (t r)
+
+abbrev pub PlaceOf : (ℕ → List ℕ) → ℕ → ℕ → ℕ → List ℕ → ℕ → ℕ → ℕ → Type 0
+PlaceOf t n r link s number place shared =
+    (chain : List ℕ) → Linked t n s [] (wordAt s link) chain → PlaceIn t n r link chain number place shared
+
+-- number r is placed: the link at this place leads to it, and it has what it shares with the entry before, and the link that stood there
+abbrev pub placedAt : ℕ → ℕ → ℕ → ℕ → ℕ → List ℕ → List ℕ
+placedAt n r shared place next s = splice (splice s (entryAt n r) (word shared ++ word next)) place (word (r + 1))
