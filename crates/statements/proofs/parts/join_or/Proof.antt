@@ -17,8 +17,7 @@ unfolding counted
 jump-if-not-requires c κs = search needs
 
 jump-requires : tie.Need-jump-requires
-unfolding counted
-jump-requires c κs = search needs
+jump-requires c κs = (record { room = c .before .before .before .before .before .before .jump-if-not .ensures .next .room; affords = omega (arith, c .before .before .before .before .before .before .before .before .before .before .before .before .before .before .before .before .before .before .pre .0 .affords, c .before .before .before .before .before .before .before .before .before .before .before .before .before .emit-copy .ensures .spent, c .before .before .before .before .before .before .jump-if-not .ensures .spent) }, omega (arith, c .before .before .before .before .before .before .before .before .before .before .before .before .before .before .before .before .before .before .pre .1, c .before .before .before .before .before .before .before .before .before .before .before .before .before .emit-copy .ensures .spent, c .before .before .before .before .before .before .jump-if-not .ensures .spent))
 
 place-label-requires : tie.Need-place-label-requires
 place-label-requires c κs = (record { room = c .before .before .before .before .before .before .jump .ensures .next .room; affords = omega (arith, c .before .before .before .before .before .before .before .before .before .before .before .before .before .before .before .before .before .before .before .before .before .before .before .before .before .pre .0 .affords, c .before .before .before .before .before .before .before .before .before .before .before .before .before .before .before .before .before .before .before .before .emit-copy .ensures .spent, c .before .before .before .before .before .before .before .before .before .before .before .before .before .jump-if-not .ensures .spent, c .before .before .before .before .before .before .jump .ensures .spent) }, omega (arith, c .before .before .before .before .before .before .before .before .before .before .before .before .before .before .before .before .before .before .before .before .before .before .before .before .before .pre .1, c .before .before .before .before .before .before .before .before .before .before .before .before .before .before .before .before .before .before .before .before .emit-copy .ensures .spent, c .before .before .before .before .before .before .before .before .before .before .before .before .before .jump-if-not .ensures .spent, c .before .before .before .before .before .before .jump .ensures .spent))
