@@ -1,5 +1,6 @@
 -- The operand of an expression without operands.
 -- By its kind. Assumes nothing.
+use mathlib.Core.Path.{refl}
 use native.Mathlib.Omega.{arith}
 use Rattle.statements.proofs.LeafLaws.{leaf-answers, leaf-int, leaf-bool, leaf-null, leaf-size}
 use Rattle.statements.proofs.ConvertLaws.{converts-most}
