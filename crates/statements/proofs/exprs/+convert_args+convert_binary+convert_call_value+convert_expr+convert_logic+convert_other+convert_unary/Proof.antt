@@ -419,8 +419,8 @@ convert-args-loop-again : (t : ℕ) → convert-args-lts.Need-loop-again (
   next-cell-reads.Learnt,
 ) (convert-args-at t) convert-args.Post convert-args-Inv-loop convert-args-μ-loop
 convert-args-loop-again t c = (⊎-elim
-    (λ w. turn-value (c .before .before .before .before .before .before .before .before .before .before .before .pre .1 .0 .0) (c .before .before .before .before .before .before .before .before .before .before .before .pre .1 .0 .1) (c .before .before .before .before .before .before .before .before .before .before .before .pre .1 .1 .0) (c .before .before .before .before .loop .inv .0) (c .before .before .before .loop-test .taken) (c .before .before .argument-at .ensures) (w .1 .given .1) (w .6 .ensures .0) (ap (converted _) (w .14 .given .1)) (w .6 .ensures .1) (w .17 .ensures .0) (w .17 .ensures .1) (w .20) (w .21) (ap (λ (z : Converter). at z _) (w .23) ∙ ap (at _) (w .22)) _ (c .next-cell .ensures))
-    (λ w. turn-type (c .before .before .before .before .before .before .before .before .before .before .before .pre .1 .0 .0) (c .before .before .before .before .before .before .before .before .before .before .before .pre .1 .0 .1) (c .before .before .before .before .before .before .before .before .before .before .before .pre .1 .1 .0) (c .before .before .before .before .loop .inv .0) (c .before .before .before .loop-test .taken) (c .before .before .argument-at .ensures) _ (w .1 .given .1) (w .2) (w .3) (ap (λ (z : Converter). at z _) (w .5) ∙ ap (at _) (w .4)) _ (c .next-cell .ensures))
+    (λ w. turn-value (c .before .before .before .before .before .before .before .before .before .before .before .pre .1 .0 .0) (c .before .before .before .before .before .before .before .before .before .before .before .pre .1 .0 .1) (c .before .before .before .before .before .before .before .before .before .before .before .pre .1 .1 .0) (c .before .before .before .before .loop .inv .0) (c .before .before .before .loop-test .taken) (c .before .before .argument-at .ensures) (w .1 .given .1) (w .6 .ensures .0) (ap (converted _) (w .14 .given .1)) (w .6 .ensures .1) (w .17 .ensures .0) (w .17 .ensures .1) (w .20) (w .21) (ap (at (c .before .match .at)) (w .22) ∙ ap (λ (z : Converter). at z _) (w .23)) _ (c .next-cell .ensures))
+    (λ w. turn-type (c .before .before .before .before .before .before .before .before .before .before .before .pre .1 .0 .0) (c .before .before .before .before .before .before .before .before .before .before .before .pre .1 .0 .1) (c .before .before .before .before .before .before .before .before .before .before .before .pre .1 .1 .0) (c .before .before .before .before .loop .inv .0) (c .before .before .before .loop-test .taken) (c .before .before .argument-at .ensures) _ (w .1 .given .1) (w .2) (w .3) (ap (at (c .before .match .at)) (w .4) ∙ ap (λ (z : Converter). at z _) (w .5)) _ (c .next-cell .ensures))
     (c .before .match .came), ⊎-elim (λ w. omega (arith, ap length (w .22), w .11 .given, c .before .before .before .before .loop .inv .1)) (λ w. omega (arith, ap length (w .4), c .before .before .before .before .loop .inv .1)) (c .before .match .came))
 
 convert-args-sub-t16 : (t : ℕ) → convert-args-lts.Need-sub-t16 (
