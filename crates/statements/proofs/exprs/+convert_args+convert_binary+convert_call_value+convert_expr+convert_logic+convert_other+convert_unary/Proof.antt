@@ -5,7 +5,7 @@ use Rattle.statements.specs.declared.answers.Converter.{Converter}
 use Rattle.statements.specs.Lent.{at, converted, convertedArgs}
 use mathlib.Core.Path.{_≡_, refl, ap, _∙_}
 use mathlib.Core.Logic.{⊎-elim}
-use mathlib.Core.List.{[]}
+use mathlib.Core.List.{List, []}
 use native.Mathlib.Omega.{arith}
 use borrow.Author.Needs.{needs}
 use Rattle.syntax.proofs.Lists.{left}
@@ -406,6 +406,10 @@ convert-args-loop-less : (t : ℕ) → convert-args-lts.Need-loop-less (
 ) (convert-args-at t) convert-args.Post convert-args-Inv-loop convert-args-μ-loop
 convert-args-loop-less t c = next-less (c .before .before .before .before .before .before .before .before .before .before .before .pre .1 .0 .0) (c .before .before .before .before .before .before .before .before .before .before .before .pre .1 .0 .1) (c .before .before .before .before .before .before .before .before .before .before .before .pre .1 .1 .0) (c .before .before .before .before .loop .inv .0) (c .before .before .before .loop-test .taken) _ (c .next-cell .ensures)
 
+-- what is lent and what goes by value, each for its equal
+at-same : {c d : Converter} {k l : List ℕ} → c ≡ d → k ≡ l → at c k ≡ at d l
+at-same {d = d} {k = k} p q = ap (λ (z : Converter). at z k) p ∙ ap (at d) q
+
 convert-args-loop-again : (t : ℕ) → convert-args-lts.Need-loop-again (
   reference-reads.Asked,
   reference-reads.Learnt,
@@ -418,10 +422,13 @@ convert-args-loop-again : (t : ℕ) → convert-args-lts.Need-loop-again (
   next-cell-reads.Asked,
   next-cell-reads.Learnt,
 ) (convert-args-at t) convert-args.Post convert-args-Inv-loop convert-args-μ-loop
-convert-args-loop-again t c = (⊎-elim
-    (λ w. turn-value (c .before .before .before .before .before .before .before .before .before .before .before .pre .1 .0 .0) (c .before .before .before .before .before .before .before .before .before .before .before .pre .1 .0 .1) (c .before .before .before .before .before .before .before .before .before .before .before .pre .1 .1 .0) (c .before .before .before .before .loop .inv .0) (c .before .before .before .loop-test .taken) (c .before .before .argument-at .ensures) (w .1 .given .1) (w .6 .ensures .0) (ap (converted _) (w .14 .given .1)) (w .6 .ensures .1) (w .17 .ensures .0) (w .17 .ensures .1) (w .20) (w .21) (ap (at (c .before .match .at)) (w .22) ∙ ap (λ (z : Converter). at z _) (w .23)) _ (c .next-cell .ensures))
-    (λ w. turn-type (c .before .before .before .before .before .before .before .before .before .before .before .pre .1 .0 .0) (c .before .before .before .before .before .before .before .before .before .before .before .pre .1 .0 .1) (c .before .before .before .before .before .before .before .before .before .before .before .pre .1 .1 .0) (c .before .before .before .before .loop .inv .0) (c .before .before .before .loop-test .taken) (c .before .before .argument-at .ensures) _ (w .1 .given .1) (w .2) (w .3) (ap (at (c .before .match .at)) (w .4) ∙ ap (λ (z : Converter). at z _) (w .5)) _ (c .next-cell .ensures))
-    (c .before .match .came), ⊎-elim (λ w. omega (arith, ap length (w .22), w .11 .given, c .before .before .before .before .loop .inv .1)) (λ w. omega (arith, ap length (w .4), c .before .before .before .before .loop .inv .1)) (c .before .match .came))
+convert-args-loop-again t c = (
+  ⊎-elim
+      (λ w. turn-value (c .before .before .before .before .before .before .before .before .before .before .before .pre .1 .0 .0) (c .before .before .before .before .before .before .before .before .before .before .before .pre .1 .0 .1) (c .before .before .before .before .before .before .before .before .before .before .before .pre .1 .1 .0) (c .before .before .before .before .loop .inv .0) (c .before .before .before .loop-test .taken) (c .before .before .argument-at .ensures) (w .1 .given .1) (w .6 .ensures .0) (ap (converted _) (w .14 .given .1)) (w .6 .ensures .1) (w .17 .ensures .0) (w .17 .ensures .1) (w .20) (w .21) (at-same (w .23) (w .22)) _ (c .next-cell .ensures))
+      (λ w. turn-type (c .before .before .before .before .before .before .before .before .before .before .before .pre .1 .0 .0) (c .before .before .before .before .before .before .before .before .before .before .before .pre .1 .0 .1) (c .before .before .before .before .before .before .before .before .before .before .before .pre .1 .1 .0) (c .before .before .before .before .loop .inv .0) (c .before .before .before .loop-test .taken) (c .before .before .argument-at .ensures) _ (w .1 .given .1) (w .2) (w .3) (at-same (w .5) (w .4)) _ (c .next-cell .ensures))
+      (c .before .match .came),
+  ⊎-elim (λ w. omega (arith, ap length (w .22), w .11 .given, c .before .before .before .before .loop .inv .1)) (λ w. omega (arith, ap length (w .4), c .before .before .before .before .loop .inv .1)) (c .before .match .came),
+)
 
 convert-args-sub-t16 : (t : ℕ) → convert-args-lts.Need-sub-t16 (
   reference-reads.Asked,
@@ -686,163 +693,163 @@ convert-binary-returns-3 : (t : ℕ) → convert-binary-lts.Need-returns-3 (
 convert-binary-returns-3 t c = (fitted-other (c .before .before .before .before .before .before .before .before .before .before .before .before .before .before .before .before .before .before .before .before .before .before .before .before .pre .1 .0 .0) (c .before .before .before .before .before .before .before .before .before .before .before .before .before .before .before .before .before .before .before .before .before .before .before .before .pre .1 .1 .0 .0) ((c .before .before .before .before .before .before .before .before .before .before .before .before .before .before .before .before .before .operand-type .ensures .0 (c .before .before .before .before .before .before .before .before .before .before .before .before .before .before .before .before .before .before .before .before .before .before .before .before .args .k .now))) (c .before .before .before .before .before .before .before .before .before .before .before .before .before .q .given .1) (c .before .before .before .before .before .before .before .before .before .before .before .detail .ensures) (c .before .before .before .before .before .before .before .before .before .before .if1 .left) (c .before .before .before .before .before .before .convert-other .ensures .0), common-types (c .before .before .before .before .before .before .before .before .before .before .before .before .before .before .before .before .before .before .before .before .before .before .before .before .pre .1 .0 .0) ((c .before .before .before .before .before .before .before .before .before .before .before .before .before .before .before .before .before .operand-type .ensures .0 (c .before .before .before .before .before .before .before .before .before .before .before .before .before .before .before .before .before .before .before .before .before .before .before .before .args .k .now))) ((c .before .before .before .before .before .before .before .before .before .before .before .before .before .before .before .before .before .operand-type .ensures .1 (c .before .before .before .before .before .before .before .before .before .before .before .before .before .before .before .before .before .before .before .before .before .before .before .before .args .k .now))) (c .before .before .before .before .before .before .before .before .before .before .before .before .before .q .given .1) (c .before .before .before .before .before .before .convert-other .ensures .1))
 
 convert-call-value-resolve-call-requires : (t : ℕ) → convert-call-value-lts.Need-resolve-call-requires (
-      resolve-call-reads.Asked,
-      resolve-call-reads.Learnt,
-      convert-args-below t,
-      convert-args.Post,
-      finish-call-reads.Asked,
-      finish-call-reads.Learnt,
-    ) (convert-call-value-at t) convert-call-value.Post
+  resolve-call-reads.Asked,
+  resolve-call-reads.Learnt,
+  convert-args-below t,
+  convert-args.Post,
+  finish-call-reads.Asked,
+  finish-call-reads.Learnt,
+) (convert-call-value-at t) convert-call-value.Post
 convert-call-value-resolve-call-requires t c κs = (record { ready = (c .before .before .before .before .before .before .before .pre .1 .0 .0) .ready; remembers = (c .before .before .before .before .before .before .before .pre .1 .1 .1) }, (c .before .before .before .before .before .before .before .pre .1 .1 .0 .0))
 
 convert-call-value-enum-known-callee : (t : ℕ) → convert-call-value-lts.Need-enum-known-callee (
-      resolve-call-reads.Asked,
-      resolve-call-reads.Learnt,
-      convert-args-below t,
-      convert-args.Post,
-      finish-call-reads.Asked,
-      finish-call-reads.Learnt,
-    ) (convert-call-value-at t) convert-call-value.Post
+  resolve-call-reads.Asked,
+  resolve-call-reads.Learnt,
+  convert-args-below t,
+  convert-args.Post,
+  finish-call-reads.Asked,
+  finish-call-reads.Learnt,
+) (convert-call-value-at t) convert-call-value.Post
 convert-call-value-enum-known-callee t c = search needs
 
 convert-call-value-same-length : (t : ℕ) → convert-call-value-lts.Need-same-length (
-      resolve-call-reads.Asked,
-      resolve-call-reads.Learnt,
-      convert-args-below t,
-      convert-args.Post,
-      finish-call-reads.Asked,
-      finish-call-reads.Learnt,
-    ) (convert-call-value-at t) convert-call-value.Post
+  resolve-call-reads.Asked,
+  resolve-call-reads.Learnt,
+  convert-args-below t,
+  convert-args.Post,
+  finish-call-reads.Asked,
+  finish-call-reads.Learnt,
+) (convert-call-value-at t) convert-call-value.Post
 convert-call-value-same-length t c = omega (arith, c .before .before .before .before .scratch .given)
 
 convert-call-value-returns : (t : ℕ) → convert-call-value-lts.Need-returns (
-      resolve-call-reads.Asked,
-      resolve-call-reads.Learnt,
-      convert-args-below t,
-      convert-args.Post,
-      finish-call-reads.Asked,
-      finish-call-reads.Learnt,
-    ) (convert-call-value-at t) convert-call-value.Post
+  resolve-call-reads.Asked,
+  resolve-call-reads.Learnt,
+  convert-args-below t,
+  convert-args.Post,
+  finish-call-reads.Asked,
+  finish-call-reads.Learnt,
+) (convert-call-value-at t) convert-call-value.Post
 convert-call-value-returns t c = (called-stop (c .before .before .before .before .before .before .before .before .before .before .before .before .before .pre .1 .0 .0) (c .before .before .before .before .before .before .before .before .before .before .before .before .before .pre .1 .0 .1) (c .before .before .before .before .before .before .before .before .before .before .before .before .before .pre .1 .1 .0 .0) (c .before .before .before .before .before .resolve-call .ensures) _ (c .before .callee .given .1), refused-types)
 
 convert-call-value-convert-args-requires : (t : ℕ) → convert-call-value-lts.Need-convert-args-requires (
-      resolve-call-reads.Asked,
-      resolve-call-reads.Learnt,
-      convert-args-below t,
-      convert-args.Post,
-      finish-call-reads.Asked,
-      finish-call-reads.Learnt,
-    ) (convert-call-value-at t) convert-call-value.Post
+  resolve-call-reads.Asked,
+  resolve-call-reads.Learnt,
+  convert-args-below t,
+  convert-args.Post,
+  finish-call-reads.Asked,
+  finish-call-reads.Learnt,
+) (convert-call-value-at t) convert-call-value.Post
 convert-call-value-convert-args-requires t c κs = (omega (arith, (c .before .before .before .before .before .before .before .before .before .before .before .before .before .before .pre .0)), ((called-converting (c .before .before .before .before .before .before .before .before .before .before .before .before .before .before .pre .1 .0 .0) (c .before .before .before .before .before .before .before .before .before .before .before .before .before .before .pre .1 .0 .1) (c .before .before .before .before .before .before .before .before .before .before .before .before .before .before .pre .1 .1 .0 .0) (c .before .before .before .before .before .before .resolve-call .ensures), called-afforded (c .before .before .before .before .before .before .before .before .before .before .before .before .before .before .pre .1 .0 .0) (c .before .before .before .before .before .before .before .before .before .before .before .before .before .before .pre .1 .0 .1) (c .before .before .before .before .before .before .before .before .before .before .before .before .before .before .pre .1 .1 .0 .0) (c .before .before .before .before .before .before .resolve-call .ensures)), ((c .before .before .before .before .before .before .before .before .before .before .before .before .before .before .pre .1 .1 .0 .0), called-in-turn (c .before .before .before .before .before .before .before .before .before .before .before .before .before .before .pre .1 .0 .0) (c .before .before .before .before .before .before .resolve-call .ensures) (c .before .before .before .match .keys2))))
 
 convert-call-value-enum-known-x : (t : ℕ) → convert-call-value-lts.Need-enum-known-x (
-      resolve-call-reads.Asked,
-      resolve-call-reads.Learnt,
-      convert-args-below t,
-      convert-args.Post,
-      finish-call-reads.Asked,
-      finish-call-reads.Learnt,
-    ) (convert-call-value-at t) convert-call-value.Post
+  resolve-call-reads.Asked,
+  resolve-call-reads.Learnt,
+  convert-args-below t,
+  convert-args.Post,
+  finish-call-reads.Asked,
+  finish-call-reads.Learnt,
+) (convert-call-value-at t) convert-call-value.Post
 convert-call-value-enum-known-x t c = search needs
 
 convert-call-value-enum-known-count : (t : ℕ) → convert-call-value-lts.Need-enum-known-count (
-      resolve-call-reads.Asked,
-      resolve-call-reads.Learnt,
-      convert-args-below t,
-      convert-args.Post,
-      finish-call-reads.Asked,
-      finish-call-reads.Learnt,
-    ) (convert-call-value-at t) convert-call-value.Post
+  resolve-call-reads.Asked,
+  resolve-call-reads.Learnt,
+  convert-args-below t,
+  convert-args.Post,
+  finish-call-reads.Asked,
+  finish-call-reads.Learnt,
+) (convert-call-value-at t) convert-call-value.Post
 convert-call-value-enum-known-count t c = search needs
 
 convert-call-value-finish-call-requires : (t : ℕ) → convert-call-value-lts.Need-finish-call-requires (
-      resolve-call-reads.Asked,
-      resolve-call-reads.Learnt,
-      convert-args-below t,
-      convert-args.Post,
-      finish-call-reads.Asked,
-      finish-call-reads.Learnt,
-    ) (convert-call-value-at t) convert-call-value.Post
+  resolve-call-reads.Asked,
+  resolve-call-reads.Learnt,
+  convert-args-below t,
+  convert-args.Post,
+  finish-call-reads.Asked,
+  finish-call-reads.Learnt,
+) (convert-call-value-at t) convert-call-value.Post
 convert-call-value-finish-call-requires t c κs = ((finish-converting (c .before .before .before .before .before .before .before .before .before .before .before .before .before .before .before .before .before .before .before .before .before .before .before .before .before .before .before .pre .1 .0 .0) (c .before .before .before .before .before .before .before .before .before .before .before .before .before .before .before .before .before .before .before .before .before .before .before .before .before .before .before .pre .1 .0 .1) (c .before .before .before .before .before .before .before .before .before .before .before .before .before .before .before .before .before .before .before .before .before .before .before .before .before .before .before .pre .1 .1 .0 .0) (c .before .before .before .before .before .before .before .before .before .before .before .before .before .before .before .before .before .before .before .resolve-call .ensures) (c .before .before .before .before .before .before .before .before .before .before .before .before .convert-args .ensures .0) (ap (convertedArgs _) (c .before .before .before .before .count .given .1)), finish-afforded (c .before .before .before .before .before .before .before .before .before .before .before .before .before .before .before .before .before .before .before .before .before .before .before .before .before .before .before .pre .1 .0 .0) (c .before .before .before .before .before .before .before .before .before .before .before .before .before .before .before .before .before .before .before .before .before .before .before .before .before .before .before .pre .1 .0 .1) (c .before .before .before .before .before .before .before .before .before .before .before .before .before .before .before .before .before .before .before .before .before .before .before .before .before .before .before .pre .1 .1 .0 .0) (c .before .before .before .before .before .before .before .before .before .before .before .before .before .before .before .before .before .before .before .resolve-call .ensures) (c .before .before .before .before .before .before .before .before .before .before .before .before .convert-args .ensures .0) (ap (convertedArgs _) (c .before .before .before .before .count .given .1))), (c .before .before .before .before .before .before .before .before .before .before .before .before .before .before .before .before .before .before .before .before .before .before .before .before .before .before .before .pre .1 .1 .0 .0, (c .before .before .before .before .before .before .before .before .before .before .before .before .before .before .before .before .before .before .before .before .before .before .before .before .before .before .before .pre .1 .1 .0 .1), (c .before .before .before .before .before .before .before .before .before .before .before .before .before .before .before .before .before .before .before .resolve-call .ensures) .callee, (c .before .before .before .before .before .before .before .before .before .before .before .before .convert-args .ensures .0) .operands _ _ (ap (convertedArgs _) (c .before .before .before .before .count .given .1)) .1))
 
 convert-call-value-same-length-2 : (t : ℕ) → convert-call-value-lts.Need-same-length-2 (
-      resolve-call-reads.Asked,
-      resolve-call-reads.Learnt,
-      convert-args-below t,
-      convert-args.Post,
-      finish-call-reads.Asked,
-      finish-call-reads.Learnt,
-    ) (convert-call-value-at t) convert-call-value.Post
+  resolve-call-reads.Asked,
+  resolve-call-reads.Learnt,
+  convert-args-below t,
+  convert-args.Post,
+  finish-call-reads.Asked,
+  finish-call-reads.Learnt,
+) (convert-call-value-at t) convert-call-value.Post
 convert-call-value-same-length-2 t c = omega (arith, c .before .before .before .before .before .before .before .before .arena .given)
 
 convert-call-value-same-length-3 : (t : ℕ) → convert-call-value-lts.Need-same-length-3 (
-      resolve-call-reads.Asked,
-      resolve-call-reads.Learnt,
-      convert-args-below t,
-      convert-args.Post,
-      finish-call-reads.Asked,
-      finish-call-reads.Learnt,
-    ) (convert-call-value-at t) convert-call-value.Post
+  resolve-call-reads.Asked,
+  resolve-call-reads.Learnt,
+  convert-args-below t,
+  convert-args.Post,
+  finish-call-reads.Asked,
+  finish-call-reads.Learnt,
+) (convert-call-value-at t) convert-call-value.Post
 convert-call-value-same-length-3 t c = omega (arith, c .before .before .before .before .before .before .before .before .before .before .before .before .before .before .before .scratch .given, c .before .before .before .before .before .before .scratch2 .given)
 
 convert-call-value-same-length-4 : (t : ℕ) → convert-call-value-lts.Need-same-length-4 (
-      resolve-call-reads.Asked,
-      resolve-call-reads.Learnt,
-      convert-args-below t,
-      convert-args.Post,
-      finish-call-reads.Asked,
-      finish-call-reads.Learnt,
-    ) (convert-call-value-at t) convert-call-value.Post
+  resolve-call-reads.Asked,
+  resolve-call-reads.Learnt,
+  convert-args-below t,
+  convert-args.Post,
+  finish-call-reads.Asked,
+  finish-call-reads.Learnt,
+) (convert-call-value-at t) convert-call-value.Post
 convert-call-value-same-length-4 t c = omega (arith, c .before .before .before .before .k .given)
 
 convert-call-value-returns-2 : (t : ℕ) → convert-call-value-lts.Need-returns-2 (
-      resolve-call-reads.Asked,
-      resolve-call-reads.Learnt,
-      convert-args-below t,
-      convert-args.Post,
-      finish-call-reads.Asked,
-      finish-call-reads.Learnt,
-    ) (convert-call-value-at t) convert-call-value.Post
+  resolve-call-reads.Asked,
+  resolve-call-reads.Learnt,
+  convert-args-below t,
+  convert-args.Post,
+  finish-call-reads.Asked,
+  finish-call-reads.Learnt,
+) (convert-call-value-at t) convert-call-value.Post
 convert-call-value-returns-2 t c = (args-stop (c .before .before .before .before .before .before .before .before .before .before .before .before .before .before .before .before .before .before .before .before .before .before .before .before .pre .1 .0 .0) (c .before .before .before .before .before .before .before .before .before .before .before .before .before .before .before .before .before .before .before .before .before .before .before .before .pre .1 .0 .1) (c .before .before .before .before .before .before .before .before .before .before .before .before .before .before .before .before .before .before .before .before .before .before .before .before .pre .1 .1 .0 .0) (c .before .before .before .before .before .before .before .before .before .before .before .before .before .before .before .before .resolve-call .ensures) (c .before .before .before .before .before .before .before .before .before .convert-args .ensures .0) _ (c .before .before .before .before .before .before .before .before .before .before .before .before .before .match .keys2) (ap (convertedArgs _) (c .before .x .given .1)), refused-types)
 
 convert-call-value-same-length-5 : (t : ℕ) → convert-call-value-lts.Need-same-length-5 (
-      resolve-call-reads.Asked,
-      resolve-call-reads.Learnt,
-      convert-args-below t,
-      convert-args.Post,
-      finish-call-reads.Asked,
-      finish-call-reads.Learnt,
-    ) (convert-call-value-at t) convert-call-value.Post
+  resolve-call-reads.Asked,
+  resolve-call-reads.Learnt,
+  convert-args-below t,
+  convert-args.Post,
+  finish-call-reads.Asked,
+  finish-call-reads.Learnt,
+) (convert-call-value-at t) convert-call-value.Post
 convert-call-value-same-length-5 t c = omega (arith, c .before .before .before .before .before .before .before .before .before .before .before .before .before .before .before .before .before .before .arena .given, c .before .before .before .before .before .arena2 .given)
 
 convert-call-value-same-length-6 : (t : ℕ) → convert-call-value-lts.Need-same-length-6 (
-      resolve-call-reads.Asked,
-      resolve-call-reads.Learnt,
-      convert-args-below t,
-      convert-args.Post,
-      finish-call-reads.Asked,
-      finish-call-reads.Learnt,
-    ) (convert-call-value-at t) convert-call-value.Post
+  resolve-call-reads.Asked,
+  resolve-call-reads.Learnt,
+  convert-args-below t,
+  convert-args.Post,
+  finish-call-reads.Asked,
+  finish-call-reads.Learnt,
+) (convert-call-value-at t) convert-call-value.Post
 convert-call-value-same-length-6 t c = omega (arith, c .before .before .before .before .before .before .before .before .before .before .before .before .before .before .before .before .before .before .before .before .before .before .before .before .before .scratch .given, c .before .before .before .before .before .before .before .before .before .before .before .before .before .before .before .before .scratch2 .given, c .before .before .before .scratch3 .given)
 
 convert-call-value-same-length-7 : (t : ℕ) → convert-call-value-lts.Need-same-length-7 (
-      resolve-call-reads.Asked,
-      resolve-call-reads.Learnt,
-      convert-args-below t,
-      convert-args.Post,
-      finish-call-reads.Asked,
-      finish-call-reads.Learnt,
-    ) (convert-call-value-at t) convert-call-value.Post
+  resolve-call-reads.Asked,
+  resolve-call-reads.Learnt,
+  convert-args-below t,
+  convert-args.Post,
+  finish-call-reads.Asked,
+  finish-call-reads.Learnt,
+) (convert-call-value-at t) convert-call-value.Post
 convert-call-value-same-length-7 t c = omega (arith, c .before .before .before .before .before .before .before .before .before .before .before .before .before .before .k .given, c .before .k2 .given)
 
 convert-call-value-returns-3 : (t : ℕ) → convert-call-value-lts.Need-returns-3 (
-      resolve-call-reads.Asked,
-      resolve-call-reads.Learnt,
-      convert-args-below t,
-      convert-args.Post,
-      finish-call-reads.Asked,
-      finish-call-reads.Learnt,
-    ) (convert-call-value-at t) convert-call-value.Post
+  resolve-call-reads.Asked,
+  resolve-call-reads.Learnt,
+  convert-args-below t,
+  convert-args.Post,
+  finish-call-reads.Asked,
+  finish-call-reads.Learnt,
+) (convert-call-value-at t) convert-call-value.Post
 convert-call-value-returns-3 t c = (called-next (c .before .before .before .before .before .before .before .before .before .before .before .before .before .before .before .before .before .before .before .before .before .before .before .before .before .before .before .before .before .before .before .before .before .before .pre .1 .0 .0) (c .before .before .before .before .before .before .before .before .before .before .before .before .before .before .before .before .before .before .before .before .before .before .before .before .before .before .before .before .before .before .before .before .before .before .pre .1 .0 .1) (c .before .before .before .before .before .before .before .before .before .before .before .before .before .before .before .before .before .before .before .before .before .before .before .before .before .before .before .before .before .before .before .before .before .before .pre .1 .1 .0 .0) (c .before .before .before .before .before .before .before .before .before .before .before .before .before .before .before .before .before .before .before .before .before .before .before .before .before .before .resolve-call .ensures) (c .before .before .before .before .before .before .before .before .before .before .before .before .before .before .before .before .before .before .before .convert-args .ensures .0) (ap (convertedArgs _) (c .before .before .before .before .before .before .before .before .before .before .before .count .given .1)) _ (c .before .before .before .before .before .before .before .before .before .before .before .before .before .before .before .before .before .before .before .before .before .before .before .match .keys2) (c .before .before .before .before .before .before .finish-call .ensures .0), called-types (c .before .before .before .before .before .before .before .before .before .before .before .before .before .before .before .before .before .before .before .before .before .before .before .before .before .before .before .before .before .before .before .before .before .before .pre .1 .0 .0) (c .before .before .before .before .before .before .before .before .before .before .before .before .before .before .before .before .before .before .before .before .before .before .before .before .before .before .resolve-call .ensures) (c .before .before .before .before .before .before .before .before .before .before .before .before .before .before .before .before .before .before .before .before .before .before .before .match .keys2) (c .before .before .before .before .before .before .before .before .before .before .before .before .before .before .before .before .before .before .before .convert-args .ensures .1) (ap (convertedArgs _) (c .before .before .before .before .before .before .before .before .before .before .before .count .given .1)) (c .before .before .before .before .before .before .finish-call .ensures .1))
 
 convert-expr-kind-requires : (t : ℕ) → convert-expr-lts.Need-kind-requires (
