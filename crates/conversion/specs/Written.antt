@@ -148,6 +148,25 @@ unfoldable pub allLabels : List IrFunction → List LabelName
 allLabels [] = []
 allLabels (f ∷ l) = f .labels ++ allLabels l
 
+-- how many bytes an entry of each table has
+abbrev pub instructionBytes : ℕ
+instructionBytes = 32
+
+abbrev pub variableBytes : ℕ
+variableBytes = 4
+
+abbrev pub labelBytes : ℕ
+labelBytes = 8
+
+abbrev pub functionBytes : ℕ
+functionBytes = 32
+
+abbrev pub stringBytes : ℕ
+stringBytes = 8
+
+abbrev pub floatBytes : ℕ
+floatBytes = 16
+
 -- ---- the answer
 
 -- the bytes of the six tables

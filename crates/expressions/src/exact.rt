@@ -5,7 +5,7 @@ ghost use Prim.Native.Nat.{_+_, _≤_, _<_, _^_};
 ghost use lib.ListN.{length, take};
 ghost use mathlib.Core.List.{_++_};
 ghost use mathlib.Core.Option.{some};
-ghost use Rattle.records.specs.Digest.{rollFrom, rollOf};
+ghost use Rattle.records.specs.Digest.{rollModulus, rollFrom, rollOf};
 ghost use Rattle.records.specs.Words.{textAt};
 ghost use Rattle.records.specs.Good.{Good};
 ghost use Rattle.conversion.specs.Ir.{sameText};
@@ -138,7 +138,7 @@ fn mangled_only(tree: &[u8], text: &[u8], f: usize) -> Found
 // The verb's digest, which stands in scratch at the slot of its number.
 fn verb_digest(tree: &[u8], text: &[u8], scratch: &[u8], call: Call) -> u32
     requires { ⌜ Called (now tree) (now text) (now scratch) call × Numbered (now tree) (now text) (now scratch) ⌝ }
-    ensures { λ d. ⌜ (d ≡ rollOf (verbOf (now (tree .entry)) (now (text .entry)) (now (scratch .entry)) call)) × (d < 4294967291) ⌝ }
+    ensures { λ d. ⌜ (d ≡ rollOf (verbOf (now (tree .entry)) (now (text .entry)) (now (scratch .entry)) call)) × (d < rollModulus) ⌝ }
 {
     let n = tree.len() / RECORD_BYTES;
     kept_digest(scratch, n, call.verb)
@@ -212,7 +212,7 @@ fn by_whole_name(tree: &[u8], text: &[u8], scratch: &[u8], call: Call) -> Found
 
 // The digest of a text with `$...` behind it, from the text's.
 fn marked_digest(d: u32) -> u32
-    requires { ⌜ d < 4294967291 ⌝ }
+    requires { ⌜ d < rollModulus ⌝ }
     ensures { λ r. ⌜ r ≡ rollFrom d variadicMark ⌝ }
 {
     roll_byte(roll_byte(roll_byte(roll_byte(d, DOLLAR), DOT), DOT), DOT)

@@ -12,7 +12,7 @@ use Rattle.records.specs.Words.{wordAt}
 use Rattle.conversion.specs.Ir as Ir
 use Rattle.conversion.specs.Ir.{LabelName, StringEntry, FloatEntry, State, IrFunction, sameText, sameFloat}
 use Rattle.conversion.specs.Fits.{StringStands, FloatFits}
-use Rattle.conversion.specs.Written.{word, boolNumber, encodeAll, encodeInstr, encodeVar, encodeLabel, encodeFunctions, encodeString, encodeFloat, allCode, allVars, allLabels}
+use Rattle.conversion.specs.Written.{word, boolNumber, encodeAll, encodeInstr, encodeVar, encodeLabel, encodeFunctions, encodeString, encodeFloat, allCode, allVars, allLabels, instructionBytes, variableBytes, labelBytes, stringBytes, floatBytes}
 use Rattle.ir.specs.declared.structs.Counters.{Counters}
 
 -- ---- regions, each at a multiple of n bytes
@@ -67,26 +67,7 @@ stringHeads = record { from = 284; each = 4 }
 abbrev pub arenaEach : ℕ
 arenaEach = 320
 
--- how many bytes an entry of each table has
-abbrev pub instructionBytes : ℕ
-instructionBytes = 32
-
-abbrev pub variableBytes : ℕ
-variableBytes = 4
-
-abbrev pub labelBytes : ℕ
-labelBytes = 8
-
-abbrev pub functionBytes : ℕ
-functionBytes = 32
-
-abbrev pub stringBytes : ℕ
-stringBytes = 8
-
-abbrev pub floatBytes : ℕ
-floatBytes = 16
-
--- a number in what they are searched by
+-- how many bytes a number has in what the tables are searched by
 abbrev pub searchBytes : ℕ
 searchBytes = 4
 

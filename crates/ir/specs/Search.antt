@@ -9,8 +9,9 @@ use lib.Dec.{eqb, ltb}
 use Rattle.laws.specs.Fix.{pick}
 use Rattle.records.specs.Words.{wordAt, textAt, secondWord, thirdWord}
 use Rattle.conversion.specs.Ir.{sameText}
+use Rattle.conversion.specs.Written.{labelBytes, stringBytes, floatBytes}
 use Rattle.ir.specs.declared.structs.Counters.{Counters}
-use Rattle.ir.specs.Arena.{labelBytes, strings, stringBytes, floatBytes, labelEntryAt, floatEntryAt, floatHeadAt, stringDigestAt, stringHeadAt, floatBucket, digestBucket}
+use Rattle.ir.specs.Arena.{strings, labelEntryAt, floatEntryAt, floatHeadAt, stringDigestAt, stringHeadAt, floatBucket, digestBucket}
 use Rattle.records.specs.declared.words.Found.{Found}
 use Rattle.records.specs.declared.words.Found.the-variants.{At, Nothing}
 

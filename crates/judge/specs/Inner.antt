@@ -17,6 +17,7 @@ use Rattle.records.specs.Shapes.{rowAt}
 use Rattle.records.specs.Rules.{listStep, wordOk, wordsOk, formOk, otherwiseMarked, bodyMarked, isFirstType, typesFirst, refersTo, refersFrom, references}
 use Rattle.records.specs.Depth.{depth, depthBelow, deepest}
 use Rattle.judge.specs.declared.pass.Words.{Words}
+use Rattle.judge.specs.Judge.{deepestAllowed}
 
 -- r is the lowest number below n of which f holds, or n where there is none
 pub record Lowest (n : ℕ) (f : ℕ → Bool) (r : ℕ) : Type 0 where
@@ -37,13 +38,17 @@ pub record Passing (tree : List ℕ) (n count : ℕ) (known : List ℕ) : Type 0
   pub room : scratchEach * n ≤ length known
   pub lead : TypesLead tree n count
 
--- a number that stops at `most`: a count at 2, a depth at 65
+-- a number that stops at `most`: a count at 2, a depth at `tooDeep`
 unfoldable pub capped : ℕ → ℕ → ℕ
 unfolding pick
 capped most x = pick (ltb x most) x most
 
+-- how deep is too deep, and no deeper is told apart
+abbrev pub tooDeep : ℕ
+tooDeep = deepestAllowed + 1
+
 abbrev pub shallowDepth : List ℕ → ℕ → ℕ
-shallowDepth tree r = capped 65 (depth tree r)
+shallowDepth tree r = capped tooDeep (depth tree r)
 
 -- ---- the bytes of record k, in the slot behind k others, the first of which belongs to no record
 
@@ -65,41 +70,61 @@ stored l r class depth kind = set (set (set (set l (r * knownBytes + nextDepth) 
 
 -- ---- what a list holds
 
+-- it is told by a number: a list of arguments, of parameters or of statements, the last of the numbers; else, and of a record that is no cell, `mixedList`
+abbrev pub mixedList : ℕ
+mixedList = 0
+
+abbrev pub argumentList : ℕ
+argumentList = 1
+
+abbrev pub parameterList : ℕ
+parameterList = 2
+
+abbrev pub statementList : ℕ
+statementList = 3
+
+abbrev pub lastList : ℕ
+lastList = statementList
+
+-- no list has this number
+abbrev pub noList : ℕ
+noList = 4
+
 -- the number of the lists of a role; no list has the number of another role
 abbrev pub listNumber : Role → ℕ
-listNumber Arguments = 1
-listNumber Parameters = 2
-listNumber Body = 3
-listNumber Unused = 4
-listNumber Number = 4
-listNumber Text = 4
-listNumber Length = 4
-listNumber Expr = 4
-listNumber TypeRef = 4
-listNumber TypeOrNone = 4
-listNumber Name = 4
-listNumber Variable = 4
-listNumber Item = 4
-listNumber Rest = 4
+listNumber Arguments = argumentList
+listNumber Parameters = parameterList
+listNumber Body = statementList
+listNumber Unused = noList
+listNumber Number = noList
+listNumber Text = noList
+listNumber Length = noList
+listNumber Expr = noList
+listNumber TypeRef = noList
+listNumber TypeOrNone = noList
+listNumber Name = noList
+listNumber Variable = noList
+listNumber Item = noList
+listNumber Rest = noList
 
--- the number of the lists that record a may stand in, 0 where there are none
+-- the number of the lists that record a may stand in, `mixedList` where there are none
 unfoldable pub itemClass : List ℕ → ℕ → ℕ
 unfolding pick kindOf wordOf
 itemClass tree a =
-    pick (eqb (kindOf tree a) kindValue || eqb (kindOf tree a) kindTypeArgument) 1
-    (pick (leb kindDeclare (kindOf tree a) && leb (kindOf tree a) kindContinue) 3
-    (pick (not (eqb (kindOf tree a) kindVariable)) 0 (pick (eqb (wordOf tree a C) none) 0 2)))
+    pick (eqb (kindOf tree a) kindValue || eqb (kindOf tree a) kindTypeArgument) argumentList
+    (pick (leb kindDeclare (kindOf tree a) && leb (kindOf tree a) kindContinue) statementList
+    (pick (not (eqb (kindOf tree a) kindVariable)) mixedList (pick (eqb (wordOf tree a C) none) mixedList parameterList)))
 
 -- the number of the list from cell r on, whose item is a and whose rest is b: that of its item, where the rest has the same
 unfoldable pub cellClass : List ℕ → (ℕ → ℕ) → ℕ → ℕ → ℕ → ℕ
 unfolding pick below itemClass
 cellClass tree g r a b =
-    pick (leb r a) 0
-    (pick (eqb b none) (itemClass tree a) (pick (eqb (below g r b 0) (itemClass tree a)) (itemClass tree a) 0))
+    pick (leb r a) mixedList
+    (pick (eqb b none) (itemClass tree a) (pick (eqb (below g r b mixedList) (itemClass tree a)) (itemClass tree a) mixedList))
 
 unfoldable pub classAt : List ℕ → (ℕ → ℕ) → ℕ → ℕ → ℕ → ℕ → ℕ
 unfolding pick cellClass
-classAt tree g r kind a b = pick (eqb kind kindList) (cellClass tree g r a b) 0
+classAt tree g r kind a b = pick (eqb kind kindList) (cellClass tree g r a b) mixedList
 
 -- a record's badge is four times its kind, and the number of its list
 abbrev pub badgesEach : ℕ
@@ -116,9 +141,9 @@ lowBadge TypeRef = kindType * badgesEach
 lowBadge TypeOrNone = kindType * badgesEach
 lowBadge Name = kindName * badgesEach
 lowBadge Variable = kindVariable * badgesEach
-lowBadge Arguments = kindList * badgesEach + 1
-lowBadge Parameters = kindList * badgesEach + 2
-lowBadge Body = kindList * badgesEach + 3
+lowBadge Arguments = kindList * badgesEach + argumentList
+lowBadge Parameters = kindList * badgesEach + parameterList
+lowBadge Body = kindList * badgesEach + statementList
 lowBadge Item = 0
 lowBadge Rest = kindList * badgesEach
 
@@ -127,16 +152,16 @@ highBadge Unused = 0
 highBadge Number = 0
 highBadge Text = 0
 highBadge Length = 0
-highBadge Expr = kindCall * badgesEach + 3
-highBadge TypeRef = kindType * badgesEach + 3
-highBadge TypeOrNone = kindType * badgesEach + 3
-highBadge Name = kindName * badgesEach + 3
-highBadge Variable = kindVariable * badgesEach + 3
-highBadge Arguments = kindList * badgesEach + 1
-highBadge Parameters = kindList * badgesEach + 2
-highBadge Body = kindList * badgesEach + 3
-highBadge Item = 255 * badgesEach + 3
-highBadge Rest = kindList * badgesEach + 3
+highBadge Expr = kindCall * badgesEach + lastList
+highBadge TypeRef = kindType * badgesEach + lastList
+highBadge TypeOrNone = kindType * badgesEach + lastList
+highBadge Name = kindName * badgesEach + lastList
+highBadge Variable = kindVariable * badgesEach + lastList
+highBadge Arguments = kindList * badgesEach + argumentList
+highBadge Parameters = kindList * badgesEach + parameterList
+highBadge Body = kindList * badgesEach + statementList
+highBadge Item = 255 * badgesEach + lastList
+highBadge Rest = kindList * badgesEach + lastList
 
 abbrev pub noneOk : Role → Bool
 noneOk Unused = false
@@ -175,8 +200,8 @@ isUnused Rest = false
 -- of each record below r: what its list holds, how deep it is, its kind
 pub record KnownBelow (tree : List ℕ) (r : ℕ) (l : List ℕ) : Type 0 where
   pub lists : (role : Role) (k : ℕ) → k < r → fix false (listStep tree role) k ≡ eqb (classIn l k) (listNumber role)
-  pub small : (k : ℕ) → k < r → classIn l k ≤ 3
-  pub cells : (k : ℕ) → k < r → (kindOf tree k ≡ kindList → ⊥) → classIn l k ≡ 0
+  pub small : (k : ℕ) → k < r → classIn l k ≤ lastList
+  pub cells : (k : ℕ) → k < r → (kindOf tree k ≡ kindList → ⊥) → classIn l k ≡ mixedList
   pub depths : (k : ℕ) → k < r → depthIn l k ≡ shallowDepth tree k
   pub kinds : (k : ℕ) → k < r → kindIn l k ≡ kindOf tree k
 
@@ -240,6 +265,6 @@ pub record TookRecord (tree : List ℕ) (bytes r : ℕ) (l l′ : List ℕ) (ok 
 -- all n records were taken
 pub record TookAll (tree : List ℕ) (bytes n : ℕ) (l l′ : List ℕ) (f d : ℕ) : Type 0 where
   pub fault : Lowest n (λ k. not (otherRules tree bytes k)) f
-  pub deep : Lowest n (λ k. ltb 64 (depth tree k)) d
+  pub deep : Lowest n (λ k. ltb deepestAllowed (depth tree k)) d
   pub same : length l′ ≡ length l
   pub counting : Counting tree n l′

@@ -15,7 +15,7 @@ use Rattle.records.specs.Kinds.{kindType, kindList, kindValue, kindTypeArgument
 use Rattle.records.specs.Shapes.{rowOf, refers}
 use Rattle.judge.specs.declared.pass.Words.{Words}
 use Rattle.judge.specs.Judge.{fewestRecords}
-use Rattle.judge.specs.Inner.{badgesEach, lowBadge, highBadge, noneOk, isUnused, TypesLead, KnownBelow, Counting, WordsOf, TookRecord}
+use Rattle.judge.specs.Inner.{mixedList, argumentList, parameterList, statementList, badgesEach, lowBadge, highBadge, noneOk, isUnused, TypesLead, KnownBelow, Counting, WordsOf, TookRecord}
 
 -- a row of twenty numbers for each kind: five for each of the words A, B and C, and five for the record
 abbrev pub plainRules : List ℕ
@@ -171,7 +171,7 @@ pub record PlainForm (tree : List ℕ) (bytes r k : ℕ) (words : Words) (rules 
 -- the list that a record of kind k may stand in; a variable only where it has a type
 unfoldable pub itemNumber : ℕ → ℕ
 unfolding pick
-itemNumber k = pick (eqb k kindValue || eqb k kindTypeArgument) 1 (pick (leb kindDeclare k && leb k kindContinue) 3 (pick (eqb k kindVariable) 2 0))
+itemNumber k = pick (eqb k kindValue || eqb k kindTypeArgument) argumentList (pick (leb kindDeclare k && leb k kindContinue) statementList (pick (eqb k kindVariable) parameterList mixedList))
 
 -- a record of kind k with the word a, whose words A and B lead to slots; where it is a cell its item is known
 pub record Cells (tree : List ℕ) (k a pa pb : ℕ) (l rules : List ℕ) : Type 0 where

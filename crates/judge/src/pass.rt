@@ -12,6 +12,7 @@ ghost use Rattle.records.specs.Shapes.{rowAt, refers};
 ghost use Rattle.records.specs.Rules.{wordOk, recordOk};
 ghost use Rattle.records.specs.Depth.{depth as depthOf};
 ghost use Rattle.judge.specs.Plain.{plainRules};
+ghost use Rattle.judge.specs.Judge.{deepestAllowed};
 ghost use Rattle.judge.specs.Inner.{Lowest, Passing, KnownBelow, Counting, Took, TookWords, WordsOf, TookRecord, TookAll, stored};
 use crate::equal::first_equal;
 use crate::nesting::depth_over;
@@ -254,7 +255,7 @@ fn pass(tree: &[u8], bytes: usize, n: usize, types: usize, known: &mut [u8]) -> 
 pub(crate) fn lowest_records(tree: &[u8], text: &[u8], n: usize, scratch: &mut [u8]) -> Lowests
     requires { ⌜ (n * recordBytes ≡ length (now tree)) × (n ≤ mostRecords) × (scratchEach * n ≤ length (now scratch)) ⌝ }
     ensures { λ v. ⌜ Lowest n (λ k. not (recordOk (now (tree .entry)) (now (text .entry)) k)) (v .fault) ⌝ }
-    ensures { λ v. ⌜ Lowest n (λ k. ltb 64 (depthOf (now (tree .entry)) k)) (v .deep) ⌝ }
+    ensures { λ v. ⌜ Lowest n (λ k. ltb deepestAllowed (depthOf (now (tree .entry)) k)) (v .deep) ⌝ }
     ensures { λ _. ⌜ length (now (scratch .exit)) ≡ length (now (scratch .entry)) ⌝ }
 {
     let types = leading_types(tree, n);

@@ -16,7 +16,7 @@ use Rattle.laws.proofs.Splices.{length-splice}
 use Rattle.laws.proofs.Tests.{tested}
 use Rattle.records.specs.Chains.{headAt, entryAt, ChainRoom}
 use Rattle.records.specs.Words.{byteAt, wordAt, bytesOf, word}
-use Rattle.records.specs.Order.{common, chainOf, firstWith, linkPlace, Linked, Placed, Leads, PlaceIn, PlaceOf, placedAt}
+use Rattle.records.specs.Order.{common, chainOf, firstWith, linkPlace, LinkedChain, Placed, Leads, PlaceIn, PlaceOf, placedAt}
 use Rattle.records.proofs.Apart.{byte-apart, word-apart, word-there, word-back}
 use Rattle.records.proofs.PlacedLaws.{all-map, placed-found, chain-here, chain-other, chain-below, chain-ordered, chain-short}
 use Rattle.records.proofs.LinkedLaws.{Off, Stays, all-of, linked-kept, place-holds, placed-more}
@@ -115,9 +115,9 @@ module _ (t : ℕ → List ℕ) (bucket : ℕ → ℕ) (n : ℕ) where
             short = omega (arith, chain-short t bucket b r);
           }
 
-      module _ (number place shared : ℕ) (at : PlaceOf t n r (headAt b) s number place shared) where
+      module _ (number place shared : ℕ) (belongs : PlaceOf t n r (headAt b) s number place shared) where
         here : PlaceIn t n r (headAt b) (chainOf t bucket r b) number place shared
-        here = at (chainOf t bucket r b) (p b hb)
+        here = belongs (chainOf t bucket r b) (p b hb)
 
         -- an entry has r's text: nothing is entered
         pub chains-found : number < r → Placed t bucket n (r + 1) s

@@ -15,7 +15,7 @@ use Rattle.laws.specs.Fix.{pick}
 use Rattle.laws.proofs.Tests.{tested}
 use Rattle.records.specs.Chains.{headAt, entryAt}
 use Rattle.records.specs.Words.{byteAt, wordAt, sameText}
-use Rattle.records.specs.Order.{common, placed, chainOf, firstWith, linkPlace, textBefore, Ordered, Linked, Placed}
+use Rattle.records.specs.Order.{common, placedIn, chainOf, firstWith, linkPlace, textBefore, Ordered, LinkedChain, Placed}
 use Rattle.records.proofs.CommonLaws.{common-other}
 use Rattle.records.proofs.PlacedLaws.{all-map, Distinct, placed-here, placed-on, placed-found, place-here, place-on, text-here, text-on, first-not, chain-here, chain-other, chain-inside, chain-below, chain-ordered, chain-distinct}
 
@@ -24,20 +24,20 @@ all-of [] f = tt
 all-of (e ∷ l) f = (f e, all-of l f)
 
 module _ (t : ℕ → List ℕ) (n : ℕ) where
-  pub linked-one : (s before : List ℕ) (h : ℕ) (l m : List ℕ) → Linked t n s before h l → Linked t n s before h m → l ≡ m
+  pub linked-one : (s before : List ℕ) (h : ℕ) (l m : List ℕ) → LinkedChain t n s before h l → LinkedChain t n s before h m → l ≡ m
   linked-one s before h [] [] a b = refl
   linked-one s before h [] (e ∷ m) a b = absurd (omega (arith, a, b .0))
   linked-one s before h (e ∷ l) [] a b = absurd (omega (arith, a .0, b))
   linked-one s before h (e ∷ l) (f ∷ m) a b =
       let z : f ≡ e = omega (arith, a .0, b .0) in
-      let c : Linked t n s (t e) (wordAt s (entryAt n e + 4)) m = rw z at (b .2) in
+      let c : LinkedChain t n s (t e) (wordAt s (entryAt n e + 4)) m = rw z at (b .2) in
       ap₂ (λ (x : ℕ) (y : List ℕ). x ∷ y) (sym z) (linked-one s (t e) (wordAt s (entryAt n e + 4)) l m (a .2) c)
 
   -- the two words of entry e stay
   abbrev pub Stays : List ℕ → List ℕ → ℕ → Type 0
   Stays s s′ e = (wordAt s′ (entryAt n e) ≡ wordAt s (entryAt n e)) × (wordAt s′ (entryAt n e + 4) ≡ wordAt s (entryAt n e + 4))
 
-  pub linked-kept : (s s′ before : List ℕ) (h : ℕ) (l : List ℕ) → All (Stays s s′) l → Linked t n s before h l → Linked t n s′ before h l
+  pub linked-kept : (s s′ before : List ℕ) (h : ℕ) (l : List ℕ) → All (Stays s s′) l → LinkedChain t n s before h l → LinkedChain t n s′ before h l
   linked-kept s s′ before h [] k a = a
   linked-kept s s′ before h (e ∷ l) k a =
       (a .0, k .0 .0 ∙ a .1, rw (k .0 .1) (linked-kept s s′ (t e) (wordAt s (entryAt n e + 4)) l (k .1) (a .2)))
@@ -48,7 +48,7 @@ module _ (t : ℕ → List ℕ) (n : ℕ) where
   steps-left s (suc f) zero = 0
   steps-left s (suc f) (suc k) = suc (steps-left s f (wordAt s (entryAt n k + 4)))
 
-  pub linked-steps-left : (s before : List ℕ) (h : ℕ) (l : List ℕ) (f : ℕ) → Linked t n s before h l → length l ≤ f → steps-left s f h ≡ length l
+  pub linked-steps-left : (s before : List ℕ) (h : ℕ) (l : List ℕ) (f : ℕ) → LinkedChain t n s before h l → length l ≤ f → steps-left s f h ≡ length l
   unfolding steps-left
   linked-steps-left s before h [] zero a k = refl
   linked-steps-left s before h [] (suc f) a k = rw a refl
@@ -80,13 +80,13 @@ module _ (t : ℕ → List ℕ) (n : ℕ) where
       (λ m. let h : e ≤ g = ltb-false g e m in inl (omega arith))
 
   module _ (r : ℕ) where
-    pub place-holds : (P : ℕ → Type 0) (before : List ℕ) (link : ℕ) (l : List ℕ) → P link → All (λ e. P (entryAt n e + 4)) l → P (linkPlace t n r before link l)
+    pub place-holds : (P : ℕ → Type 0) (before : List ℕ) (at : ℕ) (l : List ℕ) → P at → All (λ e. P (entryAt n e + 4)) l → P (linkPlace t n r before at l)
     unfolding linkPlace
-    place-holds P before link [] p a = p
-    place-holds P before link (e ∷ l) p a =
+    place-holds P before at [] p a = p
+    place-holds P before at (e ∷ l) p a =
         tested (ltb (common before (t e)) (common before (t r)))
-        (λ y. rw (place-here t r before e l n link y) p)
-        (λ m. rw (place-on t r before e l n link m) (place-holds P (t e) (entryAt n e + 4) l (a .0) (a .1)))
+        (λ y. rw (place-here t r before e l n at y) p)
+        (λ m. rw (place-on t r before e l n at m) (place-holds P (t e) (entryAt n e + 4) l (a .0) (a .1)))
 
     module _ (s s′ : List ℕ) (shared place : ℕ)
         (stays : (q : ℕ) → q + 4 ≤ entryAt n r → Off q place → wordAt s′ q ≡ wordAt s q)
@@ -99,16 +99,16 @@ module _ (t : ℕ → List ℕ) (n : ℕ) where
       entries-stay [] a b = tt
       entries-stay (e ∷ l) a b = (entry-stays e (a .0) (b .0), entries-stay l (a .1) (b .1))
 
-      linked-placed : (before : List ℕ) (link : ℕ) (l : List ℕ) → link + 4 ≤ entryAt n r → All (λ e. e < r) l → Distinct l → All (Apart link) l
-          → Linked t n s before (wordAt s link) l → All (λ e. sameText (t e) (t r) ≡ false) l → place ≡ linkPlace t n r before link l
-          → shared ≡ common (textBefore t r before l) (t r) → Linked t n s′ before (wordAt s′ link) (placed t r before l)
-      unfolding placed linkPlace textBefore
-      linked-placed before link [] low a d x k none ep es =
+      linked-placed : (before : List ℕ) (at : ℕ) (l : List ℕ) → at + 4 ≤ entryAt n r → All (λ e. e < r) l → Distinct l → All (Apart at) l
+          → LinkedChain t n s before (wordAt s at) l → All (λ e. sameText (t e) (t r) ≡ false) l → place ≡ linkPlace t n r before at l
+          → shared ≡ common (textBefore t r before l) (t r) → LinkedChain t n s′ before (wordAt s′ at) (placedIn t r before l)
+      unfolding placedIn linkPlace textBefore
+      linked-placed before at [] low a d x k none ep es =
           (rw ep at there, its-shared ∙ es, its-link ∙ ap (wordAt s) ep ∙ k)
-      linked-placed before link (e ∷ l) low a d x k none ep es =
+      linked-placed before at (e ∷ l) low a d x k none ep es =
           tested (ltb (common before (t e)) (common before (t r)))
           (λ y.
-          let q : place ≡ link = ep ∙ place-here t r before e l n link y in
+          let q : place ≡ at = ep ∙ place-here t r before e l n at y in
           let st : All (Stays s s′) (e ∷ l) = entries-stay (e ∷ l) a (rw q x) in
           rw (placed-here t r before e l (none .0) y) (
             rw q at there,
@@ -120,19 +120,19 @@ module _ (t : ℕ → List ℕ) (n : ℕ) where
             ),
           ))
           (λ m.
-          let q : place ≡ linkPlace t n r (t e) (entryAt n e + 4) l = ep ∙ place-on t r before e l n link m in
+          let q : place ≡ linkPlace t n r (t e) (entryAt n e + 4) l = ep ∙ place-on t r before e l n at m in
           let z : shared ≡ common (textBefore t r (t e) l) (t r) = es ∙ ap (λ (u : List ℕ). common u (t r)) (text-on t r before e l m) in
-          let off-link : Off link place =
-          rw q (place-holds (Off link) (t e) (entryAt n e + 4) l (off e (x .0)) (all-map l (λ g h. off g h) (x .1))) in
+          let off-link : Off at place =
+          rw q (place-holds (Off at) (t e) (entryAt n e + 4) l (off e (x .0)) (all-map l (λ g h. off g h) (x .1))) in
           let off-e : Off (entryAt n e) place =
           rw q (place-holds (Off (entryAt n e)) (t e) (entryAt n e + 4) l (off-entry e e) (all-of l (λ g. off-entry e g))) in
           rw (placed-on t r before e l (none .0) m) (
-            stays link low off-link ∙ k .0,
+            stays at low off-link ∙ k .0,
             stays (entryAt n e) (omega (arith, a .0)) off-e ∙ k .1,
             linked-placed (t e) (entryAt n e + 4) l (omega (arith, a .0)) (a .1) (d .1) (all-map l (λ g h. apart-entries e g h) (d .0)) (k .2) (none .1) q z,
           ))
         where
-          off : (g : ℕ) → Apart link g → Off link (entryAt n g + 4)
+          off : (g : ℕ) → Apart at g → Off at (entryAt n g + 4)
           off g (inl h) = inl (omega arith)
           off g (inr h) = inr (omega arith)
 
@@ -144,7 +144,7 @@ module _ (t : ℕ → List ℕ) (n : ℕ) where
         chain : ℕ → List ℕ
         chain c = chainOf t bucket r c
 
-        here : Linked t n s′ [] (wordAt s′ (headAt b)) (chainOf t bucket (suc r) b)
+        here : LinkedChain t n s′ [] (wordAt s′ (headAt b)) (chainOf t bucket (suc r) b)
         here =
             rw (chain-here t bucket b r eb)
             (linked-placed [] (headAt b) (chainOf t bucket r b) (omega arith) (chain-below t bucket b r) (chain-distinct t bucket b r)
@@ -174,7 +174,7 @@ module _ (t : ℕ → List ℕ) (n : ℕ) where
               (inl (omega arith))
               (all-map (chainOf t bucket r b) (λ g k. apart-entries g e (λ z. ne (sym (k .1) ∙ ap bucket (sym z) ∙ h .1))) (chain-inside t bucket b r)))
 
-          there-too : Linked t n s′ [] (wordAt s′ (headAt c)) (chainOf t bucket (suc r) c)
+          there-too : LinkedChain t n s′ [] (wordAt s′ (headAt c)) (chainOf t bucket (suc r) c)
           there-too =
               rw (chain-other t bucket c r (λ z. ne (sym eb ∙ z)), stays (headAt c) (omega arith) off-head)
               (linked-kept s s′ [] (wordAt s (headAt c)) (chainOf t bucket r c)

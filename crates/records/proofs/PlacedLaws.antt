@@ -16,7 +16,7 @@ use Rattle.laws.proofs.FixLaws.{pick-yes, pick-no}
 use Rattle.laws.proofs.Tests.{tested}
 use Rattle.records.specs.Chains.{entryAt}
 use Rattle.records.specs.Words.{sameText}
-use Rattle.records.specs.Order.{common, placed, chainOf, firstWith, linkPlace, textBefore, Ordered}
+use Rattle.records.specs.Order.{common, placedIn, chainOf, firstWith, linkPlace, textBefore, Ordered}
 use Rattle.records.proofs.CommonLaws.{common-other}
 use Rattle.records.proofs.DigestLaws.{same-equal}
 use Rattle.records.proofs.TextLaws.{same-texts}
@@ -40,16 +40,16 @@ module _ (t : ℕ → List ℕ) (r : ℕ) where
     abbrev less : Bool
     less = ltb (common before (t e)) (common before (t r))
 
-    pub placed-same : sameText (t e) (t r) ≡ true → placed t r before (e ∷ l) ≡ e ∷ l
-    unfolding placed pick
+    pub placed-same : sameText (t e) (t r) ≡ true → placedIn t r before (e ∷ l) ≡ e ∷ l
+    unfolding placedIn pick
     placed-same y = rw y refl
 
-    pub placed-here : sameText (t e) (t r) ≡ false → less ≡ true → placed t r before (e ∷ l) ≡ r ∷ e ∷ l
-    unfolding placed pick
+    pub placed-here : sameText (t e) (t r) ≡ false → less ≡ true → placedIn t r before (e ∷ l) ≡ r ∷ e ∷ l
+    unfolding placedIn pick
     placed-here n y = rw (n, y) refl
 
-    pub placed-on : sameText (t e) (t r) ≡ false → less ≡ false → placed t r before (e ∷ l) ≡ e ∷ placed t r (t e) l
-    unfolding placed pick
+    pub placed-on : sameText (t e) (t r) ≡ false → less ≡ false → placedIn t r before (e ∷ l) ≡ e ∷ placedIn t r (t e) l
+    unfolding placedIn pick
     placed-on n m = rw (n, m) refl
 
     pub first-same : sameText (t e) (t r) ≡ true → firstWith t r (e ∷ l) ≡ e
@@ -60,13 +60,13 @@ module _ (t : ℕ → List ℕ) (r : ℕ) where
     unfolding firstWith pick
     first-on n = rw n refl
 
-    pub place-here : (n link : ℕ) → less ≡ true → linkPlace t n r before link (e ∷ l) ≡ link
+    pub place-here : (n at : ℕ) → less ≡ true → linkPlace t n r before at (e ∷ l) ≡ at
     unfolding linkPlace pick
-    place-here n link y = rw y refl
+    place-here n at y = rw y refl
 
-    pub place-on : (n link : ℕ) → less ≡ false → linkPlace t n r before link (e ∷ l) ≡ linkPlace t n r (t e) (entryAt n e + 4) l
+    pub place-on : (n at : ℕ) → less ≡ false → linkPlace t n r before at (e ∷ l) ≡ linkPlace t n r (t e) (entryAt n e + 4) l
     unfolding linkPlace pick
-    place-on n link m = rw m refl
+    place-on n at m = rw m refl
 
     pub text-here : less ≡ true → textBefore t r before (e ∷ l) ≡ before
     unfolding textBefore pick
@@ -79,7 +79,7 @@ module _ (t : ℕ → List ℕ) (r : ℕ) where
   -- the cases of a chain that is not empty, each with what it gives
   pub placed-case : (P : List ℕ → Type 0) (before : List ℕ) (e : ℕ) (l : List ℕ) → (sameText (t e) (t r) ≡ true → P (e ∷ l))
       → (sameText (t e) (t r) ≡ false → common before (t e) < common before (t r) → P (r ∷ e ∷ l))
-      → (sameText (t e) (t r) ≡ false → common before (t r) ≤ common before (t e) → P (e ∷ placed t r (t e) l)) → P (placed t r before (e ∷ l))
+      → (sameText (t e) (t r) ≡ false → common before (t r) ≤ common before (t e) → P (e ∷ placedIn t r (t e) l)) → P (placedIn t r before (e ∷ l))
   placed-case P before e l same here on =
       tested (sameText (t e) (t r))
       (λ y. rw (placed-same before e l y) (same y))
@@ -90,21 +90,21 @@ module _ (t : ℕ → List ℕ) (r : ℕ) where
 
   -- ---- what all have
 
-  pub placed-all : (P : ℕ → Type 0) (before l : List ℕ) → P r → All P l → All P (placed t r before l)
-  unfolding placed
+  pub placed-all : (P : ℕ → Type 0) (before l : List ℕ) → P r → All P l → All P (placedIn t r before l)
+  unfolding placedIn
   placed-all P before [] p a = (p, tt)
   placed-all P before (e ∷ l) p a =
       placed-case (All P) before e l (λ y. a) (λ n y. (p, a)) (λ n m. (a .0, placed-all P (t e) l p (a .1)))
 
-  pub placed-long : (before l : List ℕ) → length (placed t r before l) ≤ length l + 1
-  unfolding placed
+  pub placed-long : (before l : List ℕ) → length (placedIn t r before l) ≤ length l + 1
+  unfolding placedIn
   placed-long before [] = omega arith
   placed-long before (e ∷ l) =
       placed-case (λ x. length x ≤ length (e ∷ l) + 1) before e l (λ y. omega arith) (λ n y. omega arith) (λ n m. omega (arith, placed-long (t e) l))
 
   -- what the texts of all have after, they had before, and r's has
-  pub placed-had : (Q : List ℕ → Type 0) (before l : List ℕ) → All (λ e. Q (t e)) (placed t r before l) → All (λ e. Q (t e)) l × Q (t r)
-  unfolding placed
+  pub placed-had : (Q : List ℕ → Type 0) (before l : List ℕ) → All (λ e. Q (t e)) (placedIn t r before l) → All (λ e. Q (t e)) l × Q (t r)
+  unfolding placedIn
   placed-had Q before [] = λ a. (tt, a .0)
   placed-had Q before (e ∷ l) =
       placed-case (λ x. All (λ g. Q (t g)) x → All (λ g. Q (t g)) (e ∷ l) × Q (t r)) before e l
@@ -112,8 +112,8 @@ module _ (t : ℕ → List ℕ) (r : ℕ) where
       (λ n y a. (a .1, a .0))
       (λ n m a. let b : All (λ g. Q (t g)) l × Q (t r) = placed-had Q (t e) l (a .1) in ((a .0, b .0), b .1))
 
-  pub placed-distinct : (before l : List ℕ) → All (λ e. e < r) l → Distinct l → Distinct (placed t r before l)
-  unfolding placed
+  pub placed-distinct : (before l : List ℕ) → All (λ e. e < r) l → Distinct l → Distinct (placedIn t r before l)
+  unfolding placedIn
   placed-distinct before [] a d = (tt, tt)
   placed-distinct before (e ∷ l) a d =
       placed-case Distinct before e l (λ y. d)
@@ -122,8 +122,8 @@ module _ (t : ℕ → List ℕ) (r : ℕ) where
 
   -- ---- the order
 
-  pub placed-ordered : (before l : List ℕ) → Ordered t before l → Ordered t before (placed t r before l)
-  unfolding placed
+  pub placed-ordered : (before l : List ℕ) → Ordered t before l → Ordered t before (placedIn t r before l)
+  unfolding placedIn
   placed-ordered before [] o = (tt, tt)
   placed-ordered before (e ∷ l) o =
       placed-case (Ordered t before) before e l (λ y. o)
@@ -173,8 +173,8 @@ module _ (t : ℕ → List ℕ) (r : ℕ) where
       (λ n. rw (first-on [] e l n) (first-is P l (a .1)))
 
   -- where an entry has it, nothing is placed
-  pub placed-found : (before l : List ℕ) → Ordered t before l → firstWith t r l < r → placed t r before l ≡ l
-  unfolding placed firstWith
+  pub placed-found : (before l : List ℕ) → Ordered t before l → firstWith t r l < r → placedIn t r before l ≡ l
+  unfolding placedIn firstWith
   placed-found before [] o h = absurd (omega arith)
   placed-found before (e ∷ l) o h =
       placed-case (λ x. x ≡ e ∷ l) before e l (λ y. refl)
@@ -184,7 +184,7 @@ module _ (t : ℕ → List ℕ) (r : ℕ) where
 -- ---- the chain of a bucket
 
 module _ (t : ℕ → List ℕ) (bucket : ℕ → ℕ) (b : ℕ) where
-  pub chain-here : (r : ℕ) → bucket r ≡ b → chainOf t bucket (suc r) b ≡ placed t r [] (chainOf t bucket r b)
+  pub chain-here : (r : ℕ) → bucket r ≡ b → chainOf t bucket (suc r) b ≡ placedIn t r [] (chainOf t bucket r b)
   unfolding chainOf
   chain-here r e = pick-yes (eqb (bucket r) b) _ _ (eq-eqb _ _ e)
 
@@ -194,7 +194,7 @@ module _ (t : ℕ → List ℕ) (bucket : ℕ → ℕ) (b : ℕ) where
 
   -- what holds of no chain's entries at first, and stays where a number is placed
   chain-by : (P : ℕ → List ℕ → Type 0) → P 0 [] → ((r : ℕ) (l : List ℕ) → P r l → P (suc r) l)
-      → ((r : ℕ) → bucket r ≡ b → P r (chainOf t bucket r b) → P (suc r) (placed t r [] (chainOf t bucket r b))) → (r : ℕ) → P r (chainOf t bucket r b)
+      → ((r : ℕ) → bucket r ≡ b → P r (chainOf t bucket r b) → P (suc r) (placedIn t r [] (chainOf t bucket r b))) → (r : ℕ) → P r (chainOf t bucket r b)
   unfolding chainOf
   chain-by P start past step zero = start
   chain-by P start past step (suc r) =
@@ -228,7 +228,7 @@ module _ (t : ℕ → List ℕ) (bucket : ℕ → ℕ) (b : ℕ) where
   chain-has Q (suc r) k a h z =
       tested (eqb (bucket r) b)
       (λ y.
-      let c : All (λ e. Q (t e)) (placed t r [] (chainOf t bucket r b)) = rw (chain-here r (eqb-true _ _ y)) at a in
+      let c : All (λ e. Q (t e)) (placedIn t r [] (chainOf t bucket r b)) = rw (chain-here r (eqb-true _ _ y)) at a in
       let d : All (λ e. Q (t e)) (chainOf t bucket r b) × Q (t r) = placed-had t r Q [] (chainOf t bucket r b) c in
       let le : k ≤ r = omega arith in
       ⊎-elim (λ (q : k ≡ r). rw q (d .1)) (λ (l : k < r). chain-has Q r k (d .0) l z) (eq-or-lt-of-le le))

@@ -4,6 +4,7 @@ use Prim.Native.Nat.{ℕ, _+_, _*_, _/_, _%_}
 use mathlib.Core.List.{List, [], _∷_}
 use lib.Dec.{eqb}
 use Rattle.laws.specs.Fix.{pick}
+use Rattle.records.specs.Kinds.{formCustom}
 use Rattle.records.specs.Words.{byteAt, detailOf, wordOf, textAt, A, B, C}
 
 -- the upper half is added to the lower, so that every bit of a product counts and nothing is lost upwards
@@ -20,9 +21,13 @@ digestEnd h = folded (h * 1481765933) % 4294967296
 
 -- ---- texts: a digest that goes on: that of a text with another behind it is found from that of the first
 
--- a byte more: a text is a number to the base 256, modulo 2^32 - 5, which is prime; 2 has the order 2^32 - 6 there, so that a byte counts otherwise at each place
+-- a text is a number to the base 256, modulo 2^32 - 5, which is prime; 2 has the order 2^32 - 6 there, so that a byte counts otherwise at each place
+abbrev pub rollModulus : ℕ
+rollModulus = 4294967291
+
+-- a byte more
 unfoldable pub rollStep : ℕ → ℕ → ℕ
-rollStep h b = (h * 256 + b) % 4294967291
+rollStep h b = (h * 256 + b) % rollModulus
 
 -- from h on, over the bytes of a text
 unfoldable pub rollFrom : ℕ → List ℕ → ℕ
@@ -55,6 +60,6 @@ digestFour a b c d = digestEnd (digestStep (digestStep 1 a b) c d)
 unfoldable pub typeDigest : List ℕ → List ℕ → ℕ → ℕ
 unfolding pick digestOf digestFour textAt detailOf wordOf
 typeDigest tree text r =
-    pick (eqb (detailOf tree r) 8)
+    pick (eqb (detailOf tree r) formCustom)
     (digestOf (textAt text (wordOf tree r A) (wordOf tree r B)))
     (digestFour (detailOf tree r) (wordOf tree r A) (wordOf tree r B) (wordOf tree r C))

@@ -1,4 +1,4 @@
--- Document 01's table 'kind | detail and words': the kinds of records by name, and two forms of types. Assumes nothing: these are definitions.
+-- Document 01's table 'kind | detail and words': the kinds of records by name, and three forms of types. Assumes nothing: these are definitions.
 use Prim.Native.Nat.{ℕ}
 
 abbrev pub kindType : ℕ
@@ -76,9 +76,12 @@ kindVariable = 24
 abbrev pub kindFunction : ℕ
 kindFunction = 25
 
--- '6 Address (A inner), 7 Array (A element, B C count low, high)': what a type's detail says without its marks
+-- '6 Address (A inner), 7 Array (A element, B C count low, high), 8 Custom (A B name)': what a type's detail says without its marks
 abbrev pub formAddress : ℕ
 formAddress = 6
 
 abbrev pub formArray : ℕ
 formArray = 7
+
+abbrev pub formCustom : ℕ
+formCustom = 8

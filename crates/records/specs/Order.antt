@@ -32,19 +32,19 @@ recordText tree text k = textAt text (wordOf tree k A) (wordOf tree k B)
 
 -- number r put into a chain, behind an entry with the text `before` (the head of a chain counts as one without a byte): nowhere where an entry has its text, else before
 -- the first entry that shares less with the one before than r does
-unfoldable pub placed : (ℕ → List ℕ) → ℕ → List ℕ → List ℕ → List ℕ
+unfoldable pub placedIn : (ℕ → List ℕ) → ℕ → List ℕ → List ℕ → List ℕ
 unfolding pick common sameText
-placed t r before [] = r ∷ []
-placed t r before (e ∷ l) =
+placedIn t r before [] = r ∷ []
+placedIn t r before (e ∷ l) =
     pick (sameText (t e) (t r))
     (e ∷ l)
-    (pick (ltb (common before (t e)) (common before (t r))) (r ∷ e ∷ l) (e ∷ placed t r (t e) l))
+    (pick (ltb (common before (t e)) (common before (t r))) (r ∷ e ∷ l) (e ∷ placedIn t r (t e) l))
 
 -- the chain of bucket b, once the numbers below r are placed
 unfoldable pub chainOf : (ℕ → List ℕ) → (ℕ → ℕ) → ℕ → ℕ → List ℕ
-unfolding pick placed
+unfolding pick placedIn
 chainOf t bucket zero b = []
-chainOf t bucket (suc r) b = pick (eqb (bucket r) b) (placed t r [] (chainOf t bucket r b)) (chainOf t bucket r b)
+chainOf t bucket (suc r) b = pick (eqb (bucket r) b) (placedIn t r [] (chainOf t bucket r b)) (chainOf t bucket r b)
 
 -- the entry that has number r's text, or r where none has
 unfoldable pub firstWith : (ℕ → List ℕ) → ℕ → List ℕ → ℕ
@@ -52,11 +52,11 @@ unfolding pick sameText
 firstWith t r [] = r
 firstWith t r (e ∷ l) = pick (sameText (t e) (t r)) e (firstWith t r l)
 
--- the place of the link that is to lead to r, where `link` is the place of the one that leads to the chain, and the text of the entry before r
+-- where the link to r is to stand, if the one that leads to the chain stands at `at`; and the text of the entry before r
 unfoldable pub linkPlace : (ℕ → List ℕ) → ℕ → ℕ → List ℕ → ℕ → List ℕ → ℕ
 unfolding pick common
-linkPlace t n r before link [] = link
-linkPlace t n r before link (e ∷ l) = pick (ltb (common before (t e)) (common before (t r))) link (linkPlace t n r (t e) (entryAt n e + secondWord) l)
+linkPlace t n r before at [] = at
+linkPlace t n r before at (e ∷ l) = pick (ltb (common before (t e)) (common before (t r))) at (linkPlace t n r (t e) (entryAt n e + secondWord) l)
 
 unfoldable pub textBefore : (ℕ → List ℕ) → ℕ → List ℕ → List ℕ → List ℕ
 unfolding pick common
@@ -70,34 +70,34 @@ Ordered t before (e ∷ l) = All (λ g. common before (t g) ≤ common before (t
 
 -- ---- chains in bytes
 
--- the link h leads to the chain: a link is one more than the entry it leads to, 0 behind the last; each entry has what it shares with the one before, and its link
-abbrev pub Linked : (ℕ → List ℕ) → ℕ → List ℕ → List ℕ → ℕ → List ℕ → Type 0
-Linked t n s before h [] = h ≡ 0
-Linked t n s before h (e ∷ l) = (h ≡ e + 1) × (wordAt s (entryAt n e) ≡ common before (t e)) × Linked t n s (t e) (wordAt s (entryAt n e + secondWord)) l
+-- a link leads to the chain: it is one more than the entry it leads to, 0 behind the last; each entry has what it shares with the one before, and its link
+abbrev pub LinkedChain : (ℕ → List ℕ) → ℕ → List ℕ → List ℕ → ℕ → List ℕ → Type 0
+LinkedChain t n s before link [] = link ≡ 0
+LinkedChain t n s before link (e ∷ l) = (link ≡ e + 1) × (wordAt s (entryAt n e) ≡ common before (t e)) × LinkedChain t n s (t e) (wordAt s (entryAt n e + secondWord)) l
 
 -- the numbers below r are placed, in n buckets
 abbrev pub Placed : (ℕ → List ℕ) → (ℕ → ℕ) → ℕ → ℕ → List ℕ → Type 0
-Placed t bucket n r s = (b : ℕ) → b < n → Linked t n s [] (wordAt s (headAt b)) (chainOf t bucket r b)
+Placed t bucket n r s = (b : ℕ) → b < n → LinkedChain t n s [] (wordAt s (headAt b)) (chainOf t bucket r b)
 
--- the link at this place leads to a chain of numbers below r
-pub record Leads (t : ℕ → List ℕ) (n r link : ℕ) (s : List ℕ) : Type 0 where
+-- the link at `head` leads to a chain of numbers below r
+pub record Leads (t : ℕ → List ℕ) (n r head : ℕ) (s : List ℕ) : Type 0 where
   pub chain : List ℕ
-  pub linked : Linked t n s [] (wordAt s link) chain
+  pub linked : LinkedChain t n s [] (wordAt s head) chain
   pub ordered : Ordered t [] chain
   pub inside : All (λ e. e < r) chain
   pub short : length chain ≤ n
 
--- where number r belongs in the chain that the link at this place leads to: the entry with its text, or r; and then where the link to it is to stand, and what it
+-- where number r belongs in the chain that the link at `head` leads to: the entry with its text, or r; and then where the link to it is to stand, and what it
 -- shares with the entry before
-pub record PlaceIn (t : ℕ → List ℕ) (n r link : ℕ) (chain : List ℕ) (number place shared : ℕ) : Type 0 where
+pub record PlaceIn (t : ℕ → List ℕ) (n r head : ℕ) (chain : List ℕ) (number at shared : ℕ) : Type 0 where
   pub found : number ≡ firstWith t r chain
-  pub there : number ≡ r → place ≡ linkPlace t n r [] link chain
+  pub there : number ≡ r → at ≡ linkPlace t n r [] head chain
   pub shares : number ≡ r → shared ≡ common (textBefore t r [] chain) (t r)
 
 abbrev pub PlaceOf : (ℕ → List ℕ) → ℕ → ℕ → ℕ → List ℕ → ℕ → ℕ → ℕ → Type 0
-PlaceOf t n r link s number place shared =
-    (chain : List ℕ) → Linked t n s [] (wordAt s link) chain → PlaceIn t n r link chain number place shared
+PlaceOf t n r head s number at shared =
+    (chain : List ℕ) → LinkedChain t n s [] (wordAt s head) chain → PlaceIn t n r head chain number at shared
 
--- number r is placed: the link at this place leads to it, and it has what it shares with the entry before, and the link that stood there
+-- number r is placed: the link at `at` leads to it, and it has what it shares with the entry before, and the link that stood there
 abbrev pub placedAt : ℕ → ℕ → ℕ → ℕ → ℕ → List ℕ → List ℕ
-placedAt n r shared place next s = splice (splice s (entryAt n r) (word shared ++ word next)) place (word (r + 1))
+placedAt n r shared at next s = splice (splice s (entryAt n r) (word shared ++ word next)) at (word (r + 1))

@@ -11,7 +11,7 @@ use Rattle.records.specs.declared.shape.Role.{Role}
 use Rattle.records.specs.declared.shape.Role.the-variants.{Unused, Number, Text, Length, Expr, TypeRef, TypeOrNone, Name, Variable, Arguments, Parameters, Body, Item, Rest}
 use Rattle.records.specs.declared.shape.Row.{Row}
 use Rattle.records.specs.Words.{kindOf, detailOf, padOf, wordOf, textAt, sameText, records, none, A, B, C, D, E}
-use Rattle.records.specs.Kinds.{kindType, kindInt, kindName, kindCall, kindList, kindValue, kindTypeArgument, kindDeclare, kindIf, kindContinue, kindVariable, kindFunction}
+use Rattle.records.specs.Kinds.{kindType, kindInt, kindName, kindCall, kindList, kindValue, kindTypeArgument, kindDeclare, kindIf, kindContinue, kindVariable, kindFunction, formCustom}
 use Rattle.records.specs.Shapes.{rowAt, refers}
 
 -- 'A record refers only to lower numbers': the kind of the record that word w of record r refers to, 0 where that is none or not lower
@@ -124,7 +124,7 @@ unfoldable pub sameType : List ℕ → List ℕ → ℕ → ℕ → Bool
 unfolding pick sameText textAt detailOf wordOf
 sameType tree text j r =
     eqb (detailOf tree j) (detailOf tree r)
-    && pick (eqb (detailOf tree r) 8)
+    && pick (eqb (detailOf tree r) formCustom)
     (sameText (textAt text (wordOf tree j A) (wordOf tree j B)) (textAt text (wordOf tree r A) (wordOf tree r B)))
     (eqb (wordOf tree j A) (wordOf tree r A) && eqb (wordOf tree j B) (wordOf tree r B) && eqb (wordOf tree j C) (wordOf tree r C))
 

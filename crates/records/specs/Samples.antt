@@ -5,7 +5,7 @@ use Prim.Native.Nat.{ℕ, zero, suc, _+_, _-_, _*_, _%_, _≤_, _<_}
 use mathlib.Core.List.{List}
 use lib.ListN.{length, getD}
 use Rattle.records.specs.Words.{wordAt, textAt}
-use Rattle.records.specs.Digest.{rollStep, rollOf}
+use Rattle.records.specs.Digest.{rollModulus, rollStep, rollOf}
 
 -- what a digest is multiplied by over n bytes: 256 for each
 unfoldable pub rollPower : ℕ → ℕ
@@ -15,18 +15,21 @@ rollPower (suc n) = rollStep (rollPower n) 0
 
 -- from digest h on over a run of bytes: the digest of the text up to the run's first byte is `from`, up to its end `to`, and the run's power is `power`
 unfoldable pub rollAcross : ℕ → ℕ → ℕ → ℕ → ℕ
-rollAcross h from to power = (to + (h + 4294967291 - from) % 4294967291 * power) % 4294967291
+rollAcross h from to power = (to + (h + rollModulus - from) % rollModulus * power) % rollModulus
 
--- two words a sample, from byte `at` on
+-- two words a sample, from byte `at` on, the power behind the digest
 abbrev pub sampleBytes : ℕ
 sampleBytes = 8
+
+abbrev pub samplePower : ℕ
+samplePower = 4
 
 abbrev pub sampleAt : ℕ → ℕ → ℕ
 sampleAt at k = at + sampleBytes * k
 
 -- a sample has the digest of the text up to it, and the power of so many bytes: over the run from one to another, from digest h on
 abbrev pub rollBetween : List ℕ → ℕ → ℕ → ℕ → ℕ → ℕ
-rollBetween l at h first last = rollAcross h (wordAt l (sampleAt at first)) (wordAt l (sampleAt at last)) (wordAt l (sampleAt at (last - first) + 4))
+rollBetween l at h first last = rollAcross h (wordAt l (sampleAt at first)) (wordAt l (sampleAt at last)) (wordAt l (sampleAt at (last - first) + samplePower))
 
 -- each whole stride of a text of so many bytes has room for its sample before byte `end`; a stride of 0 has no samples
 abbrev pub SampleRoom : ℕ → ℕ → ℕ → ℕ → Type 0
@@ -36,7 +39,7 @@ SampleRoom bytes stride at end = 0 < stride → (k : ℕ) → k * stride ≤ byt
 pub record Sampled (text : List ℕ) (stride at : ℕ) (l : List ℕ) : Type 0 where
   pub room : SampleRoom (length text) stride at (length l)
   pub rolls : 0 < stride → (k : ℕ) → k * stride ≤ length text → wordAt l (sampleAt at k) ≡ rollOf (textAt text 0 (k * stride))
-  pub powers : 0 < stride → (k : ℕ) → k * stride ≤ length text → wordAt l (sampleAt at k + 4) ≡ rollPower (k * stride)
+  pub powers : 0 < stride → (k : ℕ) → k * stride ≤ length text → wordAt l (sampleAt at k + samplePower) ≡ rollPower (k * stride)
 
 -- the samples are written, and the other bytes are as they were
 pub record Samples (text : List ℕ) (stride at : ℕ) (l l′ : List ℕ) : Type 0 where

@@ -4,6 +4,7 @@ use mathlib.Core.Bool.{Bool, true, false}
 use mathlib.Core.List.{List}
 use lib.Dec.{eqb}
 use Rattle.laws.specs.Fix.{pick, below, fix}
+use Rattle.records.specs.Kinds.{formAddress, formArray, formCustom}
 use Rattle.records.specs.Words.{detailOf, wordOf, textAt, A, B, C}
 
 -- `enum Type` of parser/postparser/structs.rs
@@ -39,9 +40,9 @@ plainOf d =
 unfoldable pub typeStep : List ℕ → List ℕ → (ℕ → KrcType) → ℕ → KrcType
 unfolding pick below plainOf detailOf wordOf textAt
 typeStep tree text g r =
-    pick (eqb (detailOf tree r) 6) (KAddress (below g r (wordOf tree r A) KNull))
-    (pick (eqb (detailOf tree r) 7) (KArray (below g r (wordOf tree r A) KNull) (wordOf tree r B + wordOf tree r C * 4294967296))
-    (pick (eqb (detailOf tree r) 8) (KCustom (textAt text (wordOf tree r A) (wordOf tree r B)))
+    pick (eqb (detailOf tree r) formAddress) (KAddress (below g r (wordOf tree r A) KNull))
+    (pick (eqb (detailOf tree r) formArray) (KArray (below g r (wordOf tree r A) KNull) (wordOf tree r B + wordOf tree r C * 4294967296))
+    (pick (eqb (detailOf tree r) formCustom) (KCustom (textAt text (wordOf tree r A) (wordOf tree r B)))
     (plainOf (detailOf tree r))))
 
 -- the type that type record r stands for

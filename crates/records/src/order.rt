@@ -119,16 +119,17 @@ fn records_agree(tree: &[u8], text: &[u8], k: usize, r: usize, from: u32) -> Agr
     )
 }
 
-// Where a record belongs in a chain: the entry that has its text, or itself; and then the place of the link that is to lead to it, and how far its text agrees
+// Where a record belongs in a chain: the entry that has its text, or itself; and then where the link that is to lead to it stands, and how far its text agrees
 // with that of the entry before.
-pub struct Place {
+pub struct ChainPlace {
     pub number: usize,
-    pub link: usize,
+    pub at: usize,
     pub shared: u32,
 }
 
 // The chain is walked from the link at `head` on. An entry tells how far its text agrees with that of the one before: only where r's text agrees just as far
-// is it compared, from there on, so that no byte of r's text is compared more than twice.
+// is it compared, from there on. So a byte of r's text that agreed is read at no later entry; the one that differed, and up to 63 that are compared along with
+// it, at each that agrees just as far.
 pub fn find_place(
     tree: &[u8],
     text: &[u8],
@@ -136,50 +137,50 @@ pub fn find_place(
     n: usize,
     r: usize,
     head: usize,
-) -> Place
+) -> ChainPlace
     requires { ⌜ ChainRoom n (now scratch) × (n * recordBytes ≤ length (now tree)) × (r < n) × (head + 4 ≤ length (now scratch)) ⌝ }
     requires { ⌜ Leads (recordText (now tree) (now text)) n r head (now scratch) ⌝ }
-    ensures { λ v. ⌜ PlaceOf (recordText (now (tree .entry)) (now (text .entry))) n r head (now (scratch .entry)) (v .number) (v .link) (v .shared) ⌝ }
+    ensures { λ v. ⌜ PlaceOf (recordText (now (tree .entry)) (now (text .entry))) n r head (now (scratch .entry)) (v .number) (v .at) (v .shared) ⌝ }
 {
-    let mut link = head;
+    let mut at = head;
     let mut shared: u32 = 0;
-    let mut at = index(load(scratch, link));
-    while at > 0 {
-        let k = at - 1;
+    let mut link = index(load(scratch, at));
+    while link > 0 {
+        let k = link - 1;
         let e = CHAIN_HEAD_BYTES * n + CHAIN_ENTRY_BYTES * k;
         let before = load(scratch, e);
         if before < shared {
-            return Place {
+            return ChainPlace {
                 number: r,
-                link: link,
+                at: at,
                 shared: shared,
             };
         }
         if before == shared {
             let a = records_agree(tree, text, k, r, shared);
             if a.whole {
-                return Place {
+                return ChainPlace {
                     number: k,
-                    link: link,
+                    at: at,
                     shared: shared,
                 };
             }
             shared = a.bytes;
         }
-        link = e + SECOND_WORD;
-        at = index(load(scratch, link));
+        at = e + SECOND_WORD;
+        link = index(load(scratch, at));
     }
-    Place {
+    ChainPlace {
         number: r,
-        link: link,
+        at: at,
         shared: shared,
     }
 }
 
-// Number r goes where the link at `place` leads, before what that led to.
-pub fn enter_at(scratch: &mut [u8], n: usize, r: usize, shared: u32, place: usize, next: u32)
-    requires { ⌜ ChainRoom n (now scratch) × (r < n) × (place + 4 ≤ length (now scratch)) ⌝ }
-    ensures { λ _. ⌜ now (scratch .exit) ≡ placedAt n r shared place next (now (scratch .entry)) ⌝ }
+// Number r goes where the link at `at` leads, before what that led to.
+pub fn enter_at(scratch: &mut [u8], n: usize, r: usize, shared: u32, at: usize, next: u32)
+    requires { ⌜ ChainRoom n (now scratch) × (r < n) × (at + 4 ≤ length (now scratch)) ⌝ }
+    ensures { λ _. ⌜ now (scratch .exit) ≡ placedAt n r shared at next (now (scratch .entry)) ⌝ }
 {
     let link = (r + 1) as u32;
     put_pair(
@@ -188,5 +189,5 @@ pub fn enter_at(scratch: &mut [u8], n: usize, r: usize, shared: u32, place: usiz
         shared,
         next,
     );
-    put_word(scratch, place, link);
+    put_word(scratch, at, link);
 }

@@ -3,10 +3,11 @@ ghost use mathlib.Core.Path.{_≡_};
 ghost use Prim.Native.Nat.{_+_, _*_, _%_, _≤_, _<_};
 ghost use lib.ListN.{length};
 ghost use Rattle.records.specs.Words.{wordAt, textAt};
-ghost use Rattle.records.specs.Digest.{rollOf};
+ghost use Rattle.records.specs.Digest.{rollModulus, rollOf};
 ghost use Rattle.records.specs.Samples.{rollPower, rollAcross, rollBetween, sampleAt, SampleRoom, Sampled, Samples};
 use crate::layout::SAMPLE_BYTES;
 use crate::layout::SAMPLE_POWER;
+use crate::texts::ROLL_MODULUS;
 use crate::texts::reach;
 use crate::texts::roll;
 use crate::texts::roll_byte;
@@ -16,14 +17,14 @@ use crate::words::put_pair;
 
 // A product, short of multiples of 2^32 - 5.
 fn times(a: u32, b: u32) -> u32
-    ensures { λ r. ⌜ (r ≡ a * b % 4294967291) × (r < 4294967291) ⌝ }
+    ensures { λ r. ⌜ (r ≡ a * b % rollModulus) × (r < rollModulus) ⌝ }
 {
-    ((a as u64) * (b as u64) % 4294967291) as u32
+    ((a as u64) * (b as u64) % ROLL_MODULUS) as u32
 }
 
 // What a digest is multiplied by over n bytes.
 fn roll_power(n: usize) -> u32
-    ensures { λ r. ⌜ (r ≡ rollPower n) × (r < 4294967291) ⌝ }
+    ensures { λ r. ⌜ (r ≡ rollPower n) × (r < rollModulus) ⌝ }
 {
     let mut x: u32 = 1;
     let mut i = 0;
@@ -61,17 +62,17 @@ pub fn sample(text: &[u8], scratch: &mut [u8], at: usize, stride: usize)
 
 // From digest h on over a run, by the digests of the text up to its ends and by its power.
 fn roll_across(h: u32, from: u32, to: u32, power: u32) -> u32
-    requires { ⌜ (h < 4294967291) × (from < 4294967291) ⌝ }
-    ensures { λ r. ⌜ (r ≡ rollAcross h from to power) × (r < 4294967291) ⌝ }
+    requires { ⌜ (h < rollModulus) × (from < rollModulus) ⌝ }
+    ensures { λ r. ⌜ (r ≡ rollAcross h from to power) × (r < rollModulus) ⌝ }
 {
-    let more = ((h as u64) + 4294967291 - (from as u64)) % 4294967291;
-    (((to as u64) + more * (power as u64)) % 4294967291) as u32
+    let more = ((h as u64) + ROLL_MODULUS - (from as u64)) % ROLL_MODULUS;
+    (((to as u64) + more * (power as u64)) % ROLL_MODULUS) as u32
 }
 
 // The same from one sample to another.
 fn roll_between(scratch: &[u8], at: usize, h: u32, first: usize, last: usize) -> u32
-    requires { ⌜ (first ≤ last) × (sampleAt at (last + 1) ≤ length (now scratch)) × (h < 4294967291) × (wordAt (now scratch) (sampleAt at first) < 4294967291) ⌝ }
-    ensures { λ r. ⌜ (r ≡ rollBetween (now (scratch .entry)) at h first last) × (r < 4294967291) ⌝ }
+    requires { ⌜ (first ≤ last) × (sampleAt at (last + 1) ≤ length (now scratch)) × (h < rollModulus) × (wordAt (now scratch) (sampleAt at first) < rollModulus) ⌝ }
+    ensures { λ r. ⌜ (r ≡ rollBetween (now (scratch .entry)) at h first last) × (r < rollModulus) ⌝ }
 {
     let from = load(scratch, at + SAMPLE_BYTES * first);
     let to = load(scratch, at + SAMPLE_BYTES * last);
@@ -82,7 +83,7 @@ fn roll_between(scratch: &[u8], at: usize, h: u32, first: usize, last: usize) ->
 // The digest of the n bytes from i on, more than a stride: they are read up to the first sample and from the last on.
 fn roll_long(text: &[u8], scratch: &[u8], at: usize, stride: usize, i: usize, n: usize) -> u32
     requires { ⌜ Sampled (now text) stride at (now scratch) × (0 < stride) × (stride < n) × (i + n ≤ length (now text)) ⌝ }
-    ensures { λ r. ⌜ (r ≡ rollOf (textAt (now (text .entry)) i n)) × (r < 4294967291) ⌝ }
+    ensures { λ r. ⌜ (r ≡ rollOf (textAt (now (text .entry)) i n)) × (r < rollModulus) ⌝ }
 {
     let first = i / stride + 1;
     let last = (i + n) / stride;
@@ -103,7 +104,7 @@ pub fn sampled_roll(
     len: u32,
 ) -> u32
     requires { ⌜ Sampled (now text) stride at (now scratch) ⌝ }
-    ensures { λ r. ⌜ (r ≡ rollOf (textAt (now (text .entry)) offset len)) × (r < 4294967291) ⌝ }
+    ensures { λ r. ⌜ (r ≡ rollOf (textAt (now (text .entry)) offset len)) × (r < rollModulus) ⌝ }
 {
     if stride == 0 {
         return text_roll(text, offset, len);

@@ -3,7 +3,7 @@ ghost use mathlib.Core.Path.{_≡_};
 ghost use Prim.Native.Nat.{_+_, _*_, _%_, _≤_, _<_};
 ghost use lib.ListN.{length};
 ghost use Rattle.records.specs.Words.{textAt, sameText};
-ghost use Rattle.records.specs.Digest.{digestStep, digestEnd, digestOf, digestFour, highFirst, rollStep, rollFrom, rollOf};
+ghost use Rattle.records.specs.Digest.{digestStep, digestEnd, digestOf, digestFour, highFirst, rollModulus, rollStep, rollFrom, rollOf};
 use crate::words::load;
 use crate::words::wide;
 
@@ -194,6 +194,9 @@ const FACTOR_SECOND: u64 = 1013904223;
 
 const FACTOR_LAST: u64 = 1481765933;
 
+// 2^32 - 5: what is left over from it is the digest of a text that goes on.
+pub const ROLL_MODULUS: u64 = 4294967291;
+
 // The upper half is added to the lower: a remainder alone would keep the lowest bits from ever seeing the others.
 fn step(h: u64, w: u32, v: u32) -> u64
     requires { ⌜ h < 8589934592 ⌝ }
@@ -240,7 +243,7 @@ fn eight_digits(text: &[u8], i: usize) -> u64
 // Five times the upper half is added to the lower, which keeps the remainder by 2^32 - 5.
 fn turned(x: u64) -> u64
     requires { ⌜ x < 17592186044416 ⌝ }
-    ensures { λ r. ⌜ (r % 4294967291 ≡ x % 4294967291) × (r < 8589934592) ⌝ }
+    ensures { λ r. ⌜ (r % rollModulus ≡ x % rollModulus) × (r < 8589934592) ⌝ }
 {
     x % 4294967296 + x / 4294967296 * 5
 }
@@ -248,23 +251,23 @@ fn turned(x: u64) -> u64
 // From x on, over sixteen bytes, in one product that waits for the one before.
 fn roll_sixteen(text: &[u8], x: u64, i: usize) -> u64
     requires { ⌜ (i + 16 ≤ length (now text)) × (x < 8589934592) ⌝ }
-    ensures { λ r. ⌜ (r % 4294967291 ≡ rollFrom (x % 4294967291) (textAt (now (text .entry)) i 16)) × (r < 8589934592) ⌝ }
+    ensures { λ r. ⌜ (r % rollModulus ≡ rollFrom (x % rollModulus) (textAt (now (text .entry)) i 16)) × (r < 8589934592) ⌝ }
 {
     turned(x * 625 + eight_digits(text, i) * 25 + eight_digits(text, i + 8))
 }
 
 // A byte more.
 pub fn roll_byte(d: u32, b: u8) -> u32
-    requires { ⌜ d < 4294967291 ⌝ }
-    ensures { λ r. ⌜ (r ≡ rollStep d b) × (r < 4294967291) ⌝ }
+    requires { ⌜ d < rollModulus ⌝ }
+    ensures { λ r. ⌜ (r ≡ rollStep d b) × (r < rollModulus) ⌝ }
 {
-    (((d as u64) * 256 + (b as u64)) % 4294967291) as u32
+    (((d as u64) * 256 + (b as u64)) % ROLL_MODULUS) as u32
 }
 
 // From digest d on, over the n bytes from `at` on: by sixteens, and the rest singly.
 pub fn roll(text: &[u8], d: u32, at: usize, n: usize) -> u32
-    requires { ⌜ (at + n ≤ length (now text)) × (d < 4294967291) ⌝ }
-    ensures { λ r. ⌜ (r ≡ rollFrom d (textAt (now (text .entry)) at n)) × (r < 4294967291) ⌝ }
+    requires { ⌜ (at + n ≤ length (now text)) × (d < rollModulus) ⌝ }
+    ensures { λ r. ⌜ (r ≡ rollFrom d (textAt (now (text .entry)) at n)) × (r < rollModulus) ⌝ }
 {
     let mut x = d as u64;
     let mut i = 0;
@@ -276,12 +279,12 @@ pub fn roll(text: &[u8], d: u32, at: usize, n: usize) -> u32
         x = turned(x * 256 + wide(text[at + i]) as u64);
         i += 1;
     }
-    (x % 4294967291) as u32
+    (x % ROLL_MODULUS) as u32
 }
 
 // The digest of a text that goes on, as far as the text lies within the buffer.
 pub fn text_roll(text: &[u8], offset: u32, len: u32) -> u32
-    ensures { λ r. ⌜ (r ≡ rollOf (textAt (now (text .entry)) offset len)) × (r < 4294967291) ⌝ }
+    ensures { λ r. ⌜ (r ≡ rollOf (textAt (now (text .entry)) offset len)) × (r < rollModulus) ⌝ }
 {
     let i = offset as usize;
     let x = reach(text, i, len as usize);

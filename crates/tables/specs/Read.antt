@@ -14,7 +14,7 @@ use Rattle.laws.specs.Fix.{pick}
 use Rattle.records.specs.Words.{byteAt, wordAt, textAt, none, secondWord}
 use Rattle.syntax.specs.Syntax.{Text, unaryOps, binaryOps}
 use Rattle.conversion.specs.Ir.{VarId, Operand, OVar, OInt, OFloat, OBool, ODataAddress, ONull, Instr, Copy, Unary, Binary, Cast, Zero, Arg, Call, Label, Jump, JumpIfNot, Return, Comment, LabelName, StringEntry, texts, FloatEntry}
-use Rattle.conversion.specs.Written.{Fields, tagOf, Tables, Counts}
+use Rattle.conversion.specs.Written.{Fields, tagOf, Tables, Counts, instructionBytes, variableBytes, labelBytes, functionBytes, stringBytes, floatBytes}
 
 -- ---- reading
 
@@ -331,14 +331,14 @@ unfoldable pub bodyAt : Counts → Tables → Text → ℕ → Option ReadBody
 unfolding _>>=_ check functionIn entriesFrom variableIn labelIn instrIn stringIn floatIn allListed texts
 bodyAt c t text i = do
   _ ← check (ltb i (c .functions))
-  f ← functionIn (drop (i * 32) (t .functions))
+  f ← functionIn (drop (i * functionBytes) (t .functions))
   _ ← check (f .hasBody)
-  vars ← entriesFrom variableIn 4 (t .variables) (f .firstVar) (f .vars)
-  labels ← entriesFrom labelIn 8 (t .labels) (f .firstLabel) (f .labels)
-  instrs ← entriesFrom (instrIn vars) 32 (t .instructions) (f .firstInstr) (f .instrs)
+  vars ← entriesFrom variableIn variableBytes (t .variables) (f .firstVar) (f .vars)
+  labels ← entriesFrom labelIn labelBytes (t .labels) (f .firstLabel) (f .labels)
+  instrs ← entriesFrom (instrIn vars) instructionBytes (t .instructions) (f .firstInstr) (f .instrs)
   _ ← check (allListed (f .labels) (c .strings) (c .floats) instrs)
-  strings ← entriesFrom (stringIn text) 8 (t .strings) 0 (c .strings)
-  floats ← entriesFrom floatIn 16 (t .floats) 0 (c .floats)
+  strings ← entriesFrom (stringIn text) stringBytes (t .strings) 0 (c .strings)
+  floats ← entriesFrom floatIn floatBytes (t .floats) 0 (c .floats)
   some (record { func = f .func; instrs = instrs; vars = vars; labels = labels; strings = texts strings; floats = floats })
 
 -- ---- what is to be read

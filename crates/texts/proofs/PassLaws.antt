@@ -83,15 +83,15 @@ module _ (tree text : List ℕ) where
         (chain-inside (ownText tree text) (textBucket tree text) b r)
         (chain-first (ownText tree text) (textBucket tree text) b r)))
 
-    module _ (s : List ℕ) (c : Chains tree text r s) (number place shared : ℕ) (at : PlaceOf (ownText tree text) (records tree) r (headAt b) s number place shared) where
+    module _ (s : List ℕ) (c : Chains tree text r s) (number place shared : ℕ) (belongs : PlaceOf (ownText tree text) (records tree) r (headAt b) s number place shared) where
       pub number-told : number ≡ original tree text r
-      number-told = at entries (c b hb) .found ∙ number-found
+      number-told = belongs entries (c b hb) .found ∙ number-found
 
       -- nothing is entered
       pub found-entered : number < r → Entered tree text r s s
       found-entered h =
           record {
-            chained = chains-found (ownText tree text) (textBucket tree text) (records tree) s r c b hr hb eb number place shared at h;
+            chained = chains-found (ownText tree text) (textBucket tree text) (records tree) s r c b hr hb eb number place shared belongs h;
             long = refl;
             behind = λ i k. refl;
           }
@@ -99,9 +99,9 @@ module _ (tree text : List ℕ) where
       pub number-within : number ≤ r
       number-within =
           ⊎-elim
-          (λ (n : firstWith (ownText tree text) r entries ≡ r). omega (arith, at entries (c b hb) .found))
+          (λ (n : firstWith (ownText tree text) r entries ≡ r). omega (arith, belongs entries (c b hb) .found))
           (λ (y : (firstWith (ownText tree text) r entries < r) × (ownText tree text (firstWith (ownText tree text) r entries) ≡ ownText tree text r)).
-          omega (arith, at entries (c b hb) .found, y .0))
+          omega (arith, belongs entries (c b hb) .found, y .0))
           (first-is (ownText tree text) r (λ e. e < r) entries (chain-below (ownText tree text) (textBucket tree text) b r))
 
       module _ (new : r ≤ number) where
@@ -109,13 +109,13 @@ module _ (tree text : List ℕ) where
         itself = omega (arith, number-within)
 
         pub place-inside : place + 4 ≤ entryAt (records tree) r
-        place-inside = place-low (ownText tree text) (textBucket tree text) (records tree) s r c b hr hb eb number place shared at itself
+        place-inside = place-low (ownText tree text) (textBucket tree text) (records tree) s r c b hr hb eb number place shared belongs itself
 
         pub new-entered : (next : ℕ) (s′ : List ℕ) → ChainRoom (records tree) s → shared < 4294967296 → next < 4294967296 → next ≡ wordAt s place
             → s′ ≡ placedAt (records tree) r shared place next s → Entered tree text r s s′
         new-entered next s′ room hs hn en e =
             record {
-              chained = chains-more (ownText tree text) (textBucket tree text) (records tree) s r c b hr hb eb number place shared at itself next s′ room hs hn en e;
+              chained = chains-more (ownText tree text) (textBucket tree text) (records tree) s r c b hr hb eb number place shared belongs itself next s′ room hs hn en e;
               long = entered-long (records tree) r shared place next s s′ room hr place-inside e;
               behind = entered-behind (records tree) r shared place next s s′ room hr place-inside e;
             }

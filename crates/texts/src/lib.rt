@@ -60,9 +60,9 @@ fn number_text(tree: &[u8], text: &[u8], r: usize, b: usize, scratch: &mut [u8])
     if number < r {
         return number as u32;
     }
-    let link = place.link;
-    let next = load(scratch, link);
-    enter_at(scratch, n, r, place.shared, link, next);
+    let at = place.at;
+    let next = load(scratch, at);
+    enter_at(scratch, n, r, place.shared, at, next);
     number as u32
 }
 

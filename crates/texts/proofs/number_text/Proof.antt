@@ -28,26 +28,26 @@ same-length c = search needs
 
 returns : tie.Need-returns
 returns c =
-    let start = c .before .before .before .before .before .before in let at = c .before .find-place .ensures in (number-told _ _ _ _ (start .pre .1 .0 .0) (start .pre .1 .0 .1) (start .pre .1 .0 .2) (start .pre .1 .0 .3) _ (start .pre .1 .1) _ _ _ at, found-entered _ _ _ _ (start .pre .1 .0 .0) (start .pre .1 .0 .1) (start .pre .1 .0 .2) (start .pre .1 .0 .3) _ (start .pre .1 .1) _ _ _ at (c .if1 .taken))
+    let start = c .before .before .before .before .before .before in let belongs = c .before .find-place .ensures in (number-told _ _ _ _ (start .pre .1 .0 .0) (start .pre .1 .0 .1) (start .pre .1 .0 .2) (start .pre .1 .0 .3) _ (start .pre .1 .1) _ _ _ belongs, found-entered _ _ _ _ (start .pre .1 .0 .0) (start .pre .1 .0 .1) (start .pre .1 .0 .2) (start .pre .1 .0 .3) _ (start .pre .1 .1) _ _ _ belongs (c .if1 .taken))
 
 load-requires : tie.Need-load-requires
 load-requires c κs =
-    let start = c .before .before .before .before .before .before .before in let at = c .before .before .find-place .ensures in omega (arith, place-inside _ _ _ _ (start .pre .1 .0 .0) (start .pre .1 .0 .1) (start .pre .1 .0 .2) (start .pre .1 .0 .3) _ (start .pre .1 .1) _ _ _ at (c .before .if1 .left), start .pre .0 .1, start .pre .1 .0 .0)
+    let start = c .before .before .before .before .before .before .before in let belongs = c .before .before .find-place .ensures in omega (arith, place-inside _ _ _ _ (start .pre .1 .0 .0) (start .pre .1 .0 .1) (start .pre .1 .0 .2) (start .pre .1 .0 .3) _ (start .pre .1 .1) _ _ _ belongs (c .before .if1 .left), start .pre .0 .1, start .pre .1 .0 .0)
 
 enter-at-requires : tie.Need-enter-at-requires
 enter-at-requires c κs =
-    let start = c .before .before .before .before .before .before .before .before .before in let at = c .before .before .before .before .find-place .ensures in (record { few = start .pre .0 .0 .few; room = omega (arith, start .pre .0 .1) }, start .pre .1 .0 .0, omega (arith, place-inside _ _ _ _ (start .pre .1 .0 .0) (start .pre .1 .0 .1) (start .pre .1 .0 .2) (start .pre .1 .0 .3) _ (start .pre .1 .1) _ _ _ at (c .before .before .before .if1 .left), start .pre .0 .1, start .pre .1 .0 .0))
+    let start = c .before .before .before .before .before .before .before .before .before in let belongs = c .before .before .before .before .find-place .ensures in (record { few = start .pre .0 .0 .few; room = omega (arith, start .pre .0 .1) }, start .pre .1 .0 .0, omega (arith, place-inside _ _ _ _ (start .pre .1 .0 .0) (start .pre .1 .0 .1) (start .pre .1 .0 .2) (start .pre .1 .0 .3) _ (start .pre .1 .1) _ _ _ belongs (c .before .before .before .if1 .left), start .pre .0 .1, start .pre .1 .0 .0))
 
 cast-result-2 : tie.Need-cast-result-2
 cast-result-2 c =
-    let start = c .before .before .before .before .before .before .before .before .before .before .before .before in let at = c .before .before .before .before .before .before .before .find-place .ensures in omega (arith, number-within _ _ _ _ (start .pre .1 .0 .0) (start .pre .1 .0 .1) (start .pre .1 .0 .2) (start .pre .1 .0 .3) _ (start .pre .1 .1) _ _ _ at, start .pre .0 .0 .few, start .pre .1 .0 .0)
+    let start = c .before .before .before .before .before .before .before .before .before .before .before .before in let belongs = c .before .before .before .before .before .before .before .find-place .ensures in omega (arith, number-within _ _ _ _ (start .pre .1 .0 .0) (start .pre .1 .0 .1) (start .pre .1 .0 .2) (start .pre .1 .0 .3) _ (start .pre .1 .1) _ _ _ belongs, start .pre .0 .0 .few, start .pre .1 .0 .0)
 
 same-length-2 : tie.Need-same-length-2
 same-length-2 c = search needs
 
 returns-2 : tie.Need-returns-2
 returns-2 c =
-    let start = c .before .before .before .before .before .before .before .before .before .before .before .before in let at = c .before .before .before .before .before .before .before .find-place .ensures in (number-told _ _ _ _ (start .pre .1 .0 .0) (start .pre .1 .0 .1) (start .pre .1 .0 .2) (start .pre .1 .0 .3) _ (start .pre .1 .1) _ _ _ at, new-entered _ _ _ _ (start .pre .1 .0 .0) (start .pre .1 .0 .1) (start .pre .1 .0 .2) (start .pre .1 .0 .3) _ (start .pre .1 .1) _ _ _ at (c .before .before .before .before .before .before .if1 .left) _ _ (record { few = start .pre .0 .0 .few; room = omega (arith, start .pre .0 .1) }) (search needs) (search needs) (c .before .before .before .before .load .ensures) (c .before .before .enter-at .ensures))
+    let start = c .before .before .before .before .before .before .before .before .before .before .before .before in let belongs = c .before .before .before .before .before .before .before .find-place .ensures in (number-told _ _ _ _ (start .pre .1 .0 .0) (start .pre .1 .0 .1) (start .pre .1 .0 .2) (start .pre .1 .0 .3) _ (start .pre .1 .1) _ _ _ belongs, new-entered _ _ _ _ (start .pre .1 .0 .0) (start .pre .1 .0 .1) (start .pre .1 .0 .2) (start .pre .1 .0 .3) _ (start .pre .1 .1) _ _ _ belongs (c .before .before .before .before .before .before .if1 .left) _ _ (record { few = start .pre .0 .0 .few; room = omega (arith, start .pre .0 .1) }) (search needs) (search needs) (c .before .before .before .before .load .ensures) (c .before .before .enter-at .ensures))
 
 pub number-text-spec : {M : Type 1} → statement M
 number-text-spec =
