@@ -1,6 +1,8 @@
 -- The functions that convert statements and blocks meet their contracts. Their measures are 3r + 2 for a statement, 3r + 1 for an If, While or For, and three times the first cell's place for a block: a call goes to a lower record, or down this order.
 -- Each need is a law of BlockLaws, BlockParts or BlockTurns; the loop's invariant is `BlockLeft`, its measure the cell's place. Assumes nothing.
 use lib.ListN.{length}
+use Rattle.ir.specs.Counted.{counted}
+use Rattle.ir.proofs.LentLaws.{in-words}
 use Rattle.statements.specs.Lent.{at, stated, finished}
 use mathlib.Core.Path.{_≡_, refl, ap, sym, _∙_}
 use native.Mathlib.Omega.{arith}
@@ -754,7 +756,7 @@ convert-if-returns : (t : ℕ) → convert-if-lts.Need-returns (
   if-middle-reads.Asked,
   if-middle-reads.Learnt,
 ) (convert-if-at t) convert-if.Post
-convert-if-returns t c = (if-stop (c .before .before .before .before .before .before .before .before .before .before .before .before .before .before .before .before .before .before .before .pre .1 .0 .0) (c .before .before .before .before .before .before .before .before .before .before .before .before .before .before .before .before .before .before .before .pre .1 .0 .1) (c .before .before .before .before .before .before .before .before .before .before .before .before .before .before .before .before .before .before .before .pre .1 .1 .0) (c .before .before .before .before .before .before .before .before .if-head .ensures .0) (c .before .match .keys2), λ k q. refused-visited _ (c .before .match .keys2) k q)
+convert-if-returns t c = (if-stop (c .before .before .before .before .before .before .before .before .before .before .before .before .before .before .before .before .before .before .before .pre .1 .0 .0) (c .before .before .before .before .before .before .before .before .before .before .before .before .before .before .before .before .before .before .before .pre .1 .0 .1) (c .before .before .before .before .before .before .before .before .before .before .before .before .before .before .before .before .before .before .before .pre .1 .1 .0) (c .before .before .before .before .before .before .before .before .if-head .ensures .0) _ (c .before .before .before .before .before .before .before .before .if-head .result) refl (c .before .match .keys2), λ k q. refused-visited _ (c .before .before .before .before .before .before .before .before .if-head .result) (c .before .match .keys2) k q)
 
 convert-if-convert-block-requires : (t : ℕ) → convert-if-lts.Need-convert-block-requires (
   reference-reads.Asked,
@@ -1250,7 +1252,7 @@ convert-statement-slice-read-at : (t : ℕ) → convert-statement-lts.Need-slice
   convert-for-loop-below t,
   convert-for-loop.Post,
 ) (convert-statement-at t) convert-statement.Post
-convert-statement-slice-read-at t c = search needs
+convert-statement-slice-read-at t c = in-words 1 _ _ (omega arith) (c .before .before .before .before .before .emit-comment .ensures .next .room)
 
 convert-statement-cast-at : (t : ℕ) → convert-statement-lts.Need-cast-at (
   kind-reads.Asked,
@@ -1270,7 +1272,8 @@ convert-statement-cast-at : (t : ℕ) → convert-statement-lts.Need-cast-at (
   convert-for-loop-below t,
   convert-for-loop.Post,
 ) (convert-statement-at t) convert-statement.Post
-convert-statement-cast-at t c = omega (arith, comment-small (c .before .before .before .before .before .before .before .before .before .before .before .before .before .before .before .pre .1 .0 .0) (c .before .before .before .before .before .before .before .before .before .before .before .before .before .before .before .pre .1 .0 .1) (c .before .before .before .before .before .before .before .before .before .before .before .before .before .before .before .pre .1 .1 .0) (c .before .before .before .before .before .before .before .before .before .before .before .before .before .before .before .pre .1 .1 .1) (c .before .before .before .before .before .emit-comment .ensures))
+unfolding counted
+convert-statement-cast-at t c = record { fits = comment-small (c .before .before .before .before .before .before .before .before .before .before .before .before .before .before .before .pre .1 .0 .0) (c .before .before .before .before .before .before .before .before .before .before .before .before .before .before .before .pre .1 .0 .1) (c .before .before .before .before .before .before .before .before .before .before .before .before .before .before .before .pre .1 .1 .0) (c .before .before .before .before .before .before .before .before .before .before .before .before .before .before .before .pre .1 .1 .1) (c .before .before .before .before .before .emit-comment .ensures) }
 
 convert-statement-convert-plain-requires : (t : ℕ) → convert-statement-lts.Need-convert-plain-requires (
   kind-reads.Asked,
@@ -1290,6 +1293,7 @@ convert-statement-convert-plain-requires : (t : ℕ) → convert-statement-lts.N
   convert-for-loop-below t,
   convert-for-loop.Post,
 ) (convert-statement-at t) convert-statement.Post
+unfolding counted
 convert-statement-convert-plain-requires t c κs = ((comment-converting (c .before .before .before .before .before .before .before .before .before .before .before .before .before .before .before .before .before .before .before .pre .1 .0 .0) (c .before .before .before .before .before .before .before .before .before .before .before .before .before .before .before .before .before .before .before .pre .1 .0 .1) (c .before .before .before .before .before .before .before .before .before .before .before .before .before .before .before .before .before .before .before .pre .1 .1 .0) (omega arith) (c .before .before .before .before .before .before .before .before .before .emit-comment .ensures), comment-afforded (c .before .before .before .before .before .before .before .before .before .before .before .before .before .before .before .before .before .before .before .pre .1 .0 .0) (c .before .before .before .before .before .before .before .before .before .before .before .before .before .before .before .before .before .before .before .pre .1 .0 .1) (c .before .before .before .before .before .before .before .before .before .before .before .before .before .before .before .before .before .before .before .pre .1 .1 .0) (omega arith) (c .before .before .before .before .before .before .before .before .before .emit-comment .ensures)), (((c .before .before .before .before .before .before .before .before .before .before .before .before .before .before .before .before .before .before .before .pre .1 .1 .0), omega (arith, (c .before .before .before .before .before .before .before .before .before .before .before .before .kind .ensures), c .before .before .before .if1 .taken)), comment-in-turn (c .before .before .before .before .before .before .before .before .before .before .before .before .before .before .before .before .before .before .before .pre .1 .0 .0) (c .before .before .before .before .before .before .before .before .before .before .before .before .before .before .before .before .before .before .before .pre .1 .0 .1) (c .before .before .before .before .before .before .before .before .before .before .before .before .before .before .before .before .before .before .before .pre .1 .1 .0) (c .before .before .before .before .before .before .before .before .before .before .before .before .before .before .before .before .before .before .before .pre .1 .1 .1) (c .before .before .before .before .before .before .before .before .before .emit-comment .ensures)))
 
 convert-statement-same-length : (t : ℕ) → convert-statement-lts.Need-same-length (
@@ -1370,6 +1374,7 @@ convert-statement-returns : (t : ℕ) → convert-statement-lts.Need-returns (
   convert-for-loop-below t,
   convert-for-loop.Post,
 ) (convert-statement-at t) convert-statement.Post
+unfolding counted
 convert-statement-returns t c = (commented-plain (c .before .before .before .before .before .before .before .before .before .before .before .before .before .before .before .before .before .before .before .before .before .before .before .before .before .before .pre .1 .0 .0) (c .before .before .before .before .before .before .before .before .before .before .before .before .before .before .before .before .before .before .before .before .before .before .before .before .before .before .pre .1 .0 .1) (c .before .before .before .before .before .before .before .before .before .before .before .before .before .before .before .before .before .before .before .before .before .before .before .before .before .before .pre .1 .1 .0) (omega arith) (c .before .before .before .before .before .before .before .before .before .before .before .before .before .before .before .before .emit-comment .ensures) (c .before .before .before .before .before .before .before .before .before .before .before .before .before .before .before .before .before .before .before .kind .ensures) (c .before .before .before .before .before .before .before .before .before .before .if1 .taken) (c .before .before .before .before .before .before .convert-plain .ensures .0), plain-visited (c .before .before .before .before .before .before .before .before .before .before .before .before .before .before .before .before .before .before .before .before .before .before .before .before .before .before .pre .1 .0 .0) (c .before .before .before .before .before .before .before .before .before .before .before .before .before .before .before .before .before .before .before .before .before .before .before .before .before .before .pre .1 .0 .1) (c .before .before .before .before .before .before .before .before .before .before .before .before .before .before .before .before .before .before .before .before .before .before .before .before .before .before .pre .1 .1 .0) (c .before .before .before .before .before .before .before .before .before .before .before .before .before .before .before .before .before .before .before .before .before .before .before .before .before .before .pre .1 .1 .1) (c .before .before .before .before .before .before .before .before .before .before .before .before .before .before .before .before .emit-comment .ensures) (c .before .before .before .before .before .before .convert-plain .ensures .0) (c .before .before .before .before .before .before .before .before .before .before .before .before .before .before .before .before .before .before .before .kind .ensures) (c .before .before .before .before .before .before .before .before .before .before .if1 .taken) (c .before .before .before .before .before .before .convert-plain .ensures .1))
 
 convert-statement-convert-jump-requires : (t : ℕ) → convert-statement-lts.Need-convert-jump-requires (
@@ -1390,6 +1395,7 @@ convert-statement-convert-jump-requires : (t : ℕ) → convert-statement-lts.Ne
   convert-for-loop-below t,
   convert-for-loop.Post,
 ) (convert-statement-at t) convert-statement.Post
+unfolding counted
 convert-statement-convert-jump-requires t c κs = ((comment-converting (c .before .before .before .before .before .before .before .before .before .before .before .before .before .before .before .before .before .before .before .before .pre .1 .0 .0) (c .before .before .before .before .before .before .before .before .before .before .before .before .before .before .before .before .before .before .before .before .pre .1 .0 .1) (c .before .before .before .before .before .before .before .before .before .before .before .before .before .before .before .before .before .before .before .before .pre .1 .1 .0) (omega arith) (c .before .before .before .before .before .before .before .before .before .before .emit-comment .ensures), comment-afforded (c .before .before .before .before .before .before .before .before .before .before .before .before .before .before .before .before .before .before .before .before .pre .1 .0 .0) (c .before .before .before .before .before .before .before .before .before .before .before .before .before .before .before .before .before .before .before .before .pre .1 .0 .1) (c .before .before .before .before .before .before .before .before .before .before .before .before .before .before .before .before .before .before .before .before .pre .1 .1 .0) (omega arith) (c .before .before .before .before .before .before .before .before .before .before .emit-comment .ensures)), ((c .before .before .before .before .before .before .before .before .before .before .before .before .before .before .before .before .before .before .before .before .pre .1 .1 .0), omega (arith, (c .before .before .before .before .before .before .before .before .before .before .before .before .before .kind .ensures), c .before .before .before .if2 .taken)))
 
 convert-statement-same-length-4 : (t : ℕ) → convert-statement-lts.Need-same-length-4 (
@@ -1470,6 +1476,7 @@ convert-statement-returns-2 : (t : ℕ) → convert-statement-lts.Need-returns-2
   convert-for-loop-below t,
   convert-for-loop.Post,
 ) (convert-statement-at t) convert-statement.Post
+unfolding counted
 convert-statement-returns-2 t c = (commented-jump (c .before .before .before .before .before .before .before .before .before .before .before .before .before .before .before .before .before .before .before .before .before .before .before .before .before .pre .1 .0 .0) (c .before .before .before .before .before .before .before .before .before .before .before .before .before .before .before .before .before .before .before .before .before .before .before .before .before .pre .1 .0 .1) (c .before .before .before .before .before .before .before .before .before .before .before .before .before .before .before .before .before .before .before .before .before .before .before .before .before .pre .1 .1 .0) (omega arith) (c .before .before .before .before .before .before .before .before .before .before .before .before .before .before .before .emit-comment .ensures) (c .before .before .before .before .before .before .before .before .before .before .before .before .before .before .before .before .before .before .kind .ensures) (c .before .before .before .before .before .before .before .before .if2 .taken) (c .before .before .before .before .convert-jump .ensures), jump-visited (c .before .before .before .before .before .before .before .before .before .before .before .before .before .before .before .before .before .before .before .before .before .before .before .before .before .pre .1 .0 .0) (c .before .before .before .before .before .before .before .before .before .before .before .before .before .before .before .before .before .before .before .before .before .before .before .before .before .pre .1 .0 .1) (c .before .before .before .before .before .before .before .before .before .before .before .before .before .before .before .before .before .before .before .before .before .before .before .before .before .pre .1 .1 .0) (c .before .before .before .before .before .before .before .before .before .before .before .before .before .before .before .before .before .before .before .before .before .before .before .before .before .pre .1 .1 .1) (c .before .before .before .before .before .before .before .before .before .before .before .before .before .before .before .emit-comment .ensures) (c .before .before .before .before .convert-jump .ensures) (c .before .before .before .before .before .before .before .before .before .before .before .before .before .before .before .before .before .before .kind .ensures) (c .before .before .before .before .before .before .before .before .if2 .taken) refl)
 
 convert-statement-convert-if-requires : (t : ℕ) → convert-statement-lts.Need-convert-if-requires (
@@ -1490,6 +1497,7 @@ convert-statement-convert-if-requires : (t : ℕ) → convert-statement-lts.Need
   convert-for-loop-below t,
   convert-for-loop.Post,
 ) (convert-statement-at t) convert-statement.Post
+unfolding counted
 convert-statement-convert-if-requires t c κs = (omega (arith, c .before .before .before .before .before .before .before .before .before .before .before .before .before .before .before .before .before .before .before .before .before .pre .0), ((comment-converting (c .before .before .before .before .before .before .before .before .before .before .before .before .before .before .before .before .before .before .before .before .before .pre .1 .0 .0) (c .before .before .before .before .before .before .before .before .before .before .before .before .before .before .before .before .before .before .before .before .before .pre .1 .0 .1) (c .before .before .before .before .before .before .before .before .before .before .before .before .before .before .before .before .before .before .before .before .before .pre .1 .1 .0) (omega arith) (c .before .before .before .before .before .before .before .before .before .before .before .emit-comment .ensures), comment-afforded (c .before .before .before .before .before .before .before .before .before .before .before .before .before .before .before .before .before .before .before .before .before .pre .1 .0 .0) (c .before .before .before .before .before .before .before .before .before .before .before .before .before .before .before .before .before .before .before .before .before .pre .1 .0 .1) (c .before .before .before .before .before .before .before .before .before .before .before .before .before .before .before .before .before .before .before .before .before .pre .1 .1 .0) (omega arith) (c .before .before .before .before .before .before .before .before .before .before .before .emit-comment .ensures)), (record { below = (c .before .before .before .before .before .before .before .before .before .before .before .before .before .before .before .before .before .before .before .before .before .pre .1 .1 .0) .below; kind = sym (c .before .before .before .before .before .before .before .before .before .before .before .before .before .before .kind .ensures) ∙ c .before .before .before .if3 .taken }, comment-fresh (c .before .before .before .before .before .before .before .before .before .before .before .before .before .before .before .before .before .before .before .before .before .pre .1 .0 .0) (c .before .before .before .before .before .before .before .before .before .before .before .before .before .before .before .before .before .before .before .before .before .pre .1 .0 .1) (c .before .before .before .before .before .before .before .before .before .before .before .before .before .before .before .before .before .before .before .before .before .pre .1 .1 .0) (c .before .before .before .before .before .before .before .before .before .before .before .before .before .before .before .before .before .before .before .before .before .pre .1 .1 .1) (c .before .before .before .before .before .before .before .before .before .before .before .emit-comment .ensures))))
 
 convert-statement-stated-requires : (t : ℕ) → convert-statement-lts.Need-stated-requires (
@@ -1590,7 +1598,8 @@ convert-statement-returns-3 : (t : ℕ) → convert-statement-lts.Need-returns-3
   convert-for-loop-below t,
   convert-for-loop.Post,
 ) (convert-statement-at t) convert-statement.Post
-convert-statement-returns-3 t c = (commented-if (c .before .before .before .before .before .before .before .before .before .before .before .before .before .before .before .before .before .before .before .before .before .before .before .before .before .before .before .before .before .pre .1 .0 .0) (c .before .before .before .before .before .before .before .before .before .before .before .before .before .before .before .before .before .before .before .before .before .before .before .before .before .before .before .before .before .pre .1 .0 .1) (c .before .before .before .before .before .before .before .before .before .before .before .before .before .before .before .before .before .before .before .before .before .before .before .before .before .before .before .before .before .pre .1 .1 .0) (omega arith) (c .before .before .before .before .before .before .before .before .before .before .before .before .before .before .before .before .before .before .before .emit-comment .ensures) (c .before .before .before .before .before .before .before .before .before .before .before .before .before .before .before .before .before .before .before .before .before .before .kind .ensures) (c .stated .ensures) (c .before .before .before .before .before .before .before .before .before .before .before .if3 .taken) (c .before .before .before .before .before .before .before .convert-if .ensures .0), stated-visited _ _ _ _ (c .stated .ensures) (c .before .before .before .before .before .before .before .convert-if .ensures .1))
+unfolding counted
+convert-statement-returns-3 t c = (commented-if (c .before .before .before .before .before .before .before .before .before .before .before .before .before .before .before .before .before .before .before .before .before .before .before .before .before .before .before .before .before .pre .1 .0 .0) (c .before .before .before .before .before .before .before .before .before .before .before .before .before .before .before .before .before .before .before .before .before .before .before .before .before .before .before .before .before .pre .1 .0 .1) (c .before .before .before .before .before .before .before .before .before .before .before .before .before .before .before .before .before .before .before .before .before .before .before .before .before .before .before .before .before .pre .1 .1 .0) (omega arith) (c .before .before .before .before .before .before .before .before .before .before .before .before .before .before .before .before .before .before .before .emit-comment .ensures) (c .before .before .before .before .before .before .before .before .before .before .before .before .before .before .before .before .before .before .before .before .before .before .kind .ensures) (c .stated .ensures _) (c .before .before .before .before .before .before .before .before .before .before .before .if3 .taken) (c .before .before .before .before .before .before .before .convert-if .ensures .0), stated-visited _ _ _ _ (c .stated .ensures _) (c .before .before .before .before .before .before .before .convert-if .ensures .1))
 
 convert-statement-convert-while-loop-requires : (t : ℕ) → convert-statement-lts.Need-convert-while-loop-requires (
   kind-reads.Asked,
@@ -1610,6 +1619,7 @@ convert-statement-convert-while-loop-requires : (t : ℕ) → convert-statement-
   convert-for-loop-below t,
   convert-for-loop.Post,
 ) (convert-statement-at t) convert-statement.Post
+unfolding counted
 convert-statement-convert-while-loop-requires t c κs = (omega (arith, c .before .before .before .before .before .before .before .before .before .before .before .before .before .before .before .before .before .before .before .before .before .before .pre .0), ((comment-converting (c .before .before .before .before .before .before .before .before .before .before .before .before .before .before .before .before .before .before .before .before .before .before .pre .1 .0 .0) (c .before .before .before .before .before .before .before .before .before .before .before .before .before .before .before .before .before .before .before .before .before .before .pre .1 .0 .1) (c .before .before .before .before .before .before .before .before .before .before .before .before .before .before .before .before .before .before .before .before .before .before .pre .1 .1 .0) (omega arith) (c .before .before .before .before .before .before .before .before .before .before .before .before .emit-comment .ensures), comment-afforded (c .before .before .before .before .before .before .before .before .before .before .before .before .before .before .before .before .before .before .before .before .before .before .pre .1 .0 .0) (c .before .before .before .before .before .before .before .before .before .before .before .before .before .before .before .before .before .before .before .before .before .before .pre .1 .0 .1) (c .before .before .before .before .before .before .before .before .before .before .before .before .before .before .before .before .before .before .before .before .before .before .pre .1 .1 .0) (omega arith) (c .before .before .before .before .before .before .before .before .before .before .before .before .emit-comment .ensures)), (record { below = (c .before .before .before .before .before .before .before .before .before .before .before .before .before .before .before .before .before .before .before .before .before .before .pre .1 .1 .0) .below; kind = sym (c .before .before .before .before .before .before .before .before .before .before .before .before .before .before .before .kind .ensures) ∙ c .before .before .before .if4 .taken }, comment-fresh (c .before .before .before .before .before .before .before .before .before .before .before .before .before .before .before .before .before .before .before .before .before .before .pre .1 .0 .0) (c .before .before .before .before .before .before .before .before .before .before .before .before .before .before .before .before .before .before .before .before .before .before .pre .1 .0 .1) (c .before .before .before .before .before .before .before .before .before .before .before .before .before .before .before .before .before .before .before .before .before .before .pre .1 .1 .0) (c .before .before .before .before .before .before .before .before .before .before .before .before .before .before .before .before .before .before .before .before .before .before .pre .1 .1 .1) (c .before .before .before .before .before .before .before .before .before .before .before .before .emit-comment .ensures))))
 
 convert-statement-stated-requires-2 : (t : ℕ) → convert-statement-lts.Need-stated-requires-2 (
@@ -1710,7 +1720,8 @@ convert-statement-returns-4 : (t : ℕ) → convert-statement-lts.Need-returns-4
   convert-for-loop-below t,
   convert-for-loop.Post,
 ) (convert-statement-at t) convert-statement.Post
-convert-statement-returns-4 t c = (commented-while (c .before .before .before .before .before .before .before .before .before .before .before .before .before .before .before .before .before .before .before .before .before .before .before .before .before .before .before .before .before .before .pre .1 .0 .0) (c .before .before .before .before .before .before .before .before .before .before .before .before .before .before .before .before .before .before .before .before .before .before .before .before .before .before .before .before .before .before .pre .1 .0 .1) (c .before .before .before .before .before .before .before .before .before .before .before .before .before .before .before .before .before .before .before .before .before .before .before .before .before .before .before .before .before .before .pre .1 .1 .0) (omega arith) (c .before .before .before .before .before .before .before .before .before .before .before .before .before .before .before .before .before .before .before .before .emit-comment .ensures) (c .before .before .before .before .before .before .before .before .before .before .before .before .before .before .before .before .before .before .before .before .before .before .before .kind .ensures) (c .stated2 .ensures) (c .before .before .before .before .before .before .before .before .before .before .before .if4 .taken) (c .before .before .before .before .before .before .before .convert-while-loop .ensures .0), stated-visited _ _ _ _ (c .stated2 .ensures) (c .before .before .before .before .before .before .before .convert-while-loop .ensures .1))
+unfolding counted
+convert-statement-returns-4 t c = (commented-while (c .before .before .before .before .before .before .before .before .before .before .before .before .before .before .before .before .before .before .before .before .before .before .before .before .before .before .before .before .before .before .pre .1 .0 .0) (c .before .before .before .before .before .before .before .before .before .before .before .before .before .before .before .before .before .before .before .before .before .before .before .before .before .before .before .before .before .before .pre .1 .0 .1) (c .before .before .before .before .before .before .before .before .before .before .before .before .before .before .before .before .before .before .before .before .before .before .before .before .before .before .before .before .before .before .pre .1 .1 .0) (omega arith) (c .before .before .before .before .before .before .before .before .before .before .before .before .before .before .before .before .before .before .before .before .emit-comment .ensures) (c .before .before .before .before .before .before .before .before .before .before .before .before .before .before .before .before .before .before .before .before .before .before .before .kind .ensures) (c .stated2 .ensures _) (c .before .before .before .before .before .before .before .before .before .before .before .if4 .taken) (c .before .before .before .before .before .before .before .convert-while-loop .ensures .0), stated-visited _ _ _ _ (c .stated2 .ensures _) (c .before .before .before .before .before .before .before .convert-while-loop .ensures .1))
 
 convert-statement-convert-for-loop-requires : (t : ℕ) → convert-statement-lts.Need-convert-for-loop-requires (
   kind-reads.Asked,
@@ -1730,6 +1741,7 @@ convert-statement-convert-for-loop-requires : (t : ℕ) → convert-statement-lt
   convert-for-loop-below t,
   convert-for-loop.Post,
 ) (convert-statement-at t) convert-statement.Post
+unfolding counted
 convert-statement-convert-for-loop-requires t c κs = (omega (arith, c .before .before .before .before .before .before .before .before .before .before .before .before .before .before .before .before .before .before .before .before .before .before .pre .0), ((comment-converting (c .before .before .before .before .before .before .before .before .before .before .before .before .before .before .before .before .before .before .before .before .before .before .pre .1 .0 .0) (c .before .before .before .before .before .before .before .before .before .before .before .before .before .before .before .before .before .before .before .before .before .before .pre .1 .0 .1) (c .before .before .before .before .before .before .before .before .before .before .before .before .before .before .before .before .before .before .before .before .before .before .pre .1 .1 .0) (omega arith) (c .before .before .before .before .before .before .before .before .before .before .before .before .emit-comment .ensures), comment-afforded (c .before .before .before .before .before .before .before .before .before .before .before .before .before .before .before .before .before .before .before .before .before .before .pre .1 .0 .0) (c .before .before .before .before .before .before .before .before .before .before .before .before .before .before .before .before .before .before .before .before .before .before .pre .1 .0 .1) (c .before .before .before .before .before .before .before .before .before .before .before .before .before .before .before .before .before .before .before .before .before .before .pre .1 .1 .0) (omega arith) (c .before .before .before .before .before .before .before .before .before .before .before .before .emit-comment .ensures)), (record { below = (c .before .before .before .before .before .before .before .before .before .before .before .before .before .before .before .before .before .before .before .before .before .before .pre .1 .1 .0) .below; kind = sym (c .before .before .before .before .before .before .before .before .before .before .before .before .before .before .before .kind .ensures) ∙ last-kind (c .before .before .before .before .before .before .if1 .left) (c .before .before .before .before .before .if2 .left) (c .before .before .before .before .if3 .left) (c .before .before .before .if4 .left) }, comment-fresh (c .before .before .before .before .before .before .before .before .before .before .before .before .before .before .before .before .before .before .before .before .before .before .pre .1 .0 .0) (c .before .before .before .before .before .before .before .before .before .before .before .before .before .before .before .before .before .before .before .before .before .before .pre .1 .0 .1) (c .before .before .before .before .before .before .before .before .before .before .before .before .before .before .before .before .before .before .before .before .before .before .pre .1 .1 .0) (c .before .before .before .before .before .before .before .before .before .before .before .before .before .before .before .before .before .before .before .before .before .before .pre .1 .1 .1) (c .before .before .before .before .before .before .before .before .before .before .before .before .emit-comment .ensures))))
 
 convert-statement-stated-requires-3 : (t : ℕ) → convert-statement-lts.Need-stated-requires-3 (
@@ -1830,7 +1842,8 @@ convert-statement-returns-5 : (t : ℕ) → convert-statement-lts.Need-returns-5
   convert-for-loop-below t,
   convert-for-loop.Post,
 ) (convert-statement-at t) convert-statement.Post
-convert-statement-returns-5 t c = (commented-for (c .before .before .before .before .before .before .before .before .before .before .before .before .before .before .before .before .before .before .before .before .before .before .before .before .before .before .before .before .before .before .pre .1 .0 .0) (c .before .before .before .before .before .before .before .before .before .before .before .before .before .before .before .before .before .before .before .before .before .before .before .before .before .before .before .before .before .before .pre .1 .0 .1) (c .before .before .before .before .before .before .before .before .before .before .before .before .before .before .before .before .before .before .before .before .before .before .before .before .before .before .before .before .before .before .pre .1 .1 .0) (omega arith) (c .before .before .before .before .before .before .before .before .before .before .before .before .before .before .before .before .before .before .before .before .emit-comment .ensures) (c .before .before .before .before .before .before .before .before .before .before .before .before .before .before .before .before .before .before .before .before .before .before .before .kind .ensures) (c .stated3 .ensures) (last-kind (c .before .before .before .before .before .before .before .before .before .before .before .before .before .before .if1 .left) (c .before .before .before .before .before .before .before .before .before .before .before .before .before .if2 .left) (c .before .before .before .before .before .before .before .before .before .before .before .before .if3 .left) (c .before .before .before .before .before .before .before .before .before .before .before .if4 .left)) (c .before .before .before .before .before .before .before .convert-for-loop .ensures .0), stated-visited _ _ _ _ (c .stated3 .ensures) (c .before .before .before .before .before .before .before .convert-for-loop .ensures .1))
+unfolding counted
+convert-statement-returns-5 t c = (commented-for (c .before .before .before .before .before .before .before .before .before .before .before .before .before .before .before .before .before .before .before .before .before .before .before .before .before .before .before .before .before .before .pre .1 .0 .0) (c .before .before .before .before .before .before .before .before .before .before .before .before .before .before .before .before .before .before .before .before .before .before .before .before .before .before .before .before .before .before .pre .1 .0 .1) (c .before .before .before .before .before .before .before .before .before .before .before .before .before .before .before .before .before .before .before .before .before .before .before .before .before .before .before .before .before .before .pre .1 .1 .0) (omega arith) (c .before .before .before .before .before .before .before .before .before .before .before .before .before .before .before .before .before .before .before .before .emit-comment .ensures) (c .before .before .before .before .before .before .before .before .before .before .before .before .before .before .before .before .before .before .before .before .before .before .before .kind .ensures) (c .stated3 .ensures _) (last-kind (c .before .before .before .before .before .before .before .before .before .before .before .before .before .before .if1 .left) (c .before .before .before .before .before .before .before .before .before .before .before .before .before .if2 .left) (c .before .before .before .before .before .before .before .before .before .before .before .before .if3 .left) (c .before .before .before .before .before .before .before .before .before .before .before .if4 .left)) (c .before .before .before .before .before .before .before .convert-for-loop .ensures .0), stated-visited _ _ _ _ (c .stated3 .ensures _) (c .before .before .before .before .before .before .before .convert-for-loop .ensures .1))
 
 convert-while-loop-cast-with-loop : (t : ℕ) → convert-while-loop-lts.Need-cast-with-loop (
   with-loop-reads.Asked,
@@ -2316,30 +2329,6 @@ pub +convert-block+convert-for-loop+convert-if+convert-statement+convert-while-l
     (convert-statement-same-length-13 t)
     (convert-statement-same-length-14 t)
     (convert-statement-same-length-15 t)
-    (convert-statement-returns-5 t)
-    (convert-statement-cast-at t)
-    (convert-statement-convert-plain-requires t)
-    (convert-statement-same-length t)
-    (convert-statement-same-length-2 t)
-    (convert-statement-returns t)
-    (convert-statement-convert-jump-requires t)
-    (convert-statement-same-length-3 t)
-    (convert-statement-same-length-4 t)
-    (convert-statement-returns-2 t)
-    (convert-statement-convert-if-requires t)
-    (convert-statement-stated-requires t)
-    (convert-statement-same-length-5 t)
-    (convert-statement-same-length-6 t)
-    (convert-statement-returns-3 t)
-    (convert-statement-convert-while-loop-requires t)
-    (convert-statement-stated-requires-2 t)
-    (convert-statement-same-length-7 t)
-    (convert-statement-same-length-8 t)
-    (convert-statement-returns-4 t)
-    (convert-statement-convert-for-loop-requires t)
-    (convert-statement-stated-requires-3 t)
-    (convert-statement-same-length-9 t)
-    (convert-statement-same-length-10 t)
     (convert-statement-returns-5 t))
     λ t. convert-while-loop-lts.spec (
       with-loop-reads.Asked,
