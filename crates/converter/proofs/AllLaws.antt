@@ -32,8 +32,7 @@ use Rattle.expressions.specs.declared.answers.Outcome.{Outcome}
 use Rattle.expressions.specs.declared.answers.Outcome.the-variants as Outcome
 use Rattle.expressions.specs.Answers.{refusal, outcomeOf}
 use Rattle.expressions.specs.Slots.{visitsAt, Forgets}
-use Rattle.statements.specs.declared.answers.Finished.{Finished}
-use Rattle.statements.specs.declared.answers.Finished.the-variants as Finished
+use Rattle.statements.specs.Lent.{Finished}
 use Rattle.statements.specs.Converting.{Stays}
 use Rattle.statements.specs.Turns.{Turns}
 use Rattle.statements.proofs.StayLaws.{keyed-stays}

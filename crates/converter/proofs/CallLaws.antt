@@ -33,8 +33,7 @@ use Rattle.judge.specs.declared.Judged.{Judged}
 use Rattle.judge.specs.declared.Judged.the-variants as Judged
 use Rattle.judge.proofs.RowLaws.{cleared-length, core-kept, core-cleared, answer-in, outputs-cleared, outputs-kept}
 use Rattle.expressions.specs.Slots.{visitsAt}
-use Rattle.statements.specs.declared.answers.Finished.{Finished}
-use Rattle.statements.specs.declared.answers.Finished.the-variants as Finished
+use Rattle.statements.specs.Lent.{Finished}
 use Rattle.functions.specs.Bodies.{begun}
 use Rattle.demands.specs.Call.{visitsIn, Counted, Refusal, buffersAfter, Calls}
 use Rattle.demands.specs.Demands.{allZero, AsTheRust}

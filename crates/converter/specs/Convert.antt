@@ -23,8 +23,7 @@ use Rattle.ir.specs.Cut as Cut
 use Rattle.keys.specs.Keys.{allKeys}
 use Rattle.judge.specs.Judge.{Buffers, cleared}
 use Rattle.expressions.specs.Slots.{visitsAt}
-use Rattle.statements.specs.declared.answers.Finished.{Finished}
-use Rattle.statements.specs.declared.answers.Finished.the-variants as Finished
+use Rattle.statements.specs.Lent.{Finished}
 use Rattle.functions.specs.Bodies.{begun}
 use Rattle.tables.specs.Bytes.{Byte}
 use Rattle.demands.specs.Call as Call

@@ -6,7 +6,9 @@ ghost use Rattle.records.specs.Layout.{scratchEach};
 ghost use Rattle.records.specs.Words.{records};
 ghost use Rattle.records.specs.Good.{Good};
 ghost use Rattle.ir.specs.Arena.{arenaEach};
+ghost use Rattle.ir.specs.Counted.{counted, was, is};
 ghost use Rattle.keys.specs.Keys.{functionPlaces, Keyed};
+ghost use Rattle.statements.specs.Lent.{finished};
 ghost use Rattle.statements.specs.Turns.{Turns};
 ghost use Rattle.judge.specs.Judge.{buffers};
 ghost use Rattle.demands.specs.Demands.{AsTheRust};
@@ -17,6 +19,9 @@ use functions::functions::AllFunctions;
 use functions::functions::check_main;
 use functions::functions::get_all_functions;
 use ir::cut::cut_tables;
+use ir::lent::COUNTERS;
+use ir::lent::RECORDS;
+use ir::lent::counters_of;
 use ir::structs::Counters;
 use judge::Judged;
 use judge::clear;
@@ -47,24 +52,6 @@ pub enum Answer {
     Refused(ConvertError),
 }
 
-// Empty tables, for a tree of so many records.
-fn empty_tables(records: usize) -> Counters
-    ensures { λ k. ⌜ k ≡ emptyCounters records ⌝ }
-{
-    Counters {
-        records,
-        instructions: 0,
-        variables: 0,
-        labels: 0,
-        functions: 0,
-        strings: 0,
-        floats: 0,
-        instructions_before: 0,
-        variables_before: 0,
-        labels_before: 0,
-    }
-}
-
 fn counts_of(k: Counters, visits: usize) -> Counts
     ensures { λ c. ⌜ c ≡ countsIn k visits ⌝ }
 {
@@ -79,29 +66,29 @@ fn counts_of(k: Counters, visits: usize) -> Counts
     }
 }
 
-// The functions in their order, the first `count` words of scratch; no visit was made yet.
+// The functions in their order, the first `count` words of scratch; nothing is in the tables, and no visit was made yet.
 fn convert_all(
     tree: &[u8],
     text: &[u8],
     arena: &mut [u8],
     scratch: &mut [u8],
+    k: &mut [usize],
     count: usize,
 ) -> Finished
     requires { ⌜ Keyed (now tree) (now text) (now scratch) × (count ≡ length (functionPlaces (now tree))) × (arenaEach * records (now tree) ≤ length (now arena)) ⌝ }
-    requires { ⌜ Turns (now tree) (now scratch) (emptyCounters (records (now tree))) ⌝ }
-    ensures { λ a. ⌜ AllConvertTo (now (tree .entry)) (now (text .entry)) (now (arena .entry)) (now (scratch .entry)) a (now (arena .exit)) (now (scratch .exit)) ⌝ }
+    requires { ⌜ Turns (now tree) (now scratch) (emptyCounters (records (now tree))) × (counted (now k) ≡ emptyCounters (records (now tree))) ⌝ }
+    ensures { λ a. ⌜ AllConvertTo (was tree) (was text) (was arena) (was scratch) (finished (is k) a) (is arena) (is scratch) ⌝ }
 {
-    let mut k = empty_tables(tree.len() / RECORD_BYTES);
     let mut j = 0;
     while j < count {
         let f = function_at(tree, scratch, j);
         match convert_func(tree, text, arena, scratch, k, f) {
             Finished::Refused(e) => return Finished::Refused(e),
-            Finished::Done(next) => k = next,
+            Finished::Done => {}
         }
         j += 1;
     }
-    Finished::Done(k)
+    Finished::Done
 }
 
 // A good tree, whose tables stand in the arena afterwards. Its texts are numbered first, so that names are told apart without them. What scratch holds of
@@ -112,9 +99,11 @@ fn convert_program(
     needs_main: bool,
     arena: &mut [u8],
     scratch: &mut [u8],
+    k: &mut [usize],
 ) -> Finished
     requires { ⌜ Good (now tree) (now text) × (arenaEach * records (now tree) ≤ length (now arena)) × (scratchEach * records (now tree) ≤ length (now scratch)) × (0 < records (now tree)) ⌝ }
-    ensures { λ a. ⌜ ProgramConvertsTo (now (tree .entry)) (now (text .entry)) «needs_main» (now (arena .entry)) (now (scratch .entry)) a (now (arena .exit)) (now (scratch .exit)) ⌝ }
+    requires { ⌜ counted (now k) ≡ emptyCounters (records (now tree)) ⌝ }
+    ensures { λ a. ⌜ ProgramConvertsTo (was tree) (was text) «needs_main» (was arena) (was scratch) (finished (is k) a) (is arena) (is scratch) ⌝ }
 {
     number_texts(tree, text, scratch);
     match get_all_functions(tree, text, scratch) {
@@ -125,7 +114,7 @@ fn convert_program(
                 Outcome::Done => {
                     chain_functions(tree, text, scratch);
                     expressions::turns::forget(tree, scratch);
-                    convert_all(tree, text, arena, scratch, count)
+                    convert_all(tree, text, arena, scratch, k, count)
                 }
             }
         }
@@ -135,6 +124,7 @@ fn convert_program(
 // What is left in the outputs: each table in its own, or zero everywhere.
 fn finish(
     done: Finished,
+    k: &[usize],
     visits: usize,
     instructions: &mut [u8],
     variables: &mut [u8],
@@ -143,30 +133,31 @@ fn finish(
     strings: &mut [u8],
     floats: &mut [u8],
 ) -> Answer
-    requires { ⌜ CutAfforded done (outputs (now instructions) (now variables) (now labels) (now functions) (now strings) (now floats)) ⌝ }
-    ensures { λ a. ⌜ FinishesIn done visits a (outputs (now (instructions .entry)) (now (variables .entry)) (now (labels .entry)) (now (functions .entry)) (now (strings .entry)) (now (floats .entry))) (outputs (now (instructions .exit)) (now (variables .exit)) (now (labels .exit)) (now (functions .exit)) (now (strings .exit)) (now (floats .exit))) ⌝ }
+    requires { ⌜ CutAfforded (finished (now k) done) (outputs (now instructions) (now variables) (now labels) (now functions) (now strings) (now floats)) ⌝ }
+    ensures { λ a. ⌜ FinishesIn (finished (was k) done) visits a (outputs (was instructions) (was variables) (was labels) (was functions) (was strings) (was floats)) (outputs (is instructions) (is variables) (is labels) (is functions) (is strings) (is floats)) ⌝ }
 {
     match done {
         Finished::Refused(e) => {
             clear_outputs(instructions, variables, labels, functions, strings, floats);
             Answer::Refused(e)
         }
-        Finished::Done(k) => {
+        Finished::Done => {
+            let c = counters_of(k);
             cut_tables(
                 instructions,
-                k,
+                c,
                 variables,
                 labels,
                 functions,
                 strings,
                 floats,
             );
-            Answer::Converted(counts_of(k, visits))
+            Answer::Converted(counts_of(c, visits))
         }
     }
 }
 
-// A good tree: its tables are cut out of the arena, which is the instructions' buffer, and scratch is left zero once its visits are read.
+// A good tree, whose tables are empty at first: they are cut out of the arena, which is the instructions' buffer, and scratch is left zero once its visits are read.
 fn convert_good(
     tree: &[u8],
     text: &[u8],
@@ -183,11 +174,14 @@ fn convert_good(
     requires { ⌜ SevenLong (records (now tree)) (buffers (now instructions) (now variables) (now labels) (now functions) (now strings) (now floats) (now scratch)) ⌝ }
     ensures { λ a. ⌜ AsTheRust (now (tree .entry)) (now (text .entry)) «needs_main» (buffers (now (instructions .entry)) (now (variables .entry)) (now (labels .entry)) (now (functions .entry)) (now (strings .entry)) (now (floats .entry)) (now (scratch .entry))) (answerFrom (now (tree .entry)) a) (buffers (now (instructions .exit)) (now (variables .exit)) (now (labels .exit)) (now (functions .exit)) (now (strings .exit)) (now (floats .exit)) (now (scratch .exit))) ⌝ }
 {
-    let done = convert_program(tree, text, needs_main, instructions, scratch);
+    let mut k = [0; COUNTERS];
+    k[RECORDS] = tree.len() / RECORD_BYTES;
+    let done = convert_program(tree, text, needs_main, instructions, scratch, &mut k);
     let visits = expressions::turns::visits(tree, scratch);
     clear(scratch);
     finish(
         done,
+        &k,
         visits,
         instructions,
         variables,

@@ -41,9 +41,7 @@ use Rattle.scope.specs.Open.{variablesAt, scopeAt}
 use Rattle.keys.specs.Keys.{allKeys, Keyed}
 use Rattle.expressions.specs.Slots.{Ready}
 use Rattle.expressions.specs.Answers.{refusal}
-use Rattle.statements.specs.declared.answers.Converter.{Converter}
-use Rattle.statements.specs.declared.answers.Finished.{Finished}
-use Rattle.statements.specs.declared.answers.Finished.the-variants as Finished
+use Rattle.statements.specs.Lent.{Converter, Finished}
 use Rattle.statements.specs.Converting.{Converting, RoomFor, blockAmount, BlockAfforded, Stays, StaysFor}
 use Rattle.statements.specs.Meets.{Adds}
 use Rattle.statements.specs.Turns.{Turns, Visited, TurnsStay, BlockVisited}

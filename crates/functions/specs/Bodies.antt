@@ -27,9 +27,7 @@ use Rattle.ir.specs.Steps.{grown, closed, StopsIn}
 use Rattle.scope.specs.Open.{scopeAt}
 use Rattle.keys.specs.Keys.{allKeys}
 use Rattle.expressions.specs.Slots.{visitsAt}
-use Rattle.statements.specs.declared.answers.Finished.{Finished}
-use Rattle.statements.specs.declared.answers.Finished.the-variants as Finished
-use Rattle.statements.specs.declared.answers.Converter.{Converter}
+use Rattle.statements.specs.Lent.{Converter, Finished}
 use Rattle.statements.specs.Converting.{blockAmount, Stays, StaysFor}
 use Rattle.statements.specs.Meets.{Adds}
 use Rattle.statements.specs.Turns.{Visited}

@@ -9,6 +9,7 @@ pub mod FloatLaws
 pub mod FloatRead
 pub mod FunctionDone
 pub mod Kept
+pub mod LentLaws
 pub mod LinkLaws
 pub mod LinkWrites
 pub mod Operators

@@ -1,5 +1,6 @@
 pub mod Amounts
 pub mod Arena
+pub mod Counted
 pub mod Cut
 pub mod Floats
 pub mod Instructions

@@ -3,6 +3,7 @@ pub mod arena;
 pub mod counter;
 pub mod cut;
 pub mod floats;
+pub mod lent;
 pub mod pool;
 pub mod search;
 pub mod structs;

@@ -1,5 +1,5 @@
 // ir/structs.rs: operands, instructions, and the numbering of a function's variables and labels. The tables stand as regions of one
-// lent buffer, the arena; how many entries each has goes in and comes back by value.
+// lent buffer, the arena; how many entries each has is lent as words, or goes in and comes back by value.
 ghost use mathlib.Core.Path.{_≡_};
 ghost use Prim.Native.Nat.{_+_, _*_, _≤_, _<_};
 ghost use mathlib.Core.Option.{none, some};
@@ -10,11 +10,13 @@ ghost use Rattle.conversion.specs.Ir as Ir;
 ghost use Rattle.conversion.specs.Written.{tag, operandValue, encodeInstr, instructionBytes};
 ghost use Rattle.ir.specs.Instructions.{varOf, operandOf, fieldBytes, oneBytes, noneBytes, twoBytes};
 ghost use Rattle.ir.specs.Arena.{HasSlot, Room};
+ghost use Rattle.ir.specs.Counted.{counted, was, is};
 ghost use Rattle.ir.specs.Steps.{named, Emits, AddsVar, NumbersLabel, Closes};
 use crate::arena::FUNCTION_BYTES;
 use crate::arena::FUNCTIONS;
 use crate::arena::INSTRUCTION_BYTES;
 use crate::counter;
+use crate::lent::INSTRUCTIONS;
 use records::numbers::BINARY_OPS;
 use records::numbers::NEG;
 use records::numbers::OR;
@@ -252,7 +254,7 @@ fn with_two(operator: u8, target: u32, o: Operand, p: Operand) -> Fields
 // The bytes of an instruction.
 fn put_fields(arena: &mut [u8], at: usize, f: Fields)
     requires { ⌜ at + instructionBytes ≤ length (now arena) ⌝ }
-    ensures { λ _. ⌜ now (arena .exit) ≡ splice (now (arena .entry)) at (fieldBytes f) ⌝ }
+    ensures { λ _. ⌜ is arena ≡ splice (was arena) at (fieldBytes f) ⌝ }
 {
     let one = f.first;
     let two = f.second;
@@ -268,124 +270,122 @@ fn put_fields(arena: &mut [u8], at: usize, f: Fields)
 }
 
 // `instrs.push` of the instruction that is written so.
-fn push(arena: &mut [u8], k: Counters, f: Fields) -> Counters
-    requires { ⌜ Room k (now arena) × (k .instructions < 4 * k .records) ⌝ }
-    ensures { λ r. ⌜ ((i : Ir.Instr) → fieldBytes f ≡ encodeInstr i → Emits i k (now (arena .entry)) r (now (arena .exit))) ⌝ }
+fn push(arena: &mut [u8], k: &mut [usize], f: Fields)
+    requires { ⌜ Room (counted (now k)) (now arena) × (counted (now k) .instructions < 4 * counted (now k) .records) ⌝ }
+    ensures { λ _. ⌜ ((i : Ir.Instr) → fieldBytes f ≡ encodeInstr i → Emits i (counted (was k)) (was arena) (counted (is k)) (is arena)) ⌝ }
 {
-    let n = k.instructions;
-    let mut next = k;
-    next.instructions = n + 1;
+    let n = k[INSTRUCTIONS];
+    k[INSTRUCTIONS] = n + 1;
     put_fields(arena, INSTRUCTION_BYTES * n, f);
-    next
 }
 
 // `instrs.push(Instr::..)`, a function for each kind: where one is called its kind is known, so that no `Instr` is made and taken apart again.
-pub fn emit_copy(arena: &mut [u8], k: Counters, dest: VarId, src: Operand) -> Counters
-    requires { ⌜ Room k (now arena) × (k .instructions < 4 * k .records) ⌝ }
-    ensures { λ r. ⌜ Emits (Ir.Copy (varOf dest) (operandOf src)) k (now (arena .entry)) r (now (arena .exit)) ⌝ }
+pub fn emit_copy(arena: &mut [u8], k: &mut [usize], dest: VarId, src: Operand)
+    requires { ⌜ Room (counted (now k)) (now arena) × (counted (now k) .instructions < 4 * counted (now k) .records) ⌝ }
+    ensures { λ _. ⌜ Emits (Ir.Copy (varOf dest) (operandOf src)) (counted (was k)) (was arena) (counted (is k)) (is arena) ⌝ }
 {
-    push(arena, k, with_one(COPY, NO_OPERATOR, dest.0, src))
+    push(arena, k, with_one(COPY, NO_OPERATOR, dest.0, src));
 }
 
 // An operator is its number.
-pub fn emit_unary(arena: &mut [u8], k: Counters, dest: VarId, op: u8, src: Operand) -> Counters
-    requires { ⌜ Room k (now arena) × (k .instructions < 4 * k .records) ⌝ }
-    ensures { λ r. ⌜ Emits (Ir.Unary (varOf dest) (getD unaryOps op Neg) (operandOf src)) k (now (arena .entry)) r (now (arena .exit)) ⌝ }
+pub fn emit_unary(arena: &mut [u8], k: &mut [usize], dest: VarId, op: u8, src: Operand)
+    requires { ⌜ Room (counted (now k)) (now arena) × (counted (now k) .instructions < 4 * counted (now k) .records) ⌝ }
+    ensures { λ _. ⌜ Emits (Ir.Unary (varOf dest) (getD unaryOps op Neg) (operandOf src)) (counted (was k)) (was arena) (counted (is k)) (is arena) ⌝ }
 {
-    push(arena, k, with_one(UNARY, unary_number(op), dest.0, src))
+    push(arena, k, with_one(UNARY, unary_number(op), dest.0, src));
 }
 
 pub fn emit_binary(
     arena: &mut [u8],
-    k: Counters,
+    k: &mut [usize],
     dest: VarId,
     op: u8,
     left: Operand,
     right: Operand,
-) -> Counters
-    requires { ⌜ Room k (now arena) × (k .instructions < 4 * k .records) ⌝ }
-    ensures { λ r. ⌜ Emits (Ir.Binary (varOf dest) (getD binaryOps op Or) (operandOf left) (operandOf right)) k (now (arena .entry)) r (now (arena .exit)) ⌝ }
+)
+    requires { ⌜ Room (counted (now k)) (now arena) × (counted (now k) .instructions < 4 * counted (now k) .records) ⌝ }
+    ensures { λ _. ⌜ Emits (Ir.Binary (varOf dest) (getD binaryOps op Or) (operandOf left) (operandOf right)) (counted (was k)) (was arena) (counted (is k)) (is arena) ⌝ }
 {
-    push(arena, k, with_two(binary_number(op), dest.0, left, right))
+    push(arena, k, with_two(binary_number(op), dest.0, left, right));
 }
 
-pub fn emit_cast(arena: &mut [u8], k: Counters, dest: VarId, src: Operand) -> Counters
-    requires { ⌜ Room k (now arena) × (k .instructions < 4 * k .records) ⌝ }
-    ensures { λ r. ⌜ Emits (Ir.Cast (varOf dest) (operandOf src)) k (now (arena .entry)) r (now (arena .exit)) ⌝ }
+pub fn emit_cast(arena: &mut [u8], k: &mut [usize], dest: VarId, src: Operand)
+    requires { ⌜ Room (counted (now k)) (now arena) × (counted (now k) .instructions < 4 * counted (now k) .records) ⌝ }
+    ensures { λ _. ⌜ Emits (Ir.Cast (varOf dest) (operandOf src)) (counted (was k)) (was arena) (counted (is k)) (is arena) ⌝ }
 {
-    push(arena, k, with_one(CAST, NO_OPERATOR, dest.0, src))
+    push(arena, k, with_one(CAST, NO_OPERATOR, dest.0, src));
 }
 
-pub fn emit_zero(arena: &mut [u8], k: Counters, dest: VarId) -> Counters
-    requires { ⌜ Room k (now arena) × (k .instructions < 4 * k .records) ⌝ }
-    ensures { λ r. ⌜ Emits (Ir.Zero (varOf dest)) k (now (arena .entry)) r (now (arena .exit)) ⌝ }
+pub fn emit_zero(arena: &mut [u8], k: &mut [usize], dest: VarId)
+    requires { ⌜ Room (counted (now k)) (now arena) × (counted (now k) .instructions < 4 * counted (now k) .records) ⌝ }
+    ensures { λ _. ⌜ Emits (Ir.Zero (varOf dest)) (counted (was k)) (was arena) (counted (is k)) (is arena) ⌝ }
 {
-    push(arena, k, with_none(ZERO, dest.0, 0))
+    push(arena, k, with_none(ZERO, dest.0, 0));
 }
 
-pub fn emit_arg(arena: &mut [u8], k: Counters, arg: Operand) -> Counters
-    requires { ⌜ Room k (now arena) × (k .instructions < 4 * k .records) ⌝ }
-    ensures { λ r. ⌜ Emits (Ir.Arg (operandOf arg)) k (now (arena .entry)) r (now (arena .exit)) ⌝ }
+pub fn emit_arg(arena: &mut [u8], k: &mut [usize], arg: Operand)
+    requires { ⌜ Room (counted (now k)) (now arena) × (counted (now k) .instructions < 4 * counted (now k) .records) ⌝ }
+    ensures { λ _. ⌜ Emits (Ir.Arg (operandOf arg)) (counted (was k)) (was arena) (counted (is k)) (is arena) ⌝ }
 {
-    push(arena, k, with_one(ARG, NO_OPERATOR, 0, arg))
+    push(arena, k, with_one(ARG, NO_OPERATOR, 0, arg));
 }
 
 // A call names its function's record.
-pub fn emit_call(arena: &mut [u8], k: Counters, dest: VarId, func: u32) -> Counters
-    requires { ⌜ Room k (now arena) × (k .instructions < 4 * k .records) ⌝ }
-    ensures { λ r. ⌜ Emits (Ir.Call (some (varOf dest)) func) k (now (arena .entry)) r (now (arena .exit)) ⌝ }
+pub fn emit_call(arena: &mut [u8], k: &mut [usize], dest: VarId, func: u32)
+    requires { ⌜ Room (counted (now k)) (now arena) × (counted (now k) .instructions < 4 * counted (now k) .records) ⌝ }
+    ensures { λ _. ⌜ Emits (Ir.Call (some (varOf dest)) func) (counted (was k)) (was arena) (counted (is k)) (is arena) ⌝ }
 {
-    push(arena, k, with_none(CALL, dest.0, func))
+    push(arena, k, with_none(CALL, dest.0, func));
 }
 
 // A call whose value nothing takes.
-pub fn emit_call_only(arena: &mut [u8], k: Counters, func: u32) -> Counters
-    requires { ⌜ Room k (now arena) × (k .instructions < 4 * k .records) ⌝ }
-    ensures { λ r. ⌜ Emits (Ir.Call none func) k (now (arena .entry)) r (now (arena .exit)) ⌝ }
+pub fn emit_call_only(arena: &mut [u8], k: &mut [usize], func: u32)
+    requires { ⌜ Room (counted (now k)) (now arena) × (counted (now k) .instructions < 4 * counted (now k) .records) ⌝ }
+    ensures { λ _. ⌜ Emits (Ir.Call none func) (counted (was k)) (was arena) (counted (is k)) (is arena) ⌝ }
 {
-    push(arena, k, with_none(CALL, NONE, func))
+    push(arena, k, with_none(CALL, NONE, func));
 }
 
-pub fn emit_label(arena: &mut [u8], k: Counters, here: Label) -> Counters
-    requires { ⌜ Room k (now arena) × (k .instructions < 4 * k .records) ⌝ }
-    ensures { λ r. ⌜ Emits (Ir.Label (here .0)) k (now (arena .entry)) r (now (arena .exit)) ⌝ }
+pub fn emit_label(arena: &mut [u8], k: &mut [usize], here: Label)
+    requires { ⌜ Room (counted (now k)) (now arena) × (counted (now k) .instructions < 4 * counted (now k) .records) ⌝ }
+    ensures { λ _. ⌜ Emits (Ir.Label (here .0)) (counted (was k)) (was arena) (counted (is k)) (is arena) ⌝ }
 {
-    push(arena, k, with_none(LABEL, here.0, 0))
+    push(arena, k, with_none(LABEL, here.0, 0));
 }
 
-pub fn emit_jump(arena: &mut [u8], k: Counters, target: Label) -> Counters
-    requires { ⌜ Room k (now arena) × (k .instructions < 4 * k .records) ⌝ }
-    ensures { λ r. ⌜ Emits (Ir.Jump (target .0)) k (now (arena .entry)) r (now (arena .exit)) ⌝ }
+pub fn emit_jump(arena: &mut [u8], k: &mut [usize], target: Label)
+    requires { ⌜ Room (counted (now k)) (now arena) × (counted (now k) .instructions < 4 * counted (now k) .records) ⌝ }
+    ensures { λ _. ⌜ Emits (Ir.Jump (target .0)) (counted (was k)) (was arena) (counted (is k)) (is arena) ⌝ }
 {
-    push(arena, k, with_none(JUMP, target.0, 0))
+    push(arena, k, with_none(JUMP, target.0, 0));
 }
 
-pub fn emit_jump_if_not(arena: &mut [u8], k: Counters, cond: Operand, target: Label) -> Counters
-    requires { ⌜ Room k (now arena) × (k .instructions < 4 * k .records) ⌝ }
-    ensures { λ r. ⌜ Emits (Ir.JumpIfNot (operandOf cond) (target .0)) k (now (arena .entry)) r (now (arena .exit)) ⌝ }
+pub fn emit_jump_if_not(arena: &mut [u8], k: &mut [usize], cond: Operand, target: Label)
+    requires { ⌜ Room (counted (now k)) (now arena) × (counted (now k) .instructions < 4 * counted (now k) .records) ⌝ }
+    ensures { λ _. ⌜ Emits (Ir.JumpIfNot (operandOf cond) (target .0)) (counted (was k)) (was arena) (counted (is k)) (is arena) ⌝ }
 {
-    push(arena, k, with_one(JUMP_IF_NOT, NO_OPERATOR, target.0, cond))
+    push(arena, k, with_one(JUMP_IF_NOT, NO_OPERATOR, target.0, cond));
 }
 
-pub fn emit_return(arena: &mut [u8], k: Counters, value: Operand) -> Counters
-    requires { ⌜ Room k (now arena) × (k .instructions < 4 * k .records) ⌝ }
-    ensures { λ r. ⌜ Emits (Ir.Return (operandOf value)) k (now (arena .entry)) r (now (arena .exit)) ⌝ }
+pub fn emit_return(arena: &mut [u8], k: &mut [usize], value: Operand)
+    requires { ⌜ Room (counted (now k)) (now arena) × (counted (now k) .instructions < 4 * counted (now k) .records) ⌝ }
+    ensures { λ _. ⌜ Emits (Ir.Return (operandOf value)) (counted (was k)) (was arena) (counted (is k)) (is arena) ⌝ }
 {
-    push(arena, k, with_one(RETURN, NO_OPERATOR, 0, value))
+    push(arena, k, with_one(RETURN, NO_OPERATOR, 0, value));
 }
 
 // A comment names its statement's record.
-pub fn emit_comment(arena: &mut [u8], k: Counters, statement: u32) -> Counters
-    requires { ⌜ Room k (now arena) × (k .instructions < 4 * k .records) ⌝ }
-    ensures { λ r. ⌜ Emits (Ir.Comment statement) k (now (arena .entry)) r (now (arena .exit)) ⌝ }
+pub fn emit_comment(arena: &mut [u8], k: &mut [usize], statement: u32)
+    requires { ⌜ Room (counted (now k)) (now arena) × (counted (now k) .instructions < 4 * counted (now k) .records) ⌝ }
+    ensures { λ _. ⌜ Emits (Ir.Comment statement) (counted (was k)) (was arena) (counted (is k)) (is arena) ⌝ }
 {
-    push(arena, k, with_none(COMMENT, 0, statement))
+    push(arena, k, with_none(COMMENT, 0, statement));
 }
 
 // A new variable of this type: its number is its index among its function's variables.
 pub fn new_var(arena: &mut [u8], k: Counters, ty: u32) -> NewVariable
     requires { ⌜ Room k (now arena) × (k .variables < 3 * k .records) ⌝ }
-    ensures { λ r. ⌜ AddsVar ty k (now (arena .entry)) r (now (arena .exit)) ⌝ }
+    ensures { λ r. ⌜ AddsVar ty k (was arena) r (is arena) ⌝ }
 {
     let mut f = k;
     let var = counter::new_var(arena, &mut f, ty);
@@ -395,7 +395,7 @@ pub fn new_var(arena: &mut [u8], k: Counters, ty: u32) -> NewVariable
 // The label of this kind that this record opens: its number is its index among its function's labels, added the first time it is asked.
 pub fn label_id(arena: &mut [u8], k: Counters, kind: u32, opener: u32) -> LabelNumber
     requires { ⌜ Room k (now arena) × (k .labels < 3 * k .records) × HasSlot (k .records) (named kind opener) ⌝ }
-    ensures { λ r. ⌜ NumbersLabel kind opener k (now (arena .entry)) r (now (arena .exit)) ⌝ }
+    ensures { λ r. ⌜ NumbersLabel kind opener k (was arena) r (is arena) ⌝ }
 {
     let mut f = k;
     let label = counter::label_id(arena, &mut f, kind, opener);
@@ -405,7 +405,7 @@ pub fn label_id(arena: &mut [u8], k: Counters, kind: u32, opener: u32) -> LabelN
 // The function at hand is done: its entry, and the next one begins.
 pub fn add_function(arena: &mut [u8], k: Counters, owner: u32, body: bool) -> Counters
     requires { ⌜ Room k (now arena) × (k .functions < k .records) ⌝ }
-    ensures { λ r. ⌜ Closes owner body k (now (arena .entry)) r (now (arena .exit)) ⌝ }
+    ensures { λ r. ⌜ Closes owner body k (was arena) r (is arena) ⌝ }
 {
     let n = k.functions;
     let at = FUNCTIONS * k.records + FUNCTION_BYTES * n;

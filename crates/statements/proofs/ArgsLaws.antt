@@ -51,11 +51,7 @@ use Rattle.expressions.proofs.SlotLaws.{scope-frame}
 use Rattle.expressions.proofs.TurnLaws.{typed-none, typed-both}
 use Rattle.expressions.proofs.ArgumentTurns.{ValueCell, TypeCell}
 use Rattle.expressions.proofs.TypingLaws.{call-list, call-low}
-use Rattle.statements.specs.declared.answers.Converter.{Converter}
-use Rattle.statements.specs.declared.answers.Converted.{Converted}
-use Rattle.statements.specs.declared.answers.Converted.the-variants as Converted
-use Rattle.statements.specs.declared.answers.ConvertedArgs.{ConvertedArgs}
-use Rattle.statements.specs.declared.answers.ConvertedArgs.the-variants as ConvertedArgs
+use Rattle.statements.specs.Lent.{Converter, Converted, ConvertedArgs}
 use Rattle.statements.specs.Stack.{stackEntryAt, operandBytes, operandAt, stackAt}
 use Rattle.statements.specs.Converting.{Converting, withCounters, Afforded, ExprAfforded, ArgsAfforded, exprAmount, argsAmount, OperandIn, StackIn, Stays, StaysFor, NamesStay}
 use Rattle.statements.specs.Meets.{AddsIn}

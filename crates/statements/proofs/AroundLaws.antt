@@ -45,10 +45,7 @@ use Rattle.expressions.specs.declared.answers.Resolved.{Resolved}
 use Rattle.expressions.specs.declared.answers.Resolved.the-variants as Resolved
 use Rattle.expressions.specs.Answers.{refusal, typeResult, commonResult, calleeOf, IsTyped, IsCommon, IsCallee, CommonMeets}
 use Rattle.expressions.proofs.TypingLaws.{left-expr, right-expr}
-use Rattle.statements.specs.declared.answers.Converter.{Converter}
-use Rattle.statements.specs.declared.answers.Converted.{Converted}
-use Rattle.statements.specs.declared.answers.Converted.the-variants as Converted
-use Rattle.statements.specs.declared.answers.Fitted.{Fitted}
+use Rattle.statements.specs.Lent.{Converter, Converted, Fitted}
 use Rattle.statements.specs.Stack.{operandAt, stackAt}
 use Rattle.statements.specs.Converting.{withCounters, OperandIn, StaysFor, NamesStay}
 use Rattle.statements.specs.Meets.{Adds}

@@ -35,11 +35,7 @@ use Rattle.scope.specs.declared.Scope.{Scope}
 use Rattle.scope.specs.Open.{scopeAt, within}
 use Rattle.scope.proofs.ScopeLaws.{scope-loop}
 use Rattle.keys.specs.Keys.{allKeys}
-use Rattle.statements.specs.declared.answers.Converter.{Converter}
-use Rattle.statements.specs.declared.answers.Stated.{Stated}
-use Rattle.statements.specs.declared.answers.Stated.the-variants as Stated
-use Rattle.statements.specs.declared.answers.Finished.{Finished}
-use Rattle.statements.specs.declared.answers.Finished.the-variants as Finished
+use Rattle.statements.specs.Lent.{Converter, Stated, Finished}
 use Rattle.statements.specs.Meets.{StepAnswer, gave, refused, Adds, AddsIn, Meets}
 use Rattle.statements.specs.Converting.{Converting, BehindAfforded, StatementAfforded, behindAmount, blockAmount}
 use Rattle.statements.specs.Parts.{loopBack}

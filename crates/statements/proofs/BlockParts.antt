@@ -33,11 +33,9 @@ use Rattle.ir.proofs.StepLaws.{next-in, stop-first}
 use Rattle.scope.specs.declared.Scope.{Scope}
 use Rattle.scope.specs.Open.{scopeAt, within}
 use Rattle.keys.specs.Keys.{allKeys}
-use Rattle.statements.specs.declared.answers.Converter.{Converter}
-use Rattle.statements.specs.declared.answers.Stated.{Stated}
-use Rattle.statements.specs.declared.answers.Stated.the-variants as Stated
-use Rattle.statements.specs.declared.answers.Finished.{Finished}
-use Rattle.statements.specs.declared.answers.Finished.the-variants as Finished
+use Rattle.statements.specs.Lent.{Converter, Stated, Finished, finished}
+use Rattle.statements.specs.declared.answers.Finished as Code
+use Rattle.statements.specs.declared.answers.Finished.the-variants as Answer
 use Rattle.statements.proofs.answers.Finished.{the-type}
 use Rattle.statements.specs.Meets.{StepAnswer, gave, Adds, AddsIn, Meets}
 use Rattle.statements.specs.Converting.{Converting, withCounters, RoomFor, BehindAfforded, BlockAfforded, StaysFor, blockAmount, headAmount, forHeadAmount, LoopIn}
@@ -250,9 +248,9 @@ record Refusal (a : Finished) : Type 0 where
   pub error : ConvertError
   pub is : a ≡ Finished.Refused error
 
-refusal-of : (a : Finished) → tagOf the-type a ≡ 1 → Refusal a
-refusal-of (Finished.Done k) e = absurd (omega arith)
-refusal-of (Finished.Refused z) e = record { error = z; is = refl }
+refusal-of : (k : List ℕ) (a : Code.Finished) → tagOf the-type a ≡ 1 → Refusal (finished k a)
+refusal-of k Answer.Done e = absurd (omega arith)
+refusal-of k (Answer.Refused z) e = record { error = z; is = refl }
 
 module _ (P : Program) (F : Functions) (r : ℕ) (e : Expr) (sc : Def.Scope) (then other : M Def.Scope) where
   abbrev ifRest : Bool → M Def.Scope
@@ -308,11 +306,11 @@ module _ {tree text l s : List ℕ} {c : Converter} {r : ℕ} (p : Converting tr
       (opened-low tree text if-good r (x .below) v (wordOf tree r C) e at, opened-at tree text if-good r (x .below) v (wordOf tree r C) e at)
 
   module _ {a : Finished} {l₁ s₁ : List ℕ} (h : HeadAs ifHeadSteps c r tree text l s a l₁ s₁) where
-    pub if-stop : tagOf the-type a ≡ 1 → FinishesAs ifSteps c r tree text l s a l₁ s₁
-    if-stop t =
-        let z = refusal-of a t in
-        subst (λ (y : Finished). FinishesAs ifSteps c r tree text l s y l₁ s₁) (sym (z .is))
-        (record { meets = meets-same text if-rows (seq-not text (then >> last otherwise) (h .meets .long) (finished-stop h (z .is))); stays = h .stays })
+    pub if-stop : (w : List ℕ) (d : Code.Finished) → a ≡ finished w d → tagOf the-type d ≡ 1 → FinishesAs ifSteps c r tree text l s a l₁ s₁
+    if-stop w d q t =
+        let z = refusal-of w d t in
+        subst (λ (y : Finished). FinishesAs ifSteps c r tree text l s y l₁ s₁) (sym (q ∙ z .is))
+        (record { meets = meets-same text if-rows (seq-not text (then >> last otherwise) (h .meets .long) (finished-stop h (q ∙ z .is))); stays = h .stays })
 
     module _ {k : Counters} {v : ℕ} (q : a ≡ Finished.Done k) (ev : v ≡ wordOf tree r B) where
       pub then-afforded : BlockAfforded tree text (withCounters c k) v

@@ -26,11 +26,7 @@ use Rattle.ir.proofs.StepLaws.{next-in, then-in, seq-in, pure-next, stop-first,
 use Rattle.scope.specs.declared.Scope.{Scope}
 use Rattle.scope.specs.Open.{scopeAt}
 use Rattle.keys.specs.Keys.{allKeys}
-use Rattle.statements.specs.declared.answers.Converter.{Converter}
-use Rattle.statements.specs.declared.answers.Stated.{Stated}
-use Rattle.statements.specs.declared.answers.Stated.the-variants as Stated
-use Rattle.statements.specs.declared.answers.Finished.{Finished}
-use Rattle.statements.specs.declared.answers.Finished.the-variants as Finished
+use Rattle.statements.specs.Lent.{Converter, Stated, Finished}
 use Rattle.statements.specs.Meets.{AddsIn}
 use Rattle.statements.specs.Converting.{Converting, BlockAfforded, StatementAfforded, StaysFor, blockAmount, statementAmount, LoopIn}
 use Rattle.statements.specs.Answers.{statedOf, scopeIn, blockSteps, statementSteps, StatementAs, BlockAs}

@@ -20,11 +20,9 @@ use Rattle.ir.specs.Amounts.{Amount}
 use Rattle.ir.specs.Steps.{Emits}
 use Rattle.scope.specs.declared.Scope.{Scope}
 use Rattle.scope.specs.Open.{scopeAt}
-use Rattle.statements.specs.declared.answers.Converter.{Converter}
-use Rattle.statements.specs.declared.answers.Stated.{Stated}
-use Rattle.statements.specs.declared.answers.Stated.the-variants as Stated
-use Rattle.statements.specs.declared.answers.Finished.{Finished}
-use Rattle.statements.specs.declared.answers.Finished.the-variants as Finished
+use Rattle.statements.specs.Lent.{Converter, Stated, Finished, finished}
+use Rattle.statements.specs.declared.answers.Finished as Code
+use Rattle.statements.specs.declared.answers.Finished.the-variants as Answer
 use Rattle.statements.proofs.answers.Finished.{the-type}
 use Rattle.statements.specs.Meets.{Adds}
 use Rattle.statements.specs.Converting.{Converting, BehindAfforded, StatementAfforded}
@@ -119,9 +117,9 @@ stated-visited tree text r sc {s} {s′} {a} {done} w t sc′ k q = go done (sym
 
 -- ---- a head, its blocks, and what stands behind them
 
-pub refused-visited : {X : Type 0} (a : Finished) → tagOf the-type a ≡ 1 → (k : Counters) → a ≡ Finished.Done k → X
-refused-visited (Finished.Done j) t k q = absurd (omega arith)
-refused-visited (Finished.Refused z) t k q = refused-finished k q
+pub refused-visited : {X : Type 0} (w : List ℕ) (a : Code.Finished) → tagOf the-type a ≡ 1 → (k : Counters) → finished w a ≡ Finished.Done k → X
+refused-visited w Answer.Done t k q = absurd (omega arith)
+refused-visited w (Answer.Refused z) t k q = refused-finished k q
 
 -- a block behind what was visited, and then steps that only add instructions
 module _ {tree s s₁ s₂ : List ℕ} {k k₁ : Counters} {n : ℕ} (text : List ℕ) {v w : ℕ} {b : Finished} (h : Visited tree s n k s₁) (e : v ≡ w) (g : BlockVisited v tree text s₁ b s₂) (u : b ≡ Finished.Done k₁) where

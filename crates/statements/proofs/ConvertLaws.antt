@@ -15,10 +15,7 @@ use Rattle.ir.specs.Instructions.{operandOf}
 use Rattle.ir.specs.Amounts.{Amount, both}
 use Rattle.ir.specs.Steps.{StopsIn}
 use Rattle.ir.proofs.StepLaws.{stop-first}
-use Rattle.statements.specs.declared.answers.Converter.{Converter}
-use Rattle.statements.specs.declared.answers.Converted.{Converted}
-use Rattle.statements.specs.declared.answers.Converted.the-variants as Converted
-use Rattle.statements.specs.declared.answers.Fitted.{Fitted}
+use Rattle.statements.specs.Lent.{Converter, Converted, Fitted}
 use Rattle.statements.specs.Meets.{Adds, AddsIn}
 use Rattle.statements.specs.Converting.{Converting, withCounters, OperandIn, StaysFor, NamesStay}
 use Rattle.statements.specs.Answers.{convertedOf, Converts, FitAdds}

@@ -53,10 +53,7 @@ use Rattle.texts.specs.Texts.{hasText}
 use Rattle.expressions.specs.Slots.{originalOf, originalWord, Asked}
 use Rattle.expressions.proofs.OriginalLaws.{origin-text, kind-asked}
 use Rattle.expressions.proofs.TakeLaws.{as-type}
-use Rattle.statements.specs.declared.answers.Converter.{Converter}
-use Rattle.statements.specs.declared.answers.Stated.the-variants as Stated
-use Rattle.statements.specs.declared.answers.Finished.{Finished}
-use Rattle.statements.specs.declared.answers.Finished.the-variants as Finished
+use Rattle.statements.specs.Lent.{Converter, Stated, Finished}
 use Rattle.statements.specs.Meets.{StepAnswer, gave, refused, Adds, Meets}
 use Rattle.statements.specs.Converting.{Converting, RoomFor, BehindAfforded, StaysFor, behindAmount}
 use Rattle.statements.specs.Parts.{emitJump, zeroFloat}

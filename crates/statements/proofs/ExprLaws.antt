@@ -43,10 +43,7 @@ use Rattle.expressions.specs.Slots.{typeIn}
 use Rattle.expressions.specs.Answers.{refusal, typeResult, TypeMeets}
 use Rattle.expressions.proofs.SlotLaws.{scope-frame}
 use Rattle.expressions.proofs.TypingLaws.{type-ok, type-refused, expr-low, operand-expr}
-use Rattle.statements.specs.declared.answers.Converter.{Converter}
-use Rattle.statements.specs.declared.answers.Converted.{Converted}
-use Rattle.statements.specs.declared.answers.Converted.the-variants as Converted
-use Rattle.statements.specs.declared.answers.Fitted.{Fitted}
+use Rattle.statements.specs.Lent.{Converter, Converted, Fitted}
 use Rattle.statements.specs.Converting.{Converting, withCounters, RoomFor, exprAmount, ExprAfforded, StaysFor}
 use Rattle.statements.specs.Meets.{Adds}
 use Rattle.statements.specs.Parts.{operandType, finishUnary, beginLogic, joinAnd, joinOr, endLogic, finishBinary}

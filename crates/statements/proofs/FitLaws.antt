@@ -45,7 +45,7 @@ use Rattle.ir.proofs.StepUses.{refloat-next, cast-next}
 use Rattle.expressions.specs.declared.answers.Outcome.the-variants as Outcome
 use Rattle.expressions.specs.Answers.{refusal, outcomeOf}
 use Rattle.expressions.proofs.ArgumentLaws.{place-is}
-use Rattle.statements.specs.declared.answers.Fitted.{Fitted}
+use Rattle.statements.specs.Lent.{Fitted}
 use Rattle.statements.specs.Converting.{OperandIn}
 use Rattle.statements.specs.Answers.{FitAdds}
 use Rattle.statements.proofs.MeetLaws.{Most, adds-pure, adds-most, adds-same}

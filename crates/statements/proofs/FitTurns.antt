@@ -22,7 +22,7 @@ use Rattle.ir.specs.Instructions.{operandOf}
 use Rattle.ir.specs.Steps.{Emits}
 use Rattle.records.proofs.Apart.{byte-apart, word-same}
 use Rattle.expressions.proofs.TypingLaws.{call-list}
-use Rattle.statements.specs.declared.answers.Fitted.{Fitted}
+use Rattle.statements.specs.Lent.{Fitted}
 use Rattle.statements.specs.Stack.{operandBytes, stackEntryAt, operandAt, stackAt}
 use Rattle.statements.specs.Converting.{RoomFor, OperandIn, StackIn, Stays}
 use Rattle.statements.specs.Meets.{Adds}

@@ -57,13 +57,7 @@ use Rattle.expressions.proofs.OriginalLaws.{kind-asked}
 use Rattle.expressions.specs.Answers.{refusal, outcomeOf, TypeMeets}
 use Rattle.expressions.proofs.SlotLaws.{scope-frame, frame-trans}
 use Rattle.expressions.proofs.TypingLaws.{type-ok, type-refused, is-typed, expr-low, place-is}
-use Rattle.statements.specs.declared.answers.Converter.{Converter}
-use Rattle.statements.specs.declared.answers.Finished.{Finished}
-use Rattle.statements.specs.declared.answers.Finished.the-variants as Finished
-use Rattle.statements.specs.declared.answers.ForVariable.{ForVariable}
-use Rattle.statements.specs.declared.answers.ForVariable.the-variants as ForVariable
-use Rattle.statements.specs.declared.answers.Stated.{Stated}
-use Rattle.statements.specs.declared.answers.Stated.the-variants as Stated
+use Rattle.statements.specs.Lent.{Converter, Stated, Finished, ForVariable}
 use Rattle.statements.specs.Meets.{StepAnswer, gave, AddsIn, Meets}
 use Rattle.statements.specs.Parts.{knownVariable, forVariable, forBounds, forBegin, forTest, forTurns, forHead}
 use Rattle.statements.specs.Converting.{Converting, withCounters, Afforded, BehindAfforded, forHeadAmount, Stays, StaysFor, NamesStay}

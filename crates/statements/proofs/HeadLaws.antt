@@ -35,12 +35,7 @@ use Rattle.ir.specs.Arena.{HasSlot}
 use Rattle.ir.specs.Instructions.{operandOf, varOf}
 use Rattle.ir.specs.Steps.{Emits, AddsVar, named}
 use Rattle.ir.proofs.StepLaws.{next-in}
-use Rattle.statements.specs.declared.answers.Converter.{Converter}
-use Rattle.statements.specs.declared.answers.Converted.{Converted}
-use Rattle.statements.specs.declared.answers.Converted.the-variants as Converted
-use Rattle.statements.specs.declared.answers.Fitted.{Fitted}
-use Rattle.statements.specs.declared.answers.Finished.{Finished}
-use Rattle.statements.specs.declared.answers.Finished.the-variants as Finished
+use Rattle.statements.specs.Lent.{Converter, Converted, Finished, Fitted}
 use Rattle.statements.specs.Converting.{Converting, withCounters, RoomFor, OperandIn, exprAmount, headAmount, turnsAmount, ExprAfforded, BehindAfforded, BoundAfforded}
 use Rattle.statements.specs.Meets.{Adds}
 use Rattle.statements.specs.Parts.{emitJump, jumpIfNot, placeLabel, copyFitted, countOn, testBound, ifHead, whileHead, forBegin, forTest, ifMiddle, loopBack}

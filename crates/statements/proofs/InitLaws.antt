@@ -59,12 +59,7 @@ use Rattle.expressions.specs.Answers.{outcomeOf, IsTyped, TypeMeets}
 use Rattle.expressions.proofs.OperandLaws.{first-type, type-of}
 use Rattle.expressions.proofs.TypingLaws.{is-typed}
 use Rattle.expressions.proofs.TurnLaws.{typed-same}
-use Rattle.statements.specs.declared.answers.Converter.{Converter}
-use Rattle.statements.specs.declared.answers.Converted.{Converted}
-use Rattle.statements.specs.declared.answers.Converted.the-variants as Converted
-use Rattle.statements.specs.declared.answers.Fitted.{Fitted}
-use Rattle.statements.specs.declared.answers.Stated.{Stated}
-use Rattle.statements.specs.declared.answers.Stated.the-variants as Stated
+use Rattle.statements.specs.Lent.{Converter, Converted, Stated, Fitted}
 use Rattle.statements.specs.Converting.{Converting, withCounters, RoomFor, exprAmount, behindAmount, Afforded, ExprAfforded, BehindAfforded, StaysFor}
 use Rattle.statements.specs.Meets.{StepAnswer, Adds, Meets}
 use Rattle.statements.specs.Parts.{copyFitted, declareInit}

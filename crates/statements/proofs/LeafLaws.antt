@@ -51,10 +51,7 @@ use Rattle.expressions.specs.Slots.{Asked}
 use Rattle.expressions.proofs.LeafLaws as Typing
 use Rattle.expressions.proofs.OriginalLaws.{name-asked}
 use Rattle.expressions.proofs.TypingLaws.{expr-low}
-use Rattle.statements.specs.declared.answers.Converter.{Converter}
-use Rattle.statements.specs.declared.answers.Converted.{Converted}
-use Rattle.statements.specs.declared.answers.Converted.the-variants as Converted
-use Rattle.statements.specs.declared.answers.Fitted.{Fitted}
+use Rattle.statements.specs.Lent.{Converter, Converted, Fitted}
 use Rattle.statements.specs.Converting.{Converting, OperandIn, exprAmount}
 use Rattle.statements.specs.Meets.{AddsIn}
 use Rattle.statements.specs.Answers.{Converts, LeafAdds, exprSteps}

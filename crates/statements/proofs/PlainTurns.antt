@@ -15,9 +15,7 @@ use Rattle.expressions.specs.declared.answers.ExprType.{ExprType}
 use Rattle.expressions.specs.declared.answers.ExprType.the-variants as ExprType
 use Rattle.expressions.specs.Slots.{Typing}
 use Rattle.expressions.specs.Answers.{TypeMeets}
-use Rattle.statements.specs.declared.answers.Converter.{Converter}
-use Rattle.statements.specs.declared.answers.Stated.{Stated}
-use Rattle.statements.specs.declared.answers.Stated.the-variants as Stated
+use Rattle.statements.specs.Lent.{Converter, Stated}
 use Rattle.statements.specs.Converting.{Converting}
 use Rattle.statements.specs.Turns.{InTurn, TypedIn, exprTypes, valueTypes, initTypes, headTypes, ownTypes}
 use Rattle.statements.proofs.TurnLaws.{typed-next}

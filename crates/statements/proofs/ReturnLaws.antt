@@ -51,14 +51,7 @@ use Rattle.expressions.specs.declared.answers.Resolved.the-variants as Resolved
 use Rattle.expressions.specs.Answers.{refusal, outcomeOf, calleeOf, TypeMeets, CallMeets}
 use Rattle.expressions.proofs.SlotLaws.{scope-frame}
 use Rattle.expressions.proofs.TypingLaws.{expr-low, place-is}
-use Rattle.statements.specs.declared.answers.Converter.{Converter}
-use Rattle.statements.specs.declared.answers.Converted.{Converted}
-use Rattle.statements.specs.declared.answers.Converted.the-variants as Converted
-use Rattle.statements.specs.declared.answers.ConvertedArgs.{ConvertedArgs}
-use Rattle.statements.specs.declared.answers.ConvertedArgs.the-variants as ConvertedArgs
-use Rattle.statements.specs.declared.answers.Stated.{Stated}
-use Rattle.statements.specs.declared.answers.Stated.the-variants as Stated
-use Rattle.statements.specs.declared.answers.Fitted.{Fitted}
+use Rattle.statements.specs.Lent.{Converter, Converted, ConvertedArgs, Stated, Fitted}
 use Rattle.statements.specs.Stack.{stackAt}
 use Rattle.statements.specs.Meets.{Adds, AddsIn}
 use Rattle.statements.specs.Parts.{passArgs}

@@ -31,13 +31,7 @@ use Rattle.expressions.specs.declared.answers.Outcome.the-variants as Outcome
 use Rattle.expressions.specs.Slots.{typeIn}
 use Rattle.expressions.specs.Answers.{refusal, outcomeOf, TypeMeets}
 use Rattle.expressions.proofs.TypingLaws.{type-ok, type-refused}
-use Rattle.statements.specs.declared.answers.Converter.{Converter}
-use Rattle.statements.specs.declared.answers.Converted.{Converted}
-use Rattle.statements.specs.declared.answers.Converted.the-variants as Converted
-use Rattle.statements.specs.declared.answers.Stated.{Stated}
-use Rattle.statements.specs.declared.answers.Stated.the-variants as Stated
-use Rattle.statements.specs.declared.answers.Finished.{Finished}
-use Rattle.statements.specs.declared.answers.Finished.the-variants as Finished
+use Rattle.statements.specs.Lent.{Converter, Converted, Stated, Finished}
 use Rattle.statements.specs.Meets.{StepAnswer, gave, refused, AddsIn, Meets}
 use Rattle.statements.specs.Converting.{Converting, withCounters, StaysFor}
 use Rattle.statements.specs.Answers.{convertedOf, finishedOf, Converts, Leaves, States, Finishes}

@@ -29,7 +29,7 @@ use Rattle.texts.specs.Texts.{originalAt}
 use Rattle.expressions.specs.Slots.{originalOf, originalWord, Frame, Scoped, Ready}
 use Rattle.expressions.proofs.OriginalLaws.{word-stays, original-stays}
 use Rattle.expressions.proofs.SlotLaws.{original-frame, ready-frame}
-use Rattle.statements.specs.declared.answers.Converter.{Converter}
+use Rattle.statements.specs.Lent.{Converter}
 use Rattle.statements.specs.Stack.{stackEntryAt, operandFrom, operandAt, stackAt}
 use Rattle.statements.specs.Converting.{LoopIn, Converting, withCounters, Stays, StaysFor, NamesStay}
 

@@ -23,7 +23,7 @@ use Rattle.ir.specs.declared.structs.Counters.{Counters}
 use Rattle.scope.specs.Open.{scopeAt}
 use Rattle.expressions.specs.Slots.{slotAt, turnAt, visitsAt, inTurn, made, RightAt, Remembers, Typed}
 use Rattle.expressions.proofs.TurnLaws.{typed-both}
-use Rattle.statements.specs.declared.answers.Converter.{Converter}
+use Rattle.statements.specs.Lent.{Converter}
 use Rattle.statements.specs.Turns.{Turns, Visited, Fresh, InTurn, TypedIn, TurnsStay}
 
 -- ---- nothing typed

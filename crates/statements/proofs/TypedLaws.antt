@@ -29,11 +29,7 @@ use Rattle.expressions.specs.Answers.{TypeMeets, CallMeets}
 use Rattle.expressions.proofs.SlotLaws.{scope-frame}
 use Rattle.expressions.proofs.TurnLaws.{typed-none}
 use Rattle.expressions.proofs.TypingLaws.{expr-low}
-use Rattle.statements.specs.declared.answers.Converter.{Converter}
-use Rattle.statements.specs.declared.answers.Converted.{Converted}
-use Rattle.statements.specs.declared.answers.Converted.the-variants as Converted
-use Rattle.statements.specs.declared.answers.ConvertedArgs.{ConvertedArgs}
-use Rattle.statements.specs.declared.answers.ConvertedArgs.the-variants as ConvertedArgs
+use Rattle.statements.specs.Lent.{Converter, Converted, ConvertedArgs}
 use Rattle.statements.specs.Converting.{Converting, StaysFor}
 use Rattle.statements.specs.Answers.{OperandTyped}
 use Rattle.statements.specs.Turns.{InTurn, TypedIn, TurnsStay, exprTypes, unaryTypes, sidesTypes, binaryTypes, argsTypes, callTypes, ConvertsTyped, ArgumentsTyped, CommonTyped}

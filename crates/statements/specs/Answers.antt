@@ -35,24 +35,13 @@ use Rattle.expressions.specs.Slots.{Frame, Ready}
 use Rattle.expressions.specs.declared.answers.Outcome.{Outcome}
 use Rattle.expressions.specs.declared.answers.Resolved.{Resolved}
 use Rattle.expressions.specs.Answers.{IsTyped, typeResult, outcomeOf, calleeOf}
-use Rattle.statements.specs.declared.answers.Converter.{Converter}
-use Rattle.statements.specs.declared.answers.Converted.{Converted}
-use Rattle.statements.specs.declared.answers.Converted.the-variants as Converted
-use Rattle.statements.specs.declared.answers.Fitted.{Fitted}
+use Rattle.statements.specs.Lent.{Converter, Converted, ConvertedArgs, Stated, Finished, ForVariable, Fitted}
 use Rattle.statements.specs.declared.answers.AtValue.{AtValue}
-use Rattle.statements.specs.declared.answers.ConvertedArgs.{ConvertedArgs}
-use Rattle.statements.specs.declared.answers.ConvertedArgs.the-variants as ConvertedArgs
-use Rattle.statements.specs.declared.answers.ForVariable.{ForVariable}
-use Rattle.statements.specs.declared.answers.ForVariable.the-variants as ForVariable
-use Rattle.statements.specs.declared.answers.Stated.{Stated}
-use Rattle.statements.specs.declared.answers.Stated.the-variants as Stated
-use Rattle.statements.specs.declared.answers.Finished.{Finished}
-use Rattle.statements.specs.declared.answers.Finished.the-variants as Finished
 use Rattle.statements.specs.Meets.{StepAnswer, gave, refused, Adds, AddsIn, Meets}
 use Rattle.statements.specs.Parts.{operandType, joinAnd, joinOr, finishBinary, countOn, ifHead, whileHead, forVariable, forBounds, forBegin, forTest, forTurns, forHead, declareInit, passArgs, finishCall}
 use Rattle.statements.specs.Stack.{stackAt}
 use Rattle.syntax.specs.Count.{under, statementRecords, blockRecords, argsUnder, argsValues}
-use Rattle.statements.specs.Converting.{OperandIn, StackIn, StaysFor, NamesStay, exprAmount, argsAmount, behindAmount, statementAmount, blockAmount, headAmount, turnsAmount, forHeadAmount}
+use Rattle.statements.specs.Converting.{Afforded, OperandIn, StackIn, StaysFor, NamesStay, exprAmount, argsAmount, behindAmount, statementAmount, blockAmount, headAmount, turnsAmount, forHeadAmount}
 
 -- ---- answers
 
@@ -388,6 +377,10 @@ BoundAs steps w c r tree text l s a l′ s′ =
 -- the records below both bounds of the For r
 abbrev pub boundsUnder : List ℕ → List ℕ → ℕ → ℕ
 boundsUnder tree text r = under (exprAt tree text (wordOf tree r B)) + under (exprAt tree text (wordOf tree r C))
+
+-- for the For r from its variable on
+abbrev pub TurnsAfforded : List ℕ → List ℕ → Converter → ℕ → Type 0
+TurnsAfforded tree text c r = Afforded tree c (forHeadAmount (boundsUnder tree text r)) (boundsUnder tree text r) 0
 
 -- the For r from its variable on, and from its beginning on, up to its body
 abbrev pub TurnsAs : StepsAt (Unit {0}) → Converter → ℕ → List ℕ → List ℕ → List ℕ → List ℕ → Finished → List ℕ → List ℕ → Type 0

@@ -18,7 +18,7 @@ use Rattle.ir.specs.Arena.{Room}
 use Rattle.ir.specs.Amounts.{Amount, amount, Affords}
 use Rattle.scope.specs.Open.{openNameAt, loopNumber}
 use Rattle.expressions.specs.Slots.{Original, Ready}
-use Rattle.statements.specs.declared.answers.Converter.{Converter}
+use Rattle.statements.specs.Lent.{Converter}
 use Rattle.statements.specs.Stack.{stackEntryAt, operandAt}
 
 -- the innermost loop of a scope, where there is one, is a record of the tree

@@ -1,5 +1,6 @@
 pub mod Stack
 pub mod Converting
+pub mod Lent
 pub mod Meets
 pub mod Parts
 pub mod Answers

@@ -1,11 +1,14 @@
 // statements.rs: statements and blocks. The functions that call each other convert parts of records, whose numbers fall; a block's
 // statements are walked by a loop, and recursion goes only into their blocks.
 ghost use mathlib.Core.Path.{_≡_};
-ghost use Prim.Native.Nat.{_≤_};
+ghost use mathlib.Core.List.{List};
+ghost use Prim.Native.Nat.{ℕ, _≤_};
 ghost use Rattle.records.specs.Words.{kindOf};
 ghost use Rattle.records.specs.Kinds.{kindCallStatement, kindIf, kindWhile, kindFor, kindBreak};
 ghost use Rattle.syntax.specs.Places.{IsKind, IsStatement, BodyAt};
+ghost use Rattle.ir.specs.Counted.{counted, was, is};
 ghost use Rattle.statements.specs.Converting.{Converting, BehindAfforded, StatementAfforded, BlockAfforded};
+ghost use Rattle.statements.specs.Lent.{at, stated, finished};
 ghost use Rattle.statements.specs.Answers.{StatesAs, StatementAs, BlockAs, FinishesAs, statedWith, plainSteps, jumpSteps, statementSteps, blockSteps, ifSteps, whileSteps, forSteps};
 ghost use Rattle.statements.specs.Turns.{Turns, Fresh, InTurn, ownTypes, StatesTyped, StatementVisited, FinishedVisited, BlockVisited};
 use crate::answers::Converter;
@@ -26,6 +29,7 @@ use crate::statements::convert_init;
 use crate::statements::convert_return;
 use expressions::arguments::END;
 use expressions::arguments::next_cell;
+use ir::lent::INSTRUCTIONS;
 use ir::structs::emit_comment;
 use records::numbers::KIND_BREAK;
 use records::numbers::KIND_CALL_STATEMENT;
@@ -48,26 +52,27 @@ fn convert_plain(
     text: &[u8],
     arena: &mut [u8],
     scratch: &mut [u8],
+    k: &mut [usize],
     c: Converter,
     r: usize,
 ) -> Stated
-    requires { ⌜ Converting (now tree) (now text) (now arena) (now scratch) c × BehindAfforded (now tree) (now text) c r ⌝ }
+    requires { ⌜ Converting (now tree) (now text) (now arena) (now scratch) (at c (now k)) × BehindAfforded (now tree) (now text) (at c (now k)) r ⌝ }
     requires { ⌜ IsStatement (now tree) r × (kindOf (now tree) r ≤ kindCallStatement) ⌝ }
-    requires { ⌜ InTurn (now tree) (now text) (now scratch) c ⌝ }
-    ensures { λ a. ⌜ StatesAs plainSteps c r (now (tree .entry)) (now (text .entry)) (now (arena .entry)) (now (scratch .entry)) a (now (arena .exit)) (now (scratch .exit)) ⌝ }
-    ensures types { λ a. ⌜ StatesTyped ownTypes c r (now (tree .entry)) (now (text .entry)) (now (scratch .entry)) a (now (scratch .exit)) ⌝ }
+    requires { ⌜ InTurn (now tree) (now text) (now scratch) (at c (now k)) ⌝ }
+    ensures { λ a. ⌜ StatesAs plainSteps (at c (was k)) r (was tree) (was text) (was arena) (was scratch) (stated (is k) a) (is arena) (is scratch) ⌝ }
+    ensures types { λ a. ⌜ StatesTyped ownTypes (at c (was k)) r (was tree) (was text) (was scratch) (stated (is k) a) (is scratch) ⌝ }
 {
     let node = kind(tree, r);
     if node == KIND_DECLARE {
-        return convert_declare(tree, text, arena, scratch, c, r);
+        return convert_declare(tree, text, arena, scratch, k, c, r);
     }
     if node == KIND_INIT {
-        return convert_init(tree, text, arena, scratch, c, r);
+        return convert_init(tree, text, arena, scratch, k, c, r);
     }
     if node == KIND_RETURN {
-        return convert_return(tree, text, arena, scratch, c, r);
+        return convert_return(tree, text, arena, scratch, k, c, r);
     }
-    convert_call(tree, text, arena, scratch, c, r)
+    convert_call(tree, text, arena, scratch, k, c, r)
 }
 
 // The Break or Continue r, behind its comment.
@@ -76,26 +81,27 @@ fn convert_jump(
     text: &[u8],
     arena: &mut [u8],
     scratch: &[u8],
+    k: &mut [usize],
     c: Converter,
     r: usize,
 ) -> Stated
-    requires { ⌜ Converting (now tree) (now text) (now arena) (now scratch) c × BehindAfforded (now tree) (now text) c r ⌝ }
+    requires { ⌜ Converting (now tree) (now text) (now arena) (now scratch) (at c (now k)) × BehindAfforded (now tree) (now text) (at c (now k)) r ⌝ }
     requires { ⌜ IsStatement (now tree) r × (kindBreak ≤ kindOf (now tree) r) ⌝ }
-    ensures { λ a. ⌜ StatesAs jumpSteps c r (now (tree .entry)) (now (text .entry)) (now (arena .entry)) (now (scratch .entry)) a (now (arena .exit)) (now (scratch .entry)) ⌝ }
+    ensures { λ a. ⌜ StatesAs jumpSteps (at c (was k)) r (was tree) (was text) (was arena) (was scratch) (stated (is k) a) (is arena) (was scratch) ⌝ }
 {
     if kind(tree, r) == KIND_BREAK {
-        return convert_break(tree, text, arena, scratch, c, r);
+        return convert_break(tree, text, arena, scratch, k, c, r);
     }
-    convert_continue(tree, text, arena, scratch, c, r)
+    convert_continue(tree, text, arena, scratch, k, c, r)
 }
 
 // What a statement with blocks answers: it leaves the scope as it was.
 fn stated(scope: Scope, done: Finished) -> Stated
-    ensures { λ a. ⌜ a ≡ statedWith scope done ⌝ }
+    ensures { λ a. ⌜ ((k : List ℕ) → stated k a ≡ statedWith scope (finished k done)) ⌝ }
 {
     match done {
         Finished::Refused(x) => Stated::Refused(x),
-        Finished::Done(k) => Stated::Done(scope, k),
+        Finished::Done => Stated::Done(scope),
     }
 }
 
@@ -105,35 +111,40 @@ fn convert_statement(
     text: &[u8],
     arena: &mut [u8],
     scratch: &mut [u8],
+    k: &mut [usize],
     c: Converter,
     r: usize,
 ) -> Stated
-    requires { ⌜ Converting (now tree) (now text) (now arena) (now scratch) c × StatementAfforded (now tree) (now text) c r ⌝ }
+    requires { ⌜ Converting (now tree) (now text) (now arena) (now scratch) (at c (now k)) × StatementAfforded (now tree) (now text) (at c (now k)) r ⌝ }
     requires { ⌜ IsStatement (now tree) r ⌝ }
-    requires { ⌜ Turns (now tree) (now scratch) (c .counters) ⌝ }
-    ensures { λ a. ⌜ StatementAs statementSteps c r (now (tree .entry)) (now (text .entry)) (now (arena .entry)) (now (scratch .entry)) a (now (arena .exit)) (now (scratch .exit)) ⌝ }
-    ensures visits { λ a. ⌜ StatementVisited r (now (tree .entry)) (now (text .entry)) (now (scratch .entry)) a (now (scratch .exit)) ⌝ }
+    requires { ⌜ Turns (now tree) (now scratch) (counted (now k)) ⌝ }
+    ensures { λ a. ⌜ StatementAs statementSteps (at c (was k)) r (was tree) (was text) (was arena) (was scratch) (stated (is k) a) (is arena) (is scratch) ⌝ }
+    ensures visits { λ a. ⌜ StatementVisited r (was tree) (was text) (was scratch) (stated (is k) a) (is scratch) ⌝ }
 {
     let scope = c.scope;
-    let k = c.counters;
     let node = kind(tree, r);
-    let k1 = emit_comment(arena, k, r as u32);
+    emit_comment(arena, k, r as u32);
     let mut at = c;
-    at.counters = k1;
-    at.turn = k1.instructions as u32;
+    at.turn = k[INSTRUCTIONS] as u32;
     if node <= KIND_CALL_STATEMENT {
-        return convert_plain(tree, text, arena, scratch, at, r);
+        return convert_plain(tree, text, arena, scratch, k, at, r);
     }
     if node >= KIND_BREAK {
-        return convert_jump(tree, text, arena, scratch, at, r);
+        return convert_jump(tree, text, arena, scratch, k, at, r);
     }
     if node == KIND_IF {
-        return stated(scope, convert_if(tree, text, arena, scratch, at, r));
+        return stated(scope, convert_if(tree, text, arena, scratch, k, at, r));
     }
     if node == KIND_WHILE {
-        return stated(scope, convert_while_loop(tree, text, arena, scratch, at, r));
+        return stated(
+            scope,
+            convert_while_loop(tree, text, arena, scratch, k, at, r),
+        );
     }
-    stated(scope, convert_for_loop(tree, text, arena, scratch, at, r))
+    stated(
+        scope,
+        convert_for_loop(tree, text, arena, scratch, k, at, r),
+    )
 }
 
 // The block whose first cell this is, in a scope of its own.
@@ -142,30 +153,27 @@ pub fn convert_block(
     text: &[u8],
     arena: &mut [u8],
     scratch: &mut [u8],
+    k: &mut [usize],
     c: Converter,
     first: usize,
 ) -> Finished
-    requires { ⌜ Converting (now tree) (now text) (now arena) (now scratch) c × BlockAfforded (now tree) (now text) c first ⌝ }
+    requires { ⌜ Converting (now tree) (now text) (now arena) (now scratch) (at c (now k)) × BlockAfforded (now tree) (now text) (at c (now k)) first ⌝ }
     requires { ⌜ BodyAt (now tree) first ⌝ }
-    requires { ⌜ Turns (now tree) (now scratch) (c .counters) ⌝ }
-    ensures { λ a. ⌜ BlockAs blockSteps c first (now (tree .entry)) (now (text .entry)) (now (arena .entry)) (now (scratch .entry)) a (now (arena .exit)) (now (scratch .exit)) ⌝ }
-    ensures visits { λ a. ⌜ BlockVisited first (now (tree .entry)) (now (text .entry)) (now (scratch .entry)) a (now (scratch .exit)) ⌝ }
+    requires { ⌜ Turns (now tree) (now scratch) (counted (now k)) ⌝ }
+    ensures { λ a. ⌜ BlockAs blockSteps (at c (was k)) first (was tree) (was text) (was arena) (was scratch) (finished (is k) a) (is arena) (is scratch) ⌝ }
+    ensures visits { λ a. ⌜ BlockVisited first (was tree) (was text) (was scratch) (finished (is k) a) (is scratch) ⌝ }
 {
     let mut cell = first;
     let mut at = c;
     while cell != END {
         let r = reference(tree, cell, WORD_A);
-        match convert_statement(tree, text, arena, scratch, at, r) {
+        match convert_statement(tree, text, arena, scratch, k, at, r) {
             Stated::Refused(x) => return Finished::Refused(x),
-            Stated::Done(scope, k) => {
-                at.scope = scope;
-                at.counters = k;
-            }
+            Stated::Done(scope) => at.scope = scope,
         }
         cell = next_cell(tree, cell);
     }
-    let k = at.counters;
-    Finished::Done(k)
+    Finished::Done
 }
 
 // The If r.
@@ -174,34 +182,36 @@ fn convert_if(
     text: &[u8],
     arena: &mut [u8],
     scratch: &mut [u8],
+    k: &mut [usize],
     c: Converter,
     r: usize,
 ) -> Finished
-    requires { ⌜ Converting (now tree) (now text) (now arena) (now scratch) c × BehindAfforded (now tree) (now text) c r ⌝ }
+    requires { ⌜ Converting (now tree) (now text) (now arena) (now scratch) (at c (now k)) × BehindAfforded (now tree) (now text) (at c (now k)) r ⌝ }
     requires { ⌜ IsKind (now tree) kindIf r ⌝ }
-    requires { ⌜ Fresh (now tree) (now scratch) c ⌝ }
-    ensures { λ a. ⌜ FinishesAs ifSteps c r (now (tree .entry)) (now (text .entry)) (now (arena .entry)) (now (scratch .entry)) a (now (arena .exit)) (now (scratch .exit)) ⌝ }
-    ensures visits { λ a. ⌜ FinishedVisited r (now (tree .entry)) (now (text .entry)) (now (scratch .entry)) a (now (scratch .exit)) ⌝ }
+    requires { ⌜ Fresh (now tree) (now scratch) (at c (now k)) ⌝ }
+    ensures { λ a. ⌜ FinishesAs ifSteps (at c (was k)) r (was tree) (was text) (was arena) (was scratch) (finished (is k) a) (is arena) (is scratch) ⌝ }
+    ensures visits { λ a. ⌜ FinishedVisited r (was tree) (was text) (was scratch) (finished (is k) a) (is scratch) ⌝ }
 {
     let then = reference(tree, r, WORD_B);
     let otherwise = reference(tree, r, WORD_C);
-    let head = if_head(tree, text, arena, scratch, c, r);
-    let Finished::Done(k) = head else {
+    let head = if_head(tree, text, arena, scratch, k, c, r);
+    let Finished::Done = head else {
         return head;
     };
-    let mut at = c;
-    at.counters = k;
-    match convert_block(tree, text, arena, scratch, at, then) {
+    match convert_block(tree, text, arena, scratch, k, c, then) {
         Finished::Refused(x) => Finished::Refused(x),
-        Finished::Done(k1) => {
+        Finished::Done => {
             if !has_otherwise(tree, r) {
-                return Finished::Done(if_end(arena, k1, r));
+                if_end(arena, k, r);
+                return Finished::Done;
             }
-            let k2 = if_middle(arena, k1, r);
-            at.counters = k2;
-            match convert_block(tree, text, arena, scratch, at, otherwise) {
+            if_middle(arena, k, r);
+            match convert_block(tree, text, arena, scratch, k, c, otherwise) {
                 Finished::Refused(x) => Finished::Refused(x),
-                Finished::Done(k3) => Finished::Done(if_end(arena, k3, r)),
+                Finished::Done => {
+                    if_end(arena, k, r);
+                    Finished::Done
+                }
             }
         }
     }
@@ -213,27 +223,30 @@ fn convert_while_loop(
     text: &[u8],
     arena: &mut [u8],
     scratch: &mut [u8],
+    k: &mut [usize],
     c: Converter,
     r: usize,
 ) -> Finished
-    requires { ⌜ Converting (now tree) (now text) (now arena) (now scratch) c × BehindAfforded (now tree) (now text) c r ⌝ }
+    requires { ⌜ Converting (now tree) (now text) (now arena) (now scratch) (at c (now k)) × BehindAfforded (now tree) (now text) (at c (now k)) r ⌝ }
     requires { ⌜ IsKind (now tree) kindWhile r ⌝ }
-    requires { ⌜ Fresh (now tree) (now scratch) c ⌝ }
-    ensures { λ a. ⌜ FinishesAs whileSteps c r (now (tree .entry)) (now (text .entry)) (now (arena .entry)) (now (scratch .entry)) a (now (arena .exit)) (now (scratch .exit)) ⌝ }
-    ensures visits { λ a. ⌜ FinishedVisited r (now (tree .entry)) (now (text .entry)) (now (scratch .entry)) a (now (scratch .exit)) ⌝ }
+    requires { ⌜ Fresh (now tree) (now scratch) (at c (now k)) ⌝ }
+    ensures { λ a. ⌜ FinishesAs whileSteps (at c (was k)) r (was tree) (was text) (was arena) (was scratch) (finished (is k) a) (is arena) (is scratch) ⌝ }
+    ensures visits { λ a. ⌜ FinishedVisited r (was tree) (was text) (was scratch) (finished (is k) a) (is scratch) ⌝ }
 {
     let scope = c.scope;
     let inner = scope.with_loop(r as u32);
     let body = reference(tree, r, WORD_B);
-    match while_head(tree, text, arena, scratch, c, r) {
+    match while_head(tree, text, arena, scratch, k, c, r) {
         Finished::Refused(x) => Finished::Refused(x),
-        Finished::Done(k) => {
+        Finished::Done => {
             let mut at = c;
             at.scope = inner;
-            at.counters = k;
-            match convert_block(tree, text, arena, scratch, at, body) {
+            match convert_block(tree, text, arena, scratch, k, at, body) {
                 Finished::Refused(x) => Finished::Refused(x),
-                Finished::Done(k1) => Finished::Done(loop_end(arena, k1, r)),
+                Finished::Done => {
+                    loop_end(arena, k, r);
+                    Finished::Done
+                }
             }
         }
     }
@@ -245,26 +258,29 @@ fn convert_for_loop(
     text: &[u8],
     arena: &mut [u8],
     scratch: &mut [u8],
+    k: &mut [usize],
     c: Converter,
     r: usize,
 ) -> Finished
-    requires { ⌜ Converting (now tree) (now text) (now arena) (now scratch) c × BehindAfforded (now tree) (now text) c r ⌝ }
+    requires { ⌜ Converting (now tree) (now text) (now arena) (now scratch) (at c (now k)) × BehindAfforded (now tree) (now text) (at c (now k)) r ⌝ }
     requires { ⌜ IsKind (now tree) kindFor r ⌝ }
-    requires { ⌜ Fresh (now tree) (now scratch) c ⌝ }
-    ensures { λ a. ⌜ FinishesAs forSteps c r (now (tree .entry)) (now (text .entry)) (now (arena .entry)) (now (scratch .entry)) a (now (arena .exit)) (now (scratch .exit)) ⌝ }
-    ensures visits { λ a. ⌜ FinishedVisited r (now (tree .entry)) (now (text .entry)) (now (scratch .entry)) a (now (scratch .exit)) ⌝ }
+    requires { ⌜ Fresh (now tree) (now scratch) (at c (now k)) ⌝ }
+    ensures { λ a. ⌜ FinishesAs forSteps (at c (was k)) r (was tree) (was text) (was arena) (was scratch) (finished (is k) a) (is arena) (is scratch) ⌝ }
+    ensures visits { λ a. ⌜ FinishedVisited r (was tree) (was text) (was scratch) (finished (is k) a) (is scratch) ⌝ }
 {
     let body = reference(tree, r, WORD_D);
-    match for_head(tree, text, arena, scratch, c, r) {
+    match for_head(tree, text, arena, scratch, k, c, r) {
         Stated::Refused(x) => Finished::Refused(x),
-        Stated::Done(scope, k) => {
+        Stated::Done(scope) => {
             let inner = scope.with_loop(r as u32);
             let mut at = c;
             at.scope = inner;
-            at.counters = k;
-            match convert_block(tree, text, arena, scratch, at, body) {
+            match convert_block(tree, text, arena, scratch, k, at, body) {
                 Finished::Refused(x) => Finished::Refused(x),
-                Finished::Done(k1) => Finished::Done(loop_end(arena, k1, r)),
+                Finished::Done => {
+                    loop_end(arena, k, r);
+                    Finished::Done
+                }
             }
         }
     }

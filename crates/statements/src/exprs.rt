@@ -5,13 +5,14 @@ ghost use Rattle.records.specs.Words as Words;
 ghost use Rattle.records.specs.Words.{wordOf};
 ghost use Rattle.records.specs.Kinds.{kindUnary, kindBinary, kindCall};
 ghost use Rattle.syntax.specs.Places.{IsExpr, IsKind, TypeAt};
+ghost use Rattle.ir.specs.Counted.{was, is};
 ghost use Rattle.statements.specs.Converting.{Converting, ExprAfforded, ArgsAfforded};
+ghost use Rattle.statements.specs.Lent.{at, converted, convertedArgs};
 ghost use Rattle.statements.specs.Answers.{givens, given, exprSteps, unarySteps, logicSteps, otherSteps, binarySteps, callSteps, argsSteps, ConvertsAs, CallArgsAs};
 ghost use Rattle.statements.specs.Turns.{InTurn, exprTypes, unaryTypes, sidesTypes, binaryTypes, argsTypes, callTypes, ConvertsTyped, ArgumentsTyped};
 use crate::answers::Converted;
 use crate::answers::ConvertedArgs;
 use crate::answers::Converter;
-use crate::answers::as_converted;
 use crate::operands::operand;
 use crate::operands::push_operand;
 use crate::parts::begin_logic;
@@ -47,30 +48,31 @@ pub(crate) fn convert_expr(
     text: &[u8],
     arena: &mut [u8],
     scratch: &mut [u8],
+    k: &mut [usize],
     c: Converter,
     e: usize,
 ) -> Converted
-    requires { ⌜ Converting (now tree) (now text) (now arena) (now scratch) c × ExprAfforded (now tree) (now text) c e ⌝ }
+    requires { ⌜ Converting (now tree) (now text) (now arena) (now scratch) (at c (now k)) × ExprAfforded (now tree) (now text) (at c (now k)) e ⌝ }
     requires { ⌜ IsExpr (now tree) e ⌝ }
-    requires { ⌜ InTurn (now tree) (now text) (now scratch) c ⌝ }
-    ensures { λ a. ⌜ ConvertsAs exprSteps c e (now (tree .entry)) (now (text .entry)) (now (arena .entry)) (now (scratch .entry)) a (now (arena .exit)) (now (scratch .exit)) ⌝ }
-    ensures types { λ a. ⌜ ConvertsTyped exprTypes c e (now (tree .entry)) (now (text .entry)) (now (scratch .entry)) a (now (scratch .exit)) ⌝ }
+    requires { ⌜ InTurn (now tree) (now text) (now scratch) (at c (now k)) ⌝ }
+    ensures { λ a. ⌜ ConvertsAs exprSteps (at c (was k)) e (was tree) (was text) (was arena) (was scratch) (converted (is k) a) (is arena) (is scratch) ⌝ }
+    ensures types { λ a. ⌜ ConvertsTyped exprTypes (at c (was k)) e (was tree) (was text) (was scratch) (converted (is k) a) (is scratch) ⌝ }
 {
     let scope = c.scope;
     let node = kind(tree, e);
     if node <= KIND_SIZE_OF {
-        return operand(tree, text, arena, scratch, c, e);
+        return operand(tree, text, arena, scratch, k, c, e);
     }
     match get_type(tree, text, scratch, scope, c.turn, e) {
         ExprType::Refused(x) => Converted::Refused(x),
         ExprType::Is(y) => {
             if node == KIND_UNARY {
-                return convert_unary(tree, text, arena, scratch, c, e, y);
+                return convert_unary(tree, text, arena, scratch, k, c, e, y);
             }
             if node == KIND_BINARY {
-                return convert_binary(tree, text, arena, scratch, c, e, y);
+                return convert_binary(tree, text, arena, scratch, k, c, e, y);
             }
-            convert_call_value(tree, text, arena, scratch, c, e, y)
+            convert_call_value(tree, text, arena, scratch, k, c, e, y)
         }
     }
 }
@@ -81,24 +83,22 @@ fn convert_unary(
     text: &[u8],
     arena: &mut [u8],
     scratch: &mut [u8],
+    k: &mut [usize],
     c: Converter,
     e: usize,
     y: usize,
 ) -> Converted
-    requires { ⌜ Converting (now tree) (now text) (now arena) (now scratch) c × ExprAfforded (now tree) (now text) c e ⌝ }
+    requires { ⌜ Converting (now tree) (now text) (now arena) (now scratch) (at c (now k)) × ExprAfforded (now tree) (now text) (at c (now k)) e ⌝ }
     requires { ⌜ IsKind (now tree) kindUnary e × TypeAt (now tree) y ⌝ }
-    requires { ⌜ InTurn (now tree) (now text) (now scratch) c ⌝ }
-    ensures { λ a. ⌜ ConvertsAs (given unarySteps y) c e (now (tree .entry)) (now (text .entry)) (now (arena .entry)) (now (scratch .entry)) a (now (arena .exit)) (now (scratch .exit)) ⌝ }
-    ensures types { λ a. ⌜ ConvertsTyped unaryTypes c e (now (tree .entry)) (now (text .entry)) (now (scratch .entry)) a (now (scratch .exit)) ⌝ }
+    requires { ⌜ InTurn (now tree) (now text) (now scratch) (at c (now k)) ⌝ }
+    ensures { λ a. ⌜ ConvertsAs (given unarySteps y) (at c (was k)) e (was tree) (was text) (was arena) (was scratch) (converted (is k) a) (is arena) (is scratch) ⌝ }
+    ensures types { λ a. ⌜ ConvertsTyped unaryTypes (at c (was k)) e (was tree) (was text) (was scratch) (converted (is k) a) (is scratch) ⌝ }
 {
     let op = detail(tree, e);
     let part = reference(tree, e, WORD_A);
-    match convert_expr(tree, text, arena, scratch, c, part) {
+    match convert_expr(tree, text, arena, scratch, k, c, part) {
         Converted::Refused(x) => Converted::Refused(x),
-        Converted::Is(src, k) => {
-            let f = finish_unary(arena, k, op, src, y);
-            as_converted(f)
-        }
+        Converted::Is(src) => Converted::Is(finish_unary(arena, k, op, src, y)),
     }
 }
 
@@ -108,23 +108,24 @@ fn convert_binary(
     text: &[u8],
     arena: &mut [u8],
     scratch: &mut [u8],
+    k: &mut [usize],
     c: Converter,
     e: usize,
     y: usize,
 ) -> Converted
-    requires { ⌜ Converting (now tree) (now text) (now arena) (now scratch) c × ExprAfforded (now tree) (now text) c e ⌝ }
+    requires { ⌜ Converting (now tree) (now text) (now arena) (now scratch) (at c (now k)) × ExprAfforded (now tree) (now text) (at c (now k)) e ⌝ }
     requires { ⌜ IsKind (now tree) kindBinary e × TypeAt (now tree) y ⌝ }
-    requires { ⌜ InTurn (now tree) (now text) (now scratch) c ⌝ }
-    ensures { λ a. ⌜ ConvertsAs (given binarySteps y) c e (now (tree .entry)) (now (text .entry)) (now (arena .entry)) (now (scratch .entry)) a (now (arena .exit)) (now (scratch .exit)) ⌝ }
-    ensures types { λ a. ⌜ ConvertsTyped binaryTypes c e (now (tree .entry)) (now (text .entry)) (now (scratch .entry)) a (now (scratch .exit)) ⌝ }
+    requires { ⌜ InTurn (now tree) (now text) (now scratch) (at c (now k)) ⌝ }
+    ensures { λ a. ⌜ ConvertsAs (given binarySteps y) (at c (was k)) e (was tree) (was text) (was arena) (was scratch) (converted (is k) a) (is arena) (is scratch) ⌝ }
+    ensures types { λ a. ⌜ ConvertsTyped binaryTypes (at c (was k)) e (was tree) (was text) (was scratch) (converted (is k) a) (is scratch) ⌝ }
 {
     match operand_type(tree, text, scratch, c, e, y) {
         ExprType::Refused(x) => Converted::Refused(x),
         ExprType::Is(q) => {
             if detail(tree, e) <= AND {
-                return convert_logic(tree, text, arena, scratch, c, e, y);
+                return convert_logic(tree, text, arena, scratch, k, c, e, y);
             }
-            convert_other(tree, text, arena, scratch, c, e, y, q)
+            convert_other(tree, text, arena, scratch, k, c, e, y, q)
         }
     }
 }
@@ -135,35 +136,27 @@ fn convert_logic(
     text: &[u8],
     arena: &mut [u8],
     scratch: &mut [u8],
+    k: &mut [usize],
     c: Converter,
     e: usize,
     y: usize,
 ) -> Converted
-    requires { ⌜ Converting (now tree) (now text) (now arena) (now scratch) c × ExprAfforded (now tree) (now text) c e ⌝ }
+    requires { ⌜ Converting (now tree) (now text) (now arena) (now scratch) (at c (now k)) × ExprAfforded (now tree) (now text) (at c (now k)) e ⌝ }
     requires { ⌜ IsKind (now tree) kindBinary e × TypeAt (now tree) y ⌝ }
-    requires { ⌜ InTurn (now tree) (now text) (now scratch) c ⌝ }
-    ensures { λ a. ⌜ ConvertsAs (given logicSteps y) c e (now (tree .entry)) (now (text .entry)) (now (arena .entry)) (now (scratch .entry)) a (now (arena .exit)) (now (scratch .exit)) ⌝ }
-    ensures types { λ a. ⌜ ConvertsTyped sidesTypes c e (now (tree .entry)) (now (text .entry)) (now (scratch .entry)) a (now (scratch .exit)) ⌝ }
+    requires { ⌜ InTurn (now tree) (now text) (now scratch) (at c (now k)) ⌝ }
+    ensures { λ a. ⌜ ConvertsAs (given logicSteps y) (at c (was k)) e (was tree) (was text) (was arena) (was scratch) (converted (is k) a) (is arena) (is scratch) ⌝ }
+    ensures types { λ a. ⌜ ConvertsTyped sidesTypes (at c (was k)) e (was tree) (was text) (was scratch) (converted (is k) a) (is scratch) ⌝ }
 {
     let left = reference(tree, e, WORD_A);
     let right = reference(tree, e, WORD_B);
-    let k = c.counters;
-    let begun = begin_logic(arena, k, e, y);
-    let dest = begun.var;
-    let k1 = begun.counters;
-    let mut at = c;
-    at.counters = k1;
-    match convert_expr(tree, text, arena, scratch, at, left) {
+    let dest = begin_logic(arena, k, e, y);
+    match convert_expr(tree, text, arena, scratch, k, c, left) {
         Converted::Refused(x) => Converted::Refused(x),
-        Converted::Is(a, k2) => {
-            let k3 = join_logic(tree, arena, k2, e, dest, a);
-            at.counters = k3;
-            match convert_expr(tree, text, arena, scratch, at, right) {
+        Converted::Is(a) => {
+            join_logic(tree, arena, k, e, dest, a);
+            match convert_expr(tree, text, arena, scratch, k, c, right) {
                 Converted::Refused(x) => Converted::Refused(x),
-                Converted::Is(b, k4) => {
-                    let f = end_logic(arena, k4, e, dest, b);
-                    as_converted(f)
-                }
+                Converted::Is(b) => Converted::Is(end_logic(arena, k, e, dest, b)),
             }
         }
     }
@@ -175,33 +168,27 @@ fn convert_other(
     text: &[u8],
     arena: &mut [u8],
     scratch: &mut [u8],
+    k: &mut [usize],
     c: Converter,
     e: usize,
     y: usize,
     q: usize,
 ) -> Converted
-    requires { ⌜ Converting (now tree) (now text) (now arena) (now scratch) c × ExprAfforded (now tree) (now text) c e ⌝ }
+    requires { ⌜ Converting (now tree) (now text) (now arena) (now scratch) (at c (now k)) × ExprAfforded (now tree) (now text) (at c (now k)) e ⌝ }
     requires { ⌜ IsKind (now tree) kindBinary e × TypeAt (now tree) y × TypeAt (now tree) q ⌝ }
-    requires { ⌜ InTurn (now tree) (now text) (now scratch) c ⌝ }
-    ensures { λ a. ⌜ ConvertsAs (givens otherSteps y q) c e (now (tree .entry)) (now (text .entry)) (now (arena .entry)) (now (scratch .entry)) a (now (arena .exit)) (now (scratch .exit)) ⌝ }
-    ensures types { λ a. ⌜ ConvertsTyped sidesTypes c e (now (tree .entry)) (now (text .entry)) (now (scratch .entry)) a (now (scratch .exit)) ⌝ }
+    requires { ⌜ InTurn (now tree) (now text) (now scratch) (at c (now k)) ⌝ }
+    ensures { λ a. ⌜ ConvertsAs (givens otherSteps y q) (at c (was k)) e (was tree) (was text) (was arena) (was scratch) (converted (is k) a) (is arena) (is scratch) ⌝ }
+    ensures types { λ a. ⌜ ConvertsTyped sidesTypes (at c (was k)) e (was tree) (was text) (was scratch) (converted (is k) a) (is scratch) ⌝ }
 {
     let op = detail(tree, e);
     let left = reference(tree, e, WORD_A);
     let right = reference(tree, e, WORD_B);
-    match convert_expr(tree, text, arena, scratch, c, left) {
+    match convert_expr(tree, text, arena, scratch, k, c, left) {
         Converted::Refused(x) => Converted::Refused(x),
-        Converted::Is(a, k) => {
-            let mut at = c;
-            at.counters = k;
-            match convert_expr(tree, text, arena, scratch, at, right) {
-                Converted::Refused(x) => Converted::Refused(x),
-                Converted::Is(b, k1) => {
-                    let f = finish_binary(tree, arena, k1, op, a, b, y, q);
-                    as_converted(f)
-                }
-            }
-        }
+        Converted::Is(a) => match convert_expr(tree, text, arena, scratch, k, c, right) {
+            Converted::Refused(x) => Converted::Refused(x),
+            Converted::Is(b) => Converted::Is(finish_binary(tree, arena, k, op, a, b, y, q)),
+        },
     }
 }
 
@@ -211,27 +198,26 @@ fn convert_call_value(
     text: &[u8],
     arena: &mut [u8],
     scratch: &mut [u8],
+    k: &mut [usize],
     c: Converter,
     e: usize,
     y: usize,
 ) -> Converted
-    requires { ⌜ Converting (now tree) (now text) (now arena) (now scratch) c × ExprAfforded (now tree) (now text) c e ⌝ }
+    requires { ⌜ Converting (now tree) (now text) (now arena) (now scratch) (at c (now k)) × ExprAfforded (now tree) (now text) (at c (now k)) e ⌝ }
     requires { ⌜ IsKind (now tree) kindCall e × TypeAt (now tree) y ⌝ }
-    requires { ⌜ InTurn (now tree) (now text) (now scratch) c ⌝ }
-    ensures { λ a. ⌜ ConvertsAs (given callSteps y) c e (now (tree .entry)) (now (text .entry)) (now (arena .entry)) (now (scratch .entry)) a (now (arena .exit)) (now (scratch .exit)) ⌝ }
-    ensures types { λ a. ⌜ ConvertsTyped callTypes c e (now (tree .entry)) (now (text .entry)) (now (scratch .entry)) a (now (scratch .exit)) ⌝ }
+    requires { ⌜ InTurn (now tree) (now text) (now scratch) (at c (now k)) ⌝ }
+    ensures { λ a. ⌜ ConvertsAs (given callSteps y) (at c (was k)) e (was tree) (was text) (was arena) (was scratch) (converted (is k) a) (is arena) (is scratch) ⌝ }
+    ensures types { λ a. ⌜ ConvertsTyped callTypes (at c (was k)) e (was tree) (was text) (was scratch) (converted (is k) a) (is scratch) ⌝ }
 {
     let scope = c.scope;
     let callee = resolve_call(tree, text, scratch, scope, c.turn, e);
     if let Resolved::Refused(x) = callee {
         return Converted::Refused(x);
     }
-    match convert_args(tree, text, arena, scratch, c, e) {
+    match convert_args(tree, text, arena, scratch, k, c, e) {
         ConvertedArgs::Refused(x) => Converted::Refused(x),
-        ConvertedArgs::Done(count, k) => {
-            let mut at = c;
-            at.counters = k;
-            finish_call(tree, text, arena, scratch, at, e, y, callee, count)
+        ConvertedArgs::Done(count) => {
+            finish_call(tree, text, arena, scratch, k, c, e, y, callee, count)
         }
     }
 }
@@ -242,14 +228,15 @@ pub(crate) fn convert_args(
     text: &[u8],
     arena: &mut [u8],
     scratch: &mut [u8],
+    k: &mut [usize],
     c: Converter,
     e: usize,
 ) -> ConvertedArgs
-    requires { ⌜ Converting (now tree) (now text) (now arena) (now scratch) c × ArgsAfforded (now tree) (now text) c (wordOf (now tree) e Words.C) ⌝ }
+    requires { ⌜ Converting (now tree) (now text) (now arena) (now scratch) (at c (now k)) × ArgsAfforded (now tree) (now text) (at c (now k)) (wordOf (now tree) e Words.C) ⌝ }
     requires { ⌜ IsKind (now tree) kindCall e ⌝ }
-    requires { ⌜ InTurn (now tree) (now text) (now scratch) c ⌝ }
-    ensures { λ a. ⌜ CallArgsAs argsSteps c e (now (tree .entry)) (now (text .entry)) (now (arena .entry)) (now (scratch .entry)) a (now (arena .exit)) (now (scratch .exit)) ⌝ }
-    ensures types { λ a. ⌜ ArgumentsTyped argsTypes c (wordOf (now (tree .entry)) e Words.C) (now (tree .entry)) (now (text .entry)) (now (scratch .entry)) a (now (scratch .exit)) ⌝ }
+    requires { ⌜ InTurn (now tree) (now text) (now scratch) (at c (now k)) ⌝ }
+    ensures { λ a. ⌜ CallArgsAs argsSteps (at c (was k)) e (was tree) (was text) (was arena) (was scratch) (convertedArgs (is k) a) (is arena) (is scratch) ⌝ }
+    ensures types { λ a. ⌜ ArgumentsTyped argsTypes (at c (was k)) (wordOf (was tree) e Words.C) (was tree) (was text) (was scratch) (convertedArgs (is k) a) (is scratch) ⌝ }
 {
     let n = tree.len() / RECORD_BYTES;
     let first = c.operands;
@@ -257,18 +244,16 @@ pub(crate) fn convert_args(
     let mut at = c;
     while cell != END {
         if let Argument::Expr(value) = argument_at(tree, text, cell) {
-            match convert_expr(tree, text, arena, scratch, at, value) {
+            match convert_expr(tree, text, arena, scratch, k, at, value) {
                 Converted::Refused(x) => return ConvertedArgs::Refused(x),
-                Converted::Is(o, k) => {
+                Converted::Is(o) => {
                     let top = at.operands;
                     push_operand(scratch, n, top, o);
-                    at.counters = k;
                     at.operands = top + 1;
                 }
             }
         }
         cell = next_cell(tree, cell);
     }
-    let k = at.counters;
-    ConvertedArgs::Done(at.operands - first, k)
+    ConvertedArgs::Done(at.operands - first)
 }

@@ -11,12 +11,14 @@ ghost use Rattle.syntax.specs.Decode.{program, bit};
 ghost use Rattle.syntax.specs.Places.{IsExpr, IsKind, TypeAt};
 ghost use Rattle.conversion.specs.Ir.{conditionEnd, otherwiseLabel};
 ghost use Rattle.ir.specs.Amounts.{amount};
+ghost use Rattle.ir.specs.Counted.{counted, was, is};
 ghost use Rattle.ir.specs.Instructions.{operandOf, varOf};
 ghost use Rattle.expressions.specs.Slots.{Ready};
-ghost use Rattle.statements.specs.Converting.{Converting, RoomFor, OperandIn, Afforded, BehindAfforded, BoundAfforded, forHeadAmount};
+ghost use Rattle.statements.specs.Converting.{Converting, RoomFor, OperandIn, BehindAfforded, BoundAfforded};
+ghost use Rattle.statements.specs.Lent.{at, stated, finished, foundVariable};
 ghost use Rattle.statements.specs.Meets.{Adds};
 ghost use Rattle.statements.specs.Parts.{ifMiddle, loopBack, testBound, placeLabel};
-ghost use Rattle.statements.specs.Answers.{countOnSteps, ofVar, HeadAs, BoundAs, TurnsAs, ForHeadAs, VariableAs, Checks, ifHeadSteps, whileHeadSteps, forVariableSteps, boundSteps, forBoundsSteps, forBeginSteps, forTestSteps, forTurnsSteps, forHeadSteps, boundsUnder};
+ghost use Rattle.statements.specs.Answers.{countOnSteps, ofVar, HeadAs, BoundAs, TurnsAs, TurnsAfforded, ForHeadAs, VariableAs, Checks, ifHeadSteps, whileHeadSteps, forVariableSteps, boundSteps, forBoundsSteps, forBeginSteps, forTestSteps, forTurnsSteps, forHeadSteps};
 ghost use Rattle.statements.specs.Turns.{InTurn, headTypes, boundTypes, boundsTypes, forBeginTypes, forTestTypes, forTypes, StatesTyped, FinishesTyped, VariableTyped, ChecksTyped};
 use crate::answers::Converted;
 use crate::answers::Converter;
@@ -42,11 +44,10 @@ use expressions::answers::Outcome;
 use expressions::expressions::get_type;
 use expressions::names::declare_name;
 use expressions::names::find_name;
-use ir::structs::Counters;
+use ir::lent::new_var;
 use ir::structs::Operand;
 use ir::structs::VarId;
 use ir::structs::emit_binary;
-use ir::structs::new_var;
 use records::convert_error::ConvertErrorKind;
 use records::numbers::ADD;
 use records::numbers::BOOL_TYPE;
@@ -69,7 +70,7 @@ use types::form::is_unsigned;
 pub(crate) fn has_otherwise(tree: &[u8], r: usize) -> bool
     requires { ⌜ r * recordBytes + recordBytes ≤ length (now tree) ⌝ }
     requires { ⌜ detailOf (now tree) r ≤ 1 ⌝ }
-    ensures { λ b. ⌜ b ≡ bit 1 (detailOf (now (tree .entry)) r) ⌝ }
+    ensures { λ b. ⌜ b ≡ bit 1 (detailOf (was tree) r) ⌝ }
 {
     detail(tree, r) == 1
 }
@@ -78,7 +79,7 @@ pub(crate) fn has_otherwise(tree: &[u8], r: usize) -> bool
 fn if_not_label(tree: &[u8], r: usize) -> u32
     requires { ⌜ r * recordBytes + recordBytes ≤ length (now tree) ⌝ }
     requires { ⌜ detailOf (now tree) r ≤ 1 ⌝ }
-    ensures { λ k. ⌜ k ≡ pick (bit 1 (detailOf (now (tree .entry)) r)) (otherwiseLabel r .kind) (conditionEnd r .kind) ⌝ }
+    ensures { λ k. ⌜ k ≡ pick (bit 1 (detailOf (was tree) r)) (otherwiseLabel r .kind) (conditionEnd r .kind) ⌝ }
 {
     if has_otherwise(tree, r) {
         return OTHERWISE;
@@ -92,38 +93,42 @@ pub(crate) fn if_head(
     text: &[u8],
     arena: &mut [u8],
     scratch: &mut [u8],
+    k: &mut [usize],
     c: Converter,
     r: usize,
 ) -> Finished
-    requires { ⌜ Converting (now tree) (now text) (now arena) (now scratch) c × BehindAfforded (now tree) (now text) c r ⌝ }
+    requires { ⌜ Converting (now tree) (now text) (now arena) (now scratch) (at c (now k)) × BehindAfforded (now tree) (now text) (at c (now k)) r ⌝ }
     requires { ⌜ IsKind (now tree) kindIf r ⌝ }
-    requires { ⌜ InTurn (now tree) (now text) (now scratch) c ⌝ }
-    ensures { λ a. ⌜ HeadAs ifHeadSteps c r (now (tree .entry)) (now (text .entry)) (now (arena .entry)) (now (scratch .entry)) a (now (arena .exit)) (now (scratch .exit)) ⌝ }
-    ensures types { λ a. ⌜ FinishesTyped headTypes c r (now (tree .entry)) (now (text .entry)) (now (scratch .entry)) a (now (scratch .exit)) ⌝ }
+    requires { ⌜ InTurn (now tree) (now text) (now scratch) (at c (now k)) ⌝ }
+    ensures { λ a. ⌜ HeadAs ifHeadSteps (at c (was k)) r (was tree) (was text) (was arena) (was scratch) (finished (is k) a) (is arena) (is scratch) ⌝ }
+    ensures types { λ a. ⌜ FinishesTyped headTypes (at c (was k)) r (was tree) (was text) (was scratch) (finished (is k) a) (is scratch) ⌝ }
 {
     let e = reference(tree, r, WORD_A);
     let label = if_not_label(tree, r);
-    match convert_cond(tree, text, arena, scratch, c, e) {
+    match convert_cond(tree, text, arena, scratch, k, c, e) {
         Converted::Refused(x) => Finished::Refused(x),
-        Converted::Is(cond, k) => Finished::Done(jump_if_not(arena, k, cond, label, r)),
+        Converted::Is(cond) => {
+            jump_if_not(arena, k, cond, label, r);
+            Finished::Done
+        }
     }
 }
 
 // Between the blocks of the If r.
-pub(crate) fn if_middle(arena: &mut [u8], k: Counters, r: usize) -> Counters
-    requires { ⌜ RoomFor k (now arena) (amount 2 0 2 0 0) × (r < k .records) ⌝ }
-    ensures { λ k′. ⌜ Adds (ifMiddle r) (amount 2 0 2 0 0) k (now (arena .entry)) tt k′ (now (arena .exit)) ⌝ }
+pub(crate) fn if_middle(arena: &mut [u8], k: &mut [usize], r: usize)
+    requires { ⌜ RoomFor (counted (now k)) (now arena) (amount 2 0 2 0 0) × (r < counted (now k) .records) ⌝ }
+    ensures { λ _. ⌜ Adds (ifMiddle r) (amount 2 0 2 0 0) (counted (was k)) (was arena) tt (counted (is k)) (is arena) ⌝ }
 {
-    let k1 = jump(arena, k, CONDITION_END, r);
-    place_label(arena, k1, OTHERWISE, r)
+    jump(arena, k, CONDITION_END, r);
+    place_label(arena, k, OTHERWISE, r);
 }
 
 // Behind the last block of the If r.
-pub(crate) fn if_end(arena: &mut [u8], k: Counters, r: usize) -> Counters
-    requires { ⌜ RoomFor k (now arena) (amount 1 0 1 0 0) × (r < k .records) ⌝ }
-    ensures { λ k′. ⌜ Adds (placeLabel (conditionEnd r)) (amount 1 0 1 0 0) k (now (arena .entry)) tt k′ (now (arena .exit)) ⌝ }
+pub(crate) fn if_end(arena: &mut [u8], k: &mut [usize], r: usize)
+    requires { ⌜ RoomFor (counted (now k)) (now arena) (amount 1 0 1 0 0) × (r < counted (now k) .records) ⌝ }
+    ensures { λ _. ⌜ Adds (placeLabel (conditionEnd r)) (amount 1 0 1 0 0) (counted (was k)) (was arena) tt (counted (is k)) (is arena) ⌝ }
 {
-    place_label(arena, k, CONDITION_END, r)
+    place_label(arena, k, CONDITION_END, r);
 }
 
 // The While r before its body.
@@ -132,33 +137,34 @@ pub(crate) fn while_head(
     text: &[u8],
     arena: &mut [u8],
     scratch: &mut [u8],
+    k: &mut [usize],
     c: Converter,
     r: usize,
 ) -> Finished
-    requires { ⌜ Converting (now tree) (now text) (now arena) (now scratch) c × BehindAfforded (now tree) (now text) c r ⌝ }
+    requires { ⌜ Converting (now tree) (now text) (now arena) (now scratch) (at c (now k)) × BehindAfforded (now tree) (now text) (at c (now k)) r ⌝ }
     requires { ⌜ IsKind (now tree) kindWhile r ⌝ }
-    requires { ⌜ InTurn (now tree) (now text) (now scratch) c ⌝ }
-    ensures { λ a. ⌜ HeadAs whileHeadSteps c r (now (tree .entry)) (now (text .entry)) (now (arena .entry)) (now (scratch .entry)) a (now (arena .exit)) (now (scratch .exit)) ⌝ }
-    ensures types { λ a. ⌜ FinishesTyped headTypes c r (now (tree .entry)) (now (text .entry)) (now (scratch .entry)) a (now (scratch .exit)) ⌝ }
+    requires { ⌜ InTurn (now tree) (now text) (now scratch) (at c (now k)) ⌝ }
+    ensures { λ a. ⌜ HeadAs whileHeadSteps (at c (was k)) r (was tree) (was text) (was arena) (was scratch) (finished (is k) a) (is arena) (is scratch) ⌝ }
+    ensures types { λ a. ⌜ FinishesTyped headTypes (at c (was k)) r (was tree) (was text) (was scratch) (finished (is k) a) (is scratch) ⌝ }
 {
-    let k = c.counters;
     let e = reference(tree, r, WORD_A);
-    let k1 = place_label(arena, k, LOOP_START, r);
-    let mut at = c;
-    at.counters = k1;
-    match convert_cond(tree, text, arena, scratch, at, e) {
+    place_label(arena, k, LOOP_START, r);
+    match convert_cond(tree, text, arena, scratch, k, c, e) {
         Converted::Refused(x) => Finished::Refused(x),
-        Converted::Is(cond, k2) => Finished::Done(jump_if_not(arena, k2, cond, LOOP_END, r)),
+        Converted::Is(cond) => {
+            jump_if_not(arena, k, cond, LOOP_END, r);
+            Finished::Done
+        }
     }
 }
 
 // Behind the body of the While or For r.
-pub(crate) fn loop_end(arena: &mut [u8], k: Counters, r: usize) -> Counters
-    requires { ⌜ RoomFor k (now arena) (amount 2 0 2 0 0) × (r < k .records) ⌝ }
-    ensures { λ k′. ⌜ Adds (loopBack r) (amount 2 0 2 0 0) k (now (arena .entry)) tt k′ (now (arena .exit)) ⌝ }
+pub(crate) fn loop_end(arena: &mut [u8], k: &mut [usize], r: usize)
+    requires { ⌜ RoomFor (counted (now k)) (now arena) (amount 2 0 2 0 0) × (r < counted (now k) .records) ⌝ }
+    ensures { λ _. ⌜ Adds (loopBack r) (amount 2 0 2 0 0) (counted (was k)) (was arena) tt (counted (is k)) (is arena) ⌝ }
 {
-    let k1 = jump(arena, k, LOOP_START, r);
-    place_label(arena, k1, LOOP_END, r)
+    jump(arena, k, LOOP_START, r);
+    place_label(arena, k, LOOP_END, r);
 }
 
 // The For r that declares its variable, of record v, in the scope of its body.
@@ -167,24 +173,22 @@ fn for_declared(
     text: &[u8],
     arena: &mut [u8],
     scratch: &mut [u8],
+    k: &mut [usize],
     c: Converter,
     r: usize,
     v: usize,
 ) -> ForVariable
-    requires { ⌜ Converting (now tree) (now text) (now arena) (now scratch) c × BehindAfforded (now tree) (now text) c r ⌝ }
+    requires { ⌜ Converting (now tree) (now text) (now arena) (now scratch) (at c (now k)) × BehindAfforded (now tree) (now text) (at c (now k)) r ⌝ }
     requires { ⌜ IsKind (now tree) kindFor r × (v ≡ wordOf (now tree) r Words.A) × TypeAt (now tree) (wordOf (now tree) v Words.C) ⌝ }
-    requires { ⌜ InTurn (now tree) (now text) (now scratch) c ⌝ }
-    ensures { λ a. ⌜ VariableAs forVariableSteps c r (now (tree .entry)) (now (text .entry)) (now (arena .entry)) (now (scratch .entry)) a (now (arena .exit)) (now (scratch .exit)) ⌝ }
-    ensures types { λ a. ⌜ VariableTyped c (now (tree .entry)) (now (text .entry)) (now (scratch .entry)) a (now (scratch .exit)) ⌝ }
+    requires { ⌜ InTurn (now tree) (now text) (now scratch) (at c (now k)) ⌝ }
+    ensures { λ a. ⌜ VariableAs forVariableSteps (at c (was k)) r (was tree) (was text) (was arena) (was scratch) (foundVariable (is k) a) (is arena) (is scratch) ⌝ }
+    ensures types { λ a. ⌜ VariableTyped (at c (was k)) (was tree) (was text) (was scratch) (foundVariable (is k) a) (is scratch) ⌝ }
 {
     let scope = c.scope;
-    let k = c.counters;
-    let made = new_var(arena, k, word(tree, v, WORD_C));
-    let x = made.var;
-    let k1 = made.counters;
+    let x = new_var(arena, k, word(tree, v, WORD_C));
     match declare_name(tree, text, scratch, scope, v, x, false) {
         Declared::Taken => ForVariable::Refused(error_at(ConvertErrorKind::AlreadyDeclared, r)),
-        Declared::Done(next) => ForVariable::Is(x, next, k1),
+        Declared::Done(next) => ForVariable::Is(x, next),
     }
 }
 
@@ -194,23 +198,23 @@ fn for_known(
     text: &[u8],
     arena: &[u8],
     scratch: &[u8],
+    k: &[usize],
     c: Converter,
     r: usize,
     v: usize,
 ) -> ForVariable
-    requires { ⌜ Converting (now tree) (now text) (now arena) (now scratch) c × BehindAfforded (now tree) (now text) c r ⌝ }
+    requires { ⌜ Converting (now tree) (now text) (now arena) (now scratch) (at c (now k)) × BehindAfforded (now tree) (now text) (at c (now k)) r ⌝ }
     requires { ⌜ IsKind (now tree) kindFor r × (v ≡ wordOf (now tree) r Words.A) × (wordOf (now tree) v Words.C ≡ Words.none) ⌝ }
-    ensures { λ a. ⌜ VariableAs forVariableSteps c r (now (tree .entry)) (now (text .entry)) (now (arena .entry)) (now (scratch .entry)) a (now (arena .entry)) (now (scratch .entry)) ⌝ }
+    ensures { λ a. ⌜ VariableAs forVariableSteps (at c (was k)) r (was tree) (was text) (was arena) (was scratch) (foundVariable (was k) a) (was arena) (was scratch) ⌝ }
 {
     let scope = c.scope;
-    let k = c.counters;
     match find_name(tree, text, scratch, scope, v) {
         Known::Unknown => ForVariable::Refused(error_at(ConvertErrorKind::UnknownVariable, r)),
         Known::Is(x, constant) => {
             if constant {
                 return ForVariable::Refused(error_at(ConvertErrorKind::AssignToConstant, r));
             }
-            ForVariable::Is(x, scope, k)
+            ForVariable::Is(x, scope)
         }
     }
 }
@@ -221,20 +225,21 @@ fn for_variable(
     text: &[u8],
     arena: &mut [u8],
     scratch: &mut [u8],
+    k: &mut [usize],
     c: Converter,
     r: usize,
 ) -> ForVariable
-    requires { ⌜ Converting (now tree) (now text) (now arena) (now scratch) c × BehindAfforded (now tree) (now text) c r ⌝ }
+    requires { ⌜ Converting (now tree) (now text) (now arena) (now scratch) (at c (now k)) × BehindAfforded (now tree) (now text) (at c (now k)) r ⌝ }
     requires { ⌜ IsKind (now tree) kindFor r ⌝ }
-    requires { ⌜ InTurn (now tree) (now text) (now scratch) c ⌝ }
-    ensures { λ a. ⌜ VariableAs forVariableSteps c r (now (tree .entry)) (now (text .entry)) (now (arena .entry)) (now (scratch .entry)) a (now (arena .exit)) (now (scratch .exit)) ⌝ }
-    ensures types { λ a. ⌜ VariableTyped c (now (tree .entry)) (now (text .entry)) (now (scratch .entry)) a (now (scratch .exit)) ⌝ }
+    requires { ⌜ InTurn (now tree) (now text) (now scratch) (at c (now k)) ⌝ }
+    ensures { λ a. ⌜ VariableAs forVariableSteps (at c (was k)) r (was tree) (was text) (was arena) (was scratch) (foundVariable (is k) a) (is arena) (is scratch) ⌝ }
+    ensures types { λ a. ⌜ VariableTyped (at c (was k)) (was tree) (was text) (was scratch) (foundVariable (is k) a) (is scratch) ⌝ }
 {
     let v = reference(tree, r, WORD_A);
     if word(tree, v, WORD_C) == NONE {
-        return for_known(tree, text, arena, scratch, c, r, v);
+        return for_known(tree, text, arena, scratch, k, c, r, v);
     }
-    for_declared(tree, text, arena, scratch, c, r, v)
+    for_declared(tree, text, arena, scratch, k, c, r, v)
 }
 
 // The bound e is of the variable's type y.
@@ -247,9 +252,9 @@ fn check_bound(
     y: usize,
 ) -> Outcome
     requires { ⌜ Ready (now tree) (now text) (now scratch) (c .scope) × IsExpr (now tree) e × TypeAt (now tree) y ⌝ }
-    requires { ⌜ InTurn (now tree) (now text) (now scratch) c ⌝ }
-    ensures { λ a. ⌜ Checks (now (tree .entry)) (boundSteps (now (tree .entry)) (now (text .entry)) (now (scratch .entry)) c e y) (now (scratch .entry)) a (now (scratch .exit)) ⌝ }
-    ensures types { λ a. ⌜ ChecksTyped boundTypes c e (now (tree .entry)) (now (text .entry)) (now (scratch .entry)) a (now (scratch .exit)) ⌝ }
+    requires { ⌜ ((k : List ℕ) → InTurn (now tree) (now text) (now scratch) (at c k)) ⌝ }
+    ensures { λ a. ⌜ ((k : List ℕ) → Checks (was tree) (boundSteps (was tree) (was text) (was scratch) (at c k) e y) (was scratch) a (is scratch)) ⌝ }
+    ensures types { λ a. ⌜ ((k : List ℕ) → ChecksTyped boundTypes (at c k) e (was tree) (was text) (was scratch) a (is scratch)) ⌝ }
 {
     let scope = c.scope;
     match get_type(tree, text, scratch, scope, c.turn, e) {
@@ -268,9 +273,9 @@ fn for_bounds(
     y: usize,
 ) -> Outcome
     requires { ⌜ Ready (now tree) (now text) (now scratch) (c .scope) × IsKind (now tree) kindFor r × TypeAt (now tree) y ⌝ }
-    requires { ⌜ InTurn (now tree) (now text) (now scratch) c ⌝ }
-    ensures { λ a. ⌜ Checks (now (tree .entry)) (forBoundsSteps (now (tree .entry)) (now (text .entry)) (now (scratch .entry)) c r y) (now (scratch .entry)) a (now (scratch .exit)) ⌝ }
-    ensures types { λ a. ⌜ ChecksTyped boundsTypes c r (now (tree .entry)) (now (text .entry)) (now (scratch .entry)) a (now (scratch .exit)) ⌝ }
+    requires { ⌜ ((k : List ℕ) → InTurn (now tree) (now text) (now scratch) (at c k)) ⌝ }
+    ensures { λ a. ⌜ ((k : List ℕ) → Checks (was tree) (forBoundsSteps (was tree) (was text) (was scratch) (at c k) r y) (was scratch) a (is scratch)) ⌝ }
+    ensures types { λ a. ⌜ ((k : List ℕ) → ChecksTyped boundsTypes (at c k) r (was tree) (was text) (was scratch) a (is scratch)) ⌝ }
 {
     let from = reference(tree, r, WORD_B);
     let until = reference(tree, r, WORD_C);
@@ -281,16 +286,16 @@ fn for_bounds(
 }
 
 // Where the For r counts on: at its start, which the first turn passes by, and then the check.
-fn count_on(tree: &[u8], arena: &mut [u8], k: Counters, r: usize, x: VarId) -> Counters
-    requires { ⌜ RoomFor k (now arena) (amount 4 0 3 0 0) × (r < k .records) × TypeAt (now tree) (x .1) ⌝ }
-    ensures { λ k′. ⌜ Adds (countOnSteps (now (tree .entry)) r x) (amount 4 0 3 0 0) k (now (arena .entry)) tt k′ (now (arena .exit)) ⌝ }
+fn count_on(tree: &[u8], arena: &mut [u8], k: &mut [usize], r: usize, x: VarId)
+    requires { ⌜ RoomFor (counted (now k)) (now arena) (amount 4 0 3 0 0) × (r < counted (now k) .records) × TypeAt (now tree) (x .1) ⌝ }
+    ensures { λ _. ⌜ Adds (countOnSteps (was tree) r x) (amount 4 0 3 0 0) (counted (was k)) (was arena) tt (counted (is k)) (is arena) ⌝ }
 {
     let y = x.1 as usize;
     let one = Operand::Int(1, is_short(tree, y), is_unsigned(tree, y));
-    let k1 = jump(arena, k, LOOP_CHECK, r);
-    let k2 = place_label(arena, k1, LOOP_START, r);
-    let k3 = emit_binary(arena, k2, x, ADD, Operand::Var(x), one);
-    place_label(arena, k3, LOOP_CHECK, r)
+    jump(arena, k, LOOP_CHECK, r);
+    place_label(arena, k, LOOP_START, r);
+    emit_binary(arena, k, x, ADD, Operand::Var(x), one);
+    place_label(arena, k, LOOP_CHECK, r);
 }
 
 // The For r up to its check: its variable gets the first bound.
@@ -299,46 +304,37 @@ fn for_begin(
     text: &[u8],
     arena: &mut [u8],
     scratch: &mut [u8],
+    k: &mut [usize],
     c: Converter,
     r: usize,
     x: VarId,
 ) -> Finished
-    requires { ⌜ Converting (now tree) (now text) (now arena) (now scratch) c × BoundAfforded (now tree) (now text) c r Words.B ⌝ }
+    requires { ⌜ Converting (now tree) (now text) (now arena) (now scratch) (at c (now k)) × BoundAfforded (now tree) (now text) (at c (now k)) r Words.B ⌝ }
     requires { ⌜ IsKind (now tree) kindFor r × TypeAt (now tree) (x .1) ⌝ }
-    requires { ⌜ InTurn (now tree) (now text) (now scratch) c ⌝ }
-    ensures { λ a. ⌜ BoundAs (ofVar forBeginSteps x) Words.B c r (now (tree .entry)) (now (text .entry)) (now (arena .entry)) (now (scratch .entry)) a (now (arena .exit)) (now (scratch .exit)) ⌝ }
-    ensures types { λ a. ⌜ FinishesTyped forBeginTypes c r (now (tree .entry)) (now (text .entry)) (now (scratch .entry)) a (now (scratch .exit)) ⌝ }
+    requires { ⌜ InTurn (now tree) (now text) (now scratch) (at c (now k)) ⌝ }
+    ensures { λ a. ⌜ BoundAs (ofVar forBeginSteps x) Words.B (at c (was k)) r (was tree) (was text) (was arena) (was scratch) (finished (is k) a) (is arena) (is scratch) ⌝ }
+    ensures types { λ a. ⌜ FinishesTyped forBeginTypes (at c (was k)) r (was tree) (was text) (was scratch) (finished (is k) a) (is scratch) ⌝ }
 {
     let from = reference(tree, r, WORD_B);
-    match convert_expr(tree, text, arena, scratch, c, from) {
+    match convert_expr(tree, text, arena, scratch, k, c, from) {
         Converted::Refused(e) => Finished::Refused(e),
-        Converted::Is(a, k) => {
-            let k1 = copy_fitted(tree, arena, k, x, a);
-            Finished::Done(count_on(tree, arena, k1, r, x))
+        Converted::Is(a) => {
+            copy_fitted(tree, arena, k, x, a);
+            count_on(tree, arena, k, r, x);
+            Finished::Done
         }
     }
 }
 
 // Whether the variable is below the bound, or the For r ends.
-fn test_bound(
-    tree: &[u8],
-    arena: &mut [u8],
-    k: Counters,
-    r: usize,
-    x: VarId,
-    until: Operand,
-) -> Counters
-    requires { ⌜ RoomFor k (now arena) (amount 3 2 1 0 1) × (r < k .records) × TypeAt (now tree) (x .1) × OperandIn (now tree) (operandOf until) ⌝ }
-    ensures { λ k′. ⌜ ((text : List ℕ) → Adds (testBound (program (now (tree .entry)) text) r (varOf x) (operandOf until)) (amount 3 2 1 0 1) k (now (arena .entry)) tt k′ (now (arena .exit))) ⌝ }
+fn test_bound(tree: &[u8], arena: &mut [u8], k: &mut [usize], r: usize, x: VarId, until: Operand)
+    requires { ⌜ RoomFor (counted (now k)) (now arena) (amount 3 2 1 0 1) × (r < counted (now k) .records) × TypeAt (now tree) (x .1) × OperandIn (now tree) (operandOf until) ⌝ }
+    ensures { λ _. ⌜ ((text : List ℕ) → Adds (testBound (program (was tree) text) r (varOf x) (operandOf until)) (amount 3 2 1 0 1) (counted (was k)) (was arena) tt (counted (is k)) (is arena)) ⌝ }
 {
-    let b = fit_operand(tree, arena, k, until, x.1 as usize);
-    let bound = b.operand;
-    let k1 = b.counters;
-    let made = new_var(arena, k1, BOOL_TYPE as u32);
-    let cond = made.var;
-    let k2 = made.counters;
-    let k3 = emit_binary(arena, k2, cond, LT, Operand::Var(x), bound);
-    jump_if_not(arena, k3, Operand::Var(cond), LOOP_END, r)
+    let bound = fit_operand(tree, arena, k, until, x.1 as usize);
+    let cond = new_var(arena, k, BOOL_TYPE as u32);
+    emit_binary(arena, k, cond, LT, Operand::Var(x), bound);
+    jump_if_not(arena, k, Operand::Var(cond), LOOP_END, r);
 }
 
 // The check of the For r: its second bound is computed anew at each turn.
@@ -347,20 +343,24 @@ fn for_test(
     text: &[u8],
     arena: &mut [u8],
     scratch: &mut [u8],
+    k: &mut [usize],
     c: Converter,
     r: usize,
     x: VarId,
 ) -> Finished
-    requires { ⌜ Converting (now tree) (now text) (now arena) (now scratch) c × BoundAfforded (now tree) (now text) c r Words.C ⌝ }
+    requires { ⌜ Converting (now tree) (now text) (now arena) (now scratch) (at c (now k)) × BoundAfforded (now tree) (now text) (at c (now k)) r Words.C ⌝ }
     requires { ⌜ IsKind (now tree) kindFor r × TypeAt (now tree) (x .1) ⌝ }
-    requires { ⌜ InTurn (now tree) (now text) (now scratch) c ⌝ }
-    ensures { λ a. ⌜ BoundAs (ofVar forTestSteps x) Words.C c r (now (tree .entry)) (now (text .entry)) (now (arena .entry)) (now (scratch .entry)) a (now (arena .exit)) (now (scratch .exit)) ⌝ }
-    ensures types { λ a. ⌜ FinishesTyped forTestTypes c r (now (tree .entry)) (now (text .entry)) (now (scratch .entry)) a (now (scratch .exit)) ⌝ }
+    requires { ⌜ InTurn (now tree) (now text) (now scratch) (at c (now k)) ⌝ }
+    ensures { λ a. ⌜ BoundAs (ofVar forTestSteps x) Words.C (at c (was k)) r (was tree) (was text) (was arena) (was scratch) (finished (is k) a) (is arena) (is scratch) ⌝ }
+    ensures types { λ a. ⌜ FinishesTyped forTestTypes (at c (was k)) r (was tree) (was text) (was scratch) (finished (is k) a) (is scratch) ⌝ }
 {
     let until = reference(tree, r, WORD_C);
-    match convert_expr(tree, text, arena, scratch, c, until) {
+    match convert_expr(tree, text, arena, scratch, k, c, until) {
         Converted::Refused(e) => Finished::Refused(e),
-        Converted::Is(b, k) => Finished::Done(test_bound(tree, arena, k, r, x, b)),
+        Converted::Is(b) => {
+            test_bound(tree, arena, k, r, x, b);
+            Finished::Done
+        }
     }
 }
 
@@ -370,15 +370,16 @@ fn for_turns(
     text: &[u8],
     arena: &mut [u8],
     scratch: &mut [u8],
+    k: &mut [usize],
     c: Converter,
     r: usize,
     x: VarId,
 ) -> Finished
-    requires { ⌜ Converting (now tree) (now text) (now arena) (now scratch) c × Afforded (now tree) c (forHeadAmount (boundsUnder (now tree) (now text) r)) (boundsUnder (now tree) (now text) r) 0 ⌝ }
+    requires { ⌜ Converting (now tree) (now text) (now arena) (now scratch) (at c (now k)) × TurnsAfforded (now tree) (now text) (at c (now k)) r ⌝ }
     requires { ⌜ IsKind (now tree) kindFor r × TypeAt (now tree) (x .1) ⌝ }
-    requires { ⌜ InTurn (now tree) (now text) (now scratch) c ⌝ }
-    ensures { λ a. ⌜ TurnsAs (ofVar forTurnsSteps x) c r (now (tree .entry)) (now (text .entry)) (now (arena .entry)) (now (scratch .entry)) a (now (arena .exit)) (now (scratch .exit)) ⌝ }
-    ensures types { λ a. ⌜ FinishesTyped forTypes c r (now (tree .entry)) (now (text .entry)) (now (scratch .entry)) a (now (scratch .exit)) ⌝ }
+    requires { ⌜ InTurn (now tree) (now text) (now scratch) (at c (now k)) ⌝ }
+    ensures { λ a. ⌜ TurnsAs (ofVar forTurnsSteps x) (at c (was k)) r (was tree) (was text) (was arena) (was scratch) (finished (is k) a) (is arena) (is scratch) ⌝ }
+    ensures types { λ a. ⌜ FinishesTyped forTypes (at c (was k)) r (was tree) (was text) (was scratch) (finished (is k) a) (is scratch) ⌝ }
 {
     let y = x.1 as usize;
     if form(tree, y) != FORM_INT {
@@ -386,13 +387,9 @@ fn for_turns(
     }
     match for_bounds(tree, text, scratch, c, r, y) {
         Outcome::Refused(e) => Finished::Refused(e),
-        Outcome::Done => match for_begin(tree, text, arena, scratch, c, r, x) {
+        Outcome::Done => match for_begin(tree, text, arena, scratch, k, c, r, x) {
             Finished::Refused(e) => Finished::Refused(e),
-            Finished::Done(k) => {
-                let mut at = c;
-                at.counters = k;
-                for_test(tree, text, arena, scratch, at, r, x)
-            }
+            Finished::Done => for_test(tree, text, arena, scratch, k, c, r, x),
         },
     }
 }
@@ -403,24 +400,21 @@ pub(crate) fn for_head(
     text: &[u8],
     arena: &mut [u8],
     scratch: &mut [u8],
+    k: &mut [usize],
     c: Converter,
     r: usize,
 ) -> Stated
-    requires { ⌜ Converting (now tree) (now text) (now arena) (now scratch) c × BehindAfforded (now tree) (now text) c r ⌝ }
+    requires { ⌜ Converting (now tree) (now text) (now arena) (now scratch) (at c (now k)) × BehindAfforded (now tree) (now text) (at c (now k)) r ⌝ }
     requires { ⌜ IsKind (now tree) kindFor r ⌝ }
-    requires { ⌜ InTurn (now tree) (now text) (now scratch) c ⌝ }
-    ensures { λ a. ⌜ ForHeadAs forHeadSteps c r (now (tree .entry)) (now (text .entry)) (now (arena .entry)) (now (scratch .entry)) a (now (arena .exit)) (now (scratch .exit)) ⌝ }
-    ensures types { λ a. ⌜ StatesTyped forTypes c r (now (tree .entry)) (now (text .entry)) (now (scratch .entry)) a (now (scratch .exit)) ⌝ }
+    requires { ⌜ InTurn (now tree) (now text) (now scratch) (at c (now k)) ⌝ }
+    ensures { λ a. ⌜ ForHeadAs forHeadSteps (at c (was k)) r (was tree) (was text) (was arena) (was scratch) (stated (is k) a) (is arena) (is scratch) ⌝ }
+    ensures types { λ a. ⌜ StatesTyped forTypes (at c (was k)) r (was tree) (was text) (was scratch) (stated (is k) a) (is scratch) ⌝ }
 {
-    match for_variable(tree, text, arena, scratch, c, r) {
+    match for_variable(tree, text, arena, scratch, k, c, r) {
         ForVariable::Refused(e) => Stated::Refused(e),
-        ForVariable::Is(x, inner, k) => {
-            let mut at = c;
-            at.counters = k;
-            match for_turns(tree, text, arena, scratch, at, r, x) {
-                Finished::Refused(e) => Stated::Refused(e),
-                Finished::Done(k1) => Stated::Done(inner, k1),
-            }
-        }
+        ForVariable::Is(x, inner) => match for_turns(tree, text, arena, scratch, k, c, r, x) {
+            Finished::Refused(e) => Stated::Refused(e),
+            Finished::Done => Stated::Done(inner),
+        },
     }
 }

@@ -17,14 +17,14 @@ ghost use Rattle.syntax.specs.Places.{IsExpr, IsKind};
 ghost use Rattle.conversion.specs.Ir.{OInt};
 ghost use Rattle.conversion.specs.Written.{word};
 ghost use Rattle.ir.specs.Amounts.{amount, Affords};
+ghost use Rattle.ir.specs.Counted.{counted, was, is};
 ghost use Rattle.ir.specs.Instructions.{operandOf};
 ghost use Rattle.statements.specs.Stack.{operandBytes, operandFrom, stackEntryAt, operandAt};
 ghost use Rattle.statements.specs.Converting.{Converting, RoomFor, exprAmount};
+ghost use Rattle.statements.specs.Lent.{at, converted, fitted};
 ghost use Rattle.statements.specs.Answers.{LeafAdds, LeafConverts};
 use crate::answers::Converted;
 use crate::answers::Converter;
-use crate::answers::Fitted;
-use crate::answers::as_converted;
 use crate::answers::error_at;
 use crate::numbers::TAG_BOOL;
 use crate::numbers::TAG_FLOAT;
@@ -35,9 +35,8 @@ use crate::numbers::TAG_UNSIGNED;
 use crate::numbers::TAG_VARIABLE;
 use expressions::names::find_name;
 use ir::floats::float_entry;
-use ir::pool::float_id;
-use ir::pool::string_id;
-use ir::structs::Counters;
+use ir::lent::float_id;
+use ir::lent::string_id;
 use ir::structs::Operand;
 use ir::structs::VarId;
 use records::convert_error::ConvertErrorKind;
@@ -117,8 +116,8 @@ fn operand_of(w: Four) -> Operand
 // Writes the operand at place j of the stack, for a tree of so many records.
 pub(crate) fn push_operand(scratch: &mut [u8], records: usize, j: usize, o: Operand)
     requires { ⌜ stackEntryAt records j + operands .each ≤ length (now scratch) ⌝ }
-    ensures written { λ _. ⌜ now (scratch .exit) ≡ splice (now (scratch .entry)) (stackEntryAt records j) (operandBytes (operandOf o)) ⌝ }
-    ensures back { λ _. ⌜ operandAt (now (scratch .exit)) records j ≡ operandOf o ⌝ }
+    ensures written { λ _. ⌜ is scratch ≡ splice (was scratch) (stackEntryAt records j) (operandBytes (operandOf o)) ⌝ }
+    ensures back { λ _. ⌜ operandAt (is scratch) records j ≡ operandOf o ⌝ }
 {
     let w = operand_words(o);
     put_four(scratch, OPERANDS * records + OPERAND_BYTES * j, w);
@@ -127,7 +126,7 @@ pub(crate) fn push_operand(scratch: &mut [u8], records: usize, j: usize, o: Oper
 // The operand at place j of the stack.
 pub(crate) fn operand_at(scratch: &[u8], records: usize, j: usize) -> Operand
     requires { ⌜ stackEntryAt records j + operands .each ≤ length (now scratch) ⌝ }
-    ensures { λ r. ⌜ operandOf r ≡ operandAt (now (scratch .entry)) records j ⌝ }
+    ensures { λ r. ⌜ operandOf r ≡ operandAt (was scratch) records j ⌝ }
 {
     let at = OPERANDS * records + OPERAND_BYTES * j;
     let a = load(scratch, at);
@@ -140,38 +139,28 @@ pub(crate) fn operand_at(scratch: &[u8], records: usize, j: usize) -> Operand
 // Detail 1 is short, 2 unsigned.
 fn int_operand(tree: &[u8], e: usize) -> Operand
     requires { ⌜ e * recordBytes + recordBytes ≤ length (now tree) ⌝ }
-    ensures { λ r. ⌜ ((text : List ℕ) → operandOf r ≡ OInt (toZ w64 (wideOf (now (tree .entry)) text e Words.A)) (bit 1 (detailOf (now (tree .entry)) e)) (bit 2 (detailOf (now (tree .entry)) e))) ⌝ }
+    ensures { λ r. ⌜ ((text : List ℕ) → operandOf r ≡ OInt (toZ w64 (wideOf (was tree) text e Words.A)) (bit 1 (detailOf (was tree) e)) (bit 2 (detailOf (was tree) e))) ⌝ }
 {
     let marks = detail(tree, e);
     let bits = two_words(tree, e, WORD_A);
     Operand::Int(bits, marks % 2 == 1, marks / 2 % 2 == 1)
 }
 
-fn float_operand(tree: &[u8], text: &[u8], arena: &mut [u8], k: Counters, e: usize) -> Fitted
-    requires { ⌜ RoomFor k (now arena) (amount 0 0 0 0 1) × Good (now tree) (now text) × IsKind (now tree) kindFloat e ⌝ }
-    ensures { λ r. ⌜ LeafAdds (now (tree .entry)) (now (text .entry)) e (amount 0 0 0 0 1) k (now (arena .entry)) r (now (arena .exit)) ⌝ }
+fn float_operand(tree: &[u8], text: &[u8], arena: &mut [u8], k: &mut [usize], e: usize) -> Operand
+    requires { ⌜ RoomFor (counted (now k)) (now arena) (amount 0 0 0 0 1) × Good (now tree) (now text) × IsKind (now tree) kindFloat e ⌝ }
+    ensures { λ r. ⌜ LeafAdds (was tree) (was text) e (amount 0 0 0 0 1) (counted (was k)) (was arena) (fitted (is k) r) (is arena) ⌝ }
 {
     let f = float_entry(two_words(tree, e, WORD_A), detail(tree, e) == 1);
-    let p = float_id(arena, k, f);
-    let next = p.counters;
-    Fitted {
-        operand: Operand::Float(p.number),
-        counters: next,
-    }
+    Operand::Float(float_id(arena, k, f))
 }
 
-fn string_operand(tree: &[u8], text: &[u8], arena: &mut [u8], k: Counters, e: usize) -> Fitted
-    requires { ⌜ RoomFor k (now arena) (amount 0 0 0 1 0) × Good (now tree) (now text) × IsKind (now tree) kindStr e ⌝ }
-    ensures { λ r. ⌜ LeafAdds (now (tree .entry)) (now (text .entry)) e (amount 0 0 0 1 0) k (now (arena .entry)) r (now (arena .exit)) ⌝ }
+fn string_operand(tree: &[u8], text: &[u8], arena: &mut [u8], k: &mut [usize], e: usize) -> Operand
+    requires { ⌜ RoomFor (counted (now k)) (now arena) (amount 0 0 0 1 0) × Good (now tree) (now text) × IsKind (now tree) kindStr e ⌝ }
+    ensures { λ r. ⌜ LeafAdds (was tree) (was text) e (amount 0 0 0 1 0) (counted (was k)) (was arena) (fitted (is k) r) (is arena) ⌝ }
 {
     let offset = word(tree, e, WORD_A);
     let len = word(tree, e, WORD_B);
-    let p = string_id(text, arena, k, offset, len);
-    let next = p.counters;
-    Fitted {
-        operand: Operand::DataAddress(p.number),
-        counters: next,
-    }
+    Operand::DataAddress(string_id(text, arena, k, offset, len))
 }
 
 // The variable of the Name e.
@@ -180,17 +169,17 @@ fn name_operand(
     text: &[u8],
     arena: &[u8],
     scratch: &[u8],
+    k: &[usize],
     c: Converter,
     e: usize,
 ) -> Converted
-    requires { ⌜ Converting (now tree) (now text) (now arena) (now scratch) c ⌝ }
+    requires { ⌜ Converting (now tree) (now text) (now arena) (now scratch) (at c (now k)) ⌝ }
     requires { ⌜ IsKind (now tree) kindName e ⌝ }
-    ensures { λ a. ⌜ LeafConverts (amount 0 0 0 0 0) c e (now (tree .entry)) (now (text .entry)) (now (arena .entry)) (now (scratch .entry)) a (now (arena .entry)) ⌝ }
+    ensures { λ a. ⌜ LeafConverts (amount 0 0 0 0 0) (at c (was k)) e (was tree) (was text) (was arena) (was scratch) (converted (was k) a) (was arena) ⌝ }
 {
     let scope = c.scope;
-    let k = c.counters;
     match find_name(tree, text, scratch, scope, e) {
-        Known::Is(v, _) => Converted::Is(Operand::Var(v), k),
+        Known::Is(v, _) => Converted::Is(Operand::Var(v)),
         Known::Unknown => Converted::Refused(error_at(ConvertErrorKind::UnknownVariable, e)),
     }
 }
@@ -201,16 +190,16 @@ fn size_operand(
     text: &[u8],
     arena: &[u8],
     scratch: &[u8],
+    k: &[usize],
     c: Converter,
     e: usize,
 ) -> Converted
-    requires { ⌜ Converting (now tree) (now text) (now arena) (now scratch) c ⌝ }
+    requires { ⌜ Converting (now tree) (now text) (now arena) (now scratch) (at c (now k)) ⌝ }
     requires { ⌜ IsKind (now tree) kindSizeOf e ⌝ }
-    ensures { λ a. ⌜ LeafConverts (amount 0 0 0 0 0) c e (now (tree .entry)) (now (text .entry)) (now (arena .entry)) (now (scratch .entry)) a (now (arena .entry)) ⌝ }
+    ensures { λ a. ⌜ LeafConverts (amount 0 0 0 0 0) (at c (was k)) e (was tree) (was text) (was arena) (was scratch) (converted (was k) a) (was arena) ⌝ }
 {
-    let k = c.counters;
     match size(tree, reference(tree, e, WORD_A)) {
-        Bytes::Exactly(n) => Converted::Is(Operand::Int(n, false, false), k),
+        Bytes::Exactly(n) => Converted::Is(Operand::Int(n, false, false)),
         Bytes::Over => Converted::Refused(error_at(ConvertErrorKind::WouldPanic, e)),
         Bytes::Nothing => Converted::Refused(error_at(ConvertErrorKind::WouldPanic, e)),
     }
@@ -222,35 +211,33 @@ pub(crate) fn operand(
     text: &[u8],
     arena: &mut [u8],
     scratch: &[u8],
+    k: &mut [usize],
     c: Converter,
     e: usize,
 ) -> Converted
-    requires { ⌜ Converting (now tree) (now text) (now arena) (now scratch) c ⌝ }
-    requires { ⌜ Affords (c .counters) (exprAmount 0) ⌝ }
+    requires { ⌜ Converting (now tree) (now text) (now arena) (now scratch) (at c (now k)) ⌝ }
+    requires { ⌜ Affords (counted (now k)) (exprAmount 0) ⌝ }
     requires { ⌜ IsExpr (now tree) e × (kindOf (now tree) e ≤ kindSizeOf) ⌝ }
-    ensures { λ a. ⌜ LeafConverts (exprAmount 0) c e (now (tree .entry)) (now (text .entry)) (now (arena .entry)) (now (scratch .entry)) a (now (arena .exit)) ⌝ }
+    ensures { λ a. ⌜ LeafConverts (exprAmount 0) (at c (was k)) e (was tree) (was text) (was arena) (was scratch) (converted (is k) a) (is arena) ⌝ }
 {
-    let k = c.counters;
     let leaf = kind(tree, e);
     if leaf == KIND_INT {
-        return Converted::Is(int_operand(tree, e), k);
+        return Converted::Is(int_operand(tree, e));
     }
     if leaf == KIND_FLOAT {
-        let f = float_operand(tree, text, arena, k, e);
-        return as_converted(f);
+        return Converted::Is(float_operand(tree, text, arena, k, e));
     }
     if leaf == KIND_STR {
-        let f = string_operand(tree, text, arena, k, e);
-        return as_converted(f);
+        return Converted::Is(string_operand(tree, text, arena, k, e));
     }
     if leaf == KIND_BOOL {
-        return Converted::Is(Operand::Bool(detail(tree, e) == 1), k);
+        return Converted::Is(Operand::Bool(detail(tree, e) == 1));
     }
     if leaf == KIND_NAME {
-        return name_operand(tree, text, arena, scratch, c, e);
+        return name_operand(tree, text, arena, scratch, k, c, e);
     }
     if leaf == KIND_NULL {
-        return Converted::Is(Operand::Null, k);
+        return Converted::Is(Operand::Null);
     }
-    size_operand(tree, text, arena, scratch, c, e)
+    size_operand(tree, text, arena, scratch, k, c, e)
 }

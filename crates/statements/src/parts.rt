@@ -8,17 +8,18 @@ ghost use Rattle.records.specs.Kinds.{kindBinary, kindCall};
 ghost use Rattle.syntax.specs.Syntax.{unaryOps, binaryOps, Neg, Or, And};
 ghost use Rattle.syntax.specs.Places.{IsKind, TypeAt, FunctionAt};
 ghost use Rattle.ir.specs.Amounts.{amount};
+ghost use Rattle.ir.specs.Counted.{counted, was, is};
 ghost use Rattle.ir.specs.Instructions.{operandOf, varOf};
 ghost use Rattle.expressions.specs.Slots.{Ready};
 ghost use Rattle.expressions.specs.Answers.{IsCallee};
 ghost use Rattle.statements.specs.Converting.{Converting, RoomFor, OperandIn, StackIn, Afforded};
+ghost use Rattle.statements.specs.Lent.{at, converted, fitted};
 ghost use Rattle.statements.specs.Meets.{Adds};
 ghost use Rattle.statements.specs.Parts.{finishUnary, beginLogic, joinAnd, joinOr, endLogic};
 ghost use Rattle.statements.specs.Answers.{FitAdds, BinaryFinishes, joinSteps, OperandTyped, CastsAs, CallsAs, CallEndsAs};
 ghost use Rattle.statements.specs.Turns.{InTurn, TurnsStay, CommonTyped};
 use crate::answers::Converted;
 use crate::answers::Converter;
-use crate::answers::Fitted;
 use crate::answers::error_at;
 use crate::fits::fit_operand;
 use crate::fits::pass_args;
@@ -32,8 +33,8 @@ use expressions::answers::Common;
 use expressions::answers::ExprType;
 use expressions::answers::Resolved;
 use expressions::expressions::common_type;
-use ir::structs::Counters;
-use ir::structs::NewVariable;
+use ir::lent::label_id;
+use ir::lent::new_var;
 use ir::structs::Operand;
 use ir::structs::VarId;
 use ir::structs::emit_binary;
@@ -41,8 +42,6 @@ use ir::structs::emit_call;
 use ir::structs::emit_cast;
 use ir::structs::emit_copy;
 use ir::structs::emit_unary;
-use ir::structs::label_id;
-use ir::structs::new_var;
 use records::convert_error::ConvertErrorKind;
 use records::numbers::AND;
 use records::words::RECORD_BYTES;
@@ -51,105 +50,84 @@ use records::words::WORD_B;
 use records::words::detail;
 use records::words::reference;
 
-pub(crate) fn finish_unary(arena: &mut [u8], k: Counters, op: u8, src: Operand, y: usize) -> Fitted
-    requires { ⌜ RoomFor k (now arena) (amount 1 1 0 0 0) × (y < 4294967296) ⌝ }
-    ensures { λ r. ⌜ ((tree : List ℕ) → TypeAt tree y → FitAdds tree (finishUnary (getD unaryOps op Neg) y (operandOf src)) (amount 1 1 0 0 0) k (now (arena .entry)) r (now (arena .exit))) ⌝ }
+pub(crate) fn finish_unary(
+    arena: &mut [u8],
+    k: &mut [usize],
+    op: u8,
+    src: Operand,
+    y: usize,
+) -> Operand
+    requires { ⌜ RoomFor (counted (now k)) (now arena) (amount 1 1 0 0 0) × (y < 4294967296) ⌝ }
+    ensures { λ r. ⌜ ((t : List ℕ) → TypeAt t y → FitAdds t (finishUnary (getD unaryOps op Neg) y (operandOf src)) (amount 1 1 0 0 0) (counted (was k)) (was arena) (fitted (is k) r) (is arena)) ⌝ }
 {
-    let made = new_var(arena, k, y as u32);
-    let dest = made.var;
-    let k1 = made.counters;
-    let next = emit_unary(arena, k1, dest, op, src);
-    Fitted {
-        operand: Operand::Var(dest),
-        counters: next,
-    }
+    let dest = new_var(arena, k, y as u32);
+    emit_unary(arena, k, dest, op, src);
+    Operand::Var(dest)
 }
 
 // The variable of the And or Or e, of type y. Both labels are numbered now: one inside a side takes later numbers.
-pub(crate) fn begin_logic(arena: &mut [u8], k: Counters, e: usize, y: usize) -> NewVariable
-    requires { ⌜ RoomFor k (now arena) (amount 0 1 2 0 0) × (e < k .records) × (y < 4294967296) ⌝ }
-    ensures adds { λ r. ⌜ Adds (beginLogic e y) (amount 0 1 2 0 0) k (now (arena .entry)) (varOf (r .var)) (r .counters) (now (arena .exit)) ⌝ }
-    ensures typed { λ r. ⌜ r .var .1 ≡ y ⌝ }
+pub(crate) fn begin_logic(arena: &mut [u8], k: &mut [usize], e: usize, y: usize) -> VarId
+    requires { ⌜ RoomFor (counted (now k)) (now arena) (amount 0 1 2 0 0) × (e < counted (now k) .records) × (y < 4294967296) ⌝ }
+    ensures adds { λ r. ⌜ Adds (beginLogic e y) (amount 0 1 2 0 0) (counted (was k)) (was arena) (varOf (r)) (counted (is k)) (is arena) ⌝ }
+    ensures typed { λ r. ⌜ r .1 ≡ y ⌝ }
 {
-    let made = new_var(arena, k, y as u32);
-    let dest = made.var;
-    let k1 = made.counters;
-    let rhs = label_id(arena, k1, LOGIC_RHS, e as u32);
-    let k2 = rhs.counters;
-    let end = label_id(arena, k2, LOGIC_END, e as u32);
-    let next = end.counters;
-    NewVariable {
-        var: dest,
-        counters: next,
-    }
+    let dest = new_var(arena, k, y as u32);
+    label_id(arena, k, LOGIC_RHS, e as u32);
+    label_id(arena, k, LOGIC_END, e as u32);
+    dest
 }
 
 // Between the sides of And: the right one is skipped where the left one decides.
-pub(crate) fn join_and(
-    arena: &mut [u8],
-    k: Counters,
-    e: usize,
-    dest: VarId,
-    left: Operand,
-) -> Counters
-    requires { ⌜ RoomFor k (now arena) (amount 2 0 1 0 0) × (e < k .records) ⌝ }
-    ensures { λ r. ⌜ Adds (joinAnd e (varOf dest) (operandOf left)) (amount 2 0 1 0 0) k (now (arena .entry)) tt r (now (arena .exit)) ⌝ }
+pub(crate) fn join_and(arena: &mut [u8], k: &mut [usize], e: usize, dest: VarId, left: Operand)
+    requires { ⌜ RoomFor (counted (now k)) (now arena) (amount 2 0 1 0 0) × (e < counted (now k) .records) ⌝ }
+    ensures { λ _. ⌜ Adds (joinAnd e (varOf dest) (operandOf left)) (amount 2 0 1 0 0) (counted (was k)) (was arena) tt (counted (is k)) (is arena) ⌝ }
 {
-    let k1 = emit_copy(arena, k, dest, left);
-    jump_if_not(arena, k1, Operand::Var(dest), LOGIC_END, e)
+    emit_copy(arena, k, dest, left);
+    jump_if_not(arena, k, Operand::Var(dest), LOGIC_END, e);
 }
 
 // Between the sides of Or.
-pub(crate) fn join_or(
-    arena: &mut [u8],
-    k: Counters,
-    e: usize,
-    dest: VarId,
-    left: Operand,
-) -> Counters
-    requires { ⌜ RoomFor k (now arena) (amount 4 0 3 0 0) × (e < k .records) ⌝ }
-    ensures { λ r. ⌜ Adds (joinOr e (varOf dest) (operandOf left)) (amount 4 0 3 0 0) k (now (arena .entry)) tt r (now (arena .exit)) ⌝ }
+pub(crate) fn join_or(arena: &mut [u8], k: &mut [usize], e: usize, dest: VarId, left: Operand)
+    requires { ⌜ RoomFor (counted (now k)) (now arena) (amount 4 0 3 0 0) × (e < counted (now k) .records) ⌝ }
+    ensures { λ _. ⌜ Adds (joinOr e (varOf dest) (operandOf left)) (amount 4 0 3 0 0) (counted (was k)) (was arena) tt (counted (is k)) (is arena) ⌝ }
 {
-    let k1 = emit_copy(arena, k, dest, left);
-    let k2 = jump_if_not(arena, k1, Operand::Var(dest), LOGIC_RHS, e);
-    let k3 = jump(arena, k2, LOGIC_END, e);
-    place_label(arena, k3, LOGIC_RHS, e)
+    emit_copy(arena, k, dest, left);
+    jump_if_not(arena, k, Operand::Var(dest), LOGIC_RHS, e);
+    jump(arena, k, LOGIC_END, e);
+    place_label(arena, k, LOGIC_RHS, e);
 }
 
 // What stands between the sides of the And or Or e: the left one is copied, and tested.
 pub(crate) fn join_logic(
     tree: &[u8],
     arena: &mut [u8],
-    k: Counters,
+    k: &mut [usize],
     e: usize,
     dest: VarId,
     left: Operand,
-) -> Counters
-    requires { ⌜ RoomFor k (now arena) (amount 4 0 3 0 0) × (e < k .records) × (e * recordBytes + recordBytes ≤ length (now tree)) ⌝ }
-    ensures { λ r. ⌜ Adds (joinSteps (now (tree .entry)) e dest left) (amount 4 0 3 0 0) k (now (arena .entry)) tt r (now (arena .exit)) ⌝ }
+)
+    requires { ⌜ RoomFor (counted (now k)) (now arena) (amount 4 0 3 0 0) × (e < counted (now k) .records) × (e * recordBytes + recordBytes ≤ length (now tree)) ⌝ }
+    ensures { λ _. ⌜ Adds (joinSteps (was tree) e dest left) (amount 4 0 3 0 0) (counted (was k)) (was arena) tt (counted (is k)) (is arena) ⌝ }
 {
     if detail(tree, e) == AND {
         return join_and(arena, k, e, dest, left);
     }
-    join_or(arena, k, e, dest, left)
+    join_or(arena, k, e, dest, left);
 }
 
 pub(crate) fn end_logic(
     arena: &mut [u8],
-    k: Counters,
+    k: &mut [usize],
     e: usize,
     dest: VarId,
     right: Operand,
-) -> Fitted
-    requires { ⌜ RoomFor k (now arena) (amount 2 0 1 0 0) × (e < k .records) ⌝ }
-    ensures { λ r. ⌜ ((tree : List ℕ) → TypeAt tree (dest .1) → FitAdds tree (endLogic e (varOf dest) (operandOf right)) (amount 2 0 1 0 0) k (now (arena .entry)) r (now (arena .exit))) ⌝ }
+) -> Operand
+    requires { ⌜ RoomFor (counted (now k)) (now arena) (amount 2 0 1 0 0) × (e < counted (now k) .records) ⌝ }
+    ensures { λ r. ⌜ ((tree : List ℕ) → TypeAt tree (dest .1) → FitAdds tree (endLogic e (varOf dest) (operandOf right)) (amount 2 0 1 0 0) (counted (was k)) (was arena) (fitted (is k) r) (is arena)) ⌝ }
 {
-    let k1 = emit_copy(arena, k, dest, right);
-    let next = place_label(arena, k1, LOGIC_END, e);
-    Fitted {
-        operand: Operand::Var(dest),
-        counters: next,
-    }
+    emit_copy(arena, k, dest, right);
+    place_label(arena, k, LOGIC_END, e);
+    Operand::Var(dest)
 }
 
 // The type that both sides of the Binary e are fitted to; where they have none in common, its own type y.
@@ -163,9 +141,9 @@ pub(crate) fn operand_type(
 ) -> ExprType
     requires { ⌜ Ready (now tree) (now text) (now scratch) (c .scope) ⌝ }
     requires { ⌜ IsKind (now tree) kindBinary e × TypeAt (now tree) y ⌝ }
-    requires { ⌜ InTurn (now tree) (now text) (now scratch) c ⌝ }
-    ensures { λ a. ⌜ OperandTyped (now (tree .entry)) (now (text .entry)) (now (scratch .entry)) c e y a (now (scratch .exit)) ⌝ }
-    ensures types { λ a. ⌜ CommonTyped c e (now (tree .entry)) (now (text .entry)) (now (scratch .entry)) a (now (scratch .exit)) ⌝ }
+    requires { ⌜ ((k : List ℕ) → InTurn (now tree) (now text) (now scratch) (at c k)) ⌝ }
+    ensures { λ a. ⌜ ((k : List ℕ) → OperandTyped (was tree) (was text) (was scratch) (at c k) e y a (is scratch)) ⌝ }
+    ensures types { λ a. ⌜ ((k : List ℕ) → CommonTyped (at c k) e (was tree) (was text) (was scratch) a (is scratch)) ⌝ }
 {
     let scope = c.scope;
     let left = reference(tree, e, WORD_A);
@@ -181,32 +159,23 @@ pub(crate) fn operand_type(
 pub(crate) fn finish_binary(
     tree: &[u8],
     arena: &mut [u8],
-    k: Counters,
+    k: &mut [usize],
     op: u8,
     left: Operand,
     right: Operand,
     y: usize,
     q: usize,
-) -> Fitted
-    requires { ⌜ RoomFor k (now arena) (amount 3 3 0 0 2) × (y < 4294967296) × (q < 4294967296) ⌝ }
+) -> Operand
+    requires { ⌜ RoomFor (counted (now k)) (now arena) (amount 3 3 0 0 2) × (y < 4294967296) × (q < 4294967296) ⌝ }
     requires { ⌜ TypeAt (now tree) y × TypeAt (now tree) q ⌝ }
     requires { ⌜ OperandIn (now tree) (operandOf left) × OperandIn (now tree) (operandOf right) ⌝ }
-    ensures { λ r. ⌜ BinaryFinishes (now (tree .entry)) (getD binaryOps op Or) y q left right k (now (arena .entry)) r (now (arena .exit)) ⌝ }
+    ensures { λ r. ⌜ BinaryFinishes (was tree) (getD binaryOps op Or) y q left right (counted (was k)) (was arena) (fitted (is k) r) (is arena) ⌝ }
 {
     let a = fit_operand(tree, arena, k, left, q);
-    let a1 = a.operand;
-    let k1 = a.counters;
-    let b = fit_operand(tree, arena, k1, right, q);
-    let b1 = b.operand;
-    let k2 = b.counters;
-    let made = new_var(arena, k2, y as u32);
-    let dest = made.var;
-    let k3 = made.counters;
-    let next = emit_binary(arena, k3, dest, op, a1, b1);
-    Fitted {
-        operand: Operand::Var(dest),
-        counters: next,
-    }
+    let b = fit_operand(tree, arena, k, right, q);
+    let dest = new_var(arena, k, y as u32);
+    emit_binary(arena, k, dest, op, a, b);
+    Operand::Var(dest)
 }
 
 // A cast takes the first of its values; without one the Rust would panic, at the call e.
@@ -215,23 +184,23 @@ pub(crate) fn cast_first(
     text: &[u8],
     arena: &mut [u8],
     scratch: &[u8],
+    k: &mut [usize],
     c: Converter,
     e: usize,
     dest: VarId,
     count: usize,
 ) -> Converted
-    requires { ⌜ Converting (now tree) (now text) (now arena) (now scratch) c × Afforded (now tree) c (amount 1 0 0 0 0) count 0 ⌝ }
+    requires { ⌜ Converting (now tree) (now text) (now arena) (now scratch) (at c (now k)) × Afforded (now tree) (at c (now k)) (amount 1 0 0 0 0) count 0 ⌝ }
     requires { ⌜ (e < 4294967296) × TypeAt (now tree) (dest .1) ⌝ }
-    ensures { λ a. ⌜ CastsAs e dest count c (now (tree .entry)) (now (text .entry)) (now (arena .entry)) (now (scratch .entry)) a (now (arena .exit)) ⌝ }
+    ensures { λ a. ⌜ CastsAs e dest count (at c (was k)) (was tree) (was text) (was arena) (was scratch) (converted (is k) a) (is arena) ⌝ }
 {
     if count == 0 {
         return Converted::Refused(error_at(ConvertErrorKind::WouldPanic, e));
     }
     let n = tree.len() / RECORD_BYTES;
-    let k = c.counters;
     let first = operand_at(scratch, n, c.operands);
-    let next = emit_cast(arena, k, dest, first);
-    Converted::Is(Operand::Var(dest), next)
+    emit_cast(arena, k, dest, first);
+    Converted::Is(Operand::Var(dest))
 }
 
 // The call e of f, whose result goes to dest.
@@ -240,20 +209,21 @@ pub(crate) fn call_function(
     text: &[u8],
     arena: &mut [u8],
     scratch: &mut [u8],
+    k: &mut [usize],
     c: Converter,
     e: usize,
     f: usize,
     dest: VarId,
     count: usize,
 ) -> Converted
-    requires { ⌜ Converting (now tree) (now text) (now arena) (now scratch) c × Afforded (now tree) c (amount (2 * count + 1) count 0 0 count) count 0 ⌝ }
+    requires { ⌜ Converting (now tree) (now text) (now arena) (now scratch) (at c (now k)) × Afforded (now tree) (at c (now k)) (amount (2 * count + 1) count 0 0 count) count 0 ⌝ }
     requires { ⌜ FunctionAt (now tree) f × IsKind (now tree) kindCall e × TypeAt (now tree) (dest .1) × StackIn (now tree) (now scratch) (c .operands) count ⌝ }
-    ensures { λ a. ⌜ CallsAs e f dest count c (now (tree .entry)) (now (text .entry)) (now (arena .entry)) (now (scratch .entry)) a (now (arena .exit)) (now (scratch .exit)) ⌝ }
-    ensures turns { λ _. ⌜ TurnsStay (now (tree .entry)) (now (scratch .entry)) (now (scratch .exit)) ⌝ }
+    ensures { λ a. ⌜ CallsAs e f dest count (at c (was k)) (was tree) (was text) (was arena) (was scratch) (converted (is k) a) (is arena) (is scratch) ⌝ }
+    ensures turns { λ _. ⌜ TurnsStay (was tree) (was scratch) (is scratch) ⌝ }
 {
-    let k = pass_args(tree, text, arena, scratch, c, e, f, count);
-    let next = emit_call(arena, k, dest, f as u32);
-    Converted::Is(Operand::Var(dest), next)
+    pass_args(tree, text, arena, scratch, k, c, e, f, count);
+    emit_call(arena, k, dest, f as u32);
+    Converted::Is(Operand::Var(dest))
 }
 
 // The call e, of type y, behind its values, of which `count` wait on the stack.
@@ -262,28 +232,24 @@ pub(crate) fn finish_call(
     text: &[u8],
     arena: &mut [u8],
     scratch: &mut [u8],
+    k: &mut [usize],
     c: Converter,
     e: usize,
     y: usize,
     callee: Resolved,
     count: usize,
 ) -> Converted
-    requires { ⌜ Converting (now tree) (now text) (now arena) (now scratch) c × Afforded (now tree) c (amount (2 * count + 1) (count + 1) 0 0 count) count 0 ⌝ }
+    requires { ⌜ Converting (now tree) (now text) (now arena) (now scratch) (at c (now k)) × Afforded (now tree) (at c (now k)) (amount (2 * count + 1) (count + 1) 0 0 count) count 0 ⌝ }
     requires { ⌜ IsKind (now tree) kindCall e × TypeAt (now tree) y × IsCallee (now tree) callee × StackIn (now tree) (now scratch) (c .operands) count ⌝ }
-    ensures { λ a. ⌜ CallEndsAs e y callee count c (now (tree .entry)) (now (text .entry)) (now (arena .entry)) (now (scratch .entry)) a (now (arena .exit)) (now (scratch .exit)) ⌝ }
-    ensures turns { λ _. ⌜ TurnsStay (now (tree .entry)) (now (scratch .entry)) (now (scratch .exit)) ⌝ }
+    ensures { λ a. ⌜ CallEndsAs e y callee count (at c (was k)) (was tree) (was text) (was arena) (was scratch) (converted (is k) a) (is arena) (is scratch) ⌝ }
+    ensures turns { λ _. ⌜ TurnsStay (was tree) (was scratch) (is scratch) ⌝ }
 {
-    let k = c.counters;
-    let made = new_var(arena, k, y as u32);
-    let dest = made.var;
-    let k1 = made.counters;
-    let mut at = c;
-    at.counters = k1;
+    let dest = new_var(arena, k, y as u32);
     match callee {
         Resolved::Refused(x) => Converted::Refused(x),
-        Resolved::Cast(_) => cast_first(tree, text, arena, scratch, at, e, dest, count),
+        Resolved::Cast(_) => cast_first(tree, text, arena, scratch, k, c, e, dest, count),
         Resolved::Function(f) => {
-            call_function(tree, text, arena, scratch, at, e, f, dest, count)
+            call_function(tree, text, arena, scratch, k, c, e, f, dest, count)
         }
     }
 }

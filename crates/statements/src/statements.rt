@@ -13,8 +13,10 @@ ghost use Rattle.syntax.specs.Decode.{program};
 ghost use Rattle.syntax.specs.Places.{IsExpr, IsKind, TypeAt, FunctionAt};
 ghost use Rattle.types.specs.Fits.{IsType};
 ghost use Rattle.ir.specs.Amounts.{amount};
+ghost use Rattle.ir.specs.Counted.{counted, was, is};
 ghost use Rattle.ir.specs.Instructions.{operandOf, varOf};
 ghost use Rattle.statements.specs.Converting.{Converting, RoomFor, OperandIn, Afforded, ExprAfforded, BehindAfforded};
+ghost use Rattle.statements.specs.Lent.{at, converted, stated, finished};
 ghost use Rattle.statements.specs.Meets.{Adds};
 ghost use Rattle.statements.specs.Parts.{copyFitted, zeroFloat};
 ghost use Rattle.statements.specs.Answers.{ZeroMeets, givens, given, ConvertsAs, StatesAs, CallOnlyAs, DeclaresAs, condSteps, declareSteps, initSteps, initNewSteps, assignSteps, assignToSteps, returnSteps, returnAsSteps, callStatementSteps, callOnlySteps, breakSteps, continueSteps, declareInitSteps};
@@ -41,15 +43,14 @@ use expressions::expressions::resolve_call;
 use expressions::names::declare_name;
 use expressions::names::find_name;
 use ir::floats::float_entry;
-use ir::pool::float_id;
-use ir::structs::Counters;
+use ir::lent::float_id;
+use ir::lent::new_var;
 use ir::structs::Operand;
 use ir::structs::VarId;
 use ir::structs::emit_call_only;
 use ir::structs::emit_copy;
 use ir::structs::emit_return;
 use ir::structs::emit_zero;
-use ir::structs::new_var;
 use records::convert_error::ConvertErrorKind;
 use records::numbers::ADDRESS_OF_NULL;
 use records::numbers::BOOL_TYPE;
@@ -81,34 +82,34 @@ pub(crate) fn convert_cond(
     text: &[u8],
     arena: &mut [u8],
     scratch: &mut [u8],
+    k: &mut [usize],
     c: Converter,
     e: usize,
 ) -> Converted
-    requires { ⌜ Converting (now tree) (now text) (now arena) (now scratch) c × ExprAfforded (now tree) (now text) c e ⌝ }
+    requires { ⌜ Converting (now tree) (now text) (now arena) (now scratch) (at c (now k)) × ExprAfforded (now tree) (now text) (at c (now k)) e ⌝ }
     requires { ⌜ IsExpr (now tree) e ⌝ }
-    requires { ⌜ InTurn (now tree) (now text) (now scratch) c ⌝ }
-    ensures { λ a. ⌜ ConvertsAs condSteps c e (now (tree .entry)) (now (text .entry)) (now (arena .entry)) (now (scratch .entry)) a (now (arena .exit)) (now (scratch .exit)) ⌝ }
-    ensures types { λ a. ⌜ ConvertsTyped valueTypes c e (now (tree .entry)) (now (text .entry)) (now (scratch .entry)) a (now (scratch .exit)) ⌝ }
+    requires { ⌜ InTurn (now tree) (now text) (now scratch) (at c (now k)) ⌝ }
+    ensures { λ a. ⌜ ConvertsAs condSteps (at c (was k)) e (was tree) (was text) (was arena) (was scratch) (converted (is k) a) (is arena) (is scratch) ⌝ }
+    ensures types { λ a. ⌜ ConvertsTyped valueTypes (at c (was k)) e (was tree) (was text) (was scratch) (converted (is k) a) (is scratch) ⌝ }
 {
     let scope = c.scope;
     match get_type(tree, text, scratch, scope, c.turn, e) {
         ExprType::Refused(x) => Converted::Refused(x),
         ExprType::Is(y) => {
             if y == BOOL_TYPE {
-                return convert_expr(tree, text, arena, scratch, c, e);
+                return convert_expr(tree, text, arena, scratch, k, c, e);
             }
             Converted::Refused(error_at(ConvertErrorKind::NotBool, e))
         }
     }
 }
 
-fn zero_float(arena: &mut [u8], k: Counters, v: VarId, short: bool) -> Counters
-    requires { ⌜ RoomFor k (now arena) (amount 1 0 0 0 1) ⌝ }
-    ensures { λ r. ⌜ Adds (zeroFloat (varOf v) short) (amount 1 0 0 0 1) k (now (arena .entry)) tt r (now (arena .exit)) ⌝ }
+fn zero_float(arena: &mut [u8], k: &mut [usize], v: VarId, short: bool)
+    requires { ⌜ RoomFor (counted (now k)) (now arena) (amount 1 0 0 0 1) ⌝ }
+    ensures { λ _. ⌜ Adds (zeroFloat (varOf v) short) (amount 1 0 0 0 1) (counted (was k)) (was arena) tt (counted (is k)) (is arena) ⌝ }
 {
-    let p = float_id(arena, k, float_entry(0, short));
-    let next = p.counters;
-    emit_copy(arena, next, v, Operand::Float(p.number))
+    let zero = float_id(arena, k, float_entry(0, short));
+    emit_copy(arena, k, v, Operand::Float(zero));
 }
 
 // The zero of a type that is neither Int nor Float nor Array nor Custom: Bool, Char and Byte have the bool, Address and Null the null.
@@ -122,27 +123,31 @@ fn zero_operand(f: u8) -> Operand
 }
 
 // The zero value that the Declare r writes; of a Custom the Rust would panic.
-fn zero_value(tree: &[u8], arena: &mut [u8], k: Counters, r: usize, v: VarId) -> Finished
-    requires { ⌜ RoomFor k (now arena) (amount 1 0 0 0 1) × IsType (now tree) (v .1) × (r < 4294967296) ⌝ }
-    ensures { λ a. ⌜ ZeroMeets (now (tree .entry)) r v k (now (arena .entry)) a (now (arena .exit)) ⌝ }
+fn zero_value(tree: &[u8], arena: &mut [u8], k: &mut [usize], r: usize, v: VarId) -> Finished
+    requires { ⌜ RoomFor (counted (now k)) (now arena) (amount 1 0 0 0 1) × IsType (now tree) (v .1) × (r < 4294967296) ⌝ }
+    ensures { λ a. ⌜ ZeroMeets (was tree) r v (counted (was k)) (was arena) (finished (is k) a) (is arena) ⌝ }
 {
     let y = v.1 as usize;
     let f = form(tree, y);
     let short = is_short(tree, y);
     if f == FORM_INT {
         let zero = Operand::Int(0, short, is_unsigned(tree, y));
-        return Finished::Done(emit_copy(arena, k, v, zero));
+        emit_copy(arena, k, v, zero);
+        return Finished::Done;
     }
     if f == FORM_FLOAT {
-        return Finished::Done(zero_float(arena, k, v, short));
+        zero_float(arena, k, v, short);
+        return Finished::Done;
     }
     if f == FORM_ARRAY {
-        return Finished::Done(emit_zero(arena, k, v));
+        emit_zero(arena, k, v);
+        return Finished::Done;
     }
     if f == FORM_CUSTOM {
         return Finished::Refused(error_at(ConvertErrorKind::WouldPanic, r));
     }
-    Finished::Done(emit_copy(arena, k, v, zero_operand(f)))
+    emit_copy(arena, k, v, zero_operand(f));
+    Finished::Done
 }
 
 // The Declare r: the variable takes its number before its name is looked at.
@@ -151,44 +156,34 @@ pub(crate) fn convert_declare(
     text: &[u8],
     arena: &mut [u8],
     scratch: &mut [u8],
+    k: &mut [usize],
     c: Converter,
     r: usize,
 ) -> Stated
-    requires { ⌜ Converting (now tree) (now text) (now arena) (now scratch) c × BehindAfforded (now tree) (now text) c r ⌝ }
+    requires { ⌜ Converting (now tree) (now text) (now arena) (now scratch) (at c (now k)) × BehindAfforded (now tree) (now text) (at c (now k)) r ⌝ }
     requires { ⌜ IsKind (now tree) kindDeclare r ⌝ }
-    requires { ⌜ InTurn (now tree) (now text) (now scratch) c ⌝ }
-    ensures { λ a. ⌜ StatesAs declareSteps c r (now (tree .entry)) (now (text .entry)) (now (arena .entry)) (now (scratch .entry)) a (now (arena .exit)) (now (scratch .exit)) ⌝ }
-    ensures types { λ a. ⌜ StatesTyped noTypes c r (now (tree .entry)) (now (text .entry)) (now (scratch .entry)) a (now (scratch .exit)) ⌝ }
+    requires { ⌜ InTurn (now tree) (now text) (now scratch) (at c (now k)) ⌝ }
+    ensures { λ a. ⌜ StatesAs declareSteps (at c (was k)) r (was tree) (was text) (was arena) (was scratch) (stated (is k) a) (is arena) (is scratch) ⌝ }
+    ensures types { λ a. ⌜ StatesTyped noTypes (at c (was k)) r (was tree) (was text) (was scratch) (stated (is k) a) (is scratch) ⌝ }
 {
     let scope = c.scope;
-    let k = c.counters;
-    let made = new_var(arena, k, word(tree, r, WORD_C));
-    let v = made.var;
-    let k1 = made.counters;
+    let v = new_var(arena, k, word(tree, r, WORD_C));
     match declare_name(tree, text, scratch, scope, r, v, false) {
         Declared::Taken => Stated::Refused(error_at(ConvertErrorKind::AlreadyDeclared, r)),
-        Declared::Done(next) => match zero_value(tree, arena, k1, r, v) {
+        Declared::Done(next) => match zero_value(tree, arena, k, r, v) {
             Finished::Refused(x) => Stated::Refused(x),
-            Finished::Done(k2) => Stated::Done(next, k2),
+            Finished::Done => Stated::Done(next),
         },
     }
 }
 
 // The operand, fitted to the variable's type, is copied into it.
-pub(crate) fn copy_fitted(
-    tree: &[u8],
-    arena: &mut [u8],
-    k: Counters,
-    v: VarId,
-    src: Operand,
-) -> Counters
-    requires { ⌜ RoomFor k (now arena) (amount 2 1 0 0 1) × TypeAt (now tree) (v .1) × OperandIn (now tree) (operandOf src) ⌝ }
-    ensures { λ r. ⌜ ((text : List ℕ) → Adds (copyFitted (program (now (tree .entry)) text) (varOf v) (operandOf src)) (amount 2 1 0 0 1) k (now (arena .entry)) tt r (now (arena .exit))) ⌝ }
+pub(crate) fn copy_fitted(tree: &[u8], arena: &mut [u8], k: &mut [usize], v: VarId, src: Operand)
+    requires { ⌜ RoomFor (counted (now k)) (now arena) (amount 2 1 0 0 1) × TypeAt (now tree) (v .1) × OperandIn (now tree) (operandOf src) ⌝ }
+    ensures { λ _. ⌜ ((text : List ℕ) → Adds (copyFitted (program (was tree) text) (varOf v) (operandOf src)) (amount 2 1 0 0 1) (counted (was k)) (was arena) tt (counted (is k)) (is arena)) ⌝ }
 {
-    let a = fit_operand(tree, arena, k, src, v.1 as usize);
-    let fitted = a.operand;
-    let next = a.counters;
-    emit_copy(arena, next, v, fitted)
+    let fitted = fit_operand(tree, arena, k, src, v.1 as usize);
+    emit_copy(arena, k, v, fitted);
 }
 
 // The Init r of the known variable v: its value is converted before its type is held against the variable's.
@@ -197,27 +192,31 @@ fn assign_to(
     text: &[u8],
     arena: &mut [u8],
     scratch: &mut [u8],
+    k: &mut [usize],
     c: Converter,
     r: usize,
     v: VarId,
 ) -> Stated
-    requires { ⌜ Converting (now tree) (now text) (now arena) (now scratch) c × BehindAfforded (now tree) (now text) c r ⌝ }
+    requires { ⌜ Converting (now tree) (now text) (now arena) (now scratch) (at c (now k)) × BehindAfforded (now tree) (now text) (at c (now k)) r ⌝ }
     requires { ⌜ IsKind (now tree) kindInit r × TypeAt (now tree) (v .1) ⌝ }
-    requires { ⌜ InTurn (now tree) (now text) (now scratch) c ⌝ }
-    ensures { λ a. ⌜ StatesAs (given assignToSteps v) c r (now (tree .entry)) (now (text .entry)) (now (arena .entry)) (now (scratch .entry)) a (now (arena .exit)) (now (scratch .exit)) ⌝ }
-    ensures types { λ a. ⌜ StatesTyped assignTypes c r (now (tree .entry)) (now (text .entry)) (now (scratch .entry)) a (now (scratch .exit)) ⌝ }
+    requires { ⌜ InTurn (now tree) (now text) (now scratch) (at c (now k)) ⌝ }
+    ensures { λ a. ⌜ StatesAs (given assignToSteps v) (at c (was k)) r (was tree) (was text) (was arena) (was scratch) (stated (is k) a) (is arena) (is scratch) ⌝ }
+    ensures types { λ a. ⌜ StatesTyped assignTypes (at c (was k)) r (was tree) (was text) (was scratch) (stated (is k) a) (is scratch) ⌝ }
 {
     let scope = c.scope;
     let e = reference(tree, r, WORD_C);
-    match convert_expr(tree, text, arena, scratch, c, e) {
+    match convert_expr(tree, text, arena, scratch, k, c, e) {
         Converted::Refused(x) => Stated::Refused(x),
-        Converted::Is(src, k) => match get_type(tree, text, scratch, scope, c.turn, e) {
+        Converted::Is(src) => match get_type(tree, text, scratch, scope, c.turn, e) {
             ExprType::Refused(x) => Stated::Refused(x),
             ExprType::Is(y) => {
                 let expected = v.1 as usize;
                 match check_fits(tree, e, y, expected, ConvertErrorKind::WrongAssignType, r) {
                     Outcome::Refused(x) => Stated::Refused(x),
-                    Outcome::Done => Stated::Done(scope, copy_fitted(tree, arena, k, v, src)),
+                    Outcome::Done => {
+                        copy_fitted(tree, arena, k, v, src);
+                        Stated::Done(scope)
+                    }
                 }
             }
         },
@@ -229,21 +228,22 @@ fn convert_assign(
     text: &[u8],
     arena: &mut [u8],
     scratch: &mut [u8],
+    k: &mut [usize],
     c: Converter,
     r: usize,
     v: VarId,
     constant: bool,
 ) -> Stated
-    requires { ⌜ Converting (now tree) (now text) (now arena) (now scratch) c × BehindAfforded (now tree) (now text) c r ⌝ }
+    requires { ⌜ Converting (now tree) (now text) (now arena) (now scratch) (at c (now k)) × BehindAfforded (now tree) (now text) (at c (now k)) r ⌝ }
     requires { ⌜ IsKind (now tree) kindInit r × TypeAt (now tree) (v .1) ⌝ }
-    requires { ⌜ InTurn (now tree) (now text) (now scratch) c ⌝ }
-    ensures { λ a. ⌜ StatesAs (givens assignSteps v constant) c r (now (tree .entry)) (now (text .entry)) (now (arena .entry)) (now (scratch .entry)) a (now (arena .exit)) (now (scratch .exit)) ⌝ }
-    ensures types { λ a. ⌜ StatesTyped assignTypes c r (now (tree .entry)) (now (text .entry)) (now (scratch .entry)) a (now (scratch .exit)) ⌝ }
+    requires { ⌜ InTurn (now tree) (now text) (now scratch) (at c (now k)) ⌝ }
+    ensures { λ a. ⌜ StatesAs (givens assignSteps v constant) (at c (was k)) r (was tree) (was text) (was arena) (was scratch) (stated (is k) a) (is arena) (is scratch) ⌝ }
+    ensures types { λ a. ⌜ StatesTyped assignTypes (at c (was k)) r (was tree) (was text) (was scratch) (stated (is k) a) (is scratch) ⌝ }
 {
     if constant {
         return Stated::Refused(error_at(ConvertErrorKind::AssignToConstant, r));
     }
-    assign_to(tree, text, arena, scratch, c, r, v)
+    assign_to(tree, text, arena, scratch, k, c, r, v)
 }
 
 // What a new variable of a value of type y has as its type: an address to nothing for Null.
@@ -262,26 +262,27 @@ fn declare_init(
     text: &[u8],
     arena: &mut [u8],
     scratch: &mut [u8],
+    k: &mut [usize],
     c: Converter,
     r: usize,
     y: usize,
     src: Operand,
 ) -> Stated
-    requires { ⌜ Converting (now tree) (now text) (now arena) (now scratch) c × Afforded (now tree) c (amount 1 1 0 0 0) 0 1 ⌝ }
+    requires { ⌜ Converting (now tree) (now text) (now arena) (now scratch) (at c (now k)) × Afforded (now tree) (at c (now k)) (amount 1 1 0 0 0) 0 1 ⌝ }
     requires { ⌜ IsKind (now tree) kindInit r × TypeAt (now tree) y ⌝ }
-    requires { ⌜ InTurn (now tree) (now text) (now scratch) c ⌝ }
-    ensures { λ a. ⌜ DeclaresAs (givens declareInitSteps y src) c r (now (tree .entry)) (now (text .entry)) (now (arena .entry)) (now (scratch .entry)) a (now (arena .exit)) (now (scratch .exit)) ⌝ }
-    ensures types { λ a. ⌜ StatesTyped noTypes c r (now (tree .entry)) (now (text .entry)) (now (scratch .entry)) a (now (scratch .exit)) ⌝ }
+    requires { ⌜ InTurn (now tree) (now text) (now scratch) (at c (now k)) ⌝ }
+    ensures { λ a. ⌜ DeclaresAs (givens declareInitSteps y src) (at c (was k)) r (was tree) (was text) (was arena) (was scratch) (stated (is k) a) (is arena) (is scratch) ⌝ }
+    ensures types { λ a. ⌜ StatesTyped noTypes (at c (was k)) r (was tree) (was text) (was scratch) (stated (is k) a) (is scratch) ⌝ }
 {
     let scope = c.scope;
-    let k = c.counters;
     let constant = detail(tree, r) == 1;
-    let made = new_var(arena, k, init_type(y) as u32);
-    let v = made.var;
-    let k1 = made.counters;
+    let v = new_var(arena, k, init_type(y) as u32);
     match declare_name(tree, text, scratch, scope, r, v, constant) {
         Declared::Taken => Stated::Refused(error_at(ConvertErrorKind::AlreadyDeclared, r)),
-        Declared::Done(next) => Stated::Done(next, emit_copy(arena, k1, v, src)),
+        Declared::Done(next) => {
+            emit_copy(arena, k, v, src);
+            Stated::Done(next)
+        }
     }
 }
 
@@ -291,26 +292,23 @@ fn init_new(
     text: &[u8],
     arena: &mut [u8],
     scratch: &mut [u8],
+    k: &mut [usize],
     c: Converter,
     r: usize,
 ) -> Stated
-    requires { ⌜ Converting (now tree) (now text) (now arena) (now scratch) c × BehindAfforded (now tree) (now text) c r ⌝ }
+    requires { ⌜ Converting (now tree) (now text) (now arena) (now scratch) (at c (now k)) × BehindAfforded (now tree) (now text) (at c (now k)) r ⌝ }
     requires { ⌜ IsKind (now tree) kindInit r ⌝ }
-    requires { ⌜ InTurn (now tree) (now text) (now scratch) c ⌝ }
-    ensures { λ a. ⌜ StatesAs initNewSteps c r (now (tree .entry)) (now (text .entry)) (now (arena .entry)) (now (scratch .entry)) a (now (arena .exit)) (now (scratch .exit)) ⌝ }
-    ensures types { λ a. ⌜ StatesTyped initTypes c r (now (tree .entry)) (now (text .entry)) (now (scratch .entry)) a (now (scratch .exit)) ⌝ }
+    requires { ⌜ InTurn (now tree) (now text) (now scratch) (at c (now k)) ⌝ }
+    ensures { λ a. ⌜ StatesAs initNewSteps (at c (was k)) r (was tree) (was text) (was arena) (was scratch) (stated (is k) a) (is arena) (is scratch) ⌝ }
+    ensures types { λ a. ⌜ StatesTyped initTypes (at c (was k)) r (was tree) (was text) (was scratch) (stated (is k) a) (is scratch) ⌝ }
 {
     let scope = c.scope;
     let e = reference(tree, r, WORD_C);
     match get_type(tree, text, scratch, scope, c.turn, e) {
         ExprType::Refused(x) => Stated::Refused(x),
-        ExprType::Is(y) => match convert_expr(tree, text, arena, scratch, c, e) {
+        ExprType::Is(y) => match convert_expr(tree, text, arena, scratch, k, c, e) {
             Converted::Refused(x) => Stated::Refused(x),
-            Converted::Is(src, k) => {
-                let mut at = c;
-                at.counters = k;
-                declare_init(tree, text, arena, scratch, at, r, y, src)
-            }
+            Converted::Is(src) => declare_init(tree, text, arena, scratch, k, c, r, y, src),
         },
     }
 }
@@ -321,22 +319,25 @@ pub(crate) fn convert_init(
     text: &[u8],
     arena: &mut [u8],
     scratch: &mut [u8],
+    k: &mut [usize],
     c: Converter,
     r: usize,
 ) -> Stated
-    requires { ⌜ Converting (now tree) (now text) (now arena) (now scratch) c × BehindAfforded (now tree) (now text) c r ⌝ }
+    requires { ⌜ Converting (now tree) (now text) (now arena) (now scratch) (at c (now k)) × BehindAfforded (now tree) (now text) (at c (now k)) r ⌝ }
     requires { ⌜ IsKind (now tree) kindInit r ⌝ }
-    requires { ⌜ InTurn (now tree) (now text) (now scratch) c ⌝ }
-    ensures { λ a. ⌜ StatesAs initSteps c r (now (tree .entry)) (now (text .entry)) (now (arena .entry)) (now (scratch .entry)) a (now (arena .exit)) (now (scratch .exit)) ⌝ }
-    ensures types { λ a. ⌜ StatesTyped initTypes c r (now (tree .entry)) (now (text .entry)) (now (scratch .entry)) a (now (scratch .exit)) ⌝ }
+    requires { ⌜ InTurn (now tree) (now text) (now scratch) (at c (now k)) ⌝ }
+    ensures { λ a. ⌜ StatesAs initSteps (at c (was k)) r (was tree) (was text) (was arena) (was scratch) (stated (is k) a) (is arena) (is scratch) ⌝ }
+    ensures types { λ a. ⌜ StatesTyped initTypes (at c (was k)) r (was tree) (was text) (was scratch) (stated (is k) a) (is scratch) ⌝ }
 {
     let scope = c.scope;
     if detail(tree, r) == 1 {
-        return init_new(tree, text, arena, scratch, c, r);
+        return init_new(tree, text, arena, scratch, k, c, r);
     }
     match find_name(tree, text, scratch, scope, r) {
-        Known::Is(v, constant) => { convert_assign(tree, text, arena, scratch, c, r, v, constant) }
-        Known::Unknown => init_new(tree, text, arena, scratch, c, r),
+        Known::Is(v, constant) => {
+            convert_assign(tree, text, arena, scratch, k, c, r, v, constant)
+        }
+        Known::Unknown => init_new(tree, text, arena, scratch, k, c, r),
     }
 }
 
@@ -346,28 +347,28 @@ fn return_as(
     text: &[u8],
     arena: &mut [u8],
     scratch: &mut [u8],
+    k: &mut [usize],
     c: Converter,
     r: usize,
     y: usize,
     expected: usize,
 ) -> Stated
-    requires { ⌜ Converting (now tree) (now text) (now arena) (now scratch) c × BehindAfforded (now tree) (now text) c r ⌝ }
+    requires { ⌜ Converting (now tree) (now text) (now arena) (now scratch) (at c (now k)) × BehindAfforded (now tree) (now text) (at c (now k)) r ⌝ }
     requires { ⌜ IsKind (now tree) kindReturn r × TypeAt (now tree) y × TypeAt (now tree) expected ⌝ }
-    requires { ⌜ InTurn (now tree) (now text) (now scratch) c ⌝ }
-    ensures { λ a. ⌜ StatesAs (givens returnAsSteps y expected) c r (now (tree .entry)) (now (text .entry)) (now (arena .entry)) (now (scratch .entry)) a (now (arena .exit)) (now (scratch .exit)) ⌝ }
-    ensures types { λ a. ⌜ StatesTyped returnAsTypes c r (now (tree .entry)) (now (text .entry)) (now (scratch .entry)) a (now (scratch .exit)) ⌝ }
+    requires { ⌜ InTurn (now tree) (now text) (now scratch) (at c (now k)) ⌝ }
+    ensures { λ a. ⌜ StatesAs (givens returnAsSteps y expected) (at c (was k)) r (was tree) (was text) (was arena) (was scratch) (stated (is k) a) (is arena) (is scratch) ⌝ }
+    ensures types { λ a. ⌜ StatesTyped returnAsTypes (at c (was k)) r (was tree) (was text) (was scratch) (stated (is k) a) (is scratch) ⌝ }
 {
     let scope = c.scope;
     let e = reference(tree, r, WORD_A);
     match check_fits(tree, e, y, expected, ConvertErrorKind::WrongReturnType, r) {
         Outcome::Refused(x) => Stated::Refused(x),
-        Outcome::Done => match convert_expr(tree, text, arena, scratch, c, e) {
+        Outcome::Done => match convert_expr(tree, text, arena, scratch, k, c, e) {
             Converted::Refused(x) => Stated::Refused(x),
-            Converted::Is(value, k) => {
-                let a = fit_operand(tree, arena, k, value, expected);
-                let fitted = a.operand;
-                let k1 = a.counters;
-                Stated::Done(scope, emit_return(arena, k1, fitted))
+            Converted::Is(value) => {
+                let fitted = fit_operand(tree, arena, k, value, expected);
+                emit_return(arena, k, fitted);
+                Stated::Done(scope)
             }
         },
     }
@@ -379,14 +380,15 @@ pub(crate) fn convert_return(
     text: &[u8],
     arena: &mut [u8],
     scratch: &mut [u8],
+    k: &mut [usize],
     c: Converter,
     r: usize,
 ) -> Stated
-    requires { ⌜ Converting (now tree) (now text) (now arena) (now scratch) c × BehindAfforded (now tree) (now text) c r ⌝ }
+    requires { ⌜ Converting (now tree) (now text) (now arena) (now scratch) (at c (now k)) × BehindAfforded (now tree) (now text) (at c (now k)) r ⌝ }
     requires { ⌜ IsKind (now tree) kindReturn r ⌝ }
-    requires { ⌜ InTurn (now tree) (now text) (now scratch) c ⌝ }
-    ensures { λ a. ⌜ StatesAs returnSteps c r (now (tree .entry)) (now (text .entry)) (now (arena .entry)) (now (scratch .entry)) a (now (arena .exit)) (now (scratch .exit)) ⌝ }
-    ensures types { λ a. ⌜ StatesTyped headTypes c r (now (tree .entry)) (now (text .entry)) (now (scratch .entry)) a (now (scratch .exit)) ⌝ }
+    requires { ⌜ InTurn (now tree) (now text) (now scratch) (at c (now k)) ⌝ }
+    ensures { λ a. ⌜ StatesAs returnSteps (at c (was k)) r (was tree) (was text) (was arena) (was scratch) (stated (is k) a) (is arena) (is scratch) ⌝ }
+    ensures types { λ a. ⌜ StatesTyped headTypes (at c (was k)) r (was tree) (was text) (was scratch) (stated (is k) a) (is scratch) ⌝ }
 {
     let scope = c.scope;
     let e = reference(tree, r, WORD_A);
@@ -397,7 +399,7 @@ pub(crate) fn convert_return(
             if expected == NONE as usize {
                 return Stated::Refused(error_at(ConvertErrorKind::ReturnWithoutType, r));
             }
-            return_as(tree, text, arena, scratch, c, r, y, expected)
+            return_as(tree, text, arena, scratch, k, c, r, y, expected)
         }
     }
 }
@@ -408,24 +410,24 @@ fn call_only(
     text: &[u8],
     arena: &mut [u8],
     scratch: &mut [u8],
+    k: &mut [usize],
     c: Converter,
     e: usize,
     f: usize,
 ) -> Stated
-    requires { ⌜ Converting (now tree) (now text) (now arena) (now scratch) c × ExprAfforded (now tree) (now text) c e ⌝ }
+    requires { ⌜ Converting (now tree) (now text) (now arena) (now scratch) (at c (now k)) × ExprAfforded (now tree) (now text) (at c (now k)) e ⌝ }
     requires { ⌜ IsKind (now tree) kindCall e × FunctionAt (now tree) f ⌝ }
-    requires { ⌜ InTurn (now tree) (now text) (now scratch) c ⌝ }
-    ensures { λ a. ⌜ CallOnlyAs (given callOnlySteps f) c e (now (tree .entry)) (now (text .entry)) (now (arena .entry)) (now (scratch .entry)) a (now (arena .exit)) (now (scratch .exit)) ⌝ }
-    ensures types { λ a. ⌜ StatesTyped callOnlyTypes c e (now (tree .entry)) (now (text .entry)) (now (scratch .entry)) a (now (scratch .exit)) ⌝ }
+    requires { ⌜ InTurn (now tree) (now text) (now scratch) (at c (now k)) ⌝ }
+    ensures { λ a. ⌜ CallOnlyAs (given callOnlySteps f) (at c (was k)) e (was tree) (was text) (was arena) (was scratch) (stated (is k) a) (is arena) (is scratch) ⌝ }
+    ensures types { λ a. ⌜ StatesTyped callOnlyTypes (at c (was k)) e (was tree) (was text) (was scratch) (stated (is k) a) (is scratch) ⌝ }
 {
     let scope = c.scope;
-    match convert_args(tree, text, arena, scratch, c, e) {
+    match convert_args(tree, text, arena, scratch, k, c, e) {
         ConvertedArgs::Refused(x) => Stated::Refused(x),
-        ConvertedArgs::Done(count, k) => {
-            let mut at = c;
-            at.counters = k;
-            let k1 = pass_args(tree, text, arena, scratch, at, e, f, count);
-            Stated::Done(scope, emit_call_only(arena, k1, f as u32))
+        ConvertedArgs::Done(count) => {
+            pass_args(tree, text, arena, scratch, k, c, e, f, count);
+            emit_call_only(arena, k, f as u32);
+            Stated::Done(scope)
         }
     }
 }
@@ -436,21 +438,22 @@ fn call_statement(
     text: &[u8],
     arena: &mut [u8],
     scratch: &mut [u8],
+    k: &mut [usize],
     c: Converter,
     r: usize,
     e: usize,
 ) -> Stated
-    requires { ⌜ Converting (now tree) (now text) (now arena) (now scratch) c × BehindAfforded (now tree) (now text) c r ⌝ }
+    requires { ⌜ Converting (now tree) (now text) (now arena) (now scratch) (at c (now k)) × BehindAfforded (now tree) (now text) (at c (now k)) r ⌝ }
     requires { ⌜ IsKind (now tree) kindCallStatement r × IsKind (now tree) kindCall e × (e ≡ wordOf (now tree) r Words.A) ⌝ }
-    requires { ⌜ InTurn (now tree) (now text) (now scratch) c ⌝ }
-    ensures { λ a. ⌜ StatesAs callStatementSteps c r (now (tree .entry)) (now (text .entry)) (now (arena .entry)) (now (scratch .entry)) a (now (arena .exit)) (now (scratch .exit)) ⌝ }
-    ensures types { λ a. ⌜ StatesTyped ownTypes c r (now (tree .entry)) (now (text .entry)) (now (scratch .entry)) a (now (scratch .exit)) ⌝ }
+    requires { ⌜ InTurn (now tree) (now text) (now scratch) (at c (now k)) ⌝ }
+    ensures { λ a. ⌜ StatesAs callStatementSteps (at c (was k)) r (was tree) (was text) (was arena) (was scratch) (stated (is k) a) (is arena) (is scratch) ⌝ }
+    ensures types { λ a. ⌜ StatesTyped ownTypes (at c (was k)) r (was tree) (was text) (was scratch) (stated (is k) a) (is scratch) ⌝ }
 {
     let scope = c.scope;
     match resolve_call(tree, text, scratch, scope, c.turn, e) {
         Resolved::Refused(x) => Stated::Refused(x),
         Resolved::Cast(_) => Stated::Refused(error_at(ConvertErrorKind::WouldPanic, r)),
-        Resolved::Function(f) => call_only(tree, text, arena, scratch, c, e, f),
+        Resolved::Function(f) => call_only(tree, text, arena, scratch, k, c, e, f),
     }
 }
 
@@ -460,24 +463,24 @@ pub(crate) fn convert_call(
     text: &[u8],
     arena: &mut [u8],
     scratch: &mut [u8],
+    k: &mut [usize],
     c: Converter,
     r: usize,
 ) -> Stated
-    requires { ⌜ Converting (now tree) (now text) (now arena) (now scratch) c × BehindAfforded (now tree) (now text) c r ⌝ }
+    requires { ⌜ Converting (now tree) (now text) (now arena) (now scratch) (at c (now k)) × BehindAfforded (now tree) (now text) (at c (now k)) r ⌝ }
     requires { ⌜ IsKind (now tree) kindCallStatement r ⌝ }
-    requires { ⌜ InTurn (now tree) (now text) (now scratch) c ⌝ }
-    ensures { λ a. ⌜ StatesAs callStatementSteps c r (now (tree .entry)) (now (text .entry)) (now (arena .entry)) (now (scratch .entry)) a (now (arena .exit)) (now (scratch .exit)) ⌝ }
-    ensures types { λ a. ⌜ StatesTyped ownTypes c r (now (tree .entry)) (now (text .entry)) (now (scratch .entry)) a (now (scratch .exit)) ⌝ }
+    requires { ⌜ InTurn (now tree) (now text) (now scratch) (at c (now k)) ⌝ }
+    ensures { λ a. ⌜ StatesAs callStatementSteps (at c (was k)) r (was tree) (was text) (was arena) (was scratch) (stated (is k) a) (is arena) (is scratch) ⌝ }
+    ensures types { λ a. ⌜ StatesTyped ownTypes (at c (was k)) r (was tree) (was text) (was scratch) (stated (is k) a) (is scratch) ⌝ }
 {
     let scope = c.scope;
-    let k = c.counters;
     let e = reference(tree, r, WORD_A);
     if kind(tree, e) == KIND_CALL {
-        return call_statement(tree, text, arena, scratch, c, r, e);
+        return call_statement(tree, text, arena, scratch, k, c, r, e);
     }
     match get_type(tree, text, scratch, scope, c.turn, e) {
         ExprType::Refused(x) => Stated::Refused(x),
-        ExprType::Is(_) => Stated::Done(scope, k),
+        ExprType::Is(_) => Stated::Done(scope),
     }
 }
 
@@ -487,18 +490,21 @@ pub(crate) fn convert_break(
     text: &[u8],
     arena: &mut [u8],
     scratch: &[u8],
+    k: &mut [usize],
     c: Converter,
     r: usize,
 ) -> Stated
-    requires { ⌜ Converting (now tree) (now text) (now arena) (now scratch) c × BehindAfforded (now tree) (now text) c r ⌝ }
+    requires { ⌜ Converting (now tree) (now text) (now arena) (now scratch) (at c (now k)) × BehindAfforded (now tree) (now text) (at c (now k)) r ⌝ }
     requires { ⌜ IsKind (now tree) kindBreak r ⌝ }
-    ensures { λ a. ⌜ StatesAs breakSteps c r (now (tree .entry)) (now (text .entry)) (now (arena .entry)) (now (scratch .entry)) a (now (arena .exit)) (now (scratch .entry)) ⌝ }
+    ensures { λ a. ⌜ StatesAs breakSteps (at c (was k)) r (was tree) (was text) (was arena) (was scratch) (stated (is k) a) (is arena) (was scratch) ⌝ }
 {
     let scope = c.scope;
-    let k = c.counters;
     match scope.in_loop() {
         InLoop::Outside => Stated::Refused(error_at(ConvertErrorKind::BreakOutOfLoop, r)),
-        InLoop::Of(l) => Stated::Done(scope, jump(arena, k, LOOP_END, l as usize)),
+        InLoop::Of(l) => {
+            jump(arena, k, LOOP_END, l as usize);
+            Stated::Done(scope)
+        }
     }
 }
 
@@ -508,17 +514,20 @@ pub(crate) fn convert_continue(
     text: &[u8],
     arena: &mut [u8],
     scratch: &[u8],
+    k: &mut [usize],
     c: Converter,
     r: usize,
 ) -> Stated
-    requires { ⌜ Converting (now tree) (now text) (now arena) (now scratch) c × BehindAfforded (now tree) (now text) c r ⌝ }
+    requires { ⌜ Converting (now tree) (now text) (now arena) (now scratch) (at c (now k)) × BehindAfforded (now tree) (now text) (at c (now k)) r ⌝ }
     requires { ⌜ IsKind (now tree) kindContinue r ⌝ }
-    ensures { λ a. ⌜ StatesAs continueSteps c r (now (tree .entry)) (now (text .entry)) (now (arena .entry)) (now (scratch .entry)) a (now (arena .exit)) (now (scratch .entry)) ⌝ }
+    ensures { λ a. ⌜ StatesAs continueSteps (at c (was k)) r (was tree) (was text) (was arena) (was scratch) (stated (is k) a) (is arena) (was scratch) ⌝ }
 {
     let scope = c.scope;
-    let k = c.counters;
     match scope.in_loop() {
         InLoop::Outside => Stated::Refused(error_at(ConvertErrorKind::ContinueOutOfLoop, r)),
-        InLoop::Of(l) => Stated::Done(scope, jump(arena, k, LOOP_START, l as usize)),
+        InLoop::Of(l) => {
+            jump(arena, k, LOOP_START, l as usize);
+            Stated::Done(scope)
+        }
     }
 }

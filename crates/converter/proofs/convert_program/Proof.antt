@@ -28,10 +28,8 @@ enum-known-count c = search needs
 
 check-main-requires : tie.Need-check-main-requires
 check-main-requires c κs =
-    let start = c .before .before .before .before .before .before .before .before .before .before .before .before .before .before .before .before in
-    let listing = c .before .before .before .before .before .before in
-    let made = keys-done _ _ _ _ _ (listing .get-all-functions .ensures) _ (c .before .before .count .given .1) in
-    (start .pre .0, (made .0 .listed, made .1))
+    let made = keys-done _ _ _ _ _ (c .before .before .before .before .before .before .get-all-functions .ensures) _ (c .before .before .count .given .1) in
+    (c .before .before .before .before .before .before .before .before .before .before .before .before .before .before .before .before .before .pre .0 .0, (made .0 .listed, made .1))
 
 enum-known-e-2 : tie.Need-enum-known-e-2
 enum-known-e-2 c = search needs
@@ -40,69 +38,56 @@ enum-told : tie.Need-enum-told
 enum-told c = search needs
 
 chain-functions-requires : tie.Need-chain-functions-requires
-chain-functions-requires c κs =
-    let listing = c .before .before .before .before .before .before .before .before .before .before in
-    keys-done _ _ _ _ _ (listing .get-all-functions .ensures) _ (c .before .before .before .before .before .before .count .given .1) .0
+chain-functions-requires c κs = keys-done _ _ _ _ _ (c .before .before .before .before .before .before .before .before .before .before .get-all-functions .ensures) _ (c .before .before .before .before .before .before .count .given .1) .0
 
 forget-requires : tie.Need-forget-requires
 forget-requires c κs =
-    let start = c .before .before .before .before .before .before .before .before .before .before .before .before .before .before .before .before .before .before .before .before .before .before .before .before in
-    let numbered = c .before .before .before .before .before .before .before .before .before .before .before .before .before .before .before .before .before .before .number-texts .ensures .1 in
-    let listing = c .before .before .before .before .before .before .before .before .before .before .before .before .before .before in
-    let room = listed-room _ _ _ _ _ (listing .get-all-functions .ensures) (start .pre .0) (room-numbered numbered (start .pre .2)) in
+    let start = c .before .before .before .before .before .before .before .before .before .before .before .before .before .before .before .before .before .before .before .before .before .before .before .before .before in
+    let room = listed-room _ _ _ _ _ (c .before .before .before .before .before .before .before .before .before .before .before .before .before .before .get-all-functions .ensures) (start .pre .0 .0) (room-numbered (c .before .before .before .before .before .before .before .before .before .before .before .before .before .before .before .before .before .before .number-texts .ensures .1) (start .pre .0 .2)) in
     omega (arith, room, c .before .before .scratch3 .given)
 
 convert-all-requires : tie.Need-convert-all-requires
 convert-all-requires c κs =
-    let start = c .before .before .before .before .before .before .before .before .before .before .before .before .before .before .before .before .before .before .before .before .before .before .before .before .before .before .before .before .before in
-    let listing = c .before .before .before .before .before .before .before .before .before .before .before .before .before .before .before .before .before .before .before in
-    let counted = keys-done _ _ _ _ _ (listing .get-all-functions .ensures) _ (c .before .before .before .before .before .before .before .before .before .before .before .before .before .before .before .count .given .1) .1 in
-    let forgot = c .before .before .before .before in
-    let chained = c .before .before .before .before .before .before .before .before in
-    ((forgets-keyed _ _ _ (forgot .forget .ensures) _ (chained .chain-functions .ensures .0), counted, start .pre .1), forgets-turns _ _ _ (forgot .forget .ensures) (start .pre .3))
+    let start = c .before .before .before .before .before .before .before .before .before .before .before .before .before .before .before .before .before .before .before .before .before .before .before .before .before .before .before .before .before .before .before in
+    let counted = keys-done _ _ _ _ _ (c .before .before .before .before .before .before .before .before .before .before .before .before .before .before .before .before .before .before .before .before .get-all-functions .ensures) _ (c .before .before .before .before .before .before .before .before .before .before .before .before .before .before .before .before .count .given .1) .1 in
+    ((forgets-keyed _ _ _ (c .before .before .before .before .before .forget .ensures) _ (c .before .before .before .before .before .before .before .before .before .chain-functions .ensures .0), counted, start .pre .0 .1), (forgets-turns _ _ _ (c .before .before .before .before .before .forget .ensures) (start .pre .0 .3), start .pre .1))
 
 same-length : tie.Need-same-length
 same-length c = search needs
 
 returns : tie.Need-returns
 returns c =
-    let start = c .before .before .before .before .before .before .before .before .before .before .before .before .before .before .before in
+    let start = c .before .before .before .before .before .before .before .before .before .before .before .before .before .before .before .before in
     let numbered = c .before .before .before .before .before .before .before .before .before .number-texts .ensures .1 in
-    let listing = c .before .before .before .before .before in
     tree-numbered numbered
-    (tree-unkeyed _ _ _ _ _ (listing .get-all-functions .ensures) (start .pre .0) (room-numbered numbered (start .pre .2)) _ _ _ (c .before .e .given .1))
+    (tree-unkeyed _ _ _ _ _ (c .before .before .before .before .before .get-all-functions .ensures) (start .pre .0 .0) (room-numbered numbered (start .pre .0 .2)) _ _ _ (c .before .e .given .1))
 
 same-length-2 : tie.Need-same-length-2
 same-length-2 c = search needs
 
 returns-2 : tie.Need-returns-2
 returns-2 c =
-    let start = c .before .before .before .before .before .before .before .before .before .before .before .before .before .before .before .before .before .before .before .before in
+    let start = c .before .before .before .before .before .before .before .before .before .before .before .before .before .before .before .before .before .before .before .before .before in
     let numbered = c .before .before .before .before .before .before .before .before .before .before .before .before .before .before .number-texts .ensures .1 in
-    let listing = c .before .before .before .before .before .before .before .before .before .before in
-    let checking = c .before .before .before in
     tree-numbered numbered
-    (tree-mainless _ _ _ _ _ (listing .get-all-functions .ensures) (start .pre .0) (room-numbered numbered (start .pre .2)) _ _ (c .before .before .before .before .before .before .count .given .1) _ (checking .check-main .ensures) _ _ (c .before .e2 .given .1))
+    (tree-mainless _ _ _ _ _ (c .before .before .before .before .before .before .before .before .before .before .get-all-functions .ensures) (start .pre .0 .0) (room-numbered numbered (start .pre .0 .2)) _ _ (c .before .before .before .before .before .before .count .given .1) _ (c .before .before .before .check-main .ensures) _ _ (c .before .e2 .given .1))
 
 same-length-3 : tie.Need-same-length-3
 same-length-3 c = search needs
 
 same-length-4 : tie.Need-same-length-4
-same-length-4 c = search needs
+same-length-4 c = omega (arith, c .before .before .before .before .before .before .before .before .before .before .before .before .before .before .before .before .before .before .before .before .before .before .before .before .before .before .before .before .before .before .scratch .given, c .before .before .before .before .before .before .before .before .before .before .before .before .before .before .before .before .before .before .before .before .before .before .before .before .before .before .scratch2 .given, c .before .before .before .before .before .before .before .before .before .before .before .before .before .before .before .scratch3 .given, c .before .before .before .before .before .before .before .before .before .before .before .scratch4 .given, c .before .before .before .scratch5 .given)
+
+same-length-5 : tie.Need-same-length-5
+same-length-5 c = search needs
 
 returns-3 : tie.Need-returns-3
 returns-3 c =
-    let start = c .before .before .before .before .before .before .before .before .before .before .before .before .before .before .before .before .before .before .before .before .before .before .before .before .before .before .before .before .before .before .before .before .before .before in
-    let numbered = c .before .before .before .before .before .before .before .before .before .before .before .before .before .before .before .before .before .before .before .before .before .before .before .before .before .before .before .before .number-texts .ensures .1 in
-    let listing = c .before .before .before .before .before .before .before .before .before .before .before .before .before .before .before .before .before .before .before .before .before .before .before .before in
-    let checking = c .before .before .before .before .before .before .before .before .before .before .before .before .before .before .before .before .before in
-    let told = c .before .before .before .before .before .before .before .before .before .before .before .before .before .before .before in
-    let chained = c .before .before .before .before .before .before .before .before .before .before .before .before in
-    let forgot = c .before .before .before .before .before .before .before .before .before in
-    let converting = c .before .before .before .before in
+    let start = c .before .before .before .before .before .before .before .before .before .before .before .before .before .before .before .before .before .before .before .before .before .before .before .before .before .before .before .before .before .before .before .before .before .before .before .before .before .before in
+    let numbered = c .before .before .before .before .before .before .before .before .before .before .before .before .before .before .before .before .before .before .before .before .before .before .before .before .before .before .before .before .before .before .before .number-texts .ensures .1 in
     tree-numbered numbered
-    (tree-all _ _ _ _ _ (listing .get-all-functions .ensures) (start .pre .0) (room-numbered numbered (start .pre .2)) _ _ (c .before .before .before .before .before .before .before .before .before .before .before .before .before .before .before .before .before .before .before .before .count .given .1) _ (checking .check-main .ensures) (told .enum-told .given .1)
-    _ (forgot .forget .ensures .same-length ∙ chained .scratch3 .given) _ _ _ _ (converting .convert-all .ensures))
+    (tree-all _ _ _ _ _ (c .before .before .before .before .before .before .before .before .before .before .before .before .before .before .before .before .before .before .before .before .before .before .before .before .before .before .before .get-all-functions .ensures) (start .pre .0 .0) (room-numbered numbered (start .pre .0 .2)) _ _ (c .before .before .before .before .before .before .before .before .before .before .before .before .before .before .before .before .before .before .before .before .before .before .before .count .given .1) _ (c .before .before .before .before .before .before .before .before .before .before .before .before .before .before .before .before .before .before .before .before .check-main .ensures) (c .before .before .before .before .before .before .before .before .before .before .before .before .before .before .before .before .before .before .enum-told .given .1)
+    _ (c .before .before .before .before .before .before .before .before .before .before .before .before .forget .ensures .same-length ∙ c .before .before .before .before .before .before .before .before .before .before .before .before .before .before .before .scratch3 .given) _ _ _ _ (c .before .before .before .before .before .before .convert-all .ensures))
 
 pub convert-program-spec : {M : Type 1} → statement M
 convert-program-spec =
@@ -124,4 +109,5 @@ convert-program-spec =
     returns-2
     same-length-3
     same-length-4
+    same-length-5
     returns-3)

@@ -1,6 +1,9 @@
 -- What is left in the outputs: each table alone in its own, or zero everywhere.
 -- What `cut_tables` and `clear_outputs` leave, by the answer's case. Assumes nothing.
+use mathlib.Core.Path.{sym, ap, _∙_}
 use borrow.Author.Needs.{needs}
+use Rattle.ir.proofs.LentLaws.{ten}
+use Rattle.statements.specs.Lent.{Finished, finished}
 use Rattle.converter.proofs.CallLaws.{finish-refused, finish-converted}
 use Rattle.converter.proofs.finish.Statement.{statement}
 use Rattle.converter.proofs.finish.Tie as tie
@@ -11,14 +14,17 @@ enum-known-done c = search needs
 clear-outputs-requires : tie.Need-clear-outputs-requires
 clear-outputs-requires c κs = search needs
 
-enum-known-done-2 : tie.Need-enum-known-done-2
-enum-known-done-2 c = search needs
+enum-told : tie.Need-enum-told
+enum-told c = search needs
+
+counters-of-requires : tie.Need-counters-of-requires
+counters-of-requires c κs = ten _ _ (c .before .before .before .before .before .before .before .before .before .pre .room _ (ap (finished _) (c .enum-told .given .1)))
 
 cut-tables-requires : tie.Need-cut-tables-requires
 cut-tables-requires c κs =
-    let known = c .before .before .before .before .before .before .before in
-    let first = known .before .before .before .before .before .before .before .before in
-    (first .pre .room _ (known .done2 .given .1), first .pre .lent _ (known .done2 .given .1))
+    let first = c .before .before .before .before .before .before .before .before .before .before .before .before .before .before .before .before in
+    let is = ap (finished _) (c .before .before .before .before .before .before .before .enum-told .given .1) ∙ ap Finished.Done (sym (c .before .before .before .before .before .before .counters-of .ensures)) in
+    (first .pre .room _ is, first .pre .lent _ is)
 
 counts-of-requires : tie.Need-counts-of-requires
 counts-of-requires c κs = search needs
@@ -43,9 +49,8 @@ same-length-6 c = search needs
 
 returns : tie.Need-returns
 returns c =
-    let cleared = c .before .before .before .before .before .before .before .before .before .before .before .before in
-    let six = cleared .clear-outputs .ensures in
-    finish-refused _ _ _ _ _ _ _ _ _ _ _ _ _ _ _ (cleared .before .before .before .before .before .before .before .before .done .given .1) (six .0, six .1 .0, six .1 .1 .0, six .1 .1 .1 .0, six .1 .1 .1 .1 .0, six .1 .1 .1 .1 .1)
+    let six = c .before .before .before .before .before .before .before .before .before .before .before .before .clear-outputs .ensures in
+    finish-refused _ _ _ _ _ _ _ _ _ _ _ _ _ _ _ (ap (finished _) (c .before .before .before .before .before .before .before .before .before .before .before .before .before .before .before .before .before .before .before .before .done .given .1)) (six .0, six .1 .0, six .1 .1 .0, six .1 .1 .1 .0, six .1 .1 .1 .1 .0, six .1 .1 .1 .1 .1)
 
 same-length-7 : tie.Need-same-length-7
 same-length-7 c = search needs
@@ -67,16 +72,10 @@ same-length-12 c = search needs
 
 returns-2 : tie.Need-returns-2
 returns-2 c =
-    let x = c .before .before in
-    let s = x .before .before .strings2 in
-    let f = x .before .before .before .before in
-    let l = f .before .before in
-    let v = l .before .before in
-    let i = v .before .before in
-    let cut = i .before in
-    finish-converted _ _ _ _ _ _ _ _ _ _ _ _ _ _ _ _ (cut .before .before .before .before .before .before .before .before .done2 .given .1) (c .counts-of .ensures)
-    (record { instructions = i .instructions2 .given; variables = v .variables2 .given; labels = l .labels2 .given; functions = f .functions2 .given; strings = s .given; floats = x .floats2 .given })
-    (cut .cut-tables .ensures)
+    let is = ap (finished _) (c .before .before .before .before .before .before .before .before .before .before .before .before .before .before .before .before .before .before .before .before .before .enum-told .given .1) ∙ ap Finished.Done (sym (c .before .before .before .before .before .before .before .before .before .before .before .before .before .before .before .before .before .before .before .before .counters-of .ensures)) in
+    finish-converted _ _ _ _ _ _ _ _ _ _ _ _ _ _ _ _ is (c .counts-of .ensures)
+    (record { instructions = c .before .before .before .before .before .before .before .before .before .before .before .before .instructions2 .given; variables = c .before .before .before .before .before .before .before .before .before .before .variables2 .given; labels = c .before .before .before .before .before .before .before .before .labels2 .given; functions = c .before .before .before .before .before .before .functions2 .given; strings = c .before .before .before .before .strings2 .given; floats = c .before .before .floats2 .given })
+    (c .before .before .before .before .before .before .before .before .before .before .before .before .before .cut-tables .ensures)
 
 pub finish-spec : {M : Type 1} → statement M
 finish-spec =
@@ -84,7 +83,8 @@ finish-spec =
     (tie.spec
     enum-known-done
     clear-outputs-requires
-    enum-known-done-2
+    enum-told
+    counters-of-requires
     cut-tables-requires
     counts-of-requires
     same-length

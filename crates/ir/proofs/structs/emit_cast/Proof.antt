@@ -15,9 +15,12 @@ push-requires c κs = search needs
 same-length : tie.Need-same-length
 same-length c = search needs
 
+same-length-2 : tie.Need-same-length-2
+same-length-2 c = search needs
+
 returns : tie.Need-returns
 unfolding oneBytes encodeInstr fieldsOf
-returns c = c .before .before .push .ensures _ (c .before .before .before .with-one .ensures)
+returns c = c .before .before .before .before .push .ensures _ (c .before .before .before .before .before .with-one .ensures)
 
 pub emit-cast-spec : {M : Type 1} → statement M
-emit-cast-spec = tie.close (tie.spec with-one-requires push-requires same-length returns)
+emit-cast-spec = tie.close (tie.spec with-one-requires push-requires same-length same-length-2 returns)

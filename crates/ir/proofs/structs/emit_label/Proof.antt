@@ -15,9 +15,12 @@ push-requires c κs = search needs
 same-length : tie.Need-same-length
 same-length c = search needs
 
+same-length-2 : tie.Need-same-length-2
+same-length-2 c = search needs
+
 returns : tie.Need-returns
 unfolding noneBytes encodeInstr fieldsOf
-returns c = c .before .before .push .ensures _ (c .before .before .before .with-none .ensures)
+returns c = c .before .before .before .before .push .ensures _ (c .before .before .before .before .before .with-none .ensures)
 
 pub emit-label-spec : {M : Type 1} → statement M
-emit-label-spec = tie.close (tie.spec with-none-requires push-requires same-length returns)
+emit-label-spec = tie.close (tie.spec with-none-requires push-requires same-length same-length-2 returns)

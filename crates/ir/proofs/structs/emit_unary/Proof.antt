@@ -19,9 +19,12 @@ push-requires c κs = search needs
 same-length : tie.Need-same-length
 same-length c = search needs
 
+same-length-2 : tie.Need-same-length-2
+same-length-2 c = search needs
+
 returns : tie.Need-returns
 unfolding oneBytes encodeInstr fieldsOf
-returns c = c .before .before .push .ensures _ (c .before .before .before .with-one .ensures ∙ rw (c .before .before .before .before .unary-number .ensures))
+returns c = c .before .before .before .before .push .ensures _ (c .before .before .before .before .before .with-one .ensures ∙ rw (c .before .before .before .before .before .before .unary-number .ensures))
 
 pub emit-unary-spec : {M : Type 1} → statement M
-emit-unary-spec = tie.close (tie.spec unary-number-requires with-one-requires push-requires same-length returns)
+emit-unary-spec = tie.close (tie.spec unary-number-requires with-one-requires push-requires same-length same-length-2 returns)

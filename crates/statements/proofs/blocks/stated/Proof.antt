@@ -2,21 +2,28 @@
 -- By the two answers. Assumes nothing.
 use mathlib.Core.Path.{sym, ap}
 use Rattle.statements.specs.Answers.{statedWith}
+use Rattle.statements.specs.Lent.{finished}
 use borrow.Author.Needs.{needs}
 use Rattle.statements.proofs.blocks.stated.Statement.{statement}
 use Rattle.statements.proofs.blocks.stated.Tie as tie
+use Rattle.statements.proofs.blocks.stated.Reads as reads
+use Rattle.statements.proofs.blocks.stated.Lts as lts
 
+-- src/blocks.rt:103:27
 enum-known-done : tie.Need-enum-known-done
 enum-known-done c = search needs
 
-enum-known-done-2 : tie.Need-enum-known-done-2
-enum-known-done-2 c = search needs
+-- src/blocks.rt:104:27
+enum-told : tie.Need-enum-told
+enum-told c = search needs
 
+-- src/blocks.rt:99:1
 returns : tie.Need-returns
-returns c = ap (statedWith _) (sym (c .before .done .given .1))
+returns c = λ k. ap (statedWith _) (ap (finished k) (sym (c .before .done .given .1)))
 
+-- src/blocks.rt:99:1
 returns-2 : tie.Need-returns-2
-returns-2 c = ap (statedWith _) (sym (c .before .done2 .given .1))
+returns-2 c = λ k. ap (statedWith _) (ap (finished k) (sym (c .enum-told .given .1)))
 
 pub stated-spec : {M : Type 1} → statement M
-stated-spec = tie.close (tie.spec enum-known-done enum-known-done-2 returns returns-2)
+stated-spec = tie.close (tie.spec enum-known-done enum-told returns returns-2)

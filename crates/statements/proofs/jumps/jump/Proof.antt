@@ -1,5 +1,6 @@
 -- A jump to the label of a kind and a record.
 -- The label's step and then the instruction's. Assumes nothing.
+use Rattle.ir.specs.Counted.{counted}
 use Rattle.statements.proofs.JumpLaws.{jump-adds}
 use borrow.Author.Needs.{needs}
 use Rattle.statements.proofs.jumps.jump.Statement.{statement}
@@ -7,27 +8,26 @@ use Rattle.statements.proofs.jumps.jump.Tie as tie
 use Rattle.statements.proofs.jumps.jump.Reads as reads
 use Rattle.statements.proofs.jumps.jump.Lts as lts
 use Rattle.ir.proofs.structs.emit_jump.Reads as emit-jump-reads
-use Rattle.ir.proofs.structs.label_id.Reads as label-id-reads
+use Rattle.ir.proofs.lent.label_id.Reads as label-id-reads
 
--- src/jumps.rt:19:42
 cast-label-id : tie.Need-cast-label-id
 cast-label-id c = search needs
 
--- src/jumps.rt:19:9
 label-id-requires : tie.Need-label-id-requires
 label-id-requires c κs = search needs
 
--- src/jumps.rt:22:5
 emit-jump-requires : tie.Need-emit-jump-requires
+unfolding counted
 emit-jump-requires c κs = search needs
 
--- src/jumps.rt:15:1
 same-length : tie.Need-same-length
 same-length c = search needs
 
--- src/jumps.rt:15:1
+same-length-2 : tie.Need-same-length-2
+same-length-2 c = search needs
+
 returns : tie.Need-returns
 returns c = search jump-adds
 
 pub jump-spec : {M : Type 1} → statement M
-jump-spec = tie.close (tie.spec cast-label-id label-id-requires emit-jump-requires same-length returns)
+jump-spec = tie.close (tie.spec cast-label-id label-id-requires emit-jump-requires same-length same-length-2 returns)

@@ -1,5 +1,6 @@
 -- The label of a kind and a record, placed.
 -- The label's step and then the instruction's. Assumes nothing.
+use Rattle.ir.specs.Counted.{counted}
 use Rattle.statements.proofs.JumpLaws.{place-adds}
 use borrow.Author.Needs.{needs}
 use Rattle.statements.proofs.jumps.place_label.Statement.{statement}
@@ -7,28 +8,27 @@ use Rattle.statements.proofs.jumps.place_label.Tie as tie
 use Rattle.statements.proofs.jumps.place_label.Reads as reads
 use Rattle.statements.proofs.jumps.place_label.Lts as lts
 use Rattle.ir.proofs.structs.emit_label.Reads as emit-label-reads
-use Rattle.ir.proofs.structs.label_id.Reads as label-id-reads
+use Rattle.ir.proofs.lent.label_id.Reads as label-id-reads
 
--- src/jumps.rt:46:42
 cast-label-id : tie.Need-cast-label-id
 cast-label-id c = search needs
 
--- src/jumps.rt:46:9
 label-id-requires : tie.Need-label-id-requires
 label-id-requires c κs = search needs
 
--- src/jumps.rt:49:5
 emit-label-requires : tie.Need-emit-label-requires
+unfolding counted
 emit-label-requires c κs = search needs
 
--- src/jumps.rt:42:1
 same-length : tie.Need-same-length
 same-length c = search needs
 
--- src/jumps.rt:42:1
+same-length-2 : tie.Need-same-length-2
+same-length-2 c = search needs
+
 returns : tie.Need-returns
 returns c = search place-adds
 
 pub place-label-spec : {M : Type 1} → statement M
 place-label-spec =
-    tie.close (tie.spec cast-label-id label-id-requires emit-label-requires same-length returns)
+    tie.close (tie.spec cast-label-id label-id-requires emit-label-requires same-length same-length-2 returns)

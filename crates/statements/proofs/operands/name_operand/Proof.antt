@@ -4,38 +4,36 @@ use Rattle.statements.proofs.LeafLaws.{name-ready, name-gives, name-ref
 use borrow.Author.Needs.{needs}
 use Rattle.statements.proofs.operands.name_operand.Statement.{statement}
 use Rattle.statements.proofs.operands.name_operand.Tie as tie
+use Rattle.statements.proofs.operands.name_operand.Reads as reads
+use Rattle.statements.proofs.operands.name_operand.Lts as lts
+use Rattle.expressions.proofs.names.find_name.Reads as find-name-reads
+use Rattle.statements.proofs.answers.error_at.Reads as error-at-reads
 
+-- src/operands.rt:177:11
 find-name-requires : tie.Need-find-name-requires
 find-name-requires c κs = name-ready (c .before .before .before .before .before .before .pre .0) (c .before .before .before .before .before .before .pre .1)
 
+-- src/operands.rt:178:19
 enum-known-v : tie.Need-enum-known-v
 enum-known-v c = search needs
 
+-- src/operands.rt:179:55
 enum-told : tie.Need-enum-told
 enum-told c = search needs
 
+-- src/operands.rt:179:46
 error-at-requires : tie.Need-error-at-requires
 error-at-requires c κs = search needs
 
+-- src/operands.rt:163:1
 returns : tie.Need-returns
-returns c =
-    let found = c .before .before .before in
-    let first = found .before .before .before .before .before .before .before in
-    name-gives _ _ _ _ _ _ (first .pre .0) (first .pre .1) _ (found .find-name .ensures) _ _ (c .before .v .given .1)
+returns c = name-gives _ _ _ _ _ _ (c .before .before .before .before .before .before .before .before .before .before .pre .0) (c .before .before .before .before .before .before .before .before .before .before .pre .1) _ (c .before .before .before .find-name .ensures) _ _ (c .before .v .given .1)
 
+-- src/operands.rt:163:1
 returns-2 : tie.Need-returns-2
-returns-2 c =
-    let found = c .before .before .before in
-    let first = found .before .before .before .before .before .before .before in
-    name-refuses _ _ _ _ _ _ (first .pre .0) (first .pre .1) _ (found .find-name .ensures) (c .before .enum-told .given .1) _ (c .error-at .ensures)
+returns-2 c = name-refuses _ _ _ _ _ _ (c .before .before .before .before .before .before .before .before .before .before .pre .0) (c .before .before .before .before .before .before .before .before .before .before .pre .1) _ (c .before .before .before .find-name .ensures) (c .before .enum-told .given .1) _ (c .error-at .ensures)
 
 pub name-operand-spec : {M : Type 1} → statement M
 name-operand-spec =
     tie.close
-    (tie.spec
-    find-name-requires
-    enum-known-v
-    enum-told
-    error-at-requires
-    returns
-    returns-2)
+    (tie.spec find-name-requires enum-known-v enum-told error-at-requires returns returns-2)
