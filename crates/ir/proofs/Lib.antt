@@ -18,3 +18,4 @@ pub mod SlotLaws
 pub mod StepCases
 pub mod StepLaws
 pub mod StepUses
+pub mod StringLaws

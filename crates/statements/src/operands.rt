@@ -65,6 +65,7 @@ use records::words::put_four;
 use records::words::reference;
 use records::words::word;
 use scope::Known;
+use texts::original;
 use types::form::two_words;
 use types::size::Bytes;
 use types::size::size;
@@ -160,13 +161,25 @@ fn float_operand(tree: &[u8], text: &[u8], arena: &mut [u8], k: Counters, e: usi
     }
 }
 
-fn string_operand(tree: &[u8], text: &[u8], arena: &mut [u8], k: Counters, e: usize) -> Fitted
-    requires { ⌜ RoomFor k (now arena) (amount 0 0 0 1 0) × Good (now tree) (now text) × IsKind (now tree) kindStr e ⌝ }
-    ensures { λ r. ⌜ LeafAdds (now (tree .entry)) (now (text .entry)) e (amount 0 0 0 1 0) k (now (arena .entry)) r (now (arena .exit)) ⌝ }
+// The string goes by the number of its text, which stands in the scratch.
+fn string_operand(
+    tree: &[u8],
+    text: &[u8],
+    arena: &mut [u8],
+    scratch: &[u8],
+    c: Converter,
+    e: usize,
+) -> Fitted
+    requires { ⌜ Converting (now tree) (now text) (now arena) (now scratch) c ⌝ }
+    requires { ⌜ Affords (c .counters) (amount 0 0 0 1 0) × IsKind (now tree) kindStr e ⌝ }
+    ensures { λ r. ⌜ LeafAdds (now (tree .entry)) (now (text .entry)) e (amount 0 0 0 1 0) (c .counters) (now (arena .entry)) r (now (arena .exit)) ⌝ }
 {
+    let scope = c.scope;
+    let k = c.counters;
+    let o = original(scratch, scope.records, e);
     let offset = word(tree, e, WORD_A);
     let len = word(tree, e, WORD_B);
-    let p = string_id(text, arena, k, offset, len);
+    let p = string_id(arena, k, o, offset, len);
     let next = p.counters;
     Fitted {
         operand: Operand::DataAddress(p.number),
@@ -240,7 +253,7 @@ pub(crate) fn operand(
         return as_converted(f);
     }
     if leaf == KIND_STR {
-        let f = string_operand(tree, text, arena, k, e);
+        let f = string_operand(tree, text, arena, scratch, c, e);
         return as_converted(f);
     }
     if leaf == KIND_BOOL {
