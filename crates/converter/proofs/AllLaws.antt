@@ -23,7 +23,7 @@ use Rattle.conversion.specs.Converter.{convertAll, convert}
 use Rattle.conversion.specs.Visits.{bodyVisits, functionsVisits}
 use Rattle.conversion.specs.Written.{bytesOf, word, wide, encodeAll, encodeFields, encodeInstr, encodeVar, encodeLabel, encodeFunctions, encodeString, encodeFloat, allCode, allVars, allLabels}
 use Rattle.ir.specs.declared.structs.Counters.{Counters}
-use Rattle.ir.specs.Arena.{Table, encodeDigest, LinkedEntries, floatEntryBucket, noFloat, stringBucket, sameString, noString, Holds, Room}
+use Rattle.ir.specs.Arena.{NumberedTexts, Table, LinkedEntries, floatEntryBucket, noFloat, Holds, Room}
 use Rattle.keys.specs.Keys.{functionPlaces, allKeys, Mapped, Keyed}
 use Rattle.keys.proofs.KeyLaws.{from, from-start, from-one, from-end}
 use Rattle.keys.proofs.KeySearch.{records-most}
@@ -36,6 +36,7 @@ use Rattle.statements.specs.Lent.{Finished}
 use Rattle.statements.specs.Converting.{Stays}
 use Rattle.statements.specs.Turns.{Turns}
 use Rattle.statements.proofs.StayLaws.{keyed-stays}
+use Rattle.statements.specs.Meets.{textsOf}
 use Rattle.functions.specs.declared.functions.AllFunctions.{AllFunctions}
 use Rattle.functions.specs.declared.functions.AllFunctions.the-variants as AllFunctions
 use Rattle.functions.specs.Functions.{AllMeet, done, refused}
@@ -61,19 +62,18 @@ no-links bucket same past heads links l = record {
   distinct = λ i j b. absurd (omega arith);
 }
 
-pub nothing-held : (text : List ℕ) (n : ℕ) (l : List ℕ) → Holds text (begun [] emptyPool) (emptyCounters n) l
-unfolding allCode allVars allLabels encodeFunctions encodeInstr encodeFields encodeVar encodeLabel encodeString encodeFloat encodeDigest word wide bytesOf
-nothing-held text n l = record {
+pub nothing-held : (texts : NumberedTexts) (n : ℕ) (l : List ℕ) → Holds texts (begun [] emptyPool) (emptyCounters n) l
+unfolding allCode allVars allLabels encodeFunctions encodeInstr encodeFields encodeVar encodeLabel encodeString encodeFloat word wide bytesOf
+nothing-held texts n l = record {
   instructions-hold = no-entries encodeInstr 32 (0 * n) l (λ x. refl);
   variables-hold = no-entries encodeVar 4 (128 * n) l (λ x. refl);
   labels-hold = no-entries encodeLabel 8 (140 * n) l (λ x. refl);
   functions-hold = record { is = refl };
   strings-hold = no-entries encodeString 8 (196 * n) l (λ x. refl);
   floats-hold = no-entries encodeFloat 16 (204 * n) l (λ x. refl);
-  digests-hold = no-entries encodeDigest 4 (236 * n) l (λ x. refl);
   slots-hold = record { has = λ i b. absurd (omega arith); number = λ i b. absurd (omega arith) };
   float-links-hold = no-links (floatEntryBucket n) sameFloat noFloat (276 * n) (268 * n) l;
-  string-links-hold = no-links (stringBucket n) sameString noString (284 * n) (280 * n) l;
+  string-slots-hold = record { has = λ i b. absurd (omega arith); numbered = λ i b. absurd (omega arith); slot = λ i b. absurd (omega arith) };
   before = record { functions-count = refl; instructions-before = refl; variables-before = refl; labels-before = refl };
   fits = record { labels-fit = tt; strings-stand = tt; floats-fit = tt };
 }
@@ -91,7 +91,7 @@ pub record SoFar (tree text l₀ s₀ : List ℕ) (count : ℕ) (k : Counters) (
   pub records-are : k .records ≡ records tree
   pub room : Room k l
   pub affords : FunctionsAfforded k (allRecords (from tree text j))
-  pub holds : Holds text (begun converted pool) k l
+  pub holds : Holds (textsOf tree text) (begun converted pool) k l
   pub asked : allFunctions tree text ≡ convertAll (program tree text) (allKeys tree text) (from tree text j) converted pool
   pub turns : Turns tree s k
   pub visits : visitsAt tree s + functionsVisits (records tree) (from tree text j) ≡ functionsVisits (records tree) (program tree text .functions)
@@ -120,7 +120,7 @@ all-start tree text l s count k keyed counted room turns e =
       records-are = refl;
       room = omega (arith, room, few);
       affords = record { tables = omega (arith, all); functions = omega (arith, all) };
-      holds = nothing-held text (records tree) l;
+      holds = nothing-held (textsOf tree text) (records tree) l;
       asked = ap (λ (fs : List Function). convertAll (program tree text) (allKeys tree text) fs [] emptyPool) (from-start tree text);
       turns = turns;
       visits = let same = ap (functionsVisits (records tree)) (from-start tree text) in omega (arith, turns .few, same);
@@ -164,7 +164,7 @@ module _ (tree text l₀ s₀ : List ℕ) (count : ℕ) (k : Counters) (j : ℕ)
       }
 
       next-by : (k′ : Counters) → a ≡ Finished.Done k′ → FunctionDone tree text f k l k′ l′ → (x : Result (IrFunction × Pool))
-          → convert-func (program tree text) (allKeys tree text) (functionOf tree text f) (w .pool) ≡ x → FunctionStands x (w .converted) text k′ l′
+          → convert-func (program tree text) (allKeys tree text) (functionOf tree text f) (w .pool) ≡ x → FunctionStands x (w .converted) (textsOf tree text) k′ l′
           → SoFar tree text l₀ s₀ count k′ (j + 1) l′ s′
       unfolding FunctionStands _>>=_
       next-by k′ z d (ok q) e stands = record {
@@ -202,7 +202,7 @@ module _ (tree text l₀ s₀ : List ℕ) (count : ℕ) (k : Counters) (j : ℕ)
             (m .stops x y (w .converted) (w .pool) (w .holds));
       }
 
-  program-stands : count ≤ j → ProgramStands text (records tree) (allFunctions tree text) k l
+  program-stands : count ≤ j → ProgramStands (textsOf tree text) (records tree) (allFunctions tree text) k l
   unfolding convertAll
   program-stands h = record {
     result = record { funcs = w .converted; strings = w .pool .strings; floats = w .pool .floats };
@@ -224,7 +224,7 @@ module _ (tree text l₀ s₀ : List ℕ) (count : ℕ) (k : Counters) (j : ℕ)
   all-end h = record {
     long = w .long;
     scratch-long = w .scratch-long;
-    gives = λ k′ z. let y : k ≡ k′ = cc in subst (λ (x : Counters). ProgramStands text (records tree) (allFunctions tree text) x l) y (program-stands h);
+    gives = λ k′ z. let y : k ≡ k′ = cc in subst (λ (x : Counters). ProgramStands (textsOf tree text) (records tree) (allFunctions tree text) x l) y (program-stands h);
     visits = λ k′ z. all-visits h;
     stops = λ e z. absurd (let y : _≡_ {A = ℕ} 0 1 = cc in omega arith);
   }

@@ -22,7 +22,7 @@ use Rattle.conversion.specs.Written as Written
 use Rattle.conversion.specs.Written.{allCode, allVars, allLabels, tablesOf, countsOf}
 use Rattle.tables.specs.Bytes.{Byte}
 use Rattle.ir.specs.declared.structs.Counters.{Counters}
-use Rattle.ir.specs.Arena.{Holds}
+use Rattle.ir.specs.Arena.{NumberedTexts, Holds}
 use Rattle.ir.specs.Cut as Cut
 use Rattle.ir.proofs.CutLaws as CutLaws
 use Rattle.ir.proofs.CutLaws.{instructions-are, variables-are, labels-are, functions-are, strings-are, floats-are}
@@ -34,6 +34,7 @@ use Rattle.judge.specs.declared.Judged.the-variants as Judged
 use Rattle.judge.proofs.RowLaws.{cleared-length, core-kept, core-cleared, answer-in, outputs-cleared, outputs-kept}
 use Rattle.expressions.specs.Slots.{visitsAt}
 use Rattle.statements.specs.Lent.{Finished}
+use Rattle.statements.specs.Meets.{textsOf}
 use Rattle.functions.specs.Bodies.{begun}
 use Rattle.demands.specs.Call.{visitsIn, Counted, Refusal, buffersAfter, Calls}
 use Rattle.demands.specs.Demands.{allZero, AsTheRust}
@@ -92,9 +93,9 @@ module _ (done : Finished) (n : ℕ) (i v l f s x i′ v′ l′ f′ s′ x′ 
 
 -- ---- the counters count the program's entries
 
-counts-are : (text : List ℕ) (p : IrProgram) (k : Counters) (n : ℕ) (l : List ℕ) → Holds text (begun (p .funcs) (poolOf p)) k l → countsFrom (countsIn k n) ≡ countsOf p
+counts-are : (texts : NumberedTexts) (p : IrProgram) (k : Counters) (n : ℕ) (l : List ℕ) → Holds texts (begun (p .funcs) (poolOf p)) k l → countsFrom (countsIn k n) ≡ countsOf p
 unfolding countsOf
-counts-are text p k n l h = six-counts
+counts-are texts p k n l h = six-counts
     (h .before .functions-count)
     (h .instructions-hold .count ∙ ap length (append-nil (allCode (p .funcs))))
     (h .variables-hold .count ∙ ap length (append-nil (allVars (p .funcs))))
@@ -143,14 +144,14 @@ module _ (tree text : List ℕ) (needsMain : Bool) (i v l f s x t : List ℕ) (d
         let b = begun (st .result .funcs) (poolOf (st .result)) in
         let none : CutLaws.Finished b = record { code = refl; vars = refl; labels = refl } in
         subst Stand y (
-          ap (answerFrom tree) (c .0) ∙ ap₂ Counted (counts-are text (st .result) k n j (st .holds)) (read ∙ m .visits k q ∙ good-visits tree text good),
+          ap (answerFrom tree) (c .0) ∙ ap₂ Counted (counts-are (textsOf tree text) (st .result) k n j (st .holds)) (read ∙ m .visits k q ∙ good-visits tree text good),
           seven-buffers
-              (instructions-are text b k j i′ v′ l′ f′ s′ x′ (st .holds) none (c .1) ∙ ap (filled (tablesOf (st .result) .instructions)) (m .long))
-              (variables-are text b k j i′ v′ l′ f′ s′ x′ (st .holds) none (c .1) ∙ ap (filled (tablesOf (st .result) .variables)) (e .long .variables))
-              (labels-are text b k j i′ v′ l′ f′ s′ x′ (st .holds) none (c .1) ∙ ap (filled (tablesOf (st .result) .labels)) (e .long .labels))
-              (functions-are text b k j i′ v′ l′ f′ s′ x′ (st .holds) none (c .1) ∙ ap (filled (tablesOf (st .result) .functions)) (e .long .functions))
-              (strings-are text b k j i′ v′ l′ f′ s′ x′ (st .holds) none (c .1) ∙ ap (filled (tablesOf (st .result) .strings)) (e .long .strings))
-              (floats-are text b k j i′ v′ l′ f′ s′ x′ (st .holds) none (c .1) ∙ ap (filled (tablesOf (st .result) .floats)) (e .long .floats))
+              (instructions-are (textsOf tree text) b k j i′ v′ l′ f′ s′ x′ (st .holds) none (c .1) ∙ ap (filled (tablesOf (st .result) .instructions)) (m .long))
+              (variables-are (textsOf tree text) b k j i′ v′ l′ f′ s′ x′ (st .holds) none (c .1) ∙ ap (filled (tablesOf (st .result) .variables)) (e .long .variables))
+              (labels-are (textsOf tree text) b k j i′ v′ l′ f′ s′ x′ (st .holds) none (c .1) ∙ ap (filled (tablesOf (st .result) .labels)) (e .long .labels))
+              (functions-are (textsOf tree text) b k j i′ v′ l′ f′ s′ x′ (st .holds) none (c .1) ∙ ap (filled (tablesOf (st .result) .functions)) (e .long .functions))
+              (strings-are (textsOf tree text) b k j i′ v′ l′ f′ s′ x′ (st .holds) none (c .1) ∙ ap (filled (tablesOf (st .result) .strings)) (e .long .strings))
+              (floats-are (textsOf tree text) b k j i′ v′ l′ f′ s′ x′ (st .holds) none (c .1) ∙ ap (filled (tablesOf (st .result) .floats)) (e .long .floats))
               scratch-zero,
         )
 

@@ -18,12 +18,13 @@ use Rattle.conversion.specs.Converter.{convertAll, convert}
 use Rattle.conversion.specs.Visits.{functionsVisits}
 use Rattle.conversion.specs.Written as Written
 use Rattle.ir.specs.declared.structs.Counters.{Counters}
-use Rattle.ir.specs.Arena.{arenaEach, Holds, Room}
+use Rattle.ir.specs.Arena.{NumberedTexts, arenaEach, Holds, Room}
 use Rattle.ir.specs.Cut as Cut
 use Rattle.keys.specs.Keys.{allKeys}
 use Rattle.judge.specs.Judge.{Buffers, cleared}
 use Rattle.expressions.specs.Slots.{visitsAt}
 use Rattle.statements.specs.Lent.{Finished}
+use Rattle.statements.specs.Meets.{textsOf}
 use Rattle.functions.specs.Bodies.{begun}
 use Rattle.tables.specs.Bytes.{Byte}
 use Rattle.demands.specs.Call as Call
@@ -43,18 +44,18 @@ abbrev pub emptyPool : Pool
 emptyPool = record { strings = []; floats = [] }
 
 -- the definition's answer x is a program, whose tables stand in the arena
-pub record ProgramStands (text : List ℕ) (n : ℕ) (x : Result IrProgram) (k : Counters) (l : List ℕ) : Type 0 where
+pub record ProgramStands (texts : NumberedTexts) (n : ℕ) (x : Result IrProgram) (k : Counters) (l : List ℕ) : Type 0 where
   pub result : IrProgram
   pub converts : x ≡ ok result
   pub records-are : k .records ≡ n
   pub room : Room k l
-  pub holds : Holds text (begun (result .funcs) (poolOf result)) k l
+  pub holds : Holds texts (begun (result .funcs) (poolOf result)) k l
 
 -- x is what the answer says: the program stands in the arena, and scratch has how many visits were made; or its error
 pub record ConvertsTo (tree text : List ℕ) (x : Result IrProgram) (l s : List ℕ) (a : Finished) (l′ s′ : List ℕ) : Type 0 where
   pub long : length l′ ≡ length l
   pub scratch-long : length s′ ≡ length s
-  pub gives : (k : Counters) → a ≡ Finished.Done k → ProgramStands text (records tree) x k l′
+  pub gives : (k : Counters) → a ≡ Finished.Done k → ProgramStands (textsOf tree text) (records tree) x k l′
   pub visits : (k : Counters) → a ≡ Finished.Done k → visitsAt tree s′ ≡ functionsVisits (records tree) (program tree text .functions)
   pub stops : (e : ConvertError) → a ≡ Finished.Refused e → x ≡ err (e .kind) (e .place)
 

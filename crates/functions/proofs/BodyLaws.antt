@@ -33,7 +33,7 @@ use Rattle.conversion.proofs.MonadLaws.{regroup, seq-is, after-none, pure-first
 use Rattle.ir.specs.declared.structs.Counters.{Counters}
 use Rattle.ir.specs.declared.structs.NewVariable.{NewVariable}
 use Rattle.ir.specs.Amounts.{amount, Spent}
-use Rattle.ir.specs.Arena.{TablesSoFar, Holds, Room}
+use Rattle.ir.specs.Arena.{NumberedTexts, TablesSoFar, Holds, Room}
 use Rattle.ir.specs.Steps.{grown, nextFunction, Stands, NextIn, StopsIn, AddsVar, Closes}
 use Rattle.ir.proofs.StepLaws.{next-in, then-in, pure-next, fail-stops, stop-first, then-stop}
 use Rattle.scope.specs.declared.Scope.{Scope}
@@ -43,7 +43,7 @@ use Rattle.expressions.specs.Slots.{Ready}
 use Rattle.expressions.specs.Answers.{refusal}
 use Rattle.statements.specs.Lent.{Converter, Finished}
 use Rattle.statements.specs.Converting.{Converting, RoomFor, blockAmount, BlockAfforded, Stays, StaysFor}
-use Rattle.statements.specs.Meets.{Adds}
+use Rattle.statements.specs.Meets.{Adds, textsOf}
 use Rattle.statements.specs.Turns.{Turns, Visited, TurnsStay, BlockVisited}
 use Rattle.statements.specs.Answers.{blockSteps, BlockAs}
 use Rattle.statements.proofs.MeetLaws.{adds-then, adds-pure, adds-most}
@@ -198,20 +198,20 @@ module _ {tree text l l′ s s′ : List ℕ} {m : M (Unit {0})} {f : ℕ} {c : 
     stops = λ e d. let z : _≡_ {A = ℕ} 0 1 = cc in absurd (omega arith);
   }
 
-  body-stops : {x : ConvertError} → StopsIn text m (c .counters) l (x .kind) (x .place) → ConvertsBody tree text m f c l s (Finished.Refused x) l′ s′
+  body-stops : {x : ConvertError} → StopsIn (textsOf tree text) m (c .counters) l (x .kind) (x .place) → ConvertsBody tree text m f c l s (Finished.Refused x) l′ s′
   body-stops {x} p = record {
     long = long;
     stays = stays;
     gives = λ k′ e. let z : _≡_ {A = ℕ} 0 1 = cc in absurd (omega arith);
-    stops = λ e q. let d : x ≡ e = cc in subst (λ (y : ConvertError). StopsIn text m (c .counters) l (y .kind) (y .place)) d p;
+    stops = λ e q. let d : x ≡ e = cc in subst (λ (y : ConvertError). StopsIn (textsOf tree text) m (c .counters) l (y .kind) (y .place)) d p;
   }
 
 -- what the step leaves is closed as the function's entry
-entry-stands : (text : List ℕ) (t : TablesSoFar) {k k′ : Counters} {l l′ : List ℕ} {f : ℕ} (o : Out (Unit {0})) → Stands o tt text t k l → Closes f true k l k′ l′
-    → BodyStands o f text t k′ l′
+entry-stands : (texts : NumberedTexts) (t : TablesSoFar) {k k′ : Counters} {l l′ : List ℕ} {f : ℕ} (o : Out (Unit {0})) → Stands o tt texts t k l → Closes f true k l k′ l′
+    → BodyStands o f texts t k′ l′
 unfolding Stands BodyStands
-entry-stands text t (made u c s) h p = p .stands text (grown t c s) (h .1) (λ e. absurd (true≢false e))
-entry-stands text t (failed e r) h p = h
+entry-stands texts t (made u c s) h p = p .stands texts (grown t c s) (h .1) (λ e. absurd (true≢false e))
+entry-stands texts t (failed e r) h p = h
 
 -- what follows the block
 abbrev behind : List ℕ → List ℕ → ℕ → Unit {0} → M (Unit {0})
@@ -229,7 +229,7 @@ module _ {tree text l l₁ s s₁ : List ℕ} {c : Converter} (f : ℕ) {w : ℕ
   pub body-refused : {x : ConvertError} → a ≡ Finished.Refused x → BodyAs c f tree text l s (Finished.Refused x) l₁ s₁
   body-refused {x} q =
       body-stops (i .meets .long) (i .stays)
-      (subst (λ (m : M (Unit {0})). StopsIn text m (c .counters) l (x .kind) (x .place)) body-split (stop-first text (behind tree text f) (finished-stop block-as q)))
+      (subst (λ (m : M (Unit {0})). StopsIn (textsOf tree text) m (c .counters) l (x .kind) (x .place)) body-split (stop-first (textsOf tree text) (behind tree text f) (finished-stop block-as q)))
 
   module _ {k : Counters} {b : Bool} (q : a ≡ Finished.Done k) (eb : b ≡ missing tree text f) where
     behind-is : (z : Bool) → b ≡ z → behind tree text f tt ≡ pick z (fail MissingReturn f) (pure tt)
@@ -239,16 +239,16 @@ module _ {tree text l l₁ s s₁ : List ℕ} {c : Converter} (f : ℕ) {w : ℕ
     unfolding pick
     body-misses e =
         body-stops (i .meets .long) (i .stays)
-        (subst (λ (m : M (Unit {0})). StopsIn text m (c .counters) l MissingReturn f) body-split
-        (then-stop text (behind tree text f) (finished-next block-as q .next)
-        (subst (λ (m : M (Unit {0})). StopsIn text m k l₁ MissingReturn f) (sym (behind-is true e)) (fail-stops text k l₁ MissingReturn f))))
+        (subst (λ (m : M (Unit {0})). StopsIn (textsOf tree text) m (c .counters) l MissingReturn f) body-split
+        (then-stop (textsOf tree text) (behind tree text f) (finished-next block-as q .next)
+        (subst (λ (m : M (Unit {0})). StopsIn (textsOf tree text) m k l₁ MissingReturn f) (sym (behind-is true e)) (fail-stops (textsOf tree text) k l₁ MissingReturn f))))
 
-    body-next : b ≡ false → NextIn text (bodySteps tree text f (scopeAt tree text s (c .scope))) (c .counters) l tt k l₁
+    body-next : b ≡ false → NextIn (textsOf tree text) (bodySteps tree text f (scopeAt tree text s (c .scope))) (c .counters) l tt k l₁
     unfolding pick
     body-next e =
-        subst (λ (m : M (Unit {0})). NextIn text m (c .counters) l tt k l₁) body-split
-        (then-in text (behind tree text f) (finished-next block-as q .next)
-        (subst (λ (m : M (Unit {0})). NextIn text m k l₁ tt k l₁) (sym (behind-is false e)) (next-in text (pure-next tt k l₁ (finished-next block-as q .next .room)))))
+        subst (λ (m : M (Unit {0})). NextIn (textsOf tree text) m (c .counters) l tt k l₁) body-split
+        (then-in (textsOf tree text) (behind tree text f) (finished-next block-as q .next)
+        (subst (λ (m : M (Unit {0})). NextIn (textsOf tree text) m k l₁ tt k l₁) (sym (behind-is false e)) (next-in (textsOf tree text) (pure-next tt k l₁ (finished-next block-as q .next .room)))))
 
     pub entry-room : c .counters .functions < c .counters .records → Room k l₁ × (k .functions < k .records)
     entry-room h = let p = finished-next block-as q in (p .next .room, omega (arith, h, p .spent .functions, p .spent .records))
@@ -258,7 +258,7 @@ module _ {tree text l l₁ s s₁ : List ℕ} {c : Converter} (f : ℕ) {w : ℕ
         body-gives (h ∙ i .meets .long) (i .stays) (record {
           room = p .room;
           spent = subst (λ (x : Counters). FunctionSpent (c .counters) x (blockRecords (blockAt tree text (wordOf tree f E)))) (sym (p .counts)) (closed-spent (finished-next block-as q .spent));
-          stands = λ t held. entry-stands text t (bodySteps tree text f (scopeAt tree text s (c .scope)) (t .state)) (body-next e .stands t held) p;
+          stands = λ t held. entry-stands (textsOf tree text) t (bodySteps tree text f (scopeAt tree text s (c .scope)) (t .state)) (body-next e .stands t held) p;
         })
       where
         closed-spent : Spent (c .counters) k (blockAmount (blockRecords (blockAt tree text (wordOf tree f E))))
@@ -343,7 +343,7 @@ module _ {tree text l l′ s s′ : List ℕ} {f : ℕ} {k : Counters} (long : l
     stops = λ e d. let z : _≡_ {A = ℕ} 0 1 = cc in absurd (omega arith);
   }
 
-  function-stops : {x : ConvertError} → ((before : List IrFunction) (p : Pool) → Holds text (begun before p) k l
+  function-stops : {x : ConvertError} → ((before : List IrFunction) (p : Pool) → Holds (textsOf tree text) (begun before p) k l
       → convert-func (program tree text) (allKeys tree text) (functionOf tree text f) p ≡ err (x .kind) (x .place))
       → ConvertsFunction tree text f k l s (Finished.Refused x) l′ s′
   function-stops {x} h = record {
@@ -395,17 +395,17 @@ module _ (tree text : List ℕ) (f : ℕ) (p : Pool) (eb : functionOf tree text 
       ∙ ap (λ (r : ℕ). blockThen tree text f r S (withTypes (functionOf tree text f .params) first)) er)
 
 -- the tables behind the parameters
-vars-hold : {text l l₁ : List ℕ} {k k₁ : Counters} (ps : List Param) (t : TablesSoFar) → VarsAdd ps k l k₁ l₁ → Holds text t k l → Holds text (grown t [] (withTypes ps (t .state))) k₁ l₁
+vars-hold : {texts : NumberedTexts} {l l₁ : List ℕ} {k k₁ : Counters} (ps : List Param) (t : TablesSoFar) → VarsAdd ps k l k₁ l₁ → Holds texts t k l → Holds texts (grown t [] (withTypes ps (t .state))) k₁ l₁
 unfolding Stands
-vars-hold {text} {l₁ = l₁} {k₁ = k₁} ps t p h = subst (λ (o : Out (Unit {0})). Stands o tt text t k₁ l₁) (vars-run ps (t .state)) (p .next .stands text t h) .1
+vars-hold {texts} {l₁ = l₁} {k₁ = k₁} ps t p h = subst (λ (o : Out (Unit {0})). Stands o tt texts t k₁ l₁) (vars-run ps (t .state)) (p .next .stands texts t h) .1
 
 -- a function's entry is what the definition makes
-function-stands : (text : List ℕ) (before : List IrFunction) (p : Pool) (ps : List Param) (g : Function) (f : ℕ) (k : Counters) (l : List ℕ) (o : Out (Unit {0})) → g .recOf ≡ f
-    → BodyStands o f text (grown (begun before p) [] (withTypes ps (begun before p .state))) k l → FunctionStands (finished g o) before text k l
+function-stands : (texts : NumberedTexts) (before : List IrFunction) (p : Pool) (ps : List Param) (g : Function) (f : ℕ) (k : Counters) (l : List ℕ) (o : Out (Unit {0})) → g .recOf ≡ f
+    → BodyStands o f texts (grown (begun before p) [] (withTypes ps (begun before p .state))) k l → FunctionStands (finished g o) before texts k l
 unfolding BodyStands FunctionStands finished pick
-function-stands text before p ps g f k l (made u c s) e h =
-    subst (λ (r : ℕ). Holds text (begun (before ++ (record { func = r; body = some c; vars = s .vars; labels = s .labels } ∷ [])) (record { strings = s .strings; floats = s .floats })) k l) (sym e) h
-function-stands text before p ps g f k l (failed x r) e h = h
+function-stands texts before p ps g f k l (made u c s) e h =
+    subst (λ (r : ℕ). Holds texts (begun (before ++ (record { func = r; body = some c; vars = s .vars; labels = s .labels } ∷ [])) (record { strings = s .strings; floats = s .floats })) k l) (sym e) h
+function-stands texts before p ps g f k l (failed x r) e h = h
 
 -- visits that are those of the body are at most the function's expression records
 pub counted : {tree text s s′ : List ℕ} {f : ℕ} {a : Finished} → Good tree text → FunctionAt tree f
@@ -430,9 +430,9 @@ module _ {tree text l s : List ℕ} {f : ℕ} {k : Counters} (keyed : Keyed tree
         room = p .room;
         spent = subst (λ (x : Counters). FunctionSpent k x (functionRecords (functionOf tree text f))) (sym (p .counts)) (omega arith);
         stands = λ before pool held.
-            subst (λ (x : Result (IrFunction × Pool)). FunctionStands x before text k′ l′) (sym (without-body tree text f pool (body-missing (keyed .good) at eb q)))
-            (subst (λ (r : ℕ). Holds text (begun (before ++ (record { func = r; body = nothing; vars = []; labels = [] } ∷ [])) pool) k′ l′)
-            (sym (function-rec tree text (keyed .good) f at)) (p .stands text (begun before pool) held (λ e. refl)));
+            subst (λ (x : Result (IrFunction × Pool)). FunctionStands x before (textsOf tree text) k′ l′) (sym (without-body tree text f pool (body-missing (keyed .good) at eb q)))
+            (subst (λ (r : ℕ). Holds (textsOf tree text) (begun (before ++ (record { func = r; body = nothing; vars = []; labels = [] } ∷ [])) pool) k′ l′)
+            (sym (function-rec tree text (keyed .good) f at)) (p .stands (textsOf tree text) (begun before pool) held (λ e. refl)));
       })
 
   -- which makes no visit
@@ -509,8 +509,8 @@ module _ {tree text l s : List ℕ} {f : ℕ} {k : Counters} (keyed : Keyed tree
           room = y .room;
           spent = omega (arith, v .spent, y .spent, record-count);
           stands = λ before pool held.
-              subst (λ (x : Result (IrFunction × Pool)). FunctionStands x before text k′ l₂) (sym (run pool))
-              (function-stands text before pool (functionOf tree text f .params) (functionOf tree text f) f k′ l₂
+              subst (λ (x : Result (IrFunction × Pool)). FunctionStands x before (textsOf tree text) k′ l₂) (sym (run pool))
+              (function-stands (textsOf tree text) before pool (functionOf tree text f .params) (functionOf tree text f) f k′ l₂
               (bodySteps tree text f (scopeAt tree text s₁ sc) (withTypes (functionOf tree text f .params) (first tree text f pool the-body))) (function-rec tree text (keyed .good) f at)
               (y .stands (grown (begun before pool) [] (withTypes (functionOf tree text f .params) (begun before pool .state)))
               (vars-hold (functionOf tree text f .params) (begun before pool) v held)));

@@ -22,14 +22,14 @@ use Rattle.conversion.specs.Functions.{Pool, always-returns, convert-func}
 use Rattle.conversion.specs.Visits.{bodyVisits}
 use Rattle.ir.specs.declared.structs.Counters.{Counters}
 use Rattle.ir.specs.Amounts.{amount, Affords}
-use Rattle.ir.specs.Arena.{TablesSoFar, Holds, Room}
+use Rattle.ir.specs.Arena.{NumberedTexts, TablesSoFar, Holds, Room}
 use Rattle.ir.specs.Steps.{grown, closed, StopsIn}
 use Rattle.scope.specs.Open.{scopeAt}
 use Rattle.keys.specs.Keys.{allKeys}
 use Rattle.expressions.specs.Slots.{visitsAt}
 use Rattle.statements.specs.Lent.{Converter, Finished}
 use Rattle.statements.specs.Converting.{blockAmount, Stays, StaysFor}
-use Rattle.statements.specs.Meets.{Adds}
+use Rattle.statements.specs.Meets.{Adds, textsOf}
 use Rattle.statements.specs.Turns.{Visited}
 
 -- ---- the parameters
@@ -70,22 +70,22 @@ pub record FunctionSpent (k k′ : Counters) (n : ℕ) : Type 0 where
   pub floats : k′ .floats ≤ k .floats + 2 * n
 
 -- the definition makes a function, which stands behind those before it
-unfoldable pub FunctionStands : Result (IrFunction × Pool) → List IrFunction → List ℕ → Counters → List ℕ → Type 0
-FunctionStands (ok q) before text k l = Holds text (begun (before ++ (q .0 ∷ [])) (q .1)) k l
-FunctionStands (err e r) before text k l = ⊥
+unfoldable pub FunctionStands : Result (IrFunction × Pool) → List IrFunction → NumberedTexts → Counters → List ℕ → Type 0
+FunctionStands (ok q) before texts k l = Holds texts (begun (before ++ (q .0 ∷ [])) (q .1)) k l
+FunctionStands (err e r) before texts k l = ⊥
 
 -- the function f of the tree, whatever was done before it
 pub record FunctionDone (tree text : List ℕ) (f : ℕ) (k : Counters) (l : List ℕ) (k′ : Counters) (l′ : List ℕ) : Type 0 where
   pub room : Room k′ l′
   pub spent : FunctionSpent k k′ (functionRecords (functionOf tree text f))
-  pub stands : (before : List IrFunction) (p : Pool) → Holds text (begun before p) k l
-      → FunctionStands (convert-func (program tree text) (allKeys tree text) (functionOf tree text f) p) before text k′ l′
+  pub stands : (before : List IrFunction) (p : Pool) → Holds (textsOf tree text) (begun before p) k l
+      → FunctionStands (convert-func (program tree text) (allKeys tree text) (functionOf tree text f) p) before (textsOf tree text) k′ l′
 
 pub record ConvertsFunction (tree text : List ℕ) (f : ℕ) (k : Counters) (l s : List ℕ) (a : Finished) (l′ s′ : List ℕ) : Type 0 where
   pub long : length l′ ≡ length l
   pub stays : Stays tree 0 0 s s′
   pub gives : (k′ : Counters) → a ≡ Finished.Done k′ → FunctionDone tree text f k l k′ l′
-  pub stops : (e : ConvertError) → a ≡ Finished.Refused e → (before : List IrFunction) (p : Pool) → Holds text (begun before p) k l
+  pub stops : (e : ConvertError) → a ≡ Finished.Refused e → (before : List IrFunction) (p : Pool) → Holds (textsOf tree text) (begun before p) k l
       → convert-func (program tree text) (allKeys tree text) (functionOf tree text f) p ≡ err (e .kind) (e .place)
 
 -- where it refuses nothing: the visits of its body; and document 02, point 9, 'For a function whose tree holds e such records, the visits shall be at most e'
@@ -103,20 +103,20 @@ bodySteps tree text f sc =
     >>= λ x. pick (missesReturn tree text f) (fail MissingReturn f) (pure tt)
 
 -- the step gives, and its tables are closed as those of function f
-unfoldable pub BodyStands : Out (Unit {0}) → ℕ → List ℕ → TablesSoFar → Counters → List ℕ → Type 0
-BodyStands (made u c s) f text t k l = Holds text (closed f true (grown t c s)) k l
-BodyStands (failed e r) f text t k l = ⊥
+unfoldable pub BodyStands : Out (Unit {0}) → ℕ → NumberedTexts → TablesSoFar → Counters → List ℕ → Type 0
+BodyStands (made u c s) f texts t k l = Holds texts (closed f true (grown t c s)) k l
+BodyStands (failed e r) f texts t k l = ⊥
 
 pub record BodyDone (tree text : List ℕ) (m : M (Unit {0})) (f : ℕ) (k : Counters) (l : List ℕ) (k′ : Counters) (l′ : List ℕ) : Type 0 where
   pub room : Room k′ l′
   pub spent : FunctionSpent k k′ (blockRecords (blockAt tree text (wordOf tree f E)))
-  pub stands : (t : TablesSoFar) → Holds text t k l → BodyStands (m (t .state)) f text t k′ l′
+  pub stands : (t : TablesSoFar) → Holds (textsOf tree text) t k l → BodyStands (m (t .state)) f (textsOf tree text) t k′ l′
 
 pub record ConvertsBody (tree text : List ℕ) (m : M (Unit {0})) (f : ℕ) (c : Converter) (l s : List ℕ) (a : Finished) (l′ s′ : List ℕ) : Type 0 where
   pub long : length l′ ≡ length l
   pub stays : StaysFor tree c s s′
   pub gives : (k′ : Counters) → a ≡ Finished.Done k′ → BodyDone tree text m f (c .counters) l k′ l′
-  pub stops : (e : ConvertError) → a ≡ Finished.Refused e → StopsIn text m (c .counters) l (e .kind) (e .place)
+  pub stops : (e : ConvertError) → a ≡ Finished.Refused e → StopsIn (textsOf tree text) m (c .counters) l (e .kind) (e .place)
 
 abbrev pub BodyAs : Converter → ℕ → List ℕ → List ℕ → List ℕ → List ℕ → Finished → List ℕ → List ℕ → Type 0
 BodyAs c f tree text l s a l′ s′ = ConvertsBody tree text (bodySteps tree text f (scopeAt tree text s (c .scope))) f c l s a l′ s′

@@ -10,7 +10,7 @@ use Rattle.conversion.specs.Written.{allCode, allVars, allLabels}
 use Rattle.conversion.proofs.Within.{Grown, grew, fell, Within}
 use Rattle.ir.specs.declared.structs.Counters.{Counters}
 use Rattle.ir.specs.Amounts.{Amount, amount, both, Affords, Spent}
-use Rattle.ir.specs.Arena.{TablesSoFar, Holds}
+use Rattle.ir.specs.Arena.{NumberedTexts, TablesSoFar, Holds}
 use Rattle.ir.specs.Steps.{grown, Stands, NextIn}
 
 -- ---- sums and differences
@@ -34,8 +34,8 @@ both-spent p q = omega (arith, p, q)
 
 -- ---- what the definition adds at most
 
-module _ {A : Type 0} {Q : A → Type 0} {i v l s f : ℕ} (text : List ℕ) (t : TablesSoFar) (k k′ : Counters) (b b′ : List ℕ) (h : Holds text t k b) where
-  spent-by : {o : Out A} (a : A) → Grown Q i v l s f (t .state) o → Stands o a text t k′ b′ → k′ .records ≡ k .records → Spent k k′ (amount i v l s f)
+module _ {A : Type 0} {Q : A → Type 0} {i v l s f : ℕ} (texts : NumberedTexts) (t : TablesSoFar) (k k′ : Counters) (b b′ : List ℕ) (h : Holds texts t k b) where
+  spent-by : {o : Out A} (a : A) → Grown Q i v l s f (t .state) o → Stands o a texts t k′ b′ → k′ .records ≡ k .records → Spent k k′ (amount i v l s f)
   unfolding Stands
   spent-by a (grew x c st q g) z e =
       let h′ = z .1 in
@@ -70,21 +70,21 @@ module _ {A : Type 0} {Q : A → Type 0} {i v l s f : ℕ} (text : List ℕ) (t 
   spent-by a (fell d r) z e = absurd z
 
 -- some tables stand there
-pub record Held (text : List ℕ) (k : Counters) (l : List ℕ) : Type 0 where
+pub record Held (texts : NumberedTexts) (k : Counters) (l : List ℕ) : Type 0 where
   pub tables : TablesSoFar
-  pub holds : Holds text tables k l
+  pub holds : Holds texts tables k l
 
-pub spent : {A : Type 0} {Q : A → Type 0} {i v l s f : ℕ} {m : M A} {text : List ℕ} {k k′ : Counters} {b b′ : List ℕ} {a : A}
-    → Within Q i v l s f m → NextIn text m k b a k′ b′ → Held text k b → Spent k k′ (amount i v l s f)
-spent {text = text} {k = k} {k′ = k′} {b = b} {b′ = b′} {a = a} w n h =
-    spent-by text (h .tables) k k′ b b′ (h .holds) a (w .holds (h .tables .state)) (n .stands (h .tables) (h .holds)) (n .records)
+pub spent : {A : Type 0} {Q : A → Type 0} {i v l s f : ℕ} {m : M A} {texts : NumberedTexts} {k k′ : Counters} {b b′ : List ℕ} {a : A}
+    → Within Q i v l s f m → NextIn texts m k b a k′ b′ → Held texts k b → Spent k k′ (amount i v l s f)
+spent {texts = texts} {k = k} {k′ = k′} {b = b} {b′ = b′} {a = a} w n h =
+    spent-by texts (h .tables) k k′ b b′ (h .holds) a (w .holds (h .tables .state)) (n .stands (h .tables) (h .holds)) (n .records)
 
 -- ---- tables stand there still
 
-stand : {A : Type 0} (o : Out A) (a : A) (text : List ℕ) (t : TablesSoFar) (k : Counters) (l : List ℕ) → Stands o a text t k l → Held text k l
+stand : {A : Type 0} (o : Out A) (a : A) (texts : NumberedTexts) (t : TablesSoFar) (k : Counters) (l : List ℕ) → Stands o a texts t k l → Held texts k l
 unfolding Stands
-stand (made x c s) a text t k l z = record { tables = grown t c s; holds = z .1 }
-stand (failed e r) a text t k l z = absurd z
+stand (made x c s) a texts t k l z = record { tables = grown t c s; holds = z .1 }
+stand (failed e r) a texts t k l z = absurd z
 
-pub held : {A : Type 0} {text : List ℕ} {m : M A} {k k′ : Counters} {l l′ : List ℕ} {a : A} → NextIn text m k l a k′ l′ → Held text k l → Held text k′ l′
-held {text = text} {m = m} {k′ = k′} {l′ = l′} {a = a} n h = stand (m (h .tables .state)) a text (h .tables) k′ l′ (n .stands (h .tables) (h .holds))
+pub held : {A : Type 0} {texts : NumberedTexts} {m : M A} {k k′ : Counters} {l l′ : List ℕ} {a : A} → NextIn texts m k l a k′ l′ → Held texts k l → Held texts k′ l′
+held {texts = texts} {m = m} {k′ = k′} {l′ = l′} {a = a} n h = stand (m (h .tables .state)) a texts (h .tables) k′ l′ (n .stands (h .tables) (h .holds))

@@ -9,8 +9,7 @@ use Prim.Native.Nat.{ℕ, _+_, _-_, _*_, _/_, _%_, _^_, _≤_, _<_}
 use native.Mathlib.Omega.{arith}
 use lib.ListN.{length, length-append}
 use Rattle.laws.specs.Splice.{splice}
-use Rattle.records.specs.Digest.{digestOf}
-use Rattle.records.specs.Words.{wordAt, textAt}
+use Rattle.records.specs.Words.{wordAt}
 use Rattle.conversion.specs.Ir as Ir
 use Rattle.conversion.specs.Ir.{State, LabelName, StringEntry, FloatEntry, emit, new-var, label-id, string-id, float-id, numbered, position, sameLabel, sameFloat}
 use Rattle.conversion.specs.Written.{bytesOf, word, boolNumber, encodeInstr, encodeVar, encodeLabel, encodeString, encodeFloat, allVars, allLabels}
@@ -22,15 +21,16 @@ use Rattle.ir.specs.declared.structs.LabelNumber.{LabelNumber}
 use Rattle.ir.specs.declared.pool.PoolNumber.{PoolNumber}
 use Rattle.ir.specs.Instructions.{varOf, fieldBytes}
 use Rattle.ir.specs.Amounts.{Amount, Spent}
-use Rattle.ir.specs.Arena.{encodeDigest, TablesSoFar, HasSlot, labelSlot, floatBucket, floatEntryBucket, digestBucket, stringBucket, sameString, Holds, Room}
+use Rattle.ir.specs.Arena.{NumberedTexts, TablesSoFar, HasSlot, labelSlot, floatBucket, floatEntryBucket, Holds, Room}
 use Rattle.records.specs.declared.words.Found.{Found}
 use Rattle.records.specs.declared.words.Found.the-variants.{At, Nothing}
-use Rattle.ir.specs.Search.{labelIs, stringIs, floatWordsAt, Walks, floatHead, stringHead}
-use Rattle.ir.specs.Steps.{grown, Stands, Next, NextIn, moreInstructions, moreVariables, moreLabels, moreStrings, moreFloats, WroteTwo, WroteThree, WroteFour, Emits, AddsVar, named, NumbersLabel, entryOfString, NumbersString, NumbersFloat}
+use Rattle.ir.specs.Search.{labelIs, stringIs, floatWordsAt, Walks, floatHead}
+use Rattle.ir.specs.Steps.{grown, Stands, Next, NextIn, moreInstructions, moreVariables, moreLabels, moreStrings, moreFloats, WroteTwo, WroteThree, Emits, AddsVar, named, NumbersLabel, entryOfString, StringAdded, NumbersString, NumbersFloat}
 use Rattle.ir.proofs.Entries.{written-length, written-word}
 use Rattle.ir.proofs.Kept.{withLabel, withString, withFloat, no-code, emit-holds, var-holds, slot-holds, label-holds, string-holds, float-holds}
 use Rattle.ir.proofs.LinkWrites.{LinkWritten, linked-length}
-use Rattle.ir.proofs.ReadBack.{label-here, label-nowhere, string-start, string-here, string-gone, float-start, float-here, float-gone}
+use Rattle.ir.proofs.ReadBack.{label-here, label-nowhere, float-start, float-here, float-gone}
+use Rattle.ir.proofs.StringLaws.{sameString, string-found, number-unused, string-missing}
 use Rattle.records.proofs.WordLaws.{wide-words}
 
 -- what the counters asked for would spend, these spend
@@ -46,7 +46,7 @@ emit-done i f k l l′ room small ef e =
       next = record {
         room = omega (arith, room, len);
         records = refl;
-        stands = λ text t h. (refl, emit-holds text t k l room h i l′ small w);
+        stands = λ texts t h. (refl, emit-holds texts t k l room h i l′ small w);
       };
       spent = omega arith;
       entry = record { counts = refl; wrote = w };
@@ -65,9 +65,9 @@ var-done y r k l l′ room small e₀ e₁ ek e =
       next = subst (λ (k′ : Counters). Next (new-var y) k l (varOf (r .var)) k′ l′) (sym ek) (record {
         room = omega (arith, room, len);
         records = refl;
-        stands = λ text t h.
+        stands = λ texts t h.
             let count : r .var .0 ≡ length (t .state .vars) = omega (arith, e₀, h .variables-hold .count, h .before .variables-before, length-append (allVars (t .done)) (t .state .vars)) in
-            (ap₂ variable count e₁, var-holds text t k l room h y l′ small e);
+            (ap₂ variable count e₁, var-holds texts t k l room h y l′ small e);
       });
       typed = e₁;
       spent = same-spent (omega arith) ek;
@@ -76,17 +76,17 @@ var-done y r k l l′ room small e₀ e₁ ek e =
 
 -- ---- an entry that is found: nothing changes
 
-found : (text : List ℕ) (t : TablesSoFar) (k : Counters) (l : List ℕ) → Room k l → Holds text t k l → (o : Option ℕ) (s : State) (n i x : ℕ)
-    → o ≡ some i → x ≡ i → Stands (numbered o (t .state) s n) x text t k l
+found : (texts : NumberedTexts) (t : TablesSoFar) (k : Counters) (l : List ℕ) → Room k l → Holds texts t k l → (o : Option ℕ) (s : State) (n i x : ℕ)
+    → o ≡ some i → x ≡ i → Stands (numbered o (t .state) s n) x texts t k l
 unfolding Stands numbered
-found text t k l room h o s n i x e q =
-    subst (λ (p : Option ℕ). Stands (numbered p (t .state) s n) x text t k l) (sym e) (q, no-code text t k l room h (t .state) k l h)
+found texts t k l room h o s n i x e q =
+    subst (λ (p : Option ℕ). Stands (numbered p (t .state) s n) x texts t k l) (sym e) (q, no-code texts t k l room h (t .state) k l h)
 
 -- one that is not: the next number
-added : (text : List ℕ) (t : TablesSoFar) (k′ : Counters) (l′ : List ℕ) (o : Option ℕ) (s : State) (n x : ℕ)
-    → o ≡ none → x ≡ n → Holds text (grown t [] s) k′ l′ → Stands (numbered o (t .state) s n) x text t k′ l′
+added : (texts : NumberedTexts) (t : TablesSoFar) (k′ : Counters) (l′ : List ℕ) (o : Option ℕ) (s : State) (n x : ℕ)
+    → o ≡ none → x ≡ n → Holds texts (grown t [] s) k′ l′ → Stands (numbered o (t .state) s n) x texts t k′ l′
 unfolding Stands numbered
-added text t k′ l′ o s n x e q h = subst (λ (p : Option ℕ). Stands (numbered p (t .state) s n) x text t k′ l′) (sym e) (q, h)
+added texts t k′ l′ o s n x e q h = subst (λ (p : Option ℕ). Stands (numbered p (t .state) s n) x texts t k′ l′) (sym e) (q, h)
 
 -- ---- labels, as the code meets them: whether the label under the number at the slot is this one
 
@@ -103,8 +103,8 @@ module _ (kind opener : ℕ) (k : Counters) (l : List ℕ) (room : Room k l) (at
     next = subst (λ (k′ : Counters). Next (label-id x) k l (r .label .0) k′ l) (sym ek) (record {
       room = room;
       records = refl;
-      stands = λ text t h. found text t k l room h (position (sameLabel x) (t .state .labels)) (withLabel x (t .state))
-          (length (t .state .labels)) i (r .label .0) (label-here text t k l h kind opener i slot-has (sym eb ∙ q)) e;
+      stands = λ texts t h. found texts t k l room h (position (sameLabel x) (t .state .labels)) (withLabel x (t .state))
+          (length (t .state .labels)) i (r .label .0) (label-here texts t k l h kind opener i slot-has (sym eb ∙ q)) e;
     });
     spent = same-spent (omega arith) ek;
     entry = inr (record { counts = ek; same = refl });
@@ -129,84 +129,58 @@ module _ (kind opener : ℕ) (k : Counters) (l : List ℕ) (room : Room k l) (at
         next = subst (λ (k′ : Counters). Next (label-id x) k l (r .label .0) k′ l′) (sym (m .1 .counts)) (record {
           room = omega (arith, room, same);
           records = refl;
-          stands = λ text t h.
-              let new : position (sameLabel x) (t .state .labels) ≡ none = label-nowhere text t k l h kind opener i slot-has (sym eb ∙ q) in
+          stands = λ texts t h.
+              let new : position (sameLabel x) (t .state .labels) ≡ none = label-nowhere texts t k l h kind opener i slot-has (sym eb ∙ q) in
               let count : n ≡ length (t .state .labels) = omega (arith, h .labels-hold .count, h .before .labels-before, length-append (allLabels (t .done)) (t .state .labels)) in
-              added text t (moreLabels k) l′ (position (sameLabel x) (t .state .labels)) (withLabel x (t .state)) (length (t .state .labels)) (r .label .0) new (m .0 ∙ count)
-              (label-holds text t k l₁ room₁ (slot-holds text t k l room h x n l₁ slot new refl) x l′ slot
+              added texts t (moreLabels k) l′ (position (sameLabel x) (t .state .labels)) (withLabel x (t .state)) (length (t .state .labels)) (r .label .0) new (m .0 ∙ count)
+              (label-holds texts t k l₁ room₁ (slot-holds texts t k l room h x n l₁ slot new refl) x l′ slot
               (written-word n l l₁ (labelSlot (k .records) x) refl fit (omega (arith, room)) ∙ count) small e);
         });
         spent = same-spent (omega arith) (m .1 .counts);
         entry = inl (m .1);
       }
 
--- ---- strings, as the code meets them: what a walk from the head of its bucket answered
+-- ---- strings, as the code meets them: whether the string at the slot of the number o has a text of that number
 
-module _ (text : List ℕ) (offset len d p v : ℕ) (k : Counters) (l : List ℕ) (a : Found) (room : Room k l) (ed : d ≡ digestOf (textAt text offset len))
-    (ep : (p ≡ digestBucket (k .records) d) × (p < k .records)) (ev : (v ≡ stringHead l (k .records) (k .strings) p) × (v ≤ k .strings))
-    (es : Walks (λ j. wordAt l (280 * k .records + 4 * j)) (stringIs text l (k .records) d (textAt text offset len)) v a) where
-  abbrev asked : StringEntry
-  asked = entryOfString text offset len
-
-  string-bucket-is : p ≡ stringBucket (k .records) asked
-  string-bucket-is = ep .0 ∙ ap (digestBucket (k .records)) ed
-
-  string-head-is : v ≡ stringHead l (k .records) (k .strings) (stringBucket (k .records) asked)
-  string-head-is = ev .0 ∙ ap (λ (b : ℕ). stringHead l (k .records) (k .strings) b) string-bucket-is
-
-  string-walked : (r : Found) → a ≡ r
-      → Walks (λ j. wordAt l (280 * k .records + 4 * j)) (stringIs text l (k .records) d (asked .text)) (stringHead l (k .records) (k .strings) (stringBucket (k .records) asked)) r
-  string-walked r q =
-      subst (λ (z : Found). Walks (λ j. wordAt l (280 * k .records + 4 * j)) (stringIs text l (k .records) d (asked .text))
-      (stringHead l (k .records) (k .strings) (stringBucket (k .records) asked)) z) q
-      (subst (λ (u : ℕ). Walks (λ j. wordAt l (280 * k .records + 4 * j)) (stringIs text l (k .records) d (asked .text)) u a) string-head-is es)
-
-  pub string-at : (r : PoolNumber) (i : ℕ) → a ≡ At i → r .number ≡ i → r .counters ≡ k → NumbersString text (entryOfString text offset len) k l r l
+module _ (o offset len i : ℕ) (k : Counters) (l : List ℕ) (room : Room k l) (inside : o < k .records) (ei : i ≡ wordAt l (280 * k .records + 4 * o)) where
+  pub string-at : (b : Bool) (r : PoolNumber) → b ≡ stringIs l k o i → b ≡ true → r .number ≡ i → r .counters ≡ k → NumbersString o offset len k l r l
   unfolding string-id
-  string-at r i q e ek = record {
-    next = subst (λ (k′ : Counters). NextIn text (string-id asked) k l (r .number) k′ l) (sym ek) (record {
+  string-at b r eb q e ek = record {
+    next = λ texts apart own. subst (λ (k′ : Counters). NextIn texts (string-id (entryOfString (texts .text) offset len)) k l (r .number) k′ l) (sym ek) (record {
       room = room;
       records = refl;
-      stands = λ t h. found text t k l room h (position (sameString asked) (t .state .strings)) (withString asked (t .state)) (length (t .state .strings)) i (r .number)
-          (string-here text t k l h asked d ed i (string-walked (At i) q)) e;
+      stands = λ t h.
+          let x : StringEntry = entryOfString (texts .text) offset len in
+          found texts t k l room h (position (sameString x) (t .state .strings)) (withString x (t .state)) (length (t .state .strings)) i (r .number)
+          (string-found k (h .string-slots-hold) (h .strings-hold .count) x o i own ei apart inside (sym eb ∙ q)) e;
     });
     spent = same-spent (omega arith) ek;
     entry = inr (record { counts = ek; same = refl });
   }
 
-  pub string-nowhere : (l′ : List ℕ) (r : PoolNumber) → k .strings < k .records → offset < 2 ^ 32 → len < 2 ^ 32 → a ≡ Nothing
-      → (r .number ≡ k .strings)
-      × WroteFour l (196 * k .records + 8 * k .strings) (word offset ++ word len) (236 * k .records + 4 * k .strings) (word d) (280 * k .records + 4 * k .strings) (word v)
-      (284 * k .records + 4 * p) (word (k .strings)) (moreStrings k) (r .counters) l′
-      → NumbersString text (entryOfString text offset len) k l r l′
-  unfolding string-id encodeString encodeDigest word bytesOf
-  string-nowhere l′ r small ho hn q m =
+  pub string-nowhere : (b : Bool) (l′ : List ℕ) (r : PoolNumber) → k .strings < k .records → offset < 2 ^ 32 → len < 2 ^ 32 → b ≡ stringIs l k o i → b ≡ false
+      → (r .number ≡ k .strings) × StringAdded o offset len k l (r .counters) l′ → NumbersString o offset len k l r l′
+  unfolding string-id encodeString word bytesOf
+  string-nowhere b l′ r small ho hn eb q m =
       let n : ℕ = k .records in
-      let bucket : ℕ = stringBucket (k .records) asked in
-      let head : ℕ = stringHead l (k .records) (k .strings) bucket in
       let at : ℕ = 196 * n + 8 * k .strings in
-      let at₂ : ℕ = 236 * n + 4 * k .strings in
-      let at₃ : ℕ = 280 * n + 4 * k .strings in
-      let l₁ : List ℕ = splice l at (encodeString asked) in
-      let l₂ : List ℕ = splice l₁ at₂ (encodeDigest asked) in
-      let w : l′ ≡ splice (splice l₂ at₃ (word head)) (284 * n + 4 * bucket) (word (k .strings)) =
-      m .1 .wrote
-      ∙ ap (λ (z : ℕ). splice (splice (splice l₁ at₂ (word z)) at₃ (word v)) (284 * n + 4 * p) (word (k .strings))) ed
-      ∙ ap₂ (λ (y z : ℕ). splice (splice l₂ at₃ (word y)) (284 * n + 4 * z) (word (k .strings))) string-head-is string-bucket-is in
-      let inside : bucket < n = omega (arith, ep .1, string-bucket-is) in
-      let long₁ : length l₁ ≡ length l = written-length l at (encodeString asked) l₁ refl (omega (arith, room .arena)) in
-      let long₂ : length l₂ ≡ length l₁ = written-length l₁ at₂ (encodeDigest asked) l₂ refl (omega (arith, long₁, room .arena)) in
-      let linked : LinkWritten (280 * n) (284 * n) (k .strings) bucket head l₂ l′ = record { wrote = w; order = omega arith; fit = omega (arith, inside, long₁, long₂, room .arena) } in record {
-        next = subst (λ (k′ : Counters). NextIn text (string-id asked) k l (r .number) k′ l′) (sym (m .1 .counts)) (record {
-          room = omega (arith, room, long₁, long₂, linked-length linked);
-          records = refl;
-          stands = λ t h.
-              let new : position (sameString asked) (t .state .strings) ≡ none = string-gone text t k l h asked d ed (string-walked Nothing q) in
-              added text t (moreStrings k) l′ (position (sameString asked) (t .state .strings)) (withString asked (t .state)) (length (t .state .strings)) (r .number) new (m .0 ∙ h .strings-hold .count)
-              (string-holds text t k l room h asked head l₁ l₂ l′ (record { offset = ho; len = hn; stands = refl }) small (string-start text t k l h bucket) new refl refl linked);
-        });
+      let l₁ : List ℕ = splice l at (word offset ++ word len) in
+      let long : length l₁ ≡ length l = written-length l at (word offset ++ word len) l₁ refl (omega (arith, room .arena)) in
+      let linked : LinkWritten (236 * n) (280 * n) (k .strings) o o l₁ l′ = record { wrote = m .1 .wrote; order = omega arith; fit = omega (arith, long, room .arena) } in record {
+        next = λ texts apart own.
+            subst (λ (k′ : Counters). NextIn texts (string-id (entryOfString (texts .text) offset len)) k l (r .number) k′ l′) (sym (m .1 .counts)) (record {
+              room = omega (arith, room, long, linked-length linked);
+              records = refl;
+              stands = λ t h.
+                  let x : StringEntry = entryOfString (texts .text) offset len in
+                  let count : k .strings ≡ length (t .state .strings) = h .strings-hold .count in
+                  added texts t (moreStrings k) l′ (position (sameString x) (t .state .strings)) (withString x (t .state)) (length (t .state .strings)) (r .number)
+                  (string-missing k (h .string-slots-hold) count x o i own ei (sym eb ∙ q)) (m .0 ∙ count)
+                  (string-holds texts t k l room h x o l₁ l′ (record { offset = ho; len = hn; stands = refl }) small inside own
+                  (number-unused k (h .string-slots-hold) count x o i own ei (sym eb ∙ q)) refl linked);
+            });
         spent = same-spent (omega arith) (m .1 .counts);
-        entry = inl (record { counts = m .1 .counts; wrote = w });
+        entry = inl (m .1);
       }
 
 -- ---- floats
@@ -242,8 +216,8 @@ module _ (f e : FloatEntry) (same : e ≡ f) (b c d p v : ℕ) (k : Counters) (l
     next = subst (λ (k′ : Counters). Next (float-id e) k l (r .number) k′ l) (sym ek) (record {
       room = room;
       records = refl;
-      stands = λ text t h. found text t k l room h (position (sameFloat e) (t .state .floats)) (withFloat e (t .state)) (length (t .state .floats)) i (r .number)
-          (float-here text t k l h e i (float-walked (At i) q)) ex;
+      stands = λ texts t h. found texts t k l room h (position (sameFloat e) (t .state .floats)) (withFloat e (t .state)) (length (t .state .floats)) i (r .number)
+          (float-here texts t k l h e i (float-walked (At i) q)) ex;
     });
     spent = same-spent (omega arith) ek;
     entry = inr (record { counts = ek; same = refl });
@@ -273,10 +247,10 @@ module _ (f e : FloatEntry) (same : e ≡ f) (b c d p v : ℕ) (k : Counters) (l
         next = subst (λ (k′ : Counters). Next (float-id e) k l (r .number) k′ l′) (sym (m .1 .counts)) (record {
           room = omega (arith, room, long, linked-length linked);
           records = refl;
-          stands = λ text t h.
-              let new : position (sameFloat e) (t .state .floats) ≡ none = float-gone text t k l h e (float-walked Nothing q) in
-              added text t (moreFloats k) l′ (position (sameFloat e) (t .state .floats)) (withFloat e (t .state)) (length (t .state .floats)) (r .number) new (m .0 ∙ h .floats-hold .count)
-              (float-holds text t k l room h e head l₁ l′ (record { bits = omega (arith, ec .0, ec .1) }) small inside (float-start text t k l h bucket) new refl linked);
+          stands = λ texts t h.
+              let new : position (sameFloat e) (t .state .floats) ≡ none = float-gone texts t k l h e (float-walked Nothing q) in
+              added texts t (moreFloats k) l′ (position (sameFloat e) (t .state .floats)) (withFloat e (t .state)) (length (t .state .floats)) (r .number) new (m .0 ∙ h .floats-hold .count)
+              (float-holds texts t k l room h e head l₁ l′ (record { bits = omega (arith, ec .0, ec .1) }) small inside (float-start texts t k l h bucket) new refl linked);
         });
         spent = same-spent (omega arith) (m .1 .counts);
         entry = inl (record { counts = m .1 .counts; wrote = w });

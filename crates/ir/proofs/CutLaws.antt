@@ -12,7 +12,7 @@ use Rattle.conversion.specs.Ir.{IrProgram}
 use Rattle.conversion.specs.Written.{encodeAll, encodeInstr, encodeVar, encodeLabel, encodeFunctions, allCode, allVars, allLabels, tablesOf}
 use Rattle.conversion.proofs.Bytes.{functions-length}
 use Rattle.ir.specs.declared.structs.Counters.{Counters}
-use Rattle.ir.specs.Arena.{Table, TablesSoFar, Holds}
+use Rattle.ir.specs.Arena.{Table, NumberedTexts, TablesSoFar, Holds}
 use Rattle.ir.specs.Cut.{Cut}
 use Rattle.ir.proofs.Entries.{bytes-length}
 
@@ -93,7 +93,7 @@ no-more xs ys e = ap (λ (r : List _). xs ++ r) e ∙ append-nil xs
 abbrev pub written : TablesSoFar → IrProgram
 written t = record { funcs = t .done; strings = t .state .strings; floats = t .state .floats }
 
-module _ (text : List ℕ) (t : TablesSoFar) (k : Counters) (l l′ vs ys fs ss xs : List ℕ) (h : Holds text t k l) (d : Finished t) (c : Cut k l l′ vs ys fs ss xs) where
+module _ (texts : NumberedTexts) (t : TablesSoFar) (k : Counters) (l l′ vs ys fs ss xs : List ℕ) (h : Holds texts t k l) (d : Finished t) (c : Cut k l l′ vs ys fs ss xs) where
   pub instructions-are : l′ ≡ filled (tablesOf (written t) .instructions) (length l)
   unfolding tablesOf
   instructions-are =

@@ -1,4 +1,4 @@
--- Entries of a table linked by their buckets: which words they need, where a walk through an entry's bucket leads, and one entry more; and so floats and strings.
+-- Entries of a table linked by their buckets: which words they need, where a walk through an entry's bucket leads, and one entry more; and so floats.
 -- By the laws of links: entries that are the same have one bucket, and no two of those written are the same. Assumes nothing.
 use mathlib.Core.Path.{_≡_, refl, sym, ap, ap₂, _∙_, subst}
 use mathlib.Core.Logic.{inr}
@@ -15,16 +15,14 @@ use borrow.Author.Tests.{eqb-true, eq-eqb, ne-eqb, ltb-true, ltb-false, lt-ltb, 
 use Rattle.laws.specs.Fix.{pick}
 use Rattle.laws.specs.Splice.{splice}
 use Rattle.laws.proofs.Tests.{tested, and-left, and-right}
-use Rattle.records.specs.Digest.{digestOf}
 use Rattle.records.specs.Words.{wordAt}
 use Rattle.records.specs.declared.words.Found.{Found}
 use Rattle.records.specs.declared.words.Found.the-variants.{At, Nothing}
 use Rattle.records.proofs.Apart.{word-apart}
-use Rattle.records.proofs.DigestLaws.{same-equal}
-use Rattle.conversion.specs.Ir.{FloatEntry, position, sameText, sameFloat}
-use Rattle.ir.specs.Arena.{Linked, LinkedEntries, floatBucket, floatEntryBucket, digestBucket, stringBucket, sameString}
+use Rattle.conversion.specs.Ir.{FloatEntry, position, sameFloat}
+use Rattle.ir.specs.Arena.{Linked, LinkedEntries, floatBucket, floatEntryBucket}
 use Rattle.ir.specs.Floats.{entry}
-use Rattle.ir.specs.Search.{Walks, floatBucketAt, stringBucketAt, headFor}
+use Rattle.ir.specs.Search.{Walks, floatBucketAt, headFor}
 use Rattle.ir.proofs.LinkLaws.{Start, start, start-same, Told, walk-tells, linked-words, linked-same, linked-more}
 use Rattle.ir.proofs.SearchLaws.{numbered-more, position-none, position-only, position-nowhere}
 
@@ -179,16 +177,3 @@ pub words-bucket : (l : List ℕ) (n i x y z p : ℕ) → x ≡ wordAt l (204 * 
     → (p ≡ floatBucket n x y z) × (p < n) → p ≡ floatBucketAt l n i
 unfolding floatBucketAt
 words-bucket l n i x y z p ex ey ez ep = ep .0 ∙ rw (ex, ey, ez) refl
-
--- ---- strings: those that are the same have one text
-
-pub strings-alike : (n : ℕ) → Alike (stringBucket n) sameString
-strings-alike n = record {
-  one-bucket = λ a b e. ap (λ (t : List ℕ). digestBucket n (digestOf t)) (sym (same-equal (a .text) (b .text) e));
-  one-test = λ a b c e. ap (λ (t : List ℕ). sameText t (c .text)) (sym (same-equal (a .text) (b .text) e));
-}
-
--- the bucket of string i, by its digest as the code loads it
-pub digest-bucket : (l : List ℕ) (n i d p : ℕ) → d ≡ wordAt l (236 * n + 4 * i) → (p ≡ digestBucket n d) × (p < n) → p ≡ stringBucketAt l n i
-unfolding stringBucketAt
-digest-bucket l n i d p ed ep = ep .0 ∙ ap (digestBucket n) ed

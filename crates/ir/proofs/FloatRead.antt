@@ -16,7 +16,7 @@ use Rattle.conversion.specs.Ir.{FloatEntry, position, numbered, sameFloat, floa
 use Rattle.conversion.specs.Written.{boolNumber}
 use Rattle.ir.specs.declared.structs.Counters.{Counters}
 use Rattle.ir.specs.declared.pool.PoolNumber.{PoolNumber}
-use Rattle.ir.specs.Arena.{TablesSoFar, noFloat, Holds, Room}
+use Rattle.ir.specs.Arena.{NumberedTexts, TablesSoFar, noFloat, Holds, Room}
 use Rattle.ir.specs.Floats.{bitsOfFloat, entry, entryOfFloat}
 use Rattle.ir.specs.declared.floats.FloatEntry as Code
 use Rattle.ir.specs.declared.floats.FloatBits.the-variants.{Number, Nan}
@@ -46,17 +46,17 @@ past-end (x ∷ l) (suc i) h = past-end l i (omega arith)
 
 -- `floatBits` of an entry that is counted: its first two words; past the last it is 0
 module _ (k : Counters) (l : List ℕ) (i : ℕ) (room : Room k l) where
-  bits-are : (b : ℕ) → ((text : List ℕ) (t : TablesSoFar) → Holds text t k l → b ≡ getD (t .state .floats) i noFloat .bits) → Next (floatBits i) k l b k l
+  bits-are : (b : ℕ) → ((texts : NumberedTexts) (t : TablesSoFar) → Holds texts t k l → b ≡ getD (t .state .floats) i noFloat .bits) → Next (floatBits i) k l b k l
   unfolding Stands floatBits
   bits-are b f = record {
     room = room;
     records = refl;
-    stands = λ text t h. (f text t h, no-code text t k l room h (t .state) k l h);
+    stands = λ texts t h. (f texts t h, no-code texts t k l room h (t .state) k l h);
   }
 
   pub bits-next : i < k .floats → Next (floatBits i) k l (wordAt l (204 * k .records + 16 * i) + wordAt l (204 * k .records + 16 * i + 4) * 4294967296) k l
-  bits-next h = bits-are _ (λ text t holds. bits-read l (204 * k .records + 16 * i) (getD (t .state .floats) i noFloat)
-      (floats-at text t k l holds i (omega (arith, holds .floats-hold .count))))
+  bits-next h = bits-are _ (λ texts t holds. bits-read l (204 * k .records + 16 * i) (getD (t .state .floats) i noFloat)
+      (floats-at texts t k l holds i (omega (arith, holds .floats-hold .count))))
 
   -- as the code loads them
   pub bits-loaded : (x y : ℕ) → i < k .floats → x ≡ wordAt l (204 * k .records + 16 * i) → y ≡ wordAt l (204 * k .records + 16 * i + 4)
@@ -64,11 +64,11 @@ module _ (k : Counters) (l : List ℕ) (i : ℕ) (room : Room k l) where
   bits-loaded x y h ex ey = rw (ex, ey) (bits-next h)
 
   pub bits-none : k .floats ≤ i → Next (floatBits i) k l 0 k l
-  bits-none h = bits-are 0 (λ text t holds. ap (λ (x : FloatEntry). x .bits) (sym (past-end (t .state .floats) i (omega (arith, holds .floats-hold .count)))))
+  bits-none h = bits-are 0 (λ texts t holds. ap (λ (x : FloatEntry). x .bits) (sym (past-end (t .state .floats) i (omega (arith, holds .floats-hold .count)))))
 
 -- ---- what `float_id` wrote, or found
 
-module _ (e : FloatEntry) (text : List ℕ) (t : TablesSoFar) (x : ℕ) (k′ : Counters) (l′ : List ℕ) where
+module _ (e : FloatEntry) (texts : NumberedTexts) (t : TablesSoFar) (x : ℕ) (k′ : Counters) (l′ : List ℕ) where
   abbrev fs : List FloatEntry
   fs = t .state .floats
 
@@ -77,34 +77,34 @@ module _ (e : FloatEntry) (text : List ℕ) (t : TablesSoFar) (x : ℕ) (k′ : 
       let z : length fs ≡ length fs + 0 = omega arith in
       ap (λ (m : ℕ). getD (fs ++ (e ∷ [])) m noFloat) z ∙ getD-append-add fs (e ∷ []) 0 noFloat
 
-  numbered-at : (o : Option ℕ) → position (sameFloat e) fs ≡ o → Stands (numbered o (t .state) (withFloat e (t .state)) (length fs)) x text t k′ l′
+  numbered-at : (o : Option ℕ) → position (sameFloat e) fs ≡ o → Stands (numbered o (t .state) (withFloat e (t .state)) (length fs)) x texts t k′ l′
       → FloatAt l′ (204 * k′ .records + 16 * x) e
   unfolding Stands numbered
   numbered-at (some i) q h =
       let hit = position-hit (sameFloat e) noFloat fs i q in
       subst (λ (m : ℕ). FloatAt l′ (204 * k′ .records + 16 * m) e) (sym (h .0))
       (subst (FloatAt l′ (204 * k′ .records + 16 * i)) (same-entry e (getD fs i noFloat) (hit .holds))
-      (floats-at text (grown t [] (t .state)) k′ l′ (h .1) i (hit .below)))
+      (floats-at texts (grown t [] (t .state)) k′ l′ (h .1) i (hit .below)))
   numbered-at none q h =
       subst (λ (m : ℕ). FloatAt l′ (204 * k′ .records + 16 * m) e) (sym (h .0))
       (subst (FloatAt l′ (204 * k′ .records + 16 * length fs)) last-entry
-      (floats-at text (grown t [] (withFloat e (t .state))) k′ l′ (h .1) (length fs) (rw length-append (omega arith))))
+      (floats-at texts (grown t [] (withFloat e (t .state))) k′ l′ (h .1) (length fs) (rw length-append (omega arith))))
 
 -- the entry of the number that it gives is the float that was asked for
-pub float-made : (e : FloatEntry) (text : List ℕ) (t : TablesSoFar) (k : Counters) (l : List ℕ) (r : PoolNumber) (l′ : List ℕ) → Holds text t k l
+pub float-made : (e : FloatEntry) (texts : NumberedTexts) (t : TablesSoFar) (k : Counters) (l : List ℕ) (r : PoolNumber) (l′ : List ℕ) → Holds texts t k l
     → NumbersFloat e k l r l′ → FloatAt l′ (204 * k .records + 16 * r .number) e
 unfolding float-id
-float-made e text t k l r l′ h m =
+float-made e texts t k l r l′ h m =
     subst (λ (n : ℕ). FloatAt l′ (204 * n + 16 * r .number) e) (m .next .records)
-    (numbered-at e text t (r .number) (r .counters) l′ (position (sameFloat e) (t .state .floats)) refl (m .next .stands text t h))
+    (numbered-at e texts t (r .number) (r .counters) l′ (position (sameFloat e) (t .state .floats)) refl (m .next .stands texts t h))
 
 -- a number: the bits of its f64; a NaN: the bits that it came with
-module _ (text : List ℕ) (t : TablesSoFar) (k : Counters) (l : List ℕ) (r : PoolNumber) (l′ : List ℕ) (h : Holds text t k l) where
+module _ (texts : NumberedTexts) (t : TablesSoFar) (k : Counters) (l : List ℕ) (r : PoolNumber) (l′ : List ℕ) (h : Holds texts t k l) where
   pub number-made : (f : Code.FloatEntry) → NumbersFloat (entryOfFloat (Number f)) k l r l′
       → FloatAt l′ (204 * k .records + 16 * r .number) (entry (bitsOfFloat (f .value)) (f .short))
   unfolding entryOfFloat
-  number-made f m = float-made (entryOfFloat (Number f)) text t k l r l′ h m
+  number-made f m = float-made (entryOfFloat (Number f)) texts t k l r l′ h m
 
   pub nan-made : (b : ℕ) (short : Bool) → NumbersFloat (entryOfFloat (Nan b short)) k l r l′ → FloatAt l′ (204 * k .records + 16 * r .number) (entry b short)
   unfolding entryOfFloat
-  nan-made b short m = float-made (entryOfFloat (Nan b short)) text t k l r l′ h m
+  nan-made b short m = float-made (entryOfFloat (Nan b short)) texts t k l r l′ h m

@@ -14,10 +14,11 @@ use Rattle.conversion.specs.Ir.{IrFunction, LabelName}
 use Rattle.conversion.specs.Written.{bytesOf, word, boolNumber, encodeInstr, encodeVar, encodeLabel, encodeFunctions, codeOf, bodyMark, allCode, allVars, allLabels}
 use Rattle.conversion.proofs.Bytes.{functions-length}
 use Rattle.ir.specs.declared.structs.Counters.{Counters}
-use Rattle.ir.specs.Arena.{Has, Table, TablesSoFar, Holds, Room}
+use Rattle.ir.specs.Arena.{Has, Table, NumberedTexts, TablesSoFar, Holds, Room}
 use Rattle.ir.specs.Steps.{closed, nextFunction, Closes}
 use Rattle.ir.proofs.Entries.{written-length, has-grown, table-before, table-behind}
 use Rattle.ir.proofs.EntryLinks.{links-behind}
+use Rattle.ir.proofs.StringLaws.{strings-behind}
 
 -- an entry's eight words
 abbrev entry : ℕ → ℕ → ℕ → IrFunction → List ℕ
@@ -90,7 +91,7 @@ module _ (r : ℕ) (body : Bool) (b : ℕ) (eb : b ≡ boolNumber body) (k : Cou
     fit : place + length words ≤ length l
     fit = omega (arith, words-length, room .arena)
 
-    module _ (text : List ℕ) (t : TablesSoFar) (h : Holds text t k l) (bare : body ≡ false → t .code ≡ []) where
+    module _ (texts : NumberedTexts) (t : TablesSoFar) (h : Holds texts t k l) (bare : body ≡ false → t .code ≡ []) where
       abbrev f : IrFunction
       f = record { func = r; body = pick body (some (t .code)) none; vars = t .state .vars; labels = t .state .labels }
 
@@ -119,7 +120,7 @@ module _ (r : ℕ) (body : Bool) (b : ℕ) (eb : b ≡ boolNumber body) (k : Cou
       labels-list : allLabels (t .done ++ (f ∷ [])) ++ [] ≡ allLabels (t .done) ++ t .state .labels
       labels-list = append-nil _ ∙ labels-more (t .done) f
 
-      function-holds : Holds text (closed r body t) (nextFunction k) l′
+      function-holds : Holds texts (closed r body t) (nextFunction k) l′
       function-holds = record {
         instructions-hold = subst (λ (x : List Ir.Instr). Table encodeInstr 32 x (0 * k .records) (k .instructions) l′) (sym code-list)
             (table-before (h .instructions-hold) place words l′ e fit (omega (arith, room .instructions-in)));
@@ -133,10 +134,9 @@ module _ (r : ℕ) (body : Bool) (b : ℕ) (eb : b ≡ boolNumber body) (k : Cou
             (omega (arith, functions-length 0 0 0 (t .done), h .before .functions-count)) (h .functions-hold));
         strings-hold = table-behind (h .strings-hold) place words l′ e fit (omega (arith, words-length));
         floats-hold = table-behind (h .floats-hold) place words l′ e fit (omega (arith, words-length));
-        digests-hold = table-behind (h .digests-hold) place words l′ e fit (omega (arith, words-length));
         slots-hold = record { has = λ i b. absurd (omega arith); number = λ i b. absurd (omega arith) };
         float-links-hold = links-behind (h .float-links-hold) (omega arith) place words l′ e fit (omega (arith, words-length));
-        string-links-hold = links-behind (h .string-links-hold) (omega arith) place words l′ e fit (omega (arith, words-length));
+        string-slots-hold = strings-behind (h .string-slots-hold) place words l′ e fit (omega (arith, words-length));
         before = record {
           functions-count = simp length-append (omega (arith, h .before .functions-count));
           instructions-before = h .instructions-hold .count ∙ ap length (sym code-list ∙ append-nil (allCode (t .done ++ (f ∷ []))));

@@ -19,7 +19,7 @@ use Rattle.ir.specs.declared.pool.PoolNumber.{PoolNumber}
 use Rattle.ir.specs.Instructions.{fieldBytes}
 use Rattle.ir.specs.Arena.{Room}
 use Rattle.ir.specs.Counted.{counted}
-use Rattle.ir.specs.Steps.{moreVariables, moreLabels, moreStrings, moreFloats, Wrote, WroteTwo, WroteThree, WroteFour, TablesStay, Emits, AddsVar, NumbersLabel, NumbersString, NumbersFloat, Closes, Next}
+use Rattle.ir.specs.Steps.{moreVariables, moreLabels, moreStrings, moreFloats, Wrote, WroteTwo, WroteThree, TablesStay, Emits, AddsVar, NumbersLabel, NumbersString, NumbersFloat, Closes, Next}
 use Rattle.ir.proofs.Answers.{emit-done}
 
 -- ---- all ten words are there
@@ -143,15 +143,15 @@ module _ (k l l′ : List ℕ) (room : Room (counted k) l) (c : Counters) (read 
       let g : NumbersLabel kind opener (counted k) l r l′ = subst (λ (x : Counters). NumbersLabel kind opener x l r l′) read h in
       subst (λ (x : Counters). NumbersLabel kind opener (counted k) l (record { label = r .label; counters = x }) l′) (sym (set-labels k _ (ten k l room) ∙ same-labels (r .counters) (g .entry))) g
 
-  same-strings : {i j p q : ℕ} {vs ws us ts : List ℕ} (k′ : Counters) → WroteFour l i vs j ws p us q ts (moreStrings (counted k)) k′ l′ ⊎ TablesStay (counted k) l k′ l′ → withStrings (counted k) (k′ .strings) ≡ k′
+  same-strings : {i j p : ℕ} {vs ws us : List ℕ} (k′ : Counters) → WroteThree l i vs j ws p us (moreStrings (counted k)) k′ l′ ⊎ TablesStay (counted k) l k′ l′ → withStrings (counted k) (k′ .strings) ≡ k′
   same-strings k′ (inl w) = subst (λ (x : Counters). withStrings (counted k) (x .strings) ≡ x) (sym (w .counts)) refl
   same-strings k′ (inr w) = subst (λ (x : Counters). withStrings (counted k) (x .strings) ≡ x) (sym (w .counts)) refl
 
-  pub string-lent : (text : List ℕ) (s : StringEntry) (r : PoolNumber) → NumbersString text s c l r l′
-      → NumbersString text s (counted k) l (record { number = r .number; counters = counted (set k 5 (r .counters .strings)) }) l′
-  string-lent text s r h =
-      let g : NumbersString text s (counted k) l r l′ = subst (λ (x : Counters). NumbersString text s x l r l′) read h in
-      subst (λ (x : Counters). NumbersString text s (counted k) l (record { number = r .number; counters = x }) l′) (sym (set-strings k _ (ten k l room) ∙ same-strings (r .counters) (g .entry))) g
+  pub string-lent : (o offset len : ℕ) (r : PoolNumber) → NumbersString o offset len c l r l′
+      → NumbersString o offset len (counted k) l (record { number = r .number; counters = counted (set k 5 (r .counters .strings)) }) l′
+  string-lent o offset len r h =
+      let g : NumbersString o offset len (counted k) l r l′ = subst (λ (x : Counters). NumbersString o offset len x l r l′) read h in
+      subst (λ (x : Counters). NumbersString o offset len (counted k) l (record { number = r .number; counters = x }) l′) (sym (set-strings k _ (ten k l room) ∙ same-strings (r .counters) (g .entry))) g
 
   same-floats : {i j p : ℕ} {vs ws us : List ℕ} (k′ : Counters) → WroteThree l i vs j ws p us (moreFloats (counted k)) k′ l′ ⊎ TablesStay (counted k) l k′ l′ → withFloats (counted k) (k′ .floats) ≡ k′
   same-floats k′ (inl w) = subst (λ (x : Counters). withFloats (counted k) (x .floats) ≡ x) (sym (w .counts)) refl

@@ -19,3 +19,4 @@ pub mod SlotLaws
 pub mod StepCases
 pub mod StepLaws
 pub mod StepUses
+pub mod StringLaws

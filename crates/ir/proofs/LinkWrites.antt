@@ -1,5 +1,5 @@
--- A link and a head written one after the other: which words, bytes, tables and slots they leave, and that the entries are then linked with one more.
--- The link goes behind the others', the head over what stood there; both lie behind the tables. Assumes nothing.
+-- A link and a head written one after the other, or the number of a string's text and its slot: which words, bytes, tables and slots they leave, and that the entries are
+-- then linked with one more. The link goes behind the others', the head over what stood there; both lie behind the tables. Assumes nothing.
 use mathlib.Core.Path.{_≡_, refl, sym, ap, _∙_}
 use mathlib.Core.Logic.{_⊎_, inl, inr}
 use mathlib.Core.Bool.{Bool, true, false}
@@ -71,6 +71,9 @@ module _ {links heads m b v : ℕ} {l l′ : List ℕ} (w : LinkWritten links he
   pub before-stays : (p : ℕ) → p + 4 ≤ links → wordAt l′ p ≡ wordAt l p
   before-stays p q = second-stays p (inl (omega (arith, w .order))) ∙ first-stays p (inl (omega arith))
 
+  pub between-stays : (p : ℕ) → links + 4 * m + 4 ≤ p → p + 4 ≤ heads → wordAt l′ p ≡ wordAt l p
+  between-stays p a b = second-stays p (inl (omega arith)) ∙ first-stays p (inr a)
+
   pub behind-stays : (p : ℕ) → heads + 4 * b + 4 ≤ p → wordAt l′ p ≡ wordAt l p
   behind-stays p q = second-stays p (inr q) ∙ first-stays p (inr (omega (arith, w .order)))
 
@@ -80,22 +83,28 @@ module _ {links heads m b v : ℕ} {l l′ : List ℕ} (w : LinkWritten links he
     number = λ i hi. before-stays (labelSlot n (getD xs i noLabel)) (omega (arith, h .has i hi)) ∙ h .number i hi;
   }
 
+  pub slots-between : {n : ℕ} {xs : List LabelName} → links + 4 * m + 4 ≤ 240 * n → 268 * n ≤ heads → LabelSlots n xs l → LabelSlots n xs l′
+  slots-between {n = n} {xs = xs} a b h = record {
+    has = h .has;
+    number = λ i hi. between-stays (labelSlot n (getD xs i noLabel)) (omega arith) (omega (arith, h .has i hi)) ∙ h .number i hi;
+  }
+
   -- the entries, and the one that was written
   module _ (small : m < 2 ^ 32) (low : v < 2 ^ 32) where
-    own-head : wordAt l′ (heads + 4 * b) ≡ m
+    pub own-head : wordAt l′ (heads + 4 * b) ≡ m
     own-head = written-word m l₁ l′ (heads + 4 * b) (w .wrote) fit₂ small
 
-    other-heads : (a : ℕ) → (a ≡ b → ⊥) → wordAt l′ (heads + 4 * a) ≡ wordAt l (heads + 4 * a)
+    pub other-heads : (a : ℕ) → (a ≡ b → ⊥) → wordAt l′ (heads + 4 * a) ≡ wordAt l (heads + 4 * a)
     other-heads a ne = second-stays (heads + 4 * a) (apart (ltb a b) refl) ∙ first-stays (heads + 4 * a) (inr (omega (arith, w .order)))
       where
         apart : (u : Bool) → ltb a b ≡ u → (heads + 4 * a + 4 ≤ heads + 4 * b) ⊎ (heads + 4 * b + 4 ≤ heads + 4 * a)
         apart true q = inl (omega (arith, ltb-true a b q))
         apart false q = inr (omega (arith, ltb-false a b q))
 
-    last-link : wordAt l′ (links + 4 * m) ≡ v
+    pub last-link : wordAt l′ (links + 4 * m) ≡ v
     last-link = second-stays (links + 4 * m) (inl (omega (arith, w .order))) ∙ written-word v l l₁ (links + 4 * m) refl fit₁ low
 
-    old-links : (i : ℕ) → i < m → wordAt l′ (links + 4 * i) ≡ wordAt l (links + 4 * i)
+    pub old-links : (i : ℕ) → i < m → wordAt l′ (links + 4 * i) ≡ wordAt l (links + 4 * i)
     old-links i hi = second-stays (links + 4 * i) (inl (omega (arith, w .order))) ∙ first-stays (links + 4 * i) (inl (omega arith))
 
     pub links-more : {X : Type 0} {bucket : X → ℕ} {same : X → X → Bool} {past : X} {xs : List X} → LinkedEntries bucket same past heads links xs l → (x : X) → b ≡ bucket x

@@ -11,22 +11,20 @@ use lib.ListN.{length, getD, length-append}
 use lib.Seq.{getD-append-add}
 use borrow.Author.Tests.{eqb-true, eq-eqb, ltb-true, lt-ltb}
 use Rattle.laws.specs.All.{All}
-use Rattle.laws.proofs.Tests.{tested, and-left, and-right}
-use Rattle.records.specs.Words.{byteAt, wordAt, textAt}
-use Rattle.records.specs.Digest.{digestOf}
+use Rattle.laws.proofs.Tests.{and-left, and-right}
+use Rattle.records.specs.Words.{byteAt, wordAt}
 use Rattle.records.proofs.Apart.{word-back}
-use Rattle.records.proofs.DigestLaws.{digest-small, same-equal}
 use Rattle.records.specs.declared.words.Found.{Found}
 use Rattle.records.specs.declared.words.Found.the-variants.{At, Nothing}
-use Rattle.conversion.specs.Ir.{LabelName, StringEntry, FloatEntry, position, sameLabel, sameText, sameFloat}
-use Rattle.conversion.specs.Written.{bytesOf, word, wide, boolNumber, encodeLabel, encodeString, encodeFloat, allLabels}
+use Rattle.conversion.specs.Ir.{LabelName, FloatEntry, position, sameLabel, sameFloat}
+use Rattle.conversion.specs.Written.{bytesOf, word, wide, boolNumber, encodeLabel, encodeFloat, allLabels}
 use Rattle.ir.specs.declared.structs.Counters.{Counters}
-use Rattle.conversion.specs.Fits.{StringStands, FloatFits}
-use Rattle.ir.specs.Arena.{encodeDigest, TablesSoFar, LabelFits, labelSlot, noLabel, floatEntryBucket, noFloat, digestBucket, stringBucket, sameString, noString, Holds}
+use Rattle.conversion.specs.Fits.{FloatFits}
+use Rattle.ir.specs.Arena.{NumberedTexts, TablesSoFar, LabelFits, labelSlot, noLabel, floatEntryBucket, noFloat, Holds}
 use Rattle.ir.specs.Steps.{named}
-use Rattle.ir.specs.Search.{labelWordsAt, labelIs, sameTextAt, stringIs, floatWordsAt, Walks, floatBucketAt, stringBucketAt, floatHead, stringHead}
+use Rattle.ir.specs.Search.{labelWordsAt, labelIs, floatWordsAt, Walks, floatBucketAt, floatHead}
 use Rattle.ir.proofs.Entries.{table-word}
-use Rattle.ir.proofs.EntryLinks.{buckets, entry-start, entry-there, entry-missing, floats-alike, strings-alike}
+use Rattle.ir.proofs.EntryLinks.{buckets, entry-start, entry-there, entry-missing, floats-alike}
 use Rattle.ir.proofs.LinkLaws.{Start}
 use Rattle.ir.proofs.SlotLaws.{slot-found, slot-nowhere}
 
@@ -50,18 +48,6 @@ label-kind x f = word-back (x .kind) (f .kind)
 label-opener : (x : LabelName) → LabelFits x → wordAt (encodeLabel x) 4 ≡ x .opener
 unfolding encodeLabel word bytesOf wordAt byteAt
 label-opener x f = word-back (x .opener) (f .opener)
-
-string-offset : (text : List ℕ) (x : StringEntry) → StringStands text x → wordAt (encodeString x) 0 ≡ x .offset
-unfolding encodeString word bytesOf wordAt byteAt
-string-offset text x f = word-back (x .offset) (f .offset)
-
-string-len : (text : List ℕ) (x : StringEntry) → StringStands text x → wordAt (encodeString x) 4 ≡ x .len
-unfolding encodeString word bytesOf wordAt byteAt
-string-len text x f = word-back (x .len) (f .len)
-
-string-digest : (x : StringEntry) → wordAt (encodeDigest x) 0 ≡ digestOf (x .text)
-unfolding encodeDigest word bytesOf wordAt byteAt
-string-digest x = word-back (digestOf (x .text)) (digest-small (x .text))
 
 float-low : (x : FloatEntry) → wordAt (encodeFloat x) 0 ≡ x .bits % 4294967296
 unfolding encodeFloat word wide bytesOf wordAt byteAt
@@ -90,17 +76,6 @@ same-bool false false f g = refl
 and-both : (a b : Bool) → a ≡ true → b ≡ true → (a && b) ≡ true
 and-both a b e q = rw (e, q)
 
-and-no : (a : Bool) → (a && false) ≡ false
-and-no true = refl
-and-no false = refl
-
--- texts that are the same have one digest, so that asking for the digest first changes nothing
-digests-first : (u v : List ℕ) (d : ℕ) → d ≡ digestOf u → (eqb d (digestOf v) && sameText u v) ≡ sameText u v
-digests-first u v d ed =
-    tested (sameText u v)
-    (λ e. and-both (eqb d (digestOf v)) (sameText u v) (eq-eqb d (digestOf v) (ed ∙ ap digestOf (same-equal u v e))) e ∙ sym e)
-    (λ e. ap (λ (b : Bool). eqb d (digestOf v) && b) e ∙ and-no (eqb d (digestOf v)) ∙ sym e)
-
 -- two numbers are equal if their halves are
 glue : (a b : ℕ) → a % 4294967296 ≡ b % 4294967296 → a / 4294967296 ≡ b / 4294967296 → a ≡ b
 glue a b p q = omega arith
@@ -123,7 +98,7 @@ marks false false = refl
 
 -- ---- the searches
 
-module _ (text : List ℕ) (t : TablesSoFar) (k : Counters) (l : List ℕ) (h : Holds text t k l) where
+module _ (texts : NumberedTexts) (t : TablesSoFar) (k : Counters) (l : List ℕ) (h : Holds texts t k l) where
   -- entry j of the labels of the function at hand
   label-entry : (j : ℕ) → getD (allLabels (t .done) ++ t .state .labels) (k .«labels_before» + j) noLabel ≡ getD (t .state .labels) j noLabel
   label-entry j =
@@ -168,53 +143,6 @@ module _ (text : List ℕ) (t : TablesSoFar) (k : Counters) (l : List ℕ) (h : 
         slot-nowhere (h .slots-hold) (named kind opener) i e (λ hi.
         let b : in-reach ≡ true = lt-ltb i (k .labels - k .«labels_before») (omega (arith, labels-count)) in
         sym (label-same kind opener i hi) ∙ sym (ap (λ (c : Bool). c && this) b) ∙ q)
-
-  string-same : (u : List ℕ) (j : ℕ) → j < length (t .state .strings)
-      → sameTextAt text l (196 * k .records) u j ≡ sameText u (getD (t .state .strings) j noString .text)
-  unfolding sameTextAt
-  string-same u j hj =
-      let x : StringEntry = getD (t .state .strings) j noString in
-      let f : StringStands text (getD (t .state .strings) j noString) = all-at (StringStands text) (t .state .strings) noString j (h .fits .strings-stand) hj in
-      ap (sameText u)
-      (ap₂ (textAt text)
-      (table-word (h .strings-hold) noString j 0 (196 * k .records + 8 * j) (omega (arith, h .strings-hold .count)) (omega arith) (omega arith) ∙ string-offset text x f)
-      (table-word (h .strings-hold) noString j 4 (196 * k .records + 8 * j + 4) (omega (arith, h .strings-hold .count)) (omega arith) (omega arith) ∙ string-len text x f)
-      ∙ sym (f .stands))
-
-  digests-at : (j : ℕ) → j < length (t .state .strings) → wordAt l (236 * k .records + 4 * j) ≡ digestOf (getD (t .state .strings) j noString .text)
-  digests-at j hj =
-      table-word (h .digests-hold) noString j 0 (236 * k .records + 4 * j) (omega (arith, h .digests-hold .count)) (omega arith) (omega arith)
-      ∙ string-digest (getD (t .state .strings) j noString)
-
-  -- its digest is that of its text: where texts are the same, digests are
-  string-told : (u : List ℕ) (d : ℕ) → d ≡ digestOf u → (j : ℕ) → j < length (t .state .strings)
-      → stringIs text l (k .records) d u j ≡ sameText u (getD (t .state .strings) j noString .text)
-  unfolding stringIs
-  string-told u d ed j hj =
-      ap₂ (λ (w : ℕ) (b : Bool). eqb d w && b) (digests-at j hj) (string-same u j hj) ∙ digests-first u (getD (t .state .strings) j noString .text) d ed
-
-  -- the bucket of entry j is its string's, and so a walk begins where the links say
-  string-bucket : (j : ℕ) → j < length (t .state .strings) → stringBucketAt l (k .records) j ≡ buckets (stringBucket (k .records)) noString (t .state .strings) j
-  unfolding stringBucketAt
-  string-bucket j hj = ap (digestBucket (k .records)) (digests-at j hj)
-
-  pub string-start : (b : ℕ) → Start (buckets (stringBucket (k .records)) noString (t .state .strings)) (length (t .state .strings)) b (stringHead l (k .records) (k .strings) b)
-  string-start b = entry-start (h .string-links-hold) (k .strings) (h .strings-hold .count) (stringBucketAt l (k .records)) string-bucket b
-
-  module _ (e : StringEntry) (d : ℕ) (ed : d ≡ digestOf (e .text)) where
-    abbrev string-test : ℕ → Bool
-    string-test = stringIs text l (k .records) d (e .text)
-
-    abbrev from-string-head : Found → Type 0
-    from-string-head r = Walks (λ j. wordAt l (280 * k .records + 4 * j)) string-test (stringHead l (k .records) (k .strings) (stringBucket (k .records) e)) r
-
-    pub string-here : (i : ℕ) → from-string-head (At i) → position (sameString e) (t .state .strings) ≡ some i
-    string-here i w =
-        entry-there (h .string-links-hold) (strings-alike (k .records)) e string-test (string-told (e .text) d ed) (string-start (stringBucket (k .records) e)) i w
-
-    pub string-gone : from-string-head Nothing → position (sameString e) (t .state .strings) ≡ none
-    string-gone w =
-        entry-missing (h .string-links-hold) (strings-alike (k .records)) e string-test (string-told (e .text) d ed) (string-start (stringBucket (k .records) e)) w
 
   -- entry j of the floats
   pub floats-at : (j : ℕ) → j < length (t .state .floats) → FloatAt l (204 * k .records + 16 * j) (getD (t .state .floats) j noFloat)

@@ -1,6 +1,6 @@
--- Laws of `position`, and of what a search answers: what is found is in the list, and is the only one that can be found; and how the code tells a label and a string.
+-- Laws of `position`, and of what a search answers: what is found is in the list, and is the only one that can be found; and how the code tells a label.
 -- By recursion over the list. Assumes nothing.
-use mathlib.Core.Path.{_≡_, refl, sym, ap, ap₂, _∙_, subst}
+use mathlib.Core.Path.{_≡_, refl, sym, ap, _∙_, subst}
 use mathlib.Core.Bool.{Bool, true, false, _&&_, false≢true}
 use mathlib.Core.List.{List, [], _∷_, _++_}
 use mathlib.Core.Option.{Option, none, some}
@@ -9,13 +9,12 @@ use native.Mathlib.Omega.{arith}
 use lib.ListN.{length, getD, length-append, List·getD-append}
 use lib.Seq.{getD-append-add}
 use borrow.Author.Count.{below-more}
-use borrow.Author.Tests.{eq-eqb, ne-eqb, lt-ltb, le-ltb}
-use Rattle.records.specs.Words.{wordAt, textAt}
-use Rattle.conversion.specs.Ir.{position, sameText}
+use borrow.Author.Tests.{lt-ltb, le-ltb}
+use Rattle.conversion.specs.Ir.{position}
 use Rattle.records.specs.declared.words.Found.{Found}
 use Rattle.records.specs.declared.words.Found.the-variants.{At, Nothing}
 use Rattle.ir.specs.declared.structs.Counters.{Counters}
-use Rattle.ir.specs.Search.{foundOf, labelWordsAt, labelIs, sameTextAt, stringIs}
+use Rattle.ir.specs.Search.{foundOf, labelWordsAt, labelIs}
 
 -- the position, by the first element
 position-by : {X : Type 0} (p : X → Bool) (x : X) (xs : List X) (b : Bool) → p x ≡ b
@@ -114,18 +113,3 @@ module _ (l : List ℕ) (k : Counters) (kind opener j i : ℕ) (e : i ≡ j) whe
   label-within h b eb =
       eb ∙ ap (labelWordsAt l (140 * k .records + 8 * k .«labels_before») kind opener) e
       ∙ ap (λ (c : Bool). c && labelWordsAt l (140 * k .records + 8 * k .«labels_before») kind opener j) (sym (lt-ltb j (k .labels - k .«labels_before») (omega arith)))
-
--- ---- a string by its digest and its text
-
-module _ (text l : List ℕ) (n d : ℕ) (t : List ℕ) (j w : ℕ) (ew : w ≡ wordAt l (236 * n + 4 * j)) where
-  pub string-other : (d ≡ w → ⊥) → false ≡ stringIs text l n d t j
-  unfolding stringIs
-  string-other h = ap (λ (b : Bool). b && sameTextAt text l (196 * n) t j) (sym (ne-eqb d (wordAt l (236 * n + 4 * j)) (λ q. h (q ∙ sym ew))))
-
-  pub string-this : d ≡ w → (x y : ℕ) → x ≡ wordAt l (196 * n + 8 * j) → y ≡ wordAt l (196 * n + 8 * j + 4) → (v : Bool) → v ≡ sameText t (textAt text x y)
-      → v ≡ stringIs text l n d t j
-  unfolding stringIs sameTextAt
-  string-this h x y ex ey v ev =
-      ev
-      ∙ ap₂ (λ (a b : ℕ). sameText t (textAt text a b)) ex ey
-      ∙ ap (λ (b : Bool). b && sameTextAt text l (196 * n) t j) (sym (eq-eqb d (wordAt l (236 * n + 4 * j)) (h ∙ ew)))

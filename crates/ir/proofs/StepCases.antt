@@ -9,19 +9,20 @@ use Rattle.conversion.specs.ConvertError.{ConvertErrorKind}
 use Rattle.conversion.specs.Ir.{State, Out, M}
 use Rattle.conversion.specs.Types.{onInt, onFloat, isInt, isFloat}
 use Rattle.ir.specs.declared.structs.Counters.{Counters}
+use Rattle.ir.specs.Arena.{NumberedTexts}
 use Rattle.ir.specs.Steps.{Stands, NextIn, StopsIn}
 
 -- ---- equal at every state
 
-module _ {A : Type 0} {text : List ℕ} {m m′ : M A} {k : Counters} {l : List ℕ} where
-  pub next-by : {a : A} {k′ : Counters} {l′ : List ℕ} → ((s : State) → m s ≡ m′ s) → NextIn text m k l a k′ l′ → NextIn text m′ k l a k′ l′
+module _ {A : Type 0} {texts : NumberedTexts} {m m′ : M A} {k : Counters} {l : List ℕ} where
+  pub next-by : {a : A} {k′ : Counters} {l′ : List ℕ} → ((s : State) → m s ≡ m′ s) → NextIn texts m k l a k′ l′ → NextIn texts m′ k l a k′ l′
   next-by {a = a} {k′ = k′} {l′ = l′} e n = record {
     room = n .room;
     records = n .records;
-    stands = λ t h. subst (λ (o : Out A). Stands o a text t k′ l′) (e (t .state)) (n .stands t h);
+    stands = λ t h. subst (λ (o : Out A). Stands o a texts t k′ l′) (e (t .state)) (n .stands t h);
   }
 
-  pub stop-by : {e : ConvertErrorKind} {r : ℕ} → ((s : State) → m s ≡ m′ s) → StopsIn text m k l e r → StopsIn text m′ k l e r
+  pub stop-by : {e : ConvertErrorKind} {r : ℕ} → ((s : State) → m s ≡ m′ s) → StopsIn texts m k l e r → StopsIn texts m′ k l e r
   stop-by q n = record { stops = λ t h. sym (q (t .state)) ∙ n .stops t h }
 
 -- ---- choices: which branch is taken
@@ -60,9 +61,9 @@ no-float TNull d f e = refl
 
 -- ---- a step that is equal to one that is known: what it owes
 
-module _ {A : Type 0} {text : List ℕ} {m m′ : M A} {k : Counters} {l : List ℕ} where
-  pub next-of : {a : A} {k′ : Counters} {l′ : List ℕ} → m′ ≡ m → NextIn text m k l a k′ l′ → NextIn text m′ k l a k′ l′
+module _ {A : Type 0} {texts : NumberedTexts} {m m′ : M A} {k : Counters} {l : List ℕ} where
+  pub next-of : {a : A} {k′ : Counters} {l′ : List ℕ} → m′ ≡ m → NextIn texts m k l a k′ l′ → NextIn texts m′ k l a k′ l′
   next-of e n = next-by (λ s. ap (λ (x : M A). x s) (sym e)) n
 
-  pub stop-of : {d : ConvertErrorKind} {r : ℕ} → m′ ≡ m → StopsIn text m k l d r → StopsIn text m′ k l d r
+  pub stop-of : {d : ConvertErrorKind} {r : ℕ} → m′ ≡ m → StopsIn texts m k l d r → StopsIn texts m′ k l d r
   stop-of e n = stop-by (λ s. ap (λ (x : M A). x s) (sym e)) n

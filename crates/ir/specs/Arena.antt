@@ -6,11 +6,10 @@ use mathlib.Core.Bool.{Bool, false}
 use mathlib.Core.List.{List, [], _∷_, _++_}
 use lib.ListN.{length, take, drop, getD}
 use Rattle.laws.specs.All.{All}
-use Rattle.records.specs.Digest.{digestOf}
 use Rattle.records.specs.Layout.{Region}
 use Rattle.records.specs.Words.{wordAt}
 use Rattle.conversion.specs.Ir as Ir
-use Rattle.conversion.specs.Ir.{LabelName, StringEntry, FloatEntry, State, IrFunction, sameText, sameFloat, lastLabelKind}
+use Rattle.conversion.specs.Ir.{LabelName, StringEntry, FloatEntry, State, IrFunction, sameFloat, lastLabelKind}
 use Rattle.conversion.specs.Fits.{StringStands, FloatFits}
 use Rattle.conversion.specs.Written.{word, boolNumber, encodeAll, encodeInstr, encodeVar, encodeLabel, encodeFunctions, encodeString, encodeFloat, allCode, allVars, allLabels, instructionBytes, variableBytes, labelBytes, stringBytes, floatBytes}
 use Rattle.ir.specs.declared.structs.Counters.{Counters}
@@ -41,9 +40,9 @@ strings = record { from = 196; each = 8 }
 abbrev pub floats : Region
 floats = record { from = 204; each = 32 }
 
--- n digests of 4, of the strings' texts, by which strings are compared and put into buckets: they are in no table
-abbrev pub stringDigests : Region
-stringDigests = record { from = 236; each = 4 }
+-- n numbers of 4, of the strings' texts: they are in no table
+abbrev pub stringNumbers : Region
+stringNumbers = record { from = 236; each = 4 }
 
 -- 7n numbers of 4, of the labels of the function at hand, a word for each kind at each record, by which a label is looked for: they are in no table
 abbrev pub labelSlots : Region
@@ -56,12 +55,9 @@ floatLinks = record { from = 268; each = 8 }
 abbrev pub floatHeads : Region
 floatHeads = record { from = 276; each = 4 }
 
--- n links of 4, of the strings, and n heads of 4, of their buckets, by which a string is looked for: they are in no table
-abbrev pub stringLinks : Region
-stringLinks = record { from = 280; each = 4 }
-
-abbrev pub stringHeads : Region
-stringHeads = record { from = 284; each = 4 }
+-- n slots of 4, one for the number of each text, with the string that has the text, by which a string is looked for: they are in no table
+abbrev pub stringSlots : Region
+stringSlots = record { from = 280; each = 4 }
 
 -- 'instructions 320n bytes'
 abbrev pub arenaEach : ℕ
@@ -87,17 +83,14 @@ stringEntryAt n i = strings .from * n + stringBytes * i
 abbrev pub floatEntryAt : ℕ → ℕ → ℕ
 floatEntryAt n i = floats .from * n + floatBytes * i
 
--- the digest and the link of string i, and the head of bucket b
-abbrev pub stringDigestAt : ℕ → ℕ → ℕ
-stringDigestAt n i = stringDigests .from * n + searchBytes * i
+-- the number of string i's text, and the slot of number o
+abbrev pub stringNumberAt : ℕ → ℕ → ℕ
+stringNumberAt n i = stringNumbers .from * n + searchBytes * i
 
-abbrev pub stringLinkAt : ℕ → ℕ → ℕ
-stringLinkAt n i = stringLinks .from * n + searchBytes * i
+abbrev pub stringSlotAt : ℕ → ℕ → ℕ
+stringSlotAt n o = stringSlots .from * n + searchBytes * o
 
-abbrev pub stringHeadAt : ℕ → ℕ → ℕ
-stringHeadAt n b = stringHeads .from * n + searchBytes * b
-
--- the same of the floats
+-- the link of float i, and the head of bucket b
 abbrev pub floatLinkAt : ℕ → ℕ → ℕ
 floatLinkAt n i = floatLinks .from * n + searchBytes * i
 
@@ -105,7 +98,7 @@ abbrev pub floatHeadAt : ℕ → ℕ → ℕ
 floatHeadAt n b = floatHeads .from * n + searchBytes * b
 
 abbrev pub arena : List Region
-arena = instructions ∷ variables ∷ labels ∷ functions ∷ strings ∷ floats ∷ stringDigests ∷ labelSlots ∷ floatLinks ∷ floatHeads ∷ stringLinks ∷ stringHeads ∷ []
+arena = instructions ∷ variables ∷ labels ∷ functions ∷ strings ∷ floats ∷ stringNumbers ∷ labelSlots ∷ floatLinks ∷ floatHeads ∷ stringSlots ∷ []
 
 -- ---- what stands there
 
@@ -118,11 +111,6 @@ pub record Table {X : Type 0} (f : X → List ℕ) (w : ℕ) (xs : List X) (at n
   pub bytes : Has l at (encodeAll f xs)
   pub width : (x : X) → length (f x) ≡ w
   pub count : n ≡ length xs
-
--- a string's digest
-unfoldable pub encodeDigest : StringEntry → List ℕ
-unfolding word digestOf
-encodeDigest s = word (digestOf (s .text))
 
 -- what is written so far: the functions that are done, the instructions of the function at hand, and the definitions' state
 pub record TablesSoFar : Type 0 where
@@ -180,21 +168,23 @@ noFloat = record { bits = 0; short = false }
 abbrev pub LinkedFloats : ℕ → List FloatEntry → List ℕ → Type 0
 LinkedFloats n xs l = LinkedEntries (floatEntryBucket n) sameFloat noFloat (floatHeads .from * n) (floatLinks .from * n) xs l
 
--- the bucket, one of n, of a text of this digest, whose bits depend on all bytes of the text
-unfoldable pub digestBucket : ℕ → ℕ → ℕ
-digestBucket n d = d % n
-
-abbrev pub stringBucket : ℕ → StringEntry → ℕ
-stringBucket n x = digestBucket n (digestOf (x .text))
-
-abbrev pub sameString : StringEntry → StringEntry → Bool
-sameString a b = sameText (a .text) (b .text)
-
 abbrev pub noString : StringEntry
 noString = record { offset = 0; len = 0; text = [] }
 
-abbrev pub LinkedStrings : ℕ → List StringEntry → List ℕ → Type 0
-LinkedStrings n xs l = LinkedEntries (stringBucket n) sameString noString (stringHeads .from * n) (stringLinks .from * n) xs l
+-- a buffer of text, and a number for each text: the emitter knows no records, and leaves open what gives the numbers
+pub record NumberedTexts : Type 0 where
+  pub text : List ℕ
+  pub number : List ℕ → ℕ
+
+-- a number below n is that of one text alone
+abbrev pub TellsApart : (List ℕ → ℕ) → ℕ → Type 0
+TellsApart number n = (u v : List ℕ) → number u < n → number v ≡ number u → v ≡ u
+
+-- each of these strings has a text of a number below n; the number stands at the string's place, and the string at the number's slot. The other slots may have anything
+pub record StringSlots (number : List ℕ → ℕ) (n : ℕ) (xs : List StringEntry) (l : List ℕ) : Type 0 where
+  pub has : (i : ℕ) → i < length xs → number (getD xs i noString .text) < n
+  pub numbered : (i : ℕ) → i < length xs → wordAt l (stringNumberAt n i) ≡ number (getD xs i noString .text)
+  pub slot : (i : ℕ) → i < length xs → wordAt l (stringSlotAt n (number (getD xs i noString .text))) ≡ i
 
 -- how many functions are done, and how many instructions, variables and labels they have
 pub record Before (done : List IrFunction) (functions instructions variables labels : ℕ) : Type 0 where
@@ -210,19 +200,18 @@ pub record Fits (text : List ℕ) (labels : List LabelName) (strings : List Stri
   pub floats-fit : All FloatFits floats
 
 -- the arena holds these tables, and the counters count them
-pub record Holds (text : List ℕ) (t : TablesSoFar) (k : Counters) (l : List ℕ) : Type 0 where
+pub record Holds (texts : NumberedTexts) (t : TablesSoFar) (k : Counters) (l : List ℕ) : Type 0 where
   pub instructions-hold : Table encodeInstr instructionBytes (allCode (t .done) ++ t .code) (instructions .from * k .records) (k .instructions) l
   pub variables-hold : Table encodeVar variableBytes (allVars (t .done) ++ t .state .vars) (variables .from * k .records) (k .variables) l
   pub labels-hold : Table encodeLabel labelBytes (allLabels (t .done) ++ t .state .labels) (labels .from * k .records) (k .labels) l
   pub functions-hold : Has l (functions .from * k .records) (encodeFunctions 0 0 0 (t .done))
   pub strings-hold : Table encodeString stringBytes (t .state .strings) (strings .from * k .records) (k .strings) l
   pub floats-hold : Table encodeFloat floatBytes (t .state .floats) (floats .from * k .records) (k .floats) l
-  pub digests-hold : Table encodeDigest searchBytes (t .state .strings) (stringDigests .from * k .records) (k .strings) l
   pub slots-hold : LabelSlots (k .records) (t .state .labels) l
   pub float-links-hold : LinkedFloats (k .records) (t .state .floats) l
-  pub string-links-hold : LinkedStrings (k .records) (t .state .strings) l
+  pub string-slots-hold : StringSlots (texts .number) (k .records) (t .state .strings) l
   pub before : Before (t .done) (k .functions) (k .«instructions_before») (k .«variables_before») (k .«labels_before»)
-  pub fits : Fits text (t .state .labels) (t .state .strings) (t .state .floats)
+  pub fits : Fits (texts .text) (t .state .labels) (t .state .strings) (t .state .floats)
 
 -- the counters stay within the regions, and the arena is as long as document 01 lends it; its offsets fit a word
 pub record Room (k : Counters) (l : List ℕ) : Type 0 where

@@ -7,11 +7,10 @@ use mathlib.Core.List.{List}
 use mathlib.Core.Option.{Option, none, some}
 use lib.Dec.{eqb, ltb}
 use Rattle.laws.specs.Fix.{pick}
-use Rattle.records.specs.Words.{wordAt, textAt, secondWord, thirdWord}
-use Rattle.conversion.specs.Ir.{sameText}
-use Rattle.conversion.specs.Written.{labelBytes, stringBytes, floatBytes}
+use Rattle.records.specs.Words.{wordAt, secondWord, thirdWord}
+use Rattle.conversion.specs.Written.{labelBytes, floatBytes}
 use Rattle.ir.specs.declared.structs.Counters.{Counters}
-use Rattle.ir.specs.Arena.{strings, labelEntryAt, floatEntryAt, floatHeadAt, stringDigestAt, stringHeadAt, floatBucket, digestBucket}
+use Rattle.ir.specs.Arena.{labelEntryAt, floatEntryAt, floatHeadAt, stringNumberAt, floatBucket}
 use Rattle.records.specs.declared.words.Found.{Found}
 use Rattle.records.specs.declared.words.Found.the-variants.{At, Nothing}
 
@@ -29,15 +28,9 @@ unfoldable pub labelIs : List ℕ → Counters → ℕ → ℕ → ℕ → Bool
 unfolding labelWordsAt
 labelIs l k kind opener j = ltb j (k .labels - k .«labels_before») && labelWordsAt l (labelEntryAt (k .records) (k .«labels_before»)) kind opener j
 
--- string j of those from byte `at` on is the place of a text that is the same as t
-unfoldable pub sameTextAt : List ℕ → List ℕ → ℕ → List ℕ → ℕ → Bool
-unfolding textAt
-sameTextAt text l at t j = sameText t (textAt text (wordAt l (at + stringBytes * j)) (wordAt l (at + stringBytes * j + secondWord)))
-
--- string j, of the tables of n records, has this digest and the text t
-unfoldable pub stringIs : List ℕ → List ℕ → ℕ → ℕ → List ℕ → ℕ → Bool
-unfolding sameTextAt
-stringIs text l n digest t j = eqb digest (wordAt l (stringDigestAt n j)) && sameTextAt text l (strings .from * n) t j
+-- string j, if there are so many, has the text of number o
+unfoldable pub stringIs : List ℕ → Counters → ℕ → ℕ → Bool
+stringIs l k o j = ltb j (k .strings) && eqb (wordAt l (stringNumberAt (k .records) j)) o
 
 -- the first three words (of four) of float j of those from byte `at` on are a, b and c
 unfoldable pub floatWordsAt : List ℕ → ℕ → ℕ → ℕ → ℕ → ℕ → Bool
@@ -57,19 +50,11 @@ unfoldable pub floatBucketAt : List ℕ → ℕ → ℕ → ℕ
 unfolding floatBucket
 floatBucketAt l n j = floatBucket n (wordAt l (floatEntryAt n j)) (wordAt l (floatEntryAt n j + secondWord)) (wordAt l (floatEntryAt n j + thirdWord))
 
--- and of string j, by its digest
-unfoldable pub stringBucketAt : List ℕ → ℕ → ℕ → ℕ
-unfolding digestBucket
-stringBucketAt l n j = digestBucket n (wordAt l (stringDigestAt n j))
-
 -- where a walk through bucket b begins, with m entries written, each in its bucket: the number i at its head counts where it is that of one of them, and of that bucket
 unfoldable pub headFor : (ℕ → ℕ) → ℕ → ℕ → ℕ → ℕ
 unfolding pick
 headFor bucket m b i = pick (ltb i m && eqb (bucket i) b) (i + 1) 0
 
--- the same of the floats, and of the strings
+-- the same of the floats
 abbrev pub floatHead : List ℕ → ℕ → ℕ → ℕ → ℕ
 floatHead l n m b = headFor (floatBucketAt l n) m b (wordAt l (floatHeadAt n b))
-
-abbrev pub stringHead : List ℕ → ℕ → ℕ → ℕ → ℕ
-stringHead l n m b = headFor (stringBucketAt l n) m b (wordAt l (stringHeadAt n b))

@@ -12,30 +12,30 @@ use Rattle.records.specs.Words.{textAt}
 use Rattle.conversion.specs.ConvertError.{ConvertErrorKind}
 use Rattle.conversion.specs.Ir as Ir
 use Rattle.conversion.specs.Ir.{State, Out, made, failed, M, LabelName, StringEntry, FloatEntry}
-use Rattle.conversion.specs.Written.{word, encodeInstr, encodeVar, encodeLabel, encodeString, encodeFloat}
+use Rattle.conversion.specs.Written.{word, encodeInstr, encodeVar, encodeLabel, encodeFloat}
 use Rattle.ir.specs.declared.structs.Counters.{Counters}
 use Rattle.ir.specs.declared.structs.NewVariable.{NewVariable}
 use Rattle.ir.specs.declared.structs.LabelNumber.{LabelNumber}
 use Rattle.ir.specs.declared.pool.PoolNumber.{PoolNumber}
 use Rattle.ir.specs.Instructions.{varOf}
 use Rattle.ir.specs.Amounts.{amount, Spent}
-use Rattle.ir.specs.Search.{floatHead, stringHead}
-use Rattle.ir.specs.Arena.{instructionEntryAt, variableEntryAt, labelEntryAt, stringEntryAt, stringDigestAt, stringLinkAt, stringHeadAt, floatEntryAt, floatLinkAt, floatHeadAt, encodeDigest, labelSlot, floatEntryBucket, stringBucket, TablesSoFar, Holds, Room}
+use Rattle.ir.specs.Search.{floatHead}
+use Rattle.ir.specs.Arena.{instructionEntryAt, variableEntryAt, labelEntryAt, stringEntryAt, stringNumberAt, stringSlotAt, floatEntryAt, floatLinkAt, floatHeadAt, labelSlot, floatEntryBucket, NumberedTexts, TellsApart, TablesSoFar, Holds, Room}
 
 -- the tables after a step that emits c and leaves the state s
 abbrev pub grown : TablesSoFar → List Ir.Instr → State → TablesSoFar
 grown t c s = record { done = t .done; code = t .code ++ c; state = s }
 
 -- the definition's step gives a, and what it emits and leaves stands in the arena
-unfoldable pub Stands : {A : Type 0} → Out A → A → List ℕ → TablesSoFar → Counters → List ℕ → Type 0
-Stands (made b c s) a text t k l = (a ≡ b) × Holds text (grown t c s) k l
-Stands (failed e r) a text t k l = ⊥
+unfoldable pub Stands : {A : Type 0} → Out A → A → NumberedTexts → TablesSoFar → Counters → List ℕ → Type 0
+Stands (made b c s) a texts t k l = (a ≡ b) × Holds texts (grown t c s) k l
+Stands (failed e r) a texts t k l = ⊥
 
 -- from any tables that the arena l held under the counters k
 pub record Next {A : Type 0} (m : M A) (k : Counters) (l : List ℕ) (a : A) (k′ : Counters) (l′ : List ℕ) : Type 0 where
   pub room : Room k′ l′
   pub records : k′ .records ≡ k .records
-  pub stands : (text : List ℕ) (t : TablesSoFar) → Holds text t k l → Stands (m (t .state)) a text t k′ l′
+  pub stands : (texts : NumberedTexts) (t : TablesSoFar) → Holds texts t k l → Stands (m (t .state)) a texts t k′ l′
 
 -- the counters with one entry more
 abbrev pub moreInstructions : Counters → Counters
@@ -57,15 +57,15 @@ moreFloats k = record { records = k .records; instructions = k .instructions; va
 abbrev pub entryOfString : List ℕ → ℕ → ℕ → StringEntry
 entryOfString text offset len = record { offset = offset; len = len; text = textAt text offset len }
 
--- as `Next`, for the tables of strings of this text
-pub record NextIn {A : Type 0} (text : List ℕ) (m : M A) (k : Counters) (l : List ℕ) (a : A) (k′ : Counters) (l′ : List ℕ) : Type 0 where
+-- as `Next`, for the tables of strings of these texts
+pub record NextIn {A : Type 0} (texts : NumberedTexts) (m : M A) (k : Counters) (l : List ℕ) (a : A) (k′ : Counters) (l′ : List ℕ) : Type 0 where
   pub room : Room k′ l′
   pub records : k′ .records ≡ k .records
-  pub stands : (t : TablesSoFar) → Holds text t k l → Stands (m (t .state)) a text t k′ l′
+  pub stands : (t : TablesSoFar) → Holds texts t k l → Stands (m (t .state)) a texts t k′ l′
 
 -- the definition's step ends in this error, at this record, from any tables that the arena held
-pub record StopsIn {A : Type 0} (text : List ℕ) (m : M A) (k : Counters) (l : List ℕ) (e : ConvertErrorKind) (r : ℕ) : Type 0 where
-  pub stops : (t : TablesSoFar) → Holds text t k l → m (t .state) ≡ failed e r
+pub record StopsIn {A : Type 0} (texts : NumberedTexts) (m : M A) (k : Counters) (l : List ℕ) (e : ConvertErrorKind) (r : ℕ) : Type 0 where
+  pub stops : (t : TablesSoFar) → Holds texts t k l → m (t .state) ≡ failed e r
 
 -- the bytes vs were written at i, nothing else changed, and the counters are those asked for
 pub record Wrote (l : List ℕ) (i : ℕ) (vs : List ℕ) (want k′ : Counters) (l′ : List ℕ) : Type 0 where
@@ -81,11 +81,6 @@ pub record WroteTwo (l : List ℕ) (i : ℕ) (vs : List ℕ) (j : ℕ) (ws : Lis
 pub record WroteThree (l : List ℕ) (i : ℕ) (vs : List ℕ) (j : ℕ) (ws : List ℕ) (p : ℕ) (us : List ℕ) (want k′ : Counters) (l′ : List ℕ) : Type 0 where
   pub counts : k′ ≡ want
   pub wrote : l′ ≡ splice (splice (splice l i vs) j ws) p us
-
--- and of four
-pub record WroteFour (l : List ℕ) (i : ℕ) (vs : List ℕ) (j : ℕ) (ws : List ℕ) (p : ℕ) (us : List ℕ) (q : ℕ) (ts : List ℕ) (want k′ : Counters) (l′ : List ℕ) : Type 0 where
-  pub counts : k′ ≡ want
-  pub wrote : l′ ≡ splice (splice (splice (splice l i vs) j ws) p us) q ts
 
 -- nothing changed
 pub record TablesStay (k : Counters) (l : List ℕ) (k′ : Counters) (l′ : List ℕ) : Type 0 where
@@ -120,18 +115,18 @@ pub record NumbersLabel (kind opener : ℕ) (k : Counters) (l : List ℕ) (r : L
   pub spent : Spent k (r .counters) (amount 0 0 1 0 0)
   pub entry : LabelAdded kind opener k l (r .counters) l′ ⊎ TablesStay k l (r .counters) l′
 
--- a string more: its bytes and its digest behind the others, its link, which leads to one past the last before it in its bucket b, and its number at the bucket's head
-abbrev pub StringAdded : List ℕ → List ℕ → ℕ → ℕ → Counters → List ℕ → Counters → List ℕ → Type 0
-StringAdded bytes digest b last k l k′ l′ =
-    WroteFour l (stringEntryAt (k .records) (k .strings)) bytes (stringDigestAt (k .records) (k .strings)) digest (stringLinkAt (k .records) (k .strings)) (word last)
-    (stringHeadAt (k .records) b) (word (k .strings)) (moreStrings k) k′ l′
+-- a string more: its place behind the others', the number of its text behind theirs, and its own number at the slot of that
+abbrev pub StringAdded : ℕ → ℕ → ℕ → Counters → List ℕ → Counters → List ℕ → Type 0
+StringAdded o offset len k l k′ l′ =
+    WroteThree l (stringEntryAt (k .records) (k .strings)) (word offset ++ word len) (stringNumberAt (k .records) (k .strings)) (word o)
+    (stringSlotAt (k .records) o) (word (k .strings)) (moreStrings k) k′ l′
 
-pub record NumbersString (text : List ℕ) (e : StringEntry) (k : Counters) (l : List ℕ) (r : PoolNumber) (l′ : List ℕ) : Type 0 where
-  pub next : NextIn text (Ir.string-id e) k l (r .number) (r .counters) l′
+-- the string at this place, whose text has the number o: so for all texts whose numbers tell them apart
+pub record NumbersString (o offset len : ℕ) (k : Counters) (l : List ℕ) (r : PoolNumber) (l′ : List ℕ) : Type 0 where
+  pub next : (texts : NumberedTexts) → TellsApart (texts .number) (k .records) → texts .number (textAt (texts .text) offset len) ≡ o
+      → NextIn texts (Ir.string-id (entryOfString (texts .text) offset len)) k l (r .number) (r .counters) l′
   pub spent : Spent k (r .counters) (amount 0 0 0 1 0)
-  pub entry :
-      StringAdded (encodeString e) (encodeDigest e) (stringBucket (k .records) e) (stringHead l (k .records) (k .strings) (stringBucket (k .records) e)) k l (r .counters) l′
-      ⊎ TablesStay k l (r .counters) l′
+  pub entry : StringAdded o offset len k l (r .counters) l′ ⊎ TablesStay k l (r .counters) l′
 
 -- a float more: its bytes behind the others, its link, which leads to one past the last before it in its bucket b, and its number at the bucket's head
 abbrev pub FloatAdded : List ℕ → ℕ → ℕ → Counters → List ℕ → Counters → List ℕ → Type 0
@@ -164,4 +159,4 @@ nextFunction k = record { records = k .records; instructions = k .instructions; 
 pub record Closes (r : ℕ) (body : Bool) (k : Counters) (l : List ℕ) (k′ : Counters) (l′ : List ℕ) : Type 0 where
   pub room : Room k′ l′
   pub counts : k′ ≡ nextFunction k
-  pub stands : (text : List ℕ) (t : TablesSoFar) → Holds text t k l → (body ≡ false → t .code ≡ []) → Holds text (closed r body t) k′ l′
+  pub stands : (texts : NumberedTexts) (t : TablesSoFar) → Holds texts t k l → (body ≡ false → t .code ≡ []) → Holds texts (closed r body t) k′ l′

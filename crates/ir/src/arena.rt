@@ -24,8 +24,8 @@ pub const FLOAT_BYTES: usize = 16;
 // A number in what they are searched by.
 pub const SEARCH_BYTES: usize = 4;
 
-// Behind the tables: the digests of the strings' texts.
-pub const STRING_DIGESTS: usize = 236;
+// Behind the tables: the numbers of the strings' texts.
+pub const STRING_NUMBERS: usize = 236;
 
 // And the numbers of the function's labels, a word for each of the seven kinds at each record.
 pub const LABEL_SLOTS: usize = 240;
@@ -37,7 +37,5 @@ pub const FLOAT_LINKS: usize = 268;
 
 pub const FLOAT_HEADS: usize = 276;
 
-// And the strings' links, and the heads of their buckets.
-pub const STRING_LINKS: usize = 280;
-
-pub const STRING_HEADS: usize = 284;
+// And the slots of those numbers, each with the string that has the text.
+pub const STRING_SLOTS: usize = 280;

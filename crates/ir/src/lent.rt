@@ -7,7 +7,7 @@ ghost use Rattle.conversion.specs.Ir.{floatBits};
 ghost use Rattle.ir.specs.Arena.{HasSlot, Room};
 ghost use Rattle.ir.specs.Counted.{counted, was, is};
 ghost use Rattle.ir.specs.Floats.{entryOfFloat};
-ghost use Rattle.ir.specs.Steps.{named, entryOfString, AddsVar, NumbersLabel, NumbersString, NumbersFloat, Closes, Next};
+ghost use Rattle.ir.specs.Steps.{named, AddsVar, NumbersLabel, NumbersString, NumbersFloat, Closes, Next};
 use crate::floats::FloatBits;
 use crate::pool;
 use crate::structs;
@@ -82,13 +82,13 @@ pub fn label_id(arena: &mut [u8], k: &mut [usize], kind: u32, opener: u32) -> La
     found.label
 }
 
-// The string with this text.
-pub fn string_id(text: &[u8], arena: &mut [u8], k: &mut [usize], offset: u32, len: u32) -> u32
-    requires { ⌜ Room (counted (now k)) (now arena) × (counted (now k) .strings < counted (now k) .records) ⌝ }
-    ensures { λ r. ⌜ NumbersString (was text) (entryOfString (was text) offset len) (counted (was k)) (was arena) (record { number = r; counters = counted (is k) }) (is arena) ⌝ }
+// The string at this place, whose text has the number o.
+pub fn string_id(arena: &mut [u8], k: &mut [usize], o: usize, offset: u32, len: u32) -> u32
+    requires { ⌜ Room (counted (now k)) (now arena) × (counted (now k) .strings < counted (now k) .records) × (o < counted (now k) .records) ⌝ }
+    ensures { λ r. ⌜ NumbersString o offset len (counted (was k)) (was arena) (record { number = r; counters = counted (is k) }) (is arena) ⌝ }
 {
     let c = counters_of(k);
-    let found = pool::string_id(text, arena, c, offset, len);
+    let found = pool::string_id(arena, c, o, offset, len);
     let next = found.counters;
     k[STRINGS] = next.strings;
     found.number

@@ -4,30 +4,25 @@ ghost use mathlib.Core.List.{_++_};
 ghost use Prim.Native.Nat.{_+_, _*_, _≤_, _<_};
 ghost use lib.ListN.{length};
 ghost use Rattle.laws.specs.Splice.{splice};
-ghost use Rattle.records.specs.Digest.{digestOf};
-ghost use Rattle.records.specs.Words.{wordAt, textAt};
 ghost use Rattle.conversion.specs.Ir.{floatBits};
 ghost use Rattle.conversion.specs.Written.{word};
-ghost use Rattle.ir.specs.Arena.{floatBucket, stringDigestAt, stringLinkAt, digestBucket, Room};
-ghost use Rattle.ir.specs.Floats.{entry, entryOfFloat};
-ghost use Rattle.ir.specs.Search.{stringIs, floatHead, stringHead, Walks};
-ghost use Rattle.ir.specs.Steps.{entryOfString, StringAdded, FloatAdded, NumbersString, NumbersFloat, Next};
+ghost use Rattle.ir.specs.Arena.{floatBucket, Room};
+ghost use Rattle.ir.specs.Floats.{entryOfFloat};
+ghost use Rattle.ir.specs.Search.{stringIs, floatHead};
+ghost use Rattle.ir.specs.Steps.{StringAdded, FloatAdded, NumbersString, NumbersFloat, Next};
 use crate::arena::FLOAT_BYTES;
 use crate::arena::FLOAT_HEADS;
 use crate::arena::FLOAT_LINKS;
 use crate::arena::FLOATS;
 use crate::arena::SEARCH_BYTES;
 use crate::arena::STRING_BYTES;
-use crate::arena::STRING_DIGESTS;
-use crate::arena::STRING_HEADS;
-use crate::arena::STRING_LINKS;
+use crate::arena::STRING_NUMBERS;
+use crate::arena::STRING_SLOTS;
 use crate::arena::STRINGS;
 use crate::floats::FloatBits;
 use crate::floats::entry_bits;
 use crate::search::walk_float;
 use crate::structs::Counters;
-use records::texts::same_text;
-use records::texts::text_digest;
 use records::words::Found;
 use records::words::Four;
 use records::words::SECOND_WORD;
@@ -47,64 +42,49 @@ pub struct PoolNumber {
     pub counters: Counters,
 }
 
-// Whether string j, of the tables of n records, has this digest and this text. Texts that differ mostly differ in their digests, so few are compared.
-fn is_text(text: &[u8], s: &[u8], n: usize, j: usize, d: u32, offset: u32, len: u32) -> bool
-    requires { ⌜ (j < n) × (stringDigestAt n n ≤ length (now s)) ⌝ }
-    ensures { λ r. ⌜ r ≡ stringIs (now (text .entry)) (now (s .entry)) n d (textAt (now (text .entry)) offset len) j ⌝ }
+// Whether there is a string i, and its text has the number o.
+fn has_number(arena: &[u8], k: Counters, i: usize, o: usize) -> bool
+    requires { ⌜ Room k (now arena) ⌝ }
+    ensures { λ r. ⌜ r ≡ stringIs (now (arena .entry)) k o i ⌝ }
 {
-    if d != load(s, STRING_DIGESTS * n + SEARCH_BYTES * j) {
+    if i >= k.strings {
         return false;
     }
-    let at = STRINGS * n + STRING_BYTES * j;
-    let x = load(s, at);
-    let y = load(s, at + SECOND_WORD);
-    same_text(text, offset, len, x, y)
+    index(load(arena, STRING_NUMBERS * k.records + SEARCH_BYTES * i)) == o
 }
 
-// The first string that has the digest and the text, of those that a chain leads through from v on, which is one past a string's number, or 0. So is the word at each
-// string's link, and one that does not lead lower ends the walk.
-fn walk_text(text: &[u8], s: &[u8], n: usize, v: usize, d: u32, offset: u32, len: u32) -> Found
-    requires { ⌜ (v ≤ n) × (stringLinkAt n n ≤ length (now s)) ⌝ }
-    ensures { λ r. ⌜ Walks (λ j. wordAt (now (s .entry)) (stringLinkAt n j)) (stringIs (now (text .entry)) (now (s .entry)) n d (textAt (now (text .entry)) offset len)) v r ⌝ }
+// A string more, at this place, whose text has the number o: its own number goes to the slot of that.
+fn add_string(arena: &mut [u8], k: Counters, o: usize, offset: u32, len: u32) -> PoolNumber
+    requires { ⌜ Room k (now arena) × (k .strings < k .records) × (o < k .records) ⌝ }
+    ensures { λ r. ⌜ (r .number ≡ k .strings) × StringAdded o offset len k (now (arena .entry)) (r .counters) (now (arena .exit)) ⌝ }
 {
-    let mut u = v;
-    while 0 < u {
-        let j = u - 1;
-        if is_text(text, s, n, j, d, offset, len) {
-            return Found::At(j);
-        }
-        let next = index(load(s, STRING_LINKS * n + SEARCH_BYTES * j));
-        if j < next {
-            return Found::Nothing;
-        }
-        u = next;
+    let v = k.strings;
+    let number = v as u32;
+    let mut next = k;
+    next.strings = v + 1;
+    put_pair(arena, STRINGS * k.records + STRING_BYTES * v, offset, len);
+    put_word(arena, STRING_NUMBERS * k.records + SEARCH_BYTES * v, o as u32);
+    put_word(arena, STRING_SLOTS * k.records + SEARCH_BYTES * o, number);
+    PoolNumber {
+        number,
+        counters: next,
     }
-    Found::Nothing
 }
 
-// Which of n buckets a text of this digest is in.
-fn text_bucket(n: usize, d: u32) -> usize
-    requires { ⌜ 0 < n ⌝ }
-    ensures { λ r. ⌜ (r ≡ digestBucket n d) × (r < n) ⌝ }
+// The string whose text has the number o, its entry the place of its first use. The slot of the number has the string, or what nobody wrote there: the number
+// beside the string tells. So no text is read.
+pub fn string_id(arena: &mut [u8], k: Counters, o: usize, offset: u32, len: u32) -> PoolNumber
+    requires { ⌜ Room k (now arena) × (k .strings < k .records) × (o < k .records) ⌝ }
+    ensures { λ r. ⌜ NumbersString o offset len k (now (arena .entry)) r (now (arena .exit)) ⌝ }
 {
-    d as usize % n
-}
-
-// Where a walk through bucket b begins: one past the number of its last string, or 0. The head of a bucket without strings may have anything: it counts where the
-// string under the number is one of this bucket.
-fn string_head(arena: &[u8], k: Counters, b: usize) -> usize
-    requires { ⌜ Room k (now arena) × (b < k .records) ⌝ }
-    ensures { λ r. ⌜ (r ≡ stringHead (now (arena .entry)) (k .records) (k .strings) b) × (r ≤ k .strings) ⌝ }
-{
-    let n = k.records;
-    let i = index(load(arena, STRING_HEADS * n + SEARCH_BYTES * b));
-    if i >= k.strings {
-        return 0;
+    let number = load(arena, STRING_SLOTS * k.records + SEARCH_BYTES * o);
+    if has_number(arena, k, index(number), o) {
+        return PoolNumber {
+            number,
+            counters: k,
+        };
     }
-    if text_bucket(n, load(arena, STRING_DIGESTS * n + SEARCH_BYTES * i)) != b {
-        return 0;
-    }
-    i + 1
+    add_string(arena, k, o, offset, len)
 }
 
 // An entry's link, and its number at the head of its bucket.
@@ -114,56 +94,6 @@ fn put_link(arena: &mut [u8], link: usize, last: u32, head: usize, number: u32)
 {
     put_word(arena, link, last);
     put_word(arena, head, number);
-}
-
-// A string more, before the others of its bucket b, of which `last` is one past the last.
-fn add_string(
-    arena: &mut [u8],
-    k: Counters,
-    d: u32,
-    offset: u32,
-    len: u32,
-    b: usize,
-    last: usize,
-) -> PoolNumber
-    requires { ⌜ Room k (now arena) × (k .strings < k .records) × (b < k .records) × (last ≤ k .strings) ⌝ }
-    ensures { λ r. ⌜ (r .number ≡ k .strings) × StringAdded (word offset ++ word len) (word d) b last k (now (arena .entry)) (r .counters) (now (arena .exit)) ⌝ }
-{
-    let v = k.strings;
-    let number = v as u32;
-    let mut next = k;
-    next.strings = v + 1;
-    put_pair(arena, STRINGS * k.records + STRING_BYTES * v, offset, len);
-    put_word(arena, STRING_DIGESTS * k.records + SEARCH_BYTES * v, d);
-    put_link(
-        arena,
-        STRING_LINKS * k.records + SEARCH_BYTES * v,
-        last as u32,
-        STRING_HEADS * k.records + SEARCH_BYTES * b,
-        number,
-    );
-    PoolNumber {
-        number,
-        counters: next,
-    }
-}
-
-// The string with this text, its entry the place of its first use. It is looked for among those of its bucket, and by the digest of the text, so that long strings
-// that share most of their bytes are not compared with each other.
-pub fn string_id(text: &[u8], arena: &mut [u8], k: Counters, offset: u32, len: u32) -> PoolNumber
-    requires { ⌜ Room k (now arena) × (k .strings < k .records) ⌝ }
-    ensures { λ r. ⌜ NumbersString (now (text .entry)) (entryOfString (now (text .entry)) offset len) k (now (arena .entry)) r (now (arena .exit)) ⌝ }
-{
-    let d = text_digest(text, offset, len);
-    let b = text_bucket(k.records, d);
-    let last = string_head(arena, k, b);
-    match walk_text(text, arena, k.records, last, d, offset, len) {
-        Found::At(i) => PoolNumber {
-            number: i as u32,
-            counters: k,
-        },
-        Found::Nothing => add_string(arena, k, d, offset, len, b, last),
-    }
 }
 
 // Which of n buckets a float with these words is in.

@@ -54,7 +54,7 @@ use Rattle.expressions.proofs.TypingLaws.{call-list, call-low}
 use Rattle.statements.specs.Lent.{Converter, Converted, ConvertedArgs}
 use Rattle.statements.specs.Stack.{stackEntryAt, operandBytes, operandAt, stackAt}
 use Rattle.statements.specs.Converting.{Converting, withCounters, Afforded, ExprAfforded, ArgsAfforded, exprAmount, argsAmount, OperandIn, StackIn, Stays, StaysFor, NamesStay}
-use Rattle.statements.specs.Meets.{AddsIn}
+use Rattle.statements.specs.Meets.{AddsIn, textsOf}
 use Rattle.statements.specs.Parts.{finishCall}
 use Rattle.statements.specs.Answers.{convertedOf, convertedArgsOf, Converts, ConvertsArgs, exprSteps, argsSteps, callSteps}
 use Rattle.statements.specs.Turns.{InTurn, TypedIn, exprTypes, argsTypes, ConvertsTyped, ArgumentsTyped}
@@ -110,7 +110,7 @@ module _ {tree text l s : List ℕ} {c : Converter} {e : ℕ} (p : Converting tr
       → Converts tree text (callSteps tree text s c e y) (exprAmount (under (exprAt tree text e))) c l s (Converted.Refused z) l s₁
   unfolding convert-call-value finishCall calleeOf refusal
   called-stop y w = record {
-    meets = meets-lift-stop text (rest y) refl (m .meets ∙ ap (calleeOf tree text) w);
+    meets = meets-lift-stop (textsOf tree text) (rest y) refl (m .meets ∙ ap (calleeOf tree text) w);
     operand = λ o k h. let z : _≡_ {A = ℕ} 0 1 = cc in absurd (omega arith);
     stays = called-stays;
     names = frame-names (m .frame);
@@ -126,15 +126,15 @@ module _ {tree text l s : List ℕ} {c : Converter} {e : ℕ} (p : Converting tr
     unfolding convert-call-value finishCall
     args-stop y {z} not w =
         let to = callee-is tree text callee not in record {
-          meets = meets-lift text (rest y) (p .room) (m .meets ∙ to .is) (meets-stop text (λ os. finishCall (program tree text) (allKeys tree text) e y (argsAt tree text W) os (to .to)) (n .meets .long)
-              (subst (λ (q : M (List Ir.Operand)). StopsIn text q (c .counters) l (z .kind) (z .place)) same-args (n .meets .stops z (ap (convertedArgsOf s₂ (records tree) (c .operands)) w))));
+          meets = meets-lift (textsOf tree text) (rest y) (p .room) (m .meets ∙ to .is) (meets-stop (textsOf tree text) (λ os. finishCall (program tree text) (allKeys tree text) e y (argsAt tree text W) os (to .to)) (n .meets .long)
+              (subst (λ (q : M (List Ir.Operand)). StopsIn (textsOf tree text) q (c .counters) l (z .kind) (z .place)) same-args (n .meets .stops z (ap (convertedArgsOf s₂ (records tree) (c .operands)) w))));
           operand = λ o k h. let z : _≡_ {A = ℕ} 0 1 = cc in absurd (omega arith);
           stays = stays-then (omega arith) (omega arith) called-stays (n .stays);
           names = names-then (frame-names (m .frame)) (n .names);
         }
 
     module _ {count : ℕ} {k : Counters} (w : a ≡ ConvertedArgs.Done count k) where
-      gives : AddsIn text (argsSteps tree text s₁ c W) (argsAmount (argsUnder (argsAt tree text W)) (argsValues (argsAt tree text W))) (c .counters) l (stackAt s₂ (records tree) (c .operands) count) k l₁
+      gives : AddsIn (textsOf tree text) (argsSteps tree text s₁ c W) (argsAmount (argsUnder (argsAt tree text W)) (argsValues (argsAt tree text W))) (c .counters) l (stackAt s₂ (records tree) (c .operands) count) k l₁
       gives = n .meets .gives (stackAt s₂ (records tree) (c .operands) count) k (ap (convertedArgsOf s₂ (records tree) (c .operands)) w)
 
       pub finish-converting : Converting tree text l₁ s₂ (withCounters c k)
@@ -151,10 +151,10 @@ module _ {tree text l s : List ℕ} {c : Converter} {e : ℕ} (p : Converting tr
       called-next y not i =
           let to = callee-is tree text callee not in
           let j = i (to .to) (to .is) in
-          let g = subst (λ (q : M (List Ir.Operand)). AddsIn text q (argsAmount (argsUnder (argsAt tree text W)) (argsValues (argsAt tree text W))) (c .counters) l (stackAt s₂ (records tree) (c .operands) count) k l₁) same-args gives in
+          let g = subst (λ (q : M (List Ir.Operand)). AddsIn (textsOf tree text) q (argsAmount (argsUnder (argsAt tree text W)) (argsValues (argsAt tree text W))) (c .counters) l (stackAt s₂ (records tree) (c .operands) count) k l₁) same-args gives in
           record {
-            meets = meets-most text (meets-lift text (rest y) (p .room) (m .meets ∙ to .is)
-                (meets-then text (λ os. finishCall (program tree text) (allKeys tree text) e y (argsAt tree text W) os (to .to)) (n .meets .long) g (j .meets)))
+            meets = meets-most (textsOf tree text) (meets-lift (textsOf tree text) (rest y) (p .room) (m .meets ∙ to .is)
+                (meets-then (textsOf tree text) (λ os. finishCall (program tree text) (allKeys tree text) e y (argsAt tree text W) os (to .to)) (n .meets .long) g (j .meets)))
                 (omega (arith, call-under, args-count (argsAt tree text W), n .operands count k w .0));
             operand = j .operand;
             stays = stays-then (omega arith) (omega arith) called-stays (stays-then (omega arith) (omega arith) (n .stays) (j .stays));
@@ -183,10 +183,10 @@ pub record ArgsLeft (tree text l₀ s₀ : List ℕ) (c : Converter) (e : ℕ) (
   pub earlier-typed : TypedIn tree text c s₀ earlier s
   pub earlier-is : earlier ++ argsTypes tree text w ≡ argsTypes tree text (wordOf tree e C)
   pub spent : Spent (c .counters) (at .counters) (argsAmount below count)
-  pub done : (os : List Ir.Operand) (k : Counters) (l′ : List ℕ) → NextIn text (argsIn tree text (scopeAt tree text s₀ (c .scope)) w) (at .counters) l os k l′
-      → NextIn text (argsIn tree text (scopeAt tree text s₀ (c .scope)) (wordOf tree e C)) (c .counters) l₀ (stackAt s (records tree) (c .operands) count ++ os) k l′
-  pub stops : (k : ConvertErrorKind) (r : ℕ) → StopsIn text (argsIn tree text (scopeAt tree text s₀ (c .scope)) w) (at .counters) l k r
-      → StopsIn text (argsIn tree text (scopeAt tree text s₀ (c .scope)) (wordOf tree e C)) (c .counters) l₀ k r
+  pub done : (os : List Ir.Operand) (k : Counters) (l′ : List ℕ) → NextIn (textsOf tree text) (argsIn tree text (scopeAt tree text s₀ (c .scope)) w) (at .counters) l os k l′
+      → NextIn (textsOf tree text) (argsIn tree text (scopeAt tree text s₀ (c .scope)) (wordOf tree e C)) (c .counters) l₀ (stackAt s (records tree) (c .operands) count ++ os) k l′
+  pub stops : (k : ConvertErrorKind) (r : ℕ) → StopsIn (textsOf tree text) (argsIn tree text (scopeAt tree text s₀ (c .scope)) w) (at .counters) l k r
+      → StopsIn (textsOf tree text) (argsIn tree text (scopeAt tree text s₀ (c .scope)) (wordOf tree e C)) (c .counters) l₀ k r
 
 module _ {tree text l₀ s₀ : List ℕ} {c : Converter} {e : ℕ} (p : Converting tree text l₀ s₀ c) (f : ArgsAfforded tree text c (wordOf tree e C)) (x : IsKind tree 11 e) where
   abbrev T : Def.Scope
@@ -242,14 +242,14 @@ module _ {tree text l₀ s₀ : List ℕ} {c : Converter} {e : ℕ} (p : Convert
         let none-under : argsUnder (argsAt tree text w) ≡ 0 = ap argsUnder over in
         let none-values : argsValues (argsAt tree text w) ≡ 0 = ap argsValues over in
         let same : i .count ≡ count = omega (arith, i .operands) in
-        let last : NextIn text (argsIn tree text T w) (at .counters) l [] (at .counters) l =
-        subst (λ (z : Args). NextIn text (convert-args (program tree text) (allKeys tree text) z T) (at .counters) l [] (at .counters) l) (sym over)
-        (next-in text (pure-next [] (at .counters) l (i .converting .room))) in
-        let all : NextIn text (argsIn tree text T opening) (c .counters) l₀ (stackAt s (records tree) (c .operands) count) (at .counters) l =
-        subst (λ (z : ℕ). NextIn text (argsIn tree text T opening) (c .counters) l₀ (stackAt s (records tree) (c .operands) z) (at .counters) l) same
-        (subst (λ (z : List Ir.Operand). NextIn text (argsIn tree text T opening) (c .counters) l₀ z (at .counters) l) (append-nil (stackAt s (records tree) (c .operands) (i .count))) (i .done [] (at .counters) l last)) in
+        let last : NextIn (textsOf tree text) (argsIn tree text T w) (at .counters) l [] (at .counters) l =
+        subst (λ (z : Args). NextIn (textsOf tree text) (convert-args (program tree text) (allKeys tree text) z T) (at .counters) l [] (at .counters) l) (sym over)
+        (next-in (textsOf tree text) (pure-next [] (at .counters) l (i .converting .room))) in
+        let all : NextIn (textsOf tree text) (argsIn tree text T opening) (c .counters) l₀ (stackAt s (records tree) (c .operands) count) (at .counters) l =
+        subst (λ (z : ℕ). NextIn (textsOf tree text) (argsIn tree text T opening) (c .counters) l₀ (stackAt s (records tree) (c .operands) z) (at .counters) l) same
+        (subst (λ (z : List Ir.Operand). NextIn (textsOf tree text) (argsIn tree text T opening) (c .counters) l₀ z (at .counters) l) (append-nil (stackAt s (records tree) (c .operands) (i .count))) (i .done [] (at .counters) l last)) in
         record {
-          meets = meets-gave text (i .long) (record { next = all; spent = omega (arith, i .spent, i .below-is, i .count-is) });
+          meets = meets-gave (textsOf tree text) (i .long) (record { next = all; spent = omega (arith, i .spent, i .below-is, i .count-is) });
           operands = λ n k h. let en : count ≡ n = cc in (omega (arith, i .count-is), subst (λ (z : ℕ). StackIn tree s (c .operands) z) (same ∙ en) (i .typed));
           stays = i .stays;
           names = i .names;
@@ -316,8 +316,8 @@ module _ {tree text l₀ s₀ : List ℕ} {c : Converter} {e : ℕ} (p : Convert
               earlier-typed = i .earlier-typed;
               earlier-is = ap (λ (z : List ℕ). i .earlier ++ z) (sym (ap typedArgs (t .opens))) ∙ i .earlier-is;
               spent = i .spent;
-              done = λ os k l″ h. i .done os k l″ (subst (λ (z : Args). NextIn text (convert-args (program tree text) (allKeys tree text) z T) (at .counters) l os k l″) (sym (t .opens)) h);
-              stops = λ k n h. i .stops k n (subst (λ (z : Args). StopsIn text (convert-args (program tree text) (allKeys tree text) z T) (at .counters) l k n) (sym (t .opens)) h);
+              done = λ os k l″ h. i .done os k l″ (subst (λ (z : Args). NextIn (textsOf tree text) (convert-args (program tree text) (allKeys tree text) z T) (at .counters) l os k l″) (sym (t .opens)) h);
+              stops = λ k n h. i .stops k n (subst (λ (z : Args). StopsIn (textsOf tree text) (convert-args (program tree text) (allKeys tree text) z T) (at .counters) l k n) (sym (t .opens)) h);
             }))))
 
         module _ {v : ℕ} (q : a ≡ Argument.Expr v) where
@@ -356,10 +356,10 @@ module _ {tree text l₀ s₀ : List ℕ} {c : Converter} {e : ℕ} (p : Convert
                 (ConvertedArgs.Refused z) l₁ s₁
             unfolding convert-args
             turn-stop {z} u = record {
-              meets = meets-refused text (n .meets .long ∙ i .long) (i .stops (z .kind) (z .place)
-                  (subst (λ (y : Args). StopsIn text (convert-args (program tree text) (allKeys tree text) y T) (at .counters) l (z .kind) (z .place)) (sym (found .opens))
-                  (stop-first text (λ (o : Ir.Operand). argsIn tree text T (wordOf tree w B) >>= (λ os. pure (o ∷ os)))
-                  (subst (λ (y : Def.Scope). StopsIn text (convert-expr (program tree text) (allKeys tree text) (exprAt tree text v) y) (at .counters) l (z .kind) (z .place)) scope-now
+              meets = meets-refused (textsOf tree text) (n .meets .long ∙ i .long) (i .stops (z .kind) (z .place)
+                  (subst (λ (y : Args). StopsIn (textsOf tree text) (convert-args (program tree text) (allKeys tree text) y T) (at .counters) l (z .kind) (z .place)) (sym (found .opens))
+                  (stop-first (textsOf tree text) (λ (o : Ir.Operand). argsIn tree text T (wordOf tree w B) >>= (λ os. pure (o ∷ os)))
+                  (subst (λ (y : Def.Scope). StopsIn (textsOf tree text) (convert-expr (program tree text) (allKeys tree text) (exprAt tree text v) y) (at .counters) l (z .kind) (z .place)) scope-now
                   (n .meets .stops z (ap convertedOf u))))));
               operands = λ count k h. let y : _≡_ {A = ℕ} 0 1 = cc in absurd (omega arith);
               stays = value-stays;
@@ -405,26 +405,26 @@ module _ {tree text l₀ s₀ : List ℕ} {c : Converter} {e : ℕ} (p : Convert
                   λ h. let ej : j ≡ at .operands = omega (arith, i .operands, ltb-false j (c .operands + i .count) h) in
                   subst (λ (z : ℕ). OperandIn tree (operandAt s₂ (records tree) z)) (sym ej) (subst (λ (z : Ir.Operand). OperandIn tree z) (sym back) (n .operand o k u))
 
-              value-next : NextIn text (convert-expr (program tree text) (allKeys tree text) (exprAt tree text v) T) (at .counters) l (operandOf o) k l₁
-              value-next = subst (λ (y : Def.Scope). NextIn text (convert-expr (program tree text) (allKeys tree text) (exprAt tree text v) y) (at .counters) l (operandOf o) k l₁) scope-now (converted-next n u .next)
+              value-next : NextIn (textsOf tree text) (convert-expr (program tree text) (allKeys tree text) (exprAt tree text v) T) (at .counters) l (operandOf o) k l₁
+              value-next = subst (λ (y : Def.Scope). NextIn (textsOf tree text) (convert-expr (program tree text) (allKeys tree text) (exprAt tree text v) y) (at .counters) l (operandOf o) k l₁) scope-now (converted-next n u .next)
 
-              pushed-done : (os : List Ir.Operand) (k′ : Counters) (l′ : List ℕ) → NextIn text (argsIn tree text T (wordOf tree w B)) k l₁ os k′ l′
-                  → NextIn text (argsIn tree text T opening) (c .counters) l₀ (stackAt s₂ (records tree) (c .operands) (suc (i .count)) ++ os) k′ l′
+              pushed-done : (os : List Ir.Operand) (k′ : Counters) (l′ : List ℕ) → NextIn (textsOf tree text) (argsIn tree text T (wordOf tree w B)) k l₁ os k′ l′
+                  → NextIn (textsOf tree text) (argsIn tree text T opening) (c .counters) l₀ (stackAt s₂ (records tree) (c .operands) (suc (i .count)) ++ os) k′ l′
               unfolding convert-args
               pushed-done os k′ l′ h =
-                  subst (λ (z : List Ir.Operand). NextIn text (argsIn tree text T opening) (c .counters) l₀ z k′ l′)
+                  subst (λ (z : List Ir.Operand). NextIn (textsOf tree text) (argsIn tree text T opening) (c .counters) l₀ z k′ l′)
                   (sym (ap (λ (z : List Ir.Operand). z ++ os) stack-same ∙ append-assoc (stackAt s (records tree) (c .operands) (i .count)) (operandOf o ∷ []) os))
                   (i .done (operandOf o ∷ os) k′ l′
-                  (subst (λ (y : Args). NextIn text (convert-args (program tree text) (allKeys tree text) y T) (at .counters) l (operandOf o ∷ os) k′ l′) (sym (found .opens))
-                  (then-in text (λ (z : Ir.Operand). argsIn tree text T (wordOf tree w B) >>= (λ os. pure (z ∷ os))) value-next
-                  (then-in text (λ (zs : List Ir.Operand). pure (operandOf o ∷ zs)) h (next-in text (pure-next (operandOf o ∷ os) k′ l′ (h .room)))))))
+                  (subst (λ (y : Args). NextIn (textsOf tree text) (convert-args (program tree text) (allKeys tree text) y T) (at .counters) l (operandOf o ∷ os) k′ l′) (sym (found .opens))
+                  (then-in (textsOf tree text) (λ (z : Ir.Operand). argsIn tree text T (wordOf tree w B) >>= (λ os. pure (z ∷ os))) value-next
+                  (then-in (textsOf tree text) (λ (zs : List Ir.Operand). pure (operandOf o ∷ zs)) h (next-in (textsOf tree text) (pure-next (operandOf o ∷ os) k′ l′ (h .room)))))))
 
-              pushed-stops : (d : ConvertErrorKind) (b : ℕ) → StopsIn text (argsIn tree text T (wordOf tree w B)) k l₁ d b → StopsIn text (argsIn tree text T opening) (c .counters) l₀ d b
+              pushed-stops : (d : ConvertErrorKind) (b : ℕ) → StopsIn (textsOf tree text) (argsIn tree text T (wordOf tree w B)) k l₁ d b → StopsIn (textsOf tree text) (argsIn tree text T opening) (c .counters) l₀ d b
               unfolding convert-args
               pushed-stops d b h = i .stops d b
-                  (subst (λ (y : Args). StopsIn text (convert-args (program tree text) (allKeys tree text) y T) (at .counters) l d b) (sym (found .opens))
-                  (then-stop text (λ (z : Ir.Operand). argsIn tree text T (wordOf tree w B) >>= (λ os. pure (z ∷ os))) value-next
-                  (stop-first text (λ (zs : List Ir.Operand). pure (operandOf o ∷ zs)) h)))
+                  (subst (λ (y : Args). StopsIn (textsOf tree text) (convert-args (program tree text) (allKeys tree text) y T) (at .counters) l d b) (sym (found .opens))
+                  (then-stop (textsOf tree text) (λ (z : Ir.Operand). argsIn tree text T (wordOf tree w B) >>= (λ os. pure (z ∷ os))) value-next
+                  (stop-first (textsOf tree text) (λ (zs : List Ir.Operand). pure (operandOf o ∷ zs)) h)))
 
               -- what was typed now, with this one
               value-typed : Typed tree text T (c .turn) s (exprTypes tree text v) s₁

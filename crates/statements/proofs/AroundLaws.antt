@@ -48,7 +48,7 @@ use Rattle.expressions.proofs.TypingLaws.{left-expr, right-expr}
 use Rattle.statements.specs.Lent.{Converter, Converted, Fitted}
 use Rattle.statements.specs.Stack.{operandAt, stackAt}
 use Rattle.statements.specs.Converting.{withCounters, OperandIn, StaysFor, NamesStay}
-use Rattle.statements.specs.Meets.{Adds}
+use Rattle.statements.specs.Meets.{Adds, textsOf}
 use Rattle.statements.specs.Parts.{emitJump, jumpIfNot, placeLabel, finishUnary, beginLogic, joinAnd, joinOr, endLogic, finishBinary, passArgs, finishCall, operandType}
 use Rattle.statements.specs.Answers.{FitAdds, Converts, OperandTyped}
 use Rattle.statements.specs.Turns.{CommonTyped}
@@ -203,8 +203,8 @@ module _ {tree text l s : List ℕ} {c : Converter} (e : ℕ) (dest : VarId) whe
   unfolding castFirst stackAt
   cast-none {x = x} h q =
       converts-same (ap (λ (z : ℕ). castFirst e (varOf dest) (stackAt s (records tree) (c .operands) z)) (sym h))
-      (converts-refused refl (subst (λ (z : ConvertError). StopsIn text (castFirst e (varOf dest) []) (c .counters) l (z .kind) (z .place)) (sym q)
-      (fail-stops text (c .counters) l WouldPanic e)) (stays-refl tree (c .scope .names) (c .operands) s) (names-refl tree s))
+      (converts-refused refl (subst (λ (z : ConvertError). StopsIn (textsOf tree text) (castFirst e (varOf dest) []) (c .counters) l (z .kind) (z .place)) (sym q)
+      (fail-stops (textsOf tree text) (c .counters) l WouldPanic e)) (stays-refl tree (c .scope .names) (c .operands) s) (names-refl tree s))
 
   pub cast-some : (count : ℕ) {first : Ir.Operand} {k : Counters} {l′ : List ℕ} → (count ≡ 0 → ⊥) → first ≡ operandAt s (records tree) (c .operands)
       → length l′ ≡ length l → Emits (Cast (varOf dest) first) (c .counters) l k l′ → TypeAt tree (dest .1)
@@ -212,7 +212,7 @@ module _ {tree text l s : List ℕ} {c : Converter} (e : ℕ) (dest : VarId) whe
   unfolding castFirst stackAt OperandIn
   cast-some zero n q h p t = absurd (n refl)
   cast-some (suc count) {k = k} {l′ = l′} n q h p t =
-      converts-gave h (adds-in text (adds-most (adds-seq (pure (OVar (varOf dest)))
+      converts-gave h (adds-in (textsOf tree text) (adds-most (adds-seq (pure (OVar (varOf dest)))
       (subst (λ (o : Ir.Operand). Adds (emit (Cast (varOf dest) o)) (amount 1 0 0 0 0) (c .counters) l tt k l′) q (emit-adds h p))
       (adds-pure (OVar (varOf dest)) k l′ (p .next .room))) (omega arith))) t (stays-refl tree (c .scope .names) (c .operands) s) (names-refl tree s)
 
@@ -232,7 +232,7 @@ call-adds {tree = tree} {text = text} {l₁ = l₁} {l₂ = l₂} F e {f = f} {d
     let i : Adds (emit (Call (some (varOf dest)) (functionOf tree text f .recOf))) (amount 1 0 0 0 0) k₁ l₁ tt k₂ l₂ =
     subst (λ (x : ℕ). Adds (emit (Call (some (varOf dest)) x)) (amount 1 0 0 0 0) k₁ l₁ tt k₂ l₂) (sym (function-rec tree text good f at)) (emit-adds h q) in
     converts-gave (h ∙ p .long)
-    (adds-in text (adds-most (adds-same (call-parts (program tree text) F e (varOf dest) (functionOf tree text f) given operands)
+    (adds-in (textsOf tree text) (adds-most (adds-same (call-parts (program tree text) F e (varOf dest) (functionOf tree text f) given operands)
     (adds-seq (pure (OVar (varOf dest))) (adds-seq (emit (Call (some (varOf dest)) (functionOf tree text f .recOf))) p i) (adds-pure (OVar (varOf dest)) k₂ l₂ (q .next .room)))) (omega arith))) t stays names
 
 -- the call behind its values, by what it runs

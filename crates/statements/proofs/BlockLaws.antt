@@ -31,12 +31,13 @@ use Rattle.ir.specs.declared.structs.Counters.{Counters}
 use Rattle.ir.specs.Amounts.{Amount, amount, both}
 use Rattle.ir.specs.Steps.{Emits}
 use Rattle.ir.proofs.StepLaws.{next-in, stop-first}
+use Rattle.ir.specs.Arena.{NumberedTexts}
 use Rattle.scope.specs.declared.Scope.{Scope}
 use Rattle.scope.specs.Open.{scopeAt, within}
 use Rattle.scope.proofs.ScopeLaws.{scope-loop}
 use Rattle.keys.specs.Keys.{allKeys}
 use Rattle.statements.specs.Lent.{Converter, Stated, Finished}
-use Rattle.statements.specs.Meets.{StepAnswer, gave, refused, Adds, AddsIn, Meets}
+use Rattle.statements.specs.Meets.{StepAnswer, gave, refused, Adds, AddsIn, Meets, textsOf}
 use Rattle.statements.specs.Converting.{Converting, BehindAfforded, StatementAfforded, behindAmount, blockAmount}
 use Rattle.statements.specs.Parts.{loopBack}
 use Rattle.statements.specs.Answers.{statedWith, Leaves, States, Finishes, scopeIn, statementSteps, blockSteps, declareSteps, initSteps, returnSteps, callStatementSteps, breakSteps, continueSteps, plainSteps, jumpSteps, ifSteps, whileSteps, forSteps, StatesAs, FinishesAs, StatementAs, BlockAs}
@@ -132,7 +133,7 @@ module _ {tree text l s : List ℕ} {c : Converter} {r : ℕ} (p : Converting tr
 
   pub comment-converting : Converting tree text l₁ s (begun c k)
   comment-converting =
-      let q = converting-next p (next-in text (i .next)) (stays-refl tree (c .scope .names) (c .operands) s) in
+      let q = converting-next p (next-in (textsOf tree text) (i .next)) (stays-refl tree (c .scope .names) (c .operands) s) in
       record { ready = q .ready; function = q .function; loop = q .loop; records-are = q .records-are; room = q .room }
 
   pub comment-afforded : BehindAfforded tree text (begun c k) r
@@ -142,7 +143,7 @@ module _ {tree text l s : List ℕ} {c : Converter} {r : ℕ} (p : Converting tr
     commented : {m : M Def.Scope} → statementSteps tree text s c r ≡ emit (Comment r) >> m → States tree text m (behindAmount size) size (begun c k) l₁ s a l₂ s₂
         → StatementAs statementSteps c r tree text l s a l₂ s₂
     commented {m} e q = states-same (sym e) (record {
-      meets = meets-most text (seq-then text m long (adds-in text (emit-adds long i)) (q .meets)) (omega arith);
+      meets = meets-most (textsOf tree text) (seq-then (textsOf tree text) m long (adds-in (textsOf tree text) (emit-adds long i)) (q .meets)) (omega arith);
       leaves = λ sc j d. let y = q .leaves sc j d in record { ready = y .ready; function = y .function; inner = y .inner; least = y .least; most = y .most };
       stays = q .stays;
     })
@@ -162,7 +163,7 @@ module _ {tree text l s : List ℕ} {c : Converter} {r : ℕ} (p : Converting tr
             go : (d : Finished) → Finishes tree text m (scopeIn tree text s c) (behindAmount size) (begun c k) l₁ s d l₂ s₂
                 → States tree text m (behindAmount size) size (begun c k) l₁ s (statedWith (c .scope) d) l₂ s₂
             go (Finished.Done j) g = record {
-              meets = subst (λ (z : Def.Scope). Meets text m (behindAmount size) k l₁ l₂ (gave z j)) (sym (scope-later comment-converting (g .stays))) (g .meets);
+              meets = subst (λ (z : Def.Scope). Meets (textsOf tree text) m (behindAmount size) k l₁ l₂ (gave z j)) (sym (scope-later comment-converting (g .stays))) (g .meets);
               leaves = λ sc j′ d.
                   let same : c .scope ≡ sc = cc in
                   subst (λ (z : Scope). Leaves tree text size (begun c k) s₂ z) same (leaves-same comment-converting (g .stays));
@@ -203,15 +204,15 @@ drop-is m f = simp (seq-is, regroup, pure-first)
 
 module _ {X Y : Type 0} {tree text l s l₁ s₁ : List ℕ} {n₁ : Amount} {c : Converter} {a : Finished} (m : M X)
     (p : Finishes tree text (m >> pure (tt {0})) tt n₁ c l s a l₁ s₁) (f : M Y) where
-  pub block-stop : {n : Amount} {z : ConvertError} → a ≡ Finished.Refused z → Meets text (m >> f) n (c .counters) l l₁ (refused z)
-  block-stop q = meets-same text (drop-is m f) (meets-refused text (p .meets .long) (stop-first text (λ (u : Unit {0}). f) (finished-stop p q)))
+  pub block-stop : {n : Amount} {z : ConvertError} → a ≡ Finished.Refused z → Meets (textsOf tree text) (m >> f) n (c .counters) l l₁ (refused z)
+  block-stop q = meets-same (textsOf tree text) (drop-is m f) (meets-refused (textsOf tree text) (p .meets .long) (stop-first (textsOf tree text) (λ (u : Unit {0}). f) (finished-stop p q)))
 
-  pub block-then : {n₂ : Amount} {k : Counters} {l₂ : List ℕ} {b : StepAnswer Y} → a ≡ Finished.Done k → Meets text f n₂ k l₁ l₂ b → Meets text (m >> f) (both n₁ n₂) (c .counters) l l₂ b
-  block-then q i = meets-drop text m f (p .meets .long) (finished-next p q) i
+  pub block-then : {n₂ : Amount} {k : Counters} {l₂ : List ℕ} {b : StepAnswer Y} → a ≡ Finished.Done k → Meets (textsOf tree text) f n₂ k l₁ l₂ b → Meets (textsOf tree text) (m >> f) (both n₁ n₂) (c .counters) l l₂ b
+  block-then q i = meets-drop (textsOf tree text) m f (p .meets .long) (finished-next p q) i
 
 -- the last step, and the scope as it was
-pub end-meets : {n : Amount} {k k′ : Counters} {l l′ : List ℕ} {m : M (Unit {0})} (text : List ℕ) (S : Def.Scope) → Adds m n k l tt k′ l′ → Meets text (m >> pure S) n k l l′ (gave S k′)
-end-meets {k′ = k′} {l′ = l′} text S p = meets-gave text (p .long) (adds-in text (adds-most (adds-seq (pure S) p (adds-pure S k′ l′ (p .next .room))) (omega arith)))
+pub end-meets : {n : Amount} {k k′ : Counters} {l l′ : List ℕ} {m : M (Unit {0})} (texts : NumberedTexts) (S : Def.Scope) → Adds m n k l tt k′ l′ → Meets texts (m >> pure S) n k l l′ (gave S k′)
+end-meets {k′ = k′} {l′ = l′} texts S p = meets-gave texts (p .long) (adds-in texts (adds-most (adds-seq (pure S) p (adds-pure S k′ l′ (p .next .room))) (omega arith)))
 
 -- the list that a word of a record opens
 module _ (tree text : List ℕ) (good : Good tree text) (r : ℕ) (h : r < records tree) where
@@ -260,12 +261,12 @@ module _ {tree text l s : List ℕ} (c : Converter) {r : ℕ} {sc inner : Scope}
     looped = block-as ev (inner-scope q) b
 
     pub looped-stop : {n : Amount} {z : ConvertError} (T : Def.Scope) → a ≡ Finished.Refused z
-        → Meets text (bodyIn tree text w (withLoop r S) >> (loopBack r >> pure T)) n k l l₁ (refused z)
+        → Meets (textsOf tree text) (bodyIn tree text w (withLoop r S) >> (loopBack r >> pure T)) n k l l₁ (refused z)
     looped-stop T u = block-stop (bodyIn tree text w (withLoop r S)) looped (loopBack r >> pure T) u
 
     pub looped-then : {k₁ k₂ : Counters} {l₂ : List ℕ} (T : Def.Scope) → a ≡ Finished.Done k₁ → Adds (loopBack r) (amount 2 0 2 0 0) k₁ l₁ tt k₂ l₂
-        → Meets text (bodyIn tree text w (withLoop r S) >> (loopBack r >> pure T)) (both (blockAmount (bodySize tree text w)) (amount 2 0 2 0 0)) k l l₂ (gave T k₂)
-    looped-then T u g = block-then (bodyIn tree text w (withLoop r S)) looped (loopBack r >> pure T) u (end-meets text T g)
+        → Meets (textsOf tree text) (bodyIn tree text w (withLoop r S) >> (loopBack r >> pure T)) (both (blockAmount (bodySize tree text w)) (amount 2 0 2 0 0)) k l l₂ (gave T k₂)
+    looped-then T u g = block-then (bodyIn tree text w (withLoop r S)) looped (loopBack r >> pure T) u (end-meets (textsOf tree text) T g)
 
-    pub looped-room : {k₁ : Counters} → a ≡ Finished.Done k₁ → AddsIn text (bodyIn tree text w (withLoop r S) >> pure (tt {0})) (blockAmount (bodySize tree text w)) k l tt k₁ l₁
+    pub looped-room : {k₁ : Counters} → a ≡ Finished.Done k₁ → AddsIn (textsOf tree text) (bodyIn tree text w (withLoop r S) >> pure (tt {0})) (blockAmount (bodySize tree text w)) k l tt k₁ l₁
     looped-room u = finished-next looped u

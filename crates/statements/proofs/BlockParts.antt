@@ -37,7 +37,7 @@ use Rattle.statements.specs.Lent.{Converter, Stated, Finished, finished}
 use Rattle.statements.specs.declared.answers.Finished as Code
 use Rattle.statements.specs.declared.answers.Finished.the-variants as Answer
 use Rattle.statements.proofs.answers.Finished.{the-type}
-use Rattle.statements.specs.Meets.{StepAnswer, gave, Adds, AddsIn, Meets}
+use Rattle.statements.specs.Meets.{StepAnswer, gave, Adds, AddsIn, Meets, textsOf}
 use Rattle.statements.specs.Converting.{Converting, withCounters, RoomFor, BehindAfforded, BlockAfforded, StaysFor, blockAmount, headAmount, forHeadAmount, LoopIn}
 use Rattle.statements.specs.Parts.{placeLabel, ifHead, ifMiddle, loopBack, forHead, forVariable, forTurns, forBounds, forBegin, forTest, knownVariable}
 use Rattle.statements.specs.Answers.{statedOf, blockSteps, ifSteps, whileSteps, forSteps, ifHeadSteps, whileHeadSteps, forHeadSteps, FinishesAs, HeadAs, ForHeadAs, boundsUnder, BlockAs, Finishes}
@@ -73,7 +73,7 @@ module _ {tree text l s : List ℕ} {c : Converter} {r : ℕ} (p : Converting tr
 
   module _ {a : Finished} {l₁ s₁ : List ℕ} (h : HeadAs whileHeadSteps c r tree text l s a l₁ s₁) where
     pub while-stop : {z : ConvertError} → a ≡ Finished.Refused z → FinishesAs whileSteps c r tree text l s (Finished.Refused z) l₁ s₁
-    while-stop q = record { meets = meets-same text while-rows (seq-not text rest (h .meets .long) (finished-stop h q)); stays = h .stays }
+    while-stop q = record { meets = meets-same (textsOf tree text) while-rows (seq-not (textsOf tree text) rest (h .meets .long) (finished-stop h q)); stays = h .stays }
 
     module _ {k : Counters} {inner : Scope} {v : ℕ} (q : a ≡ Finished.Done k) (e : inner ≡ within r (c .scope)) (ev : v ≡ wordOf tree r B) where
       pub while-converting : Converting tree text l₁ s₁ (placed c inner k)
@@ -91,8 +91,8 @@ module _ {tree text l s : List ℕ} {c : Converter} {r : ℕ} (p : Converting tr
 
         pub while-body-stop : {z : ConvertError} → b ≡ Finished.Refused z → FinishesAs whileSteps c r tree text l s (Finished.Refused z) l₂ s₂
         while-body-stop u = record {
-          meets = meets-same text while-rows (meets-refused text (g .meets .long ∙ h .meets .long)
-              (seq-then {n₂ = amount 0 0 0 0 0} text rest (h .meets .long) (finished-next h q) (looped-stop c (finished-converting h q p) (x .below) e ev (scope-later p (h .stays)) g T u) .stops _ refl));
+          meets = meets-same (textsOf tree text) while-rows (meets-refused (textsOf tree text) (g .meets .long ∙ h .meets .long)
+              (seq-then {n₂ = amount 0 0 0 0 0} (textsOf tree text) rest (h .meets .long) (finished-next h q) (looped-stop c (finished-converting h q p) (x .below) e ev (scope-later p (h .stays)) g T u) .stops _ refl));
           stays = while-stays;
         }
 
@@ -106,7 +106,7 @@ module _ {tree text l s : List ℕ} {c : Converter} {r : ℕ} (p : Converting tr
 
           pub while-next : {k₂ : Counters} {l₃ : List ℕ} → Adds (loopBack r) (amount 2 0 2 0 0) k₁ l₂ tt k₂ l₃ → FinishesAs whileSteps c r tree text l s (Finished.Done k₂) l₃ s₂
           while-next i = record {
-            meets = meets-most text (meets-same text while-rows (seq-then text rest (h .meets .long) (finished-next h q)
+            meets = meets-most (textsOf tree text) (meets-same (textsOf tree text) while-rows (seq-then (textsOf tree text) rest (h .meets .long) (finished-next h q)
                 (looped-then c (finished-converting h q p) (x .below) e ev (scope-later p (h .stays)) g T u i))) (omega (arith, while-count));
             stays = while-stays;
           }
@@ -188,12 +188,12 @@ module _ {tree text l s : List ℕ} {c : Converter} {r : ℕ} (p : Converting tr
   module _ {a : Stated} {l₁ s₁ : List ℕ} (h : ForHeadAs forHeadSteps c r tree text l s a l₁ s₁) where
     pub for-stop : {z : ConvertError} → a ≡ Stated.Refused z → FinishesAs forSteps c r tree text l s (Finished.Refused z) l₁ s₁
     for-stop {z} q = record {
-      meets = meets-same text for-steps (meets-refused text (h .meets .long) (stop-first text behind (h .meets .stops z (ap (statedOf tree text s₁) q))));
+      meets = meets-same (textsOf tree text) for-steps (meets-refused (textsOf tree text) (h .meets .long) (stop-first (textsOf tree text) behind (h .meets .stops z (ap (statedOf tree text s₁) q))));
       stays = h .stays;
     }
 
     module _ {sc : Scope} {k : Counters} (q : a ≡ Stated.Done sc k) where
-      headed : AddsIn text (forHeadSteps tree text s c r) (both (amount 0 1 0 0 0) (forHeadAmount (boundsUnder tree text r))) (c .counters) l (scopeAt tree text s₁ sc) k l₁
+      headed : AddsIn (textsOf tree text) (forHeadSteps tree text s c r) (both (amount 0 1 0 0 0) (forHeadAmount (boundsUnder tree text r))) (c .counters) l (scopeAt tree text s₁ sc) k l₁
       headed = h .meets .gives (scopeAt tree text s₁ sc) k (ap (statedOf tree text s₁) q)
 
       headed-converting : Converting tree text l₁ s₁ (placed c sc k)
@@ -222,8 +222,8 @@ module _ {tree text l s : List ℕ} {c : Converter} {r : ℕ} (p : Converting tr
 
           pub for-body-stop : {z : ConvertError} → b ≡ Finished.Refused z → FinishesAs forSteps c r tree text l s (Finished.Refused z) l₂ s₂
           for-body-stop u = record {
-            meets = meets-same text for-steps (meets-refused text (g .meets .long ∙ h .meets .long)
-                (meets-then {n₂ = amount 0 0 0 0 0} text behind (h .meets .long) headed (looped-stop c headed-converting (x .below) e ev refl g S u) .stops _ refl));
+            meets = meets-same (textsOf tree text) for-steps (meets-refused (textsOf tree text) (g .meets .long ∙ h .meets .long)
+                (meets-then {n₂ = amount 0 0 0 0 0} (textsOf tree text) behind (h .meets .long) headed (looped-stop c headed-converting (x .below) e ev refl g S u) .stops _ refl));
             stays = for-stays;
           }
 
@@ -237,7 +237,7 @@ module _ {tree text l s : List ℕ} {c : Converter} {r : ℕ} (p : Converting tr
 
             pub for-next : {k₂ : Counters} {l₃ : List ℕ} → Adds (loopBack r) (amount 2 0 2 0 0) k₁ l₂ tt k₂ l₃ → FinishesAs forSteps c r tree text l s (Finished.Done k₂) l₃ s₂
             for-next i = record {
-              meets = meets-most text (meets-same text for-steps (meets-then text behind (h .meets .long) headed
+              meets = meets-most (textsOf tree text) (meets-same (textsOf tree text) for-steps (meets-then (textsOf tree text) behind (h .meets .long) headed
                   (looped-then c headed-converting (x .below) e ev refl g S u i))) (omega (arith, for-count));
               stays = for-stays;
             }
@@ -310,7 +310,7 @@ module _ {tree text l s : List ℕ} {c : Converter} {r : ℕ} (p : Converting tr
     if-stop w d q t =
         let z = refusal-of w d t in
         subst (λ (y : Finished). FinishesAs ifSteps c r tree text l s y l₁ s₁) (sym (q ∙ z .is))
-        (record { meets = meets-same text if-rows (seq-not text (then >> last otherwise) (h .meets .long) (finished-stop h (q ∙ z .is))); stays = h .stays })
+        (record { meets = meets-same (textsOf tree text) if-rows (seq-not (textsOf tree text) (then >> last otherwise) (h .meets .long) (finished-stop h (q ∙ z .is))); stays = h .stays })
 
     module _ {k : Counters} {v : ℕ} (q : a ≡ Finished.Done k) (ev : v ≡ wordOf tree r B) where
       pub then-afforded : BlockAfforded tree text (withCounters c k) v
@@ -324,14 +324,14 @@ module _ {tree text l s : List ℕ} {c : Converter} {r : ℕ} (p : Converting tr
         then-stays = stays-then (omega arith) (omega arith) (h .stays) (g .stays)
 
         -- what follows the head and the first block
-        behind-then : {n : Amount} {k₁ : Counters} {l′ : List ℕ} {y : StepAnswer Def.Scope} → b ≡ Finished.Done k₁ → Meets text (last otherwise) n k₁ l₂ l′ y
-            → Meets text (ifSteps tree text s c r) (both (headAmount (under (exprAt tree text (wordOf tree r A)))) (both (blockAmount (bodySize tree text (wordOf tree r B))) n)) (c .counters) l l′ y
-        behind-then u i = meets-same text if-rows (seq-then text (then >> last otherwise) (h .meets .long) (finished-next h q) (block-then then first (last otherwise) u i))
+        behind-then : {n : Amount} {k₁ : Counters} {l′ : List ℕ} {y : StepAnswer Def.Scope} → b ≡ Finished.Done k₁ → Meets (textsOf tree text) (last otherwise) n k₁ l₂ l′ y
+            → Meets (textsOf tree text) (ifSteps tree text s c r) (both (headAmount (under (exprAt tree text (wordOf tree r A)))) (both (blockAmount (bodySize tree text (wordOf tree r B))) n)) (c .counters) l l′ y
+        behind-then u i = meets-same (textsOf tree text) if-rows (seq-then (textsOf tree text) (then >> last otherwise) (h .meets .long) (finished-next h q) (block-then then first (last otherwise) u i))
 
         pub then-stop : {z : ConvertError} → b ≡ Finished.Refused z → FinishesAs ifSteps c r tree text l s (Finished.Refused z) l₂ s₂
         then-stop u = record {
-          meets = meets-refused text (g .meets .long ∙ h .meets .long) (meets-same text if-rows
-              (seq-then {n₂ = amount 0 0 0 0 0} text (then >> last otherwise) (h .meets .long) (finished-next h q) (block-stop then first (last otherwise) u)) .stops _ refl);
+          meets = meets-refused (textsOf tree text) (g .meets .long ∙ h .meets .long) (meets-same (textsOf tree text) if-rows
+              (seq-then {n₂ = amount 0 0 0 0 0} (textsOf tree text) (then >> last otherwise) (h .meets .long) (finished-next h q) (block-stop then first (last otherwise) u)) .stops _ refl);
           stays = then-stays;
         }
 
@@ -349,8 +349,8 @@ module _ {tree text l s : List ℕ} {c : Converter} {r : ℕ} (p : Converting tr
             pub if-next : {k₂ : Counters} {l₃ : List ℕ} → Adds (placeLabel (conditionEnd r)) (amount 1 0 1 0 0) k₁ l₂ tt k₂ l₃ → FinishesAs ifSteps c r tree text l s (Finished.Done k₂) l₃ s₂
             unfolding pick
             if-next {k₂} {l₃} i = record {
-              meets = meets-most text (behind-then u
-                  (subst (λ (y : Bool). Meets text (last y) (amount 1 0 1 0 0) k₁ l₂ l₃ (gave Q k₂)) (sym none ∙ eh) (end-meets text Q i))) (omega (arith, if-count (sym eh ∙ none)));
+              meets = meets-most (textsOf tree text) (behind-then u
+                  (subst (λ (y : Bool). Meets (textsOf tree text) (last y) (amount 1 0 1 0 0) k₁ l₂ l₃ (gave Q k₂)) (sym none ∙ eh) (end-meets (textsOf tree text) Q i))) (omega (arith, if-count (sym eh ∙ none)));
               stays = then-stays;
             }
 
@@ -364,7 +364,7 @@ module _ {tree text l s : List ℕ} {c : Converter} {r : ℕ} (p : Converting tr
             module _ {k₂ : Counters} {l₃ : List ℕ} {o : ℕ} (i : Adds (ifMiddle r) (amount 2 0 2 0 0) k₁ l₂ tt k₂ l₃) (eo : o ≡ wordOf tree r C) where
               pub other-converting : Converting tree text l₃ s₂ (withCounters c k₂)
               other-converting =
-                  converting-next (finished-converting g u (finished-converting h q p)) (next-in text (i .next)) (stays-refl tree (c .scope .names) (c .operands) s₂)
+                  converting-next (finished-converting g u (finished-converting h q p)) (next-in (textsOf tree text) (i .next)) (stays-refl tree (c .scope .names) (c .operands) s₂)
 
               pub other-afforded : BlockAfforded tree text (withCounters c k₂) o
               other-afforded =
@@ -377,15 +377,15 @@ module _ {tree text l s : List ℕ} {c : Converter} {r : ℕ} (p : Converting tr
                 other-stays : StaysFor tree c s s₃
                 other-stays = stays-then (omega arith) (omega arith) then-stays (j .stays)
 
-                behind-other : {n : Amount} {l′ : List ℕ} {y : StepAnswer Def.Scope} → Meets text (other >> (placeLabel (conditionEnd r) >> pure Q)) n k₂ l₃ l′ y
-                    → Meets text (last otherwise) (both (amount 2 0 2 0 0) n) k₁ l₂ l′ y
+                behind-other : {n : Amount} {l′ : List ℕ} {y : StepAnswer Def.Scope} → Meets (textsOf tree text) (other >> (placeLabel (conditionEnd r) >> pure Q)) n k₂ l₃ l′ y
+                    → Meets (textsOf tree text) (last otherwise) (both (amount 2 0 2 0 0) n) k₁ l₂ l′ y
                 unfolding pick
-                behind-other {n} {l′} {y} m = subst (λ (w : Bool). Meets text (last w) (both (amount 2 0 2 0 0) n) k₁ l₂ l′ y) (sym some ∙ eh)
-                    (seq-then text (other >> (placeLabel (conditionEnd r) >> pure Q)) (i .long) (adds-in text i) m)
+                behind-other {n} {l′} {y} m = subst (λ (w : Bool). Meets (textsOf tree text) (last w) (both (amount 2 0 2 0 0) n) k₁ l₂ l′ y) (sym some ∙ eh)
+                    (seq-then (textsOf tree text) (other >> (placeLabel (conditionEnd r) >> pure Q)) (i .long) (adds-in (textsOf tree text) i) m)
 
                 pub other-stop : {z : ConvertError} → d ≡ Finished.Refused z → FinishesAs ifSteps c r tree text l s (Finished.Refused z) l₄ s₃
                 other-stop w = record {
-                  meets = meets-refused text (j .meets .long ∙ i .long ∙ g .meets .long ∙ h .meets .long)
+                  meets = meets-refused (textsOf tree text) (j .meets .long ∙ i .long ∙ g .meets .long ∙ h .meets .long)
                       (behind-then u (behind-other {n = amount 0 0 0 0 0} (block-stop other second (placeLabel (conditionEnd r) >> pure Q) w)) .stops _ refl);
                   stays = other-stays;
                 }
@@ -403,6 +403,6 @@ module _ {tree text l s : List ℕ} {c : Converter} {r : ℕ} (p : Converting tr
                   pub if-else-next : {k₄ : Counters} {l₅ : List ℕ} → Adds (placeLabel (conditionEnd r)) (amount 1 0 1 0 0) k₃ l₄ tt k₄ l₅
                       → FinishesAs ifSteps c r tree text l s (Finished.Done k₄) l₅ s₃
                   if-else-next m = record {
-                    meets = meets-most text (behind-then u (behind-other (block-then other second (placeLabel (conditionEnd r) >> pure Q) w (end-meets text Q m)))) (omega (arith, else-count (sym eh ∙ some)));
+                    meets = meets-most (textsOf tree text) (behind-then u (behind-other (block-then other second (placeLabel (conditionEnd r) >> pure Q) w (end-meets (textsOf tree text) Q m)))) (omega (arith, else-count (sym eh ∙ some)));
                     stays = other-stays;
                   }

@@ -27,7 +27,7 @@ use Rattle.scope.specs.declared.Scope.{Scope}
 use Rattle.scope.specs.Open.{scopeAt}
 use Rattle.keys.specs.Keys.{allKeys}
 use Rattle.statements.specs.Lent.{Converter, Stated, Finished}
-use Rattle.statements.specs.Meets.{AddsIn}
+use Rattle.statements.specs.Meets.{AddsIn, textsOf}
 use Rattle.statements.specs.Converting.{Converting, BlockAfforded, StatementAfforded, StaysFor, blockAmount, statementAmount, LoopIn}
 use Rattle.statements.specs.Answers.{statedOf, scopeIn, blockSteps, statementSteps, StatementAs, BlockAs}
 use Rattle.statements.specs.Turns.{Turns, Visited, StatementVisited, BlockVisited}
@@ -53,10 +53,10 @@ pub record BlockLeft (tree text l₀ s₀ : List ℕ) (c : Converter) (first : �
   pub most : at .scope .names ≤ c .scope .names + passed
   pub passed-is : passed + bodySize tree text w ≡ bodySize tree text first
   pub spent : Spent (c .counters) (at .counters) (blockAmount passed)
-  pub gives : (S : Def.Scope) (k : Counters) (l′ : List ℕ) → NextIn text (bodyIn tree text w (scopeIn tree text s at)) (at .counters) l S k l′
-      → NextIn text (bodyIn tree text first (scopeIn tree text s₀ c)) (c .counters) l₀ S k l′
-  pub stops : (k : ConvertErrorKind) (r : ℕ) → StopsIn text (bodyIn tree text w (scopeIn tree text s at)) (at .counters) l k r
-      → StopsIn text (bodyIn tree text first (scopeIn tree text s₀ c)) (c .counters) l₀ k r
+  pub gives : (S : Def.Scope) (k : Counters) (l′ : List ℕ) → NextIn (textsOf tree text) (bodyIn tree text w (scopeIn tree text s at)) (at .counters) l S k l′
+      → NextIn (textsOf tree text) (bodyIn tree text first (scopeIn tree text s₀ c)) (c .counters) l₀ S k l′
+  pub stops : (k : ConvertErrorKind) (r : ℕ) → StopsIn (textsOf tree text) (bodyIn tree text w (scopeIn tree text s at)) (at .counters) l k r
+      → StopsIn (textsOf tree text) (bodyIn tree text first (scopeIn tree text s₀ c)) (c .counters) l₀ k r
   pub seen : ℕ
   pub visited : Visited tree s₀ seen (at .counters) s
   pub seen-is : seen + visitsFrom tree text w ≡ visitsFrom tree text first
@@ -91,12 +91,12 @@ module _ {tree text l₀ s₀ : List ℕ} {c : Converter} {first : ℕ} (p : Con
     unfolding convert-block blockRecords
     block-done q =
         let over : blockAt tree text w ≡ done = ap (blockAt tree text) q ∙ block-end tree text good in
-        let last : NextIn text (bodyIn tree text w (scopeIn tree text s at)) (at .counters) l (scopeIn tree text s at) (at .counters) l =
-        subst (λ (z : Block). NextIn text (convert-block (program tree text) (allKeys tree text) z (scopeIn tree text s at)) (at .counters) l (scopeIn tree text s at) (at .counters) l) (sym over)
-        (next-in text (pure-next (scopeIn tree text s at) (at .counters) l (i .converting .room))) in
+        let last : NextIn (textsOf tree text) (bodyIn tree text w (scopeIn tree text s at)) (at .counters) l (scopeIn tree text s at) (at .counters) l =
+        subst (λ (z : Block). NextIn (textsOf tree text) (convert-block (program tree text) (allKeys tree text) z (scopeIn tree text s at)) (at .counters) l (scopeIn tree text s at) (at .counters) l) (sym over)
+        (next-in (textsOf tree text) (pure-next (scopeIn tree text s at) (at .counters) l (i .converting .room))) in
         record {
-          meets = meets-gave text (i .long) (record {
-            next = seq-in text (pure tt) (i .gives (scopeIn tree text s at) (at .counters) l last) (next-in text (pure-next tt (at .counters) l (i .converting .room)));
+          meets = meets-gave (textsOf tree text) (i .long) (record {
+            next = seq-in (textsOf tree text) (pure tt) (i .gives (scopeIn tree text s at) (at .counters) l last) (next-in (textsOf tree text) (pure-next tt (at .counters) l (i .converting .room)));
             spent = omega (arith, i .spent, i .passed-is, ap blockRecords over);
           });
           stays = i .stays;
@@ -153,14 +153,14 @@ module _ {tree text l₀ s₀ : List ℕ} {c : Converter} {first : ℕ} (p : Con
 
           pub turn-stop : {z : ConvertError} → a ≡ Stated.Refused z → BlockAs blockSteps c first tree text l₀ s₀ (Finished.Refused z) l₁ s₁
           turn-stop {z} u = record {
-            meets = meets-refused text (n .meets .long ∙ i .long) (stop-seq text (pure tt) (i .stops (z .kind) (z .place)
-                (subst (λ (m : M Def.Scope). StopsIn text m (at .counters) l (z .kind) (z .place)) (sym opens-here)
-                (stop-first text (λ S. bodyIn tree text (wordOf tree w B) S) (n .meets .stops z (ap (statedOf tree text s₁) u))))));
+            meets = meets-refused (textsOf tree text) (n .meets .long ∙ i .long) (stop-seq (textsOf tree text) (pure tt) (i .stops (z .kind) (z .place)
+                (subst (λ (m : M Def.Scope). StopsIn (textsOf tree text) m (at .counters) l (z .kind) (z .place)) (sym opens-here)
+                (stop-first (textsOf tree text) (λ S. bodyIn tree text (wordOf tree w B) S) (n .meets .stops z (ap (statedOf tree text s₁) u))))));
             stays = turn-stays;
           }
 
           module _ {sc : Scope} {k : Counters} (u : a ≡ Stated.Done sc k) where
-            added : AddsIn text (statementSteps tree text s at r) (statementAmount (statementRecords (statementAt tree text r))) (at .counters) l (scopeAt tree text s₁ sc) k l₁
+            added : AddsIn (textsOf tree text) (statementSteps tree text s at r) (statementAmount (statementRecords (statementAt tree text r))) (at .counters) l (scopeAt tree text s₁ sc) k l₁
             added = n .meets .gives (scopeAt tree text s₁ sc) k (ap (statedOf tree text s₁) u)
 
             turned-converting : Converting tree text l₁ s₁ (placed at sc k)
@@ -187,10 +187,10 @@ module _ {tree text l₀ s₀ : List ℕ} {c : Converter} {first : ℕ} (p : Con
               most = omega (arith, i .most, n .leaves sc k u .most);
               passed-is = omega (arith, i .passed-is, size-is, here);
               spent = omega (arith, i .spent, added .spent);
-              gives = λ S j l′ g. i .gives S j l′ (subst (λ (m : M Def.Scope). NextIn text m (at .counters) l S j l′) (sym opens-here)
-                  (then-in text (λ S′. bodyIn tree text (wordOf tree w B) S′) (added .next) g));
-              stops = λ d b g. i .stops d b (subst (λ (m : M Def.Scope). StopsIn text m (at .counters) l d b) (sym opens-here)
-                  (then-stop text (λ S′. bodyIn tree text (wordOf tree w B) S′) (added .next) g));
+              gives = λ S j l′ g. i .gives S j l′ (subst (λ (m : M Def.Scope). NextIn (textsOf tree text) m (at .counters) l S j l′) (sym opens-here)
+                  (then-in (textsOf tree text) (λ S′. bodyIn tree text (wordOf tree w B) S′) (added .next) g));
+              stops = λ d b g. i .stops d b (subst (λ (m : M Def.Scope). StopsIn (textsOf tree text) m (at .counters) l d b) (sym opens-here)
+                  (then-stop (textsOf tree text) (λ S′. bodyIn tree text (wordOf tree w B) S′) (added .next) g));
               seen = i .seen + statementVisits (records tree) (statementAt tree text r);
               visited = visited-next (i .visited) (t sc k u);
               seen-is = omega (arith, i .seen-is, visits-is, ap (λ (z : ℕ). statementVisits (records tree) (statementAt tree text z)) er);

@@ -54,7 +54,7 @@ use Rattle.expressions.specs.Slots.{originalOf, originalWord, Asked}
 use Rattle.expressions.proofs.OriginalLaws.{origin-text, kind-asked}
 use Rattle.expressions.proofs.TakeLaws.{as-type}
 use Rattle.statements.specs.Lent.{Converter, Stated, Finished}
-use Rattle.statements.specs.Meets.{StepAnswer, gave, refused, Adds, Meets}
+use Rattle.statements.specs.Meets.{StepAnswer, gave, refused, Adds, Meets, textsOf}
 use Rattle.statements.specs.Converting.{Converting, RoomFor, BehindAfforded, StaysFor, behindAmount}
 use Rattle.statements.specs.Parts.{emitJump, zeroFloat}
 use Rattle.statements.specs.Answers.{finishedOf, Leaves, States, StatesAs, declareSteps, breakSteps, continueSteps}
@@ -153,21 +153,21 @@ module _ {tree text l s : List ℕ} {c : Converter} (p : Converting tree text l 
   module _ (r : ℕ) (asked : Asked tree text s (c .scope) r) (constant : Bool) (s′ : List ℕ) {d : Declared} (m : DeclareMeets text (originalOf tree s r) (originalWord tree s r A) (originalWord tree s r B) (made .var) constant (c .scope) s s′ d)
       {X : Type 0} (place : ℕ) (f : Ir.VarId → Def.Scope → M X) where
     pub variable-then : {sc′ : Scope} {n : Amount} {l′ : List ℕ} {a : StepAnswer X} → d ≡ Declared.Done sc′
-        → Meets text (f (varOf (made .var)) (scopeAt tree text s′ sc′)) n (made .counters) l₁ l′ a
-        → Meets text (declaredThen tree text r constant place y (scopeAt tree text s (c .scope)) f) (both (amount 0 1 0 0 0) n) (c .counters) l l′ a
+        → Meets (textsOf tree text) (f (varOf (made .var)) (scopeAt tree text s′ sc′)) n (made .counters) l₁ l′ a
+        → Meets (textsOf tree text) (declaredThen tree text r constant place y (scopeAt tree text s (c .scope)) f) (both (amount 0 1 0 0 0) n) (c .counters) l l′ a
     variable-then q i =
-        meets-then text (λ (x : Ir.VarId). lift (declare (record { name = textOf tree text r A; constant = constant; var-id = x }) place (scopeAt tree text s (c .scope))) >>= (λ (sc1 : Def.Scope). f x sc1))
-        long (adds-in text (var-adds long new))
-        (meets-lift text (λ (sc1 : Def.Scope). f (varOf (made .var)) sc1) (new .next .room) (declared-ok p (made .var) few var-typed r asked constant s′ m q place) i)
+        meets-then (textsOf tree text) (λ (x : Ir.VarId). lift (declare (record { name = textOf tree text r A; constant = constant; var-id = x }) place (scopeAt tree text s (c .scope))) >>= (λ (sc1 : Def.Scope). f x sc1))
+        long (adds-in (textsOf tree text) (var-adds long new))
+        (meets-lift (textsOf tree text) (λ (sc1 : Def.Scope). f (varOf (made .var)) sc1) (new .next .room) (declared-ok p (made .var) few var-typed r asked constant s′ m q place) i)
 
     pub variable-not : {n : Amount} {e : ConvertError} → d ≡ Declared.Taken → e ≡ record { kind = AlreadyDeclared; place = place }
-        → Meets text (declaredThen tree text r constant place y (scopeAt tree text s (c .scope)) f) n (c .counters) l l₁ (refused e)
+        → Meets (textsOf tree text) (declaredThen tree text r constant place y (scopeAt tree text s (c .scope)) f) n (c .counters) l l₁ (refused e)
     variable-not {e = e} q w =
-        meets-refused text long
-        (then-stop text (λ (x : Ir.VarId). lift (declare (record { name = textOf tree text r A; constant = constant; var-id = x }) place (scopeAt tree text s (c .scope))) >>= (λ (sc1 : Def.Scope). f x sc1))
-        (next-in text (new .next))
-        (stop-first text (λ (sc1 : Def.Scope). f (varOf (made .var)) sc1)
-        (lift-stops text (declare (namedBy tree text r (made .var) constant) place (scopeAt tree text s (c .scope))) (made .counters) l₁ (e .kind) (e .place)
+        meets-refused (textsOf tree text) long
+        (then-stop (textsOf tree text) (λ (x : Ir.VarId). lift (declare (record { name = textOf tree text r A; constant = constant; var-id = x }) place (scopeAt tree text s (c .scope))) >>= (λ (sc1 : Def.Scope). f x sc1))
+        (next-in (textsOf tree text) (new .next))
+        (stop-first (textsOf tree text) (λ (sc1 : Def.Scope). f (varOf (made .var)) sc1)
+        (lift-stops (textsOf tree text) (declare (namedBy tree text r (made .var) constant) place (scopeAt tree text s (c .scope))) (made .counters) l₁ (e .kind) (e .place)
         (rw w (declared-err p (made .var) few var-typed r asked constant s′ m q place)))))
 
 -- the type of a variable that is found is one of the tree's, where those of the open names are
@@ -234,30 +234,30 @@ module _ (tree text : List ℕ) (F : Functions) (r : ℕ) (v : VarId) (f : ℕ) 
       rw (q, type-is tree text (v .1) f ef)
       (others (program tree text) F r (varOf v) (bit 16 (detailOf tree (v .1))) (bit 32 (detailOf tree (v .1))) (wordOf tree (v .1) A) (wideOf tree text (v .1) B) (textOf tree text (v .1) A) f n₀ n₁ n₂ n₇ n₈)
 
-  pub zero-custom : {k : Counters} {l : List ℕ} {z : ConvertError} → f ≡ 8 → z ≡ record { kind = WouldPanic; place = r } → Meets text zeros (amount 1 0 0 0 1) k l l (refused z)
+  pub zero-custom : {k : Counters} {l : List ℕ} {z : ConvertError} → f ≡ 8 → z ≡ record { kind = WouldPanic; place = r } → Meets (textsOf tree text) zeros (amount 1 0 0 0 1) k l l (refused z)
   unfolding zeroValue
-  zero-custom {k = k} {l = l} e w = meets-same {m = fail WouldPanic r} text (rw (type-is tree text (v .1) f ef, e)) (meets-refused text refl (rw w (fail-stops text k l WouldPanic r)))
+  zero-custom {k = k} {l = l} e w = meets-same {m = fail WouldPanic r} (textsOf tree text) (rw (type-is tree text (v .1) f ef, e)) (meets-refused (textsOf tree text) refl (rw w (fail-stops (textsOf tree text) k l WouldPanic r)))
 
   module _ {k : Counters} {l l′ : List ℕ} where
-    emitted : {i : Ir.Instr} {k′ : Counters} → zeros ≡ Ir.emit i → length l′ ≡ length l → Emits i k l k′ l′ → Meets text zeros (amount 1 0 0 0 1) k l l′ (gave tt k′)
-    emitted e h p = meets-gave text h (adds-in text (adds-most (adds-same (sym e) (emit-adds h p)) (omega arith)))
+    emitted : {i : Ir.Instr} {k′ : Counters} → zeros ≡ Ir.emit i → length l′ ≡ length l → Emits i k l k′ l′ → Meets (textsOf tree text) zeros (amount 1 0 0 0 1) k l l′ (gave tt k′)
+    emitted e h p = meets-gave (textsOf tree text) h (adds-in (textsOf tree text) (adds-most (adds-same (sym e) (emit-adds h p)) (omega arith)))
 
     pub zero-int : {k′ : Counters} {short unsigned : Bool} → f ≡ 1 → short ≡ bit 16 (detailOf tree (v .1)) → unsigned ≡ bit 32 (detailOf tree (v .1)) → length l′ ≡ length l
-        → Emits (Ir.Copy (varOf v) (operandOf (Operand.Int 0 short unsigned))) k l k′ l′ → Meets text zeros (amount 1 0 0 0 1) k l l′ (gave tt k′)
+        → Emits (Ir.Copy (varOf v) (operandOf (Operand.Int 0 short unsigned))) k l k′ l′ → Meets (textsOf tree text) zeros (amount 1 0 0 0 1) k l l′ (gave tt k′)
     unfolding zeroValue
     zero-int e s u h p = emitted (rw (type-is tree text (v .1) f ef, e, s, u)) h p
 
     pub zero-float : {k′ : Counters} {short : Bool} → f ≡ 2 → short ≡ bit 16 (detailOf tree (v .1)) → Adds (zeroFloat (varOf v) short) (amount 1 0 0 0 1) k l tt k′ l′
-        → Meets text zeros (amount 1 0 0 0 1) k l l′ (gave tt k′)
+        → Meets (textsOf tree text) zeros (amount 1 0 0 0 1) k l l′ (gave tt k′)
     unfolding zeroValue zeroFloat
-    zero-float e s p = meets-gave text (p .long) (adds-in text (adds-same (rw (type-is tree text (v .1) f ef, e, s)) p))
+    zero-float e s p = meets-gave (textsOf tree text) (p .long) (adds-in (textsOf tree text) (adds-same (rw (type-is tree text (v .1) f ef, e, s)) p))
 
-    pub zero-array : {k′ : Counters} → f ≡ 7 → length l′ ≡ length l → Emits (Ir.Zero (varOf v)) k l k′ l′ → Meets text zeros (amount 1 0 0 0 1) k l l′ (gave tt k′)
+    pub zero-array : {k′ : Counters} → f ≡ 7 → length l′ ≡ length l → Emits (Ir.Zero (varOf v)) k l k′ l′ → Meets (textsOf tree text) zeros (amount 1 0 0 0 1) k l l′ (gave tt k′)
     unfolding zeroValue
     zero-array e h p = emitted (rw (type-is tree text (v .1) f ef, e)) h p
 
     pub zero-other : {k′ : Counters} {o : Operand} → 1 ≤ f → (f ≡ 1 → ⊥) → (f ≡ 2 → ⊥) → (f ≡ 7 → ⊥) → (f ≡ 8 → ⊥) → o ≡ pick (ltb f 6) (Operand.Bool false) Operand.Null
-        → length l′ ≡ length l → Emits (Ir.Copy (varOf v) (operandOf o)) k l k′ l′ → Meets text zeros (amount 1 0 0 0 1) k l l′ (gave tt k′)
+        → length l′ ≡ length l → Emits (Ir.Copy (varOf v) (operandOf o)) k l k′ l′ → Meets (textsOf tree text) zeros (amount 1 0 0 0 1) k l l′ (gave tt k′)
     zero-other n₀ n₁ n₂ n₇ n₈ q h p = emitted (other-zero n₀ n₁ n₂ n₇ n₈ q) h p
 
 -- ---- the Declare r
@@ -296,7 +296,7 @@ module _ {tree text l s : List ℕ} {c : Converter} (p : Converting tree text l 
           → StatesAs declareSteps c r tree text l s (Stated.Refused z) l₁ s′
       unfolding convert-declare program
       declare-taken {z = z} q w =
-          let n : Meets text (declareSteps tree text s c r) (amount 0 0 0 0 0) (c .counters) l l₁ (refused z) =
+          let n : Meets (textsOf tree text) (declareSteps tree text s c r) (amount 0 0 0 0 0) (c .counters) l l₁ (refused z) =
           variable-not p long newly declare-few declare-type r declare-asked false s′ m r
           (λ (x : Ir.VarId) (S : Def.Scope). zeroValue (program tree text) (allKeys tree text) r x (typeAt tree text (wordOf tree r C)) >> pure S) q w in
           states-refused long (n .stops z refl) (taken-stays p (made .var) declare-few (var-typed p long newly declare-few declare-type) r declare-asked false s′ m q)
@@ -305,15 +305,15 @@ module _ {tree text l s : List ℕ} {c : Converter} (p : Converting tree text l 
       declare-types q u = declared-types p (made .var) declare-few (var-typed p long newly declare-few declare-type) r declare-asked false s′ m q u
 
       module _ {sc′ : Scope} (q : d ≡ Declared.Done sc′) {l₂ : List ℕ} (a : Finished)
-          (zero : (t : List ℕ) (F : Functions) → Meets t (zeroValue (program tree t) F r (varOf (made .var)) (typeAt tree t (made .var .1))) (amount 1 0 0 0 1) (made .counters) l₁ l₂ (finishedOf tt a)) where
-        zeroed : Meets text (zeroValue (program tree text) (allKeys tree text) r (varOf (made .var)) (typeAt tree text (wordOf tree r C))) (amount 1 0 0 0 1) (made .counters) l₁ l₂ (finishedOf tt a)
+          (zero : (t : List ℕ) (F : Functions) → Meets (textsOf tree t) (zeroValue (program tree t) F r (varOf (made .var)) (typeAt tree t (made .var .1))) (amount 1 0 0 0 1) (made .counters) l₁ l₂ (finishedOf tt a)) where
+        zeroed : Meets (textsOf tree text) (zeroValue (program tree text) (allKeys tree text) r (varOf (made .var)) (typeAt tree text (wordOf tree r C))) (amount 1 0 0 0 1) (made .counters) l₁ l₂ (finishedOf tt a)
         zeroed =
-            meets-same text (ap (λ (z : ℕ). zeroValue (program tree text) (allKeys tree text) r (varOf (made .var)) (typeAt tree text z)) (newly .typed))
+            meets-same (textsOf tree text) (ap (λ (z : ℕ). zeroValue (program tree text) (allKeys tree text) r (varOf (made .var)) (typeAt tree text z)) (newly .typed))
             (zero text (allKeys tree text))
 
         with-name : {n : Amount} {b : StepAnswer Def.Scope}
-            → Meets text (zeroValue (program tree text) (allKeys tree text) r (varOf (made .var)) (typeAt tree text (wordOf tree r C)) >> pure (scopeAt tree text s′ sc′)) n (made .counters) l₁ l₂ b
-            → Meets text (declareSteps tree text s c r) (both (amount 0 1 0 0 0) n) (c .counters) l l₂ b
+            → Meets (textsOf tree text) (zeroValue (program tree text) (allKeys tree text) r (varOf (made .var)) (typeAt tree text (wordOf tree r C)) >> pure (scopeAt tree text s′ sc′)) n (made .counters) l₁ l₂ b
+            → Meets (textsOf tree text) (declareSteps tree text s c r) (both (amount 0 1 0 0 0) n) (c .counters) l l₂ b
         unfolding convert-declare program
         with-name z =
             variable-then p long newly declare-few declare-type r declare-asked false s′ m r
@@ -324,14 +324,14 @@ module _ {tree text l s : List ℕ} {c : Converter} (p : Converting tree text l 
 
         pub declare-refused : {z : ConvertError} → a ≡ Finished.Refused z → StatesAs declareSteps c r tree text l s (Stated.Refused z) l₂ s′
         declare-refused {z = z} w =
-            let n = with-name {n = amount 0 0 0 0 0} (seq-not text (pure (scopeAt tree text s′ sc′)) (zeroed .long) (zeroed .stops z (ap (finishedOf tt) w))) in
+            let n = with-name {n = amount 0 0 0 0 0} (seq-not (textsOf tree text) (pure (scopeAt tree text s′ sc′)) (zeroed .long) (zeroed .stops z (ap (finishedOf tt) w))) in
             states-refused (n .long) (n .stops z refl) name-stayed
 
         pub declare-done : {k : Counters} → a ≡ Finished.Done k → StatesAs declareSteps c r tree text l s (Stated.Done sc′ k) l₂ s′
         declare-done {k = k} w =
             let z = zeroed .gives tt k (ap (finishedOf tt) w) in
-            let n = with-name (seq-then text (pure (scopeAt tree text s′ sc′)) (zeroed .long) z
-            (meets-gave text refl (adds-in text (adds-pure (scopeAt tree text s′ sc′) k l₂ (z .next .room))))) in
+            let n = with-name (seq-then (textsOf tree text) (pure (scopeAt tree text s′ sc′)) (zeroed .long) z
+            (meets-gave (textsOf tree text) refl (adds-in (textsOf tree text) (adds-pure (scopeAt tree text s′ sc′) k l₂ (z .next .room))))) in
             states-most (omega arith) (omega (arith, declare-one))
             (states-gave (n .long) (n .gives (scopeAt tree text s′ sc′) k refl)
             (declared-leaves p (made .var) declare-few (var-typed p long newly declare-few declare-type) r declare-asked false s′ m q) name-stayed)
@@ -350,7 +350,7 @@ module _ {tree text l s : List ℕ} {c : Converter} (p : Converting tree text l 
   outside-stops : {z : ConvertError} {steps : M Def.Scope} {kind : ConvertErrorKind} → steps ≡ fail kind r → z ≡ record { kind = kind; place = r }
       → States tree text steps (behindAmount (statementRecords (statementAt tree text r))) (statementRecords (statementAt tree text r)) c l s (Stated.Refused z) l s
   outside-stops {kind = kind} e w =
-      states-same (sym e) (states-refused refl (rw w (fail-stops text (c .counters) l kind r)) (stays-refl tree (c .scope .names) (c .operands) s))
+      states-same (sym e) (states-refused refl (rw w (fail-stops (textsOf tree text) (c .counters) l kind r)) (stays-refl tree (c .scope .names) (c .operands) s))
 
   jump-states : {k : Counters} {l′ : List ℕ} {steps : M Def.Scope} (n : LabelName) → steps ≡ Ir.label-id n >>= (λ (i : ℕ). Ir.emit (Ir.Jump i) >> pure scope)
       → Adds (emitJump n) (amount 1 0 1 0 0) (c .counters) l tt k l′
@@ -358,7 +358,7 @@ module _ {tree text l s : List ℕ} {c : Converter} (p : Converting tree text l 
   jump-states {k = k} {l′ = l′} n e a =
       let stays = stays-refl tree (c .scope .names) (c .operands) s in
       states-same (jumps-on n scope ∙ sym e)
-      (states-gave (a .long) (adds-in text (adds-most (adds-seq (pure scope) a (adds-pure scope k l′ (a .next .room))) (omega arith))) (leaves-same p stays) stays)
+      (states-gave (a .long) (adds-in (textsOf tree text) (adds-most (adds-seq (pure scope) a (adds-pure scope k l′ (a .next .room))) (omega arith))) (leaves-same p stays) stays)
 
   module _ (o : InLoop) (m : loopOf o ≡ loopNumber (c .scope .inner)) where
     loop-is : {x : Option ℕ} → loopOf o ≡ x → scope .inLoop ≡ x

@@ -45,7 +45,7 @@ use Rattle.expressions.proofs.SlotLaws.{scope-frame}
 use Rattle.expressions.proofs.TypingLaws.{type-ok, type-refused, expr-low, operand-expr}
 use Rattle.statements.specs.Lent.{Converter, Converted, Fitted}
 use Rattle.statements.specs.Converting.{Converting, withCounters, RoomFor, exprAmount, ExprAfforded, StaysFor}
-use Rattle.statements.specs.Meets.{Adds}
+use Rattle.statements.specs.Meets.{Adds, textsOf}
 use Rattle.statements.specs.Parts.{operandType, finishUnary, beginLogic, joinAnd, joinOr, endLogic, finishBinary}
 use Rattle.statements.specs.Answers.{Converts, FitAdds, OperandTyped, exprSteps, unarySteps, logicSteps, otherSteps, binarySteps, callSteps}
 use Rattle.statements.proofs.PartLaws.{unary-parts, and-parts, or-parts, other-parts}
@@ -127,7 +127,7 @@ module _ {tree text l s : List ℕ} {c : Converter} {e : ℕ} (p : Converting tr
       → Converts tree text (exprSteps tree text s c e) (exprAmount (under (exprAt tree text e))) c l s (Converted.Refused z) l s₁
   unfolding refusal
   stop-by f {z} q w = converts-same (sym q) (record {
-    meets = meets-lift-stop text f refl (type-refused (typeIn tree text S e) ty z (m .meets) w);
+    meets = meets-lift-stop (textsOf tree text) f refl (type-refused (typeIn tree text S e) ty z (m .meets) w);
     operand = λ o k h. let z : _≡_ {A = ℕ} 0 1 = cc in absurd (omega arith);
     stays = typed-stays;
     names = frame-names (m .frame);
@@ -154,7 +154,7 @@ module _ {tree text l s : List ℕ} {c : Converter} {e : ℕ} (p : Converting tr
   typed-by f {y} q w i =
       let i′ = converts-same (ap (λ (Z : Def.Scope). f Z y) same-scope) i in
       converts-same (sym q) (record {
-        meets = meets-lift text (f S) (p .room) (type-ok (typeIn tree text S e) ty y (m .meets) w) (i′ .meets);
+        meets = meets-lift (textsOf tree text) (f S) (p .room) (type-ok (typeIn tree text S e) ty y (m .meets) w) (i′ .meets);
         operand = i′ .operand;
         stays = stays-then (omega arith) (omega arith) typed-stays (i′ .stays);
         names = names-then (frame-names (m .frame)) (i′ .names);
@@ -284,7 +284,7 @@ module _ {tree text l s : List ℕ} {c : Converter} {e y : ℕ} (p : Converting 
       → Converts tree text (binarySteps tree text s c e y) (exprAmount (under (exprAt tree text e))) c l s (Converted.Refused z) l s₁
   unfolding convert-binary typeResult refusal
   fitted-stop {z} w = record {
-    meets = meets-lift-stop text by refl (common-err sides y (z .kind) (z .place) (m .meets ∙ ap typeResult w));
+    meets = meets-lift-stop (textsOf tree text) by refl (common-err sides y (z .kind) (z .place) (m .meets ∙ ap typeResult w));
     operand = λ o k h. let z : _≡_ {A = ℕ} 0 1 = cc in absurd (omega arith);
     stays = frame-stays (c .scope .names) (c .operands) (m .frame);
     names = frame-names (m .frame);
@@ -299,7 +299,7 @@ module _ {tree text l s : List ℕ} {c : Converter} {e y : ℕ} (p : Converting 
         let o = common-ok sides y q (m .meets ∙ ap typeResult w) in
         let i′ = converts-same (ap g (scope-frame tree s s₁ (m .frame) text (c .scope) (p .ready .scoped)) ∙ same (o .common) (o .fitted)) i in
         record {
-          meets = meets-lift text by (p .room) (o .is) (i′ .meets);
+          meets = meets-lift (textsOf tree text) by (p .room) (o .is) (i′ .meets);
           operand = i′ .operand;
           stays = stays-then (omega arith) (omega arith) (frame-stays (c .scope .names) (c .operands) (m .frame)) (i′ .stays);
           names = names-then (frame-names (m .frame)) (i′ .names);
@@ -405,7 +405,7 @@ module _ {tree text l s : List ℕ} {c : Converter} {e : ℕ} (p : Converting tr
   -- And and Or: the variable and its labels, the left side, what decides, the right side
   module _ (y : ℕ) {dest : VarId} {k₁ : Counters} {l₁ : List ℕ} (begun : Adds (beginLogic e y) (amount 0 1 2 0 0) (c .counters) l (varOf dest) k₁ l₁) where
     pub logic-converting : Converting tree text l₁ s (withCounters c k₁)
-    logic-converting = converting-next p (adds-in text begun .next) (stays-refl tree (c .scope .names) (c .operands) s)
+    logic-converting = converting-next p (adds-in (textsOf tree text) begun .next) (stays-refl tree (c .scope .names) (c .operands) s)
 
     pub logic-left-afforded : ExprAfforded tree text (withCounters c k₁) a
     logic-left-afforded = omega (arith, f, binary-under, under-a, begun .spent)
@@ -443,7 +443,7 @@ module _ {tree text l s : List ℕ} {c : Converter} {e : ℕ} (p : Converting tr
         module _ {k₃ : Counters} {l₃ : List ℕ}
             (j : Adds (pick (eqb (detailOf tree e) 1) (joinAnd e (varOf dest) (operandOf o)) (joinOr e (varOf dest) (operandOf o))) (amount 4 0 3 0 0) k₂ l₂ tt k₃ l₃) where
           pub logic-right-converting : Converting tree text l₃ s₂ (withCounters c k₃)
-          logic-right-converting = converting-next (converting-after m w logic-converting) (adds-in text j .next) (stays-refl tree (c .scope .names) (c .operands) s₂)
+          logic-right-converting = converting-next (converting-after m w logic-converting) (adds-in (textsOf tree text) j .next) (stays-refl tree (c .scope .names) (c .operands) s₂)
 
           pub logic-right-afforded : ExprAfforded tree text (withCounters c k₃) b
           logic-right-afforded = omega (arith, f, binary-under, under-a, under-b, begun .spent, converted-next m w .spent, j .spent)

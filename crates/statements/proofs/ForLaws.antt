@@ -58,7 +58,7 @@ use Rattle.expressions.specs.Answers.{refusal, outcomeOf, TypeMeets}
 use Rattle.expressions.proofs.SlotLaws.{scope-frame, frame-trans}
 use Rattle.expressions.proofs.TypingLaws.{type-ok, type-refused, is-typed, expr-low, place-is}
 use Rattle.statements.specs.Lent.{Converter, Stated, Finished, ForVariable}
-use Rattle.statements.specs.Meets.{StepAnswer, gave, AddsIn, Meets}
+use Rattle.statements.specs.Meets.{StepAnswer, gave, AddsIn, Meets, textsOf}
 use Rattle.statements.specs.Parts.{knownVariable, forVariable, forBounds, forBegin, forTest, forTurns, forHead}
 use Rattle.statements.specs.Converting.{Converting, withCounters, Afforded, BehindAfforded, forHeadAmount, Stays, StaysFor, NamesStay}
 use Rattle.statements.specs.Answers.{variableOf, Leaves, States, Finishes, FindsVariable, Checks, scopeIn, forVariableSteps, forBoundsSteps, forBeginSteps, forTestSteps, forTurnsSteps, forHeadSteps, boundsUnder}
@@ -207,10 +207,10 @@ variable-typed-none c {tree} {text} {s} f m x sc k q = stay-typed f text (scopeA
 
 module _ {tree text l l′ s s′ : List ℕ} {m : M (Ir.VarId × Def.Scope)} {c : Converter} where
   pub variable-gave : {v : VarId} {sc : Scope} {k : Counters} → length l′ ≡ length l
-      → AddsIn text m (amount 0 1 0 0 0) (c .counters) l (varOf v, scopeAt tree text s′ sc) k l′ → TypeAt tree (v .1) → Leaves tree text 1 c s′ sc
+      → AddsIn (textsOf tree text) m (amount 0 1 0 0 0) (c .counters) l (varOf v, scopeAt tree text s′ sc) k l′ → TypeAt tree (v .1) → Leaves tree text 1 c s′ sc
       → StaysFor tree c s s′ → FindsVariable tree text m c l s (ForVariable.Is v sc k) l′ s′
   variable-gave {v} {sc} long p t h stays = record {
-    meets = meets-gave text long p;
+    meets = meets-gave (textsOf tree text) long p;
     variable = λ v′ sc′ k′ e.
         let a : v ≡ v′ = cc in
         let b : sc ≡ sc′ = cc in
@@ -218,10 +218,10 @@ module _ {tree text l l′ s s′ : List ℕ} {m : M (Ir.VarId × Def.Scope)} {c
     stays = stays;
   }
 
-  pub variable-refused : {e : ConvertError} → length l′ ≡ length l → StopsIn text m (c .counters) l (e .kind) (e .place) → StaysFor tree c s s′
+  pub variable-refused : {e : ConvertError} → length l′ ≡ length l → StopsIn (textsOf tree text) m (c .counters) l (e .kind) (e .place) → StaysFor tree c s s′
       → FindsVariable tree text m c l s (ForVariable.Refused e) l′ s′
   variable-refused long p stays = record {
-    meets = meets-refused text long p;
+    meets = meets-refused (textsOf tree text) long p;
     variable = λ v sc k e. let z : _≡_ {A = ℕ} 0 1 = cc in absurd (omega arith);
     stays = stays;
   }
@@ -247,7 +247,7 @@ module _ {tree text l s : List ℕ} {c : Converter} (r : ℕ) {v : ℕ} (p : Con
 
   refuses : {d : ConvertErrorKind} {x : ConvertError} → forVariableSteps tree text s c r ≡ fail d r → x ≡ record { kind = d; place = r }
       → FindsVariable tree text (forVariableSteps tree text s c r) c l s (ForVariable.Refused x) l s
-  refuses e w = variable-refused refl (stop-of e (fails-as text w)) (stays-refl tree (c .scope .names) (c .operands) s)
+  refuses e w = variable-refused refl (stop-of e (fails-as (textsOf tree text) w)) (stays-refl tree (c .scope .names) (c .operands) s)
 
   pub known-not : {x : ConvertError} → a ≡ Known.Unknown → x ≡ record { kind = UnknownVariable; place = r }
       → FindsVariable tree text (forVariableSteps tree text s c r) c l s (ForVariable.Refused x) l s
@@ -271,7 +271,7 @@ module _ {tree text l s : List ℕ} {c : Converter} (r : ℕ) {v : ℕ} (p : Con
 
     pub known-is : b ≡ false → FindsVariable tree text (forVariableSteps tree text s c r) c l s (ForVariable.Is x (c .scope) (c .counters)) l s
     known-is h = variable-gave refl
-        (adds-in text (adds-same (sym (found-steps ∙ pick-no b (fail AssignToConstant r) (pure (varOf x, scopeIn tree text s c)) h))
+        (adds-in (textsOf tree text) (adds-same (sym (found-steps ∙ pick-no b (fail AssignToConstant r) (pure (varOf x, scopeIn tree text s c)) h))
         (adds-most (adds-pure (varOf x, scopeIn tree text s c) (c .counters) l (p .room)) (omega arith))))
         (found-typed p (textOf tree text v A) x b (met (Known.Is x b) q))
         (leaves-same p (stays-refl tree (c .scope .names) (c .operands) s)) (stays-refl tree (c .scope .names) (c .operands) s)
@@ -307,7 +307,7 @@ module _ {tree text l s : List ℕ} {c : Converter} {r v : ℕ} (p : Converting 
       pub for-taken : {e : ConvertError} → d ≡ Declared.Taken → e ≡ record { kind = AlreadyDeclared; place = r }
           → FindsVariable tree text (forVariableSteps tree text s c r) c l s (ForVariable.Refused e) l₁ s′
       for-taken q w = record {
-        meets = meets-same text declared-steps (variable-not p long new few typed v asked false s′ m r declared q w);
+        meets = meets-same (textsOf tree text) declared-steps (variable-not p long new few typed v asked false s′ m r declared q w);
         variable = λ x sc k e. let z : _≡_ {A = ℕ} 0 1 = cc in absurd (omega arith);
         stays = taken-stays p (made .var) few (var-typed p long new few typed) v asked false s′ m q;
       }
@@ -315,8 +315,8 @@ module _ {tree text l s : List ℕ} {c : Converter} {r v : ℕ} (p : Converting 
       pub for-done : {sc : Scope} → d ≡ Declared.Done sc
           → FindsVariable tree text (forVariableSteps tree text s c r) c l s (ForVariable.Is (made .var) sc (made .counters)) l₁ s′
       for-done {sc} q = variable-gave long
-          (meets-same text declared-steps (variable-then p long new few typed v asked false s′ m r declared q
-          (meets-gave text refl (adds-in text (adds-pure (varOf (made .var), scopeAt tree text s′ sc) (made .counters) l₁ (new .next .room)))))
+          (meets-same (textsOf tree text) declared-steps (variable-then p long new few typed v asked false s′ m r declared q
+          (meets-gave (textsOf tree text) refl (adds-in (textsOf tree text) (adds-pure (varOf (made .var), scopeAt tree text s′ sc) (made .counters) l₁ (new .next .room)))))
           .gives (varOf (made .var), scopeAt tree text s′ sc) (made .counters) refl)
           (var-typed p long new few typed) (declared-leaves p (made .var) few (var-typed p long new few typed) v asked false s′ m q)
           (declared-stays p (made .var) few (var-typed p long new few typed) v asked false s′ m q)
@@ -344,7 +344,7 @@ module _ {tree text l s : List ℕ} {c : Converter} (x : VarId) (r : ℕ) (p : C
       → Finishes tree text (forTurnsSteps tree text s c x r) tt n c l s (Finished.Refused e) l s
   unfolding forTurns program
   turns-not-int h w = finishes-refused refl
-      (stop-of (no-int (typeAt tree text (x .1)) (fail NotInteger r) marked (forms-are tree text (x .1) f ef .0 ∙ ne-eqb f 1 h)) (fails-as text w))
+      (stop-of (no-int (typeAt tree text (x .1)) (fail NotInteger r) marked (forms-are tree text (x .1) f ef .0 ∙ ne-eqb f 1 h)) (fails-as (textsOf tree text) w))
       (stays-refl tree (c .scope .names) (c .operands) s)
 
   module _ (i : f ≡ 1) {o : Outcome} {s₁ : List ℕ} (b : Checks tree (forBoundsSteps tree text s c r (x .1)) s o s₁) where
@@ -362,24 +362,24 @@ module _ {tree text l s : List ℕ} {c : Converter} (x : VarId) (r : ℕ) (p : C
     unfolding outcomeOf refusal
     turns-bounds-not {e = e} w = finishes-refused refl
         (stop-of (int-steps ∙ ap (λ (z : Outcome). lift (outcomeOf z) >> turns) w)
-        (stop-seq text turns (lift-stops text (outcomeOf (Outcome.Refused e)) (c .counters) l (e .kind) (e .place) refl))) bounds-stay
+        (stop-seq (textsOf tree text) turns (lift-stops (textsOf tree text) (outcomeOf (Outcome.Refused e)) (c .counters) l (e .kind) (e .place) refl))) bounds-stay
 
     module _ (d : o ≡ Outcome.Done) {n₁ : Amount} {a : Finished} {l₂ s₂ : List ℕ} (g : Finishes tree text (forBeginSteps tree text s₁ c x r) tt n₁ c l s₁ a l₂ s₂) where
       begin-scope : scopeIn tree text s₁ c ≡ scopeIn tree text s c
       begin-scope = scope-later p bounds-stay
 
-      from-begin : {n : Amount} {y : StepAnswer (Unit {0})} {l₃ : List ℕ} → Meets text (forBeginSteps tree text s₁ c x r >> forTestSteps tree text s c x r) n (c .counters) l l₃ y
-          → Meets text (forTurnsSteps tree text s c x r) n (c .counters) l l₃ y
+      from-begin : {n : Amount} {y : StepAnswer (Unit {0})} {l₃ : List ℕ} → Meets (textsOf tree text) (forBeginSteps tree text s₁ c x r >> forTestSteps tree text s c x r) n (c .counters) l l₃ y
+          → Meets (textsOf tree text) (forTurnsSteps tree text s c x r) n (c .counters) l l₃ y
       unfolding outcomeOf
       from-begin q =
-          meets-same text (sym (int-steps ∙ ap (λ (z : Outcome). lift (outcomeOf z) >> turns) d ∙ seq-is (lift (outcomeOf Outcome.Done)) turns))
-          (meets-lift text (λ (u : Unit {0}). turns) (p .room) refl
-          (meets-same text (ap (λ (S : Def.Scope). forBegin (program tree text) (allKeys tree text) r (varOf x) (bit 16 (detailOf tree (x .1))) (bit 32 (detailOf tree (x .1))) (exprAt tree text (wordOf tree r B)) S >> forTestSteps tree text s c x r) begin-scope) q))
+          meets-same (textsOf tree text) (sym (int-steps ∙ ap (λ (z : Outcome). lift (outcomeOf z) >> turns) d ∙ seq-is (lift (outcomeOf Outcome.Done)) turns))
+          (meets-lift (textsOf tree text) (λ (u : Unit {0}). turns) (p .room) refl
+          (meets-same (textsOf tree text) (ap (λ (S : Def.Scope). forBegin (program tree text) (allKeys tree text) r (varOf x) (bit 16 (detailOf tree (x .1))) (bit 32 (detailOf tree (x .1))) (exprAt tree text (wordOf tree r B)) S >> forTestSteps tree text s c x r) begin-scope) q))
 
       pub turns-begin-not : {n : Amount} {e : ConvertError} → a ≡ Finished.Refused e
           → Finishes tree text (forTurnsSteps tree text s c x r) tt n c l s (Finished.Refused e) l₂ s₂
       turns-begin-not w = record {
-        meets = from-begin (seq-not text (forTestSteps tree text s c x r) (g .meets .long) (finished-stop g w));
+        meets = from-begin (seq-not (textsOf tree text) (forTestSteps tree text s c x r) (g .meets .long) (finished-stop g w));
         stays = stays-then (omega arith) (omega arith) bounds-stay (g .stays);
       }
 
@@ -387,8 +387,8 @@ module _ {tree text l s : List ℕ} {c : Converter} (x : VarId) (r : ℕ) (p : C
           → Finishes tree text (forTestSteps tree text s₂ (withCounters c k) x r) tt n₂ (withCounters c k) l₂ s₂ y l₃ s₃
           → Finishes tree text (forTurnsSteps tree text s c x r) tt (both n₁ n₂) c l s y l₃ s₃
       turns-then w q = record {
-        meets = from-begin (seq-then text (forTestSteps tree text s c x r) (g .meets .long) (finished-next g w)
-            (meets-same text (ap (λ (S : Def.Scope). forTest (program tree text) (allKeys tree text) r (varOf x) (exprAt tree text (wordOf tree r C)) S)
+        meets = from-begin (seq-then (textsOf tree text) (forTestSteps tree text s c x r) (g .meets .long) (finished-next g w)
+            (meets-same (textsOf tree text) (ap (λ (S : Def.Scope). forTest (program tree text) (allKeys tree text) r (varOf x) (exprAt tree text (wordOf tree r C)) S)
             (scope-later (checks-converting p b) (g .stays) ∙ begin-scope)) (q .meets)));
         stays = stays-then (omega arith) (omega arith) bounds-stay (stays-then (omega arith) (omega arith) (g .stays) (q .stays));
       }
@@ -414,10 +414,10 @@ module _ {tree text l s l₁ s₁ : List ℕ} {c : Converter} (r : ℕ) (p : Con
 
   pub head-not : {n : Amount} {q : ℕ} {e : ConvertError} → a ≡ ForVariable.Refused e → States tree text (forHeadSteps tree text s c r) n q c l s (Stated.Refused e) l₁ s₁
   unfolding forHead
-  head-not {e = e} w = states-refused (m .meets .long) (stop-first text after (m .meets .stops e (ap (variableOf tree text s₁) w))) (m .stays)
+  head-not {e = e} w = states-refused (m .meets .long) (stop-first (textsOf tree text) after (m .meets .stops e (ap (variableOf tree text s₁) w))) (m .stays)
 
   module _ {x : VarId} {inner : Scope} {k : Counters} (w : a ≡ ForVariable.Is x inner k) where
-    head-adds : AddsIn text (forVariableSteps tree text s c r) (amount 0 1 0 0 0) (c .counters) l (varOf x, scopeAt tree text s₁ inner) k l₁
+    head-adds : AddsIn (textsOf tree text) (forVariableSteps tree text s c r) (amount 0 1 0 0 0) (c .counters) l (varOf x, scopeAt tree text s₁ inner) k l₁
     head-adds = m .meets .gives (varOf x, scopeAt tree text s₁ inner) k (ap (variableOf tree text s₁) w)
 
     pub head-asks : IsKind tree 21 r → BehindAfforded tree text c r
@@ -448,17 +448,17 @@ module _ {tree text l s l₁ s₁ : List ℕ} {c : Converter} (r : ℕ) (p : Con
       head-stays : StaysFor tree c s s₂
       head-stays = stays-then (omega arith) (omega arith) (m .stays) (t .stays)
 
-      head-scope : {y : StepAnswer Def.Scope} → Meets text (forTurnsSteps tree text s₁ (withCounters c k) x r >> pure (scopeAt tree text s₁ inner)) n k l₁ l₂ y
-          → Meets text (forHeadSteps tree text s c r) (both (amount 0 1 0 0 0) n) (c .counters) l l₂ y
+      head-scope : {y : StepAnswer Def.Scope} → Meets (textsOf tree text) (forTurnsSteps tree text s₁ (withCounters c k) x r >> pure (scopeAt tree text s₁ inner)) n k l₁ l₂ y
+          → Meets (textsOf tree text) (forHeadSteps tree text s c r) (both (amount 0 1 0 0 0) n) (c .counters) l l₂ y
       unfolding forHead
       head-scope q =
-          meets-then text after (m .meets .long) head-adds
-          (meets-same text (ap (λ (S : Def.Scope). forTurns (program tree text) (allKeys tree text) r (varOf x) (exprAt tree text (wordOf tree r B)) (exprAt tree text (wordOf tree r C)) S
+          meets-then (textsOf tree text) after (m .meets .long) head-adds
+          (meets-same (textsOf tree text) (ap (λ (S : Def.Scope). forTurns (program tree text) (allKeys tree text) r (varOf x) (exprAt tree text (wordOf tree r B)) (exprAt tree text (wordOf tree r C)) S
           >> pure (scopeAt tree text s₁ inner)) (scope-later p (m .stays))) q)
 
       pub head-turns-not : {e : ConvertError} → b ≡ Finished.Refused e
           → States tree text (forHeadSteps tree text s c r) (both (amount 0 1 0 0 0) n) 1 c l s (Stated.Refused e) l₂ s₂
-      head-turns-not d = states-stop (head-scope (seq-not text (pure (scopeAt tree text s₁ inner)) (t .meets .long) (finished-stop t d))) head-stays
+      head-turns-not d = states-stop (head-scope (seq-not (textsOf tree text) (pure (scopeAt tree text s₁ inner)) (t .meets .long) (finished-stop t d))) head-stays
 
       pub head-done : {k₁ : Counters} → b ≡ Finished.Done k₁ → NamesStay tree s₁ s₂
           → States tree text (forHeadSteps tree text s c r) (both (amount 0 1 0 0 0) n) 1 c l s (Stated.Done inner k₁) l₂ s₂
@@ -467,8 +467,8 @@ module _ {tree text l s l₁ s₁ : List ℕ} {c : Converter} (r : ℕ) (p : Con
           let names : Stays tree (inner .names) (c .operands) s₁ s₂ =
           stays-more (inner .names) (t .stays) q in
           states-gave (t .meets .long ∙ m .meets .long)
-          (head-scope (meets-most text (seq-then text (pure (scopeAt tree text s₁ inner)) (t .meets .long) (finished-next t d)
-          (meets-gave text refl (adds-in text (adds-pure (scopeAt tree text s₁ inner) k₁ l₂ (finished-next t d .next .room))))) (omega arith))
+          (head-scope (meets-most (textsOf tree text) (seq-then (textsOf tree text) (pure (scopeAt tree text s₁ inner)) (t .meets .long) (finished-next t d)
+          (meets-gave (textsOf tree text) refl (adds-in (textsOf tree text) (adds-pure (scopeAt tree text s₁ inner) k₁ l₂ (finished-next t d .next .room))))) (omega arith))
           .gives (scopeAt tree text s₂ inner) k₁ (ap (λ (S : Def.Scope). gave S k₁) (sym (scope-stays tree names text inner (h .ready .scoped) (omega arith)))))
           (record {
             ready = ready-stays tree names text inner (omega arith) (h .ready);

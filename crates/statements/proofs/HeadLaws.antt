@@ -37,7 +37,7 @@ use Rattle.ir.specs.Steps.{Emits, AddsVar, named}
 use Rattle.ir.proofs.StepLaws.{next-in}
 use Rattle.statements.specs.Lent.{Converter, Converted, Finished, Fitted}
 use Rattle.statements.specs.Converting.{Converting, withCounters, RoomFor, OperandIn, exprAmount, headAmount, turnsAmount, ExprAfforded, BehindAfforded, BoundAfforded}
-use Rattle.statements.specs.Meets.{Adds}
+use Rattle.statements.specs.Meets.{Adds, textsOf}
 use Rattle.statements.specs.Parts.{emitJump, jumpIfNot, placeLabel, copyFitted, countOn, testBound, ifHead, whileHead, forBegin, forTest, ifMiddle, loopBack}
 use Rattle.statements.specs.Answers.{FitAdds, Converts, Finishes, exprSteps, condSteps, ifHeadSteps, whileHeadSteps, forBeginSteps, forTestSteps}
 use Rattle.statements.specs.Turns.{TypesAt, TypedIn, ConvertsTyped}
@@ -165,12 +165,12 @@ module _ {tree text l l₁ s s₁ : List ℕ} {m : M Ir.Operand} {n₁ : Amount}
 
   pub operand-finishes : {n₂ : Amount} {o : Operand} {k k₂ : Counters} {l₂ : List ℕ} → a ≡ Converted.Is o k → Adds (f (operandOf o)) n₂ k l₁ x k₂ l₂
       → Most (both n₁ n₂) n → Finishes tree text (m >>= f) x n c l s (Finished.Done k₂) l₂ s₁
-  operand-finishes w g h = finishes-most h (record { meets = operand-then i f w (meets-gave text (g .long) (adds-in text g)); stays = i .stays })
+  operand-finishes w g h = finishes-most h (record { meets = operand-then i f w (meets-gave (textsOf tree text) (g .long) (adds-in (textsOf tree text) g)); stays = i .stays })
 
 -- a step that writes, and then the rest
 pub finishes-after : {X Y : Type 0} {tree text l l₁ l₂ s s′ : List ℕ} {m : M Y} {y : Y} {x : X} {n₁ n₂ : Amount} {c : Converter} {k : Counters} {a : Finished} (f : M X)
     → Adds m n₁ (c .counters) l y k l₁ → Finishes tree text f x n₂ (withCounters c k) l₁ s a l₂ s′ → Finishes tree text (m >> f) x (both n₁ n₂) c l s a l₂ s′
-finishes-after {text = text} f g q = record { meets = seq-then text f (g .long) (adds-in text g) (q .meets); stays = q .stays }
+finishes-after {tree = tree} {text = text} f g q = record { meets = seq-then (textsOf tree text) f (g .long) (adds-in (textsOf tree text) g) (q .meets); stays = q .stays }
 
 -- the condition or bound, by its word
 same-under : (tree text : List ℕ) {e w : ℕ} → e ≡ w → under (exprAt tree text e) ≡ under (exprAt tree text w)
@@ -229,7 +229,7 @@ module _ {tree text l l₀ s : List ℕ} {c : Converter} (r : ℕ) {e : ℕ} {k�
   while-cond-requires x =
       let d : Condition tree text r = while-condition p x in (
         (
-          converting-next p (next-in text (g₀ .next)) (stays-refl tree (c .scope .names) (c .operands) s),
+          converting-next p (next-in (textsOf tree text) (g₀ .next)) (stays-refl tree (c .scope .names) (c .operands) s),
           omega (arith, f, d .fewer, same-under tree text q, g₀ .spent),
         ),
         subst (λ (z : ℕ). IsExpr tree z) (sym q) (d .expression),

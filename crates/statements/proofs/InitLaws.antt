@@ -61,7 +61,7 @@ use Rattle.expressions.proofs.TypingLaws.{is-typed}
 use Rattle.expressions.proofs.TurnLaws.{typed-same}
 use Rattle.statements.specs.Lent.{Converter, Converted, Stated, Fitted}
 use Rattle.statements.specs.Converting.{Converting, withCounters, RoomFor, exprAmount, behindAmount, Afforded, ExprAfforded, BehindAfforded, StaysFor}
-use Rattle.statements.specs.Meets.{StepAnswer, Adds, Meets}
+use Rattle.statements.specs.Meets.{StepAnswer, Adds, Meets, textsOf}
 use Rattle.statements.specs.Parts.{copyFitted, declareInit}
 use Rattle.statements.specs.Answers.{FitAdds, Converts, StatesAs, DeclaresAs, exprSteps, initSteps, initNewSteps, assignSteps, assignToSteps, declareInitSteps}
 use Rattle.statements.specs.Turns.{InTurn, TypedIn, exprTypes, valueTypes, assignTypes, initTypes}
@@ -140,7 +140,7 @@ module _ {tree text l s : List ℕ} {c : Converter} {r : ℕ} (p : Converting tr
       ∙ ap (λ (z : ℕ). assignTo (program tree text) (allKeys tree text) r (exprAt tree text z) assigned (scopeAt tree text s (c .scope))) ee
 
   pub assign-stop : {z : ConvertError} → a ≡ Converted.Refused z → StatesAs (λ t u i k j. assignToSteps t u i k j v) c r tree text l s (Stated.Refused z) l₁ s₁
-  assign-stop q = states-stop (meets-same text assign-steps (operand-not m (λ src. typedThen (scopeAt tree text s (c .scope)) src) q)) (m .stays)
+  assign-stop q = states-stop (meets-same (textsOf tree text) assign-steps (operand-not m (λ src. typedThen (scopeAt tree text s (c .scope)) src) q)) (m .stays)
 
   -- in the turn, once the value is converted
   module _ (u : TypedIn tree text c s (exprTypes tree text e) s₁) where
@@ -165,11 +165,11 @@ module _ {tree text l s : List ℕ} {c : Converter} {r : ℕ} (p : Converting tr
       both-stay : StaysFor tree c s s₂
       both-stay = stays-then (omega arith) (omega arith) (m .stays) (type-stays further t)
 
-      value-then : {l′ : List ℕ} {b : StepAnswer Def.Scope} → Meets text (typedThen (scopeAt tree text s₁ (c .scope)) (operandOf o)) (amount 2 1 0 0 1) k l₁ l′ b
-          → Meets text (assignToSteps tree text s c r v) (behindAmount (statementRecords (statementAt tree text r))) (c .counters) l l′ b
+      value-then : {l′ : List ℕ} {b : StepAnswer Def.Scope} → Meets (textsOf tree text) (typedThen (scopeAt tree text s₁ (c .scope)) (operandOf o)) (amount 2 1 0 0 1) k l₁ l′ b
+          → Meets (textsOf tree text) (assignToSteps tree text s c r v) (behindAmount (statementRecords (statementAt tree text r))) (c .counters) l l′ b
       value-then i =
-          meets-same text assign-steps (meets-most text (operand-then m (λ src. typedThen (scopeAt tree text s (c .scope)) src) q
-          (meets-same text (ap (λ (S : Def.Scope). typedThen S (operandOf o)) (scope-later p (m .stays))) i)) (omega (arith, value-records (p .ready .keyed .good) x ee)))
+          meets-same (textsOf tree text) assign-steps (meets-most (textsOf tree text) (operand-then m (λ src. typedThen (scopeAt tree text s (c .scope)) src) q
+          (meets-same (textsOf tree text) (ap (λ (S : Def.Scope). typedThen S (operandOf o)) (scope-later p (m .stays))) i)) (omega (arith, value-records (p .ready .keyed .good) x ee)))
 
       pub assign-untyped : {z : ConvertError} → ty ≡ ExprType.Refused z → StatesAs (λ t u i k j. assignToSteps t u i k j v) c r tree text l s (Stated.Refused z) l₁ s₂
       assign-untyped w = states-stop (value-then (typed-not further t (λ y. checkedThen (operandOf o) y) w)) both-stay
@@ -179,15 +179,15 @@ module _ {tree text l s : List ℕ} {c : Converter} {r : ℕ} (p : Converting tr
         pub assign-unfit : {z : ConvertError} → g ≡ Outcome.Refused z → StatesAs (λ t u i k j. assignToSteps t u i k j v) c r tree text l s (Stated.Refused z) l₁ s₂
         assign-unfit d =
             states-stop (value-then (typed-then further t (λ y. checkedThen (operandOf o) y) w
-            (checked-not g h (copyFitted (program tree text) (varOf v) (operandOf o) >> pure (scopeAt tree text s (c .scope))) text d))) both-stay
+            (checked-not g h (copyFitted (program tree text) (varOf v) (operandOf o) >> pure (scopeAt tree text s (c .scope))) (textsOf tree text) d))) both-stay
 
         pub assign-done : {k₂ : Counters} {l₂ : List ℕ} → g ≡ Outcome.Done → Adds (copyFitted (program tree text) (varOf v) (operandOf o)) (amount 2 1 0 0 1) k l₁ tt k₂ l₂
             → StatesAs (λ t u i k j. assignToSteps t u i k j v) c r tree text l s (Stated.Done (c .scope) k₂) l₂ s₂
         assign-done {k₂ = k₂} {l₂ = l₂} d i =
             let S : Def.Scope = scopeAt tree text s (c .scope) in
             states-kept p both-stay (value-then (typed-then further t (λ y. checkedThen (operandOf o) y) w
-            (meets-most text (checked-then g h (copyFitted (program tree text) (varOf v) (operandOf o) >> pure S) text d (further .room)
-            (meets-gave text (i .long) (adds-in text (adds-seq (pure S) i (adds-pure S k₂ l₂ (i .next .room)))))) (omega arith))))
+            (meets-most (textsOf tree text) (checked-then g h (copyFitted (program tree text) (varOf v) (operandOf o) >> pure S) (textsOf tree text) d (further .room)
+            (meets-gave (textsOf tree text) (i .long) (adds-in (textsOf tree text) (adds-seq (pure S) i (adds-pure S k₂ l₂ (i .next .room)))))) (omega arith))))
 
 -- ---- a known name: refused where it is constant
 
@@ -196,8 +196,8 @@ module _ {tree text l s : List ℕ} {c : Converter} (r : ℕ) (v : VarId) {const
       → StatesAs (λ t u i k j. assignSteps t u i k j v constant) c r tree text l s (Stated.Refused z) l s
   unfolding convert-assign pick
   assign-constant {z} h w =
-      states-stop (meets-same text (ap (λ (b : Bool). assignSteps tree text s c r v b) (sym h))
-      (meets-refused text refl (fails-as text w))) (stays-refl tree (c .scope .names) (c .operands) s)
+      states-stop (meets-same (textsOf tree text) (ap (λ (b : Bool). assignSteps tree text s c r v b) (sym h))
+      (meets-refused (textsOf tree text) refl (fails-as (textsOf tree text) w))) (stays-refl tree (c .scope .names) (c .operands) s)
 
   pub assign-plain : {a : Stated} {l′ s′ : List ℕ} → constant ≡ false → StatesAs (λ t u i k j. assignToSteps t u i k j v) c r tree text l s a l′ s′
       → StatesAs (λ t u i k j. assignSteps t u i k j v constant) c r tree text l s a l′ s′
@@ -257,7 +257,7 @@ module _ {tree text l s : List ℕ} {c : Converter} {r y : ℕ} (p : Converting 
       pub new-taken : {e : ConvertError} → g ≡ Declared.Taken → e ≡ record { kind = AlreadyDeclared; place = r }
           → DeclaresAs (λ t u i k j. declareInitSteps t u i k j y src) c r tree text l s (Stated.Refused e) l₁ s′
       new-taken q w =
-          states-stop (meets-same text (declare-steps src ed) (variable-not p long new more-names new-type r (init-asked (p .ready) x) (eqb d 1) s′ m r (copied src) q w))
+          states-stop (meets-same (textsOf tree text) (declare-steps src ed) (variable-not p long new more-names new-type r (init-asked (p .ready) x) (eqb d 1) s′ m r (copied src) q w))
           (taken-stays p (made .var) more-names (var-typed p long new more-names new-type) r (init-asked (p .ready) x) (eqb d 1) s′ m q)
 
       pub new-types : {sc : Scope} → g ≡ Declared.Done sc → InTurn tree text s c → TypedIn tree text c s [] s′
@@ -268,8 +268,8 @@ module _ {tree text l s : List ℕ} {c : Converter} {r y : ℕ} (p : Converting 
       new-declared {sc} {k₂} {l₂} q h i =
           let at : TypeAt tree (made .var .1) = var-typed p long new more-names new-type in
           let S : Def.Scope = scopeAt tree text s′ sc in
-          states-done (meets-same text (declare-steps src ed) (meets-most text (variable-then p long new more-names new-type r (init-asked (p .ready) x) (eqb d 1) s′ m r (copied src) q
-          (meets-gave text h (adds-in text (adds-seq (pure S) (emit-adds h i) (adds-pure S k₂ l₂ (i .next .room)))))) (omega arith)))
+          states-done (meets-same (textsOf tree text) (declare-steps src ed) (meets-most (textsOf tree text) (variable-then p long new more-names new-type r (init-asked (p .ready) x) (eqb d 1) s′ m r (copied src) q
+          (meets-gave (textsOf tree text) h (adds-in (textsOf tree text) (adds-seq (pure S) (emit-adds h i) (adds-pure S k₂ l₂ (i .next .room)))))) (omega arith)))
           (declared-leaves p (made .var) more-names at r (init-asked (p .ready) x) (eqb d 1) s′ m q)
           (declared-stays p (made .var) more-names at r (init-asked (p .ready) x) (eqb d 1) s′ m q)
 
@@ -290,7 +290,7 @@ module _ {tree text l s : List ℕ} {c : Converter} {r : ℕ} (p : Converting tr
       ∙ ap (λ (z : ℕ). initNew (program tree text) (allKeys tree text) r (bit 1 (detailOf tree r)) (textOf tree text r A) (exprAt tree text z) (scopeAt tree text s (c .scope))) ee
 
   pub new-untyped : {z : ConvertError} → ty ≡ ExprType.Refused z → StatesAs initNewSteps c r tree text l s (Stated.Refused z) l s₁
-  new-untyped w = states-stop (meets-same text new-steps (typed-not p t (λ y. valued (scopeAt tree text s (c .scope)) y) w)) (type-stays p t)
+  new-untyped w = states-stop (meets-same (textsOf tree text) new-steps (typed-not p t (λ y. valued (scopeAt tree text s (c .scope)) y) w)) (type-stays p t)
 
   module _ {y : ℕ} (w : ty ≡ ExprType.Is y) {a : Converted} {l₁ s₂ : List ℕ}
       (m : Converts tree text (exprSteps tree text s₁ c e) (exprAmount (under (exprAt tree text e))) c l s₁ a l₁ s₂) where
@@ -300,11 +300,11 @@ module _ {tree text l s : List ℕ} {c : Converter} {r : ℕ} (p : Converting tr
     value-stays : StaysFor tree c s s₂
     value-stays = stays-then (omega arith) (omega arith) (type-stays p t) (m .stays)
 
-    typed-value : {n : Amount} {l′ : List ℕ} {b : StepAnswer Def.Scope} → Meets text (valued (scopeAt tree text s₁ (c .scope)) y) n (c .counters) l l′ b
-        → Meets text (initNewSteps tree text s c r) n (c .counters) l l′ b
+    typed-value : {n : Amount} {l′ : List ℕ} {b : StepAnswer Def.Scope} → Meets (textsOf tree text) (valued (scopeAt tree text s₁ (c .scope)) y) n (c .counters) l l′ b
+        → Meets (textsOf tree text) (initNewSteps tree text s c r) n (c .counters) l l′ b
     typed-value i =
-        meets-same text new-steps (typed-then p t (λ y. valued (scopeAt tree text s (c .scope)) y) w
-        (meets-same text (ap (λ (S : Def.Scope). valued S y) (scope-later p (type-stays p t))) i))
+        meets-same (textsOf tree text) new-steps (typed-then p t (λ y. valued (scopeAt tree text s (c .scope)) y) w
+        (meets-same (textsOf tree text) (ap (λ (S : Def.Scope). valued S y) (scope-later p (type-stays p t))) i))
 
     pub new-stop : {z : ConvertError} → a ≡ Converted.Refused z → StatesAs initNewSteps c r tree text l s (Stated.Refused z) l₁ s₂
     new-stop q = states-stop (typed-value (operand-not m (λ src. declared (scopeAt tree text s₁ (c .scope)) y src) q)) value-stays
@@ -330,8 +330,8 @@ module _ {tree text l s : List ℕ} {c : Converter} {r : ℕ} (p : Converting tr
       pub new-done : {b : Stated} {l₂ s₃ : List ℕ} → DeclaresAs (λ t u i k j. declareInitSteps t u i k j y o) (withCounters c k) r tree text l₁ s₂ b l₂ s₃
           → StatesAs initNewSteps c r tree text l s b l₂ s₃
       new-done i = record {
-        meets = meets-most text (typed-value (operand-then m (λ src. declared (scopeAt tree text s₁ (c .scope)) y src) q
-            (meets-same text (ap (λ (S : Def.Scope). declared S y (operandOf o)) (scope-later typed (m .stays))) (i .meets)))) (omega (arith, value-records (p .ready .keyed .good) x ee));
+        meets = meets-most (textsOf tree text) (typed-value (operand-then m (λ src. declared (scopeAt tree text s₁ (c .scope)) y src) q
+            (meets-same (textsOf tree text) (ap (λ (S : Def.Scope). declared S y (operandOf o)) (scope-later typed (m .stays))) (i .meets)))) (omega (arith, value-records (p .ready .keyed .good) x ee));
         leaves = λ sc k′ h.
             let g = i .leaves sc k′ h in
             record { ready = g .ready; function = g .function; inner = g .inner; least = g .least; most = omega (arith, g .most, value-records (p .ready .keyed .good) x ee) };

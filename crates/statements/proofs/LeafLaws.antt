@@ -15,7 +15,7 @@ use borrow.Author.Tests.{ltb-true, leb-true}
 use Rattle.laws.specs.Fix.{pick}
 use Rattle.laws.proofs.Tests.{and-left}
 use Rattle.records.specs.declared.convert_error.ConvertError.{ConvertError}
-use Rattle.records.specs.Words.{kindOf, detailOf, wordOf, textAt, A, B}
+use Rattle.records.specs.Words.{wordAt, kindOf, detailOf, wordOf, textAt, records, A, B}
 use Rattle.records.specs.Good.{Good}
 use Rattle.records.proofs.GoodLaws.{inside, float-detail, bool-detail, sizeOf-a}
 use Rattle.syntax.specs.Decode.{bit, wideOf, textOf, program}
@@ -26,6 +26,8 @@ use Rattle.conversion.specs.Ir as Ir
 use Rattle.conversion.specs.Ir.{OVar, OInt, OFloat, OBool, ODataAddress, M, _>>=_, pure, fail}
 use Rattle.conversion.specs.Scope.{find-variable}
 use Rattle.conversion.specs.Statements.{nameOperand, sizeOperand, convert-expr}
+use Rattle.texts.specs.Texts.{hasText, original, textNumber, originalAt}
+use Rattle.texts.proofs.TextLaws.{own-number, numbers-apart}
 use Rattle.types.specs.declared.size.Bytes.{Bytes}
 use Rattle.types.specs.declared.size.Bytes.the-variants as Bytes
 use Rattle.types.specs.Sizes.{exactSize, bytesFor, exactBytes, sizeAt}
@@ -35,11 +37,11 @@ use Rattle.ir.specs.declared.structs.Operand.{Operand}
 use Rattle.ir.specs.declared.structs.Operand.the-variants as Operand
 use Rattle.ir.specs.declared.floats.FloatBits.{FloatBits}
 use Rattle.ir.specs.declared.pool.PoolNumber.{PoolNumber}
-use Rattle.ir.specs.Arena.{Room}
+use Rattle.ir.specs.Arena.{NumberedTexts, TellsApart, Room}
 use Rattle.ir.specs.Amounts.{Amount, amount}
 use Rattle.ir.specs.Floats.{entry, entryOfFloat}
 use Rattle.ir.specs.Instructions.{operandOf}
-use Rattle.ir.specs.Steps.{entryOfString, NumbersString, NumbersFloat}
+use Rattle.ir.specs.Steps.{NumbersString, NumbersFloat}
 use Rattle.ir.proofs.StepCases.{next-of, stop-of}
 use Rattle.scope.specs.declared.Known.{Known}
 use Rattle.scope.specs.declared.Known.the-variants as Known
@@ -49,11 +51,11 @@ use Rattle.expressions.specs.Answers.{IsTyped}
 use Rattle.expressions.specs.declared.answers.ExprType.the-variants as ExprType
 use Rattle.expressions.specs.Slots.{Asked}
 use Rattle.expressions.proofs.LeafLaws as Typing
-use Rattle.expressions.proofs.OriginalLaws.{name-asked}
+use Rattle.expressions.proofs.OriginalLaws.{kind-has, name-asked, kind-asked, slot-inside}
 use Rattle.expressions.proofs.TypingLaws.{expr-low}
 use Rattle.statements.specs.Lent.{Converter, Converted, Fitted}
 use Rattle.statements.specs.Converting.{Converting, OperandIn, exprAmount}
-use Rattle.statements.specs.Meets.{AddsIn}
+use Rattle.statements.specs.Meets.{AddsIn, textsOf}
 use Rattle.statements.specs.Answers.{Converts, LeafAdds, exprSteps}
 use Rattle.statements.proofs.MeetLaws.{Most, adds-in, adds-in-then, adds-pure, meets-gave, meets-refused}
 use Rattle.statements.proofs.StayLaws.{stays-refl, names-refl}
@@ -76,8 +78,8 @@ int-is tree e m b em eb text = let z : detailOf tree e / 1 ≡ detailOf tree e =
 -- ---- answers that add nothing
 
 -- a step that is equal to one that is known
-pub adds-of : {A : Type 0} {text : List ℕ} {m m′ : M A} {n : Amount} {k k′ : Counters} {l l′ : List ℕ} {a : A}
-    → m′ ≡ m → AddsIn text m n k l a k′ l′ → AddsIn text m′ n k l a k′ l′
+pub adds-of : {A : Type 0} {texts : NumberedTexts} {m m′ : M A} {n : Amount} {k k′ : Counters} {l l′ : List ℕ} {a : A}
+    → m′ ≡ m → AddsIn texts m n k l a k′ l′ → AddsIn texts m′ n k l a k′ l′
 adds-of e p = record { next = next-of e (p .next); spent = p .spent }
 
 module _ (tree text l s : List ℕ) (c : Converter) (m : M Ir.Operand) where
@@ -85,7 +87,7 @@ module _ (tree text l s : List ℕ) (c : Converter) (m : M Ir.Operand) where
   pub gives-operand : (o : Operand) → Room (c .counters) l → m ≡ pure (operandOf o) → OperandIn tree (operandOf o)
       → Converts tree text m (amount 0 0 0 0 0) c l s (Converted.Is o (c .counters)) l s
   gives-operand o room e h = record {
-    meets = meets-gave text refl (adds-of e (adds-in text (adds-pure (operandOf o) (c .counters) l room)));
+    meets = meets-gave (textsOf tree text) refl (adds-of e (adds-in (textsOf tree text) (adds-pure (operandOf o) (c .counters) l room)));
     operand = λ o′ k q. let z : o ≡ o′ = cc in subst (λ (x : Operand). OperandIn tree (operandOf x)) z h;
     stays = stays-refl _ _ _ s;
     names = names-refl _ s;
@@ -95,7 +97,7 @@ module _ (tree text l s : List ℕ) (c : Converter) (m : M Ir.Operand) where
   pub refuses-operand : (kind : ConvertErrorKind) (place : ℕ) (x : ConvertError) → x ≡ record { kind = kind; place = place } → m ≡ fail kind place
       → Converts tree text m (amount 0 0 0 0 0) c l s (Converted.Refused x) l s
   refuses-operand kind place x q e = record {
-    meets = meets-refused text refl (stop-of e (fails-as text q));
+    meets = meets-refused (textsOf tree text) refl (stop-of e (fails-as (textsOf tree text) q));
     operand = λ o k z. let w : _≡_ {A = ℕ} 0 1 = cc in absurd (omega arith);
     stays = stays-refl _ _ _ s;
     names = names-refl _ s;
@@ -114,23 +116,42 @@ module _ (tree text : List ℕ) (e : ℕ) (k : Counters) (l l′ : List ℕ) (r 
       record {
         adds = λ S. adds-of
             (rw (expr-float tree text e (is .kind)) (ap (λ (x : Ir.FloatEntry). Ir.float-id x >>= (λ i. pure (OFloat i))) is-entry))
-            (adds-in-then text (λ i. pure (OFloat i)) (adds-in text (record { next = p .next; spent = p .spent; long = long }))
-            (adds-in text (adds-pure (OFloat (r .number)) (r .counters) l′ (p .next .room))));
+            (adds-in-then (textsOf tree text) (λ i. pure (OFloat i)) (adds-in (textsOf tree text) (record { next = p .next; spent = p .spent; long = long }))
+            (adds-in (textsOf tree text) (adds-pure (OFloat (r .number)) (r .counters) l′ (p .next .room))));
         operand = tt;
         long = long;
       }
 
-  pub string-leaf : IsKind tree 4 e → (a n : ℕ) → a ≡ wordOf tree e A → n ≡ wordOf tree e B → NumbersString text (entryOfString text a n) k l r l′
+  pub string-leaf : IsKind tree 4 e → (a n : ℕ) → a ≡ wordOf tree e A → n ≡ wordOf tree e B → (o : ℕ) → k .records ≡ records tree → o ≡ original tree text e
+      → NumbersString o a n k l r l′
       → LeafAdds tree text e (amount 0 0 0 1 0) k l (record { operand = Operand.DataAddress (r .number); counters = r .counters }) l′
-  unfolding convert-expr textOf OperandIn
-  string-leaf is a n ea en p = record {
-    adds = λ S. adds-of
-        (rw (expr-str tree text e (is .kind), ea, en))
-        (adds-in-then text (λ i. pure (ODataAddress i)) (record { next = p .next; spent = p .spent })
-        (adds-in text (adds-pure (ODataAddress (r .number)) (r .counters) l′ (p .next .room))));
-    operand = tt;
-    long = long;
-  }
+  unfolding convert-expr textOf OperandIn textsOf hasText
+  string-leaf is a n ea en o ek eo p =
+      let own : textNumber tree text (textAt text a n) ≡ o =
+      ap₂ (λ (y z : ℕ). textNumber tree text (textAt text y z)) ea en ∙ own-number tree text e (is .below) (kind-has tree 4 e refl (is .kind)) ∙ sym eo in
+      let next = p .next (textsOf tree text) (subst (λ (m : ℕ). TellsApart (textNumber tree text) m) (sym ek) (numbers-apart tree text)) own in
+      record {
+        adds = λ S. adds-of
+            (rw (expr-str tree text e (is .kind), ea, en))
+            (adds-in-then (textsOf tree text) (λ i. pure (ODataAddress i)) (record { next = next; spent = p .spent })
+            (adds-in (textsOf tree text) (adds-pure (ODataAddress (r .number)) (r .counters) l′ (next .room))));
+        operand = tt;
+        long = long;
+      }
+
+-- the number of its text, as it stands in scratch
+pub string-ready : {tree text l s : List ℕ} {c : Converter} {e : ℕ} → Converting tree text l s c → IsKind tree 4 e → Asked tree text s (c .scope) e
+unfolding hasText
+string-ready x is = kind-asked 4 refl (x .ready) is
+
+module _ {tree text l s : List ℕ} {c : Converter} {e : ℕ} (x : Converting tree text l s c) (is : IsKind tree 4 e) {o : ℕ} (eo : o ≡ wordAt s (originalAt (c .scope .records) e)) where
+  pub string-number : o ≡ original tree text e
+  string-number =
+      let q = string-ready x is in
+      eo ∙ ap (λ (n : ℕ). wordAt s (originalAt n e)) (q .scoped .records-are) ∙ q .numbered .number e (q .below) (q .has-text)
+
+  pub string-below : o < c .counters .records
+  string-below = let q = string-ready x is in omega (arith, slot-inside q eo, q .scoped .records-are, x .records-are)
 
 -- such a leaf as the answer
 pub leaf-answers : (tree text s : List ℕ) (c : Converter) (e : ℕ) (l l′ : List ℕ) (n n′ : Amount) (f : Fitted) (a : Converted)
@@ -138,7 +159,7 @@ pub leaf-answers : (tree text s : List ℕ) (c : Converter) (e : ℕ) (l l′ : 
     → Converts tree text (exprSteps tree text s c e) n′ c l s a l′ s
 leaf-answers tree text s c e l l′ n n′ f a p q h =
     subst (λ (x : Converted). Converts tree text (exprSteps tree text s c e) n′ c l s x l′ s) (sym q) (converts-most h (record {
-      meets = meets-gave text (p .long) (p .adds (scopeAt tree text s (c .scope)));
+      meets = meets-gave (textsOf tree text) (p .long) (p .adds (scopeAt tree text s (c .scope)));
       operand = λ o k z. let w : f .operand ≡ o = cc in subst (λ (x : Operand). OperandIn tree (operandOf x)) w (p .operand);
       stays = stays-refl _ _ _ s;
       names = names-refl _ s;

@@ -10,7 +10,7 @@ use Rattle.conversion.specs.ConvertError.{ConvertErrorKind, Result, ok, err}
 use Rattle.conversion.specs.Ir.{M, _>>=_, _>>_, pure, fail, lift}
 use Rattle.conversion.proofs.MonadLaws.{regroup, seq-is, pure-first}
 use Rattle.ir.specs.declared.structs.Counters.{Counters}
-use Rattle.ir.specs.Arena.{Room}
+use Rattle.ir.specs.Arena.{NumberedTexts, Room}
 use Rattle.ir.specs.Amounts.{Amount, amount, both, Spent}
 use Rattle.ir.specs.Steps.{Next, NextIn, StopsIn}
 use Rattle.ir.proofs.AmountLaws.{nothing-spent, both-spent}
@@ -32,8 +32,8 @@ spent-most p q = omega (arith, p, q)
 
 -- ---- one step after another that goes on
 
-pub adds-in : {A : Type 0} {m : M A} {n : Amount} {k k′ : Counters} {l l′ : List ℕ} {a : A} (text : List ℕ) → Adds m n k l a k′ l′ → AddsIn text m n k l a k′ l′
-adds-in text p = record { next = next-in text (p .next); spent = p .spent }
+pub adds-in : {A : Type 0} {m : M A} {n : Amount} {k k′ : Counters} {l l′ : List ℕ} {a : A} (texts : NumberedTexts) → Adds m n k l a k′ l′ → AddsIn texts m n k l a k′ l′
+adds-in texts p = record { next = next-in texts (p .next); spent = p .spent }
 
 module _ {A B : Type 0} {n₁ n₂ : Amount} {k k₁ k₂ : Counters} {l l₁ l₂ : List ℕ} {a : A} {b : B} {m : M A} where
   pub adds-then : (f : A → M B) → Adds m n₁ k l a k₁ l₁ → Adds (f a) n₂ k₁ l₁ b k₂ l₂ → Adds (m >>= f) (both n₁ n₂) k l b k₂ l₂
@@ -42,8 +42,8 @@ module _ {A B : Type 0} {n₁ n₂ : Amount} {k k₁ k₂ : Counters} {l l₁ l�
   pub adds-seq : (f : M B) → Adds m n₁ k l a k₁ l₁ → Adds f n₂ k₁ l₁ b k₂ l₂ → Adds (m >> f) (both n₁ n₂) k l b k₂ l₂
   adds-seq f p q = record { next = seq-next f (p .next) (q .next); spent = both-spent (p .spent) (q .spent); long = q .long ∙ p .long }
 
-  pub adds-in-then : (text : List ℕ) (f : A → M B) → AddsIn text m n₁ k l a k₁ l₁ → AddsIn text (f a) n₂ k₁ l₁ b k₂ l₂ → AddsIn text (m >>= f) (both n₁ n₂) k l b k₂ l₂
-  adds-in-then text f p q = record { next = then-in text f (p .next) (q .next); spent = both-spent (p .spent) (q .spent) }
+  pub adds-in-then : (texts : NumberedTexts) (f : A → M B) → AddsIn texts m n₁ k l a k₁ l₁ → AddsIn texts (f a) n₂ k₁ l₁ b k₂ l₂ → AddsIn texts (m >>= f) (both n₁ n₂) k l b k₂ l₂
+  adds-in-then texts f p q = record { next = then-in texts f (p .next) (q .next); spent = both-spent (p .spent) (q .spent) }
 
 pub adds-pure : {A : Type 0} (a : A) (k : Counters) (l : List ℕ) → Room k l → Adds (pure a) (amount 0 0 0 0 0) k l a k l
 adds-pure a k l room = record { next = pure-next a k l room; spent = nothing-spent; long = refl }
@@ -56,28 +56,28 @@ adds-same {n = n} {k = k} {k′ = k′} {l = l} {l′ = l′} {a = a} e p = subs
 
 -- ---- answers
 
-module _ {A : Type 0} {m : M A} {n : Amount} {k : Counters} {l l′ : List ℕ} (text : List ℕ) where
-  pub meets-gave : {x : A} {k′ : Counters} → length l′ ≡ length l → AddsIn text m n k l x k′ l′ → Meets text m n k l l′ (gave x k′)
+module _ {A : Type 0} {m : M A} {n : Amount} {k : Counters} {l l′ : List ℕ} (texts : NumberedTexts) where
+  pub meets-gave : {x : A} {k′ : Counters} → length l′ ≡ length l → AddsIn texts m n k l x k′ l′ → Meets texts m n k l l′ (gave x k′)
   meets-gave {x} {k′} e p = record {
     long = e;
     gives = λ y k″ q.
         let ey : x ≡ y = cc in
         let ek : k′ ≡ k″ = cc in
-        subst (λ (z : A). AddsIn text m n k l z k″ l′) ey (subst (λ (z : Counters). AddsIn text m n k l x z l′) ek p);
+        subst (λ (z : A). AddsIn texts m n k l z k″ l′) ey (subst (λ (z : Counters). AddsIn texts m n k l x z l′) ek p);
     stops = λ e′ q. let z : _≡_ {A = ℕ} 0 1 = cc in absurd (omega arith);
   }
 
-  pub meets-refused : {e : ConvertError} → length l′ ≡ length l → StopsIn text m k l (e .kind) (e .place) → Meets text m n k l l′ (refused e)
+  pub meets-refused : {e : ConvertError} → length l′ ≡ length l → StopsIn texts m k l (e .kind) (e .place) → Meets texts m n k l l′ (refused e)
   meets-refused {e} h p = record {
     long = h;
     gives = λ y k″ q. let z : _≡_ {A = ℕ} 0 1 = cc in absurd (omega arith);
-    stops = λ e′ q. let d : e ≡ e′ = cc in subst (λ (z : ConvertError). StopsIn text m k l (z .kind) (z .place)) d p;
+    stops = λ e′ q. let d : e ≡ e′ = cc in subst (λ (z : ConvertError). StopsIn texts m k l (z .kind) (z .place)) d p;
   }
 
-  pub meets-same : {m′ : M A} {a : StepAnswer A} → m ≡ m′ → Meets text m n k l l′ a → Meets text m′ n k l l′ a
-  meets-same {a = a} e p = subst (λ (x : M A). Meets text x n k l l′ a) e p
+  pub meets-same : {m′ : M A} {a : StepAnswer A} → m ≡ m′ → Meets texts m n k l l′ a → Meets texts m′ n k l l′ a
+  meets-same {a = a} e p = subst (λ (x : M A). Meets texts x n k l l′ a) e p
 
-  pub meets-most : {n′ : Amount} {a : StepAnswer A} → Meets text m n k l l′ a → Most n n′ → Meets text m n′ k l l′ a
+  pub meets-most : {n′ : Amount} {a : StepAnswer A} → Meets texts m n k l l′ a → Most n n′ → Meets texts m n′ k l l′ a
   meets-most p q = record {
     long = p .long;
     gives = λ x k′ e. record { next = p .gives x k′ e .next; spent = spent-most (p .gives x k′ e .spent) q };
@@ -85,30 +85,30 @@ module _ {A : Type 0} {m : M A} {n : Amount} {k : Counters} {l l′ : List ℕ} 
   }
 
 -- a step that goes on, then the rest
-pub meets-then : {A B : Type 0} {m : M A} {n₁ n₂ : Amount} {k k₁ : Counters} {l l₁ l₂ : List ℕ} {x : A} {a : StepAnswer B} (text : List ℕ) (f : A → M B)
-    → length l₁ ≡ length l → AddsIn text m n₁ k l x k₁ l₁ → Meets text (f x) n₂ k₁ l₁ l₂ a → Meets text (m >>= f) (both n₁ n₂) k l l₂ a
-meets-then text f h p q = record {
+pub meets-then : {A B : Type 0} {m : M A} {n₁ n₂ : Amount} {k k₁ : Counters} {l l₁ l₂ : List ℕ} {x : A} {a : StepAnswer B} (texts : NumberedTexts) (f : A → M B)
+    → length l₁ ≡ length l → AddsIn texts m n₁ k l x k₁ l₁ → Meets texts (f x) n₂ k₁ l₁ l₂ a → Meets texts (m >>= f) (both n₁ n₂) k l l₂ a
+meets-then texts f h p q = record {
   long = q .long ∙ h;
-  gives = λ y k′ e. adds-in-then text f p (q .gives y k′ e);
-  stops = λ e d. then-stop text f (p .next) (q .stops e d);
+  gives = λ y k′ e. adds-in-then texts f p (q .gives y k′ e);
+  stops = λ e d. then-stop texts f (p .next) (q .stops e d);
 }
 
 -- a step that stops
-pub meets-stop : {A B : Type 0} {m : M A} {n : Amount} {k : Counters} {l l′ : List ℕ} {e : ConvertError} (text : List ℕ) (f : A → M B)
-    → length l′ ≡ length l → StopsIn text m k l (e .kind) (e .place) → Meets text (m >>= f) n k l l′ (refused e)
-meets-stop text f h p = meets-refused text h (stop-first text f p)
+pub meets-stop : {A B : Type 0} {m : M A} {n : Amount} {k : Counters} {l l′ : List ℕ} {e : ConvertError} (texts : NumberedTexts) (f : A → M B)
+    → length l′ ≡ length l → StopsIn texts m k l (e .kind) (e .place) → Meets texts (m >>= f) n k l l′ (refused e)
+meets-stop texts f h p = meets-refused texts h (stop-first texts f p)
 
 -- what changes nothing but may fail: typing
-pub meets-lift : {A B : Type 0} {x : Result A} {y : A} {n : Amount} {k : Counters} {l l′ : List ℕ} {a : StepAnswer B} (text : List ℕ) (f : A → M B)
-    → Room k l → x ≡ ok y → Meets text (f y) n k l l′ a → Meets text (lift x >>= f) n k l l′ a
-meets-lift {x = x} {y = y} {k = k} {l = l} text f room e q =
-    meets-most text (meets-then text f refl (record { next = next-in text (lift-next x y k l e room); spent = nothing-spent }) q) (omega arith)
+pub meets-lift : {A B : Type 0} {x : Result A} {y : A} {n : Amount} {k : Counters} {l l′ : List ℕ} {a : StepAnswer B} (texts : NumberedTexts) (f : A → M B)
+    → Room k l → x ≡ ok y → Meets texts (f y) n k l l′ a → Meets texts (lift x >>= f) n k l l′ a
+meets-lift {x = x} {y = y} {k = k} {l = l} texts f room e q =
+    meets-most texts (meets-then texts f refl (record { next = next-in texts (lift-next x y k l e room); spent = nothing-spent }) q) (omega arith)
 
-pub meets-lift-stop : {A B : Type 0} {x : Result A} {n : Amount} {k : Counters} {l l′ : List ℕ} {e : ConvertError} (text : List ℕ) (f : A → M B)
-    → length l′ ≡ length l → x ≡ err (e .kind) (e .place) → Meets text (lift x >>= f) n k l l′ (refused e)
-meets-lift-stop {x = x} {k = k} {l = l} {e = e} text f h q = meets-stop text f h (lift-stops text x k l (e .kind) (e .place) q)
+pub meets-lift-stop : {A B : Type 0} {x : Result A} {n : Amount} {k : Counters} {l l′ : List ℕ} {e : ConvertError} (texts : NumberedTexts) (f : A → M B)
+    → length l′ ≡ length l → x ≡ err (e .kind) (e .place) → Meets texts (lift x >>= f) n k l l′ (refused e)
+meets-lift-stop {x = x} {k = k} {l = l} {e = e} texts f h q = meets-stop texts f h (lift-stops texts x k l (e .kind) (e .place) q)
 
 -- a result that is dropped: `m` and then the rest, where `m` was met without its result
-pub meets-drop : {A B : Type 0} {n₁ n₂ : Amount} {k k₁ : Counters} {l l₁ l₂ : List ℕ} {a : StepAnswer B} (text : List ℕ) (m : M A) (f : M B)
-    → length l₁ ≡ length l → AddsIn text (m >> pure (tt {0})) n₁ k l tt k₁ l₁ → Meets text f n₂ k₁ l₁ l₂ a → Meets text (m >> f) (both n₁ n₂) k l l₂ a
-meets-drop text m f h p q = meets-same text (simp (seq-is, regroup, pure-first)) (meets-then text (λ (x : Unit {0}). f) h p q)
+pub meets-drop : {A B : Type 0} {n₁ n₂ : Amount} {k k₁ : Counters} {l l₁ l₂ : List ℕ} {a : StepAnswer B} (texts : NumberedTexts) (m : M A) (f : M B)
+    → length l₁ ≡ length l → AddsIn texts (m >> pure (tt {0})) n₁ k l tt k₁ l₁ → Meets texts f n₂ k₁ l₁ l₂ a → Meets texts (m >> f) (both n₁ n₂) k l l₂ a
+meets-drop texts m f h p q = meets-same texts (simp (seq-is, regroup, pure-first)) (meets-then texts (λ (x : Unit {0}). f) h p q)

@@ -53,7 +53,7 @@ use Rattle.expressions.proofs.SlotLaws.{scope-frame}
 use Rattle.expressions.proofs.TypingLaws.{expr-low, place-is}
 use Rattle.statements.specs.Lent.{Converter, Converted, ConvertedArgs, Stated, Fitted}
 use Rattle.statements.specs.Stack.{stackAt}
-use Rattle.statements.specs.Meets.{Adds, AddsIn}
+use Rattle.statements.specs.Meets.{Adds, AddsIn, textsOf}
 use Rattle.statements.specs.Parts.{passArgs}
 use Rattle.statements.specs.Converting.{Converting, withCounters, RoomFor, Afforded, ExprAfforded, ArgsAfforded, BehindAfforded, exprAmount, argsAmount, behindAmount, StackIn, StaysFor}
 use Rattle.statements.specs.Answers.{convertedArgsOf, Converts, ConvertsArgs, States, FitAdds, ConvertsAs, StatesAs, CallOnlyAs, exprSteps, condSteps, argsSteps, returnSteps, returnAsSteps, callStatementSteps, callOnlySteps}
@@ -87,8 +87,8 @@ module _ {tree text l s : List ℕ} {c : Converter} {e : ℕ} (p : Converting tr
     unfolding convert-cond
     cond-other n q = record {
       meets = typed-then p t condition w
-          (meets-same text (sym (pick-no (eqb y boolType) (exprSteps tree text s c e) (fail NotBool (place (exprAt tree text e))) (ne-eqb y boolType n)
-          ∙ ap (λ (i : ℕ). fail {A = Ir.Operand} NotBool i) (place-is tree text (p .ready .keyed .good) e x))) (meets-refused text refl (fails-as text q)));
+          (meets-same (textsOf tree text) (sym (pick-no (eqb y boolType) (exprSteps tree text s c e) (fail NotBool (place (exprAt tree text e))) (ne-eqb y boolType n)
+          ∙ ap (λ (i : ℕ). fail {A = Ir.Operand} NotBool i) (place-is tree text (p .ready .keyed .good) e x))) (meets-refused (textsOf tree text) refl (fails-as (textsOf tree text) q)));
       operand = λ o k h. let z : _≡_ {A = ℕ} 0 1 = cc in absurd (omega arith);
       stays = type-stays p t;
       names = frame-names (t .frame);
@@ -101,7 +101,7 @@ module _ {tree text l s : List ℕ} {c : Converter} {e : ℕ} (p : Converting tr
         let i′ = converts-same (ap (λ (S : Def.Scope). convert-expr (program tree text) (allKeys tree text) (exprAt tree text e) S) (scope-later p (type-stays p t))) i in
         record {
           meets = typed-then p t condition w
-              (meets-same text (sym (pick-yes (eqb y boolType) (exprSteps tree text s c e) (fail NotBool (place (exprAt tree text e))) (eq-eqb y boolType q))) (i′ .meets));
+              (meets-same (textsOf tree text) (sym (pick-yes (eqb y boolType) (exprSteps tree text s c e) (fail NotBool (place (exprAt tree text e))) (eq-eqb y boolType q))) (i′ .meets));
           operand = i′ .operand;
           stays = stays-then (omega arith) (omega arith) (type-stays p t) (i′ .stays);
           names = names-then (frame-names (t .frame)) (i′ .names);
@@ -193,13 +193,13 @@ module _ {tree text l s : List ℕ} {c : Converter} {r e : ℕ} (p : Converting 
     module _ (o : Outcome) (q : fitsIn ≡ lift (outcomeOf o)) where
       pub return-unfit : {z : ConvertError} → o ≡ Outcome.Refused z → StatesAs (λ t x s k q. returnAsSteps t x s k q y expected) c r tree text l s (Stated.Refused z) l s
       unfolding returnAs
-      return-unfit w = as-return (amount 0 0 0 0 0) (omega arith) (states-stop (checked-not o q valued text w) (stays-refl tree (c .scope .names) (c .operands) s))
+      return-unfit w = as-return (amount 0 0 0 0 0) (omega arith) (states-stop (checked-not o q valued (textsOf tree text) w) (stays-refl tree (c .scope .names) (c .operands) s))
 
       module _ (fine : o ≡ Outcome.Done) {v : Converted} {l₁ s₁ : List ℕ}
           (m : Converts tree text (exprSteps tree text s c e) (exprAmount (under (exprAt tree text e))) c l s v l₁ s₁) where
         pub return-stop : {z : ConvertError} → v ≡ Converted.Refused z → StatesAs (λ t x s k q. returnAsSteps t x s k q y expected) c r tree text l s (Stated.Refused z) l₁ s₁
         unfolding returnAs
-        return-stop w = as-return (amount 0 0 0 0 0) (omega arith) (states-stop (checked-then o q valued text fine (p .room) (operand-not m fitted w)) (m .stays))
+        return-stop w = as-return (amount 0 0 0 0 0) (omega arith) (states-stop (checked-then o q valued (textsOf tree text) fine (p .room) (operand-not m fitted w)) (m .stays))
 
         pub return-done : {a : Operand} {k k₃ : Counters} {g : Fitted} {l₂ l₃ : List ℕ} → v ≡ Converted.Is a k
             → FitAdds tree (fit-operand (program tree text) (operandOf a) expected) (amount 1 1 0 0 1) k l₁ g l₂
@@ -211,7 +211,7 @@ module _ {tree text l s : List ℕ} {c : Converter} {r e : ℕ} (p : Converting 
             let last = adds-then ended (i .adds) (adds-seq (pure S) (emit-adds h j) (adds-pure S k₃ l₃ (j .next .room))) in
             let u = under (exprAt tree text e) in
             as-return (both (exprAmount u) (both (amount 1 1 0 0 1) (both (amount 1 0 0 0 0) (amount 0 0 0 0 0)))) (omega arith)
-            (states-kept p (m .stays) (checked-then o q valued text fine (p .room) (operand-then m fitted w (meets-gave text (last .long) (adds-in text last)))))
+            (states-kept p (m .stays) (checked-then o q valued (textsOf tree text) fine (p .room) (operand-then m fitted w (meets-gave (textsOf tree text) (last .long) (adds-in (textsOf tree text) last)))))
 
 -- its value is typed in the turn as it is converted
 pub return-types : {tree text s s′ : List ℕ} (c : Converter) (r : ℕ) {e : ℕ} → e ≡ wordOf tree r A → TypedIn tree text c s (exprTypes tree text e) s′ → TypedIn tree text c s (returnAsTypes tree text r) s′
@@ -253,7 +253,7 @@ module _ {tree text l s : List ℕ} {c : Converter} {r e : ℕ} (p : Converting 
       return-none q h = typed-states p typed byFunction w
           (states-same (ap (λ (o : Option ℕ). returnAs (program tree text) (allKeys tree text) r (exprAt tree text (wordOf tree r A)) y (scopeAt tree text s₁ (c .scope)) o)
           (sym (function-type s₁ ∙ pick-yes (eqb expected none) nothing (some expected) (eq-eqb expected none q))))
-          (states-stop (meets-refused text refl (fails-as text h)) (stays-refl tree (c .scope .names) (c .operands) s₁)))
+          (states-stop (meets-refused (textsOf tree text) refl (fails-as (textsOf tree text) h)) (stays-refl tree (c .scope .names) (c .operands) s₁)))
 
       pub return-some : {a : Stated} {l₁ s₂ : List ℕ} → (expected ≡ none → ⊥)
           → StatesAs (λ t x s k q. returnAsSteps t x s k q y expected) c r tree text l s₁ a l₁ s₂ → StatesAs returnSteps c r tree text l s a l₁ s₂
@@ -287,10 +287,10 @@ module _ {tree text l s : List ℕ} {c : Converter} {e : ℕ} (p : Converting tr
       passed os = callFunction (program tree text) (allKeys tree text) nothing (functionOf tree text g) values os >> pure (scopeAt tree text s (c .scope))
 
       pub values-stop : {z : ConvertError} → a ≡ ConvertedArgs.Refused z → CallOnlyAs (λ t x s k q. callOnlySteps t x s k q g) c e tree text l s (Stated.Refused z) l₁ s₁
-      values-stop {z = z} w = states-stop (meets-stop text passed (m .meets .long) (m .meets .stops z (ap (convertedArgsOf s₁ (records tree) (c .operands)) w))) (m .stays)
+      values-stop {z = z} w = states-stop (meets-stop (textsOf tree text) passed (m .meets .long) (m .meets .stops z (ap (convertedArgsOf s₁ (records tree) (c .operands)) w))) (m .stays)
 
     module _ {count : ℕ} {k : Counters} (w : a ≡ ConvertedArgs.Done count k) where
-      computed : AddsIn text (argsSteps tree text s c (wordOf tree e C)) (argsAmount (argsUnder values) (argsValues values)) (c .counters) l (stackAt s₁ (records tree) (c .operands) count) k l₁
+      computed : AddsIn (textsOf tree text) (argsSteps tree text s c (wordOf tree e C)) (argsAmount (argsUnder values) (argsValues values)) (c .counters) l (stackAt s₁ (records tree) (c .operands) count) k l₁
       computed = m .meets .gives (stackAt s₁ (records tree) (c .operands) count) k (ap (convertedArgsOf s₁ (records tree) (c .operands)) w)
 
       pub values-converting : Converting tree text l₁ s₁ (withCounters c k)
@@ -322,7 +322,7 @@ module _ {tree text l s : List ℕ} {c : Converter} {e : ℕ} (p : Converting tr
           let last = adds-same (call-parts (program tree text) (allKeys tree text) F values os S)
           (adds-seq (pure S) (adds-seq (emit (Call nothing (F .recOf))) i j′) (adds-pure S k₂ l₃ (j .next .room))) in
           states-kept p (stays-then (omega arith) (omega arith) (m .stays) st)
-          (meets-most text (meets-then text (passed g) (m .meets .long) computed (meets-gave text (last .long) (adds-in text last)))
+          (meets-most (textsOf tree text) (meets-then (textsOf tree text) (passed g) (m .meets .long) computed (meets-gave (textsOf tree text) (last .long) (adds-in (textsOf tree text) last)))
           (omega (arith, values-under, args-count values, m .operands count k w .0)))
 
 -- ---- a call statement
@@ -361,14 +361,14 @@ module _ {tree text l s : List ℕ} {c : Converter} {r e : ℕ} (p : Converting 
     pub resolved-stop : {z : ConvertError} → callee ≡ Resolved.Refused z → StatesAs callStatementSteps c r tree text l s (Stated.Refused z) l s₁
     unfolding calleeOf refusal
     resolved-stop w = states-same is-called
-        (states-stop (meets-lift-stop text (called (scopeAt tree text s (c .scope))) refl (m .meets ∙ ap (calleeOf tree text) w)) resolved-stays)
+        (states-stop (meets-lift-stop (textsOf tree text) (called (scopeAt tree text s (c .scope))) refl (m .meets ∙ ap (calleeOf tree text) w)) resolved-stays)
 
     pub resolved-cast : {to : ℕ} {z : ConvertError} → callee ≡ Resolved.Cast to → z ≡ record { kind = WouldPanic; place = r }
         → StatesAs callStatementSteps c r tree text l s (Stated.Refused z) l s₁
     unfolding calleeOf callStatement
     resolved-cast w q = states-same is-called
-        (states-stop (meets-lift text (called (scopeAt tree text s (c .scope))) (p .room) (m .meets ∙ ap (calleeOf tree text) w)
-        (seq-not {X = Unit {0}} text (pure (scopeAt tree text s (c .scope))) refl (fails-as text q))) resolved-stays)
+        (states-stop (meets-lift (textsOf tree text) (called (scopeAt tree text s (c .scope))) (p .room) (m .meets ∙ ap (calleeOf tree text) w)
+        (seq-not {X = Unit {0}} text (pure (scopeAt tree text s (c .scope))) refl (fails-as (textsOf tree text) q))) resolved-stays)
 
     function-parts : (S : Def.Scope) (g : ℕ) → only S g ≡ called S (CallFunction (functionOf tree text g))
     unfolding callStatement
@@ -382,7 +382,7 @@ module _ {tree text l s : List ℕ} {c : Converter} {r e : ℕ} (p : Converting 
         let i′ = states-most {n′ = behindAmount (statementRecords (statementAt tree text r))} {q′ = statementRecords (statementAt tree text r)} (omega (arith, called-records good ee x)) (omega arith)
         (states-same (ap (λ (Z : Def.Scope). only Z g) (scope-frame tree s s₁ (m .frame) text (c .scope) (p .ready .scoped)) ∙ function-parts S g) i) in
         states-same is-called (record {
-          meets = meets-lift text (called S) (p .room) (m .meets ∙ ap (calleeOf tree text) w) (i′ .meets);
+          meets = meets-lift (textsOf tree text) (called S) (p .room) (m .meets ∙ ap (calleeOf tree text) w) (i′ .meets);
           leaves = i′ .leaves;
           stays = stays-then (omega arith) (omega arith) resolved-stays (i′ .stays);
         })
@@ -437,7 +437,7 @@ module _ {tree text l s : List ℕ} {c : Converter} {r e : ℕ} (p : Converting 
     typed-only {y = y} w =
         let S = scopeAt tree text s (c .scope) in
         let done = adds-pure S (c .counters) l (p .room) in
-        states-most {q = 0} (omega arith) (omega arith) (states-same never-run (states-kept p (type-stays p t) (typed-then p t (dropped S) w (meets-gave text (done .long) (adds-in text done)))))
+        states-most {q = 0} (omega arith) (omega arith) (states-same never-run (states-kept p (type-stays p t) (typed-then p t (dropped S) w (meets-gave (textsOf tree text) (done .long) (adds-in (textsOf tree text) done)))))
 
     none-types : ownTypes tree text r ≡ exprs (exprAt tree text e)
     unfolding typedOwn

@@ -32,6 +32,7 @@ use Rattle.expressions.proofs.SlotLaws.{original-frame, ready-frame}
 use Rattle.statements.specs.Lent.{Converter}
 use Rattle.statements.specs.Stack.{stackEntryAt, operandFrom, operandAt, stackAt}
 use Rattle.statements.specs.Converting.{LoopIn, Converting, withCounters, Stays, StaysFor, NamesStay}
+use Rattle.statements.specs.Meets.{textsOf}
 
 -- ---- one writer after another
 
@@ -205,7 +206,7 @@ loop-outside tree w e r q =
 -- ---- further on in the tables, with what stays
 
 pub converting-next : {A : Type 0} {tree text l s l′ s′ : List ℕ} {c : Converter} {k : Counters} {m : M A} {a : A}
-    → Converting tree text l s c → NextIn text m (c .counters) l a k l′ → StaysFor tree c s s′ → Converting tree text l′ s′ (withCounters c k)
+    → Converting tree text l s c → NextIn (textsOf tree text) m (c .counters) l a k l′ → StaysFor tree c s s′ → Converting tree text l′ s′ (withCounters c k)
 converting-next {tree = tree} {text = text} {c = c} p q f = record {
   ready = ready-stays tree f text (c .scope) (omega arith) (p .ready);
   function = p .function;

@@ -37,7 +37,7 @@ use Rattle.expressions.specs.declared.answers.Resolved.{Resolved}
 use Rattle.expressions.specs.Answers.{IsTyped, typeResult, outcomeOf, calleeOf}
 use Rattle.statements.specs.Lent.{Converter, Converted, ConvertedArgs, Stated, Finished, ForVariable, Fitted}
 use Rattle.statements.specs.declared.answers.AtValue.{AtValue}
-use Rattle.statements.specs.Meets.{StepAnswer, gave, refused, Adds, AddsIn, Meets}
+use Rattle.statements.specs.Meets.{StepAnswer, gave, refused, Adds, AddsIn, Meets, textsOf}
 use Rattle.statements.specs.Parts.{operandType, joinAnd, joinOr, finishBinary, countOn, ifHead, whileHead, forVariable, forBounds, forBegin, forTest, forTurns, forHead, declareInit, passArgs, finishCall}
 use Rattle.statements.specs.Stack.{stackAt}
 use Rattle.syntax.specs.Count.{under, statementRecords, blockRecords, argsUnder, argsValues}
@@ -76,14 +76,14 @@ variableOf tree text s (ForVariable.Refused e) = refused e
 
 -- an expression or a part of one
 pub record Converts (tree text : List ℕ) (m : M Ir.Operand) (n : Amount) (c : Converter) (l s : List ℕ) (a : Converted) (l′ s′ : List ℕ) : Type 0 where
-  pub meets : Meets text m n (c .counters) l l′ (convertedOf a)
+  pub meets : Meets (textsOf tree text) m n (c .counters) l l′ (convertedOf a)
   pub operand : (o : Operand) (k : Counters) → a ≡ Converted.Is o k → OperandIn tree (operandOf o)
   pub stays : StaysFor tree c s s′
   pub names : NamesStay tree s s′
 
 -- an operand that is always had: for a leaf e in any scope, and for an operand that is fitted
 pub record LeafAdds (tree text : List ℕ) (e : ℕ) (n : Amount) (k : Counters) (l : List ℕ) (r : Fitted) (l′ : List ℕ) : Type 0 where
-  pub adds : (S : Def.Scope) → AddsIn text (convert-expr (program tree text) (allKeys tree text) (exprAt tree text e) S) n k l (operandOf (r .operand)) (r .counters) l′
+  pub adds : (S : Def.Scope) → AddsIn (textsOf tree text) (convert-expr (program tree text) (allKeys tree text) (exprAt tree text e) S) n k l (operandOf (r .operand)) (r .counters) l′
   pub operand : OperandIn tree (operandOf (r .operand))
   pub long : length l′ ≡ length l
 
@@ -99,7 +99,7 @@ pub record FitsArgs (tree : List ℕ) (m : M (List Ir.Operand)) (count : ℕ) (c
 
 -- the arguments of a call, above what waits on the stack: at most q of them
 pub record ConvertsArgs (tree text : List ℕ) (m : M (List Ir.Operand)) (n : Amount) (q : ℕ) (c : Converter) (l s : List ℕ) (a : ConvertedArgs) (l′ s′ : List ℕ) : Type 0 where
-  pub meets : Meets text m n (c .counters) l l′ (convertedArgsOf s′ (records tree) (c .operands) a)
+  pub meets : Meets (textsOf tree text) m n (c .counters) l l′ (convertedArgsOf s′ (records tree) (c .operands) a)
   pub operands : (count : ℕ) (k : Counters) → a ≡ ConvertedArgs.Done count k → (count ≤ q) × StackIn tree s′ (c .operands) count
   pub stays : StaysFor tree c s s′
   pub names : NamesStay tree s s′
@@ -114,13 +114,13 @@ pub record Leaves (tree text : List ℕ) (q : ℕ) (c : Converter) (s′ : List 
 
 -- a statement
 pub record States (tree text : List ℕ) (m : M Def.Scope) (n : Amount) (q : ℕ) (c : Converter) (l s : List ℕ) (a : Stated) (l′ s′ : List ℕ) : Type 0 where
-  pub meets : Meets text m n (c .counters) l l′ (statedOf tree text s′ a)
+  pub meets : Meets (textsOf tree text) m n (c .counters) l l′ (statedOf tree text s′ a)
   pub leaves : (sc : Scope) (k : Counters) → a ≡ Stated.Done sc k → Leaves tree text q c s′ sc
   pub stays : StaysFor tree c s s′
 
 -- a block, or what leaves the scope as it was: the definition's step gives x
 pub record Finishes {A : Type 0} (tree text : List ℕ) (m : M A) (x : A) (n : Amount) (c : Converter) (l s : List ℕ) (a : Finished) (l′ s′ : List ℕ) : Type 0 where
-  pub meets : Meets text m n (c .counters) l l′ (finishedOf x a)
+  pub meets : Meets (textsOf tree text) m n (c .counters) l l′ (finishedOf x a)
   pub stays : StaysFor tree c s s′
 
 -- the type that the sides of the Binary e, of type y, are fitted to
@@ -133,7 +133,7 @@ pub record OperandTyped (tree text s : List ℕ) (c : Converter) (e y : ℕ) (a 
 
 -- the variable of a For, with the scope of its body
 pub record FindsVariable (tree text : List ℕ) (m : M (Ir.VarId × Def.Scope)) (c : Converter) (l s : List ℕ) (a : ForVariable) (l′ s′ : List ℕ) : Type 0 where
-  pub meets : Meets text m (amount 0 1 0 0 0) (c .counters) l l′ (variableOf tree text s′ a)
+  pub meets : Meets (textsOf tree text) m (amount 0 1 0 0 0) (c .counters) l l′ (variableOf tree text s′ a)
   pub variable : (v : VarId) (sc : Scope) (k : Counters) → a ≡ ForVariable.Is v sc k → TypeAt tree (v .1) × Leaves tree text 1 c s′ sc
   pub stays : StaysFor tree c s s′
 
@@ -340,7 +340,7 @@ BinaryFinishes tree op y q left right k l r l′ =
 abbrev pub ZeroMeets : List ℕ → ℕ → VarId → Counters → List ℕ → Finished → List ℕ → Type 0
 ZeroMeets tree r v k l a l′ =
     (text : List ℕ) (F : Functions)
-    → Meets text (zeroValue (program tree text) F r (varOf v) (typeAt tree text (v .1))) (amount 1 0 0 0 1) k l l′ (finishedOf tt a)
+    → Meets (textsOf tree text) (zeroValue (program tree text) F r (varOf v) (typeAt tree text (v .1))) (amount 1 0 0 0 1) k l l′ (finishedOf tt a)
 
 -- the statement r behind its comment
 abbrev pub StatesAs : StepsAt Def.Scope → Converter → ℕ → List ℕ → List ℕ → List ℕ → List ℕ → Stated → List ℕ → List ℕ → Type 0

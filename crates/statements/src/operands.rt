@@ -64,6 +64,7 @@ use records::words::put_four;
 use records::words::reference;
 use records::words::word;
 use scope::Known;
+use texts::original;
 use types::form::two_words;
 use types::size::Bytes;
 use types::size::size;
@@ -154,13 +155,25 @@ fn float_operand(tree: &[u8], text: &[u8], arena: &mut [u8], k: &mut [usize], e:
     Operand::Float(float_id(arena, k, f))
 }
 
-fn string_operand(tree: &[u8], text: &[u8], arena: &mut [u8], k: &mut [usize], e: usize) -> Operand
-    requires { ⌜ RoomFor (counted (now k)) (now arena) (amount 0 0 0 1 0) × Good (now tree) (now text) × IsKind (now tree) kindStr e ⌝ }
+// The string goes by the number of its text, which stands in the scratch.
+fn string_operand(
+    tree: &[u8],
+    text: &[u8],
+    arena: &mut [u8],
+    scratch: &[u8],
+    k: &mut [usize],
+    c: Converter,
+    e: usize,
+) -> Operand
+    requires { ⌜ Converting (now tree) (now text) (now arena) (now scratch) (at c (now k)) ⌝ }
+    requires { ⌜ Affords (counted (now k)) (amount 0 0 0 1 0) × IsKind (now tree) kindStr e ⌝ }
     ensures { λ r. ⌜ LeafAdds (was tree) (was text) e (amount 0 0 0 1 0) (counted (was k)) (was arena) (fitted (is k) r) (is arena) ⌝ }
 {
+    let scope = c.scope;
+    let o = original(scratch, scope.records, e);
     let offset = word(tree, e, WORD_A);
     let len = word(tree, e, WORD_B);
-    Operand::DataAddress(string_id(text, arena, k, offset, len))
+    Operand::DataAddress(string_id(arena, k, o, offset, len))
 }
 
 // The variable of the Name e.
@@ -228,7 +241,7 @@ pub(crate) fn operand(
         return Converted::Is(float_operand(tree, text, arena, k, e));
     }
     if leaf == KIND_STR {
-        return Converted::Is(string_operand(tree, text, arena, k, e));
+        return Converted::Is(string_operand(tree, text, arena, scratch, k, c, e));
     }
     if leaf == KIND_BOOL {
         return Converted::Is(Operand::Bool(detail(tree, e) == 1));

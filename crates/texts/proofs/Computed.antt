@@ -9,7 +9,7 @@ use Rattle.records.specs.declared.shape.Role.{Role}
 use Rattle.records.specs.declared.shape.Role.the-variants.{Unused, Number, Text, Length, Expr, TypeRef, TypeOrNone, Name, Variable, Arguments, Parameters, Body, Item, Rest}
 use Rattle.records.specs.Shapes.{rowOf}
 use Rattle.records.specs.Words.{kindOf, word}
-use Rattle.texts.specs.Texts.{hasText, hasOwn, original}
+use Rattle.texts.specs.Texts.{hasText, hasOwn, original, textNumber}
 
 isText : Role → Bool
 isText Text = true
@@ -52,3 +52,8 @@ having = refl
 numbers : original tree text 0 ∷ original tree text 2 ∷ original tree text 3 ∷ original tree text 4 ∷ original tree text 5 ∷ [] ≡ 0 ∷ 2 ∷ 0 ∷ 2 ∷ 5 ∷ []
 unfolding original tree text
 numbers = refl
+
+-- 'b', 'ab' and no bytes, and 'a', which no record has
+of-texts : textNumber tree text (98 ∷ []) ∷ textNumber tree text (97 ∷ 98 ∷ []) ∷ textNumber tree text [] ∷ textNumber tree text (97 ∷ []) ∷ [] ≡ 0 ∷ 2 ∷ 5 ∷ 6 ∷ []
+unfolding textNumber tree text
+of-texts = refl

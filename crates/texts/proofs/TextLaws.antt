@@ -2,6 +2,7 @@
 -- texts are the same. By the laws of `lowest` and of texts. Assumes nothing.
 use mathlib.Core.Path.{_≡_, refl, sym, ap, _∙_}
 use Prim.Native.Nat.{ℕ, _<_}
+use native.Mathlib.Omega.{arith}
 use mathlib.Core.Bool.{Bool, true, _&&_, false≢true}
 use mathlib.Core.List.{List}
 use mathlib.Core.Option.{Option, none, some}
@@ -14,7 +15,7 @@ use Rattle.records.specs.Digest.{rollOf}
 use Rattle.records.specs.Words.{wordAt, wordOf, textAt, sameText, records, A, B}
 use Rattle.records.proofs.DigestLaws.{same-equal}
 use Rattle.records.proofs.TextLaws.{same-texts}
-use Rattle.texts.specs.Texts.{hasOwn, ownText, sameOwn, numberOr, original, originalAt, textDigestAt, Numbered}
+use Rattle.texts.specs.Texts.{hasOwn, ownText, sameOwn, numberOr, original, textNumber, originalAt, textDigestAt, Numbered}
 
 -- ---- the lowest number, or another
 
@@ -79,6 +80,28 @@ module _ (tree text : List ℕ) where
 
   pub original-again : (r : ℕ) → r < records tree → hasOwn tree r ≡ true → original tree text (original tree text r) ≡ original tree text r
   original-again r h t = same-original (original tree text r) r h t (original-text r h t)
+
+  -- ---- texts
+
+  -- the number of a record's text
+  pub own-number : (r : ℕ) → r < records tree → hasOwn tree r ≡ true → textNumber tree text (ownText tree text r) ≡ original tree text r
+  unfolding textNumber original sameOwn
+  own-number r h t = or-any (records tree) (sameOwn tree text r) r h (same-own r r t refl) (records tree)
+
+  -- the record of a number has the text, so the numbers tell texts apart
+  number-text : (u : List ℕ) → textNumber tree text u < records tree → ownText tree text (textNumber tree text u) ≡ u
+  unfolding textNumber numberOr
+  number-text u h = go (lowest (records tree) has) refl h
+    where
+      has : ℕ → Bool
+      has k = hasOwn tree k && sameText (ownText tree text k) u
+
+      go : (o : Option ℕ) → lowest (records tree) has ≡ o → numberOr o (records tree) < records tree → ownText tree text (numberOr o (records tree)) ≡ u
+      go none e b = absurd (omega arith)
+      go (some k) e b = same-equal _ _ (and-right (hasOwn tree k) _ (lowest-holds (records tree) has k e .1))
+
+  pub numbers-apart : (u v : List ℕ) → textNumber tree text u < records tree → textNumber tree text v ≡ textNumber tree text u → v ≡ u
+  numbers-apart u v h e = sym (number-text v (rw e h)) ∙ ap (ownText tree text) e ∙ number-text u h
 
   -- the numbers and digests stay where the words of the records that have a text do
   pub numbered-stays : (s s′ : List ℕ)

@@ -42,6 +42,11 @@ unfoldable pub original : List ℕ → List ℕ → ℕ → ℕ
 unfolding numberOr lowest sameOwn
 original tree text r = numberOr (lowest (records tree) (sameOwn tree text r)) r
 
+-- the number of a text: the lowest record of the tree that has it, or past the last where none has
+unfoldable pub textNumber : List ℕ → List ℕ → List ℕ → ℕ
+unfolding numberOr lowest hasText kindOf wordOf textAt sameText
+textNumber tree text u = numberOr (lowest (records tree) (λ k. hasOwn tree k && sameText (ownText tree text k) u)) (records tree)
+
 -- where the number of record r's text stands in the scratch of n records
 abbrev pub originalAt : ℕ → ℕ → ℕ
 originalAt n r = originals .from * n + originals .each * r

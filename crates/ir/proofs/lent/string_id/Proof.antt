@@ -1,4 +1,4 @@
--- The string of this text, on the words.
+-- The string at this place, on the words.
 -- What the step by value owes, and the word that was stored. Assumes nothing.
 use mathlib.Core.Path.{sym, subst}
 use Prim.Native.Nat.{_<_}
@@ -19,7 +19,7 @@ counters-of-requires c κs = ten _ _ (c .before .before .before .before .pre .0)
 string-id-requires : tie.Need-string-id-requires
 string-id-requires c κs =
     let e = c .before .counters-of .ensures in
-    (room-read e (c .before .before .before .before .before .before .pre .0), subst (λ (x : Counters). x .strings < x .records) (sym e) (c .before .before .before .before .before .before .pre .1))
+    (room-read e (@Start .pre .0), subst (λ (x : Counters). x .strings < x .records) (sym e) (@Start .pre .1 .0), subst (λ (x : Counters). o < x .records) (sym e) (@Start .pre .1 .1))
 
 slice-write-k : tie.Need-slice-write-k
 slice-write-k c = omega (arith, ten _ _ (c .before .before .before .before .before .before .before .before .before .before .pre .0))
