@@ -5,11 +5,13 @@ ghost use Prim.Native.Nat.{_+_, _*_, _≤_, _<_};
 ghost use lib.ListN.{length};
 ghost use Rattle.records.specs.Layout.{scratchEach};
 ghost use Rattle.records.specs.Good.{Good};
-ghost use Rattle.records.specs.Words.{wordAt, records};
+ghost use Rattle.records.specs.Samples.{Sampled, Samples};
+ghost use Rattle.records.specs.Words.{wordAt, records, mostRecords, none};
 ghost use Rattle.texts.specs.Texts.{hasText, hasOwn, original as originalOf, originalAt, textDigestAt, Numbered, Kept};
-ghost use Rattle.texts.specs.Pass.{textBucket, Chains, Entered, Passed};
+ghost use Rattle.texts.specs.Pass.{textBucket, samplesAt, SamplesFit, SamplesKept, Chains, Entered, Passed};
 use records::chains::bucket;
 use records::chains::clear_heads;
+use records::layout::CHAIN_EACH;
 use records::layout::CHAIN_HEAD_BYTES;
 use records::layout::ORIGINAL_BYTES;
 use records::layout::ORIGINALS;
@@ -23,8 +25,10 @@ use records::numbers::KIND_STR;
 use records::numbers::KIND_VARIABLE;
 use records::order::enter_at;
 use records::order::find_place;
+use records::samples::sample;
+use records::samples::sampled_roll;
+use records::samples::stride_within;
 use records::texts::roll_digest;
-use records::texts::text_roll;
 use records::words::RECORD_BYTES;
 use records::words::WORD_A;
 use records::words::WORD_B;
@@ -67,32 +71,62 @@ fn number_text(tree: &[u8], text: &[u8], r: usize, b: usize, scratch: &mut [u8])
 }
 
 // Record r: where it has a text, the text's number is found and written, with the digest that goes on, so that the text need not be read for a digest again.
-fn number_record(tree: &[u8], text: &[u8], r: usize, scratch: &mut [u8])
+// How many bytes the text has is given back, 0 where there is none.
+fn number_record(tree: &[u8], text: &[u8], r: usize, stride: usize, scratch: &mut [u8]) -> usize
     requires { ⌜ Good (now tree) (now text) × (scratchEach * records (now tree) ≤ length (now scratch)) ⌝ }
-    requires { ⌜ (r < records (now tree)) × Passed (now tree) (now text) r (now scratch) ⌝ }
-    ensures { λ _. ⌜ Passed (now (tree .entry)) (now (text .entry)) (r + 1) (now (scratch .exit)) × Kept (records (now (tree .entry))) (now (scratch .entry)) (now (scratch .exit)) ⌝ }
+    requires { ⌜ (r < records (now tree)) × Passed (now tree) (now text) r (now scratch) × Sampled (now text) stride (samplesAt (records (now tree))) (now scratch) ⌝ }
+    ensures { λ v. ⌜ Passed (now (tree .entry)) (now (text .entry)) (r + 1) (now (scratch .exit)) × (v ≤ none) ⌝ }
+    ensures { λ _. ⌜ Kept (records (now (tree .entry))) (now (scratch .entry)) (now (scratch .exit)) × SamplesKept (records (now (tree .entry))) (now (scratch .entry)) (now (scratch .exit)) ⌝ }
 {
     if !has_text(kind(tree, r)) {
-        return;
+        return 0;
     }
     let n = tree.len() / RECORD_BYTES;
-    let rolled = text_roll(text, word(tree, r, WORD_A), word(tree, r, WORD_B));
+    let len = word(tree, r, WORD_B);
+    let rolled = sampled_roll(
+        text,
+        scratch,
+        CHAIN_EACH * n,
+        stride,
+        word(tree, r, WORD_A),
+        len,
+    );
     let b = bucket(roll_digest(rolled), n);
     let number = number_text(tree, text, r, b, scratch);
     put_word(scratch, ORIGINALS * n + ORIGINAL_BYTES * r, number);
     put_word(scratch, TEXT_DIGESTS * n + TEXT_DIGEST_BYTES * r, rolled);
+    index(len)
 }
 
-// Every text of a good tree gets its number and its digest, in one pass over the records. The chains stand where nothing else does yet.
+// The text is sampled, between the chains and the numbers. How far the samples lie apart is given back.
+fn sample_text(text: &[u8], n: usize, scratch: &mut [u8]) -> usize
+    requires { ⌜ (0 < n) × (n ≤ mostRecords) × (scratchEach * n ≤ length (now scratch)) × (length (now text) ≤ none * mostRecords) ⌝ }
+    ensures { λ v. ⌜ Samples (now (text .entry)) v (samplesAt n) (now (scratch .entry)) (now (scratch .exit)) × SamplesFit (now (text .entry)) v n ⌝ }
+{
+    let at = CHAIN_EACH * n;
+    let stride = stride_within(text.len(), ORIGINALS * n - at);
+    sample(text, scratch, at, stride);
+    stride
+}
+
+// So many times the bytes of the text are read before it is sampled: only names that overlap come to so many, and a tree whose names lie apart is spared the samples.
+const READ_WHOLE: usize = 8;
+
+// Every text of a good tree gets its number and its digest, in one pass over the records. The chains stand where nothing else does yet, and so do the samples.
 pub fn number_texts(tree: &[u8], text: &[u8], scratch: &mut [u8])
     requires { ⌜ Good (now tree) (now text) × (scratchEach * records (now tree) ≤ length (now scratch)) ⌝ }
     ensures { λ _. ⌜ Numbered (now (tree .entry)) (now (text .entry)) (now (scratch .exit)) × Kept (records (now (tree .entry))) (now (scratch .entry)) (now (scratch .exit)) ⌝ }
 {
     let n = tree.len() / RECORD_BYTES;
     clear_heads(scratch, CHAIN_HEAD_BYTES * n);
+    let mut stride = 0;
+    let mut read = 0;
     let mut r = 0;
     while r < n {
-        number_record(tree, text, r, scratch);
+        if (stride == 0) & (read / READ_WHOLE > text.len()) {
+            stride = sample_text(text, n, scratch);
+        }
+        read += number_record(tree, text, r, stride, scratch);
         r += 1;
     }
 }
