@@ -7,7 +7,9 @@ use mathlib.Core.List.{List}
 use lib.ListN.{length, getD}
 use Rattle.records.specs.Chains.{chainEach, memberBucket}
 use Rattle.records.specs.Digest.{digestOf, rollOf}
+use Rattle.records.specs.Layout.{originals}
 use Rattle.records.specs.Order.{Placed}
+use Rattle.records.specs.Samples.{SampleRoom}
 use Rattle.records.specs.Words.{wordAt, records}
 use Rattle.texts.specs.Texts.{hasOwn, ownText, original, originalAt, textDigestAt}
 
@@ -21,6 +23,18 @@ textBucket tree text = memberBucket (hasOwn tree) (ownDigest tree text) (records
 -- the texts of the records below r are in the chains of their buckets
 abbrev pub Chains : List ℕ → List ℕ → ℕ → List ℕ → Type 0
 Chains tree text r s = Placed (ownText tree text) (textBucket tree text) (records tree) r s
+
+-- with n records the text's samples stand behind the chains, from this byte on
+abbrev pub samplesFrom : ℕ → ℕ
+samplesFrom n = chainEach * n
+
+-- and there is room for all of them before the numbers
+abbrev pub SamplesFit : List ℕ → ℕ → ℕ → Type 0
+SamplesFit text stride n = SampleRoom (length text) stride (samplesFrom n) (originals .from * n)
+
+-- there the bytes are as they were
+abbrev pub SamplesKept : ℕ → List ℕ → List ℕ → Type 0
+SamplesKept n s s′ = (i : ℕ) → samplesFrom n ≤ i → i < originals .from * n → getD s′ i 0 ≡ getD s i 0
 
 -- record r too: the bytes behind the chains are as they were
 pub record Entered (tree text : List ℕ) (r : ℕ) (s s′ : List ℕ) : Type 0 where

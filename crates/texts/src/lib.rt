@@ -6,9 +6,10 @@ ghost use lib.ListN.{length};
 ghost use Rattle.records.specs.Layout.{scratchEach};
 ghost use Rattle.records.specs.Good.{Good};
 ghost use Rattle.records.specs.Samples.{Sampled, Samples};
-ghost use Rattle.records.specs.Words.{wordAt, records, mostRecords, none};
-ghost use Rattle.texts.specs.Texts.{hasText, hasOwn, original as originalOf, originalAt, textDigestAt, Numbered, Kept};
-ghost use Rattle.texts.specs.Pass.{textBucket, samplesAt, SamplesFit, SamplesKept, Chains, Entered, Passed};
+ghost use Rattle.records.specs.Digest.{rollModulus, rollOf};
+ghost use Rattle.records.specs.Words.{wordAt, recordBytes, records, mostRecords, none};
+ghost use Rattle.texts.specs.Texts.{hasText, hasOwn, ownText, original as originalOf, originalAt, textDigestAt, Numbered, Kept};
+ghost use Rattle.texts.specs.Pass.{textBucket, samplesFrom, SamplesFit, SamplesKept, Chains, Entered, Passed};
 use records::chains::bucket;
 use records::chains::clear_heads;
 use records::layout::CHAIN_EACH;
@@ -29,6 +30,7 @@ use records::samples::sample;
 use records::samples::sampled_roll;
 use records::samples::stride_within;
 use records::texts::roll_digest;
+use records::texts::text_roll;
 use records::words::RECORD_BYTES;
 use records::words::WORD_A;
 use records::words::WORD_B;
@@ -70,38 +72,42 @@ fn number_text(tree: &[u8], text: &[u8], r: usize, b: usize, scratch: &mut [u8])
     number as u32
 }
 
-// Record r: where it has a text, the text's number is found and written, with the digest that goes on, so that the text need not be read for a digest again.
-// How many bytes the text has is given back, 0 where there is none.
-fn number_record(tree: &[u8], text: &[u8], r: usize, stride: usize, scratch: &mut [u8]) -> usize
-    requires { ⌜ Good (now tree) (now text) × (scratchEach * records (now tree) ≤ length (now scratch)) ⌝ }
-    requires { ⌜ (r < records (now tree)) × Passed (now tree) (now text) r (now scratch) × Sampled (now text) stride (samplesAt (records (now tree))) (now scratch) ⌝ }
-    ensures { λ v. ⌜ Passed (now (tree .entry)) (now (text .entry)) (r + 1) (now (scratch .exit)) × (v ≤ none) ⌝ }
-    ensures { λ _. ⌜ Kept (records (now (tree .entry))) (now (scratch .entry)) (now (scratch .exit)) × SamplesKept (records (now (tree .entry))) (now (scratch .entry)) (now (scratch .exit)) ⌝ }
+// A text of so many bytes at most is read whole for its digest: samples would spare nothing.
+const SHORT: u32 = 256;
+
+// The digest of record r's text that goes on. The text's samples stand behind the chains.
+fn own_roll(tree: &[u8], text: &[u8], scratch: &[u8], n: usize, stride: usize, r: usize) -> u32
+    requires { ⌜ (r * recordBytes + recordBytes ≤ length (now tree)) × (n ≤ mostRecords) × Sampled (now text) stride (samplesFrom n) (now scratch) ⌝ }
+    ensures { λ v. ⌜ (v ≡ rollOf (ownText (now (tree .entry)) (now (text .entry)) r)) × (v < rollModulus) ⌝ }
 {
-    if !has_text(kind(tree, r)) {
-        return 0;
-    }
-    let n = tree.len() / RECORD_BYTES;
+    let offset = word(tree, r, WORD_A);
     let len = word(tree, r, WORD_B);
-    let rolled = sampled_roll(
-        text,
-        scratch,
-        CHAIN_EACH * n,
-        stride,
-        word(tree, r, WORD_A),
-        len,
-    );
+    if len <= SHORT {
+        return text_roll(text, offset, len);
+    }
+    sampled_roll(text, scratch, CHAIN_EACH * n, stride, offset, len)
+}
+
+// Record r, which has a text: the text's number is found and written, with the digest that goes on, so that the text need not be read for a digest again.
+fn number_record(tree: &[u8], text: &[u8], r: usize, stride: usize, scratch: &mut [u8])
+    requires { ⌜ Good (now tree) (now text) × (scratchEach * records (now tree) ≤ length (now scratch)) ⌝ }
+    requires { ⌜ (r < records (now tree)) × (hasOwn (now tree) r ≡ true) × Passed (now tree) (now text) r (now scratch) ⌝ }
+    requires { ⌜ Sampled (now text) stride (samplesFrom (records (now tree))) (now scratch) ⌝ }
+    ensures { λ _. ⌜ Passed (now (tree .entry)) (now (text .entry)) (r + 1) (now (scratch .exit)) × Kept (records (now (tree .entry))) (now (scratch .entry)) (now (scratch .exit)) ⌝ }
+    ensures { λ _. ⌜ SamplesKept (records (now (tree .entry))) (now (scratch .entry)) (now (scratch .exit)) ⌝ }
+{
+    let n = tree.len() / RECORD_BYTES;
+    let rolled = own_roll(tree, text, scratch, n, stride, r);
     let b = bucket(roll_digest(rolled), n);
     let number = number_text(tree, text, r, b, scratch);
     put_word(scratch, ORIGINALS * n + ORIGINAL_BYTES * r, number);
     put_word(scratch, TEXT_DIGESTS * n + TEXT_DIGEST_BYTES * r, rolled);
-    index(len)
 }
 
-// The text is sampled, between the chains and the numbers. How far the samples lie apart is given back.
+// The text is sampled, as near as the room between the chains and the numbers allows. How far the samples lie apart is given back.
 fn sample_text(text: &[u8], n: usize, scratch: &mut [u8]) -> usize
     requires { ⌜ (0 < n) × (n ≤ mostRecords) × (scratchEach * n ≤ length (now scratch)) × (length (now text) ≤ none * mostRecords) ⌝ }
-    ensures { λ v. ⌜ Samples (now (text .entry)) v (samplesAt n) (now (scratch .entry)) (now (scratch .exit)) × SamplesFit (now (text .entry)) v n ⌝ }
+    ensures { λ v. ⌜ Samples (now (text .entry)) v (samplesFrom n) (now (scratch .entry)) (now (scratch .exit)) × SamplesFit (now (text .entry)) v n ⌝ }
 {
     let at = CHAIN_EACH * n;
     let stride = stride_within(text.len(), ORIGINALS * n - at);
@@ -109,8 +115,8 @@ fn sample_text(text: &[u8], n: usize, scratch: &mut [u8]) -> usize
     stride
 }
 
-// So many times the bytes of the text are read before it is sampled: only names that overlap come to so many, and a tree whose names lie apart is spared the samples.
-const READ_WHOLE: usize = 8;
+// Once the long texts are so many times longer in all than the buffer they lie in, it is sampled: they overlap then, and samples cost less than reading each whole.
+const OVERLAPPING: usize = 8;
 
 // Every text of a good tree gets its number and its digest, in one pass over the records. The chains stand where nothing else does yet, and so do the samples.
 pub fn number_texts(tree: &[u8], text: &[u8], scratch: &mut [u8])
@@ -120,13 +126,19 @@ pub fn number_texts(tree: &[u8], text: &[u8], scratch: &mut [u8])
     let n = tree.len() / RECORD_BYTES;
     clear_heads(scratch, CHAIN_HEAD_BYTES * n);
     let mut stride = 0;
-    let mut read = 0;
+    let mut long = 0;
     let mut r = 0;
     while r < n {
-        if (stride == 0) & (read / READ_WHOLE > text.len()) {
-            stride = sample_text(text, n, scratch);
+        if has_text(kind(tree, r)) {
+            let len = word(tree, r, WORD_B);
+            if len > SHORT {
+                long += index(len);
+                if (stride == 0) & (long / OVERLAPPING > text.len()) {
+                    stride = sample_text(text, n, scratch);
+                }
+            }
+            number_record(tree, text, r, stride, scratch);
         }
-        read += number_record(tree, text, r, stride, scratch);
         r += 1;
     }
 }
