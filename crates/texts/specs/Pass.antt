@@ -9,8 +9,8 @@ use Rattle.records.specs.Chains.{chainEach, memberBucket}
 use Rattle.records.specs.Digest.{digestOf, rollOf}
 use Rattle.records.specs.Layout.{originals}
 use Rattle.records.specs.Order.{Placed}
-use Rattle.records.specs.Samples.{SampleRoom}
-use Rattle.records.specs.Words.{wordAt, records}
+use Rattle.records.specs.Samples.{SampleRoom, Sampled}
+use Rattle.records.specs.Words.{wordAt, records, none}
 use Rattle.texts.specs.Texts.{hasOwn, ownText, original, originalAt, textDigestAt}
 
 -- the digest of record r's text, and its bucket
@@ -32,9 +32,17 @@ samplesFrom n = chainEach * n
 abbrev pub SamplesFit : List ℕ → ℕ → ℕ → Type 0
 SamplesFit text stride n = SampleRoom (length text) stride (samplesFrom n) (originals .from * n)
 
--- there the bytes are as they were
-abbrev pub SamplesKept : ℕ → List ℕ → List ℕ → Type 0
-SamplesKept n s s′ = (i : ℕ) → samplesFrom n ≤ i → i < originals .from * n → getD s′ i 0 ≡ getD s i 0
+-- what is known of the long texts of the records below r: the text is sampled, or the stride is 0; and they have so many bytes in all, at most
+pub record Read (text : List ℕ) (n r stride long : ℕ) (s : List ℕ) : Type 0 where
+  pub sampled : Sampled text stride (samplesFrom n) s
+  pub fit : SamplesFit text stride n
+  pub few : long ≤ none * r
+
+-- only samples are written: the bytes of the chains, and those from the numbers on, are as they were
+pub record OnlySamples (n : ℕ) (s s′ : List ℕ) : Type 0 where
+  pub chains : (i : ℕ) → i < samplesFrom n → getD s′ i 0 ≡ getD s i 0
+  pub behind : (i : ℕ) → originals .from * n ≤ i → getD s′ i 0 ≡ getD s i 0
+  pub long : length s′ ≡ length s
 
 -- record r too: the bytes behind the chains are as they were
 pub record Entered (tree text : List ℕ) (r : ℕ) (s s′ : List ℕ) : Type 0 where

@@ -14,13 +14,13 @@ div-result : tie.Need-div-result
 div-result c = search needs
 
 add-result : tie.Need-add-result
-add-result c = omega (arith, div-le-self (c .before .args .bytes / 16) (c .before .args .room / 8), c .before .pre .0)
+add-result c = omega (arith, div-le-self (c .args .bytes / 16) (c .args .room / 8), c .pre .0)
 
 mul-result : tie.Need-mul-result
-mul-result c = omega (arith, div-le-self (c .before .args .bytes / 16) (c .before .args .room / 8), c .before .pre .0)
+mul-result c = omega (arith, div-le-self (c .args .bytes / 16) (c .args .room / 8), c .pre .0)
 
 returns : tie.Need-returns
-returns c = stride-room (c .before .args .bytes) (c .before .args .room) (omega (arith, c .before .pre .1))
+returns c = stride-room (c .args .bytes) (c .args .room) (omega (arith, c .pre .1))
 
 pub stride-within-spec : {M : Type 1} → statement M
 stride-within-spec = tie.close (tie.spec div-result add-result mul-result returns)
