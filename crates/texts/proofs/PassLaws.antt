@@ -144,6 +144,11 @@ kept-heads n s s′ e =
       behind = λ i h. e .others i (omega arith);
     }
 
+-- a word is written
+pub put-long : (s s′ : List ℕ) (p x : ℕ) → p + 4 ≤ length s → s′ ≡ splice s p (word x) → length s′ ≡ length s
+unfolding word bytesOf
+put-long s s′ p x h e = ap length e ∙ length-splice s p (word x) h
+
 -- only samples are written
 module _ (n : ℕ) (s s′ : List ℕ) (e : OnlySamples n s s′) where
   behind-word : (p : ℕ) → 40 * n ≤ p → wordAt s′ p ≡ wordAt s p
