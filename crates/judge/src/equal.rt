@@ -19,10 +19,10 @@ use records::chains::enter;
 use records::layout::CHAIN_EACH;
 use records::layout::CHAIN_ENTRY_BYTES;
 use records::layout::CHAIN_HEAD_BYTES;
-use records::layout::SAMPLE_BYTES;
 use records::numbers::FORM_CUSTOM;
 use records::samples::sample;
 use records::samples::sampled_roll;
+use records::samples::stride_within;
 use records::texts::roll_digest;
 use records::texts::word_digest;
 use records::words::SECOND_WORD;
@@ -60,9 +60,6 @@ fn names_long(tree: &[u8], types: usize) -> usize
     long
 }
 
-// A digest goes on over so many bytes at once, so strides are multiples of it.
-const STRIDE_UNIT: usize = 16;
-
 // How far the samples of a text of so many bytes lie apart: as near as `room` bytes allow; 0, for no samples, where the names are no longer
 // in all than the text, so that reading each costs no more than sampling would.
 fn stride_of(tree: &[u8], types: usize, bytes: usize, room: usize) -> usize
@@ -72,8 +69,7 @@ fn stride_of(tree: &[u8], types: usize, bytes: usize, room: usize) -> usize
     if names_long(tree, types) <= bytes {
         return 0;
     }
-    let entries = room / SAMPLE_BYTES;
-    (bytes / STRIDE_UNIT / entries + 1) * STRIDE_UNIT
+    stride_within(bytes, room)
 }
 
 // The digest of what makes type r equal to another. The text's samples stand in scratch, from byte `at` on.

@@ -307,13 +307,19 @@ stride-room bytes room some z k h =
     let q : k * c < entries * c = omega (arith, mul-assoc k c 16, lt-mul-div-succ (bytes / 16) some) in
     omega (arith, lt-of-mul-lt-mul-right c q)
 
-pub sampled-kept : (text : List ℕ) (stride at : ℕ) (l l′ : List ℕ) → ((p : ℕ) → at ≤ p → getD l′ p 0 ≡ getD l p 0) → length l′ ≡ length l
-    → Sampled text stride at l → Sampled text stride at l′
-sampled-kept text stride at l l′ same long s =
-    let word-kept : (p : ℕ) → at ≤ p → wordAt l′ p ≡ wordAt l p =
-    λ p h. word-same l′ p l p (same p h) (same (p + 1) (omega arith)) (same (p + 2) (omega arith)) (same (p + 3) (omega arith)) in
+-- the bytes up to one before which all samples have room are as they were
+pub sampled-stays : (text : List ℕ) (stride at end : ℕ) (l l′ : List ℕ) → SampleRoom (length text) stride at end → ((p : ℕ) → at ≤ p → p < end → getD l′ p 0 ≡ getD l p 0)
+    → length l′ ≡ length l → Sampled text stride at l → Sampled text stride at l′
+sampled-stays text stride at end l l′ fit same long s =
+    let word-kept : (p : ℕ) → at ≤ p → p + 4 ≤ end → wordAt l′ p ≡ wordAt l p =
+    λ p h e. word-same l′ p l p (same p h (omega arith)) (same (p + 1) (omega arith) (omega arith)) (same (p + 2) (omega arith) (omega arith)) (same (p + 3) (omega arith) (omega arith)) in
     record {
       room = λ z k h. omega (arith, s .room z k h);
-      rolls = λ z k h. word-kept (sampleAt at k) (omega arith) ∙ s .rolls z k h;
-      powers = λ z k h. word-kept (sampleAt at k + 4) (omega arith) ∙ s .powers z k h;
+      rolls = λ z k h. word-kept (sampleAt at k) (omega arith) (omega (arith, fit z k h)) ∙ s .rolls z k h;
+      powers = λ z k h. word-kept (sampleAt at k + 4) (omega arith) (omega (arith, fit z k h)) ∙ s .powers z k h;
     }
+
+-- and so are all bytes from the first sample on
+pub sampled-kept : (text : List ℕ) (stride at : ℕ) (l l′ : List ℕ) → ((p : ℕ) → at ≤ p → getD l′ p 0 ≡ getD l p 0) → length l′ ≡ length l
+    → Sampled text stride at l → Sampled text stride at l′
+sampled-kept text stride at l l′ same long s = sampled-stays text stride at (length l) l l′ (s .room) (λ p h e. same p h) long s

@@ -2,9 +2,9 @@
 ghost use mathlib.Core.Path.{_≡_};
 ghost use Prim.Native.Nat.{_+_, _*_, _%_, _≤_, _<_};
 ghost use lib.ListN.{length};
-ghost use Rattle.records.specs.Words.{wordAt, textAt};
+ghost use Rattle.records.specs.Words.{wordAt, textAt, mostRecords, none};
 ghost use Rattle.records.specs.Digest.{rollModulus, rollOf};
-ghost use Rattle.records.specs.Samples.{rollPower, rollAcross, rollBetween, sampleAt, SampleRoom, Sampled, Samples};
+ghost use Rattle.records.specs.Samples.{rollPower, rollAcross, rollBetween, sampleBytes, sampleAt, SampleRoom, Sampled, Samples};
 use crate::layout::SAMPLE_BYTES;
 use crate::layout::SAMPLE_POWER;
 use crate::texts::ROLL_MODULUS;
@@ -33,6 +33,18 @@ fn roll_power(n: usize) -> u32
         i += 1;
     }
     x
+}
+
+// A digest goes on over so many bytes at once, so strides are multiples of it.
+const STRIDE_UNIT: usize = 16;
+
+// How far the samples of a text of so many bytes lie apart: as near as `room` bytes allow.
+pub fn stride_within(bytes: usize, room: usize) -> usize
+    requires { ⌜ (bytes ≤ none * mostRecords) × (sampleBytes ≤ room) ⌝ }
+    ensures { λ v. ⌜ SampleRoom bytes v 0 room ⌝ }
+{
+    let entries = room / SAMPLE_BYTES;
+    (bytes / STRIDE_UNIT / entries + 1) * STRIDE_UNIT
 }
 
 // A sample for each whole stride of the text, from byte `at` of scratch on, in one pass over the text.

@@ -15,6 +15,7 @@ use Rattle.laws.proofs.Splices.{length-splice}
 use Rattle.laws.proofs.Tests.{tested, and-left, and-right}
 use Rattle.records.specs.Chains.{bucketOf, headAt, entryAt, ChainRoom, Emptied}
 use Rattle.records.specs.Digest.{digestEnd, digestOf, rollOf}
+use Rattle.records.specs.Samples.{Samples}
 use Rattle.records.specs.Order.{chainOf, firstWith, PlaceOf, placedAt}
 use Rattle.records.specs.Words.{byteAt, wordAt, kindOf, wordOf, textAt, sameText, bytesOf, word, records, mostRecords, A, B}
 use Rattle.records.proofs.Apart.{byte-apart, word-apart, word-there, word-back, word-same}
@@ -22,9 +23,10 @@ use Rattle.records.proofs.ChainedLaws as chained
 use Rattle.records.proofs.DigestLaws.{same-equal, digest-is}
 use Rattle.records.proofs.EntryLaws.{entered-long, entered-behind, chains-none, chains-kept, chains-past, chains-found, chains-more, place-low}
 use Rattle.records.proofs.PlacedLaws.{all-and, first-is, First, chain-inside, chain-below, chain-none, chain-first}
+use Rattle.records.proofs.SampleLaws.{samples-none, sampled-stays}
 use Rattle.records.proofs.TextLaws.{same-texts}
 use Rattle.texts.specs.Texts.{hasText, hasOwn, ownText, sameOwn, numberOr, original, originalAt, textDigestAt, Kept}
-use Rattle.texts.specs.Pass.{ownDigest, textBucket, Chains, Entered, Passed}
+use Rattle.texts.specs.Pass.{ownDigest, textBucket, samplesFrom, SamplesFit, Read, OnlySamples, Chains, Entered, Passed}
 use Rattle.texts.proofs.TextLaws.{same-own, original-below}
 
 -- whether record r has a text, as the code tests it
@@ -126,23 +128,71 @@ pub kept-on : (n : ℕ) (s s₁ s₂ : List ℕ) → Kept n s s₁ → Kept n s�
 kept-on n s s₁ s₂ a b =
     record {
       long = b .long ∙ a .long;
-      between = λ i h k. b .between i h k ∙ a .between i h k;
       keys = λ i h k. b .keys i h k ∙ a .keys i h k;
       behind = λ i h. b .behind i h ∙ a .behind i h;
     }
 
 pub kept-all : (n : ℕ) (s : List ℕ) → Kept n s s
-kept-all n s = record { long = refl; between = λ i h k. refl; keys = λ i h k. refl; behind = λ i h. refl }
+kept-all n s = record { long = refl; keys = λ i h k. refl; behind = λ i h. refl }
 
 -- the heads are cleared
 pub kept-heads : (n : ℕ) (s s′ : List ℕ) → Emptied (4 * n) s s′ → Kept n s s′
 kept-heads n s s′ e =
     record {
       long = e .long;
-      between = λ i h k. e .others i (omega arith);
       keys = λ i h k. e .others i (omega arith);
       behind = λ i h. e .others i (omega arith);
     }
+
+-- a word is written
+pub put-long : (s s′ : List ℕ) (p x : ℕ) → p + 4 ≤ length s → s′ ≡ splice s p (word x) → length s′ ≡ length s
+unfolding word bytesOf
+put-long s s′ p x h e = ap length e ∙ length-splice s p (word x) h
+
+-- only samples are written
+module _ (n : ℕ) (s s′ : List ℕ) (e : OnlySamples n s s′) where
+  behind-word : (p : ℕ) → 40 * n ≤ p → wordAt s′ p ≡ wordAt s p
+  behind-word p h =
+      word-same s′ p s p (e .behind p h) (e .behind (p + 1) (omega arith)) (e .behind (p + 2) (omega arith)) (e .behind (p + 3) (omega arith))
+
+  chain-word : (p : ℕ) → p + 4 ≤ 12 * n → wordAt s′ p ≡ wordAt s p
+  chain-word p h =
+      word-same s′ p s p (e .chains p (omega arith)) (e .chains (p + 1) (omega arith)) (e .chains (p + 2) (omega arith)) (e .chains (p + 3) (omega arith))
+
+  pub kept-sampled : Kept n s s′
+  kept-sampled = record { long = e .long; keys = λ i h k. e .behind i (omega arith); behind = λ i h. e .behind i (omega arith) }
+
+  pub passed-sampled : (tree text : List ℕ) (r : ℕ) → n ≡ records tree → r ≤ n → Passed tree text r s → Passed tree text r s′
+  passed-sampled tree text r en hr p =
+      record {
+        chained =
+            chains-kept (ownText tree text) (textBucket tree text) (records tree) s s′ r (omega arith)
+            (λ z k. chain-word z (omega arith))
+            (p .chained);
+        numbered = λ k h t. behind-word (originalAt (records tree) k) (omega arith) ∙ p .numbered k h t;
+        rolled = λ k h t. behind-word (textDigestAt (records tree) k) (omega arith) ∙ p .rolled k h t;
+      }
+
+-- none are
+pub only-none : (n : ℕ) (s : List ℕ) → OnlySamples n s s
+only-none n s = record { chains = λ i h. refl; behind = λ i h. refl; long = refl }
+
+-- those of a text are
+pub only-samples : (text : List ℕ) (stride n : ℕ) (s s′ : List ℕ) → SamplesFit text stride n → Samples text stride (samplesFrom n) s s′ → OnlySamples n s s′
+only-samples text stride n s s′ fit e =
+    record { chains = e .before; behind = λ i h. e .behind i (λ z k m. omega (arith, fit z k m)); long = e .long }
+
+-- what is known of long texts: nothing yet; nothing more; and once more is written, outside the samples
+pub read-none : (text : List ℕ) (n : ℕ) (s : List ℕ) → Read text n 0 0 0 s
+read-none text n s = record { sampled = samples-none text 0 (samplesFrom n) s refl .sampled; fit = λ z. absurd (omega arith); few = omega arith }
+
+pub read-past : (text : List ℕ) (n r stride long more : ℕ) (s : List ℕ) → more ≤ long + 4294967295 → Read text n r stride long s → Read text n (r + 1) stride more s
+read-past text n r stride long more s h k = record { sampled = k .sampled; fit = k .fit; few = omega (arith, k .few) }
+
+pub read-stays : (text : List ℕ) (n r stride long : ℕ) (s s′ : List ℕ) → ((i : ℕ) → 12 * n ≤ i → i < 40 * n → getD s′ i 0 ≡ getD s i 0) → length s′ ≡ length s
+    → Read text n r stride long s → Read text n r stride long s′
+read-stays text n r stride long s s′ same e k =
+    record { sampled = sampled-stays text stride (12 * n) (40 * n) s s′ (k .fit) same e (k .sampled); fit = k .fit; few = k .few }
 
 -- ---- one record more
 
@@ -233,10 +283,12 @@ module _ (tree text : List ℕ) where
     kept =
         record {
           long = ap length e₃ ∙ length-splice s₂ (textDigestAt (records tree) r) (word x) fit₃ ∙ long₂;
-          between = λ i k m. byte₃ i (inl (omega arith)) ∙ byte₂ i (inl (omega arith)) ∙ behind₁ i k;
           keys = λ i k m. byte₃ i (inl (omega arith)) ∙ byte₂ i (inr (omega arith)) ∙ behind₁ i (omega arith);
           behind = λ i k. byte₃ i (inr (omega arith)) ∙ byte₂ i (inr (omega arith)) ∙ behind₁ i (omega arith);
         }
+
+    samples-kept : (i : ℕ) → 12 * records tree ≤ i → i < 40 * records tree → getD s₃ i 0 ≡ getD s i 0
+    samples-kept i k m = byte₃ i (inl (omega arith)) ∙ byte₂ i (inl (omega arith)) ∙ behind₁ i k
 
     module _ (p : Passed tree text r s) (few : records tree ≤ mostRecords) (tr : hasOwn tree r ≡ true) (ex : x ≡ rollOf (ownText tree text r)) (hx : x < 4294967296)
         (eo : o ≡ original tree text r) where
@@ -261,5 +313,6 @@ module _ (tree text : List ℕ) where
                 (λ t. written₃ hx ∙ ex);
           }
 
-      pub taken : Passed tree text (r + 1) s₃ × Kept (records tree) s s₃
-      taken = (passed, kept)
+      pub taken : (s₀ : List ℕ) (stride long : ℕ) → Kept (records tree) s₀ s → Read text (records tree) (r + 1) stride long s
+          → (Passed tree text (r + 1) s₃ × Kept (records tree) s₀ s₃) × Read text (records tree) (r + 1) stride long s₃
+      taken s₀ stride long k read = ((passed, kept-on _ _ _ _ k kept), read-stays text (records tree) (r + 1) stride long s s₃ samples-kept (kept .long) read)

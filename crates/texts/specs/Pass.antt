@@ -7,8 +7,10 @@ use mathlib.Core.List.{List}
 use lib.ListN.{length, getD}
 use Rattle.records.specs.Chains.{chainEach, memberBucket}
 use Rattle.records.specs.Digest.{digestOf, rollOf}
+use Rattle.records.specs.Layout.{originals}
 use Rattle.records.specs.Order.{Placed}
-use Rattle.records.specs.Words.{wordAt, records}
+use Rattle.records.specs.Samples.{SampleRoom, Sampled}
+use Rattle.records.specs.Words.{wordAt, records, none}
 use Rattle.texts.specs.Texts.{hasOwn, ownText, original, originalAt, textDigestAt}
 
 -- the digest of record r's text, and its bucket
@@ -21,6 +23,26 @@ textBucket tree text = memberBucket (hasOwn tree) (ownDigest tree text) (records
 -- the texts of the records below r are in the chains of their buckets
 abbrev pub Chains : List ℕ → List ℕ → ℕ → List ℕ → Type 0
 Chains tree text r s = Placed (ownText tree text) (textBucket tree text) (records tree) r s
+
+-- with n records the text's samples stand behind the chains, from this byte on
+abbrev pub samplesFrom : ℕ → ℕ
+samplesFrom n = chainEach * n
+
+-- and there is room for all of them before the numbers
+abbrev pub SamplesFit : List ℕ → ℕ → ℕ → Type 0
+SamplesFit text stride n = SampleRoom (length text) stride (samplesFrom n) (originals .from * n)
+
+-- what is known of the long texts of the records below r: the text is sampled, or the stride is 0; and they have so many bytes in all, at most
+pub record Read (text : List ℕ) (n r stride long : ℕ) (s : List ℕ) : Type 0 where
+  pub sampled : Sampled text stride (samplesFrom n) s
+  pub fit : SamplesFit text stride n
+  pub few : long ≤ none * r
+
+-- only samples are written: the bytes of the chains, and those from the numbers on, are as they were
+pub record OnlySamples (n : ℕ) (s s′ : List ℕ) : Type 0 where
+  pub chains : (i : ℕ) → i < samplesFrom n → getD s′ i 0 ≡ getD s i 0
+  pub behind : (i : ℕ) → originals .from * n ≤ i → getD s′ i 0 ≡ getD s i 0
+  pub long : length s′ ≡ length s
 
 -- record r too: the bytes behind the chains are as they were
 pub record Entered (tree text : List ℕ) (r : ℕ) (s s′ : List ℕ) : Type 0 where

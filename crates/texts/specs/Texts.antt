@@ -10,7 +10,6 @@ use lib.ListN.{length, getD}
 use Rattle.laws.specs.Below.{lowest}
 use Rattle.records.specs.Digest.{rollOf}
 use Rattle.records.specs.Kinds.{kindStr, kindName, kindCall, kindDeclare, kindInit, kindVariable}
-use Rattle.records.specs.Chains.{chainEach}
 use Rattle.records.specs.Layout.{endOf, originals, textDigests}
 use Rattle.records.specs.Words.{wordAt, kindOf, wordOf, textAt, sameText, records, A, B}
 
@@ -60,10 +59,9 @@ pub record Numbered (tree text s : List ℕ) : Type 0 where
   pub number : (r : ℕ) → r < records tree → hasOwn tree r ≡ true → wordAt s (originalAt (records tree) r) ≡ original tree text r
   pub digest : (r : ℕ) → r < records tree → hasOwn tree r ≡ true → wordAt s (textDigestAt (records tree) r) ≡ rollOf (ownText tree text r)
 
--- the scratch of n records, before and after: its length is as it was, and so are the bytes between the chains and the numbers, between these and the digests, and
--- behind the digests
+-- the scratch of n records, before and after: its length is as it was, and so are the bytes between the numbers and the digests, and behind the digests. Before the
+-- numbers stand the chains, and the text's samples where texts overlap: there anything may be left
 pub record Kept (n : ℕ) (s s′ : List ℕ) : Type 0 where
   pub long : length s′ ≡ length s
-  pub between : (i : ℕ) → chainEach * n ≤ i → i < originals .from * n → getD s′ i 0 ≡ getD s i 0
   pub keys : (i : ℕ) → endOf originals * n ≤ i → i < textDigests .from * n → getD s′ i 0 ≡ getD s i 0
   pub behind : (i : ℕ) → endOf textDigests * n ≤ i → getD s′ i 0 ≡ getD s i 0

@@ -5,11 +5,14 @@ ghost use Prim.Native.Nat.{_+_, _*_, _≤_, _<_};
 ghost use lib.ListN.{length};
 ghost use Rattle.records.specs.Layout.{scratchEach};
 ghost use Rattle.records.specs.Good.{Good};
-ghost use Rattle.records.specs.Words.{wordAt, records};
+ghost use Rattle.records.specs.Samples.{Sampled, Samples};
+ghost use Rattle.records.specs.Digest.{rollModulus, rollOf};
+ghost use Rattle.records.specs.Words.{wordAt, textAt, records, mostRecords, none};
 ghost use Rattle.texts.specs.Texts.{hasText, hasOwn, original as originalOf, originalAt, textDigestAt, Numbered, Kept};
-ghost use Rattle.texts.specs.Pass.{textBucket, Chains, Entered, Passed};
+ghost use Rattle.texts.specs.Pass.{textBucket, samplesFrom, SamplesFit, Read, OnlySamples, Chains, Entered, Passed};
 use records::chains::bucket;
 use records::chains::clear_heads;
+use records::layout::CHAIN_EACH;
 use records::layout::CHAIN_HEAD_BYTES;
 use records::layout::ORIGINAL_BYTES;
 use records::layout::ORIGINALS;
@@ -23,6 +26,9 @@ use records::numbers::KIND_STR;
 use records::numbers::KIND_VARIABLE;
 use records::order::enter_at;
 use records::order::find_place;
+use records::samples::sample;
+use records::samples::sampled_roll;
+use records::samples::stride_within;
 use records::texts::roll_digest;
 use records::texts::text_roll;
 use records::words::RECORD_BYTES;
@@ -66,33 +72,96 @@ fn number_text(tree: &[u8], text: &[u8], r: usize, b: usize, scratch: &mut [u8])
     number as u32
 }
 
+// What the pass knows of long texts: how far the samples of the text lie apart, 0 where it is not sampled yet; and how many bytes the long texts have in all, up to
+// the sampling.
+struct Reading {
+    stride: usize,
+    long: usize,
+}
+
+// A text of so many bytes at most is read whole for its digest: samples would spare nothing.
+const SHORT: u32 = 256;
+
+// Once the long texts are so many times longer in all than the buffer they lie in, it is sampled: they overlap, and samples cost less than reading each whole.
+const OVERLAPPING: usize = 8;
+
+// The text is sampled, as near as the room between the chains and the numbers allows. How far the samples lie apart is given back.
+fn sample_text(text: &[u8], n: usize, scratch: &mut [u8]) -> usize
+    requires { ⌜ (0 < n) × (n ≤ mostRecords) × (scratchEach * n ≤ length (now scratch)) × (length (now text) ≤ none * mostRecords) ⌝ }
+    ensures { λ v. ⌜ Samples (now (text .entry)) v (samplesFrom n) (now (scratch .entry)) (now (scratch .exit)) × SamplesFit (now (text .entry)) v n ⌝ }
+{
+    let at = CHAIN_EACH * n;
+    let stride = stride_within(text.len(), ORIGINALS * n - at);
+    sample(text, scratch, at, stride);
+    stride
+}
+
+// Record r has a text of `len` bytes: if it is long it counts, and the text may have to be sampled.
+fn read_long(text: &[u8], n: usize, r: usize, len: u32, k: Reading, scratch: &mut [u8]) -> Reading
+    requires { ⌜ (r < n) × (n ≤ mostRecords) × (scratchEach * n ≤ length (now scratch)) × Read (now text) n r (k .stride) (k .long) (now scratch) ⌝ }
+    ensures { λ v. ⌜ Read (now (text .entry)) n (r + 1) (v .stride) (v .long) (now (scratch .exit)) × OnlySamples n (now (scratch .entry)) (now (scratch .exit)) ⌝ }
+{
+    if (len <= SHORT) | (k.stride > 0) {
+        return k;
+    }
+    let long = k.long + index(len);
+    if long / OVERLAPPING <= text.len() {
+        return Reading {
+            stride: 0,
+            long: long,
+        };
+    }
+    let stride = sample_text(text, n, scratch);
+    Reading {
+        stride: stride,
+        long: long,
+    }
+}
+
+// The digest of a text that goes on. The samples stand behind the chains.
+fn roll_read(text: &[u8], scratch: &[u8], n: usize, stride: usize, offset: u32, len: u32) -> u32
+    requires { ⌜ (n ≤ mostRecords) × Sampled (now text) stride (samplesFrom n) (now scratch) ⌝ }
+    ensures { λ v. ⌜ (v ≡ rollOf (textAt (now (text .entry)) offset len)) × (v < rollModulus) ⌝ }
+{
+    if len <= SHORT {
+        return text_roll(text, offset, len);
+    }
+    sampled_roll(text, scratch, CHAIN_EACH * n, stride, offset, len)
+}
+
 // Record r: where it has a text, the text's number is found and written, with the digest that goes on, so that the text need not be read for a digest again.
-fn number_record(tree: &[u8], text: &[u8], r: usize, scratch: &mut [u8])
+fn number_record(tree: &[u8], text: &[u8], r: usize, k: Reading, scratch: &mut [u8]) -> Reading
     requires { ⌜ Good (now tree) (now text) × (scratchEach * records (now tree) ≤ length (now scratch)) ⌝ }
-    requires { ⌜ (r < records (now tree)) × Passed (now tree) (now text) r (now scratch) ⌝ }
+    requires { ⌜ (r < records (now tree)) × Passed (now tree) (now text) r (now scratch) × Read (now text) (records (now tree)) r (k .stride) (k .long) (now scratch) ⌝ }
     ensures { λ _. ⌜ Passed (now (tree .entry)) (now (text .entry)) (r + 1) (now (scratch .exit)) × Kept (records (now (tree .entry))) (now (scratch .entry)) (now (scratch .exit)) ⌝ }
+    ensures { λ v. ⌜ Read (now (text .entry)) (records (now (tree .entry))) (r + 1) (v .stride) (v .long) (now (scratch .exit)) ⌝ }
 {
     if !has_text(kind(tree, r)) {
-        return;
+        return k;
     }
     let n = tree.len() / RECORD_BYTES;
-    let rolled = text_roll(text, word(tree, r, WORD_A), word(tree, r, WORD_B));
+    let offset = word(tree, r, WORD_A);
+    let len = word(tree, r, WORD_B);
+    let next = read_long(text, n, r, len, k, scratch);
+    let rolled = roll_read(text, scratch, n, next.stride, offset, len);
     let b = bucket(roll_digest(rolled), n);
     let number = number_text(tree, text, r, b, scratch);
     put_word(scratch, ORIGINALS * n + ORIGINAL_BYTES * r, number);
     put_word(scratch, TEXT_DIGESTS * n + TEXT_DIGEST_BYTES * r, rolled);
+    next
 }
 
-// Every text of a good tree gets its number and its digest, in one pass over the records. The chains stand where nothing else does yet.
+// Every text of a good tree gets its number and its digest, in one pass over the records. The chains stand where nothing else does yet, and so do the samples.
 pub fn number_texts(tree: &[u8], text: &[u8], scratch: &mut [u8])
     requires { ⌜ Good (now tree) (now text) × (scratchEach * records (now tree) ≤ length (now scratch)) ⌝ }
     ensures { λ _. ⌜ Numbered (now (tree .entry)) (now (text .entry)) (now (scratch .exit)) × Kept (records (now (tree .entry))) (now (scratch .entry)) (now (scratch .exit)) ⌝ }
 {
     let n = tree.len() / RECORD_BYTES;
     clear_heads(scratch, CHAIN_HEAD_BYTES * n);
+    let mut k = Reading { stride: 0, long: 0 };
     let mut r = 0;
     while r < n {
-        number_record(tree, text, r, scratch);
+        k = number_record(tree, text, r, k, scratch);
         r += 1;
     }
 }

@@ -4,8 +4,8 @@ use Prim.Native.Nat.{_≤_, _-_}
 use native.Mathlib.Omega.{arith}
 use Rattle.records.specs.Words.{records}
 use Rattle.texts.specs.Texts.{Kept}
-use Rattle.texts.specs.Pass.{Passed}
-use Rattle.texts.proofs.PassLaws.{passed-none, kept-on, kept-all, kept-heads}
+use Rattle.texts.specs.Pass.{Passed, Read}
+use Rattle.texts.proofs.PassLaws.{passed-none, kept-on, kept-all, kept-heads, read-none}
 use mathlib.Core.Path.{_∙_}
 use Rattle.texts.proofs.number_texts.Statement.{statement}
 use Rattle.texts.proofs.number_texts.Tie as tie
@@ -15,10 +15,10 @@ use Rattle.records.proofs.chains.clear_heads.Reads as clear-heads-reads
 use Rattle.texts.proofs.number_record.Reads as number-record-reads
 
 abbrev Inv-loop : tie.InvT-loop
-Inv-loop tree text scratch₀ n r₀ scratch r = (r ≤ records tree) × Passed tree text r scratch × Kept (records tree) scratch₀ scratch
+Inv-loop tree text scratch₀ n k₀ r₀ scratch k r = (r ≤ records tree) × Passed tree text r scratch × Kept (records tree) scratch₀ scratch × Read text (records tree) r (k .stride) (k .long) scratch
 
 abbrev μ-loop : tie.MeasureT-loop
-μ-loop tree text scratch₀ n r₀ scratch r = records tree - r
+μ-loop tree text scratch₀ n k₀ r₀ scratch k r = records tree - r
 
 mul-clear-heads : tie.Need-mul-clear-heads Inv-loop μ-loop
 mul-clear-heads c = omega (arith, c .before .before .before .before .pre .0 .few)
@@ -27,13 +27,13 @@ clear-heads-requires : tie.Need-clear-heads-requires Inv-loop μ-loop
 clear-heads-requires c κs = omega (arith, c .before .before .before .before .pre .1)
 
 loop-holds : tie.Need-loop-holds Inv-loop μ-loop
-loop-holds c = (omega arith, passed-none _ _ _ _ (c .before .before .clear-heads .ensures), kept-all _ _)
+loop-holds c = (omega arith, passed-none _ _ _ _ (c .before .before .clear-heads .ensures), kept-all _ _, read-none _ _ _)
 
 number-record-requires : tie.Need-number-record-requires Inv-loop μ-loop
 number-record-requires c κs =
     let start = c .before .before .before .before .before .before .before .before .before .before in
     let inv = c .before .before .loop .inv in
-    ((start .pre .0, omega (arith, start .pre .1, inv .2 .long, c .before .before .before .before .before .clear-heads .ensures .long)), (c .before .loop-test .taken, inv .1))
+    ((start .pre .0, omega (arith, start .pre .1, inv .2 .long, c .before .before .before .before .before .clear-heads .ensures .long)), (c .before .loop-test .taken, inv .1, inv .3))
 
 add-r : tie.Need-add-r Inv-loop μ-loop
 add-r c = omega (arith, c .before .before .before .before .before .before .before .before .before .before .before .before .before .pre .0 .few)
@@ -44,7 +44,7 @@ loop-less c = omega arith
 loop-again : tie.Need-loop-again Inv-loop μ-loop
 loop-again c =
     let step = c .before .before .number-record .ensures in
-    (omega arith, step .0, kept-on _ _ _ _ (c .before .before .before .before .before .loop .inv .2) (step .1))
+    (omega arith, step .0 .0, kept-on _ _ _ _ (c .before .before .before .before .before .loop .inv .2) (step .0 .1), step .1)
 
 same-length : tie.Need-same-length Inv-loop μ-loop
 same-length c = c .before .loop .inv .2 .long ∙ c .before .before .before .before .clear-heads .ensures .long
