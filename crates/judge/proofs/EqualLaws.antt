@@ -2,7 +2,7 @@
 -- name in the order tells of Customs. By the laws of digests, of chains and of the order of common beginnings. Assumes nothing.
 use mathlib.Core.Path.{_≡_, refl, sym, ap, _∙_}
 use mathlib.Core.Logic.{_⊎_, inl, inr, ⊎-elim}
-use Prim.Native.Nat.{ℕ, suc, _+_, _*_, _≤_, _<_}
+use Prim.Native.Nat.{ℕ, _+_, _*_, _≤_, _<_}
 use mathlib.Core.Bool.{Bool, true, false, not, _&&_, _||_, false≢true}
 use mathlib.Core.List.{List}
 use native.Mathlib.Omega.{arith}
@@ -26,6 +26,7 @@ use Rattle.records.proofs.TextLaws.{same-texts}
 use Rattle.records.proofs.TypeLaws.{type-custom, equalType, new-found, new-none}
 use Rattle.judge.specs.Inner.{Lowest}
 use Rattle.judge.specs.Equal.{named, wordsAgain, nameAgain, alike, likeEarlier, every, typeBucket, FoundByDigest, namesBucket, NamesPlaced, NameEntered, NamesPassed}
+use Rattle.judge.proofs.PlainLaws.{either, flipped}
 
 -- ---- what the code reads of a type
 
@@ -48,10 +49,6 @@ module _ (tree text : List ℕ) (r x a b : ℕ) where
 
 -- ---- what is alike
 
-pub not-true : (b : Bool) → not b ≡ true → b ≡ false
-not-true true e = absurd (false≢true e)
-not-true false e = refl
-
 and-none : (a b : Bool) → b ≡ false → (a && b) ≡ false
 and-none true b e = e
 and-none false b e = refl
@@ -63,10 +60,6 @@ or-left false b e = refl
 pub or-none : (a b : Bool) → (a || b) ≡ false → b ≡ false
 or-none true b e = absurd (false≢true (sym e))
 or-none false b e = e
-
-or-right : (a b : Bool) → a ≡ false → (a || b) ≡ true → b ≡ true
-or-right true b e t = absurd (false≢true (sym e))
-or-right false b e t = t
 
 or-true : (a b : Bool) → b ≡ true → (a || b) ≡ true
 or-true true b e = refl
@@ -89,7 +82,7 @@ module _ (tree text : List ℕ) (k r : ℕ) where
   alike-same : named tree r ≡ false → alike tree text k r ≡ true → sameType tree text k r ≡ true
   unfolding alike
   alike-same n e =
-      or-right (named tree r) (sameType tree text k r) n (and-right (eqb (typeDigest tree text k) (typeDigest tree text r)) (named tree r || sameType tree text k r) e)
+      either (named tree r) (sameType tree text k r) (and-right (eqb (typeDigest tree text k) (typeDigest tree text r)) (named tree r || sameType tree text k r) e) n
 
   -- as the code finds it
   module _ (x d : ℕ) (ex : x ≡ typeDigest tree text k) (ed : d ≡ typeDigest tree text r) where
@@ -172,7 +165,7 @@ module _ (tree text : List ℕ) (types r : ℕ) (kinds : (k : ℕ) → k < types
     pub words-found : (again && not (eqb x 8)) ≡ true → wordsAgain tree text r ≡ true
     words-found t =
         let other : not (named tree r) ≡ true = rw ex at (and-right again (not (eqb x 8)) t) in
-        rw other (like-again (not-true (named tree r) other) (sym ea ∙ and-left again (not (eqb x 8)) t))
+        rw other (like-again (flipped (named tree r) other) (sym ea ∙ and-left again (not (eqb x 8)) t))
 
     pub words-passed : (again && not (eqb x 8)) ≡ false → wordsAgain tree text r ≡ false
     words-passed t =

@@ -51,16 +51,16 @@ same-length c = c .before .before .before .before .is-like-earlier .ensures .1 .
 
 returns : tie.Need-returns Inv-loop μ-loop
 returns c = (
-      record {
-        words = record {
-          within = c .before .before .before .before .before .before .before .loop .inv .0;
-          before = c .before .before .before .before .before .before .before .loop .inv .3;
-          found = λ h. words-found _ _ _ _ (c .before .before .before .before .before .before .before .before .before .before .before .before .before .before .before .pre .0 .kinds) (c .before .before .before .before .before .before .loop-test .taken) _ _ (c .before .before .before .before .is-like-earlier .ensures .0) (c .before .detail .ensures) (c .if1 .taken);
-        };
-        names = c .before .before .before .before .before .before .before .loop .inv .4;
-      },
-      (c .before .before .before .before .is-like-earlier .ensures .1 .0 .sampled, c .before .before .before .before .is-like-earlier .ensures .1 .1 ∙ c .before .before .before .before .before .before .before .loop .inv .1 ∙ c .before .before .before .before .before .before .before .before .before .before .clear-heads .ensures .long),
-    )
+  record {
+    words = record {
+      within = c .before .before .before .before .before .before .before .loop .inv .0;
+      before = c .before .before .before .before .before .before .before .loop .inv .3;
+      found = λ h. words-found _ _ _ _ (c .before .before .before .before .before .before .before .before .before .before .before .before .before .before .before .pre .0 .kinds) (c .before .before .before .before .before .before .loop-test .taken) _ _ (c .before .before .before .before .is-like-earlier .ensures .0) (c .before .detail .ensures) (c .if1 .taken);
+    };
+    names = c .before .before .before .before .before .before .before .loop .inv .4;
+  },
+  (c .before .before .before .before .is-like-earlier .ensures .1 .0 .sampled, c .before .before .before .before .is-like-earlier .ensures .1 .1 ∙ c .before .before .before .before .before .before .before .loop .inv .1 ∙ c .before .before .before .before .before .before .before .before .before .before .clear-heads .ensures .long),
+)
 
 add-r : tie.Need-add-r Inv-loop μ-loop
 add-r c = omega arith
@@ -70,24 +70,24 @@ loop-less c = omega arith
 
 loop-again : tie.Need-loop-again Inv-loop μ-loop
 loop-again c = (
-      omega arith,
-      c .before .before .before .before .is-like-earlier .ensures .1 .1 ∙ c .before .before .before .before .before .before .before .loop .inv .1,
-      c .before .before .before .before .is-like-earlier .ensures .1 .0,
-      below-more _ _ (c .before .before .before .before .before .before .before .loop .inv .3) (words-passed _ _ _ _ (c .before .before .before .before .before .before .before .before .before .before .before .before .before .before .before .pre .0 .kinds) (c .before .before .before .before .before .before .loop-test .taken) _ _ (c .before .before .before .before .is-like-earlier .ensures .0) (c .before .detail .ensures) (c .if1 .left)),
-      λ s. below-more _ _ (c .before .before .before .before .before .before .before .loop .inv .4 (or-left (c .before .before .before .before .before .before .before .loop .suspect) (c .before .before .before .before .is-like-earlier .result) s)) (name-passed _ _ _ _ (c .before .before .before .before .before .before .before .before .before .before .before .before .before .before .before .pre .0 .kinds) (c .before .before .before .before .before .before .loop-test .taken) _ _ (c .before .before .before .before .is-like-earlier .ensures .0) (c .before .detail .ensures) (or-none (c .before .before .before .before .before .before .before .loop .suspect) (c .before .before .before .before .is-like-earlier .result) s)),
-    )
+  omega arith,
+  c .before .before .before .before .is-like-earlier .ensures .1 .1 ∙ c .before .before .before .before .before .before .before .loop .inv .1,
+  c .before .before .before .before .is-like-earlier .ensures .1 .0,
+  below-more _ _ (c .before .before .before .before .before .before .before .loop .inv .3) (words-passed _ _ _ _ (c .before .before .before .before .before .before .before .before .before .before .before .before .before .before .before .pre .0 .kinds) (c .before .before .before .before .before .before .loop-test .taken) _ _ (c .before .before .before .before .is-like-earlier .ensures .0) (c .before .detail .ensures) (c .if1 .left)),
+  λ s. below-more _ _ (c .before .before .before .before .before .before .before .loop .inv .4 (or-left (c .before .before .before .before .before .before .before .loop .suspect) (c .before .before .before .before .is-like-earlier .result) s)) (name-passed _ _ _ _ (c .before .before .before .before .before .before .before .before .before .before .before .before .before .before .before .pre .0 .kinds) (c .before .before .before .before .before .before .loop-test .taken) _ _ (c .before .before .before .before .is-like-earlier .ensures .0) (c .before .detail .ensures) (or-none (c .before .before .before .before .before .before .before .loop .suspect) (c .before .before .before .before .is-like-earlier .result) s)),
+)
 
 same-length-2 : tie.Need-same-length-2 Inv-loop μ-loop
 same-length-2 c = c .before .loop .inv .1 ∙ c .before .before .before .before .clear-heads .ensures .long
 
 returns-2 : tie.Need-returns-2 Inv-loop μ-loop
 returns-2 c = (
-      record {
-        words = record { within = omega arith; before = λ k h. c .before .loop .inv .3 k (omega arith); found = λ h. absurd (omega arith) };
-        names = λ s k h. c .before .loop .inv .4 s k (omega arith);
-      },
-      (c .before .loop .inv .2 .sampled, c .before .loop .inv .1 ∙ c .before .before .before .before .clear-heads .ensures .long),
-    )
+  record {
+    words = record { within = omega arith; before = λ k h. c .before .loop .inv .3 k (omega arith); found = λ h. absurd (omega arith) };
+    names = λ s k h. c .before .loop .inv .4 s k (omega arith);
+  },
+  (c .before .loop .inv .2 .sampled, c .before .loop .inv .1 ∙ c .before .before .before .before .clear-heads .ensures .long),
+)
 
 pub first-by-digest-spec : {M : Type 1} → statement M
 first-by-digest-spec =

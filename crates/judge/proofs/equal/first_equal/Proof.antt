@@ -2,7 +2,8 @@
 -- By the laws of the lowest of both, over what the two passes ensure. Assumes nothing.
 use mathlib.Core.Path.{_∙_}
 use native.Mathlib.Omega.{arith}
-use Rattle.judge.proofs.EqualLaws.{not-true, lowest-both, lowest-words}
+use Rattle.judge.proofs.EqualLaws.{lowest-both, lowest-words}
+use Rattle.judge.proofs.PlainLaws.{flipped}
 use Rattle.judge.proofs.equal.first_equal.Statement.{statement}
 use Rattle.judge.proofs.equal.first_equal.Tie as tie
 use Rattle.judge.proofs.equal.first_equal.Reads as reads
@@ -36,7 +37,7 @@ same-length : tie.Need-same-length
 same-length c = c .before .before .before .before .first-by-digest .ensures .1 .1 ∙ c .before .before .before .before .before .before .before .before .sample .ensures .long
 
 returns : tie.Need-returns
-returns c = (lowest-words _ _ _ _ _ (c .before .before .before .before .first-by-digest .ensures .0) (not-true _ (c .if1 .taken)), c .before .before .before .before .first-by-digest .ensures .1 .1 ∙ c .before .before .before .before .before .before .before .before .sample .ensures .long)
+returns c = (lowest-words _ _ _ _ _ (c .before .before .before .before .first-by-digest .ensures .0) (flipped _ (c .if1 .taken)), c .before .before .before .before .first-by-digest .ensures .1 .1 ∙ c .before .before .before .before .before .before .before .before .sample .ensures .long)
 
 first-name-again-requires : tie.Need-first-name-again-requires
 first-name-again-requires c κs =

@@ -52,11 +52,13 @@ returns c =
     let is-entered = c .before .before .enter .ensures in
     let long = entered-long _ _ _ _ _ _ room r-below (at-bucket .1) (search needs) (search needs) _ is-entered in (
       c .before .before .before .before .has-alike .ensures,
-      (record {
-        chained = chained-more _ _ _ _ _ _ room r-below (at-bucket .1) (search needs) (search needs) _ _ _ is-entered (c .before .before .before .before .before .before .before .before .before .before .before .before .before .before .pre .1 .chained) digest (bucket-told _ _ _ _ _ _ refl digest (at-bucket .0)) (c .before .before .before .before .before .before .load .ensures);
-        sampled = sampled-kept _ _ _ _ _ (entered-behind _ _ _ _ _ _ room r-below (at-bucket .1) (search needs) (search needs) _ is-entered) long (c .before .before .before .before .before .before .before .before .before .before .before .before .before .before .pre .1 .sampled);
-      },
-      long),
+      (
+        record {
+          chained = chained-more _ _ _ _ _ _ room r-below (at-bucket .1) (search needs) (search needs) _ _ _ is-entered (c .before .before .before .before .before .before .before .before .before .before .before .before .before .before .pre .1 .chained) digest (bucket-told _ _ _ _ _ _ refl digest (at-bucket .0)) (c .before .before .before .before .before .before .load .ensures);
+          sampled = sampled-kept _ _ _ _ _ (entered-behind _ _ _ _ _ _ room r-below (at-bucket .1) (search needs) (search needs) _ is-entered) long (c .before .before .before .before .before .before .before .before .before .before .before .before .before .before .pre .1 .sampled);
+        },
+        long,
+      ),
     )
 
 pub is-like-earlier-spec : {M : Type 1} → statement M
