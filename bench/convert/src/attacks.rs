@@ -951,7 +951,7 @@ fn in_first_bucket(digest: u64, knobs: Knobs) -> bool {
     digest * (knobs.records as u64) >> 32 == 0
 }
 
-/// The first windows of a text of odd bytes, the shortest first, that are in the first bucket: of each digest one, but of one two, so that names are looked at too.
+/// The first windows of a text of odd bytes, the shortest first, that are in the first bucket: of each digest one, but two names of one, so that names are looked at too.
 fn custom_buckets(knobs: Knobs) -> Hostile {
     let mut tree = Hostile::new(knobs);
     let base = tree.layout.text.len();
@@ -968,11 +968,14 @@ fn custom_buckets(knobs: Knobs) -> Hostile {
         for first in 0..=text.len() - long {
             digests[first] = (digests[first] * 256 + u64::from(text[first + long - 1])) % DIGEST_PRIME;
             let digest = digest_end(digests[first]);
-            if in_first_bucket(digest, knobs) && (seen.insert(digest) || !std::mem::replace(&mut twice, true)) {
+            if !in_first_bucket(digest, knobs) {
+                continue;
+            }
+            if seen.insert(digest) || long > 8 && !std::mem::replace(&mut twice, true) {
                 tree.custom(((base + first) as u32, long as u32));
-                if tree.room() == 0 {
-                    return tree;
-                }
+            }
+            if tree.room() == 0 {
+                return tree;
             }
         }
     }
