@@ -36,7 +36,7 @@ const ALL: &[usize] = &[8];
 const SOME: &[usize] = &[1, 2, 3, 4, 6];
 const HIGH: &[usize] = &[1, 20, 48];
 
-pub const ATTACKS: [Attack; 30] = [
+pub const ATTACKS: [Attack; 35] = [
     Attack {
         name: "customs",
         what: "Customs with overlapping names",
@@ -100,6 +100,46 @@ pub const ATTACKS: [Attack; 30] = [
         shares: ALL,
         depths: &[1],
         tree: custom_collisions,
+    },
+    Attack {
+        name: "custom-beginnings",
+        what: "as many Customs of one digest as there is room for, each name the beginning of the next, so that each is compared with all before it",
+        texts: true,
+        shares: ALL,
+        depths: &[1],
+        tree: custom_beginnings,
+    },
+    Attack {
+        name: "custom-buckets",
+        what: "Customs in one bucket, of distinct digests but two",
+        texts: true,
+        shares: ALL,
+        depths: &[1],
+        tree: custom_buckets,
+    },
+    Attack {
+        name: "custom-suspects",
+        what: "Customs with overlapping names, and two short ones of one digest",
+        texts: true,
+        shares: ALL,
+        depths: &[1],
+        tree: custom_suspects,
+    },
+    Attack {
+        name: "array-collisions",
+        what: "array types whose words share their digest",
+        texts: false,
+        shares: ALL,
+        depths: &[1],
+        tree: array_collisions,
+    },
+    Attack {
+        name: "array-buckets",
+        what: "array types of distinct digests in one bucket",
+        texts: false,
+        shares: ALL,
+        depths: &[1],
+        tree: array_buckets,
     },
     Attack {
         name: "calls",
@@ -434,6 +474,15 @@ impl Hostile {
         self.layout.records.len() as u32 - 1
     }
 
+    /// An array type of so many.
+    fn array(&mut self, count: u64) {
+        self.layout.records.push(Record::new(TYPE, 7, [LONG_TYPE, count as u32, (count >> 32) as u32, 0, 0]));
+    }
+
+    fn custom(&mut self, name: Text) {
+        self.layout.records.push(Record::new(TYPE, 8, [name.0, name.1, 0, 0, 0]));
+    }
+
     /// So many leaves, joined in pairs by an operator.
     fn balanced(&mut self, op: u8, leaves: usize, mut leaf: impl FnMut(&mut Self) -> u32) -> u32 {
         let mut row: Vec<u32> = (0..leaves).map(|_| leaf(self)).collect();
@@ -496,18 +545,13 @@ fn customs(knobs: Knobs) -> Hostile {
     // Each window needs its mark.
     let count = tree.room().min(knobs.text / 2 - tree.layout.text.len());
     let windows = tree.windows(knobs.text, count);
-    for at in 0..count {
-        let (a, b) = windows.at(at);
-        tree.layout.records.push(Record::new(TYPE, 8, [a, b, 0, 0, 0]));
-    }
+    (0..count).for_each(|at| tree.custom(windows.at(at)));
     tree
 }
 
 fn arrays(knobs: Knobs) -> Hostile {
     let mut tree = Hostile::new(knobs);
-    for at in 0..tree.room() as u32 {
-        tree.layout.records.push(Record::new(TYPE, 7, [LONG_TYPE, at, 0, 0, 0]));
-    }
+    (0..tree.room() as u64).for_each(|at| tree.array(at));
     tree
 }
 
@@ -853,7 +897,114 @@ fn custom_collisions(knobs: Knobs) -> Hostile {
     let mut tree = Hostile::new(knobs);
     let count = tree.room().min(knobs.text / 24);
     let (base, long) = tree.colliding(knobs.text, count);
-    (0..count as u32).for_each(|at| tree.layout.records.push(Record::new(TYPE, 8, [base + 8 * at, long, 0, 0, 0])));
+    (0..count as u32).for_each(|at| tree.custom((base + 8 * at, long)));
+    tree
+}
+
+/// Text up to `bytes` in all, of eights that lead from digest 1 to digest 1, so that any run of them has that digest: where it begins, and how many there are.
+fn eights(tree: &mut Hostile, bytes: usize) -> (u32, u32) {
+    let text = &mut tree.layout.text;
+    let base = text.len();
+    let count = (bytes - base) / 8;
+    (0..count).for_each(|at| text.extend(ending(1, 1, at)));
+    (base as u32, count as u32)
+}
+
+/// From the first eight on one name for each number of eights, then from the second on.
+fn custom_beginnings(knobs: Knobs) -> Hostile {
+    let mut tree = Hostile::new(knobs);
+    let (base, count) = eights(&mut tree, knobs.text);
+    let runs = (0..count).flat_map(|first| (1..=count - first).map(move |long| (base + 8 * first, 8 * long)));
+    runs.take(tree.room()).for_each(|name| tree.custom(name));
+    tree
+}
+
+fn custom_suspects(knobs: Knobs) -> Hostile {
+    let mut tree = Hostile::new(knobs);
+    let end = tree.layout.text.len() + 16;
+    let (base, _) = eights(&mut tree, end);
+    tree.custom((base, 8));
+    tree.custom((base + 8, 8));
+    let count = tree.room().min(knobs.text / 2 - tree.layout.text.len());
+    let windows = tree.windows(knobs.text, count);
+    (0..count).for_each(|at| tree.custom(windows.at(at)));
+    tree
+}
+
+/// What the library's digest multiplies by (`records/specs/Digest.antt`: `digestStep`, `digestEnd`).
+const DIGEST_FACTORS: [u64; 3] = [663_608_941, 1_013_904_223, 1_481_765_933];
+
+fn folded(x: u64) -> u64 {
+    (x & 0xFFFF_FFFF) + (x >> 32)
+}
+
+fn digest_step(digest: u64, first: u64, second: u64) -> u64 {
+    folded(digest * DIGEST_FACTORS[0] + first + second * DIGEST_FACTORS[1])
+}
+
+fn digest_end(digest: u64) -> u64 {
+    folded(digest * DIGEST_FACTORS[2]) & 0xFFFF_FFFF
+}
+
+/// Digests of the first bucket, whatever the number of types up to that of the records.
+fn in_first_bucket(digest: u64, knobs: Knobs) -> bool {
+    digest * (knobs.records as u64) >> 32 == 0
+}
+
+/// The first windows of a text of odd bytes, the shortest first, that are in the first bucket: of each digest one, but two names of one, so that names are looked at too.
+fn custom_buckets(knobs: Knobs) -> Hostile {
+    let mut tree = Hostile::new(knobs);
+    let base = tree.layout.text.len();
+    let mut state = 1u64;
+    tree.layout.text.extend((base..knobs.text).map(|_| {
+        state = state.wrapping_mul(6_364_136_223_846_793_005).wrapping_add(1_442_695_040_888_963_407);
+        (state >> 56) as u8
+    }));
+    let text = tree.layout.text[base..].to_vec();
+    let mut digests = vec![1; text.len()];
+    let mut seen = std::collections::HashSet::new();
+    let mut twice = false;
+    for long in 1..=text.len() {
+        for first in 0..=text.len() - long {
+            digests[first] = (digests[first] * 256 + u64::from(text[first + long - 1])) % DIGEST_PRIME;
+            let digest = digest_end(digests[first]);
+            if !in_first_bucket(digest, knobs) {
+                continue;
+            }
+            if seen.insert(digest) || long > 8 && !std::mem::replace(&mut twice, true) {
+                tree.custom(((base + first) as u32, long as u32));
+            }
+            if tree.room() == 0 {
+                return tree;
+            }
+        }
+    }
+    tree
+}
+
+/// The first counts whose arrays are in the first bucket, of each digest one.
+fn array_buckets(knobs: Knobs) -> Hostile {
+    let mut tree = Hostile::new(knobs);
+    let before = digest_step(1, 7, u64::from(LONG_TYPE));
+    let mut seen = std::collections::HashSet::new();
+    let counts = (0..u64::from(u32::MAX)).filter(|count| {
+        let digest = digest_end(digest_step(before, *count, 0));
+        in_first_bucket(digest, knobs) && seen.insert(digest)
+    });
+    counts.take(tree.room()).for_each(|count| tree.array(count));
+    tree
+}
+
+/// Each upper half with the lower half that makes their sum one number, and the words of the count that lead there.
+fn array_collisions(knobs: Knobs) -> Hostile {
+    let mut tree = Hostile::new(knobs);
+    let before = digest_step(1, 7, u64::from(LONG_TYPE)) * DIGEST_FACTORS[0];
+    let sum = 0xFFFF_FFFF;
+    let first = (before >> 32) + 1;
+    for upper in first..first + tree.room() as u64 {
+        let rest = (upper << 32) + (sum - upper) - before;
+        tree.array((rest / DIGEST_FACTORS[1] << 32) + rest % DIGEST_FACTORS[1]);
+    }
     tree
 }
 

@@ -237,11 +237,11 @@ seven a b c d e f g h =
     let s = six a b c d e f (and-left (a && b && c && d && e && f) g h) in
     (s .0, s .1, s .2, s .3, s .4, s .5, and-right (a && b && c && d && e && f) g h)
 
-either : (a b : Bool) → (a || b) ≡ true → a ≡ false → b ≡ true
+pub either : (a b : Bool) → (a || b) ≡ true → a ≡ false → b ≡ true
 either true b e f = absurd (false≢true (sym f))
 either false b e f = e
 
-flipped : (b : Bool) → not b ≡ true → b ≡ false
+pub flipped : (b : Bool) → not b ≡ true → b ≡ false
 flipped true e = absurd (false≢true e)
 flipped false e = refl
 
