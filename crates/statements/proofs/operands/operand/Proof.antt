@@ -47,7 +47,7 @@ returns-2 c = leaf-answers _ _ _ _ _ _ _ _ _ _ _ (c .before .before .before .bef
 
 -- src/operands.rt:227:30
 string-operand-requires : tie.Need-string-operand-requires
-string-operand-requires c κs = search needs
+string-operand-requires c κs = (c .before .before .before .before .before .before .before .before .before .before .before .pre .0, (omega (arith, c .before .before .before .before .before .before .before .before .before .before .before .pre .1 .0), search needs))
 
 -- src/operands.rt:227:9
 same-length-3 : tie.Need-same-length-3
