@@ -1,0 +1,3 @@
+pub mod AheadLaws
+pub mod MergeLaws
+pub mod SortLaws
