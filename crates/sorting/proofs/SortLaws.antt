@@ -95,7 +95,7 @@ few-arranged t n at to lo hi s w h =
 pub both-none : (at to lo hi : ℕ) (s : List ℕ) → OnlyBoth at to lo hi s s
 both-none at to lo hi s = record { long = refl; bytes = λ p a b. refl }
 
-module _ (t : ℕ → List ℕ) (n at to lo mid hi : ℕ) (s : List ℕ) (w : Sortable n at to lo hi s) (a : lo ≤ mid) (b : mid ≤ hi) where
+module _ (n at to lo mid hi : ℕ) (s : List ℕ) (w : Sortable n at to lo hi s) (a : lo ≤ mid) (b : mid ≤ hi) where
   pub first-half : Sortable n to at lo mid s
   first-half = part-sortable n at to lo hi s s w lo mid (omega arith) a b refl (λ i x y. (refl, refl)) (λ i x y. (refl, refl))
 
@@ -109,7 +109,7 @@ module _ (t : ℕ → List ℕ) (n at to lo mid hi : ℕ) (s : List ℕ) (w : So
     pub second-half : Sortable n to at mid hi s₁
     second-half = part-sortable n at to lo hi s s₁ w mid hi a b (omega arith) (o₁ .long) first-at first-to
 
-    module _ (s₂ : List ℕ) (o₂ : OnlyBoth to at mid hi s₁ s₂) (r₁ : Arranged t s to s₁ at lo mid) (r₂ : Arranged t s₁ to s₂ at mid hi) where
+    module _ (t : ℕ → List ℕ) (s₂ : List ℕ) (o₂ : OnlyBoth to at mid hi s₁ s₂) (r₁ : Arranged t s to s₁ at lo mid) (r₂ : Arranged t s₁ to s₂ at mid hi) where
       second-at : SameEntries s₁ s₂ at lo mid
       second-at = first-kept at to lo hi (w .places .apart) s₁ s₂ mid hi lo mid a (omega arith) (omega arith) b (inl (omega arith)) o₂
 

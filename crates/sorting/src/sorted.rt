@@ -182,7 +182,7 @@ fn put_next(
     let out = runs.to + SORT_ENTRY_BYTES * k;
     let choice = choose_head(tree, text, scratch, runs, k, heads);
     if choice.left {
-        let next = left + 1;
+        let next = heads.left + 1;
         let a = load(scratch, at + SORT_ENTRY_BYTES * left);
         let after = shared_before(scratch, at, next, runs.mid);
         put_pair(scratch, out, a, heads.left_shared);
@@ -193,7 +193,7 @@ fn put_next(
             right_shared: choice.shared,
         };
     }
-    let next = right + 1;
+    let next = heads.right + 1;
     let b = load(scratch, at + SORT_ENTRY_BYTES * right);
     let after = shared_before(scratch, at, next, runs.hi);
     put_pair(scratch, out, b, heads.right_shared);

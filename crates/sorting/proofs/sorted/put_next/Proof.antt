@@ -43,7 +43,7 @@ same-length : tie.Need-same-length
 same-length c = search needs
 
 returns : tie.Need-returns
-returns c = (left-put _ _ _ _ _ _ _ _ _ _ _ _ _ (c .before .before .before .before .before .before .before .before .before .before .before .before .before .before .before .pre .0) _ _ _ _ _ (c .before .before .before .before .before .before .before .before .before .before .before .before .before .before .before .pre .1) (c .before .before .before .before .before .before .before .before .before .choose-head .ensures) (c .before .before .before .before .before .before .before .before .if1 .taken) (search needs) (search needs) (c .before .before .before .before .before .before .load .ensures) (c .before .before .put-pair .ensures) (c .before .before .before .before .shared-before .ensures), put-only _ _ _ _ _ _ _ _ _ _ _ _ _ (c .before .before .before .before .before .before .before .before .before .before .before .before .before .before .before .pre .0) _ _ _ 0 0 (c .before .before .before .before .before .before .before .before .before .before .before .before .before .before .before .pre .1) (c .before .before .before .before .before .before .before .before .before .choose-head .ensures) _ _ (c .before .before .put-pair .ensures))
+returns c = (left-put _ _ _ _ _ _ _ _ _ _ _ _ _ (c .before .before .before .before .before .before .before .before .before .before .before .before .before .before .before .before .pre .0) _ _ _ _ _ (c .before .before .before .before .before .before .before .before .before .before .before .before .before .before .before .before .pre .1) (c .before .before .before .before .before .before .before .before .before .before .choose-head .ensures) (c .before .before .before .before .before .before .before .before .before .if1 .taken) (search needs) (omega (arith, c .before .before .before .before .before .before .before .before .struct-known2 .given .1 .1 .0)) (c .before .before .before .before .before .before .load .ensures) (c .before .before .put-pair .ensures) (c .before .before .before .before .shared-before .ensures), put-only _ _ _ _ _ _ _ _ _ _ _ _ _ (c .before .before .before .before .before .before .before .before .before .before .before .before .before .before .before .before .pre .0) _ _ _ 0 0 (c .before .before .before .before .before .before .before .before .before .before .before .before .before .before .before .before .pre .1) (c .before .before .before .before .before .before .before .before .before .before .choose-head .ensures) _ _ (c .before .before .put-pair .ensures))
 
 add-next-2 : tie.Need-add-next-2
 add-next-2 c = search needs
@@ -55,7 +55,7 @@ add-load-2 : tie.Need-add-load-2
 add-load-2 c = search needs
 
 load-requires-2 : tie.Need-load-requires-2
-load-requires-2 c κs = omega (arith, c .before .before .choose-head .ensures .rightIs (c .before .if1 .left), c .before .before .before .before .before .before .before .before .pre .0 .runs .places .first)
+load-requires-2 c κs = omega (arith, c .before .before .before .choose-head .ensures .rightIs (c .before .before .if1 .left), c .before .before .before .before .before .before .before .before .before .pre .0 .runs .places .first)
 
 shared-before-requires-2 : tie.Need-shared-before-requires-2
 shared-before-requires-2 c κs = search needs
@@ -67,7 +67,7 @@ same-length-2 : tie.Need-same-length-2
 same-length-2 c = search needs
 
 returns-2 : tie.Need-returns-2
-returns-2 c = (right-put _ _ _ _ _ _ _ _ _ _ _ _ _ (c .before .before .before .before .before .before .before .before .before .before .before .before .before .before .before .pre .0) _ _ _ _ _ (c .before .before .before .before .before .before .before .before .before .before .before .before .before .before .before .pre .1) (c .before .before .before .before .before .before .before .before .before .choose-head .ensures) (c .before .before .before .before .before .before .before .before .if1 .left) (search needs) (search needs) (c .before .before .before .before .before .before .load2 .ensures) (c .before .before .put-pair2 .ensures) (c .before .before .before .before .shared-before2 .ensures), put-only _ _ _ _ _ _ _ _ _ _ _ _ _ (c .before .before .before .before .before .before .before .before .before .before .before .before .before .before .before .pre .0) _ _ _ 0 0 (c .before .before .before .before .before .before .before .before .before .before .before .before .before .before .before .pre .1) (c .before .before .before .before .before .before .before .before .before .choose-head .ensures) _ _ (c .before .before .put-pair2 .ensures))
+returns-2 c = (right-put _ _ _ _ _ _ _ _ _ _ _ _ _ (c .before .before .before .before .before .before .before .before .before .before .before .before .before .before .before .before .pre .0) _ _ _ _ _ (c .before .before .before .before .before .before .before .before .before .before .before .before .before .before .before .before .pre .1) (c .before .before .before .before .before .before .before .before .before .before .choose-head .ensures) (c .before .before .before .before .before .before .before .before .before .if1 .left) (search needs) (omega (arith, c .before .before .before .before .before .before .before .before .struct-known3 .given .1 .1 .1 .0)) (c .before .before .before .before .before .before .load2 .ensures) (c .before .before .put-pair2 .ensures) (c .before .before .before .before .shared-before2 .ensures), put-only _ _ _ _ _ _ _ _ _ _ _ _ _ (c .before .before .before .before .before .before .before .before .before .before .before .before .before .before .before .before .pre .0) _ _ _ 0 0 (c .before .before .before .before .before .before .before .before .before .before .before .before .before .before .before .before .pre .1) (c .before .before .before .before .before .before .before .before .before .before .choose-head .ensures) _ _ (c .before .before .put-pair2 .ensures))
 
 pub put-next-spec : {M : Type 1} → statement M
 put-next-spec =
