@@ -91,6 +91,60 @@ further-first (a ∷ x) (d ∷ y) (c ∷ z) p h b =
     let ad : a ≡ d → ⊥ = eqb-false a d q in
     other-byte c d z y p (λ e. ad (ac ∙ e)) ∙ ap (λ (k : ℕ). ltb k d) (sym ac) ∙ sym (other-byte a d x y true ad) ∙ b)
 
+pub ahead-self : (x : List ℕ) (p : Bool) → ahead x x p ≡ p
+unfolding ahead
+ahead-self [] p = refl
+ahead-self (a ∷ x) p = same-byte a a x x p refl ∙ ahead-self x p
+
+pub ahead-trans : (x y z : List ℕ) (p q r : Bool) → ahead x y p ≡ true → ahead y z q ≡ true → (p ≡ true → q ≡ true → r ≡ true) → ahead x z r ≡ true
+unfolding ahead
+ahead-trans [] [] [] p q r h k f = f h k
+ahead-trans [] [] (c ∷ z) p q r h k f = refl
+ahead-trans [] (b ∷ y) [] p q r h k f = absurd (false≢true k)
+ahead-trans [] (b ∷ y) (c ∷ z) p q r h k f = refl
+ahead-trans (a ∷ x) [] z p q r h k f = absurd (false≢true h)
+ahead-trans (a ∷ x) (b ∷ y) [] p q r h k f = absurd (false≢true k)
+ahead-trans (a ∷ x) (b ∷ y) (c ∷ z) p q r h k f =
+    tested (eqb a b)
+    (λ u.
+    let ab : a ≡ b = eqb-true a b u in
+    tested (eqb b c)
+    (λ v.
+    let bc : b ≡ c = eqb-true b c v in
+    same-byte a c x z r (ab ∙ bc) ∙ ahead-trans x y z p q r (sym (same-byte a b x y p ab) ∙ h) (sym (same-byte b c y z q bc) ∙ k) f)
+    (λ v.
+    let bc : b ≡ c → ⊥ = eqb-false b c v in
+    let less : b < c = ltb-true b c (sym (other-byte b c y z q bc) ∙ k) in
+    other-byte a c x z r (λ e. omega arith) ∙ lt-ltb a c (omega arith)))
+    (λ u.
+    let ab : a ≡ b → ⊥ = eqb-false a b u in
+    let less : a < b = ltb-true a b (sym (other-byte a b x y p ab) ∙ h) in
+    tested (eqb b c)
+    (λ v. let bc : b ≡ c = eqb-true b c v in other-byte a c x z r (λ e. omega arith) ∙ lt-ltb a c (omega arith))
+    (λ v.
+    let bc : b ≡ c → ⊥ = eqb-false b c v in
+    let more : b < c = ltb-true b c (sym (other-byte b c y z q bc) ∙ k) in
+    other-byte a c x z r (λ e. omega arith) ∙ lt-ltb a c (omega arith)))
+
+pub ahead-both : (x y : List ℕ) → ahead x y true ≡ true → ahead y x true ≡ true → x ≡ y
+unfolding ahead
+ahead-both [] [] h k = refl
+ahead-both [] (b ∷ y) h k = absurd (false≢true k)
+ahead-both (a ∷ x) [] h k = absurd (false≢true h)
+ahead-both (a ∷ x) (b ∷ y) h k =
+    tested (eqb a b)
+    (λ u.
+    let e : a ≡ b = eqb-true a b u in
+    ap₂ (λ (c : ℕ) (l : List ℕ). c ∷ l) e (ahead-both x y (sym (same-byte a b x y true e) ∙ h) (sym (same-byte b a y x true (sym e)) ∙ k)))
+    (λ u.
+    let n : a ≡ b → ⊥ = eqb-false a b u in
+    absurd
+    (omega (
+      arith,
+      ltb-true a b (sym (other-byte a b x y true n) ∙ h),
+      ltb-true b a (sym (other-byte b a y x true (λ q. n (sym q))) ∙ k),
+    )))
+
 -- ---- two texts that agree just so far
 
 ahead-ends : (t u : List ℕ) → common t u ≡ length t → ahead t u true ≡ true
@@ -133,6 +187,17 @@ text-byte : (text : List ℕ) (i n k : ℕ) → k < n → getD (textAt text i n)
 unfolding textAt
 text-byte text i n k h = getD-take n (drop i text) k 0 h ∙ getD-drop i text k 0
 
+-- texts that agree to the end of both are the same
+pub whole : (x y : List ℕ) → common x y ≡ length x → common x y ≡ length y → x ≡ y
+unfolding common
+whole [] [] h i = refl
+whole [] (b ∷ y) h i = absurd (omega arith)
+whole (a ∷ x) [] h i = absurd (omega arith)
+whole (a ∷ x) (b ∷ y) h i =
+    tested (eqb a b)
+    (λ u. let e : a ≡ b = eqb-true a b u in ap₂ (λ (c : ℕ) (l : List ℕ). c ∷ l) e (whole x y (omega (arith, more a b x y e)) (omega (arith, more a b x y e))))
+    (λ u. absurd (omega (arith, none a b x y (eqb-false a b u))))
+
 -- the bytes from i on agree with themselves
 pub common-one : (text : List ℕ) (i j n : ℕ) → i ≡ j → (0 < n → (i + n ≤ length text) × (j + n ≤ length text)) → n ≡ common (textAt text i n) (textAt text j n)
 common-one text i j n e f =
@@ -170,6 +235,9 @@ module _ (text : List ℕ) (i x j y shared : ℕ) (ex : x ≡ length (textAt tex
         ∙ ap₂ ltb
         (ap (λ (k : ℕ). getD (textAt text i x) k 0) (sym es) ∙ text-byte text i x shared left-below)
         (ap (λ (k : ℕ). getD (textAt text j y) k 0) (sym es) ∙ text-byte text j y shared right-below))
+
+pub long-told : (tree text : List ℕ) (r i n v : ℕ) → i ≡ wordOf tree r A → n ≡ wordOf tree r B → v ≡ length (textAt text i n) → v ≡ length (recordText tree text r)
+long-told tree text r i n v ei en e = e ∙ ap₂ (λ (p q : ℕ). length (textAt text p q)) ei en
 
 -- ---- the texts of two records, of which l bytes at least can be compared
 

@@ -1,3 +1,4 @@
 pub mod AheadLaws
+pub mod GroupLaws
 pub mod MergeLaws
 pub mod SortLaws

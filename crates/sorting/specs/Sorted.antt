@@ -144,3 +144,54 @@ pub record Merging (t : ℕ → List ℕ) (n at to lo mid hi k i j left right : 
   pub leftOut : (q : ℕ) → lo ≤ q → q < i → Stands s to lo k (recordIn s at q)
   pub rightOut : (q : ℕ) → mid ≤ q → q < j → Stands s to lo k (recordIn s at q)
   pub only : (q : ℕ) → lo ≤ q → q < k → Stands s at lo hi (recordIn s to q)
+
+-- ---- what the order tells
+
+-- m entries are sorted, of records below n
+pub record SortedRecords (t : ℕ → List ℕ) (n at m : ℕ) (s : List ℕ) : Type 0 where
+  pub room : at + sortEntryBytes * m ≤ length s
+  pub inside : (i : ℕ) → i < m → recordIn s at i < n
+  pub sorted : Sorted t s at 0 m
+
+-- record r is that of an entry, and has the text of a lower one that is
+pub record Repeated (t : ℕ → List ℕ) (s : List ℕ) (at m r : ℕ) : Type 0 where
+  pub here : Stands s at 0 m r
+  pub lower : ℕ
+  pub there : Stands s at 0 m lower
+  pub less : lower < r
+  pub same : t lower ≡ t r
+
+-- v is the record of the entry behind entry i, if both have the same text, else `bound`
+pub record RepeatedBehind (t : ℕ → List ℕ) (s : List ℕ) (at i bound v : ℕ) : Type 0 where
+  pub found : (v ≡ bound) ⊎ ((v ≡ recordIn s at (i + 1)) × (t (recordIn s at i) ≡ t (recordIn s at (i + 1))))
+  pub least : t (recordIn s at i) ≡ t (recordIn s at (i + 1)) → v ≡ recordIn s at (i + 1)
+
+-- v is the lowest of these, or `bound` where none is lower than that
+pub record FirstRepeated (t : ℕ → List ℕ) (s : List ℕ) (at m bound v : ℕ) : Type 0 where
+  pub found : (v ≡ bound) ⊎ Repeated t s at m v
+  pub least : (r : ℕ) → Repeated t s at m r → v ≤ r
+
+-- v is the lowest record of an entry that has the text of record r
+pub record FirstOfText (t : ℕ → List ℕ) (s : List ℕ) (at m r v : ℕ) : Type 0 where
+  pub stands : Stands s at 0 m v
+  pub same : t v ≡ t r
+  pub least : (i : ℕ) → i < m → t (recordIn s at i) ≡ t r → v ≤ recordIn s at i
+
+-- entry `place` is the first with the text of entry i, and its record is v
+pub record FirstUpTo (t : ℕ → List ℕ) (s : List ℕ) (at i v : ℕ) : Type 0 where
+  pub place : ℕ
+  pub high : place ≤ i
+  pub there : recordIn s at place ≡ v
+  pub same : t v ≡ t (recordIn s at i)
+  pub new : (q : ℕ) → q + 1 ≡ place → t (recordIn s at q) ≡ t v → ⊥
+
+-- a number for each of n records stands from `to` on, apart from m entries from `at` on
+pub record NumbersApart (n at m to : ℕ) (s : List ℕ) : Type 0 where
+  pub room : to + 4 * n ≤ length s
+  pub apart : (at + sortEntryBytes * m ≤ to) ⊎ (to + 4 * n ≤ at)
+
+-- the first i entries have their numbers, the first record with their text; nothing but numbers is written
+pub record NumberedUpTo (t : ℕ → List ℕ) (n at m to i : ℕ) (s s′ : List ℕ) : Type 0 where
+  pub long : length s′ ≡ length s
+  pub bytes : (p : ℕ) → (p < to) ⊎ (to + 4 * n ≤ p) → getD s′ p 0 ≡ getD s p 0
+  pub number : (q : ℕ) → q < i → FirstOfText t s at m (recordIn s at q) (wordAt s′ (to + 4 * recordIn s at q))

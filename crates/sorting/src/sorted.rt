@@ -4,9 +4,9 @@ ghost use mathlib.Core.Path.{_≡_};
 ghost use mathlib.Core.Bool.{true};
 ghost use Prim.Native.Nat.{ℕ, _+_, _*_, _≤_, _<_, min};
 ghost use lib.ListN.{length};
-ghost use Rattle.records.specs.Words.{recordBytes, textAt, records};
+ghost use Rattle.records.specs.Words.{textAt, sameText, records};
 ghost use Rattle.records.specs.Order.{common as commonOf, recordText};
-ghost use Rattle.sorting.specs.Sorted.{ahead, sortEntryBytes, recordIn, sharedIn, BehindOne, Chosen, HeadChosen, TwoRuns, Merging, Arranged, OnlyThere, OnlyBoth, TwoPlaces, RecordsRise, Sortable};
+ghost use Rattle.sorting.specs.Sorted.{ahead, sortEntryBytes, recordIn, sharedIn, BehindOne, Chosen, HeadChosen, TwoRuns, Merging, Arranged, OnlyThere, OnlyBoth, TwoPlaces, RecordsRise, Sortable, SortedRecords, RepeatedBehind, FirstRepeated, FirstUpTo, NumbersApart, NumberedUpTo};
 use records::order::common;
 use records::order::least;
 use records::texts::reach;
@@ -16,10 +16,14 @@ use records::words::WORD_B;
 use records::words::index;
 use records::words::load;
 use records::words::put_pair;
+use records::words::put_word;
 use records::words::word;
 
 // An entry is a record, and beside it how far its text agrees with that of the entry before.
 pub const SORT_ENTRY_BYTES: usize = 8;
+
+// A record's number is a word.
+const NUMBER_BYTES: usize = 4;
 
 // How many of n bytes from i and from j on agree, where the first `from` do: all where these are the same bytes.
 fn common_from(text: &[u8], i: usize, j: usize, n: usize, from: usize) -> usize
@@ -275,4 +279,86 @@ pub fn sort_texts(tree: &[u8], text: &[u8], scratch: &mut [u8], at: usize, to: u
 {
     copy_records(scratch, at, to, m);
     sort_range(tree, text, scratch, to, at, 0, m);
+}
+
+// How many bytes the text of record r has.
+fn text_long(tree: &[u8], text: &[u8], r: usize) -> usize
+    requires { ⌜ r < records (now tree) ⌝ }
+    ensures { λ v. ⌜ v ≡ length (recordText (now (tree .entry)) (now (text .entry)) r) ⌝ }
+{
+    reach(
+        text,
+        index(word(tree, r, WORD_A)),
+        index(word(tree, r, WORD_B)),
+    )
+}
+
+// Entry i and the one behind it have the same text: they agree to the end of both.
+fn same_as_next(tree: &[u8], text: &[u8], scratch: &[u8], at: usize, m: usize, i: usize) -> bool
+    requires { ⌜ SortedRecords (recordText (now tree) (now text)) (records (now tree)) at m (now scratch) × (i + 1 < m) ⌝ }
+    ensures { λ v. ⌜ v ≡ sameText (recordText (now (tree .entry)) (now (text .entry)) (recordIn (now (scratch .entry)) at i)) (recordText (now (tree .entry)) (now (text .entry)) (recordIn (now (scratch .entry)) at (i + 1))) ⌝ }
+{
+    let next = i + 1;
+    let shared = index(load(scratch, at + SORT_ENTRY_BYTES * next + SECOND_WORD));
+    let x = text_long(tree, text, index(load(scratch, at + SORT_ENTRY_BYTES * i)));
+    let y = text_long(tree, text, index(load(scratch, at + SORT_ENTRY_BYTES * next)));
+    (shared == x) & (shared == y)
+}
+
+// The record of the entry behind entry i, if that has the same text; else `bound`.
+fn repeated_behind(tree: &[u8], text: &[u8], scratch: &[u8], at: usize, m: usize, i: usize, bound: usize) -> usize
+    requires { ⌜ SortedRecords (recordText (now tree) (now text)) (records (now tree)) at m (now scratch) × (i + 1 < m) ⌝ }
+    ensures { λ v. ⌜ RepeatedBehind (recordText (now (tree .entry)) (now (text .entry))) (now (scratch .entry)) at i bound v ⌝ }
+{
+    if same_as_next(tree, text, scratch, at, m, i) {
+        return index(load(scratch, at + SORT_ENTRY_BYTES * (i + 1)));
+    }
+    bound
+}
+
+// The lowest of m sorted records that has the text of a lower one, or `bound` where none is lower than that.
+pub fn first_repeated(tree: &[u8], text: &[u8], scratch: &[u8], at: usize, m: usize, bound: usize) -> usize
+    requires { ⌜ SortedRecords (recordText (now tree) (now text)) (records (now tree)) at m (now scratch) ⌝ }
+    ensures { λ v. ⌜ FirstRepeated (recordText (now (tree .entry)) (now (text .entry))) (now (scratch .entry)) at m bound v ⌝ }
+{
+    let mut lowest = bound;
+    let mut i = 1;
+    while i < m {
+        let before = i - 1;
+        lowest = least(lowest, repeated_behind(tree, text, scratch, at, m, before, bound));
+        i += 1;
+    }
+    lowest
+}
+
+// The first record with the text of entry i, where `first` is that with the text of the entry before.
+fn first_up_to(tree: &[u8], text: &[u8], scratch: &[u8], at: usize, m: usize, i: usize, first: u32) -> u32
+    requires { ⌜ SortedRecords (recordText (now tree) (now text)) (records (now tree)) at m (now scratch) × (i < m) ⌝ }
+    requires { ⌜ ((q : ℕ) → q + 1 ≡ i → FirstUpTo (recordText (now tree) (now text)) (now scratch) at q first) ⌝ }
+    ensures { λ v. ⌜ FirstUpTo (recordText (now (tree .entry)) (now (text .entry))) (now (scratch .entry)) at i v ⌝ }
+{
+    let r = load(scratch, at + SORT_ENTRY_BYTES * i);
+    if i == 0 {
+        return r;
+    }
+    let before = i - 1;
+    if same_as_next(tree, text, scratch, at, m, before) {
+        return first;
+    }
+    r
+}
+
+// Each of m sorted records gets its number, the first record with its text: a word for each record, from `to` on.
+pub fn number_sorted(tree: &[u8], text: &[u8], scratch: &mut [u8], at: usize, m: usize, to: usize)
+    requires { ⌜ SortedRecords (recordText (now tree) (now text)) (records (now tree)) at m (now scratch) × NumbersApart (records (now tree)) at m to (now scratch) ⌝ }
+    ensures { λ _. ⌜ NumberedUpTo (recordText (now (tree .entry)) (now (text .entry))) (records (now (tree .entry))) at m to m (now (scratch .entry)) (now (scratch .exit)) ⌝ }
+{
+    let mut first: u32 = 0;
+    let mut i = 0;
+    while i < m {
+        first = first_up_to(tree, text, scratch, at, m, i, first);
+        let r = index(load(scratch, at + SORT_ENTRY_BYTES * i));
+        put_word(scratch, to + NUMBER_BYTES * r, first);
+        i += 1;
+    }
 }
