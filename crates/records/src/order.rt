@@ -51,7 +51,7 @@ fn common_eights(text: &[u8], a: usize, b: usize, n: usize, from: usize) -> usiz
 }
 
 // The same by eight eights, and the rest by eights.
-fn common(text: &[u8], a: usize, b: usize, n: usize, from: usize) -> usize
+pub fn common(text: &[u8], a: usize, b: usize, n: usize, from: usize) -> usize
     requires { ⌜ (0 < n → (a + n ≤ length (now text)) × (b + n ≤ length (now text))) × (from ≤ commonOf (textAt (now text) a n) (textAt (now text) b n)) ⌝ }
     ensures { λ r. ⌜ r ≡ commonOf (textAt (now (text .entry)) a n) (textAt (now (text .entry)) b n) ⌝ }
 {
@@ -65,7 +65,7 @@ fn common(text: &[u8], a: usize, b: usize, n: usize, from: usize) -> usize
     common_eights(text, a, b, n, k)
 }
 
-fn least(x: usize, y: usize) -> usize
+pub fn least(x: usize, y: usize) -> usize
     ensures { λ r. ⌜ r ≡ min x y ⌝ }
 {
     if x < y { x } else { y }

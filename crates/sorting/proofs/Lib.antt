@@ -1,0 +1,4 @@
+pub mod AheadLaws
+pub mod GroupLaws
+pub mod MergeLaws
+pub mod SortLaws
