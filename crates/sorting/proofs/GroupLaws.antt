@@ -18,7 +18,7 @@ use Rattle.records.proofs.Apart.{byte-apart, word-apart, word-there, word-back}
 use Rattle.records.proofs.CommonLaws.{common-self}
 use Rattle.records.proofs.TextLaws.{same-texts}
 use Rattle.records.proofs.DigestLaws.{same-equal}
-use Rattle.sorting.specs.Sorted.{ahead, Precedes, recordIn, sharedIn, Sorted, Stands, SortedRecords, Repeated, RepeatedBehind, FirstRepeated, FirstOfText, FirstUpTo, NumbersApart, NumberedUpTo}
+use Rattle.sorting.specs.Sorted.{ahead, Precedes, recordIn, sharedIn, Sorted, HasEntry, SortedRecords, Repeated, RepeatedBehind, FirstRepeated, FirstOfText, FirstUpTo, NumbersApart, NumberedUpTo}
 use Rattle.sorting.proofs.AheadLaws.{ahead-weak, ahead-self, ahead-trans, ahead-both, whole}
 use Rattle.sorting.proofs.MergeLaws.{SameEntries, entries-kept, sorted-kept, stands-kept}
 
@@ -116,19 +116,18 @@ module _ (t : ℕ → List ℕ) (n at m : ℕ) (s : List ℕ) (w : SortedRecords
   looked-none bound = (inl refl, λ q h e. absurd (omega arith))
 
   pub looked-more : (bound i q v r v′ : ℕ) → q + 1 ≡ i → i < m → Looked t s at m bound i v → RepeatedBehind t s at q bound r → v′ ≡ min v r → Looked t s at m bound (i + 1) v′
-  looked-more bound i q v r v′ e h l b ev =
-      (
-        tested (ltb r v)
+  looked-more bound i q v r v′ e h l b ev = (
+    tested (ltb r v)
         (λ y. let z : r ≡ v′ = omega (arith, ltb-true r v y) in its z (b .found))
         (λ y. let z : v ≡ v′ = omega (arith, ltb-false r v y) in subst (λ (x : ℕ). (x ≡ bound) ⊎ Repeated t s at m x) z (l .0)),
-        λ p g f.
-            tested (ltb (p + 1) i)
-            (λ y. omega (arith, l .1 p (ltb-true (p + 1) i y) f))
-            (λ y.
-            let z : p ≡ q = omega (arith, ltb-false (p + 1) i y) in
-            let here : r ≡ recordIn s at (p + 1) = subst (λ (x : ℕ). t (recordIn s at x) ≡ t (recordIn s at (x + 1)) → r ≡ recordIn s at (x + 1)) (sym z) (b .least) f in
-            omega arith),
-      )
+    λ p g f.
+        tested (ltb (p + 1) i)
+        (λ y. omega (arith, l .1 p (ltb-true (p + 1) i y) f))
+        (λ y.
+        let z : p ≡ q = omega (arith, ltb-false (p + 1) i y) in
+        let here : r ≡ recordIn s at (p + 1) = subst (λ (x : ℕ). t (recordIn s at x) ≡ t (recordIn s at (x + 1)) → r ≡ recordIn s at (x + 1)) (sym z) (b .least) f in
+        omega arith),
+  )
     where
       its : r ≡ v′ → (r ≡ bound) ⊎ ((r ≡ recordIn s at (q + 1)) × (t (recordIn s at q) ≡ t (recordIn s at (q + 1)))) → (v′ ≡ bound) ⊎ Repeated t s at m v′
       its z (inl x) = inl (sym z ∙ x)
@@ -146,7 +145,7 @@ module _ (t : ℕ → List ℕ) (n at m : ℕ) (s : List ℕ) (w : SortedRecords
   pub looked-all : (bound i v : ℕ) → m ≤ i → Looked t s at m bound i v → FirstRepeated t s at m bound v
   looked-all bound i v h l = record { found = l .0; least = λ r w. least r w (w .here) (w .there) }
     where
-      least : (r : ℕ) (w : Repeated t s at m r) → Stands s at 0 m r → Stands s at 0 m (w .lower) → v ≤ r
+      least : (r : ℕ) (w : Repeated t s at m r) → HasEntry s at 0 m r → HasEntry s at 0 m (w .lower) → v ≤ r
       least r w a b =
           let j : ℕ = a .place in
           let k : ℕ = b .place in

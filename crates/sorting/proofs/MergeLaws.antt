@@ -16,7 +16,7 @@ use Rattle.records.specs.Words.{byteAt, wordAt, bytesOf, word}
 use Rattle.records.specs.Order.{common}
 use Rattle.records.proofs.Apart.{byte-apart, word-same, word-there, word-back}
 use Rattle.records.proofs.CommonLaws.{common-empty}
-use Rattle.sorting.specs.Sorted.{ahead, Precedes, recordIn, sharedIn, Follows, Sorted, Stands, Arranged, Outside, OnlyThere, TwoPlaces, BehindOne, Chosen, HeadChosen, TwoRuns, Behind, Merging}
+use Rattle.sorting.specs.Sorted.{ahead, Precedes, recordIn, sharedIn, Follows, Sorted, HasEntry, Arranged, Outside, OnlyThere, TwoPlaces, BehindOne, Chosen, HeadChosen, TwoRuns, Behind, Merging}
 use Rattle.sorting.proofs.AheadLaws.{ahead-empty, ahead-weak, left-precedes, right-precedes, right-shares}
 
 -- ---- entries whose bytes are kept
@@ -46,13 +46,16 @@ module _ (s s′ : List ℕ) (at lo hi : ℕ) (k : SameEntries s s′ at lo hi) 
         shares = k (i + 1) (omega arith) b .1 ∙ f i a b .shares ∙ ap₂ (λ (x y : ℕ). common (t x) (t y)) (sym e) (sym g);
       }
 
-  pub stands-kept : (r : ℕ) → Stands s at lo hi r → Stands s′ at lo hi r
+  pub stands-back : (r : ℕ) → HasEntry s′ at lo hi r → HasEntry s at lo hi r
+  stands-back r u = record { place = u .place; low = u .low; high = u .high; there = sym (k (u .place) (u .low) (u .high) .0) ∙ u .there }
+
+  pub stands-kept : (r : ℕ) → HasEntry s at lo hi r → HasEntry s′ at lo hi r
   stands-kept r w = record { place = w .place; low = w .low; high = w .high; there = k (w .place) (w .low) (w .high) .0 ∙ w .there }
 
-pub stands-is : (s : List ℕ) (at lo hi r r′ : ℕ) → r ≡ r′ → Stands s at lo hi r → Stands s at lo hi r′
+pub stands-is : (s : List ℕ) (at lo hi r r′ : ℕ) → r ≡ r′ → HasEntry s at lo hi r → HasEntry s at lo hi r′
 stands-is s at lo hi r r′ e w = record { place = w .place; low = w .low; high = w .high; there = w .there ∙ e }
 
-pub stands-wider : (s : List ℕ) (at lo hi lo′ hi′ r : ℕ) → lo′ ≤ lo → hi ≤ hi′ → Stands s at lo hi r → Stands s at lo′ hi′ r
+pub stands-wider : (s : List ℕ) (at lo hi lo′ hi′ r : ℕ) → lo′ ≤ lo → hi ≤ hi′ → HasEntry s at lo hi r → HasEntry s at lo′ hi′ r
 stands-wider s at lo hi lo′ hi′ r a b w =
     record { place = w .place; low = omega (arith, w .low); high = omega (arith, w .high); there = w .there }
 
@@ -171,8 +174,7 @@ module _ (t : ℕ → List ℕ) (n at to lo mid hi : ℕ) where
       pub heads-asked : ((a < n) × (b < n)) × BehindOne (t a) (t b) left right
       heads-asked =
           let hl : i < mid = omega (arith, m .leftHigh) in
-          let hr : j < hi = omega (arith, m .rightHigh) in
-          (
+          let hr : j < hi = omega (arith, m .rightHigh) in (
             (
               omega (arith, m .runs .inside i (m .leftLow) (omega (arith, m .runs .ends))),
               omega (arith, m .runs .inside j (omega (arith, m .rightLow, m .runs .rises)) hr),
@@ -243,15 +245,15 @@ module _ (t : ℕ → List ℕ) (n at to lo mid hi : ℕ) where
             shares = es ∙ b .shares x a e ∙ ap₂ (λ (y z : ℕ). common (t y) (t z)) (sym g) (sym er);
           })
 
-      still-out : (q : ℕ) → lo ≤ q → q < hi → Stands s to lo k (recordIn s at q) → Stands s′ to lo (k + 1) (recordIn s′ at q)
+      still-out : (q : ℕ) → lo ≤ q → q < hi → HasEntry s to lo k (recordIn s at q) → HasEntry s′ to lo (k + 1) (recordIn s′ at q)
       still-out q x y w =
           stands-is s′ to lo (k + 1) (recordIn s at q) (recordIn s′ at q) (sym (source q x y .0))
           (stands-wider s′ to lo k lo (k + 1) (recordIn s at q) (omega arith) (omega arith) (stands-kept s s′ to lo k before (recordIn s at q) w))
 
-      new-out : (q : ℕ) → q ≡ c → Stands s′ to lo (k + 1) (recordIn s′ at q)
+      new-out : (q : ℕ) → q ≡ c → HasEntry s′ to lo (k + 1) (recordIn s′ at q)
       new-out q e = record { place = k; low = out-low; high = omega arith; there = chosen ∙ ap (recordIn s′ at) (sym e) }
 
-      only-more : (q : ℕ) → lo ≤ q → q < k + 1 → Stands s′ at lo hi (recordIn s′ to q)
+      only-more : (q : ℕ) → lo ≤ q → q < k + 1 → HasEntry s′ at lo hi (recordIn s′ to q)
       only-more q x y =
           tested (ltb q k)
           (λ l.
@@ -380,8 +382,5 @@ module _ (t : ℕ → List ℕ) (n at to lo mid hi : ℕ) where
               (λ l. m .leftOut q x (omega (arith, ltb-true q mid l, m .count, m .leftHigh, m .rightHigh)))
               (λ l. m .rightOut q (ltb-false q mid l) (omega (arith, m .count, m .leftHigh, m .rightHigh)))));
           only = λ q x y.
-              stands-back s₀ s kept (recordIn s to q) (m .only q x (omega arith));
+              stands-back s₀ s at lo hi kept (recordIn s to q) (m .only q x (omega arith));
         }
-      where
-        stands-back : (s₀ s : List ℕ) → SameEntries s₀ s at lo hi → (r : ℕ) → Stands s at lo hi r → Stands s₀ at lo hi r
-        stands-back s₀ s kept r u = record { place = u .place; low = u .low; high = u .high; there = sym (kept (u .place) (u .low) (u .high) .0) ∙ u .there }

@@ -11,18 +11,14 @@ use borrow.Author.Tests.{ltb-true, ltb-false}
 use Rattle.laws.specs.Splice.{splice}
 use Rattle.laws.proofs.Tests.{tested}
 use Rattle.records.specs.Words.{word}
-use Rattle.sorting.specs.Sorted.{recordIn, sharedIn, Sorted, Stands, Arranged, Outside, OnlyThere, OnlyBoth, TwoPlaces, RecordsRise, Sortable, TwoRuns}
-use Rattle.sorting.proofs.MergeLaws.{SameEntries, entries-kept, sorted-kept, stands-kept, stands-is, stands-wider, put-there, put-record, only-on, only-wider, source-kept}
+use Rattle.sorting.specs.Sorted.{recordIn, sharedIn, Sorted, HasEntry, Arranged, Outside, OnlyThere, OnlyBoth, TwoPlaces, RecordsRise, Sortable, TwoRuns}
+use Rattle.sorting.proofs.MergeLaws.{SameEntries, entries-kept, sorted-kept, stands-kept, stands-back, stands-is, stands-wider, put-there, put-record, only-on, only-wider, source-kept}
 
 -- ---- what stands where
 
 outside-narrower : (at lo hi lo′ hi′ p : ℕ) → lo ≤ lo′ → hi′ ≤ hi → Outside at lo hi p → Outside at lo′ hi′ p
 outside-narrower at lo hi lo′ hi′ p a b (inl h) = inl (omega arith)
 outside-narrower at lo hi lo′ hi′ p a b (inr h) = inr (omega arith)
-
-stands-back : (s s′ : List ℕ) (at lo hi r : ℕ) → SameEntries s s′ at lo hi → Stands s′ at lo hi r → Stands s at lo hi r
-stands-back s s′ at lo hi r k u =
-    record { place = u .place; low = u .low; high = u .high; there = sym (k (u .place) (u .low) (u .high) .0) ∙ u .there }
 
 -- the entries from lo to hi are in two places; those from lo′ to hi′ are written, and those from lo″ to hi″ are kept
 module _ (at to lo hi : ℕ) (apart : (at + 8 * hi ≤ to + 8 * lo) ⊎ (to + 8 * hi ≤ at + 8 * lo)) (s s′ : List ℕ) (lo′ hi′ lo″ hi″ : ℕ) (a : lo ≤ lo′) (b : hi′ ≤ hi)
@@ -113,18 +109,18 @@ module _ (n at to lo mid hi : ℕ) (s : List ℕ) (w : Sortable n at to lo hi s)
       second-at : SameEntries s₁ s₂ at lo mid
       second-at = first-kept at to lo hi (w .places .apart) s₁ s₂ mid hi lo mid a (omega arith) (omega arith) b (inl (omega arith)) o₂
 
-      from-left : (i : ℕ) → lo ≤ i → i < mid → Stands s to lo mid (recordIn s₂ at i)
+      from-left : (i : ℕ) → lo ≤ i → i < mid → HasEntry s to lo mid (recordIn s₂ at i)
       from-left i x y = stands-is s to lo mid (recordIn s₁ at i) (recordIn s₂ at i) (sym (second-at i x y .0)) (r₁ .only i x y)
 
-      from-right : (i : ℕ) → mid ≤ i → i < hi → Stands s to mid hi (recordIn s₂ at i)
-      from-right i x y = stands-back s s₁ to mid hi (recordIn s₂ at i) first-to (r₂ .only i x y)
+      from-right : (i : ℕ) → mid ≤ i → i < hi → HasEntry s to mid hi (recordIn s₂ at i)
+      from-right i x y = stands-back s s₁ to mid hi first-to (recordIn s₂ at i) (r₂ .only i x y)
 
       -- what stands from `to` on stands from `at` on too
-      there-too : (lo′ hi′ r : ℕ) → lo ≤ lo′ → hi′ ≤ hi → Stands s to lo′ hi′ r → Stands s at lo′ hi′ r
+      there-too : (lo′ hi′ r : ℕ) → lo ≤ lo′ → hi′ ≤ hi → HasEntry s to lo′ hi′ r → HasEntry s at lo′ hi′ r
       there-too lo′ hi′ r x y u =
           record { place = u .place; low = u .low; high = u .high; there = sym (w .twice (u .place) (omega (arith, u .low)) (omega (arith, u .high))) ∙ u .there }
 
-      from : (i : ℕ) → lo ≤ i → i < hi → Stands s at lo hi (recordIn s₂ at i)
+      from : (i : ℕ) → lo ≤ i → i < hi → HasEntry s at lo hi (recordIn s₂ at i)
       from i x y =
           tested (ltb i mid)
           (λ l. stands-wider s at lo mid lo hi (recordIn s₂ at i) (omega arith) b (there-too lo mid (recordIn s₂ at i) (omega arith) b (from-left i x (ltb-true i mid l))))
@@ -143,11 +139,11 @@ module _ (n at to lo mid hi : ℕ) (s : List ℕ) (w : Sortable n at to lo hi s)
             rises = a;
             ends = b;
             inside = λ i x y.
-                let u : Stands s at lo hi (recordIn s₂ at i) = from i x y in
+                let u : HasEntry s at lo hi (recordIn s₂ at i) = from i x y in
                 omega (arith, u .there, w .records .inside (u .place) (u .low) (u .high));
             lower = λ i j x y z v.
-                let u : Stands s at lo mid (recordIn s₂ at i) = there-too lo mid (recordIn s₂ at i) (omega arith) b (from-left i x y) in
-                let q : Stands s at mid hi (recordIn s₂ at j) = there-too mid hi (recordIn s₂ at j) a (omega arith) (from-right j z v) in
+                let u : HasEntry s at lo mid (recordIn s₂ at i) = there-too lo mid (recordIn s₂ at i) (omega arith) b (from-left i x y) in
+                let q : HasEntry s at mid hi (recordIn s₂ at j) = there-too mid hi (recordIn s₂ at j) a (omega arith) (from-right j z v) in
                 omega (
                   arith,
                   u .there,
@@ -158,7 +154,7 @@ module _ (n at to lo mid hi : ℕ) (s : List ℕ) (w : Sortable n at to lo hi s)
             right = r₂ .sorted;
           }
 
-      into : (i : ℕ) → lo ≤ i → i < hi → Stands s₂ at lo hi (recordIn s at i)
+      into : (i : ℕ) → lo ≤ i → i < hi → HasEntry s₂ at lo hi (recordIn s at i)
       into i x y =
           stands-is s₂ at lo hi (recordIn s to i) (recordIn s at i) (w .twice i x y)
           (tested (ltb i mid)
@@ -174,10 +170,10 @@ module _ (n at to lo mid hi : ℕ) (s : List ℕ) (w : Sortable n at to lo hi s)
             record {
               sorted = r₃ .sorted;
               all = λ i x y.
-                  let u : Stands s₂ at lo hi (recordIn s at i) = into i x y in
+                  let u : HasEntry s₂ at lo hi (recordIn s at i) = into i x y in
                   stands-is s₃ to lo hi (recordIn s₂ at (u .place)) (recordIn s at i) (u .there) (r₃ .all (u .place) (u .low) (u .high));
               only = λ i x y.
-                  let u : Stands s₂ at lo hi (recordIn s₃ to i) = r₃ .only i x y in
+                  let u : HasEntry s₂ at lo hi (recordIn s₃ to i) = r₃ .only i x y in
                   stands-is s at lo hi (recordIn s₂ at (u .place)) (recordIn s₃ to i) (u .there) (from (u .place) (u .low) (u .high));
             }
 
@@ -206,8 +202,7 @@ module _ (at to m : ℕ) (s₀ : List ℕ) (w : TwoPlaces at to 0 m s₀) where
       let fit : to + 8 * i + 8 ≤ length s = omega (arith, w .second, c .1 .long) in
       let o : OnlyThere to i (i + 1) s s′ = put-there s s′ to i r 0 fit e in
       let here : SameEntries s s′ to 0 i = entries-kept s s′ to 0 i (λ p x y. o .bytes p (inl y)) in
-      let source : SameEntries s₀ s at 0 m = source-kept at to 0 m 0 m s₀ s w (omega arith) (omega arith) (c .1) in
-      (
+      let source : SameEntries s₀ s at 0 m = source-kept at to 0 m 0 m s₀ s w (omega arith) (omega arith) (c .1) in (
         λ q x.
             tested (ltb q i)
             (λ l. let l′ : q < i = ltb-true q i l in here q (omega arith) l′ .0 ∙ c .0 q l′)
@@ -250,7 +245,7 @@ module _ (at to m : ℕ) (s₀ : List ℕ) (w : TwoPlaces at to 0 m s₀) where
             sorted = r .sorted;
             all = λ i x y. stands-is s′ at 0 m (recordIn s to i) (recordIn s₀ at i) (c .0 i y) (r .all i x y);
             only = λ i x y.
-                let u : Stands s to 0 m (recordIn s′ at i) = r .only i x y in
+                let u : HasEntry s to 0 m (recordIn s′ at i) = r .only i x y in
                 record { place = u .place; low = u .low; high = u .high; there = sym (c .0 (u .place) (u .high)) ∙ u .there };
           }
 

@@ -47,7 +47,7 @@ abbrev pub Sorted : (ℕ → List ℕ) → List ℕ → ℕ → ℕ → ℕ → 
 Sorted t s at lo hi = (i : ℕ) → lo ≤ i → i + 1 < hi → Follows t s at i (i + 1)
 
 -- record r is that of an entry from lo to hi
-pub record Stands (s : List ℕ) (at lo hi r : ℕ) : Type 0 where
+pub record HasEntry (s : List ℕ) (at lo hi r : ℕ) : Type 0 where
   pub place : ℕ
   pub low : lo ≤ place
   pub high : place < hi
@@ -56,8 +56,8 @@ pub record Stands (s : List ℕ) (at lo hi r : ℕ) : Type 0 where
 -- the entries from lo to hi, from `to` on, are those that stood from `at` on, and sorted
 pub record Arranged (t : ℕ → List ℕ) (s : List ℕ) (at : ℕ) (s′ : List ℕ) (to lo hi : ℕ) : Type 0 where
   pub sorted : Sorted t s′ to lo hi
-  pub all : (i : ℕ) → lo ≤ i → i < hi → Stands s′ to lo hi (recordIn s at i)
-  pub only : (i : ℕ) → lo ≤ i → i < hi → Stands s at lo hi (recordIn s′ to i)
+  pub all : (i : ℕ) → lo ≤ i → i < hi → HasEntry s′ to lo hi (recordIn s at i)
+  pub only : (i : ℕ) → lo ≤ i → i < hi → HasEntry s at lo hi (recordIn s′ to i)
 
 -- ---- where they stand
 
@@ -141,9 +141,9 @@ pub record Merging (t : ℕ → List ℕ) (n at to lo mid hi k i j left right : 
   pub out : Sorted t s to lo k
   pub leftNext : i < mid → Behind t s to lo k (recordIn s at i) left
   pub rightNext : j < hi → Behind t s to lo k (recordIn s at j) right
-  pub leftOut : (q : ℕ) → lo ≤ q → q < i → Stands s to lo k (recordIn s at q)
-  pub rightOut : (q : ℕ) → mid ≤ q → q < j → Stands s to lo k (recordIn s at q)
-  pub only : (q : ℕ) → lo ≤ q → q < k → Stands s at lo hi (recordIn s to q)
+  pub leftOut : (q : ℕ) → lo ≤ q → q < i → HasEntry s to lo k (recordIn s at q)
+  pub rightOut : (q : ℕ) → mid ≤ q → q < j → HasEntry s to lo k (recordIn s at q)
+  pub only : (q : ℕ) → lo ≤ q → q < k → HasEntry s at lo hi (recordIn s to q)
 
 -- ---- what the order tells
 
@@ -155,9 +155,9 @@ pub record SortedRecords (t : ℕ → List ℕ) (n at m : ℕ) (s : List ℕ) : 
 
 -- record r is that of an entry, and has the text of a lower one that is
 pub record Repeated (t : ℕ → List ℕ) (s : List ℕ) (at m r : ℕ) : Type 0 where
-  pub here : Stands s at 0 m r
+  pub here : HasEntry s at 0 m r
   pub lower : ℕ
-  pub there : Stands s at 0 m lower
+  pub there : HasEntry s at 0 m lower
   pub less : lower < r
   pub same : t lower ≡ t r
 
@@ -173,7 +173,7 @@ pub record FirstRepeated (t : ℕ → List ℕ) (s : List ℕ) (at m bound v : �
 
 -- v is the lowest record of an entry that has the text of record r
 pub record FirstOfText (t : ℕ → List ℕ) (s : List ℕ) (at m r v : ℕ) : Type 0 where
-  pub stands : Stands s at 0 m v
+  pub stands : HasEntry s at 0 m v
   pub same : t v ≡ t r
   pub least : (i : ℕ) → i < m → t (recordIn s at i) ≡ t r → v ≤ recordIn s at i
 

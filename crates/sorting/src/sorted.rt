@@ -301,12 +301,24 @@ fn same_as_next(tree: &[u8], text: &[u8], scratch: &[u8], at: usize, m: usize, i
     let next = i + 1;
     let shared = index(load(scratch, at + SORT_ENTRY_BYTES * next + SECOND_WORD));
     let x = text_long(tree, text, index(load(scratch, at + SORT_ENTRY_BYTES * i)));
-    let y = text_long(tree, text, index(load(scratch, at + SORT_ENTRY_BYTES * next)));
+    let y = text_long(
+        tree,
+        text,
+        index(load(scratch, at + SORT_ENTRY_BYTES * next)),
+    );
     (shared == x) & (shared == y)
 }
 
 // The record of the entry behind entry i, if that has the same text; else `bound`.
-fn repeated_behind(tree: &[u8], text: &[u8], scratch: &[u8], at: usize, m: usize, i: usize, bound: usize) -> usize
+fn repeated_behind(
+    tree: &[u8],
+    text: &[u8],
+    scratch: &[u8],
+    at: usize,
+    m: usize,
+    i: usize,
+    bound: usize,
+) -> usize
     requires { ⌜ SortedRecords (recordText (now tree) (now text)) (records (now tree)) at m (now scratch) × (i + 1 < m) ⌝ }
     ensures { λ v. ⌜ RepeatedBehind (recordText (now (tree .entry)) (now (text .entry))) (now (scratch .entry)) at i bound v ⌝ }
 {
@@ -317,7 +329,14 @@ fn repeated_behind(tree: &[u8], text: &[u8], scratch: &[u8], at: usize, m: usize
 }
 
 // The lowest of m sorted records that has the text of a lower one, or `bound` where none is lower than that.
-pub fn first_repeated(tree: &[u8], text: &[u8], scratch: &[u8], at: usize, m: usize, bound: usize) -> usize
+pub fn first_repeated(
+    tree: &[u8],
+    text: &[u8],
+    scratch: &[u8],
+    at: usize,
+    m: usize,
+    bound: usize,
+) -> usize
     requires { ⌜ SortedRecords (recordText (now tree) (now text)) (records (now tree)) at m (now scratch) ⌝ }
     ensures { λ v. ⌜ FirstRepeated (recordText (now (tree .entry)) (now (text .entry))) (now (scratch .entry)) at m bound v ⌝ }
 {
@@ -325,14 +344,25 @@ pub fn first_repeated(tree: &[u8], text: &[u8], scratch: &[u8], at: usize, m: us
     let mut i = 1;
     while i < m {
         let before = i - 1;
-        lowest = least(lowest, repeated_behind(tree, text, scratch, at, m, before, bound));
+        lowest = least(
+            lowest,
+            repeated_behind(tree, text, scratch, at, m, before, bound),
+        );
         i += 1;
     }
     lowest
 }
 
 // The first record with the text of entry i, where `first` is that with the text of the entry before.
-fn first_up_to(tree: &[u8], text: &[u8], scratch: &[u8], at: usize, m: usize, i: usize, first: u32) -> u32
+fn first_up_to(
+    tree: &[u8],
+    text: &[u8],
+    scratch: &[u8],
+    at: usize,
+    m: usize,
+    i: usize,
+    first: u32,
+) -> u32
     requires { ⌜ SortedRecords (recordText (now tree) (now text)) (records (now tree)) at m (now scratch) × (i < m) ⌝ }
     requires { ⌜ ((q : ℕ) → q + 1 ≡ i → FirstUpTo (recordText (now tree) (now text)) (now scratch) at q first) ⌝ }
     ensures { λ v. ⌜ FirstUpTo (recordText (now (tree .entry)) (now (text .entry))) (now (scratch .entry)) at i v ⌝ }
