@@ -8,8 +8,9 @@ ghost use Rattle.records.specs.Good.{Good};
 ghost use Rattle.records.specs.Samples.{Sampled, Samples};
 ghost use Rattle.records.specs.Digest.{rollModulus, rollOf};
 ghost use Rattle.records.specs.Words.{wordAt, textAt, records, mostRecords, none};
+ghost use Rattle.sorting.specs.Sorted.{OnlyThere};
 ghost use Rattle.texts.specs.Texts.{hasText, hasOwn, original as originalOf, originalAt, textDigestAt, Numbered, Kept};
-ghost use Rattle.texts.specs.Pass.{textBucket, samplesFrom, SamplesFit, Read, OnlySamples, Chains, Entered, Passed};
+ghost use Rattle.texts.specs.Pass.{textBucket, samplesFrom, SamplesFit, Read, OnlySamples, Chains, Entered, Rolled, Collected, Passed};
 use records::chains::bucket;
 use records::chains::clear_heads;
 use records::layout::CHAIN_EACH;
@@ -68,7 +69,7 @@ fn number_text(tree: &[u8], text: &[u8], r: usize, b: usize, scratch: &mut [u8])
     requires { ⌜ Good (now tree) (now text) × (scratchEach * records (now tree) ≤ length (now scratch)) ⌝ }
     requires { ⌜ (r < records (now tree)) × (hasOwn (now tree) r ≡ true) × (b ≡ textBucket (now tree) (now text) r) × (b < records (now tree)) ⌝ }
     requires { ⌜ Chains (now tree) (now text) r (now scratch) ⌝ }
-    ensures { λ v. ⌜ (v ≡ originalOf (now (tree .entry)) (now (text .entry)) r) × Entered (now (tree .entry)) (now (text .entry)) r (now (scratch .entry)) (now (scratch .exit)) ⌝ }
+    ensures { λ v. ⌜ (v .number ≡ originalOf (now (tree .entry)) (now (text .entry)) r) × Entered (now (tree .entry)) (now (text .entry)) r (now (scratch .entry)) (now (scratch .exit)) ⌝ }
 {
     let n = tree.len() / RECORD_BYTES;
     let place = find_place(tree, text, scratch, n, r, CHAIN_HEAD_BYTES * b);
@@ -156,7 +157,7 @@ fn number_record(tree: &[u8], text: &[u8], r: usize, k: Reading, scratch: &mut [
     requires { ⌜ Good (now tree) (now text) × (scratchEach * records (now tree) ≤ length (now scratch)) ⌝ }
     requires { ⌜ (r < records (now tree)) × Passed (now tree) (now text) r (now scratch) × Read (now text) (records (now tree)) r (k .stride) (k .long) (now scratch) ⌝ }
     ensures { λ _. ⌜ Passed (now (tree .entry)) (now (text .entry)) (r + 1) (now (scratch .exit)) × Kept (records (now (tree .entry))) (now (scratch .entry)) (now (scratch .exit)) ⌝ }
-    ensures { λ v. ⌜ Read (now (text .entry)) (records (now (tree .entry))) (r + 1) (v .stride) (v .long) (now (scratch .exit)) ⌝ }
+    ensures { λ v. ⌜ Read (now (text .entry)) (records (now (tree .entry))) (r + 1) (v .reading .stride) (v .reading .long) (now (scratch .exit)) ⌝ }
 {
     if !has_text(kind(tree, r)) {
         return Step {
@@ -213,19 +214,28 @@ fn roll_texts(tree: &[u8], text: &[u8], from: usize, known: Reading, scratch: &m
     }
 }
 
-// The records that have a text become entries to sort, in rising order, from byte 0 on. How many there are is given back.
+// Record r becomes entry m of those to sort, if it has a text. How many there are is given back.
+fn collect_record(tree: &[u8], r: usize, m: usize, scratch: &mut [u8]) -> usize
+    requires { ⌜ (records (now tree) ≤ mostRecords) × (r < records (now tree)) × (scratchEach * records (now tree) ≤ length (now scratch)) × Collected (now tree) r m (now scratch) ⌝ }
+    ensures { λ v. ⌜ Collected (now (tree .entry)) (r + 1) v (now (scratch .exit)) × OnlyThere 0 0 (records (now (tree .entry))) (now (scratch .entry)) (now (scratch .exit)) ⌝ }
+{
+    if !has_text(kind(tree, r)) {
+        return m;
+    }
+    put_pair(scratch, SORT_ENTRY_BYTES * m, r as u32, 0);
+    m + 1
+}
+
+// All records that have a text, in rising order, from byte 0 on.
 fn collect_texts(tree: &[u8], scratch: &mut [u8]) -> usize
     requires { ⌜ (records (now tree) ≤ mostRecords) × (scratchEach * records (now tree) ≤ length (now scratch)) ⌝ }
-    ensures { λ m. ⌜ Collected (now (tree .entry)) (records (now (tree .entry))) m (now (scratch .exit)) × OnlyThere 0 0 (records (now (tree .entry))) (now (scratch .entry)) (now (scratch .exit)) ⌝ }
+    ensures { λ v. ⌜ Collected (now (tree .entry)) (records (now (tree .entry))) v (now (scratch .exit)) × OnlyThere 0 0 (records (now (tree .entry))) (now (scratch .entry)) (now (scratch .exit)) ⌝ }
 {
     let n = tree.len() / RECORD_BYTES;
     let mut m = 0;
     let mut r = 0;
     while r < n {
-        if has_text(kind(tree, r)) {
-            put_pair(scratch, SORT_ENTRY_BYTES * m, r as u32, 0);
-            m += 1;
-        }
+        m = collect_record(tree, r, m, scratch);
         r += 1;
     }
     m
@@ -245,30 +255,24 @@ fn number_by_sorting(tree: &[u8], text: &[u8], r: usize, k: Reading, scratch: &m
     number_sorted(tree, text, scratch, 0, m, ORIGINALS * n);
 }
 
-// So many entries may be passed for each record, and so many besides, before the texts are sorted instead. Texts that are not made to have one digest pass fewer
-// than one a record.
-const PASSED_EACH: usize = 16;
-
-const PASSED_FREE: usize = 4096;
+// A walk that passes more entries than this is too long. Of texts that are not made to have one digest hardly ten meet in a bucket.
+const FAR: u32 = 32;
 
 // Every text of a good tree gets its number and its digest, in one pass over the records. The chains stand where nothing else does yet, and so do the samples.
-// Who knows the digest can make the chains long: where the walks along them pass too many entries in all, the texts are sorted.
+// Who knows the digest can make a chain long: once a walk along one is too long, the texts are sorted instead.
 pub fn number_texts(tree: &[u8], text: &[u8], scratch: &mut [u8])
     requires { ⌜ Good (now tree) (now text) × (scratchEach * records (now tree) ≤ length (now scratch)) ⌝ }
     ensures { λ _. ⌜ Numbered (now (tree .entry)) (now (text .entry)) (now (scratch .exit)) × Kept (records (now (tree .entry))) (now (scratch .entry)) (now (scratch .exit)) ⌝ }
 {
     let n = tree.len() / RECORD_BYTES;
-    let most = PASSED_EACH * n + PASSED_FREE;
     clear_heads(scratch, CHAIN_HEAD_BYTES * n);
     let mut k = Reading { stride: 0, long: 0 };
-    let mut passed = 0;
     let mut r = 0;
     while r < n {
         let step = number_record(tree, text, r, k, scratch);
         k = step.reading;
         r += 1;
-        passed += index(step.passed);
-        if passed > most {
+        if step.passed > FAR {
             number_by_sorting(tree, text, r, k, scratch);
             return;
         }
