@@ -20,7 +20,7 @@ use Rattle.records.specs.Words.{byteAt, wordAt, bytesOf, word, records}
 use Rattle.records.proofs.Apart.{byte-apart, word-apart, word-there, word-back, word-same}
 use Rattle.records.proofs.DigestLaws.{same-equal}
 use Rattle.sorting.specs.Sorted.{recordIn, HasEntry, Arranged, OnlyThere, OnlyBoth, TwoPlaces, RecordsRise, SortedRecords, NumbersApart, FirstOfText, NumberedUpTo}
-use Rattle.sorting.proofs.MergeLaws.{SameEntries, entries-kept, put-there, put-record}
+use Rattle.sorting.proofs.MergeLaws.{entries-kept, put-there, put-record, only-wider}
 use Rattle.sorting.proofs.ArrangedLaws.{sorted-records, numbers-before}
 use Rattle.texts.specs.Texts.{hasOwn, ownText, sameOwn, numberOr, original, originalAt, textDigestAt, Numbered, Kept}
 use Rattle.texts.specs.Pass.{Read, OnlySamples, Rolled, Collected}
@@ -108,7 +108,7 @@ module _ (tree : List ℕ) where
     there : s′ ≡ splice s (0 + 8 * m) (word r ++ word 0)
     there = e ∙ ap (λ (p : ℕ). splice s p (word r ++ word 0)) (omega arith)
 
-    pub collected-only : OnlyThere 0 m (m + 1) s s′
+    collected-only : OnlyThere 0 m (m + 1) s s′
     collected-only = put-there s s′ 0 m r 0 fits there
 
     new : recordIn s′ 0 m ≡ r
@@ -124,8 +124,8 @@ module _ (tree : List ℕ) where
         (λ l. subst P (sym (old i (ltb-true i m l))) (before i (ltb-true i m l)))
         (λ l. let z : i ≡ m = omega (arith, ltb-false i m l) in subst P (sym (ap (recordIn s′ 0) z ∙ new)) here)
 
-    pub collected-more : Collected tree (r + 1) (m + 1) s′
-    collected-more =
+    more : Collected tree (r + 1) (m + 1) s′
+    more =
         record {
           few = omega (arith, c .few);
           rises =
@@ -147,6 +147,23 @@ module _ (tree : List ℕ) where
               (λ t. record { place = m; low = omega arith; high = omega arith; there = new });
         }
 
+    pub collected-more : r < records tree → Collected tree (r + 1) (m + 1) s′ × OnlyThere 0 0 (records tree) s s′
+    collected-more h = (more, only-wider 0 m 0 (records tree) s s′ (omega arith) (omega (arith, c .few)) collected-only)
+
+  pub collected-all : (r m : ℕ) (s : List ℕ) → r ≤ records tree → records tree ≤ r → Collected tree r m s → Collected tree (records tree) m s
+  collected-all r m s a b c = let z : r ≡ records tree = omega arith in subst (λ (x : ℕ). Collected tree x m s) z c
+
+  -- all are entries: there is room for as many once more
+  pub collected-places : (m : ℕ) (s s₁ : List ℕ) → Collected tree (records tree) m s → 72 * records tree ≤ length s₁ → OnlyThere 0 0 (records tree) s₁ s
+      → TwoPlaces 0 (8 * records tree) 0 m s
+  collected-places m s s₁ c room o =
+      record {
+        rises = omega arith;
+        first = omega (arith, c .few, o .long);
+        second = omega (arith, c .few, o .long);
+        apart = inl (omega (arith, c .few));
+      }
+
 -- ---- the numbers
 
 module _ (tree text : List ℕ) (m : ℕ) (s : List ℕ) (c : Collected tree (records tree) m s) where
@@ -167,18 +184,9 @@ module _ (tree text : List ℕ) (m : ℕ) (s : List ℕ) (c : Collected tree (re
 
   -- s₁ is the scratch before the entries were written, s₃ once they are sorted, s₄ once the numbers are written
   module _ (s₁ : List ℕ) (room : 72 * records tree ≤ length s₁) (o : OnlyThere 0 0 (records tree) s₁ s) where
-    pub collected-places : TwoPlaces 0 (8 * records tree) 0 m s
-    collected-places =
-        record {
-          rises = omega arith;
-          first = omega (arith, c .few, o .long);
-          second = omega (arith, c .few, o .long);
-          apart = inl (omega (arith, c .few));
-        }
-
     module _ (s₃ : List ℕ) (a : Arranged (ownText tree text) s 0 s₃ 0 0 m) (b : OnlyBoth 0 (8 * records tree) 0 m s s₃) where
       pub collected-sorted : SortedRecords (ownText tree text) (records tree) 0 m s₃
-      collected-sorted = sorted-records (ownText tree text) 0 m s s₃ a (records tree) (8 * records tree) collected-places (c .rises) b
+      collected-sorted = sorted-records (ownText tree text) 0 m s s₃ a (records tree) (8 * records tree) (collected-places tree m s s₁ c room o) (c .rises) b
 
       pub collected-apart : NumbersApart (records tree) 0 m (40 * records tree) s₃
       collected-apart = record { room = omega (arith, o .long, b .long); apart = inl (omega (arith, c .few)) }

@@ -75,16 +75,18 @@ fn number_text(tree: &[u8], text: &[u8], r: usize, b: usize, scratch: &mut [u8])
     let place = find_place(tree, text, scratch, n, r, CHAIN_HEAD_BYTES * b);
     let number = place.number;
     if number < r {
+        let found = number as u32;
         return Walk {
-            number: number as u32,
+            number: found,
             passed: place.passed,
         };
     }
     let at = place.at;
     let next = load(scratch, at);
     enter_at(scratch, n, r, place.shared, at, next);
+    let new = number as u32;
     Walk {
-        number: number as u32,
+        number: new,
         passed: place.passed,
     }
 }
