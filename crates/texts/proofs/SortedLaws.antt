@@ -67,17 +67,16 @@ module _ (tree text : List ℕ) where
 
     pub rolled-more : Rolled tree text r s → x ≡ rollOf (ownText tree text r) → x < 4294967296 → (stride long : ℕ) → Read text (records tree) (r + 1) stride long s₁
         → (Rolled tree text (r + 1) s₂ × Kept (records tree) s s₂) × Read text (records tree) (r + 1) stride long s₂
-    rolled-more p ex hx stride long read =
-        (
-          (
-            below-more (λ (k : ℕ). hasOwn tree k ≡ true → wordAt s₂ (textDigestAt (records tree) k) ≡ rollOf (ownText tree text k)) r
+    rolled-more p ex hx stride long read = (
+      (
+        below-more (λ (k : ℕ). hasOwn tree k ≡ true → wordAt s₂ (textDigestAt (records tree) k) ≡ rollOf (ownText tree text k)) r
             (λ k hk t.
             apart (textDigestAt (records tree) k) (omega arith) ∙ behind-word (records tree) s s₁ only (textDigestAt (records tree) k) (omega arith) ∙ p k hk t)
             (λ t. written hx ∙ ex),
-            kept-on (records tree) s s₁ s₂ (kept-sampled (records tree) s s₁ only) kept,
-          ),
-          read-stays text (records tree) (r + 1) stride long s₁ s₂ (λ i k m. byte i (inl (omega arith))) (kept .long) read,
-        )
+        kept-on (records tree) s s₁ s₂ (kept-sampled (records tree) s s₁ only) kept,
+      ),
+      read-stays text (records tree) (r + 1) stride long s₁ s₂ (λ i k m. byte i (inl (omega arith))) (kept .long) read,
+    )
 
 -- ---- the entries
 

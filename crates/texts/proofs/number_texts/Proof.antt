@@ -37,30 +37,30 @@ number-record-requires c κs =
     ((start .pre .0, omega (arith, start .pre .1, inv .2 .long, c .before .before .before .before .before .clear-heads .ensures .long)), (c .before .loop-test .taken, inv .1, inv .3))
 
 add-r : tie.Need-add-r Inv-loop μ-loop
-add-r c = omega (arith, c .before .before .before .before .before .before .before .before .before .before .before .before .before .pre .0 .few)
+add-r c = omega (arith, c .before .before .before .before .before .before .before .before .before .before .before .before .before .before .pre .0 .few)
 
 number-by-sorting-requires : tie.Need-number-by-sorting-requires Inv-loop μ-loop
 number-by-sorting-requires c κs =
-    let start = c .before .before .before .before .before .before .before .before .before .before .before .before .before .before .before in
-    let step = c .before .before .before .before .number-record .ensures in
-    ((start .pre .0, omega (arith, start .pre .1, step .0 .1 .long, c .before .before .before .before .before .before .before .loop .inv .2 .long, c .before .before .before .before .before .before .before .before .before .before .clear-heads .ensures .long)), (omega arith, step .0 .0 .rolled, step .1))
+    let start = c .before .before .before .before .before .before .before .before .before .before .before .before .before .before .before .before .before in
+    let step = c .before .before .before .before .before .before .number-record .ensures in
+    ((start .pre .0, omega (arith, start .pre .1, step .0 .1 .long, c .before .before .before .before .before .before .before .before .before .loop .inv .2 .long, c .before .before .before .before .before .before .before .before .before .before .before .before .clear-heads .ensures .long)), (omega arith, step .0 .0 .rolled, step .1))
 
 same-length : tie.Need-same-length Inv-loop μ-loop
-same-length c = c .before .before .number-by-sorting .ensures .1 .long ∙ c .before .before .before .before .before .before .before .number-record .ensures .0 .1 .long ∙ c .before .before .before .before .before .before .before .before .before .before .loop .inv .2 .long ∙ c .before .before .before .before .before .before .before .before .before .before .before .before .before .clear-heads .ensures .long
+same-length c = c .before .before .number-by-sorting .ensures .1 .long ∙ c .before .before .before .before .before .before .before .before .before .number-record .ensures .0 .1 .long ∙ c .before .before .before .before .before .before .before .before .before .before .before .before .loop .inv .2 .long ∙ c .before .before .before .before .before .before .before .before .before .before .before .before .before .before .before .clear-heads .ensures .long
 
 returns : tie.Need-returns Inv-loop μ-loop
 returns c =
     let sorted = c .before .before .number-by-sorting .ensures in
-    let passed = kept-on _ _ _ _ (c .before .before .before .before .before .before .before .before .before .before .loop .inv .2) (c .before .before .before .before .before .before .before .number-record .ensures .0 .1) in
-    (sorted .0, kept-on _ _ _ _ (kept-heads _ _ _ (c .before .before .before .before .before .before .before .before .before .before .before .before .before .clear-heads .ensures)) (kept-on _ _ _ _ passed (sorted .1)))
+    let passed = kept-on _ _ _ _ (c .before .before .before .before .before .before .before .before .before .before .before .before .loop .inv .2) (c .before .before .before .before .before .before .before .before .before .number-record .ensures .0 .1) in
+    (sorted .0, kept-on _ _ _ _ (kept-heads _ _ _ (c .before .before .before .before .before .before .before .before .before .before .before .before .before .before .before .clear-heads .ensures)) (kept-on _ _ _ _ passed (sorted .1)))
 
 loop-less : tie.Need-loop-less Inv-loop μ-loop
 loop-less c = omega arith
 
 loop-again : tie.Need-loop-again Inv-loop μ-loop
 loop-again c =
-    let step = c .before .before .before .number-record .ensures in
-    (omega arith, step .0 .0, kept-on _ _ _ _ (c .before .before .before .before .before .before .loop .inv .2) (step .0 .1), step .1)
+    let step = c .before .before .before .before .before .number-record .ensures in
+    (omega arith, step .0 .0, kept-on _ _ _ _ (c .before .before .before .before .before .before .before .before .loop .inv .2) (step .0 .1), step .1)
 
 same-length-2 : tie.Need-same-length-2 Inv-loop μ-loop
 same-length-2 c = c .before .loop .inv .2 .long ∙ c .before .before .before .before .clear-heads .ensures .long
