@@ -8,7 +8,7 @@ ghost use Rattle.records.specs.Good.{Good};
 ghost use Rattle.ir.specs.Arena.{arenaEach};
 ghost use Rattle.ir.specs.Counted.{counted, was, is};
 ghost use Rattle.keys.specs.Keys.{functionPlaces, Keyed};
-ghost use Rattle.statements.specs.Lent.{finished};
+ghost use Rattle.statements.specs.Lent.{finishedWith};
 ghost use Rattle.statements.specs.Turns.{Turns};
 ghost use Rattle.judge.specs.Judge.{buffers};
 ghost use Rattle.demands.specs.Demands.{AsTheRust};
@@ -19,8 +19,8 @@ use functions::functions::AllFunctions;
 use functions::functions::check_main;
 use functions::functions::get_all_functions;
 use ir::cut::cut_tables;
+use ir::lent::COUNT_RECORDS;
 use ir::lent::COUNTERS;
-use ir::lent::RECORDS;
 use ir::lent::counters_of;
 use ir::structs::Counters;
 use judge::Judged;
@@ -77,7 +77,7 @@ fn convert_all(
 ) -> Finished
     requires { ⌜ Keyed (now tree) (now text) (now scratch) × (count ≡ length (functionPlaces (now tree))) × (arenaEach * records (now tree) ≤ length (now arena)) ⌝ }
     requires { ⌜ Turns (now tree) (now scratch) (emptyCounters (records (now tree))) × (counted (now k) ≡ emptyCounters (records (now tree))) ⌝ }
-    ensures { λ a. ⌜ AllConvertTo (was tree) (was text) (was arena) (was scratch) (finished (is k) a) (is arena) (is scratch) ⌝ }
+    ensures { λ a. ⌜ AllConvertTo (was tree) (was text) (was arena) (was scratch) (finishedWith (is k) a) (is arena) (is scratch) ⌝ }
 {
     let mut j = 0;
     while j < count {
@@ -103,7 +103,7 @@ fn convert_program(
 ) -> Finished
     requires { ⌜ Good (now tree) (now text) × (arenaEach * records (now tree) ≤ length (now arena)) × (scratchEach * records (now tree) ≤ length (now scratch)) × (0 < records (now tree)) ⌝ }
     requires { ⌜ counted (now k) ≡ emptyCounters (records (now tree)) ⌝ }
-    ensures { λ a. ⌜ ProgramConvertsTo (was tree) (was text) «needs_main» (was arena) (was scratch) (finished (is k) a) (is arena) (is scratch) ⌝ }
+    ensures { λ a. ⌜ ProgramConvertsTo (was tree) (was text) «needs_main» (was arena) (was scratch) (finishedWith (is k) a) (is arena) (is scratch) ⌝ }
 {
     number_texts(tree, text, scratch);
     match get_all_functions(tree, text, scratch) {
@@ -133,8 +133,8 @@ fn finish(
     strings: &mut [u8],
     floats: &mut [u8],
 ) -> Answer
-    requires { ⌜ CutAfforded (finished (now k) done) (outputs (now instructions) (now variables) (now labels) (now functions) (now strings) (now floats)) ⌝ }
-    ensures { λ a. ⌜ FinishesIn (finished (was k) done) visits a (outputs (was instructions) (was variables) (was labels) (was functions) (was strings) (was floats)) (outputs (is instructions) (is variables) (is labels) (is functions) (is strings) (is floats)) ⌝ }
+    requires { ⌜ CutAfforded (finishedWith (now k) done) (outputs (now instructions) (now variables) (now labels) (now functions) (now strings) (now floats)) ⌝ }
+    ensures { λ a. ⌜ FinishesIn (finishedWith (was k) done) visits a (outputs (was instructions) (was variables) (was labels) (was functions) (was strings) (was floats)) (outputs (is instructions) (is variables) (is labels) (is functions) (is strings) (is floats)) ⌝ }
 {
     match done {
         Finished::Refused(e) => {
@@ -175,7 +175,7 @@ fn convert_good(
     ensures { λ a. ⌜ AsTheRust (now (tree .entry)) (now (text .entry)) «needs_main» (buffers (now (instructions .entry)) (now (variables .entry)) (now (labels .entry)) (now (functions .entry)) (now (strings .entry)) (now (floats .entry)) (now (scratch .entry))) (answerFrom (now (tree .entry)) a) (buffers (now (instructions .exit)) (now (variables .exit)) (now (labels .exit)) (now (functions .exit)) (now (strings .exit)) (now (floats .exit)) (now (scratch .exit))) ⌝ }
 {
     let mut k = [0; COUNTERS];
-    k[RECORDS] = tree.len() / RECORD_BYTES;
+    k[COUNT_RECORDS] = tree.len() / RECORD_BYTES;
     let done = convert_program(tree, text, needs_main, instructions, scratch, &mut k);
     let visits = expressions::turns::visits(tree, scratch);
     clear(scratch);

@@ -13,7 +13,7 @@ ghost use Rattle.ir.specs.Arena.{Room};
 ghost use Rattle.ir.specs.Counted.{counted, was, is};
 ghost use Rattle.keys.specs.Keys.{Keyed};
 ghost use Rattle.statements.specs.Converting.{Converting, RoomFor, BlockAfforded};
-ghost use Rattle.statements.specs.Lent.{at, finished};
+ghost use Rattle.statements.specs.Lent.{at, finishedWith};
 ghost use Rattle.statements.specs.Turns.{Turns, BlockVisited};
 ghost use Rattle.functions.specs.Bodies.{ParametersAdd, missesReturn, FunctionsAfforded, BodyAs, ConvertsFunction, FunctionVisited};
 use crate::parameters::Parameters;
@@ -83,8 +83,8 @@ fn convert_body(
     requires { ⌜ Converting (now tree) (now text) (now arena) (now scratch) (at c (now k)) × BlockAfforded (now tree) (now text) (at c (now k)) (wordOf (now tree) f Words.E) ⌝ }
     requires { ⌜ FunctionAt (now tree) f × (counted (now k) .functions < counted (now k) .records) ⌝ }
     requires { ⌜ Turns (now tree) (now scratch) (counted (now k)) ⌝ }
-    ensures { λ a. ⌜ BodyAs (at c (was k)) f (was tree) (was text) (was arena) (was scratch) (finished (is k) a) (is arena) (is scratch) ⌝ }
-    ensures visits { λ a. ⌜ BlockVisited (wordOf (was tree) f Words.E) (was tree) (was text) (was scratch) (finished (is k) a) (is scratch) ⌝ }
+    ensures { λ a. ⌜ BodyAs (at c (was k)) f (was tree) (was text) (was arena) (was scratch) (finishedWith (is k) a) (is arena) (is scratch) ⌝ }
+    ensures visits { λ a. ⌜ BlockVisited (wordOf (was tree) f Words.E) (was tree) (was text) (was scratch) (finishedWith (is k) a) (is scratch) ⌝ }
 {
     let body = reference(tree, f, WORD_E);
     match convert_block(tree, text, arena, scratch, k, c, body) {
@@ -114,8 +114,8 @@ pub fn convert_func(
     requires { ⌜ Keyed (now tree) (now text) (now scratch) × FunctionAt (now tree) f ⌝ }
     requires { ⌜ Room (counted (now k)) (now arena) × (counted (now k) .records ≡ records (now tree)) × FunctionsAfforded (counted (now k)) (functionRecords (functionOf (now tree) (now text) f)) ⌝ }
     requires { ⌜ Turns (now tree) (now scratch) (counted (now k)) ⌝ }
-    ensures { λ a. ⌜ ConvertsFunction (was tree) (was text) f (counted (was k)) (was arena) (was scratch) (finished (is k) a) (is arena) (is scratch) ⌝ }
-    ensures visits { λ a. ⌜ FunctionVisited f (was tree) (was text) (was scratch) (finished (is k) a) (is scratch) ⌝ }
+    ensures { λ a. ⌜ ConvertsFunction (was tree) (was text) f (counted (was k)) (was arena) (was scratch) (finishedWith (is k) a) (is arena) (is scratch) ⌝ }
+    ensures visits { λ a. ⌜ FunctionVisited f (was tree) (was text) (was scratch) (finishedWith (is k) a) (is scratch) ⌝ }
 {
     if !has_body(tree, text, f) {
         add_function(arena, k, f as u32, false);

@@ -4,10 +4,10 @@ use mathlib.Core.Path.{_≡_, refl, sym, ap, _∙_, subst}
 use mathlib.Core.Logic.{_⊎_, inl, inr}
 use mathlib.Core.Bool.{Bool}
 use mathlib.Core.List.{List, [], _∷_}
-use Prim.Native.Nat.{ℕ, zero, suc, _+_, _*_, _^_, _<_}
+use Prim.Native.Nat.{ℕ, zero, suc, _+_, _*_, _^_, _≤_, _<_}
 use native.Mathlib.Omega.{arith}
 use lib.ListN.{length, getD, set, drop, length-set}
-use Rattle.conversion.specs.Ir.{M, StringEntry, FloatEntry}
+use Rattle.conversion.specs.Ir.{M, FloatEntry}
 use Rattle.conversion.specs.Written.{encodeInstr}
 use Rattle.laws.specs.Splice.{splice}
 use Rattle.ir.specs.declared.structs.Counters.{Counters}
@@ -18,8 +18,8 @@ use Rattle.ir.specs.declared.structs.LabelNumber.{LabelNumber}
 use Rattle.ir.specs.declared.pool.PoolNumber.{PoolNumber}
 use Rattle.ir.specs.Instructions.{fieldBytes}
 use Rattle.ir.specs.Arena.{Room}
-use Rattle.ir.specs.Counted.{counted}
-use Rattle.ir.specs.Steps.{moreVariables, moreLabels, moreStrings, moreFloats, Wrote, WroteTwo, WroteThree, TablesStay, Emits, AddsVar, NumbersLabel, NumbersString, NumbersFloat, Closes, Next}
+use Rattle.ir.specs.Counted.{labelsBeforeWord, counterWords, counted}
+use Rattle.ir.specs.Steps.{moreLabels, moreStrings, moreFloats, WroteTwo, WroteThree, TablesStay, Emits, AddsVar, NumbersLabel, NumbersString, NumbersFloat, Closes, Next}
 use Rattle.ir.proofs.Answers.{emit-done}
 
 -- ---- all ten words are there
@@ -29,18 +29,18 @@ in-list [] i d h = absurd (h refl)
 in-list (x ∷ k) zero d h = omega arith
 in-list (x ∷ k) (suc i) d h = omega (arith, in-list k i d h)
 
-pub ten : (k l : List ℕ) → Room (counted k) l → 9 < length k
+pub ten : (k l : List ℕ) → Room (counted k) l → counterWords ≤ length k
 unfolding counted
-ten k l room = in-list k 9 (2 ^ 32) (λ e. omega (arith, e, room))
+ten k l room = in-list k labelsBeforeWord (2 ^ 32) (λ e. omega (arith, e, room))
 
-pub in-words : (i : ℕ) (k l : List ℕ) → i < 10 → Room (counted k) l → i < length k
+pub in-words : (i : ℕ) (k l : List ℕ) → i < counterWords → Room (counted k) l → i < length k
 in-words i k l h room = omega (arith, h, ten k l room)
 
 -- the words, one by one, and what is behind them
 abbrev words : List ℕ → List ℕ
 words k = getD k 0 0 ∷ getD k 1 0 ∷ getD k 2 0 ∷ getD k 3 0 ∷ getD k 4 0 ∷ getD k 5 0 ∷ getD k 6 0 ∷ getD k 7 0 ∷ getD k 8 0 ∷ getD k 9 (2 ^ 32) ∷ drop 10 k
 
-words-are : (k : List ℕ) → 9 < length k → k ≡ words k
+words-are : (k : List ℕ) → counterWords ≤ length k → k ≡ words k
 words-are [] h = absurd (omega (arith, h))
 words-are (a ∷ []) h = absurd (omega (arith, h))
 words-are (a ∷ b ∷ []) h = absurd (omega (arith, h))
@@ -54,14 +54,14 @@ words-are (a ∷ b ∷ c ∷ d ∷ e ∷ f ∷ g ∷ i ∷ j ∷ []) h = absurd 
 words-are (a ∷ b ∷ c ∷ d ∷ e ∷ f ∷ g ∷ i ∷ j ∷ m ∷ k) h = refl
 
 -- the last word, as the code reads it
-pub last-word : (k : List ℕ) → 9 < length k → getD k 9 0 ≡ getD k 9 (2 ^ 32)
+pub last-word : (k : List ℕ) → counterWords ≤ length k → getD k 9 0 ≡ getD k 9 (2 ^ 32)
 last-word k h = ap (λ (x : List ℕ). getD x 9 0) (words-are k h)
 
 -- the words as a struct
 abbrev wordsWith : List ℕ → ℕ → Counters
 wordsWith k v = record { records = getD k 0 0; instructions = getD k 1 0; variables = getD k 2 0; labels = getD k 3 0; functions = getD k 4 0; strings = getD k 5 0; floats = getD k 6 0; «instructions_before» = getD k 7 0; «variables_before» = getD k 8 0; «labels_before» = v }
 
-pub counted-are : (k : List ℕ) → 9 < length k → wordsWith k (getD k 9 0) ≡ counted k
+pub counted-are : (k : List ℕ) → counterWords ≤ length k → wordsWith k (getD k 9 0) ≡ counted k
 unfolding counted
 counted-are k h = ap (wordsWith k) (last-word k h)
 
@@ -97,7 +97,7 @@ withFloats k v = record { records = k .records; instructions = k .instructions; 
 abbrev begun : Counters → Counters → Counters
 begun k r = record { records = k .records; instructions = k .instructions; variables = k .variables; labels = k .labels; functions = r .functions; strings = k .strings; floats = k .floats; «instructions_before» = r .«instructions_before»; «variables_before» = r .«variables_before»; «labels_before» = r .«labels_before» }
 
-module _ (k : List ℕ) (v : ℕ) (h : 9 < length k) where
+module _ (k : List ℕ) (v : ℕ) (h : counterWords ≤ length k) where
   set-instructions : counted (set k 1 v) ≡ withInstructions (counted k) v
   unfolding counted
   set-instructions = ap (λ (x : List ℕ). counted (set x 1 v)) (words-are k h)

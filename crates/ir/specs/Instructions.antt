@@ -1,13 +1,12 @@
 -- What the code's variables and operands stand for, and an instruction's 32 bytes from the code's fields. Assumes nothing: these are definitions.
 use Prim.Native.Nat.{ℕ}
-use mathlib.Core.Bool.{Bool}
 use mathlib.Core.List.{List, [], _∷_, _++_}
-use mathlib.Core.Option.{Option, none, some}
+use mathlib.Core.Option.{none, some}
 use mir.Syntax.{w64}
 use mir.Val.{toZ}
 use Rattle.conversion.specs.Ir as Ir
 use Rattle.conversion.specs.Ir.{OVar, OInt, OFloat, OBool, ODataAddress, ONull}
-use Rattle.conversion.specs.Written.{word, wide, tag, operandValue, encodeFields, binaryKind}
+use Rattle.conversion.specs.Written.{word, wide, tag, encodeFields, binaryKind}
 use Rattle.ir.specs.declared.structs.VarId.{VarId}
 use Rattle.ir.specs.declared.structs.Operand.{Operand}
 use Rattle.ir.specs.declared.structs.Operand.the-variants.{Var as var, Int as int, Float as float, Bool as bool, DataAddress as dataAddress, Null as null}

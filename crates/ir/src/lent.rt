@@ -1,11 +1,11 @@
-// The counters lent as ten words: each step stores the word that it changed, and nothing is moved. What numbers reads the words into a struct first,
-// takes its step by value, and stores what changed.
+// The counters lent as ten words: each step stores the word that it changed (`add_function` four of them), and nothing is moved. What numbers reads
+// the words into a struct first, takes its step by value, and stores what changed.
 ghost use mathlib.Core.Path.{_≡_};
-ghost use Prim.Native.Nat.{_*_, _<_};
+ghost use Prim.Native.Nat.{_*_, _≤_, _<_};
 ghost use lib.ListN.{length};
 ghost use Rattle.conversion.specs.Ir.{floatBits};
 ghost use Rattle.ir.specs.Arena.{HasSlot, Room};
-ghost use Rattle.ir.specs.Counted.{counted, was, is};
+ghost use Rattle.ir.specs.Counted.{counterWords, counted, was, is};
 ghost use Rattle.ir.specs.Floats.{entryOfFloat};
 ghost use Rattle.ir.specs.Steps.{named, AddsVar, NumbersLabel, NumbersString, NumbersFloat, Closes, Next};
 use crate::floats::FloatBits;
@@ -16,45 +16,45 @@ use crate::structs::Label;
 use crate::structs::VarId;
 
 // Which word is which: the records of the tree, the entries of each table, and how many there were before the function at hand began.
-pub const RECORDS: usize = 0;
+pub const COUNT_RECORDS: usize = 0;
 
-pub const INSTRUCTIONS: usize = 1;
+pub const COUNT_INSTRUCTIONS: usize = 1;
 
-pub const VARIABLES: usize = 2;
+pub const COUNT_VARIABLES: usize = 2;
 
-pub const LABELS: usize = 3;
+pub const COUNT_LABELS: usize = 3;
 
-pub const FUNCTIONS: usize = 4;
+pub const COUNT_FUNCTIONS: usize = 4;
 
-pub const STRINGS: usize = 5;
+pub const COUNT_STRINGS: usize = 5;
 
-pub const FLOATS: usize = 6;
+pub const COUNT_FLOATS: usize = 6;
 
-pub const INSTRUCTIONS_BEFORE: usize = 7;
+pub const COUNT_INSTRUCTIONS_BEFORE: usize = 7;
 
-pub const VARIABLES_BEFORE: usize = 8;
+pub const COUNT_VARIABLES_BEFORE: usize = 8;
 
-pub const LABELS_BEFORE: usize = 9;
+pub const COUNT_LABELS_BEFORE: usize = 9;
 
 // How many there are.
 pub const COUNTERS: usize = 10;
 
 // The words as a struct.
 pub fn counters_of(k: &[usize]) -> Counters
-    requires { ⌜ 9 < length (now k) ⌝ }
+    requires { ⌜ counterWords ≤ length (now k) ⌝ }
     ensures { λ r. ⌜ r ≡ counted (was k) ⌝ }
 {
     Counters {
-        records: k[RECORDS],
-        instructions: k[INSTRUCTIONS],
-        variables: k[VARIABLES],
-        labels: k[LABELS],
-        functions: k[FUNCTIONS],
-        strings: k[STRINGS],
-        floats: k[FLOATS],
-        instructions_before: k[INSTRUCTIONS_BEFORE],
-        variables_before: k[VARIABLES_BEFORE],
-        labels_before: k[LABELS_BEFORE],
+        records: k[COUNT_RECORDS],
+        instructions: k[COUNT_INSTRUCTIONS],
+        variables: k[COUNT_VARIABLES],
+        labels: k[COUNT_LABELS],
+        functions: k[COUNT_FUNCTIONS],
+        strings: k[COUNT_STRINGS],
+        floats: k[COUNT_FLOATS],
+        instructions_before: k[COUNT_INSTRUCTIONS_BEFORE],
+        variables_before: k[COUNT_VARIABLES_BEFORE],
+        labels_before: k[COUNT_LABELS_BEFORE],
     }
 }
 
@@ -66,7 +66,7 @@ pub fn new_var(arena: &mut [u8], k: &mut [usize], ty: u32) -> VarId
     let c = counters_of(k);
     let made = structs::new_var(arena, c, ty);
     let next = made.counters;
-    k[VARIABLES] = next.variables;
+    k[COUNT_VARIABLES] = next.variables;
     made.var
 }
 
@@ -78,7 +78,7 @@ pub fn label_id(arena: &mut [u8], k: &mut [usize], kind: u32, opener: u32) -> La
     let c = counters_of(k);
     let found = structs::label_id(arena, c, kind, opener);
     let next = found.counters;
-    k[LABELS] = next.labels;
+    k[COUNT_LABELS] = next.labels;
     found.label
 }
 
@@ -90,7 +90,7 @@ pub fn string_id(arena: &mut [u8], k: &mut [usize], o: usize, offset: u32, len: 
     let c = counters_of(k);
     let found = pool::string_id(arena, c, o, offset, len);
     let next = found.counters;
-    k[STRINGS] = next.strings;
+    k[COUNT_STRINGS] = next.strings;
     found.number
 }
 
@@ -102,7 +102,7 @@ pub fn float_id(arena: &mut [u8], k: &mut [usize], f: FloatBits) -> u32
     let c = counters_of(k);
     let found = pool::float_id(arena, c, f);
     let next = found.counters;
-    k[FLOATS] = next.floats;
+    k[COUNT_FLOATS] = next.floats;
     found.number
 }
 
@@ -121,8 +121,8 @@ pub fn add_function(arena: &mut [u8], k: &mut [usize], owner: u32, body: bool)
 {
     let c = counters_of(k);
     let next = structs::add_function(arena, c, owner, body);
-    k[FUNCTIONS] = next.functions;
-    k[INSTRUCTIONS_BEFORE] = next.instructions_before;
-    k[VARIABLES_BEFORE] = next.variables_before;
-    k[LABELS_BEFORE] = next.labels_before;
+    k[COUNT_FUNCTIONS] = next.functions;
+    k[COUNT_INSTRUCTIONS_BEFORE] = next.instructions_before;
+    k[COUNT_VARIABLES_BEFORE] = next.variables_before;
+    k[COUNT_LABELS_BEFORE] = next.labels_before;
 }

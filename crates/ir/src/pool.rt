@@ -63,7 +63,11 @@ fn add_string(arena: &mut [u8], k: Counters, o: usize, offset: u32, len: u32) ->
     let mut next = k;
     next.strings = v + 1;
     put_pair(arena, STRINGS * k.records + STRING_BYTES * v, offset, len);
-    put_word(arena, STRING_NUMBERS * k.records + SEARCH_BYTES * v, o as u32);
+    put_word(
+        arena,
+        STRING_NUMBERS * k.records + SEARCH_BYTES * v,
+        o as u32,
+    );
     put_word(arena, STRING_SLOTS * k.records + SEARCH_BYTES * o, number);
     PoolNumber {
         number,

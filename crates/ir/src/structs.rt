@@ -16,7 +16,7 @@ use crate::arena::FUNCTION_BYTES;
 use crate::arena::FUNCTIONS;
 use crate::arena::INSTRUCTION_BYTES;
 use crate::counter;
-use crate::lent::INSTRUCTIONS;
+use crate::lent::COUNT_INSTRUCTIONS;
 use records::numbers::BINARY_OPS;
 use records::numbers::NEG;
 use records::numbers::OR;
@@ -274,8 +274,8 @@ fn push(arena: &mut [u8], k: &mut [usize], f: Fields)
     requires { ⌜ Room (counted (now k)) (now arena) × (counted (now k) .instructions < 4 * counted (now k) .records) ⌝ }
     ensures { λ _. ⌜ ((i : Ir.Instr) → fieldBytes f ≡ encodeInstr i → Emits i (counted (was k)) (was arena) (counted (is k)) (is arena)) ⌝ }
 {
-    let n = k[INSTRUCTIONS];
-    k[INSTRUCTIONS] = n + 1;
+    let n = k[COUNT_INSTRUCTIONS];
+    k[COUNT_INSTRUCTIONS] = n + 1;
     put_fields(arena, INSTRUCTION_BYTES * n, f);
 }
 

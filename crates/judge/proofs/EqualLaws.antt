@@ -25,17 +25,17 @@ use Rattle.records.proofs.SampleLaws.{sampled-kept}
 use Rattle.records.proofs.TextLaws.{same-texts}
 use Rattle.records.proofs.TypeLaws.{type-custom, equalType, new-found, new-none}
 use Rattle.judge.specs.Inner.{Lowest}
-use Rattle.judge.specs.Equal.{named, wordsAgain, nameAgain, alike, likeEarlier, every, typeBucket, FoundByDigest, namesBucket, NamesPlaced, NameEntered, NamesPassed}
+use Rattle.judge.specs.Equal.{isCustom, wordsAgain, nameAgain, alike, likeEarlier, every, typeBucket, FoundByDigest, namesBucket, NamesPlaced, NameEntered, NamesPassed}
 use Rattle.judge.proofs.PlainLaws.{either, flipped}
 
 -- ---- what the code reads of a type
 
 -- whether it is a Custom, as the code tests it
 module _ (tree : List ℕ) (r x : ℕ) (ex : x ≡ detailOf tree r) where
-  pub is-named : x ≡ 8 → named tree r ≡ true
+  pub is-named : x ≡ 8 → isCustom tree r ≡ true
   is-named e = eq-eqb (detailOf tree r) 8 (sym ex ∙ e)
 
-  pub is-unnamed : (x ≡ 8 → ⊥) → named tree r ≡ false
+  pub is-unnamed : (x ≡ 8 → ⊥) → isCustom tree r ≡ false
   is-unnamed n = ne-eqb (detailOf tree r) 8 (λ e. n (ex ∙ e))
 
 -- its digest
@@ -77,12 +77,12 @@ module _ (tree text : List ℕ) (k r : ℕ) where
   unfolding alike
   same-alike e =
       rw (eq-eqb (typeDigest tree text k) (typeDigest tree text r) (same-digest tree text k r e))
-      (or-true (named tree r) (sameType tree text k r) e)
+      (or-true (isCustom tree r) (sameType tree text k r) e)
 
-  alike-same : named tree r ≡ false → alike tree text k r ≡ true → sameType tree text k r ≡ true
+  alike-same : isCustom tree r ≡ false → alike tree text k r ≡ true → sameType tree text k r ≡ true
   unfolding alike
   alike-same n e =
-      either (named tree r) (sameType tree text k r) (and-right (eqb (typeDigest tree text k) (typeDigest tree text r)) (named tree r || sameType tree text k r) e) n
+      either (isCustom tree r) (sameType tree text k r) (and-right (eqb (typeDigest tree text k) (typeDigest tree text r)) (isCustom tree r || sameType tree text k r) e) n
 
   -- as the code finds it
   module _ (x d : ℕ) (ex : x ≡ typeDigest tree text k) (ed : d ≡ typeDigest tree text r) where
@@ -96,13 +96,13 @@ module _ (tree text : List ℕ) (k r : ℕ) where
       shared : eqb (typeDigest tree text k) (typeDigest tree text r) ≡ true
       shared = eq-eqb (typeDigest tree text k) (typeDigest tree text r) (sym ex ∙ e ∙ ed)
 
-      pub alike-named : named tree r ≡ true → true ≡ alike tree text k r
+      pub alike-named : isCustom tree r ≡ true → true ≡ alike tree text k r
       unfolding alike
       alike-named m = rw (shared, m) refl
 
-      pub alike-words : (v : Bool) → named tree r ≡ false → v ≡ sameType tree text k r → v ≡ alike tree text k r
+      pub alike-words : (v : Bool) → isCustom tree r ≡ false → v ≡ sameType tree text k r → v ≡ alike tree text k r
       unfolding alike
-      alike-words v m ev = third (eqb (typeDigest tree text k) (typeDigest tree text r)) (named tree r) (sameType tree text k r) v shared m ev
+      alike-words v m ev = third (eqb (typeDigest tree text k) (typeDigest tree text r)) (isCustom tree r) (sameType tree text k r) v shared m ev
 
 -- a walk along the chain of its bucket, and what it shows
 pub together : (tree text : List ℕ) (types j r : ℕ) → alike tree text j r ≡ true → typeBucket tree text types j ≡ typeBucket tree text types r
@@ -145,7 +145,7 @@ module _ (tree text : List ℕ) (types r : ℕ) (kinds : (k : ℕ) → k < types
       (λ t. t)))
 
   -- but for Customs, something alike: something equal
-  like-again : named tree r ≡ false → likeEarlier tree text r ≡ true → not (typeIsNew tree text r) ≡ true
+  like-again : isCustom tree r ≡ false → likeEarlier tree text r ≡ true → not (typeIsNew tree text r) ≡ true
   like-again m y =
       tested (not (typeIsNew tree text r))
       (λ t. t)
@@ -164,17 +164,17 @@ module _ (tree text : List ℕ) (types r : ℕ) (kinds : (k : ℕ) → k < types
   module _ (again : Bool) (x : ℕ) (ea : again ≡ likeEarlier tree text r) (ex : x ≡ detailOf tree r) where
     pub words-found : (again && not (eqb x 8)) ≡ true → wordsAgain tree text r ≡ true
     words-found t =
-        let other : not (named tree r) ≡ true = rw ex at (and-right again (not (eqb x 8)) t) in
-        rw other (like-again (flipped (named tree r) other) (sym ea ∙ and-left again (not (eqb x 8)) t))
+        let other : not (isCustom tree r) ≡ true = rw ex at (and-right again (not (eqb x 8)) t) in
+        rw other (like-again (flipped (isCustom tree r) other) (sym ea ∙ and-left again (not (eqb x 8)) t))
 
     pub words-passed : (again && not (eqb x 8)) ≡ false → wordsAgain tree text r ≡ false
     words-passed t =
         tested again
-        (λ y. let other : not (named tree r) ≡ false = rw (y, ex) at t in rw other refl)
-        (λ n. and-none (not (named tree r)) (not (typeIsNew tree text r)) (unlike-new (sym ea ∙ n)))
+        (λ y. let other : not (isCustom tree r) ≡ false = rw (y, ex) at t in rw other refl)
+        (λ n. and-none (not (isCustom tree r)) (not (typeIsNew tree text r)) (unlike-new (sym ea ∙ n)))
 
     pub name-passed : again ≡ false → nameAgain tree text r ≡ false
-    name-passed n = and-none (named tree r) (not (typeIsNew tree text r)) (unlike-new (sym ea ∙ n))
+    name-passed n = and-none (isCustom tree r) (not (typeIsNew tree text r)) (unlike-new (sym ea ∙ n))
 
 -- ---- Customs: what the place in the order shows
 
@@ -191,11 +191,11 @@ module _ (tree text : List ℕ) (j r : ℕ) (same : sameType tree text j r ≡ t
   same-detail = eqb-true (detailOf tree j) (detailOf tree r) (and-left (eqb (detailOf tree j) (detailOf tree r)) _ same)
 
   -- a Custom equals Customs alone
-  names-together : (types : ℕ) → named tree r ≡ true → namesBucket tree text types j ≡ namesBucket tree text types r
+  names-together : (types : ℕ) → isCustom tree r ≡ true → namesBucket tree text types j ≡ namesBucket tree text types r
   names-together types m =
-      chained.together (named tree) (typeDigest tree text) types j r (ap (λ (d : ℕ). eqb d 8) same-detail ∙ m) m (same-digest tree text j r same)
+      chained.together (isCustom tree) (typeDigest tree text) types j r (ap (λ (d : ℕ). eqb d 8) same-detail ∙ m) m (same-digest tree text j r same)
 
-module _ (tree text : List ℕ) (types r b : ℕ) (kinds : (k : ℕ) → k < types → kindOf tree k ≡ 1) (hr : r < types) (is : named tree r ≡ true)
+module _ (tree text : List ℕ) (types r b : ℕ) (kinds : (k : ℕ) → k < types → kindOf tree k ≡ 1) (hr : r < types) (is : isCustom tree r ≡ true)
     (eb : b ≡ namesBucket tree text types r) (hb : b < types) where
   abbrev entries : List ℕ
   entries = chainOf (recordText tree text) (namesBucket tree text types) r b
@@ -207,7 +207,7 @@ module _ (tree text : List ℕ) (types r b : ℕ) (kinds : (k : ℕ) → k < typ
   custom = eqb-true (detailOf tree r) 8 is
 
   -- a Custom with r's name equals it
-  same-name : (k : ℕ) → named tree k ≡ true → recordText tree text k ≡ recordText tree text r → sameType tree text k r ≡ true
+  same-name : (k : ℕ) → isCustom tree k ≡ true → recordText tree text k ≡ recordText tree text r → sameType tree text k r ≡ true
   same-name k m e =
       sym (type-custom tree text k r (eqb-true (detailOf tree k) 8 m ∙ sym custom) custom)
       ∙ same-texts (recordText tree text k) (recordText tree text r) e
@@ -233,7 +233,7 @@ module _ (tree text : List ℕ) (types r b : ℕ) (kinds : (k : ℕ) → k < typ
         ⊎-elim
         (λ (n : first ≡ r). inl (found ∙ n))
         (λ (y : ((first < r) × (namesBucket tree text types first ≡ b)) × (recordText tree text first ≡ recordText tree text r)).
-        let m : named tree first ≡ true = chained.member-here (named tree) (typeDigest tree text) types first (omega (arith, y .0 .1)) in
+        let m : isCustom tree first ≡ true = chained.member-here (isCustom tree) (typeDigest tree text) types first (omega (arith, y .0 .1)) in
         let e : sameType tree text first r ≡ true = same-name first m (y .1) in
         inr (omega (arith, found, y .0 .0), rw found e))
         (first-is (recordText tree text) r (λ e. (e < r) × (namesBucket tree text types e ≡ b)) entries (chain-inside (recordText tree text) (namesBucket tree text types) b r))
@@ -285,12 +285,12 @@ module _ (tree text : List ℕ) (types r b : ℕ) (kinds : (k : ℕ) → k < typ
 -- ---- one type more
 
 module _ (tree text : List ℕ) (types stride r : ℕ) (s : List ℕ) (p : NamesPassed tree text types stride r s) where
-  pub names-past : named tree r ≡ false → NamesPassed tree text types stride (r + 1) s
+  pub names-past : isCustom tree r ≡ false → NamesPassed tree text types stride (r + 1) s
   names-past m =
       record {
         placed =
             chains-past (recordText tree text) (namesBucket tree text types) types s r (p .placed)
-            (omega (arith, chained.bucket-other (named tree) (typeDigest tree text) types r m));
+            (omega (arith, chained.bucket-other (isCustom tree) (typeDigest tree text) types r m));
         sampled = p .sampled;
       }
 
@@ -312,16 +312,16 @@ module _ (tree text : List ℕ) (types lowest : ℕ) (suspect : Bool) (found : F
         within = omega (arith, found .words .within, names .within);
         before =
             λ k h.
-            neither (named tree k) (not (typeIsNew tree text k)) (found .words .before k (omega (arith, names .within))) (names .before k h);
+            neither (isCustom tree k) (not (typeIsNew tree text k)) (found .words .before k (omega (arith, names .within))) (names .before k h);
         found =
             λ h.
             tested (ltb v lowest)
-            (λ y. and-right (named tree v) (not (typeIsNew tree text v)) (names .found (ltb-true v lowest y)))
+            (λ y. and-right (isCustom tree v) (not (typeIsNew tree text v)) (names .found (ltb-true v lowest y)))
             (λ n.
             let below : lowest ≤ v = ltb-false v lowest n in
             let z : v ≡ lowest = omega (arith, names .within) in
             let e : wordsAgain tree text lowest ≡ true = found .words .found (omega arith) in
-            and-right (not (named tree v)) (not (typeIsNew tree text v)) (rw z e));
+            and-right (not (isCustom tree v)) (not (typeIsNew tree text v)) (rw z e));
       }
 
   -- where none is suspect, that is all

@@ -22,22 +22,22 @@ pub record Leading (tree : List ℕ) (types : ℕ) : Type 0 where
   pub kinds : (k : ℕ) → k < types → kindOf tree k ≡ kindType
 
 -- type k is a Custom: it has a name
-abbrev pub named : List ℕ → ℕ → Bool
-named tree k = eqb (detailOf tree k) formCustom
+abbrev pub isCustom : List ℕ → ℕ → Bool
+isCustom tree k = eqb (detailOf tree k) formCustom
 
 -- type k equals an earlier one, and is no Custom, or is one
 abbrev pub wordsAgain : List ℕ → List ℕ → ℕ → Bool
-wordsAgain tree text k = not (named tree k) && not (typeIsNew tree text k)
+wordsAgain tree text k = not (isCustom tree k) && not (typeIsNew tree text k)
 
 abbrev pub nameAgain : List ℕ → List ℕ → ℕ → Bool
-nameAgain tree text k = named tree k && not (typeIsNew tree text k)
+nameAgain tree text k = isCustom tree k && not (typeIsNew tree text k)
 
 -- ---- by digests
 
 -- type k is taken for type r: they share a digest, and are equal where r is no Custom
 unfoldable pub alike : List ℕ → List ℕ → ℕ → ℕ → Bool
 unfolding typeDigest detailOf sameType
-alike tree text k r = eqb (typeDigest tree text k) (typeDigest tree text r) && (named tree r || sameType tree text k r)
+alike tree text k r = eqb (typeDigest tree text k) (typeDigest tree text r) && (isCustom tree r || sameType tree text k r)
 
 abbrev pub likeEarlier : List ℕ → List ℕ → ℕ → Bool
 likeEarlier tree text r = anyBelow r (λ k. alike tree text k r)
@@ -66,7 +66,7 @@ pub record FoundByDigest (tree text : List ℕ) (types lowest : ℕ) (suspect : 
 -- ---- Customs, by their names
 
 abbrev pub namesBucket : List ℕ → List ℕ → ℕ → ℕ → ℕ
-namesBucket tree text types = memberBucket (named tree) (typeDigest tree text) types
+namesBucket tree text types = memberBucket (isCustom tree) (typeDigest tree text) types
 
 -- the names of those below r are in the chains of their buckets
 abbrev pub NamesPlaced : List ℕ → List ℕ → ℕ → ℕ → List ℕ → Type 0

@@ -11,7 +11,7 @@ ghost use Rattle.records.specs.Digest.{typeDigest};
 ghost use Rattle.records.specs.Chains.{chainEach, ChainRoom};
 ghost use Rattle.records.specs.Samples.{sampleBytes, SampleRoom, Sampled};
 ghost use Rattle.judge.specs.Inner.{Lowest, Passing};
-ghost use Rattle.judge.specs.Equal.{Leading, named, nameAgain, alike, likeEarlier, typeBucket, TypesChained, DigestsPassed, FoundByDigest, namesBucket, NamesPlaced, NameEntered, NamesPassed};
+ghost use Rattle.judge.specs.Equal.{Leading, isCustom, nameAgain, alike, likeEarlier, typeBucket, TypesChained, DigestsPassed, FoundByDigest, namesBucket, NamesPlaced, NameEntered, NamesPassed};
 use crate::types::same_type;
 use records::chains::bucket;
 use records::chains::clear_heads;
@@ -202,7 +202,7 @@ fn enter_name(
     r: usize,
     b: usize,
 ) -> bool
-    requires { ⌜ Leading (now tree) types × ChainRoom types (now scratch) × (r < types) × (named (now tree) r ≡ true) ⌝ }
+    requires { ⌜ Leading (now tree) types × ChainRoom types (now scratch) × (r < types) × (isCustom (now tree) r ≡ true) ⌝ }
     requires { ⌜ NamesPlaced (now tree) (now text) types r (now scratch) × (b < types) × (b ≡ namesBucket (now tree) (now text) types r) ⌝ }
     ensures { λ v. ⌜ v ≡ not (typeIsNew (now (tree .entry)) (now (text .entry)) r) ⌝ }
     ensures { λ _. ⌜ NameEntered (now (tree .entry)) (now (text .entry)) types r (now (scratch .entry)) (now (scratch .exit)) ⌝ }

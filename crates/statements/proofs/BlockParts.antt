@@ -33,7 +33,7 @@ use Rattle.ir.proofs.StepLaws.{next-in, stop-first}
 use Rattle.scope.specs.declared.Scope.{Scope}
 use Rattle.scope.specs.Open.{scopeAt, within}
 use Rattle.keys.specs.Keys.{allKeys}
-use Rattle.statements.specs.Lent.{Converter, Stated, Finished, finished}
+use Rattle.statements.specs.Lent.{Converter, Stated, Finished, finishedWith}
 use Rattle.statements.specs.declared.answers.Finished as Code
 use Rattle.statements.specs.declared.answers.Finished.the-variants as Answer
 use Rattle.statements.proofs.answers.Finished.{the-type}
@@ -248,7 +248,7 @@ record Refusal (a : Finished) : Type 0 where
   pub error : ConvertError
   pub is : a ≡ Finished.Refused error
 
-refusal-of : (k : List ℕ) (a : Code.Finished) → tagOf the-type a ≡ 1 → Refusal (finished k a)
+refusal-of : (k : List ℕ) (a : Code.Finished) → tagOf the-type a ≡ 1 → Refusal (finishedWith k a)
 refusal-of k Answer.Done e = absurd (omega arith)
 refusal-of k (Answer.Refused z) e = record { error = z; is = refl }
 
@@ -306,7 +306,7 @@ module _ {tree text l s : List ℕ} {c : Converter} {r : ℕ} (p : Converting tr
       (opened-low tree text if-good r (x .below) v (wordOf tree r C) e at, opened-at tree text if-good r (x .below) v (wordOf tree r C) e at)
 
   module _ {a : Finished} {l₁ s₁ : List ℕ} (h : HeadAs ifHeadSteps c r tree text l s a l₁ s₁) where
-    pub if-stop : (w : List ℕ) (d : Code.Finished) → a ≡ finished w d → tagOf the-type d ≡ 1 → FinishesAs ifSteps c r tree text l s a l₁ s₁
+    pub if-stop : (w : List ℕ) (d : Code.Finished) → a ≡ finishedWith w d → tagOf the-type d ≡ 1 → FinishesAs ifSteps c r tree text l s a l₁ s₁
     if-stop w d q t =
         let z = refusal-of w d t in
         subst (λ (y : Finished). FinishesAs ifSteps c r tree text l s y l₁ s₁) (sym (q ∙ z .is))

@@ -20,7 +20,7 @@ use Rattle.ir.specs.Amounts.{Amount}
 use Rattle.ir.specs.Steps.{Emits}
 use Rattle.scope.specs.declared.Scope.{Scope}
 use Rattle.scope.specs.Open.{scopeAt}
-use Rattle.statements.specs.Lent.{Converter, Stated, Finished, finished}
+use Rattle.statements.specs.Lent.{Converter, Stated, Finished, finishedWith}
 use Rattle.statements.specs.declared.answers.Finished as Code
 use Rattle.statements.specs.declared.answers.Finished.the-variants as Answer
 use Rattle.statements.proofs.answers.Finished.{the-type}
@@ -117,7 +117,7 @@ stated-visited tree text r sc {s} {s′} {a} {done} w t sc′ k q = go done (sym
 
 -- ---- a head, its blocks, and what stands behind them
 
-pub refused-visited : {X : Type 0} (w : List ℕ) (a : Code.Finished) → tagOf the-type a ≡ 1 → (k : Counters) → finished w a ≡ Finished.Done k → X
+pub refused-visited : {X : Type 0} (w : List ℕ) (a : Code.Finished) → tagOf the-type a ≡ 1 → (k : Counters) → finishedWith w a ≡ Finished.Done k → X
 refused-visited w Answer.Done t k q = absurd (omega arith)
 refused-visited w (Answer.Refused z) t k q = refused-finished k q
 

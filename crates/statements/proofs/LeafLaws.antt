@@ -43,13 +43,14 @@ use Rattle.ir.specs.Floats.{entry, entryOfFloat}
 use Rattle.ir.specs.Instructions.{operandOf}
 use Rattle.ir.specs.Steps.{NumbersString, NumbersFloat}
 use Rattle.ir.proofs.StepCases.{next-of, stop-of}
+use Rattle.scope.specs.declared.Scope.{Scope}
 use Rattle.scope.specs.declared.Known.{Known}
 use Rattle.scope.specs.declared.Known.the-variants as Known
 use Rattle.scope.specs.Open.{scopeAt, FindMeets}
 use Rattle.scope.proofs.ScopeLaws.{find-some, find-unknown}
 use Rattle.expressions.specs.Answers.{IsTyped}
 use Rattle.expressions.specs.declared.answers.ExprType.the-variants as ExprType
-use Rattle.expressions.specs.Slots.{Asked}
+use Rattle.expressions.specs.Slots.{Asked, Ready}
 use Rattle.expressions.proofs.LeafLaws as Typing
 use Rattle.expressions.proofs.OriginalLaws.{kind-has, name-asked, kind-asked, slot-inside}
 use Rattle.expressions.proofs.TypingLaws.{expr-low}
@@ -167,8 +168,8 @@ leaf-answers tree text s c e l l′ n n′ f a p q h =
 
 -- ---- names
 
-pub name-ready : {tree text l s : List ℕ} {c : Converter} {e : ℕ} → Converting tree text l s c → IsKind tree 6 e → Asked tree text s (c .scope) e
-name-ready x is = name-asked (x .ready .keyed .good, x .ready .keyed .numbered) (x .ready .scoped) is
+pub name-ready : {tree text s : List ℕ} {sc : Scope} {e : ℕ} → Ready tree text s sc → IsKind tree 6 e → Asked tree text s sc e
+name-ready x is = name-asked (x .keyed .good, x .keyed .numbered) (x .scoped) is
 
 module _ (tree text l s : List ℕ) (c : Converter) (e : ℕ) (x : Converting tree text l s c) (is : IsKind tree 6 e)
     (r : Known) (m : FindMeets text s (c .scope) (textOf tree text e A) r) where
@@ -217,13 +218,12 @@ pub nothing-none : (b : Bytes) → b ≡ Bytes.Nothing → exactBytes b ≡ none
 unfolding exactBytes
 nothing-none b q = rw q
 
-module _ (tree text l s : List ℕ) (c : Converter) (e : ℕ) (x : Converting tree text l s c) (is : IsKind tree 8 e) (y : ℕ) (ey : y ≡ wordOf tree e A) where
-  pub size-inside : y * 32 + 32 ≤ length tree
-  size-inside =
-      let good = x .ready .keyed .good in
-      let h = sizeOf-a tree text good e (is .below) (is .kind) in
-      inside tree text good y (omega (arith, h .0, is .below))
+pub size-inside : {tree text : List ℕ} {e y : ℕ} → Good tree text → IsKind tree 8 e → y ≡ wordOf tree e A → y * 32 + 32 ≤ length tree
+size-inside {tree = tree} {text = text} {e = e} {y = y} good is ey =
+    let h = sizeOf-a tree text good e (is .below) (is .kind) in
+    inside tree text good y (omega (arith, ey, h .0, is .below))
 
+module _ (tree text l s : List ℕ) (c : Converter) (e : ℕ) (x : Converting tree text l s c) (is : IsKind tree 8 e) (y : ℕ) (ey : y ≡ wordOf tree e A) where
   module _ (b : Bytes) (exact : (u : List ℕ) → b ≡ bytesFor (exactSize tree u y)) (sized : (u : List ℕ) → exactBytes b ≡ sizeAt tree u y) where
     size-steps : exprSteps tree text s c e ≡ sizeOperand e (exactBytes b)
     unfolding convert-expr program sizeAt

@@ -368,7 +368,7 @@ module _ {tree text l s : List ℕ} {c : Converter} {r e : ℕ} (p : Converting 
     unfolding calleeOf callStatement
     resolved-cast w q = states-same is-called
         (states-stop (meets-lift (textsOf tree text) (called (scopeAt tree text s (c .scope))) (p .room) (m .meets ∙ ap (calleeOf tree text) w)
-        (seq-not {X = Unit {0}} text (pure (scopeAt tree text s (c .scope))) refl (fails-as (textsOf tree text) q))) resolved-stays)
+        (seq-not {X = Unit {0}} (textsOf tree text) (pure (scopeAt tree text s (c .scope))) refl (fails-as (textsOf tree text) q))) resolved-stays)
 
     function-parts : (S : Def.Scope) (g : ℕ) → only S g ≡ called S (CallFunction (functionOf tree text g))
     unfolding callStatement

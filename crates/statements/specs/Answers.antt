@@ -35,13 +35,16 @@ use Rattle.expressions.specs.Slots.{Frame, Ready}
 use Rattle.expressions.specs.declared.answers.Outcome.{Outcome}
 use Rattle.expressions.specs.declared.answers.Resolved.{Resolved}
 use Rattle.expressions.specs.Answers.{IsTyped, typeResult, outcomeOf, calleeOf}
-use Rattle.statements.specs.Lent.{Converter, Converted, ConvertedArgs, Stated, Finished, ForVariable, Fitted}
+use Rattle.statements.specs.Lent.{Converter, Converted, ConvertedArgs, Stated, Finished, ForVariable, Fitted, at, converted, foundVariable}
+use Rattle.statements.specs.declared.answers.Converter as Code-Converter
+use Rattle.statements.specs.declared.answers.Converted as Code-Converted
+use Rattle.statements.specs.declared.answers.ForVariable as Code-ForVariable
 use Rattle.statements.specs.declared.answers.AtValue.{AtValue}
 use Rattle.statements.specs.Meets.{StepAnswer, gave, refused, Adds, AddsIn, Meets, textsOf}
 use Rattle.statements.specs.Parts.{operandType, joinAnd, joinOr, finishBinary, countOn, ifHead, whileHead, forVariable, forBounds, forBegin, forTest, forTurns, forHead, declareInit, passArgs, finishCall}
 use Rattle.statements.specs.Stack.{stackAt}
 use Rattle.syntax.specs.Count.{under, statementRecords, blockRecords, argsUnder, argsValues}
-use Rattle.statements.specs.Converting.{Afforded, OperandIn, StackIn, StaysFor, NamesStay, exprAmount, argsAmount, behindAmount, statementAmount, blockAmount, headAmount, turnsAmount, forHeadAmount}
+use Rattle.statements.specs.Converting.{Converting, Afforded, OperandIn, StackIn, StaysFor, NamesStay, exprAmount, argsAmount, behindAmount, statementAmount, blockAmount, headAmount, turnsAmount, forHeadAmount}
 
 -- ---- answers
 
@@ -322,6 +325,13 @@ ConvertsAs steps c e tree text l s a l′ s′ = Converts tree text (steps tree 
 abbrev pub LeafConverts : Amount → Converter → ℕ → List ℕ → List ℕ → List ℕ → List ℕ → Converted → List ℕ → Type 0
 LeafConverts n c e tree text l s a l′ = Converts tree text (exprSteps tree text s c e) n c l s a l′ s
 
+-- one that adds nothing, whatever the counters and the tables are; and whatever the scope and the scratch are
+abbrev pub LeafStays : Code-Converter.Converter → ℕ → List ℕ → List ℕ → List ℕ → Code-Converted.Converted → Type 0
+LeafStays c e tree text s a = (k l : List ℕ) → Converting tree text l s (at c k) → LeafConverts (amount 0 0 0 0 0) (at c k) e tree text l s (converted k a) l
+
+abbrev pub LeafAnywhere : ℕ → List ℕ → List ℕ → Code-Converted.Converted → Type 0
+LeafAnywhere e tree text a = (c : Code-Converter.Converter) (s : List ℕ) → LeafStays c e tree text s a
+
 -- the operand o fitted to the type expected, whatever the text; the integer `bits`, which adds nothing
 abbrev pub OperandFits : List ℕ → Ir.Operand → ℕ → Amount → Counters → List ℕ → Fitted → List ℕ → Type 0
 OperandFits tree o expected n k l r l′ = (text : List ℕ) → FitAdds tree (fit-operand (program tree text) o expected) n k l r l′
@@ -358,6 +368,10 @@ DeclaresAs steps c r tree text l s a l′ s′ = States tree text (steps tree te
 -- the variable of the For r
 abbrev pub VariableAs : StepsAt (Ir.VarId × Def.Scope) → Converter → ℕ → List ℕ → List ℕ → List ℕ → List ℕ → ForVariable → List ℕ → List ℕ → Type 0
 VariableAs steps c r tree text l s a l′ s′ = FindsVariable tree text (steps tree text s c r) c l s a l′ s′
+
+-- one that adds nothing, whatever the counters and the tables are
+abbrev pub VariableStays : StepsAt (Ir.VarId × Def.Scope) → Code-Converter.Converter → ℕ → List ℕ → List ℕ → List ℕ → Code-ForVariable.ForVariable → Type 0
+VariableStays steps c r tree text s a = (k l : List ℕ) → Converting tree text l s (at c k) → VariableAs steps (at c k) r tree text l s (foundVariable k a) l s
 
 -- the If, While or For r behind its comment, which leaves the scope as it was
 abbrev pub FinishesAs : StepsAt Def.Scope → Converter → ℕ → List ℕ → List ℕ → List ℕ → List ℕ → Finished → List ℕ → List ℕ → Type 0

@@ -71,9 +71,9 @@ abbrev pub stated : List ℕ → Code-Stated.Stated → Stated
 stated k (Stated-is.Done sc) = Stated.Done sc (counted k)
 stated k (Stated-is.Refused e) = Stated.Refused e
 
-abbrev pub finished : List ℕ → Code-Finished.Finished → Finished
-finished k Finished-is.Done = Finished.Done (counted k)
-finished k (Finished-is.Refused e) = Finished.Refused e
+abbrev pub finishedWith : List ℕ → Code-Finished.Finished → Finished
+finishedWith k Finished-is.Done = Finished.Done (counted k)
+finishedWith k (Finished-is.Refused e) = Finished.Refused e
 
 abbrev pub foundVariable : List ℕ → Code-ForVariable.ForVariable → ForVariable
 foundVariable k (ForVariable-is.Is x sc) = ForVariable.Is x sc (counted k)

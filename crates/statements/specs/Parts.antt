@@ -2,7 +2,7 @@
 -- body of a loop, and so on. That the parts in a row are the definitions of conversion is proved where they are cited (proofs/PartLaws.antt,
 -- AroundLaws.antt, ArgsLaws.antt). Assumes nothing.
 use Prim.Native.Nat.{ℕ}
-use mathlib.Core.Bool.{Bool, true, false}
+use mathlib.Core.Bool.{Bool, false}
 use mathlib.Core.Option.{Option, none, some}
 use mathlib.Core.List.{List}
 use lib.Dec.{eqb}
@@ -11,7 +11,7 @@ use Rattle.laws.specs.Fix.{pick}
 use Rattle.syntax.specs.Syntax.{Text, UnaryOp, BinaryOp, Lt, Add, Expr, Args, Function, Program, boolType, nullType, addressOfNull}
 use Rattle.conversion.specs.ConvertError as C
 use Rattle.conversion.specs.ConvertError.{Result, ok, UnknownVariable, AssignToConstant, NotInteger}
-use Rattle.conversion.specs.Ir.{VarId, Operand, OVar, OInt, OFloat, Copy, Unary, Binary, Label, Jump, JumpIfNot, Call, LabelName, loopStart, loopEnd, loopCheck, otherwiseLabel, conditionEnd, logicRhs, logicEnd, M, _>>=_, _>>_, pure, fail, lift, emit, new-var, label-id, float-id}
+use Rattle.conversion.specs.Ir.{VarId, Operand, OVar, OInt, OFloat, Copy, Unary, Binary, Label, Jump, JumpIfNot, LabelName, loopStart, loopEnd, loopCheck, otherwiseLabel, conditionEnd, logicRhs, logicEnd, M, _>>=_, _>>_, pure, fail, lift, emit, new-var, label-id, float-id}
 use Rattle.conversion.specs.Scope.{Variable, Scope, declare, find-variable}
 use Rattle.conversion.specs.Types.{onInt}
 use Rattle.conversion.specs.Expressions.{Functions, Callee, unwrapOr}

@@ -8,7 +8,7 @@ ghost use Rattle.records.specs.Kinds.{kindCallStatement, kindIf, kindWhile, kin
 ghost use Rattle.syntax.specs.Places.{IsKind, IsStatement, BodyAt};
 ghost use Rattle.ir.specs.Counted.{counted, was, is};
 ghost use Rattle.statements.specs.Converting.{Converting, BehindAfforded, StatementAfforded, BlockAfforded};
-ghost use Rattle.statements.specs.Lent.{at, stated, finished};
+ghost use Rattle.statements.specs.Lent.{at, stated, finishedWith};
 ghost use Rattle.statements.specs.Answers.{StatesAs, StatementAs, BlockAs, FinishesAs, statedWith, plainSteps, jumpSteps, statementSteps, blockSteps, ifSteps, whileSteps, forSteps};
 ghost use Rattle.statements.specs.Turns.{Turns, Fresh, InTurn, ownTypes, StatesTyped, StatementVisited, FinishedVisited, BlockVisited};
 use crate::answers::Converter;
@@ -29,7 +29,7 @@ use crate::statements::convert_init;
 use crate::statements::convert_return;
 use expressions::arguments::END;
 use expressions::arguments::next_cell;
-use ir::lent::INSTRUCTIONS;
+use ir::lent::COUNT_INSTRUCTIONS;
 use ir::structs::emit_comment;
 use records::numbers::KIND_BREAK;
 use records::numbers::KIND_CALL_STATEMENT;
@@ -97,7 +97,7 @@ fn convert_jump(
 
 // What a statement with blocks answers: it leaves the scope as it was.
 fn stated(scope: Scope, done: Finished) -> Stated
-    ensures { λ a. ⌜ ((k : List ℕ) → stated k a ≡ statedWith scope (finished k done)) ⌝ }
+    ensures { λ a. ⌜ ((k : List ℕ) → stated k a ≡ statedWith scope (finishedWith k done)) ⌝ }
 {
     match done {
         Finished::Refused(x) => Stated::Refused(x),
@@ -125,7 +125,7 @@ fn convert_statement(
     let node = kind(tree, r);
     emit_comment(arena, k, r as u32);
     let mut at = c;
-    at.turn = k[INSTRUCTIONS] as u32;
+    at.turn = k[COUNT_INSTRUCTIONS] as u32;
     if node <= KIND_CALL_STATEMENT {
         return convert_plain(tree, text, arena, scratch, k, at, r);
     }
@@ -160,8 +160,8 @@ pub fn convert_block(
     requires { ⌜ Converting (now tree) (now text) (now arena) (now scratch) (at c (now k)) × BlockAfforded (now tree) (now text) (at c (now k)) first ⌝ }
     requires { ⌜ BodyAt (now tree) first ⌝ }
     requires { ⌜ Turns (now tree) (now scratch) (counted (now k)) ⌝ }
-    ensures { λ a. ⌜ BlockAs blockSteps (at c (was k)) first (was tree) (was text) (was arena) (was scratch) (finished (is k) a) (is arena) (is scratch) ⌝ }
-    ensures visits { λ a. ⌜ BlockVisited first (was tree) (was text) (was scratch) (finished (is k) a) (is scratch) ⌝ }
+    ensures { λ a. ⌜ BlockAs blockSteps (at c (was k)) first (was tree) (was text) (was arena) (was scratch) (finishedWith (is k) a) (is arena) (is scratch) ⌝ }
+    ensures visits { λ a. ⌜ BlockVisited first (was tree) (was text) (was scratch) (finishedWith (is k) a) (is scratch) ⌝ }
 {
     let mut cell = first;
     let mut at = c;
@@ -189,8 +189,8 @@ fn convert_if(
     requires { ⌜ Converting (now tree) (now text) (now arena) (now scratch) (at c (now k)) × BehindAfforded (now tree) (now text) (at c (now k)) r ⌝ }
     requires { ⌜ IsKind (now tree) kindIf r ⌝ }
     requires { ⌜ Fresh (now tree) (now scratch) (at c (now k)) ⌝ }
-    ensures { λ a. ⌜ FinishesAs ifSteps (at c (was k)) r (was tree) (was text) (was arena) (was scratch) (finished (is k) a) (is arena) (is scratch) ⌝ }
-    ensures visits { λ a. ⌜ FinishedVisited r (was tree) (was text) (was scratch) (finished (is k) a) (is scratch) ⌝ }
+    ensures { λ a. ⌜ FinishesAs ifSteps (at c (was k)) r (was tree) (was text) (was arena) (was scratch) (finishedWith (is k) a) (is arena) (is scratch) ⌝ }
+    ensures visits { λ a. ⌜ FinishedVisited r (was tree) (was text) (was scratch) (finishedWith (is k) a) (is scratch) ⌝ }
 {
     let then = reference(tree, r, WORD_B);
     let otherwise = reference(tree, r, WORD_C);
@@ -230,8 +230,8 @@ fn convert_while_loop(
     requires { ⌜ Converting (now tree) (now text) (now arena) (now scratch) (at c (now k)) × BehindAfforded (now tree) (now text) (at c (now k)) r ⌝ }
     requires { ⌜ IsKind (now tree) kindWhile r ⌝ }
     requires { ⌜ Fresh (now tree) (now scratch) (at c (now k)) ⌝ }
-    ensures { λ a. ⌜ FinishesAs whileSteps (at c (was k)) r (was tree) (was text) (was arena) (was scratch) (finished (is k) a) (is arena) (is scratch) ⌝ }
-    ensures visits { λ a. ⌜ FinishedVisited r (was tree) (was text) (was scratch) (finished (is k) a) (is scratch) ⌝ }
+    ensures { λ a. ⌜ FinishesAs whileSteps (at c (was k)) r (was tree) (was text) (was arena) (was scratch) (finishedWith (is k) a) (is arena) (is scratch) ⌝ }
+    ensures visits { λ a. ⌜ FinishedVisited r (was tree) (was text) (was scratch) (finishedWith (is k) a) (is scratch) ⌝ }
 {
     let scope = c.scope;
     let inner = scope.with_loop(r as u32);
@@ -265,8 +265,8 @@ fn convert_for_loop(
     requires { ⌜ Converting (now tree) (now text) (now arena) (now scratch) (at c (now k)) × BehindAfforded (now tree) (now text) (at c (now k)) r ⌝ }
     requires { ⌜ IsKind (now tree) kindFor r ⌝ }
     requires { ⌜ Fresh (now tree) (now scratch) (at c (now k)) ⌝ }
-    ensures { λ a. ⌜ FinishesAs forSteps (at c (was k)) r (was tree) (was text) (was arena) (was scratch) (finished (is k) a) (is arena) (is scratch) ⌝ }
-    ensures visits { λ a. ⌜ FinishedVisited r (was tree) (was text) (was scratch) (finished (is k) a) (is scratch) ⌝ }
+    ensures { λ a. ⌜ FinishesAs forSteps (at c (was k)) r (was tree) (was text) (was arena) (was scratch) (finishedWith (is k) a) (is arena) (is scratch) ⌝ }
+    ensures visits { λ a. ⌜ FinishedVisited r (was tree) (was text) (was scratch) (finishedWith (is k) a) (is scratch) ⌝ }
 {
     let body = reference(tree, r, WORD_D);
     match for_head(tree, text, arena, scratch, k, c, r) {

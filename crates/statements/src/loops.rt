@@ -15,10 +15,10 @@ ghost use Rattle.ir.specs.Counted.{counted, was, is};
 ghost use Rattle.ir.specs.Instructions.{operandOf, varOf};
 ghost use Rattle.expressions.specs.Slots.{Ready};
 ghost use Rattle.statements.specs.Converting.{Converting, RoomFor, OperandIn, BehindAfforded, BoundAfforded};
-ghost use Rattle.statements.specs.Lent.{at, stated, finished, foundVariable};
+ghost use Rattle.statements.specs.Lent.{at, stated, finishedWith, foundVariable};
 ghost use Rattle.statements.specs.Meets.{Adds};
 ghost use Rattle.statements.specs.Parts.{ifMiddle, loopBack, testBound, placeLabel};
-ghost use Rattle.statements.specs.Answers.{countOnSteps, ofVar, HeadAs, BoundAs, TurnsAs, TurnsAfforded, ForHeadAs, VariableAs, Checks, ifHeadSteps, whileHeadSteps, forVariableSteps, boundSteps, forBoundsSteps, forBeginSteps, forTestSteps, forTurnsSteps, forHeadSteps};
+ghost use Rattle.statements.specs.Answers.{countOnSteps, ofVar, HeadAs, BoundAs, TurnsAs, TurnsAfforded, ForHeadAs, VariableAs, VariableStays, Checks, ifHeadSteps, whileHeadSteps, forVariableSteps, boundSteps, forBoundsSteps, forBeginSteps, forTestSteps, forTurnsSteps, forHeadSteps};
 ghost use Rattle.statements.specs.Turns.{InTurn, headTypes, boundTypes, boundsTypes, forBeginTypes, forTestTypes, forTypes, StatesTyped, FinishesTyped, VariableTyped, ChecksTyped};
 use crate::answers::Converted;
 use crate::answers::Converter;
@@ -100,8 +100,8 @@ pub(crate) fn if_head(
     requires { ⌜ Converting (now tree) (now text) (now arena) (now scratch) (at c (now k)) × BehindAfforded (now tree) (now text) (at c (now k)) r ⌝ }
     requires { ⌜ IsKind (now tree) kindIf r ⌝ }
     requires { ⌜ InTurn (now tree) (now text) (now scratch) (at c (now k)) ⌝ }
-    ensures { λ a. ⌜ HeadAs ifHeadSteps (at c (was k)) r (was tree) (was text) (was arena) (was scratch) (finished (is k) a) (is arena) (is scratch) ⌝ }
-    ensures types { λ a. ⌜ FinishesTyped headTypes (at c (was k)) r (was tree) (was text) (was scratch) (finished (is k) a) (is scratch) ⌝ }
+    ensures { λ a. ⌜ HeadAs ifHeadSteps (at c (was k)) r (was tree) (was text) (was arena) (was scratch) (finishedWith (is k) a) (is arena) (is scratch) ⌝ }
+    ensures types { λ a. ⌜ FinishesTyped headTypes (at c (was k)) r (was tree) (was text) (was scratch) (finishedWith (is k) a) (is scratch) ⌝ }
 {
     let e = reference(tree, r, WORD_A);
     let label = if_not_label(tree, r);
@@ -144,8 +144,8 @@ pub(crate) fn while_head(
     requires { ⌜ Converting (now tree) (now text) (now arena) (now scratch) (at c (now k)) × BehindAfforded (now tree) (now text) (at c (now k)) r ⌝ }
     requires { ⌜ IsKind (now tree) kindWhile r ⌝ }
     requires { ⌜ InTurn (now tree) (now text) (now scratch) (at c (now k)) ⌝ }
-    ensures { λ a. ⌜ HeadAs whileHeadSteps (at c (was k)) r (was tree) (was text) (was arena) (was scratch) (finished (is k) a) (is arena) (is scratch) ⌝ }
-    ensures types { λ a. ⌜ FinishesTyped headTypes (at c (was k)) r (was tree) (was text) (was scratch) (finished (is k) a) (is scratch) ⌝ }
+    ensures { λ a. ⌜ HeadAs whileHeadSteps (at c (was k)) r (was tree) (was text) (was arena) (was scratch) (finishedWith (is k) a) (is arena) (is scratch) ⌝ }
+    ensures types { λ a. ⌜ FinishesTyped headTypes (at c (was k)) r (was tree) (was text) (was scratch) (finishedWith (is k) a) (is scratch) ⌝ }
 {
     let e = reference(tree, r, WORD_A);
     place_label(arena, k, LOOP_START, r);
@@ -196,16 +196,14 @@ fn for_declared(
 fn for_known(
     tree: &[u8],
     text: &[u8],
-    arena: &[u8],
     scratch: &[u8],
-    k: &[usize],
     c: Converter,
     r: usize,
     v: usize,
 ) -> ForVariable
-    requires { ⌜ Converting (now tree) (now text) (now arena) (now scratch) (at c (now k)) × BehindAfforded (now tree) (now text) (at c (now k)) r ⌝ }
+    requires { ⌜ Ready (now tree) (now text) (now scratch) (c .scope) ⌝ }
     requires { ⌜ IsKind (now tree) kindFor r × (v ≡ wordOf (now tree) r Words.A) × (wordOf (now tree) v Words.C ≡ Words.none) ⌝ }
-    ensures { λ a. ⌜ VariableAs forVariableSteps (at c (was k)) r (was tree) (was text) (was arena) (was scratch) (foundVariable (was k) a) (was arena) (was scratch) ⌝ }
+    ensures { λ a. ⌜ VariableStays forVariableSteps c r (was tree) (was text) (was scratch) a ⌝ }
 {
     let scope = c.scope;
     match find_name(tree, text, scratch, scope, v) {
@@ -237,7 +235,7 @@ fn for_variable(
 {
     let v = reference(tree, r, WORD_A);
     if word(tree, v, WORD_C) == NONE {
-        return for_known(tree, text, arena, scratch, k, c, r, v);
+        return for_known(tree, text, scratch, c, r, v);
     }
     for_declared(tree, text, arena, scratch, k, c, r, v)
 }
@@ -312,8 +310,8 @@ fn for_begin(
     requires { ⌜ Converting (now tree) (now text) (now arena) (now scratch) (at c (now k)) × BoundAfforded (now tree) (now text) (at c (now k)) r Words.B ⌝ }
     requires { ⌜ IsKind (now tree) kindFor r × TypeAt (now tree) (x .1) ⌝ }
     requires { ⌜ InTurn (now tree) (now text) (now scratch) (at c (now k)) ⌝ }
-    ensures { λ a. ⌜ BoundAs (ofVar forBeginSteps x) Words.B (at c (was k)) r (was tree) (was text) (was arena) (was scratch) (finished (is k) a) (is arena) (is scratch) ⌝ }
-    ensures types { λ a. ⌜ FinishesTyped forBeginTypes (at c (was k)) r (was tree) (was text) (was scratch) (finished (is k) a) (is scratch) ⌝ }
+    ensures { λ a. ⌜ BoundAs (ofVar forBeginSteps x) Words.B (at c (was k)) r (was tree) (was text) (was arena) (was scratch) (finishedWith (is k) a) (is arena) (is scratch) ⌝ }
+    ensures types { λ a. ⌜ FinishesTyped forBeginTypes (at c (was k)) r (was tree) (was text) (was scratch) (finishedWith (is k) a) (is scratch) ⌝ }
 {
     let from = reference(tree, r, WORD_B);
     match convert_expr(tree, text, arena, scratch, k, c, from) {
@@ -351,8 +349,8 @@ fn for_test(
     requires { ⌜ Converting (now tree) (now text) (now arena) (now scratch) (at c (now k)) × BoundAfforded (now tree) (now text) (at c (now k)) r Words.C ⌝ }
     requires { ⌜ IsKind (now tree) kindFor r × TypeAt (now tree) (x .1) ⌝ }
     requires { ⌜ InTurn (now tree) (now text) (now scratch) (at c (now k)) ⌝ }
-    ensures { λ a. ⌜ BoundAs (ofVar forTestSteps x) Words.C (at c (was k)) r (was tree) (was text) (was arena) (was scratch) (finished (is k) a) (is arena) (is scratch) ⌝ }
-    ensures types { λ a. ⌜ FinishesTyped forTestTypes (at c (was k)) r (was tree) (was text) (was scratch) (finished (is k) a) (is scratch) ⌝ }
+    ensures { λ a. ⌜ BoundAs (ofVar forTestSteps x) Words.C (at c (was k)) r (was tree) (was text) (was arena) (was scratch) (finishedWith (is k) a) (is arena) (is scratch) ⌝ }
+    ensures types { λ a. ⌜ FinishesTyped forTestTypes (at c (was k)) r (was tree) (was text) (was scratch) (finishedWith (is k) a) (is scratch) ⌝ }
 {
     let until = reference(tree, r, WORD_C);
     match convert_expr(tree, text, arena, scratch, k, c, until) {
@@ -378,8 +376,8 @@ fn for_turns(
     requires { ⌜ Converting (now tree) (now text) (now arena) (now scratch) (at c (now k)) × TurnsAfforded (now tree) (now text) (at c (now k)) r ⌝ }
     requires { ⌜ IsKind (now tree) kindFor r × TypeAt (now tree) (x .1) ⌝ }
     requires { ⌜ InTurn (now tree) (now text) (now scratch) (at c (now k)) ⌝ }
-    ensures { λ a. ⌜ TurnsAs (ofVar forTurnsSteps x) (at c (was k)) r (was tree) (was text) (was arena) (was scratch) (finished (is k) a) (is arena) (is scratch) ⌝ }
-    ensures types { λ a. ⌜ FinishesTyped forTypes (at c (was k)) r (was tree) (was text) (was scratch) (finished (is k) a) (is scratch) ⌝ }
+    ensures { λ a. ⌜ TurnsAs (ofVar forTurnsSteps x) (at c (was k)) r (was tree) (was text) (was arena) (was scratch) (finishedWith (is k) a) (is arena) (is scratch) ⌝ }
+    ensures types { λ a. ⌜ FinishesTyped forTypes (at c (was k)) r (was tree) (was text) (was scratch) (finishedWith (is k) a) (is scratch) ⌝ }
 {
     let y = x.1 as usize;
     if form(tree, y) != FORM_INT {

@@ -19,10 +19,11 @@ ghost use Rattle.conversion.specs.Written.{word};
 ghost use Rattle.ir.specs.Amounts.{amount, Affords};
 ghost use Rattle.ir.specs.Counted.{counted, was, is};
 ghost use Rattle.ir.specs.Instructions.{operandOf};
+ghost use Rattle.expressions.specs.Slots.{Ready};
 ghost use Rattle.statements.specs.Stack.{operandBytes, operandFrom, stackEntryAt, operandAt};
 ghost use Rattle.statements.specs.Converting.{Converting, RoomFor, exprAmount};
 ghost use Rattle.statements.specs.Lent.{at, converted, fitted};
-ghost use Rattle.statements.specs.Answers.{LeafAdds, LeafConverts};
+ghost use Rattle.statements.specs.Answers.{LeafAdds, LeafConverts, LeafStays, LeafAnywhere};
 use crate::answers::Converted;
 use crate::answers::Converter;
 use crate::answers::error_at;
@@ -177,18 +178,9 @@ fn string_operand(
 }
 
 // The variable of the Name e.
-fn name_operand(
-    tree: &[u8],
-    text: &[u8],
-    arena: &[u8],
-    scratch: &[u8],
-    k: &[usize],
-    c: Converter,
-    e: usize,
-) -> Converted
-    requires { ⌜ Converting (now tree) (now text) (now arena) (now scratch) (at c (now k)) ⌝ }
-    requires { ⌜ IsKind (now tree) kindName e ⌝ }
-    ensures { λ a. ⌜ LeafConverts (amount 0 0 0 0 0) (at c (was k)) e (was tree) (was text) (was arena) (was scratch) (converted (was k) a) (was arena) ⌝ }
+fn name_operand(tree: &[u8], text: &[u8], scratch: &[u8], c: Converter, e: usize) -> Converted
+    requires { ⌜ Ready (now tree) (now text) (now scratch) (c .scope) × IsKind (now tree) kindName e ⌝ }
+    ensures { λ a. ⌜ LeafStays c e (was tree) (was text) (was scratch) a ⌝ }
 {
     let scope = c.scope;
     match find_name(tree, text, scratch, scope, e) {
@@ -198,18 +190,9 @@ fn name_operand(
 }
 
 // The operand is tagged signed, though a SizeOf's type is unsigned.
-fn size_operand(
-    tree: &[u8],
-    text: &[u8],
-    arena: &[u8],
-    scratch: &[u8],
-    k: &[usize],
-    c: Converter,
-    e: usize,
-) -> Converted
-    requires { ⌜ Converting (now tree) (now text) (now arena) (now scratch) (at c (now k)) ⌝ }
-    requires { ⌜ IsKind (now tree) kindSizeOf e ⌝ }
-    ensures { λ a. ⌜ LeafConverts (amount 0 0 0 0 0) (at c (was k)) e (was tree) (was text) (was arena) (was scratch) (converted (was k) a) (was arena) ⌝ }
+fn size_operand(tree: &[u8], text: &[u8], e: usize) -> Converted
+    requires { ⌜ Good (now tree) (now text) × IsKind (now tree) kindSizeOf e ⌝ }
+    ensures { λ a. ⌜ LeafAnywhere e (was tree) (was text) a ⌝ }
 {
     match size(tree, reference(tree, e, WORD_A)) {
         Bytes::Exactly(n) => Converted::Is(Operand::Int(n, false, false)),
@@ -247,10 +230,10 @@ pub(crate) fn operand(
         return Converted::Is(Operand::Bool(detail(tree, e) == 1));
     }
     if leaf == KIND_NAME {
-        return name_operand(tree, text, arena, scratch, k, c, e);
+        return name_operand(tree, text, scratch, c, e);
     }
     if leaf == KIND_NULL {
         return Converted::Is(Operand::Null);
     }
-    size_operand(tree, text, arena, scratch, k, c, e)
+    size_operand(tree, text, e)
 }

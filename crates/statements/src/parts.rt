@@ -5,7 +5,7 @@ ghost use Prim.Native.Nat.{ℕ, _+_, _*_, _≤_, _<_};
 ghost use lib.ListN.{length, getD};
 ghost use Rattle.records.specs.Words.{recordBytes};
 ghost use Rattle.records.specs.Kinds.{kindBinary, kindCall};
-ghost use Rattle.syntax.specs.Syntax.{unaryOps, binaryOps, Neg, Or, And};
+ghost use Rattle.syntax.specs.Syntax.{unaryOps, binaryOps, Neg, Or};
 ghost use Rattle.syntax.specs.Places.{IsKind, TypeAt, FunctionAt};
 ghost use Rattle.ir.specs.Amounts.{amount};
 ghost use Rattle.ir.specs.Counted.{counted, was, is};

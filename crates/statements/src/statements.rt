@@ -16,7 +16,7 @@ ghost use Rattle.ir.specs.Amounts.{amount};
 ghost use Rattle.ir.specs.Counted.{counted, was, is};
 ghost use Rattle.ir.specs.Instructions.{operandOf, varOf};
 ghost use Rattle.statements.specs.Converting.{Converting, RoomFor, OperandIn, Afforded, ExprAfforded, BehindAfforded};
-ghost use Rattle.statements.specs.Lent.{at, converted, stated, finished};
+ghost use Rattle.statements.specs.Lent.{at, converted, stated, finishedWith};
 ghost use Rattle.statements.specs.Meets.{Adds};
 ghost use Rattle.statements.specs.Parts.{copyFitted, zeroFloat};
 ghost use Rattle.statements.specs.Answers.{ZeroMeets, givens, given, ConvertsAs, StatesAs, CallOnlyAs, DeclaresAs, condSteps, declareSteps, initSteps, initNewSteps, assignSteps, assignToSteps, returnSteps, returnAsSteps, callStatementSteps, callOnlySteps, breakSteps, continueSteps, declareInitSteps};
@@ -125,7 +125,7 @@ fn zero_operand(f: u8) -> Operand
 // The zero value that the Declare r writes; of a Custom the Rust would panic.
 fn zero_value(tree: &[u8], arena: &mut [u8], k: &mut [usize], r: usize, v: VarId) -> Finished
     requires { ⌜ RoomFor (counted (now k)) (now arena) (amount 1 0 0 0 1) × IsType (now tree) (v .1) × (r < 4294967296) ⌝ }
-    ensures { λ a. ⌜ ZeroMeets (was tree) r v (counted (was k)) (was arena) (finished (is k) a) (is arena) ⌝ }
+    ensures { λ a. ⌜ ZeroMeets (was tree) r v (counted (was k)) (was arena) (finishedWith (is k) a) (is arena) ⌝ }
 {
     let y = v.1 as usize;
     let f = form(tree, y);

@@ -6,7 +6,7 @@ use native.Mathlib.Omega.{arith}
 use lib.ListN.{length}
 use borrow.Author.Needs.{needs}
 use Rattle.ir.specs.Counted.{counted}
-use Rattle.statements.specs.Lent.{finished}
+use Rattle.statements.specs.Lent.{finishedWith}
 use Rattle.converter.proofs.AllLaws.{SoFar, few-functions, all-start, one-afforded, all-next, all-refused, all-end}
 use Rattle.converter.proofs.convert_all.Statement.{statement}
 use Rattle.converter.proofs.convert_all.Tie as tie
@@ -51,7 +51,7 @@ returns c =
     let turn = c .before .before .before .before .before .before .before .before .before in
     let found = c .before .before .before .before .before .before .before .before .before .before .before .before .before in
     let test = c .before .before .before .before .before .before .before .before .before .before .before .before .before .before .before in
-    all-refused _ _ _ _ _ _ _ _ _ (test .before .loop .inv .0) (test .loop-test .taken) _ (found .function-at .ensures .0) _ _ _ (turn .convert-func .ensures .0) (turn .convert-func .ensures .1) _ (ap (finished _) (c .before .e .given .1))
+    all-refused _ _ _ _ _ _ _ _ _ (test .before .loop .inv .0) (test .loop-test .taken) _ (found .function-at .ensures .0) _ _ _ (turn .convert-func .ensures .0) (turn .convert-func .ensures .1) _ (ap (finishedWith _) (c .before .e .given .1))
 
 enum-told : tie.Need-enum-told Inv-loop μ-loop
 enum-told c = search needs
@@ -69,7 +69,7 @@ loop-again c =
     let turn = c .before .before .before .before .before .before .before .before in
     let found = c .before .before .before .before .before .before .before .before .before .before .before .before in
     let test = c .before .before .before .before .before .before .before .before .before .before .before .before .before .before in
-    (all-next _ _ _ _ _ _ _ _ _ (test .before .loop .inv .0) (test .loop-test .taken) _ (found .function-at .ensures .0) _ _ _ (turn .convert-func .ensures .0) (turn .convert-func .ensures .1) _ (ap (finished _) (c .enum-told .given .1)), c .before .before .before .k .given ∙ test .before .loop .inv .1)
+    (all-next _ _ _ _ _ _ _ _ _ (test .before .loop .inv .0) (test .loop-test .taken) _ (found .function-at .ensures .0) _ _ _ (turn .convert-func .ensures .0) (turn .convert-func .ensures .1) _ (ap (finishedWith _) (c .enum-told .given .1)), c .before .before .before .k .given ∙ test .before .loop .inv .1)
 
 same-length-4 : tie.Need-same-length-4 Inv-loop μ-loop
 same-length-4 c = c .before .loop .inv .0 .long

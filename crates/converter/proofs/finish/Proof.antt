@@ -3,7 +3,7 @@
 use mathlib.Core.Path.{sym, ap, _∙_}
 use borrow.Author.Needs.{needs}
 use Rattle.ir.proofs.LentLaws.{ten}
-use Rattle.statements.specs.Lent.{Finished, finished}
+use Rattle.statements.specs.Lent.{Finished, finishedWith}
 use Rattle.converter.proofs.CallLaws.{finish-refused, finish-converted}
 use Rattle.converter.proofs.finish.Statement.{statement}
 use Rattle.converter.proofs.finish.Tie as tie
@@ -18,12 +18,12 @@ enum-told : tie.Need-enum-told
 enum-told c = search needs
 
 counters-of-requires : tie.Need-counters-of-requires
-counters-of-requires c κs = ten _ _ (c .before .before .before .before .before .before .before .before .before .pre .room _ (ap (finished _) (c .enum-told .given .1)))
+counters-of-requires c κs = ten _ _ (c .before .before .before .before .before .before .before .before .before .pre .room _ (ap (finishedWith _) (c .enum-told .given .1)))
 
 cut-tables-requires : tie.Need-cut-tables-requires
 cut-tables-requires c κs =
     let first = c .before .before .before .before .before .before .before .before .before .before .before .before .before .before .before .before in
-    let is = ap (finished _) (c .before .before .before .before .before .before .before .enum-told .given .1) ∙ ap Finished.Done (sym (c .before .before .before .before .before .before .counters-of .ensures)) in
+    let is = ap (finishedWith _) (c .before .before .before .before .before .before .before .enum-told .given .1) ∙ ap Finished.Done (sym (c .before .before .before .before .before .before .counters-of .ensures)) in
     (first .pre .room _ is, first .pre .lent _ is)
 
 counts-of-requires : tie.Need-counts-of-requires
@@ -50,7 +50,7 @@ same-length-6 c = search needs
 returns : tie.Need-returns
 returns c =
     let six = c .before .before .before .before .before .before .before .before .before .before .before .before .clear-outputs .ensures in
-    finish-refused _ _ _ _ _ _ _ _ _ _ _ _ _ _ _ (ap (finished _) (c .before .before .before .before .before .before .before .before .before .before .before .before .before .before .before .before .before .before .before .before .done .given .1)) (six .0, six .1 .0, six .1 .1 .0, six .1 .1 .1 .0, six .1 .1 .1 .1 .0, six .1 .1 .1 .1 .1)
+    finish-refused _ _ _ _ _ _ _ _ _ _ _ _ _ _ _ (ap (finishedWith _) (c .before .before .before .before .before .before .before .before .before .before .before .before .before .before .before .before .before .before .before .before .done .given .1)) (six .0, six .1 .0, six .1 .1 .0, six .1 .1 .1 .0, six .1 .1 .1 .1 .0, six .1 .1 .1 .1 .1)
 
 same-length-7 : tie.Need-same-length-7
 same-length-7 c = search needs
@@ -72,7 +72,7 @@ same-length-12 c = search needs
 
 returns-2 : tie.Need-returns-2
 returns-2 c =
-    let is = ap (finished _) (c .before .before .before .before .before .before .before .before .before .before .before .before .before .before .before .before .before .before .before .before .before .enum-told .given .1) ∙ ap Finished.Done (sym (c .before .before .before .before .before .before .before .before .before .before .before .before .before .before .before .before .before .before .before .before .counters-of .ensures)) in
+    let is = ap (finishedWith _) (c .before .before .before .before .before .before .before .before .before .before .before .before .before .before .before .before .before .before .before .before .before .enum-told .given .1) ∙ ap Finished.Done (sym (c .before .before .before .before .before .before .before .before .before .before .before .before .before .before .before .before .before .before .before .before .counters-of .ensures)) in
     finish-converted _ _ _ _ _ _ _ _ _ _ _ _ _ _ _ _ is (c .counts-of .ensures)
     (record { instructions = c .before .before .before .before .before .before .before .before .before .before .before .before .instructions2 .given; variables = c .before .before .before .before .before .before .before .before .before .before .variables2 .given; labels = c .before .before .before .before .before .before .before .before .labels2 .given; functions = c .before .before .before .before .before .before .functions2 .given; strings = c .before .before .before .before .strings2 .given; floats = c .before .before .floats2 .given })
     (c .before .before .before .before .before .before .before .before .before .before .before .before .before .cut-tables .ensures)

@@ -4,7 +4,7 @@ use mathlib.Core.Path.{ap}
 use native.Mathlib.Omega.{arith}
 use Rattle.functions.proofs.BodyLaws.{block-afforded, body-list, function-small, body-misses, entry-room, body-refused, body-done, body-visited}
 use Rattle.statements.proofs.HeadLaws.{refused-finished}
-use Rattle.statements.specs.Lent.{finished}
+use Rattle.statements.specs.Lent.{finishedWith}
 use borrow.Author.Needs.{needs}
 use Rattle.functions.proofs.bodies.convert_body.Statement.{statement}
 use Rattle.functions.proofs.bodies.convert_body.Tie as tie
@@ -45,7 +45,7 @@ same-length-3 : tie.Need-same-length-3
 same-length-3 c = search needs
 
 returns : tie.Need-returns
-returns c = (body-misses _ (c .before .before .before .before .before .before .before .before .before .before .before .before .before .before .reference .ensures) (c .before .before .before .before .before .before .before .before .before .before .convert-block .ensures .0) (ap (finished _) (c .before .before .enum-told .given .1)) (c .before .misses-return .ensures) (c .if1 .taken), λ k q. refused-finished k q)
+returns c = (body-misses _ (c .before .before .before .before .before .before .before .before .before .before .before .before .before .before .reference .ensures) (c .before .before .before .before .before .before .before .before .before .before .convert-block .ensures .0) (ap (finishedWith _) (c .before .before .enum-told .given .1)) (c .before .misses-return .ensures) (c .if1 .taken), λ k q. refused-finished k q)
 
 cast-add-function : tie.Need-cast-add-function
 cast-add-function c =
@@ -53,7 +53,7 @@ cast-add-function c =
     omega (arith, function-small (first .pre .0 .0 .ready .keyed .good) (first .pre .1 .0 .0))
 
 add-function-requires : tie.Need-add-function-requires
-add-function-requires c κs = entry-room _ (c .before .before .before .before .before .before .before .before .before .before .before .before .before .before .before .before .reference .ensures) (c .before .before .before .before .before .before .before .before .before .before .before .before .convert-block .ensures .0) (ap (finished _) (c .before .before .before .before .enum-told .given .1)) (c .before .before .before .misses-return .ensures) (c .before .before .before .before .before .before .before .before .before .before .before .before .before .before .before .before .before .before .before .before .before .before .pre .1 .0 .1)
+add-function-requires c κs = entry-room _ (c .before .before .before .before .before .before .before .before .before .before .before .before .before .before .before .before .reference .ensures) (c .before .before .before .before .before .before .before .before .before .before .before .before .convert-block .ensures .0) (ap (finishedWith _) (c .before .before .before .before .enum-told .given .1)) (c .before .before .before .misses-return .ensures) (c .before .before .before .before .before .before .before .before .before .before .before .before .before .before .before .before .before .before .before .before .before .before .pre .1 .0 .1)
 
 same-length-4 : tie.Need-same-length-4
 same-length-4 c = search needs
@@ -65,7 +65,7 @@ same-length-6 : tie.Need-same-length-6
 same-length-6 c = search needs
 
 returns-2 : tie.Need-returns-2
-returns-2 c = (body-refused _ (c .before .before .before .before .before .before .before .before .before .before .before .before .before .reference .ensures) (c .before .before .before .before .before .before .before .before .before .convert-block .ensures .0) (ap (finished _) (c .before .x .given .1)), λ k q. refused-finished k q)
+returns-2 c = (body-refused _ (c .before .before .before .before .before .before .before .before .before .before .before .before .before .reference .ensures) (c .before .before .before .before .before .before .before .before .before .convert-block .ensures .0) (ap (finishedWith _) (c .before .x .given .1)), λ k q. refused-finished k q)
 
 same-length-7 : tie.Need-same-length-7
 same-length-7 c = search needs
@@ -77,7 +77,7 @@ same-length-9 : tie.Need-same-length-9
 same-length-9 c = search needs
 
 returns-3 : tie.Need-returns-3
-returns-3 c = (body-done _ (c .before .before .before .before .before .before .before .before .before .before .before .before .before .before .before .before .before .before .before .before .before .reference .ensures) (c .before .before .before .before .before .before .before .before .before .before .before .before .before .before .before .before .before .convert-block .ensures .0) (ap (finished _) (c .before .before .before .before .before .before .before .before .before .enum-told .given .1)) (c .before .before .before .before .before .before .before .before .misses-return .ensures) (c .before .before .before .before .before .before .before .if1 .left) (omega arith) (c .before .before .before .before .add-function .ensures), body-visited _ _ _ (c .before .before .before .before .before .before .before .before .before .before .before .before .before .before .before .before .before .before .before .before .before .reference .ensures) (c .before .before .before .before .before .before .before .before .before .before .before .before .before .before .before .before .before .convert-block .ensures .1) (ap (finished _) (c .before .before .before .before .before .before .before .before .before .enum-told .given .1)) (c .before .before .before .before .add-function .ensures))
+returns-3 c = (body-done _ (c .before .before .before .before .before .before .before .before .before .before .before .before .before .before .before .before .before .before .before .before .before .reference .ensures) (c .before .before .before .before .before .before .before .before .before .before .before .before .before .before .before .before .before .convert-block .ensures .0) (ap (finishedWith _) (c .before .before .before .before .before .before .before .before .before .enum-told .given .1)) (c .before .before .before .before .before .before .before .before .misses-return .ensures) (c .before .before .before .before .before .before .before .if1 .left) (omega arith) (c .before .before .before .before .add-function .ensures), body-visited _ _ _ (c .before .before .before .before .before .before .before .before .before .before .before .before .before .before .before .before .before .before .before .before .before .reference .ensures) (c .before .before .before .before .before .before .before .before .before .before .before .before .before .before .before .before .before .convert-block .ensures .1) (ap (finishedWith _) (c .before .before .before .before .before .before .before .before .before .enum-told .given .1)) (c .before .before .before .before .add-function .ensures))
 
 pub convert-body-spec : {M : Type 1} → statement M
 convert-body-spec =

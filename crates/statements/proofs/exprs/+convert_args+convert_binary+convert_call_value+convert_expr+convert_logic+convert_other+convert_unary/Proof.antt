@@ -5,7 +5,7 @@ use Rattle.statements.specs.declared.answers.Converter.{Converter}
 use Rattle.statements.specs.Lent.{at, converted, convertedArgs}
 use mathlib.Core.Path.{_≡_, refl, ap, _∙_}
 use mathlib.Core.Logic.{⊎-elim}
-use mathlib.Core.List.{List, []}
+use mathlib.Core.List.{List}
 use native.Mathlib.Omega.{arith}
 use borrow.Author.Needs.{needs}
 use Rattle.syntax.proofs.Lists.{left}

@@ -1,7 +1,7 @@
 -- A jump to the label of a kind and a record.
 -- The label's step and then the instruction's. Assumes nothing.
-use Rattle.ir.specs.Counted.{counted}
 use Rattle.statements.proofs.JumpLaws.{jump-adds}
+use native.Mathlib.Omega.{arith}
 use borrow.Author.Needs.{needs}
 use Rattle.statements.proofs.jumps.jump.Statement.{statement}
 use Rattle.statements.proofs.jumps.jump.Tie as tie
@@ -17,8 +17,8 @@ label-id-requires : tie.Need-label-id-requires
 label-id-requires c κs = search needs
 
 emit-jump-requires : tie.Need-emit-jump-requires
-unfolding counted
-emit-jump-requires c κs = search needs
+emit-jump-requires c κs =
+    let p = c .before .before .before .before .before .before .label-id .ensures in (p .next .room, omega (arith, c .before .before .before .before .before .before .before .before .before .before .before .pre .0 .affords, p .spent))
 
 same-length : tie.Need-same-length
 same-length c = search needs

@@ -1,6 +1,5 @@
 -- Where the For counts on.
 -- A jump, two labels and an instruction in a row. Assumes nothing.
-use Rattle.ir.specs.Counted.{counted}
 use native.Mathlib.Omega.{arith}
 use Rattle.statements.proofs.HeadLaws.{count-adds}
 use borrow.Author.Needs.{needs}
@@ -32,8 +31,9 @@ jump-requires c κs = search needs
 
 -- src/loops.rt:296:5
 place-label-requires : tie.Need-place-label-requires
-unfolding counted
-place-label-requires c κs = search needs
+place-label-requires c κs =
+    let p = c .before .before .before .before .before .before .jump .ensures in
+    (record { room = p .next .room; affords = omega (arith, c .before .before .before .before .before .before .before .before .before .before .before .before .before .before .before .pre .0 .affords, p .spent) }, omega (arith, c .before .before .before .before .before .before .before .before .before .before .before .before .before .before .before .pre .1, p .spent))
 
 -- src/loops.rt:297:5
 emit-binary-requires : tie.Need-emit-binary-requires

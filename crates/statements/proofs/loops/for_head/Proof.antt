@@ -4,7 +4,7 @@ use native.Mathlib.Omega.{arith}
 use mathlib.Core.Path.{ap}
 use Rattle.statements.proofs.PlainTurns.{refused-stated}
 use Rattle.statements.proofs.ForLaws.{head-not, head-asks, head-turns-not, head-done, head-in-turn, head-typed}
-use Rattle.statements.specs.Lent.{finished, foundVariable}
+use Rattle.statements.specs.Lent.{finishedWith, foundVariable}
 use borrow.Author.Needs.{needs}
 use Rattle.statements.proofs.loops.for_head.Statement.{statement}
 use Rattle.statements.proofs.loops.for_head.Tie as tie
@@ -49,7 +49,7 @@ same-length-6 : tie.Need-same-length-6
 same-length-6 c = omega (arith, c .before .before .before .before .before .before .before .before .before .before .before .before .before .before .before .before .before .k .given, c .before .before .before .before .k2 .given)
 
 returns-2 : tie.Need-returns-2
-returns-2 c = (head-turns-not _ (c .before .before .before .before .before .before .before .before .before .before .before .before .before .before .before .before .before .before .before .before .before .before .before .before .before .before .before .before .before .before .before .pre .0 .0) (c .before .before .before .before .before .before .before .before .before .before .before .before .before .before .before .before .before .before .before .before .before .before .for-variable .ensures .0) (ap (foundVariable _) (c .before .before .before .before .before .before .before .before .before .before .before .before .before .before .x .given .1)) (c .before .before .before .before .before .before .before .before .before .for-turns .ensures .0 .0) (ap (finished _) (c .before .e2 .given .1)), refused-stated)
+returns-2 c = (head-turns-not _ (c .before .before .before .before .before .before .before .before .before .before .before .before .before .before .before .before .before .before .before .before .before .before .before .before .before .before .before .before .before .before .before .pre .0 .0) (c .before .before .before .before .before .before .before .before .before .before .before .before .before .before .before .before .before .before .before .before .before .before .for-variable .ensures .0) (ap (foundVariable _) (c .before .before .before .before .before .before .before .before .before .before .before .before .before .before .x .given .1)) (c .before .before .before .before .before .before .before .before .before .for-turns .ensures .0 .0) (ap (finishedWith _) (c .before .e2 .given .1)), refused-stated)
 
 same-length-7 : tie.Need-same-length-7
 same-length-7 c = omega (arith, c .before .before .before .before .before .before .before .before .before .before .before .before .before .before .before .before .before .before .before .before .arena .given, c .before .before .before .before .before .before .before .arena2 .given)
@@ -61,7 +61,7 @@ same-length-9 : tie.Need-same-length-9
 same-length-9 c = omega (arith, c .before .before .before .before .before .before .before .before .before .before .before .before .before .before .before .before .k .given, c .before .before .before .k2 .given)
 
 returns-3 : tie.Need-returns-3
-returns-3 c = (head-done _ (c .before .before .before .before .before .before .before .before .before .before .before .before .before .before .before .before .before .before .before .before .before .before .before .before .before .before .before .before .before .before .pre .0 .0) (c .before .before .before .before .before .before .before .before .before .before .before .before .before .before .before .before .before .before .before .before .before .for-variable .ensures .0) (ap (foundVariable _) (c .before .before .before .before .before .before .before .before .before .before .before .before .before .x .given .1)) (c .before .before .before .before .before .before .before .before .for-turns .ensures .0 .0) (ap (finished _) (c .enum-told .given .1)) (c .before .before .before .before .before .before .before .before .for-turns .ensures .0 .1), head-typed _ (c .before .before .before .before .before .before .before .before .before .before .before .before .before .before .before .before .before .before .before .before .before .before .before .before .before .before .before .before .before .before .pre .0 .0) (c .before .before .before .before .before .before .before .before .before .before .before .before .before .before .before .before .before .before .before .before .before .for-variable .ensures .0) (ap (foundVariable _) (c .before .before .before .before .before .before .before .before .before .before .before .before .before .x .given .1)) (c .before .before .before .before .before .before .before .before .before .before .before .before .before .before .before .before .before .before .before .before .before .for-variable .ensures .1) (ap (finished _) (c .enum-told .given .1)) (c .before .before .before .before .before .before .before .before .for-turns .ensures .1))
+returns-3 c = (head-done _ (c .before .before .before .before .before .before .before .before .before .before .before .before .before .before .before .before .before .before .before .before .before .before .before .before .before .before .before .before .before .before .pre .0 .0) (c .before .before .before .before .before .before .before .before .before .before .before .before .before .before .before .before .before .before .before .before .before .for-variable .ensures .0) (ap (foundVariable _) (c .before .before .before .before .before .before .before .before .before .before .before .before .before .x .given .1)) (c .before .before .before .before .before .before .before .before .for-turns .ensures .0 .0) (ap (finishedWith _) (c .enum-told .given .1)) (c .before .before .before .before .before .before .before .before .for-turns .ensures .0 .1), head-typed _ (c .before .before .before .before .before .before .before .before .before .before .before .before .before .before .before .before .before .before .before .before .before .before .before .before .before .before .before .before .before .before .pre .0 .0) (c .before .before .before .before .before .before .before .before .before .before .before .before .before .before .before .before .before .before .before .before .before .for-variable .ensures .0) (ap (foundVariable _) (c .before .before .before .before .before .before .before .before .before .before .before .before .before .x .given .1)) (c .before .before .before .before .before .before .before .before .before .before .before .before .before .before .before .before .before .before .before .before .before .for-variable .ensures .1) (ap (finishedWith _) (c .enum-told .given .1)) (c .before .before .before .before .before .before .before .before .for-turns .ensures .1))
 
 pub for-head-spec : {M : Type 1} → statement M
 for-head-spec =

@@ -11,7 +11,7 @@ use Rattle.statements.proofs.answers.error_at.Reads as error-at-reads
 
 -- src/loops.rt:211:11
 find-name-requires : tie.Need-find-name-requires
-find-name-requires c κs = variable-asked (c .before .before .before .before .before .before .pre .0 .0 .ready) (c .before .before .before .before .before .before .pre .1 .0) (c .before .before .before .before .before .before .pre .1 .1)
+find-name-requires c κs = variable-asked (c .before .before .before .before .pre .0) (c .before .before .before .before .pre .1 .0) (c .before .before .before .before .pre .1 .1)
 
 -- src/loops.rt:212:57
 enum-told : tie.Need-enum-told
@@ -31,15 +31,15 @@ error-at-requires-2 c κs = search needs
 
 -- src/loops.rt:215:17
 returns : tie.Need-returns
-returns c = known-fixed _ (c .before .before .before .before .before .before .before .before .before .before .before .before .pre .0 .0) (c .before .before .before .before .before .before .before .before .before .before .before .before .pre .1 .1) (c .before .before .before .before .before .before .before .before .before .before .before .before .pre .1 .2) _ (c .before .before .before .before .before .find-name .ensures) (c .before .before .before .x .given .1) (c .before .if1 .taken) (c .error-at2 .ensures)
+returns c = λ k l x. known-fixed _ x (c .before .before .before .before .before .before .before .before .before .before .pre .1 .1) (c .before .before .before .before .before .before .before .before .before .before .pre .1 .2) _ (c .before .before .before .before .before .find-name .ensures) (c .before .before .before .x .given .1) (c .before .if1 .taken) (c .error-at2 .ensures)
 
 -- src/loops.rt:196:1
 returns-2 : tie.Need-returns-2
-returns-2 c = known-not _ (c .before .before .before .before .before .before .before .before .before .before .pre .0 .0) (c .before .before .before .before .before .before .before .before .before .before .pre .1 .1) (c .before .before .before .before .before .before .before .before .before .before .pre .1 .2) _ (c .before .before .before .find-name .ensures) (c .before .enum-told .given .1) (c .error-at .ensures)
+returns-2 c = λ k l x. known-not _ x (c .before .before .before .before .before .before .before .before .pre .1 .1) (c .before .before .before .before .before .before .before .before .pre .1 .2) _ (c .before .before .before .find-name .ensures) (c .before .enum-told .given .1) (c .error-at .ensures)
 
 -- src/loops.rt:196:1
 returns-3 : tie.Need-returns-3
-returns-3 c = known-is _ (c .before .before .before .before .before .before .before .before .before .before .before .pre .0 .0) (c .before .before .before .before .before .before .before .before .before .before .before .pre .1 .1) (c .before .before .before .before .before .before .before .before .before .before .before .pre .1 .2) _ (c .before .before .before .before .find-name .ensures) (c .before .before .x .given .1) (c .if1 .left)
+returns-3 c = λ k l x. known-is _ x (c .before .before .before .before .before .before .before .before .before .pre .1 .1) (c .before .before .before .before .before .before .before .before .before .pre .1 .2) _ (c .before .before .before .before .find-name .ensures) (c .before .before .x .given .1) (c .if1 .left)
 
 pub for-known-spec : {M : Type 1} → statement M
 for-known-spec =

@@ -1,7 +1,7 @@
 -- Between the blocks of the If.
 -- A jump and a label in a row. Assumes nothing.
-use Rattle.ir.specs.Counted.{counted}
 use Rattle.statements.proofs.HeadLaws.{middle-adds}
+use native.Mathlib.Omega.{arith}
 use borrow.Author.Needs.{needs}
 use Rattle.statements.proofs.loops.if_middle.Statement.{statement}
 use Rattle.statements.proofs.loops.if_middle.Tie as tie
@@ -12,8 +12,9 @@ jump-requires : tie.Need-jump-requires
 jump-requires c κs = search needs
 
 place-label-requires : tie.Need-place-label-requires
-unfolding counted
-place-label-requires c κs = search needs
+place-label-requires c κs =
+    let p = c .before .before .before .before .before .before .jump .ensures in
+    (record { room = p .next .room; affords = omega (arith, c .before .before .before .before .before .before .before .before .before .before .before .pre .0 .affords, p .spent) }, omega (arith, c .before .before .before .before .before .before .before .before .before .before .before .pre .1, p .spent))
 
 same-length : tie.Need-same-length
 same-length c = search needs

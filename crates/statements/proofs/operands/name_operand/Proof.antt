@@ -11,7 +11,7 @@ use Rattle.statements.proofs.answers.error_at.Reads as error-at-reads
 
 -- src/operands.rt:177:11
 find-name-requires : tie.Need-find-name-requires
-find-name-requires c κs = name-ready (c .before .before .before .before .before .before .pre .0) (c .before .before .before .before .before .before .pre .1)
+find-name-requires c κs = name-ready (c .before .before .before .before .pre .0) (c .before .before .before .before .pre .1)
 
 -- src/operands.rt:178:19
 enum-known-v : tie.Need-enum-known-v
@@ -27,11 +27,11 @@ error-at-requires c κs = search needs
 
 -- src/operands.rt:163:1
 returns : tie.Need-returns
-returns c = name-gives _ _ _ _ _ _ (c .before .before .before .before .before .before .before .before .before .before .pre .0) (c .before .before .before .before .before .before .before .before .before .before .pre .1) _ (c .before .before .before .find-name .ensures) _ _ (c .before .v .given .1)
+returns c = λ k l x. name-gives _ _ _ _ _ _ x (c .before .before .before .before .before .before .before .before .pre .1) _ (c .before .before .before .find-name .ensures) _ _ (c .before .v .given .1)
 
 -- src/operands.rt:163:1
 returns-2 : tie.Need-returns-2
-returns-2 c = name-refuses _ _ _ _ _ _ (c .before .before .before .before .before .before .before .before .before .before .pre .0) (c .before .before .before .before .before .before .before .before .before .before .pre .1) _ (c .before .before .before .find-name .ensures) (c .before .enum-told .given .1) _ (c .error-at .ensures)
+returns-2 c = λ k l x. name-refuses _ _ _ _ _ _ x (c .before .before .before .before .before .before .before .before .pre .1) _ (c .before .before .before .find-name .ensures) (c .before .enum-told .given .1) _ (c .error-at .ensures)
 
 pub name-operand-spec : {M : Type 1} → statement M
 name-operand-spec =

@@ -47,7 +47,7 @@ returns-2 c = leaf-answers _ _ _ _ _ _ _ _ _ _ _ (c .before .before .before .bef
 
 -- src/operands.rt:227:30
 string-operand-requires : tie.Need-string-operand-requires
-string-operand-requires c κs = search needs
+string-operand-requires c κs = (c .before .before .before .before .before .before .before .before .before .before .before .pre .0, (omega (arith, c .before .before .before .before .before .before .before .before .before .before .before .pre .1 .0), search needs))
 
 -- src/operands.rt:227:9
 same-length-3 : tie.Need-same-length-3
@@ -74,16 +74,8 @@ name-operand-requires : tie.Need-name-operand-requires
 name-operand-requires c κs = search needs
 
 -- src/operands.rt:233:9
-same-length-5 : tie.Need-same-length-5
-same-length-5 c = search needs
-
--- src/operands.rt:233:9
-same-length-6 : tie.Need-same-length-6
-same-length-6 c = search needs
-
--- src/operands.rt:233:9
 returns-5 : tie.Need-returns-5
-returns-5 c = converts-most (omega arith) (c .name-operand .ensures)
+returns-5 c = converts-most (omega arith) (c .name-operand .ensures _ _ (c .before .before .before .before .before .before .before .before .before .before .before .before .pre .0))
 
 -- src/operands.rt:236:9
 returns-6 : tie.Need-returns-6
@@ -91,19 +83,11 @@ returns-6 c = leaf-null _ _ _ _ _ _ (c .before .before .before .before .before .
 
 -- src/operands.rt:238:5
 size-operand-requires : tie.Need-size-operand-requires
-size-operand-requires c κs = (c .before .before .before .before .before .before .before .before .before .before .before .before .before .before .pre .0, leaf-size _ _ _ _ _ _ (c .before .before .before .before .before .before .before .before .before .before .before .before .before .before .pre .0) (c .before .before .before .before .before .before .before .before .before .before .before .before .before .before .pre .1 .1 .0) _ (c .before .before .before .before .before .before .before .before .kind .ensures) (c .before .before .before .before .before .before .before .before .before .before .before .before .before .before .pre .1 .1 .1) (c .before .before .before .before .before .before .before .if1 .left) (c .before .before .before .before .before .before .if2 .left) (c .before .before .before .before .before .if3 .left) (c .before .before .before .before .if4 .left) (c .before .before .before .if5 .left) (c .before .before .if6 .left))
-
--- src/operands.rt:205:1
-same-length-7 : tie.Need-same-length-7
-same-length-7 c = search needs
-
--- src/operands.rt:205:1
-same-length-8 : tie.Need-same-length-8
-same-length-8 c = search needs
+size-operand-requires c κs = (c .before .before .before .before .before .before .before .before .before .before .before .before .pre .0 .ready .keyed .good, leaf-size _ _ _ _ _ _ (c .before .before .before .before .before .before .before .before .before .before .before .before .pre .0) (c .before .before .before .before .before .before .before .before .before .before .before .before .pre .1 .1 .0) _ (c .before .before .before .before .before .before .kind .ensures) (c .before .before .before .before .before .before .before .before .before .before .before .before .pre .1 .1 .1) (c .before .before .before .before .before .if1 .left) (c .before .before .before .before .if2 .left) (c .before .before .before .if3 .left) (c .before .before .if4 .left) (c .before .if5 .left) (c .if6 .left))
 
 -- src/operands.rt:205:1
 returns-7 : tie.Need-returns-7
-returns-7 c = converts-most (omega arith) (c .size-operand .ensures)
+returns-7 c = converts-most (omega arith) (c .size-operand .ensures _ _ _ _ (c .before .before .before .before .before .before .before .before .before .before .before .before .before .pre .0))
 
 pub operand-spec : {M : Type 1} → statement M
 operand-spec =
@@ -123,11 +107,7 @@ operand-spec =
     detail-requires
     returns-4
     name-operand-requires
-    same-length-5
-    same-length-6
     returns-5
     returns-6
     size-operand-requires
-    same-length-7
-    same-length-8
     returns-7)

@@ -16,7 +16,7 @@ reference-requires c κs = search needs
 
 -- src/operands.rt:197:11
 size-requires : tie.Need-size-requires
-size-requires c κs = size-inside _ _ _ _ _ _ (c .before .before .before .before .before .before .pre .0) (c .before .before .before .before .before .before .pre .1) _ (c .reference .ensures)
+size-requires c κs = size-inside (c .before .before .before .pre .0) (c .before .before .before .pre .1) (c .reference .ensures)
 
 -- src/operands.rt:198:24
 enum-known-n : tie.Need-enum-known-n
@@ -40,15 +40,15 @@ error-at-requires-2 c κs = search needs
 
 -- src/operands.rt:184:1
 returns : tie.Need-returns
-returns c = size-gives _ _ _ _ _ _ (c .before .before .before .before .before .before .before .before .before .before .pre .0) (c .before .before .before .before .before .before .before .before .before .before .pre .1) _ (c .before .before .before .before .reference .ensures) _ (c .before .before .before .size .ensures .0) (c .before .before .before .size .ensures .1) _ (c .before .n .given .1)
+returns c = λ w s k l x. size-gives _ _ _ _ _ _ x (c .before .before .before .before .before .before .before .pre .1) _ (c .before .before .before .before .reference .ensures) _ (c .before .before .before .size .ensures .0) (c .before .before .before .size .ensures .1) _ (c .before .n .given .1)
 
 -- src/operands.rt:184:1
 returns-2 : tie.Need-returns-2
-returns-2 c = size-refuses _ _ _ _ _ _ (c .before .before .before .before .before .before .before .before .before .before .pre .0) (c .before .before .before .before .before .before .before .before .before .before .pre .1) _ (c .before .before .before .before .reference .ensures) _ (c .before .before .before .size .ensures .0) (c .before .before .before .size .ensures .1) (over-none _ (c .before .enum-told .given .1)) _ (c .error-at .ensures)
+returns-2 c = λ w s k l x. size-refuses _ _ _ _ _ _ x (c .before .before .before .before .before .before .before .pre .1) _ (c .before .before .before .before .reference .ensures) _ (c .before .before .before .size .ensures .0) (c .before .before .before .size .ensures .1) (over-none _ (c .before .enum-told .given .1)) _ (c .error-at .ensures)
 
 -- src/operands.rt:184:1
 returns-3 : tie.Need-returns-3
-returns-3 c = size-refuses _ _ _ _ _ _ (c .before .before .before .before .before .before .before .before .before .before .pre .0) (c .before .before .before .before .before .before .before .before .before .before .pre .1) _ (c .before .before .before .before .reference .ensures) _ (c .before .before .before .size .ensures .0) (c .before .before .before .size .ensures .1) (nothing-none _ (c .before .enum-told2 .given .1)) _ (c .error-at2 .ensures)
+returns-3 c = λ w s k l x. size-refuses _ _ _ _ _ _ x (c .before .before .before .before .before .before .before .pre .1) _ (c .before .before .before .before .reference .ensures) _ (c .before .before .before .size .ensures .0) (c .before .before .before .size .ensures .1) (nothing-none _ (c .before .enum-told2 .given .1)) _ (c .error-at2 .ensures)
 
 pub size-operand-spec : {M : Type 1} → statement M
 size-operand-spec =

@@ -13,7 +13,7 @@ use Rattle.records.proofs.words.word.Reads as word-reads
 use Rattle.texts.proofs.original.Reads as original-reads
 
 original-requires : tie.Need-original-requires
-original-requires c κs = number-inside (string-ready (@Start .pre .0) (@Start .pre .1 .1))
+original-requires c κs = number-inside (string-ready (c .before .before .before .before .before .before .pre .0) (c .before .before .before .before .before .before .pre .1 .1))
 
 word-requires : tie.Need-word-requires
 word-requires c κs = search needs
@@ -22,7 +22,7 @@ word-requires-2 : tie.Need-word-requires-2
 word-requires-2 c κs = search needs
 
 string-id-requires : tie.Need-string-id-requires
-string-id-requires c κs = (@Start .pre .0 .room, omega (arith, @Start .pre .1 .0 .strings), string-below (@Start .pre .0) (@Start .pre .1 .1) (@original .ensures))
+string-id-requires c κs = (c .before .before .before .before .before .before .before .before .before .before .before .pre .0 .room, omega (arith, c .before .before .before .before .before .before .before .before .before .before .before .pre .1 .0 .strings), string-below (c .before .before .before .before .before .before .before .before .before .before .before .pre .0) (c .before .before .before .before .before .before .before .before .before .before .before .pre .1 .1) (c .before .before .before .before .original .ensures))
 
 same-length : tie.Need-same-length
 same-length c = search needs
@@ -32,9 +32,9 @@ same-length-2 c = search needs
 
 returns : tie.Need-returns
 returns c =
-    let first = @Start in
-    string-leaf _ _ _ _ _ _ _ (search needs) (first .pre .1 .1) _ _ (@word .ensures) (@word2 .ensures) _ (first .pre .0 .records-are)
-    (string-number (first .pre .0) (first .pre .1 .1) (@original .ensures)) (@string-id .ensures)
+    let first = c .before .before .before .before .before .before .before .before .before .before .before .before .before .before .before .before in
+    string-leaf _ _ _ _ _ _ _ (search needs) (first .pre .1 .1) _ _ (c .before .before .before .before .before .before .before .before .word .ensures) (c .before .before .before .before .before .before .before .word2 .ensures) _ (first .pre .0 .records-are)
+    (string-number (first .pre .0) (first .pre .1 .1) (c .before .before .before .before .before .before .before .before .before .original .ensures)) (c .before .before .before .before .string-id .ensures)
 
 pub string-operand-spec : {M : Type 1} → statement M
 string-operand-spec =

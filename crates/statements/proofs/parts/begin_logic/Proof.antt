@@ -1,6 +1,5 @@
 -- The variable of an And or Or, and its two labels.
 -- Three steps in a row. Assumes nothing.
-use Rattle.ir.specs.Counted.{counted}
 use Rattle.statements.proofs.AroundLaws.{begin-adds}
 use native.Mathlib.Omega.{arith}
 use borrow.Author.Needs.{needs}
@@ -25,8 +24,10 @@ cast-label-id-2 : tie.Need-cast-label-id-2
 cast-label-id-2 c = search needs
 
 label-id-requires-2 : tie.Need-label-id-requires-2
-unfolding counted
-label-id-requires-2 c κs = search needs
+label-id-requires-2 c κs =
+    let p = c .before .before .before .before .before .before .label-id .ensures in
+    let v = c .before .before .before .before .before .before .before .before .before .before .before .before .before .new-var .ensures in
+    (p .next .room, omega (arith, c .before .before .before .before .before .before .before .before .before .before .before .before .before .before .before .before .before .before .pre .0 .affords, v .spent, p .spent), omega (arith, c .before .before .before .before .before .before .before .before .before .before .before .before .before .before .before .before .before .before .pre .1, v .spent, p .spent))
 
 same-length : tie.Need-same-length
 same-length c = omega (arith, c .before .before .before .arena3 .given, c .before .before .before .before .before .before .before .before .before .before .arena2 .given, c .before .before .before .before .before .before .before .before .before .before .before .before .before .before .before .before .before .arena .given)

@@ -1,6 +1,5 @@
 -- Behind the right side of an And or Or.
 -- A copy and a label in a row. Assumes nothing.
-use Rattle.ir.specs.Counted.{counted}
 use Rattle.statements.proofs.AroundLaws.{end-adds}
 use native.Mathlib.Omega.{arith}
 use borrow.Author.Needs.{needs}
@@ -13,8 +12,9 @@ emit-copy-requires : tie.Need-emit-copy-requires
 emit-copy-requires c κs = search needs
 
 place-label-requires : tie.Need-place-label-requires
-unfolding counted
-place-label-requires c κs = search needs
+place-label-requires c κs =
+    let p = c .before .before .before .before .before .before .emit-copy .ensures in
+    (record { room = p .next .room; affords = omega (arith, c .before .before .before .before .before .before .before .before .before .before .before .pre .0 .affords, p .spent) }, omega (arith, c .before .before .before .before .before .before .before .before .before .before .before .pre .1, p .spent))
 
 same-length : tie.Need-same-length
 same-length c = search needs

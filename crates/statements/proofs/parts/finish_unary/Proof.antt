@@ -1,6 +1,5 @@
 -- The operator goes into a new variable.
 -- A variable and an instruction in a row. Assumes nothing.
-use Rattle.ir.specs.Counted.{counted}
 use borrow.Author.Needs.{needs}
 use Rattle.statements.proofs.AroundLaws.{unary-adds, variable-type}
 use native.Mathlib.Omega.{arith}
@@ -14,8 +13,8 @@ new-var-requires : tie.Need-new-var-requires
 new-var-requires c κs = search needs
 
 emit-unary-requires : tie.Need-emit-unary-requires
-unfolding counted
-emit-unary-requires c κs = search needs
+emit-unary-requires c κs =
+    let p = c .before .before .before .before .before .before .new-var .ensures in (p .next .room, omega (arith, c .before .before .before .before .before .before .before .before .before .before .before .pre .0 .affords, p .spent))
 
 same-length : tie.Need-same-length
 same-length c = search needs

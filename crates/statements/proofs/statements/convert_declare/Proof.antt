@@ -4,7 +4,7 @@ use mathlib.Core.Path.{ap}
 use native.Mathlib.Omega.{arith}
 use Rattle.statements.proofs.PlainTurns.{refused-stated}
 use Rattle.statements.proofs.DeclareLaws.{declare-asks, zero-asks, declare-taken, declare-refused, declare-done, declare-types}
-use Rattle.statements.specs.Lent.{finished}
+use Rattle.statements.specs.Lent.{finishedWith}
 use borrow.Author.Needs.{needs}
 use Rattle.statements.proofs.statements.convert_declare.Statement.{statement}
 use Rattle.statements.proofs.statements.convert_declare.Tie as tie
@@ -82,7 +82,7 @@ same-length-6 c = search needs
 
 -- src/statements.rt:154:1
 returns-2 : tie.Need-returns-2
-returns-2 c = (declare-refused (c .before .before .before .before .before .before .before .before .before .before .before .before .before .before .before .before .before .before .before .before .before .before .before .before .before .before .before .before .before .before .before .pre .0 .0) (c .before .before .before .before .before .before .before .before .before .before .before .before .before .before .before .before .before .before .before .before .before .before .before .before .before .before .before .before .before .before .before .pre .1 .0) (c .before .before .before .before .before .before .before .before .before .before .before .before .before .before .before .before .before .before .before .before .before .before .before .before .before .before .before .before .before .before .before .pre .0 .1) (c .before .before .before .before .before .before .before .before .before .before .before .before .before .before .before .before .before .before .before .before .before .before .word .ensures) (omega arith) (c .before .before .before .before .before .before .before .before .before .before .before .before .before .before .before .before .before .before .before .before .before .new-var .ensures) _ (c .before .before .before .before .before .before .before .before .before .before .before .before .before .before .before .declare-name .ensures) (c .before .before .before .before .before .before .before .before .before .before .before .next .given .1) _ (c .before .before .before .before .before .before .before .zero-value .ensures) (ap (finished _) (c .before .x .given .1)), refused-stated)
+returns-2 c = (declare-refused (c .before .before .before .before .before .before .before .before .before .before .before .before .before .before .before .before .before .before .before .before .before .before .before .before .before .before .before .before .before .before .before .pre .0 .0) (c .before .before .before .before .before .before .before .before .before .before .before .before .before .before .before .before .before .before .before .before .before .before .before .before .before .before .before .before .before .before .before .pre .1 .0) (c .before .before .before .before .before .before .before .before .before .before .before .before .before .before .before .before .before .before .before .before .before .before .before .before .before .before .before .before .before .before .before .pre .0 .1) (c .before .before .before .before .before .before .before .before .before .before .before .before .before .before .before .before .before .before .before .before .before .before .word .ensures) (omega arith) (c .before .before .before .before .before .before .before .before .before .before .before .before .before .before .before .before .before .before .before .before .before .new-var .ensures) _ (c .before .before .before .before .before .before .before .before .before .before .before .before .before .before .before .declare-name .ensures) (c .before .before .before .before .before .before .before .before .before .before .before .next .given .1) _ (c .before .before .before .before .before .before .before .zero-value .ensures) (ap (finishedWith _) (c .before .x .given .1)), refused-stated)
 
 -- src/statements.rt:154:1
 same-length-7 : tie.Need-same-length-7
@@ -98,7 +98,7 @@ same-length-9 c = search needs
 
 -- src/statements.rt:154:1
 returns-3 : tie.Need-returns-3
-returns-3 c = (declare-done (c .before .before .before .before .before .before .before .before .before .before .before .before .before .before .before .before .before .before .before .before .before .before .before .before .before .before .before .before .before .before .pre .0 .0) (c .before .before .before .before .before .before .before .before .before .before .before .before .before .before .before .before .before .before .before .before .before .before .before .before .before .before .before .before .before .before .pre .1 .0) (c .before .before .before .before .before .before .before .before .before .before .before .before .before .before .before .before .before .before .before .before .before .before .before .before .before .before .before .before .before .before .pre .0 .1) (c .before .before .before .before .before .before .before .before .before .before .before .before .before .before .before .before .before .before .before .before .before .word .ensures) (omega arith) (c .before .before .before .before .before .before .before .before .before .before .before .before .before .before .before .before .before .before .before .before .new-var .ensures) _ (c .before .before .before .before .before .before .before .before .before .before .before .before .before .before .declare-name .ensures) (c .before .before .before .before .before .before .before .before .before .before .next .given .1) _ (c .before .before .before .before .before .before .zero-value .ensures) (ap (finished _) (c .enum-told2 .given .1)), λ _ _ _. declare-types (c .before .before .before .before .before .before .before .before .before .before .before .before .before .before .before .before .before .before .before .before .before .before .before .before .before .before .before .before .before .before .pre .0 .0) (c .before .before .before .before .before .before .before .before .before .before .before .before .before .before .before .before .before .before .before .before .before .before .before .before .before .before .before .before .before .before .pre .1 .0) (c .before .before .before .before .before .before .before .before .before .before .before .before .before .before .before .before .before .before .before .before .before .before .before .before .before .before .before .before .before .before .pre .0 .1) (c .before .before .before .before .before .before .before .before .before .before .before .before .before .before .before .before .before .before .before .before .before .word .ensures) (omega arith) (c .before .before .before .before .before .before .before .before .before .before .before .before .before .before .before .before .before .before .before .before .new-var .ensures) _ (c .before .before .before .before .before .before .before .before .before .before .before .before .before .before .declare-name .ensures) (c .before .before .before .before .before .before .before .before .before .before .next .given .1) (c .before .before .before .before .before .before .before .before .before .before .before .before .before .before .before .before .before .before .before .before .before .before .before .before .before .before .before .before .before .before .pre .1 .1))
+returns-3 c = (declare-done (c .before .before .before .before .before .before .before .before .before .before .before .before .before .before .before .before .before .before .before .before .before .before .before .before .before .before .before .before .before .before .pre .0 .0) (c .before .before .before .before .before .before .before .before .before .before .before .before .before .before .before .before .before .before .before .before .before .before .before .before .before .before .before .before .before .before .pre .1 .0) (c .before .before .before .before .before .before .before .before .before .before .before .before .before .before .before .before .before .before .before .before .before .before .before .before .before .before .before .before .before .before .pre .0 .1) (c .before .before .before .before .before .before .before .before .before .before .before .before .before .before .before .before .before .before .before .before .before .word .ensures) (omega arith) (c .before .before .before .before .before .before .before .before .before .before .before .before .before .before .before .before .before .before .before .before .new-var .ensures) _ (c .before .before .before .before .before .before .before .before .before .before .before .before .before .before .declare-name .ensures) (c .before .before .before .before .before .before .before .before .before .before .next .given .1) _ (c .before .before .before .before .before .before .zero-value .ensures) (ap (finishedWith _) (c .enum-told2 .given .1)), λ _ _ _. declare-types (c .before .before .before .before .before .before .before .before .before .before .before .before .before .before .before .before .before .before .before .before .before .before .before .before .before .before .before .before .before .before .pre .0 .0) (c .before .before .before .before .before .before .before .before .before .before .before .before .before .before .before .before .before .before .before .before .before .before .before .before .before .before .before .before .before .before .pre .1 .0) (c .before .before .before .before .before .before .before .before .before .before .before .before .before .before .before .before .before .before .before .before .before .before .before .before .before .before .before .before .before .before .pre .0 .1) (c .before .before .before .before .before .before .before .before .before .before .before .before .before .before .before .before .before .before .before .before .before .word .ensures) (omega arith) (c .before .before .before .before .before .before .before .before .before .before .before .before .before .before .before .before .before .before .before .before .new-var .ensures) _ (c .before .before .before .before .before .before .before .before .before .before .before .before .before .before .declare-name .ensures) (c .before .before .before .before .before .before .before .before .before .before .next .given .1) (c .before .before .before .before .before .before .before .before .before .before .before .before .before .before .before .before .before .before .before .before .before .before .before .before .before .before .before .before .before .before .pre .1 .1))
 
 pub convert-declare-spec : {M : Type 1} → statement M
 convert-declare-spec =
