@@ -18,16 +18,16 @@ use Rattle.records.proofs.TextLaws.{first-byte}
 
 -- ---- one byte more
 
-more : (a b : ℕ) (t u : List ℕ) → a ≡ b → common (a ∷ t) (b ∷ u) ≡ suc (common t u)
+pub more : (a b : ℕ) (t u : List ℕ) → a ≡ b → common (a ∷ t) (b ∷ u) ≡ suc (common t u)
 unfolding common pick
 more a b t u e = rw (eq-eqb a b e) refl
 
-none : (a b : ℕ) (t u : List ℕ) → (a ≡ b → ⊥) → common (a ∷ t) (b ∷ u) ≡ 0
+pub none : (a b : ℕ) (t u : List ℕ) → (a ≡ b → ⊥) → common (a ∷ t) (b ∷ u) ≡ 0
 unfolding common pick
 none a b t u n = rw (ne-eqb a b n) refl
 
 -- texts that share a byte share the first
-byte-same : (a b k : ℕ) (t u : List ℕ) → k < common (a ∷ t) (b ∷ u) → a ≡ b
+pub byte-same : (a b k : ℕ) (t u : List ℕ) → k < common (a ∷ t) (b ∷ u) → a ≡ b
 byte-same a b k t u h = tested (eqb a b) (λ y. eqb-true a b y) (λ n. absurd (omega (arith, none a b t u (eqb-false a b n))))
 
 -- ---- two texts

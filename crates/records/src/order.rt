@@ -51,7 +51,7 @@ fn common_eights(text: &[u8], a: usize, b: usize, n: usize, from: usize) -> usiz
 }
 
 // The same by eight eights, and the rest by eights.
-fn common(text: &[u8], a: usize, b: usize, n: usize, from: usize) -> usize
+pub fn common(text: &[u8], a: usize, b: usize, n: usize, from: usize) -> usize
     requires { ⌜ (0 < n → (a + n ≤ length (now text)) × (b + n ≤ length (now text))) × (from ≤ commonOf (textAt (now text) a n) (textAt (now text) b n)) ⌝ }
     ensures { λ r. ⌜ r ≡ commonOf (textAt (now (text .entry)) a n) (textAt (now (text .entry)) b n) ⌝ }
 {
@@ -65,7 +65,7 @@ fn common(text: &[u8], a: usize, b: usize, n: usize, from: usize) -> usize
     common_eights(text, a, b, n, k)
 }
 
-fn least(x: usize, y: usize) -> usize
+pub fn least(x: usize, y: usize) -> usize
     ensures { λ r. ⌜ r ≡ min x y ⌝ }
 {
     if x < y { x } else { y }
@@ -120,11 +120,23 @@ fn records_agree(tree: &[u8], text: &[u8], k: usize, r: usize, from: u32) -> Agr
 }
 
 // Where a record belongs in a chain: the entry that has its text, or itself; and then where the link that is to lead to it stands, and how far its text agrees
-// with that of the entry before.
+// with that of the entry before. Beside it, how many entries were passed, of which no more than so many are counted.
 pub struct ChainPlace {
     pub number: usize,
     pub at: usize,
     pub shared: u32,
+    pub passed: u32,
+}
+
+// No chain is longer than a tree has records.
+const MOST_PASSED: u32 = 16384;
+
+// One entry more is passed.
+fn one_more(passed: u32) -> u32 {
+    if passed < MOST_PASSED {
+        return passed + 1;
+    }
+    passed
 }
 
 // The chain is walked from the link at `head` on. An entry tells how far its text agrees with that of the one before: only where r's text agrees just as far
@@ -144,6 +156,7 @@ pub fn find_place(
 {
     let mut at = head;
     let mut shared: u32 = 0;
+    let mut passed: u32 = 0;
     let mut link = index(load(scratch, at));
     while link > 0 {
         let k = link - 1;
@@ -154,6 +167,7 @@ pub fn find_place(
                 number: r,
                 at: at,
                 shared: shared,
+                passed: passed,
             };
         }
         if before == shared {
@@ -163,17 +177,20 @@ pub fn find_place(
                     number: k,
                     at: at,
                     shared: shared,
+                    passed: passed,
                 };
             }
             shared = a.bytes;
         }
         at = e + SECOND_WORD;
         link = index(load(scratch, at));
+        passed = one_more(passed);
     }
     ChainPlace {
         number: r,
         at: at,
         shared: shared,
+        passed: passed,
     }
 }
 

@@ -8,7 +8,7 @@ use crate::words::load;
 use crate::words::wide;
 
 // How many bytes a text has: none of them lie past the buffer's end.
-pub(crate) fn reach(text: &[u8], offset: usize, len: usize) -> usize
+pub fn reach(text: &[u8], offset: usize, len: usize) -> usize
     ensures { λ r. ⌜ r ≡ length (textAt (now (text .entry)) offset len) ⌝ }
 {
     let all = text.len();

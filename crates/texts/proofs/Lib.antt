@@ -1,3 +1,4 @@
 pub mod Computed
 pub mod PassLaws
+pub mod SortedLaws
 pub mod TextLaws

@@ -151,7 +151,7 @@ put-long s s′ p x h e = ap length e ∙ length-splice s p (word x) h
 
 -- only samples are written
 module _ (n : ℕ) (s s′ : List ℕ) (e : OnlySamples n s s′) where
-  behind-word : (p : ℕ) → 40 * n ≤ p → wordAt s′ p ≡ wordAt s p
+  pub behind-word : (p : ℕ) → 40 * n ≤ p → wordAt s′ p ≡ wordAt s p
   behind-word p h =
       word-same s′ p s p (e .behind p h) (e .behind (p + 1) (omega arith)) (e .behind (p + 2) (omega arith)) (e .behind (p + 3) (omega arith))
 

@@ -11,6 +11,7 @@ use Rattle.records.specs.Layout.{originals}
 use Rattle.records.specs.Order.{Placed}
 use Rattle.records.specs.Samples.{SampleRoom, Sampled}
 use Rattle.records.specs.Words.{wordAt, records, none}
+use Rattle.sorting.specs.Sorted.{HasEntry, RecordsRise, recordIn}
 use Rattle.texts.specs.Texts.{hasOwn, ownText, original, originalAt, textDigestAt}
 
 -- the digest of record r's text, and its bucket
@@ -50,8 +51,19 @@ pub record Entered (tree text : List ℕ) (r : ℕ) (s s′ : List ℕ) : Type 0
   pub long : length s′ ≡ length s
   pub behind : (i : ℕ) → chainEach * records tree ≤ i → getD s′ i 0 ≡ getD s i 0
 
+-- the texts of the records below r have their digests
+abbrev pub Rolled : List ℕ → List ℕ → ℕ → List ℕ → Type 0
+Rolled tree text r s = (k : ℕ) → k < r → hasOwn tree k ≡ true → wordAt s (textDigestAt (records tree) k) ≡ rollOf (ownText tree text k)
+
 -- the records below r are passed
 pub record Passed (tree text : List ℕ) (r : ℕ) (s : List ℕ) : Type 0 where
   pub chained : Chains tree text r s
   pub numbered : (k : ℕ) → k < r → hasOwn tree k ≡ true → wordAt s (originalAt (records tree) k) ≡ original tree text k
-  pub rolled : (k : ℕ) → k < r → hasOwn tree k ≡ true → wordAt s (textDigestAt (records tree) k) ≡ rollOf (ownText tree text k)
+  pub rolled : Rolled tree text r s
+
+-- where texts are sorted: the records below r that have a text are m entries from byte 0 on, in rising order
+pub record Collected (tree : List ℕ) (r m : ℕ) (s : List ℕ) : Type 0 where
+  pub few : m ≤ r
+  pub rises : RecordsRise r 0 0 m s
+  pub own : (i : ℕ) → i < m → hasOwn tree (recordIn s 0 i) ≡ true
+  pub all : (k : ℕ) → k < r → hasOwn tree k ≡ true → HasEntry s 0 0 m k

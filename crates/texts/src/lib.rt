@@ -8,8 +8,9 @@ ghost use Rattle.records.specs.Good.{Good};
 ghost use Rattle.records.specs.Samples.{Sampled, Samples};
 ghost use Rattle.records.specs.Digest.{rollModulus, rollOf};
 ghost use Rattle.records.specs.Words.{wordAt, textAt, records, mostRecords, none};
+ghost use Rattle.sorting.specs.Sorted.{OnlyThere};
 ghost use Rattle.texts.specs.Texts.{hasText, hasOwn, original as originalOf, originalAt, textDigestAt, Numbered, Kept};
-ghost use Rattle.texts.specs.Pass.{textBucket, samplesFrom, SamplesFit, Read, OnlySamples, Chains, Entered, Passed};
+ghost use Rattle.texts.specs.Pass.{textBucket, samplesFrom, SamplesFit, Read, OnlySamples, Chains, Entered, Rolled, Collected, Passed};
 use records::chains::bucket;
 use records::chains::clear_heads;
 use records::layout::CHAIN_EACH;
@@ -37,8 +38,12 @@ use records::words::WORD_B;
 use records::words::index;
 use records::words::kind;
 use records::words::load;
+use records::words::put_pair;
 use records::words::put_word;
 use records::words::word;
+use sorting::sorted::SORT_ENTRY_BYTES;
+use sorting::sorted::number_sorted;
+use sorting::sorted::sort_texts;
 
 // Whether words A and B of a record of this kind are a text.
 fn has_text(k: u8) -> bool
@@ -52,24 +57,38 @@ fn has_text(k: u8) -> bool
         | (k == KIND_VARIABLE)
 }
 
+// A text's number, and how many entries of its chain were passed to find it.
+struct Walk {
+    number: u32,
+    passed: u32,
+}
+
 // The number of record r's text: the entry of bucket b that has it, else r, which is then put into the bucket's chain. Only the first record with a text is
 // entered, so that the entry is the number.
-fn number_text(tree: &[u8], text: &[u8], r: usize, b: usize, scratch: &mut [u8]) -> u32
+fn number_text(tree: &[u8], text: &[u8], r: usize, b: usize, scratch: &mut [u8]) -> Walk
     requires { ⌜ Good (now tree) (now text) × (scratchEach * records (now tree) ≤ length (now scratch)) ⌝ }
     requires { ⌜ (r < records (now tree)) × (hasOwn (now tree) r ≡ true) × (b ≡ textBucket (now tree) (now text) r) × (b < records (now tree)) ⌝ }
     requires { ⌜ Chains (now tree) (now text) r (now scratch) ⌝ }
-    ensures { λ v. ⌜ (v ≡ originalOf (now (tree .entry)) (now (text .entry)) r) × Entered (now (tree .entry)) (now (text .entry)) r (now (scratch .entry)) (now (scratch .exit)) ⌝ }
+    ensures { λ v. ⌜ (v .number ≡ originalOf (now (tree .entry)) (now (text .entry)) r) × Entered (now (tree .entry)) (now (text .entry)) r (now (scratch .entry)) (now (scratch .exit)) ⌝ }
 {
     let n = tree.len() / RECORD_BYTES;
     let place = find_place(tree, text, scratch, n, r, CHAIN_HEAD_BYTES * b);
     let number = place.number;
     if number < r {
-        return number as u32;
+        let found = number as u32;
+        return Walk {
+            number: found,
+            passed: place.passed,
+        };
     }
     let at = place.at;
     let next = load(scratch, at);
     enter_at(scratch, n, r, place.shared, at, next);
-    number as u32
+    let new = number as u32;
+    Walk {
+        number: new,
+        passed: place.passed,
+    }
 }
 
 // What the pass knows of long texts: how far the samples of the text lie apart, 0 where it is not sampled yet; and how many bytes the long texts have in all, up to
@@ -129,11 +148,45 @@ fn roll_read(text: &[u8], scratch: &[u8], n: usize, stride: usize, offset: u32, 
     sampled_roll(text, scratch, CHAIN_EACH * n, stride, offset, len)
 }
 
+// What is known of long texts, and how many entries the record passed.
+struct Step {
+    reading: Reading,
+    passed: u32,
+}
+
 // Record r: where it has a text, the text's number is found and written, with the digest that goes on, so that the text need not be read for a digest again.
-fn number_record(tree: &[u8], text: &[u8], r: usize, k: Reading, scratch: &mut [u8]) -> Reading
+fn number_record(tree: &[u8], text: &[u8], r: usize, k: Reading, scratch: &mut [u8]) -> Step
     requires { ⌜ Good (now tree) (now text) × (scratchEach * records (now tree) ≤ length (now scratch)) ⌝ }
     requires { ⌜ (r < records (now tree)) × Passed (now tree) (now text) r (now scratch) × Read (now text) (records (now tree)) r (k .stride) (k .long) (now scratch) ⌝ }
     ensures { λ _. ⌜ Passed (now (tree .entry)) (now (text .entry)) (r + 1) (now (scratch .exit)) × Kept (records (now (tree .entry))) (now (scratch .entry)) (now (scratch .exit)) ⌝ }
+    ensures { λ v. ⌜ Read (now (text .entry)) (records (now (tree .entry))) (r + 1) (v .reading .stride) (v .reading .long) (now (scratch .exit)) ⌝ }
+{
+    if !has_text(kind(tree, r)) {
+        return Step {
+            reading: k,
+            passed: 0,
+        };
+    }
+    let n = tree.len() / RECORD_BYTES;
+    let offset = word(tree, r, WORD_A);
+    let len = word(tree, r, WORD_B);
+    let next = read_long(text, n, r, len, k, scratch);
+    let rolled = roll_read(text, scratch, n, next.stride, offset, len);
+    let b = bucket(roll_digest(rolled), n);
+    let walk = number_text(tree, text, r, b, scratch);
+    put_word(scratch, ORIGINALS * n + ORIGINAL_BYTES * r, walk.number);
+    put_word(scratch, TEXT_DIGESTS * n + TEXT_DIGEST_BYTES * r, rolled);
+    Step {
+        reading: next,
+        passed: walk.passed,
+    }
+}
+
+// Record r: where it has a text, its digest alone is written.
+fn roll_record(tree: &[u8], text: &[u8], r: usize, k: Reading, scratch: &mut [u8]) -> Reading
+    requires { ⌜ Good (now tree) (now text) × (scratchEach * records (now tree) ≤ length (now scratch)) ⌝ }
+    requires { ⌜ (r < records (now tree)) × Rolled (now tree) (now text) r (now scratch) × Read (now text) (records (now tree)) r (k .stride) (k .long) (now scratch) ⌝ }
+    ensures { λ _. ⌜ Rolled (now (tree .entry)) (now (text .entry)) (r + 1) (now (scratch .exit)) × Kept (records (now (tree .entry))) (now (scratch .entry)) (now (scratch .exit)) ⌝ }
     ensures { λ v. ⌜ Read (now (text .entry)) (records (now (tree .entry))) (r + 1) (v .stride) (v .long) (now (scratch .exit)) ⌝ }
 {
     if !has_text(kind(tree, r)) {
@@ -144,14 +197,71 @@ fn number_record(tree: &[u8], text: &[u8], r: usize, k: Reading, scratch: &mut [
     let len = word(tree, r, WORD_B);
     let next = read_long(text, n, r, len, k, scratch);
     let rolled = roll_read(text, scratch, n, next.stride, offset, len);
-    let b = bucket(roll_digest(rolled), n);
-    let number = number_text(tree, text, r, b, scratch);
-    put_word(scratch, ORIGINALS * n + ORIGINAL_BYTES * r, number);
     put_word(scratch, TEXT_DIGESTS * n + TEXT_DIGEST_BYTES * r, rolled);
     next
 }
 
+// The digests of all texts from record `from` on.
+fn roll_texts(tree: &[u8], text: &[u8], from: usize, known: Reading, scratch: &mut [u8])
+    requires { ⌜ Good (now tree) (now text) × (scratchEach * records (now tree) ≤ length (now scratch)) ⌝ }
+    requires { ⌜ (from ≤ records (now tree)) × Rolled (now tree) (now text) from (now scratch) × Read (now text) (records (now tree)) from (known .stride) (known .long) (now scratch) ⌝ }
+    ensures { λ _. ⌜ Rolled (now (tree .entry)) (now (text .entry)) (records (now (tree .entry))) (now (scratch .exit)) × Kept (records (now (tree .entry))) (now (scratch .entry)) (now (scratch .exit)) ⌝ }
+{
+    let n = tree.len() / RECORD_BYTES;
+    let mut k = known;
+    let mut r = from;
+    while r < n {
+        k = roll_record(tree, text, r, k, scratch);
+        r += 1;
+    }
+}
+
+// Record r becomes entry m of those to sort, if it has a text. How many there are is given back.
+fn collect_record(tree: &[u8], r: usize, m: usize, scratch: &mut [u8]) -> usize
+    requires { ⌜ (records (now tree) ≤ mostRecords) × (r < records (now tree)) × (scratchEach * records (now tree) ≤ length (now scratch)) × Collected (now tree) r m (now scratch) ⌝ }
+    ensures { λ v. ⌜ Collected (now (tree .entry)) (r + 1) v (now (scratch .exit)) × OnlyThere 0 0 (records (now (tree .entry))) (now (scratch .entry)) (now (scratch .exit)) ⌝ }
+{
+    if !has_text(kind(tree, r)) {
+        return m;
+    }
+    put_pair(scratch, SORT_ENTRY_BYTES * m, r as u32, 0);
+    m + 1
+}
+
+// All records that have a text, in rising order, from byte 0 on.
+fn collect_texts(tree: &[u8], scratch: &mut [u8]) -> usize
+    requires { ⌜ (records (now tree) ≤ mostRecords) × (scratchEach * records (now tree) ≤ length (now scratch)) ⌝ }
+    ensures { λ v. ⌜ Collected (now (tree .entry)) (records (now (tree .entry))) v (now (scratch .exit)) × OnlyThere 0 0 (records (now (tree .entry))) (now (scratch .entry)) (now (scratch .exit)) ⌝ }
+{
+    let n = tree.len() / RECORD_BYTES;
+    let mut m = 0;
+    let mut r = 0;
+    while r < n {
+        m = collect_record(tree, r, m, scratch);
+        r += 1;
+    }
+    m
+}
+
+// Every text gets its number by sorting, where the chains have grown too long; the records below r have their digests already. Nothing of the chains is needed,
+// and nothing of the samples once the digests are written, so the entries stand where they stood.
+fn number_by_sorting(tree: &[u8], text: &[u8], r: usize, k: Reading, scratch: &mut [u8])
+    requires { ⌜ Good (now tree) (now text) × (scratchEach * records (now tree) ≤ length (now scratch)) ⌝ }
+    requires { ⌜ (r ≤ records (now tree)) × Rolled (now tree) (now text) r (now scratch) × Read (now text) (records (now tree)) r (k .stride) (k .long) (now scratch) ⌝ }
+    ensures { λ _. ⌜ Numbered (now (tree .entry)) (now (text .entry)) (now (scratch .exit)) × Kept (records (now (tree .entry))) (now (scratch .entry)) (now (scratch .exit)) ⌝ }
+{
+    let n = tree.len() / RECORD_BYTES;
+    roll_texts(tree, text, r, k, scratch);
+    let m = collect_texts(tree, scratch);
+    sort_texts(tree, text, scratch, 0, SORT_ENTRY_BYTES * n, m);
+    number_sorted(tree, text, scratch, 0, m, ORIGINALS * n);
+}
+
+// A walk that passes more entries than this is too long. Of texts that are not made to have one digest hardly ten meet in a bucket.
+const FAR: u32 = 32;
+
 // Every text of a good tree gets its number and its digest, in one pass over the records. The chains stand where nothing else does yet, and so do the samples.
+// Who knows the digest can make a chain long: once a walk along one is too long, the texts are sorted instead.
 pub fn number_texts(tree: &[u8], text: &[u8], scratch: &mut [u8])
     requires { ⌜ Good (now tree) (now text) × (scratchEach * records (now tree) ≤ length (now scratch)) ⌝ }
     ensures { λ _. ⌜ Numbered (now (tree .entry)) (now (text .entry)) (now (scratch .exit)) × Kept (records (now (tree .entry))) (now (scratch .entry)) (now (scratch .exit)) ⌝ }
@@ -161,8 +271,13 @@ pub fn number_texts(tree: &[u8], text: &[u8], scratch: &mut [u8])
     let mut k = Reading { stride: 0, long: 0 };
     let mut r = 0;
     while r < n {
-        k = number_record(tree, text, r, k, scratch);
+        let step = number_record(tree, text, r, k, scratch);
+        k = step.reading;
         r += 1;
+        if step.passed > FAR {
+            number_by_sorting(tree, text, r, k, scratch);
+            return;
+        }
     }
 }
 

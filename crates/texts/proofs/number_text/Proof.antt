@@ -20,8 +20,8 @@ find-place-requires c κs =
     let start = c .before .before .before .before in
     ((record { few = start .pre .0 .0 .few; room = omega (arith, start .pre .0 .1) }, omega (arith, start .pre .0 .0 .whole), start .pre .1 .0 .0, omega (arith, start .pre .0 .1, start .pre .1 .0 .3)), chain-leads _ _ _ _ _ (start .pre .1 .1) _ (start .pre .1 .0 .0) (start .pre .1 .0 .3) (start .pre .1 .0 .2))
 
-cast-result : tie.Need-cast-result
-cast-result c = omega (arith, c .if1 .taken, c .before .before .before .before .before .before .pre .0 .0 .few, c .before .before .before .before .before .before .pre .1 .0 .0)
+cast-found : tie.Need-cast-found
+cast-found c = omega (arith, c .if1 .taken, c .before .before .before .before .before .before .pre .0 .0 .few, c .before .before .before .before .before .before .pre .1 .0 .0)
 
 same-length : tie.Need-same-length
 same-length c = search needs
@@ -38,8 +38,8 @@ enter-at-requires : tie.Need-enter-at-requires
 enter-at-requires c κs =
     let start = c .before .before .before .before .before .before .before .before .before in let belongs = c .before .before .before .before .find-place .ensures in (record { few = start .pre .0 .0 .few; room = omega (arith, start .pre .0 .1) }, start .pre .1 .0 .0, omega (arith, place-inside _ _ _ _ (start .pre .1 .0 .0) (start .pre .1 .0 .1) (start .pre .1 .0 .2) (start .pre .1 .0 .3) _ (start .pre .1 .1) _ _ _ belongs (c .before .before .before .if1 .left), start .pre .0 .1, start .pre .1 .0 .0))
 
-cast-result-2 : tie.Need-cast-result-2
-cast-result-2 c =
+cast-new : tie.Need-cast-new
+cast-new c =
     let start = c .before .before .before .before .before .before .before .before .before .before .before .before in let belongs = c .before .before .before .before .before .before .before .find-place .ensures in omega (arith, number-within _ _ _ _ (start .pre .1 .0 .0) (start .pre .1 .0 .1) (start .pre .1 .0 .2) (start .pre .1 .0 .3) _ (start .pre .1 .1) _ _ _ belongs, start .pre .0 .0 .few, start .pre .1 .0 .0)
 
 same-length-2 : tie.Need-same-length-2
@@ -55,11 +55,11 @@ number-text-spec =
     (tie.spec
     mul-find-place
     find-place-requires
-    cast-result
+    cast-found
     same-length
     returns
     load-requires
     enter-at-requires
-    cast-result-2
+    cast-new
     same-length-2
     returns-2)

@@ -1,5 +1,5 @@
--- The records are taken in rising order. The invariant: those passed are entered and have their numbers and digests, and the bytes that the contract names stay.
--- By the laws of the pass at each turn; the measure is what is left of the records. Assumes nothing.
+-- The records are taken in rising order, up to a walk that is too long. The invariant: those passed are entered and have their numbers and digests, and the bytes
+-- that the contract names stay. By the laws of the pass at each turn, and by sorting from there on; the measure is what is left of the records. Assumes nothing.
 use Prim.Native.Nat.{_≤_, _-_}
 use native.Mathlib.Omega.{arith}
 use Rattle.records.specs.Words.{records}
@@ -13,6 +13,7 @@ use Rattle.texts.proofs.number_texts.Reads as reads
 use Rattle.texts.proofs.number_texts.Lts as lts
 use Rattle.records.proofs.chains.clear_heads.Reads as clear-heads-reads
 use Rattle.texts.proofs.number_record.Reads as number-record-reads
+use Rattle.texts.proofs.number_by_sorting.Reads as number-by-sorting-reads
 
 abbrev Inv-loop : tie.InvT-loop
 Inv-loop tree text scratch₀ n k₀ r₀ scratch k r = (r ≤ records tree) × Passed tree text r scratch × Kept (records tree) scratch₀ scratch × Read text (records tree) r (k .stride) (k .long) scratch
@@ -36,21 +37,36 @@ number-record-requires c κs =
     ((start .pre .0, omega (arith, start .pre .1, inv .2 .long, c .before .before .before .before .before .clear-heads .ensures .long)), (c .before .loop-test .taken, inv .1, inv .3))
 
 add-r : tie.Need-add-r Inv-loop μ-loop
-add-r c = omega (arith, c .before .before .before .before .before .before .before .before .before .before .before .before .before .pre .0 .few)
+add-r c = omega (arith, c .before .before .before .before .before .before .before .before .before .before .before .before .before .before .pre .0 .few)
+
+number-by-sorting-requires : tie.Need-number-by-sorting-requires Inv-loop μ-loop
+number-by-sorting-requires c κs =
+    let start = c .before .before .before .before .before .before .before .before .before .before .before .before .before .before .before .before .before in
+    let step = c .before .before .before .before .before .before .number-record .ensures in
+    ((start .pre .0, omega (arith, start .pre .1, step .0 .1 .long, c .before .before .before .before .before .before .before .before .before .loop .inv .2 .long, c .before .before .before .before .before .before .before .before .before .before .before .before .clear-heads .ensures .long)), (omega arith, step .0 .0 .rolled, step .1))
+
+same-length : tie.Need-same-length Inv-loop μ-loop
+same-length c = c .before .before .number-by-sorting .ensures .1 .long ∙ c .before .before .before .before .before .before .before .before .before .number-record .ensures .0 .1 .long ∙ c .before .before .before .before .before .before .before .before .before .before .before .before .loop .inv .2 .long ∙ c .before .before .before .before .before .before .before .before .before .before .before .before .before .before .before .clear-heads .ensures .long
+
+returns : tie.Need-returns Inv-loop μ-loop
+returns c =
+    let sorted = c .before .before .number-by-sorting .ensures in
+    let passed = kept-on _ _ _ _ (c .before .before .before .before .before .before .before .before .before .before .before .before .loop .inv .2) (c .before .before .before .before .before .before .before .before .before .number-record .ensures .0 .1) in
+    (sorted .0, kept-on _ _ _ _ (kept-heads _ _ _ (c .before .before .before .before .before .before .before .before .before .before .before .before .before .before .before .clear-heads .ensures)) (kept-on _ _ _ _ passed (sorted .1)))
 
 loop-less : tie.Need-loop-less Inv-loop μ-loop
 loop-less c = omega arith
 
 loop-again : tie.Need-loop-again Inv-loop μ-loop
 loop-again c =
-    let step = c .before .before .number-record .ensures in
-    (omega arith, step .0 .0, kept-on _ _ _ _ (c .before .before .before .before .before .loop .inv .2) (step .0 .1), step .1)
+    let step = c .before .before .before .before .before .number-record .ensures in
+    (omega arith, step .0 .0, kept-on _ _ _ _ (c .before .before .before .before .before .before .before .before .loop .inv .2) (step .0 .1), step .1)
 
-same-length : tie.Need-same-length Inv-loop μ-loop
-same-length c = c .before .loop .inv .2 .long ∙ c .before .before .before .before .clear-heads .ensures .long
+same-length-2 : tie.Need-same-length-2 Inv-loop μ-loop
+same-length-2 c = c .before .loop .inv .2 .long ∙ c .before .before .before .before .clear-heads .ensures .long
 
-returns : tie.Need-returns Inv-loop μ-loop
-returns c =
+returns-2 : tie.Need-returns-2 Inv-loop μ-loop
+returns-2 c =
     let inv = c .before .loop .inv in
     (record { number = λ k h t. inv .1 .numbered k (omega arith) t; digest = λ k h t. inv .1 .rolled k (omega arith) t }, kept-on _ _ _ _ (kept-heads _ _ _ (c .before .before .before .before .clear-heads .ensures)) (inv .2))
 
@@ -65,7 +81,10 @@ number-texts-spec =
     loop-holds
     number-record-requires
     add-r
+    number-by-sorting-requires
+    same-length
+    returns
     loop-less
     loop-again
-    same-length
-    returns)
+    same-length-2
+    returns-2)

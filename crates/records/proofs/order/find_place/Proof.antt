@@ -17,10 +17,10 @@ use Rattle.records.proofs.words.index.Reads as index-reads
 use Rattle.records.proofs.words.load.Reads as load-reads
 
 abbrev Inv-loop : tie.InvT-loop
-Inv-loop tree text scratch n r head at₀ shared₀ link₀ at shared link = Walk (recordText tree text) n r head scratch at shared link
+Inv-loop tree text scratch n r head at₀ shared₀ passed₀ link₀ at shared passed link = Walk (recordText tree text) n r head scratch at shared link
 
 abbrev μ-loop : tie.MeasureT-loop
-μ-loop tree text scratch n r head at₀ shared₀ link₀ at shared link = steps-left (recordText tree text) n scratch n link
+μ-loop tree text scratch n r head at₀ shared₀ passed₀ link₀ at shared passed link = steps-left (recordText tree text) n scratch n link
 
 load-requires : tie.Need-load-requires Inv-loop μ-loop
 load-requires c κs = omega (arith, c .before .before .before .pre .0 .3)
@@ -64,15 +64,18 @@ load-requires-3 c κs = let start = c .before .before .before .before .before .b
 index-requires-2 : tie.Need-index-requires-2 Inv-loop μ-loop
 index-requires-2 c κs = search needs
 
+one-more-requires : tie.Need-one-more-requires Inv-loop μ-loop
+one-more-requires c κs = search needs
+
 loop-less : tie.Need-loop-less Inv-loop μ-loop
-loop-less c = let start = c .before .before .before .before .before .before .before .before .before .before .before .before in let loop = c .before .before .before .before .before .before .loop in let k : ℕ = loop .link - 1 in let here = walk-here _ _ _ _ _ _ _ _ k (omega arith) (loop .inv) in walk-less _ _ _ _ _ _ _ _ k here _ (c .index2 .ensures ∙ c .before .load3 .ensures)
+loop-less c = let start = c .before .before .before .before .before .before .before .before .before .before .before .before .before in let loop = c .before .before .before .before .before .before .before .loop in let k : ℕ = loop .link - 1 in let here = walk-here _ _ _ _ _ _ _ _ k (omega arith) (loop .inv) in walk-less _ _ _ _ _ _ _ _ k here _ (c .before .index2 .ensures ∙ c .before .before .load3 .ensures)
 
 loop-again : tie.Need-loop-again Inv-loop μ-loop
-loop-again c = let start = c .before .before .before .before .before .before .before .before .before .before .before .before in let loop = c .before .before .before .before .before .before .loop in let k : ℕ = loop .link - 1 in let here = walk-here _ _ _ _ _ _ _ _ k (omega arith) (loop .inv) in
+loop-again c = let start = c .before .before .before .before .before .before .before .before .before .before .before .before .before in let loop = c .before .before .before .before .before .before .before .loop in let k : ℕ = loop .link - 1 in let here = walk-here _ _ _ _ _ _ _ _ k (omega arith) (loop .inv) in
     ⊎-elim
-    (λ w. walk-compared _ _ _ _ _ _ _ _ k here _ (c .before .before .before .before .load2 .ensures) _ _ _ _ (start .pre .0 .0) (start .pre .0 .2) (w .0 .taken) (w .1 .ensures) (w .2 .left) (w .3) (c .index2 .ensures ∙ c .before .load3 .ensures))
-    (λ w. walk-past _ _ _ _ _ _ _ _ k here _ (c .before .before .before .before .load2 .ensures) _ _ (start .pre .0 .0) (start .pre .0 .2) (c .before .before .before .if1 .left) (w .0 .left) (w .1) (c .index2 .ensures ∙ c .before .load3 .ensures))
-    (c .before .before .if2 .came)
+    (λ w. walk-compared _ _ _ _ _ _ _ _ k here _ (c .before .before .before .before .before .load2 .ensures) _ _ _ _ (start .pre .0 .0) (start .pre .0 .2) (w .0 .taken) (w .1 .ensures) (w .2 .left) (w .3) (c .before .index2 .ensures ∙ c .before .before .load3 .ensures))
+    (λ w. walk-past _ _ _ _ _ _ _ _ k here _ (c .before .before .before .before .before .load2 .ensures) _ _ (start .pre .0 .0) (start .pre .0 .2) (c .before .before .before .before .if1 .left) (w .0 .left) (w .1) (c .before .index2 .ensures ∙ c .before .before .load3 .ensures))
+    (c .before .before .before .if2 .came)
 
 returns-3 : tie.Need-returns-3 Inv-loop μ-loop
 returns-3 c = walk-end _ _ _ _ _ _ _ _ (c .loop-test .left) (c .before .loop .inv)
@@ -97,6 +100,7 @@ find-place-spec =
     add-at
     load-requires-3
     index-requires-2
+    one-more-requires
     loop-less
     loop-again
     returns-3)

@@ -1,0 +1,5 @@
+pub mod AheadLaws
+pub mod ArrangedLaws
+pub mod GroupLaws
+pub mod MergeLaws
+pub mod SortLaws

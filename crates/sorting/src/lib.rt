@@ -1,0 +1,2 @@
+// Sorting.
+pub mod sorted;

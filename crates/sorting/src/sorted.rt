@@ -1,0 +1,394 @@
+// Records sorted by their texts, in a time that no choice of the texts makes much longer: each entry keeps how far its text agrees with that of the one before,
+// so that in merging two runs a byte that agreed is not compared again.
+ghost use mathlib.Core.Path.{_≡_};
+ghost use mathlib.Core.Bool.{true};
+ghost use Prim.Native.Nat.{ℕ, _+_, _*_, _≤_, _<_, min};
+ghost use lib.ListN.{length};
+ghost use Rattle.records.specs.Words.{textAt, sameText, records};
+ghost use Rattle.records.specs.Order.{common as commonOf, recordText};
+ghost use Rattle.sorting.specs.Sorted.{ahead, sortEntryBytes, recordIn, sharedIn, BehindOne, Chosen, HeadChosen, TwoRuns, Merging, Arranged, OnlyThere, OnlyBoth, TwoPlaces, RecordsRise, Sortable, SortedRecords, RepeatedBehind, FirstRepeated, FirstUpTo, NumbersApart, NumberedUpTo};
+use records::order::common;
+use records::order::least;
+use records::texts::reach;
+use records::words::SECOND_WORD;
+use records::words::WORD_A;
+use records::words::WORD_B;
+use records::words::index;
+use records::words::load;
+use records::words::put_pair;
+use records::words::put_word;
+use records::words::word;
+
+// An entry is a record, and beside it how far its text agrees with that of the entry before.
+pub const SORT_ENTRY_BYTES: usize = 8;
+
+// A record's number is a word.
+const NUMBER_BYTES: usize = 4;
+
+// How many of n bytes from i and from j on agree, where the first `from` do: all where these are the same bytes.
+fn common_from(text: &[u8], i: usize, j: usize, n: usize, from: usize) -> usize
+    requires { ⌜ (0 < n → (i + n ≤ length (now text)) × (j + n ≤ length (now text))) × (from ≤ commonOf (textAt (now text) i n) (textAt (now text) j n)) ⌝ }
+    ensures { λ r. ⌜ r ≡ commonOf (textAt (now (text .entry)) i n) (textAt (now (text .entry)) j n) ⌝ }
+{
+    if i == j {
+        return n;
+    }
+    common(text, i, j, n, from)
+}
+
+// Of two texts that agree just so far the first comes first, as it does where they are the same: it ends there, or its next byte is the lower.
+fn comes_first(text: &[u8], i: usize, x: usize, j: usize, y: usize, shared: usize) -> bool
+    requires { ⌜ (x ≡ length (textAt (now text) i x)) × (y ≡ length (textAt (now text) j y)) × (shared ≡ commonOf (textAt (now text) i x) (textAt (now text) j y)) ⌝ }
+    ensures { λ v. ⌜ v ≡ ahead (textAt (now (text .entry)) i x) (textAt (now (text .entry)) j y) true ⌝ }
+{
+    if shared == x {
+        return true;
+    }
+    if shared == y {
+        return false;
+    }
+    text[i + shared] < text[j + shared]
+}
+
+// Which of two is next, and how far their texts agree.
+struct Choice {
+    left: bool,
+    shared: u32,
+}
+
+// The texts of records a and b compared, of which the first `from` bytes agree.
+fn compare(tree: &[u8], text: &[u8], a: usize, b: usize, from: usize) -> Choice
+    requires { ⌜ (a < records (now tree)) × (b < records (now tree)) ⌝ }
+    requires { ⌜ from ≤ commonOf (recordText (now tree) (now text) a) (recordText (now tree) (now text) b) ⌝ }
+    ensures { λ v. ⌜ Chosen (recordText (now (tree .entry)) (now (text .entry)) a) (recordText (now (tree .entry)) (now (text .entry)) b) (v .left) (v .shared) ⌝ }
+{
+    let i = index(word(tree, a, WORD_A));
+    let x = reach(text, i, index(word(tree, a, WORD_B)));
+    let j = index(word(tree, b, WORD_A));
+    let y = reach(text, j, index(word(tree, b, WORD_B)));
+    let shared = common_from(text, i, j, least(x, y), from);
+    Choice {
+        left: comes_first(text, i, x, j, y, shared),
+        shared: shared as u32,
+    }
+}
+
+// Both stand behind one text, with which they agree in so many bytes: the one that agrees further is next, and only where they agree just as far are they
+// compared, from there on.
+fn choose(
+    tree: &[u8],
+    text: &[u8],
+    a: usize,
+    b: usize,
+    left_shared: u32,
+    right_shared: u32,
+) -> Choice
+    requires { ⌜ (a < records (now tree)) × (b < records (now tree)) ⌝ }
+    requires { ⌜ BehindOne (recordText (now tree) (now text) a) (recordText (now tree) (now text) b) «left_shared» «right_shared» ⌝ }
+    ensures { λ v. ⌜ Chosen (recordText (now (tree .entry)) (now (text .entry)) a) (recordText (now (tree .entry)) (now (text .entry)) b) (v .left) (v .shared) ⌝ }
+{
+    if right_shared < left_shared {
+        return Choice {
+            left: true,
+            shared: right_shared,
+        };
+    }
+    if left_shared < right_shared {
+        return Choice {
+            left: false,
+            shared: left_shared,
+        };
+    }
+    compare(tree, text, a, b, index(left_shared))
+}
+
+// Two runs, of the entries from lo to mid and from mid to hi: they stand from `at` on, and are merged from `to` on.
+struct Runs {
+    at: usize,
+    to: usize,
+    lo: usize,
+    mid: usize,
+    hi: usize,
+}
+
+// The entry of each that is next, and how far its text agrees with that of the last one put out.
+struct Heads {
+    left: usize,
+    right: usize,
+    left_shared: u32,
+    right_shared: u32,
+}
+
+// Which of the two is next. A run at its end has none.
+fn choose_head(
+    tree: &[u8],
+    text: &[u8],
+    scratch: &[u8],
+    runs: Runs,
+    k: usize,
+    heads: Heads,
+) -> Choice
+    requires { ⌜ Merging (recordText (now tree) (now text)) (records (now tree)) (runs .at) (runs .to) (runs .lo) (runs .mid) (runs .hi) k (heads .left) (heads .right) (heads .«left_shared») (heads .«right_shared») (now scratch) × (k < runs .hi) ⌝ }
+    ensures { λ v. ⌜ HeadChosen (recordText (now (tree .entry)) (now (text .entry))) (now (scratch .entry)) (runs .at) (runs .mid) (runs .hi) (heads .left) (heads .right) (v .left) (v .shared) ⌝ }
+{
+    let at = runs.at;
+    let left = heads.left;
+    let right = heads.right;
+    if left == runs.mid {
+        return Choice {
+            left: false,
+            shared: 0,
+        };
+    }
+    if right == runs.hi {
+        return Choice {
+            left: true,
+            shared: 0,
+        };
+    }
+    choose(
+        tree,
+        text,
+        index(load(scratch, at + SORT_ENTRY_BYTES * left)),
+        index(load(scratch, at + SORT_ENTRY_BYTES * right)),
+        heads.left_shared,
+        heads.right_shared,
+    )
+}
+
+// What stands beside entry i, if that is below `end`.
+fn shared_before(scratch: &[u8], at: usize, i: usize, end: usize) -> u32
+    requires { ⌜ at + sortEntryBytes * end ≤ length (now scratch) ⌝ }
+    ensures { λ v. ⌜ (i < end → v ≡ sharedIn (now (scratch .entry)) at i) ⌝ }
+{
+    if i < end {
+        return load(scratch, at + SORT_ENTRY_BYTES * i + SECOND_WORD);
+    }
+    0
+}
+
+// The next one of two runs is put out, as entry k.
+fn put_next(
+    tree: &[u8],
+    text: &[u8],
+    scratch: &mut [u8],
+    runs: Runs,
+    k: usize,
+    heads: Heads,
+) -> Heads
+    requires { ⌜ Merging (recordText (now tree) (now text)) (records (now tree)) (runs .at) (runs .to) (runs .lo) (runs .mid) (runs .hi) k (heads .left) (heads .right) (heads .«left_shared») (heads .«right_shared») (now scratch) × (k < runs .hi) ⌝ }
+    ensures { λ v. ⌜ Merging (recordText (now (tree .entry)) (now (text .entry))) (records (now (tree .entry))) (runs .at) (runs .to) (runs .lo) (runs .mid) (runs .hi) (k + 1) (v .left) (v .right) (v .«left_shared») (v .«right_shared») (now (scratch .exit)) ⌝ }
+    ensures { λ _. ⌜ OnlyThere (runs .to) (runs .lo) (runs .hi) (now (scratch .entry)) (now (scratch .exit)) ⌝ }
+{
+    let at = runs.at;
+    let left = heads.left;
+    let right = heads.right;
+    let out = runs.to + SORT_ENTRY_BYTES * k;
+    let choice = choose_head(tree, text, scratch, runs, k, heads);
+    if choice.left {
+        let next = heads.left + 1;
+        let a = load(scratch, at + SORT_ENTRY_BYTES * left);
+        let after = shared_before(scratch, at, next, runs.mid);
+        put_pair(scratch, out, a, heads.left_shared);
+        return Heads {
+            left: next,
+            right: right,
+            left_shared: after,
+            right_shared: choice.shared,
+        };
+    }
+    let next = heads.right + 1;
+    let b = load(scratch, at + SORT_ENTRY_BYTES * right);
+    let after = shared_before(scratch, at, next, runs.hi);
+    put_pair(scratch, out, b, heads.right_shared);
+    Heads {
+        left: left,
+        right: next,
+        left_shared: choice.shared,
+        right_shared: after,
+    }
+}
+
+// The two runs are merged.
+fn merge(tree: &[u8], text: &[u8], scratch: &mut [u8], runs: Runs)
+    requires { ⌜ TwoRuns (recordText (now tree) (now text)) (records (now tree)) (runs .at) (runs .to) (runs .lo) (runs .mid) (runs .hi) (now scratch) ⌝ }
+    ensures { λ _. ⌜ Arranged (recordText (now (tree .entry)) (now (text .entry))) (now (scratch .entry)) (runs .at) (now (scratch .exit)) (runs .to) (runs .lo) (runs .hi) ⌝ }
+    ensures { λ _. ⌜ OnlyThere (runs .to) (runs .lo) (runs .hi) (now (scratch .entry)) (now (scratch .exit)) ⌝ }
+{
+    let mut heads = Heads {
+        left: runs.lo,
+        right: runs.mid,
+        left_shared: 0,
+        right_shared: 0,
+    };
+    let mut k = runs.lo;
+    while k < runs.hi {
+        heads = put_next(tree, text, scratch, runs, k, heads);
+        k += 1;
+    }
+}
+
+// The entries from lo to hi, which stand both from `at` and from `to` on, are sorted from `to` on: each half from `at` on, and both merged.
+fn sort_range(
+    tree: &[u8],
+    text: &[u8],
+    scratch: &mut [u8],
+    at: usize,
+    to: usize,
+    lo: usize,
+    hi: usize,
+)
+    requires { ⌜ Sortable (records (now tree)) at to lo hi (now scratch) ⌝ }
+    ensures { λ _. ⌜ Arranged (recordText (now (tree .entry)) (now (text .entry))) (now (scratch .entry)) at (now (scratch .exit)) to lo hi ⌝ }
+    ensures { λ _. ⌜ OnlyBoth at to lo hi (now (scratch .entry)) (now (scratch .exit)) ⌝ }
+{
+    if hi - lo < 2 {
+        return;
+    }
+    let mid = lo + (hi - lo) / 2;
+    sort_range(tree, text, scratch, to, at, lo, mid);
+    sort_range(tree, text, scratch, to, at, mid, hi);
+    let runs = Runs {
+        at: at,
+        to: to,
+        lo: lo,
+        mid: mid,
+        hi: hi,
+    };
+    merge(tree, text, scratch, runs);
+}
+
+// The records of the m entries from `at` on, once more from `to` on.
+fn copy_records(scratch: &mut [u8], at: usize, to: usize, m: usize)
+    requires { ⌜ TwoPlaces at to 0 m (now scratch) ⌝ }
+    ensures { λ _. ⌜ ((i : ℕ) → i < m → recordIn (now (scratch .exit)) to i ≡ recordIn (now (scratch .entry)) at i) × OnlyThere to 0 m (now (scratch .entry)) (now (scratch .exit)) ⌝ }
+{
+    let mut i = 0;
+    while i < m {
+        let r = load(scratch, at + SORT_ENTRY_BYTES * i);
+        put_pair(scratch, to + SORT_ENTRY_BYTES * i, r, 0);
+        i += 1;
+    }
+}
+
+// The m records from `at` on, which rise, are sorted by their texts; as many entries from `to` on are room to work in.
+pub fn sort_texts(tree: &[u8], text: &[u8], scratch: &mut [u8], at: usize, to: usize, m: usize)
+    requires { ⌜ TwoPlaces at to 0 m (now scratch) × RecordsRise (records (now tree)) at 0 m (now scratch) ⌝ }
+    ensures { λ _. ⌜ Arranged (recordText (now (tree .entry)) (now (text .entry))) (now (scratch .entry)) at (now (scratch .exit)) at 0 m ⌝ }
+    ensures { λ _. ⌜ OnlyBoth at to 0 m (now (scratch .entry)) (now (scratch .exit)) ⌝ }
+{
+    copy_records(scratch, at, to, m);
+    sort_range(tree, text, scratch, to, at, 0, m);
+}
+
+// How many bytes the text of record r has.
+fn text_long(tree: &[u8], text: &[u8], r: usize) -> usize
+    requires { ⌜ r < records (now tree) ⌝ }
+    ensures { λ v. ⌜ v ≡ length (recordText (now (tree .entry)) (now (text .entry)) r) ⌝ }
+{
+    reach(
+        text,
+        index(word(tree, r, WORD_A)),
+        index(word(tree, r, WORD_B)),
+    )
+}
+
+// Entry i and the one behind it have the same text: they agree to the end of both.
+fn same_as_next(tree: &[u8], text: &[u8], scratch: &[u8], at: usize, m: usize, i: usize) -> bool
+    requires { ⌜ SortedRecords (recordText (now tree) (now text)) (records (now tree)) at m (now scratch) × (i + 1 < m) ⌝ }
+    ensures { λ v. ⌜ v ≡ sameText (recordText (now (tree .entry)) (now (text .entry)) (recordIn (now (scratch .entry)) at i)) (recordText (now (tree .entry)) (now (text .entry)) (recordIn (now (scratch .entry)) at (i + 1))) ⌝ }
+{
+    let next = i + 1;
+    let shared = index(load(scratch, at + SORT_ENTRY_BYTES * next + SECOND_WORD));
+    let x = text_long(tree, text, index(load(scratch, at + SORT_ENTRY_BYTES * i)));
+    let y = text_long(
+        tree,
+        text,
+        index(load(scratch, at + SORT_ENTRY_BYTES * next)),
+    );
+    (shared == x) & (shared == y)
+}
+
+// The record of the entry behind entry i, if that has the same text; else `bound`.
+fn repeated_behind(
+    tree: &[u8],
+    text: &[u8],
+    scratch: &[u8],
+    at: usize,
+    m: usize,
+    i: usize,
+    bound: usize,
+) -> usize
+    requires { ⌜ SortedRecords (recordText (now tree) (now text)) (records (now tree)) at m (now scratch) × (i + 1 < m) ⌝ }
+    ensures { λ v. ⌜ RepeatedBehind (recordText (now (tree .entry)) (now (text .entry))) (now (scratch .entry)) at i bound v ⌝ }
+{
+    if same_as_next(tree, text, scratch, at, m, i) {
+        return index(load(scratch, at + SORT_ENTRY_BYTES * (i + 1)));
+    }
+    bound
+}
+
+// The lowest of m sorted records that has the text of a lower one, or `bound` where none is lower than that.
+pub fn first_repeated(
+    tree: &[u8],
+    text: &[u8],
+    scratch: &[u8],
+    at: usize,
+    m: usize,
+    bound: usize,
+) -> usize
+    requires { ⌜ SortedRecords (recordText (now tree) (now text)) (records (now tree)) at m (now scratch) ⌝ }
+    ensures { λ v. ⌜ FirstRepeated (recordText (now (tree .entry)) (now (text .entry))) (now (scratch .entry)) at m bound v ⌝ }
+{
+    let mut lowest = bound;
+    let mut i = 1;
+    while i < m {
+        let before = i - 1;
+        lowest = least(
+            lowest,
+            repeated_behind(tree, text, scratch, at, m, before, bound),
+        );
+        i += 1;
+    }
+    lowest
+}
+
+// The first record with the text of entry i, where `first` is that with the text of the entry before.
+fn first_up_to(
+    tree: &[u8],
+    text: &[u8],
+    scratch: &[u8],
+    at: usize,
+    m: usize,
+    i: usize,
+    first: u32,
+) -> u32
+    requires { ⌜ SortedRecords (recordText (now tree) (now text)) (records (now tree)) at m (now scratch) × (i < m) ⌝ }
+    requires { ⌜ ((q : ℕ) → q + 1 ≡ i → FirstUpTo (recordText (now tree) (now text)) (now scratch) at q first) ⌝ }
+    ensures { λ v. ⌜ FirstUpTo (recordText (now (tree .entry)) (now (text .entry))) (now (scratch .entry)) at i v ⌝ }
+{
+    let r = load(scratch, at + SORT_ENTRY_BYTES * i);
+    if i == 0 {
+        return r;
+    }
+    let before = i - 1;
+    if same_as_next(tree, text, scratch, at, m, before) {
+        return first;
+    }
+    r
+}
+
+// Each of m sorted records gets its number, the first record with its text: a word for each record, from `to` on.
+pub fn number_sorted(tree: &[u8], text: &[u8], scratch: &mut [u8], at: usize, m: usize, to: usize)
+    requires { ⌜ SortedRecords (recordText (now tree) (now text)) (records (now tree)) at m (now scratch) × NumbersApart (records (now tree)) at m to (now scratch) ⌝ }
+    ensures { λ _. ⌜ NumberedUpTo (recordText (now (tree .entry)) (now (text .entry))) (records (now (tree .entry))) at m to m (now (scratch .entry)) (now (scratch .exit)) ⌝ }
+{
+    let mut first: u32 = 0;
+    let mut i = 0;
+    while i < m {
+        first = first_up_to(tree, text, scratch, at, m, i, first);
+        let r = index(load(scratch, at + SORT_ENTRY_BYTES * i));
+        put_word(scratch, to + NUMBER_BYTES * r, first);
+        i += 1;
+    }
+}
