@@ -128,8 +128,8 @@ pub struct ChainPlace {
     pub passed: u32,
 }
 
-// No chain is longer than a tree has records.
-const MOST_PASSED: u32 = 16384;
+// More than this are not counted: nobody asks for more.
+const MOST_PASSED: u32 = 64;
 
 // One entry more is passed.
 fn one_more(passed: u32) -> u32 {
