@@ -3,7 +3,7 @@ ghost use mathlib.Core.Path.{_≡_};
 ghost use Prim.Native.Nat.{_+_, _*_, _%_, _≤_, _<_};
 ghost use lib.ListN.{length};
 ghost use Rattle.records.specs.Words.{textAt, sameText};
-ghost use Rattle.records.specs.Digest.{digestStep, digestEnd, digestOf, digestFour, highFirst, rollModulus, rollStep, rollFrom, rollOf};
+ghost use Rattle.records.specs.Digest.{digestStep, digestEnd, digestFour, highFirst, rollModulus, rollStep, rollFrom, rollOf};
 use crate::words::load;
 use crate::words::wide;
 
@@ -299,11 +299,4 @@ pub fn roll_digest(d: u32) -> u32
     ensures { λ r. ⌜ r ≡ digestEnd d ⌝ }
 {
     digest_end(d as u64)
-}
-
-// The digest of a text, as far as it lies within the buffer.
-pub fn text_digest(text: &[u8], offset: u32, len: u32) -> u32
-    ensures { λ r. ⌜ r ≡ digestOf (textAt (now (text .entry)) offset len) ⌝ }
-{
-    roll_digest(text_roll(text, offset, len))
 }
