@@ -4,10 +4,10 @@ use mathlib.Core.Path.{_∙_}
 use native.Mathlib.Omega.{arith}
 use borrow.Author.Needs.{needs}
 use Rattle.sorting.proofs.AheadLaws.{compared-from, shared-fits, ends-known, compared}
-use Rattle.sorting.proofs.sorted.compare.Statement.{statement}
-use Rattle.sorting.proofs.sorted.compare.Tie as tie
-use Rattle.sorting.proofs.sorted.compare.Reads as reads
-use Rattle.sorting.proofs.sorted.compare.Lts as lts
+use Rattle.sorting.proofs.sorted.compare_texts.Statement.{statement}
+use Rattle.sorting.proofs.sorted.compare_texts.Tie as tie
+use Rattle.sorting.proofs.sorted.compare_texts.Reads as reads
+use Rattle.sorting.proofs.sorted.compare_texts.Lts as lts
 use Rattle.records.proofs.order.least.Reads as least-reads
 use Rattle.sorting.proofs.sorted.comes_first.Reads as comes-first-reads
 use Rattle.sorting.proofs.sorted.common_from.Reads as common-from-reads
@@ -60,8 +60,8 @@ cast-t11 c = omega (arith, shared-fits _ _ _ _ _ _ _ _ _ _ _ (c .before .before 
 returns : tie.Need-returns
 returns c = compared _ _ _ _ _ _ _ _ _ _ _ (c .before .before .before .before .before .before .before .before .before .before .before .index .ensures ∙ c .before .before .before .before .before .before .before .before .before .before .before .before .word .ensures) (c .before .before .before .before .before .before .before .before .before .index2 .ensures ∙ c .before .before .before .before .before .before .before .before .before .before .word2 .ensures) (c .before .before .before .before .before .before .index3 .ensures ∙ c .before .before .before .before .before .before .before .word3 .ensures) (c .before .before .before .before .index4 .ensures ∙ c .before .before .before .before .before .word4 .ensures) (c .before .before .before .before .before .before .before .before .reach .ensures) (c .before .before .before .reach2 .ensures) (c .before .before .least .ensures) _ (c .before .common-from .ensures) _ (c .comes-first .ensures)
 
-pub compare-spec : {M : Type 1} → statement M
-compare-spec =
+pub compare-texts-spec : {M : Type 1} → statement M
+compare-texts-spec =
     tie.close
     (tie.spec
     word-requires
