@@ -11,8 +11,8 @@ ghost use Rattle.records.specs.Digest.{typeDigest};
 ghost use Rattle.records.specs.Chains.{chainEach, ChainRoom};
 ghost use Rattle.records.specs.Samples.{sampleBytes, SampleRoom, Sampled};
 ghost use Rattle.judge.specs.Inner.{Lowest, Passing};
-ghost use Rattle.sorting.specs.Sorted.{sortEntryBytes, recordIn};
-ghost use Rattle.judge.specs.Equal.{Leading, alike, likeEarlier, typeBucket, TypesChained, DigestsPassed};
+ghost use Rattle.sorting.specs.Sorted.{sortEntryBytes};
+ghost use Rattle.judge.specs.Equal.{Leading, alike, likeEarlier, typeBucket, TypesChained, DigestsPassed, TypesListed};
 use crate::types::same_type;
 use records::chains::bucket;
 use records::chains::clear_heads;
@@ -127,12 +127,12 @@ fn may_have_alike(
     let mut at = index(head);
     let mut left = FAR;
     while at > 0 {
-        let k = at - 1;
-        let e = CHAIN_HEAD_BYTES * types + CHAIN_ENTRY_BYTES * k;
-        let digest = load(scratch, e);
         if left == 0 {
             return true;
         }
+        let k = at - 1;
+        let e = CHAIN_HEAD_BYTES * types + CHAIN_ENTRY_BYTES * k;
+        let digest = load(scratch, e);
         if is_alike(tree, text, k, r, digest, d) {
             return true;
         }
@@ -185,7 +185,7 @@ fn are_apart(tree: &[u8], text: &[u8], types: usize, scratch: &mut [u8], stride:
 // The leading types become entries to sort, from byte 0 on.
 fn collect_types(scratch: &mut [u8], types: usize)
     requires { ⌜ (types ≤ mostRecords) × (sortEntryBytes * types ≤ length (now scratch)) ⌝ }
-    ensures { λ _. ⌜ ((i : ℕ) → i < types → recordIn (now (scratch .exit)) 0 i ≡ i) × (length (now (scratch .exit)) ≡ length (now (scratch .entry))) ⌝ }
+    ensures { λ _. ⌜ TypesListed types (now (scratch .exit)) × (length (now (scratch .exit)) ≡ length (now (scratch .entry))) ⌝ }
 {
     let mut r = 0;
     while r < types {
