@@ -22,13 +22,13 @@ loop-holds : tie.Need-loop-holds Inv-loop μ-loop
 loop-holds c = (omega arith, (λ i h. absurd (omega arith), refl))
 
 mul-put-pair : tie.Need-mul-put-pair Inv-loop μ-loop
-mul-put-pair c = omega (arith, c .before .before .before .before .pre .0)
+mul-put-pair c = omega (arith, c .before .before .before .before .pre .0, c .before .loop-test .taken)
 
 cast-put-pair : tie.Need-cast-put-pair Inv-loop μ-loop
-cast-put-pair c = omega (arith, c .before .before .before .before .pre .0)
+cast-put-pair c = omega (arith, c .before .before .before .before .pre .0, c .before .loop-test .taken)
 
 put-pair-requires : tie.Need-put-pair-requires Inv-loop μ-loop
-put-pair-requires c κs = omega (arith, c .before .before .before .before .pre .1, c .before .before .loop .inv .2)
+put-pair-requires c κs = omega (arith, c .before .before .before .before .pre .1, c .before .before .loop .inv .2, c .before .loop-test .taken)
 
 add-r : tie.Need-add-r Inv-loop μ-loop
 add-r c = omega (arith, c .before .before .before .before .loop-test .taken)

@@ -16,19 +16,19 @@ collect-types-requires : tie.Need-collect-types-requires
 collect-types-requires c κs = (omega (arith, c .before .before .before .before .pre .few, c .before .before .before .before .pre .lead .within), omega (arith, c .before .before .before .before .pre .room, c .before .before .before .before .pre .lead .within))
 
 mul-sort-records : tie.Need-mul-sort-records
-mul-sort-records c = omega (arith, c .before .before .before .before .before .before .before .pre .few, c .before .before .before .before .before .before .before .pre .lead .within)
+mul-sort-records c = omega (arith, c .before .before .before .before .before .before .before .before .pre .few, c .before .before .before .before .before .before .before .before .pre .lead .within)
 
 sort-records-requires : tie.Need-sort-records-requires
-sort-records-requires c κs = (listed-places _ _ (c .before .before .collect-types .ensures .0) (omega (arith, c .before .before .before .before .before .before .before .pre .room, c .before .before .before .before .before .before .before .pre .lead .within, c .before .before .collect-types .ensures .1)), listed-rise _ _ (c .before .before .collect-types .ensures .0) _ (c .before .before .before .before .before .before .before .pre .lead .within))
+sort-records-requires c κs = (listed-places _ _ (c .before .before .before .collect-types .ensures .0) (omega (arith, c .before .before .before .before .before .before .before .before .pre .room, c .before .before .before .before .before .before .before .before .pre .lead .within, c .before .before .before .collect-types .ensures .1)), listed-rise _ _ (c .before .before .before .collect-types .ensures .0) _ (c .before .before .before .before .before .before .before .before .pre .lead .within))
 
 first-repeated-requires : tie.Need-first-repeated-requires
-first-repeated-requires c κs = TODO
+first-repeated-requires c κs = sorted-records _ _ _ _ _ (c .before .before .before .sort-records .ensures .0) _ _ (listed-places _ _ (c .before .before .before .before .before .before .before .collect-types .ensures .0) (omega (arith, c .before .before .before .before .before .before .before .before .before .before .before .before .pre .room, c .before .before .before .before .before .before .before .before .before .before .before .before .pre .lead .within, c .before .before .before .before .before .before .before .collect-types .ensures .1))) (listed-rise _ _ (c .before .before .before .before .before .before .before .collect-types .ensures .0) _ (c .before .before .before .before .before .before .before .before .before .before .before .before .pre .lead .within)) (c .before .before .before .sort-records .ensures .1)
 
 same-length : tie.Need-same-length
-same-length c = TODO
+same-length c = c .before .before .before .before .sort-records .ensures .1 .long ∙ c .before .before .before .before .before .before .before .before .collect-types .ensures .1
 
 returns : tie.Need-returns
-returns c = TODO
+returns c = (lowest-sorted _ _ (c .before .before .before .before .before .before .before .before .collect-types .ensures .0) _ _ (c .before .before .before .before .before .before .before .before .before .before .before .before .before .pre .lead .types) (λ k. omega (arith, c .before .before .before .before .before .before .before .before .before .before .before .shared-slice-known2 .given k)) _ (repeated-before _ _ _ _ _ (c .before .before .before .before .sort-records .ensures .0) _ _ (c .first-repeated .ensures)), c .before .before .before .before .sort-records .ensures .1 .long ∙ c .before .before .before .before .before .before .before .before .collect-types .ensures .1)
 
 pub first-by-sorting-spec : {M : Type 1} → statement M
 first-by-sorting-spec =

@@ -39,7 +39,7 @@ returns c = (record { within = omega arith; before = c .before .before .before .
 
 first-by-sorting-requires : tie.Need-first-by-sorting-requires
 first-by-sorting-requires c κs = 
-    let pre = c .before .before .before .before .before .before .before .before .before .before .before .before .before .pre in
+    let pre = c .before .before .before .before .before .before .before .before .before .before .before .before .before .before .pre in
     record { whole = pre .whole; few = pre .few; room = omega (arith, pre .room, c .before .before .before .before .are-apart .ensures .1, c .before .before .before .before .before .before .before .before .sample .ensures .long); lead = pre .lead }
 
 same-length-2 : tie.Need-same-length-2
