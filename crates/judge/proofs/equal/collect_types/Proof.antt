@@ -19,7 +19,7 @@ abbrev μ-loop : tie.MeasureT-loop
 μ-loop scratch₀ types r₀ scratch r = types - r
 
 loop-holds : tie.Need-loop-holds Inv-loop μ-loop
-loop-holds c = (omega arith, (λ i h. absurd (omega arith), refl))
+loop-holds c = (omega arith, λ i h. absurd (omega arith), refl)
 
 mul-put-pair : tie.Need-mul-put-pair Inv-loop μ-loop
 mul-put-pair c = omega (arith, c .before .before .before .before .pre .0, c .before .loop-test .taken)
@@ -37,7 +37,7 @@ loop-less : tie.Need-loop-less Inv-loop μ-loop
 loop-less c = omega (arith, c .before .before .before .before .loop-test .taken)
 
 loop-again : tie.Need-loop-again Inv-loop μ-loop
-loop-again c = (omega (arith, c .before .before .before .before .loop-test .taken), (listed-more _ _ _ (c .before .before .before .before .before .loop .inv .1) (omega (arith, c .before .before .before .before .before .before .before .pre .1, c .before .before .before .before .before .loop .inv .2, c .before .before .before .before .loop-test .taken)) (omega (arith, c .before .before .before .before .before .before .before .pre .0, c .before .before .before .before .loop-test .taken)) (c .before .before .put-pair .ensures), listed-long _ _ _ (c .before .before .before .before .before .loop .inv .1) (omega (arith, c .before .before .before .before .before .before .before .pre .1, c .before .before .before .before .before .loop .inv .2, c .before .before .before .before .loop-test .taken)) (omega (arith, c .before .before .before .before .before .before .before .pre .0, c .before .before .before .before .loop-test .taken)) (c .before .before .put-pair .ensures) ∙ c .before .before .before .before .before .loop .inv .2))
+loop-again c = (omega (arith, c .before .before .before .before .loop-test .taken), listed-more _ _ _ (c .before .before .before .before .before .loop .inv .1) (omega (arith, c .before .before .before .before .before .before .before .pre .1, c .before .before .before .before .before .loop .inv .2, c .before .before .before .before .loop-test .taken)) (omega (arith, c .before .before .before .before .before .before .before .pre .0, c .before .before .before .before .loop-test .taken)) (c .before .before .put-pair .ensures), listed-long _ _ _ (c .before .before .before .before .before .loop .inv .1) (omega (arith, c .before .before .before .before .before .before .before .pre .1, c .before .before .before .before .before .loop .inv .2, c .before .before .before .before .loop-test .taken)) (omega (arith, c .before .before .before .before .before .before .before .pre .0, c .before .before .before .before .loop-test .taken)) (c .before .before .put-pair .ensures) ∙ c .before .before .before .before .before .loop .inv .2)
 
 same-length : tie.Need-same-length Inv-loop μ-loop
 same-length c = c .before .loop .inv .2
