@@ -1,32 +1,31 @@
--- Equal types: what is alike shares a bucket; the digest of a type as the code reads it; what a pass by digests tells of equal types, and what the place of a
--- name in the order tells of Customs. By the laws of digests, of chains and of the order of common beginnings. Assumes nothing.
+-- Equal types: what is alike shares a bucket; the digest of a type as the code reads it; where nothing is alike nothing is equal, and what types sorted by their
+-- keys tell. By the laws of digests, of chains and of keys. Assumes nothing.
 use mathlib.Core.Path.{_≡_, refl, sym, ap, _∙_}
-use mathlib.Core.Logic.{_⊎_, inl, inr, ⊎-elim}
+use mathlib.Core.Logic.{inl, ⊎-elim}
 use Prim.Native.Nat.{ℕ, _+_, _*_, _≤_, _<_}
 use mathlib.Core.Bool.{Bool, true, false, not, _&&_, _||_, false≢true}
-use mathlib.Core.List.{List}
+use mathlib.Core.List.{List, _++_}
 use native.Mathlib.Omega.{arith}
-use lib.Dec.{eqb, ltb}
-use borrow.Author.Tests.{eq-eqb, ne-eqb, eqb-true, eqb-false, ltb-true, ltb-false}
+use lib.Dec.{eqb}
+use lib.ListN.{length, getD}
+use borrow.Author.Count.{below-more}
+use borrow.Author.Tests.{eq-eqb, ne-eqb, eqb-true}
 use Rattle.laws.specs.Chain.{Met}
-use Rattle.laws.proofs.AllBelow.{any-stop, any-at, any-of}
+use Rattle.laws.specs.Splice.{splice}
+use Rattle.laws.proofs.AllBelow.{any-at, any-of}
 use Rattle.laws.proofs.ChainLaws.{walk-end}
-use Rattle.laws.proofs.Tests.{tested, and-left, and-right}
-use Rattle.records.specs.Chains.{headAt, entryAt, ChainRoom}
+use Rattle.laws.proofs.Tests.{tested, and-left}
 use Rattle.records.specs.Digest.{digestOf, digestFour, typeDigest}
-use Rattle.records.specs.Order.{recordText, chainOf, firstWith, PlaceOf, placedAt}
 use Rattle.records.specs.Rules.{sameType, typeIsNew}
-use Rattle.records.specs.Words.{kindOf, detailOf, wordOf, wordAt, textAt, sameText, A, B, C}
+use Rattle.records.specs.Words.{kindOf, detailOf, wordOf, textAt, word, A, B, C}
 use Rattle.records.proofs.ChainedLaws as chained
 use Rattle.records.proofs.DigestLaws.{custom-digest, words-digest, same-digest}
-use Rattle.records.proofs.EntryLaws.{entered-long, entered-behind, chains-past, chains-found, chains-more, place-low}
-use Rattle.records.proofs.PlacedLaws.{first-is, chain-inside, chain-none}
-use Rattle.records.proofs.SampleLaws.{sampled-kept}
-use Rattle.records.proofs.TextLaws.{same-texts}
-use Rattle.records.proofs.TypeLaws.{type-custom, equalType, new-found, new-none}
+use Rattle.records.proofs.TypeLaws.{equalType, new-found, new-none}
+use Rattle.sorting.specs.Sorted.{recordKey, recordIn, HasEntry, OnlyThere, TwoPlaces, RecordsRise, Repeated, FirstRepeated}
+use Rattle.sorting.proofs.KeyLaws.{same-keys, one-key}
+use Rattle.sorting.proofs.MergeLaws.{entries-kept, put-there, put-record}
 use Rattle.judge.specs.Inner.{Lowest}
-use Rattle.judge.specs.Equal.{isCustom, wordsAgain, nameAgain, alike, likeEarlier, every, typeBucket, FoundByDigest, namesBucket, NamesPlaced, NameEntered, NamesPassed}
-use Rattle.judge.proofs.PlainLaws.{either, flipped}
+use Rattle.judge.specs.Equal.{isCustom, alike, likeEarlier, every, typeBucket, TypesListed}
 
 -- ---- what the code reads of a type
 
@@ -49,18 +48,6 @@ module _ (tree text : List ℕ) (r x a b : ℕ) where
 
 -- ---- what is alike
 
-and-none : (a b : Bool) → b ≡ false → (a && b) ≡ false
-and-none true b e = e
-and-none false b e = refl
-
-pub or-left : (a b : Bool) → (a || b) ≡ false → a ≡ false
-or-left true b e = absurd (false≢true (sym e))
-or-left false b e = refl
-
-pub or-none : (a b : Bool) → (a || b) ≡ false → b ≡ false
-or-none true b e = absurd (false≢true (sym e))
-or-none false b e = e
-
 or-true : (a b : Bool) → b ≡ true → (a || b) ≡ true
 or-true true b e = refl
 or-true false b e = e
@@ -78,11 +65,6 @@ module _ (tree text : List ℕ) (k r : ℕ) where
   same-alike e =
       rw (eq-eqb (typeDigest tree text k) (typeDigest tree text r) (same-digest tree text k r e))
       (or-true (isCustom tree r) (sameType tree text k r) e)
-
-  alike-same : isCustom tree r ≡ false → alike tree text k r ≡ true → sameType tree text k r ≡ true
-  unfolding alike
-  alike-same n e =
-      either (isCustom tree r) (sameType tree text k r) (and-right (eqb (typeDigest tree text k) (typeDigest tree text r)) (isCustom tree r || sameType tree text k r) e) n
 
   -- as the code finds it
   module _ (x d : ℕ) (ex : x ≡ typeDigest tree text k) (ed : d ≡ typeDigest tree text r) where
@@ -109,9 +91,6 @@ pub together : (tree text : List ℕ) (types j r : ℕ) → alike tree text j r 
 together tree text types j r e = chained.together every (typeDigest tree text) types j r refl refl (alike-digest tree text j r e)
 
 module _ (tree text : List ℕ) (r : ℕ) where
-  pub like-found : (k : ℕ) → k < r → alike tree text k r ≡ true → true ≡ likeEarlier tree text r
-  like-found k h e = sym (any-stop (λ i. alike tree text i r) r k h e)
-
   pub like-none : (types v : ℕ) → v ≤ 0 → Met (alike tree text) (typeBucket tree text types) r v → false ≡ likeEarlier tree text r
   like-none types v z m =
       sym (any-of (λ i. alike tree text i r) r (walk-end (alike tree text) (typeBucket tree text types) (together tree text types) r v z m))
@@ -135,7 +114,7 @@ module _ (tree text : List ℕ) (types r : ℕ) (kinds : (k : ℕ) → k < types
       (omega arith))
 
   -- nothing alike: nothing equal
-  unlike-new : likeEarlier tree text r ≡ false → not (typeIsNew tree text r) ≡ false
+  pub unlike-new : likeEarlier tree text r ≡ false → not (typeIsNew tree text r) ≡ false
   unlike-new n =
       sym
       (equal-none
@@ -144,186 +123,80 @@ module _ (tree text : List ℕ) (types r : ℕ) (kinds : (k : ℕ) → k < types
       (λ t. absurd (false≢true (sym (any-at (λ j. alike tree text j r) r i n h) ∙ same-alike tree text i r t)))
       (λ t. t)))
 
-  -- but for Customs, something alike: something equal
-  like-again : isCustom tree r ≡ false → likeEarlier tree text r ≡ true → not (typeIsNew tree text r) ≡ true
-  like-again m y =
-      tested (not (typeIsNew tree text r))
-      (λ t. t)
-      (λ n.
-      absurd
-      (false≢true
-      (sym
-      (any-of (λ i. alike tree text i r) r
-      (λ i h.
-      tested (alike tree text i r)
-      (λ t. absurd (false≢true (sym n ∙ sym (equal-found i h (alike-same tree text i r m t)))))
-      (λ t. t)))
-      ∙ y)))
+-- ---- types sorted
 
-  -- as the pass by digests tests it: x is its detail
-  module _ (again : Bool) (x : ℕ) (ea : again ≡ likeEarlier tree text r) (ex : x ≡ detailOf tree r) where
-    pub words-found : (again && not (eqb x 8)) ≡ true → wordsAgain tree text r ≡ true
-    words-found t =
-        let other : not (isCustom tree r) ≡ true = rw ex at (and-right again (not (eqb x 8)) t) in
-        rw other (like-again (flipped (isCustom tree r) other) (sym ea ∙ and-left again (not (eqb x 8)) t))
+-- one type more in its entry
+module _ (r : ℕ) (s s′ : List ℕ) (l : TypesListed r s) (room : 8 * r + 8 ≤ length s) (hr : r < 4294967296) (e : s′ ≡ splice s (8 * r) (word r ++ word 0)) where
+  fits : 0 + 8 * r + 8 ≤ length s
+  fits = omega (arith, room)
 
-    pub words-passed : (again && not (eqb x 8)) ≡ false → wordsAgain tree text r ≡ false
-    words-passed t =
-        tested again
-        (λ y. let other : not (isCustom tree r) ≡ false = rw (y, ex) at t in rw other refl)
-        (λ n. and-none (not (isCustom tree r)) (not (typeIsNew tree text r)) (unlike-new (sym ea ∙ n)))
+  there : s′ ≡ splice s (0 + 8 * r) (word r ++ word 0)
+  there = e ∙ ap (λ (p : ℕ). splice s p (word r ++ word 0)) (omega arith)
 
-    pub name-passed : again ≡ false → nameAgain tree text r ≡ false
-    name-passed n = and-none (isCustom tree r) (not (typeIsNew tree text r)) (unlike-new (sym ea ∙ n))
+  only : OnlyThere 0 r (r + 1) s s′
+  only = put-there s s′ 0 r r 0 fits there
 
--- ---- Customs: what the place in the order shows
+  pub listed-more : TypesListed (r + 1) s′
+  listed-more =
+      below-more (λ (i : ℕ). recordIn s′ 0 i ≡ i) r
+      (λ i h. entries-kept s s′ 0 0 r (λ p x y. only .bytes p (inl y)) i (omega arith) h .0 ∙ l i h)
+      (put-record s s′ 0 r r 0 fits there hr)
 
--- of a type that is among those asked for, or not
-pub asked-not : (m b : Bool) → m ≡ false → false ≡ (m && b)
-asked-not m b e = rw e refl
+  pub listed-long : length s′ ≡ length s
+  listed-long = only .long
 
-pub asked : (m b v : Bool) → m ≡ true → v ≡ b → v ≡ (m && b)
-asked m b v e q = q ∙ rw e refl
+module _ (types : ℕ) (s : List ℕ) (l : TypesListed types s) where
+  listed : (k : ℕ) → k < types → HasEntry s 0 0 types k
+  listed k h = record { place = k; low = omega arith; high = h; there = l k h }
 
-module _ (tree text : List ℕ) (j r : ℕ) (same : sameType tree text j r ≡ true) where
-  same-detail : detailOf tree j ≡ detailOf tree r
-  unfolding sameType
-  same-detail = eqb-true (detailOf tree j) (detailOf tree r) (and-left (eqb (detailOf tree j) (detailOf tree r)) _ same)
+  is-listed : (k : ℕ) → HasEntry s 0 0 types k → k < types
+  is-listed k u = omega (arith, u .there, u .high, l (u .place) (u .high))
 
-  -- a Custom equals Customs alone
-  names-together : (types : ℕ) → isCustom tree r ≡ true → namesBucket tree text types j ≡ namesBucket tree text types r
-  names-together types m =
-      chained.together (isCustom tree) (typeDigest tree text) types j r (ap (λ (d : ℕ). eqb d 8) same-detail ∙ m) m (same-digest tree text j r same)
+  pub listed-rise : (n : ℕ) → types ≤ n → RecordsRise n 0 0 types s
+  listed-rise n h =
+      record { inside = λ i a b. omega (arith, l i b); rise = λ i j a b d. omega (arith, l i (omega arith), l j d) }
 
-module _ (tree text : List ℕ) (types r b : ℕ) (kinds : (k : ℕ) → k < types → kindOf tree k ≡ 1) (hr : r < types) (is : isCustom tree r ≡ true)
-    (eb : b ≡ namesBucket tree text types r) (hb : b < types) where
-  abbrev entries : List ℕ
-  entries = chainOf (recordText tree text) (namesBucket tree text types) r b
+  pub listed-places : 16 * types ≤ length s → TwoPlaces 0 (8 * types) 0 types s
+  listed-places h = record { rises = omega arith; first = omega arith; second = omega arith; apart = inl (omega arith) }
 
-  abbrev first : ℕ
-  first = firstWith (recordText tree text) r entries
-
-  custom : detailOf tree r ≡ 8
-  custom = eqb-true (detailOf tree r) 8 is
-
-  -- a Custom with r's name equals it
-  same-name : (k : ℕ) → isCustom tree k ≡ true → recordText tree text k ≡ recordText tree text r → sameType tree text k r ≡ true
-  same-name k m e =
-      sym (type-custom tree text k r (eqb-true (detailOf tree k) 8 m ∙ sym custom) custom)
-      ∙ same-texts (recordText tree text k) (recordText tree text r) e
-
-  -- a type does not, if no Custom of r's bucket has its name
-  name-differs : (k : ℕ) → (namesBucket tree text types k ≡ b → sameText (recordText tree text k) (recordText tree text r) ≡ false) → sameType tree text k r ≡ false
-  name-differs k other =
-      tested (sameType tree text k r)
-      (λ y.
-      absurd
-      (false≢true
-      (sym (other (names-together tree text k r y types is ∙ sym eb)) ∙ type-custom tree text k r (same-detail tree text k r y) custom ∙ y)))
-      (λ n. n)
-
-  module _ (s : List ℕ) (c : NamesPlaced tree text types r s) (number place shared : ℕ)
-      (belongs : PlaceOf (recordText tree text) types r (headAt b) s number place shared) where
-    found : number ≡ first
-    found = belongs entries (c b hb) .found
-
-    -- it is r, or an earlier type that equals r
-    which : (number ≡ r) ⊎ ((number < r) × (sameType tree text number r ≡ true))
-    which =
+  -- the first whose key is repeated is the lowest that equals an earlier one
+  module _ (tree text : List ℕ) (kinds : (k : ℕ) → k < types → kindOf tree k ≡ 1) (bytes : (i : ℕ) → getD text i 0 < 256) (v : ℕ)
+      (first : FirstRepeated (recordKey tree text) s 0 types types v) where
+    inside : v ≤ types
+    inside =
         ⊎-elim
-        (λ (n : first ≡ r). inl (found ∙ n))
-        (λ (y : ((first < r) × (namesBucket tree text types first ≡ b)) × (recordText tree text first ≡ recordText tree text r)).
-        let m : isCustom tree first ≡ true = chained.member-here (isCustom tree) (typeDigest tree text) types first (omega (arith, y .0 .1)) in
-        let e : sameType tree text first r ≡ true = same-name first m (y .1) in
-        inr (omega (arith, found, y .0 .0), rw found e))
-        (first-is (recordText tree text) r (λ e. (e < r) × (namesBucket tree text types e ≡ b)) entries (chain-inside (recordText tree text) (namesBucket tree text types) b r))
+        (λ (e : v ≡ types). omega arith)
+        (λ (w : Repeated (recordKey tree text) s 0 types v). omega (arith, is-listed v (w .here)))
+        (first .found)
 
-    number-within : number ≤ r
-    number-within =
-        ⊎-elim
-        (λ (n : number ≡ r). omega arith)
-        (λ (y : (number < r) × (sameType tree text number r ≡ true)). omega (arith, y .0))
-        which
-
-    pub name-found : number < r → true ≡ not (typeIsNew tree text r)
-    name-found h =
-        ⊎-elim
-        (λ (n : number ≡ r). absurd (omega arith))
-        (λ (y : (number < r) × (sameType tree text number r ≡ true)). equal-found tree text types r kinds hr number (y .0) (y .1))
-        which
-
-    -- nothing is entered
-    pub found-entered : number < r → NameEntered tree text types r s s
-    found-entered h =
+    none-before : (k : ℕ) → k < v → not (typeIsNew tree text k) ≡ false
+    none-before k h =
+        let below : k < types = omega (arith, inside) in
+        sym
+        (equal-none tree text types k kinds below
+        (λ i g.
+        tested (sameType tree text i k)
+        (λ t.
+        let again : Repeated (recordKey tree text) s 0 types k =
         record {
-          placed = chains-found (recordText tree text) (namesBucket tree text types) types s r c b hr hb eb number place shared belongs h;
-          long = refl;
-          behind = λ i k. refl;
-        }
+          here = listed k below;
+          lower = i;
+          there = listed i (omega arith);
+          less = g;
+          same = same-keys tree text i k (kinds i (omega arith)) (kinds k below) t;
+        } in
+        absurd (omega (arith, first .least k again)))
+        (λ t. t)))
 
-    module _ (new : r ≤ number) where
-      itself : number ≡ r
-      itself = omega (arith, number-within)
+    again-there : v < types → not (typeIsNew tree text v) ≡ true
+    again-there h =
+        ⊎-elim
+        (λ (e : v ≡ types). absurd (omega arith))
+        (λ (w : Repeated (recordKey tree text) s 0 types v).
+        sym
+        (equal-found tree text types v kinds h (w .lower) (w .less)
+        (one-key tree text (w .lower) v (kinds (w .lower) (omega (arith, w .less))) (kinds v h) bytes (w .same))))
+        (first .found)
 
-      pub name-new : false ≡ not (typeIsNew tree text r)
-      name-new =
-          equal-none tree text types r kinds hr
-          (λ i h. name-differs i (λ z. chain-none (recordText tree text) (namesBucket tree text types) b r i (sym found ∙ itself) h z))
-
-      pub place-inside : place + 4 ≤ entryAt types r
-      place-inside = place-low (recordText tree text) (namesBucket tree text types) types s r c b hr hb eb number place shared belongs itself
-
-      pub new-entered : (next : ℕ) (s′ : List ℕ) → ChainRoom types s → shared < 4294967296 → next < 4294967296 → next ≡ wordAt s place
-          → s′ ≡ placedAt types r shared place next s → NameEntered tree text types r s s′
-      new-entered next s′ room hs hn en e =
-          record {
-            placed = chains-more (recordText tree text) (namesBucket tree text types) types s r c b hr hb eb number place shared belongs itself next s′ room hs hn en e;
-            long = entered-long types r shared place next s s′ room hr place-inside e;
-            behind = entered-behind types r shared place next s s′ room hr place-inside e;
-          }
-
--- ---- one type more
-
-module _ (tree text : List ℕ) (types stride r : ℕ) (s : List ℕ) (p : NamesPassed tree text types stride r s) where
-  pub names-past : isCustom tree r ≡ false → NamesPassed tree text types stride (r + 1) s
-  names-past m =
-      record {
-        placed =
-            chains-past (recordText tree text) (namesBucket tree text types) types s r (p .placed)
-            (omega (arith, chained.bucket-other (isCustom tree) (typeDigest tree text) types r m));
-        sampled = p .sampled;
-      }
-
-  pub names-more : (s′ : List ℕ) → NameEntered tree text types r s s′ → NamesPassed tree text types stride (r + 1) s′
-  names-more s′ e =
-      record { placed = e .placed; sampled = sampled-kept text stride (12 * types) s s′ (e .behind) (e .long) (p .sampled) }
-
--- ---- the lowest of both
-
-neither : (m b : Bool) → (not m && b) ≡ false → (m && b) ≡ false → b ≡ false
-neither true b x y = y
-neither false b x y = x
-
-module _ (tree text : List ℕ) (types lowest : ℕ) (suspect : Bool) (found : FoundByDigest tree text types lowest suspect) where
-  -- below what the pass by digests found, Customs decide
-  pub lowest-both : (v : ℕ) → Lowest lowest (nameAgain tree text) v → Lowest types (λ k. not (typeIsNew tree text k)) v
-  lowest-both v names =
-      record {
-        within = omega (arith, found .words .within, names .within);
-        before =
-            λ k h.
-            neither (isCustom tree k) (not (typeIsNew tree text k)) (found .words .before k (omega (arith, names .within))) (names .before k h);
-        found =
-            λ h.
-            tested (ltb v lowest)
-            (λ y. and-right (isCustom tree v) (not (typeIsNew tree text v)) (names .found (ltb-true v lowest y)))
-            (λ n.
-            let below : lowest ≤ v = ltb-false v lowest n in
-            let z : v ≡ lowest = omega (arith, names .within) in
-            let e : wordsAgain tree text lowest ≡ true = found .words .found (omega arith) in
-            and-right (not (isCustom tree v)) (not (typeIsNew tree text v)) (rw z e));
-      }
-
-  -- where none is suspect, that is all
-  pub lowest-words : suspect ≡ false → Lowest types (λ k. not (typeIsNew tree text k)) lowest
-  lowest-words none = lowest-both lowest (record { within = omega arith; before = found .names none; found = λ h. absurd (omega arith) })
+    pub lowest-sorted : Lowest types (λ k. not (typeIsNew tree text k)) v
+    lowest-sorted = record { within = inside; before = none-before; found = again-there }

@@ -1,8 +1,8 @@
-// The first type that equals an earlier one, found through buckets of digests, so that a tree of types alone costs little more than another. Customs of one digest
-// are not compared pair by pair: where there are any, names are put in an order of common beginnings.
+// The first type that equals an earlier one. Most trees are done by digests, in buckets: no type is taken for an earlier one. Where one is, or a bucket has too many,
+// the types are sorted, so that none made to share a digest or a bucket cost much more than others.
 ghost use mathlib.Core.Path.{_≡_};
-ghost use mathlib.Core.Bool.{not, true};
-ghost use Prim.Native.Nat.{_+_, _*_, _≤_, _<_};
+ghost use mathlib.Core.Bool.{not, true, false};
+ghost use Prim.Native.Nat.{ℕ, _+_, _*_, _≤_, _<_};
 ghost use lib.ListN.{length};
 ghost use Rattle.laws.specs.Chain.{linkTo};
 ghost use Rattle.records.specs.Words.{recordBytes, records, mostRecords, none};
@@ -11,7 +11,8 @@ ghost use Rattle.records.specs.Digest.{typeDigest};
 ghost use Rattle.records.specs.Chains.{chainEach, ChainRoom};
 ghost use Rattle.records.specs.Samples.{sampleBytes, SampleRoom, Sampled};
 ghost use Rattle.judge.specs.Inner.{Lowest, Passing};
-ghost use Rattle.judge.specs.Equal.{Leading, isCustom, nameAgain, alike, likeEarlier, typeBucket, TypesChained, DigestsPassed, FoundByDigest, namesBucket, NamesPlaced, NameEntered, NamesPassed};
+ghost use Rattle.sorting.specs.Sorted.{sortEntryBytes};
+ghost use Rattle.judge.specs.Equal.{Leading, alike, likeEarlier, typeBucket, TypesChained, DigestsPassed, TypesListed};
 use crate::types::same_type;
 use records::chains::bucket;
 use records::chains::clear_heads;
@@ -20,8 +21,6 @@ use records::layout::CHAIN_EACH;
 use records::layout::CHAIN_ENTRY_BYTES;
 use records::layout::CHAIN_HEAD_BYTES;
 use records::numbers::FORM_CUSTOM;
-use records::order::enter_at;
-use records::order::find_place;
 use records::samples::sample;
 use records::samples::sampled_roll;
 use records::samples::stride_within;
@@ -34,8 +33,12 @@ use records::words::WORD_C;
 use records::words::detail;
 use records::words::index;
 use records::words::load;
+use records::words::put_pair;
 use records::words::wide;
 use records::words::word;
+use sorting::sorted::SORT_ENTRY_BYTES;
+use sorting::sorted::first_repeated;
+use sorting::sorted::sort_records;
 
 // How long the name of type r is: only a Custom has one.
 fn name_long(tree: &[u8], r: usize) -> usize
@@ -103,8 +106,11 @@ fn is_alike(tree: &[u8], text: &[u8], k: usize, r: usize, digest: u32, d: u32) -
     same_type(tree, text, k, r)
 }
 
-// Some type below r is taken for it: the chain of its bucket is walked from the head on.
-fn has_alike(
+// A walk that passes more entries than this is too long. Of types that are not made to share a bucket hardly ten do.
+const FAR: u32 = 32;
+
+// Some type below r is taken for it, or there are too many to tell: the chain of its bucket is walked from the head on.
+fn may_have_alike(
     tree: &[u8],
     text: &[u8],
     types: usize,
@@ -116,23 +122,28 @@ fn has_alike(
     requires { ⌜ Leading (now tree) types × ChainRoom types (now scratch) × (r < types) ⌝ }
     requires { ⌜ TypesChained (now tree) (now text) types r (now scratch) × (d ≡ typeDigest (now tree) (now text) r) ⌝ }
     requires { ⌜ head ≡ linkTo (typeBucket (now tree) (now text) types) r (typeBucket (now tree) (now text) types r) ⌝ }
-    ensures { λ v. ⌜ v ≡ likeEarlier (now (tree .entry)) (now (text .entry)) r ⌝ }
+    ensures { λ v. ⌜ (v ≡ false → likeEarlier (now (tree .entry)) (now (text .entry)) r ≡ false) ⌝ }
 {
     let mut at = index(head);
+    let mut left = FAR;
     while at > 0 {
+        if left == 0 {
+            return true;
+        }
         let k = at - 1;
         let e = CHAIN_HEAD_BYTES * types + CHAIN_ENTRY_BYTES * k;
         let digest = load(scratch, e);
         if is_alike(tree, text, k, r, digest, d) {
             return true;
         }
+        left -= 1;
         at = index(load(scratch, e + SECOND_WORD));
     }
     false
 }
 
 // The same, and r is entered with its digest. The text's samples stand behind the chains.
-fn is_like_earlier(
+fn may_be_again(
     tree: &[u8],
     text: &[u8],
     types: usize,
@@ -142,131 +153,58 @@ fn is_like_earlier(
 ) -> bool
     requires { ⌜ Leading (now tree) types × ChainRoom types (now scratch) × (r < types) ⌝ }
     requires { ⌜ DigestsPassed (now tree) (now text) types stride r (now scratch) ⌝ }
-    ensures { λ v. ⌜ v ≡ likeEarlier (now (tree .entry)) (now (text .entry)) r ⌝ }
+    ensures { λ v. ⌜ (v ≡ false → likeEarlier (now (tree .entry)) (now (text .entry)) r ≡ false) ⌝ }
     ensures { λ _. ⌜ DigestsPassed (now (tree .entry)) (now (text .entry)) types stride (r + 1) (now (scratch .exit)) ⌝ }
     ensures { λ _. ⌜ length (now (scratch .exit)) ≡ length (now (scratch .entry)) ⌝ }
 {
     let d = type_digest(tree, text, scratch, CHAIN_EACH * types, stride, r);
     let b = bucket(d, types);
     let head = load(scratch, CHAIN_HEAD_BYTES * b);
-    let again = has_alike(tree, text, types, scratch, r, d, head);
+    let again = may_have_alike(tree, text, types, scratch, r, d, head);
     enter(scratch, types, r, d, b, head);
     again
 }
 
-// The lowest of the leading types but Customs that equals an earlier one, or their count; and whether a Custom below it has the digest of an earlier type.
-struct ByDigest {
-    lowest: usize,
-    suspect: bool,
-}
-
-// Where no Custom has the digest of an earlier type, none has the name of an earlier Custom.
-fn first_by_digest(
-    tree: &[u8],
-    text: &[u8],
-    types: usize,
-    scratch: &mut [u8],
-    stride: usize,
-) -> ByDigest
+// Digests tell that no type equals an earlier one.
+fn are_apart(tree: &[u8], text: &[u8], types: usize, scratch: &mut [u8], stride: usize) -> bool
     requires { ⌜ Leading (now tree) types × ChainRoom types (now scratch) × Sampled (now text) stride (chainEach * types) (now scratch) ⌝ }
-    ensures { λ v. ⌜ FoundByDigest (now (tree .entry)) (now (text .entry)) types (v .lowest) (v .suspect) ⌝ }
-    ensures { λ _. ⌜ Sampled (now (text .entry)) stride (chainEach * types) (now (scratch .exit)) ⌝ }
+    ensures { λ v. ⌜ (v ≡ true → (k : ℕ) → k < types → not (typeIsNew (now (tree .entry)) (now (text .entry)) k) ≡ false) ⌝ }
     ensures { λ _. ⌜ length (now (scratch .exit)) ≡ length (now (scratch .entry)) ⌝ }
 {
     clear_heads(scratch, CHAIN_HEAD_BYTES * types);
-    let mut suspect = false;
     let mut r = 0;
     while r < types {
-        let again = is_like_earlier(tree, text, types, scratch, stride, r);
-        if again & (detail(tree, r) != FORM_CUSTOM) {
-            return ByDigest {
-                lowest: r,
-                suspect: suspect,
-            };
+        if may_be_again(tree, text, types, scratch, stride, r) {
+            return false;
         }
-        suspect = suspect | again;
         r += 1;
     }
-    ByDigest {
-        lowest: types,
-        suspect: suspect,
-    }
+    true
 }
 
-// An earlier Custom has the name of Custom r. Where none has, r is put into the chain of its bucket b.
-fn enter_name(
-    tree: &[u8],
-    text: &[u8],
-    types: usize,
-    scratch: &mut [u8],
-    r: usize,
-    b: usize,
-) -> bool
-    requires { ⌜ Leading (now tree) types × ChainRoom types (now scratch) × (r < types) × (isCustom (now tree) r ≡ true) ⌝ }
-    requires { ⌜ NamesPlaced (now tree) (now text) types r (now scratch) × (b < types) × (b ≡ namesBucket (now tree) (now text) types r) ⌝ }
-    ensures { λ v. ⌜ v ≡ not (typeIsNew (now (tree .entry)) (now (text .entry)) r) ⌝ }
-    ensures { λ _. ⌜ NameEntered (now (tree .entry)) (now (text .entry)) types r (now (scratch .entry)) (now (scratch .exit)) ⌝ }
+// The leading types become entries to sort, from byte 0 on.
+fn collect_types(scratch: &mut [u8], types: usize)
+    requires { ⌜ (types ≤ mostRecords) × (sortEntryBytes * types ≤ length (now scratch)) ⌝ }
+    ensures { λ _. ⌜ TypesListed types (now (scratch .exit)) × (length (now (scratch .exit)) ≡ length (now (scratch .entry))) ⌝ }
 {
-    let place = find_place(tree, text, scratch, types, r, CHAIN_HEAD_BYTES * b);
-    if place.number < r {
-        return true;
-    }
-    let at = place.at;
-    let next = load(scratch, at);
-    enter_at(scratch, types, r, place.shared, at, next);
-    false
-}
-
-// Type r, where it is a Custom, equals an earlier one. The text's samples stand behind the chains.
-fn name_again(
-    tree: &[u8],
-    text: &[u8],
-    types: usize,
-    scratch: &mut [u8],
-    stride: usize,
-    r: usize,
-) -> bool
-    requires { ⌜ Leading (now tree) types × ChainRoom types (now scratch) × (r < types) ⌝ }
-    requires { ⌜ NamesPassed (now tree) (now text) types stride r (now scratch) ⌝ }
-    ensures { λ v. ⌜ v ≡ nameAgain (now (tree .entry)) (now (text .entry)) r ⌝ }
-    ensures { λ _. ⌜ NamesPassed (now (tree .entry)) (now (text .entry)) types stride (r + 1) (now (scratch .exit)) ⌝ }
-    ensures { λ _. ⌜ length (now (scratch .exit)) ≡ length (now (scratch .entry)) ⌝ }
-{
-    if detail(tree, r) != FORM_CUSTOM {
-        return false;
-    }
-    let d = type_digest(tree, text, scratch, CHAIN_EACH * types, stride, r);
-    enter_name(tree, text, types, scratch, r, bucket(d, types))
-}
-
-// The lowest type below a bound that is a Custom and equals an earlier one, or the bound. Names are in an order of common beginnings: a digest says only in which chain,
-// so that names made to share theirs cost no more than a walk.
-fn first_name_again(
-    tree: &[u8],
-    text: &[u8],
-    types: usize,
-    scratch: &mut [u8],
-    stride: usize,
-    below: usize,
-) -> usize
-    requires { ⌜ Leading (now tree) types × ChainRoom types (now scratch) × (below ≤ types) ⌝ }
-    requires { ⌜ Sampled (now text) stride (chainEach * types) (now scratch) ⌝ }
-    ensures { λ v. ⌜ Lowest below (nameAgain (now (tree .entry)) (now (text .entry))) v ⌝ }
-    ensures { λ _. ⌜ length (now (scratch .exit)) ≡ length (now (scratch .entry)) ⌝ }
-{
-    clear_heads(scratch, CHAIN_HEAD_BYTES * types);
     let mut r = 0;
-    while r < below {
-        if name_again(tree, text, types, scratch, stride, r) {
-            return r;
-        }
+    while r < types {
+        put_pair(scratch, SORT_ENTRY_BYTES * r, r as u32, 0);
         r += 1;
     }
-    below
 }
 
-// The lowest of the leading types that equals an earlier one, or their count. Most trees are done by digests: names are compared only where a Custom has the digest
-// of an earlier type, and only below the first of the others that equals one.
+// The lowest of the leading types that equals an earlier one, or their count: those that do stand behind each other once they are sorted.
+fn first_by_sorting(tree: &[u8], text: &[u8], types: usize, scratch: &mut [u8]) -> usize
+    requires { ⌜ Passing (now tree) (records (now tree)) types (now scratch) ⌝ }
+    ensures { λ v. ⌜ Lowest types (λ k. not (typeIsNew (now (tree .entry)) (now (text .entry)) k)) v × (length (now (scratch .exit)) ≡ length (now (scratch .entry))) ⌝ }
+{
+    collect_types(scratch, types);
+    sort_records(tree, text, scratch, 0, SORT_ENTRY_BYTES * types, types);
+    first_repeated(tree, text, scratch, 0, types, types)
+}
+
+// The same: by digests, where they tell.
 pub(crate) fn first_equal(tree: &[u8], text: &[u8], types: usize, scratch: &mut [u8]) -> usize
     requires { ⌜ Passing (now tree) (records (now tree)) types (now scratch) ⌝ }
     ensures { λ v. ⌜ Lowest types (λ k. not (typeIsNew (now (tree .entry)) (now (text .entry)) k)) v × (length (now (scratch .exit)) ≡ length (now (scratch .entry))) ⌝ }
@@ -274,9 +212,8 @@ pub(crate) fn first_equal(tree: &[u8], text: &[u8], types: usize, scratch: &mut 
     let at = CHAIN_EACH * types;
     let stride = stride_of(tree, types, text.len(), scratch.len() - at);
     sample(text, scratch, at, stride);
-    let found = first_by_digest(tree, text, types, scratch, stride);
-    if !found.suspect {
-        return found.lowest;
+    if are_apart(tree, text, types, scratch, stride) {
+        return types;
     }
-    first_name_again(tree, text, types, scratch, stride, found.lowest)
+    first_by_sorting(tree, text, types, scratch)
 }

@@ -20,11 +20,11 @@ use Rattle.sorting.specs.Sorted.{ahead, Precedes, BehindOne, Chosen}
 
 -- ---- one byte more
 
-same-byte : (a b : ℕ) (t u : List ℕ) (p : Bool) → a ≡ b → ahead (a ∷ t) (b ∷ u) p ≡ ahead t u p
+pub same-byte : (a b : ℕ) (t u : List ℕ) (p : Bool) → a ≡ b → ahead (a ∷ t) (b ∷ u) p ≡ ahead t u p
 unfolding ahead pick
 same-byte a b t u p e = rw (eq-eqb a b e) refl
 
-other-byte : (a b : ℕ) (t u : List ℕ) (p : Bool) → (a ≡ b → ⊥) → ahead (a ∷ t) (b ∷ u) p ≡ ltb a b
+pub other-byte : (a b : ℕ) (t u : List ℕ) (p : Bool) → (a ≡ b → ⊥) → ahead (a ∷ t) (b ∷ u) p ≡ ltb a b
 unfolding ahead pick
 other-byte a b t u p n = rw (ne-eqb a b n) refl
 
@@ -183,7 +183,7 @@ ahead-byte (a ∷ t) (b ∷ u) p n m =
     let e : a ≡ b → ⊥ = eqb-false a b q in
     other-byte a b t u p e ∙ ap (λ (k : ℕ). ltb (getD (a ∷ t) k 0) (getD (b ∷ u) k 0)) (sym (none a b t u e)))
 
-text-byte : (text : List ℕ) (i n k : ℕ) → k < n → getD (textAt text i n) k 0 ≡ getD text (i + k) 0
+pub text-byte : (text : List ℕ) (i n k : ℕ) → k < n → getD (textAt text i n) k 0 ≡ getD text (i + k) 0
 unfolding textAt
 text-byte text i n k h = getD-take n (drop i text) k 0 h ∙ getD-drop i text k 0
 

@@ -1,19 +1,39 @@
--- Records sorted by their texts. They stand in entries of two words, from a byte of scratch on: a record, and beside it how many bytes its text shares with that of the
--- entry before. Assumes nothing: these are definitions.
+-- Records sorted by their keys, which are texts or the words of types. They stand in entries of two words, from a byte of scratch on: a record, and beside it how many
+-- numbers its key shares with that of the entry before. Assumes nothing: these are definitions.
 use mathlib.Core.Path.{_≡_}
 use mathlib.Core.Logic.{_⊎_}
 use Prim.Native.Nat.{ℕ, _+_, _*_, _≤_, _<_}
-use mathlib.Core.Bool.{Bool, true, false}
+use mathlib.Core.Bool.{Bool, true, false, not, _&&_}
 use mathlib.Core.List.{List, [], _∷_}
 use lib.Dec.{eqb, ltb}
 use lib.ListN.{length, getD}
 use Rattle.laws.specs.Fix.{pick}
-use Rattle.records.specs.Order.{common}
-use Rattle.records.specs.Words.{wordAt, secondWord}
+use Rattle.records.specs.Kinds.{kindType, formCustom}
+use Rattle.records.specs.Order.{common, recordText}
+use Rattle.records.specs.Words.{kindOf, detailOf, wordOf, textAt, wordAt, A, B, C, secondWord}
+
+-- ---- keys
+
+-- record r is a type that its form and its words tell apart from others: of types only a Custom has a text
+unfoldable pub hasWords : List ℕ → ℕ → Bool
+unfolding kindOf detailOf
+hasWords tree r = eqb (kindOf tree r) kindType && not (eqb (detailOf tree r) formCustom)
+
+abbrev pub threeWords : List ℕ → ℕ → List ℕ
+threeWords tree r = wordOf tree r A ∷ wordOf tree r B ∷ wordOf tree r C ∷ []
+
+-- its form comes first, as a number that no byte is, so that no text begins like it
+abbrev pub wordKey : List ℕ → ℕ → List ℕ
+wordKey tree r = (256 + detailOf tree r) ∷ threeWords tree r
+
+-- by which record r is sorted: its form and words, or else its text
+unfoldable pub recordKey : List ℕ → List ℕ → ℕ → List ℕ
+unfolding pick hasWords detailOf wordOf textAt
+recordKey tree text r = pick (hasWords tree r) (wordKey tree r) (recordText tree text r)
 
 -- ---- the order
 
--- text t comes ahead of text u, byte by byte, and a beginning ahead of what goes on; of texts that are the same, `same` says it
+-- list t comes ahead of list u, number by number, and a beginning ahead of what goes on; of lists that are the same, `same` says it
 unfoldable pub ahead : List ℕ → List ℕ → Bool → Bool
 unfolding pick
 ahead [] [] same = same
@@ -21,7 +41,8 @@ ahead [] (b ∷ u) same = true
 ahead (a ∷ t) [] same = false
 ahead (a ∷ t) (b ∷ u) same = pick (eqb a b) (ahead t u same) (ltb a b)
 
--- number a goes before number b: by their texts, and the lower first where these are the same. t is the text of each number
+-- number a goes before number b: by their texts, and the lower first where these are the same. t is the text of each number, or its key: texts are what they are
+-- called below
 abbrev pub Precedes : (ℕ → List ℕ) → ℕ → ℕ → Type 0
 Precedes t a b = ahead (t a) (t b) (ltb a b) ≡ true
 

@@ -6,14 +6,19 @@ ghost use Prim.Native.Nat.{ℕ, _+_, _*_, _≤_, _<_, min};
 ghost use lib.ListN.{length};
 ghost use Rattle.records.specs.Words.{textAt, sameText, records};
 ghost use Rattle.records.specs.Order.{common as commonOf, recordText};
-ghost use Rattle.sorting.specs.Sorted.{ahead, sortEntryBytes, recordIn, sharedIn, BehindOne, Chosen, HeadChosen, TwoRuns, Merging, Arranged, OnlyThere, OnlyBoth, TwoPlaces, RecordsRise, Sortable, SortedRecords, RepeatedBehind, FirstRepeated, FirstUpTo, NumbersApart, NumberedUpTo};
+ghost use Rattle.sorting.specs.Sorted.{hasWords, threeWords, wordKey, recordKey, ahead, sortEntryBytes, recordIn, sharedIn, BehindOne, Chosen, HeadChosen, TwoRuns, Merging, Arranged, OnlyThere, OnlyBoth, TwoPlaces, RecordsRise, Sortable, SortedRecords, RepeatedBehind, FirstRepeated, FirstUpTo, NumbersApart, NumberedUpTo};
+use records::numbers::FORM_CUSTOM;
+use records::numbers::KIND_TYPE;
 use records::order::common;
 use records::order::least;
 use records::texts::reach;
 use records::words::SECOND_WORD;
 use records::words::WORD_A;
 use records::words::WORD_B;
+use records::words::WORD_C;
+use records::words::detail;
 use records::words::index;
+use records::words::kind;
 use records::words::load;
 use records::words::put_pair;
 use records::words::put_word;
@@ -57,7 +62,7 @@ struct Choice {
 }
 
 // The texts of records a and b compared, of which the first `from` bytes agree.
-fn compare(tree: &[u8], text: &[u8], a: usize, b: usize, from: usize) -> Choice
+fn compare_texts(tree: &[u8], text: &[u8], a: usize, b: usize, from: usize) -> Choice
     requires { ⌜ (a < records (now tree)) × (b < records (now tree)) ⌝ }
     requires { ⌜ from ≤ commonOf (recordText (now tree) (now text) a) (recordText (now tree) (now text) b) ⌝ }
     ensures { λ v. ⌜ Chosen (recordText (now (tree .entry)) (now (text .entry)) a) (recordText (now (tree .entry)) (now (text .entry)) b) (v .left) (v .shared) ⌝ }
@@ -73,6 +78,89 @@ fn compare(tree: &[u8], text: &[u8], a: usize, b: usize, from: usize) -> Choice
     }
 }
 
+// Words A, B and C of records a and b compared.
+fn compare_words(tree: &[u8], a: usize, b: usize) -> Choice
+    requires { ⌜ (a < records (now tree)) × (b < records (now tree)) ⌝ }
+    ensures { λ v. ⌜ Chosen (threeWords (now (tree .entry)) a) (threeWords (now (tree .entry)) b) (v .left) (v .shared) ⌝ }
+{
+    let i = word(tree, a, WORD_A);
+    let j = word(tree, b, WORD_A);
+    if i != j {
+        return Choice {
+            left: i < j,
+            shared: 0,
+        };
+    }
+    let k = word(tree, a, WORD_B);
+    let l = word(tree, b, WORD_B);
+    if k != l {
+        return Choice {
+            left: k < l,
+            shared: 1,
+        };
+    }
+    let x = word(tree, a, WORD_C);
+    let y = word(tree, b, WORD_C);
+    if x != y {
+        return Choice {
+            left: x < y,
+            shared: 2,
+        };
+    }
+    Choice {
+        left: true,
+        shared: 3,
+    }
+}
+
+// Types a and b compared, which are told apart by their forms and words.
+fn compare_types(tree: &[u8], a: usize, b: usize) -> Choice
+    requires { ⌜ (a < records (now tree)) × (b < records (now tree)) ⌝ }
+    ensures { λ v. ⌜ Chosen (wordKey (now (tree .entry)) a) (wordKey (now (tree .entry)) b) (v .left) (v .shared) ⌝ }
+{
+    let i = detail(tree, a);
+    let j = detail(tree, b);
+    if i != j {
+        return Choice {
+            left: i < j,
+            shared: 0,
+        };
+    }
+    let words = compare_words(tree, a, b);
+    Choice {
+        left: words.left,
+        shared: words.shared + 1,
+    }
+}
+
+// Record r is a type that is told apart by its form and words: of types only a Custom has a text.
+fn has_words(tree: &[u8], r: usize) -> bool
+    requires { ⌜ r < records (now tree) ⌝ }
+    ensures { λ v. ⌜ v ≡ hasWords (now (tree .entry)) r ⌝ }
+{
+    (kind(tree, r) == KIND_TYPE) & (detail(tree, r) != FORM_CUSTOM)
+}
+
+// Records a and b compared, whose keys agree in the first `from` numbers. A text comes before the words of a type, and agrees in nothing with them.
+fn compare(tree: &[u8], text: &[u8], a: usize, b: usize, from: usize) -> Choice
+    requires { ⌜ (a < records (now tree)) × (b < records (now tree)) ⌝ }
+    requires { ⌜ from ≤ commonOf (recordKey (now tree) (now text) a) (recordKey (now tree) (now text) b) ⌝ }
+    ensures { λ v. ⌜ Chosen (recordKey (now (tree .entry)) (now (text .entry)) a) (recordKey (now (tree .entry)) (now (text .entry)) b) (v .left) (v .shared) ⌝ }
+{
+    let i = has_words(tree, a);
+    let j = has_words(tree, b);
+    if i & j {
+        return compare_types(tree, a, b);
+    }
+    if i | j {
+        return Choice {
+            left: j,
+            shared: 0,
+        };
+    }
+    compare_texts(tree, text, a, b, from)
+}
+
 // Both stand behind one text, with which they agree in so many bytes: the one that agrees further is next, and only where they agree just as far are they
 // compared, from there on.
 fn choose(
@@ -84,8 +172,8 @@ fn choose(
     right_shared: u32,
 ) -> Choice
     requires { ⌜ (a < records (now tree)) × (b < records (now tree)) ⌝ }
-    requires { ⌜ BehindOne (recordText (now tree) (now text) a) (recordText (now tree) (now text) b) «left_shared» «right_shared» ⌝ }
-    ensures { λ v. ⌜ Chosen (recordText (now (tree .entry)) (now (text .entry)) a) (recordText (now (tree .entry)) (now (text .entry)) b) (v .left) (v .shared) ⌝ }
+    requires { ⌜ BehindOne (recordKey (now tree) (now text) a) (recordKey (now tree) (now text) b) «left_shared» «right_shared» ⌝ }
+    ensures { λ v. ⌜ Chosen (recordKey (now (tree .entry)) (now (text .entry)) a) (recordKey (now (tree .entry)) (now (text .entry)) b) (v .left) (v .shared) ⌝ }
 {
     if right_shared < left_shared {
         return Choice {
@@ -128,8 +216,8 @@ fn choose_head(
     k: usize,
     heads: Heads,
 ) -> Choice
-    requires { ⌜ Merging (recordText (now tree) (now text)) (records (now tree)) (runs .at) (runs .to) (runs .lo) (runs .mid) (runs .hi) k (heads .left) (heads .right) (heads .«left_shared») (heads .«right_shared») (now scratch) × (k < runs .hi) ⌝ }
-    ensures { λ v. ⌜ HeadChosen (recordText (now (tree .entry)) (now (text .entry))) (now (scratch .entry)) (runs .at) (runs .mid) (runs .hi) (heads .left) (heads .right) (v .left) (v .shared) ⌝ }
+    requires { ⌜ Merging (recordKey (now tree) (now text)) (records (now tree)) (runs .at) (runs .to) (runs .lo) (runs .mid) (runs .hi) k (heads .left) (heads .right) (heads .«left_shared») (heads .«right_shared») (now scratch) × (k < runs .hi) ⌝ }
+    ensures { λ v. ⌜ HeadChosen (recordKey (now (tree .entry)) (now (text .entry))) (now (scratch .entry)) (runs .at) (runs .mid) (runs .hi) (heads .left) (heads .right) (v .left) (v .shared) ⌝ }
 {
     let at = runs.at;
     let left = heads.left;
@@ -176,8 +264,8 @@ fn put_next(
     k: usize,
     heads: Heads,
 ) -> Heads
-    requires { ⌜ Merging (recordText (now tree) (now text)) (records (now tree)) (runs .at) (runs .to) (runs .lo) (runs .mid) (runs .hi) k (heads .left) (heads .right) (heads .«left_shared») (heads .«right_shared») (now scratch) × (k < runs .hi) ⌝ }
-    ensures { λ v. ⌜ Merging (recordText (now (tree .entry)) (now (text .entry))) (records (now (tree .entry))) (runs .at) (runs .to) (runs .lo) (runs .mid) (runs .hi) (k + 1) (v .left) (v .right) (v .«left_shared») (v .«right_shared») (now (scratch .exit)) ⌝ }
+    requires { ⌜ Merging (recordKey (now tree) (now text)) (records (now tree)) (runs .at) (runs .to) (runs .lo) (runs .mid) (runs .hi) k (heads .left) (heads .right) (heads .«left_shared») (heads .«right_shared») (now scratch) × (k < runs .hi) ⌝ }
+    ensures { λ v. ⌜ Merging (recordKey (now (tree .entry)) (now (text .entry))) (records (now (tree .entry))) (runs .at) (runs .to) (runs .lo) (runs .mid) (runs .hi) (k + 1) (v .left) (v .right) (v .«left_shared») (v .«right_shared») (now (scratch .exit)) ⌝ }
     ensures { λ _. ⌜ OnlyThere (runs .to) (runs .lo) (runs .hi) (now (scratch .entry)) (now (scratch .exit)) ⌝ }
 {
     let at = runs.at;
@@ -211,8 +299,8 @@ fn put_next(
 
 // The two runs are merged.
 fn merge(tree: &[u8], text: &[u8], scratch: &mut [u8], runs: Runs)
-    requires { ⌜ TwoRuns (recordText (now tree) (now text)) (records (now tree)) (runs .at) (runs .to) (runs .lo) (runs .mid) (runs .hi) (now scratch) ⌝ }
-    ensures { λ _. ⌜ Arranged (recordText (now (tree .entry)) (now (text .entry))) (now (scratch .entry)) (runs .at) (now (scratch .exit)) (runs .to) (runs .lo) (runs .hi) ⌝ }
+    requires { ⌜ TwoRuns (recordKey (now tree) (now text)) (records (now tree)) (runs .at) (runs .to) (runs .lo) (runs .mid) (runs .hi) (now scratch) ⌝ }
+    ensures { λ _. ⌜ Arranged (recordKey (now (tree .entry)) (now (text .entry))) (now (scratch .entry)) (runs .at) (now (scratch .exit)) (runs .to) (runs .lo) (runs .hi) ⌝ }
     ensures { λ _. ⌜ OnlyThere (runs .to) (runs .lo) (runs .hi) (now (scratch .entry)) (now (scratch .exit)) ⌝ }
 {
     let mut heads = Heads {
@@ -239,7 +327,7 @@ fn sort_range(
     hi: usize,
 )
     requires { ⌜ Sortable (records (now tree)) at to lo hi (now scratch) ⌝ }
-    ensures { λ _. ⌜ Arranged (recordText (now (tree .entry)) (now (text .entry))) (now (scratch .entry)) at (now (scratch .exit)) to lo hi ⌝ }
+    ensures { λ _. ⌜ Arranged (recordKey (now (tree .entry)) (now (text .entry))) (now (scratch .entry)) at (now (scratch .exit)) to lo hi ⌝ }
     ensures { λ _. ⌜ OnlyBoth at to lo hi (now (scratch .entry)) (now (scratch .exit)) ⌝ }
 {
     if hi - lo < 2 {
@@ -272,9 +360,9 @@ fn copy_records(scratch: &mut [u8], at: usize, to: usize, m: usize)
 }
 
 // The m records from `at` on, which rise, are sorted by their texts; as many entries from `to` on are room to work in.
-pub fn sort_texts(tree: &[u8], text: &[u8], scratch: &mut [u8], at: usize, to: usize, m: usize)
+pub fn sort_records(tree: &[u8], text: &[u8], scratch: &mut [u8], at: usize, to: usize, m: usize)
     requires { ⌜ TwoPlaces at to 0 m (now scratch) × RecordsRise (records (now tree)) at 0 m (now scratch) ⌝ }
-    ensures { λ _. ⌜ Arranged (recordText (now (tree .entry)) (now (text .entry))) (now (scratch .entry)) at (now (scratch .exit)) at 0 m ⌝ }
+    ensures { λ _. ⌜ Arranged (recordKey (now (tree .entry)) (now (text .entry))) (now (scratch .entry)) at (now (scratch .exit)) at 0 m ⌝ }
     ensures { λ _. ⌜ OnlyBoth at to 0 m (now (scratch .entry)) (now (scratch .exit)) ⌝ }
 {
     copy_records(scratch, at, to, m);
@@ -293,15 +381,29 @@ fn text_long(tree: &[u8], text: &[u8], r: usize) -> usize
     )
 }
 
+// A type's form and three words.
+const WORD_KEY: usize = 4;
+
+// How long the key of record r is.
+fn key_long(tree: &[u8], text: &[u8], r: usize) -> usize
+    requires { ⌜ r < records (now tree) ⌝ }
+    ensures { λ v. ⌜ v ≡ length (recordKey (now (tree .entry)) (now (text .entry)) r) ⌝ }
+{
+    if has_words(tree, r) {
+        return WORD_KEY;
+    }
+    text_long(tree, text, r)
+}
+
 // Entry i and the one behind it have the same text: they agree to the end of both.
 fn same_as_next(tree: &[u8], text: &[u8], scratch: &[u8], at: usize, m: usize, i: usize) -> bool
-    requires { ⌜ SortedRecords (recordText (now tree) (now text)) (records (now tree)) at m (now scratch) × (i + 1 < m) ⌝ }
-    ensures { λ v. ⌜ v ≡ sameText (recordText (now (tree .entry)) (now (text .entry)) (recordIn (now (scratch .entry)) at i)) (recordText (now (tree .entry)) (now (text .entry)) (recordIn (now (scratch .entry)) at (i + 1))) ⌝ }
+    requires { ⌜ SortedRecords (recordKey (now tree) (now text)) (records (now tree)) at m (now scratch) × (i + 1 < m) ⌝ }
+    ensures { λ v. ⌜ v ≡ sameText (recordKey (now (tree .entry)) (now (text .entry)) (recordIn (now (scratch .entry)) at i)) (recordKey (now (tree .entry)) (now (text .entry)) (recordIn (now (scratch .entry)) at (i + 1))) ⌝ }
 {
     let next = i + 1;
     let shared = index(load(scratch, at + SORT_ENTRY_BYTES * next + SECOND_WORD));
-    let x = text_long(tree, text, index(load(scratch, at + SORT_ENTRY_BYTES * i)));
-    let y = text_long(
+    let x = key_long(tree, text, index(load(scratch, at + SORT_ENTRY_BYTES * i)));
+    let y = key_long(
         tree,
         text,
         index(load(scratch, at + SORT_ENTRY_BYTES * next)),
@@ -319,8 +421,8 @@ fn repeated_behind(
     i: usize,
     bound: usize,
 ) -> usize
-    requires { ⌜ SortedRecords (recordText (now tree) (now text)) (records (now tree)) at m (now scratch) × (i + 1 < m) ⌝ }
-    ensures { λ v. ⌜ RepeatedBehind (recordText (now (tree .entry)) (now (text .entry))) (now (scratch .entry)) at i bound v ⌝ }
+    requires { ⌜ SortedRecords (recordKey (now tree) (now text)) (records (now tree)) at m (now scratch) × (i + 1 < m) ⌝ }
+    ensures { λ v. ⌜ RepeatedBehind (recordKey (now (tree .entry)) (now (text .entry))) (now (scratch .entry)) at i bound v ⌝ }
 {
     if same_as_next(tree, text, scratch, at, m, i) {
         return index(load(scratch, at + SORT_ENTRY_BYTES * (i + 1)));
@@ -337,8 +439,8 @@ pub fn first_repeated(
     m: usize,
     bound: usize,
 ) -> usize
-    requires { ⌜ SortedRecords (recordText (now tree) (now text)) (records (now tree)) at m (now scratch) ⌝ }
-    ensures { λ v. ⌜ FirstRepeated (recordText (now (tree .entry)) (now (text .entry))) (now (scratch .entry)) at m bound v ⌝ }
+    requires { ⌜ SortedRecords (recordKey (now tree) (now text)) (records (now tree)) at m (now scratch) ⌝ }
+    ensures { λ v. ⌜ FirstRepeated (recordKey (now (tree .entry)) (now (text .entry))) (now (scratch .entry)) at m bound v ⌝ }
 {
     let mut lowest = bound;
     let mut i = 1;
@@ -363,9 +465,9 @@ fn first_up_to(
     i: usize,
     first: u32,
 ) -> u32
-    requires { ⌜ SortedRecords (recordText (now tree) (now text)) (records (now tree)) at m (now scratch) × (i < m) ⌝ }
-    requires { ⌜ ((q : ℕ) → q + 1 ≡ i → FirstUpTo (recordText (now tree) (now text)) (now scratch) at q first) ⌝ }
-    ensures { λ v. ⌜ FirstUpTo (recordText (now (tree .entry)) (now (text .entry))) (now (scratch .entry)) at i v ⌝ }
+    requires { ⌜ SortedRecords (recordKey (now tree) (now text)) (records (now tree)) at m (now scratch) × (i < m) ⌝ }
+    requires { ⌜ ((q : ℕ) → q + 1 ≡ i → FirstUpTo (recordKey (now tree) (now text)) (now scratch) at q first) ⌝ }
+    ensures { λ v. ⌜ FirstUpTo (recordKey (now (tree .entry)) (now (text .entry))) (now (scratch .entry)) at i v ⌝ }
 {
     let r = load(scratch, at + SORT_ENTRY_BYTES * i);
     if i == 0 {
@@ -380,8 +482,8 @@ fn first_up_to(
 
 // Each of m sorted records gets its number, the first record with its text: a word for each record, from `to` on.
 pub fn number_sorted(tree: &[u8], text: &[u8], scratch: &mut [u8], at: usize, m: usize, to: usize)
-    requires { ⌜ SortedRecords (recordText (now tree) (now text)) (records (now tree)) at m (now scratch) × NumbersApart (records (now tree)) at m to (now scratch) ⌝ }
-    ensures { λ _. ⌜ NumberedUpTo (recordText (now (tree .entry)) (now (text .entry))) (records (now (tree .entry))) at m to m (now (scratch .entry)) (now (scratch .exit)) ⌝ }
+    requires { ⌜ SortedRecords (recordKey (now tree) (now text)) (records (now tree)) at m (now scratch) × NumbersApart (records (now tree)) at m to (now scratch) ⌝ }
+    ensures { λ _. ⌜ NumberedUpTo (recordKey (now (tree .entry)) (now (text .entry))) (records (now (tree .entry))) at m to m (now (scratch .entry)) (now (scratch .exit)) ⌝ }
 {
     let mut first: u32 = 0;
     let mut i = 0;

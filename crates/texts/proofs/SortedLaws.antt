@@ -19,10 +19,11 @@ use Rattle.records.specs.Digest.{rollOf}
 use Rattle.records.specs.Words.{byteAt, wordAt, bytesOf, word, records}
 use Rattle.records.proofs.Apart.{byte-apart, word-apart, word-there, word-back, word-same}
 use Rattle.records.proofs.DigestLaws.{same-equal}
-use Rattle.sorting.specs.Sorted.{recordIn, HasEntry, Arranged, OnlyThere, OnlyBoth, TwoPlaces, RecordsRise, SortedRecords, NumbersApart, FirstOfText, NumberedUpTo}
+use Rattle.sorting.specs.Sorted.{recordKey, recordIn, HasEntry, Arranged, OnlyThere, OnlyBoth, TwoPlaces, RecordsRise, SortedRecords, NumbersApart, FirstOfText, NumberedUpTo}
+use Rattle.sorting.proofs.KeyLaws.{words-not, key-text}
 use Rattle.sorting.proofs.MergeLaws.{entries-kept, put-there, put-record, only-wider}
 use Rattle.sorting.proofs.ArrangedLaws.{sorted-records, numbers-before}
-use Rattle.texts.specs.Texts.{hasOwn, ownText, sameOwn, numberOr, original, originalAt, textDigestAt, Numbered, Kept}
+use Rattle.texts.specs.Texts.{hasText, hasOwn, ownText, sameOwn, numberOr, original, originalAt, textDigestAt, Numbered, Kept}
 use Rattle.texts.specs.Pass.{Read, OnlySamples, Rolled, Collected}
 use Rattle.texts.proofs.PassLaws.{behind-word, kept-sampled, kept-on, read-stays}
 use Rattle.texts.proofs.TextLaws.{same-own}
@@ -165,10 +166,15 @@ module _ (tree : List ℕ) where
 
 -- ---- the numbers
 
+-- a record that has a text is no type, and is sorted by it
+own-key : (tree text : List ℕ) (k : ℕ) → hasOwn tree k ≡ true → recordKey tree text k ≡ ownText tree text k
+unfolding hasText
+own-key tree text k h = key-text tree text k (words-not tree k (λ e. false≢true (sym (ap hasText e) ∙ h)))
+
 module _ (tree text : List ℕ) (m : ℕ) (s : List ℕ) (c : Collected tree (records tree) m s) where
-  number-first : (r v : ℕ) → FirstOfText (ownText tree text) s 0 m r v → original tree text r ≡ v
+  number-first : (r v : ℕ) → hasOwn tree r ≡ true → FirstOfText (recordKey tree text) s 0 m r v → original tree text r ≡ v
   unfolding original numberOr sameOwn
-  number-first r v f =
+  number-first r v own f =
       let u : HasEntry s 0 0 m v = f .stands in
       let has : hasOwn tree v ≡ true = ap (hasOwn tree) (sym (u .there)) ∙ c .own (u .place) (u .high) in
       ap (λ (o : Option ℕ). numberOr o r)
@@ -177,20 +183,22 @@ module _ (tree text : List ℕ) (m : ℕ) (s : List ℕ) (c : Collected tree (re
       tested (sameOwn tree text r k)
       (λ y.
       let w : HasEntry s 0 0 m k = c .all k (omega (arith, u .there, c .rises .inside (u .place) (u .low) (u .high))) (and-left (hasOwn tree k) _ y) in
-      absurd (omega (arith, w .there, f .least (w .place) (w .high) (ap (ownText tree text) (w .there) ∙ same-equal _ _ (and-right (hasOwn tree k) _ y)))))
+      let same : recordKey tree text k ≡ recordKey tree text r =
+      own-key tree text k (and-left (hasOwn tree k) _ y) ∙ same-equal _ _ (and-right (hasOwn tree k) _ y) ∙ sym (own-key tree text r own) in
+      absurd (omega (arith, w .there, f .least (w .place) (w .high) (ap (recordKey tree text) (w .there) ∙ same))))
       (λ n. n))
-      (same-own tree text r v has (f .same)))
+      (same-own tree text r v has (sym (own-key tree text v has) ∙ f .same ∙ own-key tree text r own)))
 
   -- s₁ is the scratch before the entries were written, s₃ once they are sorted, s₄ once the numbers are written
   module _ (s₁ : List ℕ) (room : 72 * records tree ≤ length s₁) (o : OnlyThere 0 0 (records tree) s₁ s) where
-    module _ (s₃ : List ℕ) (a : Arranged (ownText tree text) s 0 s₃ 0 0 m) (b : OnlyBoth 0 (8 * records tree) 0 m s s₃) where
-      pub collected-sorted : SortedRecords (ownText tree text) (records tree) 0 m s₃
-      collected-sorted = sorted-records (ownText tree text) 0 m s s₃ a (records tree) (8 * records tree) (collected-places tree m s s₁ c room o) (c .rises) b
+    module _ (s₃ : List ℕ) (a : Arranged (recordKey tree text) s 0 s₃ 0 0 m) (b : OnlyBoth 0 (8 * records tree) 0 m s s₃) where
+      pub collected-sorted : SortedRecords (recordKey tree text) (records tree) 0 m s₃
+      collected-sorted = sorted-records (recordKey tree text) 0 m s s₃ a (records tree) (8 * records tree) (collected-places tree m s s₁ c room o) (c .rises) b
 
       pub collected-apart : NumbersApart (records tree) 0 m (40 * records tree) s₃
       collected-apart = record { room = omega (arith, o .long, b .long); apart = inl (omega (arith, c .few)) }
 
-      module _ (s₄ : List ℕ) (n : NumberedUpTo (ownText tree text) (records tree) 0 m (40 * records tree) m s₃ s₄) where
+      module _ (s₄ : List ℕ) (n : NumberedUpTo (recordKey tree text) (records tree) 0 m (40 * records tree) m s₃ s₄) where
         behind : (p : ℕ) → 44 * records tree ≤ p → getD s₄ p 0 ≡ getD s₁ p 0
         behind p h =
             n .bytes p (inr (omega arith)) ∙ b .bytes p (inr (omega (arith, c .few))) (inr (omega (arith, c .few))) ∙ o .bytes p (inr (omega arith))
@@ -206,9 +214,9 @@ module _ (tree text : List ℕ) (m : ℕ) (s : List ℕ) (c : Collected tree (re
               number = λ r h t.
                   let u : HasEntry s 0 0 m r = c .all r h t in
                   sym
-                  (number-first r (wordAt s₄ (originalAt (records tree) r))
-                  (subst (λ (x : ℕ). FirstOfText (ownText tree text) s 0 m x (wordAt s₄ (originalAt (records tree) x))) (u .there)
-                  (numbers-before (ownText tree text) 0 m s s₃ a (records tree) (40 * records tree) s₄ n (u .place) (u .high))));
+                  (number-first r (wordAt s₄ (originalAt (records tree) r)) t
+                  (subst (λ (x : ℕ). FirstOfText (recordKey tree text) s 0 m x (wordAt s₄ (originalAt (records tree) x))) (u .there)
+                  (numbers-before (recordKey tree text) 0 m s s₃ a (records tree) (40 * records tree) s₄ n (u .place) (u .high))));
               digest = λ r h t.
                   word-same s₄ (textDigestAt (records tree) r) s₁ (textDigestAt (records tree) r) (behind (textDigestAt (records tree) r) (omega arith))
                   (behind (textDigestAt (records tree) r + 1) (omega arith))

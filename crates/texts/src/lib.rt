@@ -43,7 +43,7 @@ use records::words::put_word;
 use records::words::word;
 use sorting::sorted::SORT_ENTRY_BYTES;
 use sorting::sorted::number_sorted;
-use sorting::sorted::sort_texts;
+use sorting::sorted::sort_records;
 
 // Whether words A and B of a record of this kind are a text.
 fn has_text(k: u8) -> bool
@@ -253,7 +253,7 @@ fn number_by_sorting(tree: &[u8], text: &[u8], r: usize, k: Reading, scratch: &m
     let n = tree.len() / RECORD_BYTES;
     roll_texts(tree, text, r, k, scratch);
     let m = collect_texts(tree, scratch);
-    sort_texts(tree, text, scratch, 0, SORT_ENTRY_BYTES * n, m);
+    sort_records(tree, text, scratch, 0, SORT_ENTRY_BYTES * n, m);
     number_sorted(tree, text, scratch, 0, m, ORIGINALS * n);
 }
 

@@ -2,7 +2,7 @@
 -- By the laws of two heads, over what the words and the choice ensure. Assumes nothing.
 use mathlib.Core.Path.{_∙_}
 use borrow.Author.Needs.{needs}
-use Rattle.records.specs.Order.{recordText}
+use Rattle.sorting.specs.Sorted.{recordKey}
 use Rattle.sorting.proofs.MergeLaws.{heads-asked, heads-told, left-ended, right-ended}
 use Rattle.sorting.proofs.sorted.choose_head.Statement.{statement}
 use Rattle.sorting.proofs.sorted.choose_head.Tie as tie
@@ -43,10 +43,10 @@ index-requires-2 : tie.Need-index-requires-2
 index-requires-2 c κs = search needs
 
 choose-requires : tie.Need-choose-requires
-choose-requires c κs = heads-asked (recordText _ _) _ _ _ _ _ _ _ _ _ _ _ _ (c .before .before .before .before .before .before .before .before .before .before .before .pre .0) _ _ (c .before .before .index .ensures ∙ c .before .before .before .load .ensures) (c .index2 .ensures ∙ c .before .load2 .ensures) (c .before .before .before .before .before .before .if1 .left) (c .before .before .before .before .if2 .left)
+choose-requires c κs = heads-asked (recordKey _ _) _ _ _ _ _ _ _ _ _ _ _ _ (c .before .before .before .before .before .before .before .before .before .before .before .pre .0) _ _ (c .before .before .index .ensures ∙ c .before .before .before .load .ensures) (c .index2 .ensures ∙ c .before .load2 .ensures) (c .before .before .before .before .before .before .if1 .left) (c .before .before .before .before .if2 .left)
 
 returns-3 : tie.Need-returns-3
-returns-3 c = heads-told (recordText _ _) _ _ _ _ _ _ _ _ _ _ _ _ (c .before .before .before .before .before .before .before .before .before .before .before .before .pre .0) _ _ (c .before .before .before .index .ensures ∙ c .before .before .before .before .load .ensures) (c .before .index2 .ensures ∙ c .before .before .load2 .ensures) (c .before .before .before .before .before .before .before .if1 .left) (c .before .before .before .before .before .if2 .left) _ _ (c .choose .ensures)
+returns-3 c = heads-told (recordKey _ _) _ _ _ _ _ _ _ _ _ _ _ _ (c .before .before .before .before .before .before .before .before .before .before .before .before .pre .0) _ _ (c .before .before .before .index .ensures ∙ c .before .before .before .before .load .ensures) (c .before .index2 .ensures ∙ c .before .before .load2 .ensures) (c .before .before .before .before .before .before .before .if1 .left) (c .before .before .before .before .before .if2 .left) _ _ (c .choose .ensures)
 
 pub choose-head-spec : {M : Type 1} → statement M
 choose-head-spec =

@@ -3,7 +3,7 @@
 use Prim.Native.Nat.{_-_, _≤_}
 use native.Mathlib.Omega.{arith}
 use borrow.Author.Needs.{needs}
-use Rattle.records.specs.Order.{recordText}
+use Rattle.sorting.specs.Sorted.{recordKey}
 use Rattle.sorting.proofs.GroupLaws.{Looked, looked-none, looked-more, looked-all}
 use Rattle.sorting.proofs.sorted.first_repeated.Statement.{statement}
 use Rattle.sorting.proofs.sorted.first_repeated.Tie as tie
@@ -13,7 +13,7 @@ use Rattle.records.proofs.order.least.Reads as least-reads
 use Rattle.sorting.proofs.sorted.repeated_behind.Reads as repeated-behind-reads
 
 abbrev Inv-loop : tie.InvT-loop
-Inv-loop tree text scratch at m bound lowest₀ i₀ lowest i = (1 ≤ i) × Looked (recordText tree text) scratch at m bound i lowest
+Inv-loop tree text scratch at m bound lowest₀ i₀ lowest i = (1 ≤ i) × Looked (recordKey tree text) scratch at m bound i lowest
 
 abbrev μ-loop : tie.MeasureT-loop
 μ-loop tree text scratch at m bound lowest₀ i₀ lowest i = m - i

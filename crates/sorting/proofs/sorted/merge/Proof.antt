@@ -4,8 +4,7 @@ use Prim.Native.Nat.{_≤_, _-_}
 use native.Mathlib.Omega.{arith}
 use borrow.Author.Needs.{needs}
 use Rattle.records.specs.Words.{records}
-use Rattle.records.specs.Order.{recordText}
-use Rattle.sorting.specs.Sorted.{Merging, OnlyThere}
+use Rattle.sorting.specs.Sorted.{recordKey, Merging, OnlyThere}
 use Rattle.sorting.proofs.MergeLaws.{merging-start, merging-end, only-none, only-on}
 use Rattle.sorting.proofs.sorted.merge.Statement.{statement}
 use Rattle.sorting.proofs.sorted.merge.Tie as tie
@@ -16,7 +15,7 @@ use Rattle.sorting.proofs.sorted.put_next.Reads as put-next-reads
 abbrev Inv-loop : tie.InvT-loop
 Inv-loop tree text scratch₀ runs heads₀ k₀ scratch heads k =
     (k ≤ runs .hi)
-    × Merging (recordText tree text) (records tree) (runs .at) (runs .to) (runs .lo) (runs .mid) (runs .hi) k (heads .left) (heads .right) (heads .«left_shared») (heads .«right_shared») scratch
+    × Merging (recordKey tree text) (records tree) (runs .at) (runs .to) (runs .lo) (runs .mid) (runs .hi) k (heads .left) (heads .right) (heads .«left_shared») (heads .«right_shared») scratch
     × OnlyThere (runs .to) (runs .lo) (runs .hi) scratch₀ scratch
 
 abbrev μ-loop : tie.MeasureT-loop

@@ -4,9 +4,8 @@ use mathlib.Core.Path.{_≡_, _∙_}
 use Prim.Native.Nat.{ℕ, _+_, _-_, _≤_}
 use native.Mathlib.Omega.{arith}
 use borrow.Author.Needs.{needs}
-use Rattle.records.specs.Order.{recordText}
 use Rattle.records.specs.Words.{records}
-use Rattle.sorting.specs.Sorted.{FirstUpTo, NumberedUpTo}
+use Rattle.sorting.specs.Sorted.{recordKey, FirstUpTo, NumberedUpTo}
 use Rattle.sorting.proofs.GroupLaws.{numbered-none, numbered-whole, sorted-still, up-to-now, up-to-then, number-fits, numbered-more}
 use Rattle.sorting.proofs.sorted.number_sorted.Statement.{statement}
 use Rattle.sorting.proofs.sorted.number_sorted.Tie as tie
@@ -20,8 +19,8 @@ use Rattle.sorting.proofs.sorted.first_up_to.Reads as first-up-to-reads
 abbrev Inv-loop : tie.InvT-loop
 Inv-loop tree text scratch₀ at m to first₀ i₀ scratch first i =
     (i ≤ m)
-    × ((q : ℕ) → q + 1 ≡ i → FirstUpTo (recordText tree text) scratch₀ at q first)
-    × NumberedUpTo (recordText tree text) (records tree) at m to i scratch₀ scratch
+    × ((q : ℕ) → q + 1 ≡ i → FirstUpTo (recordKey tree text) scratch₀ at q first)
+    × NumberedUpTo (recordKey tree text) (records tree) at m to i scratch₀ scratch
 
 abbrev μ-loop : tie.MeasureT-loop
 μ-loop tree text scratch₀ at m to first₀ i₀ scratch first i = m - i

@@ -4,7 +4,7 @@ use mathlib.Core.Path.{_∙_}
 use Prim.Native.Nat.{_+_}
 use native.Mathlib.Omega.{arith}
 use borrow.Author.Needs.{needs}
-use Rattle.records.specs.Order.{recordText}
+use Rattle.sorting.specs.Sorted.{recordKey}
 use Rattle.sorting.proofs.GroupLaws.{same-told}
 use Rattle.sorting.proofs.sorted.same_as_next.Statement.{statement}
 use Rattle.sorting.proofs.sorted.same_as_next.Tie as tie
@@ -12,7 +12,7 @@ use Rattle.sorting.proofs.sorted.same_as_next.Reads as reads
 use Rattle.sorting.proofs.sorted.same_as_next.Lts as lts
 use Rattle.records.proofs.words.index.Reads as index-reads
 use Rattle.records.proofs.words.load.Reads as load-reads
-use Rattle.sorting.proofs.sorted.text_long.Reads as text-long-reads
+use Rattle.sorting.proofs.sorted.key_long.Reads as key-long-reads
 
 add-next : tie.Need-add-next
 add-next c = search needs
@@ -44,8 +44,8 @@ load-requires-2 c κs = search needs
 index-requires-2 : tie.Need-index-requires-2
 index-requires-2 c κs = search needs
 
-text-long-requires : tie.Need-text-long-requires
-text-long-requires c κs = omega (arith, c .index2 .ensures, c .before .load2 .ensures, c .before .before .before .before .before .before .before .pre .0 .inside (c .before .before .before .before .before .before .before .args .i) (omega (arith, c .before .before .before .before .before .before .before .pre .1)))
+key-long-requires : tie.Need-key-long-requires
+key-long-requires c κs = omega (arith, c .index2 .ensures, c .before .load2 .ensures, c .before .before .before .before .before .before .before .pre .0 .inside (c .before .before .before .before .before .before .before .args .i) (omega (arith, c .before .before .before .before .before .before .before .pre .1)))
 
 mul-load-3 : tie.Need-mul-load-3
 mul-load-3 c = search needs
@@ -59,11 +59,11 @@ load-requires-3 c κs = search needs
 index-requires-3 : tie.Need-index-requires-3
 index-requires-3 c κs = search needs
 
-text-long-requires-2 : tie.Need-text-long-requires-2
-text-long-requires-2 c κs = omega (arith, c .index3 .ensures, c .before .load3 .ensures, c .before .before .before .before .before .before .before .before .before .before .pre .0 .inside (c .before .before .before .before .before .before .before .before .before .before .args .i + 1) (c .before .before .before .before .before .before .before .before .before .before .pre .1))
+key-long-requires-2 : tie.Need-key-long-requires-2
+key-long-requires-2 c κs = omega (arith, c .index3 .ensures, c .before .load3 .ensures, c .before .before .before .before .before .before .before .before .before .before .pre .0 .inside (c .before .before .before .before .before .before .before .before .before .before .args .i + 1) (c .before .before .before .before .before .before .before .before .before .before .pre .1))
 
 returns : tie.Need-returns
-returns c = same-told (recordText _ _) _ _ _ _ (c .before .before .before .before .before .before .before .before .before .before .before .pre .0) _ _ _ _ _ _ (c .before .before .before .before .before .before .before .before .before .before .before .pre .1) (c .before .before .before .before .before .before .index .ensures ∙ c .before .before .before .before .before .before .before .load .ensures) (c .before .before .before .before .index2 .ensures ∙ c .before .before .before .before .before .load2 .ensures) (c .before .index3 .ensures ∙ c .before .before .load3 .ensures) (c .before .before .before .text-long .ensures) (c .text-long2 .ensures)
+returns c = same-told (recordKey _ _) _ _ _ _ (c .before .before .before .before .before .before .before .before .before .before .before .pre .0) _ _ _ _ _ _ (c .before .before .before .before .before .before .before .before .before .before .before .pre .1) (c .before .before .before .before .before .before .index .ensures ∙ c .before .before .before .before .before .before .before .load .ensures) (c .before .before .before .before .index2 .ensures ∙ c .before .before .before .before .before .load2 .ensures) (c .before .index3 .ensures ∙ c .before .before .load3 .ensures) (c .before .before .before .key-long .ensures) (c .key-long2 .ensures)
 
 pub same-as-next-spec : {M : Type 1} → statement M
 same-as-next-spec =
@@ -79,10 +79,10 @@ same-as-next-spec =
     add-load-3
     load-requires-2
     index-requires-2
-    text-long-requires
+    key-long-requires
     mul-load-3
     add-load-4
     load-requires-3
     index-requires-3
-    text-long-requires-2
+    key-long-requires-2
     returns)

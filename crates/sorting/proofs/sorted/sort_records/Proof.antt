@@ -3,10 +3,10 @@
 use mathlib.Core.Path.{_∙_}
 use borrow.Author.Needs.{needs}
 use Rattle.sorting.proofs.SortLaws.{copied-sortable, copied-arranged, copied-only}
-use Rattle.sorting.proofs.sorted.sort_texts.Statement.{statement}
-use Rattle.sorting.proofs.sorted.sort_texts.Tie as tie
-use Rattle.sorting.proofs.sorted.sort_texts.Reads as reads
-use Rattle.sorting.proofs.sorted.sort_texts.Lts as lts
+use Rattle.sorting.proofs.sorted.sort_records.Statement.{statement}
+use Rattle.sorting.proofs.sorted.sort_records.Tie as tie
+use Rattle.sorting.proofs.sorted.sort_records.Reads as reads
+use Rattle.sorting.proofs.sorted.sort_records.Lts as lts
 use Rattle.sorting.proofs.sorted.copy_records.Reads as copy-records-reads
 use Rattle.sorting.proofs.sorted.sort_range.Reads as sort-range-reads
 
@@ -22,8 +22,8 @@ same-length c = c .before .before .sort-range .ensures .1 .long ∙ c .before .b
 returns : tie.Need-returns
 returns c = (copied-arranged _ _ _ _ (c .before .before .before .before .before .before .before .before .before .before .before .pre .0) _ _ (c .before .before .before .before .before .before .before .before .before .before .before .pre .1) (c .before .before .before .before .before .before .copy-records .ensures) _ _ (c .before .before .sort-range .ensures .0) (c .before .before .sort-range .ensures .1), copied-only _ _ _ _ (c .before .before .before .before .before .before .before .before .before .before .before .pre .0) _ _ (c .before .before .before .before .before .before .before .before .before .before .before .pre .1) (c .before .before .before .before .before .before .copy-records .ensures) _ _ (c .before .before .sort-range .ensures .0) (c .before .before .sort-range .ensures .1))
 
-pub sort-texts-spec : {M : Type 1} → statement M
-sort-texts-spec =
+pub sort-records-spec : {M : Type 1} → statement M
+sort-records-spec =
     tie.close
     (tie.spec
     copy-records-requires

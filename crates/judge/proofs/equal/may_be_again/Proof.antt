@@ -5,11 +5,11 @@ use native.Mathlib.Omega.{arith}
 use Rattle.records.proofs.ChainedLaws.{bucket-told, head-told, entered-long, entered-behind, chained-more}
 use Rattle.records.proofs.SampleLaws.{sampled-kept}
 use borrow.Author.Needs.{needs}
-use Rattle.judge.proofs.equal.is_like_earlier.Statement.{statement}
-use Rattle.judge.proofs.equal.is_like_earlier.Tie as tie
-use Rattle.judge.proofs.equal.is_like_earlier.Reads as reads
-use Rattle.judge.proofs.equal.is_like_earlier.Lts as lts
-use Rattle.judge.proofs.equal.has_alike.Reads as has-alike-reads
+use Rattle.judge.proofs.equal.may_be_again.Statement.{statement}
+use Rattle.judge.proofs.equal.may_be_again.Tie as tie
+use Rattle.judge.proofs.equal.may_be_again.Reads as reads
+use Rattle.judge.proofs.equal.may_be_again.Lts as lts
+use Rattle.judge.proofs.equal.may_have_alike.Reads as may-have-alike-reads
 use Rattle.judge.proofs.equal.type_digest.Reads as type-digest-reads
 use Rattle.records.proofs.chains.bucket.Reads as bucket-reads
 use Rattle.records.proofs.chains.enter.Reads as enter-reads
@@ -30,8 +30,8 @@ mul-load c = omega (arith, c .before .bucket .ensures .1, c .before .before .bef
 load-requires : tie.Need-load-requires
 load-requires c κs = omega (arith, c .before .bucket .ensures .1, c .before .before .before .before .before .before .before .pre .0 .1 .room)
 
-has-alike-requires : tie.Need-has-alike-requires
-has-alike-requires c κs =
+may-have-alike-requires : tie.Need-may-have-alike-requires
+may-have-alike-requires c κs =
     let chained = c .before .before .before .before .before .before .before .before .before .pre .1 .chained in
     let digest = c .before .before .before .before .type-digest .ensures in
     let at-bucket = c .before .before .before .bucket .ensures in
@@ -51,7 +51,7 @@ returns c =
     let at-bucket = c .before .before .before .before .before .before .before .before .bucket .ensures in
     let is-entered = c .before .before .enter .ensures in
     let long = entered-long _ _ _ _ _ _ room r-below (at-bucket .1) (search needs) (search needs) _ is-entered in (
-      c .before .before .before .before .has-alike .ensures,
+      c .before .before .before .before .may-have-alike .ensures,
       (
         record {
           chained = chained-more _ _ _ _ _ _ room r-below (at-bucket .1) (search needs) (search needs) _ _ _ is-entered (c .before .before .before .before .before .before .before .before .before .before .before .before .before .before .pre .1 .chained) digest (bucket-told _ _ _ _ _ _ refl digest (at-bucket .0)) (c .before .before .before .before .before .before .load .ensures);
@@ -61,8 +61,8 @@ returns c =
       ),
     )
 
-pub is-like-earlier-spec : {M : Type 1} → statement M
-is-like-earlier-spec =
+pub may-be-again-spec : {M : Type 1} → statement M
+may-be-again-spec =
     tie.close
     (tie.spec
     mul-type-digest
@@ -70,7 +70,7 @@ is-like-earlier-spec =
     bucket-requires
     mul-load
     load-requires
-    has-alike-requires
+    may-have-alike-requires
     enter-requires
     same-length
     returns)
