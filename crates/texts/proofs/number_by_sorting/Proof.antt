@@ -20,6 +20,9 @@ collect-texts-requires c κs = (c .before .before .before .before .before .befor
 mul-sort-texts : tie.Need-mul-sort-texts
 mul-sort-texts c = omega (arith, c .before .before .before .before .before .before .before .before .before .before .before .before .pre .0 .0 .few)
 
+add-sort-texts : tie.Need-add-sort-texts
+add-sort-texts c = omega (arith, c .before .before .before .before .before .before .before .before .before .before .before .before .pre .0 .0 .few)
+
 sort-texts-requires : tie.Need-sort-texts-requires
 sort-texts-requires c κs =
     let start = c .before .before .before .before .before .before .before .before .before .before .before .before in
@@ -55,6 +58,7 @@ number-by-sorting-spec =
     roll-texts-requires
     collect-texts-requires
     mul-sort-texts
+    add-sort-texts
     sort-texts-requires
     mul-number-sorted
     number-sorted-requires
