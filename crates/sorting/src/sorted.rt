@@ -118,13 +118,7 @@ struct Heads {
 }
 
 // Which of the two is next. A run at its end has none.
-fn choose_head(
-    tree: &[u8],
-    text: &[u8],
-    scratch: &[u8],
-    runs: Runs,
-    heads: Heads,
-) -> Choice
+fn choose_head(tree: &[u8], text: &[u8], scratch: &[u8], runs: Runs, heads: Heads) -> Choice
     requires { ⌜ Merging (recordText (now tree) (now text)) (records (now tree)) runs (heads .left + heads .right - runs .mid) heads (now scratch) ⌝ }
     requires { ⌜ heads .left + heads .right < runs .mid + runs .hi ⌝ }
     ensures { λ v. ⌜ HeadChosen (recordText (now (tree .entry)) (now (text .entry))) (now (scratch .entry)) runs heads (v .left) (v .shared) ⌝ }

@@ -258,7 +258,14 @@ fn number_by_sorting(tree: &[u8], text: &[u8], r: usize, k: Reading, scratch: &m
     let n = tree.len() / RECORD_BYTES;
     roll_texts(tree, text, r, k, scratch);
     let m = collect_texts(tree, scratch);
-    sort_texts(tree, text, scratch, ENTRIES, ENTRIES + SORT_ENTRY_BYTES * n, m);
+    sort_texts(
+        tree,
+        text,
+        scratch,
+        ENTRIES,
+        ENTRIES + SORT_ENTRY_BYTES * n,
+        m,
+    );
     number_sorted(tree, text, scratch, ENTRIES, m, ORIGINALS * n);
 }
 
