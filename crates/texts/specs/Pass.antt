@@ -61,7 +61,7 @@ pub record Passed (tree text : List ℕ) (r : ℕ) (s : List ℕ) : Type 0 where
   pub numbered : (k : ℕ) → k < r → hasOwn tree k ≡ true → wordAt s (originalAt (records tree) k) ≡ original tree text k
   pub rolled : Rolled tree text r s
 
--- where texts are sorted, the entries stand from this byte on: where the chains stood
+-- where texts are sorted, the entries stand from this byte on, where the chains stood; behind eight bytes a record there is room for them once more
 abbrev pub entriesFrom : ℕ
 entriesFrom = 0
 
