@@ -11,7 +11,7 @@ use Rattle.records.specs.Words.{wordAt}
 use Rattle.conversion.specs.Ir as Ir
 use Rattle.conversion.specs.Ir.{LabelName, StringEntry, FloatEntry, State, IrFunction, sameFloat, lastLabelKind}
 use Rattle.conversion.specs.Fits.{StringStands, FloatFits}
-use Rattle.conversion.specs.Written.{word, boolNumber, encodeAll, encodeInstr, encodeVar, encodeLabel, encodeFunctions, encodeString, encodeFloat, allCode, allVars, allLabels, instructionBytes, variableBytes, labelBytes, stringBytes, floatBytes}
+use Rattle.conversion.specs.Written.{boolNumber, encodeAll, encodeInstr, encodeVar, encodeLabel, encodeFunctions, encodeString, encodeFloat, allCode, allVars, allLabels, instructionBytes, variableBytes, labelBytes, stringBytes, floatBytes}
 use Rattle.ir.specs.declared.structs.Counters.{Counters}
 
 -- ---- regions, each at a multiple of n bytes

@@ -45,8 +45,10 @@ abbrev pub nextKind : ℕ
 nextKind = knownBytes + slotKind
 
 -- what the judge knows: the first slot and one for each record, so that the last lies in the region behind, which has nothing yet; before that, twelve bytes for each
--- type, while equal types are looked for, and behind them, where names overlap, the samples of the text (`specs/Samples.antt`); once the tree is judged, twelve for each record, while equal texts are looked for (`specs/Chains.antt`, `specs/Order.antt`), and behind
--- them, up to the numbers of the texts, the samples again where texts overlap; then the functions' records in their order, a word each
+-- type, while equal types are looked for, and behind them, where names overlap, the samples of the text (`specs/Samples.antt`); once the tree is judged, twelve for each
+-- record, while equal texts are looked for (`specs/Chains.antt`, `specs/Order.antt`), and behind them, up to the numbers of the texts, the samples again where texts
+-- overlap; while texts are numbered by sorting, from byte 0 on instead, two arrays of entries of eight bytes a record (`sorting/specs/Sorted.antt`); then the functions'
+-- records in their order, a word each
 abbrev pub judging : Region
 judging = record { from = 0; each = 4 }
 

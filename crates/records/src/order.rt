@@ -50,7 +50,7 @@ fn common_eights(text: &[u8], a: usize, b: usize, n: usize, from: usize) -> usiz
     common_singly(text, a, b, n, k)
 }
 
-// The same by eight eights, and the rest by eights.
+// How many of n bytes from a and from b on agree, where the first `from` do: by eight eights, and the rest by eights.
 pub fn common(text: &[u8], a: usize, b: usize, n: usize, from: usize) -> usize
     requires { ⌜ (0 < n → (a + n ≤ length (now text)) × (b + n ≤ length (now text))) × (from ≤ commonOf (textAt (now text) a n) (textAt (now text) b n)) ⌝ }
     ensures { λ r. ⌜ r ≡ commonOf (textAt (now (text .entry)) a n) (textAt (now (text .entry)) b n) ⌝ }
@@ -65,6 +65,7 @@ pub fn common(text: &[u8], a: usize, b: usize, n: usize, from: usize) -> usize
     common_eights(text, a, b, n, k)
 }
 
+// The lesser of two numbers.
 pub fn least(x: usize, y: usize) -> usize
     ensures { λ r. ⌜ r ≡ min x y ⌝ }
 {
@@ -128,7 +129,7 @@ pub struct ChainPlace {
     pub passed: u32,
 }
 
-// More than this are not counted: nobody asks for more.
+// More than this are not counted. Whoever asks whether more than so many were passed must ask for a number below this: FAR in texts/src/lib.rt is.
 const MOST_PASSED: u32 = 64;
 
 // One entry more is passed.

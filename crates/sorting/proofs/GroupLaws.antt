@@ -3,7 +3,7 @@
 use mathlib.Core.Path.{_≡_, refl, sym, ap, subst, _∙_}
 use mathlib.Core.Logic.{_⊎_, inl, inr}
 use mathlib.Core.Bool.{Bool, true, false, _&&_, false≢true}
-use mathlib.Core.List.{List, [], _∷_, _++_}
+use mathlib.Core.List.{List}
 use Prim.Native.Nat.{ℕ, zero, suc, _+_, _-_, _*_, _≤_, _<_, min}
 use native.Mathlib.Omega.{arith}
 use lib.Dec.{eqb, ltb}
@@ -18,9 +18,9 @@ use Rattle.records.proofs.Apart.{byte-apart, word-apart, word-there, word-back}
 use Rattle.records.proofs.CommonLaws.{common-self}
 use Rattle.records.proofs.TextLaws.{same-texts}
 use Rattle.records.proofs.DigestLaws.{same-equal}
-use Rattle.sorting.specs.Sorted.{ahead, Precedes, recordIn, sharedIn, Sorted, HasEntry, SortedRecords, Repeated, RepeatedBehind, FirstRepeated, FirstOfText, FirstUpTo, NumbersApart, NumberedUpTo}
+use Rattle.sorting.specs.Sorted.{ahead, Precedes, recordIn, sharedIn, sameNext, HasEntry, SortedRecords, Repeated, RepeatedBehind, FirstRepeated, FirstOfText, FirstUpTo, NumbersApart, NumberedUpTo}
 use Rattle.sorting.proofs.AheadLaws.{ahead-weak, ahead-self, ahead-trans, ahead-both, whole}
-use Rattle.sorting.proofs.MergeLaws.{SameEntries, entries-kept, sorted-kept, stands-kept}
+use Rattle.sorting.proofs.MergeLaws.{SameEntries, entries-kept, sorted-kept}
 
 -- two texts are the same just if they agree to the end of both
 pub same-whole : (x y : List ℕ) (shared a b : ℕ) → shared ≡ common x y → a ≡ length x → b ≡ length y → (eqb shared a && eqb shared b) ≡ sameText x y
@@ -54,7 +54,7 @@ Looked t s at m bound i v =
 
 module _ (t : ℕ → List ℕ) (n at m : ℕ) (s : List ℕ) (w : SortedRecords t n at m s) where
   pub same-told : (i shared a b x y : ℕ) → i + 1 < m → shared ≡ sharedIn s at (i + 1) → a ≡ recordIn s at i → b ≡ recordIn s at (i + 1) → x ≡ length (t a) → y ≡ length (t b)
-      → (eqb shared x && eqb shared y) ≡ sameText (t (recordIn s at i)) (t (recordIn s at (i + 1)))
+      → (eqb shared x && eqb shared y) ≡ sameNext t s at i
   same-told i shared a b x y h es ea eb ex ey =
       same-whole (t (recordIn s at i)) (t (recordIn s at (i + 1))) shared x y
       (es ∙ w .sorted i (omega arith) h .shares)
@@ -105,11 +105,11 @@ module _ (t : ℕ → List ℕ) (n at m : ℕ) (s : List ℕ) (w : SortedRecords
 
   -- ---- which repeat a text
 
-  pub repeated-here : (i bound v : ℕ) (b : Bool) → b ≡ sameText (t (recordIn s at i)) (t (recordIn s at (i + 1))) → b ≡ true → v ≡ recordIn s at (i + 1)
+  pub repeated-here : (i bound v : ℕ) (b : Bool) → b ≡ sameNext t s at i → b ≡ true → v ≡ recordIn s at (i + 1)
       → RepeatedBehind t s at i bound v
   repeated-here i bound v b e y ev = record { found = inr (ev, same-equal _ _ (sym e ∙ y)); least = λ z. ev }
 
-  pub repeated-not : (i bound : ℕ) (b : Bool) → b ≡ sameText (t (recordIn s at i)) (t (recordIn s at (i + 1))) → b ≡ false → RepeatedBehind t s at i bound bound
+  pub repeated-not : (i bound : ℕ) (b : Bool) → b ≡ sameNext t s at i → b ≡ false → RepeatedBehind t s at i bound bound
   repeated-not i bound b e y = record { found = inl refl; least = λ z. absurd (false≢true (sym y ∙ e ∙ same-texts _ _ z)) }
 
   pub looked-none : (bound : ℕ) → Looked t s at m bound 1 bound
@@ -176,7 +176,7 @@ module _ (t : ℕ → List ℕ) (n at m : ℕ) (s : List ℕ) (w : SortedRecords
   pub first-at-all : (i v : ℕ) → i ≡ 0 → v ≡ recordIn s at i → FirstUpTo t s at i v
   first-at-all i v z e = first-begins i v (λ q h k. omega arith) e
 
-  module _ (i q : ℕ) (b : Bool) (eq : q + 1 ≡ i) (eb : b ≡ sameText (t (recordIn s at q)) (t (recordIn s at (q + 1)))) where
+  module _ (i q : ℕ) (b : Bool) (eq : q + 1 ≡ i) (eb : b ≡ sameNext t s at q) where
     pub first-goes-on : (v : ℕ) → b ≡ true → ((p : ℕ) → p + 1 ≡ i → FirstUpTo t s at p v) → FirstUpTo t s at i v
     first-goes-on v y g =
         let f : FirstUpTo t s at q v = g q eq in

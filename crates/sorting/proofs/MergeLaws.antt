@@ -3,7 +3,7 @@
 use mathlib.Core.Path.{_≡_, refl, sym, ap, ap₂, subst, _∙_}
 use mathlib.Core.Logic.{_⊎_, inl, inr}
 use mathlib.Core.Bool.{Bool, true, false, false≢true}
-use mathlib.Core.List.{List, [], _∷_, _++_}
+use mathlib.Core.List.{List, [], _++_}
 use Prim.Native.Nat.{ℕ, _+_, _-_, _*_, _≤_, _<_}
 use native.Mathlib.Omega.{arith}
 use lib.Dec.{eqb, ltb}
@@ -17,6 +17,8 @@ use Rattle.records.specs.Order.{common}
 use Rattle.records.proofs.Apart.{byte-apart, word-same, word-there, word-back}
 use Rattle.records.proofs.CommonLaws.{common-empty}
 use Rattle.sorting.specs.Sorted.{ahead, Precedes, recordIn, sharedIn, Follows, Sorted, HasEntry, Arranged, Outside, OnlyThere, TwoPlaces, BehindOne, Chosen, HeadChosen, TwoRuns, Behind, Merging}
+use Rattle.sorting.specs.declared.sorted.Runs.{Runs}
+use Rattle.sorting.specs.declared.sorted.Heads.{Heads}
 use Rattle.sorting.proofs.AheadLaws.{ahead-empty, ahead-weak, left-precedes, right-precedes, right-shares}
 
 -- ---- entries whose bytes are kept
@@ -123,8 +125,23 @@ source-kept at to lo hi k k′ s s′ w a b o = entries-kept s s′ at lo hi (λ
 
 -- ---- merging
 
-module _ (t : ℕ → List ℕ) (n at to lo mid hi : ℕ) where
-  pub merging-start : (s : List ℕ) → TwoRuns t n at to lo mid hi s → Merging t n at to lo mid hi lo lo mid 0 0 s
+module _ (t : ℕ → List ℕ) (n : ℕ) (two : Runs) where
+  abbrev at : ℕ
+  at = two .at
+
+  abbrev to : ℕ
+  to = two .to
+
+  abbrev lo : ℕ
+  lo = two .lo
+
+  abbrev mid : ℕ
+  mid = two .mid
+
+  abbrev hi : ℕ
+  hi = two .hi
+
+  pub merging-start : (s : List ℕ) → TwoRuns t n two s → Merging t n two lo (record { left = lo; right = mid; «left_shared» = 0; «right_shared» = 0 }) s
   merging-start s w =
       record {
         runs = w;
@@ -141,7 +158,24 @@ module _ (t : ℕ → List ℕ) (n at to lo mid hi : ℕ) where
         only = λ q a b. absurd (omega arith);
       }
 
-  module _ (k i j left right : ℕ) (s : List ℕ) (m : Merging t n at to lo mid hi k i j left right s) where
+  module _ (k : ℕ) (heads : Heads) (s : List ℕ) (m : Merging t n two k heads s) where
+    abbrev i : ℕ
+    i = heads .left
+
+    abbrev j : ℕ
+    j = heads .right
+
+    abbrev left : ℕ
+    left = heads .«left_shared»
+
+    abbrev right : ℕ
+    right = heads .«right_shared»
+
+    -- the heads tell how many are put out
+    pub heads-placed : k < hi → Merging t n two (i + j - mid) heads s × (i + j < mid + hi)
+    heads-placed h =
+        let e : k ≡ i + j - mid = omega (arith, m .count) in (subst (λ (x : ℕ). Merging t n two x heads s) e m, omega (arith, m .count))
+
     pub heads-behind : i < mid → j < hi → BehindOne (t (recordIn s at i)) (t (recordIn s at j)) left right
     heads-behind hi′ hj =
         let l : Behind t s to lo k (recordIn s at i) left = m .leftNext hi′ in
@@ -182,7 +216,7 @@ module _ (t : ℕ → List ℕ) (n at to lo mid hi : ℕ) where
             rw (ea, eb) (heads-behind hl hr),
           )
 
-      pub heads-told : (is-left : Bool) (shared : ℕ) → Chosen (t a) (t b) is-left shared → HeadChosen t s at mid hi i j is-left shared
+      pub heads-told : (is-left : Bool) (shared : ℕ) → Chosen (t a) (t b) is-left shared → HeadChosen t s two heads is-left shared
       heads-told is-left shared c =
           record {
             leftIs = λ e. omega (arith, m .leftHigh);
@@ -190,10 +224,10 @@ module _ (t : ℕ → List ℕ) (n at to lo mid hi : ℕ) where
             both = λ x y. rw (ea, eb) at c;
           }
 
-    pub left-ended : k < hi → i ≡ mid → HeadChosen t s at mid hi i j false 0
-    left-ended h e = record { leftIs = λ z. absurd (false≢true z); rightIs = λ z. omega (arith, m .count); both = λ x y. absurd (omega arith) }
+    pub left-ended : i + j < mid + hi → i ≡ mid → HeadChosen t s two heads false 0
+    left-ended h e = record { leftIs = λ z. absurd (false≢true z); rightIs = λ z. omega arith; both = λ x y. absurd (omega arith) }
 
-    pub right-ended : (i ≡ mid → ⊥) → j ≡ hi → HeadChosen t s at mid hi i j true 0
+    pub right-ended : (i ≡ mid → ⊥) → j ≡ hi → HeadChosen t s two heads true 0
     right-ended n e = record { leftIs = λ z. omega (arith, m .leftHigh); rightIs = λ z. absurd (false≢true (sym z)); both = λ x y. absurd (omega arith) }
 
     -- one more is put out: entry c, which is next
@@ -211,7 +245,7 @@ module _ (t : ℕ → List ℕ) (n at to lo mid hi : ℕ) where
       chosen : recordIn s′ to k ≡ recordIn s′ at c
       chosen = er ∙ sym (source c low high .0)
 
-      runs-kept : TwoRuns t n at to lo mid hi s′
+      runs-kept : TwoRuns t n two s′
       runs-kept =
           record {
             places =
@@ -275,7 +309,7 @@ module _ (t : ℕ → List ℕ) (n at to lo mid hi : ℕ) where
           there x z = omega arith
 
     -- the head of the left run, or of the right, is put out
-    module _ (s′ : List ℕ) (is-left : Bool) (shared after record-word : ℕ) (below : k < hi) (h : HeadChosen t s at mid hi i j is-left shared) where
+    module _ (s′ : List ℕ) (is-left : Bool) (shared after record-word : ℕ) (below : k < hi) (h : HeadChosen t s two heads is-left shared) where
       chosen-kept : (q : SameEntries s s′ at lo hi) → (hl : i < mid) → (hr : j < hi) → Chosen (t (recordIn s′ at i)) (t (recordIn s′ at j)) is-left shared
       chosen-kept q hl hr =
           let a : recordIn s′ at i ≡ recordIn s at i = q i (m .leftLow) (omega (arith, m .runs .ends)) .0 in
@@ -290,7 +324,7 @@ module _ (t : ℕ → List ℕ) (n at to lo mid hi : ℕ) where
 
       pub left-put : is-left ≡ true → record-word < 4294967296 → left < 4294967296 → record-word ≡ recordIn s at i
           → s′ ≡ splice s (to + 8 * k) (word record-word ++ word left) → (i + 1 < mid → after ≡ sharedIn s at (i + 1))
-          → Merging t n at to lo mid hi (k + 1) (i + 1) j after shared s′
+          → Merging t n two (k + 1) (record { left = i + 1; right = j; «left_shared» = after; «right_shared» = shared }) s′
       left-put z hw hl er e ea =
           let hi′ : i < mid = h .leftIs z in
           let high : i < hi = omega (arith, m .runs .ends) in
@@ -299,7 +333,7 @@ module _ (t : ℕ → List ℕ) (n at to lo mid hi : ℕ) where
           let sha : sharedIn s′ to k ≡ left = put-shared s s′ to k record-word left put-fits e hl in
           let b : Behind t s to lo k (recordIn s at i) left = m .leftNext hi′ in
           let src : SameEntries s s′ at lo hi = source s′ i left below (m .leftLow) high o rec sha b in
-          let runs : TwoRuns t n at to lo mid hi s′ = runs-kept s′ i left below (m .leftLow) high o rec sha b in
+          let runs : TwoRuns t n two s′ = runs-kept s′ i left below (m .leftLow) high o rec sha b in
           record {
             runs = runs;
             leftLow = omega (arith, m .leftLow);
@@ -328,7 +362,7 @@ module _ (t : ℕ → List ℕ) (n at to lo mid hi : ℕ) where
 
       pub right-put : is-left ≡ false → record-word < 4294967296 → right < 4294967296 → record-word ≡ recordIn s at j
           → s′ ≡ splice s (to + 8 * k) (word record-word ++ word right) → (j + 1 < hi → after ≡ sharedIn s at (j + 1))
-          → Merging t n at to lo mid hi (k + 1) i (j + 1) shared after s′
+          → Merging t n two (k + 1) (record { left = i; right = j + 1; «left_shared» = shared; «right_shared» = after }) s′
       right-put z hw hl er e ea =
           let hj : j < hi = h .rightIs z in
           let low : lo ≤ j = omega (arith, m .rightLow, m .runs .rises) in
@@ -337,7 +371,7 @@ module _ (t : ℕ → List ℕ) (n at to lo mid hi : ℕ) where
           let sha : sharedIn s′ to k ≡ right = put-shared s s′ to k record-word right put-fits e hl in
           let b : Behind t s to lo k (recordIn s at j) right = m .rightNext hj in
           let src : SameEntries s s′ at lo hi = source s′ j right below low hj o rec sha b in
-          let runs : TwoRuns t n at to lo mid hi s′ = runs-kept s′ j right below low hj o rec sha b in
+          let runs : TwoRuns t n two s′ = runs-kept s′ j right below low hj o rec sha b in
           record {
             runs = runs;
             leftLow = m .leftLow;

@@ -6,12 +6,12 @@ use mathlib.Core.List.{List, _++_}
 use Prim.Native.Nat.{ℕ, _+_, _*_, _≤_, _<_}
 use native.Mathlib.Omega.{arith}
 use lib.Dec.{ltb}
-use lib.ListN.{length, getD}
+use lib.ListN.{length}
 use borrow.Author.Tests.{ltb-true, ltb-false}
 use Rattle.laws.specs.Splice.{splice}
 use Rattle.laws.proofs.Tests.{tested}
 use Rattle.records.specs.Words.{word}
-use Rattle.sorting.specs.Sorted.{recordIn, sharedIn, Sorted, HasEntry, Arranged, Outside, OnlyThere, OnlyBoth, TwoPlaces, RecordsRise, Sortable, TwoRuns}
+use Rattle.sorting.specs.Sorted.{recordIn, HasEntry, Arranged, Outside, OnlyThere, OnlyBoth, TwoPlaces, RecordsRise, Sortable, TwoRuns}
 use Rattle.sorting.proofs.MergeLaws.{SameEntries, entries-kept, sorted-kept, stands-kept, stands-back, stands-is, stands-wider, put-there, put-record, only-on, only-wider, source-kept}
 
 -- ---- what stands where
@@ -126,7 +126,7 @@ module _ (n at to lo mid hi : ℕ) (s : List ℕ) (w : Sortable n at to lo hi s)
           (λ l. stands-wider s at lo mid lo hi (recordIn s₂ at i) (omega arith) b (there-too lo mid (recordIn s₂ at i) (omega arith) b (from-left i x (ltb-true i mid l))))
           (λ l. stands-wider s at mid hi lo hi (recordIn s₂ at i) a (omega arith) (there-too mid hi (recordIn s₂ at i) a (omega arith) (from-right i (ltb-false i mid l) y)))
 
-      pub two-runs : TwoRuns t n at to lo mid hi s₂
+      pub two-runs : TwoRuns t n (record { at = at; to = to; lo = lo; mid = mid; hi = hi }) s₂
       two-runs =
           record {
             places =

@@ -9,8 +9,11 @@ use lib.Dec.{eqb, ltb}
 use lib.ListN.{length, getD}
 use Rattle.laws.specs.Fix.{pick}
 use Rattle.records.specs.Kinds.{kindType, formCustom}
+use Rattle.records.specs.Layout.{originals}
 use Rattle.records.specs.Order.{common, recordText}
-use Rattle.records.specs.Words.{kindOf, detailOf, wordOf, textAt, wordAt, A, B, C, secondWord}
+use Rattle.records.specs.Words.{kindOf, detailOf, wordOf, textAt, wordAt, A, B, C, secondWord, sameText}
+use Rattle.sorting.specs.declared.sorted.Runs.{Runs}
+use Rattle.sorting.specs.declared.sorted.Heads.{Heads}
 
 -- ---- keys
 
@@ -129,21 +132,21 @@ pub record Chosen (t u : List ℕ) (left : Bool) (shared : ℕ) : Type 0 where
   pub next : left ≡ ahead t u true
   pub shares : shared ≡ common t u
 
--- which head of two runs is next, entry i of one up to mid or entry j of one up to hi; a run at its end has none
-pub record HeadChosen (t : ℕ → List ℕ) (s : List ℕ) (at mid hi i j : ℕ) (left : Bool) (shared : ℕ) : Type 0 where
-  pub leftIs : left ≡ true → i < mid
-  pub rightIs : left ≡ false → j < hi
-  pub both : i < mid → j < hi → Chosen (t (recordIn s at i)) (t (recordIn s at j)) left shared
+-- which of the two heads is next; a run at its end has none
+pub record HeadChosen (t : ℕ → List ℕ) (s : List ℕ) (two : Runs) (heads : Heads) (left : Bool) (shared : ℕ) : Type 0 where
+  pub leftIs : left ≡ true → heads .left < two .mid
+  pub rightIs : left ≡ false → heads .right < two .hi
+  pub both : heads .left < two .mid → heads .right < two .hi → Chosen (t (recordIn s (two .at) (heads .left))) (t (recordIn s (two .at) (heads .right))) left shared
 
 -- two runs, from lo to mid and from mid to hi, from `at` on: sorted each, of records below n, those of the first lower than those of the second
-pub record TwoRuns (t : ℕ → List ℕ) (n at to lo mid hi : ℕ) (s : List ℕ) : Type 0 where
-  pub places : TwoPlaces at to lo hi s
-  pub rises : lo ≤ mid
-  pub ends : mid ≤ hi
-  pub inside : (i : ℕ) → lo ≤ i → i < hi → recordIn s at i < n
-  pub lower : (i j : ℕ) → lo ≤ i → i < mid → mid ≤ j → j < hi → recordIn s at i < recordIn s at j
-  pub left : Sorted t s at lo mid
-  pub right : Sorted t s at mid hi
+pub record TwoRuns (t : ℕ → List ℕ) (n : ℕ) (two : Runs) (s : List ℕ) : Type 0 where
+  pub places : TwoPlaces (two .at) (two .to) (two .lo) (two .hi) s
+  pub rises : two .lo ≤ two .mid
+  pub ends : two .mid ≤ two .hi
+  pub inside : (i : ℕ) → two .lo ≤ i → i < two .hi → recordIn s (two .at) i < n
+  pub lower : (i j : ℕ) → two .lo ≤ i → i < two .mid → two .mid ≤ j → j < two .hi → recordIn s (two .at) i < recordIn s (two .at) j
+  pub left : Sorted t s (two .at) (two .lo) (two .mid)
+  pub right : Sorted t s (two .at) (two .mid) (two .hi)
 
 -- record r belongs behind the entries from lo to k, and shares so much with the last of them
 pub record Behind (t : ℕ → List ℕ) (s : List ℕ) (to lo k r shared : ℕ) : Type 0 where
@@ -151,20 +154,20 @@ pub record Behind (t : ℕ → List ℕ) (s : List ℕ) (to lo k r shared : ℕ)
   pub order : (i : ℕ) → lo ≤ i → i + 1 ≡ k → Precedes t (recordIn s to i) r
   pub shares : (i : ℕ) → lo ≤ i → i + 1 ≡ k → shared ≡ common (t (recordIn s to i)) (t r)
 
--- the runs are merged up to entries i and j, which share so much with the last one put out: those before are the entries from lo to k, from `to` on
-pub record Merging (t : ℕ → List ℕ) (n at to lo mid hi k i j left right : ℕ) (s : List ℕ) : Type 0 where
-  pub runs : TwoRuns t n at to lo mid hi s
-  pub leftLow : lo ≤ i
-  pub leftHigh : i ≤ mid
-  pub rightLow : mid ≤ j
-  pub rightHigh : j ≤ hi
-  pub count : k + mid ≡ i + j
-  pub out : Sorted t s to lo k
-  pub leftNext : i < mid → Behind t s to lo k (recordIn s at i) left
-  pub rightNext : j < hi → Behind t s to lo k (recordIn s at j) right
-  pub leftOut : (q : ℕ) → lo ≤ q → q < i → HasEntry s to lo k (recordIn s at q)
-  pub rightOut : (q : ℕ) → mid ≤ q → q < j → HasEntry s to lo k (recordIn s at q)
-  pub only : (q : ℕ) → lo ≤ q → q < k → HasEntry s at lo hi (recordIn s to q)
+-- the runs are merged up to their heads, which share so much with the last one put out: those before are the entries from lo to k, from `to` on
+pub record Merging (t : ℕ → List ℕ) (n : ℕ) (two : Runs) (k : ℕ) (heads : Heads) (s : List ℕ) : Type 0 where
+  pub runs : TwoRuns t n two s
+  pub leftLow : two .lo ≤ heads .left
+  pub leftHigh : heads .left ≤ two .mid
+  pub rightLow : two .mid ≤ heads .right
+  pub rightHigh : heads .right ≤ two .hi
+  pub count : k + two .mid ≡ heads .left + heads .right
+  pub out : Sorted t s (two .to) (two .lo) k
+  pub leftNext : heads .left < two .mid → Behind t s (two .to) (two .lo) k (recordIn s (two .at) (heads .left)) (heads .«left_shared»)
+  pub rightNext : heads .right < two .hi → Behind t s (two .to) (two .lo) k (recordIn s (two .at) (heads .right)) (heads .«right_shared»)
+  pub leftOut : (q : ℕ) → two .lo ≤ q → q < heads .left → HasEntry s (two .to) (two .lo) k (recordIn s (two .at) q)
+  pub rightOut : (q : ℕ) → two .mid ≤ q → q < heads .right → HasEntry s (two .to) (two .lo) k (recordIn s (two .at) q)
+  pub only : (q : ℕ) → two .lo ≤ q → q < k → HasEntry s (two .at) (two .lo) (two .hi) (recordIn s (two .to) q)
 
 -- ---- what the order tells
 
@@ -173,6 +176,10 @@ pub record SortedRecords (t : ℕ → List ℕ) (n at m : ℕ) (s : List ℕ) : 
   pub room : at + sortEntryBytes * m ≤ length s
   pub inside : (i : ℕ) → i < m → recordIn s at i < n
   pub sorted : Sorted t s at 0 m
+
+-- entry i and the one behind it have the same text
+abbrev pub sameNext : (ℕ → List ℕ) → List ℕ → ℕ → ℕ → Bool
+sameNext t s at i = sameText (t (recordIn s at i)) (t (recordIn s at (i + 1)))
 
 -- record r is that of an entry, and has the text of a lower one that is
 pub record Repeated (t : ℕ → List ℕ) (s : List ℕ) (at m r : ℕ) : Type 0 where
@@ -208,11 +215,11 @@ pub record FirstUpTo (t : ℕ → List ℕ) (s : List ℕ) (at i v : ℕ) : Type
 
 -- a number for each of n records stands from `to` on, apart from m entries from `at` on
 pub record NumbersApart (n at m to : ℕ) (s : List ℕ) : Type 0 where
-  pub room : to + 4 * n ≤ length s
-  pub apart : (at + sortEntryBytes * m ≤ to) ⊎ (to + 4 * n ≤ at)
+  pub room : to + originals .each * n ≤ length s
+  pub apart : (at + sortEntryBytes * m ≤ to) ⊎ (to + originals .each * n ≤ at)
 
 -- the first i entries have their numbers, the first record with their text; nothing but numbers is written
 pub record NumberedUpTo (t : ℕ → List ℕ) (n at m to i : ℕ) (s s′ : List ℕ) : Type 0 where
   pub long : length s′ ≡ length s
-  pub bytes : (p : ℕ) → (p < to) ⊎ (to + 4 * n ≤ p) → getD s′ p 0 ≡ getD s p 0
-  pub number : (q : ℕ) → q < i → FirstOfText t s at m (recordIn s at q) (wordAt s′ (to + 4 * recordIn s at q))
+  pub bytes : (p : ℕ) → (p < to) ⊎ (to + originals .each * n ≤ p) → getD s′ p 0 ≡ getD s p 0
+  pub number : (q : ℕ) → q < i → FirstOfText t s at m (recordIn s at q) (wordAt s′ (to + originals .each * recordIn s at q))

@@ -2,11 +2,12 @@
 // so that in merging two runs a byte that agreed is not compared again.
 ghost use mathlib.Core.Path.{_≡_};
 ghost use mathlib.Core.Bool.{true};
-ghost use Prim.Native.Nat.{ℕ, _+_, _*_, _≤_, _<_, min};
+ghost use Prim.Native.Nat.{ℕ, _+_, _-_, _*_, _≤_, _<_};
 ghost use lib.ListN.{length};
-ghost use Rattle.records.specs.Words.{textAt, sameText, records};
+ghost use Rattle.records.specs.Words.{textAt, records};
 ghost use Rattle.records.specs.Order.{common as commonOf, recordText};
-ghost use Rattle.sorting.specs.Sorted.{hasWords, threeWords, wordKey, recordKey, ahead, sortEntryBytes, recordIn, sharedIn, BehindOne, Chosen, HeadChosen, TwoRuns, Merging, Arranged, OnlyThere, OnlyBoth, TwoPlaces, RecordsRise, Sortable, SortedRecords, RepeatedBehind, FirstRepeated, FirstUpTo, NumbersApart, NumberedUpTo};
+ghost use Rattle.sorting.specs.Sorted.{hasWords, threeWords, wordKey, recordKey, ahead, sortEntryBytes, recordIn, sharedIn, sameNext, BehindOne, Chosen, HeadChosen, TwoRuns, Merging, Arranged, OnlyThere, OnlyBoth, TwoPlaces, RecordsRise, Sortable, SortedRecords, RepeatedBehind, FirstRepeated, FirstUpTo, NumbersApart, NumberedUpTo};
+use records::layout::ORIGINAL_BYTES;
 use records::numbers::FORM_CUSTOM;
 use records::numbers::KIND_TYPE;
 use records::order::common;
@@ -26,9 +27,6 @@ use records::words::word;
 
 // An entry is a record, and beside it how far its text agrees with that of the entry before.
 pub const SORT_ENTRY_BYTES: usize = 8;
-
-// A record's number is a word.
-const NUMBER_BYTES: usize = 4;
 
 // How many of n bytes from i and from j on agree, where the first `from` do: all where these are the same bytes.
 fn common_from(text: &[u8], i: usize, j: usize, n: usize, from: usize) -> usize
@@ -153,10 +151,7 @@ fn compare(tree: &[u8], text: &[u8], a: usize, b: usize, from: usize) -> Choice
         return compare_types(tree, a, b);
     }
     if i | j {
-        return Choice {
-            left: j,
-            shared: 0,
-        };
+        return Choice { left: j, shared: 0 };
     }
     compare_texts(tree, text, a, b, from)
 }
@@ -208,16 +203,10 @@ struct Heads {
 }
 
 // Which of the two is next. A run at its end has none.
-fn choose_head(
-    tree: &[u8],
-    text: &[u8],
-    scratch: &[u8],
-    runs: Runs,
-    k: usize,
-    heads: Heads,
-) -> Choice
-    requires { ⌜ Merging (recordKey (now tree) (now text)) (records (now tree)) (runs .at) (runs .to) (runs .lo) (runs .mid) (runs .hi) k (heads .left) (heads .right) (heads .«left_shared») (heads .«right_shared») (now scratch) × (k < runs .hi) ⌝ }
-    ensures { λ v. ⌜ HeadChosen (recordKey (now (tree .entry)) (now (text .entry))) (now (scratch .entry)) (runs .at) (runs .mid) (runs .hi) (heads .left) (heads .right) (v .left) (v .shared) ⌝ }
+fn choose_head(tree: &[u8], text: &[u8], scratch: &[u8], runs: Runs, heads: Heads) -> Choice
+    requires { ⌜ Merging (recordKey (now tree) (now text)) (records (now tree)) runs (heads .left + heads .right - runs .mid) heads (now scratch) ⌝ }
+    requires { ⌜ heads .left + heads .right < runs .mid + runs .hi ⌝ }
+    ensures { λ v. ⌜ HeadChosen (recordKey (now (tree .entry)) (now (text .entry))) (now (scratch .entry)) runs heads (v .left) (v .shared) ⌝ }
 {
     let at = runs.at;
     let left = heads.left;
@@ -264,15 +253,15 @@ fn put_next(
     k: usize,
     heads: Heads,
 ) -> Heads
-    requires { ⌜ Merging (recordKey (now tree) (now text)) (records (now tree)) (runs .at) (runs .to) (runs .lo) (runs .mid) (runs .hi) k (heads .left) (heads .right) (heads .«left_shared») (heads .«right_shared») (now scratch) × (k < runs .hi) ⌝ }
-    ensures { λ v. ⌜ Merging (recordKey (now (tree .entry)) (now (text .entry))) (records (now (tree .entry))) (runs .at) (runs .to) (runs .lo) (runs .mid) (runs .hi) (k + 1) (v .left) (v .right) (v .«left_shared») (v .«right_shared») (now (scratch .exit)) ⌝ }
+    requires { ⌜ Merging (recordKey (now tree) (now text)) (records (now tree)) runs k heads (now scratch) × (k < runs .hi) ⌝ }
+    ensures { λ v. ⌜ Merging (recordKey (now (tree .entry)) (now (text .entry))) (records (now (tree .entry))) runs (k + 1) v (now (scratch .exit)) ⌝ }
     ensures { λ _. ⌜ OnlyThere (runs .to) (runs .lo) (runs .hi) (now (scratch .entry)) (now (scratch .exit)) ⌝ }
 {
     let at = runs.at;
     let left = heads.left;
     let right = heads.right;
     let out = runs.to + SORT_ENTRY_BYTES * k;
-    let choice = choose_head(tree, text, scratch, runs, k, heads);
+    let choice = choose_head(tree, text, scratch, runs, heads);
     if choice.left {
         let next = heads.left + 1;
         let a = load(scratch, at + SORT_ENTRY_BYTES * left);
@@ -299,7 +288,7 @@ fn put_next(
 
 // The two runs are merged.
 fn merge(tree: &[u8], text: &[u8], scratch: &mut [u8], runs: Runs)
-    requires { ⌜ TwoRuns (recordKey (now tree) (now text)) (records (now tree)) (runs .at) (runs .to) (runs .lo) (runs .mid) (runs .hi) (now scratch) ⌝ }
+    requires { ⌜ TwoRuns (recordKey (now tree) (now text)) (records (now tree)) runs (now scratch) ⌝ }
     ensures { λ _. ⌜ Arranged (recordKey (now (tree .entry)) (now (text .entry))) (now (scratch .entry)) (runs .at) (now (scratch .exit)) (runs .to) (runs .lo) (runs .hi) ⌝ }
     ensures { λ _. ⌜ OnlyThere (runs .to) (runs .lo) (runs .hi) (now (scratch .entry)) (now (scratch .exit)) ⌝ }
 {
@@ -398,7 +387,7 @@ fn key_long(tree: &[u8], text: &[u8], r: usize) -> usize
 // Entry i and the one behind it have the same text: they agree to the end of both.
 fn same_as_next(tree: &[u8], text: &[u8], scratch: &[u8], at: usize, m: usize, i: usize) -> bool
     requires { ⌜ SortedRecords (recordKey (now tree) (now text)) (records (now tree)) at m (now scratch) × (i + 1 < m) ⌝ }
-    ensures { λ v. ⌜ v ≡ sameText (recordKey (now (tree .entry)) (now (text .entry)) (recordIn (now (scratch .entry)) at i)) (recordKey (now (tree .entry)) (now (text .entry)) (recordIn (now (scratch .entry)) at (i + 1))) ⌝ }
+    ensures { λ v. ⌜ v ≡ sameNext (recordKey (now (tree .entry)) (now (text .entry))) (now (scratch .entry)) at i ⌝ }
 {
     let next = i + 1;
     let shared = index(load(scratch, at + SORT_ENTRY_BYTES * next + SECOND_WORD));
@@ -490,7 +479,7 @@ pub fn number_sorted(tree: &[u8], text: &[u8], scratch: &mut [u8], at: usize, m:
     while i < m {
         first = first_up_to(tree, text, scratch, at, m, i, first);
         let r = index(load(scratch, at + SORT_ENTRY_BYTES * i));
-        put_word(scratch, to + NUMBER_BYTES * r, first);
+        put_word(scratch, to + ORIGINAL_BYTES * r, first);
         i += 1;
     }
 }

@@ -2,8 +2,8 @@
 -- By the laws of chains and of texts, and word for word where these are written. Assumes nothing.
 use mathlib.Core.Path.{_≡_, refl, sym, ap, _∙_}
 use mathlib.Core.Logic.{_⊎_, inl, inr, ⊎-elim}
-use Prim.Native.Nat.{ℕ, suc, _+_, _*_, _≤_, _<_}
-use mathlib.Core.Bool.{Bool, true, false, _&&_, false≢true}
+use Prim.Native.Nat.{ℕ, _+_, _*_, _≤_, _<_}
+use mathlib.Core.Bool.{Bool, true, false, false≢true}
 use mathlib.Core.List.{List}
 use mathlib.Core.Option.{Option}
 use native.Mathlib.Omega.{arith}
@@ -145,9 +145,22 @@ kept-heads n s s′ e =
     }
 
 -- a word is written
-pub put-long : (s s′ : List ℕ) (p x : ℕ) → p + 4 ≤ length s → s′ ≡ splice s p (word x) → length s′ ≡ length s
-unfolding word bytesOf
-put-long s s′ p x h e = ap length e ∙ length-splice s p (word x) h
+module _ (s s′ : List ℕ) (p x : ℕ) (h : p + 4 ≤ length s) (e : s′ ≡ splice s p (word x)) where
+  pub put-long : length s′ ≡ length s
+  unfolding word bytesOf
+  put-long = ap length e ∙ length-splice s p (word x) h
+
+  pub put-bytes : (i : ℕ) → (i < p) ⊎ (p + 4 ≤ i) → getD s′ i 0 ≡ getD s i 0
+  unfolding word bytesOf
+  put-bytes i k = ap (λ (l : List ℕ). getD l i 0) e ∙ byte-apart s p (word x) h i k
+
+  pub put-words : (q : ℕ) → (q + 4 ≤ p) ⊎ (p + 4 ≤ q) → wordAt s′ q ≡ wordAt s q
+  unfolding word bytesOf
+  put-words q k = ap (λ (l : List ℕ). wordAt l q) e ∙ word-apart s p (word x) h q k
+
+  pub put-read : x < 4294967296 → wordAt s′ p ≡ x
+  unfolding word bytesOf wordAt byteAt
+  put-read hx = ap (λ (l : List ℕ). wordAt l p) e ∙ word-there s p (word x) h 0 p (omega arith) (omega arith) ∙ word-back x hx
 
 -- only samples are written
 module _ (n : ℕ) (s s′ : List ℕ) (e : OnlySamples n s s′) where
@@ -232,57 +245,38 @@ module _ (tree text : List ℕ) where
     behind₁ : (i : ℕ) → 12 * records tree ≤ i → getD s₁ i 0 ≡ getD s i 0
     behind₁ = e₁ .behind
 
-    fit : originalAt (records tree) r + length (word o) ≤ length s₁
-    unfolding word bytesOf
+    fit : originalAt (records tree) r + 4 ≤ length s₁
     fit = omega (arith, long₁)
 
     apart₂ : (p : ℕ) → p + 4 ≤ originalAt (records tree) r → wordAt s₂ p ≡ wordAt s₁ p
-    apart₂ p k = ap (λ (x : List ℕ). wordAt x p) e₂ ∙ word-apart s₁ (originalAt (records tree) r) (word o) fit p (inl k)
+    apart₂ p k = put-words s₁ s₂ (originalAt (records tree) r) o fit e₂ p (inl k)
 
     above₂ : (p : ℕ) → originalAt (records tree) r + 4 ≤ p → wordAt s₂ p ≡ wordAt s₁ p
-    unfolding word bytesOf
-    above₂ p k = ap (λ (l : List ℕ). wordAt l p) e₂ ∙ word-apart s₁ (originalAt (records tree) r) (word o) fit p (inr k)
+    above₂ p k = put-words s₁ s₂ (originalAt (records tree) r) o fit e₂ p (inr k)
 
     byte₂ : (i : ℕ) → (i < originalAt (records tree) r) ⊎ (originalAt (records tree) r + 4 ≤ i) → getD s₂ i 0 ≡ getD s₁ i 0
-    unfolding word bytesOf
-    byte₂ i k = ap (λ (x : List ℕ). getD x i 0) e₂ ∙ byte-apart s₁ (originalAt (records tree) r) (word o) fit i k
+    byte₂ = put-bytes s₁ s₂ (originalAt (records tree) r) o fit e₂
 
     word₁ : (p : ℕ) → 12 * records tree ≤ p → wordAt s₁ p ≡ wordAt s p
     word₁ p k =
         word-same s₁ p s p (behind₁ p k) (behind₁ (p + 1) (omega arith)) (behind₁ (p + 2) (omega arith)) (behind₁ (p + 3) (omega arith))
 
-    written₂ : o < 4294967296 → wordAt s₂ (originalAt (records tree) r) ≡ o
-    unfolding word bytesOf wordAt byteAt
-    written₂ ho =
-        ap (λ (x : List ℕ). wordAt x (originalAt (records tree) r)) e₂
-        ∙ word-there s₁ (originalAt (records tree) r) (word o) fit 0 (originalAt (records tree) r) (omega arith) (omega arith)
-        ∙ word-back o ho
-
     long₂ : length s₂ ≡ length s
-    long₂ = ap length e₂ ∙ length-splice s₁ (originalAt (records tree) r) (word o) fit ∙ long₁
+    long₂ = put-long s₁ s₂ (originalAt (records tree) r) o fit e₂ ∙ long₁
 
-    fit₃ : textDigestAt (records tree) r + length (word x) ≤ length s₂
-    unfolding word bytesOf
+    fit₃ : textDigestAt (records tree) r + 4 ≤ length s₂
     fit₃ = omega (arith, long₂)
 
     apart₃ : (p : ℕ) → p + 4 ≤ textDigestAt (records tree) r → wordAt s₃ p ≡ wordAt s₂ p
-    apart₃ p k = ap (λ (l : List ℕ). wordAt l p) e₃ ∙ word-apart s₂ (textDigestAt (records tree) r) (word x) fit₃ p (inl k)
+    apart₃ p k = put-words s₂ s₃ (textDigestAt (records tree) r) x fit₃ e₃ p (inl k)
 
     byte₃ : (i : ℕ) → (i < textDigestAt (records tree) r) ⊎ (textDigestAt (records tree) r + 4 ≤ i) → getD s₃ i 0 ≡ getD s₂ i 0
-    unfolding word bytesOf
-    byte₃ i k = ap (λ (l : List ℕ). getD l i 0) e₃ ∙ byte-apart s₂ (textDigestAt (records tree) r) (word x) fit₃ i k
-
-    written₃ : x < 4294967296 → wordAt s₃ (textDigestAt (records tree) r) ≡ x
-    unfolding word bytesOf wordAt byteAt
-    written₃ hx =
-        ap (λ (l : List ℕ). wordAt l (textDigestAt (records tree) r)) e₃
-        ∙ word-there s₂ (textDigestAt (records tree) r) (word x) fit₃ 0 (textDigestAt (records tree) r) (omega arith) (omega arith)
-        ∙ word-back x hx
+    byte₃ = put-bytes s₂ s₃ (textDigestAt (records tree) r) x fit₃ e₃
 
     kept : Kept (records tree) s s₃
     kept =
         record {
-          long = ap length e₃ ∙ length-splice s₂ (textDigestAt (records tree) r) (word x) fit₃ ∙ long₂;
+          long = put-long s₂ s₃ (textDigestAt (records tree) r) x fit₃ e₃ ∙ long₂;
           keys = λ i k m. byte₃ i (inl (omega arith)) ∙ byte₂ i (inr (omega arith)) ∙ behind₁ i (omega arith);
           behind = λ i k. byte₃ i (inr (omega arith)) ∙ byte₂ i (inr (omega arith)) ∙ behind₁ i (omega arith);
         }
@@ -304,13 +298,13 @@ module _ (tree text : List ℕ) where
                 (λ k hk t.
                 apart₃ (originalAt (records tree) k) (omega arith) ∙ apart₂ (originalAt (records tree) k) (omega arith)
                 ∙ word₁ (originalAt (records tree) k) (omega arith) ∙ p .numbered k hk t)
-                (λ t. apart₃ (originalAt (records tree) r) (omega arith) ∙ written₂ (omega (arith, eo, original-below tree text r hr tr)) ∙ eo);
+                (λ t. apart₃ (originalAt (records tree) r) (omega arith) ∙ put-read s₁ s₂ (originalAt (records tree) r) o fit e₂ (omega (arith, eo, original-below tree text r hr tr)) ∙ eo);
             rolled =
                 below-more (λ (k : ℕ). hasOwn tree k ≡ true → wordAt s₃ (textDigestAt (records tree) k) ≡ rollOf (ownText tree text k)) r
                 (λ k hk t.
                 apart₃ (textDigestAt (records tree) k) (omega arith) ∙ above₂ (textDigestAt (records tree) k) (omega arith)
                 ∙ word₁ (textDigestAt (records tree) k) (omega arith) ∙ p .rolled k hk t)
-                (λ t. written₃ hx ∙ ex);
+                (λ t. put-read s₂ s₃ (textDigestAt (records tree) r) x fit₃ e₃ hx ∙ ex);
           }
 
       pub taken : (s₀ : List ℕ) (stride long : ℕ) → Kept (records tree) s₀ s → Read text (records tree) (r + 1) stride long s

@@ -1,6 +1,6 @@
 -- Texts numbered by sorting: digests are written record for record, the records that have a text become entries, and the first of the entries with a text is its number.
 -- By the laws of the pass and of sorted entries. Assumes nothing.
-use mathlib.Core.Path.{_≡_, refl, sym, ap, subst, _∙_}
+use mathlib.Core.Path.{_≡_, sym, ap, subst, _∙_}
 use mathlib.Core.Logic.{_⊎_, inl, inr}
 use Prim.Native.Nat.{ℕ, _+_, _*_, _≤_, _<_}
 use mathlib.Core.Bool.{true, false, false≢true}
@@ -13,19 +13,18 @@ use borrow.Author.Count.{below-more}
 use borrow.Author.Tests.{ltb-true, ltb-false}
 use Rattle.laws.specs.Splice.{splice}
 use Rattle.laws.proofs.BelowLaws.{lowest-some}
-use Rattle.laws.proofs.Splices.{length-splice}
 use Rattle.laws.proofs.Tests.{tested, and-left, and-right}
 use Rattle.records.specs.Digest.{rollOf}
-use Rattle.records.specs.Words.{byteAt, wordAt, bytesOf, word, records}
-use Rattle.records.proofs.Apart.{byte-apart, word-apart, word-there, word-back, word-same}
+use Rattle.records.specs.Words.{wordAt, word, records}
+use Rattle.records.proofs.Apart.{word-same}
 use Rattle.records.proofs.DigestLaws.{same-equal}
-use Rattle.sorting.specs.Sorted.{recordKey, recordIn, HasEntry, Arranged, OnlyThere, OnlyBoth, TwoPlaces, RecordsRise, SortedRecords, NumbersApart, FirstOfText, NumberedUpTo}
+use Rattle.sorting.specs.Sorted.{recordKey, recordIn, HasEntry, Arranged, OnlyThere, OnlyBoth, TwoPlaces, SortedRecords, NumbersApart, FirstOfText, NumberedUpTo}
 use Rattle.sorting.proofs.KeyLaws.{words-not, key-text}
 use Rattle.sorting.proofs.MergeLaws.{entries-kept, put-there, put-record, only-wider}
 use Rattle.sorting.proofs.ArrangedLaws.{sorted-records, numbers-before}
 use Rattle.texts.specs.Texts.{hasText, hasOwn, ownText, sameOwn, numberOr, original, originalAt, textDigestAt, Numbered, Kept}
 use Rattle.texts.specs.Pass.{Read, OnlySamples, Rolled, Collected}
-use Rattle.texts.proofs.PassLaws.{behind-word, kept-sampled, kept-on, read-stays}
+use Rattle.texts.proofs.PassLaws.{put-long, put-bytes, put-words, put-read, behind-word, kept-sampled, kept-on, read-stays}
 use Rattle.texts.proofs.TextLaws.{same-own}
 
 -- ---- the digests
@@ -40,28 +39,16 @@ module _ (tree text : List ℕ) where
   -- a record with a text: s₁ is the scratch once samples are written, s₂ once its digest is
   module _ (r x : ℕ) (s s₁ s₂ : List ℕ) (room : 72 * records tree ≤ length s) (hr : r < records tree) (only : OnlySamples (records tree) s s₁)
       (e : s₂ ≡ splice s₁ (textDigestAt (records tree) r) (word x)) where
-    fit : textDigestAt (records tree) r + length (word x) ≤ length s₁
-    unfolding word bytesOf
+    fit : textDigestAt (records tree) r + 4 ≤ length s₁
     fit = omega (arith, only .long)
 
-    apart : (p : ℕ) → p + 4 ≤ textDigestAt (records tree) r → wordAt s₂ p ≡ wordAt s₁ p
-    apart p k = ap (λ (l : List ℕ). wordAt l p) e ∙ word-apart s₁ (textDigestAt (records tree) r) (word x) fit p (inl k)
-
     byte : (i : ℕ) → (i < textDigestAt (records tree) r) ⊎ (textDigestAt (records tree) r + 4 ≤ i) → getD s₂ i 0 ≡ getD s₁ i 0
-    unfolding word bytesOf
-    byte i k = ap (λ (l : List ℕ). getD l i 0) e ∙ byte-apart s₁ (textDigestAt (records tree) r) (word x) fit i k
-
-    written : x < 4294967296 → wordAt s₂ (textDigestAt (records tree) r) ≡ x
-    unfolding word bytesOf wordAt byteAt
-    written hx =
-        ap (λ (l : List ℕ). wordAt l (textDigestAt (records tree) r)) e
-        ∙ word-there s₁ (textDigestAt (records tree) r) (word x) fit 0 (textDigestAt (records tree) r) (omega arith) (omega arith)
-        ∙ word-back x hx
+    byte = put-bytes s₁ s₂ (textDigestAt (records tree) r) x fit e
 
     kept : Kept (records tree) s₁ s₂
     kept =
         record {
-          long = ap length e ∙ length-splice s₁ (textDigestAt (records tree) r) (word x) fit;
+          long = put-long s₁ s₂ (textDigestAt (records tree) r) x fit e;
           keys = λ i k m. byte i (inl (omega arith));
           behind = λ i k. byte i (inr (omega arith));
         }
@@ -72,8 +59,8 @@ module _ (tree text : List ℕ) where
       (
         below-more (λ (k : ℕ). hasOwn tree k ≡ true → wordAt s₂ (textDigestAt (records tree) k) ≡ rollOf (ownText tree text k)) r
             (λ k hk t.
-            apart (textDigestAt (records tree) k) (omega arith) ∙ behind-word (records tree) s s₁ only (textDigestAt (records tree) k) (omega arith) ∙ p k hk t)
-            (λ t. written hx ∙ ex),
+            put-words s₁ s₂ (textDigestAt (records tree) r) x fit e (textDigestAt (records tree) k) (inl (omega arith)) ∙ behind-word (records tree) s s₁ only (textDigestAt (records tree) k) (omega arith) ∙ p k hk t)
+            (λ t. put-read s₁ s₂ (textDigestAt (records tree) r) x fit e hx ∙ ex),
         kept-on (records tree) s s₁ s₂ (kept-sampled (records tree) s s₁ only) kept,
       ),
       read-stays text (records tree) (r + 1) stride long s₁ s₂ (λ i k m. byte i (inl (omega arith))) (kept .long) read,
@@ -100,19 +87,13 @@ module _ (tree : List ℕ) where
         all = below-more (λ (k : ℕ). hasOwn tree k ≡ true → HasEntry s 0 0 m k) r (c .all) (λ t. absurd (false≢true (sym f ∙ t)));
       }
 
-  module _ (r m : ℕ) (s s′ : List ℕ) (c : Collected tree r m s) (has : hasOwn tree r ≡ true) (room : 8 * m + 8 ≤ length s) (hr : r < 4294967296)
-      (e : s′ ≡ splice s (8 * m) (word r ++ word 0)) where
-    fits : 0 + 8 * m + 8 ≤ length s
-    fits = omega (arith, room)
-
-    there : s′ ≡ splice s (0 + 8 * m) (word r ++ word 0)
-    there = e ∙ ap (λ (p : ℕ). splice s p (word r ++ word 0)) (omega arith)
-
+  module _ (r m : ℕ) (s s′ : List ℕ) (c : Collected tree r m s) (has : hasOwn tree r ≡ true) (room : 0 + 8 * m + 8 ≤ length s) (hr : r < 4294967296)
+      (e : s′ ≡ splice s (0 + 8 * m) (word r ++ word 0)) where
     collected-only : OnlyThere 0 m (m + 1) s s′
-    collected-only = put-there s s′ 0 m r 0 fits there
+    collected-only = put-there s s′ 0 m r 0 room e
 
     new : recordIn s′ 0 m ≡ r
-    new = put-record s s′ 0 m r 0 fits there hr
+    new = put-record s s′ 0 m r 0 room e hr
 
     old : (i : ℕ) → i < m → recordIn s′ 0 i ≡ recordIn s 0 i
     old i h = entries-kept s s′ 0 0 m (λ p x y. collected-only .bytes p (inl y)) i (omega arith) h .0
@@ -155,7 +136,7 @@ module _ (tree : List ℕ) where
 
   -- all are entries: there is room for as many once more
   pub collected-places : (m : ℕ) (s s₁ : List ℕ) → Collected tree (records tree) m s → 72 * records tree ≤ length s₁ → OnlyThere 0 0 (records tree) s₁ s
-      → TwoPlaces 0 (8 * records tree) 0 m s
+      → TwoPlaces 0 (0 + 8 * records tree) 0 m s
   collected-places m s s₁ c room o =
       record {
         rises = omega arith;
@@ -191,9 +172,9 @@ module _ (tree text : List ℕ) (m : ℕ) (s : List ℕ) (c : Collected tree (re
 
   -- s₁ is the scratch before the entries were written, s₃ once they are sorted, s₄ once the numbers are written
   module _ (s₁ : List ℕ) (room : 72 * records tree ≤ length s₁) (o : OnlyThere 0 0 (records tree) s₁ s) where
-    module _ (s₃ : List ℕ) (a : Arranged (recordKey tree text) s 0 s₃ 0 0 m) (b : OnlyBoth 0 (8 * records tree) 0 m s s₃) where
+    module _ (s₃ : List ℕ) (a : Arranged (recordKey tree text) s 0 s₃ 0 0 m) (b : OnlyBoth 0 (0 + 8 * records tree) 0 m s s₃) where
       pub collected-sorted : SortedRecords (recordKey tree text) (records tree) 0 m s₃
-      collected-sorted = sorted-records (recordKey tree text) 0 m s s₃ a (records tree) (8 * records tree) (collected-places tree m s s₁ c room o) (c .rises) b
+      collected-sorted = sorted-records (recordKey tree text) 0 m s s₃ a (records tree) (0 + 8 * records tree) (collected-places tree m s s₁ c room o) (c .rises) b
 
       pub collected-apart : NumbersApart (records tree) 0 m (40 * records tree) s₃
       collected-apart = record { room = omega (arith, o .long, b .long); apart = inl (omega (arith, c .few)) }

@@ -60,7 +60,8 @@ pub record Numbered (tree text s : List ℕ) : Type 0 where
   pub digest : (r : ℕ) → r < records tree → hasOwn tree r ≡ true → wordAt s (textDigestAt (records tree) r) ≡ rollOf (ownText tree text r)
 
 -- the scratch of n records, before and after: its length is as it was, and so are the bytes between the numbers and the digests, and behind the digests. Before the
--- numbers stand the chains, and the text's samples where texts overlap: there anything may be left
+-- numbers stand the chains, and the text's samples where texts overlap; while texts are numbered by sorting, from byte 0 on, the entries, two arrays of eight bytes a
+-- record: there anything may be left
 pub record Kept (n : ℕ) (s s′ : List ℕ) : Type 0 where
   pub long : length s′ ≡ length s
   pub keys : (i : ℕ) → endOf originals * n ≤ i → i < textDigests .from * n → getD s′ i 0 ≡ getD s i 0

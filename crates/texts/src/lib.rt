@@ -10,7 +10,7 @@ ghost use Rattle.records.specs.Digest.{rollModulus, rollOf};
 ghost use Rattle.records.specs.Words.{wordAt, textAt, records, mostRecords, none};
 ghost use Rattle.sorting.specs.Sorted.{OnlyThere};
 ghost use Rattle.texts.specs.Texts.{hasText, hasOwn, original as originalOf, originalAt, textDigestAt, Numbered, Kept};
-ghost use Rattle.texts.specs.Pass.{textBucket, samplesFrom, SamplesFit, Read, OnlySamples, Chains, Entered, Rolled, Collected, Passed};
+ghost use Rattle.texts.specs.Pass.{textBucket, samplesFrom, SamplesFit, Read, OnlySamples, Chains, Entered, Rolled, entriesFrom, Collected, Passed};
 use records::chains::bucket;
 use records::chains::clear_heads;
 use records::layout::CHAIN_EACH;
@@ -205,7 +205,8 @@ fn roll_record(tree: &[u8], text: &[u8], r: usize, k: Reading, scratch: &mut [u8
 fn roll_texts(tree: &[u8], text: &[u8], from: usize, known: Reading, scratch: &mut [u8])
     requires { ⌜ Good (now tree) (now text) × (scratchEach * records (now tree) ≤ length (now scratch)) ⌝ }
     requires { ⌜ (from ≤ records (now tree)) × Rolled (now tree) (now text) from (now scratch) × Read (now text) (records (now tree)) from (known .stride) (known .long) (now scratch) ⌝ }
-    ensures { λ _. ⌜ Rolled (now (tree .entry)) (now (text .entry)) (records (now (tree .entry))) (now (scratch .exit)) × Kept (records (now (tree .entry))) (now (scratch .entry)) (now (scratch .exit)) ⌝ }
+    ensures { λ _. ⌜ Rolled (now (tree .entry)) (now (text .entry)) (records (now (tree .entry))) (now (scratch .exit)) ⌝ }
+    ensures { λ _. ⌜ Kept (records (now (tree .entry))) (now (scratch .entry)) (now (scratch .exit)) ⌝ }
 {
     let n = tree.len() / RECORD_BYTES;
     let mut k = known;
@@ -216,22 +217,26 @@ fn roll_texts(tree: &[u8], text: &[u8], from: usize, known: Reading, scratch: &m
     }
 }
 
+// The entries to sort stand where the chains stood, from this byte on.
+const ENTRIES: usize = 0;
+
 // Record r becomes entry m of those to sort, if it has a text. How many there are is given back.
 fn collect_record(tree: &[u8], r: usize, m: usize, scratch: &mut [u8]) -> usize
     requires { ⌜ (records (now tree) ≤ mostRecords) × (r < records (now tree)) × (scratchEach * records (now tree) ≤ length (now scratch)) × Collected (now tree) r m (now scratch) ⌝ }
-    ensures { λ v. ⌜ Collected (now (tree .entry)) (r + 1) v (now (scratch .exit)) × OnlyThere 0 0 (records (now (tree .entry))) (now (scratch .entry)) (now (scratch .exit)) ⌝ }
+    ensures { λ v. ⌜ Collected (now (tree .entry)) (r + 1) v (now (scratch .exit)) × OnlyThere entriesFrom 0 (records (now (tree .entry))) (now (scratch .entry)) (now (scratch .exit)) ⌝ }
 {
     if !has_text(kind(tree, r)) {
         return m;
     }
-    put_pair(scratch, SORT_ENTRY_BYTES * m, r as u32, 0);
+    put_pair(scratch, ENTRIES + SORT_ENTRY_BYTES * m, r as u32, 0);
     m + 1
 }
 
-// All records that have a text, in rising order, from byte 0 on.
+// All records that have a text become entries, in rising order.
 fn collect_texts(tree: &[u8], scratch: &mut [u8]) -> usize
     requires { ⌜ (records (now tree) ≤ mostRecords) × (scratchEach * records (now tree) ≤ length (now scratch)) ⌝ }
-    ensures { λ v. ⌜ Collected (now (tree .entry)) (records (now (tree .entry))) v (now (scratch .exit)) × OnlyThere 0 0 (records (now (tree .entry))) (now (scratch .entry)) (now (scratch .exit)) ⌝ }
+    ensures { λ v. ⌜ Collected (now (tree .entry)) (records (now (tree .entry))) v (now (scratch .exit)) ⌝ }
+    ensures { λ _. ⌜ OnlyThere entriesFrom 0 (records (now (tree .entry))) (now (scratch .entry)) (now (scratch .exit)) ⌝ }
 {
     let n = tree.len() / RECORD_BYTES;
     let mut m = 0;
@@ -253,11 +258,19 @@ fn number_by_sorting(tree: &[u8], text: &[u8], r: usize, k: Reading, scratch: &m
     let n = tree.len() / RECORD_BYTES;
     roll_texts(tree, text, r, k, scratch);
     let m = collect_texts(tree, scratch);
-    sort_records(tree, text, scratch, 0, SORT_ENTRY_BYTES * n, m);
-    number_sorted(tree, text, scratch, 0, m, ORIGINALS * n);
+    sort_records(
+        tree,
+        text,
+        scratch,
+        ENTRIES,
+        ENTRIES + SORT_ENTRY_BYTES * n,
+        m,
+    );
+    number_sorted(tree, text, scratch, ENTRIES, m, ORIGINALS * n);
 }
 
-// A walk that passes more entries than this is too long. Of texts that are not made to have one digest hardly ten meet in a bucket.
+// A walk that passes more entries than this is too long. Of texts that are not made to have one digest hardly ten meet in a bucket. It must lie below the most
+// that a walk counts (MOST_PASSED in records/src/order.rt): else no walk is too long, and nothing is sorted.
 const FAR: u32 = 32;
 
 // Every text of a good tree gets its number and its digest, in one pass over the records. The chains stand where nothing else does yet, and so do the samples.

@@ -27,6 +27,9 @@ returns c =
 mul-put-pair : tie.Need-mul-put-pair
 mul-put-pair c = search needs
 
+add-put-pair : tie.Need-add-put-pair
+add-put-pair c = search needs
+
 cast-put-pair : tie.Need-cast-put-pair
 cast-put-pair c = search needs
 
@@ -53,6 +56,7 @@ collect-record-spec =
     has-text-requires
     returns
     mul-put-pair
+    add-put-pair
     cast-put-pair
     put-pair-requires
     add-result

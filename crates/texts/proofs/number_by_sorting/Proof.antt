@@ -20,6 +20,9 @@ collect-texts-requires c κs = (c .before .before .before .before .before .befor
 mul-sort-records : tie.Need-mul-sort-records
 mul-sort-records c = omega (arith, c .before .before .before .before .before .before .before .before .before .before .before .before .pre .0 .0 .few)
 
+add-sort-records : tie.Need-add-sort-records
+add-sort-records c = omega (arith, c .before .before .before .before .before .before .before .before .before .before .before .before .pre .0 .0 .few)
+
 sort-records-requires : tie.Need-sort-records-requires
 sort-records-requires c κs =
     let start = c .before .before .before .before .before .before .before .before .before .before .before .before in
@@ -55,6 +58,7 @@ number-by-sorting-spec =
     roll-texts-requires
     collect-texts-requires
     mul-sort-records
+    add-sort-records
     sort-records-requires
     mul-number-sorted
     number-sorted-requires

@@ -3,7 +3,7 @@
 use native.Mathlib.Omega.{arith}
 use Rattle.texts.proofs.PassLaws.{kept-all, read-past, own-told, roll-told}
 use Rattle.texts.proofs.SortedLaws.{rolled-over, rolled-more}
-use borrow.Author.Tests.{not-true, not-false}
+use borrow.Author.Tests.{not-true}
 use borrow.Author.Needs.{needs}
 use Rattle.texts.proofs.roll_record.Statement.{statement}
 use Rattle.texts.proofs.roll_record.Tie as tie

@@ -13,10 +13,10 @@ use Rattle.records.proofs.words.load.Reads as load-reads
 use Rattle.sorting.proofs.sorted.choose.Reads as choose-reads
 
 returns : tie.Need-returns
-returns c = left-ended _ _ _ _ _ _ _ _ _ _ _ _ _ (c .before .before .before .before .before .pre .0) (c .before .before .before .before .before .pre .1) (c .if1 .taken)
+returns c = left-ended _ _ _ _ _ _ (c .before .before .before .before .before .pre .0) (c .before .before .before .before .before .pre .1) (c .if1 .taken)
 
 returns-2 : tie.Need-returns-2
-returns-2 c = right-ended _ _ _ _ _ _ _ _ _ _ _ _ _ (c .before .before .before .before .before .before .before .pre .0) (c .before .before .if1 .left) (c .if2 .taken)
+returns-2 c = right-ended _ _ _ _ _ _ (c .before .before .before .before .before .before .before .pre .0) (c .before .before .if1 .left) (c .if2 .taken)
 
 mul-load : tie.Need-mul-load
 mul-load c = search needs
@@ -43,10 +43,10 @@ index-requires-2 : tie.Need-index-requires-2
 index-requires-2 c κs = search needs
 
 choose-requires : tie.Need-choose-requires
-choose-requires c κs = heads-asked (recordKey _ _) _ _ _ _ _ _ _ _ _ _ _ _ (c .before .before .before .before .before .before .before .before .before .before .before .pre .0) _ _ (c .before .before .index .ensures ∙ c .before .before .before .load .ensures) (c .index2 .ensures ∙ c .before .load2 .ensures) (c .before .before .before .before .before .before .if1 .left) (c .before .before .before .before .if2 .left)
+choose-requires c κs = heads-asked (recordKey _ _) _ _ _ _ _ (c .before .before .before .before .before .before .before .before .before .before .before .pre .0) _ _ (c .before .before .index .ensures ∙ c .before .before .before .load .ensures) (c .index2 .ensures ∙ c .before .load2 .ensures) (c .before .before .before .before .before .before .if1 .left) (c .before .before .before .before .if2 .left)
 
 returns-3 : tie.Need-returns-3
-returns-3 c = heads-told (recordKey _ _) _ _ _ _ _ _ _ _ _ _ _ _ (c .before .before .before .before .before .before .before .before .before .before .before .before .pre .0) _ _ (c .before .before .before .index .ensures ∙ c .before .before .before .before .load .ensures) (c .before .index2 .ensures ∙ c .before .before .load2 .ensures) (c .before .before .before .before .before .before .before .if1 .left) (c .before .before .before .before .before .if2 .left) _ _ (c .choose .ensures)
+returns-3 c = heads-told (recordKey _ _) _ _ _ _ _ (c .before .before .before .before .before .before .before .before .before .before .before .before .pre .0) _ _ (c .before .before .before .index .ensures ∙ c .before .before .before .before .load .ensures) (c .before .index2 .ensures ∙ c .before .before .load2 .ensures) (c .before .before .before .before .before .before .before .if1 .left) (c .before .before .before .before .before .if2 .left) _ _ (c .choose .ensures)
 
 pub choose-head-spec : {M : Type 1} → statement M
 choose-head-spec =

@@ -15,14 +15,14 @@ use Rattle.sorting.proofs.sorted.put_next.Reads as put-next-reads
 abbrev Inv-loop : tie.InvT-loop
 Inv-loop tree text scratch₀ runs heads₀ k₀ scratch heads k =
     (k ≤ runs .hi)
-    × Merging (recordKey tree text) (records tree) (runs .at) (runs .to) (runs .lo) (runs .mid) (runs .hi) k (heads .left) (heads .right) (heads .«left_shared») (heads .«right_shared») scratch
+    × Merging (recordKey tree text) (records tree) runs k heads scratch
     × OnlyThere (runs .to) (runs .lo) (runs .hi) scratch₀ scratch
 
 abbrev μ-loop : tie.MeasureT-loop
 μ-loop tree text scratch₀ runs heads₀ k₀ scratch heads k = runs .hi - k
 
 loop-holds : tie.Need-loop-holds Inv-loop μ-loop
-loop-holds c = (omega (arith, c .before .before .before .pre .places .rises), merging-start _ _ _ _ _ _ _ _ (c .before .before .before .pre), only-none _ _ _ _)
+loop-holds c = (omega (arith, c .before .before .before .pre .places .rises), merging-start _ _ _ _ (c .before .before .before .pre), only-none _ _ _ _)
 
 put-next-requires : tie.Need-put-next-requires Inv-loop μ-loop
 put-next-requires c κs = (c .before .before .before .loop .inv .1, c .before .if1 .taken)
@@ -40,7 +40,7 @@ same-length : tie.Need-same-length Inv-loop μ-loop
 same-length c = c .before .before .loop .inv .2 .long
 
 returns : tie.Need-returns Inv-loop μ-loop
-returns c = (merging-end _ _ _ _ _ _ _ _ _ _ _ _ _ (c .before .before .loop .inv .1) (c .if1 .left) (c .before .before .loop .inv .0) _ (c .before .before .before .before .before .before .pre .places) (c .before .before .loop .inv .2), c .before .before .loop .inv .2)
+returns c = (merging-end _ _ _ _ _ _ (c .before .before .loop .inv .1) (c .if1 .left) (c .before .before .loop .inv .0) _ (c .before .before .before .before .before .before .pre .places) (c .before .before .loop .inv .2), c .before .before .loop .inv .2)
 
 pub merge-spec : {M : Type 1} → statement M
 merge-spec =

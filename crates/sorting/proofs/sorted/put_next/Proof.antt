@@ -2,7 +2,7 @@
 -- By the laws of an entry put out, over what the choice and the writing ensure. Assumes nothing.
 use native.Mathlib.Omega.{arith}
 use borrow.Author.Needs.{needs}
-use Rattle.sorting.proofs.MergeLaws.{left-put, right-put, put-only}
+use Rattle.sorting.proofs.MergeLaws.{heads-placed, left-put, right-put, put-only}
 use Rattle.sorting.proofs.sorted.put_next.Statement.{statement}
 use Rattle.sorting.proofs.sorted.put_next.Tie as tie
 use Rattle.sorting.proofs.sorted.put_next.Reads as reads
@@ -19,7 +19,7 @@ add-out : tie.Need-add-out
 add-out c = search needs
 
 choose-head-requires : tie.Need-choose-head-requires
-choose-head-requires c κs = search needs
+choose-head-requires c κs = heads-placed _ _ _ _ _ _ (c .before .before .before .before .before .pre .0) (c .before .before .before .before .before .pre .1)
 
 add-next : tie.Need-add-next
 add-next c = search needs
@@ -43,7 +43,7 @@ same-length : tie.Need-same-length
 same-length c = search needs
 
 returns : tie.Need-returns
-returns c = (left-put _ _ _ _ _ _ _ _ _ _ _ _ _ (c .before .before .before .before .before .before .before .before .before .before .before .before .before .before .before .before .pre .0) _ _ _ _ _ (c .before .before .before .before .before .before .before .before .before .before .before .before .before .before .before .before .pre .1) (c .before .before .before .before .before .before .before .before .before .before .choose-head .ensures) (c .before .before .before .before .before .before .before .before .before .if1 .taken) (search needs) (omega (arith, c .before .before .before .before .before .before .before .before .struct-known2 .given .1 .1 .0)) (c .before .before .before .before .before .before .load .ensures) (c .before .before .put-pair .ensures) (c .before .before .before .before .shared-before .ensures), put-only _ _ _ _ _ _ _ _ _ _ _ _ _ (c .before .before .before .before .before .before .before .before .before .before .before .before .before .before .before .before .pre .0) _ _ _ 0 0 (c .before .before .before .before .before .before .before .before .before .before .before .before .before .before .before .before .pre .1) (c .before .before .before .before .before .before .before .before .before .before .choose-head .ensures) _ _ (c .before .before .put-pair .ensures))
+returns c = (left-put _ _ _ _ _ _ (c .before .before .before .before .before .before .before .before .before .before .before .before .before .before .before .before .pre .0) _ _ _ _ _ (c .before .before .before .before .before .before .before .before .before .before .before .before .before .before .before .before .pre .1) (c .before .before .before .before .before .before .before .before .before .before .choose-head .ensures) (c .before .before .before .before .before .before .before .before .before .if1 .taken) (search needs) (omega (arith, c .before .before .before .before .before .before .before .before .struct-known2 .given .1 .1 .0)) (c .before .before .before .before .before .before .load .ensures) (c .before .before .put-pair .ensures) (c .before .before .before .before .shared-before .ensures), put-only _ _ _ _ _ _ (c .before .before .before .before .before .before .before .before .before .before .before .before .before .before .before .before .pre .0) _ _ _ 0 0 (c .before .before .before .before .before .before .before .before .before .before .before .before .before .before .before .before .pre .1) (c .before .before .before .before .before .before .before .before .before .before .choose-head .ensures) _ _ (c .before .before .put-pair .ensures))
 
 add-next-2 : tie.Need-add-next-2
 add-next-2 c = search needs
@@ -67,7 +67,7 @@ same-length-2 : tie.Need-same-length-2
 same-length-2 c = search needs
 
 returns-2 : tie.Need-returns-2
-returns-2 c = (right-put _ _ _ _ _ _ _ _ _ _ _ _ _ (c .before .before .before .before .before .before .before .before .before .before .before .before .before .before .before .before .pre .0) _ _ _ _ _ (c .before .before .before .before .before .before .before .before .before .before .before .before .before .before .before .before .pre .1) (c .before .before .before .before .before .before .before .before .before .before .choose-head .ensures) (c .before .before .before .before .before .before .before .before .before .if1 .left) (search needs) (omega (arith, c .before .before .before .before .before .before .before .before .struct-known3 .given .1 .1 .1 .0)) (c .before .before .before .before .before .before .load2 .ensures) (c .before .before .put-pair2 .ensures) (c .before .before .before .before .shared-before2 .ensures), put-only _ _ _ _ _ _ _ _ _ _ _ _ _ (c .before .before .before .before .before .before .before .before .before .before .before .before .before .before .before .before .pre .0) _ _ _ 0 0 (c .before .before .before .before .before .before .before .before .before .before .before .before .before .before .before .before .pre .1) (c .before .before .before .before .before .before .before .before .before .before .choose-head .ensures) _ _ (c .before .before .put-pair2 .ensures))
+returns-2 c = (right-put _ _ _ _ _ _ (c .before .before .before .before .before .before .before .before .before .before .before .before .before .before .before .before .pre .0) _ _ _ _ _ (c .before .before .before .before .before .before .before .before .before .before .before .before .before .before .before .before .pre .1) (c .before .before .before .before .before .before .before .before .before .before .choose-head .ensures) (c .before .before .before .before .before .before .before .before .before .if1 .left) (search needs) (omega (arith, c .before .before .before .before .before .before .before .before .struct-known3 .given .1 .1 .1 .0)) (c .before .before .before .before .before .before .load2 .ensures) (c .before .before .put-pair2 .ensures) (c .before .before .before .before .shared-before2 .ensures), put-only _ _ _ _ _ _ (c .before .before .before .before .before .before .before .before .before .before .before .before .before .before .before .before .pre .0) _ _ _ 0 0 (c .before .before .before .before .before .before .before .before .before .before .before .before .before .before .before .before .pre .1) (c .before .before .before .before .before .before .before .before .before .before .choose-head .ensures) _ _ (c .before .before .put-pair2 .ensures))
 
 pub put-next-spec : {M : Type 1} → statement M
 put-next-spec =

@@ -1,7 +1,6 @@
 -- Records are sorted by their texts: copied, and sorted from the copy back.
 -- By the laws of the copy, over what copying and sorting ensure. Assumes nothing.
 use mathlib.Core.Path.{_∙_}
-use borrow.Author.Needs.{needs}
 use Rattle.sorting.proofs.SortLaws.{copied-sortable, copied-arranged, copied-only}
 use Rattle.sorting.proofs.sorted.sort_records.Statement.{statement}
 use Rattle.sorting.proofs.sorted.sort_records.Tie as tie
