@@ -31,7 +31,7 @@ clear-heads-requires : tie.Need-clear-heads-requires Inv-loop μ-loop
 clear-heads-requires c κs = omega (arith, c .before .before .before .before .pre .1 .room)
 
 loop-holds : tie.Need-loop-holds Inv-loop μ-loop
-loop-holds c = 
+loop-holds c =
     let clear = c .before .before .clear-heads .ensures in (
       omega arith,
       refl,

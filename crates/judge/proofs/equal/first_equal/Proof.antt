@@ -24,7 +24,7 @@ sample-requires : tie.Need-sample-requires
 sample-requires c κs = λ z k h. omega (arith, c .before .stride-of .ensures z k h, c .before .before .before .before .before .pre .lead .within)
 
 are-apart-requires : tie.Need-are-apart-requires
-are-apart-requires c κs = 
+are-apart-requires c κs =
     let pre = c .before .before .before .before .before .before .before .before .before .pre in (
       record { within = omega (arith, pre .lead .within, pre .whole); kinds = pre .lead .types },
       record { few = omega (arith, pre .lead .within, pre .few); room = omega (arith, pre .lead .within, pre .room, c .before .before .before .sample .ensures .long) },
@@ -38,7 +38,7 @@ returns : tie.Need-returns
 returns c = (record { within = omega arith; before = c .before .before .before .are-apart .ensures .0 (c .if1 .taken); found = λ h. absurd (omega arith) }, c .before .before .before .are-apart .ensures .1 ∙ c .before .before .before .before .before .before .before .sample .ensures .long)
 
 first-by-sorting-requires : tie.Need-first-by-sorting-requires
-first-by-sorting-requires c κs = 
+first-by-sorting-requires c κs =
     let pre = c .before .before .before .before .before .before .before .before .before .before .before .before .before .before .pre in
     record { whole = pre .whole; few = pre .few; room = omega (arith, pre .room, c .before .before .before .before .are-apart .ensures .1, c .before .before .before .before .before .before .before .before .sample .ensures .long); lead = pre .lead }
 
