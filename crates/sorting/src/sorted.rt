@@ -1,5 +1,5 @@
-// Records sorted by their texts, in a time that no choice of the texts makes much longer: each entry keeps how far its text agrees with that of the one before,
-// so that in merging two runs a byte that agreed is not compared again.
+// Records sorted by their keys, in a time that no choice of the keys makes much longer: each entry keeps how far its key agrees with that of the one before,
+// so that in merging two runs a byte that agreed is not compared again. The key of a type is its form and words, and that of a Custom or of any other record its text.
 ghost use mathlib.Core.Path.{_≡_};
 ghost use mathlib.Core.Bool.{true};
 ghost use Prim.Native.Nat.{ℕ, _+_, _-_, _*_, _≤_, _<_};
@@ -25,7 +25,7 @@ use records::words::put_pair;
 use records::words::put_word;
 use records::words::word;
 
-// An entry is a record, and beside it how far its text agrees with that of the entry before.
+// An entry is a record, and beside it how far its key agrees with that of the entry before.
 pub const SORT_ENTRY_BYTES: usize = 8;
 
 // How many of n bytes from i and from j on agree, where the first `from` do: all where these are the same bytes.
@@ -53,7 +53,7 @@ fn comes_first(text: &[u8], i: usize, x: usize, j: usize, y: usize, shared: usiz
     text[i + shared] < text[j + shared]
 }
 
-// Which of two is next, and how far their texts agree.
+// Which of two is next, and how far their texts or keys agree.
 struct Choice {
     left: bool,
     shared: u32,
@@ -156,7 +156,7 @@ fn compare(tree: &[u8], text: &[u8], a: usize, b: usize, from: usize) -> Choice
     compare_texts(tree, text, a, b, from)
 }
 
-// Both stand behind one text, with which they agree in so many bytes: the one that agrees further is next, and only where they agree just as far are they
+// Both stand behind one key, with which they agree in so many numbers: the one that agrees further is next, and only where they agree just as far are they
 // compared, from there on.
 fn choose(
     tree: &[u8],
@@ -194,7 +194,7 @@ struct Runs {
     hi: usize,
 }
 
-// The entry of each that is next, and how far its text agrees with that of the last one put out.
+// The entry of each that is next, and how far its key agrees with that of the last one put out.
 struct Heads {
     left: usize,
     right: usize,
@@ -348,7 +348,7 @@ fn copy_records(scratch: &mut [u8], at: usize, to: usize, m: usize)
     }
 }
 
-// The m records from `at` on, which rise, are sorted by their texts; as many entries from `to` on are room to work in.
+// The m records from `at` on, which rise, are sorted by their keys; as many entries from `to` on are room to work in.
 pub fn sort_records(tree: &[u8], text: &[u8], scratch: &mut [u8], at: usize, to: usize, m: usize)
     requires { ⌜ TwoPlaces at to 0 m (now scratch) × RecordsRise (records (now tree)) at 0 m (now scratch) ⌝ }
     ensures { λ _. ⌜ Arranged (recordKey (now (tree .entry)) (now (text .entry))) (now (scratch .entry)) at (now (scratch .exit)) at 0 m ⌝ }
@@ -384,7 +384,7 @@ fn key_long(tree: &[u8], text: &[u8], r: usize) -> usize
     text_long(tree, text, r)
 }
 
-// Entry i and the one behind it have the same text: they agree to the end of both.
+// Entry i and the one behind it have the same key: they agree to the end of both.
 fn same_as_next(tree: &[u8], text: &[u8], scratch: &[u8], at: usize, m: usize, i: usize) -> bool
     requires { ⌜ SortedRecords (recordKey (now tree) (now text)) (records (now tree)) at m (now scratch) × (i + 1 < m) ⌝ }
     ensures { λ v. ⌜ v ≡ sameNext (recordKey (now (tree .entry)) (now (text .entry))) (now (scratch .entry)) at i ⌝ }
@@ -400,7 +400,7 @@ fn same_as_next(tree: &[u8], text: &[u8], scratch: &[u8], at: usize, m: usize, i
     (shared == x) & (shared == y)
 }
 
-// The record of the entry behind entry i, if that has the same text; else `bound`.
+// The record of the entry behind entry i, if that has the same key; else `bound`.
 fn repeated_behind(
     tree: &[u8],
     text: &[u8],
@@ -419,7 +419,7 @@ fn repeated_behind(
     bound
 }
 
-// The lowest of m sorted records that has the text of a lower one, or `bound` where none is lower than that.
+// The lowest of m sorted records that has the key of a lower one, or `bound` where none is lower than that.
 pub fn first_repeated(
     tree: &[u8],
     text: &[u8],
@@ -444,7 +444,7 @@ pub fn first_repeated(
     lowest
 }
 
-// The first record with the text of entry i, where `first` is that with the text of the entry before.
+// The first record with the key of entry i, where `first` is that with the key of the entry before.
 fn first_up_to(
     tree: &[u8],
     text: &[u8],
@@ -469,7 +469,7 @@ fn first_up_to(
     r
 }
 
-// Each of m sorted records gets its number, the first record with its text: a word for each record, from `to` on.
+// Each of m sorted records gets its number, the first record with its key: a word for each record, from `to` on.
 pub fn number_sorted(tree: &[u8], text: &[u8], scratch: &mut [u8], at: usize, m: usize, to: usize)
     requires { ⌜ SortedRecords (recordKey (now tree) (now text)) (records (now tree)) at m (now scratch) × NumbersApart (records (now tree)) at m to (now scratch) ⌝ }
     ensures { λ _. ⌜ NumberedUpTo (recordKey (now (tree .entry)) (now (text .entry))) (records (now (tree .entry))) at m to m (now (scratch .entry)) (now (scratch .exit)) ⌝ }

@@ -1,4 +1,4 @@
--- Which of two texts behind a third is next, by how far each agrees with it, and else by comparing them from there on.
+-- Which of two keys behind a third is next, by how far each agrees with it, and else by comparing them from there on.
 -- By the laws of which is next. Assumes nothing.
 use native.Mathlib.Omega.{arith}
 use borrow.Author.Needs.{needs}

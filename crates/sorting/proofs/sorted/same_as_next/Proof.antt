@@ -1,4 +1,4 @@
--- Two entries one behind the other have the same text just if they agree to the end of both.
+-- Two entries one behind the other have the same key just if they agree to the end of both.
 -- By the law of such texts, over what the words and the lengths ensure. Assumes nothing.
 use mathlib.Core.Path.{_∙_}
 use Prim.Native.Nat.{_+_}

@@ -1,4 +1,4 @@
--- Records are sorted by their texts: copied, and sorted from the copy back.
+-- Records are sorted by their keys: copied, and sorted from the copy back.
 -- By the laws of the copy, over what copying and sorting ensure. Assumes nothing.
 use mathlib.Core.Path.{_∙_}
 use Rattle.sorting.proofs.SortLaws.{copied-sortable, copied-arranged, copied-only}
