@@ -37,6 +37,9 @@ module _ (tree : List ℕ) (r x : ℕ) (ex : x ≡ detailOf tree r) where
   pub is-unnamed : (x ≡ 8 → ⊥) → isCustom tree r ≡ false
   is-unnamed n = ne-eqb (detailOf tree r) 8 (λ e. n (ex ∙ e))
 
+pub not-custom : (tree : List ℕ) (r : ℕ) → isCustom tree r ≡ false → detailOf tree r ≡ 8 → ⊥
+not-custom tree r n e = false≢true (sym n ∙ eq-eqb (detailOf tree r) 8 e)
+
 -- its digest
 module _ (tree text : List ℕ) (r x a b : ℕ) where
   pub custom-told : (v : ℕ) → x ≡ detailOf tree r → x ≡ 8 → a ≡ wordOf tree r A → b ≡ wordOf tree r B → v ≡ digestOf (textAt text a b) → v ≡ typeDigest tree text r

@@ -13,7 +13,7 @@ ghost use Rattle.records.specs.Samples.{sampleBytes, SampleRoom, Sampled};
 ghost use Rattle.judge.specs.Inner.{Lowest, Passing};
 ghost use Rattle.sorting.specs.Sorted.{sortEntryBytes};
 ghost use Rattle.judge.specs.Equal.{Leading, alike, likeEarlier, typeBucket, TypesChained, DigestsPassed, TypesListed};
-use crate::types::same_type;
+use crate::types::same_words;
 use records::chains::bucket;
 use records::chains::clear_heads;
 use records::chains::enter;
@@ -91,7 +91,7 @@ fn type_digest(tree: &[u8], text: &[u8], scratch: &[u8], at: usize, stride: usiz
     word_digest(wide(d), a, b, word(tree, r, WORD_C))
 }
 
-// Type k is taken for r: they share a digest, and are equal where r is no Custom. The name of a Custom is not looked at here.
+// Type k is taken for r: they share a digest, and are equal where r is no Custom. No name is looked at: the text is lent for the contract alone, here and below.
 fn is_alike(tree: &[u8], text: &[u8], k: usize, r: usize, digest: u32, d: u32) -> bool
     requires { ⌜ (k * recordBytes + recordBytes ≤ length (now tree)) × (r * recordBytes + recordBytes ≤ length (now tree)) ⌝ }
     requires { ⌜ (digest ≡ typeDigest (now tree) (now text) k) × (d ≡ typeDigest (now tree) (now text) r) ⌝ }
@@ -103,7 +103,7 @@ fn is_alike(tree: &[u8], text: &[u8], k: usize, r: usize, digest: u32, d: u32) -
     if detail(tree, r) == FORM_CUSTOM {
         return true;
     }
-    same_type(tree, text, k, r)
+    same_words(tree, k, r)
 }
 
 // A walk that passes more entries than this is too long. Of types that are not made to share a bucket hardly ten do.

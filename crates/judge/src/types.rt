@@ -1,16 +1,18 @@
 // The rules for types: the twelve first, types before all else; when two are equal.
 ghost use mathlib.Core.Path.{_≡_};
-ghost use Prim.Native.Nat.{_+_, _*_, _≤_, _<_};
+ghost use mathlib.Core.Bool.{false};
+ghost use mathlib.Core.List.{List};
+ghost use Prim.Native.Nat.{ℕ, _+_, _*_, _≤_};
 ghost use lib.ListN.{length};
 ghost use Rattle.records.specs.Words.{recordBytes};
 ghost use Rattle.records.specs.Rules.{isFirstType, sameType};
 ghost use Rattle.judge.specs.Inner.{TypesLead};
+ghost use Rattle.judge.specs.Equal.{isCustom};
 use records::numbers::CHAR_TYPE;
 use records::numbers::FORM_ADDRESS;
 use records::numbers::FORM_BOOL;
 use records::numbers::FORM_BYTE;
 use records::numbers::FORM_CHAR;
-use records::numbers::FORM_CUSTOM;
 use records::numbers::FORM_FLOAT;
 use records::numbers::FORM_INT;
 use records::numbers::FORM_NULL;
@@ -20,7 +22,6 @@ use records::numbers::FORM_SHORT_UNSIGNED;
 use records::numbers::FORM_UNSIGNED;
 use records::numbers::KIND_TYPE;
 use records::numbers::NULL_TYPE;
-use records::texts::same_text;
 use records::words::FEWEST_RECORDS;
 use records::words::WORD_A;
 use records::words::WORD_B;
@@ -89,21 +90,16 @@ pub(crate) fn leading_types(tree: &[u8], n: usize) -> usize
     n
 }
 
-// Types j and r are equal, key text aside.
-pub(crate) fn same_type(tree: &[u8], text: &[u8], j: usize, r: usize) -> bool
+// Types j and r, of which r is no Custom, are equal, key text aside. So no name has a part in it.
+pub(crate) fn same_words(tree: &[u8], j: usize, r: usize) -> bool
     requires { ⌜ (j * recordBytes + recordBytes ≤ length (now tree)) × (r * recordBytes + recordBytes ≤ length (now tree)) ⌝ }
-    ensures { λ v. ⌜ v ≡ sameType (now (tree .entry)) (now (text .entry)) j r ⌝ }
+    requires { ⌜ isCustom (now tree) r ≡ false ⌝ }
+    ensures { λ v. ⌜ ((text : List ℕ) → v ≡ sameType (now (tree .entry)) text j r) ⌝ }
 {
-    let d = detail(tree, r);
-    if detail(tree, j) != d {
+    if detail(tree, j) != detail(tree, r) {
         return false;
     }
-    let ja = word(tree, j, WORD_A);
-    let jb = word(tree, j, WORD_B);
-    let ra = word(tree, r, WORD_A);
-    let rb = word(tree, r, WORD_B);
-    if d == FORM_CUSTOM {
-        return same_text(text, ja, jb, ra, rb);
-    }
-    (ja == ra) & (jb == rb) & (word(tree, j, WORD_C) == word(tree, r, WORD_C))
+    (word(tree, j, WORD_A) == word(tree, r, WORD_A))
+        & (word(tree, j, WORD_B) == word(tree, r, WORD_B))
+        & (word(tree, j, WORD_C) == word(tree, r, WORD_C))
 }
