@@ -14,6 +14,7 @@ ghost use Rattle.judge.specs.Inner.{Lowest, Passing};
 ghost use Rattle.sorting.specs.Sorted.{sortEntryBytes};
 ghost use Rattle.judge.specs.Equal.{Leading, alike, likeEarlier, typeBucket, TypesChained, DigestsPassed, TypesListed};
 use crate::types::same_words;
+use records::chains::FAR;
 use records::chains::bucket;
 use records::chains::clear_heads;
 use records::chains::enter;
@@ -105,9 +106,6 @@ fn is_alike(tree: &[u8], text: &[u8], k: usize, r: usize, digest: u32, d: u32) -
     }
     same_words(tree, k, r)
 }
-
-// A walk that passes more entries than this is too long. Of types that are not made to share a bucket hardly ten do.
-const FAR: u32 = 32;
 
 // Some type below r is taken for it, or there are too many to tell: the chain of its bucket is walked from the head on.
 fn may_have_alike(

@@ -1,6 +1,6 @@
 -- One layout of the scratch: 72 bytes a record, cut into regions that lie one behind the other. Assumes nothing: these are definitions.
-use Prim.Native.Nat.{ℕ, _+_, _*_}
-use mathlib.Core.Bool.{Bool, true, false, _&&_}
+use Prim.Native.Nat.{ℕ, _+_}
+use mathlib.Core.Bool.{Bool, _&&_}
 use mathlib.Core.List.{List, [], _∷_}
 use lib.Dec.{leb}
 
@@ -45,10 +45,10 @@ abbrev pub nextKind : ℕ
 nextKind = knownBytes + slotKind
 
 -- what the judge knows: the first slot and one for each record, so that the last lies in the region behind, which has nothing yet; before that, twelve bytes for each
--- type, while equal types are looked for, and behind them, where names overlap, the samples of the text (`specs/Samples.antt`); once the tree is judged, twelve for each
--- record, while equal texts are looked for (`specs/Chains.antt`, `specs/Order.antt`), and behind them, up to the numbers of the texts, the samples again where texts
--- overlap; while texts are numbered by sorting, from byte 0 on instead, two arrays of entries of eight bytes a record (`sorting/specs/Sorted.antt`); then the functions'
--- records in their order, a word each
+-- type, while equal types are looked for, and behind them, where names overlap, the samples of the text (`specs/Samples.antt`), or where the types are sorted, from byte
+-- 0 on instead, two arrays of entries of eight bytes a type (`sorting/specs/Sorted.antt`); once the tree is judged, twelve for each record, while equal texts are looked
+-- for (`specs/Chains.antt`, `specs/Order.antt`), and behind them, up to the numbers of the texts, the samples again where texts overlap, or where texts are sorted, from
+-- byte 0 on instead, two such arrays of eight bytes a record; then the functions' records in their order, a word each
 abbrev pub judging : Region
 judging = record { from = 0; each = 4 }
 

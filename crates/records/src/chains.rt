@@ -9,6 +9,10 @@ use crate::layout::CHAIN_HEAD_BYTES;
 use crate::words::put_pair;
 use crate::words::put_word;
 
+// A walk that passes more entries than this is too long: of what is not made to share a digest or a bucket hardly ten meet in one. It must lie below the most that a
+// walk in order counts (MOST_PASSED in order.rt): else none there is too long.
+pub const FAR: u32 = 32;
+
 // The bucket of a digest, of n buckets: a product and its upper half cost less than a remainder.
 pub fn bucket(d: u32, n: usize) -> usize
     requires { ⌜ (0 < n) × (n ≤ mostRecords) ⌝ }

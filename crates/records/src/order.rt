@@ -129,7 +129,7 @@ pub struct ChainPlace {
     pub passed: u32,
 }
 
-// More than this are not counted. Whoever asks whether more than so many were passed must ask for a number below this: FAR in texts/src/lib.rt is.
+// More than this are not counted. Whoever asks whether more than so many were passed must ask for a number below this, as FAR in chains.rt is.
 const MOST_PASSED: u32 = 64;
 
 // One entry more is passed.

@@ -1,4 +1,4 @@
--- What sorting tells of the entries as they stood before: they are the records that are sorted, so the first with a text and those that repeat one are the same.
+-- What sorting tells of the entries as they stood before: they are the records that are sorted, so the first with a key and those that repeat one are the same.
 -- Entry for entry, there and back. Assumes nothing.
 use mathlib.Core.Path.{_≡_, ap, subst, _∙_}
 use mathlib.Core.Logic.{_⊎_, inl, inr}
@@ -6,7 +6,7 @@ use mathlib.Core.List.{List}
 use Prim.Native.Nat.{ℕ, _+_, _*_, _<_}
 use native.Mathlib.Omega.{arith}
 use Rattle.records.specs.Words.{wordAt}
-use Rattle.sorting.specs.Sorted.{recordIn, HasEntry, Arranged, OnlyBoth, TwoPlaces, RecordsRise, SortedRecords, Repeated, FirstRepeated, FirstOfText, NumberedUpTo}
+use Rattle.sorting.specs.Sorted.{recordIn, HasEntry, Arranged, OnlyBoth, TwoPlaces, RecordsRise, SortedRecords, Repeated, FirstRepeated, FirstOfKey, NumberedUpTo}
 use Rattle.sorting.proofs.MergeLaws.{stands-is}
 
 module _ (t : ℕ → List ℕ) (at m : ℕ) (s s′ : List ℕ) (r : Arranged t s at s′ at 0 m) where
@@ -26,7 +26,7 @@ module _ (t : ℕ → List ℕ) (at m : ℕ) (s s′ : List ℕ) (r : Arranged t
   stands : (x : ℕ) → HasEntry s at 0 m x → HasEntry s′ at 0 m x
   stands x u = stands-is s′ at 0 m (recordIn s at (u .place)) x (u .there) (r .all (u .place) (u .low) (u .high))
 
-  pub first-before : (x v : ℕ) → FirstOfText t s′ at m x v → FirstOfText t s at m x v
+  pub first-before : (x v : ℕ) → FirstOfKey t s′ at m x v → FirstOfKey t s at m x v
   first-before x v f =
       record {
         stands = stood v (f .stands);
@@ -37,10 +37,10 @@ module _ (t : ℕ → List ℕ) (at m : ℕ) (s s′ : List ℕ) (r : Arranged t
       }
 
   pub numbers-before : (n to : ℕ) (s″ : List ℕ) → NumberedUpTo t n at m to m s′ s″ → (i : ℕ) → i < m
-      → FirstOfText t s at m (recordIn s at i) (wordAt s″ (to + 4 * recordIn s at i))
+      → FirstOfKey t s at m (recordIn s at i) (wordAt s″ (to + 4 * recordIn s at i))
   numbers-before n to s″ w i h =
       let u : HasEntry s′ at 0 m (recordIn s at i) = r .all i (omega arith) h in
-      subst (λ (x : ℕ). FirstOfText t s at m x (wordAt s″ (to + 4 * x))) (u .there)
+      subst (λ (x : ℕ). FirstOfKey t s at m x (wordAt s″ (to + 4 * x))) (u .there)
       (first-before (recordIn s′ at (u .place)) (wordAt s″ (to + 4 * recordIn s′ at (u .place))) (w .number (u .place) (u .high)))
 
   pub repeated-before : (bound v : ℕ) → FirstRepeated t s′ at m bound v → FirstRepeated t s at m bound v

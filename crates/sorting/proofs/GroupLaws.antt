@@ -1,4 +1,4 @@
--- What sorted entries tell: any two are in order, those with one text stand together, the lower first; so which repeat a text, and which is the first with one.
+-- What sorted entries tell: any two are in order, those with one key stand together, the lower first; so which repeat a key, and which is the first with one.
 -- By the laws of the order, and by induction on how far entries lie apart. Assumes nothing.
 use mathlib.Core.Path.{_≡_, refl, sym, ap, subst, _∙_}
 use mathlib.Core.Logic.{_⊎_, inl, inr}
@@ -18,11 +18,11 @@ use Rattle.records.proofs.Apart.{byte-apart, word-apart, word-there, word-back}
 use Rattle.records.proofs.CommonLaws.{common-self}
 use Rattle.records.proofs.TextLaws.{same-texts}
 use Rattle.records.proofs.DigestLaws.{same-equal}
-use Rattle.sorting.specs.Sorted.{ahead, Precedes, recordIn, sharedIn, sameNext, HasEntry, SortedRecords, Repeated, RepeatedBehind, FirstRepeated, FirstOfText, FirstUpTo, NumbersApart, NumberedUpTo}
+use Rattle.sorting.specs.Sorted.{ahead, Precedes, recordIn, sharedIn, sameNext, HasEntry, SortedRecords, Repeated, RepeatedBehind, FirstRepeated, FirstOfKey, FirstUpTo, NumbersApart, NumberedUpTo}
 use Rattle.sorting.proofs.AheadLaws.{ahead-weak, ahead-self, ahead-trans, ahead-both, whole}
 use Rattle.sorting.proofs.MergeLaws.{SameEntries, entries-kept, sorted-kept}
 
--- two texts are the same just if they agree to the end of both
+-- two keys are the same just if they agree to the end of both
 pub same-whole : (x y : List ℕ) (shared a b : ℕ) → shared ≡ common x y → a ≡ length x → b ≡ length y → (eqb shared a && eqb shared b) ≡ sameText x y
 same-whole x y shared a b es ea eb =
     tested (sameText x y)
@@ -47,7 +47,7 @@ precedes-trans : (t : ℕ → List ℕ) (a b c : ℕ) → Precedes t a b → Pre
 precedes-trans t a b c h k =
     ahead-trans (t a) (t b) (t c) (ltb a b) (ltb b c) (ltb a c) h k (λ p q. lt-ltb a c (omega (arith, ltb-true a b p, ltb-true b c q)))
 
--- the entries below i are looked at: v is the lowest of their records that repeat a text, or the bound
+-- the entries below i are looked at: v is the lowest of their records that repeat a key, or the bound
 abbrev pub Looked : (ℕ → List ℕ) → List ℕ → ℕ → ℕ → ℕ → ℕ → ℕ → Type 0
 Looked t s at m bound i v =
     ((v ≡ bound) ⊎ Repeated t s at m v) × ((q : ℕ) → q + 1 < i → t (recordIn s at q) ≡ t (recordIn s at (q + 1)) → v ≤ recordIn s at (q + 1))
@@ -60,6 +60,10 @@ module _ (t : ℕ → List ℕ) (n at m : ℕ) (s : List ℕ) (w : SortedRecords
       (es ∙ w .sorted i (omega arith) h .shares)
       (ex ∙ ap (λ (q : ℕ). length (t q)) ea)
       (ey ∙ ap (λ (q : ℕ). length (t q)) eb)
+
+  -- so are the first k of them
+  pub fewer : (k : ℕ) → k ≤ m → SortedRecords t n at k s
+  fewer k h = record { room = omega (arith, w .room); inside = λ i z. w .inside i (omega arith); sorted = λ i z y. w .sorted i z (omega arith) }
 
   -- ---- any two
 
@@ -79,7 +83,7 @@ module _ (t : ℕ → List ℕ) (n at m : ℕ) (s : List ℕ) (w : SortedRecords
       let e : i + (j - i - 1 + 1) ≡ j = omega arith in
       subst (λ (q : ℕ). Precedes t (recordIn s at i) (recordIn s at q)) e (far (j - i - 1) i (omega arith))
 
-  -- of those with one text the lower is the first
+  -- of those with one key the lower is the first
   pub lower-first : (i j : ℕ) → i < j → j < m → t (recordIn s at i) ≡ t (recordIn s at j) → recordIn s at i < recordIn s at j
   lower-first i j h k e =
       let a : ℕ = recordIn s at i in
@@ -97,13 +101,13 @@ module _ (t : ℕ → List ℕ) (n at m : ℕ) (s : List ℕ) (w : SortedRecords
       let e : i ≡ j = omega (arith, ltb-false i j y) in
       subst (λ (q : ℕ). ahead (t (recordIn s at i)) (t (recordIn s at q)) true ≡ true) e (ahead-self (t (recordIn s at i)) true))
 
-  -- those with one text stand together
+  -- those with one key stand together
   together : (i k j : ℕ) → i ≤ k → k ≤ j → j < m → t (recordIn s at i) ≡ t (recordIn s at j) → t (recordIn s at k) ≡ t (recordIn s at j)
   together i k j a b c e =
       ahead-both (t (recordIn s at k)) (t (recordIn s at j)) (weakly k j b c)
       (subst (λ (u : List ℕ). ahead u (t (recordIn s at k)) true ≡ true) e (weakly i k a (omega arith)))
 
-  -- ---- which repeat a text
+  -- ---- which repeat a key
 
   pub repeated-here : (i bound v : ℕ) (b : Bool) → b ≡ sameNext t s at i → b ≡ true → v ≡ recordIn s at (i + 1)
       → RepeatedBehind t s at i bound v
@@ -198,7 +202,7 @@ module _ (t : ℕ → List ℕ) (n at m : ℕ) (s : List ℕ) (w : SortedRecords
         ∙ same-texts _ _ (subst (λ (g : ℕ). t (recordIn s at g) ≡ t (recordIn s at (q + 1))) x (k ∙ ap (λ (g : ℕ). t (recordIn s at g)) (sym eq)))))
         e
 
-  pub first-of : (i v : ℕ) → i < m → FirstUpTo t s at i v → FirstOfText t s at m (recordIn s at i) v
+  pub first-of : (i v : ℕ) → i < m → FirstUpTo t s at i v → FirstOfKey t s at m (recordIn s at i) v
   first-of i v h f =
       record {
         stands = record { place = f .place; low = omega arith; high = omega (arith, f .high); there = f .there };
@@ -280,15 +284,15 @@ module _ (t : ℕ → List ℕ) (n at m to : ℕ) (s₀ : List ℕ) (w : SortedR
                   tested (ltb q i)
                   (λ y.
                   let y′ : q < i = ltb-true q i y in
-                  subst (λ (v : ℕ). FirstOfText t s₀ at m (recordIn s₀ at q) v)
+                  subst (λ (v : ℕ). FirstOfKey t s₀ at m (recordIn s₀ at q) v)
                   (sym
                   (ap (λ (x : List ℕ). wordAt x (to + 4 * recordIn s₀ at q)) e
                   ∙ word-apart s (to + 4 * r) (word first) number-fits (to + 4 * recordIn s₀ at q) (other q y′)))
                   (u .number q y′))
                   (λ y.
                   let z : i ≡ q = omega (arith, ltb-false q i y) in
-                  subst (λ (x : ℕ). FirstOfText t s₀ at m (recordIn s₀ at x) (wordAt s′ (to + 4 * recordIn s₀ at x))) z
-                  (subst (λ (v : ℕ). FirstOfText t s₀ at m (recordIn s₀ at i) v)
+                  subst (λ (x : ℕ). FirstOfKey t s₀ at m (recordIn s₀ at x) (wordAt s′ (to + 4 * recordIn s₀ at x))) z
+                  (subst (λ (v : ℕ). FirstOfKey t s₀ at m (recordIn s₀ at i) v)
                   (sym
                   (ap (λ (x : List ℕ). wordAt x (to + 4 * recordIn s₀ at i)) e
                   ∙ word-there s (to + 4 * r) (word first) number-fits 0 (to + 4 * recordIn s₀ at i) (omega (arith, its)) (omega arith)

@@ -12,7 +12,7 @@ use Rattle.laws.specs.Fix.{pick}
 use Rattle.laws.proofs.Tests.{tested, and-left, and-right}
 use Rattle.records.specs.Order.{common, recordText}
 use Rattle.records.specs.Rules.{sameType}
-use Rattle.records.specs.Words.{kindOf, detailOf, wordOf, textAt, sameText, A, B, C}
+use Rattle.records.specs.Words.{kindOf, detailOf, wordOf, textAt, A, B, C}
 use Rattle.records.proofs.CommonLaws.{more, none, common-left}
 use Rattle.records.proofs.DigestLaws.{same-equal}
 use Rattle.records.proofs.TextLaws.{same-texts}

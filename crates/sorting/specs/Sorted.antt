@@ -44,8 +44,7 @@ ahead [] (b ∷ u) same = true
 ahead (a ∷ t) [] same = false
 ahead (a ∷ t) (b ∷ u) same = pick (eqb a b) (ahead t u same) (ltb a b)
 
--- number a goes before number b: by their texts, and the lower first where these are the same. t is the text of each number, or its key: texts are what they are
--- called below
+-- number a goes before number b: by their keys, and the lower first where these are the same. t is the key of each number
 abbrev pub Precedes : (ℕ → List ℕ) → ℕ → ℕ → Type 0
 Precedes t a b = ahead (t a) (t b) (ltb a b) ≡ true
 
@@ -119,7 +118,7 @@ pub record Sortable (n at to lo hi : ℕ) (s : List ℕ) : Type 0 where
 
 -- ---- merging
 
--- texts t and u come behind one text, with which they share so much
+-- keys t and u come behind one key, with which they share so much
 pub record BehindOne (t u : List ℕ) (left right : ℕ) : Type 0 where
   pub before : List ℕ
   pub leftBehind : ahead before t true ≡ true
@@ -127,7 +126,7 @@ pub record BehindOne (t u : List ℕ) (left right : ℕ) : Type 0 where
   pub leftShares : left ≡ common before t
   pub rightShares : right ≡ common before u
 
--- whether text t is next, which it is where both are the same, and how much it shares with u
+-- whether key t is next, which it is where both are the same, and how much it shares with u
 pub record Chosen (t u : List ℕ) (left : Bool) (shared : ℕ) : Type 0 where
   pub next : left ≡ ahead t u true
   pub shares : shared ≡ common t u
@@ -177,11 +176,11 @@ pub record SortedRecords (t : ℕ → List ℕ) (n at m : ℕ) (s : List ℕ) : 
   pub inside : (i : ℕ) → i < m → recordIn s at i < n
   pub sorted : Sorted t s at 0 m
 
--- entry i and the one behind it have the same text
+-- entry i and the one behind it have the same key
 abbrev pub sameNext : (ℕ → List ℕ) → List ℕ → ℕ → ℕ → Bool
 sameNext t s at i = sameText (t (recordIn s at i)) (t (recordIn s at (i + 1)))
 
--- record r is that of an entry, and has the text of a lower one that is
+-- record r is that of an entry, and has the key of a lower one that is
 pub record Repeated (t : ℕ → List ℕ) (s : List ℕ) (at m r : ℕ) : Type 0 where
   pub here : HasEntry s at 0 m r
   pub lower : ℕ
@@ -189,7 +188,7 @@ pub record Repeated (t : ℕ → List ℕ) (s : List ℕ) (at m r : ℕ) : Type 
   pub less : lower < r
   pub same : t lower ≡ t r
 
--- v is the record of the entry behind entry i, if both have the same text, else `bound`
+-- v is the record of the entry behind entry i, if both have the same key, else `bound`
 pub record RepeatedBehind (t : ℕ → List ℕ) (s : List ℕ) (at i bound v : ℕ) : Type 0 where
   pub found : (v ≡ bound) ⊎ ((v ≡ recordIn s at (i + 1)) × (t (recordIn s at i) ≡ t (recordIn s at (i + 1))))
   pub least : t (recordIn s at i) ≡ t (recordIn s at (i + 1)) → v ≡ recordIn s at (i + 1)
@@ -199,13 +198,13 @@ pub record FirstRepeated (t : ℕ → List ℕ) (s : List ℕ) (at m bound v : �
   pub found : (v ≡ bound) ⊎ Repeated t s at m v
   pub least : (r : ℕ) → Repeated t s at m r → v ≤ r
 
--- v is the lowest record of an entry that has the text of record r
-pub record FirstOfText (t : ℕ → List ℕ) (s : List ℕ) (at m r v : ℕ) : Type 0 where
+-- v is the lowest record of an entry that has the key of record r
+pub record FirstOfKey (t : ℕ → List ℕ) (s : List ℕ) (at m r v : ℕ) : Type 0 where
   pub stands : HasEntry s at 0 m v
   pub same : t v ≡ t r
   pub least : (i : ℕ) → i < m → t (recordIn s at i) ≡ t r → v ≤ recordIn s at i
 
--- entry `place` is the first with the text of entry i, and its record is v
+-- entry `place` is the first with the key of entry i, and its record is v
 pub record FirstUpTo (t : ℕ → List ℕ) (s : List ℕ) (at i v : ℕ) : Type 0 where
   pub place : ℕ
   pub high : place ≤ i
@@ -218,8 +217,8 @@ pub record NumbersApart (n at m to : ℕ) (s : List ℕ) : Type 0 where
   pub room : to + originals .each * n ≤ length s
   pub apart : (at + sortEntryBytes * m ≤ to) ⊎ (to + originals .each * n ≤ at)
 
--- the first i entries have their numbers, the first record with their text; nothing but numbers is written
+-- the first i entries have their numbers, the first record with their key; nothing but numbers is written
 pub record NumberedUpTo (t : ℕ → List ℕ) (n at m to i : ℕ) (s s′ : List ℕ) : Type 0 where
   pub long : length s′ ≡ length s
   pub bytes : (p : ℕ) → (p < to) ⊎ (to + originals .each * n ≤ p) → getD s′ p 0 ≡ getD s p 0
-  pub number : (q : ℕ) → q < i → FirstOfText t s at m (recordIn s at q) (wordAt s′ (to + originals .each * recordIn s at q))
+  pub number : (q : ℕ) → q < i → FirstOfKey t s at m (recordIn s at q) (wordAt s′ (to + originals .each * recordIn s at q))

@@ -385,8 +385,8 @@ fn key_long(tree: &[u8], text: &[u8], r: usize) -> usize
 }
 
 // Entry i and the one behind it have the same key: they agree to the end of both.
-fn same_as_next(tree: &[u8], text: &[u8], scratch: &[u8], at: usize, m: usize, i: usize) -> bool
-    requires { ⌜ SortedRecords (recordKey (now tree) (now text)) (records (now tree)) at m (now scratch) × (i + 1 < m) ⌝ }
+fn same_as_next(tree: &[u8], text: &[u8], scratch: &[u8], at: usize, i: usize) -> bool
+    requires { ⌜ SortedRecords (recordKey (now tree) (now text)) (records (now tree)) at (i + 2) (now scratch) ⌝ }
     ensures { λ v. ⌜ v ≡ sameNext (recordKey (now (tree .entry)) (now (text .entry))) (now (scratch .entry)) at i ⌝ }
 {
     let next = i + 1;
@@ -406,14 +406,13 @@ fn repeated_behind(
     text: &[u8],
     scratch: &[u8],
     at: usize,
-    m: usize,
     i: usize,
     bound: usize,
 ) -> usize
-    requires { ⌜ SortedRecords (recordKey (now tree) (now text)) (records (now tree)) at m (now scratch) × (i + 1 < m) ⌝ }
+    requires { ⌜ SortedRecords (recordKey (now tree) (now text)) (records (now tree)) at (i + 2) (now scratch) ⌝ }
     ensures { λ v. ⌜ RepeatedBehind (recordKey (now (tree .entry)) (now (text .entry))) (now (scratch .entry)) at i bound v ⌝ }
 {
-    if same_as_next(tree, text, scratch, at, m, i) {
+    if same_as_next(tree, text, scratch, at, i) {
         return index(load(scratch, at + SORT_ENTRY_BYTES * (i + 1)));
     }
     bound
@@ -437,7 +436,7 @@ pub fn first_repeated(
         let before = i - 1;
         lowest = least(
             lowest,
-            repeated_behind(tree, text, scratch, at, m, before, bound),
+            repeated_behind(tree, text, scratch, at, before, bound),
         );
         i += 1;
     }
@@ -445,16 +444,8 @@ pub fn first_repeated(
 }
 
 // The first record with the key of entry i, where `first` is that with the key of the entry before.
-fn first_up_to(
-    tree: &[u8],
-    text: &[u8],
-    scratch: &[u8],
-    at: usize,
-    m: usize,
-    i: usize,
-    first: u32,
-) -> u32
-    requires { ⌜ SortedRecords (recordKey (now tree) (now text)) (records (now tree)) at m (now scratch) × (i < m) ⌝ }
+fn first_up_to(tree: &[u8], text: &[u8], scratch: &[u8], at: usize, i: usize, first: u32) -> u32
+    requires { ⌜ SortedRecords (recordKey (now tree) (now text)) (records (now tree)) at (i + 1) (now scratch) ⌝ }
     requires { ⌜ ((q : ℕ) → q + 1 ≡ i → FirstUpTo (recordKey (now tree) (now text)) (now scratch) at q first) ⌝ }
     ensures { λ v. ⌜ FirstUpTo (recordKey (now (tree .entry)) (now (text .entry))) (now (scratch .entry)) at i v ⌝ }
 {
@@ -463,7 +454,7 @@ fn first_up_to(
         return r;
     }
     let before = i - 1;
-    if same_as_next(tree, text, scratch, at, m, before) {
+    if same_as_next(tree, text, scratch, at, before) {
         return first;
     }
     r
@@ -477,7 +468,7 @@ pub fn number_sorted(tree: &[u8], text: &[u8], scratch: &mut [u8], at: usize, m:
     let mut first: u32 = 0;
     let mut i = 0;
     while i < m {
-        first = first_up_to(tree, text, scratch, at, m, i, first);
+        first = first_up_to(tree, text, scratch, at, i, first);
         let r = index(load(scratch, at + SORT_ENTRY_BYTES * i));
         put_word(scratch, to + ORIGINAL_BYTES * r, first);
         i += 1;

@@ -18,7 +18,7 @@ use Rattle.records.specs.Digest.{rollOf}
 use Rattle.records.specs.Words.{wordAt, word, records}
 use Rattle.records.proofs.Apart.{word-same}
 use Rattle.records.proofs.DigestLaws.{same-equal}
-use Rattle.sorting.specs.Sorted.{recordKey, recordIn, HasEntry, Arranged, OnlyThere, OnlyBoth, TwoPlaces, SortedRecords, NumbersApart, FirstOfText, NumberedUpTo}
+use Rattle.sorting.specs.Sorted.{recordKey, recordIn, HasEntry, Arranged, OnlyThere, OnlyBoth, TwoPlaces, SortedRecords, NumbersApart, FirstOfKey, NumberedUpTo}
 use Rattle.sorting.proofs.KeyLaws.{words-not, key-text}
 use Rattle.sorting.proofs.MergeLaws.{entries-kept, put-there, put-record, only-wider}
 use Rattle.sorting.proofs.ArrangedLaws.{sorted-records, numbers-before}
@@ -153,7 +153,7 @@ unfolding hasText
 own-key tree text k h = key-text tree text k (words-not tree k (λ e. false≢true (sym (ap hasText e) ∙ h)))
 
 module _ (tree text : List ℕ) (m : ℕ) (s : List ℕ) (c : Collected tree (records tree) m s) where
-  number-first : (r v : ℕ) → hasOwn tree r ≡ true → FirstOfText (recordKey tree text) s 0 m r v → original tree text r ≡ v
+  number-first : (r v : ℕ) → hasOwn tree r ≡ true → FirstOfKey (recordKey tree text) s 0 m r v → original tree text r ≡ v
   unfolding original numberOr sameOwn
   number-first r v own f =
       let u : HasEntry s 0 0 m v = f .stands in
@@ -196,7 +196,7 @@ module _ (tree text : List ℕ) (m : ℕ) (s : List ℕ) (c : Collected tree (re
                   let u : HasEntry s 0 0 m r = c .all r h t in
                   sym
                   (number-first r (wordAt s₄ (originalAt (records tree) r)) t
-                  (subst (λ (x : ℕ). FirstOfText (recordKey tree text) s 0 m x (wordAt s₄ (originalAt (records tree) x))) (u .there)
+                  (subst (λ (x : ℕ). FirstOfKey (recordKey tree text) s 0 m x (wordAt s₄ (originalAt (records tree) x))) (u .there)
                   (numbers-before (recordKey tree text) 0 m s s₃ a (records tree) (40 * records tree) s₄ n (u .place) (u .high))));
               digest = λ r h t.
                   word-same s₄ (textDigestAt (records tree) r) s₁ (textDigestAt (records tree) r) (behind (textDigestAt (records tree) r) (omega arith))

@@ -62,12 +62,12 @@ pub record Passed (tree text : List ℕ) (r : ℕ) (s : List ℕ) : Type 0 where
   pub rolled : Rolled tree text r s
 
 -- where texts are sorted, the entries stand from this byte on, where the chains stood; behind eight bytes a record there is room for them once more
-abbrev pub entriesFrom : ℕ
-entriesFrom = 0
+abbrev pub textEntriesFrom : ℕ
+textEntriesFrom = 0
 
 -- the records below r that have a text are m entries, in rising order
 pub record Collected (tree : List ℕ) (r m : ℕ) (s : List ℕ) : Type 0 where
   pub few : m ≤ r
-  pub rises : RecordsRise r entriesFrom 0 m s
-  pub own : (i : ℕ) → i < m → hasOwn tree (recordIn s entriesFrom i) ≡ true
-  pub all : (k : ℕ) → k < r → hasOwn tree k ≡ true → HasEntry s entriesFrom 0 m k
+  pub rises : RecordsRise r textEntriesFrom 0 m s
+  pub own : (i : ℕ) → i < m → hasOwn tree (recordIn s textEntriesFrom i) ≡ true
+  pub all : (k : ℕ) → k < r → hasOwn tree k ≡ true → HasEntry s textEntriesFrom 0 m k

@@ -10,7 +10,8 @@ ghost use Rattle.records.specs.Digest.{rollModulus, rollOf};
 ghost use Rattle.records.specs.Words.{wordAt, textAt, records, mostRecords, none};
 ghost use Rattle.sorting.specs.Sorted.{OnlyThere};
 ghost use Rattle.texts.specs.Texts.{hasText, hasOwn, original as originalOf, originalAt, textDigestAt, Numbered, Kept};
-ghost use Rattle.texts.specs.Pass.{textBucket, samplesFrom, SamplesFit, Read, OnlySamples, Chains, Entered, Rolled, entriesFrom, Collected, Passed};
+ghost use Rattle.texts.specs.Pass.{textBucket, samplesFrom, SamplesFit, Read, OnlySamples, Chains, Entered, Rolled, textEntriesFrom, Collected, Passed};
+use records::chains::FAR;
 use records::chains::bucket;
 use records::chains::clear_heads;
 use records::layout::CHAIN_EACH;
@@ -223,7 +224,7 @@ const ENTRIES: usize = 0;
 // Record r becomes entry m of those to sort, if it has a text. How many there are is given back.
 fn collect_record(tree: &[u8], r: usize, m: usize, scratch: &mut [u8]) -> usize
     requires { ⌜ (records (now tree) ≤ mostRecords) × (r < records (now tree)) × (scratchEach * records (now tree) ≤ length (now scratch)) × Collected (now tree) r m (now scratch) ⌝ }
-    ensures { λ v. ⌜ Collected (now (tree .entry)) (r + 1) v (now (scratch .exit)) × OnlyThere entriesFrom 0 (records (now (tree .entry))) (now (scratch .entry)) (now (scratch .exit)) ⌝ }
+    ensures { λ v. ⌜ Collected (now (tree .entry)) (r + 1) v (now (scratch .exit)) × OnlyThere textEntriesFrom 0 (records (now (tree .entry))) (now (scratch .entry)) (now (scratch .exit)) ⌝ }
 {
     if !has_text(kind(tree, r)) {
         return m;
@@ -236,7 +237,7 @@ fn collect_record(tree: &[u8], r: usize, m: usize, scratch: &mut [u8]) -> usize
 fn collect_texts(tree: &[u8], scratch: &mut [u8]) -> usize
     requires { ⌜ (records (now tree) ≤ mostRecords) × (scratchEach * records (now tree) ≤ length (now scratch)) ⌝ }
     ensures { λ v. ⌜ Collected (now (tree .entry)) (records (now (tree .entry))) v (now (scratch .exit)) ⌝ }
-    ensures { λ _. ⌜ OnlyThere entriesFrom 0 (records (now (tree .entry))) (now (scratch .entry)) (now (scratch .exit)) ⌝ }
+    ensures { λ _. ⌜ OnlyThere textEntriesFrom 0 (records (now (tree .entry))) (now (scratch .entry)) (now (scratch .exit)) ⌝ }
 {
     let n = tree.len() / RECORD_BYTES;
     let mut m = 0;
@@ -268,10 +269,6 @@ fn number_by_sorting(tree: &[u8], text: &[u8], r: usize, k: Reading, scratch: &m
     );
     number_sorted(tree, text, scratch, ENTRIES, m, ORIGINALS * n);
 }
-
-// A walk that passes more entries than this is too long. Of texts that are not made to have one digest hardly ten meet in a bucket. It must lie below the most
-// that a walk counts (MOST_PASSED in records/src/order.rt): else no walk is too long, and nothing is sorted.
-const FAR: u32 = 32;
 
 // Every text of a good tree gets its number and its digest, in one pass over the records. The chains stand where nothing else does yet, and so do the samples.
 // Who knows the digest can make a chain long: once a walk along one is too long, the texts are sorted instead.

@@ -1,6 +1,6 @@
 -- The leading types are entered one after the other. The invariant: none of those passed equals an earlier one.
 -- By what each step ensures and the law of what nothing is like; the measure is what is left of the types. Assumes nothing.
-use mathlib.Core.Path.{_≡_, refl, sym, _∙_}
+use mathlib.Core.Path.{_≡_, refl, _∙_}
 use mathlib.Core.Bool.{false, not, false≢true}
 use Prim.Native.Nat.{ℕ, _≤_, _<_, _-_}
 use native.Mathlib.Omega.{arith}

@@ -1,4 +1,4 @@
--- Which head of two runs is next: the other where a run is at its end, else by their texts.
+-- Which head of two runs is next: the other where a run is at its end, else by their keys.
 -- By the laws of two heads, over what the words and the choice ensure. Assumes nothing.
 use mathlib.Core.Path.{_∙_}
 use borrow.Author.Needs.{needs}

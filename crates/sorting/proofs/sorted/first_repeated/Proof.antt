@@ -1,10 +1,10 @@
--- The lowest record that repeats a text. The invariant: it is that of the entries looked at, or the bound.
+-- The lowest record that repeats a key. The invariant: it is that of the entries looked at, or the bound.
 -- By the laws of such entries; the measure is what is left. Assumes nothing.
 use Prim.Native.Nat.{_-_, _≤_}
 use native.Mathlib.Omega.{arith}
 use borrow.Author.Needs.{needs}
 use Rattle.sorting.specs.Sorted.{recordKey}
-use Rattle.sorting.proofs.GroupLaws.{Looked, looked-none, looked-more, looked-all}
+use Rattle.sorting.proofs.GroupLaws.{fewer, Looked, looked-none, looked-more, looked-all}
 use Rattle.sorting.proofs.sorted.first_repeated.Statement.{statement}
 use Rattle.sorting.proofs.sorted.first_repeated.Tie as tie
 use Rattle.sorting.proofs.sorted.first_repeated.Reads as reads
@@ -25,7 +25,7 @@ sub-before : tie.Need-sub-before Inv-loop μ-loop
 sub-before c = omega (arith, c .before .loop .inv .0)
 
 repeated-behind-requires : tie.Need-repeated-behind-requires Inv-loop μ-loop
-repeated-behind-requires c κs = (c .before .before .before .before .before .pre, omega (arith, c .loop-test .taken, c .before .loop .inv .0))
+repeated-behind-requires c κs = fewer _ _ _ _ _ (c .before .before .before .before .before .pre) _ (omega (arith, c .loop-test .taken, c .before .loop .inv .0))
 
 least-requires : tie.Need-least-requires Inv-loop μ-loop
 least-requires c κs = search needs

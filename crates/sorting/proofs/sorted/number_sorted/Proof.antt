@@ -1,4 +1,4 @@
--- Each sorted record gets its number. The invariant: those passed have theirs, and the first with the last one's text is known.
+-- Each sorted record gets its number. The invariant: those passed have theirs, and the first with the last one's key is known.
 -- By the laws of numbers written; the measure is what is left. Assumes nothing.
 use mathlib.Core.Path.{_≡_, _∙_}
 use Prim.Native.Nat.{ℕ, _+_, _-_, _≤_}
@@ -6,7 +6,7 @@ use native.Mathlib.Omega.{arith}
 use borrow.Author.Needs.{needs}
 use Rattle.records.specs.Words.{records}
 use Rattle.sorting.specs.Sorted.{recordKey, FirstUpTo, NumberedUpTo}
-use Rattle.sorting.proofs.GroupLaws.{numbered-none, numbered-whole, sorted-still, up-to-now, up-to-then, number-fits, numbered-more}
+use Rattle.sorting.proofs.GroupLaws.{fewer, numbered-none, numbered-whole, sorted-still, up-to-now, up-to-then, number-fits, numbered-more}
 use Rattle.sorting.proofs.sorted.number_sorted.Statement.{statement}
 use Rattle.sorting.proofs.sorted.number_sorted.Tie as tie
 use Rattle.sorting.proofs.sorted.number_sorted.Reads as reads
@@ -29,7 +29,7 @@ loop-holds : tie.Need-loop-holds Inv-loop μ-loop
 loop-holds c = (omega arith, (λ q e. absurd (omega arith)), numbered-none _ _ _ _ _ _ (c .before .before .before .pre .0) (c .before .before .before .pre .1))
 
 first-up-to-requires : tie.Need-first-up-to-requires Inv-loop μ-loop
-first-up-to-requires c κs = ((sorted-still _ _ _ _ _ _ (c .before .before .before .before .before .before .pre .0) (c .before .before .before .before .before .before .pre .1) _ _ (c .before .before .loop .inv .2), c .before .loop-test .taken), up-to-now _ _ _ _ _ _ (c .before .before .before .before .before .before .pre .0) (c .before .before .before .before .before .before .pre .1) _ _ (c .before .before .loop .inv .2) _ (c .before .loop-test .taken) (c .before .before .loop .inv .1))
+first-up-to-requires c κs = (fewer _ _ _ _ _ (sorted-still _ _ _ _ _ _ (c .before .before .before .before .before .before .pre .0) (c .before .before .before .before .before .before .pre .1) _ _ (c .before .before .loop .inv .2)) (c .before .before .loop .i + 1) (omega (arith, c .before .loop-test .taken)), up-to-now _ _ _ _ _ _ (c .before .before .before .before .before .before .pre .0) (c .before .before .before .before .before .before .pre .1) _ _ (c .before .before .loop .inv .2) _ (c .before .loop-test .taken) (c .before .before .loop .inv .1))
 
 mul-load : tie.Need-mul-load Inv-loop μ-loop
 mul-load c = omega (arith, c .before .before .before .before .before .before .before .before .pre .0 .room, c .before .before .before .before .loop .inv .2 .long, c .before .before .before .loop-test .taken)

@@ -1,4 +1,4 @@
--- The record of the entry behind, if both have the same text.
+-- The record of the entry behind, if both have the same key.
 -- From what the comparison and the word ensure. Assumes nothing.
 use mathlib.Core.Path.{_∙_}
 use borrow.Author.Needs.{needs}
@@ -30,10 +30,10 @@ index-requires : tie.Need-index-requires
 index-requires c κs = search needs
 
 returns : tie.Need-returns
-returns c = repeated-here _ _ _ _ _ (c .before .before .before .before .before .before .before .pre .0) _ _ _ _ (c .before .before .before .same-as-next .ensures) (c .before .before .if1 .taken) (c .index .ensures ∙ c .before .load .ensures)
+returns c = repeated-here _ _ _ _ _ (c .before .before .before .before .before .before .before .pre) _ _ _ _ (c .before .before .before .same-as-next .ensures) (c .before .before .if1 .taken) (c .index .ensures ∙ c .before .load .ensures)
 
 returns-2 : tie.Need-returns-2
-returns-2 c = repeated-not _ _ _ _ _ (c .before .before .before .before .before .pre .0) _ _ _ (c .before .same-as-next .ensures) (c .if1 .left)
+returns-2 c = repeated-not _ _ _ _ _ (c .before .before .before .before .before .pre) _ _ _ (c .before .same-as-next .ensures) (c .if1 .left)
 
 pub repeated-behind-spec : {M : Type 1} → statement M
 repeated-behind-spec =

@@ -1,5 +1,5 @@
 -- Two entries one behind the other have the same key just if they agree to the end of both.
--- By the law of such texts, over what the words and the lengths ensure. Assumes nothing.
+-- By the law of such keys, over what the words and the lengths ensure. Assumes nothing.
 use mathlib.Core.Path.{_∙_}
 use Prim.Native.Nat.{_+_}
 use native.Mathlib.Omega.{arith}
@@ -45,7 +45,7 @@ index-requires-2 : tie.Need-index-requires-2
 index-requires-2 c κs = search needs
 
 key-long-requires : tie.Need-key-long-requires
-key-long-requires c κs = omega (arith, c .index2 .ensures, c .before .load2 .ensures, c .before .before .before .before .before .before .before .pre .0 .inside (c .before .before .before .before .before .before .before .args .i) (omega (arith, c .before .before .before .before .before .before .before .pre .1)))
+key-long-requires c κs = omega (arith, c .index2 .ensures, c .before .load2 .ensures, c .before .before .before .before .before .before .before .pre .inside (c .before .before .before .before .before .before .before .args .i) (omega arith))
 
 mul-load-3 : tie.Need-mul-load-3
 mul-load-3 c = search needs
@@ -60,10 +60,10 @@ index-requires-3 : tie.Need-index-requires-3
 index-requires-3 c κs = search needs
 
 key-long-requires-2 : tie.Need-key-long-requires-2
-key-long-requires-2 c κs = omega (arith, c .index3 .ensures, c .before .load3 .ensures, c .before .before .before .before .before .before .before .before .before .before .pre .0 .inside (c .before .before .before .before .before .before .before .before .before .before .args .i + 1) (c .before .before .before .before .before .before .before .before .before .before .pre .1))
+key-long-requires-2 c κs = omega (arith, c .index3 .ensures, c .before .load3 .ensures, c .before .before .before .before .before .before .before .before .before .before .pre .inside (c .before .before .before .before .before .before .before .before .before .before .args .i + 1) (omega arith))
 
 returns : tie.Need-returns
-returns c = same-told (recordKey _ _) _ _ _ _ (c .before .before .before .before .before .before .before .before .before .before .before .pre .0) _ _ _ _ _ _ (c .before .before .before .before .before .before .before .before .before .before .before .pre .1) (c .before .before .before .before .before .before .index .ensures ∙ c .before .before .before .before .before .before .before .load .ensures) (c .before .before .before .before .index2 .ensures ∙ c .before .before .before .before .before .load2 .ensures) (c .before .index3 .ensures ∙ c .before .before .load3 .ensures) (c .before .before .before .key-long .ensures) (c .key-long2 .ensures)
+returns c = same-told (recordKey _ _) _ _ _ _ (c .before .before .before .before .before .before .before .before .before .before .before .pre) _ _ _ _ _ _ (omega arith) (c .before .before .before .before .before .before .index .ensures ∙ c .before .before .before .before .before .before .before .load .ensures) (c .before .before .before .before .index2 .ensures ∙ c .before .before .before .before .before .load2 .ensures) (c .before .index3 .ensures ∙ c .before .before .load3 .ensures) (c .before .before .before .key-long .ensures) (c .key-long2 .ensures)
 
 pub same-as-next-spec : {M : Type 1} → statement M
 same-as-next-spec =
