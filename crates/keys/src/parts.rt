@@ -6,6 +6,7 @@ ghost use Rattle.records.specs.Words.{recordBytes, textAt, wordOf};
 ghost use Rattle.conversion.specs.Ir.{sameText};
 ghost use Rattle.conversion.specs.Expressions.{castVerb, mainName, variadicMark};
 ghost use Rattle.conversion.specs.Functions.{is-ascii};
+ghost use Rattle.keys.specs.Parts.{asciiBlock};
 use records::texts::same_run;
 use records::words::reference;
 
@@ -63,6 +64,24 @@ pub fn is_variadic_mark(text: &[u8], p: Part) -> bool
     same_bytes(text, p, b"$...")
 }
 
+// So many bytes of a long text are looked at together.
+const BLOCK: usize = 64;
+
+// Whether a block of bytes from `at` on is Latin. Nothing branches on a byte, so that the compiler looks at many at once.
+fn is_ascii_block(text: &[u8], at: usize) -> bool
+    requires { ⌜ at + asciiBlock ≤ length (now text) ⌝ }
+    ensures { λ r. ⌜ r ≡ is-ascii (textAt (now (text .entry)) at asciiBlock) ⌝ }
+{
+    let mut latin = true;
+    let mut i = 0;
+    while i < BLOCK {
+        latin = latin & (text[at + i] < 128);
+        i += 1;
+    }
+    latin
+}
+
+// By blocks, and the rest singly.
 pub fn is_ascii(text: &[u8], p: Part) -> bool
     requires { ⌜ p .offset + p .len ≤ length (now text) ⌝ }
     ensures { λ r. ⌜ r ≡ is-ascii (textAt (now (text .entry)) (p .offset) (p .len)) ⌝ }
@@ -70,6 +89,12 @@ pub fn is_ascii(text: &[u8], p: Part) -> bool
     let at = p.offset;
     let n = p.len;
     let mut i = 0;
+    while n - i >= BLOCK {
+        if !is_ascii_block(text, at + i) {
+            return false;
+        }
+        i += BLOCK;
+    }
     while i < n {
         if text[at + i] >= 128 {
             return false;
