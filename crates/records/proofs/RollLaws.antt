@@ -1,9 +1,9 @@
--- The digest that goes on: over two texts one behind the other, over what is left of a run of bytes, and over sixteen bytes at once.
--- A number's remainder is that of its parts' remainders; 2^64 less 25 is a multiple of 2^32 - 5. Assumes nothing.
+-- The digest that goes on: over two texts one behind the other, over four, eight and sixteen bytes at once, and over what is left of a run.
+-- A number's remainder is that of its parts' remainders; 2^32 less 5 is the modulus, and steps of two widths make one of both. Assumes nothing.
 use mathlib.Core.Path.{_≡_, refl, sym, ap, _∙_}
 use mathlib.Core.List.{List, [], _∷_, _++_}
 use Prim.Native.Nat.{ℕ, zero, suc, _+_, _-_, _*_, _/_, _%_, _≤_, _<_}
-use native.Mathlib.Nat.{mul-add-mod-self-right}
+use native.Mathlib.Nat.{add-mul, mul-assoc, mul-add-mod-self-right}
 use native.Mathlib.Omega.{arith}
 use lib.ListN.{length, take, drop, getD}
 use lib.Seq.{drop-drop, take-add}
@@ -40,7 +40,21 @@ step-exact y b =
     let z : y * 256 + b ≡ y / 4294967291 * 256 * 4294967291 + (y % 4294967291 * 256 + b) = omega arith in
     sym (ap (λ (n : ℕ). n % 4294967291) z ∙ mul-add-mod-self-right (y / 4294967291 * 256) 4294967291 (y % 4294967291 * 256 + b))
 
--- ---- eight bytes
+-- ---- several bytes at once
+
+-- over the w bytes from i on any digest is multiplied by k, and g is added
+abbrev pub RollOver : List ℕ → ℕ → ℕ → ℕ → ℕ → Type 0
+RollOver t i w k g = (y : ℕ) → rollFrom (y % 4294967291) (textAt t i w) ≡ (y * k + g) % 4294967291
+
+-- w bytes, and v behind them
+over-both : (t : List ℕ) (i w v k m g h : ℕ) → RollOver t i w k g → RollOver t (i + w) v m h → RollOver t i (w + v) (k * m) (g * m + h)
+over-both t i w v k m g h first second y =
+    let z : (y * k + g) * m + h ≡ y * (k * m) + (g * m + h) = omega (arith, add-mul (y * k) g m, mul-assoc y k m) in
+    ap (rollFrom (y % 4294967291)) (text-split t i w v)
+    ∙ roll-append (y % 4294967291) (textAt t i w) (textAt t (i + w) v)
+    ∙ ap (λ (x : ℕ). rollFrom x (textAt t (i + w) v)) (first y)
+    ∙ second (y * k + g)
+    ∙ ap (λ (n : ℕ). n % 4294967291) z
 
 abbrev more : ℕ → ℕ → ℕ
 more y b = y * 256 + b
@@ -51,9 +65,9 @@ four-exact y a b c d =
     rw (step-exact y a, step-exact (more y a) b, step-exact (more (more y a) b) c, step-exact (more (more (more y a) b) c) d) refl
 
 -- four bytes: 2^32 is 5
-four-digits : (t : List ℕ) (i y : ℕ) → i + 4 ≤ length t → rollFrom (y % 4294967291) (textAt t i 4) ≡ (y * 5 + highFirst t i) % 4294967291
+pub over-four : (t : List ℕ) (i : ℕ) → i + 4 ≤ length t → RollOver t i 4 5 (highFirst t i)
 unfolding highFirst
-four-digits t i y h =
+over-four t i h y =
     let z : more (more (more (more y (byteAt t i)) (byteAt t (i + 1))) (byteAt t (i + 2))) (byteAt t (i + 3)) ≡ y * 4294967291 + (y * 5 + highFirst t i) =
     omega arith in
     ap (rollFrom (y % 4294967291)) (four-bytes t i h)
@@ -61,36 +75,29 @@ four-digits t i y h =
     ∙ ap (λ (n : ℕ). n % 4294967291) z
     ∙ mul-add-mod-self-right y 4294967291 (y * 5 + highFirst t i)
 
-four-more : (t : List ℕ) (i y n : ℕ) → i + 4 + n ≤ length t
-    → rollFrom (y % 4294967291) (textAt t i (4 + n)) ≡ rollFrom ((y * 5 + highFirst t i) % 4294967291) (textAt t (i + 4) n)
-four-more t i y n h =
-    ap (rollFrom (y % 4294967291)) (text-split t i 4 n)
-    ∙ roll-append (y % 4294967291) (textAt t i 4) (textAt t (i + 4) n)
-    ∙ ap (λ (x : ℕ). rollFrom x (textAt t (i + 4) n)) (four-digits t i y (omega arith))
+-- eight, and sixteen, by their halves
+abbrev eight : List ℕ → ℕ → ℕ
+eight t i = highFirst t i * 5 + highFirst t (i + 4)
 
--- sixteen, as the code adds them
-module _ (t : List ℕ) (i x a b : ℕ) (h : i + 16 ≤ length t) (ea : a ≡ highFirst t i * 5 + highFirst t (i + 4)) (eb : b ≡ highFirst t (i + 8) * 5 + highFirst t (i + 8 + 4)) where
-  sixteen-digits : rollFrom (x % 4294967291) (textAt t i 16) ≡ (x * 625 + a * 25 + b) % 4294967291
-  sixteen-digits =
-      let y : ℕ = x * 5 + highFirst t i in
-      let z : ℕ = y * 5 + highFirst t (i + 4) in
-      let w : ℕ = z * 5 + highFirst t (i + 8) in
-      let p : i + 4 + 4 ≡ i + 8 = omega arith in
-      let last : w * 5 + highFirst t (i + 8 + 4) ≡ x * 625 + a * 25 + b = omega (arith, ea, eb) in
-      four-more t i x 12 (omega arith)
-      ∙ four-more t (i + 4) y 8 (omega arith)
-      ∙ ap (λ (o : ℕ). rollFrom (z % 4294967291) (textAt t o 8)) p
-      ∙ four-more t (i + 8) z 4 (omega arith)
-      ∙ four-digits t (i + 8 + 4) w (omega arith)
-      ∙ ap (λ (n : ℕ). n % 4294967291) last
+pub over-eight : (t : List ℕ) (i : ℕ) → i + 8 ≤ length t → RollOver t i 8 25 (eight t i)
+over-eight t i h = over-both t i 4 4 5 5 (highFirst t i) (highFirst t (i + 4)) (over-four t i (omega arith)) (over-four t (i + 4) (omega arith))
 
-  pub sixteen-told : (r : ℕ) → r % 4294967291 ≡ (x * 625 + a * 25 + b) % 4294967291 → r % 4294967291 ≡ rollFrom (x % 4294967291) (textAt t i 16)
-  sixteen-told r e = e ∙ sym sixteen-digits
+pub over-sixteen : (t : List ℕ) (i : ℕ) → i + 16 ≤ length t → RollOver t i 16 625 (eight t i * 25 + eight t (i + 8))
+over-sixteen t i h = over-both t i 8 8 25 25 (eight t i) (eight t (i + 8)) (over-eight t i (omega arith)) (over-eight t (i + 8) (omega arith))
+
+-- as the code adds them
+pub over-told : (t : List ℕ) (i w k g x s r : ℕ) → RollOver t i w k g → r % 4294967291 ≡ s % 4294967291 → s ≡ x * k + g
+    → r % 4294967291 ≡ rollFrom (x % 4294967291) (textAt t i w)
+over-told t i w k g x s r over e z = e ∙ ap (λ (n : ℕ). n % 4294967291) z ∙ sym (over x)
 
 -- ---- a run of n bytes from `at` on: what was asked is what is left from i on
 
 abbrev pub RollLeft : List ℕ → ℕ → ℕ → ℕ → ℕ → ℕ → Type 0
 RollLeft t d at n x i = (i ≤ n) × (x < 8589934592) × (rollFrom d (textAt t at n) ≡ rollFrom (x % 4294967291) (textAt t (at + i) (n - i)))
+
+-- the same by other names, where two ways meet
+pub roll-met : (t : List ℕ) (d at n x i y j : ℕ) → y ≡ x → j ≡ i → RollLeft t d at n x i → RollLeft t d at n y j
+roll-met t d at n x i y j ey ej w = rw (ey, ej) w
 
 module _ (t : List ℕ) (d at n : ℕ) (fit : at + n ≤ length t) where
   pub roll-start : (x : ℕ) → x ≡ d → d < 4294967291 → RollLeft t d at n x 0
@@ -100,18 +107,18 @@ module _ (t : List ℕ) (d at n : ℕ) (fit : at + n ≤ length t) where
       let r : d ≡ x % 4294967291 = omega (arith, e) in
       (omega arith, omega (arith, e), ap (λ (o : ℕ). rollFrom d (textAt t o n)) z ∙ ap (λ (m : ℕ). rollFrom d (textAt t (at + 0) m)) y ∙ ap (λ (v : ℕ). rollFrom v (textAt t (at + 0) (n - 0))) r)
 
-  pub roll-on : (x r i : ℕ) → RollLeft t d at n x i → 16 ≤ n - i → (r % 4294967291 ≡ rollFrom (x % 4294967291) (textAt t (at + i) 16)) × (r < 8589934592) → RollLeft t d at n r (i + 16)
-  roll-on x r i w h e =
-      let z : n - i ≡ 16 + (n - (i + 16)) = omega arith in
-      let y : at + i + 16 ≡ at + (i + 16) = omega arith in (
-        omega arith,
+  pub roll-on : (w x r i : ℕ) → RollLeft t d at n x i → w ≤ n - i → (r % 4294967291 ≡ rollFrom (x % 4294967291) (textAt t (at + i) w)) × (r < 8589934592) → RollLeft t d at n r (i + w)
+  roll-on w x r i left h e =
+      let z : n - i ≡ w + (n - (i + w)) = omega (arith, left .0) in
+      let y : at + i + w ≡ at + (i + w) = omega arith in (
+        omega (arith, left .0),
         e .1,
-        w .2
+        left .2
             ∙ ap (λ (m : ℕ). rollFrom (x % 4294967291) (textAt t (at + i) m)) z
-            ∙ ap (rollFrom (x % 4294967291)) (text-split t (at + i) 16 (n - (i + 16)))
-            ∙ roll-append (x % 4294967291) (textAt t (at + i) 16) (textAt t (at + i + 16) (n - (i + 16)))
-            ∙ ap (λ (v : ℕ). rollFrom v (textAt t (at + i + 16) (n - (i + 16)))) (sym (e .0))
-            ∙ ap (λ (o : ℕ). rollFrom (r % 4294967291) (textAt t o (n - (i + 16)))) y,
+            ∙ ap (rollFrom (x % 4294967291)) (text-split t (at + i) w (n - (i + w)))
+            ∙ roll-append (x % 4294967291) (textAt t (at + i) w) (textAt t (at + i + w) (n - (i + w)))
+            ∙ ap (λ (v : ℕ). rollFrom v (textAt t (at + i + w) (n - (i + w)))) (sym (e .0))
+            ∙ ap (λ (o : ℕ). rollFrom (r % 4294967291) (textAt t o (n - (i + w)))) y,
       )
 
   pub roll-one : (x r i b : ℕ) → RollLeft t d at n x i → i < n → b ≡ getD t (at + i) 0 → (r % 4294967291 ≡ (x * 256 + b) % 4294967291) × (r < 8589934592) → RollLeft t d at n r (i + 1)

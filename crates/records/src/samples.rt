@@ -7,6 +7,7 @@ ghost use Rattle.records.specs.Digest.{rollModulus, rollOf};
 ghost use Rattle.records.specs.Samples.{rollPower, rollAcross, rollBetween, sampleBytes, sampleAt, SampleRoom, Sampled, Samples};
 use crate::layout::SAMPLE_BYTES;
 use crate::layout::SAMPLE_POWER;
+use crate::texts::LONG_STEP;
 use crate::texts::ROLL_MODULUS;
 use crate::texts::reach;
 use crate::texts::roll;
@@ -35,16 +36,14 @@ fn roll_power(n: usize) -> u32
     x
 }
 
-// A digest goes on over so many bytes at once, so strides are multiples of it.
-const STRIDE_UNIT: usize = 16;
-
-// How far the samples of a text of so many bytes lie apart: as near as `room` bytes allow.
+// How far the samples of a text of so many bytes lie apart: as near as `room` bytes allow. A digest goes on over a long step at once, so
+// strides are multiples of it.
 pub fn stride_within(bytes: usize, room: usize) -> usize
     requires { ⌜ (bytes ≤ none * mostRecords) × (sampleBytes ≤ room) ⌝ }
     ensures { λ v. ⌜ SampleRoom bytes v 0 room ⌝ }
 {
     let entries = room / SAMPLE_BYTES;
-    (bytes / STRIDE_UNIT / entries + 1) * STRIDE_UNIT
+    (bytes / LONG_STEP / entries + 1) * LONG_STEP
 }
 
 // A sample for each whole stride of the text, from byte `at` of scratch on, in one pass over the text.

@@ -222,6 +222,20 @@ pub fn word_digest(a: u32, b: u32, c: u32, d: u32) -> u32
     digest_end(step(step(1, a, b), c, d))
 }
 
+// So many bytes a text's digest goes on over at once; the two shorter steps are for what is left behind the last long one.
+pub const LONG_STEP: usize = 16;
+
+const MIDDLE_STEP: usize = 8;
+
+const SHORT_STEP: usize = 4;
+
+// What a digest is multiplied by over such a step: modulo 2^32 - 5, 2^32 is 5, 2^64 is 25 and 2^128 is 625.
+const OVER_LONG: u64 = 625;
+
+const OVER_MIDDLE: u64 = 25;
+
+const OVER_SHORT: u64 = 5;
+
 // Four bytes as a number, the first the highest: one load, and its bytes turned round.
 fn high_first(text: &[u8], i: usize) -> u64
     requires { ⌜ i + 4 ≤ length (now text) ⌝ }
@@ -232,12 +246,12 @@ fn high_first(text: &[u8], i: usize) -> u64
     (a + b) as u64
 }
 
-// Eight bytes as such a number, short of a multiple of 2^32 - 5: modulo that 2^32 is 5, and 2^64 is 25.
+// Eight bytes as such a number, short of a multiple of 2^32 - 5.
 fn eight_digits(text: &[u8], i: usize) -> u64
     requires { ⌜ i + 8 ≤ length (now text) ⌝ }
     ensures { λ r. ⌜ (r ≡ highFirst (now (text .entry)) i * 5 + highFirst (now (text .entry)) (i + 4)) × (r < 25769803776) ⌝ }
 {
-    high_first(text, i) * 5 + high_first(text, i + 4)
+    high_first(text, i) * OVER_SHORT + high_first(text, i + SHORT_STEP)
 }
 
 // Five times the upper half is added to the lower, which keeps the remainder by 2^32 - 5.
@@ -245,7 +259,7 @@ fn turned(x: u64) -> u64
     requires { ⌜ x < 17592186044416 ⌝ }
     ensures { λ r. ⌜ (r % rollModulus ≡ x % rollModulus) × (r < 8589934592) ⌝ }
 {
-    x % 4294967296 + x / 4294967296 * 5
+    x % 4294967296 + x / 4294967296 * OVER_SHORT
 }
 
 // From x on, over sixteen bytes, in one product that waits for the one before.
@@ -253,7 +267,25 @@ fn roll_sixteen(text: &[u8], x: u64, i: usize) -> u64
     requires { ⌜ (i + 16 ≤ length (now text)) × (x < 8589934592) ⌝ }
     ensures { λ r. ⌜ (r % rollModulus ≡ rollFrom (x % rollModulus) (textAt (now (text .entry)) i 16)) × (r < 8589934592) ⌝ }
 {
-    turned(x * 625 + eight_digits(text, i) * 25 + eight_digits(text, i + 8))
+    turned(
+        x * OVER_LONG + eight_digits(text, i) * OVER_MIDDLE + eight_digits(text, i + MIDDLE_STEP),
+    )
+}
+
+// The same over eight.
+fn roll_eight(text: &[u8], x: u64, i: usize) -> u64
+    requires { ⌜ (i + 8 ≤ length (now text)) × (x < 8589934592) ⌝ }
+    ensures { λ r. ⌜ (r % rollModulus ≡ rollFrom (x % rollModulus) (textAt (now (text .entry)) i 8)) × (r < 8589934592) ⌝ }
+{
+    turned(x * OVER_MIDDLE + eight_digits(text, i))
+}
+
+// The same over four.
+fn roll_four(text: &[u8], x: u64, i: usize) -> u64
+    requires { ⌜ (i + 4 ≤ length (now text)) × (x < 8589934592) ⌝ }
+    ensures { λ r. ⌜ (r % rollModulus ≡ rollFrom (x % rollModulus) (textAt (now (text .entry)) i 4)) × (r < 8589934592) ⌝ }
+{
+    turned(x * OVER_SHORT + high_first(text, i))
 }
 
 // A byte more.
@@ -264,16 +296,25 @@ pub fn roll_byte(d: u32, b: u8) -> u32
     (((d as u64) * 256 + (b as u64)) % ROLL_MODULUS) as u32
 }
 
-// From digest d on, over the n bytes from `at` on: by sixteens, and the rest singly.
+// From digest d on, over the n bytes from `at` on: by sixteens, then by eight and by four at most once each, so that no more than three
+// bytes go singly, each of which waits for the one before.
 pub fn roll(text: &[u8], d: u32, at: usize, n: usize) -> u32
     requires { ⌜ (at + n ≤ length (now text)) × (d < rollModulus) ⌝ }
     ensures { λ r. ⌜ (r ≡ rollFrom d (textAt (now (text .entry)) at n)) × (r < rollModulus) ⌝ }
 {
     let mut x = d as u64;
     let mut i = 0;
-    while n - i >= 16 {
+    while n - i >= LONG_STEP {
         x = roll_sixteen(text, x, at + i);
-        i += 16;
+        i += LONG_STEP;
+    }
+    if n - i >= MIDDLE_STEP {
+        x = roll_eight(text, x, at + i);
+        i += MIDDLE_STEP;
+    }
+    if n - i >= SHORT_STEP {
+        x = roll_four(text, x, at + i);
+        i += SHORT_STEP;
     }
     while i < n {
         x = turned(x * 256 + wide(text[at + i]) as u64);

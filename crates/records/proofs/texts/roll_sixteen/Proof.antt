@@ -1,6 +1,7 @@
 -- Sixteen bytes more.
 -- By the law of sixteen bytes. Assumes nothing.
-use Rattle.records.proofs.RollLaws.{sixteen-told}
+use native.Mathlib.Omega.{arith}
+use Rattle.records.proofs.RollLaws.{over-sixteen, over-told}
 use borrow.Author.Needs.{needs}
 use Rattle.records.proofs.texts.roll_sixteen.Statement.{statement}
 use Rattle.records.proofs.texts.roll_sixteen.Tie as tie
@@ -9,42 +10,33 @@ use Rattle.records.proofs.texts.roll_sixteen.Lts as lts
 use Rattle.records.proofs.texts.eight_digits.Reads as eight-digits-reads
 use Rattle.records.proofs.texts.turned.Reads as turned-reads
 
--- src/texts.rt:289:12
 mul-turned : tie.Need-mul-turned
 mul-turned c = search needs
 
--- src/texts.rt:289:22
 eight-digits-requires : tie.Need-eight-digits-requires
 eight-digits-requires c κs = search needs
 
--- src/texts.rt:289:22
 mul-turned-2 : tie.Need-mul-turned-2
 mul-turned-2 c = search needs
 
--- src/texts.rt:289:12
 add-turned : tie.Need-add-turned
 add-turned c = search needs
 
--- src/texts.rt:289:70
 add-eight-digits : tie.Need-add-eight-digits
 add-eight-digits c = search needs
 
--- src/texts.rt:289:51
 eight-digits-requires-2 : tie.Need-eight-digits-requires-2
 eight-digits-requires-2 c κs = search needs
 
--- src/texts.rt:289:12
 add-turned-2 : tie.Need-add-turned-2
 add-turned-2 c = search needs
 
--- src/texts.rt:289:5
 turned-requires : tie.Need-turned-requires
 turned-requires c κs = search needs
 
--- src/texts.rt:285:1
 returns : tie.Need-returns
 returns c = (
-  sixteen-told _ _ _ _ _ (c .before .before .before .before .pre .0) (c .before .before .eight-digits .ensures .0) (c .before .eight-digits2 .ensures .0) _ (c .turned .ensures .0),
+  over-told _ _ 16 625 _ _ _ _ (over-sixteen _ _ (c .before .before .before .before .pre .0)) (c .turned .ensures .0) (omega (arith, c .before .before .eight-digits .ensures .0, c .before .eight-digits2 .ensures .0)),
   c .turned .ensures .1,
 )
 
