@@ -1,22 +1,23 @@
 -- The lowest record that breaks a rule, from three lowest ones: of equal types, of records that break another rule, and of those that are not referred to once.
 -- Below the lowest fault every reference goes down, so the references from behind are all of them. Assumes nothing.
 use mathlib.Core.Path.{_≡_, refl, sym, ap, _∙_}
-use Prim.Native.Nat.{ℕ, _+_, _*_, _/_, _≤_, _<_}
+use Prim.Native.Nat.{ℕ, _+_, _*_, _/_, _%_, _≤_, _<_}
 use mathlib.Core.Bool.{Bool, true, false, not, _&&_, _||_}
 use mathlib.Core.List.{List}
+use native.Mathlib.Numerals.{add-one}
 use native.Mathlib.Omega.{arith}
 use lib.Dec.{eqb, ltb}
-use lib.ListN.{length}
+use lib.ListN.{length, getD}
 use borrow.Author.Tests.{lt-ltb, eq-eqb, eqb-true, eqb-false, ltb-true, ltb-false, not-true, not-false}
-use Rattle.laws.specs.Below.{allBelow, sumBelow}
-use Rattle.laws.proofs.AllBelow.{all-at}
+use Rattle.laws.specs.Below.{allBelow, anyBelow, sumBelow}
+use Rattle.laws.proofs.AllBelow.{all-at, any-at}
 use Rattle.laws.proofs.FixLaws.{pick-yes, pick-no}
 use Rattle.laws.proofs.Sums.{sum-same}
 use Rattle.laws.proofs.Tests.{tested, and-left, and-right}
-use Rattle.records.specs.Words.{kindOf, detailOf, padOf, wordOf, mostRecords, A, B, C, D, E}
+use Rattle.records.specs.Words.{byteAt, wordAt, kindOf, detailOf, padOf, wordOf, mostRecords, A, B, C, D, E}
 use Rattle.records.specs.Shapes.{rowAt}
 use Rattle.records.specs.Rules.{wordOk, wordsOk, formOk, otherwiseMarked, bodyMarked, isFirstType, typesFirst, typeIsNew, refersFrom, references, referredOnce, recordOk}
-use Rattle.judge.specs.Inner.{Lowest, TypesLead, capped, laterRefs, countIn, Counting, ReferenceCounts, otherRules}
+use Rattle.judge.specs.Inner.{Lowest, TypesLead, capped, laterRefs, countIn, kindIn, KnownBelow, Counting, miscountedIn, ReferenceCounts, otherRules}
 use Rattle.judge.proofs.CapLaws.{cap-one}
 use Rattle.judge.proofs.BadgeLaws.{refers-down}
 
@@ -92,11 +93,12 @@ module _ (tree : List ℕ) (bytes n fault : ℕ) (whole : n * 32 ≡ length tree
       ∙ sym (goes-down tree bytes i k up (omega (arith, low .within)) (good i (omega arith))))
 
   -- below the fault the counts are those of all references
-  pub counts-told : (l : List ℕ) → Counting tree n l → ReferenceCounts tree fault l
+  pub counts-told : (l : List ℕ) → KnownBelow tree n l → Counting tree n l → ReferenceCounts tree fault l
   unfolding references
-  counts-told l c =
+  counts-told l known c =
       let q : length tree / 32 ≡ n = omega arith in
       record {
+        kinds = λ k h. known .kinds k (omega (arith, low .within));
         counts = λ k h other.
             c .counts k (omega (arith, low .within)) other ∙ ap (capped 2) (sum-same n _ _ (λ i hi. later k h i) ∙ ap (λ (x : ℕ). sumBelow x (refersFrom tree k)) (sym q));
       }
@@ -185,6 +187,28 @@ once-told tree n r k l c h e =
     tested (eqb (kindOf tree r) 1)
     (λ t. rw (e, t) refl)
     (λ t. rw (e, sym (cap-one (countIn l r)), c .counts r h (eqb-false (kindOf tree r) 1 t), cap-one (references tree r)) refl)
+
+-- no record is miscounted by its bytes
+pub none-miscounted : (tree : List ℕ) (n : ℕ) (l : List ℕ) → ReferenceCounts tree n l → anyBelow n (miscountedIn l) ≡ false → Lowest n (λ k. not (referredOnce tree k)) n
+unfolding miscountedIn
+none-miscounted tree n l c e =
+    record {
+      within = omega arith;
+      before = λ k h. sym (ap not (once-told tree n k (kindIn l k) l c h (c .kinds k h))) ∙ any-at (miscountedIn l) n k e h;
+      found = λ h. absurd (omega arith);
+    }
+
+-- one record more, its bytes read as a word
+pub miscounted-more : (l : List ℕ) (r slot : ℕ) (some : Bool) → ((i : ℕ) → getD l i 0 < 256) → slot ≡ wordAt l (r * 4 + 4) → some ≡ anyBelow r (miscountedIn l)
+    → (some || not (eqb (slot / 16777216) 1 || eqb (slot / 16777216) 25 || eqb (slot / 256 % 256) 1)) ≡ anyBelow (r + 1) (miscountedIn l)
+unfolding anyBelow miscountedIn wordAt byteAt
+miscounted-more l r slot some bytes e before =
+    let one : r * 4 + 4 + 1 ≡ r * 4 + 5 = omega arith in
+    let three : r * 4 + 4 + 3 ≡ r * 4 + 7 = omega arith in
+    let w : slot ≡ getD l (r * 4 + 4) 0 + getD l (r * 4 + 5) 0 * 256 + getD l (r * 4 + 4 + 2) 0 * 65536 + getD l (r * 4 + 7) 0 * 16777216 = rw (one, three) at e in
+    let k : slot / 16777216 ≡ kindIn l r = omega (arith, w, bytes (r * 4 + 4), bytes (r * 4 + 5), bytes (r * 4 + 4 + 2)) in
+    let count : slot / 256 % 256 ≡ countIn l r = omega (arith, w, bytes (r * 4 + 4), bytes (r * 4 + 5)) in
+    rw (add-one r, before, k, count) refl
 
 -- two tests of one number, as the code makes them
 module _ (a b c : ℕ) where

@@ -4,6 +4,7 @@ pub mod CountLaws
 pub mod DepthLaws
 pub mod EqualLaws
 pub mod FaultLaws
+pub mod FirstLaws
 pub mod ListClass
 pub mod PlainClass
 pub mod PlainLaws

@@ -199,9 +199,8 @@ module _ (tree : List ℕ) (r k : ℕ) (words : Words) (pa pb pc : ℕ) (rules l
 -- ---- the whole record
 
 -- neither form nor places are right
-pub plain-left : (tree : List ℕ) (bytes r k : ℕ) (l rules : List ℕ) → PlainReady tree r k l rules → TookPlain tree bytes r l l false 0
-plain-left tree bytes r k l rules ready =
-    record { took = λ e. absurd (false≢true e); left = λ e. (ready .known, ready .counting); same = refl }
+pub plain-left : (tree : List ℕ) (bytes r : ℕ) (l : List ℕ) → KnownBelow tree r l × Counting tree r l → TookPlain tree bytes r l l false 0
+plain-left tree bytes r l ready = record { took = λ e. absurd (false≢true e); left = λ e. ready; same = refl }
 
 -- both are right
 pub slots-ready : (tree : List ℕ) (r k : ℕ) (words : Words) (pa pb pc : ℕ) (l rules : List ℕ) → PlainReady tree r k l rules → WordsOf tree r words

@@ -12,7 +12,7 @@ use Rattle.records.specs.declared.shape.Role.{Role}
 use Rattle.records.specs.declared.shape.Role.the-variants.{Unused, Number, Text, Length, Expr, TypeRef, TypeOrNone, Name, Variable, Arguments, Parameters, Body, Item, Rest}
 use Rattle.records.specs.Layout.{knownBytes, nextDepth, nextCount, nextClass, nextKind, scratchEach}
 use Rattle.records.specs.Words.{recordBytes, mostRecords, kindOf, wordOf, none, A, B, C, D, E}
-use Rattle.records.specs.Kinds.{kindType, kindInt, kindName, kindCall, kindList, kindValue, kindTypeArgument, kindDeclare, kindContinue, kindVariable}
+use Rattle.records.specs.Kinds.{kindType, kindInt, kindName, kindCall, kindList, kindValue, kindTypeArgument, kindDeclare, kindContinue, kindVariable, kindFunction}
 use Rattle.records.specs.Shapes.{rowAt}
 use Rattle.records.specs.Rules.{listStep, wordOk, wordsOk, formOk, otherwiseMarked, bodyMarked, isFirstType, typesFirst, refersTo, refersFrom, references}
 use Rattle.records.specs.Depth.{depth, depthBelow, deepest}
@@ -214,8 +214,13 @@ laterRefs tree k i = pick (ltb k i) (refersFrom tree k i) 0
 pub record Counting (tree : List ℕ) (r : ℕ) (l : List ℕ) : Type 0 where
   pub counts : (k : ℕ) → k < r → (kindOf tree k ≡ kindType → ⊥) → capped 2 (countIn l k) ≡ capped 2 (sumBelow r (laterRefs tree k))
 
--- of each of the first n records but types: how often it is referred to, told apart up to 2
+-- by its bytes record k is neither type nor function, and not referred to exactly once
+unfoldable pub miscountedIn : List ℕ → ℕ → Bool
+miscountedIn l k = not (eqb (kindIn l k) kindType || eqb (kindIn l k) kindFunction || eqb (countIn l k) 1)
+
+-- of each of the first n records: its kind, and but for types how often it is referred to, told apart up to 2
 pub record ReferenceCounts (tree : List ℕ) (n : ℕ) (l : List ℕ) : Type 0 where
+  pub kinds : (k : ℕ) → k < n → kindIn l k ≡ kindOf tree k
   pub counts : (k : ℕ) → k < n → (kindOf tree k ≡ kindType → ⊥) → capped 2 (countIn l k) ≡ capped 2 (references tree k)
 
 -- ---- what a step does
@@ -267,4 +272,5 @@ pub record TookAll (tree : List ℕ) (bytes n : ℕ) (l l′ : List ℕ) (f d : 
   pub fault : Lowest n (λ k. not (otherRules tree bytes k)) f
   pub deep : Lowest n (λ k. ltb deepestAllowed (depth tree k)) d
   pub same : length l′ ≡ length l
+  pub known : KnownBelow tree n l′
   pub counting : Counting tree n l′

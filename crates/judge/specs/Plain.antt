@@ -207,7 +207,7 @@ pub record TookSlots (tree : List ℕ) (r k : ℕ) (words : Words) (rules l l′
   pub left : ok ≡ false → KnownBelow tree r l′ × Counting tree r l′
   pub same : length l′ ≡ length l
 
--- record r was taken, where it was right; else only slot 0 was written
+-- record r was taken, where it was right; else slot 0 was written at most
 pub record TookPlain (tree : List ℕ) (bytes r : ℕ) (l l′ : List ℕ) (ok : Bool) (deep : ℕ) : Type 0 where
   pub took : ok ≡ true → (n types : ℕ) → TypesLead tree n types → r < n → TookRecord tree bytes r l l′ true deep
   pub left : ok ≡ false → KnownBelow tree r l′ × Counting tree r l′

@@ -4,16 +4,17 @@ ghost use mathlib.Core.Path.{_≡_};
 ghost use mathlib.Core.Bool.{Bool, false, not};
 ghost use mathlib.Core.List.{List};
 ghost use Prim.Native.Nat.{ℕ, _+_, _*_, _≤_, _<_};
-ghost use lib.Dec.{ltb};
+ghost use lib.Dec.{eqb, ltb};
 ghost use lib.ListN.{length};
+ghost use Rattle.laws.specs.Fix.{pick};
 ghost use Rattle.records.specs.Layout.{knownBytes, scratchEach};
 ghost use Rattle.records.specs.Words.{recordBytes, records, mostRecords};
 ghost use Rattle.records.specs.Shapes.{rowAt, refers};
 ghost use Rattle.records.specs.Rules.{wordOk, recordOk};
 ghost use Rattle.records.specs.Depth.{depth as depthOf};
-ghost use Rattle.judge.specs.Plain.{plainRules};
-ghost use Rattle.judge.specs.Judge.{deepestAllowed};
-ghost use Rattle.judge.specs.Inner.{Lowest, Passing, KnownBelow, Counting, Took, TookWords, WordsOf, TookRecord, TookAll, stored};
+ghost use Rattle.judge.specs.Plain.{plainRules, TookPlain};
+ghost use Rattle.judge.specs.Judge.{fewestRecords, deepestAllowed};
+ghost use Rattle.judge.specs.Inner.{Lowest, Passing, KnownBelow, Counting, Took, TookWords, WordsOf, TookRecord, TookAll, depthIn, stored};
 use crate::equal::first_equal;
 use crate::nesting::depth_over;
 use crate::nesting::max;
@@ -23,6 +24,7 @@ use crate::plain::take_plain;
 use crate::references::Told;
 use crate::references::lowest_miscounted;
 use crate::references::take_reference;
+use crate::rules::MIXED;
 use crate::rules::class_at;
 use crate::rules::is_unused;
 use crate::rules::marks_ok;
@@ -190,7 +192,40 @@ fn take_any(tree: &[u8], bytes: usize, r: usize, types: usize, known: &mut [u8])
     }
 }
 
-// Record r against the same rules. Most are right, and taken by the table; what is wrong with another is found by `take_any`.
+// How deep the type is that word a of one of the twelve first types refers to; 0 where it refers to none.
+fn inner_depth(a: u32, known: &[u8]) -> u8
+    requires { ⌜ a * knownBytes + 2 * knownBytes ≤ length (now known) ⌝ }
+    ensures { λ v. ⌜ v ≡ pick (eqb a 0) 0 (depthIn (now (known .entry)) a) ⌝ }
+{
+    if a == 0 {
+        return 0;
+    }
+    known[index(a) * KNOWN_BYTES + NEXT_DEPTH]
+}
+
+// Record r, one of the twelve first, if it is right: then it is taken. What it refers to is a type, whose references are not counted. Else nothing was written.
+fn take_first(tree: &[u8], bytes: usize, r: usize, types: usize, known: &mut [u8]) -> Told
+    requires { ⌜ (r < fewestRecords) × (r < records (now tree)) × Passing (now tree) (records (now tree)) types (now known) ⌝ }
+    requires { ⌜ KnownBelow (now tree) r (now known) × Counting (now tree) r (now known) ⌝ }
+    ensures { λ t. ⌜ TookPlain (now (tree .entry)) bytes r (now (known .entry)) (now (known .exit)) (t .ok) (t .depth) ⌝ }
+{
+    let words = five_words(tree, r);
+    let zero = index(words.b) + index(words.c) + index(pad(tree, r));
+    let text = index(words.d) + index(words.e);
+    let first = is_first_type(tree, r);
+    if !((zero == 0) & (text <= bytes) & first & (r < types)) {
+        return Told {
+            ok: false,
+            depth: 0,
+        };
+    }
+    let below = inner_depth(words.a, known);
+    let depth = depth_over(KIND_TYPE, below);
+    put_known(known, r, MIXED, depth, KIND_TYPE);
+    Told { ok: true, depth }
+}
+
+// Record r against the same rules. Most are right, and taken by the table or as one of the first types; what is wrong with another is found by `take_any`.
 fn take_record(
     tree: &[u8],
     bytes: usize,
@@ -208,6 +243,10 @@ fn take_record(
         return take_any(tree, bytes, r, types, known);
     }
     if r < FEWEST_RECORDS {
+        let first = take_first(tree, bytes, r, types, known);
+        if first.ok {
+            return first;
+        }
         return take_any(tree, bytes, r, types, known);
     }
     let told = take_plain(tree, bytes, r, k, known, rules);

@@ -3,11 +3,12 @@ ghost use mathlib.Core.Path.{_≡_};
 ghost use mathlib.Core.Bool.{true, not};
 ghost use Prim.Native.Nat.{ℕ, _+_, _*_, _≤_, _<_};
 ghost use lib.ListN.{length};
+ghost use Rattle.laws.specs.Below.{anyBelow};
 ghost use Rattle.records.specs.Layout.{knownBytes, scratchEach};
 ghost use Rattle.records.specs.Words.{recordBytes, mostRecords};
 ghost use Rattle.records.specs.Shapes.{refers};
 ghost use Rattle.records.specs.Rules.{referredOnce};
-ghost use Rattle.judge.specs.Inner.{Lowest, KnownBelow, ReferenceCounts, Took};
+ghost use Rattle.judge.specs.Inner.{Lowest, KnownBelow, miscountedIn, ReferenceCounts, Took};
 use crate::rules::BADGES_EACH;
 use crate::rules::high_badge;
 use crate::rules::low_badge;
@@ -23,7 +24,15 @@ use records::shape::Role;
 use records::words::NONE;
 use records::words::index;
 use records::words::kind;
+use records::words::load;
 use records::words::wide;
+
+// A slot as a word: one more of the count and of the kind, and how many values a byte has.
+const ONE_COUNT: u32 = 256;
+
+const ONE_KIND: u32 = 16777216;
+
+const BYTE_VALUES: u32 = 256;
 
 // What a word, or a whole record, was found to be: right, and so deep, up to 65.
 pub struct Told {
@@ -56,11 +65,32 @@ pub(crate) fn take_reference(tree: &[u8], r: usize, role: Role, w: u32, known: &
     Told { ok, depth }
 }
 
+// Whether one of n records is neither type nor function and not referred to exactly once, by what is known of them. Each slot is read as a word and nothing
+// branches on it, so that several are asked at once.
+fn some_miscounted(n: usize, known: &[u8]) -> bool
+    requires { ⌜ scratchEach * n ≤ length (now known) ⌝ }
+    ensures { λ v. ⌜ v ≡ anyBelow n (miscountedIn (now (known .entry))) ⌝ }
+{
+    let mut some = false;
+    let mut r = 0;
+    while r < n {
+        let slot = load(known, r * KNOWN_BYTES + KNOWN_BYTES);
+        let k = slot / ONE_KIND;
+        let count = slot / ONE_COUNT % BYTE_VALUES;
+        some = some | !((k == KIND_TYPE as u32) | (k == KIND_FUNCTION as u32) | (count == 1));
+        r += 1;
+    }
+    some
+}
+
 // The lowest of n records that is neither type nor function and not referred to exactly once, or n.
 pub(crate) fn lowest_miscounted(tree: &[u8], n: usize, known: &[u8]) -> usize
     requires { ⌜ (n * recordBytes ≤ length (now tree)) × (scratchEach * n ≤ length (now known)) × ReferenceCounts (now tree) n (now known) ⌝ }
     ensures { λ v. ⌜ Lowest n (λ k. not (referredOnce (now (tree .entry)) k)) v ⌝ }
 {
+    if !some_miscounted(n, known) {
+        return n;
+    }
     let mut r = 0;
     while r < n {
         let k = kind(tree, r);

@@ -22,7 +22,7 @@ pass-requires c κs =
 
 lowest-miscounted-requires : tie.Need-lowest-miscounted-requires
 lowest-miscounted-requires c κs =
-    (omega (arith, c .before .before .before .pass .ensures .fault .within, c .before .before .before .before .before .before .before .before .before .before .before .before .before .pre .0), omega (arith, c .before .before .before .pass .ensures .fault .within, c .before .before .before .pass .ensures .same, c .before .before .before .before .before .before .before .first-equal .ensures .1, c .before .before .before .before .before .before .before .before .before .before .before .before .before .pre .2), counts-told _ _ _ _ (c .before .before .before .before .before .before .before .before .before .before .before .before .before .pre .0) (c .before .before .before .before .before .before .before .before .before .before .before .before .before .pre .1) (c .before .before .before .pass .ensures .fault) _ (c .before .before .before .pass .ensures .counting))
+    (omega (arith, c .before .before .before .pass .ensures .fault .within, c .before .before .before .before .before .before .before .before .before .before .before .before .before .pre .0), omega (arith, c .before .before .before .pass .ensures .fault .within, c .before .before .before .pass .ensures .same, c .before .before .before .before .before .before .before .first-equal .ensures .1, c .before .before .before .before .before .before .before .before .before .before .before .before .before .pre .2), counts-told _ _ _ _ (c .before .before .before .before .before .before .before .before .before .before .before .before .before .pre .0) (c .before .before .before .before .before .before .before .before .before .before .before .before .before .pre .1) (c .before .before .before .pass .ensures .fault) _ (c .before .before .before .pass .ensures .known) (c .before .before .before .pass .ensures .counting))
 
 same-length : tie.Need-same-length
 same-length c =

@@ -60,7 +60,7 @@ same-length c =
 returns : tie.Need-returns Inv-loop μ-loop
 returns c =
     let last : c .before .loop .r ≡ c .before .before .before .before .args .n = omega arith in
-    record { fault = rw last at (c .before .loop .inv .4); deep = rw last at (c .before .loop .inv .5); same = c .before .loop .inv .1; counting = rw last at (c .before .loop .inv .3) }
+    record { fault = rw last at (c .before .loop .inv .4); deep = rw last at (c .before .loop .inv .5); same = c .before .loop .inv .1; known = rw last at (c .before .loop .inv .2); counting = rw last at (c .before .loop .inv .3) }
 
 pub pass-spec : {M : Type 1} → statement M
 pass-spec =

@@ -47,7 +47,7 @@ place-ok-requires-3 c κs = search needs
 
 returns : tie.Need-returns
 returns c =
-    plain-left _ _ _ _ _ _ (c .before .before .before .before .before .before .before .before .before .before .before .pre)
+    plain-left _ _ _ _ (c .before .before .before .before .before .before .before .before .before .before .before .pre .known, c .before .before .before .before .before .before .before .before .before .before .before .pre .counting)
 
 take-slots-requires : tie.Need-take-slots-requires
 take-slots-requires c κs =
