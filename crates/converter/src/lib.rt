@@ -112,7 +112,7 @@ fn convert_program(
             match check_main(tree, text, scratch, count, needs_main) {
                 Outcome::Refused(e) => Finished::Refused(e),
                 Outcome::Done => {
-                    chain_functions(tree, text, scratch);
+                    chain_functions(tree, text, scratch, count);
                     expressions::turns::forget(tree, scratch);
                     convert_all(tree, text, arena, scratch, k, count)
                 }

@@ -1,15 +1,17 @@
 -- The functions in chains: none entered yet, one more by its key and one more by its name, with what they leave as it was; and the chains stay where their words do.
 -- A function's record has no text, so its slots are apart from those of texts and of their numbers. Assumes nothing.
 use mathlib.Core.Path.{_≡_, refl, sym, ap, _∙_}
-use mathlib.Core.Logic.{_⊎_, inl, inr}
+use mathlib.Core.Logic.{_⊎_, inl, inr, ⊎-elim}
 use mathlib.Core.Bool.{true, false, _&&_, false≢true}
 use mathlib.Core.List.{List}
-use Prim.Native.Nat.{ℕ, _+_, _*_, _≤_, _<_}
+use Prim.Native.Nat.{ℕ, zero, suc, _+_, _*_, _≤_, _<_}
+use native.Mathlib.Nat.{eq-or-lt-of-le}
+use native.Mathlib.Numerals.{add-one}
 use native.Mathlib.Omega.{arith}
 use lib.Dec.{eqb, ltb}
 use lib.ListN.{length, getD}
 use borrow.Author.Count.{below-more}
-use borrow.Author.Tests.{eq-eqb, ne-eqb, eqb-true, eqb-false, ltb-true, ltb-false}
+use borrow.Author.Tests.{eq-eqb, eqb-true, eqb-false, ltb-true, ltb-false}
 use Rattle.laws.specs.Chain.{linkTo}
 use Rattle.laws.specs.Splice.{splice}
 use Rattle.laws.proofs.ChainLaws.{head-none, head-here, head-other, link-within}
@@ -28,7 +30,8 @@ use Rattle.syntax.specs.Places.{FunctionAt, functionOf}
 use Rattle.syntax.proofs.Records.{name-record}
 use Rattle.texts.specs.Texts.{hasText, hasOwn, original, originalAt, textDigestAt, Numbered}
 use Rattle.texts.proofs.TextLaws.{numbered-stays, original-below}
-use Rattle.keys.specs.Keys.{keySlotAt, Mapped, Chain, chainedBefore, keyHeadAt, nameHeadAt, isFunction, keyRoll, keyBucket, nameBucket, KeyDigests, ByKey, ByName, Chaining, Keyed, ChainKeeps}
+use Rattle.keys.specs.Keys.{recordsBelow, functionPlaces, keySlotAt, Mapped, Chain, chainedBefore, keyHeadAt, nameHeadAt, isFunction, keyRoll, keyBucket, nameBucket, KeyDigests, ByKey, ByName, Chaining, Keyed, ChainKeeps}
+use Rattle.keys.proofs.FunctionLaws.{listed-function, listed-count, count-function, count-rises}
 use Rattle.keys.proofs.KeySearch.{records-most}
 use Rattle.keys.proofs.SlotLaws.{slots-stay, zero-word}
 
@@ -94,7 +97,7 @@ chained-so s s₁ s₂ head link next before eb e₁ e₂ =
 
 -- ---- what is left as it was
 
-pub keeps-none : (tree s : List ℕ) → ChainKeeps tree s s
+keeps-none : (tree s : List ℕ) → ChainKeeps tree s s
 keeps-none tree s = record { long = refl; before = λ i h. refl; behind = λ i h. refl }
 
 pub keeps-then : (tree s s₁ s₂ : List ℕ) → ChainKeeps tree s s₁ → ChainKeeps tree s₁ s₂ → ChainKeeps tree s s₂
@@ -188,10 +191,6 @@ name-bucket-here tree text k h =
     tested (isFunction tree k && is-mangled (functionOf tree text k))
     (λ t. (and-left (isFunction tree k) _ t, and-right (isFunction tree k) _ t))
     (λ t. absurd (omega (arith, name-bucket-none tree text k t)))
-
--- what the code reads of record r's kind
-pub kind-other : (tree : List ℕ) (r k : ℕ) → k ≡ kindOf tree r → (k ≡ kindFunction → ⊥) → isFunction tree r ≡ false
-kind-other tree r k e n = ne-eqb (kindOf tree r) kindFunction (λ q. n (e ∙ q))
 
 -- the head of a digest's bucket
 pub head-read : (s : List ℕ) (n x d b w : ℕ) → w ≡ wordAt s (keyHeadAt n b) → b ≡ bucketOf n d → d ≡ digestEnd x → w ≡ wordAt s (keyHeadAt n (bucketOf n (digestEnd x)))
@@ -456,15 +455,65 @@ module _ (tree text s s′ : List ℕ) (f o : ℕ) (c : Chaining tree text s (f 
       (λ k h. name-away (keySlotAt (records tree) k) (inl (omega arith)) (inl (omega (arith, at .below))))
       (c .by-name))
 
--- ---- all records
+-- ---- all functions
 
--- the loop: the records below r are passed
-pub record Passing (tree text s₀ s : List ℕ) (r : ℕ) : Type 0 where
-  pub below : r ≤ records tree
-  pub chaining : Chaining tree text s r r
+-- the loop: the functions at the places below j of their list are passed, and so are all records below `upTo`
+pub record Passing (tree text s₀ s : List ℕ) (j : ℕ) : Type 0 where
+  pub upTo : ℕ
+  pub below : upTo ≤ records tree
+  pub counted : length (recordsBelow tree upTo) ≡ j
+  pub chaining : Chaining tree text s upTo upTo
   pub keeps : ChainKeeps tree s₀ s
 
-pub all-chained : (tree text s : List ℕ) (r : ℕ) → r ≤ records tree → records tree ≤ r → Chaining tree text s r r → Keyed tree text s
-all-chained tree text s r a b x =
-    let q : r ≡ records tree = omega arith in
-    rw q at x
+module _ (tree text s : List ℕ) where
+  pub passing-none : Chaining tree text s 0 0 → Passing tree text s s 0
+  unfolding recordsBelow
+  passing-none c = record { upTo = 0; below = omega arith; counted = refl; chaining = c; keeps = keeps-none tree s }
+
+  -- records that are no functions are passed over: there are no more functions below q than below r
+  chained-to : (q r : ℕ) → r ≤ q → length (recordsBelow tree q) ≤ length (recordsBelow tree r) → Chaining tree text s r r → Chaining tree text s q q
+  chained-to zero r h e c =
+      let z : r ≡ 0 = omega arith in
+      rw z at c
+  chained-to (suc q) r h e c =
+      ⊎-elim
+      (λ (z : r ≡ suc q). rw z at c)
+      (λ (l : r < suc q).
+      let rises : length (recordsBelow tree r) ≤ length (recordsBelow tree q) = count-rises tree q r (omega arith) in
+      let last : length (recordsBelow tree q) ≤ length (recordsBelow tree (suc q)) = count-rises tree (suc q) q (omega arith) in
+      let other : isFunction tree q ≡ false = tested (isFunction tree q) (λ t. absurd (omega (arith, count-function tree q t))) (λ t. t) in
+      let next : Chaining tree text s (q + 1) (q + 1) = passed-other tree text s q other (chained-to q r (omega arith) (omega arith) c) in
+      rw (add-one q) at next)
+      (eq-or-lt-of-le h)
+
+  module _ (s₀ : List ℕ) (j : ℕ) (p : Passing tree text s₀ s j) where
+    -- the functions below the j-th are chained, once those at the places below j are
+    pub chained-below : (f : ℕ) → j < length (functionPlaces tree) → f ≡ wordAt s (4 * j) → Chaining tree text s f f
+    chained-below f h e =
+        let z : f ≡ getD (functionPlaces tree) j 0 = e ∙ p .chaining .listed .listed j h in
+        let w : FunctionAt tree (getD (functionPlaces tree) j 0) = listed-function tree j h in
+        let count : length (recordsBelow tree f) ≡ j = ap (λ (x : ℕ). length (recordsBelow tree x)) z ∙ listed-count tree (records tree) j h in
+        let more : length (recordsBelow tree (suc f)) ≡ length (recordsBelow tree f) + 1 = count-function tree f (ap (isFunction tree) z ∙ is-function tree text _ w) in
+        let here : p .upTo ≤ f =
+        tested (ltb f (p .upTo))
+        (λ t. absurd (omega (arith, more, count, p .counted, count-rises tree (p .upTo) (suc f) (omega (arith, ltb-true f (p .upTo) t)))))
+        (λ t. omega (arith, ltb-false f (p .upTo) t)) in
+        chained-to f (p .upTo) here (omega (arith, count, p .counted)) (p .chaining)
+
+    -- and all are, once all places are passed
+    pub all-chained : j ≡ length (functionPlaces tree) → Keyed tree text s
+    all-chained e = chained-to (records tree) (p .upTo) (p .below) (omega (arith, p .counted)) (p .chaining)
+
+  -- function f is the j-th: one more
+  pub passing-more : (s₀ s′ : List ℕ) (j f : ℕ) → Passing tree text s₀ s′ j → j < length (functionPlaces tree) → f ≡ wordAt s′ (4 * j) → FunctionAt tree f
+      → Chaining tree text s (f + 1) (f + 1) → ChainKeeps tree s′ s → Passing tree text s₀ s (j + 1)
+  passing-more s₀ s′ j f p h e at c k =
+      let z : f ≡ getD (functionPlaces tree) j 0 = e ∙ p .chaining .listed .listed j h in
+      record {
+        upTo = f + 1;
+        below = omega (arith, at .below);
+        counted = rw (add-one f) (count-function tree f (is-function tree text f at))
+            ∙ ap (λ (x : ℕ). length (recordsBelow tree x) + 1) z ∙ ap (λ (x : ℕ). x + 1) (listed-count tree (records tree) j h);
+        chaining = c;
+        keeps = keeps-then tree s₀ s′ s (p .keeps) k;
+      }

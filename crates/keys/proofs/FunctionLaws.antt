@@ -1,12 +1,14 @@
--- The program's functions are those of its function records, one after the other; and a function's names as parts of the text.
+-- The program's functions are those of its function records, one after the other, and are counted so; and a function's names as parts of the text.
 -- By the records one after the other, and by the laws of a function's record. Assumes nothing.
 use mathlib.Core.Path.{_≡_, refl, sym, ap₂, _∙_}
+use mathlib.Core.Logic.{⊎-elim}
 use mathlib.Core.Bool.{Bool, true, false}
 use mathlib.Core.List.{List, [], _∷_, _++_}
 use Prim.Native.Nat.{ℕ, zero, suc, _+_, _*_, _<_, _≤_}
+use native.Mathlib.Nat.{eq-or-lt-of-le}
 use native.Mathlib.Omega.{arith}
 use lib.Dec.{eqb}
-use lib.ListN.{length, getD}
+use lib.ListN.{length, length-append, getD}
 use borrow.Author.Tests.{eqb-true}
 use Rattle.laws.specs.Fix.{pick}
 use Rattle.records.specs.Words.{kindOf, wordOf, textAt, records, A, B}
@@ -50,24 +52,54 @@ module _ (tree text : List ℕ) where
 abbrev pub FunctionBelow : List ℕ → ℕ → ℕ → Type 0
 FunctionBelow tree n x = (x < n) × (kindOf tree x ≡ 25)
 
-one-more : (tree : List ℕ) (r : ℕ) (l : List ℕ) (b : Bool) → eqb (kindOf tree r) 25 ≡ b
-    → ((j : ℕ) → j < length l → FunctionBelow tree r (getD l j 0))
-    → (j : ℕ) → j < length (l ++ pick b (r ∷ []) []) → FunctionBelow tree (suc r) (getD (l ++ pick b (r ∷ []) []) j 0)
+-- what holds at each place of a list holds with one more
+one-more : (P : ℕ → ℕ → Type 0) (r : ℕ) (l : List ℕ) (b : Bool) → (b ≡ true → P (length l) r) → ((j : ℕ) → j < length l → P j (getD l j 0))
+    → (j : ℕ) → j < length (l ++ pick b (r ∷ []) []) → P j (getD (l ++ pick b (r ∷ []) []) j 0)
 unfolding pick
-one-more tree r [] true e h zero k = (omega arith, eqb-true (kindOf tree r) 25 e)
-one-more tree r [] true e h (suc j) k = absurd (omega arith)
-one-more tree r [] false e h j k = absurd (omega arith)
-one-more tree r (x ∷ l) b e h zero k = let w = h 0 (omega arith) in (omega (arith, w .0), w .1)
-one-more tree r (x ∷ l) b e h (suc j) k = one-more tree r l b e (λ i q. h (suc i) (omega arith)) j (omega arith)
+one-more P r [] true e h zero k = e refl
+one-more P r [] true e h (suc j) k = absurd (omega arith)
+one-more P r [] false e h j k = absurd (omega arith)
+one-more P r (x ∷ l) b e h zero k = h 0 (omega arith)
+one-more P r (x ∷ l) b e h (suc j) k = one-more (λ i y. P (suc i) y) r l b e (λ i q. h (suc i) (omega arith)) j (omega arith)
 
 pub listed-kind : (tree : List ℕ) (n j : ℕ) → j < length (recordsBelow tree n) → FunctionBelow tree n (getD (recordsBelow tree n) j 0)
 unfolding recordsBelow
 listed-kind tree zero j h = absurd (omega arith)
-listed-kind tree (suc r) j h = one-more tree r (recordsBelow tree r) (eqb (kindOf tree r) 25) refl (listed-kind tree r) j h
+listed-kind tree (suc r) j h =
+    one-more (λ i x. FunctionBelow tree (suc r) x) r (recordsBelow tree r) (eqb (kindOf tree r) 25)
+    (λ e. (omega arith, eqb-true (kindOf tree r) 25 e))
+    (λ i k. let w = listed-kind tree r i k in (omega (arith, w .0), w .1))
+    j h
 
 -- the j-th of them all
 pub listed-function : (tree : List ℕ) (j : ℕ) → j < length (functionPlaces tree) → FunctionAt tree (getD (functionPlaces tree) j 0)
 listed-function tree j h = let w = listed-kind tree (records tree) j h in record { below = w .0; kind = w .1 }
+
+-- ---- how many functions are below a record
+
+-- below the j-th there are j
+pub listed-count : (tree : List ℕ) (n j : ℕ) → j < length (recordsBelow tree n) → length (recordsBelow tree (getD (recordsBelow tree n) j 0)) ≡ j
+unfolding recordsBelow
+listed-count tree zero j h = absurd (omega arith)
+listed-count tree (suc r) j h =
+    one-more (λ i x. length (recordsBelow tree x) ≡ i) r (recordsBelow tree r) (eqb (kindOf tree r) 25) (λ e. refl) (listed-count tree r) j h
+
+module _ (tree : List ℕ) where
+  pub count-function : (r : ℕ) → eqb (kindOf tree r) 25 ≡ true → length (recordsBelow tree (suc r)) ≡ length (recordsBelow tree r) + 1
+  unfolding recordsBelow pick
+  count-function r t = rw (t, length-append) refl
+
+  count-more : (r : ℕ) → length (recordsBelow tree r) ≤ length (recordsBelow tree (suc r))
+  unfolding recordsBelow
+  count-more r = rw length-append (omega arith)
+
+  pub count-rises : (q r : ℕ) → r ≤ q → length (recordsBelow tree r) ≤ length (recordsBelow tree q)
+  count-rises zero r h = let z : r ≡ 0 = omega arith in rw z (omega arith)
+  count-rises (suc q) r h =
+      ⊎-elim
+      (λ (z : r ≡ suc q). rw z (omega arith))
+      (λ (l : r < suc q). omega (arith, count-rises q r (omega arith), count-more q))
+      (eq-or-lt-of-le h)
 
 -- ---- the names of a function as parts of the text
 

@@ -30,7 +30,6 @@ use records::layout::ORIGINAL_BYTES;
 use records::layout::ORIGINALS;
 use records::layout::TEXT_DIGEST_BYTES;
 use records::layout::TEXT_DIGESTS;
-use records::numbers::KIND_FUNCTION;
 use records::texts::roll_digest;
 use records::words::Found;
 use records::words::RECORD_BYTES;
@@ -39,7 +38,6 @@ use records::words::WORD_B;
 use records::words::WORD_C;
 use records::words::detail;
 use records::words::index;
-use records::words::kind;
 use records::words::load;
 use records::words::put_word;
 use records::words::reference;
@@ -230,24 +228,22 @@ fn chain_name(tree: &[u8], text: &[u8], scratch: &mut [u8], f: usize)
     );
 }
 
-// Record r, where it is a function.
-fn chain_record(tree: &[u8], text: &[u8], scratch: &mut [u8], r: usize)
-    requires { ⌜ Chaining (now tree) (now text) (now scratch) r r × (r < records (now tree)) ⌝ }
-    ensures { λ _. ⌜ Chaining (now (tree .entry)) (now (text .entry)) (now (scratch .exit)) (r + 1) (r + 1) ⌝ }
+// Function f by its key and, where it is mangled, by its name.
+fn chain_function(tree: &[u8], text: &[u8], scratch: &mut [u8], f: usize)
+    requires { ⌜ Chaining (now tree) (now text) (now scratch) f f × FunctionAt (now tree) f ⌝ }
+    ensures { λ _. ⌜ Chaining (now (tree .entry)) (now (text .entry)) (now (scratch .exit)) (f + 1) (f + 1) ⌝ }
     ensures { λ _. ⌜ ChainKeeps (now (tree .entry)) (now (scratch .entry)) (now (scratch .exit)) ⌝ }
 {
-    if kind(tree, r) != KIND_FUNCTION {
-        return;
-    }
-    chain_key(tree, text, scratch, r);
-    if is_mangled(tree, text, r) {
-        chain_name(tree, text, scratch, r);
+    chain_key(tree, text, scratch, f);
+    if is_mangled(tree, text, f) {
+        chain_name(tree, text, scratch, f);
     }
 }
 
-// The functions are chained by the digests of their keys, and the mangled ones by their names, so that a call looks only at those that may be meant.
-pub fn chain_functions(tree: &[u8], text: &[u8], scratch: &mut [u8])
-    requires { ⌜ Mapped (now tree) (now text) (now scratch) ⌝ }
+// The functions, of which `count` are listed, are chained by the digests of their keys, and the mangled ones by their names, so that a call looks only at those
+// that may be meant.
+pub fn chain_functions(tree: &[u8], text: &[u8], scratch: &mut [u8], count: usize)
+    requires { ⌜ Mapped (now tree) (now text) (now scratch) × (count ≡ length (functionPlaces (now tree))) ⌝ }
     ensures { λ _. ⌜ Keyed (now (tree .entry)) (now (text .entry)) (now (scratch .exit)) ⌝ }
     ensures { λ _. ⌜ ChainKeeps (now (tree .entry)) (now (scratch .entry)) (now (scratch .exit)) ⌝ }
 {
@@ -256,10 +252,11 @@ pub fn chain_functions(tree: &[u8], text: &[u8], scratch: &mut [u8])
     clear_run(scratch, keys, keys + KEY_HEAD_BYTES * n);
     let names = NAME_HEADS * n;
     clear_run(scratch, names, names + NAME_HEAD_BYTES * n);
-    let mut r = 0;
-    while r < n {
-        chain_record(tree, text, scratch, r);
-        r += 1;
+    let mut j = 0;
+    while j < count {
+        let f = function_at(tree, scratch, j);
+        chain_function(tree, text, scratch, f);
+        j += 1;
     }
 }
 

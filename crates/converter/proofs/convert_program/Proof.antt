@@ -38,7 +38,9 @@ enum-told : tie.Need-enum-told
 enum-told c = search needs
 
 chain-functions-requires : tie.Need-chain-functions-requires
-chain-functions-requires c κs = keys-done _ _ _ _ _ (c .before .before .before .before .before .before .before .before .before .before .get-all-functions .ensures) _ (c .before .before .before .before .before .before .count .given .1) .0
+chain-functions-requires c κs =
+    let made = keys-done _ _ _ _ _ (c .before .before .before .before .before .before .before .before .before .before .get-all-functions .ensures) _ (c .before .before .before .before .before .before .count .given .1) in
+    (made .0, made .1)
 
 forget-requires : tie.Need-forget-requires
 forget-requires c κs =

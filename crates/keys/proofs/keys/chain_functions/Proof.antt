@@ -1,22 +1,23 @@
--- The functions in chains, one record after the other. The invariant: the functions before the record at hand are chained, and no other bytes written.
--- By the laws of the heads that are cleared and of all records passed; the measure is what is left of the records. Assumes nothing.
+-- The functions in chains, one of the list after the other. The invariant: those before the place at hand are chained, and no other bytes written.
+-- By the laws of the heads that are cleared and of all functions passed; the measure is what is left of the list. Assumes nothing.
 use mathlib.Core.Path.{_∙_}
-use Prim.Native.Nat.{_-_}
+use Prim.Native.Nat.{_≤_, _-_}
 use native.Mathlib.Omega.{arith}
 use borrow.Author.Needs.{needs}
-use Rattle.keys.proofs.ChainLaws.{Passing, keeps-none, keeps-then, keeps-heads, chaining-none, all-chained}
+use Rattle.keys.proofs.ChainLaws.{Passing, keeps-then, keeps-heads, chaining-none, passing-none, chained-below, passing-more, all-chained}
 use Rattle.keys.proofs.keys.chain_functions.Statement.{statement}
 use Rattle.keys.proofs.keys.chain_functions.Tie as tie
 use Rattle.keys.proofs.keys.chain_functions.Reads as reads
 use Rattle.keys.proofs.keys.chain_functions.Lts as lts
-use Rattle.keys.proofs.keys.chain_record.Reads as chain-record-reads
+use Rattle.keys.proofs.keys.chain_function.Reads as chain-function-reads
+use Rattle.keys.proofs.keys.function_at.Reads as function-at-reads
 use Rattle.records.proofs.chains.clear_run.Reads as clear-run-reads
 
 abbrev Inv-loop : tie.InvT-loop
-Inv-loop tree text scratch₀ n keys names r₀ scratch r = Passing tree text scratch₀ scratch r
+Inv-loop tree text scratch₀ count n keys names j₀ scratch j = (j ≤ count) × Passing tree text scratch₀ scratch j
 
 abbrev μ-loop : tie.MeasureT-loop
-μ-loop tree text scratch₀ n keys names r₀ scratch r = n - r
+μ-loop tree text scratch₀ count n keys names j₀ scratch j = count - j
 
 mul-keys : tie.Need-mul-keys Inv-loop μ-loop
 mul-keys c = search needs
@@ -44,27 +45,35 @@ clear-run-requires-2 c κs = search needs
 
 loop-holds : tie.Need-loop-holds Inv-loop μ-loop
 loop-holds c =
-    let start = c .before .before .before .before .before .before .before .before .before .before .before in
-    record { below = omega arith; chaining = chaining-none _ _ _ _ _ (start .pre) (c .before .before .before .before .before .before .clear-run .ensures) (c .before .before .clear-run2 .ensures); keeps = keeps-none _ _ }
+    (omega arith, passing-none _ _ _ (chaining-none _ _ _ _ _ (c .before .before .before .before .before .before .before .before .before .before .before .pre .0) (c .before .before .before .before .before .before .clear-run .ensures) (c .before .before .clear-run2 .ensures)))
 
-chain-record-requires : tie.Need-chain-record-requires Inv-loop μ-loop
-chain-record-requires c κs = (c .before .before .loop .inv .chaining, c .before .loop-test .taken)
+function-at-requires : tie.Need-function-at-requires Inv-loop μ-loop
+function-at-requires c κs = (c .before .before .loop .inv .1 .chaining .listed, omega (arith, c .before .loop-test .taken, c .before .before .before .before .before .before .before .before .before .before .before .before .before .before .pre .1))
 
-add-r : tie.Need-add-r Inv-loop μ-loop
-add-r c = omega (arith, c .before .before .before .before .loop-test .taken, c .before .before .before .before .before .before .before .before .before .before .before .before .before .before .before .before .before .pre .good .few)
+chain-function-requires : tie.Need-chain-function-requires Inv-loop μ-loop
+chain-function-requires c κs =
+    let found = c .before .function-at .ensures in
+    (chained-below _ _ _ _ _ (c .before .before .before .before .loop .inv .1) _ (omega (arith, c .before .before .before .loop-test .taken, c .before .before .before .before .before .before .before .before .before .before .before .before .before .before .before .before .pre .1)) (found .0), found .1)
+
+add-j : tie.Need-add-j Inv-loop μ-loop
+add-j c = omega (arith, c .before .before .before .before .before .before .loop-test .taken)
 
 loop-less : tie.Need-loop-less Inv-loop μ-loop
-loop-less c = omega (arith, c .before .before .before .before .loop-test .taken)
+loop-less c = omega (arith, c .before .before .before .before .before .before .loop-test .taken)
 
 loop-again : tie.Need-loop-again Inv-loop μ-loop
-loop-again c = record { below = omega (arith, c .before .before .before .before .loop-test .taken); chaining = c .before .before .chain-record .ensures .0; keeps = keeps-then _ _ _ _ (c .before .before .before .before .before .loop .inv .keeps) (c .before .before .chain-record .ensures .1) }
+loop-again c =
+    let found = c .before .before .before .before .function-at .ensures in
+    let chained = c .before .before .chain-function .ensures in
+    (omega (arith, c .before .before .before .before .before .before .loop-test .taken), passing-more _ _ _ _ _ _ _ (c .before .before .before .before .before .before .before .loop .inv .1) (omega (arith, c .before .before .before .before .before .before .loop-test .taken, c .before .before .before .before .before .before .before .before .before .before .before .before .before .before .before .before .before .before .before .pre .1)) (found .0) (found .1) (chained .0) (chained .1))
 
 same-length : tie.Need-same-length Inv-loop μ-loop
-same-length c = c .before .loop .inv .keeps .long ∙ c .before .before .before .before .clear-run2 .ensures .long ∙ c .before .before .before .before .before .before .before .before .clear-run .ensures .long
+same-length c = c .before .loop .inv .1 .keeps .long ∙ c .before .before .before .before .clear-run2 .ensures .long ∙ c .before .before .before .before .before .before .before .before .clear-run .ensures .long
 
 returns : tie.Need-returns Inv-loop μ-loop
 returns c =
-    (all-chained _ _ _ _ (c .before .loop .inv .below) (c .loop-test .left) (c .before .loop .inv .chaining), keeps-then _ _ _ _ (keeps-heads _ _ _ _ (c .before .before .before .before .before .before .before .before .clear-run .ensures) (c .before .before .before .before .clear-run2 .ensures)) (c .before .loop .inv .keeps))
+    let inv = c .before .loop .inv in
+    (all-chained _ _ _ _ _ (inv .1) (omega (arith, inv .0, c .loop-test .left, c .before .before .before .before .before .before .before .before .before .before .before .before .before .pre .1)), keeps-then _ _ _ _ (keeps-heads _ _ _ _ (c .before .before .before .before .before .before .before .before .clear-run .ensures) (c .before .before .before .before .clear-run2 .ensures)) (inv .1 .keeps))
 
 pub chain-functions-spec : {M : Type 1} → statement M
 chain-functions-spec =
@@ -81,8 +90,9 @@ chain-functions-spec =
     add-clear-run-2
     clear-run-requires-2
     loop-holds
-    chain-record-requires
-    add-r
+    function-at-requires
+    chain-function-requires
+    add-j
     loop-less
     loop-again
     same-length
