@@ -17,34 +17,44 @@ use Rattle.laws.proofs.Tests.{tested, and-left, and-right}
 use Rattle.records.specs.Words.{byteAt, wordAt, kindOf, detailOf, padOf, wordOf, mostRecords, A, B, C, D, E}
 use Rattle.records.specs.Shapes.{rowAt}
 use Rattle.records.specs.Rules.{wordOk, wordsOk, formOk, otherwiseMarked, bodyMarked, isFirstType, typesFirst, typeIsNew, refersFrom, references, referredOnce, recordOk}
-use Rattle.judge.specs.Inner.{Lowest, TypesLead, capped, laterRefs, countIn, kindIn, KnownBelow, Counting, miscountedIn, ReferenceCounts, otherRules}
+use Rattle.judge.specs.Inner.{Lowest, LowestSoFar, TypesLead, capped, laterRefs, countIn, kindIn, KnownBelow, Counting, miscountedIn, ReferenceCounts, otherRules}
 use Rattle.judge.proofs.CapLaws.{cap-one}
 use Rattle.judge.proofs.BadgeLaws.{refers-down}
 
 -- ---- a lowest number, with one more
 
-pub lowest-start : (f : ℕ → Bool) → Lowest 0 f 0
-lowest-start f = record { within = omega arith; before = λ k h. absurd (omega arith); found = λ h. absurd (omega arith) }
+pub lowest-start : (n : ℕ) (f : ℕ → Bool) → LowestSoFar n 0 f n
+lowest-start n f =
+    record { before = λ k h g. absurd (omega arith); found = λ h. absurd (omega arith); none = λ h. refl }
 
-module _ (f : ℕ → Bool) (r found : ℕ) (l : Lowest r f found) where
-  pub lowest-stays : found < r → Lowest (r + 1) f found
-  lowest-stays h = record { within = omega (arith, l .within); before = l .before; found = λ _. l .found h }
+module _ (n : ℕ) (f : ℕ → Bool) (r found : ℕ) (l : LowestSoFar n r f found) where
+  pub lowest-stays : found < r → LowestSoFar n (r + 1) f found
+  lowest-stays h =
+      record { before = λ k hk g. l .before k (omega arith) g; found = λ _. l .found h; none = λ b. absurd (omega arith) }
 
-  module _ (h : r ≤ found) (ok : Bool) (told : not ok ≡ f r) where
-    pub lowest-here : ok ≡ false → Lowest (r + 1) f r
-    lowest-here e =
-        record { within = omega arith; before = λ k hk. l .before k (omega arith); found = λ _. sym told ∙ ap not e }
+  module _ (ok : Bool) (told : not ok ≡ f r) where
+    pub lowest-here : ok ≡ false → r ≤ found → LowestSoFar n (r + 1) f r
+    lowest-here e h =
+        record { before = λ k hk g. l .before k g (omega arith); found = λ _. sym told ∙ ap not e; none = λ b. absurd (omega arith) }
 
-    pub lowest-passes : ok ≡ true → Lowest (r + 1) f (r + 1)
-    lowest-passes e =
+    pub lowest-passes : ok ≡ true → r < n → LowestSoFar n (r + 1) f found
+    lowest-passes e few =
         record {
-          within = omega arith;
-          before = λ k hk.
+          before = λ k hk g.
               tested (eqb k r)
               (λ t. ap f (eqb-true k r t) ∙ sym told ∙ ap not e)
-              (λ t. let n : k ≡ r → ⊥ = eqb-false k r t in l .before k (omega arith));
-          found = λ b. absurd (omega arith);
+              (λ t. let d : k ≡ r → ⊥ = eqb-false k r t in l .before k (omega arith) g);
+          found = λ b.
+              tested (ltb found r)
+              (λ t. l .found (ltb-true found r t))
+              (λ t. let last : found ≡ n = l .none (ltb-false found r t) in absurd (omega arith));
+          none = λ b. l .none (omega arith);
         }
+
+pub lowest-all : (n : ℕ) (f : ℕ → Bool) (x : ℕ) → LowestSoFar n n f x → Lowest n f x
+lowest-all n f x l =
+    let inside : x ≤ n = tested (ltb x n) (λ t. let h : x < n = ltb-true x n t in omega arith) (λ t. let last : x ≡ n = l .none (ltb-false x n t) in omega arith) in
+    record { within = inside; before = λ k h. l .before k (omega arith) h; found = l .found }
 
 -- ---- references of good records go down
 

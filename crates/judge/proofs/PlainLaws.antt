@@ -30,13 +30,19 @@ use Rattle.judge.specs.Plain.{plainRules, isText, ruleFits, rowFits, Pla
 pub scaled-small : (x y : ℕ) → x ≤ 8589934592 → y < 256 → x * y ≤ 2190433320960
 scaled-small x y h b = omega (arith, mul-le-mul-right y h)
 
-pub owned : (l : List ℕ) (class kind : ℕ) → 4 ≤ length l → Owned l (set (set (set l 0 0) 2 class) 3 kind)
+pub owned : (l : List ℕ) (class kind : ℕ) → 4 ≤ length l → Owned l (set (set (set (set l 0 0) 1 0) 2 class) 3 kind)
 owned l class kind h =
     record {
       same = simp length-set;
-      depth = getD-set-other (set (set l 0 0) 2 class) 3 0 kind 0 (λ e. omega arith) ∙ getD-set-other (set l 0 0) 2 0 class 0 (λ e. omega arith) ∙ getD-set-same l 0 0 0 (omega arith);
-      others = λ x g. getD-set-other (set (set l 0 0) 2 class) 3 x kind 0 (λ e. omega arith) ∙ getD-set-other (set l 0 0) 2 x class 0 (λ e. omega arith) ∙ getD-set-other l 0 x 0 0 (λ e. omega arith);
+      depth = kept 0 (λ e. omega arith) (λ e. omega arith) (λ e. omega arith) ∙ getD-set-same l 0 0 0 (omega arith);
+      others = λ x g. kept x (λ e. omega arith) (λ e. omega arith) (λ e. omega arith) ∙ getD-set-other l 0 x 0 0 (λ e. omega arith);
     }
+  where
+    kept : (x : ℕ) → (1 ≡ x → ⊥) → (2 ≡ x → ⊥) → (3 ≡ x → ⊥) → getD (set (set (set (set l 0 0) 1 0) 2 class) 3 kind) x 0 ≡ getD (set l 0 0) x 0
+    kept x a b c =
+        getD-set-other (set (set (set l 0 0) 1 0) 2 class) 3 x kind 0 (λ e. c (omega arith))
+        ∙ getD-set-other (set (set l 0 0) 1 0) 2 x class 0 (λ e. b (omega arith))
+        ∙ getD-set-other (set l 0 0) 1 x 0 0 (λ e. a (omega arith))
 
 -- ---- the table
 

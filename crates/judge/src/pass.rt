@@ -14,7 +14,7 @@ ghost use Rattle.records.specs.Rules.{wordOk, recordOk};
 ghost use Rattle.records.specs.Depth.{depth as depthOf};
 ghost use Rattle.judge.specs.Plain.{plainRules, TookPlain};
 ghost use Rattle.judge.specs.Judge.{fewestRecords, deepestAllowed};
-ghost use Rattle.judge.specs.Inner.{Lowest, Passing, KnownBelow, Counting, Took, TookWords, WordsOf, TookRecord, TookAll, depthIn, stored};
+ghost use Rattle.judge.specs.Inner.{Lowest, LowestSoFar, Passing, KnownBelow, Counting, Took, TookWords, WordsOf, TookRecord, TookAll, depthIn, stored};
 use crate::equal::first_equal;
 use crate::nesting::depth_over;
 use crate::nesting::max;
@@ -256,16 +256,15 @@ fn take_record(
     take_any(tree, bytes, r, types, known)
 }
 
-// The lowest so far, with record r: `found` is below r, or there was none.
+// The lowest so far, with record r: `found` is below r, or the number of all records, so that nothing is to be done where r is right.
 fn next_lowest(found: usize, r: usize, ok: bool) -> usize
-    requires { ⌜ r < mostRecords ⌝ }
-    ensures { λ v. ⌜ ((f : ℕ → Bool) → Lowest r f found → not ok ≡ f r → Lowest (r + 1) f v) ⌝ }
+    ensures { λ v. ⌜ ((n : ℕ) (f : ℕ → Bool) → r < n → LowestSoFar n r f found → not ok ≡ f r → LowestSoFar n (r + 1) f v) ⌝ }
 {
-    if found < r {
+    if ok {
         return found;
     }
-    if ok {
-        return r + 1;
+    if found < r {
+        return found;
     }
     r
 }
@@ -275,8 +274,8 @@ fn pass(tree: &[u8], bytes: usize, n: usize, types: usize, known: &mut [u8]) -> 
     requires { ⌜ Passing (now tree) n types (now known) ⌝ }
     ensures { λ v. ⌜ TookAll (now (tree .entry)) bytes n (now (known .entry)) (now (known .exit)) (v .fault) (v .deep) ⌝ }
 {
-    let mut fault = 0;
-    let mut deep = 0;
+    let mut fault = n;
+    let mut deep = n;
     let mut r = 0;
     let rules = RULES;
     while r < n {

@@ -1,13 +1,13 @@
 // A record that is right and of a kind that uses A, B and C alone, taken without a jump by what it is. Each word leads to a slot of four bytes: that of a lower
 // record, or slot 0 where the word is none or does not refer. Only what is wrong branches; it is taken again, by `take_any`.
 ghost use mathlib.Core.Path.{_≡_};
-ghost use mathlib.Core.Bool.{true, false, _&&_};
+ghost use mathlib.Core.Bool.{true, false, not, _&&_, _||_};
 ghost use Prim.Native.Nat.{ℕ, _+_, _*_, _/_, _%_, _≤_, _<_};
-ghost use lib.Dec.{leb};
+ghost use lib.Dec.{eqb, leb};
 ghost use lib.ListN.{length, getD, set};
 ghost use Rattle.records.specs.Layout.{knownBytes, slotCount};
-ghost use Rattle.records.specs.Words.{recordBytes, mostRecords, kindOf};
-ghost use Rattle.records.specs.Kinds.{kindList};
+ghost use Rattle.records.specs.Words.{recordBytes, mostRecords, kindOf, none};
+ghost use Rattle.records.specs.Kinds.{kindIf, kindList};
 ghost use Rattle.records.specs.Shapes.{rowOf};
 ghost use Rattle.judge.specs.Inner.{classIn, itemClass, classAt};
 ghost use Rattle.judge.specs.Plain.{plainRules, ruleRows, ruleNumbers, mustRefer, mustBeZero, badgeIn, badgeWithin, Place, Cells, Owned, PlainForm, WordSlots, TookSlots, PlainReady, TookPlain};
@@ -645,14 +645,25 @@ fn count_one(known: &mut [u8], p: usize)
     known[p * KNOWN_BYTES + COUNT_AT] = ((count + 3) / 2) as u8;
 }
 
-// Slot 0, of no depth.
+// Slot 0, of no depth. Its count matters to nobody: it begins anew, so that no record waits for those before it, and the four bytes are one word.
 fn put_own(known: &mut [u8], class: u8, k: u8)
     requires { ⌜ knownBytes ≤ length (now known) ⌝ }
     ensures { λ _. ⌜ Owned (now (known .entry)) (now (known .exit)) ⌝ }
 {
     known[DEPTH_AT] = 0;
+    known[COUNT_AT] = 0;
     known[CLASS_AT] = class;
     known[KIND_AT] = k;
+}
+
+// An If without the mark has no otherwise (its word c). Few records are an If, so the others are not asked.
+fn otherwise_ok(k: u8, found: u8, c: u32) -> bool
+    ensures { λ v. ⌜ v ≡ (not (eqb k kindIf) || eqb found 1 || eqb c none) ⌝ }
+{
+    if k == KIND_IF {
+        return (found == 1) | (c == NONE);
+    }
+    true
 }
 
 // What a record must be aside from what it refers to, by the row of its kind; an If without the mark has no otherwise.
@@ -686,7 +697,7 @@ fn form_ok(
     if found >= rules[row + LIMIT_RULE] {
         return false;
     }
-    (k != KIND_IF) | (found == 1) | (words.c == NONE)
+    otherwise_ok(k, found, words.c)
 }
 
 // Which list the record a of kind k may stand in.

@@ -107,6 +107,9 @@ element-copy-out-if3 c = search needs
 returns-3 : tie.Need-returns-3
 returns-3 c h = absurd (false≢true h)
 
+otherwise-ok-requires : tie.Need-otherwise-ok-requires
+otherwise-ok-requires c κs = search needs
+
 returns-4 : tie.Need-returns-4
 returns-4 c h =
     let za : c .before .before .before .before .before .before .before .before .before .before .before .before .before .before .before .before .scaled .result ≡ 0 = omega (arith, c .before .before .before .before .if1 .left) in
@@ -122,7 +125,7 @@ returns-4 c h =
       pad = omega (arith, c .before .before .before .before .if1 .left, c .before .before .before .before .before .before .before .before .index6 .ensures, c .before .before .before .before .before .before .before .before .before .pad .ensures);
       text = rw e at (c .before .before .before .if2 .left);
       limit = omega (arith, c .before .if3 .left, c .before .before .before .before .before .detail .ensures);
-      marks = rw (c .before .before .before .before .before .detail .ensures) at h;
+      marks = rw (c .before .before .before .before .before .detail .ensures) at (sym (c .otherwise-ok .ensures) ∙ h);
     }
 
 pub form-ok-spec : {M : Type 1} → statement M
@@ -161,4 +164,5 @@ form-ok-spec =
     add-if3
     element-copy-out-if3
     returns-3
+    otherwise-ok-requires
     returns-4)
