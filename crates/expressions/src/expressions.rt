@@ -25,8 +25,11 @@ use crate::operands::common_of;
 use crate::operands::leaf_type;
 use crate::operands::unary_type;
 use crate::operands::value_type;
+use crate::turns::NOTHING;
+use crate::turns::callee_record;
 use crate::turns::is_typed;
 use crate::turns::keep;
+use crate::turns::kept_callee;
 use records::numbers::KIND_BINARY;
 use records::numbers::KIND_CALL;
 use records::numbers::KIND_UNARY;
@@ -75,7 +78,7 @@ fn work_out(
     if k == KIND_UNARY {
         return match get_type(tree, text, scratch, scope, turn, left) {
             ExprType::Refused(x) => ExprType::Refused(x),
-            ExprType::Is(ty) => keep(tree, scratch, turn, e, unary_type(tree, text, e, ty)),
+            ExprType::Is(ty) => keep(tree, scratch, turn, e, unary_type(tree, text, e, ty), NOTHING),
         };
     }
     if k == KIND_BINARY {
@@ -86,21 +89,41 @@ fn work_out(
                 ExprType::Refused(x) => ExprType::Refused(x),
                 ExprType::Is(r) => {
                     let a = binary_type(tree, text, e, both_sides(left, l, right, r));
-                    keep(tree, scratch, turn, e, a)
+                    keep(tree, scratch, turn, e, a, NOTHING)
                 }
             },
         };
     }
     if k == KIND_CALL {
-        let callee = resolve_call(tree, text, scratch, scope, turn, e);
-        return keep(tree, scratch, turn, e, value_type(tree, text, e, callee));
+        let callee = find_callee(tree, text, scratch, scope, turn, e);
+        let a = value_type(tree, text, e, callee);
+        return keep(tree, scratch, turn, e, a, callee_record(callee));
     }
     let a = leaf_type(tree, text, scratch, scope, e);
-    keep(tree, scratch, turn, e, a)
+    keep(tree, scratch, turn, e, a, NOTHING)
+}
+
+// What the call of record r runs: it is kept where the type of r was worked out in this turn.
+pub fn resolve_call(
+    tree: &[u8],
+    text: &[u8],
+    scratch: &mut [u8],
+    scope: Scope,
+    turn: u32,
+    r: usize,
+) -> Resolved
+    requires { ⌜ Typing (now tree) (now text) (now scratch) scope turn ⌝ }
+    requires { ⌜ IsKind (now tree) kindCall r ⌝ }
+    ensures { λ a. ⌜ CallMeets (now (tree .entry)) (now (text .entry)) (now (scratch .entry)) scope turn r a (now (scratch .exit)) ⌝ }
+{
+    if is_typed(tree, scratch, turn, r) {
+        return kept_callee(tree, scratch, r);
+    }
+    find_callee(tree, text, scratch, scope, turn, r)
 }
 
 // What the call of record r runs, once its arguments are checked.
-pub fn resolve_call(
+fn find_callee(
     tree: &[u8],
     text: &[u8],
     scratch: &mut [u8],

@@ -8,15 +8,22 @@ ghost use Rattle.records.specs.Words.{records};
 ghost use Rattle.expressions.specs.Slots.{inTurn, visitsAt, afterVisit, Forgets};
 ghost use Rattle.expressions.specs.Answers.{Keepable, Keeps};
 use crate::answers::ExprType;
+use crate::answers::Resolved;
+use records::layout::BESIDE_BYTES;
+use records::layout::BESIDES;
 use records::layout::SCRATCH;
 use records::layout::TURN_BYTES;
 use records::layout::TURNS;
 use records::layout::TYPE_SLOT_BYTES;
 use records::layout::TYPE_SLOTS;
-use records::layout::VISIT_COUNT;
+use records::numbers::KIND_FUNCTION;
 use records::words::RECORD_BYTES;
+use records::words::kind;
 use records::words::load;
 use records::words::put_word;
+
+// What is kept beside the type of an expression that is neither a call nor a Binary.
+pub(crate) const NOTHING: usize = 0;
 
 // Whether the type of e was worked out in this turn.
 pub(crate) fn is_typed(tree: &[u8], scratch: &[u8], turn: u32, e: usize) -> bool
@@ -27,30 +34,65 @@ pub(crate) fn is_typed(tree: &[u8], scratch: &[u8], turn: u32, e: usize) -> bool
     load(scratch, TURNS * n + TURN_BYTES * e) == turn
 }
 
-// A visit: the type y of e was worked out in this turn.
-fn visit(tree: &[u8], scratch: &mut [u8], turn: u32, e: usize, y: usize)
+// A visit: the type y of e was worked out in this turn, and b is kept beside it.
+fn visit(tree: &[u8], scratch: &mut [u8], turn: u32, e: usize, y: usize, b: usize)
     requires { ⌜ (e < records (now tree)) × (scratchEach * records (now tree) ≤ length (now scratch)) × (y < 4294967296) ⌝ }
     requires { ⌜ visitsAt (now tree) (now scratch) + 1 < 4294967296 ⌝ }
     ensures { λ _. ⌜ now (scratch .exit) ≡ afterVisit (now (tree .entry)) turn e y (now (scratch .entry)) ⌝ }
 {
     let n = tree.len() / RECORD_BYTES;
-    let visits = load(scratch, VISIT_COUNT * n);
+    let visits = load(scratch, BESIDES * n);
     put_word(scratch, TYPE_SLOTS * n + TYPE_SLOT_BYTES * e, y as u32);
     put_word(scratch, TURNS * n + TURN_BYTES * e, turn);
-    put_word(scratch, VISIT_COUNT * n, visits + 1);
+    put_word(scratch, BESIDES * n + BESIDE_BYTES * e, b as u32);
+    put_word(scratch, BESIDES * n, visits + 1);
 }
 
-// What working out the type of e came to: a type is kept, and the visit counted.
-pub(crate) fn keep(tree: &[u8], scratch: &mut [u8], turn: u32, e: usize, a: ExprType) -> ExprType
+// What working out the type of e came to: a type is kept, and b beside it, and the visit counted.
+pub(crate) fn keep(
+    tree: &[u8],
+    scratch: &mut [u8],
+    turn: u32,
+    e: usize,
+    a: ExprType,
+    b: usize,
+) -> ExprType
     requires { ⌜ Keepable (now tree) e a (now scratch) ⌝ }
     ensures { λ r. ⌜ Keeps (now (tree .entry)) turn e a (now (scratch .entry)) r (now (scratch .exit)) ⌝ }
 {
     match a {
         ExprType::Refused(x) => ExprType::Refused(x),
         ExprType::Is(y) => {
-            visit(tree, scratch, turn, e, y);
+            visit(tree, scratch, turn, e, y, b);
             ExprType::Is(y)
         }
+    }
+}
+
+// What is kept beside the type of e.
+fn beside(tree: &[u8], scratch: &[u8], e: usize) -> usize
+{
+    let n = tree.len() / RECORD_BYTES;
+    load(scratch, BESIDES * n + BESIDE_BYTES * e) as usize
+}
+
+// What the call e runs, where its type was worked out in this turn.
+pub(crate) fn kept_callee(tree: &[u8], scratch: &[u8], e: usize) -> Resolved
+{
+    let r = beside(tree, scratch, e);
+    if kind(tree, r) == KIND_FUNCTION {
+        return Resolved::Function(r);
+    }
+    Resolved::Cast(r)
+}
+
+// The record that stands for what a call runs: the function's, or that of the type it casts to.
+pub(crate) fn callee_record(callee: Resolved) -> usize
+{
+    match callee {
+        Resolved::Refused(_) => NOTHING,
+        Resolved::Function(f) => f,
+        Resolved::Cast(y) => y,
     }
 }
 
@@ -73,5 +115,5 @@ pub fn visits(tree: &[u8], scratch: &[u8]) -> usize
     ensures { λ v. ⌜ v ≡ visitsAt (now (tree .entry)) (now (scratch .entry)) ⌝ }
 {
     let n = tree.len() / RECORD_BYTES;
-    load(scratch, VISIT_COUNT * n) as usize
+    load(scratch, BESIDES * n) as usize
 }
