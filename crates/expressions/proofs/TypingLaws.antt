@@ -2,15 +2,18 @@
 -- By the cases of nodes and the laws of turns, in the scope that the open names stand for. Assumes nothing.
 use mathlib.Core.Path.{_≡_, refl, sym, ap, _∙_, subst}
 use mathlib.Core.Bool.{Bool, true, false}
+use mathlib.Core.Logic.{_⊎_, inl, inr}
 use mathlib.Core.List.{List, [], _++_}
 use Prim.Native.Nat.{ℕ, _+_, _*_, _≤_, _<_}
 use native.Mathlib.Omega.{arith}
 use lib.Dec.{leb}
 use lib.ListN.{length, getD}
-use borrow.Author.Tests.{leb-true}
+use borrow.Author.Tests.{leb-true, ne-eqb}
 use Rattle.laws.proofs.Tests.{and-right}
 use Rattle.records.specs.declared.convert_error.ConvertError.{ConvertError}
+use Rattle.laws.specs.Fix.{pick}
 use Rattle.records.specs.Words.{kindOf, detailOf, wordOf, records, A, B, C}
+use Rattle.records.specs.Kinds.{kindFunction}
 use Rattle.records.specs.Rules.{isExpr}
 use Rattle.records.specs.Good.{Good}
 use Rattle.records.proofs.GoodLaws.{unary-a, binary-a, binary-b}
@@ -29,17 +32,17 @@ use Rattle.expressions.specs.declared.answers.ExprType.{ExprType}
 use Rattle.expressions.specs.declared.answers.ExprType.the-variants as ExprType
 use Rattle.expressions.specs.declared.answers.Resolved.{Resolved}
 use Rattle.expressions.specs.declared.answers.Resolved.the-variants as Resolved
-use Rattle.syntax.specs.Places.{IsExpr, IsKind, TypeAt, exprAt, argsAt}
+use Rattle.syntax.specs.Places.{IsExpr, IsKind, TypeAt, FunctionAt, exprAt, argsAt}
 use Rattle.keys.specs.Keys.{allKeys}
-use Rattle.expressions.specs.Slots.{slotAt, inTurn, afterVisit, slotted, typeIn, Typed, Typing}
+use Rattle.expressions.specs.Slots.{slotAt, besideAt, inTurn, afterVisit, slotted, typeIn, calleeIn, calleeAt, Callable, Beside, Typed, Typing}
 use Rattle.expressions.specs.Calls.{typedAt}
 use Rattle.expressions.specs.declared.operands.Sides.{Sides}
-use Rattle.expressions.specs.Answers.{refusal, typeResult, doneWith, calleeOf, valueResult, IsTyped, IsCallee, TypeIs, CalleeIs, binaryTypeAt, WorksOut, Keepable, Keeps, TypeMeets, ArgsMeet, CallMeets}
+use Rattle.expressions.specs.Answers.{refusal, typeResult, doneWith, calleeOf, calleeRecord, valueResult, IsTyped, IsCallee, TypeIs, CalleeIs, binaryTypeAt, WorksOut, Keepable, Keeps, TypeMeets, ArgsMeet, CallMeets}
 use Rattle.syntax.proofs.Records.{expr-unary, expr-binary, expr-call}
 use Rattle.expressions.proofs.SlotLaws.{frame-refl, frame-trans}
 pub use Rattle.expressions.proofs.PartLaws.{expr-low, place-is, call-list, call-low}
 use Rattle.expressions.proofs.PartLaws.{leaf-parts, unary-parts, binary-parts, call-parts}
-use Rattle.expressions.proofs.TurnLaws.{visited-frame, typed-none, typed-both, hit-right, hit-typed, visit-fits, visit-typed, later-type, later-adds}
+use Rattle.expressions.proofs.TurnLaws.{visited-frame, typed-none, typed-both, hit-right, hit-typed, hit-parts, visit-fits, visit-typed, later-type, later-adds}
 
 -- ---- results one after the other
 
@@ -79,17 +82,17 @@ refused-is : (r : ConvertError) (y : ℕ) → ExprType.Refused r ≡ ExprType.Is
 refused-is r y e = let z : _≡_ {A = ℕ} 0 1 = cc in omega arith
 
 -- what is kept of a refusal, and of a type
-pub keeps-refusal : (tree : List ℕ) (turn e : ℕ) (a : ExprType) (s : List ℕ) (r : ConvertError) → a ≡ ExprType.Refused r → Keeps tree turn e a s (ExprType.Refused r) s
-keeps-refusal tree turn e a s r q = record { same = sym q; type = λ y w. absurd (refused-is r y (sym q ∙ w)); refused = λ x w. refl }
+pub keeps-refusal : (tree : List ℕ) (turn e : ℕ) (a : ExprType) (b : ℕ) (s : List ℕ) (r : ConvertError) → a ≡ ExprType.Refused r → Keeps tree turn e a b s (ExprType.Refused r) s
+keeps-refusal tree turn e a b s r q = record { same = sym q; type = λ y w. absurd (refused-is r y (sym q ∙ w)); refused = λ x w. refl }
 
 type-same : (y z : ℕ) → ExprType.Is y ≡ ExprType.Is z → y ≡ z
 type-same y z e = cc
 
-pub keeps-type : (tree : List ℕ) (turn e : ℕ) (a : ExprType) (s : List ℕ) (y : ℕ) → a ≡ ExprType.Is y → (s′ : List ℕ) → s′ ≡ afterVisit tree turn e y s
-    → Keeps tree turn e a s (ExprType.Is y) s′
-keeps-type tree turn e a s y q s′ w = record {
+pub keeps-type : (tree : List ℕ) (turn e : ℕ) (a : ExprType) (b : ℕ) (s : List ℕ) (y : ℕ) → a ≡ ExprType.Is y → (s′ : List ℕ) → s′ ≡ afterVisit tree turn e y b s
+    → Keeps tree turn e a b s (ExprType.Is y) s′
+keeps-type tree turn e a b s y q s′ w = record {
   same = sym q;
-  type = λ z v. w ∙ ap (λ (x : ℕ). afterVisit tree turn e x s) (type-same y z (sym q ∙ v));
+  type = λ z v. w ∙ ap (λ (x : ℕ). afterVisit tree turn e x b s) (type-same y z (sym q ∙ v));
   refused = λ r v. absurd (refused-is r y (sym v ∙ q));
 }
 
@@ -98,6 +101,33 @@ callee-ok : {P : Type 0} (m : Result Callee) (f : Callee → Result ℕ) (y : �
 unfolding _>>=_
 callee-ok (ok c) f y q g = g c refl
 callee-ok (err k p) f y q g = absurd (err-ok k p y q)
+
+-- the record of a callee stands for it
+callee-stands : (tree text : List ℕ) (S : Def.Scope) (e : ℕ) (a : Resolved) → IsCallee tree a → calleeIn tree text S e ≡ calleeOf tree text a
+    → (c : Callee) → calleeOf tree text a ≡ ok c → Callable tree text S e (calleeRecord a)
+unfolding calleeOf calleeAt calleeRecord pick refusal
+callee-stands tree text S e (Resolved.Function f) (IsCallee.a-function h) m c q = record { is = m ∙ rw (h .kind); place = inl h }
+callee-stands tree text S e (Resolved.Cast y) (IsCallee.a-cast h) m c q = record { is = m ∙ rw (h .kind); place = inr h }
+callee-stands tree text S e (Resolved.Refused x) IsCallee.no m c q = absurd (err-ok (x .kind) (x .place) c q)
+
+-- and what stands for it is told by its kind
+pub function-stands : (tree : List ℕ) (b : ℕ) → FunctionAt tree b ⊎ TypeAt tree b → kindOf tree b ≡ kindFunction → (text : List ℕ)
+    → CalleeIs tree text (Resolved.Function b) (ok (calleeAt tree text b))
+unfolding calleeOf calleeAt pick
+function-stands tree b (inl h) q text = record { is = rw q; callee = IsCallee.a-function h }
+function-stands tree b (inr h) q text = absurd (omega (arith, q, h .kind))
+
+pub cast-stands : (tree : List ℕ) (b : ℕ) → FunctionAt tree b ⊎ TypeAt tree b → (kindOf tree b ≡ kindFunction → ⊥) → (text : List ℕ)
+    → CalleeIs tree text (Resolved.Cast b) (ok (calleeAt tree text b))
+unfolding calleeOf calleeAt pick
+cast-stands tree b (inl h) n text = absurd (n (h .kind))
+cast-stands tree b (inr h) n text = record { is = rw (ne-eqb (kindOf tree b) kindFunction n); callee = IsCallee.a-cast h }
+
+callee-small : (tree : List ℕ) (a : Resolved) → IsCallee tree a → records tree ≤ 16384 → calleeRecord a < 4294967296
+unfolding calleeRecord
+callee-small tree (Resolved.Function f) (IsCallee.a-function h) few = omega (arith, h .below)
+callee-small tree (Resolved.Cast y) (IsCallee.a-cast h) few = omega (arith, h .below)
+callee-small tree (Resolved.Refused x) IsCallee.no few = omega arith
 
 -- ---- the kinds
 
@@ -157,6 +187,10 @@ module _ (tree text : List ℕ) (good : Good tree text) where
     pub leaf-kind : (k ≡ 9 → ⊥) → (k ≡ 10 → ⊥) → (k ≡ 11 → ⊥) → kindOf tree e ≤ 8
     leaf-kind n₉ n₁₀ n₁₁ = omega (arith, ek, leb-true (kindOf tree e) 11 (and-right (leb 2 (kindOf tree e)) (leb (kindOf tree e) 11) (x .expression)))
 
+    -- beside the type of what is no call anything can be kept
+    beside-none : (S : Def.Scope) → (k ≡ 11 → ⊥) → (0 < 4294967296) × Beside tree text S e 0
+    beside-none S n = (omega arith, record { callee = λ q. absurd (n (ek ∙ q)) })
+
     module _ (s : List ℕ) (sc : Scope) (turn : ℕ) where
       abbrev S : Def.Scope
       S = scopeAt tree text s sc
@@ -186,10 +220,11 @@ module _ (tree text : List ℕ) (good : Good tree text) where
 
         pub unary-next : (y : ℕ) → t ≡ ExprType.Is y → (b : ExprType)
             → TypeIs tree b (unaryType (program tree text) (allKeys tree text) e (getD unaryOps (detailOf tree e) Neg) y)
-            → WorksOut tree text s sc turn e b s₁
+            → WorksOut tree text s sc turn e b 0 s₁
         unary-next y w b u = record {
           frame = m .frame;
           typed = u .type;
+          beside = λ z v. beside-none S (λ n. omega (arith, q));
           adds = λ z v. parts-as (exprs (exprAt tree text a)) (unary-parts tree text good e x (kind-at 9 q) ∙ ap (λ (z : ℕ). exprs (exprAt tree text z)) (sym ea)) s₁ (m .adds y w);
           meets =
               type-unary S e (expr-low tree text good e x) (kind-at 9 q)
@@ -255,10 +290,11 @@ module _ (tree text : List ℕ) (good : Good tree text) where
 
           pub right-next : (y : ℕ) → u ≡ ExprType.Is y → (sides : Sides) → sides ≡ record { left = a; «left_type» = l; right = b; «right_type» = y } → (d : ExprType)
               → TypeIs tree d (binaryTypeAt tree text e sides)
-              → WorksOut tree text s sc turn e d s₂
+              → WorksOut tree text s sc turn e d 0 s₂
           right-next y v sides es d z = record {
             frame = frame-trans (m .frame) (m₂ .frame);
             typed = z .type;
+            beside = λ i j. beside-none S (λ n. omega (arith, q));
             adds = λ i j. both-adds y v;
             meets =
                 with-left
@@ -271,11 +307,13 @@ module _ (tree text : List ℕ) (good : Good tree text) where
 
       -- a call
       pub call-value : k ≡ 11 → (c : Resolved) (s₁ : List ℕ) → CallMeets tree text s sc turn e c s₁ → (b : ExprType)
-          → TypeIs tree b (valueResult tree text e c) → WorksOut tree text s sc turn e b s₁
+          → TypeIs tree b (valueResult tree text e c) → (w : ℕ) → w ≡ calleeRecord c → WorksOut tree text s sc turn e b w s₁
       unfolding valueResult
-      call-value q c s₁ m b u = record {
+      call-value q c s₁ m b u w ew = record {
         frame = m .frame;
         typed = u .type;
+        beside = λ y v. callee-ok (calleeOf tree text c) (λ c. valueType e (return-type c)) y (type-ok (valueResult tree text e c) b y (u .is) v)
+            (λ d z. rw ew (callee-small tree c (m .callee) (good .few), record { callee = λ i. callee-stands tree text S e c (m .callee) (m .meets) d z }));
         adds = λ y v. callee-ok (calleeOf tree text c) (λ c. valueType e (return-type c)) y (type-ok (valueResult tree text e c) b y (u .is) v)
             (λ d z. parts-as (argsExprs (argsAt tree text (wordOf tree e C))) (call-parts tree text good e x (kind-at 11 q)) s₁ (m .adds d z));
         meets =
@@ -284,10 +322,11 @@ module _ (tree text : List ℕ) (good : Good tree text) where
 
       -- an expression without parts
       pub leaf-meets : Typing tree text s sc turn → (k ≡ 9 → ⊥) → (k ≡ 10 → ⊥) → (k ≡ 11 → ⊥) → (a : ExprType)
-          → TypeIs tree a (typeIn tree text S e) → WorksOut tree text s sc turn e a s
+          → TypeIs tree a (typeIn tree text S e) → WorksOut tree text s sc turn e a 0 s
       leaf-meets typing n₉ n₁₀ n₁₁ a h = record {
         frame = frame-refl tree s;
         typed = h .type;
+        beside = λ y v. beside-none S n₁₁;
         adds = λ y v. parts-as [] (leaf-parts tree text good e x (leaf-kind n₉ n₁₀ n₁₁)) s (typed-none tree text S turn s (typing .remembers));
         meets = h .is;
       }
@@ -313,26 +352,26 @@ module _ (tree text : List ℕ) (good : Good tree text) where
         }
 
     -- it is worked out where the turn has none, and kept
-    module _ (new : inTurn tree turn s e ≡ false) (a : ExprType) (s₁ : List ℕ) (m : WorksOut tree text s sc turn e a s₁) where
+    module _ (new : inTurn tree turn s e ≡ false) (a : ExprType) (b : ℕ) (s₁ : List ℕ) (m : WorksOut tree text s sc turn e a b s₁) where
       room : 72 * records tree ≤ length s₁
       room = omega (arith, m .frame .same-length, typing .ready .keyed .listed .room)
 
-      pub keep-ready : Keepable tree e a s₁
+      pub keep-ready : Keepable tree e a b s₁
       keep-ready = record {
         fits = λ y q. (
-          (expr-low tree text good e x, room, omega (arith, is-typed tree a y (m .typed) q .below, good .few)),
+          (expr-low tree text good e x, room, omega (arith, is-typed tree a y (m .typed) q .below, good .few), m .beside y q .0),
           visit-fits tree text U turn good s s₁ e x room new (m .adds y q),
         );
       }
 
-      kept-type : turn < 4294967296 → (y : ℕ) → a ≡ ExprType.Is y → TypeMeets tree text s sc turn e (ExprType.Is y) (afterVisit tree turn e y s₁)
+      kept-type : turn < 4294967296 → (y : ℕ) → a ≡ ExprType.Is y → TypeMeets tree text s sc turn e (ExprType.Is y) (afterVisit tree turn e y b s₁)
       unfolding typeResult
       kept-type fit y q = record {
-        frame = frame-trans (m .frame) (visited-frame tree s₁ turn e y (expr-low tree text good e x) room);
+        frame = frame-trans (m .frame) (visited-frame tree s₁ turn e y b (expr-low tree text good e x) room);
         typed = IsTyped.is (is-typed tree a y (m .typed) q);
         meets = m .meets ∙ ap typeResult q;
-        adds = λ z v. visit-typed tree text U turn good s s₁ e x room new (m .adds y q) y fit (type-ok (typeIn tree text U e) a y (m .meets) q)
-            (is-typed tree a y (m .typed) q);
+        adds = λ z v. visit-typed tree text U turn good s s₁ e x room new (m .adds y q) y b fit (type-ok (typeIn tree text U e) a y (m .meets) q)
+            (is-typed tree a y (m .typed) q) (m .beside y q);
       }
 
       kept-refusal : (r : ConvertError) → a ≡ ExprType.Refused r → TypeMeets tree text s sc turn e (ExprType.Refused r) s₁
@@ -344,14 +383,37 @@ module _ (tree text : List ℕ) (good : Good tree text) where
         adds = λ y v. absurd (refused-is r y v);
       }
 
-      pub keep-meets : turn < 4294967296 → (b : ExprType) (s₂ : List ℕ) → Keeps tree turn e a s₁ b s₂ → TypeMeets tree text s sc turn e b s₂
-      keep-meets fit b s₂ k = go a refl
+      pub keep-meets : turn < 4294967296 → (d : ExprType) (s₂ : List ℕ) → Keeps tree turn e a b s₁ d s₂ → TypeMeets tree text s sc turn e d s₂
+      keep-meets fit d s₂ k = go a refl
         where
-          go : (z : ExprType) → a ≡ z → TypeMeets tree text s sc turn e b s₂
+          go : (z : ExprType) → a ≡ z → TypeMeets tree text s sc turn e d s₂
           go (ExprType.Is y) q = rw (k .same, q, k .type y q) (kept-type fit y q)
           go (ExprType.Refused r) q = rw (k .same, q, k .refused r q) (kept-refusal r q)
 
   -- ---- what a call runs
+
+  -- it is kept where the turn remembers the call's type
+  module _ (r : ℕ) (k : IsKind tree 11 r) (s : List ℕ) (sc : Scope) (turn : ℕ) (typing : Typing tree text s sc turn) (t : Bool) (et : t ≡ inTurn tree turn s r) (hit : t ≡ true)
+      (b : ℕ) (eb : b ≡ besideAt tree s r) where
+    abbrev V : Def.Scope
+    V = scopeAt tree text s sc
+
+    call-expr : IsExpr tree r
+    call-expr = is-expr tree text good r (k .below) (ap isExpr (k .kind))
+
+    callable : Callable tree text V r b
+    callable = subst (Callable tree text V r) (sym eb) (hit-right tree text V turn s (typing .remembers) r (k .below) (sym et ∙ hit) .beside .callee (k .kind))
+
+    pub callee-ready : (FunctionAt tree b ⊎ TypeAt tree b) × (length tree ≡ records tree * 32)
+    callee-ready = (callable .place, good .whole)
+
+    pub call-known : (a : Resolved) → ((text′ : List ℕ) → CalleeIs tree text′ a (ok (calleeAt tree text′ b))) → CallMeets tree text s sc turn r a s
+    call-known a h = record {
+      frame = frame-refl tree s;
+      callee = h text .callee;
+      meets = callable .is ∙ h text .is;
+      adds = λ c v. rw (← call-parts tree text good r call-expr (k .kind)) (hit-parts tree text V turn s (typing .remembers) r (k .below) (sym et ∙ hit) good call-expr);
+    }
 
   module _ (s : List ℕ) (sc : Scope) (turn r : ℕ) (a : Outcome) (s₁ : List ℕ) (m : ArgsMeet tree text s sc turn (wordOf tree r C) a s₁) where
     abbrev T : Def.Scope

@@ -18,6 +18,9 @@ use crate::arguments::END;
 use crate::arguments::argument_at;
 use crate::arguments::next_cell;
 use crate::arguments::slot;
+use crate::calls::NOTHING;
+use crate::calls::callee_at;
+use crate::calls::callee_record;
 use crate::calls::resolve_typed;
 use crate::operands::binary_type;
 use crate::operands::both_sides;
@@ -25,11 +28,9 @@ use crate::operands::common_of;
 use crate::operands::leaf_type;
 use crate::operands::unary_type;
 use crate::operands::value_type;
-use crate::turns::NOTHING;
-use crate::turns::callee_record;
+use crate::turns::beside;
 use crate::turns::is_typed;
 use crate::turns::keep;
-use crate::turns::kept_callee;
 use records::numbers::KIND_BINARY;
 use records::numbers::KIND_CALL;
 use records::numbers::KIND_UNARY;
@@ -78,7 +79,14 @@ fn work_out(
     if k == KIND_UNARY {
         return match get_type(tree, text, scratch, scope, turn, left) {
             ExprType::Refused(x) => ExprType::Refused(x),
-            ExprType::Is(ty) => keep(tree, scratch, turn, e, unary_type(tree, text, e, ty), NOTHING),
+            ExprType::Is(ty) => keep(
+                tree,
+                scratch,
+                turn,
+                e,
+                unary_type(tree, text, e, ty),
+                NOTHING,
+            ),
         };
     }
     if k == KIND_BINARY {
@@ -117,7 +125,7 @@ pub fn resolve_call(
     ensures { λ a. ⌜ CallMeets (now (tree .entry)) (now (text .entry)) (now (scratch .entry)) scope turn r a (now (scratch .exit)) ⌝ }
 {
     if is_typed(tree, scratch, turn, r) {
-        return kept_callee(tree, scratch, r);
+        return callee_at(tree, beside(tree, scratch, r));
     }
     find_callee(tree, text, scratch, scope, turn, r)
 }

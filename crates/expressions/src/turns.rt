@@ -1,14 +1,13 @@
-// What is remembered of types, so that each is worked out once (document 02, point 9): an expression's type stands at its slot, and beside it the turn in
-// which it was worked out. A turn is a statement, so that a type is only used in the scope that it was worked out in.
+// What is remembered of types, so that each is worked out once (document 02, point 9): an expression's type stands at its slot, with the turn in which it was
+// worked out and, beside it, what a call runs. A turn is a statement, so that a type is only used in the scope that it was worked out in.
 ghost use mathlib.Core.Path.{_≡_};
 ghost use Prim.Native.Nat.{_+_, _*_, _≤_, _<_};
 ghost use lib.ListN.{length};
 ghost use Rattle.records.specs.Layout.{scratchEach};
 ghost use Rattle.records.specs.Words.{records};
-ghost use Rattle.expressions.specs.Slots.{inTurn, visitsAt, afterVisit, Forgets};
+ghost use Rattle.expressions.specs.Slots.{inTurn, visitsAt, besideAt, afterVisit, Forgets};
 ghost use Rattle.expressions.specs.Answers.{Keepable, Keeps};
 use crate::answers::ExprType;
-use crate::answers::Resolved;
 use records::layout::BESIDE_BYTES;
 use records::layout::BESIDES;
 use records::layout::SCRATCH;
@@ -16,14 +15,9 @@ use records::layout::TURN_BYTES;
 use records::layout::TURNS;
 use records::layout::TYPE_SLOT_BYTES;
 use records::layout::TYPE_SLOTS;
-use records::numbers::KIND_FUNCTION;
 use records::words::RECORD_BYTES;
-use records::words::kind;
 use records::words::load;
 use records::words::put_word;
-
-// What is kept beside the type of an expression that is neither a call nor a Binary.
-pub(crate) const NOTHING: usize = 0;
 
 // Whether the type of e was worked out in this turn.
 pub(crate) fn is_typed(tree: &[u8], scratch: &[u8], turn: u32, e: usize) -> bool
@@ -36,9 +30,9 @@ pub(crate) fn is_typed(tree: &[u8], scratch: &[u8], turn: u32, e: usize) -> bool
 
 // A visit: the type y of e was worked out in this turn, and b is kept beside it.
 fn visit(tree: &[u8], scratch: &mut [u8], turn: u32, e: usize, y: usize, b: usize)
-    requires { ⌜ (e < records (now tree)) × (scratchEach * records (now tree) ≤ length (now scratch)) × (y < 4294967296) ⌝ }
+    requires { ⌜ (e < records (now tree)) × (scratchEach * records (now tree) ≤ length (now scratch)) × (y < 4294967296) × (b < 4294967296) ⌝ }
     requires { ⌜ visitsAt (now tree) (now scratch) + 1 < 4294967296 ⌝ }
-    ensures { λ _. ⌜ now (scratch .exit) ≡ afterVisit (now (tree .entry)) turn e y (now (scratch .entry)) ⌝ }
+    ensures { λ _. ⌜ now (scratch .exit) ≡ afterVisit (now (tree .entry)) turn e y b (now (scratch .entry)) ⌝ }
 {
     let n = tree.len() / RECORD_BYTES;
     let visits = load(scratch, BESIDES * n);
@@ -57,8 +51,8 @@ pub(crate) fn keep(
     a: ExprType,
     b: usize,
 ) -> ExprType
-    requires { ⌜ Keepable (now tree) e a (now scratch) ⌝ }
-    ensures { λ r. ⌜ Keeps (now (tree .entry)) turn e a (now (scratch .entry)) r (now (scratch .exit)) ⌝ }
+    requires { ⌜ Keepable (now tree) e a b (now scratch) ⌝ }
+    ensures { λ r. ⌜ Keeps (now (tree .entry)) turn e a b (now (scratch .entry)) r (now (scratch .exit)) ⌝ }
 {
     match a {
         ExprType::Refused(x) => ExprType::Refused(x),
@@ -70,30 +64,12 @@ pub(crate) fn keep(
 }
 
 // What is kept beside the type of e.
-fn beside(tree: &[u8], scratch: &[u8], e: usize) -> usize
+pub(crate) fn beside(tree: &[u8], scratch: &[u8], e: usize) -> usize
+    requires { ⌜ (e < records (now tree)) × (scratchEach * records (now tree) ≤ length (now scratch)) ⌝ }
+    ensures { λ b. ⌜ b ≡ besideAt (now (tree .entry)) (now (scratch .entry)) e ⌝ }
 {
     let n = tree.len() / RECORD_BYTES;
     load(scratch, BESIDES * n + BESIDE_BYTES * e) as usize
-}
-
-// What the call e runs, where its type was worked out in this turn.
-pub(crate) fn kept_callee(tree: &[u8], scratch: &[u8], e: usize) -> Resolved
-{
-    let r = beside(tree, scratch, e);
-    if kind(tree, r) == KIND_FUNCTION {
-        return Resolved::Function(r);
-    }
-    Resolved::Cast(r)
-}
-
-// The record that stands for what a call runs: the function's, or that of the type it casts to.
-pub(crate) fn callee_record(callee: Resolved) -> usize
-{
-    match callee {
-        Resolved::Refused(_) => NOTHING,
-        Resolved::Function(f) => f,
-        Resolved::Cast(y) => y,
-    }
 }
 
 // No type is known and no visit made, whatever the scratch held.

@@ -88,7 +88,7 @@ pub const TURNS: usize = 64;
 
 pub const TURN_BYTES: usize = 4;
 
-// What is kept beside the types of expressions, a word each; in the first word, record 0 being a type, how many visits were made.
+// What is kept beside the types of expressions, a word each; in the first word how many visits were made.
 pub const BESIDES: usize = 68;
 
 pub const BESIDE_BYTES: usize = 4;

@@ -1,4 +1,4 @@
--- `get_type`, `work_out`, `resolve_call` and `get_argument_types` meet their contracts. Their measures are 4e + 3, 4e + 2, 4r + 1 and 4r: a call goes to a lower record, or
+-- `get_type`, `work_out`, `find_callee` and `get_argument_types` meet their contracts. Their measures are 4e + 3, 4e + 2, 4r + 1 and 4r: a call goes to a lower record, or
 -- down this order. Each need is a law of TypingLaws or of ArgumentTurns; the loop's invariant is `Left`, its measure the cell's number. Assumes nothing.
 use mathlib.Core.Path.{sym, _∙_}
 use Prim.Native.Nat.{ℕ, suc, _+_, _*_, _<_}
@@ -16,19 +16,20 @@ use borrow.Fn.Kinds.{In}
 use borrow.Fn.PlainCycle.{Measures, is, falls, and}
 use Rattle.expressions.proofs.expressions.get_argument_types.Reads as get-argument-types
 use Rattle.expressions.proofs.expressions.get_argument_types.Kinds as get-argument-types-kinds
-use Rattle.expressions.proofs.expressions.+get_argument_types+get_type+resolve_call+work_out.Lts-get_argument_types as get-argument-types-lts
+use Rattle.expressions.proofs.expressions.+find_callee+get_argument_types+get_type+work_out.Lts-get_argument_types as get-argument-types-lts
 use Rattle.expressions.proofs.expressions.get_type.Reads as get-type
 use Rattle.expressions.proofs.expressions.get_type.Kinds as get-type-kinds
-use Rattle.expressions.proofs.expressions.+get_argument_types+get_type+resolve_call+work_out.Lts-get_type as get-type-lts
-use Rattle.expressions.proofs.expressions.resolve_call.Reads as resolve-call
-use Rattle.expressions.proofs.expressions.resolve_call.Kinds as resolve-call-kinds
-use Rattle.expressions.proofs.expressions.+get_argument_types+get_type+resolve_call+work_out.Lts-resolve_call as resolve-call-lts
+use Rattle.expressions.proofs.expressions.+find_callee+get_argument_types+get_type+work_out.Lts-get_type as get-type-lts
+use Rattle.expressions.proofs.expressions.find_callee.Reads as find-callee
+use Rattle.expressions.proofs.expressions.find_callee.Kinds as find-callee-kinds
+use Rattle.expressions.proofs.expressions.+find_callee+get_argument_types+get_type+work_out.Lts-find_callee as find-callee-lts
 use Rattle.expressions.proofs.expressions.work_out.Reads as work-out
 use Rattle.expressions.proofs.expressions.work_out.Kinds as work-out-kinds
-use Rattle.expressions.proofs.expressions.+get_argument_types+get_type+resolve_call+work_out.Lts-work_out as work-out-lts
+use Rattle.expressions.proofs.expressions.+find_callee+get_argument_types+get_type+work_out.Lts-work_out as work-out-lts
 use Rattle.expressions.proofs.arguments.argument_at.Reads as argument-at-reads
 use Rattle.expressions.proofs.arguments.next_cell.Reads as next-cell-reads
 use Rattle.expressions.proofs.arguments.slot.Reads as slot-reads
+use Rattle.expressions.proofs.calls.callee_record.Reads as callee-record-reads
 use Rattle.expressions.proofs.calls.resolve_typed.Reads as resolve-typed-reads
 use Rattle.expressions.proofs.operands.binary_type.Reads as binary-type-reads
 use Rattle.expressions.proofs.operands.both_sides.Reads as both-sides-reads
@@ -39,10 +40,10 @@ use Rattle.expressions.proofs.turns.is_typed.Reads as is-typed-reads
 use Rattle.expressions.proofs.turns.keep.Reads as keep-reads
 use Rattle.records.proofs.words.kind.Reads as kind-reads
 use Rattle.records.proofs.words.reference.Reads as reference-reads
-use Rattle.expressions.proofs.expressions.+get_argument_types+get_type+resolve_call+work_out.{
+use Rattle.expressions.proofs.expressions.+find_callee+get_argument_types+get_type+work_out.{
   statement,
 }
-use Rattle.expressions.proofs.expressions.+get_argument_types+get_type+resolve_call+work_out.Tie.{
+use Rattle.expressions.proofs.expressions.+find_callee+get_argument_types+get_type+work_out.Tie.{
   close,
 }
 
@@ -52,8 +53,8 @@ abbrev μ-get-argument-types : Measures 3 get-argument-types-kinds.ps ℕ
 abbrev μ-get-type : Measures 3 get-type-kinds.ps ℕ
 μ-get-type κs a = 4 * a .1 .1 .1 .1 .1 .0 + 3
 
-abbrev μ-resolve-call : Measures 3 resolve-call-kinds.ps ℕ
-μ-resolve-call κs a = 4 * a .1 .1 .1 .1 .1 .0 + 1
+abbrev μ-find-callee : Measures 3 find-callee-kinds.ps ℕ
+μ-find-callee κs a = 4 * a .1 .1 .1 .1 .1 .0 + 1
 
 abbrev μ-work-out : Measures 3 work-out-kinds.ps ℕ
 μ-work-out κs a = 4 * a .1 .1 .1 .1 .1 .0 + 2
@@ -81,17 +82,17 @@ abbrev get-type-below : ℕ → In 3 get-type-kinds.ps
 get-type-below t =
     and 3 get-type-kinds.ps (falls 3 get-type-kinds.ps _<_ μ-get-type t) get-type.Pre
 
-abbrev resolve-call-at : ℕ → In 3 resolve-call-kinds.ps
-resolve-call-at t =
-    and 3 resolve-call-kinds.ps (is 3 resolve-call-kinds.ps μ-resolve-call t) resolve-call.Pre
+abbrev find-callee-at : ℕ → In 3 find-callee-kinds.ps
+find-callee-at t =
+    and 3 find-callee-kinds.ps (is 3 find-callee-kinds.ps μ-find-callee t) find-callee.Pre
 
-abbrev resolve-call-below : ℕ → In 3 resolve-call-kinds.ps
-resolve-call-below t =
+abbrev find-callee-below : ℕ → In 3 find-callee-kinds.ps
+find-callee-below t =
     and
     3
-    resolve-call-kinds.ps
-    (falls 3 resolve-call-kinds.ps _<_ μ-resolve-call t)
-    resolve-call.Pre
+    find-callee-kinds.ps
+    (falls 3 find-callee-kinds.ps _<_ μ-find-callee t)
+    find-callee.Pre
 
 abbrev work-out-at : ℕ → In 3 work-out-kinds.ps
 work-out-at t = and 3 work-out-kinds.ps (is 3 work-out-kinds.ps μ-work-out t) work-out.Pre
@@ -442,77 +443,77 @@ get-type-returns-2 : (t : ℕ) → get-type-lts.Need-returns-2 (
 get-type-returns-2 t c = c .before .before .work-out .ensures
 
 -- src/expressions.rt:118:11
-resolve-call-get-argument-types-requires :
-    (t : ℕ) → resolve-call-lts.Need-get-argument-types-requires (
+find-callee-get-argument-types-requires :
+    (t : ℕ) → find-callee-lts.Need-get-argument-types-requires (
       get-argument-types-below t,
       get-argument-types.Post,
       resolve-typed-reads.Asked,
       resolve-typed-reads.Learnt,
-    ) (resolve-call-at t) resolve-call.Post
-resolve-call-get-argument-types-requires t c κs = (omega (arith, c .before .before .before .before .pre .0), (c .before .before .before .before .pre .1 .0, c .before .before .before .before .pre .1 .1))
+    ) (find-callee-at t) find-callee.Post
+find-callee-get-argument-types-requires t c κs = (omega (arith, c .before .before .before .before .pre .0), (c .before .before .before .before .pre .1 .0, c .before .before .before .before .pre .1 .1))
 
 -- src/expressions.rt:119:26
-resolve-call-enum-known-x : (t : ℕ) → resolve-call-lts.Need-enum-known-x (
+find-callee-enum-known-x : (t : ℕ) → find-callee-lts.Need-enum-known-x (
   get-argument-types-below t,
   get-argument-types.Post,
   resolve-typed-reads.Asked,
   resolve-typed-reads.Learnt,
-) (resolve-call-at t) resolve-call.Post
-resolve-call-enum-known-x t c = search needs
+) (find-callee-at t) find-callee.Post
+find-callee-enum-known-x t c = search needs
 
 -- src/expressions.rt:120:52
-resolve-call-enum-told : (t : ℕ) → resolve-call-lts.Need-enum-told (
+find-callee-enum-told : (t : ℕ) → find-callee-lts.Need-enum-told (
   get-argument-types-below t,
   get-argument-types.Post,
   resolve-typed-reads.Asked,
   resolve-typed-reads.Learnt,
-) (resolve-call-at t) resolve-call.Post
-resolve-call-enum-told t c = search needs
+) (find-callee-at t) find-callee.Post
+find-callee-enum-told t c = search needs
 
 -- src/expressions.rt:120:26
-resolve-call-resolve-typed-requires : (t : ℕ) → resolve-call-lts.Need-resolve-typed-requires (
+find-callee-resolve-typed-requires : (t : ℕ) → find-callee-lts.Need-resolve-typed-requires (
   get-argument-types-below t,
   get-argument-types.Post,
   resolve-typed-reads.Asked,
   resolve-typed-reads.Learnt,
-) (resolve-call-at t) resolve-call.Post
-resolve-call-resolve-typed-requires t c κs = (keyed-frame _ _ _ (c .before .before .before .before .before .get-argument-types .ensures .frame) _ (c .before .before .before .before .before .before .before .before .before .before .pre .1 .0 .ready .keyed), (c .before .before .before .before .before .before .before .before .before .before .pre .1 .1, c .before .before .before .before .before .get-argument-types .ensures .typed (c .before .enum-told .given .1)))
+) (find-callee-at t) find-callee.Post
+find-callee-resolve-typed-requires t c κs = (keyed-frame _ _ _ (c .before .before .before .before .before .get-argument-types .ensures .frame) _ (c .before .before .before .before .before .before .before .before .before .before .pre .1 .0 .ready .keyed), (c .before .before .before .before .before .before .before .before .before .before .pre .1 .1, c .before .before .before .before .before .get-argument-types .ensures .typed (c .before .enum-told .given .1)))
 
 -- src/expressions.rt:105:1
-resolve-call-same-length : (t : ℕ) → resolve-call-lts.Need-same-length (
+find-callee-same-length : (t : ℕ) → find-callee-lts.Need-same-length (
   get-argument-types-below t,
   get-argument-types.Post,
   resolve-typed-reads.Asked,
   resolve-typed-reads.Learnt,
-) (resolve-call-at t) resolve-call.Post
-resolve-call-same-length t c = search needs
+) (find-callee-at t) find-callee.Post
+find-callee-same-length t c = search needs
 
 -- src/expressions.rt:105:1
-resolve-call-returns : (t : ℕ) → resolve-call-lts.Need-returns (
+find-callee-returns : (t : ℕ) → find-callee-lts.Need-returns (
   get-argument-types-below t,
   get-argument-types.Post,
   resolve-typed-reads.Asked,
   resolve-typed-reads.Learnt,
-) (resolve-call-at t) resolve-call.Post
-resolve-call-returns t c = call-stop _ _ (c .before .before .before .before .before .before .before .before .before .before .pre .1 .0 .ready .keyed .good) _ _ _ _ _ _ (c .before .before .before .before .before .get-argument-types .ensures) _ (c .before .x .given .1)
+) (find-callee-at t) find-callee.Post
+find-callee-returns t c = call-stop _ _ (c .before .before .before .before .before .before .before .before .before .before .pre .1 .0 .ready .keyed .good) _ _ _ _ _ _ (c .before .before .before .before .before .get-argument-types .ensures) _ (c .before .x .given .1)
 
 -- src/expressions.rt:105:1
-resolve-call-same-length-2 : (t : ℕ) → resolve-call-lts.Need-same-length-2 (
+find-callee-same-length-2 : (t : ℕ) → find-callee-lts.Need-same-length-2 (
   get-argument-types-below t,
   get-argument-types.Post,
   resolve-typed-reads.Asked,
   resolve-typed-reads.Learnt,
-) (resolve-call-at t) resolve-call.Post
-resolve-call-same-length-2 t c = search needs
+) (find-callee-at t) find-callee.Post
+find-callee-same-length-2 t c = search needs
 
 -- src/expressions.rt:105:1
-resolve-call-returns-2 : (t : ℕ) → resolve-call-lts.Need-returns-2 (
+find-callee-returns-2 : (t : ℕ) → find-callee-lts.Need-returns-2 (
   get-argument-types-below t,
   get-argument-types.Post,
   resolve-typed-reads.Asked,
   resolve-typed-reads.Learnt,
-) (resolve-call-at t) resolve-call.Post
-resolve-call-returns-2 t c = call-next _ _ (c .before .before .before .before .before .before .before .before .before .before .before .pre .1 .0 .ready .keyed .good) _ _ _ _ _ _ (c .before .before .before .before .before .before .get-argument-types .ensures) (c .before .before .enum-told .given .1) _ (c .resolve-typed .ensures)
+) (find-callee-at t) find-callee.Post
+find-callee-returns-2 t c = call-next _ _ (c .before .before .before .before .before .before .before .before .before .before .before .pre .1 .0 .ready .keyed .good) _ _ _ _ _ _ (c .before .before .before .before .before .before .get-argument-types .ensures) (c .before .before .enum-told .given .1) _ (c .resolve-typed .ensures)
 
 -- src/expressions.rt:75:9
 work-out-kind-requires : (t : ℕ) → work-out-lts.Need-kind-requires (
@@ -530,14 +531,16 @@ work-out-kind-requires : (t : ℕ) → work-out-lts.Need-kind-requires (
   both-sides-reads.Learnt,
   binary-type-reads.Asked,
   binary-type-reads.Learnt,
-  resolve-call-below t,
-  resolve-call.Post,
+  find-callee-below t,
+  find-callee.Post,
   value-type-reads.Asked,
   value-type-reads.Learnt,
+  callee-record-reads.Asked,
+  callee-record-reads.Learnt,
   leaf-type-reads.Asked,
   leaf-type-reads.Learnt,
 ) (work-out-at t) work-out.Post
-work-out-kind-requires t c κs = c .before .before .before .pre .1 .1 .0 .inside
+work-out-kind-requires t c κs = @Start .pre .1 .1 .0 .inside
 
 -- src/expressions.rt:76:9
 work-out-reference-requires : (t : ℕ) → work-out-lts.Need-reference-requires (
@@ -555,14 +558,16 @@ work-out-reference-requires : (t : ℕ) → work-out-lts.Need-reference-requires
   both-sides-reads.Learnt,
   binary-type-reads.Asked,
   binary-type-reads.Learnt,
-  resolve-call-below t,
-  resolve-call.Post,
+  find-callee-below t,
+  find-callee.Post,
   value-type-reads.Asked,
   value-type-reads.Learnt,
+  callee-record-reads.Asked,
+  callee-record-reads.Learnt,
   leaf-type-reads.Asked,
   leaf-type-reads.Learnt,
 ) (work-out-at t) work-out.Post
-work-out-reference-requires t c κs = (c .before .before .before .before .pre .1 .1 .0 .inside, omega arith)
+work-out-reference-requires t c κs = (@Start .pre .1 .1 .0 .inside, omega arith)
 
 -- src/expressions.rt:78:22
 work-out-get-type-requires : (t : ℕ) → work-out-lts.Need-get-type-requires (
@@ -580,15 +585,17 @@ work-out-get-type-requires : (t : ℕ) → work-out-lts.Need-get-type-requires (
   both-sides-reads.Learnt,
   binary-type-reads.Asked,
   binary-type-reads.Learnt,
-  resolve-call-below t,
-  resolve-call.Post,
+  find-callee-below t,
+  find-callee.Post,
   value-type-reads.Asked,
   value-type-reads.Learnt,
+  callee-record-reads.Asked,
+  callee-record-reads.Learnt,
   leaf-type-reads.Asked,
   leaf-type-reads.Learnt,
 ) (work-out-at t) work-out.Post
-work-out-get-type-requires t c κs = let h = operand-expr _ _ (c .before .before .before .before .before .before .before .pre .1 .0 .ready .keyed .good) _ _ (c .before .before .before .before .before .before .before .pre .1 .1 .0) (c .before .before .before .kind .ensures) (c .before .if1 .taken) _ (c .before .before .reference .ensures) in
-    (omega (arith, h .0, c .before .before .before .before .before .before .before .pre .0), (c .before .before .before .before .before .before .before .pre .1 .0, h .1))
+work-out-get-type-requires t c κs = let h = operand-expr _ _ (@Start .pre .1 .0 .ready .keyed .good) _ _ (@Start .pre .1 .1 .0) (@kind .ensures) (@if1 .taken) _ (@reference .ensures) in
+    (omega (arith, h .0, @Start .pre .0), (@Start .pre .1 .0, h .1))
 
 -- src/expressions.rt:79:31
 work-out-enum-known-x : (t : ℕ) → work-out-lts.Need-enum-known-x (
@@ -606,10 +613,12 @@ work-out-enum-known-x : (t : ℕ) → work-out-lts.Need-enum-known-x (
   both-sides-reads.Learnt,
   binary-type-reads.Asked,
   binary-type-reads.Learnt,
-  resolve-call-below t,
-  resolve-call.Post,
+  find-callee-below t,
+  find-callee.Post,
   value-type-reads.Asked,
   value-type-reads.Learnt,
+  callee-record-reads.Asked,
+  callee-record-reads.Learnt,
   leaf-type-reads.Asked,
   leaf-type-reads.Learnt,
 ) (work-out-at t) work-out.Post
@@ -631,10 +640,12 @@ work-out-enum-known-ty : (t : ℕ) → work-out-lts.Need-enum-known-ty (
   both-sides-reads.Learnt,
   binary-type-reads.Asked,
   binary-type-reads.Learnt,
-  resolve-call-below t,
-  resolve-call.Post,
+  find-callee-below t,
+  find-callee.Post,
   value-type-reads.Asked,
   value-type-reads.Learnt,
+  callee-record-reads.Asked,
+  callee-record-reads.Learnt,
   leaf-type-reads.Asked,
   leaf-type-reads.Learnt,
 ) (work-out-at t) work-out.Post
@@ -656,14 +667,16 @@ work-out-unary-type-requires : (t : ℕ) → work-out-lts.Need-unary-type-requir
   both-sides-reads.Learnt,
   binary-type-reads.Asked,
   binary-type-reads.Learnt,
-  resolve-call-below t,
-  resolve-call.Post,
+  find-callee-below t,
+  find-callee.Post,
   value-type-reads.Asked,
   value-type-reads.Learnt,
+  callee-record-reads.Asked,
+  callee-record-reads.Learnt,
   leaf-type-reads.Asked,
   leaf-type-reads.Learnt,
 ) (work-out-at t) work-out.Post
-work-out-unary-type-requires t c κs = (c .before .before .before .before .before .before .before .before .before .before .before .before .before .before .pre .1 .0 .ready .keyed .good, (is-kind _ _ (c .before .before .before .before .before .before .before .before .before .before .before .before .before .before .pre .1 .0 .ready .keyed .good) _ _ (c .before .before .before .before .before .before .before .before .before .before .before .before .before .before .pre .1 .1 .0) (c .before .before .before .before .before .before .before .before .before .before .kind .ensures) 9 (c .before .before .before .before .before .before .before .before .if1 .taken), is-typed _ _ _ (c .before .before .before .before .before .before .get-type .ensures .typed) (c .before .before .ty .given .1)))
+work-out-unary-type-requires t c κs = (@Start .pre .1 .0 .ready .keyed .good, (is-kind _ _ (@Start .pre .1 .0 .ready .keyed .good) _ _ (@Start .pre .1 .1 .0) (@kind .ensures) 9 (@if1 .taken), is-typed _ _ _ (@get-type .ensures .typed) (@ty .given .1)))
 
 -- src/expressions.rt:80:33
 work-out-keep-requires : (t : ℕ) → work-out-lts.Need-keep-requires (
@@ -681,14 +694,16 @@ work-out-keep-requires : (t : ℕ) → work-out-lts.Need-keep-requires (
   both-sides-reads.Learnt,
   binary-type-reads.Asked,
   binary-type-reads.Learnt,
-  resolve-call-below t,
-  resolve-call.Post,
+  find-callee-below t,
+  find-callee.Post,
   value-type-reads.Asked,
   value-type-reads.Learnt,
+  callee-record-reads.Asked,
+  callee-record-reads.Learnt,
   leaf-type-reads.Asked,
   leaf-type-reads.Learnt,
 ) (work-out-at t) work-out.Post
-work-out-keep-requires t c κs = keep-ready _ _ (c .before .before .before .before .before .before .before .before .before .before .before .before .before .before .before .pre .1 .0 .ready .keyed .good) _ (c .before .before .before .before .before .before .before .before .before .before .before .before .before .before .before .pre .1 .1 .0) _ _ _ (c .before .before .before .before .before .before .before .before .before .before .before .before .before .before .before .pre .1 .0) (c .before .before .before .before .before .before .before .before .before .before .before .before .before .before .before .pre .1 .1 .1) _ _ (unary-next _ _ (c .before .before .before .before .before .before .before .before .before .before .before .before .before .before .before .pre .1 .0 .ready .keyed .good) _ _ (c .before .before .before .before .before .before .before .before .before .before .before .before .before .before .before .pre .1 .1 .0) (c .before .before .before .before .before .before .before .before .before .before .before .kind .ensures) _ _ _ (c .before .before .before .before .before .before .before .before .before .if1 .taken) _ (c .before .before .before .before .before .before .before .before .before .before .reference .ensures) _ _ (c .before .before .before .before .before .before .before .get-type .ensures) _ (c .before .before .before .ty .given .1) _ (c .unary-type .ensures))
+work-out-keep-requires t c κs = keep-ready _ _ (@Start .pre .1 .0 .ready .keyed .good) _ (@Start .pre .1 .1 .0) _ _ _ (@Start .pre .1 .0) (@Start .pre .1 .1 .1) _ _ _ (unary-next _ _ (@Start .pre .1 .0 .ready .keyed .good) _ _ (@Start .pre .1 .1 .0) (@kind .ensures) _ _ _ (@if1 .taken) _ (@reference .ensures) _ _ (@get-type .ensures) _ (@ty .given .1) _ (@unary-type .ensures))
 
 -- src/expressions.rt:78:9
 work-out-same-length : (t : ℕ) → work-out-lts.Need-same-length (
@@ -706,10 +721,12 @@ work-out-same-length : (t : ℕ) → work-out-lts.Need-same-length (
   both-sides-reads.Learnt,
   binary-type-reads.Asked,
   binary-type-reads.Learnt,
-  resolve-call-below t,
-  resolve-call.Post,
+  find-callee-below t,
+  find-callee.Post,
   value-type-reads.Asked,
   value-type-reads.Learnt,
+  callee-record-reads.Asked,
+  callee-record-reads.Learnt,
   leaf-type-reads.Asked,
   leaf-type-reads.Learnt,
 ) (work-out-at t) work-out.Post
@@ -731,14 +748,16 @@ work-out-returns : (t : ℕ) → work-out-lts.Need-returns (
   both-sides-reads.Learnt,
   binary-type-reads.Asked,
   binary-type-reads.Learnt,
-  resolve-call-below t,
-  resolve-call.Post,
+  find-callee-below t,
+  find-callee.Post,
   value-type-reads.Asked,
   value-type-reads.Learnt,
+  callee-record-reads.Asked,
+  callee-record-reads.Learnt,
   leaf-type-reads.Asked,
   leaf-type-reads.Learnt,
 ) (work-out-at t) work-out.Post
-work-out-returns t c = unary-stop _ _ (c .before .before .before .before .before .before .before .before .before .before .before .before .before .pre .1 .0 .ready .keyed .good) _ _ (c .before .before .before .before .before .before .before .before .before .before .before .before .before .pre .1 .1 .0) (c .before .before .before .before .before .before .before .before .before .kind .ensures) _ _ _ (c .before .before .before .before .before .before .before .if1 .taken) _ (c .before .before .before .before .before .before .before .before .reference .ensures) _ _ (c .before .before .before .before .before .get-type .ensures) _ (c .before .x .given .1)
+work-out-returns t c = unary-stop _ _ (@Start .pre .1 .0 .ready .keyed .good) _ _ (@Start .pre .1 .1 .0) (@kind .ensures) _ _ _ (@if1 .taken) _ (@reference .ensures) _ _ (@get-type .ensures) _ (@x .given .1)
 
 -- src/expressions.rt:78:9
 work-out-same-length-2 : (t : ℕ) → work-out-lts.Need-same-length-2 (
@@ -756,10 +775,12 @@ work-out-same-length-2 : (t : ℕ) → work-out-lts.Need-same-length-2 (
   both-sides-reads.Learnt,
   binary-type-reads.Asked,
   binary-type-reads.Learnt,
-  resolve-call-below t,
-  resolve-call.Post,
+  find-callee-below t,
+  find-callee.Post,
   value-type-reads.Asked,
   value-type-reads.Learnt,
+  callee-record-reads.Asked,
+  callee-record-reads.Learnt,
   leaf-type-reads.Asked,
   leaf-type-reads.Learnt,
 ) (work-out-at t) work-out.Post
@@ -781,14 +802,16 @@ work-out-returns-2 : (t : ℕ) → work-out-lts.Need-returns-2 (
   both-sides-reads.Learnt,
   binary-type-reads.Asked,
   binary-type-reads.Learnt,
-  resolve-call-below t,
-  resolve-call.Post,
+  find-callee-below t,
+  find-callee.Post,
   value-type-reads.Asked,
   value-type-reads.Learnt,
+  callee-record-reads.Asked,
+  callee-record-reads.Learnt,
   leaf-type-reads.Asked,
   leaf-type-reads.Learnt,
 ) (work-out-at t) work-out.Post
-work-out-returns-2 t c = keep-meets _ _ (c .before .before .before .before .before .before .before .before .before .before .before .before .before .before .before .before .before .before .pre .1 .0 .ready .keyed .good) _ (c .before .before .before .before .before .before .before .before .before .before .before .before .before .before .before .before .before .before .pre .1 .1 .0) _ _ _ (c .before .before .before .before .before .before .before .before .before .before .before .before .before .before .before .before .before .before .pre .1 .0) (c .before .before .before .before .before .before .before .before .before .before .before .before .before .before .before .before .before .before .pre .1 .1 .1) _ _ (unary-next _ _ (c .before .before .before .before .before .before .before .before .before .before .before .before .before .before .before .before .before .before .pre .1 .0 .ready .keyed .good) _ _ (c .before .before .before .before .before .before .before .before .before .before .before .before .before .before .before .before .before .before .pre .1 .1 .0) (c .before .before .before .before .before .before .before .before .before .before .before .before .before .before .kind .ensures) _ _ _ (c .before .before .before .before .before .before .before .before .before .before .before .before .if1 .taken) _ (c .before .before .before .before .before .before .before .before .before .before .before .before .before .reference .ensures) _ _ (c .before .before .before .before .before .before .before .before .before .before .get-type .ensures) _ (c .before .before .before .before .before .before .ty .given .1) _ (c .before .before .before .unary-type .ensures)) (c .before .before .before .before .before .before .before .before .before .before .before .before .before .before .before .before .before .before .fits .turn .fits) _ _ (c .before .before .keep .ensures)
+work-out-returns-2 t c = keep-meets _ _ (@Start .pre .1 .0 .ready .keyed .good) _ (@Start .pre .1 .1 .0) _ _ _ (@Start .pre .1 .0) (@Start .pre .1 .1 .1) _ _ _ (unary-next _ _ (@Start .pre .1 .0 .ready .keyed .good) _ _ (@Start .pre .1 .1 .0) (@kind .ensures) _ _ _ (@if1 .taken) _ (@reference .ensures) _ _ (@get-type .ensures) _ (@ty .given .1) _ (@unary-type .ensures)) (@Start .fits .turn .fits) _ _ (@keep .ensures)
 
 -- src/expressions.rt:84:13
 work-out-reference-requires-2 : (t : ℕ) → work-out-lts.Need-reference-requires-2 (
@@ -806,14 +829,16 @@ work-out-reference-requires-2 : (t : ℕ) → work-out-lts.Need-reference-requir
   both-sides-reads.Learnt,
   binary-type-reads.Asked,
   binary-type-reads.Learnt,
-  resolve-call-below t,
-  resolve-call.Post,
+  find-callee-below t,
+  find-callee.Post,
   value-type-reads.Asked,
   value-type-reads.Learnt,
+  callee-record-reads.Asked,
+  callee-record-reads.Learnt,
   leaf-type-reads.Asked,
   leaf-type-reads.Learnt,
 ) (work-out-at t) work-out.Post
-work-out-reference-requires-2 t c κs = (c .before .before .before .before .before .before .before .pre .1 .1 .0 .inside, omega arith)
+work-out-reference-requires-2 t c κs = (@Start .pre .1 .1 .0 .inside, omega arith)
 
 -- src/expressions.rt:85:22
 work-out-get-type-requires-2 : (t : ℕ) → work-out-lts.Need-get-type-requires-2 (
@@ -831,15 +856,17 @@ work-out-get-type-requires-2 : (t : ℕ) → work-out-lts.Need-get-type-requires
   both-sides-reads.Learnt,
   binary-type-reads.Asked,
   binary-type-reads.Learnt,
-  resolve-call-below t,
-  resolve-call.Post,
+  find-callee-below t,
+  find-callee.Post,
   value-type-reads.Asked,
   value-type-reads.Learnt,
+  callee-record-reads.Asked,
+  callee-record-reads.Learnt,
   leaf-type-reads.Asked,
   leaf-type-reads.Learnt,
 ) (work-out-at t) work-out.Post
-work-out-get-type-requires-2 t c κs = let h = left-expr _ _ (c .before .before .before .before .before .before .before .before .before .pre .1 .0 .ready .keyed .good) _ _ (c .before .before .before .before .before .before .before .before .before .pre .1 .1 .0) (c .before .before .before .before .before .kind .ensures) (c .before .before .if2 .taken) _ (c .before .before .before .before .reference .ensures) in
-    (omega (arith, h .0, c .before .before .before .before .before .before .before .before .before .pre .0), (c .before .before .before .before .before .before .before .before .before .pre .1 .0, h .1))
+work-out-get-type-requires-2 t c κs = let h = left-expr _ _ (@Start .pre .1 .0 .ready .keyed .good) _ _ (@Start .pre .1 .1 .0) (@kind .ensures) (@if2 .taken) _ (@reference .ensures) in
+    (omega (arith, h .0, @Start .pre .0), (@Start .pre .1 .0, h .1))
 
 -- src/expressions.rt:86:31
 work-out-enum-known-x-2 : (t : ℕ) → work-out-lts.Need-enum-known-x-2 (
@@ -857,10 +884,12 @@ work-out-enum-known-x-2 : (t : ℕ) → work-out-lts.Need-enum-known-x-2 (
   both-sides-reads.Learnt,
   binary-type-reads.Asked,
   binary-type-reads.Learnt,
-  resolve-call-below t,
-  resolve-call.Post,
+  find-callee-below t,
+  find-callee.Post,
   value-type-reads.Asked,
   value-type-reads.Learnt,
+  callee-record-reads.Asked,
+  callee-record-reads.Learnt,
   leaf-type-reads.Asked,
   leaf-type-reads.Learnt,
 ) (work-out-at t) work-out.Post
@@ -882,10 +911,12 @@ work-out-enum-known-l : (t : ℕ) → work-out-lts.Need-enum-known-l (
   both-sides-reads.Learnt,
   binary-type-reads.Asked,
   binary-type-reads.Learnt,
-  resolve-call-below t,
-  resolve-call.Post,
+  find-callee-below t,
+  find-callee.Post,
   value-type-reads.Asked,
   value-type-reads.Learnt,
+  callee-record-reads.Asked,
+  callee-record-reads.Learnt,
   leaf-type-reads.Asked,
   leaf-type-reads.Learnt,
 ) (work-out-at t) work-out.Post
@@ -907,15 +938,17 @@ work-out-get-type-requires-3 : (t : ℕ) → work-out-lts.Need-get-type-requires
   both-sides-reads.Learnt,
   binary-type-reads.Asked,
   binary-type-reads.Learnt,
-  resolve-call-below t,
-  resolve-call.Post,
+  find-callee-below t,
+  find-callee.Post,
   value-type-reads.Asked,
   value-type-reads.Learnt,
+  callee-record-reads.Asked,
+  callee-record-reads.Learnt,
   leaf-type-reads.Asked,
   leaf-type-reads.Learnt,
 ) (work-out-at t) work-out.Post
-work-out-get-type-requires-3 t c κs = let h = right-expr _ _ (c .before .before .before .before .before .before .before .before .before .before .before .before .before .before .before .before .pre .1 .0 .ready .keyed .good) _ _ (c .before .before .before .before .before .before .before .before .before .before .before .before .before .before .before .before .pre .1 .1 .0) (c .before .before .before .before .before .before .before .before .before .before .before .before .kind .ensures) (c .before .before .before .before .before .before .before .before .before .if2 .taken) _ (c .before .before .before .before .before .before .before .before .reference2 .ensures) in
-    (omega (arith, h .0, c .before .before .before .before .before .before .before .before .before .before .before .before .before .before .before .before .pre .0), (typing-next _ _ _ _ _ (c .before .before .before .before .before .before .before .before .before .before .before .before .before .before .before .before .pre .1 .0) _ (c .before .before .before .before .before .before .get-type2 .ensures .frame) _ (c .before .before .before .before .before .before .get-type2 .ensures .adds _ (c .before .before .l .given .1)), h .1))
+work-out-get-type-requires-3 t c κs = let h = right-expr _ _ (@Start .pre .1 .0 .ready .keyed .good) _ _ (@Start .pre .1 .1 .0) (@kind .ensures) (@if2 .taken) _ (@reference2 .ensures) in
+    (omega (arith, h .0, @Start .pre .0), (typing-next _ _ _ _ _ (@Start .pre .1 .0) _ (@get-type2 .ensures .frame) _ (@get-type2 .ensures .adds _ (@l .given .1)), h .1))
 
 -- src/expressions.rt:88:35
 work-out-enum-known-x-3 : (t : ℕ) → work-out-lts.Need-enum-known-x-3 (
@@ -933,10 +966,12 @@ work-out-enum-known-x-3 : (t : ℕ) → work-out-lts.Need-enum-known-x-3 (
   both-sides-reads.Learnt,
   binary-type-reads.Asked,
   binary-type-reads.Learnt,
-  resolve-call-below t,
-  resolve-call.Post,
+  find-callee-below t,
+  find-callee.Post,
   value-type-reads.Asked,
   value-type-reads.Learnt,
+  callee-record-reads.Asked,
+  callee-record-reads.Learnt,
   leaf-type-reads.Asked,
   leaf-type-reads.Learnt,
 ) (work-out-at t) work-out.Post
@@ -958,10 +993,12 @@ work-out-enum-known-r : (t : ℕ) → work-out-lts.Need-enum-known-r (
   both-sides-reads.Learnt,
   binary-type-reads.Asked,
   binary-type-reads.Learnt,
-  resolve-call-below t,
-  resolve-call.Post,
+  find-callee-below t,
+  find-callee.Post,
   value-type-reads.Asked,
   value-type-reads.Learnt,
+  callee-record-reads.Asked,
+  callee-record-reads.Learnt,
   leaf-type-reads.Asked,
   leaf-type-reads.Learnt,
 ) (work-out-at t) work-out.Post
@@ -983,10 +1020,12 @@ work-out-both-sides-requires : (t : ℕ) → work-out-lts.Need-both-sides-requir
   both-sides-reads.Learnt,
   binary-type-reads.Asked,
   binary-type-reads.Learnt,
-  resolve-call-below t,
-  resolve-call.Post,
+  find-callee-below t,
+  find-callee.Post,
   value-type-reads.Asked,
   value-type-reads.Learnt,
+  callee-record-reads.Asked,
+  callee-record-reads.Learnt,
   leaf-type-reads.Asked,
   leaf-type-reads.Learnt,
 ) (work-out-at t) work-out.Post
@@ -1008,10 +1047,12 @@ work-out-binary-type-requires : (t : ℕ) → work-out-lts.Need-binary-type-requ
   both-sides-reads.Learnt,
   binary-type-reads.Asked,
   binary-type-reads.Learnt,
-  resolve-call-below t,
-  resolve-call.Post,
+  find-callee-below t,
+  find-callee.Post,
   value-type-reads.Asked,
   value-type-reads.Learnt,
+  callee-record-reads.Asked,
+  callee-record-reads.Learnt,
   leaf-type-reads.Asked,
   leaf-type-reads.Learnt,
 ) (work-out-at t) work-out.Post
@@ -1043,14 +1084,16 @@ work-out-keep-requires-2 : (t : ℕ) → work-out-lts.Need-keep-requires-2 (
   both-sides-reads.Learnt,
   binary-type-reads.Asked,
   binary-type-reads.Learnt,
-  resolve-call-below t,
-  resolve-call.Post,
+  find-callee-below t,
+  find-callee.Post,
   value-type-reads.Asked,
   value-type-reads.Learnt,
+  callee-record-reads.Asked,
+  callee-record-reads.Learnt,
   leaf-type-reads.Asked,
   leaf-type-reads.Learnt,
 ) (work-out-at t) work-out.Post
-work-out-keep-requires-2 t c κs = keep-ready _ _ (c .before .before .before .before .before .before .before .before .before .before .before .before .before .before .before .before .before .before .before .before .before .before .before .before .before .pre .1 .0 .ready .keyed .good) _ (c .before .before .before .before .before .before .before .before .before .before .before .before .before .before .before .before .before .before .before .before .before .before .before .before .before .pre .1 .1 .0) _ _ _ (c .before .before .before .before .before .before .before .before .before .before .before .before .before .before .before .before .before .before .before .before .before .before .before .before .before .pre .1 .0) (c .before .before .before .before .before .before .before .before .before .before .before .before .before .before .before .before .before .before .before .before .before .before .before .before .before .pre .1 .1 .1) _ _ (right-next _ _ (c .before .before .before .before .before .before .before .before .before .before .before .before .before .before .before .before .before .before .before .before .before .before .before .before .before .pre .1 .0 .ready .keyed .good) _ _ (c .before .before .before .before .before .before .before .before .before .before .before .before .before .before .before .before .before .before .before .before .before .before .before .before .before .pre .1 .1 .0) (c .before .before .before .before .before .before .before .before .before .before .before .before .before .before .before .before .before .before .before .before .before .kind .ensures) _ _ _ (c .before .before .before .before .before .before .before .before .before .before .before .before .before .before .before .before .before .before .if2 .taken) _ (c .before .before .before .before .before .before .before .before .before .before .before .before .before .before .before .before .before .before .before .before .reference .ensures) _ _ (c .before .before .before .before .before .before .before .before .before .before .before .before .before .before .before .get-type2 .ensures) (c .before .before .before .before .before .before .before .before .before .before .before .before .before .before .before .before .before .before .before .before .before .before .before .before .before .pre .1 .0) _ (c .before .before .before .before .before .before .before .before .before .before .before .l .given .1) _ (c .before .before .before .before .before .before .before .before .before .before .before .before .before .before .before .before .before .reference2 .ensures) _ _ (c .before .before .before .before .before .before .before .before .get-type3 .ensures) _ (c .before .before .before .before .r .given .1) _ (c .before .before .both-sides .ensures) _ (c .before .binary-type .ensures))
+work-out-keep-requires-2 t c κs = keep-ready _ _ (@Start .pre .1 .0 .ready .keyed .good) _ (@Start .pre .1 .1 .0) _ _ _ (@Start .pre .1 .0) (@Start .pre .1 .1 .1) _ _ _ (right-next _ _ (@Start .pre .1 .0 .ready .keyed .good) _ _ (@Start .pre .1 .1 .0) (@kind .ensures) _ _ _ (@if2 .taken) _ (@reference .ensures) _ _ (@get-type2 .ensures) (@Start .pre .1 .0) _ (@l .given .1) _ (@reference2 .ensures) _ _ (@get-type3 .ensures) _ (@r .given .1) _ (@both-sides .ensures) _ (@binary-type .ensures))
 
 -- src/expressions.rt:85:9
 work-out-same-length-3 : (t : ℕ) → work-out-lts.Need-same-length-3 (
@@ -1068,10 +1111,12 @@ work-out-same-length-3 : (t : ℕ) → work-out-lts.Need-same-length-3 (
   both-sides-reads.Learnt,
   binary-type-reads.Asked,
   binary-type-reads.Learnt,
-  resolve-call-below t,
-  resolve-call.Post,
+  find-callee-below t,
+  find-callee.Post,
   value-type-reads.Asked,
   value-type-reads.Learnt,
+  callee-record-reads.Asked,
+  callee-record-reads.Learnt,
   leaf-type-reads.Asked,
   leaf-type-reads.Learnt,
 ) (work-out-at t) work-out.Post
@@ -1093,14 +1138,16 @@ work-out-returns-3 : (t : ℕ) → work-out-lts.Need-returns-3 (
   both-sides-reads.Learnt,
   binary-type-reads.Asked,
   binary-type-reads.Learnt,
-  resolve-call-below t,
-  resolve-call.Post,
+  find-callee-below t,
+  find-callee.Post,
   value-type-reads.Asked,
   value-type-reads.Learnt,
+  callee-record-reads.Asked,
+  callee-record-reads.Learnt,
   leaf-type-reads.Asked,
   leaf-type-reads.Learnt,
 ) (work-out-at t) work-out.Post
-work-out-returns-3 t c = left-stop _ _ (c .before .before .before .before .before .before .before .before .before .before .before .before .before .before .before .pre .1 .0 .ready .keyed .good) _ _ (c .before .before .before .before .before .before .before .before .before .before .before .before .before .before .before .pre .1 .1 .0) (c .before .before .before .before .before .before .before .before .before .before .before .kind .ensures) _ _ _ (c .before .before .before .before .before .before .before .before .if2 .taken) _ (c .before .before .before .before .before .before .before .before .before .before .reference .ensures) _ _ (c .before .before .before .before .before .get-type2 .ensures) _ (c .before .x2 .given .1)
+work-out-returns-3 t c = left-stop _ _ (@Start .pre .1 .0 .ready .keyed .good) _ _ (@Start .pre .1 .1 .0) (@kind .ensures) _ _ _ (@if2 .taken) _ (@reference .ensures) _ _ (@get-type2 .ensures) _ (@x2 .given .1)
 
 -- src/expressions.rt:85:9
 work-out-same-length-4 : (t : ℕ) → work-out-lts.Need-same-length-4 (
@@ -1118,10 +1165,12 @@ work-out-same-length-4 : (t : ℕ) → work-out-lts.Need-same-length-4 (
   both-sides-reads.Learnt,
   binary-type-reads.Asked,
   binary-type-reads.Learnt,
-  resolve-call-below t,
-  resolve-call.Post,
+  find-callee-below t,
+  find-callee.Post,
   value-type-reads.Asked,
   value-type-reads.Learnt,
+  callee-record-reads.Asked,
+  callee-record-reads.Learnt,
   leaf-type-reads.Asked,
   leaf-type-reads.Learnt,
 ) (work-out-at t) work-out.Post
@@ -1143,14 +1192,16 @@ work-out-returns-4 : (t : ℕ) → work-out-lts.Need-returns-4 (
   both-sides-reads.Learnt,
   binary-type-reads.Asked,
   binary-type-reads.Learnt,
-  resolve-call-below t,
-  resolve-call.Post,
+  find-callee-below t,
+  find-callee.Post,
   value-type-reads.Asked,
   value-type-reads.Learnt,
+  callee-record-reads.Asked,
+  callee-record-reads.Learnt,
   leaf-type-reads.Asked,
   leaf-type-reads.Learnt,
 ) (work-out-at t) work-out.Post
-work-out-returns-4 t c = right-stop _ _ (c .before .before .before .before .before .before .before .before .before .before .before .before .before .before .before .before .before .before .before .before .before .before .pre .1 .0 .ready .keyed .good) _ _ (c .before .before .before .before .before .before .before .before .before .before .before .before .before .before .before .before .before .before .before .before .before .before .pre .1 .1 .0) (c .before .before .before .before .before .before .before .before .before .before .before .before .before .before .before .before .before .before .kind .ensures) _ _ _ (c .before .before .before .before .before .before .before .before .before .before .before .before .before .before .before .if2 .taken) _ (c .before .before .before .before .before .before .before .before .before .before .before .before .before .before .before .before .before .reference .ensures) _ _ (c .before .before .before .before .before .before .before .before .before .before .before .before .get-type2 .ensures) (c .before .before .before .before .before .before .before .before .before .before .before .before .before .before .before .before .before .before .before .before .before .before .pre .1 .0) _ (c .before .before .before .before .before .before .before .before .l .given .1) _ (c .before .before .before .before .before .before .before .before .before .before .before .before .before .before .reference2 .ensures) _ _ (c .before .before .before .before .before .get-type3 .ensures) _ (c .before .x3 .given .1)
+work-out-returns-4 t c = right-stop _ _ (@Start .pre .1 .0 .ready .keyed .good) _ _ (@Start .pre .1 .1 .0) (@kind .ensures) _ _ _ (@if2 .taken) _ (@reference .ensures) _ _ (@get-type2 .ensures) (@Start .pre .1 .0) _ (@l .given .1) _ (@reference2 .ensures) _ _ (@get-type3 .ensures) _ (@x3 .given .1)
 
 -- src/expressions.rt:85:9
 work-out-same-length-5 : (t : ℕ) → work-out-lts.Need-same-length-5 (
@@ -1168,10 +1219,12 @@ work-out-same-length-5 : (t : ℕ) → work-out-lts.Need-same-length-5 (
   both-sides-reads.Learnt,
   binary-type-reads.Asked,
   binary-type-reads.Learnt,
-  resolve-call-below t,
-  resolve-call.Post,
+  find-callee-below t,
+  find-callee.Post,
   value-type-reads.Asked,
   value-type-reads.Learnt,
+  callee-record-reads.Asked,
+  callee-record-reads.Learnt,
   leaf-type-reads.Asked,
   leaf-type-reads.Learnt,
 ) (work-out-at t) work-out.Post
@@ -1193,17 +1246,19 @@ work-out-returns-5 : (t : ℕ) → work-out-lts.Need-returns-5 (
   both-sides-reads.Learnt,
   binary-type-reads.Asked,
   binary-type-reads.Learnt,
-  resolve-call-below t,
-  resolve-call.Post,
+  find-callee-below t,
+  find-callee.Post,
   value-type-reads.Asked,
   value-type-reads.Learnt,
+  callee-record-reads.Asked,
+  callee-record-reads.Learnt,
   leaf-type-reads.Asked,
   leaf-type-reads.Learnt,
 ) (work-out-at t) work-out.Post
-work-out-returns-5 t c = keep-meets _ _ (c .before .before .before .before .before .before .before .before .before .before .before .before .before .before .before .before .before .before .before .before .before .before .before .before .before .before .before .before .pre .1 .0 .ready .keyed .good) _ (c .before .before .before .before .before .before .before .before .before .before .before .before .before .before .before .before .before .before .before .before .before .before .before .before .before .before .before .before .pre .1 .1 .0) _ _ _ (c .before .before .before .before .before .before .before .before .before .before .before .before .before .before .before .before .before .before .before .before .before .before .before .before .before .before .before .before .pre .1 .0) (c .before .before .before .before .before .before .before .before .before .before .before .before .before .before .before .before .before .before .before .before .before .before .before .before .before .before .before .before .pre .1 .1 .1) _ _ (right-next _ _ (c .before .before .before .before .before .before .before .before .before .before .before .before .before .before .before .before .before .before .before .before .before .before .before .before .before .before .before .before .pre .1 .0 .ready .keyed .good) _ _ (c .before .before .before .before .before .before .before .before .before .before .before .before .before .before .before .before .before .before .before .before .before .before .before .before .before .before .before .before .pre .1 .1 .0) (c .before .before .before .before .before .before .before .before .before .before .before .before .before .before .before .before .before .before .before .before .before .before .before .before .kind .ensures) _ _ _ (c .before .before .before .before .before .before .before .before .before .before .before .before .before .before .before .before .before .before .before .before .before .if2 .taken) _ (c .before .before .before .before .before .before .before .before .before .before .before .before .before .before .before .before .before .before .before .before .before .before .before .reference .ensures) _ _ (c .before .before .before .before .before .before .before .before .before .before .before .before .before .before .before .before .before .before .get-type2 .ensures) (c .before .before .before .before .before .before .before .before .before .before .before .before .before .before .before .before .before .before .before .before .before .before .before .before .before .before .before .before .pre .1 .0) _ (c .before .before .before .before .before .before .before .before .before .before .before .before .before .before .l .given .1) _ (c .before .before .before .before .before .before .before .before .before .before .before .before .before .before .before .before .before .before .before .before .reference2 .ensures) _ _ (c .before .before .before .before .before .before .before .before .before .before .before .get-type3 .ensures) _ (c .before .before .before .before .before .before .before .r .given .1) _ (c .before .before .before .before .before .both-sides .ensures) _ (c .before .before .before .before .binary-type .ensures)) (c .before .before .before .before .before .before .before .before .before .before .before .before .before .before .before .before .before .before .before .before .before .before .before .before .before .before .before .before .fits .turn .fits) _ _ (c .before .before .keep2 .ensures)
+work-out-returns-5 t c = keep-meets _ _ (@Start .pre .1 .0 .ready .keyed .good) _ (@Start .pre .1 .1 .0) _ _ _ (@Start .pre .1 .0) (@Start .pre .1 .1 .1) _ _ _ (right-next _ _ (@Start .pre .1 .0 .ready .keyed .good) _ _ (@Start .pre .1 .1 .0) (@kind .ensures) _ _ _ (@if2 .taken) _ (@reference .ensures) _ _ (@get-type2 .ensures) (@Start .pre .1 .0) _ (@l .given .1) _ (@reference2 .ensures) _ _ (@get-type3 .ensures) _ (@r .given .1) _ (@both-sides .ensures) _ (@binary-type .ensures)) (@Start .fits .turn .fits) _ _ (@keep2 .ensures)
 
 -- src/expressions.rt:97:13
-work-out-resolve-call-requires : (t : ℕ) → work-out-lts.Need-resolve-call-requires (
+work-out-find-callee-requires : (t : ℕ) → work-out-lts.Need-find-callee-requires (
   kind-reads.Asked,
   kind-reads.Learnt,
   reference-reads.Asked,
@@ -1218,14 +1273,16 @@ work-out-resolve-call-requires : (t : ℕ) → work-out-lts.Need-resolve-call-re
   both-sides-reads.Learnt,
   binary-type-reads.Asked,
   binary-type-reads.Learnt,
-  resolve-call-below t,
-  resolve-call.Post,
+  find-callee-below t,
+  find-callee.Post,
   value-type-reads.Asked,
   value-type-reads.Learnt,
+  callee-record-reads.Asked,
+  callee-record-reads.Learnt,
   leaf-type-reads.Asked,
   leaf-type-reads.Learnt,
 ) (work-out-at t) work-out.Post
-work-out-resolve-call-requires t c κs = (omega (arith, c .before .before .before .before .before .before .before .before .before .pre .0), (c .before .before .before .before .before .before .before .before .before .pre .1 .0, is-kind _ _ (c .before .before .before .before .before .before .before .before .before .pre .1 .0 .ready .keyed .good) _ _ (c .before .before .before .before .before .before .before .before .before .pre .1 .1 .0) (c .before .before .before .before .before .kind .ensures) 11 (c .before .if3 .taken)))
+work-out-find-callee-requires t c κs = (omega (arith, @Start .pre .0), (@Start .pre .1 .0, is-kind _ _ (@Start .pre .1 .0 .ready .keyed .good) _ _ (@Start .pre .1 .1 .0) (@kind .ensures) 11 (@if3 .taken)))
 
 -- src/expressions.rt:98:45
 work-out-value-type-requires : (t : ℕ) → work-out-lts.Need-value-type-requires (
@@ -1243,14 +1300,43 @@ work-out-value-type-requires : (t : ℕ) → work-out-lts.Need-value-type-requir
   both-sides-reads.Learnt,
   binary-type-reads.Asked,
   binary-type-reads.Learnt,
-  resolve-call-below t,
-  resolve-call.Post,
+  find-callee-below t,
+  find-callee.Post,
   value-type-reads.Asked,
   value-type-reads.Learnt,
+  callee-record-reads.Asked,
+  callee-record-reads.Learnt,
   leaf-type-reads.Asked,
   leaf-type-reads.Learnt,
 ) (work-out-at t) work-out.Post
-work-out-value-type-requires t c κs = (c .before .before .before .before .before .before .before .before .before .before .before .before .before .pre .1 .0 .ready .keyed .good, (c .before .before .before .resolve-call .ensures .callee, expr-low _ _ (c .before .before .before .before .before .before .before .before .before .before .before .before .before .pre .1 .0 .ready .keyed .good) _ (c .before .before .before .before .before .before .before .before .before .before .before .before .before .pre .1 .1 .0)))
+work-out-value-type-requires t c κs = (@Start .pre .1 .0 .ready .keyed .good, (@find-callee .ensures .callee, expr-low _ _ (@Start .pre .1 .0 .ready .keyed .good) _ (@Start .pre .1 .1 .0)))
+
+-- src/expressions.rt:98:45
+work-out-callee-record-requires : (t : ℕ) → work-out-lts.Need-callee-record-requires (
+  kind-reads.Asked,
+  kind-reads.Learnt,
+  reference-reads.Asked,
+  reference-reads.Learnt,
+  get-type-below t,
+  get-type.Post,
+  unary-type-reads.Asked,
+  unary-type-reads.Learnt,
+  keep-reads.Asked,
+  keep-reads.Learnt,
+  both-sides-reads.Asked,
+  both-sides-reads.Learnt,
+  binary-type-reads.Asked,
+  binary-type-reads.Learnt,
+  find-callee-below t,
+  find-callee.Post,
+  value-type-reads.Asked,
+  value-type-reads.Learnt,
+  callee-record-reads.Asked,
+  callee-record-reads.Learnt,
+  leaf-type-reads.Asked,
+  leaf-type-reads.Learnt,
+) (work-out-at t) work-out.Post
+work-out-callee-record-requires t c κs = search needs
 
 -- src/expressions.rt:98:9
 work-out-keep-requires-3 : (t : ℕ) → work-out-lts.Need-keep-requires-3 (
@@ -1268,14 +1354,16 @@ work-out-keep-requires-3 : (t : ℕ) → work-out-lts.Need-keep-requires-3 (
   both-sides-reads.Learnt,
   binary-type-reads.Asked,
   binary-type-reads.Learnt,
-  resolve-call-below t,
-  resolve-call.Post,
+  find-callee-below t,
+  find-callee.Post,
   value-type-reads.Asked,
   value-type-reads.Learnt,
+  callee-record-reads.Asked,
+  callee-record-reads.Learnt,
   leaf-type-reads.Asked,
   leaf-type-reads.Learnt,
 ) (work-out-at t) work-out.Post
-work-out-keep-requires-3 t c κs = keep-ready _ _ (c .before .before .before .before .before .before .before .before .before .before .before .before .before .before .pre .1 .0 .ready .keyed .good) _ (c .before .before .before .before .before .before .before .before .before .before .before .before .before .before .pre .1 .1 .0) _ _ _ (c .before .before .before .before .before .before .before .before .before .before .before .before .before .before .pre .1 .0) (c .before .before .before .before .before .before .before .before .before .before .before .before .before .before .pre .1 .1 .1) _ _ (call-value _ _ (c .before .before .before .before .before .before .before .before .before .before .before .before .before .before .pre .1 .0 .ready .keyed .good) _ _ (c .before .before .before .before .before .before .before .before .before .before .before .before .before .before .pre .1 .1 .0) (c .before .before .before .before .before .before .before .before .before .before .kind .ensures) _ _ _ (c .before .before .before .before .before .before .if3 .taken) _ _ (c .before .before .before .before .resolve-call .ensures) _ (c .value-type .ensures))
+work-out-keep-requires-3 t c κs = keep-ready _ _ (@Start .pre .1 .0 .ready .keyed .good) _ (@Start .pre .1 .1 .0) _ _ _ (@Start .pre .1 .0) (@Start .pre .1 .1 .1) _ _ _ (call-value _ _ (@Start .pre .1 .0 .ready .keyed .good) _ _ (@Start .pre .1 .1 .0) (@kind .ensures) _ _ _ (@if3 .taken) _ _ (@find-callee .ensures) _ (@value-type .ensures) _ (@callee-record .ensures))
 
 -- src/expressions.rt:98:9
 work-out-same-length-6 : (t : ℕ) → work-out-lts.Need-same-length-6 (
@@ -1293,10 +1381,12 @@ work-out-same-length-6 : (t : ℕ) → work-out-lts.Need-same-length-6 (
   both-sides-reads.Learnt,
   binary-type-reads.Asked,
   binary-type-reads.Learnt,
-  resolve-call-below t,
-  resolve-call.Post,
+  find-callee-below t,
+  find-callee.Post,
   value-type-reads.Asked,
   value-type-reads.Learnt,
+  callee-record-reads.Asked,
+  callee-record-reads.Learnt,
   leaf-type-reads.Asked,
   leaf-type-reads.Learnt,
 ) (work-out-at t) work-out.Post
@@ -1318,14 +1408,16 @@ work-out-returns-6 : (t : ℕ) → work-out-lts.Need-returns-6 (
   both-sides-reads.Learnt,
   binary-type-reads.Asked,
   binary-type-reads.Learnt,
-  resolve-call-below t,
-  resolve-call.Post,
+  find-callee-below t,
+  find-callee.Post,
   value-type-reads.Asked,
   value-type-reads.Learnt,
+  callee-record-reads.Asked,
+  callee-record-reads.Learnt,
   leaf-type-reads.Asked,
   leaf-type-reads.Learnt,
 ) (work-out-at t) work-out.Post
-work-out-returns-6 t c = keep-meets _ _ (c .before .before .before .before .before .before .before .before .before .before .before .before .before .before .before .before .before .pre .1 .0 .ready .keyed .good) _ (c .before .before .before .before .before .before .before .before .before .before .before .before .before .before .before .before .before .pre .1 .1 .0) _ _ _ (c .before .before .before .before .before .before .before .before .before .before .before .before .before .before .before .before .before .pre .1 .0) (c .before .before .before .before .before .before .before .before .before .before .before .before .before .before .before .before .before .pre .1 .1 .1) _ _ (call-value _ _ (c .before .before .before .before .before .before .before .before .before .before .before .before .before .before .before .before .before .pre .1 .0 .ready .keyed .good) _ _ (c .before .before .before .before .before .before .before .before .before .before .before .before .before .before .before .before .before .pre .1 .1 .0) (c .before .before .before .before .before .before .before .before .before .before .before .before .before .kind .ensures) _ _ _ (c .before .before .before .before .before .before .before .before .before .if3 .taken) _ _ (c .before .before .before .before .before .before .before .resolve-call .ensures) _ (c .before .before .before .value-type .ensures)) (c .before .before .before .before .before .before .before .before .before .before .before .before .before .before .before .before .before .fits .turn .fits) _ _ (c .before .before .keep3 .ensures)
+work-out-returns-6 t c = keep-meets _ _ (@Start .pre .1 .0 .ready .keyed .good) _ (@Start .pre .1 .1 .0) _ _ _ (@Start .pre .1 .0) (@Start .pre .1 .1 .1) _ _ _ (call-value _ _ (@Start .pre .1 .0 .ready .keyed .good) _ _ (@Start .pre .1 .1 .0) (@kind .ensures) _ _ _ (@if3 .taken) _ _ (@find-callee .ensures) _ (@value-type .ensures) _ (@callee-record .ensures)) (@Start .fits .turn .fits) _ _ (@keep3 .ensures)
 
 -- src/expressions.rt:100:9
 work-out-leaf-type-requires : (t : ℕ) → work-out-lts.Need-leaf-type-requires (
@@ -1343,10 +1435,12 @@ work-out-leaf-type-requires : (t : ℕ) → work-out-lts.Need-leaf-type-requires
   both-sides-reads.Learnt,
   binary-type-reads.Asked,
   binary-type-reads.Learnt,
-  resolve-call-below t,
-  resolve-call.Post,
+  find-callee-below t,
+  find-callee.Post,
   value-type-reads.Asked,
   value-type-reads.Learnt,
+  callee-record-reads.Asked,
+  callee-record-reads.Learnt,
   leaf-type-reads.Asked,
   leaf-type-reads.Learnt,
 ) (work-out-at t) work-out.Post
@@ -1371,14 +1465,16 @@ work-out-keep-requires-4 : (t : ℕ) → work-out-lts.Need-keep-requires-4 (
   both-sides-reads.Learnt,
   binary-type-reads.Asked,
   binary-type-reads.Learnt,
-  resolve-call-below t,
-  resolve-call.Post,
+  find-callee-below t,
+  find-callee.Post,
   value-type-reads.Asked,
   value-type-reads.Learnt,
+  callee-record-reads.Asked,
+  callee-record-reads.Learnt,
   leaf-type-reads.Asked,
   leaf-type-reads.Learnt,
 ) (work-out-at t) work-out.Post
-work-out-keep-requires-4 t c κs = keep-ready _ _ (c .before .before .before .before .before .before .before .before .before .before .before .pre .1 .0 .ready .keyed .good) _ (c .before .before .before .before .before .before .before .before .before .before .before .pre .1 .1 .0) _ _ _ (c .before .before .before .before .before .before .before .before .before .before .before .pre .1 .0) (c .before .before .before .before .before .before .before .before .before .before .before .pre .1 .1 .1) _ _ (leaf-meets _ _ (c .before .before .before .before .before .before .before .before .before .before .before .pre .1 .0 .ready .keyed .good) _ _ (c .before .before .before .before .before .before .before .before .before .before .before .pre .1 .1 .0) (c .before .before .before .before .before .before .before .kind .ensures) _ _ _ (c .before .before .before .before .before .before .before .before .before .before .before .pre .1 .0) (c .before .before .before .before .before .if1 .left) (c .before .before .before .before .if2 .left) (c .before .before .before .if3 .left) _ (c .before .leaf-type .ensures))
+work-out-keep-requires-4 t c κs = keep-ready _ _ (@Start .pre .1 .0 .ready .keyed .good) _ (@Start .pre .1 .1 .0) _ _ _ (@Start .pre .1 .0) (@Start .pre .1 .1 .1) _ _ _ (leaf-meets _ _ (@Start .pre .1 .0 .ready .keyed .good) _ _ (@Start .pre .1 .1 .0) (@kind .ensures) _ _ _ (@Start .pre .1 .0) (@if1 .left) (@if2 .left) (@if3 .left) _ (@leaf-type .ensures))
 
 -- src/expressions.rt:62:1
 work-out-same-length-7 : (t : ℕ) → work-out-lts.Need-same-length-7 (
@@ -1396,10 +1492,12 @@ work-out-same-length-7 : (t : ℕ) → work-out-lts.Need-same-length-7 (
   both-sides-reads.Learnt,
   binary-type-reads.Asked,
   binary-type-reads.Learnt,
-  resolve-call-below t,
-  resolve-call.Post,
+  find-callee-below t,
+  find-callee.Post,
   value-type-reads.Asked,
   value-type-reads.Learnt,
+  callee-record-reads.Asked,
+  callee-record-reads.Learnt,
   leaf-type-reads.Asked,
   leaf-type-reads.Learnt,
 ) (work-out-at t) work-out.Post
@@ -1421,22 +1519,40 @@ work-out-returns-7 : (t : ℕ) → work-out-lts.Need-returns-7 (
   both-sides-reads.Learnt,
   binary-type-reads.Asked,
   binary-type-reads.Learnt,
-  resolve-call-below t,
-  resolve-call.Post,
+  find-callee-below t,
+  find-callee.Post,
   value-type-reads.Asked,
   value-type-reads.Learnt,
+  callee-record-reads.Asked,
+  callee-record-reads.Learnt,
   leaf-type-reads.Asked,
   leaf-type-reads.Learnt,
 ) (work-out-at t) work-out.Post
-work-out-returns-7 t c = keep-meets _ _ (c .before .before .before .before .before .before .before .before .before .before .before .before .before .before .pre .1 .0 .ready .keyed .good) _ (c .before .before .before .before .before .before .before .before .before .before .before .before .before .before .pre .1 .1 .0) _ _ _ (c .before .before .before .before .before .before .before .before .before .before .before .before .before .before .pre .1 .0) (c .before .before .before .before .before .before .before .before .before .before .before .before .before .before .pre .1 .1 .1) _ _ (leaf-meets _ _ (c .before .before .before .before .before .before .before .before .before .before .before .before .before .before .pre .1 .0 .ready .keyed .good) _ _ (c .before .before .before .before .before .before .before .before .before .before .before .before .before .before .pre .1 .1 .0) (c .before .before .before .before .before .before .before .before .before .before .kind .ensures) _ _ _ (c .before .before .before .before .before .before .before .before .before .before .before .before .before .before .pre .1 .0) (c .before .before .before .before .before .before .before .before .if1 .left) (c .before .before .before .before .before .before .before .if2 .left) (c .before .before .before .before .before .before .if3 .left) _ (c .before .before .before .before .leaf-type .ensures)) (c .before .before .before .before .before .before .before .before .before .before .before .before .before .before .fits .turn .fits) _ _ (c .before .before .keep4 .ensures)
+work-out-returns-7 t c = keep-meets _ _ (@Start .pre .1 .0 .ready .keyed .good) _ (@Start .pre .1 .1 .0) _ _ _ (@Start .pre .1 .0) (@Start .pre .1 .1 .1) _ _ _ (leaf-meets _ _ (@Start .pre .1 .0 .ready .keyed .good) _ _ (@Start .pre .1 .1 .0) (@kind .ensures) _ _ _ (@Start .pre .1 .0) (@if1 .left) (@if2 .left) (@if3 .left) _ (@leaf-type .ensures)) (@Start .fits .turn .fits) _ _ (@keep4 .ensures)
 
-pub +get-argument-types+get-type+resolve-call+work-out-spec : {M : Type 1} → statement M
-+get-argument-types+get-type+resolve-call+work-out-spec =
+pub +find-callee+get-argument-types+get-type+work-out-spec : {M : Type 1} → statement M
++find-callee+get-argument-types+get-type+work-out-spec =
     close
+    μ-find-callee
     μ-get-argument-types
     μ-get-type
-    μ-resolve-call
     μ-work-out
+    (λ t. find-callee-lts.spec (
+      get-argument-types-below t,
+      get-argument-types.Post,
+      resolve-typed-reads.Asked,
+      resolve-typed-reads.Learnt,
+    )
+    (find-callee-at t)
+    find-callee.Post
+    (find-callee-get-argument-types-requires t)
+    (find-callee-enum-known-x t)
+    (find-callee-enum-told t)
+    (find-callee-resolve-typed-requires t)
+    (find-callee-same-length t)
+    (find-callee-returns t)
+    (find-callee-same-length-2 t)
+    (find-callee-returns-2 t))
     (λ t. get-argument-types-lts.spec (
       reference-reads.Asked,
       reference-reads.Learnt,
@@ -1483,22 +1599,6 @@ pub +get-argument-types+get-type+resolve-call+work-out-spec : {M : Type 1} → s
     (get-type-work-out-requires t)
     (get-type-same-length-2 t)
     (get-type-returns-2 t))
-    (λ t. resolve-call-lts.spec (
-      get-argument-types-below t,
-      get-argument-types.Post,
-      resolve-typed-reads.Asked,
-      resolve-typed-reads.Learnt,
-    )
-    (resolve-call-at t)
-    resolve-call.Post
-    (resolve-call-get-argument-types-requires t)
-    (resolve-call-enum-known-x t)
-    (resolve-call-enum-told t)
-    (resolve-call-resolve-typed-requires t)
-    (resolve-call-same-length t)
-    (resolve-call-returns t)
-    (resolve-call-same-length-2 t)
-    (resolve-call-returns-2 t))
     λ t. work-out-lts.spec (
       kind-reads.Asked,
       kind-reads.Learnt,
@@ -1514,10 +1614,12 @@ pub +get-argument-types+get-type+resolve-call+work-out-spec : {M : Type 1} → s
       both-sides-reads.Learnt,
       binary-type-reads.Asked,
       binary-type-reads.Learnt,
-      resolve-call-below t,
-      resolve-call.Post,
+      find-callee-below t,
+      find-callee.Post,
       value-type-reads.Asked,
       value-type-reads.Learnt,
+      callee-record-reads.Asked,
+      callee-record-reads.Learnt,
       leaf-type-reads.Asked,
       leaf-type-reads.Learnt,
     )
@@ -1550,8 +1652,9 @@ pub +get-argument-types+get-type+resolve-call+work-out-spec : {M : Type 1} → s
     (work-out-returns-4 t)
     (work-out-same-length-5 t)
     (work-out-returns-5 t)
-    (work-out-resolve-call-requires t)
+    (work-out-find-callee-requires t)
     (work-out-value-type-requires t)
+    (work-out-callee-record-requires t)
     (work-out-keep-requires-3 t)
     (work-out-same-length-6 t)
     (work-out-returns-6 t)
