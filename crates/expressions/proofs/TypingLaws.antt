@@ -395,14 +395,14 @@ module _ (tree text : List ℕ) (good : Good tree text) where
   -- it is kept where the turn remembers the call's type
   module _ (r : ℕ) (k : IsKind tree 11 r) (s : List ℕ) (sc : Scope) (turn : ℕ) (typing : Typing tree text s sc turn) (t : Bool) (et : t ≡ inTurn tree turn s r) (hit : t ≡ true)
       (b : ℕ) (eb : b ≡ besideAt tree s r) where
-    abbrev V : Def.Scope
-    V = scopeAt tree text s sc
+    abbrev R : Def.Scope
+    R = scopeAt tree text s sc
 
     call-expr : IsExpr tree r
     call-expr = is-expr tree text good r (k .below) (ap isExpr (k .kind))
 
-    callable : Callable tree text V r b
-    callable = subst (Callable tree text V r) (sym eb) (hit-right tree text V turn s (typing .remembers) r (k .below) (sym et ∙ hit) .beside .callee (k .kind))
+    callable : Callable tree text R r b
+    callable = subst (Callable tree text R r) (sym eb) (hit-right tree text R turn s (typing .remembers) r (k .below) (sym et ∙ hit) .beside .callee (k .kind))
 
     pub callee-ready : (FunctionAt tree b ⊎ TypeAt tree b) × (length tree ≡ records tree * 32)
     callee-ready = (callable .place, good .whole)
@@ -412,7 +412,7 @@ module _ (tree text : List ℕ) (good : Good tree text) where
       frame = frame-refl tree s;
       callee = h text .callee;
       meets = callable .is ∙ h text .is;
-      adds = λ c v. rw (← call-parts tree text good r call-expr (k .kind)) (hit-parts tree text V turn s (typing .remembers) r (k .below) (sym et ∙ hit) good call-expr);
+      adds = λ c v. rw (← call-parts tree text good r call-expr (k .kind)) (hit-parts tree text R turn s (typing .remembers) r (k .below) (sym et ∙ hit) good call-expr);
     }
 
   module _ (s : List ℕ) (sc : Scope) (turn r : ℕ) (a : Outcome) (s₁ : List ℕ) (m : ArgsMeet tree text s sc turn (wordOf tree r C) a s₁) where

@@ -8,8 +8,6 @@ ghost use Rattle.records.specs.Words.{records};
 ghost use Rattle.expressions.specs.Slots.{inTurn, visitsAt, besideAt, afterVisit, Forgets};
 ghost use Rattle.expressions.specs.Answers.{Keepable, Keeps};
 use crate::answers::ExprType;
-use records::layout::BESIDE_BYTES;
-use records::layout::BESIDES;
 use records::layout::SCRATCH;
 use records::layout::TURN_BYTES;
 use records::layout::TURNS;
@@ -18,6 +16,10 @@ use records::layout::TYPE_SLOTS;
 use records::words::RECORD_BYTES;
 use records::words::load;
 use records::words::put_word;
+
+const BESIDES: usize = 68;
+
+const BESIDE_BYTES: usize = 4;
 
 // Whether the type of e was worked out in this turn.
 pub(crate) fn is_typed(tree: &[u8], scratch: &[u8], turn: u32, e: usize) -> bool

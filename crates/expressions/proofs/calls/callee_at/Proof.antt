@@ -9,13 +9,13 @@ use Rattle.expressions.proofs.calls.callee_at.Statement.{statement}
 use Rattle.expressions.proofs.calls.callee_at.Tie as tie
 
 kind-requires : tie.Need-kind-requires
-kind-requires c κs = ⊎-elim (λ h. omega (arith, h .below, @Start .pre .1)) (λ h. omega (arith, h .below, @Start .pre .1)) (@Start .pre .0)
+kind-requires c κs = ⊎-elim (λ h. omega (arith, h .below, c .before .pre .1)) (λ h. omega (arith, h .below, c .before .pre .1)) (c .before .pre .0)
 
 returns : tie.Need-returns
-returns c = function-stands _ _ (@Start .pre .0) (sym (@kind .ensures) ∙ @if1 .taken)
+returns c = function-stands _ _ (c .before .before .before .pre .0) (sym (c .before .kind .ensures) ∙ c .if1 .taken)
 
 returns-2 : tie.Need-returns-2
-returns-2 c = cast-stands _ _ (@Start .pre .0) (λ q. @if1 .left (@kind .ensures ∙ q))
+returns-2 c = cast-stands _ _ (c .before .before .before .pre .0) (λ q. c .if1 .left (c .before .kind .ensures ∙ q))
 
 pub callee-at-spec : {M : Type 1} → statement M
 callee-at-spec = tie.close (tie.spec kind-requires returns returns-2)

@@ -540,7 +540,7 @@ work-out-kind-requires : (t : ℕ) → work-out-lts.Need-kind-requires (
   leaf-type-reads.Asked,
   leaf-type-reads.Learnt,
 ) (work-out-at t) work-out.Post
-work-out-kind-requires t c κs = @Start .pre .1 .1 .0 .inside
+work-out-kind-requires t c κs = c .before .before .before .pre .1 .1 .0 .inside
 
 -- src/expressions.rt:76:9
 work-out-reference-requires : (t : ℕ) → work-out-lts.Need-reference-requires (
@@ -567,7 +567,7 @@ work-out-reference-requires : (t : ℕ) → work-out-lts.Need-reference-requires
   leaf-type-reads.Asked,
   leaf-type-reads.Learnt,
 ) (work-out-at t) work-out.Post
-work-out-reference-requires t c κs = (@Start .pre .1 .1 .0 .inside, omega arith)
+work-out-reference-requires t c κs = (c .before .before .before .before .pre .1 .1 .0 .inside, omega arith)
 
 -- src/expressions.rt:78:22
 work-out-get-type-requires : (t : ℕ) → work-out-lts.Need-get-type-requires (
@@ -594,8 +594,8 @@ work-out-get-type-requires : (t : ℕ) → work-out-lts.Need-get-type-requires (
   leaf-type-reads.Asked,
   leaf-type-reads.Learnt,
 ) (work-out-at t) work-out.Post
-work-out-get-type-requires t c κs = let h = operand-expr _ _ (@Start .pre .1 .0 .ready .keyed .good) _ _ (@Start .pre .1 .1 .0) (@kind .ensures) (@if1 .taken) _ (@reference .ensures) in
-    (omega (arith, h .0, @Start .pre .0), (@Start .pre .1 .0, h .1))
+work-out-get-type-requires t c κs = let h = operand-expr _ _ (c .before .before .before .before .before .before .before .pre .1 .0 .ready .keyed .good) _ _ (c .before .before .before .before .before .before .before .pre .1 .1 .0) (c .before .before .before .kind .ensures) (c .before .if1 .taken) _ (c .before .before .reference .ensures) in
+    (omega (arith, h .0, c .before .before .before .before .before .before .before .pre .0), (c .before .before .before .before .before .before .before .pre .1 .0, h .1))
 
 -- src/expressions.rt:79:31
 work-out-enum-known-x : (t : ℕ) → work-out-lts.Need-enum-known-x (
@@ -676,7 +676,7 @@ work-out-unary-type-requires : (t : ℕ) → work-out-lts.Need-unary-type-requir
   leaf-type-reads.Asked,
   leaf-type-reads.Learnt,
 ) (work-out-at t) work-out.Post
-work-out-unary-type-requires t c κs = (@Start .pre .1 .0 .ready .keyed .good, (is-kind _ _ (@Start .pre .1 .0 .ready .keyed .good) _ _ (@Start .pre .1 .1 .0) (@kind .ensures) 9 (@if1 .taken), is-typed _ _ _ (@get-type .ensures .typed) (@ty .given .1)))
+work-out-unary-type-requires t c κs = (c .before .before .before .before .before .before .before .before .before .before .before .before .before .before .pre .1 .0 .ready .keyed .good, (is-kind _ _ (c .before .before .before .before .before .before .before .before .before .before .before .before .before .before .pre .1 .0 .ready .keyed .good) _ _ (c .before .before .before .before .before .before .before .before .before .before .before .before .before .before .pre .1 .1 .0) (c .before .before .before .before .before .before .before .before .before .before .kind .ensures) 9 (c .before .before .before .before .before .before .before .before .if1 .taken), is-typed _ _ _ (c .before .before .before .before .before .before .get-type .ensures .typed) (c .before .before .ty .given .1)))
 
 -- src/expressions.rt:80:33
 work-out-keep-requires : (t : ℕ) → work-out-lts.Need-keep-requires (
@@ -703,7 +703,7 @@ work-out-keep-requires : (t : ℕ) → work-out-lts.Need-keep-requires (
   leaf-type-reads.Asked,
   leaf-type-reads.Learnt,
 ) (work-out-at t) work-out.Post
-work-out-keep-requires t c κs = keep-ready _ _ (@Start .pre .1 .0 .ready .keyed .good) _ (@Start .pre .1 .1 .0) _ _ _ (@Start .pre .1 .0) (@Start .pre .1 .1 .1) _ _ _ (unary-next _ _ (@Start .pre .1 .0 .ready .keyed .good) _ _ (@Start .pre .1 .1 .0) (@kind .ensures) _ _ _ (@if1 .taken) _ (@reference .ensures) _ _ (@get-type .ensures) _ (@ty .given .1) _ (@unary-type .ensures))
+work-out-keep-requires t c κs = keep-ready _ _ (c .before .before .before .before .before .before .before .before .before .before .before .before .before .before .before .pre .1 .0 .ready .keyed .good) _ (c .before .before .before .before .before .before .before .before .before .before .before .before .before .before .before .pre .1 .1 .0) _ _ _ (c .before .before .before .before .before .before .before .before .before .before .before .before .before .before .before .pre .1 .0) (c .before .before .before .before .before .before .before .before .before .before .before .before .before .before .before .pre .1 .1 .1) _ _ _ (unary-next _ _ (c .before .before .before .before .before .before .before .before .before .before .before .before .before .before .before .pre .1 .0 .ready .keyed .good) _ _ (c .before .before .before .before .before .before .before .before .before .before .before .before .before .before .before .pre .1 .1 .0) (c .before .before .before .before .before .before .before .before .before .before .before .kind .ensures) _ _ _ (c .before .before .before .before .before .before .before .before .before .if1 .taken) _ (c .before .before .before .before .before .before .before .before .before .before .reference .ensures) _ _ (c .before .before .before .before .before .before .before .get-type .ensures) _ (c .before .before .before .ty .given .1) _ (c .unary-type .ensures))
 
 -- src/expressions.rt:78:9
 work-out-same-length : (t : ℕ) → work-out-lts.Need-same-length (
@@ -757,7 +757,7 @@ work-out-returns : (t : ℕ) → work-out-lts.Need-returns (
   leaf-type-reads.Asked,
   leaf-type-reads.Learnt,
 ) (work-out-at t) work-out.Post
-work-out-returns t c = unary-stop _ _ (@Start .pre .1 .0 .ready .keyed .good) _ _ (@Start .pre .1 .1 .0) (@kind .ensures) _ _ _ (@if1 .taken) _ (@reference .ensures) _ _ (@get-type .ensures) _ (@x .given .1)
+work-out-returns t c = unary-stop _ _ (c .before .before .before .before .before .before .before .before .before .before .before .before .before .pre .1 .0 .ready .keyed .good) _ _ (c .before .before .before .before .before .before .before .before .before .before .before .before .before .pre .1 .1 .0) (c .before .before .before .before .before .before .before .before .before .kind .ensures) _ _ _ (c .before .before .before .before .before .before .before .if1 .taken) _ (c .before .before .before .before .before .before .before .before .reference .ensures) _ _ (c .before .before .before .before .before .get-type .ensures) _ (c .before .x .given .1)
 
 -- src/expressions.rt:78:9
 work-out-same-length-2 : (t : ℕ) → work-out-lts.Need-same-length-2 (
@@ -811,7 +811,7 @@ work-out-returns-2 : (t : ℕ) → work-out-lts.Need-returns-2 (
   leaf-type-reads.Asked,
   leaf-type-reads.Learnt,
 ) (work-out-at t) work-out.Post
-work-out-returns-2 t c = keep-meets _ _ (@Start .pre .1 .0 .ready .keyed .good) _ (@Start .pre .1 .1 .0) _ _ _ (@Start .pre .1 .0) (@Start .pre .1 .1 .1) _ _ _ (unary-next _ _ (@Start .pre .1 .0 .ready .keyed .good) _ _ (@Start .pre .1 .1 .0) (@kind .ensures) _ _ _ (@if1 .taken) _ (@reference .ensures) _ _ (@get-type .ensures) _ (@ty .given .1) _ (@unary-type .ensures)) (@Start .fits .turn .fits) _ _ (@keep .ensures)
+work-out-returns-2 t c = keep-meets _ _ (c .before .before .before .before .before .before .before .before .before .before .before .before .before .before .before .before .before .before .pre .1 .0 .ready .keyed .good) _ (c .before .before .before .before .before .before .before .before .before .before .before .before .before .before .before .before .before .before .pre .1 .1 .0) _ _ _ (c .before .before .before .before .before .before .before .before .before .before .before .before .before .before .before .before .before .before .pre .1 .0) (c .before .before .before .before .before .before .before .before .before .before .before .before .before .before .before .before .before .before .pre .1 .1 .1) _ _ _ (unary-next _ _ (c .before .before .before .before .before .before .before .before .before .before .before .before .before .before .before .before .before .before .pre .1 .0 .ready .keyed .good) _ _ (c .before .before .before .before .before .before .before .before .before .before .before .before .before .before .before .before .before .before .pre .1 .1 .0) (c .before .before .before .before .before .before .before .before .before .before .before .before .before .before .kind .ensures) _ _ _ (c .before .before .before .before .before .before .before .before .before .before .before .before .if1 .taken) _ (c .before .before .before .before .before .before .before .before .before .before .before .before .before .reference .ensures) _ _ (c .before .before .before .before .before .before .before .before .before .before .get-type .ensures) _ (c .before .before .before .before .before .before .ty .given .1) _ (c .before .before .before .unary-type .ensures)) (c .before .before .before .before .before .before .before .before .before .before .before .before .before .before .before .before .before .before .fits .turn .fits) _ _ (c .before .before .keep .ensures)
 
 -- src/expressions.rt:84:13
 work-out-reference-requires-2 : (t : ℕ) → work-out-lts.Need-reference-requires-2 (
@@ -838,7 +838,7 @@ work-out-reference-requires-2 : (t : ℕ) → work-out-lts.Need-reference-requir
   leaf-type-reads.Asked,
   leaf-type-reads.Learnt,
 ) (work-out-at t) work-out.Post
-work-out-reference-requires-2 t c κs = (@Start .pre .1 .1 .0 .inside, omega arith)
+work-out-reference-requires-2 t c κs = (c .before .before .before .before .before .before .before .pre .1 .1 .0 .inside, omega arith)
 
 -- src/expressions.rt:85:22
 work-out-get-type-requires-2 : (t : ℕ) → work-out-lts.Need-get-type-requires-2 (
@@ -865,8 +865,8 @@ work-out-get-type-requires-2 : (t : ℕ) → work-out-lts.Need-get-type-requires
   leaf-type-reads.Asked,
   leaf-type-reads.Learnt,
 ) (work-out-at t) work-out.Post
-work-out-get-type-requires-2 t c κs = let h = left-expr _ _ (@Start .pre .1 .0 .ready .keyed .good) _ _ (@Start .pre .1 .1 .0) (@kind .ensures) (@if2 .taken) _ (@reference .ensures) in
-    (omega (arith, h .0, @Start .pre .0), (@Start .pre .1 .0, h .1))
+work-out-get-type-requires-2 t c κs = let h = left-expr _ _ (c .before .before .before .before .before .before .before .before .before .pre .1 .0 .ready .keyed .good) _ _ (c .before .before .before .before .before .before .before .before .before .pre .1 .1 .0) (c .before .before .before .before .before .kind .ensures) (c .before .before .if2 .taken) _ (c .before .before .before .before .reference .ensures) in
+    (omega (arith, h .0, c .before .before .before .before .before .before .before .before .before .pre .0), (c .before .before .before .before .before .before .before .before .before .pre .1 .0, h .1))
 
 -- src/expressions.rt:86:31
 work-out-enum-known-x-2 : (t : ℕ) → work-out-lts.Need-enum-known-x-2 (
@@ -947,8 +947,8 @@ work-out-get-type-requires-3 : (t : ℕ) → work-out-lts.Need-get-type-requires
   leaf-type-reads.Asked,
   leaf-type-reads.Learnt,
 ) (work-out-at t) work-out.Post
-work-out-get-type-requires-3 t c κs = let h = right-expr _ _ (@Start .pre .1 .0 .ready .keyed .good) _ _ (@Start .pre .1 .1 .0) (@kind .ensures) (@if2 .taken) _ (@reference2 .ensures) in
-    (omega (arith, h .0, @Start .pre .0), (typing-next _ _ _ _ _ (@Start .pre .1 .0) _ (@get-type2 .ensures .frame) _ (@get-type2 .ensures .adds _ (@l .given .1)), h .1))
+work-out-get-type-requires-3 t c κs = let h = right-expr _ _ (c .before .before .before .before .before .before .before .before .before .before .before .before .before .before .before .before .pre .1 .0 .ready .keyed .good) _ _ (c .before .before .before .before .before .before .before .before .before .before .before .before .before .before .before .before .pre .1 .1 .0) (c .before .before .before .before .before .before .before .before .before .before .before .before .kind .ensures) (c .before .before .before .before .before .before .before .before .before .if2 .taken) _ (c .before .before .before .before .before .before .before .before .reference2 .ensures) in
+    (omega (arith, h .0, c .before .before .before .before .before .before .before .before .before .before .before .before .before .before .before .before .pre .0), (typing-next _ _ _ _ _ (c .before .before .before .before .before .before .before .before .before .before .before .before .before .before .before .before .pre .1 .0) _ (c .before .before .before .before .before .before .get-type2 .ensures .frame) _ (c .before .before .before .before .before .before .get-type2 .ensures .adds _ (c .before .before .l .given .1)), h .1))
 
 -- src/expressions.rt:88:35
 work-out-enum-known-x-3 : (t : ℕ) → work-out-lts.Need-enum-known-x-3 (
@@ -1093,7 +1093,7 @@ work-out-keep-requires-2 : (t : ℕ) → work-out-lts.Need-keep-requires-2 (
   leaf-type-reads.Asked,
   leaf-type-reads.Learnt,
 ) (work-out-at t) work-out.Post
-work-out-keep-requires-2 t c κs = keep-ready _ _ (@Start .pre .1 .0 .ready .keyed .good) _ (@Start .pre .1 .1 .0) _ _ _ (@Start .pre .1 .0) (@Start .pre .1 .1 .1) _ _ _ (right-next _ _ (@Start .pre .1 .0 .ready .keyed .good) _ _ (@Start .pre .1 .1 .0) (@kind .ensures) _ _ _ (@if2 .taken) _ (@reference .ensures) _ _ (@get-type2 .ensures) (@Start .pre .1 .0) _ (@l .given .1) _ (@reference2 .ensures) _ _ (@get-type3 .ensures) _ (@r .given .1) _ (@both-sides .ensures) _ (@binary-type .ensures))
+work-out-keep-requires-2 t c κs = keep-ready _ _ (c .before .before .before .before .before .before .before .before .before .before .before .before .before .before .before .before .before .before .before .before .before .before .before .before .before .pre .1 .0 .ready .keyed .good) _ (c .before .before .before .before .before .before .before .before .before .before .before .before .before .before .before .before .before .before .before .before .before .before .before .before .before .pre .1 .1 .0) _ _ _ (c .before .before .before .before .before .before .before .before .before .before .before .before .before .before .before .before .before .before .before .before .before .before .before .before .before .pre .1 .0) (c .before .before .before .before .before .before .before .before .before .before .before .before .before .before .before .before .before .before .before .before .before .before .before .before .before .pre .1 .1 .1) _ _ _ (right-next _ _ (c .before .before .before .before .before .before .before .before .before .before .before .before .before .before .before .before .before .before .before .before .before .before .before .before .before .pre .1 .0 .ready .keyed .good) _ _ (c .before .before .before .before .before .before .before .before .before .before .before .before .before .before .before .before .before .before .before .before .before .before .before .before .before .pre .1 .1 .0) (c .before .before .before .before .before .before .before .before .before .before .before .before .before .before .before .before .before .before .before .before .before .kind .ensures) _ _ _ (c .before .before .before .before .before .before .before .before .before .before .before .before .before .before .before .before .before .before .if2 .taken) _ (c .before .before .before .before .before .before .before .before .before .before .before .before .before .before .before .before .before .before .before .before .reference .ensures) _ _ (c .before .before .before .before .before .before .before .before .before .before .before .before .before .before .before .get-type2 .ensures) (c .before .before .before .before .before .before .before .before .before .before .before .before .before .before .before .before .before .before .before .before .before .before .before .before .before .pre .1 .0) _ (c .before .before .before .before .before .before .before .before .before .before .before .l .given .1) _ (c .before .before .before .before .before .before .before .before .before .before .before .before .before .before .before .before .before .reference2 .ensures) _ _ (c .before .before .before .before .before .before .before .before .get-type3 .ensures) _ (c .before .before .before .before .r .given .1) _ (c .before .before .both-sides .ensures) _ (c .before .binary-type .ensures))
 
 -- src/expressions.rt:85:9
 work-out-same-length-3 : (t : ℕ) → work-out-lts.Need-same-length-3 (
@@ -1147,7 +1147,7 @@ work-out-returns-3 : (t : ℕ) → work-out-lts.Need-returns-3 (
   leaf-type-reads.Asked,
   leaf-type-reads.Learnt,
 ) (work-out-at t) work-out.Post
-work-out-returns-3 t c = left-stop _ _ (@Start .pre .1 .0 .ready .keyed .good) _ _ (@Start .pre .1 .1 .0) (@kind .ensures) _ _ _ (@if2 .taken) _ (@reference .ensures) _ _ (@get-type2 .ensures) _ (@x2 .given .1)
+work-out-returns-3 t c = left-stop _ _ (c .before .before .before .before .before .before .before .before .before .before .before .before .before .before .before .pre .1 .0 .ready .keyed .good) _ _ (c .before .before .before .before .before .before .before .before .before .before .before .before .before .before .before .pre .1 .1 .0) (c .before .before .before .before .before .before .before .before .before .before .before .kind .ensures) _ _ _ (c .before .before .before .before .before .before .before .before .if2 .taken) _ (c .before .before .before .before .before .before .before .before .before .before .reference .ensures) _ _ (c .before .before .before .before .before .get-type2 .ensures) _ (c .before .x2 .given .1)
 
 -- src/expressions.rt:85:9
 work-out-same-length-4 : (t : ℕ) → work-out-lts.Need-same-length-4 (
@@ -1201,7 +1201,7 @@ work-out-returns-4 : (t : ℕ) → work-out-lts.Need-returns-4 (
   leaf-type-reads.Asked,
   leaf-type-reads.Learnt,
 ) (work-out-at t) work-out.Post
-work-out-returns-4 t c = right-stop _ _ (@Start .pre .1 .0 .ready .keyed .good) _ _ (@Start .pre .1 .1 .0) (@kind .ensures) _ _ _ (@if2 .taken) _ (@reference .ensures) _ _ (@get-type2 .ensures) (@Start .pre .1 .0) _ (@l .given .1) _ (@reference2 .ensures) _ _ (@get-type3 .ensures) _ (@x3 .given .1)
+work-out-returns-4 t c = right-stop _ _ (c .before .before .before .before .before .before .before .before .before .before .before .before .before .before .before .before .before .before .before .before .before .before .pre .1 .0 .ready .keyed .good) _ _ (c .before .before .before .before .before .before .before .before .before .before .before .before .before .before .before .before .before .before .before .before .before .before .pre .1 .1 .0) (c .before .before .before .before .before .before .before .before .before .before .before .before .before .before .before .before .before .before .kind .ensures) _ _ _ (c .before .before .before .before .before .before .before .before .before .before .before .before .before .before .before .if2 .taken) _ (c .before .before .before .before .before .before .before .before .before .before .before .before .before .before .before .before .before .reference .ensures) _ _ (c .before .before .before .before .before .before .before .before .before .before .before .before .get-type2 .ensures) (c .before .before .before .before .before .before .before .before .before .before .before .before .before .before .before .before .before .before .before .before .before .before .pre .1 .0) _ (c .before .before .before .before .before .before .before .before .l .given .1) _ (c .before .before .before .before .before .before .before .before .before .before .before .before .before .before .reference2 .ensures) _ _ (c .before .before .before .before .before .get-type3 .ensures) _ (c .before .x3 .given .1)
 
 -- src/expressions.rt:85:9
 work-out-same-length-5 : (t : ℕ) → work-out-lts.Need-same-length-5 (
@@ -1255,7 +1255,7 @@ work-out-returns-5 : (t : ℕ) → work-out-lts.Need-returns-5 (
   leaf-type-reads.Asked,
   leaf-type-reads.Learnt,
 ) (work-out-at t) work-out.Post
-work-out-returns-5 t c = keep-meets _ _ (@Start .pre .1 .0 .ready .keyed .good) _ (@Start .pre .1 .1 .0) _ _ _ (@Start .pre .1 .0) (@Start .pre .1 .1 .1) _ _ _ (right-next _ _ (@Start .pre .1 .0 .ready .keyed .good) _ _ (@Start .pre .1 .1 .0) (@kind .ensures) _ _ _ (@if2 .taken) _ (@reference .ensures) _ _ (@get-type2 .ensures) (@Start .pre .1 .0) _ (@l .given .1) _ (@reference2 .ensures) _ _ (@get-type3 .ensures) _ (@r .given .1) _ (@both-sides .ensures) _ (@binary-type .ensures)) (@Start .fits .turn .fits) _ _ (@keep2 .ensures)
+work-out-returns-5 t c = keep-meets _ _ (c .before .before .before .before .before .before .before .before .before .before .before .before .before .before .before .before .before .before .before .before .before .before .before .before .before .before .before .before .pre .1 .0 .ready .keyed .good) _ (c .before .before .before .before .before .before .before .before .before .before .before .before .before .before .before .before .before .before .before .before .before .before .before .before .before .before .before .before .pre .1 .1 .0) _ _ _ (c .before .before .before .before .before .before .before .before .before .before .before .before .before .before .before .before .before .before .before .before .before .before .before .before .before .before .before .before .pre .1 .0) (c .before .before .before .before .before .before .before .before .before .before .before .before .before .before .before .before .before .before .before .before .before .before .before .before .before .before .before .before .pre .1 .1 .1) _ _ _ (right-next _ _ (c .before .before .before .before .before .before .before .before .before .before .before .before .before .before .before .before .before .before .before .before .before .before .before .before .before .before .before .before .pre .1 .0 .ready .keyed .good) _ _ (c .before .before .before .before .before .before .before .before .before .before .before .before .before .before .before .before .before .before .before .before .before .before .before .before .before .before .before .before .pre .1 .1 .0) (c .before .before .before .before .before .before .before .before .before .before .before .before .before .before .before .before .before .before .before .before .before .before .before .before .kind .ensures) _ _ _ (c .before .before .before .before .before .before .before .before .before .before .before .before .before .before .before .before .before .before .before .before .before .if2 .taken) _ (c .before .before .before .before .before .before .before .before .before .before .before .before .before .before .before .before .before .before .before .before .before .before .before .reference .ensures) _ _ (c .before .before .before .before .before .before .before .before .before .before .before .before .before .before .before .before .before .before .get-type2 .ensures) (c .before .before .before .before .before .before .before .before .before .before .before .before .before .before .before .before .before .before .before .before .before .before .before .before .before .before .before .before .pre .1 .0) _ (c .before .before .before .before .before .before .before .before .before .before .before .before .before .before .l .given .1) _ (c .before .before .before .before .before .before .before .before .before .before .before .before .before .before .before .before .before .before .before .before .reference2 .ensures) _ _ (c .before .before .before .before .before .before .before .before .before .before .before .get-type3 .ensures) _ (c .before .before .before .before .before .before .before .r .given .1) _ (c .before .before .before .before .before .both-sides .ensures) _ (c .before .before .before .before .binary-type .ensures)) (c .before .before .before .before .before .before .before .before .before .before .before .before .before .before .before .before .before .before .before .before .before .before .before .before .before .before .before .before .fits .turn .fits) _ _ (c .before .before .keep2 .ensures)
 
 -- src/expressions.rt:97:13
 work-out-find-callee-requires : (t : ℕ) → work-out-lts.Need-find-callee-requires (
@@ -1282,7 +1282,7 @@ work-out-find-callee-requires : (t : ℕ) → work-out-lts.Need-find-callee-requ
   leaf-type-reads.Asked,
   leaf-type-reads.Learnt,
 ) (work-out-at t) work-out.Post
-work-out-find-callee-requires t c κs = (omega (arith, @Start .pre .0), (@Start .pre .1 .0, is-kind _ _ (@Start .pre .1 .0 .ready .keyed .good) _ _ (@Start .pre .1 .1 .0) (@kind .ensures) 11 (@if3 .taken)))
+work-out-find-callee-requires t c κs = (omega (arith, c .before .before .before .before .before .before .before .before .before .pre .0), (c .before .before .before .before .before .before .before .before .before .pre .1 .0, is-kind _ _ (c .before .before .before .before .before .before .before .before .before .pre .1 .0 .ready .keyed .good) _ _ (c .before .before .before .before .before .before .before .before .before .pre .1 .1 .0) (c .before .before .before .before .before .kind .ensures) 11 (c .before .if3 .taken)))
 
 -- src/expressions.rt:98:45
 work-out-value-type-requires : (t : ℕ) → work-out-lts.Need-value-type-requires (
@@ -1309,7 +1309,7 @@ work-out-value-type-requires : (t : ℕ) → work-out-lts.Need-value-type-requir
   leaf-type-reads.Asked,
   leaf-type-reads.Learnt,
 ) (work-out-at t) work-out.Post
-work-out-value-type-requires t c κs = (@Start .pre .1 .0 .ready .keyed .good, (@find-callee .ensures .callee, expr-low _ _ (@Start .pre .1 .0 .ready .keyed .good) _ (@Start .pre .1 .1 .0)))
+work-out-value-type-requires t c κs = (c .before .before .before .before .before .before .before .before .before .before .before .before .pre .1 .0 .ready .keyed .good, (c .before .before .find-callee .ensures .callee, expr-low _ _ (c .before .before .before .before .before .before .before .before .before .before .before .before .pre .1 .0 .ready .keyed .good) _ (c .before .before .before .before .before .before .before .before .before .before .before .before .pre .1 .1 .0)))
 
 -- src/expressions.rt:98:45
 work-out-callee-record-requires : (t : ℕ) → work-out-lts.Need-callee-record-requires (
@@ -1363,7 +1363,7 @@ work-out-keep-requires-3 : (t : ℕ) → work-out-lts.Need-keep-requires-3 (
   leaf-type-reads.Asked,
   leaf-type-reads.Learnt,
 ) (work-out-at t) work-out.Post
-work-out-keep-requires-3 t c κs = keep-ready _ _ (@Start .pre .1 .0 .ready .keyed .good) _ (@Start .pre .1 .1 .0) _ _ _ (@Start .pre .1 .0) (@Start .pre .1 .1 .1) _ _ _ (call-value _ _ (@Start .pre .1 .0 .ready .keyed .good) _ _ (@Start .pre .1 .1 .0) (@kind .ensures) _ _ _ (@if3 .taken) _ _ (@find-callee .ensures) _ (@value-type .ensures) _ (@callee-record .ensures))
+work-out-keep-requires-3 t c κs = keep-ready _ _ (c .before .before .before .before .before .before .before .before .before .before .before .before .before .before .before .pre .1 .0 .ready .keyed .good) _ (c .before .before .before .before .before .before .before .before .before .before .before .before .before .before .before .pre .1 .1 .0) _ _ _ (c .before .before .before .before .before .before .before .before .before .before .before .before .before .before .before .pre .1 .0) (c .before .before .before .before .before .before .before .before .before .before .before .before .before .before .before .pre .1 .1 .1) _ _ _ (call-value _ _ (c .before .before .before .before .before .before .before .before .before .before .before .before .before .before .before .pre .1 .0 .ready .keyed .good) _ _ (c .before .before .before .before .before .before .before .before .before .before .before .before .before .before .before .pre .1 .1 .0) (c .before .before .before .before .before .before .before .before .before .before .before .kind .ensures) _ _ _ (c .before .before .before .before .before .before .before .if3 .taken) _ _ (c .before .before .before .before .before .find-callee .ensures) _ (c .before .before .value-type .ensures) _ (c .callee-record .ensures))
 
 -- src/expressions.rt:98:9
 work-out-same-length-6 : (t : ℕ) → work-out-lts.Need-same-length-6 (
@@ -1417,7 +1417,7 @@ work-out-returns-6 : (t : ℕ) → work-out-lts.Need-returns-6 (
   leaf-type-reads.Asked,
   leaf-type-reads.Learnt,
 ) (work-out-at t) work-out.Post
-work-out-returns-6 t c = keep-meets _ _ (@Start .pre .1 .0 .ready .keyed .good) _ (@Start .pre .1 .1 .0) _ _ _ (@Start .pre .1 .0) (@Start .pre .1 .1 .1) _ _ _ (call-value _ _ (@Start .pre .1 .0 .ready .keyed .good) _ _ (@Start .pre .1 .1 .0) (@kind .ensures) _ _ _ (@if3 .taken) _ _ (@find-callee .ensures) _ (@value-type .ensures) _ (@callee-record .ensures)) (@Start .fits .turn .fits) _ _ (@keep3 .ensures)
+work-out-returns-6 t c = keep-meets _ _ (c .before .before .before .before .before .before .before .before .before .before .before .before .before .before .before .before .before .before .pre .1 .0 .ready .keyed .good) _ (c .before .before .before .before .before .before .before .before .before .before .before .before .before .before .before .before .before .before .pre .1 .1 .0) _ _ _ (c .before .before .before .before .before .before .before .before .before .before .before .before .before .before .before .before .before .before .pre .1 .0) (c .before .before .before .before .before .before .before .before .before .before .before .before .before .before .before .before .before .before .pre .1 .1 .1) _ _ _ (call-value _ _ (c .before .before .before .before .before .before .before .before .before .before .before .before .before .before .before .before .before .before .pre .1 .0 .ready .keyed .good) _ _ (c .before .before .before .before .before .before .before .before .before .before .before .before .before .before .before .before .before .before .pre .1 .1 .0) (c .before .before .before .before .before .before .before .before .before .before .before .before .before .before .kind .ensures) _ _ _ (c .before .before .before .before .before .before .before .before .before .before .if3 .taken) _ _ (c .before .before .before .before .before .before .before .before .find-callee .ensures) _ (c .before .before .before .before .before .value-type .ensures) _ (c .before .before .before .callee-record .ensures)) (c .before .before .before .before .before .before .before .before .before .before .before .before .before .before .before .before .before .before .fits .turn .fits) _ _ (c .before .before .keep3 .ensures)
 
 -- src/expressions.rt:100:9
 work-out-leaf-type-requires : (t : ℕ) → work-out-lts.Need-leaf-type-requires (
@@ -1474,7 +1474,7 @@ work-out-keep-requires-4 : (t : ℕ) → work-out-lts.Need-keep-requires-4 (
   leaf-type-reads.Asked,
   leaf-type-reads.Learnt,
 ) (work-out-at t) work-out.Post
-work-out-keep-requires-4 t c κs = keep-ready _ _ (@Start .pre .1 .0 .ready .keyed .good) _ (@Start .pre .1 .1 .0) _ _ _ (@Start .pre .1 .0) (@Start .pre .1 .1 .1) _ _ _ (leaf-meets _ _ (@Start .pre .1 .0 .ready .keyed .good) _ _ (@Start .pre .1 .1 .0) (@kind .ensures) _ _ _ (@Start .pre .1 .0) (@if1 .left) (@if2 .left) (@if3 .left) _ (@leaf-type .ensures))
+work-out-keep-requires-4 t c κs = keep-ready _ _ (c .before .before .before .before .before .before .before .before .before .before .before .pre .1 .0 .ready .keyed .good) _ (c .before .before .before .before .before .before .before .before .before .before .before .pre .1 .1 .0) _ _ _ (c .before .before .before .before .before .before .before .before .before .before .before .pre .1 .0) (c .before .before .before .before .before .before .before .before .before .before .before .pre .1 .1 .1) _ _ _ (leaf-meets _ _ (c .before .before .before .before .before .before .before .before .before .before .before .pre .1 .0 .ready .keyed .good) _ _ (c .before .before .before .before .before .before .before .before .before .before .before .pre .1 .1 .0) (c .before .before .before .before .before .before .before .kind .ensures) _ _ _ (c .before .before .before .before .before .before .before .before .before .before .before .pre .1 .0) (c .before .before .before .before .before .if1 .left) (c .before .before .before .before .if2 .left) (c .before .before .before .if3 .left) _ (c .before .leaf-type .ensures))
 
 -- src/expressions.rt:62:1
 work-out-same-length-7 : (t : ℕ) → work-out-lts.Need-same-length-7 (
@@ -1528,7 +1528,7 @@ work-out-returns-7 : (t : ℕ) → work-out-lts.Need-returns-7 (
   leaf-type-reads.Asked,
   leaf-type-reads.Learnt,
 ) (work-out-at t) work-out.Post
-work-out-returns-7 t c = keep-meets _ _ (@Start .pre .1 .0 .ready .keyed .good) _ (@Start .pre .1 .1 .0) _ _ _ (@Start .pre .1 .0) (@Start .pre .1 .1 .1) _ _ _ (leaf-meets _ _ (@Start .pre .1 .0 .ready .keyed .good) _ _ (@Start .pre .1 .1 .0) (@kind .ensures) _ _ _ (@Start .pre .1 .0) (@if1 .left) (@if2 .left) (@if3 .left) _ (@leaf-type .ensures)) (@Start .fits .turn .fits) _ _ (@keep4 .ensures)
+work-out-returns-7 t c = keep-meets _ _ (c .before .before .before .before .before .before .before .before .before .before .before .before .before .before .pre .1 .0 .ready .keyed .good) _ (c .before .before .before .before .before .before .before .before .before .before .before .before .before .before .pre .1 .1 .0) _ _ _ (c .before .before .before .before .before .before .before .before .before .before .before .before .before .before .pre .1 .0) (c .before .before .before .before .before .before .before .before .before .before .before .before .before .before .pre .1 .1 .1) _ _ _ (leaf-meets _ _ (c .before .before .before .before .before .before .before .before .before .before .before .before .before .before .pre .1 .0 .ready .keyed .good) _ _ (c .before .before .before .before .before .before .before .before .before .before .before .before .before .before .pre .1 .1 .0) (c .before .before .before .before .before .before .before .before .before .before .kind .ensures) _ _ _ (c .before .before .before .before .before .before .before .before .before .before .before .before .before .before .pre .1 .0) (c .before .before .before .before .before .before .before .before .if1 .left) (c .before .before .before .before .before .before .before .if2 .left) (c .before .before .before .before .before .before .if3 .left) _ (c .before .before .before .before .leaf-type .ensures)) (c .before .before .before .before .before .before .before .before .before .before .before .before .before .before .fits .turn .fits) _ _ (c .before .before .keep4 .ensures)
 
 pub +find-callee+get-argument-types+get-type+work-out-spec : {M : Type 1} → statement M
 +find-callee+get-argument-types+get-type+work-out-spec =

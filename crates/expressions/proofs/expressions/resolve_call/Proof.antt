@@ -6,25 +6,28 @@ use Rattle.expressions.proofs.expressions.resolve_call.Statement.{state
 use Rattle.expressions.proofs.expressions.resolve_call.Tie as tie
 
 is-typed-requires : tie.Need-is-typed-requires
-is-typed-requires c κs = (@Start .pre .1 .below, @Start .pre .0 .ready .keyed .listed .room)
+is-typed-requires c κs = (c .before .before .before .before .pre .1 .below, c .before .before .before .before .pre .0 .ready .keyed .listed .room)
 
 beside-requires : tie.Need-beside-requires
-beside-requires c κs = (@Start .pre .1 .below, @Start .pre .0 .ready .keyed .listed .room)
+beside-requires c κs = (c .before .before .before .before .before .before .before .pre .1 .below, c .before .before .before .before .before .before .before .pre .0 .ready .keyed .listed .room)
 
 callee-at-requires : tie.Need-callee-at-requires
-callee-at-requires c κs = callee-ready _ _ (@Start .pre .0 .ready .keyed .good) _ (@Start .pre .1) _ _ _ (@Start .pre .0) _ (@is-typed .ensures) (@if1 .taken) _ (@beside .ensures)
-
-returns : tie.Need-returns
-returns c = call-known _ _ (@Start .pre .0 .ready .keyed .good) _ (@Start .pre .1) _ _ _ (@Start .pre .0) _ (@is-typed .ensures) (@if1 .taken) _ (@beside .ensures) _ (@callee-at .ensures)
-
-find-callee-requires : tie.Need-find-callee-requires
-find-callee-requires c κs = search needs
+callee-at-requires c κs = callee-ready _ _ (c .before .before .before .before .before .before .before .before .pre .0 .ready .keyed .good) _ (c .before .before .before .before .before .before .before .before .pre .1) _ _ _ (c .before .before .before .before .before .before .before .before .pre .0) _ (c .before .before .before .is-typed .ensures) (c .before .before .if1 .taken) _ (c .beside .ensures)
 
 same-length : tie.Need-same-length
 same-length c = search needs
 
+returns : tie.Need-returns
+returns c = call-known _ _ (c .before .before .before .before .before .before .before .before .before .pre .0 .ready .keyed .good) _ (c .before .before .before .before .before .before .before .before .before .pre .1) _ _ _ (c .before .before .before .before .before .before .before .before .before .pre .0) _ (c .before .before .before .before .is-typed .ensures) (c .before .before .before .if1 .taken) _ (c .before .beside .ensures) _ (c .callee-at .ensures)
+
+find-callee-requires : tie.Need-find-callee-requires
+find-callee-requires c κs = search needs
+
+same-length-2 : tie.Need-same-length-2
+same-length-2 c = search needs
+
 returns-2 : tie.Need-returns-2
-returns-2 c = @find-callee .ensures
+returns-2 c = c .before .before .find-callee .ensures
 
 pub resolve-call-spec : {M : Type 1} → statement M
 resolve-call-spec =
@@ -33,7 +36,8 @@ resolve-call-spec =
     is-typed-requires
     beside-requires
     callee-at-requires
+    same-length
     returns
     find-callee-requires
-    same-length
+    same-length-2
     returns-2)

@@ -28,7 +28,7 @@ cast-result c = search needs
 -- src/turns.rt:18:1
 returns : tie.Need-returns
 unfolding besideAt
-returns c = @load .ensures
+returns c = c .load .ensures
 
 pub beside-spec : {M : Type 1} → statement M
 beside-spec = tie.close (tie.spec mul-load mul-load-2 add-load load-requires cast-result returns)

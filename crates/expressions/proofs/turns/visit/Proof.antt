@@ -78,7 +78,7 @@ mul-put-word-7 c = search needs
 -- src/turns.rt:0:0
 add-put-word-4 : tie.Need-add-put-word-4
 unfolding visitsAt
-add-put-word-4 c = record { fits = omega (arith, @load .ensures, @Start .pre .1) }
+add-put-word-4 c = record { fits = omega (arith, c .before .before .before .before .before .before .before .before .before .before .before .before .before .load .ensures, c .before .before .before .before .before .before .before .before .before .before .before .before .before .before .before .before .before .pre .1) }
 
 -- src/turns.rt:0:0
 put-word-requires-4 : tie.Need-put-word-requires-4
@@ -91,7 +91,7 @@ same-length c = search needs
 -- src/turns.rt:0:0
 returns : tie.Need-returns
 unfolding visitsAt
-returns c = visit-is _ _ _ _ _ _ _ (@load .ensures) _ _ _ _ (@put-word .ensures) (@put-word2 .ensures) (@put-word3 .ensures) (@put-word4 .ensures)
+returns c = visit-is _ _ _ _ _ _ _ (c .before .before .before .before .before .before .before .before .before .before .before .before .before .before .before .before .load .ensures) _ _ _ _ (c .before .before .before .before .before .before .before .before .before .before .before .before .before .before .put-word .ensures) (c .before .before .before .before .before .before .before .before .before .before .put-word2 .ensures) (c .before .before .before .before .before .before .put-word3 .ensures) (c .before .before .put-word4 .ensures)
 
 pub visit-spec : {M : Type 1} → statement M
 visit-spec =
