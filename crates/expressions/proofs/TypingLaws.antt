@@ -3,6 +3,7 @@
 use mathlib.Core.Path.{_≡_, refl, sym, ap, _∙_, subst}
 use mathlib.Core.Bool.{Bool, true, false}
 use mathlib.Core.Logic.{_⊎_, inl, inr}
+use mathlib.Core.Option.{Option, none, some}
 use mathlib.Core.List.{List, [], _++_}
 use Prim.Native.Nat.{ℕ, _+_, _*_, _≤_, _<_}
 use native.Mathlib.Omega.{arith}
@@ -17,12 +18,15 @@ use Rattle.records.specs.Kinds.{kindFunction}
 use Rattle.records.specs.Rules.{isExpr}
 use Rattle.records.specs.Good.{Good}
 use Rattle.records.proofs.GoodLaws.{unary-a, binary-a, binary-b}
-use Rattle.syntax.specs.Syntax.{Neg, Or, unaryOps, binaryOps}
+use Rattle.syntax.specs.Syntax.{Neg, Or, unaryOps, binaryOps, place}
 use Rattle.syntax.specs.Decode.{program, textOf}
 use Rattle.syntax.specs.Exprs.{exprs, argsExprs, partsExprs}
-use Rattle.conversion.specs.ConvertError.{ConvertErrorKind, Result, ok, err, _>>=_}
+use Rattle.conversion.specs.ConvertError.{ConvertErrorKind, Result, ok, err, _>>=_, WrongOperands, LiteralOutOfRange}
+use Rattle.conversion.specs.Types.{range-error}
 use Rattle.conversion.specs.Scope as Def
-use Rattle.conversion.specs.Expressions.{Callee, get-type, get-argument-types, resolve-call, resolveTyped, unaryType, binaryType, valueType, return-type}
+use Rattle.conversion.specs.Expressions.{Callee, get-type, get-argument-types, resolve-call, resolveTyped, filterOption, commonOf, unaryType, accepted, binaryError, binaryType, valueType, return-type, common-type}
+use Rattle.records.specs.declared.words.Found.{Found}
+use Rattle.records.specs.declared.words.Found.the-variants as Found
 use Rattle.scope.specs.declared.Scope.{Scope}
 use Rattle.scope.specs.Open.{scopeAt}
 use Rattle.types.proofs.FromGood.{is-expr}
@@ -30,14 +34,16 @@ use Rattle.expressions.specs.declared.answers.Outcome.{Outcome}
 use Rattle.expressions.specs.declared.answers.Outcome.the-variants as Outcome
 use Rattle.expressions.specs.declared.answers.ExprType.{ExprType}
 use Rattle.expressions.specs.declared.answers.ExprType.the-variants as ExprType
+use Rattle.expressions.specs.declared.answers.Common.{Common}
+use Rattle.expressions.specs.declared.answers.Common.the-variants as Common
 use Rattle.expressions.specs.declared.answers.Resolved.{Resolved}
 use Rattle.expressions.specs.declared.answers.Resolved.the-variants as Resolved
 use Rattle.syntax.specs.Places.{IsExpr, IsKind, TypeAt, FunctionAt, exprAt, argsAt}
 use Rattle.keys.specs.Keys.{allKeys}
-use Rattle.expressions.specs.Slots.{slotAt, besideAt, inTurn, afterVisit, slotted, typeIn, calleeIn, calleeAt, Callable, Beside, Typed, Typing}
+use Rattle.expressions.specs.Slots.{slotAt, besideAt, inTurn, afterVisit, slotted, typeIn, calleeIn, calleeAt, Callable, commonIn, Beside, Typed, Typing}
 use Rattle.expressions.specs.Calls.{typedAt}
 use Rattle.expressions.specs.declared.operands.Sides.{Sides}
-use Rattle.expressions.specs.Answers.{refusal, typeResult, doneWith, calleeOf, calleeRecord, valueResult, IsTyped, IsCallee, TypeIs, CalleeIs, binaryTypeAt, WorksOut, Keepable, Keeps, TypeMeets, ArgsMeet, CallMeets}
+use Rattle.expressions.specs.Answers.{refusal, typeResult, commonResult, foundNumber, foundRecord, TypeFound, FoundIs, commonAt, IsCommon, doneWith, calleeOf, calleeRecord, valueResult, IsTyped, IsCallee, TypeIs, CalleeIs, binaryTypeAt, WorksOut, Keepable, Keeps, TypeMeets, ArgsMeet, CallMeets, CommonMeets, SidesMeet}
 use Rattle.syntax.proofs.Records.{expr-unary, expr-binary, expr-call}
 use Rattle.expressions.proofs.SlotLaws.{frame-refl, frame-trans}
 pub use Rattle.expressions.proofs.PartLaws.{expr-low, place-is, call-list, call-low}
@@ -129,6 +135,26 @@ callee-small tree (Resolved.Function f) (IsCallee.a-function h) few = omega (ari
 callee-small tree (Resolved.Cast y) (IsCallee.a-cast h) few = omega (arith, h .below)
 callee-small tree (Resolved.Refused x) IsCallee.no few = omega arith
 
+-- a type that was found, and a Binary without one, which is refused
+found-is : {tree : List ℕ} {y : ℕ} → TypeFound tree (Found.At y) → TypeAt tree y
+found-is (TypeFound.a-type h) = h
+
+pick-refused : (b : Bool) (x y : Result ℕ) (i : ℕ) → (x ≡ ok i → ⊥) → (y ≡ ok i → ⊥) → pick b x y ≡ ok i → ⊥
+unfolding pick
+pick-refused true x y i f g q = f q
+pick-refused false x y i f g q = g q
+
+no-common : (tree text : List ℕ) (e : ℕ) (s : Sides) (i : ℕ) → commonAt tree text s ≡ none → binaryTypeAt tree text e s ≡ ok i → ⊥
+unfolding binaryType accepted filterOption binaryError
+no-common tree text e s i n q =
+    pick-refused (range-error (program tree text .typeOf) (exprAt tree text (s .right)) (s .«right_type») (s .«left_type»))
+    (err LiteralOutOfRange (place (exprAt tree text (s .right))))
+    (pick (range-error (program tree text .typeOf) (exprAt tree text (s .left)) (s .«left_type») (s .«right_type»)) (err LiteralOutOfRange (place (exprAt tree text (s .left)))) (err WrongOperands e)) i
+    (err-ok LiteralOutOfRange (place (exprAt tree text (s .right))) i)
+    (pick-refused (range-error (program tree text .typeOf) (exprAt tree text (s .left)) (s .«left_type») (s .«right_type»)) (err LiteralOutOfRange (place (exprAt tree text (s .left)))) (err WrongOperands e) i
+    (err-ok LiteralOutOfRange (place (exprAt tree text (s .left))) i) (err-ok WrongOperands e i))
+    (rw n at q)
+
 -- ---- the kinds
 
 module _ (tree text : List ℕ) (good : Good tree text) where
@@ -187,9 +213,9 @@ module _ (tree text : List ℕ) (good : Good tree text) where
     pub leaf-kind : (k ≡ 9 → ⊥) → (k ≡ 10 → ⊥) → (k ≡ 11 → ⊥) → kindOf tree e ≤ 8
     leaf-kind n₉ n₁₀ n₁₁ = omega (arith, ek, leb-true (kindOf tree e) 11 (and-right (leb 2 (kindOf tree e)) (leb (kindOf tree e) 11) (x .expression)))
 
-    -- beside the type of what is no call anything can be kept
-    beside-none : (S : Def.Scope) → (k ≡ 11 → ⊥) → (0 < 4294967296) × Beside tree text S e 0
-    beside-none S n = (omega arith, record { callee = λ q. absurd (n (ek ∙ q)) })
+    -- beside the type of what is neither a call nor a Binary anything can be kept
+    beside-none : (S : Def.Scope) → (k ≡ 10 → ⊥) → (k ≡ 11 → ⊥) → (0 < 4294967296) × Beside tree text S e 0
+    beside-none S m n = (omega arith, record { callee = λ q. absurd (n (ek ∙ q)); common = λ q. absurd (m (ek ∙ q)) })
 
     module _ (s : List ℕ) (sc : Scope) (turn : ℕ) where
       abbrev S : Def.Scope
@@ -224,7 +250,7 @@ module _ (tree text : List ℕ) (good : Good tree text) where
         unary-next y w b u = record {
           frame = m .frame;
           typed = u .type;
-          beside = λ z v. beside-none S (λ n. omega (arith, q));
+          beside = λ z v. beside-none S (λ n. omega (arith, q)) (λ n. omega (arith, q));
           adds = λ z v. parts-as (exprs (exprAt tree text a)) (unary-parts tree text good e x (kind-at 9 q) ∙ ap (λ (z : ℕ). exprs (exprAt tree text z)) (sym ea)) s₁ (m .adds y w);
           meets =
               type-unary S e (expr-low tree text good e x) (kind-at 9 q)
@@ -288,13 +314,37 @@ module _ (tree text : List ℕ) (good : Good tree text) where
                 (type-refused (typeIn tree text S (wordOf tree e B)) u r right-type v);
           }
 
+          -- what both sides take, and that a Binary with a type has it
+          shared-is : (y : ℕ) → u ≡ ExprType.Is y → (sides : Sides) → sides ≡ record { left = a; «left_type» = l; right = b; «right_type» = y }
+              → commonIn tree text S e ≡ ok (commonAt tree text sides)
+          unfolding common-type typeIn
+          shared-is y v sides es =
+              rw (← ea, ← eb, es)
+              (bind-ok (typeIn tree text S a) l (λ l. typeIn tree text S b >>= λ r. ok (commonOf (program tree text) (allKeys tree text) (exprAt tree text a) l (exprAt tree text b) r))
+              (type-ok (typeIn tree text S a) t l (m .meets) w)
+              ∙ bind-ok (typeIn tree text S b) y (λ r. ok (commonOf (program tree text) (allKeys tree text) (exprAt tree text a) l (exprAt tree text b) r))
+              (type-ok (typeIn tree text S b) u y (later-type tree text s sc turn typing s₁ (m .frame) b u s₂ m₂) v))
+
+          beside-common : (y : ℕ) → u ≡ ExprType.Is y → (sides : Sides) → sides ≡ record { left = a; «left_type» = l; right = b; «right_type» = y } → (d : ExprType)
+              → TypeIs tree d (binaryTypeAt tree text e sides) → (f : Found) → FoundIs tree f (commonAt tree text sides)
+              → (i : ℕ) → d ≡ ExprType.Is i → (foundRecord f < 4294967296) × Beside tree text S e (foundRecord f)
+          unfolding foundRecord foundNumber
+          beside-common y v sides es d z (Found.At o) ef i j = (
+            omega (arith, found-is (ef .type) .below, good .few),
+            record {
+              callee = λ c. absurd (omega (arith, c, kind-at 10 q));
+              common = λ c. record { is = shared-is y v sides es ∙ ap (λ (x : Option ℕ). ok x) (sym (ef .is)); type = found-is (ef .type) };
+            },
+          )
+          beside-common y v sides es d z Found.Nothing ef i j = absurd (no-common tree text e sides i (sym (ef .is)) (type-ok (binaryTypeAt tree text e sides) d i (z .is) j))
+
           pub right-next : (y : ℕ) → u ≡ ExprType.Is y → (sides : Sides) → sides ≡ record { left = a; «left_type» = l; right = b; «right_type» = y } → (d : ExprType)
-              → TypeIs tree d (binaryTypeAt tree text e sides)
-              → WorksOut tree text s sc turn e d 0 s₂
-          right-next y v sides es d z = record {
+              → TypeIs tree d (binaryTypeAt tree text e sides) → (f : Found) → FoundIs tree f (commonAt tree text sides) → (w : ℕ) → w ≡ foundRecord f
+              → WorksOut tree text s sc turn e d w s₂
+          right-next y v sides es d z f ef w ew = record {
             frame = frame-trans (m .frame) (m₂ .frame);
             typed = z .type;
-            beside = λ i j. beside-none S (λ n. omega (arith, q));
+            beside = λ i j. rw ew (beside-common y v sides es d z f ef i j);
             adds = λ i j. both-adds y v;
             meets =
                 with-left
@@ -313,7 +363,13 @@ module _ (tree text : List ℕ) (good : Good tree text) where
         frame = m .frame;
         typed = u .type;
         beside = λ y v. callee-ok (calleeOf tree text c) (λ c. valueType e (return-type c)) y (type-ok (valueResult tree text e c) b y (u .is) v)
-            (λ d z. rw ew (callee-small tree c (m .callee) (good .few), record { callee = λ i. callee-stands tree text S e c (m .callee) (m .meets) d z }));
+            (λ d z. rw ew (
+              callee-small tree c (m .callee) (good .few),
+              record {
+                callee = λ i. callee-stands tree text S e c (m .callee) (m .meets) d z;
+                common = λ i. absurd (omega (arith, i, kind-at 11 q));
+              },
+            ));
         adds = λ y v. callee-ok (calleeOf tree text c) (λ c. valueType e (return-type c)) y (type-ok (valueResult tree text e c) b y (u .is) v)
             (λ d z. parts-as (argsExprs (argsAt tree text (wordOf tree e C))) (call-parts tree text good e x (kind-at 11 q)) s₁ (m .adds d z));
         meets =
@@ -326,7 +382,7 @@ module _ (tree text : List ℕ) (good : Good tree text) where
       leaf-meets typing n₉ n₁₀ n₁₁ a h = record {
         frame = frame-refl tree s;
         typed = h .type;
-        beside = λ y v. beside-none S n₁₁;
+        beside = λ y v. beside-none S n₁₀ n₁₁;
         adds = λ y v. parts-as [] (leaf-parts tree text good e x (leaf-kind n₉ n₁₀ n₁₁)) s (typed-none tree text S turn s (typing .remembers));
         meets = h .is;
       }
@@ -414,6 +470,25 @@ module _ (tree text : List ℕ) (good : Good tree text) where
       meets = callable .is ∙ h text .is;
       adds = λ c v. rw (← call-parts tree text good r call-expr (k .kind)) (hit-parts tree text R turn s (typing .remembers) r (k .below) (sym et ∙ hit) good call-expr);
     }
+
+  -- the sides by their words
+  pub sides-meet : (e l r : ℕ) → l ≡ wordOf tree e A → r ≡ wordOf tree e B → (s : List ℕ) (sc : Scope) (turn : ℕ) (a : Common) (s′ : List ℕ)
+      → CommonMeets tree text s sc turn l r a s′ → SidesMeet tree text s sc turn e a s′
+  sides-meet e l r el er s sc turn a s′ m = rw (← el, ← er) m
+
+  -- and so is the type that both sides of a Binary take
+  pub common-known : (e : ℕ) → IsKind tree 10 e → (s : List ℕ) (sc : Scope) (turn : ℕ) → Typing tree text s sc turn → (t : Bool) → t ≡ inTurn tree turn s e → t ≡ true
+      → (b : ℕ) → b ≡ besideAt tree s e → SidesMeet tree text s sc turn e (Common.Is b) s
+  unfolding commonResult
+  common-known e k s sc turn typing t et hit b eb =
+      let S = scopeAt tree text s sc in
+      let x : IsExpr tree e = is-expr tree text good e (k .below) (ap isExpr (k .kind)) in
+      let shared = hit-right tree text S turn s (typing .remembers) e (k .below) (sym et ∙ hit) .beside .common (k .kind) in record {
+        frame = frame-refl tree s;
+        common = IsCommon.is (subst (λ (z : ℕ). TypeAt tree z) (sym eb) (shared .type));
+        meets = shared .is ∙ ap (λ (z : ℕ). ok (some z)) (sym eb);
+        adds = λ o v. rw (← binary-parts tree text good e x (k .kind)) (hit-parts tree text S turn s (typing .remembers) e (k .below) (sym et ∙ hit) good x);
+      }
 
   module _ (s : List ℕ) (sc : Scope) (turn r : ℕ) (a : Outcome) (s₁ : List ℕ) (m : ArgsMeet tree text s sc turn (wordOf tree r C) a s₁) where
     abbrev T : Def.Scope

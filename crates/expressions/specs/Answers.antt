@@ -6,7 +6,7 @@ use mathlib.Core.List.{List, [], _∷_, _++_}
 use mathlib.Core.Option.{Option, none, some}
 use lib.ListN.{length, getD}
 use Rattle.records.specs.Layout.{scratchEach}
-use Rattle.records.specs.Words.{detailOf, wordOf, records, B, C}
+use Rattle.records.specs.Words.{detailOf, wordOf, records, A, B, C}
 use Rattle.records.specs.declared.convert_error.ConvertError.{ConvertError}
 use Rattle.syntax.specs.Syntax.{Value, ToType, Function, Neg, Or, unaryOps, binaryOps}
 use Rattle.syntax.specs.Decode.{program}
@@ -74,6 +74,11 @@ commonResult (Common.Refused e) = refusal e
 unfoldable pub foundNumber : Found → Option ℕ
 foundNumber (Found.At y) = some y
 foundNumber Found.Nothing = none
+
+-- the word that is kept of it
+unfoldable pub foundRecord : Found → ℕ
+foundRecord (Found.At y) = y
+foundRecord Found.Nothing = 0
 
 -- a type that was found is one
 pub data TypeFound (tree : List ℕ) : Found → Type 0 where
@@ -246,3 +251,7 @@ pub record CommonMeets (tree text s : List ℕ) (sc : Scope) (turn l r : ℕ) (a
   pub common : IsCommon tree a
   pub meets : common-type (program tree text) (allKeys tree text) (exprAt tree text l) (exprAt tree text r) (scopeAt tree text s sc) ≡ commonResult a
   pub adds : (o : Option ℕ) → commonResult a ≡ ok o → Typed tree text (scopeAt tree text s sc) turn s (exprs (exprAt tree text l) ++ exprs (exprAt tree text r)) s′
+
+-- `common_type` of both sides of the Binary at record e
+abbrev pub SidesMeet : List ℕ → List ℕ → List ℕ → Scope → ℕ → ℕ → Common → List ℕ → Type 0
+SidesMeet tree text s sc turn e a s′ = CommonMeets tree text s sc turn (wordOf tree e A) (wordOf tree e B) a s′

@@ -5,7 +5,7 @@ use mathlib.Core.Logic.{_⊎_}
 use Prim.Native.Nat.{ℕ, _+_, _*_, _/_, _≤_, _<_}
 use mathlib.Core.Bool.{Bool, true, _||_}
 use mathlib.Core.List.{List, [], _∷_}
-use mathlib.Core.Option.{none, some}
+use mathlib.Core.Option.{Option, none, some}
 use lib.Dec.{eqb}
 use lib.ListN.{length}
 use Rattle.laws.specs.Fix.{pick}
@@ -15,14 +15,14 @@ use Rattle.laws.specs.Different.{has}
 use Rattle.records.specs.Layout as Layout
 use Rattle.records.specs.Layout.{endOf, typeSlots, visitCount as besides}
 use Rattle.records.specs.Words.{byteAt, wordAt, wordOf, kindOf, records, A, B, C, secondWord, fourthWord}
-use Rattle.records.specs.Kinds.{kindCall, kindFunction}
+use Rattle.records.specs.Kinds.{kindBinary, kindCall, kindFunction}
 use Rattle.records.specs.Good.{Good}
 use Rattle.syntax.specs.Syntax.{Args, noArgs, Value, ToType, place}
 use Rattle.syntax.specs.Decode.{program, textOf}
 use Rattle.syntax.specs.Exprs.{exprs}
 use Rattle.conversion.specs.ConvertError.{Result, ok}
 use Rattle.conversion.specs.Scope as Def
-use Rattle.conversion.specs.Expressions.{TypedArg, Callee, CallFunction, CallCast, get-type, resolve-call}
+use Rattle.conversion.specs.Expressions.{TypedArg, Callee, CallFunction, CallCast, get-type, resolve-call, common-type}
 use Rattle.conversion.specs.Written.{word}
 use Rattle.ir.specs.declared.structs.VarId.{VarId}
 use Rattle.scope.specs.declared.Scope.{Scope}
@@ -154,9 +154,18 @@ module _ (tree : List ℕ) where
       pub is : calleeIn S e ≡ ok (calleeAt w)
       pub place : FunctionAt tree w ⊎ TypeAt tree w
 
-    -- the word w can be kept beside the type of record e: beside a call's what it runs
+    -- the type that both sides of the Binary at record e take, and that it is w
+    abbrev pub commonIn : Def.Scope → ℕ → Result (Option ℕ)
+    commonIn S e = common-type (program tree text) (allKeys tree text) (exprAt tree text (wordOf tree e A)) (exprAt tree text (wordOf tree e B)) S
+
+    pub record Shared (S : Def.Scope) (e w : ℕ) : Type 0 where
+      pub is : commonIn S e ≡ ok (some w)
+      pub type : TypeAt tree w
+
+    -- the word w can be kept beside the type of record e: beside a call's what it runs, beside a Binary's the type that both sides take
     pub record Beside (S : Def.Scope) (e w : ℕ) : Type 0 where
       pub callee : kindOf tree e ≡ kindCall → Callable S e w
+      pub common : kindOf tree e ≡ kindBinary → Shared S e w
 
     -- the type of the expression at record e, in this scope, stands at its slot, and beside it what is to be kept
     pub record RightAt (S : Def.Scope) (s : List ℕ) (e : ℕ) : Type 0 where

@@ -25,6 +25,7 @@ use crate::arguments::source_type;
 use crate::arguments::target_type;
 use crate::exact::find_exact_function;
 use crate::takes::takes_call;
+use crate::turns::NOTHING;
 use keys::keys::name_before;
 use keys::keys::name_head;
 use keys::parts::Part;
@@ -150,9 +151,6 @@ pub(crate) fn resolve_typed(tree: &[u8], text: &[u8], scratch: &[u8], r: usize) 
         Cast::Not => resolve_function(tree, text, scratch, call, place),
     }
 }
-
-// What is kept beside the type of an expression that is no call.
-pub(crate) const NOTHING: usize = 0;
 
 // The record of what a call runs: the function's, or that of the type it casts to.
 pub(crate) fn callee_record(callee: Resolved) -> usize

@@ -1,5 +1,5 @@
 // What is remembered of types, so that each is worked out once (document 02, point 9): an expression's type stands at its slot, with the turn in which it was
-// worked out and, beside it, what a call runs. A turn is a statement, so that a type is only used in the scope that it was worked out in.
+// worked out and, beside it, what a call runs and the type that both sides of a Binary take. A turn is a statement, so that a type is only used in the scope that it was worked out in.
 ghost use mathlib.Core.Path.{_≡_};
 ghost use Prim.Native.Nat.{_+_, _*_, _≤_, _<_};
 ghost use lib.ListN.{length};
@@ -20,6 +20,9 @@ use records::words::put_word;
 const BESIDES: usize = 68;
 
 const BESIDE_BYTES: usize = 4;
+
+// What is kept beside the type of an expression that is neither a call nor a Binary.
+pub(crate) const NOTHING: usize = 0;
 
 // Whether the type of e was worked out in this turn.
 pub(crate) fn is_typed(tree: &[u8], scratch: &[u8], turn: u32, e: usize) -> bool
