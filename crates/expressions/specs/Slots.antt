@@ -13,7 +13,7 @@ use Rattle.laws.specs.Below.{sumBelow}
 use Rattle.laws.specs.Splice.{splice}
 use Rattle.laws.specs.Different.{has}
 use Rattle.records.specs.Layout as Layout
-use Rattle.records.specs.Layout.{endOf, typeSlots, visitCount as besides}
+use Rattle.records.specs.Layout.{endOf, typeSlots, besides}
 use Rattle.records.specs.Words.{byteAt, wordAt, wordOf, kindOf, records, A, B, C, secondWord, fourthWord}
 use Rattle.records.specs.Kinds.{kindBinary, kindCall, kindFunction}
 use Rattle.records.specs.Good.{Good}

@@ -1,5 +1,6 @@
 // What is remembered of types, so that each is worked out once (document 02, point 9): an expression's type stands at its slot, with the turn in which it was
-// worked out and, beside it, what a call runs and the type that both sides of a Binary take. A turn is a statement, so that a type is only used in the scope that it was worked out in.
+// worked out, and beside it what a call runs or the type that both sides of a Binary take. A turn is a statement, so that all this is only used in the scope
+// that it was worked out in.
 ghost use mathlib.Core.Path.{_≡_};
 ghost use Prim.Native.Nat.{_+_, _*_, _≤_, _<_};
 ghost use lib.ListN.{length};
@@ -8,6 +9,8 @@ ghost use Rattle.records.specs.Words.{records};
 ghost use Rattle.expressions.specs.Slots.{inTurn, visitsAt, besideAt, afterVisit, Forgets};
 ghost use Rattle.expressions.specs.Answers.{Keepable, Keeps};
 use crate::answers::ExprType;
+use records::layout::BESIDE_BYTES;
+use records::layout::BESIDES;
 use records::layout::SCRATCH;
 use records::layout::TURN_BYTES;
 use records::layout::TURNS;
@@ -16,10 +19,6 @@ use records::layout::TYPE_SLOTS;
 use records::words::RECORD_BYTES;
 use records::words::load;
 use records::words::put_word;
-
-const BESIDES: usize = 68;
-
-const BESIDE_BYTES: usize = 4;
 
 // What is kept beside the type of an expression that is neither a call nor a Binary.
 pub(crate) const NOTHING: usize = 0;
