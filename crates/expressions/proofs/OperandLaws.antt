@@ -1,21 +1,18 @@
 -- The rules of operators as the code meets them: classes of operands, one operand, two operands, their common type, and what is refused.
 -- By the form of a type, by the cases of a class, and by the tests' answers one after the other. Assumes nothing.
 use mathlib.Core.Path.{_≡_, refl, sym, ap, _∙_, subst}
-use mathlib.Core.Bool.{Bool, true, false, _&&_}
+use mathlib.Core.Bool.{Bool, true, false}
 use mathlib.Core.List.{List, [], _∷_}
 use mathlib.Core.Option.{Option, some}
 use Prim.Native.Nat.{ℕ, zero, suc, _%_, _<_}
 use native.Mathlib.Omega.{arith}
 use lib.Dec.{eqb, leb}
 use lib.ListN.{getD}
-use borrow.Author.Tests.{eqb-true, ne-eqb, leb-true, leb-false}
+use borrow.Author.Tests.{ne-eqb, leb-true, leb-false}
 use Rattle.laws.specs.Fix.{pick}
-use Rattle.laws.proofs.Tests.{and-left}
 use Rattle.records.specs.Words.{kindOf, detailOf, wordOf, records, A, B}
-use Rattle.records.specs.Rules.{twelveDetails, twelveInner}
 use Rattle.records.specs.Good.{Good}
-use Rattle.records.proofs.GoodLaws.{keeps, binary-detail}
-use Rattle.records.proofs.TypeLaws.{first-twelve}
+use Rattle.records.proofs.GoodLaws.{binary-detail}
 use Rattle.syntax.specs.Syntax.{Text, TInt, TFloat, TBool, TChar, TByte, TAddress, TArray, TCustom, TNull, BinaryOp, unaryOps, binaryOps, Neg, Or, place}
 use Rattle.syntax.specs.Decode.{bit, textOf, wideOf, program, typeAt}
 use Rattle.conversion.specs.ConvertError.{ConvertErrorKind, Result, err, WrongOperands, LiteralOutOfRange}
@@ -32,6 +29,7 @@ use Rattle.expressions.specs.declared.operands.Sides.{Sides}
 use Rattle.syntax.specs.Places.{IsExpr, IsKind, TypeAt, exprAt}
 use Rattle.keys.specs.Keys.{allKeys}
 use Rattle.expressions.specs.Answers.{refusal, typeResult, foundNumber, TypeFound, IsTyped, TypeIs, FoundIs, Operands, Accepts}
+use Rattle.expressions.proofs.PartLaws.{first-kind}
 use Rattle.expressions.proofs.TypingLaws.{place-is}
 
 -- a refusal as the answer
@@ -55,20 +53,13 @@ operands-are tree s a l b r e x t y u = subst (Operands tree) (sym e) (record { 
 -- ---- the twelve first types
 
 module _ (tree text : List ℕ) (good : Good tree text) where
-  first-kind : (r : ℕ) → r < records tree → r < 12 → kindOf tree r ≡ 1
-  first-kind r h l =
-      let K = eqb (kindOf tree r) 1 in
-      let D = eqb (detailOf tree r) (getD twelveDetails r 0) in
-      let W = eqb (wordOf tree r A) (getD twelveInner r 0) in
-      eqb-true (kindOf tree r) 1 (and-left K D (and-left (K && D) W (first-twelve tree r l ∙ keeps tree text good r h .first)))
-
   -- behind a record that is no type they all stand
   pub first-type : (e : ℕ) → e < records tree → (kindOf tree e ≡ 1 → ⊥) → (y : ℕ) → y < 12 → TypeAt tree y
   first-type e h n y l = go (leb 12 e) refl
     where
       go : (b : Bool) → leb 12 e ≡ b → TypeAt tree y
-      go true q = let w : y < records tree = omega (arith, leb-true 12 e q) in record { below = w; kind = first-kind y w l }
-      go false q = absurd (n (first-kind e h (leb-false 12 e q)))
+      go true q = let w : y < records tree = omega (arith, leb-true 12 e q) in record { below = w; kind = first-kind tree text good y w l }
+      go false q = absurd (n (first-kind tree text good e h (leb-false 12 e q)))
 
   pub type-of : (y : ℕ) → TypeAt tree y → IsType tree y
   type-of y t = is-type tree text good y (t .below) (t .kind)

@@ -2,19 +2,22 @@
 -- By the cases of nodes, and by induction on a bound of the numbers. Assumes nothing.
 use mathlib.Core.Path.{_≡_, refl, ap, _∙_}
 use mathlib.Core.Logic.{_⊎_, inl, inr}
-use mathlib.Core.Bool.{true, false}
+use mathlib.Core.Bool.{true, false, _&&_}
 use mathlib.Core.List.{List, [], _∷_, _++_}
 use Prim.Native.Nat.{ℕ, zero, suc, _≤_, _<_}
 use native.Mathlib.Omega.{arith}
 use lib.Dec.{eqb, leb, ltb}
+use lib.ListN.{getD}
 use borrow.Author.Tests.{leb-true, ltb-true, ltb-false, eqb-true, eqb-false, ne-eqb}
 use Rattle.laws.specs.Different.{has}
 use Rattle.laws.proofs.Tests.{tested, and-left, and-right}
 use Rattle.laws.proofs.DifferentLaws.{has-append}
 use Rattle.records.specs.declared.shape.Role.the-variants.{Arguments}
-use Rattle.records.specs.Words.{kindOf, wordOf, records, none, A, B, C}
+use Rattle.records.specs.Words.{kindOf, detailOf, wordOf, records, none, A, B, C}
+use Rattle.records.specs.Rules.{twelveDetails, twelveInner}
 use Rattle.records.specs.Good.{Good}
-use Rattle.records.proofs.GoodLaws.{unary-a, binary-a, binary-b, call-c}
+use Rattle.records.proofs.GoodLaws.{keeps, unary-a, binary-a, binary-b, call-c}
+use Rattle.records.proofs.TypeLaws.{first-twelve}
 use Rattle.syntax.specs.Syntax.{Expr, EInt, EFloat, EStr, EBool, EName, ENull, ESizeOf, EUnary, EBinary, ECall, place}
 use Rattle.syntax.specs.Exprs.{exprs, argsExprs, partsExprs}
 use Rattle.syntax.specs.Places.{IsExpr, IsKind, ArgsAt, exprAt, argsAt}
@@ -39,6 +42,17 @@ exprs-parts (ECall r v l) = refl
 module _ (tree text : List ℕ) (good : Good tree text) where
   pub expr-low : (e : ℕ) → IsExpr tree e → e < records tree
   expr-low e x = omega (arith, x .inside)
+
+  -- the twelve first records are types, so that no expression is record 0
+  pub first-kind : (r : ℕ) → r < records tree → r < 12 → kindOf tree r ≡ 1
+  first-kind r h l =
+      let K = eqb (kindOf tree r) 1 in
+      let D = eqb (detailOf tree r) (getD twelveDetails r 0) in
+      let W = eqb (wordOf tree r A) (getD twelveInner r 0) in
+      eqb-true (kindOf tree r) 1 (and-left K D (and-left (K && D) W (first-twelve tree r l ∙ keeps tree text good r h .first)))
+
+  pub expr-behind : (e : ℕ) → IsExpr tree e → 0 < e
+  expr-behind e x = tested (ltb 0 e) (λ q. ltb-true 0 e q) (λ q. absurd (omega (arith, first-kind e (expr-low e x) (omega (arith, ltb-false 0 e q)), leb-true 2 (kindOf tree e) (and-left (leb 2 (kindOf tree e)) (leb (kindOf tree e) 11) (x .expression)))))
 
   -- an expression's record is its place
   pub place-is : (e : ℕ) → IsExpr tree e → place (exprAt tree text e) ≡ e

@@ -25,12 +25,12 @@ use Rattle.syntax.specs.Exprs.{exprs, partsExprs}
 use Rattle.syntax.specs.Places.{IsExpr, TypeAt, exprAt}
 use Rattle.scope.specs.declared.Scope.{Scope}
 use Rattle.scope.specs.Open.{scopeAt}
-use Rattle.expressions.specs.Slots.{slotAt, turnAt, visitsAt, inTurn, made, afterVisit, Frame, typeIn, RightAt, Remembers, Typed, Typing}
+use Rattle.expressions.specs.Slots.{slotAt, turnAt, visitsAt, besideAt, inTurn, made, afterVisit, Frame, typeIn, Beside, RightAt, Remembers, Typed, Typing}
 use Rattle.expressions.specs.declared.answers.ExprType.{ExprType}
 use Rattle.expressions.specs.declared.answers.ExprType.the-variants as ExprType
 use Rattle.expressions.specs.Answers.{typeResult, TypeMeets}
 use Rattle.expressions.proofs.SlotLaws.{put-long, put-byte, put-other, put-here, scope-frame, ready-frame}
-use Rattle.expressions.proofs.PartLaws.{expr-low, own-exprs, own-apart}
+use Rattle.expressions.proofs.PartLaws.{expr-low, expr-behind, own-exprs, own-apart}
 
 -- ---- tests and sums
 
@@ -87,18 +87,24 @@ count-room n e f h a =
 side : (d e : ℕ) → (d ≡ e → ⊥) → (d < e) ⊎ (e < d)
 side d e n = tested (ltb d e) (λ q. inl (ltb-true d e q)) (λ q. inr (omega (arith, ltb-false d e q, n)))
 
-module _ (tree s : List ℕ) (turn e y : ℕ) (low : e < records tree) (room : 72 * records tree ≤ length s) where
+module _ (tree s : List ℕ) (turn e y b : ℕ) (low : e < records tree) (room : 72 * records tree ≤ length s) where
   abbrev slotPlace : ℕ
   slotPlace = 4 * records tree + 4 * e
 
   abbrev turnPlace : ℕ
   turnPlace = 64 * records tree + 4 * e
 
+  abbrev besidePlace : ℕ
+  besidePlace = 68 * records tree + 4 * e
+
   abbrev s₁ : List ℕ
   s₁ = splice s slotPlace (word y)
 
   abbrev s₂ : List ℕ
   s₂ = splice s₁ turnPlace (word turn)
+
+  abbrev s₃ : List ℕ
+  s₃ = splice s₂ besidePlace (word b)
 
   room₀ : slotPlace + 4 ≤ length s
   room₀ = omega arith
@@ -109,15 +115,22 @@ module _ (tree s : List ℕ) (turn e y : ℕ) (low : e < records tree) (room : 7
   long₂ : length s₂ ≡ length s
   long₂ = put-long s₁ turnPlace turn room₁ ∙ put-long s slotPlace y room₀
 
-  room₂ : 68 * records tree + 4 ≤ length s₂
+  room₂ : besidePlace + 4 ≤ length s₂
   room₂ = rw long₂ (omega arith)
 
-  pub visited-frame : Frame tree s (afterVisit tree turn e y s)
+  long₃ : length s₃ ≡ length s
+  long₃ = put-long s₂ besidePlace b room₂ ∙ long₂
+
+  room₃ : 68 * records tree + 4 ≤ length s₃
+  room₃ = rw long₃ (omega arith)
+
+  pub visited-frame : Frame tree s (afterVisit tree turn e y b s)
   unfolding afterVisit
   visited-frame = record {
-    same-length = put-long s₂ (68 * records tree) (visitsAt tree s + 1) room₂ ∙ long₂;
+    same-length = put-long s₃ (68 * records tree) (visitsAt tree s + 1) room₃ ∙ long₃;
     outside = λ i h.
-        put-byte s₂ (68 * records tree) (visitsAt tree s + 1) room₂ i (inl (omega (arith, behind i h)))
+        put-byte s₃ (68 * records tree) (visitsAt tree s + 1) room₃ i (inl (omega (arith, behind i h)))
+        ∙ put-byte s₂ besidePlace b room₂ i (inl (omega (arith, behind i h)))
         ∙ put-byte s₁ turnPlace turn room₁ i (inl (omega (arith, behind i h)))
         ∙ put-byte s slotPlace y room₀ i (away i h);
   }
@@ -130,29 +143,37 @@ module _ (tree s : List ℕ) (turn e y : ℕ) (low : e < records tree) (room : 7
       away i (inl h) = inl (omega arith)
       away i (inr h) = inr (omega (arith, h .0))
 
-  -- a word apart from the turns' and the count
-  in-slots : (q : ℕ) → q + 4 ≤ 64 * records tree → wordAt (afterVisit tree turn e y s) q ≡ wordAt s₁ q
+  -- a word before the count's region, and one before the turns
+  in-turns : (q : ℕ) → q + 4 ≤ 68 * records tree → wordAt (afterVisit tree turn e y b s) q ≡ wordAt s₂ q
   unfolding afterVisit
-  in-slots q h =
-      put-other s₂ (68 * records tree) (visitsAt tree s + 1) room₂ q (inl (omega arith))
-      ∙ put-other s₁ turnPlace turn room₁ q (inl (omega arith))
+  in-turns q h =
+      put-other s₃ (68 * records tree) (visitsAt tree s + 1) room₃ q (inl (omega arith))
+      ∙ put-other s₂ besidePlace b room₂ q (inl (omega arith))
 
-  pub visited-slot : y < 2 ^ 32 → slotAt tree (afterVisit tree turn e y s) e ≡ y
+  in-slots : (q : ℕ) → q + 4 ≤ 64 * records tree → wordAt (afterVisit tree turn e y b s) q ≡ wordAt s₁ q
+  in-slots q h = in-turns q (omega arith) ∙ put-other s₁ turnPlace turn room₁ q (inl (omega arith))
+
+  pub visited-slot : y < 2 ^ 32 → slotAt tree (afterVisit tree turn e y b s) e ≡ y
   unfolding slotAt
   visited-slot h = in-slots slotPlace (omega arith) ∙ put-here s slotPlace y room₀ h
 
-  pub visited-turn : turn < 2 ^ 32 → turnAt tree (afterVisit tree turn e y s) e ≡ turn
-  unfolding turnAt afterVisit
-  visited-turn h =
-      put-other s₂ (68 * records tree) (visitsAt tree s + 1) room₂ turnPlace (inl (omega arith))
-      ∙ put-here s₁ turnPlace turn room₁ h
+  pub visited-turn : turn < 2 ^ 32 → turnAt tree (afterVisit tree turn e y b s) e ≡ turn
+  unfolding turnAt
+  visited-turn h = in-turns turnPlace (omega arith) ∙ put-here s₁ turnPlace turn room₁ h
 
-  pub visited-visits : visitsAt tree s + 1 < 2 ^ 32 → visitsAt tree (afterVisit tree turn e y s) ≡ visitsAt tree s + 1
+  -- the count has record 0's slot
+  pub visited-beside : 0 < e → b < 2 ^ 32 → besideAt tree (afterVisit tree turn e y b s) e ≡ b
+  unfolding besideAt afterVisit
+  visited-beside g h =
+      put-other s₃ (68 * records tree) (visitsAt tree s + 1) room₃ besidePlace (inr (omega arith))
+      ∙ put-here s₂ besidePlace b room₂ h
+
+  pub visited-visits : visitsAt tree s + 1 < 2 ^ 32 → visitsAt tree (afterVisit tree turn e y b s) ≡ visitsAt tree s + 1
   unfolding afterVisit visitsAt
-  visited-visits h = put-here s₂ (68 * records tree) (visitsAt tree s + 1) room₂ h
+  visited-visits h = put-here s₃ (68 * records tree) (visitsAt tree s + 1) room₃ h
 
   module _ (d : ℕ) (inside : d < records tree) (apart : d ≡ e → ⊥) where
-    pub other-slot : slotAt tree (afterVisit tree turn e y s) d ≡ slotAt tree s d
+    pub other-slot : slotAt tree (afterVisit tree turn e y b s) d ≡ slotAt tree s d
     unfolding slotAt
     other-slot = in-slots (4 * records tree + 4 * d) (omega arith) ∙ put-other s slotPlace y room₀ (4 * records tree + 4 * d) (away (side d e apart))
       where
@@ -160,10 +181,10 @@ module _ (tree s : List ℕ) (turn e y : ℕ) (low : e < records tree) (room : 7
         away (inl h) = inl (omega arith)
         away (inr h) = inr (omega arith)
 
-    pub other-turn : turnAt tree (afterVisit tree turn e y s) d ≡ turnAt tree s d
-    unfolding turnAt afterVisit
+    pub other-turn : turnAt tree (afterVisit tree turn e y b s) d ≡ turnAt tree s d
+    unfolding turnAt
     other-turn =
-        put-other s₂ (68 * records tree) (visitsAt tree s + 1) room₂ (64 * records tree + 4 * d) (inl (omega arith))
+        in-turns (64 * records tree + 4 * d) (omega arith)
         ∙ put-other s₁ turnPlace turn room₁ (64 * records tree + 4 * d) (away (side d e apart))
         ∙ put-other s slotPlace y room₀ (64 * records tree + 4 * d) (inr (omega arith))
       where
@@ -171,11 +192,34 @@ module _ (tree s : List ℕ) (turn e y : ℕ) (low : e < records tree) (room : 7
         away (inl h) = inl (omega arith)
         away (inr h) = inr (omega arith)
 
--- the three words one after the other
-pub visit-is : (tree s : List ℕ) (turn e y v : ℕ) → v ≡ visitsAt tree s → (s₁ s₂ s₃ : List ℕ) → s₁ ≡ splice s (4 * records tree + 4 * e) (word y)
-    → s₂ ≡ splice s₁ (64 * records tree + 4 * e) (word turn) → s₃ ≡ splice s₂ (68 * records tree) (word (v + 1)) → s₃ ≡ afterVisit tree turn e y s
+    pub other-beside : 0 < d → besideAt tree (afterVisit tree turn e y b s) d ≡ besideAt tree s d
+    unfolding besideAt afterVisit
+    other-beside g =
+        put-other s₃ (68 * records tree) (visitsAt tree s + 1) room₃ (68 * records tree + 4 * d) (inr (omega arith))
+        ∙ put-other s₂ besidePlace b room₂ (68 * records tree + 4 * d) (away (side d e apart))
+        ∙ put-other s₁ turnPlace turn room₁ (68 * records tree + 4 * d) (inr (omega arith))
+        ∙ put-other s slotPlace y room₀ (68 * records tree + 4 * d) (inr (omega arith))
+      where
+        away : (d < e) ⊎ (e < d) → (68 * records tree + 4 * d + 4 ≤ besidePlace) ⊎ (besidePlace + 4 ≤ 68 * records tree + 4 * d)
+        away (inl h) = inl (omega arith)
+        away (inr h) = inr (omega arith)
+
+-- the four words one after the other
+pub visit-is : (tree s : List ℕ) (turn e y b v : ℕ) → v ≡ visitsAt tree s → (s₁ s₂ s₃ s₄ : List ℕ) → s₁ ≡ splice s (4 * records tree + 4 * e) (word y)
+    → s₂ ≡ splice s₁ (64 * records tree + 4 * e) (word turn) → s₃ ≡ splice s₂ (68 * records tree + 4 * e) (word b)
+    → s₄ ≡ splice s₃ (68 * records tree) (word (v + 1)) → s₄ ≡ afterVisit tree turn e y b s
 unfolding afterVisit
-visit-is tree s turn e y v ev s₁ s₂ s₃ e₁ e₂ e₃ = rw (e₃, e₂, e₁, ev)
+visit-is tree s turn e y b v ev s₁ s₂ s₃ s₄ e₁ e₂ e₃ e₄ = rw (e₄, e₃, e₂, e₁, ev)
+
+-- what stands at the slot of an expression and beside it, once it is known to be right
+pub right-moved : (tree text : List ℕ) (S : Def.Scope) (s : List ℕ) (e y b : ℕ) → IsExpr tree e → slotAt tree s e ≡ y → besideAt tree s e ≡ b → typeIn tree text S e ≡ ok y
+    → TypeAt tree y → Beside tree text S e b → RightAt tree text S s e
+right-moved tree text S s e y b x q p is at held = record {
+  expression = x;
+  is = is ∙ ap (λ (z : ℕ). ok z) (sym q);
+  type = subst (λ (z : ℕ). TypeAt tree z) (sym q) at;
+  beside = subst (Beside tree text S e) (sym p) held;
+}
 
 -- ---- what was typed
 
@@ -225,14 +269,21 @@ module _ (tree text : List ℕ) (S : Def.Scope) (turn : ℕ) where
     pub hit-right : RightAt tree text S s e
     hit-right = m .right e h (turn-in s e q)
 
-    pub hit-typed : Typed tree text S turn s (exprs (exprAt tree text e)) s
-    hit-typed = record {
+    hit-some : (l : List ℕ) → ((r : ℕ) → has r l ≡ true → has r (exprs (exprAt tree text e)) ≡ true) → Typed tree text S turn s l s
+    hit-some l some = record {
       remembers = m;
-      adds = λ r l. tested (has r (exprs (exprAt tree text e)))
-          (λ z. rw (z, in-turn s r (m .below e h (turn-in s e q) r l z)))
+      adds = λ r i. tested (has r l)
+          (λ z. rw (z, in-turn s r (m .below e h (turn-in s e q) r i (some r z))))
           (λ z. rw z (sym (or-false (inTurn tree turn s r))));
       counts = refl;
     }
+
+    pub hit-typed : Typed tree text S turn s (exprs (exprAt tree text e)) s
+    hit-typed = hit-some (exprs (exprAt tree text e)) (λ r z. z)
+
+    pub hit-parts : Good tree text → IsExpr tree e → Typed tree text S turn s (partsExprs (exprAt tree text e)) s
+    unfolding has
+    hit-parts good x = hit-some (partsExprs (exprAt tree text e)) (λ r z. rw (own-exprs tree text good e x, z) (or-true (eqb r e)))
 
   -- a visit, once the parts are typed
   module _ (good : Good tree text) (s s₁ : List ℕ) (e : ℕ) (x : IsExpr tree e) (room : 72 * records tree ≤ length s₁)
@@ -247,21 +298,24 @@ module _ (tree text : List ℕ) (S : Def.Scope) (turn : ℕ) where
     unfolding made
     visit-fits = omega (arith, t .remembers .countable, count-room (records tree) e (inTurn tree turn s₁) low not-yet)
 
-    module _ (y : ℕ) (fit : turn < 4294967296) (is : typeIn tree text S e ≡ ok y) (at : TypeAt tree y) where
+    module _ (y b : ℕ) (fit : turn < 4294967296) (is : typeIn tree text S e ≡ ok y) (at : TypeAt tree y) (held : (b < 4294967296) × Beside tree text S e b) where
       abbrev after : List ℕ
-      after = afterVisit tree turn e y s₁
+      after = afterVisit tree turn e y b s₁
 
       here-slot : slotAt tree after e ≡ y
-      here-slot = visited-slot tree s₁ turn e y low room (omega (arith, at .below, good .few))
+      here-slot = visited-slot tree s₁ turn e y b low room (omega (arith, at .below, good .few))
 
       here-turn : turnAt tree after e ≡ turn
-      here-turn = visited-turn tree s₁ turn e y low room fit
+      here-turn = visited-turn tree s₁ turn e y b low room fit
+
+      here-beside : besideAt tree after e ≡ b
+      here-beside = visited-beside tree s₁ turn e y b low room (expr-behind tree text good e x) (held .0)
 
       slot-other : (r : ℕ) → r < records tree → (r ≡ e → ⊥) → slotAt tree after r ≡ slotAt tree s₁ r
-      slot-other = other-slot tree s₁ turn e y low room
+      slot-other = other-slot tree s₁ turn e y b low room
 
       turn-other : (r : ℕ) → r < records tree → (r ≡ e → ⊥) → turnAt tree after r ≡ turnAt tree s₁ r
-      turn-other = other-turn tree s₁ turn e y low room
+      turn-other = other-turn tree s₁ turn e y b low room
 
       in-other : (r : ℕ) → r < records tree → (r ≡ e → ⊥) → inTurn tree turn after r ≡ inTurn tree turn s₁ r
       unfolding inTurn
@@ -272,7 +326,7 @@ module _ (tree text : List ℕ) (S : Def.Scope) (turn : ℕ) where
       one-more = count-more (records tree) e (inTurn tree turn s₁) (inTurn tree turn after) low not-yet (in-turn after e here-turn) in-other
 
       one-visit : visitsAt tree after ≡ visitsAt tree s₁ + 1
-      one-visit = visited-visits tree s₁ turn e y low room visit-fits
+      one-visit = visited-visits tree s₁ turn e y b low room visit-fits
 
       by : {P : Type 0} (r : ℕ) → (r ≡ e → P) → ((r ≡ e → ⊥) → P) → P
       by r same other = tested (eqb r e) (λ q. same (eqb-true r e q)) (λ q. other (eqb-false r e q))
@@ -282,14 +336,11 @@ module _ (tree text : List ℕ) (S : Def.Scope) (turn : ℕ) where
       stays r h q = by r (λ z. ap (turnAt tree after) z ∙ here-turn) (λ n. turn-other r h n ∙ q)
 
       right-here : RightAt tree text S after e
-      right-here = record { expression = x; is = is ∙ ap (λ (z : ℕ). ok z) (sym here-slot); type = subst (λ (z : ℕ). TypeAt tree z) (sym here-slot) at }
+      right-here = right-moved tree text S after e y b x here-slot here-beside is at (held .1)
 
-      right-other : (r : ℕ) → slotAt tree after r ≡ slotAt tree s₁ r → RightAt tree text S s₁ r → RightAt tree text S after r
-      right-other r q g = record {
-        expression = g .expression;
-        is = g .is ∙ ap (λ (z : ℕ). ok z) (sym q);
-        type = subst (λ (z : ℕ). TypeAt tree z) (sym q) (g .type);
-      }
+      right-other : (r : ℕ) → r < records tree → (r ≡ e → ⊥) → RightAt tree text S s₁ r → RightAt tree text S after r
+      right-other r h n g = right-moved tree text S after r (slotAt tree s₁ r) (besideAt tree s₁ r) (g .expression) (slot-other r h n)
+          (other-beside tree s₁ turn e y b low room r h n (expr-behind tree text good r (g .expression))) (g .is) (g .type) (g .beside)
 
       part-in : (r : ℕ) → r < records tree → has r (partsExprs (exprAt tree text e)) ≡ true → turnAt tree after r ≡ turn
       part-in r h q = stays r h (typed-in s (partsExprs (exprAt tree text e)) s₁ t r h q)
@@ -302,7 +353,7 @@ module _ (tree text : List ℕ) (S : Def.Scope) (turn : ℕ) where
       visit-remembers : Remembers tree text S turn after
       visit-remembers = record {
         right = λ d h q. by d (λ z. subst (RightAt tree text S after) (sym z) right-here)
-            (λ n. right-other d (slot-other d h n) (t .remembers .right d h (sym (turn-other d h n) ∙ q)));
+            (λ n. right-other d h n (t .remembers .right d h (sym (turn-other d h n) ∙ q)));
         below = λ d h q r l k. by d (λ z. below-here r l (rw (← z) k))
             (λ n. stays r l (t .remembers .below d h (sym (turn-other d h n) ∙ q) r l k));
         latest = λ d h. by d (λ z. omega (arith, ap (turnAt tree after) z, here-turn)) (λ n. omega (arith, turn-other d h n, t .remembers .latest d h));

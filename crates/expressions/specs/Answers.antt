@@ -9,11 +9,11 @@ use Rattle.records.specs.Layout.{scratchEach}
 use Rattle.records.specs.Words.{detailOf, wordOf, records, A, B, C}
 use Rattle.records.specs.declared.convert_error.ConvertError.{ConvertError}
 use Rattle.syntax.specs.Syntax.{Value, ToType, Function, Neg, Or, unaryOps, binaryOps}
-use Rattle.syntax.specs.Decode.{program, textOf}
+use Rattle.syntax.specs.Decode.{program}
 use Rattle.syntax.specs.Exprs.{exprs, argsExprs, partsExprs}
 use Rattle.conversion.specs.ConvertError.{Result, ok, err, _>>=_}
 use Rattle.conversion.specs.Expressions as Defined
-use Rattle.conversion.specs.Expressions.{Callee, CallFunction, CallCast, return-type, valueType, get-argument-types, resolve-call, common-type, OperandClass, acceptsClass, unaryType, binaryError, binaryType}
+use Rattle.conversion.specs.Expressions.{Callee, CallFunction, CallCast, return-type, valueType, get-argument-types, common-type, OperandClass, acceptsClass, unaryType, binaryError, binaryType}
 use Rattle.records.specs.declared.words.Found.{Found}
 use Rattle.records.specs.declared.words.Found.the-variants as Found
 use Rattle.scope.specs.declared.Scope.{Scope}
@@ -36,7 +36,7 @@ use Rattle.expressions.specs.declared.arguments.Argument.{Argument}
 use Rattle.expressions.specs.declared.arguments.Argument.the-variants as Argument
 use Rattle.syntax.specs.Places.{IsExpr, TypeAt, FunctionAt, functionOf, exprAt, argsAt}
 use Rattle.keys.specs.Keys.{allKeys}
-use Rattle.expressions.specs.Slots.{visitsAt, afterVisit, slotted, ArgsTyped, Frame, Typed, typeIn}
+use Rattle.expressions.specs.Slots.{visitsAt, afterVisit, slotted, ArgsTyped, Frame, Typed, typeIn, calleeIn, Beside}
 
 -- a refusal
 unfoldable pub refusal : {A : Type 0} → ConvertError → Result A
@@ -74,6 +74,11 @@ commonResult (Common.Refused e) = refusal e
 unfoldable pub foundNumber : Found → Option ℕ
 foundNumber (Found.At y) = some y
 foundNumber Found.Nothing = none
+
+-- the word that is kept of it
+unfoldable pub foundRecord : Found → ℕ
+foundRecord (Found.At y) = y
+foundRecord Found.Nothing = 0
 
 -- a type that was found is one
 pub data TypeFound (tree : List ℕ) : Found → Type 0 where
@@ -128,6 +133,12 @@ pub data IsCallee (tree : List ℕ) : Resolved → Type 0 where
   a-function : {f : ℕ} → FunctionAt tree f → IsCallee tree (Resolved.Function f)
   a-cast : {y : ℕ} → TypeAt tree y → IsCallee tree (Resolved.Cast y)
   no : {e : ConvertError} → IsCallee tree (Resolved.Refused e)
+
+-- the record of what a call runs
+unfoldable pub calleeRecord : Resolved → ℕ
+calleeRecord (Resolved.Function f) = f
+calleeRecord (Resolved.Cast y) = y
+calleeRecord (Resolved.Refused e) = 0
 
 -- ---- an answer with what it stands for
 
@@ -194,21 +205,22 @@ module _ (tree text : List ℕ) where
 -- ---- what typing owes, of the answer and of the scratch before and after, in the scope that the open names stand for. Where nothing is refused it says
 -- which expressions were typed
 
--- the type of the expression at record e, worked out from its parts, before it is kept
-pub record WorksOut (tree text s : List ℕ) (sc : Scope) (turn e : ℕ) (a : ExprType) (s′ : List ℕ) : Type 0 where
+-- the type of the expression at record e, worked out from its parts, before it is kept, and b beside it
+pub record WorksOut (tree text s : List ℕ) (sc : Scope) (turn e : ℕ) (a : ExprType) (b : ℕ) (s′ : List ℕ) : Type 0 where
   pub frame : Frame tree s s′
   pub typed : IsTyped tree a
   pub meets : typeIn tree text (scopeAt tree text s sc) e ≡ typeResult a
   pub adds : (y : ℕ) → a ≡ ExprType.Is y → Typed tree text (scopeAt tree text s sc) turn s (partsExprs (exprAt tree text e)) s′
+  pub beside : (y : ℕ) → a ≡ ExprType.Is y → (b < 4294967296) × Beside tree text (scopeAt tree text s sc) e b
 
 -- what that came to can be kept, and is: a type by a visit, and a refusal leaves the scratch as it was
-pub record Keepable (tree : List ℕ) (e : ℕ) (a : ExprType) (s : List ℕ) : Type 0 where
+pub record Keepable (tree : List ℕ) (e : ℕ) (a : ExprType) (b : ℕ) (s : List ℕ) : Type 0 where
   pub fits : (y : ℕ) → a ≡ ExprType.Is y
-      → ((e < records tree) × (scratchEach * records tree ≤ length s) × (y < 4294967296)) × (visitsAt tree s + 1 < 4294967296)
+      → ((e < records tree) × (scratchEach * records tree ≤ length s) × (y < 4294967296) × (b < 4294967296)) × (visitsAt tree s + 1 < 4294967296)
 
-pub record Keeps (tree : List ℕ) (turn e : ℕ) (a : ExprType) (s : List ℕ) (r : ExprType) (s′ : List ℕ) : Type 0 where
+pub record Keeps (tree : List ℕ) (turn e : ℕ) (a : ExprType) (b : ℕ) (s : List ℕ) (r : ExprType) (s′ : List ℕ) : Type 0 where
   pub same : r ≡ a
-  pub type : (y : ℕ) → a ≡ ExprType.Is y → s′ ≡ afterVisit tree turn e y s
+  pub type : (y : ℕ) → a ≡ ExprType.Is y → s′ ≡ afterVisit tree turn e y b s
   pub refused : (x : ConvertError) → a ≡ ExprType.Refused x → s′ ≡ s
 
 -- `get_type` of the expression at record e
@@ -230,8 +242,7 @@ pub record ArgsMeet (tree text s : List ℕ) (sc : Scope) (turn w : ℕ) (a : Ou
 pub record CallMeets (tree text s : List ℕ) (sc : Scope) (turn r : ℕ) (a : Resolved) (s′ : List ℕ) : Type 0 where
   pub frame : Frame tree s s′
   pub callee : IsCallee tree a
-  pub meets : resolve-call (program tree text) (allKeys tree text) (textOf tree text r A) (argsAt tree text (wordOf tree r C)) (scopeAt tree text s sc) r
-      ≡ calleeOf tree text a
+  pub meets : calleeIn tree text (scopeAt tree text s sc) r ≡ calleeOf tree text a
   pub adds : (c : Callee) → calleeOf tree text a ≡ ok c → Typed tree text (scopeAt tree text s sc) turn s (argsExprs (argsAt tree text (wordOf tree r C))) s′
 
 -- `common_type` of the expressions at records l and r
@@ -240,3 +251,7 @@ pub record CommonMeets (tree text s : List ℕ) (sc : Scope) (turn l r : ℕ) (a
   pub common : IsCommon tree a
   pub meets : common-type (program tree text) (allKeys tree text) (exprAt tree text l) (exprAt tree text r) (scopeAt tree text s sc) ≡ commonResult a
   pub adds : (o : Option ℕ) → commonResult a ≡ ok o → Typed tree text (scopeAt tree text s sc) turn s (exprs (exprAt tree text l) ++ exprs (exprAt tree text r)) s′
+
+-- `common_type` of both sides of the Binary at record e
+abbrev pub SidesMeet : List ℕ → List ℕ → List ℕ → Scope → ℕ → ℕ → Common → List ℕ → Type 0
+SidesMeet tree text s sc turn e a s′ = CommonMeets tree text s sc turn (wordOf tree e A) (wordOf tree e B) a s′

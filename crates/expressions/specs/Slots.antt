@@ -5,7 +5,7 @@ use mathlib.Core.Logic.{_⊎_}
 use Prim.Native.Nat.{ℕ, _+_, _*_, _/_, _≤_, _<_}
 use mathlib.Core.Bool.{Bool, true, _||_}
 use mathlib.Core.List.{List, [], _∷_}
-use mathlib.Core.Option.{none, some}
+use mathlib.Core.Option.{Option, none, some}
 use lib.Dec.{eqb}
 use lib.ListN.{length}
 use Rattle.laws.specs.Fix.{pick}
@@ -13,21 +13,22 @@ use Rattle.laws.specs.Below.{sumBelow}
 use Rattle.laws.specs.Splice.{splice}
 use Rattle.laws.specs.Different.{has}
 use Rattle.records.specs.Layout as Layout
-use Rattle.records.specs.Layout.{endOf, typeSlots, visitCount}
-use Rattle.records.specs.Words.{byteAt, wordAt, wordOf, records, A, B, secondWord, fourthWord}
+use Rattle.records.specs.Layout.{endOf, typeSlots, besides}
+use Rattle.records.specs.Words.{byteAt, wordAt, wordOf, kindOf, records, A, B, C, secondWord, fourthWord}
+use Rattle.records.specs.Kinds.{kindBinary, kindCall, kindFunction}
 use Rattle.records.specs.Good.{Good}
 use Rattle.syntax.specs.Syntax.{Args, noArgs, Value, ToType, place}
-use Rattle.syntax.specs.Decode.{program}
+use Rattle.syntax.specs.Decode.{program, textOf}
 use Rattle.syntax.specs.Exprs.{exprs}
 use Rattle.conversion.specs.ConvertError.{Result, ok}
 use Rattle.conversion.specs.Scope as Def
-use Rattle.conversion.specs.Expressions.{TypedArg, get-type}
+use Rattle.conversion.specs.Expressions.{TypedArg, Callee, CallFunction, CallCast, get-type, resolve-call, common-type}
 use Rattle.conversion.specs.Written.{word}
 use Rattle.ir.specs.declared.structs.VarId.{VarId}
 use Rattle.scope.specs.declared.Scope.{Scope}
 use Rattle.scope.specs.declared.Declared.{Declared}
 use Rattle.scope.specs.Open.{NamesRoom, openNameAt, nameSlotAt, scopeAt, DeclareMeets}
-use Rattle.syntax.specs.Places.{IsExpr, TypeAt, exprAt}
+use Rattle.syntax.specs.Places.{IsExpr, TypeAt, FunctionAt, functionOf, exprAt, argsAt}
 use Rattle.texts.specs.Texts.{hasOwn, originalAt, Numbered}
 use Rattle.keys.specs.Keys.{allKeys, Keyed}
 
@@ -43,6 +44,10 @@ typeSlotAt n e = typeSlots .from * n + typeSlots .each * e
 abbrev pub turnSlotAt : ℕ → ℕ → ℕ
 turnSlotAt n e = Layout.turns .from * n + Layout.turns .each * e
 
+-- and where what is kept beside its type
+abbrev pub besideSlotAt : ℕ → ℕ → ℕ
+besideSlotAt n e = besides .from * n + besides .each * e
+
 module _ (tree : List ℕ) where
   -- 'the types of expressions: a word at the slot of the expression's record'
   unfoldable pub slotAt : List ℕ → ℕ → ℕ
@@ -56,7 +61,12 @@ module _ (tree : List ℕ) where
 
   unfoldable pub visitsAt : List ℕ → ℕ
   unfolding wordAt
-  visitsAt s = wordAt s (visitCount .from * records tree)
+  visitsAt s = wordAt s (besides .from * records tree)
+
+  -- what is kept beside its type: a word at the slot of its record
+  unfoldable pub besideAt : List ℕ → ℕ → ℕ
+  unfolding wordAt
+  besideAt s e = wordAt s (besideSlotAt (records tree) e)
 
   -- the type of record e was worked out in this turn; how many were
   unfoldable pub inTurn : ℕ → List ℕ → ℕ → Bool
@@ -67,12 +77,12 @@ module _ (tree : List ℕ) where
   unfolding inTurn sumBelow pick
   made turn s = sumBelow (records tree) (λ e. pick (inTurn turn s e) 1 0)
 
-  -- a visit: the type y of record e is worked out in this turn
-  unfoldable pub afterVisit : ℕ → ℕ → ℕ → List ℕ → List ℕ
+  -- a visit: the type y of record e is worked out in this turn, and b kept beside it
+  unfoldable pub afterVisit : ℕ → ℕ → ℕ → ℕ → List ℕ → List ℕ
   unfolding visitsAt splice word
-  afterVisit turn e y s =
-      splice (splice (splice s (typeSlotAt (records tree) e) (word y)) (turnSlotAt (records tree) e) (word turn)) (visitCount .from * records tree)
-      (word (visitsAt s + 1))
+  afterVisit turn e y b s =
+      splice (splice (splice (splice s (typeSlotAt (records tree) e) (word y)) (turnSlotAt (records tree) e) (word turn)) (besideSlotAt (records tree) e) (word b))
+      (besides .from * records tree) (word (visitsAt s + 1))
 
   -- the arguments with the types that the slots have
   unfoldable pub slotted : List ℕ → Args → List TypedArg
@@ -131,11 +141,38 @@ module _ (tree : List ℕ) where
     unfolding get-type exprAt program allKeys
     typeIn S e = get-type (program tree text) (allKeys tree text) (exprAt tree text e) S
 
-    -- the type of the expression at record e, in this scope, stands at its slot
+    -- what the call at record e runs
+    abbrev pub calleeIn : Def.Scope → ℕ → Result Callee
+    calleeIn S e = resolve-call (program tree text) (allKeys tree text) (textOf tree text e A) (argsAt tree text (wordOf tree e C)) S e
+
+    -- what a call runs, by the record of it: a function, or a cast to a type
+    unfoldable pub calleeAt : ℕ → Callee
+    unfolding pick functionOf
+    calleeAt w = pick (eqb (kindOf tree w) kindFunction) (CallFunction (functionOf tree text w)) (CallCast w)
+
+    pub record Callable (S : Def.Scope) (e w : ℕ) : Type 0 where
+      pub is : calleeIn S e ≡ ok (calleeAt w)
+      pub place : FunctionAt tree w ⊎ TypeAt tree w
+
+    -- the type that both sides of the Binary at record e take, and that it is w
+    abbrev pub commonIn : Def.Scope → ℕ → Result (Option ℕ)
+    commonIn S e = common-type (program tree text) (allKeys tree text) (exprAt tree text (wordOf tree e A)) (exprAt tree text (wordOf tree e B)) S
+
+    pub record Shared (S : Def.Scope) (e w : ℕ) : Type 0 where
+      pub is : commonIn S e ≡ ok (some w)
+      pub type : TypeAt tree w
+
+    -- the word w can be kept beside the type of record e: beside a call's what it runs, beside a Binary's the type that both sides take
+    pub record Beside (S : Def.Scope) (e w : ℕ) : Type 0 where
+      pub callee : kindOf tree e ≡ kindCall → Callable S e w
+      pub common : kindOf tree e ≡ kindBinary → Shared S e w
+
+    -- the type of the expression at record e, in this scope, stands at its slot, and beside it what is to be kept
     pub record RightAt (S : Def.Scope) (s : List ℕ) (e : ℕ) : Type 0 where
       pub expression : IsExpr tree e
       pub is : typeIn S e ≡ ok (slotAt s e)
       pub type : TypeAt tree (slotAt s e)
+      pub beside : Beside S e (besideAt s e)
 
     -- what was worked out in this turn, in this scope: it is right, and so is all below it; no later turn has begun, and visits can be counted on
     pub record Remembers (S : Def.Scope) (turn : ℕ) (s : List ℕ) : Type 0 where

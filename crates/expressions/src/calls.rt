@@ -1,18 +1,21 @@
 // expressions.rs: what a call runs, once its arguments' types stand in scratch.
 ghost use mathlib.Core.Path.{_≡_};
-ghost use Prim.Native.Nat.{_*_, _≤_};
+ghost use mathlib.Core.Logic.{_⊎_};
+ghost use Prim.Native.Nat.{ℕ, _*_, _≤_};
+ghost use mathlib.Core.List.{List};
 ghost use lib.ListN.{length};
 ghost use Rattle.records.specs.Layout.{scratchEach};
 ghost use Rattle.records.specs.Words as Words;
-ghost use Rattle.records.specs.Words.{records, wordOf};
+ghost use Rattle.records.specs.Words.{recordBytes, records, wordOf};
 ghost use Rattle.records.specs.Kinds.{kindCall};
 ghost use Rattle.records.specs.Good.{Good};
-ghost use Rattle.syntax.specs.Places.{IsKind, argsAt};
+ghost use Rattle.syntax.specs.Places.{IsKind, TypeAt, FunctionAt, argsAt};
+ghost use Rattle.conversion.specs.ConvertError.{ok};
 ghost use Rattle.texts.specs.Texts.{Numbered};
 ghost use Rattle.keys.specs.Keys.{Keyed};
-ghost use Rattle.expressions.specs.Slots.{ArgsTyped};
+ghost use Rattle.expressions.specs.Slots.{ArgsTyped, calleeAt};
 ghost use Rattle.expressions.specs.Calls.{Called, CallAt, literalFits, castTypeOf, functionFor, resolvedAt};
-ghost use Rattle.expressions.specs.Answers.{CandidatesAre, CastIs, CalleeIs};
+ghost use Rattle.expressions.specs.Answers.{calleeRecord, CandidatesAre, CastIs, CalleeIs};
 use crate::answers::Candidates;
 use crate::answers::Cast;
 use crate::answers::Resolved;
@@ -22,6 +25,7 @@ use crate::arguments::source_type;
 use crate::arguments::target_type;
 use crate::exact::find_exact_function;
 use crate::takes::takes_call;
+use crate::turns::NOTHING;
 use keys::keys::name_before;
 use keys::keys::name_head;
 use keys::parts::Part;
@@ -29,10 +33,12 @@ use keys::parts::is_cast_verb;
 use keys::parts::text_part;
 use records::convert_error::ConvertError;
 use records::convert_error::ConvertErrorKind;
+use records::numbers::KIND_FUNCTION;
 use records::words::Found;
 use records::words::RECORD_BYTES;
 use records::words::WORD_A;
 use records::words::WORD_C;
+use records::words::kind;
 use records::words::reference;
 use texts::original;
 use types::casts::can_cast;
@@ -144,4 +150,27 @@ pub(crate) fn resolve_typed(tree: &[u8], text: &[u8], scratch: &[u8], r: usize) 
         Cast::To(y) => Resolved::Cast(y),
         Cast::Not => resolve_function(tree, text, scratch, call, place),
     }
+}
+
+// The record of what a call runs: the function's, or that of the type it casts to.
+pub(crate) fn callee_record(callee: Resolved) -> usize
+    ensures { λ b. ⌜ b ≡ calleeRecord callee ⌝ }
+{
+    match callee {
+        Resolved::Function(f) => f,
+        Resolved::Cast(y) => y,
+        Resolved::Refused(_) => NOTHING,
+    }
+}
+
+// What a call runs, by that record.
+pub(crate) fn callee_at(tree: &[u8], b: usize) -> Resolved
+    requires { ⌜ FunctionAt (now tree) b ⊎ TypeAt (now tree) b ⌝ }
+    requires { ⌜ length (now tree) ≡ records (now tree) * recordBytes ⌝ }
+    ensures { λ a. ⌜ ((text : List ℕ) → CalleeIs (now (tree .entry)) text a (ok (calleeAt (now (tree .entry)) text b))) ⌝ }
+{
+    if kind(tree, b) == KIND_FUNCTION {
+        return Resolved::Function(b);
+    }
+    Resolved::Cast(b)
 }

@@ -5,10 +5,10 @@ ghost use mathlib.Core.Path.{_≡_};
 ghost use mathlib.Core.Bool.{false};
 ghost use Rattle.records.specs.Words as Words;
 ghost use Rattle.records.specs.Words.{wordOf};
-ghost use Rattle.records.specs.Kinds.{kindCall};
+ghost use Rattle.records.specs.Kinds.{kindBinary, kindCall};
 ghost use Rattle.syntax.specs.Places.{IsExpr, IsKind};
 ghost use Rattle.expressions.specs.Slots.{inTurn, Typing};
-ghost use Rattle.expressions.specs.Answers.{TypeMeets, ArgsMeet, CallMeets, CommonMeets};
+ghost use Rattle.expressions.specs.Answers.{TypeMeets, ArgsMeet, CallMeets, CommonMeets, SidesMeet};
 use crate::answers::Common;
 use crate::answers::ExprType;
 use crate::answers::Outcome;
@@ -18,13 +18,18 @@ use crate::arguments::END;
 use crate::arguments::argument_at;
 use crate::arguments::next_cell;
 use crate::arguments::slot;
+use crate::calls::callee_at;
+use crate::calls::callee_record;
 use crate::calls::resolve_typed;
 use crate::operands::binary_type;
 use crate::operands::both_sides;
 use crate::operands::common_of;
+use crate::operands::found_record;
 use crate::operands::leaf_type;
 use crate::operands::unary_type;
 use crate::operands::value_type;
+use crate::turns::NOTHING;
+use crate::turns::beside;
 use crate::turns::is_typed;
 use crate::turns::keep;
 use records::numbers::KIND_BINARY;
@@ -75,7 +80,14 @@ fn work_out(
     if k == KIND_UNARY {
         return match get_type(tree, text, scratch, scope, turn, left) {
             ExprType::Refused(x) => ExprType::Refused(x),
-            ExprType::Is(ty) => keep(tree, scratch, turn, e, unary_type(tree, text, e, ty)),
+            ExprType::Is(ty) => keep(
+                tree,
+                scratch,
+                turn,
+                e,
+                unary_type(tree, text, e, ty),
+                NOTHING,
+            ),
         };
     }
     if k == KIND_BINARY {
@@ -85,22 +97,44 @@ fn work_out(
             ExprType::Is(l) => match get_type(tree, text, scratch, scope, turn, right) {
                 ExprType::Refused(x) => ExprType::Refused(x),
                 ExprType::Is(r) => {
-                    let a = binary_type(tree, text, e, both_sides(left, l, right, r));
-                    keep(tree, scratch, turn, e, a)
+                    let sides = both_sides(left, l, right, r);
+                    let common = common_of(tree, text, sides);
+                    let a = binary_type(tree, text, e, sides, common);
+                    keep(tree, scratch, turn, e, a, found_record(common))
                 }
             },
         };
     }
     if k == KIND_CALL {
-        let callee = resolve_call(tree, text, scratch, scope, turn, e);
-        return keep(tree, scratch, turn, e, value_type(tree, text, e, callee));
+        let callee = find_callee(tree, text, scratch, scope, turn, e);
+        let a = value_type(tree, text, e, callee);
+        return keep(tree, scratch, turn, e, a, callee_record(callee));
     }
     let a = leaf_type(tree, text, scratch, scope, e);
-    keep(tree, scratch, turn, e, a)
+    keep(tree, scratch, turn, e, a, NOTHING)
+}
+
+// What the call of record r runs: it is kept where the type of r was worked out in this turn.
+pub fn resolve_call(
+    tree: &[u8],
+    text: &[u8],
+    scratch: &mut [u8],
+    scope: Scope,
+    turn: u32,
+    r: usize,
+) -> Resolved
+    requires { ⌜ Typing (now tree) (now text) (now scratch) scope turn ⌝ }
+    requires { ⌜ IsKind (now tree) kindCall r ⌝ }
+    ensures { λ a. ⌜ CallMeets (now (tree .entry)) (now (text .entry)) (now (scratch .entry)) scope turn r a (now (scratch .exit)) ⌝ }
+{
+    if is_typed(tree, scratch, turn, r) {
+        return callee_at(tree, beside(tree, scratch, r));
+    }
+    find_callee(tree, text, scratch, scope, turn, r)
 }
 
 // What the call of record r runs, once its arguments are checked.
-pub fn resolve_call(
+fn find_callee(
     tree: &[u8],
     text: &[u8],
     scratch: &mut [u8],
@@ -143,8 +177,29 @@ fn get_argument_types(
     Outcome::Done
 }
 
-// The type that two expressions both take.
+// The type that both sides of the Binary e take: it is kept where the type of e was worked out in this turn.
 pub fn common_type(
+    tree: &[u8],
+    text: &[u8],
+    scratch: &mut [u8],
+    scope: Scope,
+    turn: u32,
+    e: usize,
+) -> Common
+    requires { ⌜ Typing (now tree) (now text) (now scratch) scope turn ⌝ }
+    requires { ⌜ IsKind (now tree) kindBinary e ⌝ }
+    ensures { λ a. ⌜ SidesMeet (now (tree .entry)) (now (text .entry)) (now (scratch .entry)) scope turn e a (now (scratch .exit)) ⌝ }
+{
+    if is_typed(tree, scratch, turn, e) {
+        return Common::Is(beside(tree, scratch, e));
+    }
+    let left = reference(tree, e, WORD_A);
+    let right = reference(tree, e, WORD_B);
+    find_common(tree, text, scratch, scope, turn, left, right)
+}
+
+// The type that two expressions both take.
+fn find_common(
     tree: &[u8],
     text: &[u8],
     scratch: &mut [u8],

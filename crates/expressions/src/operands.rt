@@ -16,10 +16,11 @@ ghost use Rattle.texts.specs.Texts.{Numbered};
 ghost use Rattle.keys.specs.Keys.{allKeys};
 ghost use Rattle.expressions.specs.Slots.{Scoped, typeIn};
 ghost use Rattle.conversion.specs.ConvertError.{ok};
-ghost use Rattle.expressions.specs.Answers.{valueResult, IsCallee, Operands, TypeIs, FoundIs, Accepts, unaryTypeAt, commonAt, binaryErrorAt, binaryTypeAt};
+ghost use Rattle.expressions.specs.Answers.{foundRecord, valueResult, IsCallee, Operands, TypeIs, FoundIs, Accepts, unaryTypeAt, commonAt, binaryErrorAt, binaryTypeAt};
 use crate::answers::ExprType;
 use crate::answers::Resolved;
 use crate::names::find_name;
+use crate::turns::NOTHING;
 use records::convert_error::ConvertError;
 use records::convert_error::ConvertErrorKind;
 use records::numbers::ADDRESS_OF_CHAR;
@@ -142,6 +143,16 @@ pub(crate) fn common_of(tree: &[u8], text: &[u8], s: Sides) -> Found
     Found::Nothing
 }
 
+// The record of the type that was found.
+pub(crate) fn found_record(found: Found) -> usize
+    ensures { λ b. ⌜ b ≡ foundRecord found ⌝ }
+{
+    match found {
+        Found::At(y) => y,
+        Found::Nothing => NOTHING,
+    }
+}
+
 // Where they take no common type that the Binary e accepts: a constant out of the other side's range, the right one
 // first, else WrongOperands.
 fn binary_error(tree: &[u8], text: &[u8], e: usize, s: Sides) -> ExprType
@@ -159,15 +170,16 @@ fn binary_error(tree: &[u8], text: &[u8], e: usize, s: Sides) -> ExprType
     refuse_type(ConvertErrorKind::WrongOperands, e)
 }
 
-// The type of the Binary e.
-pub(crate) fn binary_type(tree: &[u8], text: &[u8], e: usize, s: Sides) -> ExprType
+// The type of the Binary e, from the type that both sides take.
+pub(crate) fn binary_type(tree: &[u8], text: &[u8], e: usize, s: Sides, common: Found) -> ExprType
     requires { ⌜ Good (now tree) (now text) ⌝ }
     requires { ⌜ Operands (now tree) s ⌝ }
     requires { ⌜ IsKind (now tree) kindBinary e ⌝ }
+    requires { ⌜ FoundIs (now tree) common (commonAt (now tree) (now text) s) ⌝ }
     ensures { λ a. ⌜ TypeIs (now (tree .entry)) a (binaryTypeAt (now (tree .entry)) (now (text .entry)) e s) ⌝ }
 {
     let op = operator_of(detail(tree, e) as usize);
-    if let Found::At(ty) = common_of(tree, text, s) {
+    if let Found::At(ty) = common {
         if accepts(tree, op.operands, ty) {
             if op.result == BOOL {
                 return ExprType::Is(BOOL_TYPE);

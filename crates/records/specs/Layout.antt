@@ -95,12 +95,13 @@ nameSlots = record { from = 60; each = 4 }
 abbrev pub turns : Region
 turns = record { from = 64; each = 4 }
 
--- how many visits were made, in the first word
-abbrev pub visitCount : Region
-visitCount = record { from = 68; each = 4 }
+-- what is kept beside the types of expressions, a word at the slot of the expression's record: of a call the record of what it runs, of a Binary the type that both
+-- sides take. Record 0 is a type: in the first word stands how many visits were made
+abbrev pub besides : Region
+besides = record { from = 68; each = 4 }
 
 abbrev pub layout : List Region
-layout = judging ∷ typeSlots ∷ openNames ∷ operands ∷ originals ∷ keySlots ∷ keyHeads ∷ textDigests ∷ nameHeads ∷ nameSlots ∷ turns ∷ visitCount ∷ []
+layout = judging ∷ typeSlots ∷ openNames ∷ operands ∷ originals ∷ keySlots ∷ keyHeads ∷ textDigests ∷ nameHeads ∷ nameSlots ∷ turns ∷ besides ∷ []
 
 -- document 02, point 9: 'Scratch grows to 72n bytes'
 abbrev pub scratchEach : ℕ

@@ -88,8 +88,10 @@ pub const TURNS: usize = 64;
 
 pub const TURN_BYTES: usize = 4;
 
-// How many visits were made, one word.
-pub const VISIT_COUNT: usize = 68;
+// What is kept beside the types of expressions, a word each; in the first word how many visits were made.
+pub const BESIDES: usize = 68;
+
+pub const BESIDE_BYTES: usize = 4;
 
 // All regions together.
 pub const SCRATCH: usize = 72;

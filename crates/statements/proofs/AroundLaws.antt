@@ -43,7 +43,7 @@ use Rattle.expressions.specs.declared.answers.Common.{Common}
 use Rattle.expressions.specs.declared.answers.Common.the-variants as Common
 use Rattle.expressions.specs.declared.answers.Resolved.{Resolved}
 use Rattle.expressions.specs.declared.answers.Resolved.the-variants as Resolved
-use Rattle.expressions.specs.Answers.{refusal, typeResult, commonResult, calleeOf, IsTyped, IsCommon, IsCallee, CommonMeets}
+use Rattle.expressions.specs.Answers.{refusal, typeResult, commonResult, calleeOf, IsTyped, IsCommon, IsCallee, SidesMeet}
 use Rattle.expressions.proofs.TypingLaws.{left-expr, right-expr}
 use Rattle.statements.specs.Lent.{Converter, Converted, Fitted}
 use Rattle.statements.specs.Stack.{operandAt, stackAt}
@@ -155,11 +155,10 @@ is-common {tree = tree} {y = y} t q = go (subst (λ (z : Common). IsCommon tree 
     go : IsCommon tree (Common.Is y) → TypeAt tree y
     go (IsCommon.is h) = h
 
-module _ {tree text s s′ : List ℕ} (c : Converter) (e y : ℕ) {a b : ℕ} {t : Common} (ea : a ≡ wordOf tree e A) (eb : b ≡ wordOf tree e B)
-    (m : CommonMeets tree text s (c .scope) (c .turn) a b t s′) where
+module _ {tree text s s′ : List ℕ} (c : Converter) (e y : ℕ) {t : Common} (m : SidesMeet tree text s (c .scope) (c .turn) e t s′) where
   meets-as : (u : ExprType) → operandType (commonResult t) y ≡ typeResult u
       → operandType (common-type (program tree text) (allKeys tree text) (exprAt tree text (wordOf tree e A)) (exprAt tree text (wordOf tree e B)) (scopeAt tree text s (c .scope))) y ≡ typeResult u
-  meets-as u q = rw (← ea, ← eb) (ap (λ (z : Result (Option ℕ)). operandType z y) (m .meets) ∙ q)
+  meets-as u q = ap (λ (z : Result (Option ℕ)). operandType z y) (m .meets) ∙ q
 
   pub common-refused : (x : ConvertError) → t ≡ Common.Refused x → OperandTyped tree text s c e y (ExprType.Refused x) s′
   unfolding operandType commonResult typeResult
@@ -178,10 +177,9 @@ module _ {tree text s s′ : List ℕ} (c : Converter) (e y : ℕ) {a b : ℕ} {
   common-neither q h = record { frame = m .frame; typed = IsTyped.is h; meets = meets-as (ExprType.Is y) (ap (λ (z : Common). operandType (commonResult z) y) q) }
 
 -- both sides are typed
-module _ {tree text s s′ : List ℕ} (c : Converter) (e : ℕ) {a b : ℕ} {t : Common} (ea : a ≡ wordOf tree e A) (eb : b ≡ wordOf tree e B)
-    (m : CommonMeets tree text s (c .scope) (c .turn) a b t s′) where
+module _ {tree text s s′ : List ℕ} (c : Converter) (e : ℕ) {t : Common} (m : SidesMeet tree text s (c .scope) (c .turn) e t s′) where
   sides-types : (o : Option ℕ) → commonResult t ≡ ok o → (u : ExprType) → CommonTyped c e tree text s u s′
-  sides-types o q u z h = rw (← ea, ← eb) (m .adds o q)
+  sides-types o q u z h = m .adds o q
 
   pub is-types : (z : ℕ) → t ≡ Common.Is z → (u : ExprType) → CommonTyped c e tree text s u s′
   unfolding commonResult

@@ -16,13 +16,11 @@ use Rattle.laws.proofs.Sums.{sum-same, sum-zero}
 use Rattle.laws.proofs.DifferentLaws.{different-most}
 use Rattle.records.specs.Words.{byteAt, wordAt, records, mostRecords}
 use Rattle.records.proofs.Apart.{byte-apart, word-same}
-use Rattle.conversion.specs.ConvertError.{ok}
 use Rattle.conversion.specs.Scope as Def
-use Rattle.syntax.specs.Places.{TypeAt}
 use Rattle.ir.specs.declared.structs.Counters.{Counters}
 use Rattle.scope.specs.Open.{scopeAt}
-use Rattle.expressions.specs.Slots.{slotAt, turnAt, visitsAt, inTurn, made, RightAt, Remembers, Typed}
-use Rattle.expressions.proofs.TurnLaws.{typed-both}
+use Rattle.expressions.specs.Slots.{slotAt, turnAt, visitsAt, besideAt, inTurn, made, RightAt, Remembers, Typed}
+use Rattle.expressions.proofs.TurnLaws.{right-moved, typed-both}
 use Rattle.statements.specs.Lent.{Converter}
 use Rattle.statements.specs.Turns.{Turns, Visited, Fresh, InTurn, TypedIn, TurnsStay}
 
@@ -60,6 +58,10 @@ module _ {tree s s′ : List ℕ} (f : TurnsStay tree s s′) where
   unfolding turnAt
   turn-stays e h = same-word (64 * records tree + 4 * e) (λ j q p k. f .behind q (omega arith))
 
+  beside-stays : (e : ℕ) → e < records tree → besideAt tree s′ e ≡ besideAt tree s e
+  unfolding besideAt
+  beside-stays e h = same-word (68 * records tree + 4 * e) (λ j q p k. f .behind q (omega arith))
+
   pub visits-stay : visitsAt tree s′ ≡ visitsAt tree s
   unfolding visitsAt
   visits-stay = same-word (68 * records tree) (λ j q p k. f .behind q (omega arith))
@@ -75,12 +77,7 @@ module _ {tree s s′ : List ℕ} (f : TurnsStay tree s s′) where
   module _ (text : List ℕ) (S : Def.Scope) (turn : ℕ) (m : Remembers tree text S turn s) where
     right-stays : (e : ℕ) → e < records tree → RightAt tree text S s e → RightAt tree text S s′ e
     right-stays e h r =
-        let q : slotAt tree s′ e ≡ slotAt tree s e = slot-stays e h in
-        record {
-          expression = r .expression;
-          is = r .is ∙ ap (λ (z : ℕ). ok z) (sym q);
-          type = subst (λ (z : ℕ). TypeAt tree z) (sym q) (r .type);
-        }
+        right-moved tree text S s′ e (slotAt tree s e) (besideAt tree s e) (r .expression) (slot-stays e h) (beside-stays e h) (r .is) (r .type) (r .beside)
 
     pub remembers-stay : Remembers tree text S turn s′
     remembers-stay = record {

@@ -45,10 +45,7 @@ use ir::structs::emit_unary;
 use records::convert_error::ConvertErrorKind;
 use records::numbers::AND;
 use records::words::RECORD_BYTES;
-use records::words::WORD_A;
-use records::words::WORD_B;
 use records::words::detail;
-use records::words::reference;
 
 pub(crate) fn finish_unary(
     arena: &mut [u8],
@@ -146,9 +143,7 @@ pub(crate) fn operand_type(
     ensures types { λ a. ⌜ ((k : List ℕ) → CommonTyped (at c k) e (was tree) (was text) (was scratch) a (is scratch)) ⌝ }
 {
     let scope = c.scope;
-    let left = reference(tree, e, WORD_A);
-    let right = reference(tree, e, WORD_B);
-    match common_type(tree, text, scratch, scope, c.turn, left, right) {
+    match common_type(tree, text, scratch, scope, c.turn, e) {
         Common::Refused(x) => ExprType::Refused(x),
         Common::Is(q) => ExprType::Is(q),
         Common::Neither => ExprType::Is(y),

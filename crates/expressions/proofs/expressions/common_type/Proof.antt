@@ -1,90 +1,53 @@
--- `common_type` meets its contract: the two types one after the other, then the rule.
--- By the answers of the two calls and of the rule. Assumes nothing.
-use Rattle.expressions.proofs.TurnLaws.{typing-next}
-use Rattle.expressions.proofs.TypingLaws.{is-typed}
-use Rattle.expressions.proofs.OperandLaws.{operands-are}
-use Rattle.expressions.proofs.CommonLaws.{left-refused, right-refused, takes-one, takes-none}
+-- `common_type` meets its contract: what is kept where the turn remembers the Binary's type, and else what its sides take.
+-- By `common-known` and `sides-meet` of TypingLaws. Assumes nothing.
+use mathlib.Core.Path.{sym, ap, refl}
+use native.Mathlib.Omega.{arith}
+use Rattle.records.specs.Rules.{isExpr}
+use Rattle.types.proofs.FromGood.{is-expr}
+use Rattle.expressions.proofs.TypingLaws.{left-expr, right-expr, common-known, sides-meet}
 use borrow.Author.Needs.{needs}
 use Rattle.expressions.proofs.expressions.common_type.Statement.{statement}
 use Rattle.expressions.proofs.expressions.common_type.Tie as tie
 
-get-type-requires : tie.Need-get-type-requires
-get-type-requires c κs = search needs
+is-typed-requires : tie.Need-is-typed-requires
+is-typed-requires c κs = (c .before .before .before .before .pre .1 .below, c .before .before .before .before .pre .0 .ready .keyed .listed .room)
 
-enum-known-x : tie.Need-enum-known-x
-enum-known-x c = search needs
-
-enum-known-l : tie.Need-enum-known-l
-enum-known-l c = search needs
-
-get-type-requires-2 : tie.Need-get-type-requires-2
-get-type-requires-2 c κs = (typing-next _ _ _ _ _ (c .before .before .before .before .before .before .before .before .before .before .before .pre .0) _ (c .before .before .before .before .before .before .get-type .ensures .frame) _ (c .before .before .before .before .before .before .get-type .ensures .adds _ (c .before .before .l .given .1)), c .before .before .before .before .before .before .before .before .before .before .before .pre .1 .1)
-
-enum-known-x-2 : tie.Need-enum-known-x-2
-enum-known-x-2 c = search needs
-
-enum-known-r : tie.Need-enum-known-r
-enum-known-r c = search needs
-
-both-sides-requires : tie.Need-both-sides-requires
-both-sides-requires c κs = search needs
-
-common-of-requires : tie.Need-common-of-requires
-common-of-requires c κs = (
-  c .before .before .before .before .before .before .before .before .before .before .before .before .before .before .before .before .before .before .pre .0 .ready .keyed .good,
-  operands-are _ _ _ _ _ _ (c .both-sides .ensures) (c .before .before .before .before .before .before .before .before .before .before .before .before .before .before .before .before .before .before .pre .1 .0) (is-typed _ _ _ (c .before .before .before .before .before .before .before .before .before .before .before .before .before .get-type .ensures .typed) (c .before .before .before .before .before .before .before .before .before .l .given .1))
-      (c .before .before .before .before .before .before .before .before .before .before .before .before .before .before .before .before .before .before .pre .1 .1) (is-typed _ _ _ (c .before .before .before .before .before .before .get-type2 .ensures .typed) (c .before .before .r .given .1)),
-)
-
-enum-known-y : tie.Need-enum-known-y
-enum-known-y c = search needs
-
-enum-told : tie.Need-enum-told
-enum-told c = search needs
+beside-requires : tie.Need-beside-requires
+beside-requires c κs = (c .before .before .before .before .before .before .before .pre .1 .below, c .before .before .before .before .before .before .before .pre .0 .ready .keyed .listed .room)
 
 same-length : tie.Need-same-length
 same-length c = search needs
 
 returns : tie.Need-returns
-returns c = left-refused _ _ _ _ _ _ _ _ _ (c .before .before .before .before .before .get-type .ensures) _ (c .before .x .given .1)
+returns c = common-known _ _ (c .before .before .before .before .before .before .before .before .pre .0 .ready .keyed .good) _ (c .before .before .before .before .before .before .before .before .pre .1) _ _ _ (c .before .before .before .before .before .before .before .before .pre .0) _ (c .before .before .before .is-typed .ensures) (c .before .before .if1 .taken) _ (c .beside .ensures)
+
+reference-requires : tie.Need-reference-requires
+reference-requires c κs = (omega (arith, c .before .before .before .before .before .before .pre .1 .below, c .before .before .before .before .before .before .pre .0 .ready .keyed .good .whole), omega arith)
+
+reference-requires-2 : tie.Need-reference-requires-2
+reference-requires-2 c κs = (omega (arith, c .before .before .before .before .before .before .before .pre .1 .below, c .before .before .before .before .before .before .before .pre .0 .ready .keyed .good .whole), omega arith)
+
+find-common-requires : tie.Need-find-common-requires
+find-common-requires c κs =
+    let x = is-expr _ _ (c .before .before .before .before .before .before .before .before .before .pre .0 .ready .keyed .good) _ (c .before .before .before .before .before .before .before .before .before .pre .1 .below) (ap isExpr (c .before .before .before .before .before .before .before .before .before .pre .1 .kind)) in
+    (c .before .before .before .before .before .before .before .before .before .pre .0, (left-expr _ _ (c .before .before .before .before .before .before .before .before .before .pre .0 .ready .keyed .good) _ 10 x (sym (c .before .before .before .before .before .before .before .before .before .pre .1 .kind)) refl _ (c .before .before .reference .ensures) .1, right-expr _ _ (c .before .before .before .before .before .before .before .before .before .pre .0 .ready .keyed .good) _ 10 x (sym (c .before .before .before .before .before .before .before .before .before .pre .1 .kind)) refl _ (c .before .reference2 .ensures) .1))
 
 same-length-2 : tie.Need-same-length-2
 same-length-2 c = search needs
 
 returns-2 : tie.Need-returns-2
-returns-2 c = right-refused _ _ _ _ _ _ _ _ _ (c .before .before .before .before .before .before .before .before .before .before .before .before .get-type .ensures) (c .before .before .before .before .before .before .before .before .before .before .before .before .before .before .before .before .before .pre .0) _ (c .before .before .before .before .before .before .before .before .l .given .1) _ _ (c .before .before .before .before .before .get-type2 .ensures) _ (c .before .x2 .given .1)
-
-same-length-3 : tie.Need-same-length-3
-same-length-3 c = search needs
-
-returns-3 : tie.Need-returns-3
-returns-3 c = takes-one _ _ _ _ _ _ _ _ _ (c .before .before .before .before .before .before .before .before .before .before .before .before .before .before .before .before .before .get-type .ensures) (c .before .before .before .before .before .before .before .before .before .before .before .before .before .before .before .before .before .before .before .before .before .before .pre .0) _ (c .before .before .before .before .before .before .before .before .before .before .before .before .before .l .given .1) _ _ (c .before .before .before .before .before .before .before .before .before .before .get-type2 .ensures) _ (c .before .before .before .before .before .before .r .given .1) _ (c .before .before .before .before .both-sides .ensures) _ (c .before .before .before .common-of .ensures) _ (c .before .y .given .1)
-
-same-length-4 : tie.Need-same-length-4
-same-length-4 c = search needs
-
-returns-4 : tie.Need-returns-4
-returns-4 c = takes-none _ _ _ _ _ _ _ _ _ (c .before .before .before .before .before .before .before .before .before .before .before .before .before .before .before .before .get-type .ensures) (c .before .before .before .before .before .before .before .before .before .before .before .before .before .before .before .before .before .before .before .before .before .pre .0) _ (c .before .before .before .before .before .before .before .before .before .before .before .before .l .given .1) _ _ (c .before .before .before .before .before .before .before .before .before .get-type2 .ensures) _ (c .before .before .before .before .before .r .given .1) _ (c .before .before .before .both-sides .ensures) _ (c .before .before .common-of .ensures) (c .enum-told .given .1)
+returns-2 c = sides-meet _ _ (c .before .before .before .before .before .before .before .before .before .before .before .before .pre .0 .ready .keyed .good) _ _ _ (c .before .before .before .before .before .reference .ensures) (c .before .before .before .before .reference2 .ensures) _ _ _ _ _ (c .before .before .find-common .ensures)
 
 pub common-type-spec : {M : Type 1} → statement M
 common-type-spec =
     tie.close
     (tie.spec
-    get-type-requires
-    enum-known-x
-    enum-known-l
-    get-type-requires-2
-    enum-known-x-2
-    enum-known-r
-    both-sides-requires
-    common-of-requires
-    enum-known-y
-    enum-told
+    is-typed-requires
+    beside-requires
     same-length
     returns
+    reference-requires
+    reference-requires-2
+    find-common-requires
     same-length-2
-    returns-2
-    same-length-3
-    returns-3
-    same-length-4
-    returns-4)
+    returns-2)

@@ -8,29 +8,26 @@ use Rattle.expressions.proofs.operands.binary_type.Statement.{statement
 use Rattle.expressions.proofs.operands.binary_type.Tie as tie
 
 detail-requires : tie.Need-detail-requires
-detail-requires c κs = inside _ _ (c .before .before .pre .0) _ (c .before .before .pre .1 .1 .below)
+detail-requires c κs = inside _ _ (c .before .before .pre .0) _ (c .before .before .pre .1 .1 .0 .below)
 
 cast-operator-of : tie.Need-cast-operator-of
 cast-operator-of c = search needs
 
 operator-of-requires : tie.Need-operator-of-requires
-operator-of-requires c κs = operator-known _ _ (c .before .before .before .pre .0) _ (c .before .before .before .pre .1 .0) _ (c .before .before .before .pre .1 .1) _ (c .detail .ensures)
+operator-of-requires c κs = operator-known _ _ (c .before .before .before .pre .0) _ (c .before .before .before .pre .1 .0) _ (c .before .before .before .pre .1 .1 .0) _ (c .detail .ensures)
 
-common-of-requires : tie.Need-common-of-requires
-common-of-requires c κs = search needs
-
-enum-known-ty : tie.Need-enum-known-ty
-enum-known-ty c = search needs
+enum-known-common : tie.Need-enum-known-common
+enum-known-common c = search needs
 
 accepts-requires : tie.Need-accepts-requires
 accepts-requires c κs =
-    type-of _ _ (c .before .before .before .before .before .before .before .before .pre .0) _ (found-type _ _ _ (c .before .before .before .common-of .ensures .type) (c .before .ty .given .1)) .inside
+    type-of _ _ (c .before .before .before .before .before .before .before .pre .0) _ (found-type _ _ _ (c .before .before .before .before .before .before .before .pre .1 .1 .1 .type) (c .before .common .given .1)) .inside
 
 returns : tie.Need-returns
-returns c = gives-bool _ _ (c .before .before .before .before .before .before .before .before .before .before .before .before .pre .0) _ (c .before .before .before .before .before .before .before .before .before .before .before .before .pre .1 .0) _ (c .before .before .before .before .before .before .before .before .before .before .before .before .pre .1 .1) _ (c .before .before .before .before .before .before .before .before .before .detail .ensures) _ _ (c .before .before .before .before .before .before .before .before .operator-of .ensures) _ (c .before .before .before .before .before .before .before .common-of .ensures) _ (c .before .before .before .before .before .ty .given .1) _ (c .before .before .before .accepts .ensures _) (c .before .before .if1 .taken) (c .if2 .taken)
+returns c = gives-bool _ _ (c .before .before .before .before .before .before .before .before .before .before .before .pre .0) _ (c .before .before .before .before .before .before .before .before .before .before .before .pre .1 .0) _ (c .before .before .before .before .before .before .before .before .before .before .before .pre .1 .1 .0) _ (c .before .before .before .before .before .before .before .before .detail .ensures) _ _ (c .before .before .before .before .before .before .before .operator-of .ensures) _ (c .before .before .before .before .before .before .before .before .before .before .before .pre .1 .1 .1) _ (c .before .before .before .before .before .common .given .1) _ (c .before .before .before .accepts .ensures _) (c .before .before .if1 .taken) (c .if2 .taken)
 
 returns-2 : tie.Need-returns-2
-returns-2 c = gives-common _ _ (c .before .before .before .before .before .before .before .before .before .before .before .before .pre .0) _ (c .before .before .before .before .before .before .before .before .before .before .before .before .pre .1 .0) _ (c .before .before .before .before .before .before .before .before .before .before .before .before .pre .1 .1) _ (c .before .before .before .before .before .before .before .before .before .detail .ensures) _ _ (c .before .before .before .before .before .before .before .before .operator-of .ensures) _ (c .before .before .before .before .before .before .before .common-of .ensures) _ (c .before .before .before .before .before .ty .given .1) _ (c .before .before .before .accepts .ensures _) (c .before .before .if1 .taken) (c .if2 .left)
+returns-2 c = gives-common _ _ (c .before .before .before .before .before .before .before .before .before .before .before .pre .0) _ (c .before .before .before .before .before .before .before .before .before .before .before .pre .1 .0) _ (c .before .before .before .before .before .before .before .before .before .before .before .pre .1 .1 .0) _ (c .before .before .before .before .before .before .before .before .detail .ensures) _ _ (c .before .before .before .before .before .before .before .operator-of .ensures) _ (c .before .before .before .before .before .before .before .before .before .before .before .pre .1 .1 .1) _ (c .before .before .before .before .before .common .given .1) _ (c .before .before .before .accepts .ensures _) (c .before .before .if1 .taken) (c .if2 .left)
 
 enum-told : tie.Need-enum-told
 enum-told c = search needs
@@ -40,8 +37,8 @@ binary-error-requires c κs = search needs
 
 returns-3 : tie.Need-returns-3
 returns-3 c = ⊎-elim
-    (λ w. not-taken _ _ (c .before .before .before .before .before .before .before .pre .0) _ (c .before .before .before .before .before .before .before .pre .1 .0) _ (c .before .before .before .before .before .before .before .pre .1 .1) _ (c .before .before .before .before .detail .ensures) _ _ (c .before .before .before .operator-of .ensures) _ (c .before .before .common-of .ensures) _ (w .1 .given .1) _ (w .3 .ensures _) (w .4 .left) _ (c .binary-error .ensures))
-    (λ w. none-common _ _ (c .before .before .before .before .before .before .before .pre .0) _ (c .before .before .before .before .before .before .before .pre .1 .0) _ (c .before .before .before .before .before .before .before .pre .1 .1) _ (c .before .before .before .before .detail .ensures) _ _ (c .before .before .before .operator-of .ensures) _ (c .before .before .common-of .ensures) (w .1 .given .1) _ (c .binary-error .ensures))
+    (λ w. not-taken _ _ (c .before .before .before .before .before .before .pre .0) _ (c .before .before .before .before .before .before .pre .1 .0) _ (c .before .before .before .before .before .before .pre .1 .1 .0) _ (c .before .before .before .detail .ensures) _ _ (c .before .before .operator-of .ensures) _ (c .before .before .before .before .before .before .pre .1 .1 .1) _ (w .1 .given .1) _ (w .3 .ensures _) (w .4 .left) _ (c .binary-error .ensures))
+    (λ w. none-common _ _ (c .before .before .before .before .before .before .pre .0) _ (c .before .before .before .before .before .before .pre .1 .0) _ (c .before .before .before .before .before .before .pre .1 .1 .0) _ (c .before .before .before .detail .ensures) _ _ (c .before .before .operator-of .ensures) _ (c .before .before .before .before .before .before .pre .1 .1 .1) (w .1 .given .1) _ (c .binary-error .ensures))
     (c .before .match .came)
 
 pub binary-type-spec : {M : Type 1} → statement M
@@ -51,8 +48,7 @@ binary-type-spec =
     detail-requires
     cast-operator-of
     operator-of-requires
-    common-of-requires
-    enum-known-ty
+    enum-known-common
     accepts-requires
     returns
     returns-2

@@ -22,7 +22,7 @@ visit-requires c κs = c .before .before .before .before .before .before .pre .f
 
 -- src/turns.rt:42:1
 returns : tie.Need-returns
-returns c = keeps-refusal _ _ _ _ _ _ (c .before .a .given .1)
+returns c = keeps-refusal _ _ _ _ _ _ _ (c .before .a .given .1)
 
 -- src/turns.rt:42:1
 same-length : tie.Need-same-length
@@ -30,7 +30,7 @@ same-length c = search needs
 
 -- src/turns.rt:42:1
 returns-2 : tie.Need-returns-2
-returns-2 c = keeps-type _ _ _ _ _ _ (c .before .before .before .before .before .a2 .given .1) _ (c .before .before .visit .ensures)
+returns-2 c = keeps-type _ _ _ _ _ _ _ (c .before .before .before .before .before .a2 .given .1) _ (c .before .before .visit .ensures)
 
 pub keep-spec : {M : Type 1} → statement M
 keep-spec =

@@ -1,7 +1,7 @@
 -- The type that both sides of a Binary are fitted to.
 -- What typing answers, by its three answers. Assumes nothing.
 use mathlib.Core.List.{[]}
-use Rattle.statements.proofs.AroundLaws.{left-side, right-side, common-refused, common-is, common-neither, is-types, neither-types, refused-common}
+use Rattle.statements.proofs.AroundLaws.{common-refused, common-is, common-neither, is-types, neither-types, refused-common}
 use Rattle.statements.specs.Lent.{at}
 use borrow.Author.Needs.{needs}
 use Rattle.statements.proofs.parts.operand_type.Statement.{statement}
@@ -9,19 +9,10 @@ use Rattle.statements.proofs.parts.operand_type.Tie as tie
 use Rattle.statements.proofs.parts.operand_type.Reads as reads
 use Rattle.statements.proofs.parts.operand_type.Lts as lts
 use Rattle.expressions.proofs.expressions.common_type.Reads as common-type-reads
-use Rattle.records.proofs.words.reference.Reads as reference-reads
 
--- src/parts.rt:149:9
-reference-requires : tie.Need-reference-requires
-reference-requires c κs = search needs
-
--- src/parts.rt:150:9
-reference-requires-2 : tie.Need-reference-requires-2
-reference-requires-2 c κs = search needs
-
--- src/parts.rt:151:11
+-- src/parts.rt:149:11
 common-type-requires : tie.Need-common-type-requires
-common-type-requires c κs = (record { ready = c .before .before .before .before .before .before .before .pre .0; remembers = c .before .before .before .before .before .before .before .pre .1 .1 [] }, (left-side (c .before .before .before .before .before .before .before .pre .0 .keyed .good) (c .before .before .before .before .before .before .before .pre .1 .0 .0) (c .before .before .reference .ensures) .1, right-side (c .before .before .before .before .before .before .before .pre .0 .keyed .good) (c .before .before .before .before .before .before .before .pre .1 .0 .0) (c .before .reference2 .ensures) .1))
+common-type-requires c κs = (record { ready = c .before .before .before .before .before .pre .0; remembers = c .before .before .before .before .before .pre .1 .1 [] }, c .before .before .before .before .before .pre .1 .0 .0)
 
 -- src/parts.rt:152:25
 enum-known-x : tie.Need-enum-known-x
@@ -41,7 +32,7 @@ same-length c = search needs
 
 -- src/parts.rt:134:1
 returns : tie.Need-returns
-returns c = (λ k. common-refused _ _ _ (c .before .before .before .before .before .before .before .before .reference .ensures) (c .before .before .before .before .before .before .before .reference2 .ensures) (c .before .before .before .before .before .common-type .ensures) _ (c .before .x .given .1), λ k. refused-common)
+returns c = (λ k. common-refused _ _ _ (c .before .before .before .before .before .common-type .ensures) _ (c .before .x .given .1), λ k. refused-common)
 
 -- src/parts.rt:134:1
 same-length-2 : tie.Need-same-length-2
@@ -49,7 +40,7 @@ same-length-2 c = search needs
 
 -- src/parts.rt:134:1
 returns-2 : tie.Need-returns-2
-returns-2 c = (λ k. common-is _ _ _ (c .before .before .before .before .before .before .before .before .reference .ensures) (c .before .before .before .before .before .before .before .reference2 .ensures) (c .before .before .before .before .before .common-type .ensures) _ (c .before .q .given .1), λ k. is-types (at (c .before .before .before .before .before .before .before .before .before .before .before .before .before .args .c) k) _ (c .before .before .before .before .before .before .before .before .reference .ensures) (c .before .before .before .before .before .before .before .reference2 .ensures) (c .before .before .before .before .before .common-type .ensures) _ (c .before .q .given .1) _)
+returns-2 c = (λ k. common-is _ _ _ (c .before .before .before .before .before .common-type .ensures) _ (c .before .q .given .1), λ k. is-types (at (c .before .before .before .before .before .before .before .before .before .before .before .args .c) k) _ (c .before .before .before .before .before .common-type .ensures) _ (c .before .q .given .1) _)
 
 -- src/parts.rt:134:1
 same-length-3 : tie.Need-same-length-3
@@ -57,14 +48,12 @@ same-length-3 c = search needs
 
 -- src/parts.rt:134:1
 returns-3 : tie.Need-returns-3
-returns-3 c = (λ k. common-neither _ _ _ (c .before .before .before .before .before .before .before .reference .ensures) (c .before .before .before .before .before .before .reference2 .ensures) (c .before .before .before .before .common-type .ensures) (c .enum-told .given .1) (c .before .before .before .before .before .before .before .before .before .before .before .before .pre .1 .0 .1), λ k. neither-types (at (c .before .before .before .before .before .before .before .before .before .before .before .before .args .c) k) _ (c .before .before .before .before .before .before .before .reference .ensures) (c .before .before .before .before .before .before .reference2 .ensures) (c .before .before .before .before .common-type .ensures) (c .enum-told .given .1) _)
+returns-3 c = (λ k. common-neither _ _ _ (c .before .before .before .before .common-type .ensures) (c .enum-told .given .1) (c .before .before .before .before .before .before .before .before .before .before .pre .1 .0 .1), λ k. neither-types (at (c .before .before .before .before .before .before .before .before .before .before .args .c) k) _ (c .before .before .before .before .common-type .ensures) (c .enum-told .given .1) _)
 
 pub operand-type-spec : {M : Type 1} → statement M
 operand-type-spec =
     tie.close
     (tie.spec
-    reference-requires
-    reference-requires-2
     common-type-requires
     enum-known-x
     enum-known-q

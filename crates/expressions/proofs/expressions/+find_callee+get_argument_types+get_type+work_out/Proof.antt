@@ -1,4 +1,4 @@
--- `get_type`, `work_out`, `resolve_call` and `get_argument_types` meet their contracts. Their measures are 4e + 3, 4e + 2, 4r + 1 and 4r: a call goes to a lower record, or
+-- `get_type`, `work_out`, `find_callee` and `get_argument_types` meet their contracts. Their measures are 4e + 3, 4e + 2, 4r + 1 and 4r: a call goes to a lower record, or
 -- down this order. Each need is a law of TypingLaws or of ArgumentTurns; the loop's invariant is `Left`, its measure the cell's number. Assumes nothing.
 use mathlib.Core.Path.{sym, _∙_}
 use Prim.Native.Nat.{ℕ, suc, _+_, _*_, _<_}
@@ -16,22 +16,25 @@ use borrow.Fn.Kinds.{In}
 use borrow.Fn.PlainCycle.{Measures, is, falls, and}
 use Rattle.expressions.proofs.expressions.get_argument_types.Reads as get-argument-types
 use Rattle.expressions.proofs.expressions.get_argument_types.Kinds as get-argument-types-kinds
-use Rattle.expressions.proofs.expressions.+get_argument_types+get_type+resolve_call+work_out.Lts-get_argument_types as get-argument-types-lts
+use Rattle.expressions.proofs.expressions.+find_callee+get_argument_types+get_type+work_out.Lts-get_argument_types as get-argument-types-lts
 use Rattle.expressions.proofs.expressions.get_type.Reads as get-type
 use Rattle.expressions.proofs.expressions.get_type.Kinds as get-type-kinds
-use Rattle.expressions.proofs.expressions.+get_argument_types+get_type+resolve_call+work_out.Lts-get_type as get-type-lts
-use Rattle.expressions.proofs.expressions.resolve_call.Reads as resolve-call
-use Rattle.expressions.proofs.expressions.resolve_call.Kinds as resolve-call-kinds
-use Rattle.expressions.proofs.expressions.+get_argument_types+get_type+resolve_call+work_out.Lts-resolve_call as resolve-call-lts
+use Rattle.expressions.proofs.expressions.+find_callee+get_argument_types+get_type+work_out.Lts-get_type as get-type-lts
+use Rattle.expressions.proofs.expressions.find_callee.Reads as find-callee
+use Rattle.expressions.proofs.expressions.find_callee.Kinds as find-callee-kinds
+use Rattle.expressions.proofs.expressions.+find_callee+get_argument_types+get_type+work_out.Lts-find_callee as find-callee-lts
 use Rattle.expressions.proofs.expressions.work_out.Reads as work-out
 use Rattle.expressions.proofs.expressions.work_out.Kinds as work-out-kinds
-use Rattle.expressions.proofs.expressions.+get_argument_types+get_type+resolve_call+work_out.Lts-work_out as work-out-lts
+use Rattle.expressions.proofs.expressions.+find_callee+get_argument_types+get_type+work_out.Lts-work_out as work-out-lts
 use Rattle.expressions.proofs.arguments.argument_at.Reads as argument-at-reads
 use Rattle.expressions.proofs.arguments.next_cell.Reads as next-cell-reads
 use Rattle.expressions.proofs.arguments.slot.Reads as slot-reads
+use Rattle.expressions.proofs.calls.callee_record.Reads as callee-record-reads
 use Rattle.expressions.proofs.calls.resolve_typed.Reads as resolve-typed-reads
 use Rattle.expressions.proofs.operands.binary_type.Reads as binary-type-reads
 use Rattle.expressions.proofs.operands.both_sides.Reads as both-sides-reads
+use Rattle.expressions.proofs.operands.common_of.Reads as common-of-reads
+use Rattle.expressions.proofs.operands.found_record.Reads as found-record-reads
 use Rattle.expressions.proofs.operands.leaf_type.Reads as leaf-type-reads
 use Rattle.expressions.proofs.operands.unary_type.Reads as unary-type-reads
 use Rattle.expressions.proofs.operands.value_type.Reads as value-type-reads
@@ -39,10 +42,10 @@ use Rattle.expressions.proofs.turns.is_typed.Reads as is-typed-reads
 use Rattle.expressions.proofs.turns.keep.Reads as keep-reads
 use Rattle.records.proofs.words.kind.Reads as kind-reads
 use Rattle.records.proofs.words.reference.Reads as reference-reads
-use Rattle.expressions.proofs.expressions.+get_argument_types+get_type+resolve_call+work_out.{
+use Rattle.expressions.proofs.expressions.+find_callee+get_argument_types+get_type+work_out.{
   statement,
 }
-use Rattle.expressions.proofs.expressions.+get_argument_types+get_type+resolve_call+work_out.Tie.{
+use Rattle.expressions.proofs.expressions.+find_callee+get_argument_types+get_type+work_out.Tie.{
   close,
 }
 
@@ -52,8 +55,8 @@ abbrev μ-get-argument-types : Measures 3 get-argument-types-kinds.ps ℕ
 abbrev μ-get-type : Measures 3 get-type-kinds.ps ℕ
 μ-get-type κs a = 4 * a .1 .1 .1 .1 .1 .0 + 3
 
-abbrev μ-resolve-call : Measures 3 resolve-call-kinds.ps ℕ
-μ-resolve-call κs a = 4 * a .1 .1 .1 .1 .1 .0 + 1
+abbrev μ-find-callee : Measures 3 find-callee-kinds.ps ℕ
+μ-find-callee κs a = 4 * a .1 .1 .1 .1 .1 .0 + 1
 
 abbrev μ-work-out : Measures 3 work-out-kinds.ps ℕ
 μ-work-out κs a = 4 * a .1 .1 .1 .1 .1 .0 + 2
@@ -81,17 +84,17 @@ abbrev get-type-below : ℕ → In 3 get-type-kinds.ps
 get-type-below t =
     and 3 get-type-kinds.ps (falls 3 get-type-kinds.ps _<_ μ-get-type t) get-type.Pre
 
-abbrev resolve-call-at : ℕ → In 3 resolve-call-kinds.ps
-resolve-call-at t =
-    and 3 resolve-call-kinds.ps (is 3 resolve-call-kinds.ps μ-resolve-call t) resolve-call.Pre
+abbrev find-callee-at : ℕ → In 3 find-callee-kinds.ps
+find-callee-at t =
+    and 3 find-callee-kinds.ps (is 3 find-callee-kinds.ps μ-find-callee t) find-callee.Pre
 
-abbrev resolve-call-below : ℕ → In 3 resolve-call-kinds.ps
-resolve-call-below t =
+abbrev find-callee-below : ℕ → In 3 find-callee-kinds.ps
+find-callee-below t =
     and
     3
-    resolve-call-kinds.ps
-    (falls 3 resolve-call-kinds.ps _<_ μ-resolve-call t)
-    resolve-call.Pre
+    find-callee-kinds.ps
+    (falls 3 find-callee-kinds.ps _<_ μ-find-callee t)
+    find-callee.Pre
 
 abbrev work-out-at : ℕ → In 3 work-out-kinds.ps
 work-out-at t = and 3 work-out-kinds.ps (is 3 work-out-kinds.ps μ-work-out t) work-out.Pre
@@ -442,77 +445,77 @@ get-type-returns-2 : (t : ℕ) → get-type-lts.Need-returns-2 (
 get-type-returns-2 t c = c .before .before .work-out .ensures
 
 -- src/expressions.rt:118:11
-resolve-call-get-argument-types-requires :
-    (t : ℕ) → resolve-call-lts.Need-get-argument-types-requires (
+find-callee-get-argument-types-requires :
+    (t : ℕ) → find-callee-lts.Need-get-argument-types-requires (
       get-argument-types-below t,
       get-argument-types.Post,
       resolve-typed-reads.Asked,
       resolve-typed-reads.Learnt,
-    ) (resolve-call-at t) resolve-call.Post
-resolve-call-get-argument-types-requires t c κs = (omega (arith, c .before .before .before .before .pre .0), (c .before .before .before .before .pre .1 .0, c .before .before .before .before .pre .1 .1))
+    ) (find-callee-at t) find-callee.Post
+find-callee-get-argument-types-requires t c κs = (omega (arith, c .before .before .before .before .pre .0), (c .before .before .before .before .pre .1 .0, c .before .before .before .before .pre .1 .1))
 
 -- src/expressions.rt:119:26
-resolve-call-enum-known-x : (t : ℕ) → resolve-call-lts.Need-enum-known-x (
+find-callee-enum-known-x : (t : ℕ) → find-callee-lts.Need-enum-known-x (
   get-argument-types-below t,
   get-argument-types.Post,
   resolve-typed-reads.Asked,
   resolve-typed-reads.Learnt,
-) (resolve-call-at t) resolve-call.Post
-resolve-call-enum-known-x t c = search needs
+) (find-callee-at t) find-callee.Post
+find-callee-enum-known-x t c = search needs
 
 -- src/expressions.rt:120:52
-resolve-call-enum-told : (t : ℕ) → resolve-call-lts.Need-enum-told (
+find-callee-enum-told : (t : ℕ) → find-callee-lts.Need-enum-told (
   get-argument-types-below t,
   get-argument-types.Post,
   resolve-typed-reads.Asked,
   resolve-typed-reads.Learnt,
-) (resolve-call-at t) resolve-call.Post
-resolve-call-enum-told t c = search needs
+) (find-callee-at t) find-callee.Post
+find-callee-enum-told t c = search needs
 
 -- src/expressions.rt:120:26
-resolve-call-resolve-typed-requires : (t : ℕ) → resolve-call-lts.Need-resolve-typed-requires (
+find-callee-resolve-typed-requires : (t : ℕ) → find-callee-lts.Need-resolve-typed-requires (
   get-argument-types-below t,
   get-argument-types.Post,
   resolve-typed-reads.Asked,
   resolve-typed-reads.Learnt,
-) (resolve-call-at t) resolve-call.Post
-resolve-call-resolve-typed-requires t c κs = (keyed-frame _ _ _ (c .before .before .before .before .before .get-argument-types .ensures .frame) _ (c .before .before .before .before .before .before .before .before .before .before .pre .1 .0 .ready .keyed), (c .before .before .before .before .before .before .before .before .before .before .pre .1 .1, c .before .before .before .before .before .get-argument-types .ensures .typed (c .before .enum-told .given .1)))
+) (find-callee-at t) find-callee.Post
+find-callee-resolve-typed-requires t c κs = (keyed-frame _ _ _ (c .before .before .before .before .before .get-argument-types .ensures .frame) _ (c .before .before .before .before .before .before .before .before .before .before .pre .1 .0 .ready .keyed), (c .before .before .before .before .before .before .before .before .before .before .pre .1 .1, c .before .before .before .before .before .get-argument-types .ensures .typed (c .before .enum-told .given .1)))
 
 -- src/expressions.rt:105:1
-resolve-call-same-length : (t : ℕ) → resolve-call-lts.Need-same-length (
+find-callee-same-length : (t : ℕ) → find-callee-lts.Need-same-length (
   get-argument-types-below t,
   get-argument-types.Post,
   resolve-typed-reads.Asked,
   resolve-typed-reads.Learnt,
-) (resolve-call-at t) resolve-call.Post
-resolve-call-same-length t c = search needs
+) (find-callee-at t) find-callee.Post
+find-callee-same-length t c = search needs
 
 -- src/expressions.rt:105:1
-resolve-call-returns : (t : ℕ) → resolve-call-lts.Need-returns (
+find-callee-returns : (t : ℕ) → find-callee-lts.Need-returns (
   get-argument-types-below t,
   get-argument-types.Post,
   resolve-typed-reads.Asked,
   resolve-typed-reads.Learnt,
-) (resolve-call-at t) resolve-call.Post
-resolve-call-returns t c = call-stop _ _ (c .before .before .before .before .before .before .before .before .before .before .pre .1 .0 .ready .keyed .good) _ _ _ _ _ _ (c .before .before .before .before .before .get-argument-types .ensures) _ (c .before .x .given .1)
+) (find-callee-at t) find-callee.Post
+find-callee-returns t c = call-stop _ _ (c .before .before .before .before .before .before .before .before .before .before .pre .1 .0 .ready .keyed .good) _ _ _ _ _ _ (c .before .before .before .before .before .get-argument-types .ensures) _ (c .before .x .given .1)
 
 -- src/expressions.rt:105:1
-resolve-call-same-length-2 : (t : ℕ) → resolve-call-lts.Need-same-length-2 (
+find-callee-same-length-2 : (t : ℕ) → find-callee-lts.Need-same-length-2 (
   get-argument-types-below t,
   get-argument-types.Post,
   resolve-typed-reads.Asked,
   resolve-typed-reads.Learnt,
-) (resolve-call-at t) resolve-call.Post
-resolve-call-same-length-2 t c = search needs
+) (find-callee-at t) find-callee.Post
+find-callee-same-length-2 t c = search needs
 
 -- src/expressions.rt:105:1
-resolve-call-returns-2 : (t : ℕ) → resolve-call-lts.Need-returns-2 (
+find-callee-returns-2 : (t : ℕ) → find-callee-lts.Need-returns-2 (
   get-argument-types-below t,
   get-argument-types.Post,
   resolve-typed-reads.Asked,
   resolve-typed-reads.Learnt,
-) (resolve-call-at t) resolve-call.Post
-resolve-call-returns-2 t c = call-next _ _ (c .before .before .before .before .before .before .before .before .before .before .before .pre .1 .0 .ready .keyed .good) _ _ _ _ _ _ (c .before .before .before .before .before .before .get-argument-types .ensures) (c .before .before .enum-told .given .1) _ (c .resolve-typed .ensures)
+) (find-callee-at t) find-callee.Post
+find-callee-returns-2 t c = call-next _ _ (c .before .before .before .before .before .before .before .before .before .before .before .pre .1 .0 .ready .keyed .good) _ _ _ _ _ _ (c .before .before .before .before .before .before .get-argument-types .ensures) (c .before .before .enum-told .given .1) _ (c .resolve-typed .ensures)
 
 -- src/expressions.rt:75:9
 work-out-kind-requires : (t : ℕ) → work-out-lts.Need-kind-requires (
@@ -528,12 +531,18 @@ work-out-kind-requires : (t : ℕ) → work-out-lts.Need-kind-requires (
   keep-reads.Learnt,
   both-sides-reads.Asked,
   both-sides-reads.Learnt,
+  common-of-reads.Asked,
+  common-of-reads.Learnt,
   binary-type-reads.Asked,
   binary-type-reads.Learnt,
-  resolve-call-below t,
-  resolve-call.Post,
+  found-record-reads.Asked,
+  found-record-reads.Learnt,
+  find-callee-below t,
+  find-callee.Post,
   value-type-reads.Asked,
   value-type-reads.Learnt,
+  callee-record-reads.Asked,
+  callee-record-reads.Learnt,
   leaf-type-reads.Asked,
   leaf-type-reads.Learnt,
 ) (work-out-at t) work-out.Post
@@ -553,12 +562,18 @@ work-out-reference-requires : (t : ℕ) → work-out-lts.Need-reference-requires
   keep-reads.Learnt,
   both-sides-reads.Asked,
   both-sides-reads.Learnt,
+  common-of-reads.Asked,
+  common-of-reads.Learnt,
   binary-type-reads.Asked,
   binary-type-reads.Learnt,
-  resolve-call-below t,
-  resolve-call.Post,
+  found-record-reads.Asked,
+  found-record-reads.Learnt,
+  find-callee-below t,
+  find-callee.Post,
   value-type-reads.Asked,
   value-type-reads.Learnt,
+  callee-record-reads.Asked,
+  callee-record-reads.Learnt,
   leaf-type-reads.Asked,
   leaf-type-reads.Learnt,
 ) (work-out-at t) work-out.Post
@@ -578,12 +593,18 @@ work-out-get-type-requires : (t : ℕ) → work-out-lts.Need-get-type-requires (
   keep-reads.Learnt,
   both-sides-reads.Asked,
   both-sides-reads.Learnt,
+  common-of-reads.Asked,
+  common-of-reads.Learnt,
   binary-type-reads.Asked,
   binary-type-reads.Learnt,
-  resolve-call-below t,
-  resolve-call.Post,
+  found-record-reads.Asked,
+  found-record-reads.Learnt,
+  find-callee-below t,
+  find-callee.Post,
   value-type-reads.Asked,
   value-type-reads.Learnt,
+  callee-record-reads.Asked,
+  callee-record-reads.Learnt,
   leaf-type-reads.Asked,
   leaf-type-reads.Learnt,
 ) (work-out-at t) work-out.Post
@@ -604,12 +625,18 @@ work-out-enum-known-x : (t : ℕ) → work-out-lts.Need-enum-known-x (
   keep-reads.Learnt,
   both-sides-reads.Asked,
   both-sides-reads.Learnt,
+  common-of-reads.Asked,
+  common-of-reads.Learnt,
   binary-type-reads.Asked,
   binary-type-reads.Learnt,
-  resolve-call-below t,
-  resolve-call.Post,
+  found-record-reads.Asked,
+  found-record-reads.Learnt,
+  find-callee-below t,
+  find-callee.Post,
   value-type-reads.Asked,
   value-type-reads.Learnt,
+  callee-record-reads.Asked,
+  callee-record-reads.Learnt,
   leaf-type-reads.Asked,
   leaf-type-reads.Learnt,
 ) (work-out-at t) work-out.Post
@@ -629,12 +656,18 @@ work-out-enum-known-ty : (t : ℕ) → work-out-lts.Need-enum-known-ty (
   keep-reads.Learnt,
   both-sides-reads.Asked,
   both-sides-reads.Learnt,
+  common-of-reads.Asked,
+  common-of-reads.Learnt,
   binary-type-reads.Asked,
   binary-type-reads.Learnt,
-  resolve-call-below t,
-  resolve-call.Post,
+  found-record-reads.Asked,
+  found-record-reads.Learnt,
+  find-callee-below t,
+  find-callee.Post,
   value-type-reads.Asked,
   value-type-reads.Learnt,
+  callee-record-reads.Asked,
+  callee-record-reads.Learnt,
   leaf-type-reads.Asked,
   leaf-type-reads.Learnt,
 ) (work-out-at t) work-out.Post
@@ -654,12 +687,18 @@ work-out-unary-type-requires : (t : ℕ) → work-out-lts.Need-unary-type-requir
   keep-reads.Learnt,
   both-sides-reads.Asked,
   both-sides-reads.Learnt,
+  common-of-reads.Asked,
+  common-of-reads.Learnt,
   binary-type-reads.Asked,
   binary-type-reads.Learnt,
-  resolve-call-below t,
-  resolve-call.Post,
+  found-record-reads.Asked,
+  found-record-reads.Learnt,
+  find-callee-below t,
+  find-callee.Post,
   value-type-reads.Asked,
   value-type-reads.Learnt,
+  callee-record-reads.Asked,
+  callee-record-reads.Learnt,
   leaf-type-reads.Asked,
   leaf-type-reads.Learnt,
 ) (work-out-at t) work-out.Post
@@ -679,16 +718,22 @@ work-out-keep-requires : (t : ℕ) → work-out-lts.Need-keep-requires (
   keep-reads.Learnt,
   both-sides-reads.Asked,
   both-sides-reads.Learnt,
+  common-of-reads.Asked,
+  common-of-reads.Learnt,
   binary-type-reads.Asked,
   binary-type-reads.Learnt,
-  resolve-call-below t,
-  resolve-call.Post,
+  found-record-reads.Asked,
+  found-record-reads.Learnt,
+  find-callee-below t,
+  find-callee.Post,
   value-type-reads.Asked,
   value-type-reads.Learnt,
+  callee-record-reads.Asked,
+  callee-record-reads.Learnt,
   leaf-type-reads.Asked,
   leaf-type-reads.Learnt,
 ) (work-out-at t) work-out.Post
-work-out-keep-requires t c κs = keep-ready _ _ (c .before .before .before .before .before .before .before .before .before .before .before .before .before .before .before .pre .1 .0 .ready .keyed .good) _ (c .before .before .before .before .before .before .before .before .before .before .before .before .before .before .before .pre .1 .1 .0) _ _ _ (c .before .before .before .before .before .before .before .before .before .before .before .before .before .before .before .pre .1 .0) (c .before .before .before .before .before .before .before .before .before .before .before .before .before .before .before .pre .1 .1 .1) _ _ (unary-next _ _ (c .before .before .before .before .before .before .before .before .before .before .before .before .before .before .before .pre .1 .0 .ready .keyed .good) _ _ (c .before .before .before .before .before .before .before .before .before .before .before .before .before .before .before .pre .1 .1 .0) (c .before .before .before .before .before .before .before .before .before .before .before .kind .ensures) _ _ _ (c .before .before .before .before .before .before .before .before .before .if1 .taken) _ (c .before .before .before .before .before .before .before .before .before .before .reference .ensures) _ _ (c .before .before .before .before .before .before .before .get-type .ensures) _ (c .before .before .before .ty .given .1) _ (c .unary-type .ensures))
+work-out-keep-requires t c κs = keep-ready _ _ (c .before .before .before .before .before .before .before .before .before .before .before .before .before .before .before .pre .1 .0 .ready .keyed .good) _ (c .before .before .before .before .before .before .before .before .before .before .before .before .before .before .before .pre .1 .1 .0) _ _ _ (c .before .before .before .before .before .before .before .before .before .before .before .before .before .before .before .pre .1 .0) (c .before .before .before .before .before .before .before .before .before .before .before .before .before .before .before .pre .1 .1 .1) _ _ _ (unary-next _ _ (c .before .before .before .before .before .before .before .before .before .before .before .before .before .before .before .pre .1 .0 .ready .keyed .good) _ _ (c .before .before .before .before .before .before .before .before .before .before .before .before .before .before .before .pre .1 .1 .0) (c .before .before .before .before .before .before .before .before .before .before .before .kind .ensures) _ _ _ (c .before .before .before .before .before .before .before .before .before .if1 .taken) _ (c .before .before .before .before .before .before .before .before .before .before .reference .ensures) _ _ (c .before .before .before .before .before .before .before .get-type .ensures) _ (c .before .before .before .ty .given .1) _ (c .unary-type .ensures))
 
 -- src/expressions.rt:78:9
 work-out-same-length : (t : ℕ) → work-out-lts.Need-same-length (
@@ -704,12 +749,18 @@ work-out-same-length : (t : ℕ) → work-out-lts.Need-same-length (
   keep-reads.Learnt,
   both-sides-reads.Asked,
   both-sides-reads.Learnt,
+  common-of-reads.Asked,
+  common-of-reads.Learnt,
   binary-type-reads.Asked,
   binary-type-reads.Learnt,
-  resolve-call-below t,
-  resolve-call.Post,
+  found-record-reads.Asked,
+  found-record-reads.Learnt,
+  find-callee-below t,
+  find-callee.Post,
   value-type-reads.Asked,
   value-type-reads.Learnt,
+  callee-record-reads.Asked,
+  callee-record-reads.Learnt,
   leaf-type-reads.Asked,
   leaf-type-reads.Learnt,
 ) (work-out-at t) work-out.Post
@@ -729,12 +780,18 @@ work-out-returns : (t : ℕ) → work-out-lts.Need-returns (
   keep-reads.Learnt,
   both-sides-reads.Asked,
   both-sides-reads.Learnt,
+  common-of-reads.Asked,
+  common-of-reads.Learnt,
   binary-type-reads.Asked,
   binary-type-reads.Learnt,
-  resolve-call-below t,
-  resolve-call.Post,
+  found-record-reads.Asked,
+  found-record-reads.Learnt,
+  find-callee-below t,
+  find-callee.Post,
   value-type-reads.Asked,
   value-type-reads.Learnt,
+  callee-record-reads.Asked,
+  callee-record-reads.Learnt,
   leaf-type-reads.Asked,
   leaf-type-reads.Learnt,
 ) (work-out-at t) work-out.Post
@@ -754,12 +811,18 @@ work-out-same-length-2 : (t : ℕ) → work-out-lts.Need-same-length-2 (
   keep-reads.Learnt,
   both-sides-reads.Asked,
   both-sides-reads.Learnt,
+  common-of-reads.Asked,
+  common-of-reads.Learnt,
   binary-type-reads.Asked,
   binary-type-reads.Learnt,
-  resolve-call-below t,
-  resolve-call.Post,
+  found-record-reads.Asked,
+  found-record-reads.Learnt,
+  find-callee-below t,
+  find-callee.Post,
   value-type-reads.Asked,
   value-type-reads.Learnt,
+  callee-record-reads.Asked,
+  callee-record-reads.Learnt,
   leaf-type-reads.Asked,
   leaf-type-reads.Learnt,
 ) (work-out-at t) work-out.Post
@@ -779,16 +842,22 @@ work-out-returns-2 : (t : ℕ) → work-out-lts.Need-returns-2 (
   keep-reads.Learnt,
   both-sides-reads.Asked,
   both-sides-reads.Learnt,
+  common-of-reads.Asked,
+  common-of-reads.Learnt,
   binary-type-reads.Asked,
   binary-type-reads.Learnt,
-  resolve-call-below t,
-  resolve-call.Post,
+  found-record-reads.Asked,
+  found-record-reads.Learnt,
+  find-callee-below t,
+  find-callee.Post,
   value-type-reads.Asked,
   value-type-reads.Learnt,
+  callee-record-reads.Asked,
+  callee-record-reads.Learnt,
   leaf-type-reads.Asked,
   leaf-type-reads.Learnt,
 ) (work-out-at t) work-out.Post
-work-out-returns-2 t c = keep-meets _ _ (c .before .before .before .before .before .before .before .before .before .before .before .before .before .before .before .before .before .before .pre .1 .0 .ready .keyed .good) _ (c .before .before .before .before .before .before .before .before .before .before .before .before .before .before .before .before .before .before .pre .1 .1 .0) _ _ _ (c .before .before .before .before .before .before .before .before .before .before .before .before .before .before .before .before .before .before .pre .1 .0) (c .before .before .before .before .before .before .before .before .before .before .before .before .before .before .before .before .before .before .pre .1 .1 .1) _ _ (unary-next _ _ (c .before .before .before .before .before .before .before .before .before .before .before .before .before .before .before .before .before .before .pre .1 .0 .ready .keyed .good) _ _ (c .before .before .before .before .before .before .before .before .before .before .before .before .before .before .before .before .before .before .pre .1 .1 .0) (c .before .before .before .before .before .before .before .before .before .before .before .before .before .before .kind .ensures) _ _ _ (c .before .before .before .before .before .before .before .before .before .before .before .before .if1 .taken) _ (c .before .before .before .before .before .before .before .before .before .before .before .before .before .reference .ensures) _ _ (c .before .before .before .before .before .before .before .before .before .before .get-type .ensures) _ (c .before .before .before .before .before .before .ty .given .1) _ (c .before .before .before .unary-type .ensures)) (c .before .before .before .before .before .before .before .before .before .before .before .before .before .before .before .before .before .before .fits .turn .fits) _ _ (c .before .before .keep .ensures)
+work-out-returns-2 t c = keep-meets _ _ (c .before .before .before .before .before .before .before .before .before .before .before .before .before .before .before .before .before .before .pre .1 .0 .ready .keyed .good) _ (c .before .before .before .before .before .before .before .before .before .before .before .before .before .before .before .before .before .before .pre .1 .1 .0) _ _ _ (c .before .before .before .before .before .before .before .before .before .before .before .before .before .before .before .before .before .before .pre .1 .0) (c .before .before .before .before .before .before .before .before .before .before .before .before .before .before .before .before .before .before .pre .1 .1 .1) _ _ _ (unary-next _ _ (c .before .before .before .before .before .before .before .before .before .before .before .before .before .before .before .before .before .before .pre .1 .0 .ready .keyed .good) _ _ (c .before .before .before .before .before .before .before .before .before .before .before .before .before .before .before .before .before .before .pre .1 .1 .0) (c .before .before .before .before .before .before .before .before .before .before .before .before .before .before .kind .ensures) _ _ _ (c .before .before .before .before .before .before .before .before .before .before .before .before .if1 .taken) _ (c .before .before .before .before .before .before .before .before .before .before .before .before .before .reference .ensures) _ _ (c .before .before .before .before .before .before .before .before .before .before .get-type .ensures) _ (c .before .before .before .before .before .before .ty .given .1) _ (c .before .before .before .unary-type .ensures)) (c .before .before .before .before .before .before .before .before .before .before .before .before .before .before .before .before .before .before .fits .turn .fits) _ _ (c .before .before .keep .ensures)
 
 -- src/expressions.rt:84:13
 work-out-reference-requires-2 : (t : ℕ) → work-out-lts.Need-reference-requires-2 (
@@ -804,12 +873,18 @@ work-out-reference-requires-2 : (t : ℕ) → work-out-lts.Need-reference-requir
   keep-reads.Learnt,
   both-sides-reads.Asked,
   both-sides-reads.Learnt,
+  common-of-reads.Asked,
+  common-of-reads.Learnt,
   binary-type-reads.Asked,
   binary-type-reads.Learnt,
-  resolve-call-below t,
-  resolve-call.Post,
+  found-record-reads.Asked,
+  found-record-reads.Learnt,
+  find-callee-below t,
+  find-callee.Post,
   value-type-reads.Asked,
   value-type-reads.Learnt,
+  callee-record-reads.Asked,
+  callee-record-reads.Learnt,
   leaf-type-reads.Asked,
   leaf-type-reads.Learnt,
 ) (work-out-at t) work-out.Post
@@ -829,12 +904,18 @@ work-out-get-type-requires-2 : (t : ℕ) → work-out-lts.Need-get-type-requires
   keep-reads.Learnt,
   both-sides-reads.Asked,
   both-sides-reads.Learnt,
+  common-of-reads.Asked,
+  common-of-reads.Learnt,
   binary-type-reads.Asked,
   binary-type-reads.Learnt,
-  resolve-call-below t,
-  resolve-call.Post,
+  found-record-reads.Asked,
+  found-record-reads.Learnt,
+  find-callee-below t,
+  find-callee.Post,
   value-type-reads.Asked,
   value-type-reads.Learnt,
+  callee-record-reads.Asked,
+  callee-record-reads.Learnt,
   leaf-type-reads.Asked,
   leaf-type-reads.Learnt,
 ) (work-out-at t) work-out.Post
@@ -855,12 +936,18 @@ work-out-enum-known-x-2 : (t : ℕ) → work-out-lts.Need-enum-known-x-2 (
   keep-reads.Learnt,
   both-sides-reads.Asked,
   both-sides-reads.Learnt,
+  common-of-reads.Asked,
+  common-of-reads.Learnt,
   binary-type-reads.Asked,
   binary-type-reads.Learnt,
-  resolve-call-below t,
-  resolve-call.Post,
+  found-record-reads.Asked,
+  found-record-reads.Learnt,
+  find-callee-below t,
+  find-callee.Post,
   value-type-reads.Asked,
   value-type-reads.Learnt,
+  callee-record-reads.Asked,
+  callee-record-reads.Learnt,
   leaf-type-reads.Asked,
   leaf-type-reads.Learnt,
 ) (work-out-at t) work-out.Post
@@ -880,12 +967,18 @@ work-out-enum-known-l : (t : ℕ) → work-out-lts.Need-enum-known-l (
   keep-reads.Learnt,
   both-sides-reads.Asked,
   both-sides-reads.Learnt,
+  common-of-reads.Asked,
+  common-of-reads.Learnt,
   binary-type-reads.Asked,
   binary-type-reads.Learnt,
-  resolve-call-below t,
-  resolve-call.Post,
+  found-record-reads.Asked,
+  found-record-reads.Learnt,
+  find-callee-below t,
+  find-callee.Post,
   value-type-reads.Asked,
   value-type-reads.Learnt,
+  callee-record-reads.Asked,
+  callee-record-reads.Learnt,
   leaf-type-reads.Asked,
   leaf-type-reads.Learnt,
 ) (work-out-at t) work-out.Post
@@ -905,12 +998,18 @@ work-out-get-type-requires-3 : (t : ℕ) → work-out-lts.Need-get-type-requires
   keep-reads.Learnt,
   both-sides-reads.Asked,
   both-sides-reads.Learnt,
+  common-of-reads.Asked,
+  common-of-reads.Learnt,
   binary-type-reads.Asked,
   binary-type-reads.Learnt,
-  resolve-call-below t,
-  resolve-call.Post,
+  found-record-reads.Asked,
+  found-record-reads.Learnt,
+  find-callee-below t,
+  find-callee.Post,
   value-type-reads.Asked,
   value-type-reads.Learnt,
+  callee-record-reads.Asked,
+  callee-record-reads.Learnt,
   leaf-type-reads.Asked,
   leaf-type-reads.Learnt,
 ) (work-out-at t) work-out.Post
@@ -931,12 +1030,18 @@ work-out-enum-known-x-3 : (t : ℕ) → work-out-lts.Need-enum-known-x-3 (
   keep-reads.Learnt,
   both-sides-reads.Asked,
   both-sides-reads.Learnt,
+  common-of-reads.Asked,
+  common-of-reads.Learnt,
   binary-type-reads.Asked,
   binary-type-reads.Learnt,
-  resolve-call-below t,
-  resolve-call.Post,
+  found-record-reads.Asked,
+  found-record-reads.Learnt,
+  find-callee-below t,
+  find-callee.Post,
   value-type-reads.Asked,
   value-type-reads.Learnt,
+  callee-record-reads.Asked,
+  callee-record-reads.Learnt,
   leaf-type-reads.Asked,
   leaf-type-reads.Learnt,
 ) (work-out-at t) work-out.Post
@@ -956,12 +1061,18 @@ work-out-enum-known-r : (t : ℕ) → work-out-lts.Need-enum-known-r (
   keep-reads.Learnt,
   both-sides-reads.Asked,
   both-sides-reads.Learnt,
+  common-of-reads.Asked,
+  common-of-reads.Learnt,
   binary-type-reads.Asked,
   binary-type-reads.Learnt,
-  resolve-call-below t,
-  resolve-call.Post,
+  found-record-reads.Asked,
+  found-record-reads.Learnt,
+  find-callee-below t,
+  find-callee.Post,
   value-type-reads.Asked,
   value-type-reads.Learnt,
+  callee-record-reads.Asked,
+  callee-record-reads.Learnt,
   leaf-type-reads.Asked,
   leaf-type-reads.Learnt,
 ) (work-out-at t) work-out.Post
@@ -981,16 +1092,60 @@ work-out-both-sides-requires : (t : ℕ) → work-out-lts.Need-both-sides-requir
   keep-reads.Learnt,
   both-sides-reads.Asked,
   both-sides-reads.Learnt,
+  common-of-reads.Asked,
+  common-of-reads.Learnt,
   binary-type-reads.Asked,
   binary-type-reads.Learnt,
-  resolve-call-below t,
-  resolve-call.Post,
+  found-record-reads.Asked,
+  found-record-reads.Learnt,
+  find-callee-below t,
+  find-callee.Post,
   value-type-reads.Asked,
   value-type-reads.Learnt,
+  callee-record-reads.Asked,
+  callee-record-reads.Learnt,
   leaf-type-reads.Asked,
   leaf-type-reads.Learnt,
 ) (work-out-at t) work-out.Post
 work-out-both-sides-requires t c κs = search needs
+
+-- src/expressions.rt:90:25
+work-out-common-of-requires : (t : ℕ) → work-out-lts.Need-common-of-requires (
+  kind-reads.Asked,
+  kind-reads.Learnt,
+  reference-reads.Asked,
+  reference-reads.Learnt,
+  get-type-below t,
+  get-type.Post,
+  unary-type-reads.Asked,
+  unary-type-reads.Learnt,
+  keep-reads.Asked,
+  keep-reads.Learnt,
+  both-sides-reads.Asked,
+  both-sides-reads.Learnt,
+  common-of-reads.Asked,
+  common-of-reads.Learnt,
+  binary-type-reads.Asked,
+  binary-type-reads.Learnt,
+  found-record-reads.Asked,
+  found-record-reads.Learnt,
+  find-callee-below t,
+  find-callee.Post,
+  value-type-reads.Asked,
+  value-type-reads.Learnt,
+  callee-record-reads.Asked,
+  callee-record-reads.Learnt,
+  leaf-type-reads.Asked,
+  leaf-type-reads.Learnt,
+) (work-out-at t) work-out.Post
+work-out-common-of-requires t c κs = (
+  c .before .before .before .before .before .before .before .before .before .before .before .before .before .before .before .before .before .before .before .before .before .before .before .pre .1 .0 .ready .keyed .good,
+  operands-are _ _ _ _ _ _ (c .both-sides .ensures)
+      (left-expr _ _ (c .before .before .before .before .before .before .before .before .before .before .before .before .before .before .before .before .before .before .before .before .before .before .before .pre .1 .0 .ready .keyed .good) _ _ (c .before .before .before .before .before .before .before .before .before .before .before .before .before .before .before .before .before .before .before .before .before .before .before .pre .1 .1 .0) (c .before .before .before .before .before .before .before .before .before .before .before .before .before .before .before .before .before .before .before .kind .ensures) (c .before .before .before .before .before .before .before .before .before .before .before .before .before .before .before .before .if2 .taken) _ (c .before .before .before .before .before .before .before .before .before .before .before .before .before .before .before .before .before .before .reference .ensures) .1)
+      (is-typed _ _ _ (c .before .before .before .before .before .before .before .before .before .before .before .before .before .get-type2 .ensures .typed) (c .before .before .before .before .before .before .before .before .before .l .given .1))
+      (right-expr _ _ (c .before .before .before .before .before .before .before .before .before .before .before .before .before .before .before .before .before .before .before .before .before .before .before .pre .1 .0 .ready .keyed .good) _ _ (c .before .before .before .before .before .before .before .before .before .before .before .before .before .before .before .before .before .before .before .before .before .before .before .pre .1 .1 .0) (c .before .before .before .before .before .before .before .before .before .before .before .before .before .before .before .before .before .before .before .kind .ensures) (c .before .before .before .before .before .before .before .before .before .before .before .before .before .before .before .before .if2 .taken) _ (c .before .before .before .before .before .before .before .before .before .before .before .before .before .before .before .reference2 .ensures) .1)
+      (is-typed _ _ _ (c .before .before .before .before .before .before .get-type3 .ensures .typed) (c .before .before .r .given .1)),
+)
 
 -- src/expressions.rt:90:25
 work-out-binary-type-requires : (t : ℕ) → work-out-lts.Need-binary-type-requires (
@@ -1006,26 +1161,63 @@ work-out-binary-type-requires : (t : ℕ) → work-out-lts.Need-binary-type-requ
   keep-reads.Learnt,
   both-sides-reads.Asked,
   both-sides-reads.Learnt,
+  common-of-reads.Asked,
+  common-of-reads.Learnt,
   binary-type-reads.Asked,
   binary-type-reads.Learnt,
-  resolve-call-below t,
-  resolve-call.Post,
+  found-record-reads.Asked,
+  found-record-reads.Learnt,
+  find-callee-below t,
+  find-callee.Post,
   value-type-reads.Asked,
   value-type-reads.Learnt,
+  callee-record-reads.Asked,
+  callee-record-reads.Learnt,
   leaf-type-reads.Asked,
   leaf-type-reads.Learnt,
 ) (work-out-at t) work-out.Post
 work-out-binary-type-requires t c κs = (
-  c .before .before .before .before .before .before .before .before .before .before .before .before .before .before .before .before .before .before .before .before .before .before .before .pre .1 .0 .ready .keyed .good,
+  c .before .before .before .before .before .before .before .before .before .before .before .before .before .before .before .before .before .before .before .before .before .before .before .before .pre .1 .0 .ready .keyed .good,
   (
-    operands-are _ _ _ _ _ _ (c .both-sides .ensures)
-        (left-expr _ _ (c .before .before .before .before .before .before .before .before .before .before .before .before .before .before .before .before .before .before .before .before .before .before .before .pre .1 .0 .ready .keyed .good) _ _ (c .before .before .before .before .before .before .before .before .before .before .before .before .before .before .before .before .before .before .before .before .before .before .before .pre .1 .1 .0) (c .before .before .before .before .before .before .before .before .before .before .before .before .before .before .before .before .before .before .before .kind .ensures) (c .before .before .before .before .before .before .before .before .before .before .before .before .before .before .before .before .if2 .taken) _ (c .before .before .before .before .before .before .before .before .before .before .before .before .before .before .before .before .before .before .reference .ensures) .1)
-        (is-typed _ _ _ (c .before .before .before .before .before .before .before .before .before .before .before .before .before .get-type2 .ensures .typed) (c .before .before .before .before .before .before .before .before .before .l .given .1))
-        (right-expr _ _ (c .before .before .before .before .before .before .before .before .before .before .before .before .before .before .before .before .before .before .before .before .before .before .before .pre .1 .0 .ready .keyed .good) _ _ (c .before .before .before .before .before .before .before .before .before .before .before .before .before .before .before .before .before .before .before .before .before .before .before .pre .1 .1 .0) (c .before .before .before .before .before .before .before .before .before .before .before .before .before .before .before .before .before .before .before .kind .ensures) (c .before .before .before .before .before .before .before .before .before .before .before .before .before .before .before .before .if2 .taken) _ (c .before .before .before .before .before .before .before .before .before .before .before .before .before .before .before .reference2 .ensures) .1)
-        (is-typed _ _ _ (c .before .before .before .before .before .before .get-type3 .ensures .typed) (c .before .before .r .given .1)),
-    is-kind _ _ (c .before .before .before .before .before .before .before .before .before .before .before .before .before .before .before .before .before .before .before .before .before .before .before .pre .1 .0 .ready .keyed .good) _ _ (c .before .before .before .before .before .before .before .before .before .before .before .before .before .before .before .before .before .before .before .before .before .before .before .pre .1 .1 .0) (c .before .before .before .before .before .before .before .before .before .before .before .before .before .before .before .before .before .before .before .kind .ensures) 10 (c .before .before .before .before .before .before .before .before .before .before .before .before .before .before .before .before .if2 .taken),
+    operands-are _ _ _ _ _ _ (c .before .both-sides .ensures)
+        (left-expr _ _ (c .before .before .before .before .before .before .before .before .before .before .before .before .before .before .before .before .before .before .before .before .before .before .before .before .pre .1 .0 .ready .keyed .good) _ _ (c .before .before .before .before .before .before .before .before .before .before .before .before .before .before .before .before .before .before .before .before .before .before .before .before .pre .1 .1 .0) (c .before .before .before .before .before .before .before .before .before .before .before .before .before .before .before .before .before .before .before .before .kind .ensures) (c .before .before .before .before .before .before .before .before .before .before .before .before .before .before .before .before .before .if2 .taken) _ (c .before .before .before .before .before .before .before .before .before .before .before .before .before .before .before .before .before .before .before .reference .ensures) .1)
+        (is-typed _ _ _ (c .before .before .before .before .before .before .before .before .before .before .before .before .before .before .get-type2 .ensures .typed) (c .before .before .before .before .before .before .before .before .before .before .l .given .1))
+        (right-expr _ _ (c .before .before .before .before .before .before .before .before .before .before .before .before .before .before .before .before .before .before .before .before .before .before .before .before .pre .1 .0 .ready .keyed .good) _ _ (c .before .before .before .before .before .before .before .before .before .before .before .before .before .before .before .before .before .before .before .before .before .before .before .before .pre .1 .1 .0) (c .before .before .before .before .before .before .before .before .before .before .before .before .before .before .before .before .before .before .before .before .kind .ensures) (c .before .before .before .before .before .before .before .before .before .before .before .before .before .before .before .before .before .if2 .taken) _ (c .before .before .before .before .before .before .before .before .before .before .before .before .before .before .before .before .reference2 .ensures) .1)
+        (is-typed _ _ _ (c .before .before .before .before .before .before .before .get-type3 .ensures .typed) (c .before .before .before .r .given .1)),
+    (is-kind _ _ (c .before .before .before .before .before .before .before .before .before .before .before .before .before .before .before .before .before .before .before .before .before .before .before .before .pre .1 .0 .ready .keyed .good) _ _ (c .before .before .before .before .before .before .before .before .before .before .before .before .before .before .before .before .before .before .before .before .before .before .before .before .pre .1 .1 .0) (c .before .before .before .before .before .before .before .before .before .before .before .before .before .before .before .before .before .before .before .before .kind .ensures) 10 (c .before .before .before .before .before .before .before .before .before .before .before .before .before .before .before .before .before .if2 .taken), c .common-of .ensures),
   ),
 )
+
+-- src/expressions.rt:90:25
+work-out-found-record-requires : (t : ℕ) → work-out-lts.Need-found-record-requires (
+  kind-reads.Asked,
+  kind-reads.Learnt,
+  reference-reads.Asked,
+  reference-reads.Learnt,
+  get-type-below t,
+  get-type.Post,
+  unary-type-reads.Asked,
+  unary-type-reads.Learnt,
+  keep-reads.Asked,
+  keep-reads.Learnt,
+  both-sides-reads.Asked,
+  both-sides-reads.Learnt,
+  common-of-reads.Asked,
+  common-of-reads.Learnt,
+  binary-type-reads.Asked,
+  binary-type-reads.Learnt,
+  found-record-reads.Asked,
+  found-record-reads.Learnt,
+  find-callee-below t,
+  find-callee.Post,
+  value-type-reads.Asked,
+  value-type-reads.Learnt,
+  callee-record-reads.Asked,
+  callee-record-reads.Learnt,
+  leaf-type-reads.Asked,
+  leaf-type-reads.Learnt,
+) (work-out-at t) work-out.Post
+work-out-found-record-requires t c κs = search needs
 
 -- src/expressions.rt:91:21
 work-out-keep-requires-2 : (t : ℕ) → work-out-lts.Need-keep-requires-2 (
@@ -1041,16 +1233,22 @@ work-out-keep-requires-2 : (t : ℕ) → work-out-lts.Need-keep-requires-2 (
   keep-reads.Learnt,
   both-sides-reads.Asked,
   both-sides-reads.Learnt,
+  common-of-reads.Asked,
+  common-of-reads.Learnt,
   binary-type-reads.Asked,
   binary-type-reads.Learnt,
-  resolve-call-below t,
-  resolve-call.Post,
+  found-record-reads.Asked,
+  found-record-reads.Learnt,
+  find-callee-below t,
+  find-callee.Post,
   value-type-reads.Asked,
   value-type-reads.Learnt,
+  callee-record-reads.Asked,
+  callee-record-reads.Learnt,
   leaf-type-reads.Asked,
   leaf-type-reads.Learnt,
 ) (work-out-at t) work-out.Post
-work-out-keep-requires-2 t c κs = keep-ready _ _ (c .before .before .before .before .before .before .before .before .before .before .before .before .before .before .before .before .before .before .before .before .before .before .before .before .before .pre .1 .0 .ready .keyed .good) _ (c .before .before .before .before .before .before .before .before .before .before .before .before .before .before .before .before .before .before .before .before .before .before .before .before .before .pre .1 .1 .0) _ _ _ (c .before .before .before .before .before .before .before .before .before .before .before .before .before .before .before .before .before .before .before .before .before .before .before .before .before .pre .1 .0) (c .before .before .before .before .before .before .before .before .before .before .before .before .before .before .before .before .before .before .before .before .before .before .before .before .before .pre .1 .1 .1) _ _ (right-next _ _ (c .before .before .before .before .before .before .before .before .before .before .before .before .before .before .before .before .before .before .before .before .before .before .before .before .before .pre .1 .0 .ready .keyed .good) _ _ (c .before .before .before .before .before .before .before .before .before .before .before .before .before .before .before .before .before .before .before .before .before .before .before .before .before .pre .1 .1 .0) (c .before .before .before .before .before .before .before .before .before .before .before .before .before .before .before .before .before .before .before .before .before .kind .ensures) _ _ _ (c .before .before .before .before .before .before .before .before .before .before .before .before .before .before .before .before .before .before .if2 .taken) _ (c .before .before .before .before .before .before .before .before .before .before .before .before .before .before .before .before .before .before .before .before .reference .ensures) _ _ (c .before .before .before .before .before .before .before .before .before .before .before .before .before .before .before .get-type2 .ensures) (c .before .before .before .before .before .before .before .before .before .before .before .before .before .before .before .before .before .before .before .before .before .before .before .before .before .pre .1 .0) _ (c .before .before .before .before .before .before .before .before .before .before .before .l .given .1) _ (c .before .before .before .before .before .before .before .before .before .before .before .before .before .before .before .before .before .reference2 .ensures) _ _ (c .before .before .before .before .before .before .before .before .get-type3 .ensures) _ (c .before .before .before .before .r .given .1) _ (c .before .before .both-sides .ensures) _ (c .before .binary-type .ensures))
+work-out-keep-requires-2 t c κs = keep-ready _ _ (c .before .before .before .before .before .before .before .before .before .before .before .before .before .before .before .before .before .before .before .before .before .before .before .before .before .before .before .pre .1 .0 .ready .keyed .good) _ (c .before .before .before .before .before .before .before .before .before .before .before .before .before .before .before .before .before .before .before .before .before .before .before .before .before .before .before .pre .1 .1 .0) _ _ _ (c .before .before .before .before .before .before .before .before .before .before .before .before .before .before .before .before .before .before .before .before .before .before .before .before .before .before .before .pre .1 .0) (c .before .before .before .before .before .before .before .before .before .before .before .before .before .before .before .before .before .before .before .before .before .before .before .before .before .before .before .pre .1 .1 .1) _ _ _ (right-next _ _ (c .before .before .before .before .before .before .before .before .before .before .before .before .before .before .before .before .before .before .before .before .before .before .before .before .before .before .before .pre .1 .0 .ready .keyed .good) _ _ (c .before .before .before .before .before .before .before .before .before .before .before .before .before .before .before .before .before .before .before .before .before .before .before .before .before .before .before .pre .1 .1 .0) (c .before .before .before .before .before .before .before .before .before .before .before .before .before .before .before .before .before .before .before .before .before .before .before .kind .ensures) _ _ _ (c .before .before .before .before .before .before .before .before .before .before .before .before .before .before .before .before .before .before .before .before .if2 .taken) _ (c .before .before .before .before .before .before .before .before .before .before .before .before .before .before .before .before .before .before .before .before .before .before .reference .ensures) _ _ (c .before .before .before .before .before .before .before .before .before .before .before .before .before .before .before .before .before .get-type2 .ensures) (c .before .before .before .before .before .before .before .before .before .before .before .before .before .before .before .before .before .before .before .before .before .before .before .before .before .before .before .pre .1 .0) _ (c .before .before .before .before .before .before .before .before .before .before .before .before .before .l .given .1) _ (c .before .before .before .before .before .before .before .before .before .before .before .before .before .before .before .before .before .before .before .reference2 .ensures) _ _ (c .before .before .before .before .before .before .before .before .before .before .get-type3 .ensures) _ (c .before .before .before .before .before .before .r .given .1) _ (c .before .before .before .before .both-sides .ensures) _ (c .before .before .binary-type .ensures) _ (c .before .before .before .common-of .ensures) _ (c .found-record .ensures))
 
 -- src/expressions.rt:85:9
 work-out-same-length-3 : (t : ℕ) → work-out-lts.Need-same-length-3 (
@@ -1066,12 +1264,18 @@ work-out-same-length-3 : (t : ℕ) → work-out-lts.Need-same-length-3 (
   keep-reads.Learnt,
   both-sides-reads.Asked,
   both-sides-reads.Learnt,
+  common-of-reads.Asked,
+  common-of-reads.Learnt,
   binary-type-reads.Asked,
   binary-type-reads.Learnt,
-  resolve-call-below t,
-  resolve-call.Post,
+  found-record-reads.Asked,
+  found-record-reads.Learnt,
+  find-callee-below t,
+  find-callee.Post,
   value-type-reads.Asked,
   value-type-reads.Learnt,
+  callee-record-reads.Asked,
+  callee-record-reads.Learnt,
   leaf-type-reads.Asked,
   leaf-type-reads.Learnt,
 ) (work-out-at t) work-out.Post
@@ -1091,12 +1295,18 @@ work-out-returns-3 : (t : ℕ) → work-out-lts.Need-returns-3 (
   keep-reads.Learnt,
   both-sides-reads.Asked,
   both-sides-reads.Learnt,
+  common-of-reads.Asked,
+  common-of-reads.Learnt,
   binary-type-reads.Asked,
   binary-type-reads.Learnt,
-  resolve-call-below t,
-  resolve-call.Post,
+  found-record-reads.Asked,
+  found-record-reads.Learnt,
+  find-callee-below t,
+  find-callee.Post,
   value-type-reads.Asked,
   value-type-reads.Learnt,
+  callee-record-reads.Asked,
+  callee-record-reads.Learnt,
   leaf-type-reads.Asked,
   leaf-type-reads.Learnt,
 ) (work-out-at t) work-out.Post
@@ -1116,12 +1326,18 @@ work-out-same-length-4 : (t : ℕ) → work-out-lts.Need-same-length-4 (
   keep-reads.Learnt,
   both-sides-reads.Asked,
   both-sides-reads.Learnt,
+  common-of-reads.Asked,
+  common-of-reads.Learnt,
   binary-type-reads.Asked,
   binary-type-reads.Learnt,
-  resolve-call-below t,
-  resolve-call.Post,
+  found-record-reads.Asked,
+  found-record-reads.Learnt,
+  find-callee-below t,
+  find-callee.Post,
   value-type-reads.Asked,
   value-type-reads.Learnt,
+  callee-record-reads.Asked,
+  callee-record-reads.Learnt,
   leaf-type-reads.Asked,
   leaf-type-reads.Learnt,
 ) (work-out-at t) work-out.Post
@@ -1141,12 +1357,18 @@ work-out-returns-4 : (t : ℕ) → work-out-lts.Need-returns-4 (
   keep-reads.Learnt,
   both-sides-reads.Asked,
   both-sides-reads.Learnt,
+  common-of-reads.Asked,
+  common-of-reads.Learnt,
   binary-type-reads.Asked,
   binary-type-reads.Learnt,
-  resolve-call-below t,
-  resolve-call.Post,
+  found-record-reads.Asked,
+  found-record-reads.Learnt,
+  find-callee-below t,
+  find-callee.Post,
   value-type-reads.Asked,
   value-type-reads.Learnt,
+  callee-record-reads.Asked,
+  callee-record-reads.Learnt,
   leaf-type-reads.Asked,
   leaf-type-reads.Learnt,
 ) (work-out-at t) work-out.Post
@@ -1166,16 +1388,22 @@ work-out-same-length-5 : (t : ℕ) → work-out-lts.Need-same-length-5 (
   keep-reads.Learnt,
   both-sides-reads.Asked,
   both-sides-reads.Learnt,
+  common-of-reads.Asked,
+  common-of-reads.Learnt,
   binary-type-reads.Asked,
   binary-type-reads.Learnt,
-  resolve-call-below t,
-  resolve-call.Post,
+  found-record-reads.Asked,
+  found-record-reads.Learnt,
+  find-callee-below t,
+  find-callee.Post,
   value-type-reads.Asked,
   value-type-reads.Learnt,
+  callee-record-reads.Asked,
+  callee-record-reads.Learnt,
   leaf-type-reads.Asked,
   leaf-type-reads.Learnt,
 ) (work-out-at t) work-out.Post
-work-out-same-length-5 t c = search needs
+work-out-same-length-5 t c = omega (arith, c .before .before .before .before .before .before .before .before .before .before .before .before .before .before .before .before .before .before .before .scratch3 .given, c .before .before .before .before .before .before .before .before .before .before .before .before .scratch4 .given, c .before .scratch5 .given)
 
 -- src/expressions.rt:85:9
 work-out-returns-5 : (t : ℕ) → work-out-lts.Need-returns-5 (
@@ -1191,19 +1419,25 @@ work-out-returns-5 : (t : ℕ) → work-out-lts.Need-returns-5 (
   keep-reads.Learnt,
   both-sides-reads.Asked,
   both-sides-reads.Learnt,
+  common-of-reads.Asked,
+  common-of-reads.Learnt,
   binary-type-reads.Asked,
   binary-type-reads.Learnt,
-  resolve-call-below t,
-  resolve-call.Post,
+  found-record-reads.Asked,
+  found-record-reads.Learnt,
+  find-callee-below t,
+  find-callee.Post,
   value-type-reads.Asked,
   value-type-reads.Learnt,
+  callee-record-reads.Asked,
+  callee-record-reads.Learnt,
   leaf-type-reads.Asked,
   leaf-type-reads.Learnt,
 ) (work-out-at t) work-out.Post
-work-out-returns-5 t c = keep-meets _ _ (c .before .before .before .before .before .before .before .before .before .before .before .before .before .before .before .before .before .before .before .before .before .before .before .before .before .before .before .before .pre .1 .0 .ready .keyed .good) _ (c .before .before .before .before .before .before .before .before .before .before .before .before .before .before .before .before .before .before .before .before .before .before .before .before .before .before .before .before .pre .1 .1 .0) _ _ _ (c .before .before .before .before .before .before .before .before .before .before .before .before .before .before .before .before .before .before .before .before .before .before .before .before .before .before .before .before .pre .1 .0) (c .before .before .before .before .before .before .before .before .before .before .before .before .before .before .before .before .before .before .before .before .before .before .before .before .before .before .before .before .pre .1 .1 .1) _ _ (right-next _ _ (c .before .before .before .before .before .before .before .before .before .before .before .before .before .before .before .before .before .before .before .before .before .before .before .before .before .before .before .before .pre .1 .0 .ready .keyed .good) _ _ (c .before .before .before .before .before .before .before .before .before .before .before .before .before .before .before .before .before .before .before .before .before .before .before .before .before .before .before .before .pre .1 .1 .0) (c .before .before .before .before .before .before .before .before .before .before .before .before .before .before .before .before .before .before .before .before .before .before .before .before .kind .ensures) _ _ _ (c .before .before .before .before .before .before .before .before .before .before .before .before .before .before .before .before .before .before .before .before .before .if2 .taken) _ (c .before .before .before .before .before .before .before .before .before .before .before .before .before .before .before .before .before .before .before .before .before .before .before .reference .ensures) _ _ (c .before .before .before .before .before .before .before .before .before .before .before .before .before .before .before .before .before .before .get-type2 .ensures) (c .before .before .before .before .before .before .before .before .before .before .before .before .before .before .before .before .before .before .before .before .before .before .before .before .before .before .before .before .pre .1 .0) _ (c .before .before .before .before .before .before .before .before .before .before .before .before .before .before .l .given .1) _ (c .before .before .before .before .before .before .before .before .before .before .before .before .before .before .before .before .before .before .before .before .reference2 .ensures) _ _ (c .before .before .before .before .before .before .before .before .before .before .before .get-type3 .ensures) _ (c .before .before .before .before .before .before .before .r .given .1) _ (c .before .before .before .before .before .both-sides .ensures) _ (c .before .before .before .before .binary-type .ensures)) (c .before .before .before .before .before .before .before .before .before .before .before .before .before .before .before .before .before .before .before .before .before .before .before .before .before .before .before .before .fits .turn .fits) _ _ (c .before .before .keep2 .ensures)
+work-out-returns-5 t c = keep-meets _ _ (c .before .before .before .before .before .before .before .before .before .before .before .before .before .before .before .before .before .before .before .before .before .before .before .before .before .before .before .before .before .before .pre .1 .0 .ready .keyed .good) _ (c .before .before .before .before .before .before .before .before .before .before .before .before .before .before .before .before .before .before .before .before .before .before .before .before .before .before .before .before .before .before .pre .1 .1 .0) _ _ _ (c .before .before .before .before .before .before .before .before .before .before .before .before .before .before .before .before .before .before .before .before .before .before .before .before .before .before .before .before .before .before .pre .1 .0) (c .before .before .before .before .before .before .before .before .before .before .before .before .before .before .before .before .before .before .before .before .before .before .before .before .before .before .before .before .before .before .pre .1 .1 .1) _ _ _ (right-next _ _ (c .before .before .before .before .before .before .before .before .before .before .before .before .before .before .before .before .before .before .before .before .before .before .before .before .before .before .before .before .before .before .pre .1 .0 .ready .keyed .good) _ _ (c .before .before .before .before .before .before .before .before .before .before .before .before .before .before .before .before .before .before .before .before .before .before .before .before .before .before .before .before .before .before .pre .1 .1 .0) (c .before .before .before .before .before .before .before .before .before .before .before .before .before .before .before .before .before .before .before .before .before .before .before .before .before .before .kind .ensures) _ _ _ (c .before .before .before .before .before .before .before .before .before .before .before .before .before .before .before .before .before .before .before .before .before .before .before .if2 .taken) _ (c .before .before .before .before .before .before .before .before .before .before .before .before .before .before .before .before .before .before .before .before .before .before .before .before .before .reference .ensures) _ _ (c .before .before .before .before .before .before .before .before .before .before .before .before .before .before .before .before .before .before .before .before .get-type2 .ensures) (c .before .before .before .before .before .before .before .before .before .before .before .before .before .before .before .before .before .before .before .before .before .before .before .before .before .before .before .before .before .before .pre .1 .0) _ (c .before .before .before .before .before .before .before .before .before .before .before .before .before .before .before .before .l .given .1) _ (c .before .before .before .before .before .before .before .before .before .before .before .before .before .before .before .before .before .before .before .before .before .before .reference2 .ensures) _ _ (c .before .before .before .before .before .before .before .before .before .before .before .before .before .get-type3 .ensures) _ (c .before .before .before .before .before .before .before .before .before .r .given .1) _ (c .before .before .before .before .before .before .before .both-sides .ensures) _ (c .before .before .before .before .before .binary-type .ensures) _ (c .before .before .before .before .before .before .common-of .ensures) _ (c .before .before .before .found-record .ensures)) (c .before .before .before .before .before .before .before .before .before .before .before .before .before .before .before .before .before .before .before .before .before .before .before .before .before .before .before .before .before .before .fits .turn .fits) _ _ (c .before .before .keep2 .ensures)
 
 -- src/expressions.rt:97:13
-work-out-resolve-call-requires : (t : ℕ) → work-out-lts.Need-resolve-call-requires (
+work-out-find-callee-requires : (t : ℕ) → work-out-lts.Need-find-callee-requires (
   kind-reads.Asked,
   kind-reads.Learnt,
   reference-reads.Asked,
@@ -1216,16 +1450,22 @@ work-out-resolve-call-requires : (t : ℕ) → work-out-lts.Need-resolve-call-re
   keep-reads.Learnt,
   both-sides-reads.Asked,
   both-sides-reads.Learnt,
+  common-of-reads.Asked,
+  common-of-reads.Learnt,
   binary-type-reads.Asked,
   binary-type-reads.Learnt,
-  resolve-call-below t,
-  resolve-call.Post,
+  found-record-reads.Asked,
+  found-record-reads.Learnt,
+  find-callee-below t,
+  find-callee.Post,
   value-type-reads.Asked,
   value-type-reads.Learnt,
+  callee-record-reads.Asked,
+  callee-record-reads.Learnt,
   leaf-type-reads.Asked,
   leaf-type-reads.Learnt,
 ) (work-out-at t) work-out.Post
-work-out-resolve-call-requires t c κs = (omega (arith, c .before .before .before .before .before .before .before .before .before .pre .0), (c .before .before .before .before .before .before .before .before .before .pre .1 .0, is-kind _ _ (c .before .before .before .before .before .before .before .before .before .pre .1 .0 .ready .keyed .good) _ _ (c .before .before .before .before .before .before .before .before .before .pre .1 .1 .0) (c .before .before .before .before .before .kind .ensures) 11 (c .before .if3 .taken)))
+work-out-find-callee-requires t c κs = (omega (arith, c .before .before .before .before .before .before .before .before .before .pre .0), (c .before .before .before .before .before .before .before .before .before .pre .1 .0, is-kind _ _ (c .before .before .before .before .before .before .before .before .before .pre .1 .0 .ready .keyed .good) _ _ (c .before .before .before .before .before .before .before .before .before .pre .1 .1 .0) (c .before .before .before .before .before .kind .ensures) 11 (c .before .if3 .taken)))
 
 -- src/expressions.rt:98:45
 work-out-value-type-requires : (t : ℕ) → work-out-lts.Need-value-type-requires (
@@ -1241,16 +1481,53 @@ work-out-value-type-requires : (t : ℕ) → work-out-lts.Need-value-type-requir
   keep-reads.Learnt,
   both-sides-reads.Asked,
   both-sides-reads.Learnt,
+  common-of-reads.Asked,
+  common-of-reads.Learnt,
   binary-type-reads.Asked,
   binary-type-reads.Learnt,
-  resolve-call-below t,
-  resolve-call.Post,
+  found-record-reads.Asked,
+  found-record-reads.Learnt,
+  find-callee-below t,
+  find-callee.Post,
   value-type-reads.Asked,
   value-type-reads.Learnt,
+  callee-record-reads.Asked,
+  callee-record-reads.Learnt,
   leaf-type-reads.Asked,
   leaf-type-reads.Learnt,
 ) (work-out-at t) work-out.Post
-work-out-value-type-requires t c κs = (c .before .before .before .before .before .before .before .before .before .before .before .before .before .pre .1 .0 .ready .keyed .good, (c .before .before .before .resolve-call .ensures .callee, expr-low _ _ (c .before .before .before .before .before .before .before .before .before .before .before .before .before .pre .1 .0 .ready .keyed .good) _ (c .before .before .before .before .before .before .before .before .before .before .before .before .before .pre .1 .1 .0)))
+work-out-value-type-requires t c κs = (c .before .before .before .before .before .before .before .before .before .before .before .before .pre .1 .0 .ready .keyed .good, (c .before .before .find-callee .ensures .callee, expr-low _ _ (c .before .before .before .before .before .before .before .before .before .before .before .before .pre .1 .0 .ready .keyed .good) _ (c .before .before .before .before .before .before .before .before .before .before .before .before .pre .1 .1 .0)))
+
+-- src/expressions.rt:98:45
+work-out-callee-record-requires : (t : ℕ) → work-out-lts.Need-callee-record-requires (
+  kind-reads.Asked,
+  kind-reads.Learnt,
+  reference-reads.Asked,
+  reference-reads.Learnt,
+  get-type-below t,
+  get-type.Post,
+  unary-type-reads.Asked,
+  unary-type-reads.Learnt,
+  keep-reads.Asked,
+  keep-reads.Learnt,
+  both-sides-reads.Asked,
+  both-sides-reads.Learnt,
+  common-of-reads.Asked,
+  common-of-reads.Learnt,
+  binary-type-reads.Asked,
+  binary-type-reads.Learnt,
+  found-record-reads.Asked,
+  found-record-reads.Learnt,
+  find-callee-below t,
+  find-callee.Post,
+  value-type-reads.Asked,
+  value-type-reads.Learnt,
+  callee-record-reads.Asked,
+  callee-record-reads.Learnt,
+  leaf-type-reads.Asked,
+  leaf-type-reads.Learnt,
+) (work-out-at t) work-out.Post
+work-out-callee-record-requires t c κs = search needs
 
 -- src/expressions.rt:98:9
 work-out-keep-requires-3 : (t : ℕ) → work-out-lts.Need-keep-requires-3 (
@@ -1266,16 +1543,22 @@ work-out-keep-requires-3 : (t : ℕ) → work-out-lts.Need-keep-requires-3 (
   keep-reads.Learnt,
   both-sides-reads.Asked,
   both-sides-reads.Learnt,
+  common-of-reads.Asked,
+  common-of-reads.Learnt,
   binary-type-reads.Asked,
   binary-type-reads.Learnt,
-  resolve-call-below t,
-  resolve-call.Post,
+  found-record-reads.Asked,
+  found-record-reads.Learnt,
+  find-callee-below t,
+  find-callee.Post,
   value-type-reads.Asked,
   value-type-reads.Learnt,
+  callee-record-reads.Asked,
+  callee-record-reads.Learnt,
   leaf-type-reads.Asked,
   leaf-type-reads.Learnt,
 ) (work-out-at t) work-out.Post
-work-out-keep-requires-3 t c κs = keep-ready _ _ (c .before .before .before .before .before .before .before .before .before .before .before .before .before .before .pre .1 .0 .ready .keyed .good) _ (c .before .before .before .before .before .before .before .before .before .before .before .before .before .before .pre .1 .1 .0) _ _ _ (c .before .before .before .before .before .before .before .before .before .before .before .before .before .before .pre .1 .0) (c .before .before .before .before .before .before .before .before .before .before .before .before .before .before .pre .1 .1 .1) _ _ (call-value _ _ (c .before .before .before .before .before .before .before .before .before .before .before .before .before .before .pre .1 .0 .ready .keyed .good) _ _ (c .before .before .before .before .before .before .before .before .before .before .before .before .before .before .pre .1 .1 .0) (c .before .before .before .before .before .before .before .before .before .before .kind .ensures) _ _ _ (c .before .before .before .before .before .before .if3 .taken) _ _ (c .before .before .before .before .resolve-call .ensures) _ (c .value-type .ensures))
+work-out-keep-requires-3 t c κs = keep-ready _ _ (c .before .before .before .before .before .before .before .before .before .before .before .before .before .before .before .pre .1 .0 .ready .keyed .good) _ (c .before .before .before .before .before .before .before .before .before .before .before .before .before .before .before .pre .1 .1 .0) _ _ _ (c .before .before .before .before .before .before .before .before .before .before .before .before .before .before .before .pre .1 .0) (c .before .before .before .before .before .before .before .before .before .before .before .before .before .before .before .pre .1 .1 .1) _ _ _ (call-value _ _ (c .before .before .before .before .before .before .before .before .before .before .before .before .before .before .before .pre .1 .0 .ready .keyed .good) _ _ (c .before .before .before .before .before .before .before .before .before .before .before .before .before .before .before .pre .1 .1 .0) (c .before .before .before .before .before .before .before .before .before .before .before .kind .ensures) _ _ _ (c .before .before .before .before .before .before .before .if3 .taken) _ _ (c .before .before .before .before .before .find-callee .ensures) _ (c .before .before .value-type .ensures) _ (c .callee-record .ensures))
 
 -- src/expressions.rt:98:9
 work-out-same-length-6 : (t : ℕ) → work-out-lts.Need-same-length-6 (
@@ -1291,12 +1574,18 @@ work-out-same-length-6 : (t : ℕ) → work-out-lts.Need-same-length-6 (
   keep-reads.Learnt,
   both-sides-reads.Asked,
   both-sides-reads.Learnt,
+  common-of-reads.Asked,
+  common-of-reads.Learnt,
   binary-type-reads.Asked,
   binary-type-reads.Learnt,
-  resolve-call-below t,
-  resolve-call.Post,
+  found-record-reads.Asked,
+  found-record-reads.Learnt,
+  find-callee-below t,
+  find-callee.Post,
   value-type-reads.Asked,
   value-type-reads.Learnt,
+  callee-record-reads.Asked,
+  callee-record-reads.Learnt,
   leaf-type-reads.Asked,
   leaf-type-reads.Learnt,
 ) (work-out-at t) work-out.Post
@@ -1316,16 +1605,22 @@ work-out-returns-6 : (t : ℕ) → work-out-lts.Need-returns-6 (
   keep-reads.Learnt,
   both-sides-reads.Asked,
   both-sides-reads.Learnt,
+  common-of-reads.Asked,
+  common-of-reads.Learnt,
   binary-type-reads.Asked,
   binary-type-reads.Learnt,
-  resolve-call-below t,
-  resolve-call.Post,
+  found-record-reads.Asked,
+  found-record-reads.Learnt,
+  find-callee-below t,
+  find-callee.Post,
   value-type-reads.Asked,
   value-type-reads.Learnt,
+  callee-record-reads.Asked,
+  callee-record-reads.Learnt,
   leaf-type-reads.Asked,
   leaf-type-reads.Learnt,
 ) (work-out-at t) work-out.Post
-work-out-returns-6 t c = keep-meets _ _ (c .before .before .before .before .before .before .before .before .before .before .before .before .before .before .before .before .before .pre .1 .0 .ready .keyed .good) _ (c .before .before .before .before .before .before .before .before .before .before .before .before .before .before .before .before .before .pre .1 .1 .0) _ _ _ (c .before .before .before .before .before .before .before .before .before .before .before .before .before .before .before .before .before .pre .1 .0) (c .before .before .before .before .before .before .before .before .before .before .before .before .before .before .before .before .before .pre .1 .1 .1) _ _ (call-value _ _ (c .before .before .before .before .before .before .before .before .before .before .before .before .before .before .before .before .before .pre .1 .0 .ready .keyed .good) _ _ (c .before .before .before .before .before .before .before .before .before .before .before .before .before .before .before .before .before .pre .1 .1 .0) (c .before .before .before .before .before .before .before .before .before .before .before .before .before .kind .ensures) _ _ _ (c .before .before .before .before .before .before .before .before .before .if3 .taken) _ _ (c .before .before .before .before .before .before .before .resolve-call .ensures) _ (c .before .before .before .value-type .ensures)) (c .before .before .before .before .before .before .before .before .before .before .before .before .before .before .before .before .before .fits .turn .fits) _ _ (c .before .before .keep3 .ensures)
+work-out-returns-6 t c = keep-meets _ _ (c .before .before .before .before .before .before .before .before .before .before .before .before .before .before .before .before .before .before .pre .1 .0 .ready .keyed .good) _ (c .before .before .before .before .before .before .before .before .before .before .before .before .before .before .before .before .before .before .pre .1 .1 .0) _ _ _ (c .before .before .before .before .before .before .before .before .before .before .before .before .before .before .before .before .before .before .pre .1 .0) (c .before .before .before .before .before .before .before .before .before .before .before .before .before .before .before .before .before .before .pre .1 .1 .1) _ _ _ (call-value _ _ (c .before .before .before .before .before .before .before .before .before .before .before .before .before .before .before .before .before .before .pre .1 .0 .ready .keyed .good) _ _ (c .before .before .before .before .before .before .before .before .before .before .before .before .before .before .before .before .before .before .pre .1 .1 .0) (c .before .before .before .before .before .before .before .before .before .before .before .before .before .before .kind .ensures) _ _ _ (c .before .before .before .before .before .before .before .before .before .before .if3 .taken) _ _ (c .before .before .before .before .before .before .before .before .find-callee .ensures) _ (c .before .before .before .before .before .value-type .ensures) _ (c .before .before .before .callee-record .ensures)) (c .before .before .before .before .before .before .before .before .before .before .before .before .before .before .before .before .before .before .fits .turn .fits) _ _ (c .before .before .keep3 .ensures)
 
 -- src/expressions.rt:100:9
 work-out-leaf-type-requires : (t : ℕ) → work-out-lts.Need-leaf-type-requires (
@@ -1341,12 +1636,18 @@ work-out-leaf-type-requires : (t : ℕ) → work-out-lts.Need-leaf-type-requires
   keep-reads.Learnt,
   both-sides-reads.Asked,
   both-sides-reads.Learnt,
+  common-of-reads.Asked,
+  common-of-reads.Learnt,
   binary-type-reads.Asked,
   binary-type-reads.Learnt,
-  resolve-call-below t,
-  resolve-call.Post,
+  found-record-reads.Asked,
+  found-record-reads.Learnt,
+  find-callee-below t,
+  find-callee.Post,
   value-type-reads.Asked,
   value-type-reads.Learnt,
+  callee-record-reads.Asked,
+  callee-record-reads.Learnt,
   leaf-type-reads.Asked,
   leaf-type-reads.Learnt,
 ) (work-out-at t) work-out.Post
@@ -1369,16 +1670,22 @@ work-out-keep-requires-4 : (t : ℕ) → work-out-lts.Need-keep-requires-4 (
   keep-reads.Learnt,
   both-sides-reads.Asked,
   both-sides-reads.Learnt,
+  common-of-reads.Asked,
+  common-of-reads.Learnt,
   binary-type-reads.Asked,
   binary-type-reads.Learnt,
-  resolve-call-below t,
-  resolve-call.Post,
+  found-record-reads.Asked,
+  found-record-reads.Learnt,
+  find-callee-below t,
+  find-callee.Post,
   value-type-reads.Asked,
   value-type-reads.Learnt,
+  callee-record-reads.Asked,
+  callee-record-reads.Learnt,
   leaf-type-reads.Asked,
   leaf-type-reads.Learnt,
 ) (work-out-at t) work-out.Post
-work-out-keep-requires-4 t c κs = keep-ready _ _ (c .before .before .before .before .before .before .before .before .before .before .before .pre .1 .0 .ready .keyed .good) _ (c .before .before .before .before .before .before .before .before .before .before .before .pre .1 .1 .0) _ _ _ (c .before .before .before .before .before .before .before .before .before .before .before .pre .1 .0) (c .before .before .before .before .before .before .before .before .before .before .before .pre .1 .1 .1) _ _ (leaf-meets _ _ (c .before .before .before .before .before .before .before .before .before .before .before .pre .1 .0 .ready .keyed .good) _ _ (c .before .before .before .before .before .before .before .before .before .before .before .pre .1 .1 .0) (c .before .before .before .before .before .before .before .kind .ensures) _ _ _ (c .before .before .before .before .before .before .before .before .before .before .before .pre .1 .0) (c .before .before .before .before .before .if1 .left) (c .before .before .before .before .if2 .left) (c .before .before .before .if3 .left) _ (c .before .leaf-type .ensures))
+work-out-keep-requires-4 t c κs = keep-ready _ _ (c .before .before .before .before .before .before .before .before .before .before .before .pre .1 .0 .ready .keyed .good) _ (c .before .before .before .before .before .before .before .before .before .before .before .pre .1 .1 .0) _ _ _ (c .before .before .before .before .before .before .before .before .before .before .before .pre .1 .0) (c .before .before .before .before .before .before .before .before .before .before .before .pre .1 .1 .1) _ _ _ (leaf-meets _ _ (c .before .before .before .before .before .before .before .before .before .before .before .pre .1 .0 .ready .keyed .good) _ _ (c .before .before .before .before .before .before .before .before .before .before .before .pre .1 .1 .0) (c .before .before .before .before .before .before .before .kind .ensures) _ _ _ (c .before .before .before .before .before .before .before .before .before .before .before .pre .1 .0) (c .before .before .before .before .before .if1 .left) (c .before .before .before .before .if2 .left) (c .before .before .before .if3 .left) _ (c .before .leaf-type .ensures))
 
 -- src/expressions.rt:62:1
 work-out-same-length-7 : (t : ℕ) → work-out-lts.Need-same-length-7 (
@@ -1394,12 +1701,18 @@ work-out-same-length-7 : (t : ℕ) → work-out-lts.Need-same-length-7 (
   keep-reads.Learnt,
   both-sides-reads.Asked,
   both-sides-reads.Learnt,
+  common-of-reads.Asked,
+  common-of-reads.Learnt,
   binary-type-reads.Asked,
   binary-type-reads.Learnt,
-  resolve-call-below t,
-  resolve-call.Post,
+  found-record-reads.Asked,
+  found-record-reads.Learnt,
+  find-callee-below t,
+  find-callee.Post,
   value-type-reads.Asked,
   value-type-reads.Learnt,
+  callee-record-reads.Asked,
+  callee-record-reads.Learnt,
   leaf-type-reads.Asked,
   leaf-type-reads.Learnt,
 ) (work-out-at t) work-out.Post
@@ -1419,24 +1732,46 @@ work-out-returns-7 : (t : ℕ) → work-out-lts.Need-returns-7 (
   keep-reads.Learnt,
   both-sides-reads.Asked,
   both-sides-reads.Learnt,
+  common-of-reads.Asked,
+  common-of-reads.Learnt,
   binary-type-reads.Asked,
   binary-type-reads.Learnt,
-  resolve-call-below t,
-  resolve-call.Post,
+  found-record-reads.Asked,
+  found-record-reads.Learnt,
+  find-callee-below t,
+  find-callee.Post,
   value-type-reads.Asked,
   value-type-reads.Learnt,
+  callee-record-reads.Asked,
+  callee-record-reads.Learnt,
   leaf-type-reads.Asked,
   leaf-type-reads.Learnt,
 ) (work-out-at t) work-out.Post
-work-out-returns-7 t c = keep-meets _ _ (c .before .before .before .before .before .before .before .before .before .before .before .before .before .before .pre .1 .0 .ready .keyed .good) _ (c .before .before .before .before .before .before .before .before .before .before .before .before .before .before .pre .1 .1 .0) _ _ _ (c .before .before .before .before .before .before .before .before .before .before .before .before .before .before .pre .1 .0) (c .before .before .before .before .before .before .before .before .before .before .before .before .before .before .pre .1 .1 .1) _ _ (leaf-meets _ _ (c .before .before .before .before .before .before .before .before .before .before .before .before .before .before .pre .1 .0 .ready .keyed .good) _ _ (c .before .before .before .before .before .before .before .before .before .before .before .before .before .before .pre .1 .1 .0) (c .before .before .before .before .before .before .before .before .before .before .kind .ensures) _ _ _ (c .before .before .before .before .before .before .before .before .before .before .before .before .before .before .pre .1 .0) (c .before .before .before .before .before .before .before .before .if1 .left) (c .before .before .before .before .before .before .before .if2 .left) (c .before .before .before .before .before .before .if3 .left) _ (c .before .before .before .before .leaf-type .ensures)) (c .before .before .before .before .before .before .before .before .before .before .before .before .before .before .fits .turn .fits) _ _ (c .before .before .keep4 .ensures)
+work-out-returns-7 t c = keep-meets _ _ (c .before .before .before .before .before .before .before .before .before .before .before .before .before .before .pre .1 .0 .ready .keyed .good) _ (c .before .before .before .before .before .before .before .before .before .before .before .before .before .before .pre .1 .1 .0) _ _ _ (c .before .before .before .before .before .before .before .before .before .before .before .before .before .before .pre .1 .0) (c .before .before .before .before .before .before .before .before .before .before .before .before .before .before .pre .1 .1 .1) _ _ _ (leaf-meets _ _ (c .before .before .before .before .before .before .before .before .before .before .before .before .before .before .pre .1 .0 .ready .keyed .good) _ _ (c .before .before .before .before .before .before .before .before .before .before .before .before .before .before .pre .1 .1 .0) (c .before .before .before .before .before .before .before .before .before .before .kind .ensures) _ _ _ (c .before .before .before .before .before .before .before .before .before .before .before .before .before .before .pre .1 .0) (c .before .before .before .before .before .before .before .before .if1 .left) (c .before .before .before .before .before .before .before .if2 .left) (c .before .before .before .before .before .before .if3 .left) _ (c .before .before .before .before .leaf-type .ensures)) (c .before .before .before .before .before .before .before .before .before .before .before .before .before .before .fits .turn .fits) _ _ (c .before .before .keep4 .ensures)
 
-pub +get-argument-types+get-type+resolve-call+work-out-spec : {M : Type 1} → statement M
-+get-argument-types+get-type+resolve-call+work-out-spec =
+pub +find-callee+get-argument-types+get-type+work-out-spec : {M : Type 1} → statement M
++find-callee+get-argument-types+get-type+work-out-spec =
     close
+    μ-find-callee
     μ-get-argument-types
     μ-get-type
-    μ-resolve-call
     μ-work-out
+    (λ t. find-callee-lts.spec (
+      get-argument-types-below t,
+      get-argument-types.Post,
+      resolve-typed-reads.Asked,
+      resolve-typed-reads.Learnt,
+    )
+    (find-callee-at t)
+    find-callee.Post
+    (find-callee-get-argument-types-requires t)
+    (find-callee-enum-known-x t)
+    (find-callee-enum-told t)
+    (find-callee-resolve-typed-requires t)
+    (find-callee-same-length t)
+    (find-callee-returns t)
+    (find-callee-same-length-2 t)
+    (find-callee-returns-2 t))
     (λ t. get-argument-types-lts.spec (
       reference-reads.Asked,
       reference-reads.Learnt,
@@ -1483,22 +1818,6 @@ pub +get-argument-types+get-type+resolve-call+work-out-spec : {M : Type 1} → s
     (get-type-work-out-requires t)
     (get-type-same-length-2 t)
     (get-type-returns-2 t))
-    (λ t. resolve-call-lts.spec (
-      get-argument-types-below t,
-      get-argument-types.Post,
-      resolve-typed-reads.Asked,
-      resolve-typed-reads.Learnt,
-    )
-    (resolve-call-at t)
-    resolve-call.Post
-    (resolve-call-get-argument-types-requires t)
-    (resolve-call-enum-known-x t)
-    (resolve-call-enum-told t)
-    (resolve-call-resolve-typed-requires t)
-    (resolve-call-same-length t)
-    (resolve-call-returns t)
-    (resolve-call-same-length-2 t)
-    (resolve-call-returns-2 t))
     λ t. work-out-lts.spec (
       kind-reads.Asked,
       kind-reads.Learnt,
@@ -1512,12 +1831,18 @@ pub +get-argument-types+get-type+resolve-call+work-out-spec : {M : Type 1} → s
       keep-reads.Learnt,
       both-sides-reads.Asked,
       both-sides-reads.Learnt,
+      common-of-reads.Asked,
+      common-of-reads.Learnt,
       binary-type-reads.Asked,
       binary-type-reads.Learnt,
-      resolve-call-below t,
-      resolve-call.Post,
+      found-record-reads.Asked,
+      found-record-reads.Learnt,
+      find-callee-below t,
+      find-callee.Post,
       value-type-reads.Asked,
       value-type-reads.Learnt,
+      callee-record-reads.Asked,
+      callee-record-reads.Learnt,
       leaf-type-reads.Asked,
       leaf-type-reads.Learnt,
     )
@@ -1542,7 +1867,9 @@ pub +get-argument-types+get-type+resolve-call+work-out-spec : {M : Type 1} → s
     (work-out-enum-known-x-3 t)
     (work-out-enum-known-r t)
     (work-out-both-sides-requires t)
+    (work-out-common-of-requires t)
     (work-out-binary-type-requires t)
+    (work-out-found-record-requires t)
     (work-out-keep-requires-2 t)
     (work-out-same-length-3 t)
     (work-out-returns-3 t)
@@ -1550,8 +1877,9 @@ pub +get-argument-types+get-type+resolve-call+work-out-spec : {M : Type 1} → s
     (work-out-returns-4 t)
     (work-out-same-length-5 t)
     (work-out-returns-5 t)
-    (work-out-resolve-call-requires t)
+    (work-out-find-callee-requires t)
     (work-out-value-type-requires t)
+    (work-out-callee-record-requires t)
     (work-out-keep-requires-3 t)
     (work-out-same-length-6 t)
     (work-out-returns-6 t)
