@@ -30,7 +30,7 @@ use Rattle.syntax.specs.Places.{IsExpr, IsKind, TypeAt, exprAt}
 use Rattle.keys.specs.Keys.{allKeys}
 use Rattle.expressions.specs.Answers.{refusal, typeResult, foundNumber, TypeFound, IsTyped, TypeIs, FoundIs, Operands, Accepts}
 use Rattle.expressions.proofs.PartLaws.{first-kind}
-use Rattle.expressions.proofs.TypingLaws.{place-is}
+use Rattle.expressions.proofs.TypingLaws.{place-is, found-is}
 
 -- a refusal as the answer
 pub refused-at : (tree : List ℕ) (m : Result ℕ) (k : ConvertErrorKind) (p : ℕ) (a : ExprType) → m ≡ err k p → a ≡ ExprType.Refused (record { kind = k; place = p })
@@ -40,10 +40,7 @@ refused-at tree m k p a e q = record { is = e ∙ sym (ap typeResult q); type = 
 
 -- a type that was found
 pub found-type : (tree : List ℕ) (f : Found) (y : ℕ) → TypeFound tree f → f ≡ Found.At y → TypeAt tree y
-found-type tree f y t q = go (subst (λ (z : Found). TypeFound tree z) q t)
-  where
-    go : TypeFound tree (Found.At y) → TypeAt tree y
-    go (TypeFound.a-type h) = h
+found-type tree f y t q = found-is (subst (λ (z : Found). TypeFound tree z) q t)
 
 -- two expressions with their types, put together
 pub operands-are : (tree : List ℕ) (s : Sides) (a l b r : ℕ) → s ≡ record { left = a; «left_type» = l; right = b; «right_type» = r }

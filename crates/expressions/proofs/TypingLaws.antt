@@ -136,7 +136,7 @@ callee-small tree (Resolved.Cast y) (IsCallee.a-cast h) few = omega (arith, h .b
 callee-small tree (Resolved.Refused x) IsCallee.no few = omega arith
 
 -- a type that was found, and a Binary without one, which is refused
-found-is : {tree : List ℕ} {y : ℕ} → TypeFound tree (Found.At y) → TypeAt tree y
+pub found-is : {tree : List ℕ} {y : ℕ} → TypeFound tree (Found.At y) → TypeAt tree y
 found-is (TypeFound.a-type h) = h
 
 pick-refused : (b : Bool) (x y : Result ℕ) (i : ℕ) → (x ≡ ok i → ⊥) → (y ≡ ok i → ⊥) → pick b x y ≡ ok i → ⊥
