@@ -260,10 +260,6 @@ module _ (tree text : List ℕ) (S : Def.Scope) (turn : ℕ) where
     pub typed-right : has r l ≡ true → RightAt tree text S s₁ r
     typed-right q = t .remembers .right r h (typed-in q)
 
-    -- what was in the turn before is in it still
-    pub typed-still : turnAt tree s r ≡ turn → turnAt tree s₁ r ≡ turn
-    typed-still q = turn-in s₁ r (t .adds r h ∙ rw (in-turn s r q))
-
   -- a type that the turn remembers: its parts are remembered too
   module _ (s : List ℕ) (m : Remembers tree text S turn s) (e : ℕ) (h : e < records tree) (q : inTurn tree turn s e ≡ true) where
     pub hit-right : RightAt tree text S s e

@@ -112,8 +112,8 @@ callee-ok (err k p) f y q g = absurd (err-ok k p y q)
 callee-stands : (tree text : List ℕ) (S : Def.Scope) (e : ℕ) (a : Resolved) → IsCallee tree a → calleeIn tree text S e ≡ calleeOf tree text a
     → (c : Callee) → calleeOf tree text a ≡ ok c → Callable tree text S e (calleeRecord a)
 unfolding calleeOf calleeAt calleeRecord pick refusal
-callee-stands tree text S e (Resolved.Function f) (IsCallee.a-function h) m c q = record { is = m ∙ rw (h .kind); place = inl h }
-callee-stands tree text S e (Resolved.Cast y) (IsCallee.a-cast h) m c q = record { is = m ∙ rw (h .kind); place = inr h }
+callee-stands tree text S e (Resolved.Function f) (IsCallee.a-function h) m c q = record { is = m ∙ rw (h .kind); stands = inl h }
+callee-stands tree text S e (Resolved.Cast y) (IsCallee.a-cast h) m c q = record { is = m ∙ rw (h .kind); stands = inr h }
 callee-stands tree text S e (Resolved.Refused x) IsCallee.no m c q = absurd (err-ok (x .kind) (x .place) c q)
 
 -- and what stands for it is told by its kind
@@ -461,7 +461,7 @@ module _ (tree text : List ℕ) (good : Good tree text) where
     callable = subst (Callable tree text R r) (sym eb) (hit-right tree text R turn s (typing .remembers) r (k .below) (sym et ∙ hit) .beside .callee (k .kind))
 
     pub callee-ready : (FunctionAt tree b ⊎ TypeAt tree b) × (length tree ≡ records tree * 32)
-    callee-ready = (callable .place, good .whole)
+    callee-ready = (callable .stands, good .whole)
 
     pub call-known : (a : Resolved) → ((text′ : List ℕ) → CalleeIs tree text′ a (ok (calleeAt tree text′ b))) → CallMeets tree text s sc turn r a s
     call-known a h = record {

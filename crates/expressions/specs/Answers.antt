@@ -245,7 +245,7 @@ pub record CallMeets (tree text s : List ℕ) (sc : Scope) (turn r : ℕ) (a : R
   pub meets : calleeIn tree text (scopeAt tree text s sc) r ≡ calleeOf tree text a
   pub adds : (c : Callee) → calleeOf tree text a ≡ ok c → Typed tree text (scopeAt tree text s sc) turn s (argsExprs (argsAt tree text (wordOf tree r C))) s′
 
--- `common_type` of the expressions at records l and r
+-- `find_common` of the expressions at records l and r
 pub record CommonMeets (tree text s : List ℕ) (sc : Scope) (turn l r : ℕ) (a : Common) (s′ : List ℕ) : Type 0 where
   pub frame : Frame tree s s′
   pub common : IsCommon tree a

@@ -54,7 +54,7 @@ module _ (tree : List ℕ) where
   unfolding wordAt
   slotAt s e = wordAt s (typeSlotAt (records tree) e)
 
-  -- 'the turn in which its type was worked out: a word at the slot of its record'; 'how many visits were made, in the first word'
+  -- 'the turn in which its type was worked out: a word at the slot of its record'; 'in the first word stands how many visits were made'
   unfoldable pub turnAt : List ℕ → ℕ → ℕ
   unfolding wordAt
   turnAt s e = wordAt s (turnSlotAt (records tree) e)
@@ -150,22 +150,23 @@ module _ (tree : List ℕ) where
     unfolding pick functionOf
     calleeAt w = pick (eqb (kindOf tree w) kindFunction) (CallFunction (functionOf tree text w)) (CallCast w)
 
+    -- the call at record e runs what record w stands for
     pub record Callable (S : Def.Scope) (e w : ℕ) : Type 0 where
       pub is : calleeIn S e ≡ ok (calleeAt w)
-      pub place : FunctionAt tree w ⊎ TypeAt tree w
+      pub stands : FunctionAt tree w ⊎ TypeAt tree w
 
     -- the type that both sides of the Binary at record e take, and that it is w
     abbrev pub commonIn : Def.Scope → ℕ → Result (Option ℕ)
     commonIn S e = common-type (program tree text) (allKeys tree text) (exprAt tree text (wordOf tree e A)) (exprAt tree text (wordOf tree e B)) S
 
-    pub record Shared (S : Def.Scope) (e w : ℕ) : Type 0 where
+    pub record BothTake (S : Def.Scope) (e w : ℕ) : Type 0 where
       pub is : commonIn S e ≡ ok (some w)
       pub type : TypeAt tree w
 
     -- the word w can be kept beside the type of record e: beside a call's what it runs, beside a Binary's the type that both sides take
     pub record Beside (S : Def.Scope) (e w : ℕ) : Type 0 where
       pub callee : kindOf tree e ≡ kindCall → Callable S e w
-      pub common : kindOf tree e ≡ kindBinary → Shared S e w
+      pub common : kindOf tree e ≡ kindBinary → BothTake S e w
 
     -- the type of the expression at record e, in this scope, stands at its slot, and beside it what is to be kept
     pub record RightAt (S : Def.Scope) (s : List ℕ) (e : ℕ) : Type 0 where

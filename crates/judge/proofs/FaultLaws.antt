@@ -25,17 +25,17 @@ use Rattle.judge.proofs.BadgeLaws.{refers-down}
 
 pub lowest-start : (n : ℕ) (f : ℕ → Bool) → LowestSoFar n 0 f n
 lowest-start n f =
-    record { before = λ k h g. absurd (omega arith); found = λ h. absurd (omega arith); none = λ h. refl }
+    record { before = λ k h g. absurd (omega arith); found = λ h. absurd (omega arith); unfound = λ h. refl }
 
 module _ (n : ℕ) (f : ℕ → Bool) (r found : ℕ) (l : LowestSoFar n r f found) where
   pub lowest-stays : found < r → LowestSoFar n (r + 1) f found
   lowest-stays h =
-      record { before = λ k hk g. l .before k (omega arith) g; found = λ _. l .found h; none = λ b. absurd (omega arith) }
+      record { before = λ k hk g. l .before k (omega arith) g; found = λ _. l .found h; unfound = λ b. absurd (omega arith) }
 
   module _ (ok : Bool) (told : not ok ≡ f r) where
     pub lowest-here : ok ≡ false → r ≤ found → LowestSoFar n (r + 1) f r
     lowest-here e h =
-        record { before = λ k hk g. l .before k g (omega arith); found = λ _. sym told ∙ ap not e; none = λ b. absurd (omega arith) }
+        record { before = λ k hk g. l .before k g (omega arith); found = λ _. sym told ∙ ap not e; unfound = λ b. absurd (omega arith) }
 
     pub lowest-passes : ok ≡ true → r < n → LowestSoFar n (r + 1) f found
     lowest-passes e few =
@@ -47,13 +47,13 @@ module _ (n : ℕ) (f : ℕ → Bool) (r found : ℕ) (l : LowestSoFar n r f fou
           found = λ b.
               tested (ltb found r)
               (λ t. l .found (ltb-true found r t))
-              (λ t. let last : found ≡ n = l .none (ltb-false found r t) in absurd (omega arith));
-          none = λ b. l .none (omega arith);
+              (λ t. let last : found ≡ n = l .unfound (ltb-false found r t) in absurd (omega arith));
+          unfound = λ b. l .unfound (omega arith);
         }
 
 pub lowest-all : (n : ℕ) (f : ℕ → Bool) (x : ℕ) → LowestSoFar n n f x → Lowest n f x
 lowest-all n f x l =
-    let inside : x ≤ n = tested (ltb x n) (λ t. let h : x < n = ltb-true x n t in omega arith) (λ t. let last : x ≡ n = l .none (ltb-false x n t) in omega arith) in
+    let inside : x ≤ n = tested (ltb x n) (λ t. let h : x < n = ltb-true x n t in omega arith) (λ t. let last : x ≡ n = l .unfound (ltb-false x n t) in omega arith) in
     record { within = inside; before = λ k h. l .before k (omega arith) h; found = l .found }
 
 -- ---- references of good records go down

@@ -6,7 +6,7 @@ use mathlib.Core.Bool.{Bool, true, false, not, _&&_, _||_, false≢true}
 use mathlib.Core.List.{List}
 use native.Mathlib.Nat.{mul-le-mul-right}
 use native.Mathlib.Omega.{arith}
-use lib.Dec.{eqb, leb, ltb}
+use lib.Dec.{eqb, leb}
 use lib.ListN.{length, getD, set, length-set}
 use lib.Seq.{getD-set-same, getD-set-other}
 use borrow.Author.Tests.{eqb-true, eqb-false, leb-true, le-leb, eq-eqb, ne-eqb}
@@ -20,7 +20,7 @@ use Rattle.records.specs.Rules.{wordOk, refersTo}
 use Rattle.records.specs.Depth.{depthBelow}
 use Rattle.records.specs.Words.{kindOf, detailOf, none, boolNumber, mostRecords}
 use Rattle.records.specs.Shapes.{refers, rowOf, rowAt, shapeOf}
-use Rattle.judge.specs.Inner.{capped, shallowDepth, classIn, depthIn, countIn, kindIn, listNumber, lowBadge, highBadge, noneOk, KnownBelow, Counting, Counted, isUnused}
+use Rattle.judge.specs.Inner.{capped, shallowDepth, classIn, countIn, kindIn, listNumber, lowBadge, highBadge, noneOk, KnownBelow, Counting, Counted, isUnused}
 use Rattle.judge.proofs.CapLaws.{cap-high}
 use Rattle.judge.proofs.CountLaws.{refers-not, refers-other, refers-same, cap-plus}
 use Rattle.judge.proofs.DepthLaws.{below-none, below-told, below-later}

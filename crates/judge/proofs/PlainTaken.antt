@@ -11,7 +11,7 @@ use borrow.Author.Tests.{eq-eqb, ne-eqb, le-leb, leb-true, lt-ltb, not-false}
 use Rattle.laws.specs.Fix.{pick}
 use Rattle.laws.proofs.Tests.{and-left, and-right}
 use Rattle.records.specs.declared.shape.Role.{Role}
-use Rattle.records.specs.declared.shape.Role.the-variants.{Unused, Number, Text, Length, Expr, TypeRef, TypeOrNone, Name, Variable, Arguments, Parameters, Body, Item, Rest}
+use Rattle.records.specs.declared.shape.Role.the-variants.{Item}
 use Rattle.records.specs.Words.{mostRecords, detailOf, padOf, none, boolNumber}
 use Rattle.records.specs.Shapes.{rowOf, rowAt}
 use Rattle.records.specs.Rules.{wordsOk, isFirstType}

@@ -25,11 +25,11 @@ pub record Lowest (n : ℕ) (f : ℕ → Bool) (r : ℕ) : Type 0 where
   pub before : (k : ℕ) → k < r → f k ≡ false
   pub found : r < n → f r ≡ true
 
--- x is the lowest number below r of which f holds, or n where there is none; n is not below r
+-- x is the lowest number below r of which f holds, or n where there is none: meant where n is not below r
 pub record LowestSoFar (n r : ℕ) (f : ℕ → Bool) (x : ℕ) : Type 0 where
   pub before : (k : ℕ) → k < r → k < x → f k ≡ false
   pub found : x < r → f x ≡ true
-  pub none : r ≤ x → x ≡ n
+  pub unfound : r ≤ x → x ≡ n
 
 -- the first `count` records are types, and the next is none or no type
 pub record TypesLead (tree : List ℕ) (n count : ℕ) : Type 0 where

@@ -6,7 +6,6 @@ use mathlib.Core.List.{List, [], _∷_}
 use lib.Dec.{eqb, leb}
 use lib.ListN.{length, getD}
 use Rattle.laws.specs.Fix.{pick}
-use Rattle.laws.specs.Below.{allBelow}
 use Rattle.records.specs.declared.shape.Role.{Role}
 use Rattle.records.specs.declared.shape.Role.the-variants.{Unused, Number, Text, Length, Expr, TypeRef, TypeOrNone, Name, Variable, Arguments, Parameters, Body, Item, Rest}
 use Rattle.records.specs.Layout.{knownBytes, slotClass, slotKind}

@@ -1,13 +1,13 @@
-// A record that is right and of a kind that uses A, B and C alone, taken without a jump by what it is. Each word leads to a slot of four bytes: that of a lower
-// record, or slot 0 where the word is none or does not refer. Only what is wrong branches; it is taken again, by `take_any`.
+// A record that is right and of a kind that uses A, B and C alone, taken with no jump by what it is but for an If and a list's cell. Each word leads to a slot of
+// four bytes: that of a lower record, or slot 0 where the word is none or does not refer. Only what is wrong branches; it is taken again, by `take_any`.
 ghost use mathlib.Core.Path.{_≡_};
-ghost use mathlib.Core.Bool.{true, false, not, _&&_, _||_};
+ghost use mathlib.Core.Bool.{true, false, _&&_};
 ghost use Prim.Native.Nat.{ℕ, _+_, _*_, _/_, _%_, _≤_, _<_};
-ghost use lib.Dec.{eqb, leb};
+ghost use lib.Dec.{leb};
 ghost use lib.ListN.{length, getD, set};
 ghost use Rattle.records.specs.Layout.{knownBytes, slotCount};
-ghost use Rattle.records.specs.Words.{recordBytes, mostRecords, kindOf, none};
-ghost use Rattle.records.specs.Kinds.{kindIf, kindList};
+ghost use Rattle.records.specs.Words.{recordBytes, mostRecords, kindOf};
+ghost use Rattle.records.specs.Kinds.{kindList};
 ghost use Rattle.records.specs.Shapes.{rowOf};
 ghost use Rattle.judge.specs.Inner.{classIn, itemClass, classAt};
 ghost use Rattle.judge.specs.Plain.{plainRules, ruleRows, ruleNumbers, mustRefer, mustBeZero, badgeIn, badgeWithin, Place, Cells, Owned, PlainForm, WordSlots, TookSlots, PlainReady, TookPlain};
@@ -20,13 +20,13 @@ use crate::references::Told;
 use crate::rules::BADGES_EACH;
 use crate::rules::MIXED;
 use crate::rules::PARAMETERS;
+use crate::rules::otherwise_ok;
 use records::layout::CLASS_AT;
 use records::layout::COUNT_AT;
 use records::layout::DEPTH_AT;
 use records::layout::KIND_AT;
 use records::layout::KNOWN_BYTES;
 use records::numbers::KIND_FUNCTION;
-use records::numbers::KIND_IF;
 use records::numbers::KIND_LIST;
 use records::numbers::KIND_VARIABLE;
 use records::words::NONE;
@@ -656,17 +656,7 @@ fn put_own(known: &mut [u8], class: u8, k: u8)
     known[KIND_AT] = k;
 }
 
-// An If without the mark has no otherwise (its word c). Few records are an If, so the others are not asked.
-fn otherwise_ok(k: u8, found: u8, c: u32) -> bool
-    ensures { λ v. ⌜ v ≡ (not (eqb k kindIf) || eqb found 1 || eqb c none) ⌝ }
-{
-    if k == KIND_IF {
-        return (found == 1) | (c == NONE);
-    }
-    true
-}
-
-// What a record must be aside from what it refers to, by the row of its kind; an If without the mark has no otherwise.
+// What a record must be aside from what it refers to, by the row of its kind.
 fn form_ok(
     tree: &[u8],
     bytes: usize,

@@ -15,12 +15,12 @@ use Rattle.records.specs.Rules.{isExpr}
 use Rattle.records.specs.Good.{Good}
 use Rattle.syntax.specs.Syntax.{UnaryOp, BinaryOp, Args, Program, Function}
 use Rattle.syntax.specs.Decode.{program}
-use Rattle.syntax.specs.Places.{IsExpr, IsKind, TypeAt, FunctionAt, functionOf, exprAt}
+use Rattle.syntax.specs.Places.{IsExpr, IsKind, TypeAt, FunctionAt, functionOf}
 use Rattle.syntax.proofs.Records.{function-rec}
 use Rattle.conversion.specs.ConvertError.{Result, ok, err, WouldPanic}
 use Rattle.conversion.specs.Ir as Ir
 use Rattle.conversion.specs.Ir.{OVar, Unary, Binary, Cast, Call, logicRhs, logicEnd, _>>=_, _>>_, pure, emit, label-id}
-use Rattle.conversion.specs.Expressions.{Functions, Callee, CallFunction, CallCast, common-type}
+use Rattle.conversion.specs.Expressions.{Functions, Callee, CallFunction, CallCast}
 use Rattle.conversion.specs.Statements.{fit-operand, castFirst, callFunction, callValue}
 use Rattle.conversion.proofs.MonadLaws.{regroup, seq-is}
 use Rattle.types.proofs.FromGood.{is-expr}
@@ -43,6 +43,7 @@ use Rattle.expressions.specs.declared.answers.Common.{Common}
 use Rattle.expressions.specs.declared.answers.Common.the-variants as Common
 use Rattle.expressions.specs.declared.answers.Resolved.{Resolved}
 use Rattle.expressions.specs.declared.answers.Resolved.the-variants as Resolved
+use Rattle.expressions.specs.Slots.{commonIn}
 use Rattle.expressions.specs.Answers.{refusal, typeResult, commonResult, calleeOf, IsTyped, IsCommon, IsCallee, SidesMeet}
 use Rattle.expressions.proofs.TypingLaws.{left-expr, right-expr}
 use Rattle.statements.specs.Lent.{Converter, Converted, Fitted}
@@ -157,7 +158,7 @@ is-common {tree = tree} {y = y} t q = go (subst (λ (z : Common). IsCommon tree 
 
 module _ {tree text s s′ : List ℕ} (c : Converter) (e y : ℕ) {t : Common} (m : SidesMeet tree text s (c .scope) (c .turn) e t s′) where
   meets-as : (u : ExprType) → operandType (commonResult t) y ≡ typeResult u
-      → operandType (common-type (program tree text) (allKeys tree text) (exprAt tree text (wordOf tree e A)) (exprAt tree text (wordOf tree e B)) (scopeAt tree text s (c .scope))) y ≡ typeResult u
+      → operandType (commonIn tree text (scopeAt tree text s (c .scope)) e) y ≡ typeResult u
   meets-as u q = ap (λ (z : Result (Option ℕ)). operandType z y) (m .meets) ∙ q
 
   pub common-refused : (x : ConvertError) → t ≡ Common.Refused x → OperandTyped tree text s c e y (ExprType.Refused x) s′

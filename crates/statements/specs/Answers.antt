@@ -18,7 +18,7 @@ use Rattle.conversion.specs.Ir as Ir
 use Rattle.conversion.specs.Ir.{M, _>>=_, _>>_, pure, lift}
 use Rattle.conversion.specs.Scope as Def
 use Rattle.conversion.specs.Scope.{withLoop}
-use Rattle.conversion.specs.Expressions.{Functions, Callee, CallFunction, common-type}
+use Rattle.conversion.specs.Expressions.{Functions, Callee, CallFunction}
 use Rattle.conversion.specs.Statements.{zeroValue, fit-operand, checkBound, parameterType, valuePosition, expectedType, fit-args, castFirst, callValue, convert-unary, convertAnd, convertOr, convertOther, convert-binary, convert-call-value, convert-expr, convert-args, convert-cond, callFunction, convert-declare, convert-init, initNew, convert-assign, assignTo, convert-return, returnAs, convert-call, convert-break, convert-continue, convert-if, convertIfElse, convert-while-loop, convert-for-loop, convertStatement, convert-block}
 use Rattle.ir.specs.declared.structs.Counters.{Counters}
 use Rattle.ir.specs.declared.structs.VarId.{VarId}
@@ -31,7 +31,7 @@ use Rattle.scope.specs.declared.Scope.{Scope}
 use Rattle.scope.specs.Open.{scopeAt}
 use Rattle.keys.specs.Keys.{allKeys}
 use Rattle.expressions.specs.declared.answers.ExprType.{ExprType}
-use Rattle.expressions.specs.Slots.{Frame, Ready}
+use Rattle.expressions.specs.Slots.{Frame, Ready, commonIn}
 use Rattle.expressions.specs.declared.answers.Outcome.{Outcome}
 use Rattle.expressions.specs.declared.answers.Resolved.{Resolved}
 use Rattle.expressions.specs.Answers.{IsTyped, typeResult, outcomeOf, calleeOf}
@@ -130,9 +130,7 @@ pub record Finishes {A : Type 0} (tree text : List ℕ) (m : M A) (x : A) (n : A
 pub record OperandTyped (tree text s : List ℕ) (c : Converter) (e y : ℕ) (a : ExprType) (s′ : List ℕ) : Type 0 where
   pub frame : Frame tree s s′
   pub typed : IsTyped tree a
-  pub meets : operandType
-      (common-type (program tree text) (allKeys tree text) (exprAt tree text (wordOf tree e A)) (exprAt tree text (wordOf tree e B)) (scopeAt tree text s (c .scope))) y
-      ≡ typeResult a
+  pub meets : operandType (commonIn tree text (scopeAt tree text s (c .scope)) e) y ≡ typeResult a
 
 -- the variable of a For, with the scope of its body
 pub record FindsVariable (tree text : List ℕ) (m : M (Ir.VarId × Def.Scope)) (c : Converter) (l s : List ℕ) (a : ForVariable) (l′ s′ : List ℕ) : Type 0 where

@@ -1,4 +1,4 @@
--- `forget` clears the bytes of the turns and of the count of visits.
+-- `forget` clears the bytes of the turns and of what is kept beside the types, with the count of visits.
 -- By the laws of a byte that is set; the measure is what is left up to 72n. Assumes nothing.
 use mathlib.Core.Path.{refl}
 use Prim.Native.Nat.{_*_, _-_}

@@ -4,9 +4,7 @@ use borrow.Author.Needs.{needs}
 use Prim.Native.Nat.{_+_, _*_}
 use lib.ListN.{getD}
 use mathlib.Core.Path.{_≡_, refl, sym, _∙_}
-use mathlib.Core.Bool.{not, _&&_, _||_, false≢true}
-use lib.Dec.{eqb, leb}
-use Rattle.records.specs.Words.{none}
+use mathlib.Core.Bool.{false≢true}
 use native.Mathlib.Omega.{arith}
 use Rattle.judge.proofs.plain.form_ok.Statement.{statement}
 use Rattle.judge.proofs.plain.form_ok.Tie as tie

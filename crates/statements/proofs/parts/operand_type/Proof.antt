@@ -10,43 +10,33 @@ use Rattle.statements.proofs.parts.operand_type.Reads as reads
 use Rattle.statements.proofs.parts.operand_type.Lts as lts
 use Rattle.expressions.proofs.expressions.common_type.Reads as common-type-reads
 
--- src/parts.rt:149:11
 common-type-requires : tie.Need-common-type-requires
 common-type-requires c κs = (record { ready = c .before .before .before .before .before .pre .0; remembers = c .before .before .before .before .before .pre .1 .1 [] }, c .before .before .before .before .before .pre .1 .0 .0)
 
--- src/parts.rt:152:25
 enum-known-x : tie.Need-enum-known-x
 enum-known-x c = search needs
 
--- src/parts.rt:153:20
 enum-known-q : tie.Need-enum-known-q
 enum-known-q c = search needs
 
--- src/parts.rt:154:28
 enum-told : tie.Need-enum-told
 enum-told c = search needs
 
--- src/parts.rt:134:1
 same-length : tie.Need-same-length
 same-length c = search needs
 
--- src/parts.rt:134:1
 returns : tie.Need-returns
 returns c = (λ k. common-refused _ _ _ (c .before .before .before .before .before .common-type .ensures) _ (c .before .x .given .1), λ k. refused-common)
 
--- src/parts.rt:134:1
 same-length-2 : tie.Need-same-length-2
 same-length-2 c = search needs
 
--- src/parts.rt:134:1
 returns-2 : tie.Need-returns-2
 returns-2 c = (λ k. common-is _ _ _ (c .before .before .before .before .before .common-type .ensures) _ (c .before .q .given .1), λ k. is-types (at (c .before .before .before .before .before .before .before .before .before .before .before .args .c) k) _ (c .before .before .before .before .before .common-type .ensures) _ (c .before .q .given .1) _)
 
--- src/parts.rt:134:1
 same-length-3 : tie.Need-same-length-3
 same-length-3 c = search needs
 
--- src/parts.rt:134:1
 returns-3 : tie.Need-returns-3
 returns-3 c = (λ k. common-neither _ _ _ (c .before .before .before .before .common-type .ensures) (c .enum-told .given .1) (c .before .before .before .before .before .before .before .before .before .before .pre .1 .0 .1), λ k. neither-types (at (c .before .before .before .before .before .before .before .before .before .before .args .c) k) _ (c .before .before .before .before .common-type .ensures) (c .enum-told .given .1) _)
 

@@ -2,8 +2,8 @@
 -- By whether the kind is that of an If. Assumes nothing.
 use mathlib.Core.Path.{refl}
 use borrow.Author.Tests.{ne-eqb}
-use Rattle.judge.proofs.plain.otherwise_ok.Statement.{statement}
-use Rattle.judge.proofs.plain.otherwise_ok.Tie as tie
+use Rattle.judge.proofs.rules.otherwise_ok.Statement.{statement}
+use Rattle.judge.proofs.rules.otherwise_ok.Tie as tie
 
 returns : tie.Need-returns
 returns c = rw (c .if1 .taken) refl
