@@ -1,5 +1,5 @@
--- Which of two texts comes first: turned round, behind a third text, and where they agree just so far; and which of two records is next.
--- By induction on the texts. Assumes nothing.
+-- Which of two lists comes first: turned round, behind a third, and where they agree just so far; and which of two records is next.
+-- By induction on the lists. Assumes nothing.
 use mathlib.Core.Path.{_≡_, refl, sym, ap, ap₂, _∙_}
 use mathlib.Core.Bool.{Bool, true, false, not, false≢true}
 use mathlib.Core.List.{List, [], _∷_}
@@ -28,7 +28,7 @@ pub other-byte : (a b : ℕ) (t u : List ℕ) (p : Bool) → (a ≡ b → ⊥) �
 unfolding ahead pick
 other-byte a b t u p n = rw (ne-eqb a b n) refl
 
--- ---- two texts
+-- ---- two lists
 
 -- nothing comes ahead of no bytes
 pub ahead-empty : (u : List ℕ) → ahead [] u true ≡ true
@@ -72,7 +72,7 @@ common-turned (a ∷ t) (b ∷ u) =
     (λ y. let e : a ≡ b = eqb-true a b y in more a b t u e ∙ ap suc (common-turned t u) ∙ sym (more b a u t (sym e)))
     (λ n. let e : a ≡ b → ⊥ = eqb-false a b n in none a b t u e ∙ sym (none b a u t (λ q. e (sym q))))
 
--- ---- three texts
+-- ---- three lists
 
 -- z agrees further with x than y does, which comes behind x: z comes first
 pub further-first : (x y z : List ℕ) (p : Bool) → common x y < common x z → ahead x y true ≡ true → ahead z y p ≡ true
@@ -145,7 +145,7 @@ ahead-both (a ∷ x) (b ∷ y) h k =
       ltb-true b a (sym (other-byte b a y x true (λ q. n (sym q))) ∙ k),
     )))
 
--- ---- two texts that agree just so far
+-- ---- two lists that agree just so far
 
 ahead-ends : (t u : List ℕ) → common t u ≡ length t → ahead t u true ≡ true
 unfolding ahead common
@@ -187,7 +187,7 @@ pub text-byte : (text : List ℕ) (i n k : ℕ) → k < n → getD (textAt text 
 unfolding textAt
 text-byte text i n k h = getD-take n (drop i text) k 0 h ∙ getD-drop i text k 0
 
--- texts that agree to the end of both are the same
+-- lists that agree to the end of both are the same
 pub whole : (x y : List ℕ) → common x y ≡ length x → common x y ≡ length y → x ≡ y
 unfolding common
 whole [] [] h i = refl

@@ -172,7 +172,7 @@ module _ (t : ℕ → List ℕ) (n at m : ℕ) (s : List ℕ) (w : SortedRecords
           let z : j ≡ k = omega (arith, ltb-false j k x) in
           omega (arith, ap (recordIn s at) z, a .there, b .there, w .less))))
 
-  -- ---- the first with a text
+  -- ---- the first with a key
 
   pub first-begins : (i v : ℕ) → ((q : ℕ) → q + 1 ≡ i → t (recordIn s at q) ≡ t (recordIn s at i) → ⊥) → v ≡ recordIn s at i → FirstUpTo t s at i v
   first-begins i v f e = record { place = i; high = omega arith; there = sym e; same = ap t e; new = λ q z k. f q z (k ∙ ap t e) }

@@ -8,15 +8,12 @@ use Rattle.rudderplum.proofs.put_answer.Reads as reads
 use Rattle.rudderplum.proofs.put_answer.Lts as lts
 use Rattle.records.proofs.words.put_four.Reads as put-four-reads
 
--- src/lib.rt:18:5
 put-four-requires : tie.Need-put-four-requires
 put-four-requires c κs = search needs
 
--- src/lib.rt:14:1
 same-length : tie.Need-same-length
 same-length c = search needs
 
--- src/lib.rt:14:1
 returns : tie.Need-returns
 unfolding answerBytes
 returns c = search needs

@@ -10,39 +10,30 @@ use Rattle.records.proofs.convert_error.words_of.Reads as words-of-reads
 use Rattle.rudderplum.proofs.put_counts.Reads as put-counts-reads
 use Rattle.rudderplum.proofs.put_refusal.Reads as put-refusal-reads
 
--- src/lib.rt:117:27
 enum-known-a : tie.Need-enum-known-a
 enum-known-a c = search needs
 
--- src/lib.rt:117:33
 put-counts-requires : tie.Need-put-counts-requires
 put-counts-requires c κs = search needs
 
--- src/lib.rt:118:25
 enum-known-a-2 : tie.Need-enum-known-a-2
 enum-known-a-2 c = search needs
 
--- src/lib.rt:118:51
 words-of-requires : tie.Need-words-of-requires
 words-of-requires c κs = search needs
 
--- src/lib.rt:118:31
 put-refusal-requires : tie.Need-put-refusal-requires
 put-refusal-requires c κs = search needs
 
--- src/lib.rt:112:1
 same-length : tie.Need-same-length
 same-length c = search needs
 
--- src/lib.rt:112:1
 returns : tie.Need-returns
 returns c = converted-put _ _ _ _ _ (c .before .before .before .before .before .a .given .1) (c .before .before .put-counts .ensures)
 
--- src/lib.rt:112:1
 same-length-2 : tie.Need-same-length-2
 same-length-2 c = search needs
 
--- src/lib.rt:112:1
 returns-2 : tie.Need-returns-2
 returns-2 c = refused-put _ _ _ _ _ _ (c .before .before .before .before .before .before .a2 .given .1) (c .before .before .before .words-of .ensures) (c .before .before .put-refusal .ensures)
 

@@ -9,47 +9,36 @@ use Rattle.rudderplum.proofs.put_counts.Lts as lts
 use Rattle.records.proofs.words.put_four.Reads as put-four-reads
 use Rattle.rudderplum.proofs.count_word.Reads as count-word-reads
 
--- src/lib.rt:91:9
 count-word-requires : tie.Need-count-word-requires
 count-word-requires c κs = search needs
 
--- src/lib.rt:92:9
 count-word-requires-2 : tie.Need-count-word-requires-2
 count-word-requires-2 c κs = search needs
 
--- src/lib.rt:93:9
 count-word-requires-3 : tie.Need-count-word-requires-3
 count-word-requires-3 c κs = search needs
 
--- src/lib.rt:94:9
 count-word-requires-4 : tie.Need-count-word-requires-4
 count-word-requires-4 c κs = search needs
 
--- src/lib.rt:95:9
 count-word-requires-5 : tie.Need-count-word-requires-5
 count-word-requires-5 c κs = search needs
 
--- src/lib.rt:96:9
 count-word-requires-6 : tie.Need-count-word-requires-6
 count-word-requires-6 c κs = search needs
 
--- src/lib.rt:97:9
 count-word-requires-7 : tie.Need-count-word-requires-7
 count-word-requires-7 c κs = search needs
 
--- src/lib.rt:98:5
 put-four-requires : tie.Need-put-four-requires
 put-four-requires c κs = search needs
 
--- src/lib.rt:99:5
 put-four-requires-2 : tie.Need-put-four-requires-2
 put-four-requires-2 c κs = search needs
 
--- src/lib.rt:87:1
 same-length : tie.Need-same-length
 same-length c = search needs
 
--- src/lib.rt:87:1
 returns : tie.Need-returns
 returns c =
     let first = c .before .before .before .before .before .before .before .before .before .before .before .before .before .before .before .before in

@@ -9,19 +9,15 @@ use Rattle.rudderplum.proofs.put_refusal.Lts as lts
 use Rattle.records.proofs.words.put_four.Reads as put-four-reads
 use Rattle.rudderplum.proofs.put_answer.Reads as put-answer-reads
 
--- src/lib.rt:107:5
 put-answer-requires : tie.Need-put-answer-requires
 put-answer-requires c κs = search needs
 
--- src/lib.rt:108:5
 put-four-requires : tie.Need-put-four-requires
 put-four-requires c κs = search needs
 
--- src/lib.rt:103:1
 same-length : tie.Need-same-length
 same-length c = search needs
 
--- src/lib.rt:103:1
 returns : tie.Need-returns
 returns c = refusal-put _ _ _ (c .before .before .before .before .before .before .before .before .before .pre) (c .before .before .before .before .before .before .before .before .before .args .a) (c .before .before .before .before .before .before .put-answer .ensures) (c .before .before .put-four .ensures)
 

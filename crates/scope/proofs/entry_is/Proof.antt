@@ -8,43 +8,33 @@ use Rattle.scope.proofs.entry_is.Reads as reads
 use Rattle.scope.proofs.entry_is.Lts as lts
 use Rattle.records.proofs.words.load.Reads as load-reads
 
--- src/lib.rt:50:27
 mul-load : tie.Need-mul-load
 mul-load c = search needs
 
--- src/lib.rt:50:41
 mul-load-2 : tie.Need-mul-load-2
 mul-load-2 c = search needs
 
--- src/lib.rt:50:27
 add-load : tie.Need-add-load
 add-load c = search needs
 
--- src/lib.rt:50:9
 load-requires : tie.Need-load-requires
 load-requires c κs = search needs
 
--- src/lib.rt:51:27
 mul-load-3 : tie.Need-mul-load-3
 mul-load-3 c = search needs
 
--- src/lib.rt:51:41
 mul-load-4 : tie.Need-mul-load-4
 mul-load-4 c = search needs
 
--- src/lib.rt:51:27
 add-load-2 : tie.Need-add-load-2
 add-load-2 c = search needs
 
--- src/lib.rt:51:27
 add-load-3 : tie.Need-add-load-3
 add-load-3 c = search needs
 
--- src/lib.rt:51:9
 load-requires-2 : tie.Need-load-requires-2
 load-requires-2 c κs = search needs
 
--- src/lib.rt:46:1
 returns : tie.Need-returns
 unfolding wordsAre
 returns c = cc

@@ -16,47 +16,36 @@ use Rattle.records.proofs.words.load.Reads as load-reads
 abbrev numbered : ℕ → ℕ → VarId
 numbered i y = record { id = i; ty = y }
 
--- src/lib.rt:82:28
 mul-load : tie.Need-mul-load
 mul-load c = search needs
 
--- src/lib.rt:82:42
 mul-load-2 : tie.Need-mul-load-2
 mul-load-2 c = search needs
 
--- src/lib.rt:82:28
 add-load : tie.Need-add-load
 add-load c = search needs
 
--- src/lib.rt:82:28
 add-load-2 : tie.Need-add-load-2
 add-load-2 c = search needs
 
--- src/lib.rt:82:9
 load-requires : tie.Need-load-requires
 load-requires c κs = search needs
 
--- src/lib.rt:83:27
 mul-load-3 : tie.Need-mul-load-3
 mul-load-3 c = search needs
 
--- src/lib.rt:83:41
 mul-load-4 : tie.Need-mul-load-4
 mul-load-4 c = search needs
 
--- src/lib.rt:83:27
 add-load-3 : tie.Need-add-load-3
 add-load-3 c = search needs
 
--- src/lib.rt:83:27
 add-load-4 : tie.Need-add-load-4
 add-load-4 c = search needs
 
--- src/lib.rt:83:9
 load-requires-2 : tie.Need-load-requires-2
 load-requires-2 c κs = search needs
 
--- src/lib.rt:78:1
 returns : tie.Need-returns
 unfolding VariableAt
 returns c = (ap₂ numbered (c .before .load .ensures) (ap (λ (y : ℕ). y / 2) (c .load2 .ensures)), ap (λ (y : ℕ). eqb (y % 2) 1) (c .load2 .ensures))

@@ -9,23 +9,18 @@ use Rattle.expressions.proofs.arguments.argument_at.Lts as lts
 use Rattle.records.proofs.words.kind.Reads as kind-reads
 use Rattle.records.proofs.words.reference.Reads as reference-reads
 
--- src/arguments.rt:45:9
 reference-requires : tie.Need-reference-requires
 reference-requires c κs = (at-cell _ _ (c .before .before .pre .0) _ (c .before .before .pre .1 .0) (c .before .before .pre .1 .1), omega arith)
 
--- src/arguments.rt:46:9
 reference-requires-2 : tie.Need-reference-requires-2
 reference-requires-2 c κs = (at-item _ _ (c .before .before .before .pre .0) _ (c .before .before .before .pre .1 .0) (c .before .before .before .pre .1 .1) _ (c .reference .ensures), omega arith)
 
--- src/arguments.rt:47:8
 kind-requires : tie.Need-kind-requires
 kind-requires c κs = at-item _ _ (c .before .before .before .before .pre .0) _ (c .before .before .before .before .pre .1 .0) (c .before .before .before .before .pre .1 .1) _ (c .before .reference .ensures)
 
--- src/arguments.rt:48:9
 returns : tie.Need-returns
 returns c = value-argument _ _ (c .before .before .before .before .before .before .pre .0) _ (c .before .before .before .before .before .before .pre .1 .0) (c .before .before .before .before .before .before .pre .1 .1) _ _ _ (c .before .before .before .reference .ensures) (c .before .before .reference2 .ensures) (c .before .kind .ensures) (c .if1 .taken)
 
--- src/arguments.rt:39:1
 returns-2 : tie.Need-returns-2
 returns-2 c = type-argument _ _ (c .before .before .before .before .before .before .pre .0) _ (c .before .before .before .before .before .before .pre .1 .0) (c .before .before .before .before .before .before .pre .1 .1) _ _ _ (c .before .before .before .reference .ensures) (c .before .before .reference2 .ensures) (c .before .kind .ensures) (c .if1 .left)
 

@@ -11,27 +11,21 @@ use Rattle.expressions.proofs.arguments.argument_type.Lts as lts
 use Rattle.expressions.proofs.arguments.argument_at.Reads as argument-at-reads
 use Rattle.expressions.proofs.arguments.slot.Reads as slot-reads
 
--- src/arguments.rt:77:11
 argument-at-requires : tie.Need-argument-at-requires
 argument-at-requires c κs = search needs
 
--- src/arguments.rt:78:24
 enum-known-e : tie.Need-enum-known-e
 enum-known-e c = search needs
 
--- src/arguments.rt:78:30
 slot-requires : tie.Need-slot-requires
 slot-requires c κs = (omega (arith, of-expr _ _ _ (c .before .before .before .argument-at .ensures) _ (c .before .e .given .1) .1, cell-below _ _ (c .before .before .before .before .before .before .before .pre .0 .good) _ _ (c .before .before .before .before .before .before .before .pre .0 .cells) (c .before .before .before .before .before .before .before .pre .1)), c .before .before .before .before .before .before .before .pre .0 .room)
 
--- src/arguments.rt:79:26
 enum-known-y : tie.Need-enum-known-y
 enum-known-y c = search needs
 
--- src/arguments.rt:72:1
 returns : tie.Need-returns
 returns c = first-slot _ _ _ _ _ (c .before .before .before .before .argument-at .ensures) (c .before .before .before .before .before .before .before .before .pre .0 .typed) _ _ (c .before .before .e .given .1) (c .slot .ensures)
 
--- src/arguments.rt:72:1
 returns-2 : tie.Need-returns-2
 returns-2 c = first-type _ _ _ _ _ (c .before .before .before .argument-at .ensures) (c .before .before .before .before .before .before .before .pre .0 .typed) _ (c .before .y .given .1)
 

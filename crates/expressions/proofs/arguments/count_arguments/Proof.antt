@@ -22,27 +22,21 @@ Inv-loop tree text first n₀ cell₀ n cell = ArgsAt tree cell × (n + left cel
 abbrev μ-loop : tie.MeasureT-loop
 μ-loop tree text first n₀ cell₀ n cell = left cell
 
--- src/arguments.rt:99:5
 loop-holds : tie.Need-loop-holds Inv-loop μ-loop
 loop-holds c = (c .before .before .pre .1, omega (arith, left-most _ _ (c .before .before .pre .0) _ _ (c .before .before .pre .1)), λ s. omega arith)
 
--- src/arguments.rt:100:9
 add-n : tie.Need-add-n Inv-loop μ-loop
 add-n c = omega (arith, c .before .loop .inv .1, c .before .before .before .before .pre .0 .few)
 
--- src/arguments.rt:101:9
 next-cell-requires : tie.Need-next-cell-requires Inv-loop μ-loop
 next-cell-requires c κs = cell-below _ _ (c .before .before .before .before .pre .0) _ _ (c .before .loop .inv .0) (c .loop-test .taken)
 
--- src/arguments.rt:99:5
 loop-less : tie.Need-loop-less Inv-loop μ-loop
 loop-less c = next-falls _ _ (c .before .before .before .before .before .pre .0) _ _ _ (c .before .before .loop .inv .0) (c .before .loop-test .taken) (c .next-cell .ensures)
 
--- src/arguments.rt:99:5
 loop-again : tie.Need-loop-again Inv-loop μ-loop
 loop-again c = (next-list _ _ (c .before .before .before .before .before .pre .0) _ _ _ (c .before .before .loop .inv .0) (c .before .loop-test .taken) (c .next-cell .ensures), omega (arith, c .before .before .loop .inv .1, next-falls _ _ (c .before .before .before .before .before .pre .0) _ _ _ (c .before .before .loop .inv .0) (c .before .loop-test .taken) (c .next-cell .ensures)), λ s. count-more _ _ (c .before .before .before .before .before .pre .0) s _ _ _ _ (c .before .before .loop .inv .0) (c .before .loop-test .taken) (c .next-cell .ensures) (c .before .before .loop .inv .2 s))
 
--- src/arguments.rt:92:1
 returns : tie.Need-returns Inv-loop μ-loop
 returns c = λ s. count-end _ _ (c .before .before .before .before .pre .0) s _ _ _ (c .loop-test .left) (c .before .loop .inv .2 s)
 

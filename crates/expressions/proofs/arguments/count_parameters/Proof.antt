@@ -20,27 +20,21 @@ Inv-loop tree text first n₀ cell₀ n cell = ParamsAt tree cell × (n + left c
 abbrev μ-loop : tie.MeasureT-loop
 μ-loop tree text first n₀ cell₀ n cell = left cell
 
--- src/arguments.rt:113:5
 loop-holds : tie.Need-loop-holds Inv-loop μ-loop
 loop-holds c = (c .before .before .pre .1, omega (arith, left-most _ _ (c .before .before .pre .0) _ _ (c .before .before .pre .1)), omega arith)
 
--- src/arguments.rt:114:9
 add-n : tie.Need-add-n Inv-loop μ-loop
 add-n c = omega (arith, c .before .loop .inv .1, c .before .before .before .before .pre .0 .few)
 
--- src/arguments.rt:115:9
 next-cell-requires : tie.Need-next-cell-requires Inv-loop μ-loop
 next-cell-requires c κs = cell-below _ _ (c .before .before .before .before .pre .0) _ _ (c .before .loop .inv .0) (c .loop-test .taken)
 
--- src/arguments.rt:113:5
 loop-less : tie.Need-loop-less Inv-loop μ-loop
 loop-less c = next-falls _ _ (c .before .before .before .before .before .pre .0) _ _ _ (c .before .before .loop .inv .0) (c .before .loop-test .taken) (c .next-cell .ensures)
 
--- src/arguments.rt:113:5
 loop-again : tie.Need-loop-again Inv-loop μ-loop
 loop-again c = (next-list _ _ (c .before .before .before .before .before .pre .0) _ _ _ (c .before .before .loop .inv .0) (c .before .loop-test .taken) (c .next-cell .ensures), omega (arith, c .before .before .loop .inv .1, next-falls _ _ (c .before .before .before .before .before .pre .0) _ _ _ (c .before .before .loop .inv .0) (c .before .loop-test .taken) (c .next-cell .ensures)), parameters-more _ _ (c .before .before .before .before .before .pre .0) _ _ _ _ (c .before .before .loop .inv .0) (c .before .loop-test .taken) (c .next-cell .ensures) (c .before .before .loop .inv .2))
 
--- src/arguments.rt:106:1
 returns : tie.Need-returns Inv-loop μ-loop
 returns c = parameters-done _ _ (c .before .before .before .before .pre .0) _ _ _ (c .loop-test .left) (c .before .loop .inv .2)
 

@@ -8,27 +8,21 @@ use Rattle.expressions.proofs.arguments.slot.Reads as reads
 use Rattle.expressions.proofs.arguments.slot.Lts as lts
 use Rattle.records.proofs.words.load.Reads as load-reads
 
--- src/arguments.rt:68:19
 mul-load : tie.Need-mul-load
 mul-load c = search needs
 
--- src/arguments.rt:68:27
 mul-load-2 : tie.Need-mul-load-2
 mul-load-2 c = search needs
 
--- src/arguments.rt:68:19
 add-load : tie.Need-add-load
 add-load c = search needs
 
--- src/arguments.rt:68:5
 load-requires : tie.Need-load-requires
 load-requires c κs = search needs
 
--- src/arguments.rt:68:5
 cast-result : tie.Need-cast-result
 cast-result c = search needs
 
--- src/arguments.rt:63:1
 returns : tie.Need-returns
 unfolding slotAt
 returns c = c .load .ensures

@@ -24,42 +24,33 @@ Inv-loop tree text scratch first cell₀ cell = ArgsAt tree cell × ArgsTyped tr
 abbrev μ-loop : tie.MeasureT-loop
 μ-loop tree text scratch first cell₀ cell = left cell
 
--- src/arguments.rt:142:5
 loop-holds : tie.Need-loop-holds Inv-loop μ-loop
 loop-holds c = (c .before .before .before .pre .cells, c .before .before .before .pre .typed, refl)
 
--- src/arguments.rt:143:36
 argument-at-requires : tie.Need-argument-at-requires Inv-loop μ-loop
 argument-at-requires c κs = (c .before .before .before .before .before .pre .good, (c .before .loop .inv .0, c .loop-test .taken))
 
--- src/arguments.rt:143:31
 enum-known-e : tie.Need-enum-known-e Inv-loop μ-loop
 enum-known-e c = search needs
 
--- src/arguments.rt:144:30
 slot-requires : tie.Need-slot-requires Inv-loop μ-loop
 slot-requires c κs = (omega (arith, of-expr _ _ _ (c .before .before .before .argument-at .ensures) _ (c .before .e .given .1) .1, cell-below _ _ (c .before .before .before .before .before .before .before .before .before .pre .good) _ _ (c .before .before .before .before .before .loop .inv .0) (c .before .before .before .before .loop-test .taken)), c .before .before .before .before .before .before .before .before .before .pre .room)
 
--- src/arguments.rt:144:13
 returns : tie.Need-returns Inv-loop μ-loop
 returns c = (source-hit _ _ _ _ _ _ _ _ (c .before .before .before .before .argument-at .ensures) (c .before .before .e .given .1) (c .slot .ensures) (c .before .before .before .before .before .before .loop .inv .2), a-type (slot-type _ _ _ _ _ (c .before .before .before .before .argument-at .ensures) (c .before .before .before .before .before .before .loop .inv .1) _ _ (c .before .before .e .given .1) (c .slot .ensures)))
 
 enum-told : tie.Need-enum-told Inv-loop μ-loop
 enum-told c = search needs
 
--- src/arguments.rt:146:9
 next-cell-requires : tie.Need-next-cell-requires Inv-loop μ-loop
 next-cell-requires c κs = cell-below _ _ (c .before .before .before .before .before .before .before .before .pre .good) _ _ (c .before .before .before .before .loop .inv .0) (c .before .before .before .loop-test .taken)
 
--- src/arguments.rt:142:5
 loop-less : tie.Need-loop-less Inv-loop μ-loop
 loop-less c = next-falls _ _ (c .before .before .before .before .before .before .before .before .before .pre .good) _ _ _ (c .before .before .before .before .before .loop .inv .0) (c .before .before .before .before .loop-test .taken) (c .next-cell .ensures)
 
--- src/arguments.rt:142:5
 loop-again : tie.Need-loop-again Inv-loop μ-loop
 loop-again c = (next-list _ _ (c .before .before .before .before .before .before .before .before .before .pre .good) _ _ _ (c .before .before .before .before .before .loop .inv .0) (c .before .before .before .before .loop-test .taken) (c .next-cell .ensures), next-typed _ _ _ _ _ (c .before .before .before .argument-at .ensures) (c .before .before .before .before .before .loop .inv .1) (c .next-cell .ensures), source-more _ _ _ _ _ _ _ _ (c .before .before .before .argument-at .ensures) (c .before .enum-told .given .1) (c .next-cell .ensures) (c .before .before .before .before .before .loop .inv .2))
 
--- src/arguments.rt:137:1
 returns-2 : tie.Need-returns-2 Inv-loop μ-loop
 returns-2 c = (source-end _ _ _ _ _ (c .before .before .before .before .before .pre .good) (c .loop-test .left) (c .before .loop .inv .2), no-type)
 

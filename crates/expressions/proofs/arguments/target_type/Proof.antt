@@ -23,38 +23,30 @@ Inv-loop tree text first cell₀ cell = ArgsAt tree cell × ((s : List ℕ) → 
 abbrev μ-loop : tie.MeasureT-loop
 μ-loop tree text first cell₀ cell = left cell
 
--- src/arguments.rt:127:5
 loop-holds : tie.Need-loop-holds Inv-loop μ-loop
 loop-holds c = (c .before .before .pre .1, λ s. refl)
 
--- src/arguments.rt:128:38
 argument-at-requires : tie.Need-argument-at-requires Inv-loop μ-loop
 argument-at-requires c κs = (c .before .before .before .before .pre .0, (c .before .loop .inv .0, c .loop-test .taken))
 
--- src/arguments.rt:128:33
 enum-known-y : tie.Need-enum-known-y Inv-loop μ-loop
 enum-known-y c = search needs
 
--- src/arguments.rt:129:13
 returns : tie.Need-returns Inv-loop μ-loop
 returns c = (λ s. target-hit _ _ s _ _ _ _ (c .before .before .before .argument-at .ensures) (c .before .y .given .1) (c .before .before .before .before .before .loop .inv .1 s), a-type (of-type _ _ _ (c .before .before .before .argument-at .ensures) _ (c .before .y .given .1)))
 
 enum-told : tie.Need-enum-told Inv-loop μ-loop
 enum-told c = search needs
 
--- src/arguments.rt:131:9
 next-cell-requires : tie.Need-next-cell-requires Inv-loop μ-loop
 next-cell-requires c κs = cell-below _ _ (c .before .before .before .before .before .before .before .pre .0) _ _ (c .before .before .before .before .loop .inv .0) (c .before .before .before .loop-test .taken)
 
--- src/arguments.rt:127:5
 loop-less : tie.Need-loop-less Inv-loop μ-loop
 loop-less c = next-falls _ _ (c .before .before .before .before .before .before .before .before .pre .0) _ _ _ (c .before .before .before .before .before .loop .inv .0) (c .before .before .before .before .loop-test .taken) (c .next-cell .ensures)
 
--- src/arguments.rt:127:5
 loop-again : tie.Need-loop-again Inv-loop μ-loop
 loop-again c = (next-list _ _ (c .before .before .before .before .before .before .before .before .pre .0) _ _ _ (c .before .before .before .before .before .loop .inv .0) (c .before .before .before .before .loop-test .taken) (c .next-cell .ensures), λ s. target-more _ _ s _ _ _ _ _ (c .before .before .before .argument-at .ensures) (c .before .enum-told .given .1) (c .next-cell .ensures) (c .before .before .before .before .before .loop .inv .1 s))
 
--- src/arguments.rt:121:1
 returns-2 : tie.Need-returns-2 Inv-loop μ-loop
 returns-2 c = (λ s. target-end _ _ s _ _ (c .before .before .before .before .pre .0) (c .loop-test .left) (c .before .loop .inv .1 s), no-type)
 

@@ -8,11 +8,9 @@ use Rattle.expressions.proofs.arguments.type_key.Reads as reads
 use Rattle.expressions.proofs.arguments.type_key.Lts as lts
 use Rattle.keys.proofs.parts.text_part.Reads as text-part-reads
 
--- src/arguments.rt:89:5
 text-part-requires : tie.Need-text-part-requires
 text-part-requires c κs = search needs
 
--- src/arguments.rt:84:1
 returns : tie.Need-returns
 returns c = key-part _ _ (c .before .before .before .pre .0) _ (c .before .before .before .pre .1 .below) (c .before .before .before .pre .1 .kind) _ (c .text-part .ensures .0) (c .text-part .ensures .1)
 

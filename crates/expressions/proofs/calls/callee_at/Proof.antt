@@ -4,7 +4,6 @@ use mathlib.Core.Path.{sym, _∙_}
 use mathlib.Core.Logic.{⊎-elim}
 use native.Mathlib.Omega.{arith}
 use Rattle.expressions.proofs.TypingLaws.{function-stands, cast-stands}
-use borrow.Author.Needs.{needs}
 use Rattle.expressions.proofs.calls.callee_at.Statement.{statement}
 use Rattle.expressions.proofs.calls.callee_at.Tie as tie
 

@@ -13,55 +13,42 @@ use Rattle.expressions.proofs.arguments.target_type.Reads as target-typ
 use Rattle.keys.proofs.parts.is_cast_verb.Reads as is-cast-verb-reads
 use Rattle.types.proofs.casts.can_cast.Reads as can-cast-reads
 
--- src/calls.rt:88:9
 is-cast-verb-requires : tie.Need-is-cast-verb-requires
 is-cast-verb-requires c κs = search needs
 
--- src/calls.rt:89:9
 returns : tie.Need-returns
 returns c = record { is = cast-not _ _ _ _ _ _ (c .before .is-cast-verb .ensures) (c .if1 .taken); type = IsCast.not-cast }
 
--- src/calls.rt:91:25
 target-type-requires : tie.Need-target-type-requires
 target-type-requires c κs = search needs
 
--- src/calls.rt:91:19
 enum-known-to : tie.Need-enum-known-to
 enum-known-to c = search needs
 
--- src/calls.rt:92:9
 enum-told : tie.Need-enum-told
 enum-told c = search needs
 
--- src/calls.rt:92:9
 returns-2 : tie.Need-returns-2
 returns-2 c = record { is = cast-nowhere _ _ _ _ _ _ (c .before .before .before .before .is-cast-verb .ensures) (c .before .before .before .if1 .left) _ (c .before .before .target-type .ensures .0 _) (c .enum-told .given .1); type = IsCast.not-cast }
 
--- src/calls.rt:94:27
 source-type-requires : tie.Need-source-type-requires
 source-type-requires c κs = search needs
 
--- src/calls.rt:94:19
 enum-known-from : tie.Need-enum-known-from
 enum-known-from c = search needs
 
--- src/calls.rt:95:9
 enum-told-2 : tie.Need-enum-told-2
 enum-told-2 c = search needs
 
--- src/calls.rt:95:9
 returns-3 : tie.Need-returns-3
 returns-3 c = record { is = cast-free _ _ _ _ _ _ (c .before .before .before .before .before .before .before .before .is-cast-verb .ensures) (c .before .before .before .before .before .before .before .if1 .left) _ (c .before .before .before .before .before .before .target-type .ensures .0 _) _ (c .before .before .before .before .to .given .1) _ (c .before .before .source-type .ensures .0) (c .enum-told2 .given .1); type = IsCast.to (found-type _ _ _ (c .before .before .before .before .before .before .target-type .ensures .1) (c .before .before .before .before .to .given .1)) }
 
--- src/calls.rt:97:8
 can-cast-requires : tie.Need-can-cast-requires
 can-cast-requires c κs = (type-inside _ _ (c .before .before .before .before .before .before .before .before .before .before .before .before .before .pre .argued .good) _ (found-type _ _ _ (c .before .before .before .source-type .ensures .1) (c .before .from .given .1)), type-inside _ _ (c .before .before .before .before .before .before .before .before .before .before .before .before .before .pre .argued .good) _ (found-type _ _ _ (c .before .before .before .before .before .before .before .target-type .ensures .1) (c .before .before .before .before .before .to .given .1)))
 
--- src/calls.rt:98:9
 returns-4 : tie.Need-returns-4
 returns-4 c = record { is = cast-fine _ _ _ _ _ _ (c .before .before .before .before .before .before .before .before .before .before .before .is-cast-verb .ensures) (c .before .before .before .before .before .before .before .before .before .before .if1 .left) _ (c .before .before .before .before .before .before .before .before .before .target-type .ensures .0 _) _ (c .before .before .before .before .before .before .before .to .given .1) _ (c .before .before .before .before .before .source-type .ensures .0) _ (c .before .before .before .from .given .1) _ (c .before .can-cast .ensures _) (c .if2 .taken); type = IsCast.to (found-type _ _ _ (c .before .before .before .before .before .before .before .before .before .target-type .ensures .1) (c .before .before .before .before .before .before .before .to .given .1)) }
 
--- src/calls.rt:83:1
 returns-5 : tie.Need-returns-5
 returns-5 c = record { is = cast-wrong _ _ _ _ _ _ (c .before .before .before .before .before .before .before .before .before .before .before .is-cast-verb .ensures) (c .before .before .before .before .before .before .before .before .before .before .if1 .left) _ (c .before .before .before .before .before .before .before .before .before .target-type .ensures .0 _) _ (c .before .before .before .before .before .before .before .to .given .1) _ (c .before .before .before .before .before .source-type .ensures .0) _ (c .before .before .before .from .given .1) _ (c .before .can-cast .ensures _) (c .if2 .left); type = IsCast.no }
 

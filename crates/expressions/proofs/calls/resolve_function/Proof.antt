@@ -10,15 +10,12 @@ use Rattle.expressions.proofs.calls.find_functions_by_literals.Reads as
 use Rattle.expressions.proofs.calls.refuse_call.Reads as refuse-call-reads
 use Rattle.expressions.proofs.exact.find_exact_function.Reads as find-exact-function-reads
 
--- src/calls.rt:117:27
 find-exact-function-requires : tie.Need-find-exact-function-requires
 find-exact-function-requires c κs = search needs
 
--- src/calls.rt:117:22
 enum-known-f : tie.Need-enum-known-f
 enum-known-f c = search needs
 
--- src/calls.rt:118:9
 returns : tie.Need-returns
 returns c =
     exact-one _ _ _ _ _ _ (c .before .before .before .find-exact-function .ensures .is) (c .before .before .before .find-exact-function .ensures .function) _ (c .before .f .given .1)
@@ -26,41 +23,32 @@ returns c =
 enum-told : tie.Need-enum-told
 enum-told c = search needs
 
--- src/calls.rt:120:11
 find-functions-by-literals-requires : tie.Need-find-functions-by-literals-requires
 find-functions-by-literals-requires c κs = search needs
 
--- src/calls.rt:121:25
 enum-known-f-2 : tie.Need-enum-known-f-2
 enum-known-f-2 c = search needs
 
--- src/calls.rt:122:38
 enum-told-2 : tie.Need-enum-told-2
 enum-told-2 c = search needs
 
--- src/calls.rt:122:31
 refuse-call-requires : tie.Need-refuse-call-requires
 refuse-call-requires c κs = search needs
 
--- src/calls.rt:123:39
 enum-told-3 : tie.Need-enum-told-3
 enum-told-3 c = search needs
 
--- src/calls.rt:123:32
 refuse-call-requires-2 : tie.Need-refuse-call-requires-2
 refuse-call-requires-2 c κs = search needs
 
--- src/calls.rt:105:1
 returns-2 : tie.Need-returns-2
 returns-2 c =
     choice-one _ _ _ _ _ _ (c .before .before .before .before .before .before .find-exact-function .ensures .is) (c .before .before .before .before .enum-told .given .1) _ (c .before .before .before .find-functions-by-literals .ensures .are) (c .before .before .before .find-functions-by-literals .ensures .function) _ (c .before .f2 .given .1)
 
--- src/calls.rt:105:1
 returns-3 : tie.Need-returns-3
 returns-3 c =
     choice-nobody _ _ _ _ _ _ (c .before .before .before .before .before .before .find-exact-function .ensures .is) (c .before .before .before .before .enum-told .given .1) _ (c .before .before .before .find-functions-by-literals .ensures .are) (c .before .enum-told2 .given .1) _ (c .refuse-call .ensures)
 
--- src/calls.rt:105:1
 returns-4 : tie.Need-returns-4
 returns-4 c =
     choice-several _ _ _ _ _ _ (c .before .before .before .before .before .before .find-exact-function .ensures .is) (c .before .before .before .before .enum-told .given .1) _ (c .before .before .before .find-functions-by-literals .ensures .are) (c .before .enum-told3 .given .1) _ (c .refuse-call2 .ensures)

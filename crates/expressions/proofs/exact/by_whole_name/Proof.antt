@@ -1,6 +1,5 @@
 -- The verb by its slot where there are no arguments, else the whole name.
 -- By what the two ensure. Assumes nothing.
-use borrow.Author.Needs.{needs}
 use Rattle.expressions.proofs.exact.by_whole_name.Statement.{statement}
 use Rattle.expressions.proofs.exact.by_whole_name.Tie as tie
 

@@ -7,19 +7,15 @@ use Rattle.expressions.proofs.exact.later.Tie as tie
 use Rattle.expressions.proofs.exact.later.Reads as reads
 use Rattle.expressions.proofs.exact.later.Lts as lts
 
--- src/exact.rt:277:19
 enum-known-then : tie.Need-enum-known-then
 enum-known-then c = search needs
 
--- src/exact.rt:278:27
 enum-told : tie.Need-enum-told
 enum-told c = search needs
 
--- src/exact.rt:273:1
 returns : tie.Need-returns
 returns c = later-at _ _ _ (c .before .then .given .1)
 
--- src/exact.rt:273:1
 returns-2 : tie.Need-returns-2
 returns-2 c = search needs
 

@@ -8,23 +8,18 @@ use Rattle.expressions.proofs.exact.marked_digest.Reads as reads
 use Rattle.expressions.proofs.exact.marked_digest.Lts as lts
 use Rattle.records.proofs.texts.roll_byte.Reads as roll-byte-reads
 
--- src/exact.rt:211:35
 roll-byte-requires : tie.Need-roll-byte-requires
 roll-byte-requires c κs = search needs
 
--- src/exact.rt:211:25
 roll-byte-requires-2 : tie.Need-roll-byte-requires-2
 roll-byte-requires-2 c κs = search needs
 
--- src/exact.rt:211:15
 roll-byte-requires-3 : tie.Need-roll-byte-requires-3
 roll-byte-requires-3 c κs = search needs
 
--- src/exact.rt:211:5
 roll-byte-requires-4 : tie.Need-roll-byte-requires-4
 roll-byte-requires-4 c κs = search needs
 
--- src/exact.rt:207:1
 returns : tie.Need-returns
 returns c = marked-rolled _ _ _ _ _ (c .before .before .before .roll-byte .ensures .0) (c .before .before .roll-byte2 .ensures .0) (c .before .roll-byte3 .ensures .0) (c .roll-byte4 .ensures .0)
 

@@ -109,7 +109,6 @@ get-argument-types-Inv-loop tree text scratch₀ scope turn r cell₀ scratch ce
 abbrev get-argument-types-μ-loop : get-argument-types-lts.MeasureT-loop
 get-argument-types-μ-loop tree text scratch₀ scope turn r cell₀ scratch cell = pick (eqb cell 4294967295) 0 (suc cell)
 
--- src/expressions.rt:138:9
 get-argument-types-reference-requires : (t : ℕ) → get-argument-types-lts.Need-reference-requires (
   reference-reads.Asked,
   reference-reads.Learnt,
@@ -126,7 +125,6 @@ get-argument-types-reference-requires : (t : ℕ) → get-argument-types-lts.Nee
     get-argument-types-μ-loop
 get-argument-types-reference-requires t c κs = (omega (arith, c .before .before .before .pre .1 .1 .below, c .before .before .before .pre .1 .0 .ready .keyed .good .whole), omega arith)
 
--- src/expressions.rt:139:5
 get-argument-types-loop-holds : (t : ℕ) → get-argument-types-lts.Need-loop-holds (
   reference-reads.Asked,
   reference-reads.Learnt,
@@ -143,7 +141,6 @@ get-argument-types-loop-holds : (t : ℕ) → get-argument-types-lts.Need-loop-h
     get-argument-types-μ-loop
 get-argument-types-loop-holds t c = loop-start _ _ (c .before .before .before .before .pre .1 .0 .ready .keyed .good) _ _ _ _ (c .before .before .before .before .pre .1 .0) (c .before .before .before .before .pre .1 .1) _ (c .reference .ensures)
 
--- src/expressions.rt:140:36
 get-argument-types-argument-at-requires :
     (t : ℕ) → get-argument-types-lts.Need-argument-at-requires (
       reference-reads.Asked,
@@ -161,7 +158,6 @@ get-argument-types-argument-at-requires :
     get-argument-types-μ-loop
 get-argument-types-argument-at-requires t c κs = (c .before .before .before .before .before .before .pre .1 .0 .ready .keyed .good, (c .before .loop .inv .cells, c .loop-test .taken))
 
--- src/expressions.rt:140:31
 get-argument-types-enum-known-e : (t : ℕ) → get-argument-types-lts.Need-enum-known-e (
   reference-reads.Asked,
   reference-reads.Learnt,
@@ -178,7 +174,6 @@ get-argument-types-enum-known-e : (t : ℕ) → get-argument-types-lts.Need-enum
     get-argument-types-μ-loop
 get-argument-types-enum-known-e t c = search needs
 
--- src/expressions.rt:141:43
 get-argument-types-get-type-requires : (t : ℕ) → get-argument-types-lts.Need-get-type-requires (
   reference-reads.Asked,
   reference-reads.Learnt,
@@ -196,7 +191,6 @@ get-argument-types-get-type-requires : (t : ℕ) → get-argument-types-lts.Need
 get-argument-types-get-type-requires t c κs = let h = value-low _ _ (c .before .before .before .before .before .before .before .before .before .before .before .pre .1 .0 .ready .keyed .good) _ _ _ _ (c .before .before .before .before .before .before .before .before .before .before .before .pre .1 .0) _ _ (c .before .before .before .before .before .before .loop .inv) (c .before .before .before .before .before .loop-test .taken) _ (c .before .before .before .before .argument-at .ensures) _ (c .before .before .e .given .1) in
     (omega (arith, h .0, c .before .before .before .before .before .before .before .before .before .before .before .pre .0), (c .before .before .before .before .before .before .loop .inv .typing, h .1))
 
--- src/expressions.rt:141:38
 get-argument-types-enum-known-x : (t : ℕ) → get-argument-types-lts.Need-enum-known-x (
   reference-reads.Asked,
   reference-reads.Learnt,
@@ -213,7 +207,6 @@ get-argument-types-enum-known-x : (t : ℕ) → get-argument-types-lts.Need-enum
     get-argument-types-μ-loop
 get-argument-types-enum-known-x t c = search needs
 
--- src/expressions.rt:142:17
 get-argument-types-same-length : (t : ℕ) → get-argument-types-lts.Need-same-length (
   reference-reads.Asked,
   reference-reads.Learnt,
@@ -230,7 +223,6 @@ get-argument-types-same-length : (t : ℕ) → get-argument-types-lts.Need-same-
     get-argument-types-μ-loop
 get-argument-types-same-length t c = search needs
 
--- src/expressions.rt:142:17
 get-argument-types-returns : (t : ℕ) → get-argument-types-lts.Need-returns (
   reference-reads.Asked,
   reference-reads.Learnt,
@@ -279,7 +271,6 @@ get-argument-types-enum-told-2 : (t : ℕ) → get-argument-types-lts.Need-enum-
     get-argument-types-μ-loop
 get-argument-types-enum-told-2 t c = search needs
 
--- src/expressions.rt:145:9
 get-argument-types-next-cell-requires : (t : ℕ) → get-argument-types-lts.Need-next-cell-requires (
   reference-reads.Asked,
   reference-reads.Learnt,
@@ -296,7 +287,6 @@ get-argument-types-next-cell-requires : (t : ℕ) → get-argument-types-lts.Nee
     get-argument-types-μ-loop
 get-argument-types-next-cell-requires t c κs = cell-inside _ _ (c .before .before .before .before .before .before .before .before .pre .1 .0 .ready .keyed .good) _ _ _ _ (c .before .before .before .before .before .before .before .before .pre .1 .0) _ _ (c .before .before .before .loop .inv) (c .before .before .loop-test .taken)
 
--- src/expressions.rt:139:5
 get-argument-types-loop-less : (t : ℕ) → get-argument-types-lts.Need-loop-less (
   reference-reads.Asked,
   reference-reads.Learnt,
@@ -313,7 +303,6 @@ get-argument-types-loop-less : (t : ℕ) → get-argument-types-lts.Need-loop-le
     get-argument-types-μ-loop
 get-argument-types-loop-less t c = cell-falls _ _ (c .before .before .before .before .before .before .before .before .before .pre .1 .0 .ready .keyed .good) _ _ _ _ (c .before .before .before .before .before .before .before .before .before .pre .1 .0) _ _ (c .before .before .before .before .loop .inv) (c .before .before .before .loop-test .taken) _ (c .next-cell .ensures)
 
--- src/expressions.rt:139:5
 get-argument-types-loop-again : (t : ℕ) → get-argument-types-lts.Need-loop-again (
   reference-reads.Asked,
   reference-reads.Learnt,
@@ -333,7 +322,6 @@ get-argument-types-loop-again t c = ⊎-elim
     (λ w. turn-type _ _ (c .before .before .before .before .before .before .before .before .before .pre .1 .0 .ready .keyed .good) _ _ _ _ (c .before .before .before .before .before .before .before .before .before .pre .1 .0) _ _ (c .before .before .before .before .loop .inv) (c .before .before .before .loop-test .taken) _ (c .before .before .argument-at .ensures) _ (w .1 .given .1) _ (w .2) _ (c .next-cell .ensures))
     (c .before .match .came)
 
--- src/expressions.rt:125:1
 get-argument-types-same-length-2 : (t : ℕ) → get-argument-types-lts.Need-same-length-2 (
   reference-reads.Asked,
   reference-reads.Learnt,
@@ -350,7 +338,6 @@ get-argument-types-same-length-2 : (t : ℕ) → get-argument-types-lts.Need-sam
     get-argument-types-μ-loop
 get-argument-types-same-length-2 t c = search needs
 
--- src/expressions.rt:125:1
 get-argument-types-returns-2 : (t : ℕ) → get-argument-types-lts.Need-returns-2 (
   reference-reads.Asked,
   reference-reads.Learnt,
@@ -367,7 +354,6 @@ get-argument-types-returns-2 : (t : ℕ) → get-argument-types-lts.Need-returns
     get-argument-types-μ-loop
 get-argument-types-returns-2 t c = loop-end _ _ (c .before .before .before .before .before .before .pre .1 .0 .ready .keyed .good) _ _ _ _ (c .before .before .before .before .before .before .pre .1 .0) _ _ (c .before .loop .inv) (c .loop-test .left)
 
--- src/expressions.rt:55:8
 get-type-is-typed-requires : (t : ℕ) → get-type-lts.Need-is-typed-requires (
   is-typed-reads.Asked,
   is-typed-reads.Learnt,
@@ -378,7 +364,6 @@ get-type-is-typed-requires : (t : ℕ) → get-type-lts.Need-is-typed-requires (
 ) (get-type-at t) get-type.Post
 get-type-is-typed-requires t c κs = look-ready _ _ (c .before .before .before .before .pre .1 .0 .ready .keyed .good) _ (c .before .before .before .before .pre .1 .1) _ _ _ (c .before .before .before .before .pre .1 .0)
 
--- src/expressions.rt:56:29
 get-type-slot-requires : (t : ℕ) → get-type-lts.Need-slot-requires (
   is-typed-reads.Asked,
   is-typed-reads.Learnt,
@@ -389,7 +374,6 @@ get-type-slot-requires : (t : ℕ) → get-type-lts.Need-slot-requires (
 ) (get-type-at t) get-type.Post
 get-type-slot-requires t c κs = look-ready _ _ (c .before .before .before .before .before .before .before .pre .1 .0 .ready .keyed .good) _ (c .before .before .before .before .before .before .before .pre .1 .1) _ _ _ (c .before .before .before .before .before .before .before .pre .1 .0)
 
--- src/expressions.rt:56:9
 get-type-same-length : (t : ℕ) → get-type-lts.Need-same-length (
   is-typed-reads.Asked,
   is-typed-reads.Learnt,
@@ -400,7 +384,6 @@ get-type-same-length : (t : ℕ) → get-type-lts.Need-same-length (
 ) (get-type-at t) get-type.Post
 get-type-same-length t c = search needs
 
--- src/expressions.rt:56:9
 get-type-returns : (t : ℕ) → get-type-lts.Need-returns (
   is-typed-reads.Asked,
   is-typed-reads.Learnt,
@@ -411,7 +394,6 @@ get-type-returns : (t : ℕ) → get-type-lts.Need-returns (
 ) (get-type-at t) get-type.Post
 get-type-returns t c = type-known _ _ (c .before .before .before .before .before .before .before .before .pre .1 .0 .ready .keyed .good) _ (c .before .before .before .before .before .before .before .before .pre .1 .1) _ _ _ (c .before .before .before .before .before .before .before .before .pre .1 .0) _ (c .before .before .before .is-typed .ensures) (c .before .before .if1 .taken) _ (c .slot .ensures)
 
--- src/expressions.rt:58:5
 get-type-work-out-requires : (t : ℕ) → get-type-lts.Need-work-out-requires (
   is-typed-reads.Asked,
   is-typed-reads.Learnt,
@@ -422,7 +404,6 @@ get-type-work-out-requires : (t : ℕ) → get-type-lts.Need-work-out-requires (
 ) (get-type-at t) get-type.Post
 get-type-work-out-requires t c κs = (omega (arith, c .before .before .before .before .before .before .before .pre .0), (c .before .before .before .before .before .before .before .pre .1 .0, (c .before .before .before .before .before .before .before .pre .1 .1, sym (c .before .before .is-typed .ensures) ∙ c .before .if1 .left)))
 
--- src/expressions.rt:42:1
 get-type-same-length-2 : (t : ℕ) → get-type-lts.Need-same-length-2 (
   is-typed-reads.Asked,
   is-typed-reads.Learnt,
@@ -433,7 +414,6 @@ get-type-same-length-2 : (t : ℕ) → get-type-lts.Need-same-length-2 (
 ) (get-type-at t) get-type.Post
 get-type-same-length-2 t c = search needs
 
--- src/expressions.rt:42:1
 get-type-returns-2 : (t : ℕ) → get-type-lts.Need-returns-2 (
   is-typed-reads.Asked,
   is-typed-reads.Learnt,
@@ -444,7 +424,6 @@ get-type-returns-2 : (t : ℕ) → get-type-lts.Need-returns-2 (
 ) (get-type-at t) get-type.Post
 get-type-returns-2 t c = c .before .before .work-out .ensures
 
--- src/expressions.rt:118:11
 find-callee-get-argument-types-requires :
     (t : ℕ) → find-callee-lts.Need-get-argument-types-requires (
       get-argument-types-below t,
@@ -454,7 +433,6 @@ find-callee-get-argument-types-requires :
     ) (find-callee-at t) find-callee.Post
 find-callee-get-argument-types-requires t c κs = (omega (arith, c .before .before .before .before .pre .0), (c .before .before .before .before .pre .1 .0, c .before .before .before .before .pre .1 .1))
 
--- src/expressions.rt:119:26
 find-callee-enum-known-x : (t : ℕ) → find-callee-lts.Need-enum-known-x (
   get-argument-types-below t,
   get-argument-types.Post,
@@ -463,7 +441,6 @@ find-callee-enum-known-x : (t : ℕ) → find-callee-lts.Need-enum-known-x (
 ) (find-callee-at t) find-callee.Post
 find-callee-enum-known-x t c = search needs
 
--- src/expressions.rt:120:52
 find-callee-enum-told : (t : ℕ) → find-callee-lts.Need-enum-told (
   get-argument-types-below t,
   get-argument-types.Post,
@@ -472,7 +449,6 @@ find-callee-enum-told : (t : ℕ) → find-callee-lts.Need-enum-told (
 ) (find-callee-at t) find-callee.Post
 find-callee-enum-told t c = search needs
 
--- src/expressions.rt:120:26
 find-callee-resolve-typed-requires : (t : ℕ) → find-callee-lts.Need-resolve-typed-requires (
   get-argument-types-below t,
   get-argument-types.Post,
@@ -481,7 +457,6 @@ find-callee-resolve-typed-requires : (t : ℕ) → find-callee-lts.Need-resolve-
 ) (find-callee-at t) find-callee.Post
 find-callee-resolve-typed-requires t c κs = (keyed-frame _ _ _ (c .before .before .before .before .before .get-argument-types .ensures .frame) _ (c .before .before .before .before .before .before .before .before .before .before .pre .1 .0 .ready .keyed), (c .before .before .before .before .before .before .before .before .before .before .pre .1 .1, c .before .before .before .before .before .get-argument-types .ensures .typed (c .before .enum-told .given .1)))
 
--- src/expressions.rt:105:1
 find-callee-same-length : (t : ℕ) → find-callee-lts.Need-same-length (
   get-argument-types-below t,
   get-argument-types.Post,
@@ -490,7 +465,6 @@ find-callee-same-length : (t : ℕ) → find-callee-lts.Need-same-length (
 ) (find-callee-at t) find-callee.Post
 find-callee-same-length t c = search needs
 
--- src/expressions.rt:105:1
 find-callee-returns : (t : ℕ) → find-callee-lts.Need-returns (
   get-argument-types-below t,
   get-argument-types.Post,
@@ -499,7 +473,6 @@ find-callee-returns : (t : ℕ) → find-callee-lts.Need-returns (
 ) (find-callee-at t) find-callee.Post
 find-callee-returns t c = call-stop _ _ (c .before .before .before .before .before .before .before .before .before .before .pre .1 .0 .ready .keyed .good) _ _ _ _ _ _ (c .before .before .before .before .before .get-argument-types .ensures) _ (c .before .x .given .1)
 
--- src/expressions.rt:105:1
 find-callee-same-length-2 : (t : ℕ) → find-callee-lts.Need-same-length-2 (
   get-argument-types-below t,
   get-argument-types.Post,
@@ -508,7 +481,6 @@ find-callee-same-length-2 : (t : ℕ) → find-callee-lts.Need-same-length-2 (
 ) (find-callee-at t) find-callee.Post
 find-callee-same-length-2 t c = search needs
 
--- src/expressions.rt:105:1
 find-callee-returns-2 : (t : ℕ) → find-callee-lts.Need-returns-2 (
   get-argument-types-below t,
   get-argument-types.Post,
@@ -517,7 +489,6 @@ find-callee-returns-2 : (t : ℕ) → find-callee-lts.Need-returns-2 (
 ) (find-callee-at t) find-callee.Post
 find-callee-returns-2 t c = call-next _ _ (c .before .before .before .before .before .before .before .before .before .before .before .pre .1 .0 .ready .keyed .good) _ _ _ _ _ _ (c .before .before .before .before .before .before .get-argument-types .ensures) (c .before .before .enum-told .given .1) _ (c .resolve-typed .ensures)
 
--- src/expressions.rt:75:9
 work-out-kind-requires : (t : ℕ) → work-out-lts.Need-kind-requires (
   kind-reads.Asked,
   kind-reads.Learnt,
@@ -548,7 +519,6 @@ work-out-kind-requires : (t : ℕ) → work-out-lts.Need-kind-requires (
 ) (work-out-at t) work-out.Post
 work-out-kind-requires t c κs = c .before .before .before .pre .1 .1 .0 .inside
 
--- src/expressions.rt:76:9
 work-out-reference-requires : (t : ℕ) → work-out-lts.Need-reference-requires (
   kind-reads.Asked,
   kind-reads.Learnt,
@@ -579,7 +549,6 @@ work-out-reference-requires : (t : ℕ) → work-out-lts.Need-reference-requires
 ) (work-out-at t) work-out.Post
 work-out-reference-requires t c κs = (c .before .before .before .before .pre .1 .1 .0 .inside, omega arith)
 
--- src/expressions.rt:78:22
 work-out-get-type-requires : (t : ℕ) → work-out-lts.Need-get-type-requires (
   kind-reads.Asked,
   kind-reads.Learnt,
@@ -611,7 +580,6 @@ work-out-get-type-requires : (t : ℕ) → work-out-lts.Need-get-type-requires (
 work-out-get-type-requires t c κs = let h = operand-expr _ _ (c .before .before .before .before .before .before .before .pre .1 .0 .ready .keyed .good) _ _ (c .before .before .before .before .before .before .before .pre .1 .1 .0) (c .before .before .before .kind .ensures) (c .before .if1 .taken) _ (c .before .before .reference .ensures) in
     (omega (arith, h .0, c .before .before .before .before .before .before .before .pre .0), (c .before .before .before .before .before .before .before .pre .1 .0, h .1))
 
--- src/expressions.rt:79:31
 work-out-enum-known-x : (t : ℕ) → work-out-lts.Need-enum-known-x (
   kind-reads.Asked,
   kind-reads.Learnt,
@@ -642,7 +610,6 @@ work-out-enum-known-x : (t : ℕ) → work-out-lts.Need-enum-known-x (
 ) (work-out-at t) work-out.Post
 work-out-enum-known-x t c = search needs
 
--- src/expressions.rt:80:26
 work-out-enum-known-ty : (t : ℕ) → work-out-lts.Need-enum-known-ty (
   kind-reads.Asked,
   kind-reads.Learnt,
@@ -673,7 +640,6 @@ work-out-enum-known-ty : (t : ℕ) → work-out-lts.Need-enum-known-ty (
 ) (work-out-at t) work-out.Post
 work-out-enum-known-ty t c = search needs
 
--- src/expressions.rt:80:62
 work-out-unary-type-requires : (t : ℕ) → work-out-lts.Need-unary-type-requires (
   kind-reads.Asked,
   kind-reads.Learnt,
@@ -704,7 +670,6 @@ work-out-unary-type-requires : (t : ℕ) → work-out-lts.Need-unary-type-requir
 ) (work-out-at t) work-out.Post
 work-out-unary-type-requires t c κs = (c .before .before .before .before .before .before .before .before .before .before .before .before .before .before .pre .1 .0 .ready .keyed .good, (is-kind _ _ (c .before .before .before .before .before .before .before .before .before .before .before .before .before .before .pre .1 .0 .ready .keyed .good) _ _ (c .before .before .before .before .before .before .before .before .before .before .before .before .before .before .pre .1 .1 .0) (c .before .before .before .before .before .before .before .before .before .before .kind .ensures) 9 (c .before .before .before .before .before .before .before .before .if1 .taken), is-typed _ _ _ (c .before .before .before .before .before .before .get-type .ensures .typed) (c .before .before .ty .given .1)))
 
--- src/expressions.rt:80:33
 work-out-keep-requires : (t : ℕ) → work-out-lts.Need-keep-requires (
   kind-reads.Asked,
   kind-reads.Learnt,
@@ -735,7 +700,6 @@ work-out-keep-requires : (t : ℕ) → work-out-lts.Need-keep-requires (
 ) (work-out-at t) work-out.Post
 work-out-keep-requires t c κs = keep-ready _ _ (c .before .before .before .before .before .before .before .before .before .before .before .before .before .before .before .pre .1 .0 .ready .keyed .good) _ (c .before .before .before .before .before .before .before .before .before .before .before .before .before .before .before .pre .1 .1 .0) _ _ _ (c .before .before .before .before .before .before .before .before .before .before .before .before .before .before .before .pre .1 .0) (c .before .before .before .before .before .before .before .before .before .before .before .before .before .before .before .pre .1 .1 .1) _ _ _ (unary-next _ _ (c .before .before .before .before .before .before .before .before .before .before .before .before .before .before .before .pre .1 .0 .ready .keyed .good) _ _ (c .before .before .before .before .before .before .before .before .before .before .before .before .before .before .before .pre .1 .1 .0) (c .before .before .before .before .before .before .before .before .before .before .before .kind .ensures) _ _ _ (c .before .before .before .before .before .before .before .before .before .if1 .taken) _ (c .before .before .before .before .before .before .before .before .before .before .reference .ensures) _ _ (c .before .before .before .before .before .before .before .get-type .ensures) _ (c .before .before .before .ty .given .1) _ (c .unary-type .ensures))
 
--- src/expressions.rt:78:9
 work-out-same-length : (t : ℕ) → work-out-lts.Need-same-length (
   kind-reads.Asked,
   kind-reads.Learnt,
@@ -766,7 +730,6 @@ work-out-same-length : (t : ℕ) → work-out-lts.Need-same-length (
 ) (work-out-at t) work-out.Post
 work-out-same-length t c = search needs
 
--- src/expressions.rt:78:9
 work-out-returns : (t : ℕ) → work-out-lts.Need-returns (
   kind-reads.Asked,
   kind-reads.Learnt,
@@ -797,7 +760,6 @@ work-out-returns : (t : ℕ) → work-out-lts.Need-returns (
 ) (work-out-at t) work-out.Post
 work-out-returns t c = unary-stop _ _ (c .before .before .before .before .before .before .before .before .before .before .before .before .before .pre .1 .0 .ready .keyed .good) _ _ (c .before .before .before .before .before .before .before .before .before .before .before .before .before .pre .1 .1 .0) (c .before .before .before .before .before .before .before .before .before .kind .ensures) _ _ _ (c .before .before .before .before .before .before .before .if1 .taken) _ (c .before .before .before .before .before .before .before .before .reference .ensures) _ _ (c .before .before .before .before .before .get-type .ensures) _ (c .before .x .given .1)
 
--- src/expressions.rt:78:9
 work-out-same-length-2 : (t : ℕ) → work-out-lts.Need-same-length-2 (
   kind-reads.Asked,
   kind-reads.Learnt,
@@ -828,7 +790,6 @@ work-out-same-length-2 : (t : ℕ) → work-out-lts.Need-same-length-2 (
 ) (work-out-at t) work-out.Post
 work-out-same-length-2 t c = search needs
 
--- src/expressions.rt:78:9
 work-out-returns-2 : (t : ℕ) → work-out-lts.Need-returns-2 (
   kind-reads.Asked,
   kind-reads.Learnt,
@@ -859,7 +820,6 @@ work-out-returns-2 : (t : ℕ) → work-out-lts.Need-returns-2 (
 ) (work-out-at t) work-out.Post
 work-out-returns-2 t c = keep-meets _ _ (c .before .before .before .before .before .before .before .before .before .before .before .before .before .before .before .before .before .before .pre .1 .0 .ready .keyed .good) _ (c .before .before .before .before .before .before .before .before .before .before .before .before .before .before .before .before .before .before .pre .1 .1 .0) _ _ _ (c .before .before .before .before .before .before .before .before .before .before .before .before .before .before .before .before .before .before .pre .1 .0) (c .before .before .before .before .before .before .before .before .before .before .before .before .before .before .before .before .before .before .pre .1 .1 .1) _ _ _ (unary-next _ _ (c .before .before .before .before .before .before .before .before .before .before .before .before .before .before .before .before .before .before .pre .1 .0 .ready .keyed .good) _ _ (c .before .before .before .before .before .before .before .before .before .before .before .before .before .before .before .before .before .before .pre .1 .1 .0) (c .before .before .before .before .before .before .before .before .before .before .before .before .before .before .kind .ensures) _ _ _ (c .before .before .before .before .before .before .before .before .before .before .before .before .if1 .taken) _ (c .before .before .before .before .before .before .before .before .before .before .before .before .before .reference .ensures) _ _ (c .before .before .before .before .before .before .before .before .before .before .get-type .ensures) _ (c .before .before .before .before .before .before .ty .given .1) _ (c .before .before .before .unary-type .ensures)) (c .before .before .before .before .before .before .before .before .before .before .before .before .before .before .before .before .before .before .fits .turn .fits) _ _ (c .before .before .keep .ensures)
 
--- src/expressions.rt:84:13
 work-out-reference-requires-2 : (t : ℕ) → work-out-lts.Need-reference-requires-2 (
   kind-reads.Asked,
   kind-reads.Learnt,
@@ -890,7 +850,6 @@ work-out-reference-requires-2 : (t : ℕ) → work-out-lts.Need-reference-requir
 ) (work-out-at t) work-out.Post
 work-out-reference-requires-2 t c κs = (c .before .before .before .before .before .before .before .pre .1 .1 .0 .inside, omega arith)
 
--- src/expressions.rt:85:22
 work-out-get-type-requires-2 : (t : ℕ) → work-out-lts.Need-get-type-requires-2 (
   kind-reads.Asked,
   kind-reads.Learnt,
@@ -922,7 +881,6 @@ work-out-get-type-requires-2 : (t : ℕ) → work-out-lts.Need-get-type-requires
 work-out-get-type-requires-2 t c κs = let h = left-expr _ _ (c .before .before .before .before .before .before .before .before .before .pre .1 .0 .ready .keyed .good) _ _ (c .before .before .before .before .before .before .before .before .before .pre .1 .1 .0) (c .before .before .before .before .before .kind .ensures) (c .before .before .if2 .taken) _ (c .before .before .before .before .reference .ensures) in
     (omega (arith, h .0, c .before .before .before .before .before .before .before .before .before .pre .0), (c .before .before .before .before .before .before .before .before .before .pre .1 .0, h .1))
 
--- src/expressions.rt:86:31
 work-out-enum-known-x-2 : (t : ℕ) → work-out-lts.Need-enum-known-x-2 (
   kind-reads.Asked,
   kind-reads.Learnt,
@@ -953,7 +911,6 @@ work-out-enum-known-x-2 : (t : ℕ) → work-out-lts.Need-enum-known-x-2 (
 ) (work-out-at t) work-out.Post
 work-out-enum-known-x-2 t c = search needs
 
--- src/expressions.rt:87:26
 work-out-enum-known-l : (t : ℕ) → work-out-lts.Need-enum-known-l (
   kind-reads.Asked,
   kind-reads.Learnt,
@@ -984,7 +941,6 @@ work-out-enum-known-l : (t : ℕ) → work-out-lts.Need-enum-known-l (
 ) (work-out-at t) work-out.Post
 work-out-enum-known-l t c = search needs
 
--- src/expressions.rt:87:38
 work-out-get-type-requires-3 : (t : ℕ) → work-out-lts.Need-get-type-requires-3 (
   kind-reads.Asked,
   kind-reads.Learnt,
@@ -1016,7 +972,6 @@ work-out-get-type-requires-3 : (t : ℕ) → work-out-lts.Need-get-type-requires
 work-out-get-type-requires-3 t c κs = let h = right-expr _ _ (c .before .before .before .before .before .before .before .before .before .before .before .before .before .before .before .before .pre .1 .0 .ready .keyed .good) _ _ (c .before .before .before .before .before .before .before .before .before .before .before .before .before .before .before .before .pre .1 .1 .0) (c .before .before .before .before .before .before .before .before .before .before .before .before .kind .ensures) (c .before .before .before .before .before .before .before .before .before .if2 .taken) _ (c .before .before .before .before .before .before .before .before .reference2 .ensures) in
     (omega (arith, h .0, c .before .before .before .before .before .before .before .before .before .before .before .before .before .before .before .before .pre .0), (typing-next _ _ _ _ _ (c .before .before .before .before .before .before .before .before .before .before .before .before .before .before .before .before .pre .1 .0) _ (c .before .before .before .before .before .before .get-type2 .ensures .frame) _ (c .before .before .before .before .before .before .get-type2 .ensures .adds _ (c .before .before .l .given .1)), h .1))
 
--- src/expressions.rt:88:35
 work-out-enum-known-x-3 : (t : ℕ) → work-out-lts.Need-enum-known-x-3 (
   kind-reads.Asked,
   kind-reads.Learnt,
@@ -1047,7 +1002,6 @@ work-out-enum-known-x-3 : (t : ℕ) → work-out-lts.Need-enum-known-x-3 (
 ) (work-out-at t) work-out.Post
 work-out-enum-known-x-3 t c = search needs
 
--- src/expressions.rt:89:30
 work-out-enum-known-r : (t : ℕ) → work-out-lts.Need-enum-known-r (
   kind-reads.Asked,
   kind-reads.Learnt,
@@ -1078,7 +1032,6 @@ work-out-enum-known-r : (t : ℕ) → work-out-lts.Need-enum-known-r (
 ) (work-out-at t) work-out.Post
 work-out-enum-known-r t c = search needs
 
--- src/expressions.rt:90:56
 work-out-both-sides-requires : (t : ℕ) → work-out-lts.Need-both-sides-requires (
   kind-reads.Asked,
   kind-reads.Learnt,
@@ -1109,7 +1062,6 @@ work-out-both-sides-requires : (t : ℕ) → work-out-lts.Need-both-sides-requir
 ) (work-out-at t) work-out.Post
 work-out-both-sides-requires t c κs = search needs
 
--- src/expressions.rt:90:25
 work-out-common-of-requires : (t : ℕ) → work-out-lts.Need-common-of-requires (
   kind-reads.Asked,
   kind-reads.Learnt,
@@ -1147,7 +1099,6 @@ work-out-common-of-requires t c κs = (
       (is-typed _ _ _ (c .before .before .before .before .before .before .get-type3 .ensures .typed) (c .before .before .r .given .1)),
 )
 
--- src/expressions.rt:90:25
 work-out-binary-type-requires : (t : ℕ) → work-out-lts.Need-binary-type-requires (
   kind-reads.Asked,
   kind-reads.Learnt,
@@ -1188,7 +1139,6 @@ work-out-binary-type-requires t c κs = (
   ),
 )
 
--- src/expressions.rt:90:25
 work-out-found-record-requires : (t : ℕ) → work-out-lts.Need-found-record-requires (
   kind-reads.Asked,
   kind-reads.Learnt,
@@ -1219,7 +1169,6 @@ work-out-found-record-requires : (t : ℕ) → work-out-lts.Need-found-record-re
 ) (work-out-at t) work-out.Post
 work-out-found-record-requires t c κs = search needs
 
--- src/expressions.rt:91:21
 work-out-keep-requires-2 : (t : ℕ) → work-out-lts.Need-keep-requires-2 (
   kind-reads.Asked,
   kind-reads.Learnt,
@@ -1250,7 +1199,6 @@ work-out-keep-requires-2 : (t : ℕ) → work-out-lts.Need-keep-requires-2 (
 ) (work-out-at t) work-out.Post
 work-out-keep-requires-2 t c κs = keep-ready _ _ (c .before .before .before .before .before .before .before .before .before .before .before .before .before .before .before .before .before .before .before .before .before .before .before .before .before .before .before .pre .1 .0 .ready .keyed .good) _ (c .before .before .before .before .before .before .before .before .before .before .before .before .before .before .before .before .before .before .before .before .before .before .before .before .before .before .before .pre .1 .1 .0) _ _ _ (c .before .before .before .before .before .before .before .before .before .before .before .before .before .before .before .before .before .before .before .before .before .before .before .before .before .before .before .pre .1 .0) (c .before .before .before .before .before .before .before .before .before .before .before .before .before .before .before .before .before .before .before .before .before .before .before .before .before .before .before .pre .1 .1 .1) _ _ _ (right-next _ _ (c .before .before .before .before .before .before .before .before .before .before .before .before .before .before .before .before .before .before .before .before .before .before .before .before .before .before .before .pre .1 .0 .ready .keyed .good) _ _ (c .before .before .before .before .before .before .before .before .before .before .before .before .before .before .before .before .before .before .before .before .before .before .before .before .before .before .before .pre .1 .1 .0) (c .before .before .before .before .before .before .before .before .before .before .before .before .before .before .before .before .before .before .before .before .before .before .before .kind .ensures) _ _ _ (c .before .before .before .before .before .before .before .before .before .before .before .before .before .before .before .before .before .before .before .before .if2 .taken) _ (c .before .before .before .before .before .before .before .before .before .before .before .before .before .before .before .before .before .before .before .before .before .before .reference .ensures) _ _ (c .before .before .before .before .before .before .before .before .before .before .before .before .before .before .before .before .before .get-type2 .ensures) (c .before .before .before .before .before .before .before .before .before .before .before .before .before .before .before .before .before .before .before .before .before .before .before .before .before .before .before .pre .1 .0) _ (c .before .before .before .before .before .before .before .before .before .before .before .before .before .l .given .1) _ (c .before .before .before .before .before .before .before .before .before .before .before .before .before .before .before .before .before .before .before .reference2 .ensures) _ _ (c .before .before .before .before .before .before .before .before .before .before .get-type3 .ensures) _ (c .before .before .before .before .before .before .r .given .1) _ (c .before .before .before .before .both-sides .ensures) _ (c .before .before .binary-type .ensures) _ (c .before .before .before .common-of .ensures) _ (c .found-record .ensures))
 
--- src/expressions.rt:85:9
 work-out-same-length-3 : (t : ℕ) → work-out-lts.Need-same-length-3 (
   kind-reads.Asked,
   kind-reads.Learnt,
@@ -1281,7 +1229,6 @@ work-out-same-length-3 : (t : ℕ) → work-out-lts.Need-same-length-3 (
 ) (work-out-at t) work-out.Post
 work-out-same-length-3 t c = search needs
 
--- src/expressions.rt:85:9
 work-out-returns-3 : (t : ℕ) → work-out-lts.Need-returns-3 (
   kind-reads.Asked,
   kind-reads.Learnt,
@@ -1312,7 +1259,6 @@ work-out-returns-3 : (t : ℕ) → work-out-lts.Need-returns-3 (
 ) (work-out-at t) work-out.Post
 work-out-returns-3 t c = left-stop _ _ (c .before .before .before .before .before .before .before .before .before .before .before .before .before .before .before .pre .1 .0 .ready .keyed .good) _ _ (c .before .before .before .before .before .before .before .before .before .before .before .before .before .before .before .pre .1 .1 .0) (c .before .before .before .before .before .before .before .before .before .before .before .kind .ensures) _ _ _ (c .before .before .before .before .before .before .before .before .if2 .taken) _ (c .before .before .before .before .before .before .before .before .before .before .reference .ensures) _ _ (c .before .before .before .before .before .get-type2 .ensures) _ (c .before .x2 .given .1)
 
--- src/expressions.rt:85:9
 work-out-same-length-4 : (t : ℕ) → work-out-lts.Need-same-length-4 (
   kind-reads.Asked,
   kind-reads.Learnt,
@@ -1343,7 +1289,6 @@ work-out-same-length-4 : (t : ℕ) → work-out-lts.Need-same-length-4 (
 ) (work-out-at t) work-out.Post
 work-out-same-length-4 t c = search needs
 
--- src/expressions.rt:85:9
 work-out-returns-4 : (t : ℕ) → work-out-lts.Need-returns-4 (
   kind-reads.Asked,
   kind-reads.Learnt,
@@ -1374,7 +1319,6 @@ work-out-returns-4 : (t : ℕ) → work-out-lts.Need-returns-4 (
 ) (work-out-at t) work-out.Post
 work-out-returns-4 t c = right-stop _ _ (c .before .before .before .before .before .before .before .before .before .before .before .before .before .before .before .before .before .before .before .before .before .before .pre .1 .0 .ready .keyed .good) _ _ (c .before .before .before .before .before .before .before .before .before .before .before .before .before .before .before .before .before .before .before .before .before .before .pre .1 .1 .0) (c .before .before .before .before .before .before .before .before .before .before .before .before .before .before .before .before .before .before .kind .ensures) _ _ _ (c .before .before .before .before .before .before .before .before .before .before .before .before .before .before .before .if2 .taken) _ (c .before .before .before .before .before .before .before .before .before .before .before .before .before .before .before .before .before .reference .ensures) _ _ (c .before .before .before .before .before .before .before .before .before .before .before .before .get-type2 .ensures) (c .before .before .before .before .before .before .before .before .before .before .before .before .before .before .before .before .before .before .before .before .before .before .pre .1 .0) _ (c .before .before .before .before .before .before .before .before .l .given .1) _ (c .before .before .before .before .before .before .before .before .before .before .before .before .before .before .reference2 .ensures) _ _ (c .before .before .before .before .before .get-type3 .ensures) _ (c .before .x3 .given .1)
 
--- src/expressions.rt:85:9
 work-out-same-length-5 : (t : ℕ) → work-out-lts.Need-same-length-5 (
   kind-reads.Asked,
   kind-reads.Learnt,
@@ -1405,7 +1349,6 @@ work-out-same-length-5 : (t : ℕ) → work-out-lts.Need-same-length-5 (
 ) (work-out-at t) work-out.Post
 work-out-same-length-5 t c = omega (arith, c .before .before .before .before .before .before .before .before .before .before .before .before .before .before .before .before .before .before .before .scratch3 .given, c .before .before .before .before .before .before .before .before .before .before .before .before .scratch4 .given, c .before .scratch5 .given)
 
--- src/expressions.rt:85:9
 work-out-returns-5 : (t : ℕ) → work-out-lts.Need-returns-5 (
   kind-reads.Asked,
   kind-reads.Learnt,
@@ -1436,7 +1379,6 @@ work-out-returns-5 : (t : ℕ) → work-out-lts.Need-returns-5 (
 ) (work-out-at t) work-out.Post
 work-out-returns-5 t c = keep-meets _ _ (c .before .before .before .before .before .before .before .before .before .before .before .before .before .before .before .before .before .before .before .before .before .before .before .before .before .before .before .before .before .before .pre .1 .0 .ready .keyed .good) _ (c .before .before .before .before .before .before .before .before .before .before .before .before .before .before .before .before .before .before .before .before .before .before .before .before .before .before .before .before .before .before .pre .1 .1 .0) _ _ _ (c .before .before .before .before .before .before .before .before .before .before .before .before .before .before .before .before .before .before .before .before .before .before .before .before .before .before .before .before .before .before .pre .1 .0) (c .before .before .before .before .before .before .before .before .before .before .before .before .before .before .before .before .before .before .before .before .before .before .before .before .before .before .before .before .before .before .pre .1 .1 .1) _ _ _ (right-next _ _ (c .before .before .before .before .before .before .before .before .before .before .before .before .before .before .before .before .before .before .before .before .before .before .before .before .before .before .before .before .before .before .pre .1 .0 .ready .keyed .good) _ _ (c .before .before .before .before .before .before .before .before .before .before .before .before .before .before .before .before .before .before .before .before .before .before .before .before .before .before .before .before .before .before .pre .1 .1 .0) (c .before .before .before .before .before .before .before .before .before .before .before .before .before .before .before .before .before .before .before .before .before .before .before .before .before .before .kind .ensures) _ _ _ (c .before .before .before .before .before .before .before .before .before .before .before .before .before .before .before .before .before .before .before .before .before .before .before .if2 .taken) _ (c .before .before .before .before .before .before .before .before .before .before .before .before .before .before .before .before .before .before .before .before .before .before .before .before .before .reference .ensures) _ _ (c .before .before .before .before .before .before .before .before .before .before .before .before .before .before .before .before .before .before .before .before .get-type2 .ensures) (c .before .before .before .before .before .before .before .before .before .before .before .before .before .before .before .before .before .before .before .before .before .before .before .before .before .before .before .before .before .before .pre .1 .0) _ (c .before .before .before .before .before .before .before .before .before .before .before .before .before .before .before .before .l .given .1) _ (c .before .before .before .before .before .before .before .before .before .before .before .before .before .before .before .before .before .before .before .before .before .before .reference2 .ensures) _ _ (c .before .before .before .before .before .before .before .before .before .before .before .before .before .get-type3 .ensures) _ (c .before .before .before .before .before .before .before .before .before .r .given .1) _ (c .before .before .before .before .before .before .before .both-sides .ensures) _ (c .before .before .before .before .before .binary-type .ensures) _ (c .before .before .before .before .before .before .common-of .ensures) _ (c .before .before .before .found-record .ensures)) (c .before .before .before .before .before .before .before .before .before .before .before .before .before .before .before .before .before .before .before .before .before .before .before .before .before .before .before .before .before .before .fits .turn .fits) _ _ (c .before .before .keep2 .ensures)
 
--- src/expressions.rt:97:13
 work-out-find-callee-requires : (t : ℕ) → work-out-lts.Need-find-callee-requires (
   kind-reads.Asked,
   kind-reads.Learnt,
@@ -1467,7 +1409,6 @@ work-out-find-callee-requires : (t : ℕ) → work-out-lts.Need-find-callee-requ
 ) (work-out-at t) work-out.Post
 work-out-find-callee-requires t c κs = (omega (arith, c .before .before .before .before .before .before .before .before .before .pre .0), (c .before .before .before .before .before .before .before .before .before .pre .1 .0, is-kind _ _ (c .before .before .before .before .before .before .before .before .before .pre .1 .0 .ready .keyed .good) _ _ (c .before .before .before .before .before .before .before .before .before .pre .1 .1 .0) (c .before .before .before .before .before .kind .ensures) 11 (c .before .if3 .taken)))
 
--- src/expressions.rt:98:45
 work-out-value-type-requires : (t : ℕ) → work-out-lts.Need-value-type-requires (
   kind-reads.Asked,
   kind-reads.Learnt,
@@ -1498,7 +1439,6 @@ work-out-value-type-requires : (t : ℕ) → work-out-lts.Need-value-type-requir
 ) (work-out-at t) work-out.Post
 work-out-value-type-requires t c κs = (c .before .before .before .before .before .before .before .before .before .before .before .before .pre .1 .0 .ready .keyed .good, (c .before .before .find-callee .ensures .callee, expr-low _ _ (c .before .before .before .before .before .before .before .before .before .before .before .before .pre .1 .0 .ready .keyed .good) _ (c .before .before .before .before .before .before .before .before .before .before .before .before .pre .1 .1 .0)))
 
--- src/expressions.rt:98:45
 work-out-callee-record-requires : (t : ℕ) → work-out-lts.Need-callee-record-requires (
   kind-reads.Asked,
   kind-reads.Learnt,
@@ -1529,7 +1469,6 @@ work-out-callee-record-requires : (t : ℕ) → work-out-lts.Need-callee-record-
 ) (work-out-at t) work-out.Post
 work-out-callee-record-requires t c κs = search needs
 
--- src/expressions.rt:98:9
 work-out-keep-requires-3 : (t : ℕ) → work-out-lts.Need-keep-requires-3 (
   kind-reads.Asked,
   kind-reads.Learnt,
@@ -1560,7 +1499,6 @@ work-out-keep-requires-3 : (t : ℕ) → work-out-lts.Need-keep-requires-3 (
 ) (work-out-at t) work-out.Post
 work-out-keep-requires-3 t c κs = keep-ready _ _ (c .before .before .before .before .before .before .before .before .before .before .before .before .before .before .before .pre .1 .0 .ready .keyed .good) _ (c .before .before .before .before .before .before .before .before .before .before .before .before .before .before .before .pre .1 .1 .0) _ _ _ (c .before .before .before .before .before .before .before .before .before .before .before .before .before .before .before .pre .1 .0) (c .before .before .before .before .before .before .before .before .before .before .before .before .before .before .before .pre .1 .1 .1) _ _ _ (call-value _ _ (c .before .before .before .before .before .before .before .before .before .before .before .before .before .before .before .pre .1 .0 .ready .keyed .good) _ _ (c .before .before .before .before .before .before .before .before .before .before .before .before .before .before .before .pre .1 .1 .0) (c .before .before .before .before .before .before .before .before .before .before .before .kind .ensures) _ _ _ (c .before .before .before .before .before .before .before .if3 .taken) _ _ (c .before .before .before .before .before .find-callee .ensures) _ (c .before .before .value-type .ensures) _ (c .callee-record .ensures))
 
--- src/expressions.rt:98:9
 work-out-same-length-6 : (t : ℕ) → work-out-lts.Need-same-length-6 (
   kind-reads.Asked,
   kind-reads.Learnt,
@@ -1591,7 +1529,6 @@ work-out-same-length-6 : (t : ℕ) → work-out-lts.Need-same-length-6 (
 ) (work-out-at t) work-out.Post
 work-out-same-length-6 t c = search needs
 
--- src/expressions.rt:98:9
 work-out-returns-6 : (t : ℕ) → work-out-lts.Need-returns-6 (
   kind-reads.Asked,
   kind-reads.Learnt,
@@ -1622,7 +1559,6 @@ work-out-returns-6 : (t : ℕ) → work-out-lts.Need-returns-6 (
 ) (work-out-at t) work-out.Post
 work-out-returns-6 t c = keep-meets _ _ (c .before .before .before .before .before .before .before .before .before .before .before .before .before .before .before .before .before .before .pre .1 .0 .ready .keyed .good) _ (c .before .before .before .before .before .before .before .before .before .before .before .before .before .before .before .before .before .before .pre .1 .1 .0) _ _ _ (c .before .before .before .before .before .before .before .before .before .before .before .before .before .before .before .before .before .before .pre .1 .0) (c .before .before .before .before .before .before .before .before .before .before .before .before .before .before .before .before .before .before .pre .1 .1 .1) _ _ _ (call-value _ _ (c .before .before .before .before .before .before .before .before .before .before .before .before .before .before .before .before .before .before .pre .1 .0 .ready .keyed .good) _ _ (c .before .before .before .before .before .before .before .before .before .before .before .before .before .before .before .before .before .before .pre .1 .1 .0) (c .before .before .before .before .before .before .before .before .before .before .before .before .before .before .kind .ensures) _ _ _ (c .before .before .before .before .before .before .before .before .before .before .if3 .taken) _ _ (c .before .before .before .before .before .before .before .before .find-callee .ensures) _ (c .before .before .before .before .before .value-type .ensures) _ (c .before .before .before .callee-record .ensures)) (c .before .before .before .before .before .before .before .before .before .before .before .before .before .before .before .before .before .before .fits .turn .fits) _ _ (c .before .before .keep3 .ensures)
 
--- src/expressions.rt:100:9
 work-out-leaf-type-requires : (t : ℕ) → work-out-lts.Need-leaf-type-requires (
   kind-reads.Asked,
   kind-reads.Learnt,
@@ -1656,7 +1592,6 @@ work-out-leaf-type-requires t c κs = (
   (c .before .before .before .before .before .before .before .before .before .pre .1 .0 .ready .scoped, (c .before .before .before .before .before .before .before .before .before .pre .1 .1 .0, leaf-kind _ _ (c .before .before .before .before .before .before .before .before .before .pre .1 .0 .ready .keyed .good) _ _ (c .before .before .before .before .before .before .before .before .before .pre .1 .1 .0) (c .before .before .before .before .before .kind .ensures) (c .before .before .before .if1 .left) (c .before .before .if2 .left) (c .before .if3 .left))),
 )
 
--- src/expressions.rt:101:5
 work-out-keep-requires-4 : (t : ℕ) → work-out-lts.Need-keep-requires-4 (
   kind-reads.Asked,
   kind-reads.Learnt,
@@ -1687,7 +1622,6 @@ work-out-keep-requires-4 : (t : ℕ) → work-out-lts.Need-keep-requires-4 (
 ) (work-out-at t) work-out.Post
 work-out-keep-requires-4 t c κs = keep-ready _ _ (c .before .before .before .before .before .before .before .before .before .before .before .pre .1 .0 .ready .keyed .good) _ (c .before .before .before .before .before .before .before .before .before .before .before .pre .1 .1 .0) _ _ _ (c .before .before .before .before .before .before .before .before .before .before .before .pre .1 .0) (c .before .before .before .before .before .before .before .before .before .before .before .pre .1 .1 .1) _ _ _ (leaf-meets _ _ (c .before .before .before .before .before .before .before .before .before .before .before .pre .1 .0 .ready .keyed .good) _ _ (c .before .before .before .before .before .before .before .before .before .before .before .pre .1 .1 .0) (c .before .before .before .before .before .before .before .kind .ensures) _ _ _ (c .before .before .before .before .before .before .before .before .before .before .before .pre .1 .0) (c .before .before .before .before .before .if1 .left) (c .before .before .before .before .if2 .left) (c .before .before .before .if3 .left) _ (c .before .leaf-type .ensures))
 
--- src/expressions.rt:62:1
 work-out-same-length-7 : (t : ℕ) → work-out-lts.Need-same-length-7 (
   kind-reads.Asked,
   kind-reads.Learnt,
@@ -1718,7 +1652,6 @@ work-out-same-length-7 : (t : ℕ) → work-out-lts.Need-same-length-7 (
 ) (work-out-at t) work-out.Post
 work-out-same-length-7 t c = search needs
 
--- src/expressions.rt:62:1
 work-out-returns-7 : (t : ℕ) → work-out-lts.Need-returns-7 (
   kind-reads.Asked,
   kind-reads.Learnt,

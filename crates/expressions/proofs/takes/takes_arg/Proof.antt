@@ -14,39 +14,30 @@ use Rattle.expressions.proofs.arguments.slot.Reads as slot-reads
 use Rattle.types.proofs.fits.fits.Reads as fits-reads
 use Rattle.records.proofs.words.reference.Reads as reference-reads
 
--- src/takes.rt:46:30
 reference-requires : tie.Need-reference-requires
 reference-requires c κs = (at-parameter _ _ (c .before .before .before .pre .0 .good) _ (c .before .before .before .pre .1 .0) (c .before .before .before .pre .1 .1 .1), omega arith)
 
--- src/takes.rt:46:9
 reference-requires-2 : tie.Need-reference-requires-2
 reference-requires-2 c κs = (at-variable _ _ (c .before .before .before .before .pre .0 .good) _ (c .before .before .before .before .pre .1 .0) (c .before .before .before .before .pre .1 .1 .1) _ (c .reference .ensures), omega arith)
 
--- src/takes.rt:47:11
 argument-at-requires : tie.Need-argument-at-requires
 argument-at-requires c κs = search needs
 
--- src/takes.rt:48:24
 enum-known-e : tie.Need-enum-known-e
 enum-known-e c = search needs
 
--- src/takes.rt:48:44
 slot-requires : tie.Need-slot-requires
 slot-requires c κs = (omega (arith, of-expr _ _ _ (c .before .before .before .argument-at .ensures) _ (c .before .e .given .1) .1, cell-below _ _ (c .before .before .before .before .before .before .before .before .before .pre .0 .good) _ _ (c .before .before .before .before .before .before .before .before .before .pre .0 .cells) (c .before .before .before .before .before .before .before .before .before .pre .1 .1 .0)), c .before .before .before .before .before .before .before .before .before .pre .0 .room)
 
--- src/takes.rt:48:30
 fits-requires : tie.Need-fits-requires
 fits-requires c κs = (of-expr _ _ _ (c .before .before .before .before .argument-at .ensures) _ (c .before .before .e .given .1) .0, (as-type _ _ (c .before .before .before .before .before .before .before .before .before .before .pre .0 .good) _ (slot-type _ _ _ _ _ (c .before .before .before .before .argument-at .ensures) (c .before .before .before .before .before .before .before .before .before .before .pre .0 .typed) _ _ (c .before .before .e .given .1) (c .slot .ensures)), as-type _ _ (c .before .before .before .before .before .before .before .before .before .before .pre .0 .good) _ (variable-type _ _ (c .before .before .before .before .before .before .before .before .before .before .pre .0 .good) _ (c .before .before .before .before .before .before .before .before .before .before .pre .1 .0) (c .before .before .before .before .before .before .before .before .before .before .pre .1 .1 .1) _ (c .before .before .before .before .before .before .reference .ensures) _ (c .before .before .before .before .before .reference2 .ensures))))
 
--- src/takes.rt:49:26
 enum-known-y : tie.Need-enum-known-y
 enum-known-y c = search needs
 
--- src/takes.rt:40:1
 returns : tie.Need-returns
 returns c = takes-value _ _ (c .before .before .before .before .before .before .before .before .before .before .before .pre .0 .good) _ (c .before .before .before .before .before .before .before .before .before .before .before .pre .1 .0) (c .before .before .before .before .before .before .before .before .before .before .before .pre .1 .1 .1) _ (c .before .before .before .before .before .before .before .reference .ensures) _ (c .before .before .before .before .before .before .reference2 .ensures) _ _ _ (c .before .before .before .before .before .argument-at .ensures) _ _ (c .before .before .before .e .given .1) (c .before .slot .ensures) _ (c .fits2 .ensures _)
 
--- src/takes.rt:40:1
 returns-2 : tie.Need-returns-2
 returns-2 c = takes-type _ _ (c .before .before .before .before .before .before .before .before .before .pre .0 .good) _ (c .before .before .before .before .before .before .before .before .before .pre .1 .0) (c .before .before .before .before .before .before .before .before .before .pre .1 .1 .1) _ (c .before .before .before .before .before .reference .ensures) _ (c .before .before .before .before .reference2 .ensures) _ _ _ (c .before .before .before .argument-at .ensures) _ (c .before .y .given .1)
 

@@ -22,39 +22,30 @@ Inv-loop tree text scratch parameters first parameter₀ cell₀ parameter cell 
 abbrev μ-loop : tie.MeasureT-loop
 μ-loop tree text scratch parameters first parameter₀ cell₀ parameter cell = left parameter
 
--- src/takes.rt:61:5
 loop-holds : tie.Need-loop-holds Inv-loop μ-loop
 loop-holds c = (c .before .before .before .pre .1, c .before .before .before .pre .0 .cells, c .before .before .before .pre .0 .typed, refl)
 
--- src/takes.rt:63:13
 returns : tie.Need-returns Inv-loop μ-loop
 returns c = arguments-end _ _ _ _ (c .before .before .before .before .before .before .pre .0 .good) _ _ (c .before .before .loop .inv .3) (c .if1 .taken)
 
--- src/takes.rt:65:13
 takes-arg-requires : tie.Need-takes-arg-requires Inv-loop μ-loop
 takes-arg-requires c κs = (record { good = c .before .before .before .before .before .before .pre .0 .good; room = c .before .before .before .before .before .before .pre .0 .room; cells = c .before .before .loop .inv .1; typed = c .before .before .loop .inv .2 }, (c .before .before .loop .inv .0, (c .if1 .left, c .before .loop-test .taken)))
 
--- src/takes.rt:66:13
 returns-2 : tie.Need-returns-2 Inv-loop μ-loop
 returns-2 c = all-no _ _ _ _ _ _ _ (c .before .before .before .before .loop .inv .3) (c .before .takes-arg .ensures) (c .if2 .taken)
 
--- src/takes.rt:68:9
 next-cell-requires : tie.Need-next-cell-requires Inv-loop μ-loop
 next-cell-requires c κs = cell-below _ _ (c .before .before .before .before .before .before .before .before .pre .0 .good) _ _ (c .before .before .before .before .loop .inv .0) (c .before .before .before .loop-test .taken)
 
--- src/takes.rt:69:9
 next-cell-requires-2 : tie.Need-next-cell-requires-2 Inv-loop μ-loop
 next-cell-requires-2 c κs = cell-below _ _ (c .before .before .before .before .before .before .before .before .before .pre .0 .good) _ _ (c .before .before .before .before .before .loop .inv .1) (c .before .before .before .if1 .left)
 
--- src/takes.rt:61:5
 loop-less : tie.Need-loop-less Inv-loop μ-loop
 loop-less c = next-falls _ _ (c .before .before .before .before .before .before .before .before .before .before .pre .0 .good) _ _ _ (c .before .before .before .before .before .before .loop .inv .0) (c .before .before .before .before .before .loop-test .taken) (c .before .next-cell .ensures)
 
--- src/takes.rt:61:5
 loop-again : tie.Need-loop-again Inv-loop μ-loop
 loop-again c = (next-list _ _ (c .before .before .before .before .before .before .before .before .before .before .pre .0 .good) _ _ _ (c .before .before .before .before .before .before .loop .inv .0) (c .before .before .before .before .before .loop-test .taken) (c .before .next-cell .ensures), next-list _ _ (c .before .before .before .before .before .before .before .before .before .before .pre .0 .good) _ _ _ (c .before .before .before .before .before .before .loop .inv .1) (c .before .before .before .before .if1 .left) (c .next-cell2 .ensures), next-args-typed _ _ _ (c .before .before .before .before .before .before .before .before .before .before .pre .0 .good) _ _ (c .before .before .before .before .before .before .loop .inv .1) (c .before .before .before .before .if1 .left) (c .next-cell2 .ensures) (c .before .before .before .before .before .before .loop .inv .2), all-more _ _ _ _ (c .before .before .before .before .before .before .before .before .before .before .pre .0 .good) _ _ _ _ (c .before .before .before .before .before .before .loop .inv .0) (c .before .before .before .before .before .loop-test .taken) (c .before .before .before .before .before .before .loop .inv .1) (c .before .before .before .before .if1 .left) (c .before .next-cell .ensures) (c .next-cell2 .ensures) _ (c .before .before .before .before .before .before .loop .inv .3) (c .before .before .before .takes-arg .ensures) (c .before .before .if2 .left))
 
--- src/takes.rt:54:1
 returns-3 : tie.Need-returns-3 Inv-loop μ-loop
 returns-3 c = params-end-all _ _ _ (c .before .before .before .before .before .pre .0 .good) _ _ (c .before .loop .inv .3) (c .loop-test .left)
 

@@ -10,23 +10,18 @@ use Rattle.keys.proofs.keys.parameters_of.Reads as parameters-of-reads
 use Rattle.expressions.proofs.takes.takes_args.Reads as takes-args-reads
 use Rattle.expressions.proofs.takes.takes_count.Reads as takes-count-reads
 
--- src/takes.rt:81:9
 takes-count-requires : tie.Need-takes-count-requires
 takes-count-requires c κs = search needs
 
--- src/takes.rt:82:9
 returns : tie.Need-returns
 returns c = args-no _ _ _ _ _ _ (c .before .takes-count .ensures) (c .before .before .before .before .before .pre .0 .counted) (c .if1 .taken)
 
--- src/takes.rt:84:36
 parameters-of-requires : tie.Need-parameters-of-requires
 parameters-of-requires c κs = search needs
 
--- src/takes.rt:84:5
 takes-args-requires : tie.Need-takes-args-requires
 takes-args-requires c κs = search needs
 
--- src/takes.rt:74:1
 returns-2 : tie.Need-returns-2
 returns-2 c = args-all _ _ _ _ _ _ (c .before .before .before .takes-count .ensures) (c .before .before .before .before .before .before .before .pre .0 .counted) (c .before .before .if1 .left) _ (c .before .parameters-of .ensures .0) _ (c .takes-args .ensures)
 

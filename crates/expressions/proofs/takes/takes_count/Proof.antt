@@ -10,27 +10,21 @@ use Rattle.expressions.proofs.arguments.count_parameters.Reads as count
 use Rattle.keys.proofs.keys.is_variadic.Reads as is-variadic-reads
 use Rattle.keys.proofs.keys.parameters_of.Reads as parameters-of-reads
 
--- src/takes.rt:29:44
 parameters-of-requires : tie.Need-parameters-of-requires
 parameters-of-requires c κs = search needs
 
--- src/takes.rt:29:9
 count-parameters-requires : tie.Need-count-parameters-requires
 count-parameters-requires c κs = search needs
 
--- src/takes.rt:31:9
 returns : tie.Need-returns
 returns c = count-same _ _ _ _ (c .before .before .parameters-of .ensures .0) (c .before .count-parameters .ensures) (c .if1 .taken)
 
--- src/takes.rt:33:8
 is-variadic-requires : tie.Need-is-variadic-requires
 is-variadic-requires c κs = search needs
 
--- src/takes.rt:34:9
 returns-2 : tie.Need-returns-2
 returns-2 c = count-variadic _ _ _ _ (c .before .before .before .before .parameters-of .ensures .0) (c .before .before .before .count-parameters .ensures) (c .before .before .if1 .left) _ (c .before .is-variadic .ensures) (c .if2 .taken)
 
--- src/takes.rt:24:1
 returns-3 : tie.Need-returns-3
 returns-3 c = count-plain _ _ _ _ (c .before .before .before .before .parameters-of .ensures .0) (c .before .before .before .count-parameters .ensures) (c .before .before .if1 .left) _ (c .before .is-variadic .ensures) (c .if2 .left)
 

@@ -14,39 +14,30 @@ Inv-loop tree scratch₀ n i₀ scratch i = Cleared tree scratch₀ scratch i
 abbrev μ-loop : tie.MeasureT-loop
 μ-loop tree scratch₀ n i₀ scratch i = 72 * records tree - i
 
--- src/turns.rt:45:17
 mul-i : tie.Need-mul-i Inv-loop μ-loop
 mul-i c = search needs
 
--- src/turns.rt:46:5
 loop-holds : tie.Need-loop-holds Inv-loop μ-loop
 loop-holds c = clear-start _ _ _ refl
 
--- src/turns.rt:46:15
 mul-loop : tie.Need-mul-loop Inv-loop μ-loop
 mul-loop c = search needs
 
--- src/turns.rt:47:9
 slice-write-scratch : tie.Need-slice-write-scratch Inv-loop μ-loop
 slice-write-scratch c = search needs
 
--- src/turns.rt:48:9
 add-i : tie.Need-add-i Inv-loop μ-loop
 add-i c = search needs
 
--- src/turns.rt:46:5
 loop-less : tie.Need-loop-less Inv-loop μ-loop
 loop-less c = search needs
 
--- src/turns.rt:46:5
 loop-again : tie.Need-loop-again Inv-loop μ-loop
 loop-again c = clear-next _ _ _ _ (c .before .loop .inv) (c .before .before .pre) (c .loop-test .taken) _ refl _ refl
 
--- src/turns.rt:40:1
 same-length : tie.Need-same-length Inv-loop μ-loop
 same-length c = search needs
 
--- src/turns.rt:40:1
 returns : tie.Need-returns Inv-loop μ-loop
 returns c = clear-end _ _ _ _ (c .before .loop .inv) (c .loop-test .left)
 

@@ -5,23 +5,18 @@ use borrow.Author.Needs.{needs}
 use Rattle.expressions.proofs.turns.is_typed.Statement.{statement}
 use Rattle.expressions.proofs.turns.is_typed.Tie as tie
 
--- src/turns.rt:23:19
 mul-load : tie.Need-mul-load
 mul-load c = search needs
 
--- src/turns.rt:23:31
 mul-load-2 : tie.Need-mul-load-2
 mul-load-2 c = search needs
 
--- src/turns.rt:23:19
 add-load : tie.Need-add-load
 add-load c = search needs
 
--- src/turns.rt:23:5
 load-requires : tie.Need-load-requires
 load-requires c κs = search needs
 
--- src/turns.rt:18:1
 returns : tie.Need-returns
 unfolding inTurn turnAt
 returns c = rw (c .load .ensures)

@@ -8,27 +8,21 @@ use Rattle.expressions.proofs.turns.keep.Reads as reads
 use Rattle.expressions.proofs.turns.keep.Lts as lts
 use Rattle.expressions.proofs.turns.visit.Reads as visit-reads
 
--- src/turns.rt:47:27
 enum-known-a : tie.Need-enum-known-a
 enum-known-a c = search needs
 
--- src/turns.rt:48:22
 enum-known-a-2 : tie.Need-enum-known-a-2
 enum-known-a-2 c = search needs
 
--- src/turns.rt:49:13
 visit-requires : tie.Need-visit-requires
 visit-requires c κs = c .before .before .before .before .before .before .pre .fits _ (c .before .before .a2 .given .1)
 
--- src/turns.rt:42:1
 returns : tie.Need-returns
 returns c = keeps-refusal _ _ _ _ _ _ _ (c .before .a .given .1)
 
--- src/turns.rt:42:1
 same-length : tie.Need-same-length
 same-length c = search needs
 
--- src/turns.rt:42:1
 returns-2 : tie.Need-returns-2
 returns-2 c = keeps-type _ _ _ _ _ _ _ (c .before .before .before .before .before .a2 .given .1) _ (c .before .before .visit .ensures)
 

@@ -12,29 +12,24 @@ use Rattle.functions.proofs.functions.find_main.Reads as find-main-read
 use Rattle.functions.proofs.functions.refuse_function.Reads as refuse-function-reads
 use Rattle.functions.proofs.functions.returns_int.Reads as returns-int-reads
 
--- src/functions.rt:143:11
 find-main-requires : tie.Need-find-main-requires
 find-main-requires c κs = search needs
 
--- src/functions.rt:144:19
 enum-known-f : tie.Need-enum-known-f
 enum-known-f c = search needs
 
--- src/functions.rt:145:16
 returns-int-requires : tie.Need-returns-int-requires
 returns-int-requires c κs =
     let known = c .before in
     let search = known .before .before in
     (search .before .before .before .before .pre .0, found-function _ _ _ (search .find-main .ensures .function) (known .f .given .1))
 
--- src/functions.rt:146:17
 returns : tie.Need-returns
 returns c =
     let known = c .before .before .before in
     let search = known .before .before in
     main-fine _ _ _ _ (search .find-main .ensures .is) _ (known .f .given .1) _ (c .before .returns-int .ensures) (c .if1 .taken)
 
--- src/functions.rt:148:54
 cast-refuse-function : tie.Need-cast-refuse-function
 cast-refuse-function c =
     let known = c .before .before .before in
@@ -42,25 +37,20 @@ cast-refuse-function c =
     let at = found-function _ _ _ (search .find-main .ensures .function) (known .f .given .1) in
     omega (arith, at .below, search .before .before .before .before .pre .0 .few)
 
--- src/functions.rt:148:13
 refuse-function-requires : tie.Need-refuse-function-requires
 refuse-function-requires c κs = search needs
 
--- src/functions.rt:151:16
 enum-told : tie.Need-enum-told
 enum-told c = search needs
 
--- src/functions.rt:152:17
 refuse-function-requires-2 : tie.Need-refuse-function-requires-2
 refuse-function-requires-2 c κs = search needs
 
--- src/functions.rt:152:17
 returns-2 : tie.Need-returns-2
 returns-2 c =
     let told = c .before .before in
     main-missing _ _ _ _ (told .before .before .find-main .ensures .is) (told .enum-told .given .1) (c .before .if2 .taken) _ (c .refuse-function2 .ensures)
 
--- src/functions.rt:132:1
 returns-3 : tie.Need-returns-3
 returns-3 c =
     let known = c .before .before .before .before in
@@ -69,7 +59,6 @@ returns-3 c =
     main-other _ _ _ _ (search .find-main .ensures .is) _ (known .f .given .1) _ (c .before .before .returns-int .ensures) (c .before .if1 .left)
     (search .before .before .before .before .pre .0) at _ (c .refuse-function .ensures)
 
--- src/functions.rt:132:1
 returns-4 : tie.Need-returns-4
 returns-4 c =
     let told = c .before in

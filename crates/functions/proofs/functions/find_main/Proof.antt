@@ -19,25 +19,20 @@ Inv-loop tree text scratch count j₀ j = (j ≤ count) × MainLeft tree text j
 abbrev μ-loop : tie.MeasureT-loop
 μ-loop tree text scratch count j₀ j = count - j
 
--- src/functions.rt:109:5
 loop-holds : tie.Need-loop-holds Inv-loop μ-loop
 loop-holds c = (omega arith, main-start _ _)
 
--- src/functions.rt:110:13
 function-at-requires : tie.Need-function-at-requires Inv-loop μ-loop
 function-at-requires c κs =
     let first = c .before .before .before .before .before in
     (first .pre .1 .0, omega (arith, c .loop-test .taken, first .pre .1 .1))
 
--- src/functions.rt:111:26
 name-of-requires : tie.Need-name-of-requires Inv-loop μ-loop
 name-of-requires c κs = (c .before .before .before .before .before .before .pre .0, c .function-at .ensures .1)
 
--- src/functions.rt:111:12
 is-main-requires : tie.Need-is-main-requires Inv-loop μ-loop
 is-main-requires c κs = c .name-of .ensures .inside
 
--- src/functions.rt:112:13
 returns : tie.Need-returns Inv-loop μ-loop
 returns c =
     let named = c .before .before in
@@ -49,15 +44,12 @@ returns c =
       function = a-function (at .function-at .ensures .1);
     }
 
--- src/functions.rt:114:9
 add-j : tie.Need-add-j Inv-loop μ-loop
 add-j c = omega arith
 
--- src/functions.rt:109:5
 loop-less : tie.Need-loop-less Inv-loop μ-loop
 loop-less c = omega arith
 
--- src/functions.rt:109:5
 loop-again : tie.Need-loop-again Inv-loop μ-loop
 loop-again c =
     let named = c .before .before in
@@ -69,7 +61,6 @@ loop-again c =
           (c .if1 .left) (loop .loop .inv .1),
     )
 
--- src/functions.rt:103:1
 returns-2 : tie.Need-returns-2 Inv-loop μ-loop
 returns-2 c =
     let first = c .before .before .before .before .before in

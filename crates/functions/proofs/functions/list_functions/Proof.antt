@@ -18,39 +18,30 @@ Inv-loop tree scratch₀ n r₀ count₀ scratch r count = Listing tree scratch�
 abbrev μ-loop : tie.MeasureT-loop
 μ-loop tree scratch₀ n r₀ count₀ scratch r count = n - r
 
--- src/functions.rt:47:5
 loop-holds : tie.Need-loop-holds Inv-loop μ-loop
 loop-holds c = listing-start _ _ _ refl
 
--- src/functions.rt:48:12
 kind-requires : tie.Need-kind-requires Inv-loop μ-loop
 kind-requires c κs = omega arith
 
--- src/functions.rt:49:31
 mul-put-word : tie.Need-mul-put-word Inv-loop μ-loop
 mul-put-word c = omega arith
 
--- src/functions.rt:49:42
 cast-put-word : tie.Need-cast-put-word Inv-loop μ-loop
 cast-put-word c = omega arith
 
--- src/functions.rt:49:13
 put-word-requires : tie.Need-put-word-requires Inv-loop μ-loop
 put-word-requires c κs = omega arith
 
--- src/functions.rt:50:13
 add-count : tie.Need-add-count Inv-loop μ-loop
 add-count c = omega arith
 
--- src/functions.rt:52:9
 add-r : tie.Need-add-r Inv-loop μ-loop
 add-r c = omega arith
 
--- src/functions.rt:47:5
 loop-less : tie.Need-loop-less Inv-loop μ-loop
 loop-less c = omega arith
 
--- src/functions.rt:47:5
 loop-again : tie.Need-loop-again Inv-loop μ-loop
 loop-again c =
     let loop = c .before .before .before in
@@ -62,11 +53,9 @@ loop-again c =
     (listing-skip _ _ _ _ _ _ (loop .loop .inv) (c .before .before .loop-test .taken) (λ e. w .0 .left (c .before .kind .ensures ∙ e))))
     (c .if1 .came)
 
--- src/functions.rt:39:1
 same-length : tie.Need-same-length Inv-loop μ-loop
 same-length c = c .before .loop .inv .same
 
--- src/functions.rt:39:1
 returns : tie.Need-returns Inv-loop μ-loop
 returns c = listing-end _ _ _ _ _ _ (c .before .loop .inv) (c .loop-test .left)
 

@@ -9,27 +9,22 @@ use Rattle.functions.proofs.functions.returns_int.Lts as lts
 use Rattle.types.proofs.form.form.Reads as form-reads
 use Rattle.records.proofs.words.reference.Reads as reference-reads
 
--- src/functions.rt:124:9
 reference-requires : tie.Need-reference-requires
 reference-requires c κs = search needs
 
--- src/functions.rt:125:14
 cast-if1 : tie.Need-cast-if1
 cast-if1 c = search needs
 
--- src/functions.rt:126:9
 returns : tie.Need-returns
 returns c =
     let first = c .before .before .before .before in
     returns-none _ _ (first .pre .0) _ (first .pre .1) _ (c .before .reference .ensures) (c .if1 .taken)
 
--- src/functions.rt:128:5
 form-requires : tie.Need-form-requires
 form-requires c κs =
     let first = c .before .before .before .before in
     returns-inside _ _ (first .pre .0) _ (first .pre .1) _ (c .before .reference .ensures) (c .if1 .left)
 
--- src/functions.rt:119:1
 returns-2 : tie.Need-returns-2
 returns-2 c =
     let first = c .before .before .before .before .before in

@@ -19,68 +19,55 @@ Inv-loop tree text scratch₀ f cell₀ scope₀ scratch cell scope = Turn tree 
 abbrev μ-loop : tie.MeasureT-loop
 μ-loop tree text scratch₀ f cell₀ scope₀ scratch cell scope = left cell
 
--- src/parameters.rt:76:9
 parameters-of-requires : tie.Need-parameters-of-requires Inv-loop μ-loop
 parameters-of-requires c κs = (c .before .before .before .pre .0 .good, c .before .before .before .pre .1)
 
--- src/parameters.rt:81:19
 cast-t11 : tie.Need-cast-t11 Inv-loop μ-loop
 cast-t11 c = omega (arith, c .before .before .before .before .pre .1 .below, c .before .before .before .before .pre .0 .good .few)
 
--- src/parameters.rt:83:5
 loop-holds : tie.Need-loop-holds Inv-loop μ-loop
 loop-holds c = start _ _ _ _ _ _ (c .before .before .before .before .pre .0) (c .parameters-of .ensures .0) (c .parameters-of .ensures .1) refl
 
--- src/parameters.rt:84:15
 declare-parameter-requires : tie.Need-declare-parameter-requires Inv-loop μ-loop
 declare-parameter-requires c κs =
     let loop = c .before .before in
     (loop .loop .inv .ready, (loop .loop .inv .cells, (c .before .loop-test .taken, still-few _ _ _ _ _ _ _ (loop .loop .inv) (c .before .loop-test .taken))))
 
--- src/parameters.rt:85:33
 enum-known-e : tie.Need-enum-known-e Inv-loop μ-loop
 enum-known-e c = search needs
 
--- src/parameters.rt:85:39
 same-length : tie.Need-same-length Inv-loop μ-loop
 same-length c =
     let loop = c .before .before .before .before .before .before .before .before in
     turn-refused _ _ _ _ _ _ _ (loop .loop .inv) (c .before .before .before .before .before .before .before .loop-test .taken) _ _ (rw (c .before .e .given .1) at (c .before .before .before .before .before .declare-parameter .ensures .0)) .1
 
--- src/parameters.rt:85:39
 returns : tie.Need-returns Inv-loop μ-loop
 returns c =
     let loop = c .before .before .before .before .before .before .before .before in
     let met = turn-refused _ _ _ _ _ _ _ (loop .loop .inv) (c .before .before .before .before .before .before .before .loop-test .taken) _ _ (rw (c .before .e .given .1) at (c .before .before .before .before .before .declare-parameter .ensures .0)) .0 in
     (met, only-turns (names-only met))
 
--- src/parameters.rt:86:30
 enum-known-next : tie.Need-enum-known-next Inv-loop μ-loop
 enum-known-next c = search needs
 
--- src/parameters.rt:88:9
 next-cell-requires : tie.Need-next-cell-requires Inv-loop μ-loop
 next-cell-requires c κs =
     let loop = c .before .before .before .before .before .before .before .before in
     omega (arith, still-few _ _ _ _ _ _ _ (loop .loop .inv) (c .before .before .before .before .before .before .before .loop-test .taken))
 
--- src/parameters.rt:83:5
 loop-less : tie.Need-loop-less Inv-loop μ-loop
 loop-less c =
     let loop = c .before .before .before .before .before .before .before .before .before in
     next-falls _ _ (loop .loop .inv .ready .keyed .good) _ _ _ (loop .loop .inv .cells) (c .before .before .before .before .before .before .before .before .loop-test .taken) (c .next-cell .ensures)
 
--- src/parameters.rt:83:5
 loop-again : tie.Need-loop-again Inv-loop μ-loop
 loop-again c =
     let loop = c .before .before .before .before .before .before .before .before .before in
     turn-next _ _ _ _ _ _ _ (loop .loop .inv) (c .before .before .before .before .before .before .before .before .loop-test .taken) _ _ _ (c .next-cell .ensures) (rw (c .before .before .next .given .1) at (c .before .before .before .before .before .before .declare-parameter .ensures .0))
 
--- src/parameters.rt:65:1
 same-length-2 : tie.Need-same-length-2 Inv-loop μ-loop
 same-length-2 c = c .before .loop .inv .only .same-length
 
--- src/parameters.rt:65:1
 returns-2 : tie.Need-returns-2 Inv-loop μ-loop
 returns-2 c =
     let met = turn-end _ _ _ _ _ _ _ (c .before .loop .inv) (c .loop-test .left) in

@@ -11,47 +11,36 @@ use Rattle.ir.proofs.counter.label_slot.Reads as label-slot-reads
 use Rattle.records.proofs.words.put_pair.Reads as put-pair-reads
 use Rattle.records.proofs.words.put_word.Reads as put-word-reads
 
--- src/counter.rt:54:19
 sub-number : tie.Need-sub-number
 sub-number c = search needs
 
--- src/counter.rt:54:18
 cast-number : tie.Need-cast-number
 cast-number c = search needs
 
--- src/counter.rt:55:9
 label-slot-requires : tie.Need-label-slot-requires
 label-slot-requires c κs = search needs
 
--- src/counter.rt:57:19
 add-next : tie.Need-add-next
 add-next c = search needs
 
--- src/counter.rt:58:5
 put-word-requires : tie.Need-put-word-requires
 put-word-requires c κs = search needs
 
--- src/counter.rt:59:21
 mul-put-pair : tie.Need-mul-put-pair
 mul-put-pair c = search needs
 
--- src/counter.rt:59:42
 mul-put-pair-2 : tie.Need-mul-put-pair-2
 mul-put-pair-2 c = search needs
 
--- src/counter.rt:59:21
 add-put-pair : tie.Need-add-put-pair
 add-put-pair c = search needs
 
--- src/counter.rt:59:5
 put-pair-requires : tie.Need-put-pair-requires
 put-pair-requires c κs = search needs
 
--- src/counter.rt:49:1
 same-length : tie.Need-same-length
 same-length c = search needs
 
--- src/counter.rt:49:1
 returns : tie.Need-returns
 returns c = (
   search needs,

@@ -12,37 +12,29 @@ use Rattle.ir.proofs.counter.is_label.Reads as is-label-reads
 use Rattle.ir.proofs.counter.label_slot.Reads as label-slot-reads
 use Rattle.records.proofs.words.load.Reads as load-reads
 
--- src/counter.rt:84:30
 label-slot-requires : tie.Need-label-slot-requires
 label-slot-requires c κs = search needs
 
--- src/counter.rt:84:9
 load-requires : tie.Need-load-requires
 load-requires c κs = search needs
 
--- src/counter.rt:85:8
 is-label-requires : tie.Need-is-label-requires
 is-label-requires c κs = search needs
 
--- src/counter.rt:86:9
 same-length : tie.Need-same-length
 same-length c = search needs
 
--- src/counter.rt:86:9
 returns : tie.Need-returns
 returns c =
     label-found _ _ _ _ (c .before .before .before .before .before .before .before .pre .0) _ _ (c .before .before .before .before .label-slot .ensures) (c .before .before .before .load .ensures)
     _ _ (c .before .is-label .ensures) (c .if1 .taken) refl refl
 
--- src/counter.rt:91:5
 add-label-requires : tie.Need-add-label-requires
 add-label-requires c κs = search needs
 
--- src/counter.rt:80:1
 same-length-2 : tie.Need-same-length-2
 same-length-2 c = search needs
 
--- src/counter.rt:80:1
 returns-2 : tie.Need-returns-2
 returns-2 c =
     let first = c .before .before .before .before .before .before .before .before .before .before .before in

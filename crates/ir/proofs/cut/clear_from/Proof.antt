@@ -17,31 +17,24 @@ Inv-loop out₀ at rest i₀ out i = (out ≡ paste out₀ at (zeros out₀) i) 
 abbrev μ-loop : tie.MeasureT-loop
 μ-loop out₀ at rest i₀ out i = rest - i
 
--- src/cut.rt:27:16
 sub-rest : tie.Need-sub-rest Inv-loop μ-loop
 sub-rest c = omega arith
 
--- src/cut.rt:29:5
 loop-holds : tie.Need-loop-holds Inv-loop μ-loop
 loop-holds c = (clear-none (c .args .out .now) (c .args .at), omega arith, refl, refl)
 
--- src/cut.rt:30:13
 add-out : tie.Need-add-out Inv-loop μ-loop
 add-out c = omega arith
 
--- src/cut.rt:30:9
 slice-write-out : tie.Need-slice-write-out Inv-loop μ-loop
 slice-write-out c = omega arith
 
--- src/cut.rt:31:9
 add-i : tie.Need-add-i Inv-loop μ-loop
 add-i c = omega arith
 
--- src/cut.rt:29:5
 loop-less : tie.Need-loop-less Inv-loop μ-loop
 loop-less c = omega arith
 
--- src/cut.rt:29:5
 loop-again : tie.Need-loop-again Inv-loop μ-loop
 loop-again c =
     let entry = c .before .before .args in
@@ -52,11 +45,9 @@ loop-again c =
       c .before .loop .inv .3,
     )
 
--- src/cut.rt:23:1
 same-length : tie.Need-same-length Inv-loop μ-loop
 same-length c = c .before .loop .inv .2
 
--- src/cut.rt:23:1
 returns : tie.Need-returns Inv-loop μ-loop
 returns c =
     let entry = c .before .before .args in

@@ -18,31 +18,24 @@ Inv-loop src from len out₀ i₀ out i = (out ≡ part src from i ++ drop i out
 abbrev μ-loop : tie.MeasureT-loop
 μ-loop src from len out₀ i₀ out i = len - i
 
--- src/cut.rt:16:5
 loop-holds : tie.Need-loop-holds Inv-loop μ-loop
 loop-holds c = (refl, omega arith, refl)
 
--- src/cut.rt:17:22
 add-out : tie.Need-add-out Inv-loop μ-loop
 add-out c = omega arith
 
--- src/cut.rt:17:18
 shared-slice-read-out : tie.Need-shared-slice-read-out Inv-loop μ-loop
 shared-slice-read-out c = omega arith
 
--- src/cut.rt:17:9
 slice-write-out : tie.Need-slice-write-out Inv-loop μ-loop
 slice-write-out c = omega arith
 
--- src/cut.rt:18:9
 add-i : tie.Need-add-i Inv-loop μ-loop
 add-i c = omega arith
 
--- src/cut.rt:16:5
 loop-less : tie.Need-loop-less Inv-loop μ-loop
 loop-less c = omega arith
 
--- src/cut.rt:16:5
 loop-again : tie.Need-loop-again Inv-loop μ-loop
 loop-again c =
     let entry = c .before .before .before .args in
@@ -52,11 +45,9 @@ loop-again c =
       simp length-set (c .before .before .loop .inv .2),
     )
 
--- src/cut.rt:11:1
 same-length : tie.Need-same-length Inv-loop μ-loop
 same-length c = c .before .loop .inv .2
 
--- src/cut.rt:11:1
 returns : tie.Need-returns Inv-loop μ-loop
 returns c =
     let i = c .before .loop .i in

@@ -9,19 +9,15 @@ use Rattle.ir.proofs.cut.cut.Lts as lts
 use Rattle.ir.proofs.cut.clear_from.Reads as clear-from-reads
 use Rattle.ir.proofs.cut.copy.Reads as copy-reads
 
--- src/cut.rt:40:5
 copy-requires : tie.Need-copy-requires
 copy-requires c κs = search needs
 
--- src/cut.rt:41:5
 clear-from-requires : tie.Need-clear-from-requires
 clear-from-requires c κs = search needs
 
--- src/cut.rt:36:1
 same-length : tie.Need-same-length
 same-length c = search needs
 
--- src/cut.rt:36:1
 returns : tie.Need-returns
 returns c = search cut-done
 

@@ -8,24 +8,19 @@ use Rattle.ir.proofs.floats.entry_bits.Reads as reads
 use Rattle.ir.proofs.floats.entry_bits.Lts as lts
 use Rattle.ir.proofs.floats.number_bits.Reads as number-bits-reads
 
--- src/floats.rt:55:27
 enum-known-f : tie.Need-enum-known-f
 enum-known-f c = search needs
 
--- src/floats.rt:56:19
 number-bits-requires : tie.Need-number-bits-requires
 number-bits-requires c κs = search needs
 
--- src/floats.rt:59:24
 enum-known-f-2 : tie.Need-enum-known-f-2
 enum-known-f-2 c = search needs
 
--- src/floats.rt:51:1
 returns : tie.Need-returns
 unfolding entryOfFloat
 returns c = rw (c .before .before .f .given .1, c .number-bits .ensures)
 
--- src/floats.rt:51:1
 returns-2 : tie.Need-returns-2
 unfolding entryOfFloat
 returns-2 c = rw (c .before .f2 .given .1)

@@ -12,20 +12,16 @@ use Rattle.ir.proofs.floats.float_entry.Reads as reads
 use Rattle.ir.proofs.floats.float_entry.Lts as lts
 use Rattle.records.proofs.words.nan_bits.Reads as nan-bits-reads
 
--- src/floats.rt:33:8
 nan-bits-requires : tie.Need-nan-bits-requires
 nan-bits-requires c κs = search needs
 
--- src/floats.rt:34:9
 returns : tie.Need-returns
 unfolding entryOfFloat
 returns c = refl
 
--- src/floats.rt:37:16
 float-from-bits-t4 : tie.Need-float-from-bits-t4
 float-from-bits-t4 c = passes _ (ap not (sym (c .before .nan-bits .ensures) ∙ c .if1 .left))
 
--- src/floats.rt:30:1
 returns-2 : tie.Need-returns-2
 unfolding entryOfFloat
 returns-2 c = bits-back _ _ (c .before .before .fits .bits) (sym (c .before .nan-bits .ensures) ∙ c .if1 .left)

@@ -12,16 +12,13 @@ use Rattle.ir.proofs.floats.number_bits.Tie as tie
 use Rattle.ir.proofs.floats.number_bits.Reads as reads
 use Rattle.ir.proofs.floats.number_bits.Lts as lts
 
--- src/floats.rt:46:9
 returns : tie.Need-returns
 unfolding bitsOfFloat isNan
 returns c = rw (differs-from-itself _ (passes _ (c .if1 .taken)))
 
--- src/floats.rt:48:5
 float-to-bits-result : tie.Need-float-to-bits-result
 float-to-bits-result c = same-no-nan _ (c .if1 .left)
 
--- src/floats.rt:42:1
 returns-2 : tie.Need-returns-2
 unfolding bitsOfFloat
 returns-2 c = rw (is-false (isNan (c .before .args .x)) (same-no-nan _ (c .if1 .left)))

@@ -8,63 +8,48 @@ use Rattle.ir.proofs.pool.float_bits.Reads as reads
 use Rattle.ir.proofs.pool.float_bits.Lts as lts
 use Rattle.records.proofs.words.load.Reads as load-reads
 
--- src/pool.rt:117:9
 returns : tie.Need-returns
 returns c = search bits-none
 
--- src/pool.rt:119:25
 mul-load : tie.Need-mul-load
 mul-load c = search needs
 
--- src/pool.rt:119:35
 mul-load-2 : tie.Need-mul-load-2
 mul-load-2 c = search needs
 
--- src/pool.rt:119:25
 add-load : tie.Need-add-load
 add-load c = search needs
 
--- src/pool.rt:119:9
 load-requires : tie.Need-load-requires
 load-requires c κs = search needs
 
--- src/pool.rt:120:25
 mul-load-3 : tie.Need-mul-load-3
 mul-load-3 c = search needs
 
--- src/pool.rt:120:35
 mul-load-4 : tie.Need-mul-load-4
 mul-load-4 c = search needs
 
--- src/pool.rt:120:25
 add-load-2 : tie.Need-add-load-2
 add-load-2 c = search needs
 
--- src/pool.rt:120:25
 add-load-3 : tie.Need-add-load-3
 add-load-3 c = search needs
 
--- src/pool.rt:120:9
 load-requires-2 : tie.Need-load-requires-2
 load-requires-2 c κs = search needs
 
--- src/pool.rt:121:5
 cast-result : tie.Need-cast-result
 cast-result c = search needs
 
--- src/pool.rt:121:16
 cast-result-2 : tie.Need-cast-result-2
 cast-result-2 c = search needs
 
--- src/pool.rt:121:16
 mul-result : tie.Need-mul-result
 mul-result c = search needs
 
--- src/pool.rt:121:5
 add-result : tie.Need-add-result
 add-result c = search needs
 
--- src/pool.rt:110:1
 returns-2 : tie.Need-returns-2
 returns-2 c = search bits-loaded
 

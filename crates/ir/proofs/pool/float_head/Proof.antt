@@ -12,76 +12,58 @@ use Rattle.ir.proofs.pool.float_bucket.Reads as float-bucket-reads
 use Rattle.records.proofs.words.index.Reads as index-reads
 use Rattle.records.proofs.words.load.Reads as load-reads
 
--- src/pool.rt:118:31
 mul-load : tie.Need-mul-load
 mul-load c = search needs
 
--- src/pool.rt:118:49
 mul-load-2 : tie.Need-mul-load-2
 mul-load-2 c = search needs
 
--- src/pool.rt:118:31
 add-load : tie.Need-add-load
 add-load c = search needs
 
--- src/pool.rt:118:19
 load-requires : tie.Need-load-requires
 load-requires c κs = search needs
 
--- src/pool.rt:118:9
 index-requires : tie.Need-index-requires
 index-requires c κs = search needs
 
--- src/pool.rt:120:9
 returns : tie.Need-returns
 returns c = (head-beyond _ _ _ _ _ (c .before .before .index .ensures ∙ c .before .before .before .load .ensures) (c .if1 .taken), omega arith)
 
--- src/pool.rt:122:14
 mul-at : tie.Need-mul-at
 mul-at c = search needs
 
--- src/pool.rt:122:27
 mul-at-2 : tie.Need-mul-at-2
 mul-at-2 c = search needs
 
--- src/pool.rt:122:14
 add-at : tie.Need-add-at
 add-at c = search needs
 
--- src/pool.rt:123:18
 load-requires-2 : tie.Need-load-requires-2
 load-requires-2 c κs = search needs
 
--- src/pool.rt:123:47
 add-load-2 : tie.Need-add-load-2
 add-load-2 c = search needs
 
--- src/pool.rt:123:35
 load-requires-3 : tie.Need-load-requires-3
 load-requires-3 c κs = search needs
 
--- src/pool.rt:123:68
 add-load-3 : tie.Need-add-load-3
 add-load-3 c = search needs
 
--- src/pool.rt:123:56
 load-requires-4 : tie.Need-load-requires-4
 load-requires-4 c κs = search needs
 
--- src/pool.rt:124:8
 float-bucket-requires : tie.Need-float-bucket-requires
 float-bucket-requires c κs = search needs
 
--- src/pool.rt:125:9
 returns-2 : tie.Need-returns-2
 returns-2 c =
     (head-other _ _ _ _ _ (c .before .before .before .before .before .before .before .index .ensures ∙ c .before .before .before .before .before .before .before .before .load .ensures) (c .before .before .before .before .before .if1 .left) _ (words-bucket _ _ _ _ _ _ _ (c .before .before .before .before .load2 .ensures) (c .before .before .before .load3 .ensures) (c .before .before .load4 .ensures) (c .before .float-bucket .ensures)) (c .if2 .taken), omega arith)
 
--- src/pool.rt:127:5
 add-result : tie.Need-add-result
 add-result c = search needs
 
--- src/pool.rt:113:1
 returns-3 : tie.Need-returns-3
 returns-3 c =
     (head-own _ _ _ _ _ (c .before .before .before .before .before .before .before .index .ensures ∙ c .before .before .before .before .before .before .before .before .load .ensures) (c .before .before .before .before .before .if1 .left) _ (words-bucket _ _ _ _ _ _ _ (c .before .before .before .before .load2 .ensures) (c .before .before .before .load3 .ensures) (c .before .before .load4 .ensures) (c .before .float-bucket .ensures)) (c .if2 .left), omega (arith, c .before .before .before .before .before .if1 .left))

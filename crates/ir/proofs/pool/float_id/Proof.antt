@@ -18,63 +18,48 @@ use Rattle.records.proofs.words.high.Reads as high-reads
 use Rattle.records.proofs.words.low.Reads as low-reads
 use Rattle.records.proofs.words.mark.Reads as mark-reads
 
--- src/pool.rt:152:9
 entry-bits-requires : tie.Need-entry-bits-requires
 entry-bits-requires c κs = search needs
 
--- src/pool.rt:153:18
 low-requires : tie.Need-low-requires
 low-requires c κs = search needs
 
--- src/pool.rt:153:31
 high-requires : tie.Need-high-requires
 high-requires c κs = search needs
 
--- src/pool.rt:153:45
 mark-requires : tie.Need-mark-requires
 mark-requires c κs = search needs
 
--- src/pool.rt:154:9
 float-bucket-requires : tie.Need-float-bucket-requires
 float-bucket-requires c κs = search needs
 
--- src/pool.rt:155:9
 float-head-requires : tie.Need-float-head-requires
 float-head-requires c κs = search needs
 
--- src/pool.rt:156:28
 mul-walk-float : tie.Need-mul-walk-float
 mul-walk-float c = search needs
 
--- src/pool.rt:156:48
 mul-walk-float-2 : tie.Need-mul-walk-float-2
 mul-walk-float-2 c = search needs
 
--- src/pool.rt:156:11
 walk-float-requires : tie.Need-walk-float-requires
 walk-float-requires c κs = search needs
 
--- src/pool.rt:157:19
 enum-known-i : tie.Need-enum-known-i
 enum-known-i c = search needs
 
--- src/pool.rt:158:21
 cast-t20 : tie.Need-cast-t20
 cast-t20 c = omega (arith, walk-below (c .before .before .before .walk-float .ensures) _ (c .before .i .given .1), c .before .before .before .before .before .before .before .float-head .ensures .1, c .before .before .before .before .before .before .before .before .before .before .before .before .before .before .before .pre .0 .floats-in, c .before .before .before .before .before .before .before .before .before .before .before .before .before .before .before .pre .0 .small)
 
--- src/pool.rt:161:37
 enum-told : tie.Need-enum-told
 enum-told c = search needs
 
--- src/pool.rt:161:27
 add-float-requires : tie.Need-add-float-requires
 add-float-requires c κs = search needs
 
--- src/pool.rt:148:1
 same-length : tie.Need-same-length
 same-length c = search needs
 
--- src/pool.rt:148:1
 returns : tie.Need-returns
 returns c =
     float-at _ _ (c .before .before .before .before .before .before .before .before .before .before .before .before .before .entry-bits .ensures) _ _ _ _ _ _ _ _ (c .before .before .before .before .before .before .before .before .before .before .before .before .before .before .before .pre .0)
@@ -86,11 +71,9 @@ returns c =
     (c .before .before .before .walk-float .ensures)
     _ _ (c .before .i .given .1) refl refl
 
--- src/pool.rt:148:1
 same-length-2 : tie.Need-same-length-2
 same-length-2 c = search needs
 
--- src/pool.rt:148:1
 returns-2 : tie.Need-returns-2
 returns-2 c =
     float-nowhere _ _ (c .before .before .before .before .before .before .before .before .before .before .before .before .before .before .before .before .entry-bits .ensures) _ _ _ _ _ _ _ _ (c .before .before .before .before .before .before .before .before .before .before .before .before .before .before .before .before .before .before .pre .0)

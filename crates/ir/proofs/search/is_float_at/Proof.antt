@@ -8,51 +8,39 @@ use Rattle.ir.proofs.search.is_float_at.Reads as reads
 use Rattle.ir.proofs.search.is_float_at.Lts as lts
 use Rattle.records.proofs.words.load.Reads as load-reads
 
--- src/words.rt:109:26
 mul-load : tie.Need-mul-load
 mul-load c = search needs
 
--- src/words.rt:109:21
 add-load : tie.Need-add-load
 add-load c = search needs
 
--- src/words.rt:109:9
 load-requires : tie.Need-load-requires
 load-requires c κs = search needs
 
--- src/words.rt:110:26
 mul-load-2 : tie.Need-mul-load-2
 mul-load-2 c = search needs
 
--- src/words.rt:110:21
 add-load-2 : tie.Need-add-load-2
 add-load-2 c = search needs
 
--- src/words.rt:110:21
 add-load-3 : tie.Need-add-load-3
 add-load-3 c = search needs
 
--- src/words.rt:110:9
 load-requires-2 : tie.Need-load-requires-2
 load-requires-2 c κs = search needs
 
--- src/words.rt:111:26
 mul-load-3 : tie.Need-mul-load-3
 mul-load-3 c = search needs
 
--- src/words.rt:111:21
 add-load-4 : tie.Need-add-load-4
 add-load-4 c = search needs
 
--- src/words.rt:111:21
 add-load-5 : tie.Need-add-load-5
 add-load-5 c = search needs
 
--- src/words.rt:111:9
 load-requires-3 : tie.Need-load-requires-3
 load-requires-3 c κs = search needs
 
--- src/words.rt:105:1
 returns : tie.Need-returns
 unfolding floatWordsAt
 returns c = cc

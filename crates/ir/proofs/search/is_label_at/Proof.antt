@@ -8,35 +8,27 @@ use Rattle.ir.proofs.search.is_label_at.Reads as reads
 use Rattle.ir.proofs.search.is_label_at.Lts as lts
 use Rattle.records.proofs.words.load.Reads as load-reads
 
--- src/words.rt:85:26
 mul-load : tie.Need-mul-load
 mul-load c = search needs
 
--- src/words.rt:85:21
 add-load : tie.Need-add-load
 add-load c = search needs
 
--- src/words.rt:85:9
 load-requires : tie.Need-load-requires
 load-requires c κs = search needs
 
--- src/words.rt:86:26
 mul-load-2 : tie.Need-mul-load-2
 mul-load-2 c = search needs
 
--- src/words.rt:86:21
 add-load-2 : tie.Need-add-load-2
 add-load-2 c = search needs
 
--- src/words.rt:86:21
 add-load-3 : tie.Need-add-load-3
 add-load-3 c = search needs
 
--- src/words.rt:86:9
 load-requires-2 : tie.Need-load-requires-2
 load-requires-2 c κs = search needs
 
--- src/words.rt:81:1
 returns : tie.Need-returns
 unfolding labelWordsAt
 returns c = cc

@@ -22,51 +22,39 @@ Inv-loop s at links v w u₀ u = (u ≤ v) × ((r : Found) → Walks (λ (j : �
 abbrev μ-loop : tie.MeasureT-loop
 μ-loop s at links v w u₀ u = u
 
--- src/search.rt:39:5
 loop-holds : tie.Need-loop-holds Inv-loop μ-loop
 loop-holds c = (omega arith, λ r h. h)
 
--- src/search.rt:40:17
 sub-j : tie.Need-sub-j Inv-loop μ-loop
 sub-j c = omega arith
 
--- src/search.rt:41:12
 is-float-at-requires : tie.Need-is-float-at-requires Inv-loop μ-loop
 is-float-at-requires c κs = omega arith
 
--- src/search.rt:42:13
 returns : tie.Need-returns Inv-loop μ-loop
 returns c = c .before .before .before .loop .inv .1 _ (walk-here _ _ (c .before .before .loop-test .taken) refl (sym (c .before .is-float-at .ensures) ∙ c .if1 .taken))
 
--- src/search.rt:44:42
 mul-load : tie.Need-mul-load Inv-loop μ-loop
 mul-load c = omega arith
 
--- src/search.rt:44:34
 add-load : tie.Need-add-load Inv-loop μ-loop
 add-load c = omega arith
 
--- src/search.rt:44:26
 load-requires : tie.Need-load-requires Inv-loop μ-loop
 load-requires c κs = omega arith
 
--- src/search.rt:44:13
 index-requires : tie.Need-index-requires Inv-loop μ-loop
 index-requires c κs = search needs
 
--- src/search.rt:46:13
 returns-2 : tie.Need-returns-2 Inv-loop μ-loop
 returns-2 c = c .before .before .before .before .before .before .loop .inv .1 _ (walk-astray _ _ (c .before .before .before .before .before .loop-test .taken) refl _ (c .before .index .ensures ∙ c .before .before .load .ensures) (sym (c .before .before .before .before .is-float-at .ensures) ∙ c .before .before .before .if1 .left) (c .if2 .taken))
 
--- src/search.rt:39:5
 loop-less : tie.Need-loop-less Inv-loop μ-loop
 loop-less c = omega arith
 
--- src/search.rt:39:5
 loop-again : tie.Need-loop-again Inv-loop μ-loop
 loop-again c = (omega arith, λ r h. c .before .before .before .before .before .before .loop .inv .1 r (walk-further _ _ (c .before .before .before .before .before .loop-test .taken) refl _ (c .before .index .ensures ∙ c .before .before .load .ensures) (sym (c .before .before .before .before .is-float-at .ensures) ∙ c .before .before .before .if1 .left) (c .if2 .left) r h))
 
--- src/search.rt:34:1
 returns-3 : tie.Need-returns-3 Inv-loop μ-loop
 returns-3 c = c .before .loop .inv .1 _ (walk-end _ (omega arith))
 

@@ -11,79 +11,60 @@ use Rattle.ir.proofs.structs.add_function.Lts as lts
 use Rattle.records.proofs.words.mark.Reads as mark-reads
 use Rattle.records.proofs.words.put_four.Reads as put-four-reads
 
--- src/structs.rt:309:14
 mul-at : tie.Need-mul-at
 mul-at c = search needs
 
--- src/structs.rt:309:32
 mul-at-2 : tie.Need-mul-at-2
 mul-at-2 c = search needs
 
--- src/structs.rt:309:14
 add-at : tie.Need-add-at
 add-at c = search needs
 
--- src/structs.rt:310:16
 add-back : tie.Need-add-back
 add-back c = search needs
 
--- src/structs.rt:313:9
 mark-requires : tie.Need-mark-requires
 mark-requires c κs = search needs
 
--- src/structs.rt:314:9
 cast-t14 : tie.Need-cast-t14
 cast-t14 c = search needs
 
--- src/structs.rt:315:10
 sub-t11 : tie.Need-sub-t11
 sub-t11 c = search needs
 
--- src/structs.rt:315:9
 cast-t15 : tie.Need-cast-t15
 cast-t15 c = search needs
 
--- src/structs.rt:318:9
 cast-t13 : tie.Need-cast-t13
 cast-t13 c = search needs
 
--- src/structs.rt:319:10
 sub-t12 : tie.Need-sub-t12
 sub-t12 c = search needs
 
--- src/structs.rt:319:9
 cast-t15-2 : tie.Need-cast-t15-2
 cast-t15-2 c = search needs
 
--- src/structs.rt:320:9
 cast-t14-2 : tie.Need-cast-t14-2
 cast-t14-2 c = search needs
 
--- src/structs.rt:321:10
 sub-t11-2 : tie.Need-sub-t11-2
 sub-t11-2 c = search needs
 
--- src/structs.rt:321:9
 cast-t16 : tie.Need-cast-t16
 cast-t16 c = search needs
 
--- src/structs.rt:324:22
 add-next : tie.Need-add-next
 add-next c = search needs
 
--- src/structs.rt:328:5
 put-four-requires : tie.Need-put-four-requires
 put-four-requires c κs = search needs
 
--- src/structs.rt:329:5
 put-four-requires-2 : tie.Need-put-four-requires-2
 put-four-requires-2 c κs = search needs
 
--- src/structs.rt:304:1
 same-length : tie.Need-same-length
 same-length c = search needs
 
--- src/structs.rt:304:1
 returns : tie.Need-returns
 returns c =
     let entry = c .before .before .before .before .before .before .before .before .before .before .before .before .before .before .before .before .before in

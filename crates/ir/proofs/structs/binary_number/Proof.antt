@@ -6,11 +6,9 @@ use Rattle.ir.proofs.structs.binary_number.Tie as tie
 use Rattle.ir.proofs.structs.binary_number.Reads as reads
 use Rattle.ir.proofs.structs.binary_number.Lts as lts
 
--- src/structs.rt:156:1
 returns : tie.Need-returns
 returns c = binary-in _ (c .if1 .taken)
 
--- src/structs.rt:156:1
 returns-2 : tie.Need-returns-2
 returns-2 c = binary-out _ (c .if1 .left)
 

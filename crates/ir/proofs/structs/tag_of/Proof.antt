@@ -7,71 +7,56 @@ use Rattle.ir.proofs.structs.tag_of.Tie as tie
 use Rattle.ir.proofs.structs.tag_of.Reads as reads
 use Rattle.ir.proofs.structs.tag_of.Lts as lts
 
--- src/structs.rt:110:28
 enum-told : tie.Need-enum-told
 enum-told c = search needs
 
--- src/structs.rt:111:25
 enum-known-o : tie.Need-enum-known-o
 enum-known-o c = search needs
 
--- src/structs.rt:118:30
 enum-told-2 : tie.Need-enum-told-2
 enum-told-2 c = search needs
 
--- src/structs.rt:119:29
 enum-told-3 : tie.Need-enum-told-3
 enum-told-3 c = search needs
 
--- src/structs.rt:120:36
 enum-told-4 : tie.Need-enum-told-4
 enum-told-4 c = search needs
 
--- src/structs.rt:121:26
 enum-told-5 : tie.Need-enum-told-5
 enum-told-5 c = search needs
 
--- src/structs.rt:106:1
 returns : tie.Need-returns
 unfolding tag boolNumber
 returns c = rw (c .enum-told .given .1)
 
--- src/structs.rt:106:1
 returns-2 : tie.Need-returns-2
 unfolding tag boolNumber
 returns-2 c = rw (c .before .before .before .o .given .1, c .before .if1 .taken, c .if2 .taken)
 
--- src/structs.rt:106:1
 returns-3 : tie.Need-returns-3
 unfolding tag boolNumber
 returns-3 c = rw (c .before .before .before .o .given .1, c .before .if1 .taken, c .if2 .left)
 
--- src/structs.rt:106:1
 returns-4 : tie.Need-returns-4
 unfolding tag boolNumber
 returns-4 c = rw (c .before .before .before .o .given .1, c .before .if1 .left, c .if3 .taken)
 
--- src/structs.rt:106:1
 returns-5 : tie.Need-returns-5
 unfolding tag boolNumber
 returns-5 c = rw (c .before .before .before .o .given .1, c .before .if1 .left, c .if3 .left)
 
--- src/structs.rt:106:1
 returns-6 : tie.Need-returns-6
 unfolding tag boolNumber
 returns-6 c = rw (c .enum-told2 .given .1)
 
--- src/structs.rt:106:1
 returns-7 : tie.Need-returns-7
 unfolding tag boolNumber
 returns-7 c = rw (c .enum-told3 .given .1)
 
--- src/structs.rt:106:1
 returns-8 : tie.Need-returns-8
 unfolding tag boolNumber
 returns-8 c = rw (c .enum-told4 .given .1)
 
--- src/structs.rt:106:1
 returns-9 : tie.Need-returns-9
 unfolding tag boolNumber
 returns-9 c = rw (c .enum-told5 .given .1)

@@ -6,11 +6,9 @@ use Rattle.ir.proofs.structs.unary_number.Tie as tie
 use Rattle.ir.proofs.structs.unary_number.Reads as reads
 use Rattle.ir.proofs.structs.unary_number.Lts as lts
 
--- src/structs.rt:150:1
 returns : tie.Need-returns
 returns c = unary-in _ (c .if1 .taken)
 
--- src/structs.rt:150:1
 returns-2 : tie.Need-returns-2
 returns-2 c = unary-out _ (c .if1 .left)
 

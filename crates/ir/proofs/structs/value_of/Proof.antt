@@ -10,73 +10,57 @@ use Rattle.ir.proofs.structs.value_of.Tie as tie
 use Rattle.ir.proofs.structs.value_of.Reads as reads
 use Rattle.ir.proofs.structs.value_of.Lts as lts
 
--- src/structs.rt:129:22
 enum-known-o : tie.Need-enum-known-o
 enum-known-o c = search needs
 
--- src/structs.rt:129:28
 cast-result : tie.Need-cast-result
 cast-result c = search needs
 
--- src/structs.rt:130:22
 enum-known-o-2 : tie.Need-enum-known-o-2
 enum-known-o-2 c = search needs
 
--- src/structs.rt:131:24
 enum-known-o-3 : tie.Need-enum-known-o-3
 enum-known-o-3 c = search needs
 
--- src/structs.rt:131:30
 cast-result-2 : tie.Need-cast-result-2
 cast-result-2 c = search needs
 
--- src/structs.rt:132:23
 enum-known-o-4 : tie.Need-enum-known-o-4
 enum-known-o-4 c = search needs
 
--- src/structs.rt:135:30
 enum-known-o-5 : tie.Need-enum-known-o-5
 enum-known-o-5 c = search needs
 
--- src/structs.rt:135:36
 cast-result-3 : tie.Need-cast-result-3
 cast-result-3 c = search needs
 
--- src/structs.rt:136:26
 enum-told : tie.Need-enum-told
 enum-told c = search needs
 
--- src/structs.rt:125:1
 returns : tie.Need-returns
 unfolding operandValue boolNumber
 returns c = rw (c .before .before .o .given .1)
 
--- src/structs.rt:125:1
 returns-2 : tie.Need-returns-2
 unfolding operandValue boolNumber
 returns-2 c = rw (c .before .o2 .given .1) (sym (ofZ-toZ {w = w64} (search needs)))
 
--- src/structs.rt:125:1
 returns-3 : tie.Need-returns-3
 unfolding operandValue boolNumber
 returns-3 c = rw (c .before .o3 .given .1)
 
--- src/structs.rt:125:1
 returns-4 : tie.Need-returns-4
 unfolding operandValue boolNumber
 returns-4 c = rw (c .before .before .o4 .given .1, c .if1 .taken)
 
--- src/structs.rt:125:1
 returns-5 : tie.Need-returns-5
 unfolding operandValue boolNumber
 returns-5 c = rw (c .before .before .o4 .given .1, c .if1 .left)
 
--- src/structs.rt:125:1
 returns-6 : tie.Need-returns-6
 unfolding operandValue boolNumber
 returns-6 c = rw (c .before .o5 .given .1)
 
--- src/structs.rt:125:1
 returns-7 : tie.Need-returns-7
 unfolding operandValue boolNumber
 returns-7 c = rw (c .enum-told .given .1)

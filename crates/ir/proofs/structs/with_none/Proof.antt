@@ -9,15 +9,12 @@ use Rattle.ir.proofs.structs.with_none.Reads as reads
 use Rattle.ir.proofs.structs.with_none.Lts as lts
 use Rattle.ir.proofs.structs.no_part.Reads as no-part-reads
 
--- src/structs.rt:190:16
 no-part-requires : tie.Need-no-part-requires
 no-part-requires c κs = search needs
 
--- src/structs.rt:191:17
 no-part-requires-2 : tie.Need-no-part-requires-2
 no-part-requires-2 c κs = search needs
 
--- src/structs.rt:184:1
 returns : tie.Need-returns
 unfolding tagOf operandWord word wide bytesOf fieldBytes encodeFields noneBytes oneBytes twoBytes
 returns c = rw (c .before .no-part .ensures .0, c .before .no-part .ensures .1, c .no-part2 .ensures .0, c .no-part2 .ensures .1)

@@ -10,15 +10,12 @@ use Rattle.ir.proofs.structs.with_one.Lts as lts
 use Rattle.ir.proofs.structs.no_part.Reads as no-part-reads
 use Rattle.ir.proofs.structs.part_of.Reads as part-of-reads
 
--- src/structs.rt:176:16
 part-of-requires : tie.Need-part-of-requires
 part-of-requires c κs = search needs
 
--- src/structs.rt:177:17
 no-part-requires : tie.Need-no-part-requires
 no-part-requires c κs = search needs
 
--- src/structs.rt:170:1
 returns : tie.Need-returns
 unfolding tagOf operandWord word wide bytesOf fieldBytes encodeFields noneBytes oneBytes twoBytes
 returns c = rw (c .before .part-of .ensures .0, c .before .part-of .ensures .1, c .no-part .ensures .0, c .no-part .ensures .1)

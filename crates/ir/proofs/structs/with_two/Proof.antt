@@ -9,15 +9,12 @@ use Rattle.ir.proofs.structs.with_two.Reads as reads
 use Rattle.ir.proofs.structs.with_two.Lts as lts
 use Rattle.ir.proofs.structs.part_of.Reads as part-of-reads
 
--- src/structs.rt:203:16
 part-of-requires : tie.Need-part-of-requires
 part-of-requires c κs = search needs
 
--- src/structs.rt:204:17
 part-of-requires-2 : tie.Need-part-of-requires-2
 part-of-requires-2 c κs = search needs
 
--- src/structs.rt:197:1
 returns : tie.Need-returns
 unfolding tagOf operandWord word wide bytesOf fieldBytes encodeFields noneBytes oneBytes twoBytes
 returns c = rw (c .before .part-of .ensures .0, c .before .part-of .ensures .1, c .part-of2 .ensures .0, c .part-of2 .ensures .1)

@@ -8,47 +8,36 @@ use Rattle.judge.proofs.plain.count_one.Reads as reads
 use Rattle.judge.proofs.plain.count_one.Lts as lts
 use Rattle.records.proofs.words.wide.Reads as wide-reads
 
--- src/plain.rt:100:28
 mul-wide : tie.Need-mul-wide
 mul-wide c = search needs
 
--- src/plain.rt:100:28
 add-wide : tie.Need-add-wide
 add-wide c = search needs
 
--- src/plain.rt:100:22
 slice-read-wide : tie.Need-slice-read-wide
 slice-read-wide c = search needs
 
--- src/plain.rt:100:9
 wide-requires : tie.Need-wide-requires
 wide-requires c κs = search needs
 
--- src/plain.rt:101:26
 add-known : tie.Need-add-known
 add-known c = search needs
 
--- src/plain.rt:101:24
 cast-known : tie.Need-cast-known
 cast-known c = search needs
 
--- src/plain.rt:101:11
 mul-known : tie.Need-mul-known
 mul-known c = search needs
 
--- src/plain.rt:101:11
 add-known-2 : tie.Need-add-known-2
 add-known-2 c = search needs
 
--- src/plain.rt:101:5
 slice-write-known : tie.Need-slice-write-known
 slice-write-known c = search needs
 
--- src/plain.rt:96:1
 same-length : tie.Need-same-length
 same-length c = search needs
 
--- src/plain.rt:96:1
 returns : tie.Need-returns
 returns c =
     rw (c .wide .ensures .0) refl

@@ -10,23 +10,18 @@ use Rattle.judge.proofs.plain.place_of.Lts as lts
 use Rattle.judge.proofs.plain.scaled.Reads as scaled-reads
 use Rattle.records.proofs.words.index.Reads as index-reads
 
--- src/plain.rt:75:13
 index-requires : tie.Need-index-requires
 index-requires c κs = search needs
 
--- src/plain.rt:75:13
 add-scaled : tie.Need-add-scaled
 add-scaled c = search needs
 
--- src/plain.rt:75:36
 element-copy-out-scaled : tie.Need-element-copy-out-scaled
 element-copy-out-scaled c = search needs
 
--- src/plain.rt:75:5
 scaled-requires : tie.Need-scaled-requires
 scaled-requires c κs = search needs
 
--- src/plain.rt:71:1
 returns : tie.Need-returns
 returns c =
     (c .scaled .ensures .0 ∙ rw (c .before .before .index .ensures) refl, omega arith)

@@ -9,23 +9,18 @@ use Rattle.judge.proofs.plain.place_ok.Lts as lts
 use Rattle.records.proofs.words.index.Reads as index-reads
 use Rattle.records.proofs.words.wide.Reads as wide-reads
 
--- src/plain.rt:83:23
 add-wide : tie.Need-add-wide
 add-wide c = search needs
 
--- src/plain.rt:83:17
 element-copy-out-wide : tie.Need-element-copy-out-wide
 element-copy-out-wide c = search needs
 
--- src/plain.rt:83:12
 wide-requires : tie.Need-wide-requires
 wide-requires c κs = search needs
 
--- src/plain.rt:83:6
 index-requires : tie.Need-index-requires
 index-requires c κs = search needs
 
--- src/plain.rt:79:1
 returns : tie.Need-returns
 returns c =
     rw (c .index .ensures, c .before .wide .ensures .0) refl

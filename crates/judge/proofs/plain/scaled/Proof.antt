@@ -12,21 +12,17 @@ use Rattle.judge.proofs.plain.scaled.Lts as lts
 use Rattle.records.proofs.words.index.Reads as index-reads
 use Rattle.records.proofs.words.wide.Reads as wide-reads
 
--- src/plain.rt:67:15
 wide-requires : tie.Need-wide-requires
 wide-requires c κs = search needs
 
--- src/plain.rt:67:9
 index-requires : tie.Need-index-requires
 index-requires c κs = search needs
 
--- src/plain.rt:67:5
 mul-result : tie.Need-mul-result
 mul-result c =
     let b : c .index .result < 256 = omega (arith, c .index .ensures, c .before .wide .ensures .1) in
     record { fits = omega (arith, scaled-small _ _ (c .before .before .pre) b) }
 
--- src/plain.rt:63:1
 returns : tie.Need-returns
 returns c =
     let b : c .index .result < 256 = omega (arith, c .index .ensures, c .before .wide .ensures .1) in

@@ -9,19 +9,15 @@ use Rattle.keys.proofs.keys.function_at.Reads as reads
 use Rattle.keys.proofs.keys.function_at.Lts as lts
 use Rattle.records.proofs.words.load.Reads as load-reads
 
--- src/keys.rt:92:19
 mul-load : tie.Need-mul-load
 mul-load c = omega (arith, listed-room _ _ (c .before .before .pre .0) (c .before .before .args .j) (c .before .before .pre .1))
 
--- src/keys.rt:92:5
 load-requires : tie.Need-load-requires
 load-requires c κs = listed-room _ _ (c .before .before .pre .0) (c .before .before .args .j) (c .before .before .pre .1)
 
--- src/keys.rt:92:5
 cast-result : tie.Need-cast-result
 cast-result c = search needs
 
--- src/keys.rt:87:1
 returns : tie.Need-returns
 returns c = (c .load .ensures, listed-at _ _ (c .before .before .before .pre .0) _ _ (c .before .before .before .pre .1) (c .load .ensures))
 

@@ -8,11 +8,9 @@ use Rattle.keys.proofs.keys.is_external.Reads as reads
 use Rattle.keys.proofs.keys.is_external.Lts as lts
 use Rattle.records.proofs.words.detail.Reads as detail-reads
 
--- src/keys.rt:43:5
 detail-requires : tie.Need-detail-requires
 detail-requires c κs = search needs
 
--- src/keys.rt:38:1
 returns : tie.Need-returns
 returns c = external-read _ _ (c .before .before .before .pre .0) _ (c .before .before .before .pre .1) (c .detail .result) (c .detail .ensures)
 

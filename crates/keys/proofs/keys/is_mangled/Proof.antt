@@ -10,23 +10,18 @@ use Rattle.keys.proofs.keys.is_external.Reads as is-external-reads
 use Rattle.keys.proofs.keys.name_of.Reads as name-of-reads
 use Rattle.keys.proofs.parts.is_main.Reads as is-main-reads
 
--- src/keys.rt:69:8
 is-external-requires : tie.Need-is-external-requires
 is-external-requires c κs = search needs
 
--- src/keys.rt:70:9
 returns : tie.Need-returns
 returns c = external-plain _ _ (c .before .is-external .ensures) (c .if1 .taken)
 
--- src/keys.rt:72:20
 name-of-requires : tie.Need-name-of-requires
 name-of-requires c κs = search needs
 
--- src/keys.rt:72:6
 is-main-requires : tie.Need-is-main-requires
 is-main-requires c κs = search needs
 
--- src/keys.rt:64:1
 returns-2 : tie.Need-returns-2
 returns-2 c = mangled-by-name _ _ _ _ (c .before .before .before .is-external .ensures) (c .before .before .if1 .left) (c .before .name-of .ensures .is) (c .is-main .ensures)
 

@@ -10,23 +10,18 @@ use Rattle.keys.proofs.keys.is_mangled.Reads as is-mangled-reads
 use Rattle.keys.proofs.keys.mangled_name_of.Reads as mangled-name-of-reads
 use Rattle.keys.proofs.keys.name_of.Reads as name-of-reads
 
--- src/keys.rt:80:8
 is-mangled-requires : tie.Need-is-mangled-requires
 is-mangled-requires c κs = search needs
 
--- src/keys.rt:81:9
 mangled-name-of-requires : tie.Need-mangled-name-of-requires
 mangled-name-of-requires c κs = search needs
 
--- src/keys.rt:81:9
 returns : tie.Need-returns
 returns c = key-mangled _ _ _ _ (c .before .before .is-mangled .ensures) (c .before .if1 .taken) (c .mangled-name-of .ensures)
 
--- src/keys.rt:83:5
 name-of-requires : tie.Need-name-of-requires
 name-of-requires c κs = search needs
 
--- src/keys.rt:75:1
 returns-2 : tie.Need-returns-2
 returns-2 c = key-plain _ _ _ _ (c .before .before .is-mangled .ensures) (c .before .if1 .left) (c .name-of .ensures)
 

@@ -11,15 +11,12 @@ use Rattle.keys.proofs.keys.mangled_name_of.Lts as lts
 use Rattle.keys.proofs.parts.text_part.Reads as text-part-reads
 use Rattle.records.proofs.words.reference.Reads as reference-reads
 
--- src/keys.rt:35:21
 reference-requires : tie.Need-reference-requires
 reference-requires c κs = search needs
 
--- src/keys.rt:35:5
 text-part-requires : tie.Need-text-part-requires
 text-part-requires c κs = (omega (arith, c .reference .ensures, mangled-inside _ _ (c .before .before .before .pre .0) _ (c .before .before .before .pre .1)), omega arith)
 
--- src/keys.rt:30:1
 returns : tie.Need-returns
 returns c = mangled-read _ _ (c .before .before .before .before .pre .0) _ (c .before .before .before .before .pre .1) (c .text-part .result) (c .before .reference .result) (c .before .reference .ensures) (c .text-part .ensures)
 

@@ -8,11 +8,9 @@ use Rattle.keys.proofs.keys.parameters_of.Reads as reads
 use Rattle.keys.proofs.keys.parameters_of.Lts as lts
 use Rattle.records.proofs.words.reference.Reads as reference-reads
 
--- src/keys.rt:60:5
 reference-requires : tie.Need-reference-requires
 reference-requires c κs = search needs
 
--- src/keys.rt:55:1
 returns : tie.Need-returns
 returns c = params-read _ _ (c .before .before .before .pre .0) _ (c .before .before .before .pre .1) (c .reference .result) (c .reference .ensures)
 

@@ -5,7 +5,6 @@ use Rattle.records.proofs.shape.plain_type.Tie as tie
 use Rattle.records.proofs.shape.plain_type.Reads as reads
 use Rattle.records.proofs.shape.plain_type.Lts as lts
 
--- src/shape.rt:278:1
 returns : tie.Need-returns
 unfolding plainType
 returns c = refl

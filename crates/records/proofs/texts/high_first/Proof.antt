@@ -10,79 +10,60 @@ use Rattle.records.proofs.texts.high_first.Reads as reads
 use Rattle.records.proofs.texts.high_first.Lts as lts
 use Rattle.records.proofs.words.wide.Reads as wide-reads
 
--- src/texts.rt:263:18
 shared-slice-read-wide : tie.Need-shared-slice-read-wide
 shared-slice-read-wide c = search needs
 
--- src/texts.rt:263:13
 wide-requires : tie.Need-wide-requires
 wide-requires c κs = search needs
 
--- src/texts.rt:263:13
 mul-a : tie.Need-mul-a
 mul-a c = search needs
 
--- src/texts.rt:263:50
 add-wide : tie.Need-add-wide
 add-wide c = search needs
 
--- src/texts.rt:263:45
 shared-slice-read-wide-2 : tie.Need-shared-slice-read-wide-2
 shared-slice-read-wide-2 c = search needs
 
--- src/texts.rt:263:40
 wide-requires-2 : tie.Need-wide-requires-2
 wide-requires-2 c κs = search needs
 
--- src/texts.rt:263:40
 mul-a-2 : tie.Need-mul-a-2
 mul-a-2 c = search needs
 
--- src/texts.rt:263:13
 add-a : tie.Need-add-a
 add-a c = search needs
 
--- src/texts.rt:264:23
 add-wide-2 : tie.Need-add-wide-2
 add-wide-2 c = search needs
 
--- src/texts.rt:264:18
 shared-slice-read-wide-3 : tie.Need-shared-slice-read-wide-3
 shared-slice-read-wide-3 c = search needs
 
--- src/texts.rt:264:13
 wide-requires-3 : tie.Need-wide-requires-3
 wide-requires-3 c κs = search needs
 
--- src/texts.rt:264:13
 mul-b : tie.Need-mul-b
 mul-b c = search needs
 
--- src/texts.rt:264:49
 add-wide-3 : tie.Need-add-wide-3
 add-wide-3 c = search needs
 
--- src/texts.rt:264:44
 shared-slice-read-wide-4 : tie.Need-shared-slice-read-wide-4
 shared-slice-read-wide-4 c = search needs
 
--- src/texts.rt:264:39
 wide-requires-4 : tie.Need-wide-requires-4
 wide-requires-4 c κs = search needs
 
--- src/texts.rt:264:13
 add-b : tie.Need-add-b
 add-b c = search needs
 
--- src/texts.rt:265:6
 add-result : tie.Need-add-result
 add-result c = search needs
 
--- src/texts.rt:265:5
 cast-result : tie.Need-cast-result
 cast-result c = search needs
 
--- src/texts.rt:259:1
 returns : tie.Need-returns
 unfolding highFirst byteAt
 returns c = omega (arith, c .wide4 .ensures, c .before .before .wide3 .ensures, c .before .before .before .before .wide2 .ensures, c .before .before .before .before .before .before .wide .ensures)

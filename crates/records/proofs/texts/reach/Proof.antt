@@ -7,23 +7,18 @@ use Rattle.records.proofs.texts.reach.Tie as tie
 use Rattle.records.proofs.texts.reach.Reads as reads
 use Rattle.records.proofs.texts.reach.Lts as lts
 
--- src/text.rt:15:9
 returns : tie.Need-returns
 returns c = reach-none _ _ _ (c .if1 .taken)
 
--- src/text.rt:17:15
 sub-if2 : tie.Need-sub-if2
 sub-if2 c = search needs
 
--- src/text.rt:18:9
 returns-2 : tie.Need-returns-2
 returns-2 c = search reach-whole
 
--- src/text.rt:20:5
 sub-result : tie.Need-sub-result
 sub-result c = search needs
 
--- src/text.rt:10:1
 returns-3 : tie.Need-returns-3
 returns-3 c = search reach-end
 

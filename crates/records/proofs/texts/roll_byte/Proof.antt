@@ -8,19 +8,15 @@ use Rattle.records.proofs.texts.roll_byte.Tie as tie
 use Rattle.records.proofs.texts.roll_byte.Reads as reads
 use Rattle.records.proofs.texts.roll_byte.Lts as lts
 
--- src/texts.rt:297:7
 mul-result : tie.Need-mul-result
 mul-result c = search needs
 
--- src/texts.rt:297:7
 add-result : tie.Need-add-result
 add-result c = search needs
 
--- src/texts.rt:297:5
 cast-result : tie.Need-cast-result
 cast-result c = search needs
 
--- src/texts.rt:293:1
 returns : tie.Need-returns
 returns c = step-is _ _ _ refl
 

@@ -9,27 +9,21 @@ use Rattle.records.proofs.texts.same_text.Lts as lts
 use Rattle.records.proofs.texts.reach.Reads as reach-reads
 use Rattle.records.proofs.texts.same_part.Reads as same-part-reads
 
--- src/text.rt:43:9
 reach-requires : tie.Need-reach-requires
 reach-requires c κs = search needs
 
--- src/text.rt:44:9
 reach-requires-2 : tie.Need-reach-requires-2
 reach-requires-2 c κs = search needs
 
--- src/text.rt:46:9
 returns : tie.Need-returns
 returns c = search other-lengths
 
--- src/text.rt:49:9
 returns-2 : tie.Need-returns-2
 returns-2 c = search no-lengths
 
--- src/text.rt:51:5
 same-part-requires : tie.Need-same-part-requires
 same-part-requires c κs = (search text-inside, search text-inside-too)
 
--- src/text.rt:38:1
 returns-3 : tie.Need-returns-3
 returns-3 c = search same-taken
 

@@ -5,19 +5,15 @@ use Rattle.records.proofs.words.detail.Tie as tie
 use Rattle.records.proofs.words.detail.Reads as reads
 use Rattle.records.proofs.words.detail.Lts as lts
 
--- src/words.rt:45:10
 mul-result : tie.Need-mul-result
 mul-result c = search needs
 
--- src/words.rt:45:10
 add-result : tie.Need-add-result
 add-result c = search needs
 
--- src/words.rt:45:5
 shared-slice-read-result : tie.Need-shared-slice-read-result
 shared-slice-read-result c = search needs
 
--- src/words.rt:41:1
 returns : tie.Need-returns
 unfolding detailOf byteAt
 returns c = search needs

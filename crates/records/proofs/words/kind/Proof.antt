@@ -5,15 +5,12 @@ use Rattle.records.proofs.words.kind.Tie as tie
 use Rattle.records.proofs.words.kind.Reads as reads
 use Rattle.records.proofs.words.kind.Lts as lts
 
--- src/words.rt:37:10
 mul-result : tie.Need-mul-result
 mul-result c = search needs
 
--- src/words.rt:37:5
 shared-slice-read-result : tie.Need-shared-slice-read-result
 shared-slice-read-result c = search needs
 
--- src/words.rt:33:1
 returns : tie.Need-returns
 unfolding kindOf byteAt
 returns c = search needs

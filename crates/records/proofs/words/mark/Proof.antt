@@ -6,12 +6,10 @@ use Rattle.records.proofs.words.mark.Tie as tie
 use Rattle.records.proofs.words.mark.Reads as reads
 use Rattle.records.proofs.words.mark.Lts as lts
 
--- src/words.rt:36:1
 returns : tie.Need-returns
 unfolding boolNumber
 returns c = rw (c .if1 .taken)
 
--- src/words.rt:36:1
 returns-2 : tie.Need-returns-2
 unfolding boolNumber
 returns-2 c = rw (c .if1 .left)

@@ -6,47 +6,36 @@ use Rattle.records.proofs.words.pad.Reads as reads
 use Rattle.records.proofs.words.pad.Lts as lts
 use Rattle.records.proofs.words.wide.Reads as wide-reads
 
--- src/words.rt:53:15
 mul-wide : tie.Need-mul-wide
 mul-wide c = search needs
 
--- src/words.rt:53:15
 add-wide : tie.Need-add-wide
 add-wide c = search needs
 
--- src/words.rt:53:10
 shared-slice-read-wide : tie.Need-shared-slice-read-wide
 shared-slice-read-wide c = search needs
 
--- src/words.rt:53:5
 wide-requires : tie.Need-wide-requires
 wide-requires c κs = search needs
 
--- src/words.rt:53:40
 mul-wide-2 : tie.Need-mul-wide-2
 mul-wide-2 c = search needs
 
--- src/words.rt:53:40
 add-wide-2 : tie.Need-add-wide-2
 add-wide-2 c = search needs
 
--- src/words.rt:53:35
 shared-slice-read-wide-2 : tie.Need-shared-slice-read-wide-2
 shared-slice-read-wide-2 c = search needs
 
--- src/words.rt:53:30
 wide-requires-2 : tie.Need-wide-requires-2
 wide-requires-2 c κs = search needs
 
--- src/words.rt:53:30
 mul-result : tie.Need-mul-result
 mul-result c = search needs
 
--- src/words.rt:53:5
 add-result : tie.Need-add-result
 add-result c = search needs
 
--- src/words.rt:49:1
 returns : tie.Need-returns
 unfolding padOf byteAt
 returns c = search needs

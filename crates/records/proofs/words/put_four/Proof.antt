@@ -8,23 +8,18 @@ use Rattle.records.proofs.words.put_four.Reads as reads
 use Rattle.records.proofs.words.put_four.Lts as lts
 use Rattle.records.proofs.words.put_pair.Reads as put-pair-reads
 
--- src/words.rt:70:18
 add-third : tie.Need-add-third
 add-third c = search needs
 
--- src/words.rt:71:5
 put-pair-requires : tie.Need-put-pair-requires
 put-pair-requires c κs = search needs
 
--- src/words.rt:72:5
 put-pair-requires-2 : tie.Need-put-pair-requires-2
 put-pair-requires-2 c κs = search needs
 
--- src/words.rt:66:1
 same-length : tie.Need-same-length
 same-length c = search needs
 
--- src/words.rt:66:1
 returns : tie.Need-returns
 returns c = search put-four
 

@@ -8,23 +8,18 @@ use Rattle.records.proofs.words.put_pair.Reads as reads
 use Rattle.records.proofs.words.put_pair.Lts as lts
 use Rattle.records.proofs.words.put_word.Reads as put-word-reads
 
--- src/words.rt:58:18
 add-second : tie.Need-add-second
 add-second c = search needs
 
--- src/words.rt:59:5
 put-word-requires : tie.Need-put-word-requires
 put-word-requires c κs = search needs
 
--- src/words.rt:60:5
 put-word-requires-2 : tie.Need-put-word-requires-2
 put-word-requires-2 c κs = search needs
 
--- src/words.rt:54:1
 same-length : tie.Need-same-length
 same-length c = search needs
 
--- src/words.rt:54:1
 returns : tie.Need-returns
 returns c = search put-pair
 

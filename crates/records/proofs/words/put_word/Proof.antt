@@ -13,55 +13,42 @@ use Rattle.records.proofs.words.put_word.Tie as tie
 use Rattle.records.proofs.words.put_word.Reads as reads
 use Rattle.records.proofs.words.put_word.Lts as lts
 
--- src/words.rt:47:15
 cast-buf : tie.Need-cast-buf
 cast-buf c = search needs
 
--- src/words.rt:47:5
 slice-write-buf : tie.Need-slice-write-buf
 slice-write-buf c = search needs
 
--- src/words.rt:48:19
 cast-buf-2 : tie.Need-cast-buf-2
 cast-buf-2 c = search needs
 
--- src/words.rt:48:9
 add-buf : tie.Need-add-buf
 add-buf c = search needs
 
--- src/words.rt:48:5
 slice-write-buf-2 : tie.Need-slice-write-buf-2
 slice-write-buf-2 c = simp length-set (omega arith)
 
--- src/words.rt:49:19
 cast-buf-3 : tie.Need-cast-buf-3
 cast-buf-3 c = search needs
 
--- src/words.rt:49:9
 add-buf-2 : tie.Need-add-buf-2
 add-buf-2 c = search needs
 
--- src/words.rt:49:5
 slice-write-buf-3 : tie.Need-slice-write-buf-3
 slice-write-buf-3 c = simp length-set (omega arith)
 
--- src/words.rt:50:19
 cast-buf-4 : tie.Need-cast-buf-4
 cast-buf-4 c = search needs
 
--- src/words.rt:50:9
 add-buf-3 : tie.Need-add-buf-3
 add-buf-3 c = search needs
 
--- src/words.rt:50:5
 slice-write-buf-4 : tie.Need-slice-write-buf-4
 slice-write-buf-4 c = simp length-set (omega arith)
 
--- src/words.rt:43:1
 same-length : tie.Need-same-length
 same-length c = search needs
 
--- src/words.rt:43:1
 returns : tie.Need-returns
 returns c =
     let l = c .args .buf .now in

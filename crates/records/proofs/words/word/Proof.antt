@@ -6,27 +6,21 @@ use Rattle.records.proofs.words.word.Reads as reads
 use Rattle.records.proofs.words.word.Lts as lts
 use Rattle.records.proofs.words.load.Reads as load-reads
 
--- src/words.rt:29:16
 mul-load : tie.Need-mul-load
 mul-load c = search needs
 
--- src/words.rt:29:16
 add-load : tie.Need-add-load
 add-load c = search needs
 
--- src/words.rt:29:29
 mul-load-2 : tie.Need-mul-load-2
 mul-load-2 c = search needs
 
--- src/words.rt:29:16
 add-load-2 : tie.Need-add-load-2
 add-load-2 c = search needs
 
--- src/words.rt:29:5
 load-requires : tie.Need-load-requires
 load-requires c κs = search needs
 
--- src/words.rt:25:1
 returns : tie.Need-returns
 unfolding wordOf
 returns c = search needs

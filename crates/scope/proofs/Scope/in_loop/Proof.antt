@@ -8,12 +8,10 @@ use Rattle.scope.proofs.Scope.in_loop.Tie as tie
 use Rattle.scope.proofs.Scope.in_loop.Reads as reads
 use Rattle.scope.proofs.Scope.in_loop.Lts as lts
 
--- src/lib.rt:148:13
 returns : tie.Need-returns
 unfolding pick loopNumber
 returns c = rw (eq-eqb _ _ (c .if1 .taken))
 
--- src/lib.rt:143:5
 returns-2 : tie.Need-returns-2
 unfolding pick loopNumber
 returns-2 c = rw (ne-eqb _ _ (c .if1 .left))

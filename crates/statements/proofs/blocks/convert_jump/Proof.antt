@@ -10,39 +10,30 @@ use Rattle.records.proofs.words.kind.Reads as kind-reads
 use Rattle.statements.proofs.statements.convert_break.Reads as convert-break-reads
 use Rattle.statements.proofs.statements.convert_continue.Reads as convert-continue-reads
 
--- src/blocks.rt:92:8
 kind-requires : tie.Need-kind-requires
 kind-requires c κs = search needs
 
--- src/blocks.rt:93:9
 convert-break-requires : tie.Need-convert-break-requires
 convert-break-requires c κs = search needs
 
--- src/blocks.rt:93:9
 same-length : tie.Need-same-length
 same-length c = search needs
 
--- src/blocks.rt:93:9
 same-length-2 : tie.Need-same-length-2
 same-length-2 c = search needs
 
--- src/blocks.rt:93:9
 returns : tie.Need-returns
 returns c = jump-break _ _ (c .before .before .before .before .before .before .before .before .kind .ensures) (c .before .before .before .before .before .before .before .if1 .taken) (c .before .before .before .before .convert-break .ensures)
 
--- src/blocks.rt:95:5
 convert-continue-requires : tie.Need-convert-continue-requires
 convert-continue-requires c κs = search needs
 
--- src/blocks.rt:79:1
 same-length-3 : tie.Need-same-length-3
 same-length-3 c = search needs
 
--- src/blocks.rt:79:1
 same-length-4 : tie.Need-same-length-4
 same-length-4 c = search needs
 
--- src/blocks.rt:79:1
 returns-2 : tie.Need-returns-2
 returns-2 c = jump-continue _ _ (c .before .before .before .before .before .before .before .before .kind .ensures) (c .before .before .before .before .before .before .before .if1 .left) (c .before .before .before .before .convert-continue .ensures)
 

@@ -9,19 +9,15 @@ use Rattle.statements.proofs.blocks.stated.Tie as tie
 use Rattle.statements.proofs.blocks.stated.Reads as reads
 use Rattle.statements.proofs.blocks.stated.Lts as lts
 
--- src/blocks.rt:103:27
 enum-known-done : tie.Need-enum-known-done
 enum-known-done c = search needs
 
--- src/blocks.rt:104:27
 enum-told : tie.Need-enum-told
 enum-told c = search needs
 
--- src/blocks.rt:99:1
 returns : tie.Need-returns
 returns c = λ k. ap (statedWith _) (ap (finishedWith k) (sym (c .before .done .given .1)))
 
--- src/blocks.rt:99:1
 returns-2 : tie.Need-returns-2
 returns-2 c = λ k. ap (statedWith _) (ap (finishedWith k) (sym (c .enum-told .given .1)))
 

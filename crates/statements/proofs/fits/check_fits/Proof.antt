@@ -11,31 +11,24 @@ use Rattle.statements.proofs.answers.error_at.Reads as error-at-reads
 use Rattle.types.proofs.fits.fits.Reads as fits-reads
 use Rattle.types.proofs.fits.range_error.Reads as range-error-reads
 
--- src/fits.rt:296:8
 fits-requires : tie.Need-fits-requires
 fits-requires c κs = search needs
 
--- src/fits.rt:297:9
 returns : tie.Need-returns
 returns c = λ text F. check-done _ text F _ _ _ _ _ (sym (c .before .fits2 .ensures text) ∙ c .if1 .taken)
 
--- src/fits.rt:299:8
 range-error-requires : tie.Need-range-error-requires
 range-error-requires c κs = search needs
 
--- src/fits.rt:300:33
 error-at-requires : tie.Need-error-at-requires
 error-at-requires c κs = search needs
 
--- src/fits.rt:300:9
 returns-2 : tie.Need-returns-2
 returns-2 c = λ text F. check-range _ text F _ _ _ _ _ (sym (c .before .before .before .before .fits2 .ensures text) ∙ c .before .before .before .if1 .left) (c .before .before .before .before .before .before .pre .0) (sym (c .before .before .range-error .ensures text) ∙ c .before .if2 .taken) _ (c .error-at .ensures)
 
--- src/fits.rt:302:22
 error-at-requires-2 : tie.Need-error-at-requires-2
 error-at-requires-2 c κs = search needs
 
--- src/fits.rt:285:1
 returns-3 : tie.Need-returns-3
 returns-3 c = λ text F. check-place _ text F _ _ _ _ _ (sym (c .before .before .before .before .fits2 .ensures text) ∙ c .before .before .before .if1 .left) (sym (c .before .before .range-error .ensures text) ∙ c .before .if2 .left) _ (c .error-at2 .ensures)
 

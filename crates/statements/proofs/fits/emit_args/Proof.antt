@@ -21,43 +21,33 @@ Inv-loop tree arena₀ scratch k₀ count first n j₀ arena k j =
 abbrev μ-loop : tie.MeasureT-loop
 μ-loop tree arena₀ scratch k₀ count first n j₀ arena k j = count - j
 
--- src/fits.rt:236:5
 loop-holds : tie.Need-loop-holds Inv-loop μ-loop
 loop-holds c = (emit-start _ _ _ _ _ _ (c .before .before .before .before .pre .0), refl)
 
--- src/fits.rt:237:40
 add-operand-at : tie.Need-add-operand-at Inv-loop μ-loop
 add-operand-at c = omega (arith, c .before .before .before .before .before .before .pre .1 .0, c .before .before .before .before .before .before .pre .1 .1)
 
--- src/fits.rt:237:13
 operand-at-requires : tie.Need-operand-at-requires Inv-loop μ-loop
 operand-at-requires c κs = omega (arith, c .before .before .before .before .before .before .pre .1 .0, c .before .before .before .before .before .before .pre .1 .1)
 
--- src/fits.rt:238:9
 emit-arg-requires : tie.Need-emit-arg-requires Inv-loop μ-loop
 emit-arg-requires c κs = (c .before .before .before .before .loop .inv .0 .room .room, omega (arith, c .before .before .before .before .loop .inv .0 .room .affords))
 
--- src/fits.rt:239:9
 add-j : tie.Need-add-j Inv-loop μ-loop
 add-j c = omega (arith, c .before .before .before .before .before .before .before .before .before .before .before .before .before .before .pre .1 .0, c .before .before .before .before .before .before .before .before .before .before .before .before .before .before .pre .1 .1)
 
--- src/fits.rt:236:5
 loop-less : tie.Need-loop-less Inv-loop μ-loop
 loop-less c = omega arith
 
--- src/fits.rt:236:5
 loop-again : tie.Need-loop-again Inv-loop μ-loop
 loop-again c = (emit-turn _ _ _ _ _ _ _ _ _ (c .before .before .before .before .before .before .before .before .before .loop .inv .0) (c .before .before .before .before .before .before .before .before .loop-test .taken) _ (c .before .before .before .before .before .before .before .operand-at .ensures) _ _ (omega arith) (c .before .before .before .before .emit-arg .ensures), omega (arith, c .before .before .before .before .before .before .before .before .before .loop .inv .1, c .before .k .given))
 
--- src/fits.rt:221:1
 same-length : tie.Need-same-length Inv-loop μ-loop
 same-length c = emit-end _ _ _ _ _ _ _ _ _ (c .before .loop .inv .0) (omega arith) .long
 
--- src/fits.rt:221:1
 same-length-2 : tie.Need-same-length-2 Inv-loop μ-loop
 same-length-2 c = c .before .loop .inv .1
 
--- src/fits.rt:221:1
 returns : tie.Need-returns Inv-loop μ-loop
 returns c = emit-end _ _ _ _ _ _ _ _ _ (c .before .loop .inv .0) (omega arith)
 

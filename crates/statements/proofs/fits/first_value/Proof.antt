@@ -17,42 +17,33 @@ Inv-loop tree text argument parameter cell₀ beside₀ cell beside = Walked tre
 abbrev μ-loop : tie.MeasureT-loop
 μ-loop tree text argument parameter cell₀ beside₀ cell beside = left cell
 
--- src/fits.rt:192:5
 loop-holds : tie.Need-loop-holds Inv-loop μ-loop
 loop-holds c = walk-start _ _ _ _ (c .before .before .pre .1) (c .before .before .pre .2)
 
--- src/fits.rt:193:13
 next-cell-requires : tie.Need-next-cell-requires Inv-loop μ-loop
 next-cell-requires c κs = cell-below _ _ (c .before .before .before .before .pre .0) _ _ (c .before .loop .inv .args) (c .loop-test .taken)
 
--- src/fits.rt:194:36
 argument-at-requires : tie.Need-argument-at-requires Inv-loop μ-loop
 argument-at-requires c κs = (c .before .before .before .before .before .pre .0, (c .before .before .loop .inv .args, c .before .loop-test .taken))
 
--- src/fits.rt:195:13
 enum-told : tie.Need-enum-told Inv-loop μ-loop
 enum-told c = search needs
 
--- src/fits.rt:195:13
 returns : tie.Need-returns Inv-loop μ-loop
 returns c = at-value _ _ (c .before .before .before .before .before .before .before .before .pre .0) _ _ _ _ (c .before .before .before .before .before .loop .inv) (c .before .before .before .before .loop-test .taken) _ (c .before .before .before .next-cell .ensures) _ (c .before .before .argument-at .ensures) _ (c .enum-told .given .1)
 
 enum-told-2 : tie.Need-enum-told-2 Inv-loop μ-loop
 enum-told-2 c = search needs
 
--- src/fits.rt:200:9
 next-parameter-requires : tie.Need-next-parameter-requires Inv-loop μ-loop
 next-parameter-requires c κs = (c .before .before .before .before .before .before .before .before .pre .0, c .before .before .before .before .before .loop .inv .params)
 
--- src/fits.rt:192:5
 loop-less : tie.Need-loop-less Inv-loop μ-loop
 loop-less c = next-falls _ _ (c .before .before .before .before .before .before .before .before .before .pre .0) _ _ _ (c .before .before .before .before .before .before .loop .inv .args) (c .before .before .before .before .before .loop-test .taken) (c .before .before .before .before .next-cell .ensures)
 
--- src/fits.rt:192:5
 loop-again : tie.Need-loop-again Inv-loop μ-loop
 loop-again c = past-type _ _ (c .before .before .before .before .before .before .before .before .before .pre .0) _ _ _ _ (c .before .before .before .before .before .before .loop .inv) (c .before .before .before .before .before .loop-test .taken) _ (c .before .before .before .before .next-cell .ensures) _ (c .before .before .before .argument-at .ensures) _ (c .before .enum-told2 .given .1) _ (c .next-parameter .ensures .0) (c .next-parameter .ensures .1)
 
--- src/fits.rt:186:1
 returns-2 : tie.Need-returns-2 Inv-loop μ-loop
 returns-2 c = walk-end _ _ (c .before .before .before .before .pre .0) _ _ _ _ (c .before .loop .inv) (c .loop-test .left)
 

@@ -31,75 +31,57 @@ Inv-loop tree text arena₀ scratch₀ k₀ e f count first n argument₀ parame
 abbrev μ-loop : tie.MeasureT-loop
 μ-loop tree text arena₀ scratch₀ k₀ e f count first n argument₀ parameter₀ j₀ arena scratch k argument parameter j = count - j
 
--- src/fits.rt:205:9
 reference-requires : tie.Need-reference-requires Inv-loop μ-loop
 reference-requires c κs = (omega (arith, c .before .before .before .before .before .pre .0 .2 .below), omega arith)
 
--- src/fits.rt:206:9
 parameters-of-requires : tie.Need-parameters-of-requires Inv-loop μ-loop
 parameters-of-requires c κs = (c .before .before .before .before .before .before .pre .0 .0 .ready .keyed .good, c .before .before .before .before .before .before .pre .0 .1)
 
--- src/fits.rt:208:5
 loop-holds : tie.Need-loop-holds Inv-loop μ-loop
 loop-holds c = (fit-start _ _ _ _ _ _ _ _ _ _ _ (ap (argsAt _ _) (sym (c .before .reference .ensures))) (first-cells _ _ (c .before .before .before .before .before .before .before .pre .0 .0 .ready .keyed .good) _ (c .before .before .before .before .before .before .before .pre .0 .2) _ (c .before .reference .ensures)) (c .parameters-of .ensures .0) (c .parameters-of .ensures .1) (record { room = c .before .before .before .before .before .before .before .pre .0 .0 .room; affords = c .before .before .before .before .before .before .before .pre .1 .0 .tables }) (c .before .before .before .before .before .before .before .pre .1 .1), refl)
 
--- src/fits.rt:209:13
 first-value-requires : tie.Need-first-value-requires Inv-loop μ-loop
 first-value-requires c κs = (c .before .before .before .before .before .before .before .before .before .pre .0 .0 .ready .keyed .good, c .before .loop .inv .0 .args, c .before .loop .inv .0 .params)
 
--- src/fits.rt:210:40
 add-operand-at : tie.Need-add-operand-at Inv-loop μ-loop
 add-operand-at c = omega (arith, c .before .before .before .before .before .before .before .before .before .before .before .pre .1 .0 .stack, c .before .before .before .before .before .before .before .before .before .before .before .pre .0 .0 .ready .keyed .listed .room)
 
--- src/fits.rt:210:13
 operand-at-requires : tie.Need-operand-at-requires Inv-loop μ-loop
 operand-at-requires c κs = omega (arith, c .before .before .before .before .before .before .before .before .before .before .before .pre .1 .0 .stack, c .before .before .before .before .before .before .before .before .before .before .before .pre .0 .0 .ready .keyed .listed .room, c .before .before .before .loop .inv .0 .stays 0 (omega arith) .long)
 
--- src/fits.rt:211:13
 parameter-type-requires : tie.Need-parameter-type-requires Inv-loop μ-loop
 parameter-type-requires c κs = (c .before .before .before .before .before .before .before .before .before .before .before .before .pre .0 .0 .ready .keyed .good, c .before .before .first-value .ensures .params, first-type _ _ (c .before .before .before .before .before .before .before .before .before .before .before .before .pre .0 .0 .ready .keyed .good) _ (c .before .before .before .before .before .before .before .before .before .before .before .before .pre .0 .1 .below) (λ w. omega (arith, c .before .before .before .before .before .before .before .before .before .before .before .before .pre .0 .1 .kind)) 4 (omega arith))
 
--- src/fits.rt:212:13
 fit-operand-requires : tie.Need-fit-operand-requires Inv-loop μ-loop
 fit-operand-requires c κs = ((record { room = c .before .before .before .before .before .before .before .loop .inv .0 .room .room; affords = omega (arith, c .before .before .before .before .before .before .before .loop .inv .0 .room .affords, c .before .before .before .before .before .before .loop-test .taken) }, omega (arith, c .before .before .parameter-type .ensures .1 .below, c .before .before .before .before .before .before .before .before .before .before .before .before .before .before .before .pre .0 .0 .ready .keyed .good .few)), (c .before .before .parameter-type .ensures .1, operand-in _ _ _ _ _ _ _ _ _ _ _ _ _ _ _ (c .before .before .before .before .before .before .before .loop .inv .0) (c .before .before .before .before .before .before .loop-test .taken) (c .before .before .before .before .before .before .before .before .before .before .before .before .before .before .before .pre .1 .0 .stack) (c .before .before .before .before .before .before .before .before .before .before .before .before .before .before .before .pre .0 .0 .ready .keyed .listed .room) (c .before .before .before .operand-at .result) (c .before .before .before .operand-at .ensures)))
 
--- src/fits.rt:213:34
 add-push-operand : tie.Need-add-push-operand Inv-loop μ-loop
 add-push-operand c = omega (arith, c .before .before .before .before .before .before .before .before .before .before .before .before .before .before .before .before .before .before .before .before .before .pre .1 .0 .stack, c .before .before .before .before .before .before .before .before .before .before .before .before .before .before .before .before .before .before .before .before .before .pre .0 .0 .ready .keyed .good .few, c .before .before .before .before .before .before .before .before .before .before .before .before .loop-test .taken)
 
--- src/fits.rt:213:9
 push-operand-requires : tie.Need-push-operand-requires Inv-loop μ-loop
 push-operand-requires c κs = omega (arith, c .before .before .before .before .before .before .before .before .before .before .before .before .before .before .before .before .before .before .before .before .before .pre .1 .0 .stack, c .before .before .before .before .before .before .before .before .before .before .before .before .before .before .before .before .before .before .before .before .before .pre .0 .0 .ready .keyed .listed .room, c .before .before .before .before .before .before .before .before .before .before .before .before .before .loop .inv .0 .stays 0 (omega arith) .long)
 
--- src/fits.rt:215:9
 next-parameter-requires : tie.Need-next-parameter-requires Inv-loop μ-loop
 next-parameter-requires c κs = (c .before .before .before .before .before .before .before .before .before .before .before .before .before .before .before .before .before .before .before .before .before .before .before .before .pre .0 .0 .ready .keyed .good, c .before .before .before .before .before .before .before .before .before .before .before .before .before .before .first-value .ensures .params)
 
--- src/fits.rt:216:9
 add-j : tie.Need-add-j Inv-loop μ-loop
 add-j c = omega (arith, c .before .before .before .before .before .before .before .before .before .before .before .before .before .before .before .before .before .before .before .before .before .before .before .before .before .pre .1 .0 .stack, c .before .before .before .before .before .before .before .before .before .before .before .before .before .before .before .before .before .before .before .before .before .before .before .before .before .pre .0 .0 .ready .keyed .good .few, c .before .before .before .before .before .before .before .before .before .before .before .before .before .before .before .before .loop-test .taken)
 
--- src/fits.rt:208:5
 loop-less : tie.Need-loop-less Inv-loop μ-loop
 loop-less c = omega arith
 
--- src/fits.rt:208:5
 loop-again : tie.Need-loop-again Inv-loop μ-loop
 loop-again c = (fit-turn _ _ _ _ _ _ _ _ _ _ _ _ _ _ _ (c .before .before .before .before .before .before .before .before .before .before .before .before .before .before .before .before .before .loop .inv .0) (c .before .before .before .before .before .before .before .before .before .before .before .before .before .before .before .before .loop-test .taken) (c .before .before .before .before .before .before .before .before .before .before .before .before .before .before .before .before .before .before .before .before .before .before .before .before .before .pre .1 .0 .stack) (c .before .before .before .before .before .before .before .before .before .before .before .before .before .before .before .before .before .before .before .before .before .before .before .before .before .pre .0 .0 .ready .keyed .listed .room) (c .before .before .before .before .before .before .before .before .before .before .before .before .before .operand-at .result) (c .before .before .before .before .before .before .before .before .before .before .before .before .before .operand-at .ensures) (c .before .before .before .before .before .before .before .before .before .before .before .before .before .before .before .first-value .result) (c .before .before .before .before .before .before .before .before .before .before .before .before .before .before .before .first-value .ensures) _ (c .before .before .before .before .before .before .before .before .before .before .before .before .parameter-type .ensures .0) (fitted _ (c .before .before .before .before .before .before .before .before .before .fit-operand .result)) _ (c .before .before .before .before .before .before .before .before .before .fit-operand .ensures _) _ (c .before .before .before .push-operand .ensures .0) (c .before .before .before .push-operand .ensures .1) _ (c .next-parameter .ensures .0) (c .next-parameter .ensures .1), omega (arith, c .before .before .before .before .before .before .before .before .before .before .before .before .before .before .before .before .before .loop .inv .1, c .before .before .before .before .before .before .k .given))
 
--- src/fits.rt:187:1
 same-length : tie.Need-same-length Inv-loop μ-loop
 same-length c = fit-end _ _ _ _ _ _ _ _ _ _ _ _ _ _ _ (c .before .loop .inv .0) (omega arith) .long
 
--- src/fits.rt:187:1
 same-length-2 : tie.Need-same-length-2 Inv-loop μ-loop
 same-length-2 c = c .before .loop .inv .0 .stays 0 (omega arith) .long
 
--- src/fits.rt:187:1
 same-length-3 : tie.Need-same-length-3 Inv-loop μ-loop
 same-length-3 c = c .before .loop .inv .1
 
--- src/fits.rt:187:1
 returns : tie.Need-returns Inv-loop μ-loop
 returns c = (record { adds = fit-end _ _ _ _ _ _ _ _ _ _ _ _ _ _ _ (c .before .loop .inv .0) (omega arith); stays = c .before .loop .inv .0 .stays _ (omega (arith, c .before .before .before .before .before .before .before .before .before .pre .1 .0 .names)); names = names-of (c .before .loop .inv .0 .stays _ (omega arith)) }, c .before .loop .inv .0 .turns)
 

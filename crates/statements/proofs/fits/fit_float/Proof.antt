@@ -10,31 +10,24 @@ use Rattle.statements.proofs.fits.refloat.Reads as refloat-reads
 use Rattle.types.proofs.form.form.Reads as form-reads
 use Rattle.types.proofs.form.is_short.Reads as is-short-reads
 
--- src/fits.rt:102:8
 form-requires : tie.Need-form-requires
 form-requires c κs = search needs
 
--- src/fits.rt:103:37
 is-short-requires : tie.Need-is-short-requires
 is-short-requires c κs = search needs
 
--- src/fits.rt:103:9
 refloat-requires : tie.Need-refloat-requires
 refloat-requires c κs = search needs
 
--- src/fits.rt:103:9
 same-length : tie.Need-same-length
 same-length c = search needs
 
--- src/fits.rt:103:9
 same-length-2 : tie.Need-same-length-2
 same-length-2 c = search needs
 
--- src/fits.rt:103:9
 returns : tie.Need-returns
 returns c = λ text. float-marked _ text _ _ (c .before .before .before .before .before .before .before .before .before .form .ensures) _ _ (c .before .before .before .before .before .before .before .before .if1 .taken) (c .before .before .before .before .before .is-short .ensures) (c .before .before .before .before .refloat .ensures _)
 
--- src/fits.rt:98:1
 returns-2 : tie.Need-returns-2
 returns-2 c = λ text. float-stays _ text _ _ (c .before .form .ensures) _ (c .if1 .left) (c .before .before .before .before .before .pre .0 .room)
 

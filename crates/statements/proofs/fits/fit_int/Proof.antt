@@ -10,23 +10,18 @@ use Rattle.types.proofs.form.form.Reads as form-reads
 use Rattle.types.proofs.form.is_short.Reads as is-short-reads
 use Rattle.types.proofs.form.is_unsigned.Reads as is-unsigned-reads
 
--- src/fits.rt:113:8
 form-requires : tie.Need-form-requires
 form-requires c κs = search needs
 
--- src/fits.rt:114:35
 is-short-requires : tie.Need-is-short-requires
 is-short-requires c κs = search needs
 
--- src/fits.rt:114:61
 is-unsigned-requires : tie.Need-is-unsigned-requires
 is-unsigned-requires c κs = search needs
 
--- src/fits.rt:114:9
 returns : tie.Need-returns
 returns c = λ k text l short unsigned e room. int-marked _ text _ _ (c .before .before .before .form .ensures) _ _ short unsigned e room _ _ (c .before .before .if1 .taken) (c .before .is-short .ensures) (c .is-unsigned .ensures)
 
--- src/fits.rt:109:1
 returns-2 : tie.Need-returns-2
 returns-2 c = λ k text l short unsigned e room. int-stays _ text _ _ (c .before .form .ensures) _ _ short unsigned e room (c .if1 .left)
 

@@ -9,35 +9,27 @@ use Rattle.statements.proofs.fits.fit_variable.Lts as lts
 use Rattle.statements.proofs.fits.cast_operand.Reads as cast-operand-reads
 use Rattle.types.proofs.form.form.Reads as form-reads
 
--- src/fits.rt:90:14
 cast-ty : tie.Need-cast-ty
 cast-ty c = search needs
 
--- src/fits.rt:91:19
 form-requires : tie.Need-form-requires
 form-requires c κs = search needs
 
--- src/fits.rt:91:58
 form-requires-2 : tie.Need-form-requires-2
 form-requires-2 c κs = search needs
 
--- src/fits.rt:93:9
 cast-operand-requires : tie.Need-cast-operand-requires
 cast-operand-requires c κs = search needs
 
--- src/fits.rt:93:9
 same-length : tie.Need-same-length
 same-length c = search needs
 
--- src/fits.rt:93:9
 same-length-2 : tie.Need-same-length-2
 same-length-2 c = search needs
 
--- src/fits.rt:93:9
 returns : tie.Need-returns
 returns c = λ text. variable-cast _ text _ _ (c .before .before .before .before .before .before .before .before .before .form .ensures) _ _ (c .before .before .before .before .before .before .before .before .form2 .ensures) (c .before .before .before .before .before .before .before .if1 .taken) (c .before .before .before .before .cast-operand .ensures _ (c .before .before .before .before .before .before .before .before .before .before .before .before .before .before .pre .2))
 
--- src/fits.rt:80:1
 returns-2 : tie.Need-returns-2
 returns-2 c = λ text. variable-stays _ text _ _ (c .before .before .form .ensures) _ _ (c .before .form2 .ensures) (c .if1 .left) (c .before .before .before .before .before .before .before .pre .3) (c .before .before .before .before .before .before .before .pre .0 .room)
 

@@ -8,15 +8,12 @@ use Rattle.statements.proofs.fits.next_parameter.Reads as reads
 use Rattle.statements.proofs.fits.next_parameter.Lts as lts
 use Rattle.expressions.proofs.arguments.next_cell.Reads as next-cell-reads
 
--- src/fits.rt:180:9
 returns : tie.Need-returns
 returns c = behind-next _ _ (c .before .before .before .pre .0) _ (c .before .before .before .pre .1) (c .if1 .taken)
 
--- src/fits.rt:182:5
 next-cell-requires : tie.Need-next-cell-requires
 next-cell-requires c κs = cell-below _ _ (c .before .before .before .pre .0) _ _ (c .before .before .before .pre .1) (c .if1 .left)
 
--- src/fits.rt:175:1
 returns-2 : tie.Need-returns-2
 returns-2 c = own-next _ _ (c .before .before .before .before .pre .0) _ (c .before .before .before .before .pre .1) (c .before .if1 .left) _ (c .next-cell .ensures)
 

@@ -9,19 +9,15 @@ use Rattle.statements.proofs.fits.parameter_type.Reads as reads
 use Rattle.statements.proofs.fits.parameter_type.Lts as lts
 use Rattle.records.proofs.words.reference.Reads as reference-reads
 
--- src/fits.rt:170:9
 returns : tie.Need-returns
 returns c = (behind-type _ _ (c .before .before .before .pre .0) _ (c .before .before .before .pre .1) (c .if1 .taken), c .before .before .before .pre .2)
 
--- src/fits.rt:172:21
 reference-requires : tie.Need-reference-requires
 reference-requires c κs = (at-parameter _ _ (c .before .before .before .pre .0) _ (c .before .before .before .pre .1) (c .if1 .left), omega arith)
 
--- src/fits.rt:172:5
 reference-requires-2 : tie.Need-reference-requires-2
 reference-requires-2 c κs = (at-variable _ _ (c .before .before .before .before .pre .0) _ (c .before .before .before .before .pre .1) (c .before .if1 .left) _ (c .reference .ensures), omega arith)
 
--- src/fits.rt:165:1
 returns-2 : tie.Need-returns-2
 returns-2 c = (own-type _ _ (c .before .before .before .before .before .pre .0) _ (c .before .before .before .before .before .pre .1) (c .before .before .if1 .left) _ (c .before .reference .ensures) _ (c .reference2 .ensures), variable-type _ _ (c .before .before .before .before .before .pre .0) _ (c .before .before .before .before .before .pre .1) (c .before .before .if1 .left) _ (c .before .reference .ensures) _ (c .reference2 .ensures))
 

@@ -11,27 +11,21 @@ use Rattle.ir.proofs.floats.float_entry.Reads as float-entry-reads
 use Rattle.ir.proofs.lent.float_bits.Reads as float-bits-reads
 use Rattle.ir.proofs.lent.float_id.Reads as float-id-reads
 
--- src/fits.rt:65:25
 float-bits-requires : tie.Need-float-bits-requires
 float-bits-requires c κs = search needs
 
--- src/fits.rt:65:9
 float-entry-requires : tie.Need-float-entry-requires
 float-entry-requires c κs = search needs
 
--- src/fits.rt:66:20
 float-id-requires : tie.Need-float-id-requires
 float-id-requires c κs = search needs
 
--- src/fits.rt:61:1
 same-length : tie.Need-same-length
 same-length c = search needs
 
--- src/fits.rt:61:1
 same-length-2 : tie.Need-same-length-2
 same-length-2 c = search needs
 
--- src/fits.rt:61:1
 returns : tie.Need-returns
 returns c = λ tree. refloat-fits _ _ _ _ _ (omega arith) (c .before .before .before .before .before .before .before .before .float-bits .ensures) (c .before .before .before .before .before .before .before .float-entry .ensures) (c .before .before .before .before .float-id .ensures)
 

@@ -10,35 +10,27 @@ use Rattle.statements.proofs.loops.check_bound.Lts as lts
 use Rattle.expressions.proofs.expressions.get_type.Reads as get-type-reads
 use Rattle.statements.proofs.fits.check_fits.Reads as check-fits-reads
 
--- src/loops.rt:260:11
 get-type-requires : tie.Need-get-type-requires
 get-type-requires c κs = (record { ready = c .before .before .before .before .before .pre .0 .0; remembers = c .before .before .before .before .before .pre .1 [] }, c .before .before .before .before .before .pre .0 .1)
 
--- src/loops.rt:261:27
 enum-known-x : tie.Need-enum-known-x
 enum-known-x c = search needs
 
--- src/loops.rt:262:22
 enum-known-q : tie.Need-enum-known-q
 enum-known-q c = search needs
 
--- src/loops.rt:262:28
 check-fits-requires : tie.Need-check-fits-requires
 check-fits-requires c κs = bound-asks _ (c .before .before .before .before .before .before .before .before .before .before .before .pre .0 .0) (c .before .before .before .before .before .before .before .before .before .before .before .pre .0 .1) (c .before .before .before .before .before .get-type .ensures) (c .before .before .before .before .before .before .before .before .before .before .before .pre .0 .2) (c .before .q .given .1)
 
--- src/loops.rt:246:1
 same-length : tie.Need-same-length
 same-length c = search needs
 
--- src/loops.rt:246:1
 returns : tie.Need-returns
 returns c = (λ k. bound-not _ (c .before .before .before .before .before .before .before .before .before .before .before .pre .0 .0) (c .before .before .before .before .before .before .before .before .before .before .before .pre .0 .1) (c .before .before .before .before .before .get-type .ensures) (c .before .x .given .1), λ k. refused-outcome)
 
--- src/loops.rt:246:1
 same-length-2 : tie.Need-same-length-2
 same-length-2 c = search needs
 
--- src/loops.rt:246:1
 returns-2 : tie.Need-returns-2
 returns-2 c = (λ k. bound-is _ (c .before .before .before .before .before .before .before .before .before .before .before .before .pre .0 .0) (c .before .before .before .before .before .before .before .before .before .before .before .before .pre .0 .1) (c .before .before .before .before .before .before .get-type .ensures) (c .before .before .q .given .1) (c .check-fits .ensures), λ k. λ d. (c .before .before .before .before .before .before .get-type .ensures .adds) _ (c .before .before .q .given .1))
 

@@ -13,45 +13,35 @@ use Rattle.statements.proofs.jumps.place_label.Reads as place-label-rea
 use Rattle.types.proofs.form.is_short.Reads as is-short-reads
 use Rattle.types.proofs.form.is_unsigned.Reads as is-unsigned-reads
 
--- src/loops.rt:293:13
 cast-y : tie.Need-cast-y
 cast-y c = search needs
 
--- src/loops.rt:294:31
 is-short-requires : tie.Need-is-short-requires
 is-short-requires c κs = search needs
 
--- src/loops.rt:294:50
 is-unsigned-requires : tie.Need-is-unsigned-requires
 is-unsigned-requires c κs = search needs
 
--- src/loops.rt:295:5
 jump-requires : tie.Need-jump-requires
 jump-requires c κs = search needs
 
--- src/loops.rt:296:5
 place-label-requires : tie.Need-place-label-requires
 place-label-requires c κs =
     let p = c .before .before .before .before .before .before .jump .ensures in
     (record { room = p .next .room; affords = omega (arith, c .before .before .before .before .before .before .before .before .before .before .before .before .before .before .before .pre .0 .affords, p .spent) }, omega (arith, c .before .before .before .before .before .before .before .before .before .before .before .before .before .before .before .pre .1, p .spent))
 
--- src/loops.rt:297:5
 emit-binary-requires : tie.Need-emit-binary-requires
 emit-binary-requires c κs = (c .before .before .before .before .before .before .place-label .ensures .next .room, omega (arith, c .before .before .before .before .before .before .before .before .before .before .before .before .before .before .before .before .before .before .before .before .before .before .pre .0 .affords, c .before .before .before .before .before .before .before .before .before .before .before .before .before .jump .ensures .spent, c .before .before .before .before .before .before .place-label .ensures .spent))
 
--- src/loops.rt:298:5
 place-label-requires-2 : tie.Need-place-label-requires-2
 place-label-requires-2 c κs = (record { room = c .before .before .before .before .before .before .emit-binary .ensures .next .room; affords = omega (arith, c .before .before .before .before .before .before .before .before .before .before .before .before .before .before .before .before .before .before .before .before .before .before .before .before .before .before .before .before .before .pre .0 .affords, c .before .before .before .before .before .before .before .before .before .before .before .before .before .before .before .before .before .before .before .before .jump .ensures .spent, c .before .before .before .before .before .before .before .before .before .before .before .before .before .place-label .ensures .spent, c .before .before .before .before .before .before .emit-binary .ensures .spent) }, omega (arith, c .before .before .before .before .before .before .before .before .before .before .before .before .before .before .before .before .before .before .before .before .before .before .before .before .before .before .before .before .before .pre .1, c .before .before .before .before .before .before .before .before .before .before .before .before .before .before .before .before .before .before .before .before .jump .ensures .spent, c .before .before .before .before .before .before .before .before .before .before .before .before .before .place-label .ensures .spent, c .before .before .before .before .before .before .emit-binary .ensures .spent))
 
--- src/loops.rt:289:1
 same-length : tie.Need-same-length
 same-length c = omega (arith, c .before .before .before .arena4 .given, c .before .before .before .before .before .before .before .before .before .before .arena3 .given, c .before .before .before .before .before .before .before .before .before .before .before .before .before .before .before .before .before .arena2 .given, c .before .before .before .before .before .before .before .before .before .before .before .before .before .before .before .before .before .before .before .before .before .before .before .before .arena .given)
 
--- src/loops.rt:289:1
 same-length-2 : tie.Need-same-length-2
 same-length-2 c = omega (arith, c .before .k4 .given, c .before .before .before .before .before .before .before .before .k3 .given, c .before .before .before .before .before .before .before .before .before .before .before .before .before .before .before .k2 .given, c .before .before .before .before .before .before .before .before .before .before .before .before .before .before .before .before .before .before .before .before .before .before .k .given)
 
--- src/loops.rt:289:1
 returns : tie.Need-returns
 returns c = count-adds _ (c .before .before .before .before .before .before .before .before .before .before .before .before .before .before .before .before .before .before .before .before .before .before .before .before .before .before .before .before .before .is-short .ensures) (c .before .before .before .before .before .before .before .before .before .before .before .before .before .before .before .before .before .before .before .before .before .before .before .before .before .before .before .before .is-unsigned .ensures) (c .before .before .before .before .before .before .before .before .before .before .before .before .before .before .before .before .before .before .before .before .before .before .before .before .before .jump .ensures) (c .before .before .before .before .before .before .before .before .before .before .before .before .before .before .before .before .before .before .place-label .ensures) (omega (arith, c .before .before .before .before .before .before .before .before .before .before .arena3 .given)) (c .before .before .before .before .before .before .before .before .before .before .before .emit-binary .ensures) (c .before .before .before .before .place-label2 .ensures)
 

@@ -13,43 +13,33 @@ use Rattle.statements.proofs.loops.for_bounds.Lts as lts
 use Rattle.records.proofs.words.reference.Reads as reference-reads
 use Rattle.statements.proofs.loops.check_bound.Reads as check-bound-reads
 
--- src/loops.rt:280:9
 reference-requires : tie.Need-reference-requires
 reference-requires c κs = search needs
 
--- src/loops.rt:281:9
 reference-requires-2 : tie.Need-reference-requires-2
 reference-requires-2 c κs = search needs
 
--- src/loops.rt:282:11
 check-bound-requires : tie.Need-check-bound-requires
 check-bound-requires c κs = ((c .before .before .before .before .before .before .pre .0 .0, first-bound (c .before .before .before .before .before .before .pre .0 .0 .keyed .good) (c .before .before .before .before .before .before .pre .0 .1) (c .before .before .reference .ensures), c .before .before .before .before .before .before .pre .0 .2), (c .before .before .before .before .before .before .pre .1))
 
--- src/loops.rt:283:26
 enum-known-x : tie.Need-enum-known-x
 enum-known-x c = search needs
 
--- src/loops.rt:284:50
 enum-told : tie.Need-enum-told
 enum-told c = search needs
 
--- src/loops.rt:284:26
 check-bound-requires-2 : tie.Need-check-bound-requires-2
 check-bound-requires-2 c κs = ((ready-frame _ _ _ ((c .before .before .before .before .before .check-bound .ensures .0 []) .frame) _ _ (c .before .before .before .before .before .before .before .before .before .before .before .before .pre .0 .0), second-bound (c .before .before .before .before .before .before .before .before .before .before .before .before .pre .0 .0 .keyed .good) (c .before .before .before .before .before .before .before .before .before .before .before .before .pre .0 .1) (c .before .before .before .before .before .before .before .reference2 .ensures), c .before .before .before .before .before .before .before .before .before .before .before .before .pre .0 .2), λ k. checked-in-turn (at (c .before .before .before .before .before .before .before .before .before .before .before .before .args .c) k) (c .before .before .before .before .before .before .before .before .before .before .before .before .pre .0 .0 .scoped) (c .before .before .before .before .before .check-bound .ensures .0 k) (c .before .before .before .before .before .check-bound .ensures .1 k) (c .before .enum-told .given .1))
 
--- src/loops.rt:267:1
 same-length : tie.Need-same-length
 same-length c = search needs
 
--- src/loops.rt:267:1
 returns : tie.Need-returns
 returns c = (λ k. bounds-not _ _ _ _ _ _ (c .before .before .before .before .before .before .before .before .reference .ensures) (c .before .before .before .before .before .check-bound .ensures .0 k) (c .before .x .given .1), λ k. refused-outcome)
 
--- src/loops.rt:267:1
 same-length-2 : tie.Need-same-length-2
 same-length-2 c = search needs
 
--- src/loops.rt:267:1
 returns-2 : tie.Need-returns-2
 returns-2 c = (λ k. bounds-then _ _ _ _ _ _ (c .before .before .before .before .before .before .before .before .before .before .before .reference .ensures) (c .before .before .before .before .before .before .before .before .check-bound .ensures .0 k) (c .before .before .before .before .before .before .before .before .before .before .before .before .before .before .before .pre .0 .0 .scoped) (c .before .before .before .before .enum-told .given .1) (c .before .before .before .before .before .before .before .before .before .before .reference2 .ensures) (c .before .before .check-bound2 .ensures .0 k), λ k. bounds-typed (at (c .before .before .before .before .before .before .before .before .before .before .before .before .before .before .before .args .c) k) _ (c .before .before .before .before .before .before .before .before .before .before .before .before .before .before .before .pre .0 .0 .scoped) (c .before .before .before .before .before .before .before .before .check-bound .ensures .0 k) (c .before .before .before .before .before .before .before .before .check-bound .ensures .1 k) (c .before .before .before .before .enum-told .given .1) (c .before .before .before .before .before .before .before .before .before .before .before .reference .ensures) (c .before .before .before .before .before .before .before .before .before .before .reference2 .ensures) (c .before .before .check-bound2 .ensures .1 k))
 

@@ -12,59 +12,45 @@ use Rattle.ir.proofs.lent.new_var.Reads as new-var-reads
 use Rattle.records.proofs.words.word.Reads as word-reads
 use Rattle.statements.proofs.answers.error_at.Reads as error-at-reads
 
--- src/loops.rt:188:31
 word-requires : tie.Need-word-requires
 word-requires c κs = (variable-inside (c .before .before .before .before .before .before .before .before .pre .0 .0 .ready .keyed .good) (c .before .before .before .before .before .before .before .before .pre .1 .0 .0) (c .before .before .before .before .before .before .before .before .pre .1 .0 .1), omega arith)
 
--- src/loops.rt:188:9
 new-var-requires : tie.Need-new-var-requires
 new-var-requires c κs = search needs
 
--- src/loops.rt:189:11
 declare-name-requires : tie.Need-declare-name-requires
 declare-name-requires c κs = declare-asks (c .before .before .before .before .before .before .before .before .before .before .before .before .before .before .before .pre .0 .0) (c .before .before .before .before .before .before .before .before .before .before .before .before .before .before .before .pre .0 .1) (c .before .before .before .before .before .before .before .before .before .before .before .before .before .before .before .pre .1 .0 .0) (c .before .before .before .before .before .before .before .before .before .before .before .before .before .before .before .pre .1 .0 .1) (c .before .before .before .before .before .before .before .before .before .before .before .before .before .before .before .pre .1 .0 .2) (c .before .before .before .before .before .before .word .ensures) (omega arith) (c .before .before .before .before .before .new-var .ensures)
 
--- src/loops.rt:190:58
 enum-told : tie.Need-enum-told
 enum-told c = search needs
 
--- src/loops.rt:190:49
 error-at-requires : tie.Need-error-at-requires
 error-at-requires c κs = omega (arith, c .before .before .before .before .before .before .before .before .before .before .before .before .before .before .before .before .before .before .before .before .pre .1 .0 .0 .below, c .before .before .before .before .before .before .before .before .before .before .before .before .before .before .before .before .before .before .before .before .pre .0 .0 .ready .keyed .good .few)
 
--- src/loops.rt:191:24
 enum-known-next : tie.Need-enum-known-next
 enum-known-next c = search needs
 
--- src/loops.rt:171:1
 same-length : tie.Need-same-length
 same-length c = search needs
 
--- src/loops.rt:171:1
 same-length-2 : tie.Need-same-length-2
 same-length-2 c = search needs
 
--- src/loops.rt:171:1
 same-length-3 : tie.Need-same-length-3
 same-length-3 c = search needs
 
--- src/loops.rt:171:1
 returns : tie.Need-returns
 returns c = (for-taken (c .before .before .before .before .before .before .before .before .before .before .before .before .before .before .before .before .before .before .before .before .before .pre .0 .0) (c .before .before .before .before .before .before .before .before .before .before .before .before .before .before .before .before .before .before .before .before .before .pre .0 .1) (c .before .before .before .before .before .before .before .before .before .before .before .before .before .before .before .before .before .before .before .before .before .pre .1 .0 .0) (c .before .before .before .before .before .before .before .before .before .before .before .before .before .before .before .before .before .before .before .before .before .pre .1 .0 .1) (c .before .before .before .before .before .before .before .before .before .before .before .before .before .before .before .before .before .before .before .before .before .pre .1 .0 .2) (c .before .before .before .before .before .before .before .before .before .before .before .before .word .ensures) (omega arith) (c .before .before .before .before .before .before .before .before .before .before .before .new-var .ensures) _ (c .before .before .before .before .before .declare-name .ensures) (c .before .enum-told .given .1) (c .error-at .ensures), refused-variable)
 
--- src/loops.rt:171:1
 same-length-4 : tie.Need-same-length-4
 same-length-4 c = search needs
 
--- src/loops.rt:171:1
 same-length-5 : tie.Need-same-length-5
 same-length-5 c = search needs
 
--- src/loops.rt:171:1
 same-length-6 : tie.Need-same-length-6
 same-length-6 c = search needs
 
--- src/loops.rt:171:1
 returns-2 : tie.Need-returns-2
 returns-2 c = (for-done (c .before .before .before .before .before .before .before .before .before .before .before .before .before .before .before .before .before .before .before .before .before .pre .0 .0) (c .before .before .before .before .before .before .before .before .before .before .before .before .before .before .before .before .before .before .before .before .before .pre .0 .1) (c .before .before .before .before .before .before .before .before .before .before .before .before .before .before .before .before .before .before .before .before .before .pre .1 .0 .0) (c .before .before .before .before .before .before .before .before .before .before .before .before .before .before .before .before .before .before .before .before .before .pre .1 .0 .1) (c .before .before .before .before .before .before .before .before .before .before .before .before .before .before .before .before .before .before .before .before .before .pre .1 .0 .2) (c .before .before .before .before .before .before .before .before .before .before .before .before .word .ensures) (omega arith) (c .before .before .before .before .before .before .before .before .before .before .before .new-var .ensures) _ (c .before .before .before .before .before .declare-name .ensures) (c .before .next .given .1), declared-none (c .before .before .before .before .before .before .before .before .before .before .before .before .before .before .before .before .before .before .before .before .before .pre .0 .0) (c .before .before .before .before .before .before .before .before .before .before .before .before .before .before .before .before .before .before .before .before .before .pre .0 .1) (c .before .before .before .before .before .before .before .before .before .before .before .before .before .before .before .before .before .before .before .before .before .pre .1 .0 .0) (c .before .before .before .before .before .before .before .before .before .before .before .before .before .before .before .before .before .before .before .before .before .pre .1 .0 .1) (c .before .before .before .before .before .before .before .before .before .before .before .before .before .before .before .before .before .before .before .before .before .pre .1 .0 .2) (c .before .before .before .before .before .before .before .before .before .before .before .before .word .ensures) (omega arith) (c .before .before .before .before .before .before .before .before .before .before .before .new-var .ensures) _ (c .before .before .before .before .before .declare-name .ensures) (c .before .next .given .1) (c .before .before .before .before .before .before .before .before .before .before .before .before .before .before .before .before .before .before .before .before .before .pre .1 .1))
 

@@ -9,35 +9,27 @@ use Rattle.statements.proofs.loops.for_known.Lts as lts
 use Rattle.expressions.proofs.names.find_name.Reads as find-name-reads
 use Rattle.statements.proofs.answers.error_at.Reads as error-at-reads
 
--- src/loops.rt:211:11
 find-name-requires : tie.Need-find-name-requires
 find-name-requires c κs = variable-asked (c .before .before .before .before .pre .0) (c .before .before .before .before .pre .1 .0) (c .before .before .before .before .pre .1 .1)
 
--- src/loops.rt:212:57
 enum-told : tie.Need-enum-told
 enum-told c = search needs
 
--- src/loops.rt:212:48
 error-at-requires : tie.Need-error-at-requires
 error-at-requires c κs = search needs
 
--- src/loops.rt:213:19
 enum-known-x : tie.Need-enum-known-x
 enum-known-x c = search needs
 
--- src/loops.rt:215:45
 error-at-requires-2 : tie.Need-error-at-requires-2
 error-at-requires-2 c κs = search needs
 
--- src/loops.rt:215:17
 returns : tie.Need-returns
 returns c = λ k l x. known-fixed _ x (c .before .before .before .before .before .before .before .before .before .before .pre .1 .1) (c .before .before .before .before .before .before .before .before .before .before .pre .1 .2) _ (c .before .before .before .before .before .find-name .ensures) (c .before .before .before .x .given .1) (c .before .if1 .taken) (c .error-at2 .ensures)
 
--- src/loops.rt:196:1
 returns-2 : tie.Need-returns-2
 returns-2 c = λ k l x. known-not _ x (c .before .before .before .before .before .before .before .before .pre .1 .1) (c .before .before .before .before .before .before .before .before .pre .1 .2) _ (c .before .before .before .find-name .ensures) (c .before .enum-told .given .1) (c .error-at .ensures)
 
--- src/loops.rt:196:1
 returns-3 : tie.Need-returns-3
 returns-3 c = λ k l x. known-is _ x (c .before .before .before .before .before .before .before .before .before .pre .1 .1) (c .before .before .before .before .before .before .before .before .before .pre .1 .2) _ (c .before .before .before .before .find-name .ensures) (c .before .before .x .given .1) (c .if1 .left)
 

@@ -14,43 +14,33 @@ use Rattle.records.proofs.words.word.Reads as word-reads
 use Rattle.statements.proofs.loops.for_declared.Reads as for-declared-reads
 use Rattle.statements.proofs.loops.for_known.Reads as for-known-reads
 
--- src/loops.rt:238:9
 reference-requires : tie.Need-reference-requires
 reference-requires c κs = search needs
 
--- src/loops.rt:239:8
 word-requires : tie.Need-word-requires
 word-requires c κs = (variable-inside (c .before .before .before .before .before .before .pre .0 .0 .ready .keyed .good) (c .before .before .before .before .before .before .pre .1 .0) (c .reference .ensures), omega arith)
 
--- src/loops.rt:240:9
 for-known-requires : tie.Need-for-known-requires
 for-known-requires c κs = search needs
 
--- src/loops.rt:240:9
 same-length : tie.Need-same-length
 same-length c = search needs
 
--- src/loops.rt:240:9
 returns : tie.Need-returns
 returns c = (c .for-known .ensures _ _ (c .before .before .before .before .before .before .before .before .before .before .pre .0 .0), variable-typed-none (at (c .before .before .before .before .before .before .before .before .before .before .args .c) (c .before .before .before .before .before .before .before .before .before .before .args .k .now)) (turns-refl _ _) (c .before .before .before .before .before .before .before .before .before .before .pre .1 .1))
 
--- src/loops.rt:242:5
 for-declared-requires : tie.Need-for-declared-requires
 for-declared-requires c κs = ((c .before .before .before .before .before .before .before .before .before .before .before .pre .0), ((c .before .before .before .before .before .before .before .before .before .before .before .pre .1 .0, c .before .before .before .before .before .reference .ensures, variable-typed (c .before .before .before .before .before .before .before .before .before .before .before .pre .0 .0 .ready .keyed .good) (c .before .before .before .before .before .before .before .before .before .before .before .pre .1 .0) (c .before .before .before .before .before .reference .ensures) (c .before .before .before .before .word .ensures) (c .before .before .before .if1 .left)), (c .before .before .before .before .before .before .before .before .before .before .before .pre .1 .1)))
 
--- src/loops.rt:223:1
 same-length-2 : tie.Need-same-length-2
 same-length-2 c = search needs
 
--- src/loops.rt:223:1
 same-length-3 : tie.Need-same-length-3
 same-length-3 c = search needs
 
--- src/loops.rt:223:1
 same-length-4 : tie.Need-same-length-4
 same-length-4 c = search needs
 
--- src/loops.rt:223:1
 returns-2 : tie.Need-returns-2
 returns-2 c = search needs
 

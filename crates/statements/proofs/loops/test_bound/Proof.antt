@@ -14,39 +14,30 @@ use Rattle.ir.proofs.structs.emit_binary.Reads as emit-binary-reads
 use Rattle.statements.proofs.fits.fit_operand.Reads as fit-operand-reads
 use Rattle.statements.proofs.jumps.jump_if_not.Reads as jump-if-not-reads
 
--- src/loops.rt:334:52
 cast-fit-operand : tie.Need-cast-fit-operand
 cast-fit-operand c = search needs
 
--- src/loops.rt:334:9
 fit-operand-requires : tie.Need-fit-operand-requires
 fit-operand-requires c κs = search needs
 
--- src/loops.rt:335:34
 cast-new-var : tie.Need-cast-new-var
 cast-new-var c = search needs
 
--- src/loops.rt:335:9
 new-var-requires : tie.Need-new-var-requires
 new-var-requires c κs = (c .before .before .before .before .before .before .fit-operand .ensures [] .adds .next .room, omega (arith, c .before .before .before .before .before .before .before .before .before .before .before .before .before .pre .0 .affords, c .before .before .before .before .before .before .fit-operand .ensures [] .adds .spent))
 
--- src/loops.rt:336:5
 emit-binary-requires : tie.Need-emit-binary-requires
 emit-binary-requires c κs = (c .before .before .before .before .before .before .new-var .ensures .next .room, omega (arith, c .before .before .before .before .before .before .before .before .before .before .before .before .before .before .before .before .before .before .before .before .pre .0 .affords, c .before .before .before .before .before .before .before .before .before .before .before .before .before .fit-operand .ensures [] .adds .spent, c .before .before .before .before .before .before .new-var .ensures .spent))
 
--- src/loops.rt:337:5
 jump-if-not-requires : tie.Need-jump-if-not-requires
 jump-if-not-requires c κs = (record { room = c .before .before .before .before .before .before .emit-binary .ensures .next .room; affords = omega (arith, c .before .before .before .before .before .before .before .before .before .before .before .before .before .before .before .before .before .before .before .before .before .before .before .before .before .before .before .pre .0 .affords, c .before .before .before .before .before .before .before .before .before .before .before .before .before .before .before .before .before .before .before .before .fit-operand .ensures [] .adds .spent, c .before .before .before .before .before .before .before .before .before .before .before .before .before .new-var .ensures .spent, c .before .before .before .before .before .before .emit-binary .ensures .spent) }, omega (arith, c .before .before .before .before .before .before .before .before .before .before .before .before .before .before .before .before .before .before .before .before .before .before .before .before .before .before .before .pre .1, c .before .before .before .before .before .before .before .before .before .before .before .before .before .before .before .before .before .before .before .before .fit-operand .ensures [] .adds .spent, c .before .before .before .before .before .before .before .before .before .before .before .before .before .new-var .ensures .spent, c .before .before .before .before .before .before .emit-binary .ensures .spent))
 
--- src/loops.rt:330:1
 same-length : tie.Need-same-length
 same-length c = omega (arith, c .before .before .before .before .before .before .before .before .before .before .before .before .before .before .before .before .before .before .before .before .before .before .before .before .before .fit-operand .ensures [] .adds .long, c .before .before .before .before .before .before .before .before .before .before .before .before .before .before .before .before .before .arena2 .given, c .before .before .before .before .before .before .before .before .before .before .arena3 .given, c .before .before .before .before .jump-if-not .ensures .long)
 
--- src/loops.rt:330:1
 same-length-2 : tie.Need-same-length-2
 same-length-2 c = omega (arith, c .before .k4 .given, c .before .before .before .before .before .before .before .before .k3 .given, c .before .before .before .before .before .before .before .before .before .before .before .before .before .before .before .k2 .given, c .before .before .before .before .before .before .before .before .before .before .before .before .before .before .before .before .before .before .before .before .before .before .k .given)
 
--- src/loops.rt:330:1
 returns : tie.Need-returns
 returns c = λ text. test-adds (program _ text) _ (c .before .before .before .before .before .before .before .before .before .before .before .before .before .before .before .before .before .before .before .before .before .before .before .before .before .before .before .before .before .before .before .before .args .until) (c .before .before .before .before .before .before .before .before .before .before .before .before .before .before .before .before .before .before .before .before .before .before .before .before .before .fit-operand .ensures text) (omega (arith, c .before .before .before .before .before .before .before .before .before .before .before .before .before .before .before .before .before .arena2 .given)) (c .before .before .before .before .before .before .before .before .before .before .before .before .before .before .before .before .before .before .new-var .ensures) (omega (arith, c .before .before .before .before .before .before .before .before .before .before .arena3 .given)) (c .before .before .before .before .before .before .before .before .before .before .before .emit-binary .ensures) (c .before .before .before .before .jump-if-not .ensures)
 

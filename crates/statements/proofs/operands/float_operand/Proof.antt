@@ -11,31 +11,24 @@ use Rattle.ir.proofs.lent.float_id.Reads as float-id-reads
 use Rattle.records.proofs.words.detail.Reads as detail-reads
 use Rattle.types.proofs.form.two_words.Reads as two-words-reads
 
--- src/operands.rt:149:25
 two-words-requires : tie.Need-two-words-requires
 two-words-requires c κs = search needs
 
--- src/operands.rt:149:53
 detail-requires : tie.Need-detail-requires
 detail-requires c κs = search needs
 
--- src/operands.rt:149:9
 float-entry-requires : tie.Need-float-entry-requires
 float-entry-requires c κs = search needs
 
--- src/operands.rt:150:20
 float-id-requires : tie.Need-float-id-requires
 float-id-requires c κs = search needs
 
--- src/operands.rt:145:1
 same-length : tie.Need-same-length
 same-length c = search needs
 
--- src/operands.rt:145:1
 same-length-2 : tie.Need-same-length-2
 same-length-2 c = search needs
 
--- src/operands.rt:145:1
 returns : tie.Need-returns
 returns c = float-leaf _ _ _ _ _ _ _ (search needs) (c .before .before .before .before .before .before .before .before .before .before .before .before .before .before .pre .1) (c .before .before .before .before .before .before .before .before .before .before .before .before .before .before .pre .2) _ _ _ (c .before .before .before .before .before .before .before .before .before .two-words .ensures) (c .before .before .before .before .before .before .before .before .detail .ensures) (c .before .before .before .before .before .before .before .float-entry .ensures) (c .before .before .before .before .float-id .ensures)
 

@@ -9,15 +9,12 @@ use Rattle.statements.proofs.operands.int_operand.Lts as lts
 use Rattle.records.proofs.words.detail.Reads as detail-reads
 use Rattle.types.proofs.form.two_words.Reads as two-words-reads
 
--- src/operands.rt:134:9
 detail-requires : tie.Need-detail-requires
 detail-requires c κs = search needs
 
--- src/operands.rt:135:9
 two-words-requires : tie.Need-two-words-requires
 two-words-requires c κs = search needs
 
--- src/operands.rt:130:1
 returns : tie.Need-returns
 returns c = int-is _ _ _ _ (c .before .detail .ensures) (c .two-words .ensures)
 

@@ -9,27 +9,21 @@ use Rattle.statements.proofs.operands.name_operand.Lts as lts
 use Rattle.expressions.proofs.names.find_name.Reads as find-name-reads
 use Rattle.statements.proofs.answers.error_at.Reads as error-at-reads
 
--- src/operands.rt:177:11
 find-name-requires : tie.Need-find-name-requires
 find-name-requires c κs = name-ready (c .before .before .before .before .pre .0) (c .before .before .before .before .pre .1)
 
--- src/operands.rt:178:19
 enum-known-v : tie.Need-enum-known-v
 enum-known-v c = search needs
 
--- src/operands.rt:179:55
 enum-told : tie.Need-enum-told
 enum-told c = search needs
 
--- src/operands.rt:179:46
 error-at-requires : tie.Need-error-at-requires
 error-at-requires c κs = search needs
 
--- src/operands.rt:163:1
 returns : tie.Need-returns
 returns c = λ k l x. name-gives _ _ _ _ _ _ x (c .before .before .before .before .before .before .before .before .pre .1) _ (c .before .before .before .find-name .ensures) _ _ (c .before .v .given .1)
 
--- src/operands.rt:163:1
 returns-2 : tie.Need-returns-2
 returns-2 c = λ k l x. name-refuses _ _ _ _ _ _ x (c .before .before .before .before .before .before .before .before .pre .1) _ (c .before .before .before .find-name .ensures) (c .before .enum-told .given .1) _ (c .error-at .ensures)
 

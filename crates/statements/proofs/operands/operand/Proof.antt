@@ -17,75 +17,57 @@ use Rattle.statements.proofs.operands.name_operand.Reads as name-operan
 use Rattle.statements.proofs.operands.size_operand.Reads as size-operand-reads
 use Rattle.statements.proofs.operands.string_operand.Reads as string-operand-reads
 
--- src/operands.rt:219:9
 kind-requires : tie.Need-kind-requires
 kind-requires c κs = search needs
 
--- src/operands.rt:221:30
 int-operand-requires : tie.Need-int-operand-requires
 int-operand-requires c κs = search needs
 
--- src/operands.rt:221:9
 returns : tie.Need-returns
 returns c = leaf-int _ _ _ _ _ _ (c .before .before .before .before .before .before .before .before .pre .0) (c .before .before .before .before .before .before .before .before .pre .1 .1 .0) _ (c .before .before .kind .ensures) (c .before .if1 .taken) _ (c .int-operand .ensures)
 
--- src/operands.rt:224:30
 float-operand-requires : tie.Need-float-operand-requires
 float-operand-requires c κs = search needs
 
--- src/operands.rt:224:9
 same-length : tie.Need-same-length
 same-length c = search needs
 
--- src/operands.rt:224:9
 same-length-2 : tie.Need-same-length-2
 same-length-2 c = search needs
 
--- src/operands.rt:224:9
 returns-2 : tie.Need-returns-2
 returns-2 c = leaf-answers _ _ _ _ _ _ _ _ _ _ _ (c .before .before .before .before .float-operand .ensures) refl (omega arith)
 
--- src/operands.rt:227:30
 string-operand-requires : tie.Need-string-operand-requires
 string-operand-requires c κs = (c .before .before .before .before .before .before .before .before .before .before .before .pre .0, (omega (arith, c .before .before .before .before .before .before .before .before .before .before .before .pre .1 .0), search needs))
 
--- src/operands.rt:227:9
 same-length-3 : tie.Need-same-length-3
 same-length-3 c = search needs
 
--- src/operands.rt:227:9
 same-length-4 : tie.Need-same-length-4
 same-length-4 c = search needs
 
--- src/operands.rt:227:9
 returns-3 : tie.Need-returns-3
 returns-3 c = leaf-answers _ _ _ _ _ _ _ _ _ _ _ (c .before .before .before .before .string-operand .ensures) refl (omega arith)
 
--- src/operands.rt:230:44
 detail-requires : tie.Need-detail-requires
 detail-requires c κs = search needs
 
--- src/operands.rt:230:9
 returns-4 : tie.Need-returns-4
 returns-4 c = leaf-bool _ _ _ _ _ _ (c .before .before .before .before .before .before .before .before .before .before .before .pre .0) (c .before .before .before .before .before .before .before .before .before .before .before .pre .1 .1 .0) _ (c .before .before .before .before .before .kind .ensures) (c .before .if4 .taken) _ (c .detail .ensures)
 
--- src/operands.rt:233:9
 name-operand-requires : tie.Need-name-operand-requires
 name-operand-requires c κs = search needs
 
--- src/operands.rt:233:9
 returns-5 : tie.Need-returns-5
 returns-5 c = converts-most (omega arith) (c .name-operand .ensures _ _ (c .before .before .before .before .before .before .before .before .before .before .before .before .pre .0))
 
--- src/operands.rt:236:9
 returns-6 : tie.Need-returns-6
 returns-6 c = leaf-null _ _ _ _ _ _ (c .before .before .before .before .before .before .before .before .before .before .before .before .pre .0) (c .before .before .before .before .before .before .before .before .before .before .before .before .pre .1 .1 .0) _ (c .before .before .before .before .before .before .kind .ensures) (c .if6 .taken)
 
--- src/operands.rt:238:5
 size-operand-requires : tie.Need-size-operand-requires
 size-operand-requires c κs = (c .before .before .before .before .before .before .before .before .before .before .before .before .pre .0 .ready .keyed .good, leaf-size _ _ _ _ _ _ (c .before .before .before .before .before .before .before .before .before .before .before .before .pre .0) (c .before .before .before .before .before .before .before .before .before .before .before .before .pre .1 .1 .0) _ (c .before .before .before .before .before .before .kind .ensures) (c .before .before .before .before .before .before .before .before .before .before .before .before .pre .1 .1 .1) (c .before .before .before .before .before .if1 .left) (c .before .before .before .before .if2 .left) (c .before .before .before .if3 .left) (c .before .before .if4 .left) (c .before .if5 .left) (c .if6 .left))
 
--- src/operands.rt:205:1
 returns-7 : tie.Need-returns-7
 returns-7 c = converts-most (omega arith) (c .size-operand .ensures _ _ _ _ (c .before .before .before .before .before .before .before .before .before .before .before .before .before .pre .0))
 

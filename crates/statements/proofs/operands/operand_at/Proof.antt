@@ -9,51 +9,39 @@ use Rattle.statements.proofs.operands.operand_at.Lts as lts
 use Rattle.records.proofs.words.load.Reads as load-reads
 use Rattle.statements.proofs.operands.operand_of.Reads as operand-of-reads
 
--- src/operands.rt:121:14
 mul-at : tie.Need-mul-at
 mul-at c = search needs
 
--- src/operands.rt:121:29
 mul-at-2 : tie.Need-mul-at-2
 mul-at-2 c = search needs
 
--- src/operands.rt:121:14
 add-at : tie.Need-add-at
 add-at c = search needs
 
--- src/operands.rt:122:9
 load-requires : tie.Need-load-requires
 load-requires c κs = search needs
 
--- src/operands.rt:123:27
 add-load : tie.Need-add-load
 add-load c = search needs
 
--- src/operands.rt:123:9
 load-requires-2 : tie.Need-load-requires-2
 load-requires-2 c κs = search needs
 
--- src/operands.rt:124:27
 add-load-2 : tie.Need-add-load-2
 add-load-2 c = search needs
 
--- src/operands.rt:124:9
 load-requires-3 : tie.Need-load-requires-3
 load-requires-3 c κs = search needs
 
--- src/operands.rt:125:27
 add-load-3 : tie.Need-add-load-3
 add-load-3 c = search needs
 
--- src/operands.rt:125:9
 load-requires-4 : tie.Need-load-requires-4
 load-requires-4 c κs = search needs
 
--- src/operands.rt:126:5
 operand-of-requires : tie.Need-operand-of-requires
 operand-of-requires c κs = search needs
 
--- src/operands.rt:117:1
 returns : tie.Need-returns
 returns c = entry-read _ _ _ _ _ _ _ _ (c .before .before .before .before .load .ensures) (c .before .before .before .load2 .ensures) (c .before .before .load3 .ensures) (c .before .load4 .ensures) (c .operand-of .ensures)
 

@@ -8,47 +8,36 @@ use Rattle.statements.proofs.operands.operand_of.Tie as tie
 use Rattle.statements.proofs.operands.operand_of.Reads as reads
 use Rattle.statements.proofs.operands.operand_of.Lts as lts
 
--- src/operands.rt:85:9
 returns : tie.Need-returns
 returns c = from-var _ _ _ _ (c .if1 .taken)
 
--- src/operands.rt:88:9
 returns-2 : tie.Need-returns-2
 returns-2 c = from-none _ _ _ _ (c .before .if1 .left) (c .if2 .taken)
 
--- src/operands.rt:91:20
 cast-bits : tie.Need-cast-bits
 cast-bits c = search needs
 
--- src/operands.rt:91:33
 cast-bits-2 : tie.Need-cast-bits-2
 cast-bits-2 c = search needs
 
--- src/operands.rt:91:33
 mul-bits : tie.Need-mul-bits
 mul-bits c = search needs
 
--- src/operands.rt:91:20
 add-bits : tie.Need-add-bits
 add-bits c = search needs
 
--- src/operands.rt:92:9
 returns-3 : tie.Need-returns-3
 returns-3 c = from-int _ _ _ _ (c .before .before .before .if2 .left) (c .before .before .if3 .taken)
 
--- src/operands.rt:95:9
 returns-4 : tie.Need-returns-4
 returns-4 c = from-float _ _ _ _ (c .if4 .taken)
 
--- src/operands.rt:98:9
 returns-5 : tie.Need-returns-5
 returns-5 c = from-bool _ _ _ _ (c .before .if5 .taken)
 
--- src/operands.rt:101:9
 returns-6 : tie.Need-returns-6
 returns-6 c = from-string _ _ _ _ (c .if6 .taken)
 
--- src/operands.rt:80:1
 returns-7 : tie.Need-returns-7
 returns-7 c = from-null _ _ _ _ (omega arith)
 

@@ -11,83 +11,63 @@ use Rattle.records.proofs.words.high.Reads as high-reads
 use Rattle.records.proofs.words.low.Reads as low-reads
 use Rattle.records.proofs.words.mark.Reads as mark-reads
 
--- src/operands.rt:67:22
 enum-known-o : tie.Need-enum-known-o
 enum-known-o c = search needs
 
--- src/operands.rt:68:22
 enum-known-o-2 : tie.Need-enum-known-o-2
 enum-known-o-2 c = search needs
 
--- src/operands.rt:69:33
 mark-requires : tie.Need-mark-requires
 mark-requires c κs = search needs
 
--- src/operands.rt:69:23
 add-tag : tie.Need-add-tag
 add-tag c = omega (arith, mark-most _ _ (c .mark .ensures))
 
--- src/operands.rt:69:51
 mark-requires-2 : tie.Need-mark-requires-2
 mark-requires-2 c κs = search needs
 
--- src/operands.rt:69:47
 mul-tag : tie.Need-mul-tag
 mul-tag c = omega (arith, mark-most _ _ (c .mark2 .ensures))
 
--- src/operands.rt:69:23
 add-tag-2 : tie.Need-add-tag-2
 add-tag-2 c = omega (arith, mark-most _ _ (c .before .mark .ensures), mark-most _ _ (c .mark2 .ensures))
 
--- src/operands.rt:70:26
 low-requires : tie.Need-low-requires
 low-requires c κs = search needs
 
--- src/operands.rt:70:37
 high-requires : tie.Need-high-requires
 high-requires c κs = search needs
 
--- src/operands.rt:72:24
 enum-known-o-3 : tie.Need-enum-known-o-3
 enum-known-o-3 c = search needs
 
--- src/operands.rt:73:23
 enum-known-o-4 : tie.Need-enum-known-o-4
 enum-known-o-4 c = search needs
 
--- src/operands.rt:73:47
 mark-requires-3 : tie.Need-mark-requires-3
 mark-requires-3 c κs = search needs
 
--- src/operands.rt:74:30
 enum-known-o-5 : tie.Need-enum-known-o-5
 enum-known-o-5 c = search needs
 
--- src/operands.rt:75:26
 enum-told : tie.Need-enum-told
 enum-told c = search needs
 
--- src/operands.rt:62:1
 returns : tie.Need-returns
 returns c = var-words _ _ (c .before .o .given .1) (search needs)
 
--- src/operands.rt:62:1
 returns-2 : tie.Need-returns-2
 returns-2 c = int-words _ _ _ _ _ _ _ _ (c .before .before .before .before .before .o2 .given .1) (c .before .before .before .mark .ensures) (c .before .before .mark2 .ensures) (c .before .low .ensures) (c .high .ensures .0) (search needs)
 
--- src/operands.rt:62:1
 returns-3 : tie.Need-returns-3
 returns-3 c = float-words _ _ (c .before .o3 .given .1) (search needs)
 
--- src/operands.rt:62:1
 returns-4 : tie.Need-returns-4
 returns-4 c = bool-words _ _ _ (c .before .before .o4 .given .1) (c .mark3 .ensures)
 
--- src/operands.rt:62:1
 returns-5 : tie.Need-returns-5
 returns-5 c = string-words _ _ (c .before .o5 .given .1) (search needs)
 
--- src/operands.rt:62:1
 returns-6 : tie.Need-returns-6
 returns-6 c = null-words _ (c .enum-told .given .1)
 

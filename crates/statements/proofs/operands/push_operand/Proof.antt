@@ -9,31 +9,24 @@ use Rattle.statements.proofs.operands.push_operand.Lts as lts
 use Rattle.records.proofs.words.put_four.Reads as put-four-reads
 use Rattle.statements.proofs.operands.operand_words.Reads as operand-words-reads
 
--- src/operands.rt:112:9
 operand-words-requires : tie.Need-operand-words-requires
 operand-words-requires c κs = search needs
 
--- src/operands.rt:113:23
 mul-put-four : tie.Need-mul-put-four
 mul-put-four c = search needs
 
--- src/operands.rt:113:38
 mul-put-four-2 : tie.Need-mul-put-four-2
 mul-put-four-2 c = search needs
 
--- src/operands.rt:113:23
 add-put-four : tie.Need-add-put-four
 add-put-four c = search needs
 
--- src/operands.rt:113:5
 put-four-requires : tie.Need-put-four-requires
 put-four-requires c κs = search needs
 
--- src/operands.rt:107:1
 same-length : tie.Need-same-length
 same-length c = search needs
 
--- src/operands.rt:107:1
 returns : tie.Need-returns
 returns c = push-done _ _ _ _ _ _ _ _ _ (c .before .before .before .before .before .before .pre) (search needs) (search needs) (search needs) (search needs) (c .before .before .before .before .operand-words .ensures) (c .before .before .put-four .ensures)
 

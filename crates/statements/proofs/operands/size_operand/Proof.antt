@@ -10,43 +10,33 @@ use Rattle.records.proofs.words.reference.Reads as reference-reads
 use Rattle.statements.proofs.answers.error_at.Reads as error-at-reads
 use Rattle.types.proofs.size.size.Reads as size-reads
 
--- src/operands.rt:197:22
 reference-requires : tie.Need-reference-requires
 reference-requires c κs = search needs
 
--- src/operands.rt:197:11
 size-requires : tie.Need-size-requires
 size-requires c κs = size-inside (c .before .before .before .pre .0) (c .before .before .before .pre .1) (c .reference .ensures)
 
--- src/operands.rt:198:24
 enum-known-n : tie.Need-enum-known-n
 enum-known-n c = search needs
 
--- src/operands.rt:199:52
 enum-told : tie.Need-enum-told
 enum-told c = search needs
 
--- src/operands.rt:199:43
 error-at-requires : tie.Need-error-at-requires
 error-at-requires c κs = search needs
 
--- src/operands.rt:200:55
 enum-told-2 : tie.Need-enum-told-2
 enum-told-2 c = search needs
 
--- src/operands.rt:200:46
 error-at-requires-2 : tie.Need-error-at-requires-2
 error-at-requires-2 c κs = search needs
 
--- src/operands.rt:184:1
 returns : tie.Need-returns
 returns c = λ w s k l x. size-gives _ _ _ _ _ _ x (c .before .before .before .before .before .before .before .pre .1) _ (c .before .before .before .before .reference .ensures) _ (c .before .before .before .size .ensures .0) (c .before .before .before .size .ensures .1) _ (c .before .n .given .1)
 
--- src/operands.rt:184:1
 returns-2 : tie.Need-returns-2
 returns-2 c = λ w s k l x. size-refuses _ _ _ _ _ _ x (c .before .before .before .before .before .before .before .pre .1) _ (c .before .before .before .before .reference .ensures) _ (c .before .before .before .size .ensures .0) (c .before .before .before .size .ensures .1) (over-none _ (c .before .enum-told .given .1)) _ (c .error-at .ensures)
 
--- src/operands.rt:184:1
 returns-3 : tie.Need-returns-3
 returns-3 c = λ w s k l x. size-refuses _ _ _ _ _ _ x (c .before .before .before .before .before .before .before .pre .1) _ (c .before .before .before .before .reference .ensures) _ (c .before .before .before .size .ensures .0) (c .before .before .before .size .ensures .1) (nothing-none _ (c .before .enum-told2 .given .1)) _ (c .error-at2 .ensures)
 

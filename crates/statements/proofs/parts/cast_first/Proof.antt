@@ -11,31 +11,24 @@ use Rattle.ir.proofs.structs.emit_cast.Reads as emit-cast-reads
 use Rattle.statements.proofs.answers.error_at.Reads as error-at-reads
 use Rattle.statements.proofs.operands.operand_at.Reads as operand-at-reads
 
--- src/parts.rt:198:35
 error-at-requires : tie.Need-error-at-requires
 error-at-requires c κs = search needs
 
--- src/parts.rt:198:9
 returns : tie.Need-returns
 returns c = cast-none _ _ (c .before .if1 .taken) (c .error-at .ensures)
 
--- src/parts.rt:201:9
 operand-at-requires : tie.Need-operand-at-requires
 operand-at-requires c κs = search needs
 
--- src/parts.rt:202:5
 emit-cast-requires : tie.Need-emit-cast-requires
 emit-cast-requires c κs = search needs
 
--- src/parts.rt:182:1
 same-length : tie.Need-same-length
 same-length c = search needs
 
--- src/parts.rt:182:1
 same-length-2 : tie.Need-same-length-2
 same-length-2 c = search needs
 
--- src/parts.rt:182:1
 returns-2 : tie.Need-returns-2
 returns-2 c = cast-some _ _ _ (c .before .before .before .before .before .before .before .before .if1 .left) (c .before .before .before .before .before .before .before .operand-at .ensures) (omega arith) (c .before .before .before .before .emit-cast .ensures) (c .before .before .before .before .before .before .before .before .before .before .before .before .before .before .pre .1 .1)
 

@@ -10,39 +10,30 @@ use Rattle.records.proofs.words.detail.Reads as detail-reads
 use Rattle.statements.proofs.parts.join_and.Reads as join-and-reads
 use Rattle.statements.proofs.parts.join_or.Reads as join-or-reads
 
--- src/parts.rt:112:8
 detail-requires : tie.Need-detail-requires
 detail-requires c κs = search needs
 
--- src/parts.rt:113:9
 join-and-requires : tie.Need-join-and-requires
 join-and-requires c κs = search needs
 
--- src/parts.rt:113:9
 same-length : tie.Need-same-length
 same-length c = search needs
 
--- src/parts.rt:113:9
 same-length-2 : tie.Need-same-length-2
 same-length-2 c = search needs
 
--- src/parts.rt:113:9
 returns : tie.Need-returns
 returns c = join-and-adds _ _ _ (c .before .before .before .before .before .before .before .before .before .before .before .before .args .left) (c .before .before .before .before .before .before .before .before .detail .ensures) (c .before .before .before .before .before .before .before .if1 .taken) (c .before .before .before .before .join-and .ensures)
 
--- src/parts.rt:115:5
 join-or-requires : tie.Need-join-or-requires
 join-or-requires c κs = search needs
 
--- src/parts.rt:101:1
 same-length-3 : tie.Need-same-length-3
 same-length-3 c = search needs
 
--- src/parts.rt:101:1
 same-length-4 : tie.Need-same-length-4
 same-length-4 c = search needs
 
--- src/parts.rt:101:1
 returns-2 : tie.Need-returns-2
 returns-2 c = join-or-adds _ _ _ (c .before .before .before .before .before .before .before .before .before .before .before .before .args .left) (c .before .before .before .before .before .before .before .before .detail .ensures) (c .before .before .before .before .before .before .before .if1 .left) (c .before .before .before .before .join-or .ensures)
 

@@ -11,43 +11,33 @@ use Rattle.scope.proofs.Scope.in_loop.Reads as in-loop-reads
 use Rattle.statements.proofs.answers.error_at.Reads as error-at-reads
 use Rattle.statements.proofs.jumps.jump.Reads as jump-reads
 
--- src/statements.rt:502:11
 in-loop-requires : tie.Need-in-loop-requires
 in-loop-requires c κs = search needs
 
--- src/statements.rt:503:53
 enum-told : tie.Need-enum-told
 enum-told c = search needs
 
--- src/statements.rt:503:44
 error-at-requires : tie.Need-error-at-requires
 error-at-requires c κs = search needs
 
--- src/statements.rt:504:20
 enum-known-l : tie.Need-enum-known-l
 enum-known-l c = search needs
 
--- src/statements.rt:505:38
 cast-jump : tie.Need-cast-jump
 cast-jump c = search needs
 
--- src/statements.rt:505:13
 jump-requires : tie.Need-jump-requires
 jump-requires c κs = jump-asks (c .before .before .before .before .before .before .before .before .before .before .before .before .pre .0 .0) _ _ (c .before .before .before .before .before .in-loop .ensures) 2 (omega arith) (omega arith) (c .before .before .before .before .before .before .before .before .before .before .before .before .pre .0 .1) (c .before .before .before .l .given .1)
 
--- src/statements.rt:488:1
 returns : tie.Need-returns
 returns c = break-outside (c .before .before .before .before .before .before .before .before .before .before .pre .0 .0) _ _ (c .before .before .before .in-loop .ensures) (c .before .enum-told .given .1) (c .error-at .ensures)
 
--- src/statements.rt:488:1
 same-length : tie.Need-same-length
 same-length c = search needs
 
--- src/statements.rt:488:1
 same-length-2 : tie.Need-same-length-2
 same-length-2 c = search needs
 
--- src/statements.rt:488:1
 returns-2 : tie.Need-returns-2
 returns-2 c = break-jumps (c .before .before .before .before .before .before .before .before .before .before .before .before .before .before .before .before .before .pre .0 .0) _ _ (c .before .before .before .before .before .before .before .before .before .before .in-loop .ensures) (c .before .before .before .before .before .before .before .before .l .given .1) (c .before .before .before .before .jump .ensures)
 

@@ -12,27 +12,21 @@ use Rattle.statements.proofs.statements.copy_fitted.Lts as lts
 use Rattle.ir.proofs.structs.emit_copy.Reads as emit-copy-reads
 use Rattle.statements.proofs.fits.fit_operand.Reads as fit-operand-reads
 
--- src/statements.rt:185:51
 cast-fit-operand : tie.Need-cast-fit-operand
 cast-fit-operand c = search needs
 
--- src/statements.rt:185:9
 fit-operand-requires : tie.Need-fit-operand-requires
 fit-operand-requires c κs = search needs
 
--- src/statements.rt:186:5
 emit-copy-requires : tie.Need-emit-copy-requires
 emit-copy-requires c κs = (c .before .before .before .before .before .before .fit-operand .ensures [] .adds .next .room, omega (arith, c .before .before .before .before .before .before .before .before .before .before .before .before .before .pre .0 .affords, c .before .before .before .before .before .before .fit-operand .ensures [] .adds .spent))
 
--- src/statements.rt:181:1
 same-length : tie.Need-same-length
 same-length c = search needs
 
--- src/statements.rt:181:1
 same-length-2 : tie.Need-same-length-2
 same-length-2 c = search needs
 
--- src/statements.rt:181:1
 returns : tie.Need-returns
 returns c = λ text. copy-adds (program _ text) (c .before .before .before .before .before .before .before .before .before .before .before .before .before .before .before .before .before .before .args .v) (c .before .before .before .before .before .before .before .before .before .before .before .before .before .before .before .before .before .before .args .src) (c .before .before .before .before .before .before .before .before .before .before .before .fit-operand .ensures text) (omega (arith, c .before .before .before .arena2 .given)) (c .before .before .before .before .emit-copy .ensures)
 

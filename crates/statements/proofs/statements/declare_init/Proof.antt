@@ -15,71 +15,54 @@ use Rattle.records.proofs.words.detail.Reads as detail-reads
 use Rattle.statements.proofs.answers.error_at.Reads as error-at-reads
 use Rattle.statements.proofs.statements.init_type.Reads as init-type-reads
 
--- src/statements.rt:278:20
 detail-requires : tie.Need-detail-requires
 detail-requires c κs = search needs
 
--- src/statements.rt:279:31
 init-type-requires : tie.Need-init-type-requires
 init-type-requires c κs = search needs
 
--- src/statements.rt:279:31
 cast-new-var : tie.Need-cast-new-var
 cast-new-var c = omega (arith, new-type (c .before .before .before .before .before .before .before .before .before .before .pre .0 .0) (c .before .before .before .before .before .before .before .before .before .before .pre .0 .1) (c .before .before .before .before .before .before .before .before .before .before .pre .1 .0 .0) (c .before .before .before .before .before .before .before .before .before .before .pre .1 .0 .1) (c .init-type .ensures) .below, c .before .before .before .before .before .before .before .before .before .before .pre .0 .0 .ready .keyed .good .few)
 
--- src/statements.rt:279:9
 new-var-requires : tie.Need-new-var-requires
 new-var-requires c κs = search needs
 
--- src/statements.rt:280:11
 declare-name-requires : tie.Need-declare-name-requires
 declare-name-requires c κs = new-requires (c .before .before .before .before .before .before .before .before .before .before .before .before .before .before .before .before .pre .0 .0) (c .before .before .before .before .before .before .before .before .before .before .before .before .before .before .before .before .pre .0 .1) (c .before .before .before .before .before .before .before .before .before .before .before .before .before .before .before .before .pre .1 .0 .0) (c .before .before .before .before .before .before .before .before .before .before .before .before .before .before .before .before .pre .1 .0 .1) (c .before .before .before .before .before .before .init-type .ensures) (omega (arith, c .before .before .before .before .arena .given)) (c .before .before .before .before .before .new-var .ensures)
 
--- src/statements.rt:281:53
 enum-told : tie.Need-enum-told
 enum-told c = search needs
 
--- src/statements.rt:281:44
 error-at-requires : tie.Need-error-at-requires
 error-at-requires c κs = omega (arith, c .before .before .before .before .before .before .before .before .before .before .before .before .before .before .before .before .before .before .before .before .before .pre .1 .0 .0 .below, c .before .before .before .before .before .before .before .before .before .before .before .before .before .before .before .before .before .before .before .before .before .pre .0 .0 .ready .keyed .good .few)
 
--- src/statements.rt:282:24
 enum-known-next : tie.Need-enum-known-next
 enum-known-next c = search needs
 
--- src/statements.rt:283:13
 emit-copy-requires : tie.Need-emit-copy-requires
 emit-copy-requires c κs = (c .before .before .before .before .before .before .before .before .before .before .before .before .before .new-var .ensures .next .room, omega (arith, c .before .before .before .before .before .before .before .before .before .before .before .before .before .before .before .before .before .before .before .before .before .before .before .before .pre .0 .1 .tables, c .before .before .before .before .before .before .before .before .before .before .before .before .before .new-var .ensures .spent))
 
--- src/statements.rt:260:1
 same-length : tie.Need-same-length
 same-length c = search needs
 
--- src/statements.rt:260:1
 same-length-2 : tie.Need-same-length-2
 same-length-2 c = search needs
 
--- src/statements.rt:260:1
 same-length-3 : tie.Need-same-length-3
 same-length-3 c = search needs
 
--- src/statements.rt:260:1
 returns : tie.Need-returns
 returns c = (new-taken (c .before .before .before .before .before .before .before .before .before .before .before .before .before .before .before .before .before .before .before .before .before .before .pre .0 .0) (c .before .before .before .before .before .before .before .before .before .before .before .before .before .before .before .before .before .before .before .before .before .before .pre .0 .1) (c .before .before .before .before .before .before .before .before .before .before .before .before .before .before .before .before .before .before .before .before .before .before .pre .1 .0 .0) (c .before .before .before .before .before .before .before .before .before .before .before .before .before .before .before .before .before .before .before .before .before .before .pre .1 .0 .1) (c .before .before .before .before .before .before .before .before .before .before .before .before .init-type .ensures) (omega (arith, c .before .before .before .before .before .before .before .before .before .before .arena .given)) (c .before .before .before .before .before .before .before .before .before .before .before .new-var .ensures) (c .before .before .before .before .before .before .before .before .before .before .before .before .before .before .before .before .before .before .before .before .before .before .args .src) (c .before .before .before .before .before .before .before .before .before .before .before .before .before .before .before .detail .ensures) (c .before .before .before .before .before .declare-name .ensures) (c .before .enum-told .given .1) (c .error-at .ensures), refused-stated)
 
--- src/statements.rt:260:1
 same-length-4 : tie.Need-same-length-4
 same-length-4 c = search needs
 
--- src/statements.rt:260:1
 same-length-5 : tie.Need-same-length-5
 same-length-5 c = search needs
 
--- src/statements.rt:260:1
 same-length-6 : tie.Need-same-length-6
 same-length-6 c = search needs
 
--- src/statements.rt:260:1
 returns-2 : tie.Need-returns-2
 returns-2 c = (new-declared (c .before .before .before .before .before .before .before .before .before .before .before .before .before .before .before .before .before .before .before .before .before .before .before .before .before .before .before .before .before .pre .0 .0) (c .before .before .before .before .before .before .before .before .before .before .before .before .before .before .before .before .before .before .before .before .before .before .before .before .before .before .before .before .before .pre .0 .1) (c .before .before .before .before .before .before .before .before .before .before .before .before .before .before .before .before .before .before .before .before .before .before .before .before .before .before .before .before .before .pre .1 .0 .0) (c .before .before .before .before .before .before .before .before .before .before .before .before .before .before .before .before .before .before .before .before .before .before .before .before .before .before .before .before .before .pre .1 .0 .1) (c .before .before .before .before .before .before .before .before .before .before .before .before .before .before .before .before .before .before .before .init-type .ensures) (omega (arith, c .before .before .before .before .before .before .before .before .before .before .before .before .before .before .before .before .before .arena .given)) (c .before .before .before .before .before .before .before .before .before .before .before .before .before .before .before .before .before .before .new-var .ensures) (c .before .before .before .before .before .before .before .before .before .before .before .before .before .before .before .before .before .before .before .before .before .before .before .before .before .before .before .before .before .args .src) (c .before .before .before .before .before .before .before .before .before .before .before .before .before .before .before .before .before .before .before .before .before .before .detail .ensures) (c .before .before .before .before .before .before .before .before .before .before .before .before .declare-name .ensures) (c .before .before .before .before .before .before .before .before .next .given .1) (omega (arith, c .before .before .before .arena2 .given)) (c .before .before .before .before .emit-copy .ensures), λ _ _ _. new-types (c .before .before .before .before .before .before .before .before .before .before .before .before .before .before .before .before .before .before .before .before .before .before .before .before .before .before .before .before .before .pre .0 .0) (c .before .before .before .before .before .before .before .before .before .before .before .before .before .before .before .before .before .before .before .before .before .before .before .before .before .before .before .before .before .pre .0 .1) (c .before .before .before .before .before .before .before .before .before .before .before .before .before .before .before .before .before .before .before .before .before .before .before .before .before .before .before .before .before .pre .1 .0 .0) (c .before .before .before .before .before .before .before .before .before .before .before .before .before .before .before .before .before .before .before .before .before .before .before .before .before .before .before .before .before .pre .1 .0 .1) (c .before .before .before .before .before .before .before .before .before .before .before .before .before .before .before .before .before .before .before .init-type .ensures) (omega (arith, c .before .before .before .before .before .before .before .before .before .before .before .before .before .before .before .before .before .arena .given)) (c .before .before .before .before .before .before .before .before .before .before .before .before .before .before .before .before .before .before .new-var .ensures) (c .before .before .before .before .before .before .before .before .before .before .before .before .before .before .before .before .before .before .before .before .before .before .before .before .before .before .before .before .before .args .src) (c .before .before .before .before .before .before .before .before .before .before .before .before .before .before .before .before .before .before .before .before .before .before .detail .ensures) (c .before .before .before .before .before .before .before .before .before .before .before .before .declare-name .ensures) (c .before .before .before .before .before .before .before .before .next .given .1) (c .before .before .before .before .before .before .before .before .before .before .before .before .before .before .before .before .before .before .before .before .before .before .before .before .before .before .before .before .before .pre .1 .1))
 

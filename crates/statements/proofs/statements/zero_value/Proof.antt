@@ -16,95 +16,72 @@ use Rattle.types.proofs.form.form.Reads as form-reads
 use Rattle.types.proofs.form.is_short.Reads as is-short-reads
 use Rattle.types.proofs.form.is_unsigned.Reads as is-unsigned-reads
 
--- src/statements.rt:130:13
 cast-y : tie.Need-cast-y
 cast-y c = search needs
 
--- src/statements.rt:131:9
 form-requires : tie.Need-form-requires
 form-requires c κs = search needs
 
--- src/statements.rt:132:9
 is-short-requires : tie.Need-is-short-requires
 is-short-requires c κs = search needs
 
--- src/statements.rt:134:43
 is-unsigned-requires : tie.Need-is-unsigned-requires
 is-unsigned-requires c κs = search needs
 
--- src/statements.rt:135:9
 emit-copy-requires : tie.Need-emit-copy-requires
 emit-copy-requires c κs = search needs
 
--- src/statements.rt:136:9
 same-length : tie.Need-same-length
 same-length c = search needs
 
--- src/statements.rt:136:9
 same-length-2 : tie.Need-same-length-2
 same-length-2 c = search needs
 
--- src/statements.rt:136:9
 returns : tie.Need-returns
 returns c = λ text F. zero-int _ text F _ _ _ (c .before .before .before .before .before .before .before .before .before .before .form .ensures) (c .before .before .before .before .before .before .before .before .if1 .taken) (c .before .before .before .before .before .before .before .before .before .is-short .ensures) (c .before .before .before .before .before .before .before .is-unsigned .ensures) (omega arith) (c .before .before .before .before .emit-copy .ensures)
 
--- src/statements.rt:139:9
 zero-float-requires : tie.Need-zero-float-requires
 zero-float-requires c κs = search needs
 
--- src/statements.rt:140:9
 same-length-3 : tie.Need-same-length-3
 same-length-3 c = search needs
 
--- src/statements.rt:140:9
 same-length-4 : tie.Need-same-length-4
 same-length-4 c = search needs
 
--- src/statements.rt:140:9
 returns-2 : tie.Need-returns-2
 returns-2 c = λ text F. zero-float _ text F _ _ _ (c .before .before .before .before .before .before .before .before .before .before .form .ensures) (c .before .before .before .before .before .before .before .if2 .taken) (c .before .before .before .before .before .before .before .before .before .is-short .ensures) (c .before .before .before .before .zero-float .ensures)
 
--- src/statements.rt:143:9
 emit-zero-requires : tie.Need-emit-zero-requires
 emit-zero-requires c κs = search needs
 
--- src/statements.rt:144:9
 same-length-5 : tie.Need-same-length-5
 same-length-5 c = search needs
 
--- src/statements.rt:144:9
 same-length-6 : tie.Need-same-length-6
 same-length-6 c = search needs
 
--- src/statements.rt:144:9
 returns-3 : tie.Need-returns-3
 returns-3 c = λ text F. zero-array _ text F _ _ _ (c .before .before .before .before .before .before .before .before .before .before .before .form .ensures) (c .before .before .before .before .before .before .before .if3 .taken) (omega arith) (c .before .before .before .before .emit-zero .ensures)
 
--- src/statements.rt:147:34
 error-at-requires : tie.Need-error-at-requires
 error-at-requires c κs = search needs
 
--- src/statements.rt:147:9
 returns-4 : tie.Need-returns-4
 returns-4 c = λ text F. zero-custom _ text F _ _ _ (c .before .before .before .before .before .before .form .ensures) (c .before .if4 .taken) (c .error-at .ensures)
 
--- src/statements.rt:149:28
 zero-operand-requires : tie.Need-zero-operand-requires
 zero-operand-requires c κs = search needs
 
--- src/statements.rt:149:5
 emit-copy-requires-2 : tie.Need-emit-copy-requires-2
 emit-copy-requires-2 c κs = search needs
 
--- src/statements.rt:126:1
 same-length-7 : tie.Need-same-length-7
 same-length-7 c = search needs
 
--- src/statements.rt:126:1
 same-length-8 : tie.Need-same-length-8
 same-length-8 c = search needs
 
--- src/statements.rt:126:1
 returns-5 : tie.Need-returns-5
 returns-5 c = λ text F. zero-other _ text F _ _ _ (c .before .before .before .before .before .before .before .before .before .before .before .before .before .form .ensures) (omega (arith, c .before .before .before .before .before .before .before .before .before .before .before .before .before .before .before .before .before .before .pre .1 .least, c .before .before .before .before .before .before .before .before .before .before .before .before .before .form .ensures)) (c .before .before .before .before .before .before .before .before .before .before .before .if1 .left) (c .before .before .before .before .before .before .before .before .before .before .if2 .left) (c .before .before .before .before .before .before .before .before .before .if3 .left) (c .before .before .before .before .before .before .before .before .if4 .left) (c .before .before .before .before .before .zero-operand .ensures) (omega arith) (c .before .before .before .before .emit-copy2 .ensures)
 

@@ -10,32 +10,25 @@ use Rattle.types.proofs.casts.can_cast.Reads as reads
 use Rattle.types.proofs.casts.can_cast.Lts as lts
 use Rattle.types.proofs.casts.cast_class.Reads as cast-class-reads
 
--- src/casts.rt:58:9
 returns : tie.Need-returns
 unfolding can-cast
 returns c text = simp (eq-eqb _ _ (c .if1 .taken))
 
--- src/casts.rt:60:9
 cast-class-requires : tie.Need-cast-class-requires
 cast-class-requires c κs = search needs
 
--- src/casts.rt:61:9
 cast-class-requires-2 : tie.Need-cast-class-requires-2
 cast-class-requires-2 c κs = search needs
 
--- src/casts.rt:62:5
 mul-result : tie.Need-mul-result
 mul-result c = search needs
 
--- src/casts.rt:62:5
 index-1-result : tie.Need-index-1-result
 index-1-result c = search needs
 
--- src/casts.rt:62:5
 index-2-result : tie.Need-index-2-result
 index-2-result c = search needs
 
--- src/casts.rt:52:1
 returns-2 : tie.Need-returns-2
 unfolding can-cast
 returns-2 c text = rw (ne-eqb _ _ (c .before .before .before .if1 .left), sym (c .before .before .cast-class .ensures .1 text), sym (c .before .cast-class2 .ensures .1 text))

@@ -9,43 +9,33 @@ use Rattle.types.proofs.casts.cast_class.Lts as lts
 use Rattle.types.proofs.form.form.Reads as form-reads
 use Rattle.types.proofs.form.is_short.Reads as is-short-reads
 
--- src/casts.rt:28:9
 form-requires : tie.Need-form-requires
 form-requires c κs = search needs
 
--- src/casts.rt:30:12
 is-short-requires : tie.Need-is-short-requires
 is-short-requires c κs = search needs
 
--- src/casts.rt:31:13
 returns : tie.Need-returns
 returns c = (search needs, λ text. search class-short)
 
--- src/casts.rt:33:9
 returns-2 : tie.Need-returns-2
 returns-2 c = (search needs, λ text. search class-long)
 
--- src/casts.rt:36:9
 returns-3 : tie.Need-returns-3
 returns-3 c = (search needs, λ text. search class-address)
 
--- src/casts.rt:39:9
 returns-4 : tie.Need-returns-4
 returns-4 c = (search needs, λ text. search class-array)
 
--- src/casts.rt:42:9
 returns-5 : tie.Need-returns-5
 returns-5 c = (search needs, λ text. search class-custom)
 
--- src/casts.rt:45:9
 returns-6 : tie.Need-returns-6
 returns-6 c = (search needs, λ text. search class-none)
 
--- src/casts.rt:48:9
 returns-7 : tie.Need-returns-7
 returns-7 c = (search needs, λ text. search class-scalar)
 
--- src/casts.rt:24:1
 returns-8 : tie.Need-returns-8
 returns-8 c = (search needs, λ text. search class-null)
 

@@ -7,15 +7,12 @@ use Rattle.types.proofs.fits.fits.Reads as reads
 use Rattle.types.proofs.fits.fits.Lts as lts
 use Rattle.types.proofs.fits.fits_into.Reads as fits-into-reads
 
--- src/fits.rt:106:9
 returns : tie.Need-returns
 returns c text = fits-same _ text _ _ _ (c .if1 .taken)
 
--- src/fits.rt:108:5
 fits-into-requires : tie.Need-fits-into-requires
 fits-into-requires c κs = search needs
 
--- src/fits.rt:99:1
 returns-2 : tie.Need-returns-2
 returns-2 c text = fits-other _ text _ _ _ (c .before .if1 .left) _ (c .fits-into .ensures text)
 

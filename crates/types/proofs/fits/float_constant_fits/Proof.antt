@@ -9,39 +9,30 @@ use Rattle.types.proofs.float_value.float_fits.Reads as float-fits-read
 use Rattle.types.proofs.float_value.float_value.Reads as float-value-reads
 use Rattle.types.proofs.form.is_short.Reads as is-short-reads
 
--- src/fits.rt:47:11
 float-value-requires : tie.Need-float-value-requires
 float-value-requires c κs = search needs
 
--- src/fits.rt:48:27
 enum-known-v : tie.Need-enum-known-v
 enum-known-v c = search needs
 
--- src/fits.rt:48:47
 is-short-requires : tie.Need-is-short-requires
 is-short-requires c κs = search needs
 
--- src/fits.rt:48:33
 float-fits-requires : tie.Need-float-fits-requires
 float-fits-requires c κs = search needs
 
--- src/fits.rt:49:28
 enum-told : tie.Need-enum-told
 enum-told c = search needs
 
--- src/fits.rt:50:32
 enum-told-2 : tie.Need-enum-told-2
 enum-told-2 c = search needs
 
--- src/fits.rt:42:1
 returns : tie.Need-returns
 returns c text = float-fits-value _ (c .before .before .before .before .before .float-value .result) (c .before .before .before .before .before .float-value .ensures text) _ (c .before .before .before .v .given .1) _ _ _ (c .before .is-short .ensures) (c .float-fits .ensures)
 
--- src/fits.rt:42:1
 returns-2 : tie.Need-returns-2
 returns-2 c text = float-fits-nan _ (c .before .before .float-value .result) (c .before .before .float-value .ensures text) (c .enum-told .given .1) _
 
--- src/fits.rt:42:1
 returns-3 : tie.Need-returns-3
 returns-3 c text = float-fits-nothing _ (c .before .before .float-value .result) (c .before .before .float-value .ensures text) (c .enum-told2 .given .1) _
 

@@ -10,35 +10,27 @@ use Rattle.types.proofs.form.is_short.Reads as is-short-reads
 use Rattle.types.proofs.form.is_unsigned.Reads as is-unsigned-reads
 use Rattle.types.proofs.int_value.int_value.Reads as int-value-reads
 
--- src/fits.rt:36:11
 int-value-requires : tie.Need-int-value-requires
 int-value-requires c κs = search needs
 
--- src/fits.rt:37:24
 enum-known-v : tie.Need-enum-known-v
 enum-known-v c = search needs
 
--- src/fits.rt:37:42
 is-short-requires : tie.Need-is-short-requires
 is-short-requires c κs = search needs
 
--- src/fits.rt:37:68
 is-unsigned-requires : tie.Need-is-unsigned-requires
 is-unsigned-requires c κs = search needs
 
--- src/fits.rt:37:30
 int-fits-requires : tie.Need-int-fits-requires
 int-fits-requires c κs = search needs
 
--- src/fits.rt:38:29
 enum-told : tie.Need-enum-told
 enum-told c = search needs
 
--- src/fits.rt:31:1
 returns : tie.Need-returns
 returns c text = int-fits-value _ (c .before .before .before .before .before .before .int-value .result) (c .before .before .before .before .before .before .int-value .ensures text) _ (c .before .before .before .before .v .given .1) _ _ _ _ _ (c .before .before .is-short .ensures) (c .before .is-unsigned .ensures) (c .int-fits .ensures)
 
--- src/fits.rt:31:1
 returns-2 : tie.Need-returns-2
 returns-2 c text = int-fits-nothing _ (c .before .before .int-value .result) (c .before .before .int-value .ensures text) (c .enum-told .given .1) _
 

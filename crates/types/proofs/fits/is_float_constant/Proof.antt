@@ -7,31 +7,24 @@ use Rattle.types.proofs.fits.is_float_constant.Reads as reads
 use Rattle.types.proofs.fits.is_float_constant.Lts as lts
 use Rattle.types.proofs.float_value.float_value.Reads as float-value-reads
 
--- src/fits.rt:126:11
 float-value-requires : tie.Need-float-value-requires
 float-value-requires c κs = search needs
 
--- src/fits.rt:127:33
 enum-told : tie.Need-enum-told
 enum-told c = search needs
 
--- src/fits.rt:128:28
 enum-told-2 : tie.Need-enum-told-2
 enum-told-2 c = search needs
 
--- src/fits.rt:129:32
 enum-told-3 : tie.Need-enum-told-3
 enum-told-3 c = search needs
 
--- src/fits.rt:122:1
 returns : tie.Need-returns
 returns c text = float-some _ (c .before .before .float-value .result) (c .before .before .float-value .ensures text) _ (c .enum-told .given .1)
 
--- src/fits.rt:122:1
 returns-2 : tie.Need-returns-2
 returns-2 c text = float-nan-some _ (c .before .before .float-value .result) (c .before .before .float-value .ensures text) (c .enum-told2 .given .1)
 
--- src/fits.rt:122:1
 returns-3 : tie.Need-returns-3
 returns-3 c text = float-none _ (c .before .before .float-value .result) (c .before .before .float-value .ensures text) (c .enum-told3 .given .1)
 

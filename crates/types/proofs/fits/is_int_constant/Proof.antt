@@ -7,23 +7,18 @@ use Rattle.types.proofs.fits.is_int_constant.Reads as reads
 use Rattle.types.proofs.fits.is_int_constant.Lts as lts
 use Rattle.types.proofs.int_value.int_value.Reads as int-value-reads
 
--- src/fits.rt:115:11
 int-value-requires : tie.Need-int-value-requires
 int-value-requires c κs = search needs
 
--- src/fits.rt:116:30
 enum-told : tie.Need-enum-told
 enum-told c = search needs
 
--- src/fits.rt:117:29
 enum-told-2 : tie.Need-enum-told-2
 enum-told-2 c = search needs
 
--- src/fits.rt:111:1
 returns : tie.Need-returns
 returns c text = int-some _ (c .before .before .int-value .result) (c .before .before .int-value .ensures text) _ (c .enum-told .given .1)
 
--- src/fits.rt:111:1
 returns-2 : tie.Need-returns-2
 returns-2 c text = int-none _ (c .before .before .int-value .result) (c .before .before .int-value .ensures text) (c .enum-told2 .given .1)
 

@@ -8,19 +8,15 @@ use Rattle.types.proofs.fits.range_error.Lts as lts
 use Rattle.types.proofs.fits.fits.Reads as fits-reads
 use Rattle.types.proofs.fits.is_literal.Reads as is-literal-reads
 
--- src/fits.rt:163:8
 is-literal-requires : tie.Need-is-literal-requires
 is-literal-requires c κs = search needs
 
--- src/fits.rt:164:17
 fits-requires : tie.Need-fits-requires
 fits-requires c κs = search needs
 
--- src/fits.rt:164:9
 returns : tie.Need-returns
 returns c text = range-yes _ text _ _ _ _ (c .before .before .is-literal .ensures text) (c .before .if1 .taken) _ (c .fits2 .ensures text)
 
--- src/fits.rt:157:1
 returns-2 : tie.Need-returns-2
 returns-2 c text = range-no _ text _ _ _ _ (c .before .is-literal .ensures text) (c .if1 .left)
 

@@ -9,19 +9,15 @@ use Rattle.types.proofs.fits.to_nothing.Reads as reads
 use Rattle.types.proofs.fits.to_nothing.Lts as lts
 use Rattle.records.proofs.words.reference.Reads as reference-reads
 
--- src/fits.rt:60:8
 reference-requires : tie.Need-reference-requires
 reference-requires c κs = search needs
 
--- src/fits.rt:61:9
 returns : tie.Need-returns
 returns c = rw (eq-eqb _ _ (sym (c .before .reference .ensures) ∙ c .if1 .taken))
 
--- src/fits.rt:63:5
 reference-requires-2 : tie.Need-reference-requires-2
 reference-requires-2 c κs = search needs
 
--- src/fits.rt:55:1
 returns-2 : tie.Need-returns-2
 returns-2 c = nothing-right _ _ _ _ (c .before .before .reference .ensures) (c .before .if1 .left) (c .reference2 .ensures)
 

@@ -29,7 +29,6 @@ abbrev float-value-below : ℕ → In 1 float-value-kinds.ps
 float-value-below t =
     and 1 float-value-kinds.ps (falls 1 float-value-kinds.ps _<_ μ-float-value t) float-value.Pre
 
--- src/float_value.rt:132:9
 float-value-kind-requires : (t : ℕ) → float-value-lts.Need-kind-requires (
   kind-reads.Asked,
   kind-reads.Learnt,
@@ -50,7 +49,6 @@ float-value-kind-requires : (t : ℕ) → float-value-lts.Need-kind-requires (
 ) (float-value-at t) float-value.Post
 float-value-kind-requires t c κs = search needs
 
--- src/float_value.rt:134:26
 float-value-two-words-requires : (t : ℕ) → float-value-lts.Need-two-words-requires (
   kind-reads.Asked,
   kind-reads.Learnt,
@@ -71,7 +69,6 @@ float-value-two-words-requires : (t : ℕ) → float-value-lts.Need-two-words-re
 ) (float-value-at t) float-value.Post
 float-value-two-words-requires t c κs = search needs
 
--- src/float_value.rt:134:9
 float-value-from-bits-requires : (t : ℕ) → float-value-lts.Need-from-bits-requires (
   kind-reads.Asked,
   kind-reads.Learnt,
@@ -92,7 +89,6 @@ float-value-from-bits-requires : (t : ℕ) → float-value-lts.Need-from-bits-re
 ) (float-value-at t) float-value.Post
 float-value-from-bits-requires t c κs = search needs
 
--- src/float_value.rt:134:9
 float-value-returns : (t : ℕ) → float-value-lts.Need-returns (
   kind-reads.Asked,
   kind-reads.Learnt,
@@ -114,7 +110,6 @@ float-value-returns : (t : ℕ) → float-value-lts.Need-returns (
 float-value-returns t c text =
     float-is _ text _ _ (c .before .before .before .kind .ensures) (c .before .before .if1 .taken) _ (c .before .two-words .ensures) _ (c .from-bits .ensures)
 
--- src/float_value.rt:137:13
 float-value-reference-requires : (t : ℕ) → float-value-lts.Need-reference-requires (
   kind-reads.Asked,
   kind-reads.Learnt,
@@ -135,7 +130,6 @@ float-value-reference-requires : (t : ℕ) → float-value-lts.Need-reference-re
 ) (float-value-at t) float-value.Post
 float-value-reference-requires t c κs = search needs
 
--- src/float_value.rt:139:29
 float-value-detail-requires : (t : ℕ) → float-value-lts.Need-detail-requires (
   kind-reads.Asked,
   kind-reads.Learnt,
@@ -156,7 +150,6 @@ float-value-detail-requires : (t : ℕ) → float-value-lts.Need-detail-requires
 ) (float-value-at t) float-value.Post
 float-value-detail-requires t c κs = search needs
 
--- src/float_value.rt:139:46
 float-value-float-value-requires : (t : ℕ) → float-value-lts.Need-float-value-requires (
   kind-reads.Asked,
   kind-reads.Learnt,
@@ -177,7 +170,6 @@ float-value-float-value-requires : (t : ℕ) → float-value-lts.Need-float-valu
 ) (float-value-at t) float-value.Post
 float-value-float-value-requires t c κs = search needs
 
--- src/float_value.rt:139:13
 float-value-fold-neg-requires : (t : ℕ) → float-value-lts.Need-fold-neg-requires (
   kind-reads.Asked,
   kind-reads.Learnt,
@@ -198,7 +190,6 @@ float-value-fold-neg-requires : (t : ℕ) → float-value-lts.Need-fold-neg-requ
 ) (float-value-at t) float-value.Post
 float-value-fold-neg-requires t c κs = search needs
 
--- src/float_value.rt:139:13
 float-value-returns-2 : (t : ℕ) → float-value-lts.Need-returns-2 (
   kind-reads.Asked,
   kind-reads.Learnt,
@@ -220,7 +211,6 @@ float-value-returns-2 : (t : ℕ) → float-value-lts.Need-returns-2 (
 float-value-returns-2 t c text =
     float-unary _ text _ _ (c .before .before .before .before .before .before .before .kind .ensures) (c .before .before .before .before .before .if2 .taken) _ (c .before .before .before .before .reference .ensures) (c .before .before .before .if3 .taken) _ (c .before .before .detail .ensures) _ _ (c .before .float-value .ensures text) (c .fold-neg .ensures)
 
--- src/float_value.rt:141:9
 float-value-returns-3 : (t : ℕ) → float-value-lts.Need-returns-3 (
   kind-reads.Asked,
   kind-reads.Learnt,
@@ -242,7 +232,6 @@ float-value-returns-3 : (t : ℕ) → float-value-lts.Need-returns-3 (
 float-value-returns-3 t c text =
     float-unary-out _ text _ _ (c .before .before .before .before .kind .ensures) (c .before .before .if2 .taken) _ (c .before .reference .ensures) (c .if3 .left)
 
--- src/float_value.rt:144:13
 float-value-reference-requires-2 : (t : ℕ) → float-value-lts.Need-reference-requires-2 (
   kind-reads.Asked,
   kind-reads.Learnt,
@@ -263,7 +252,6 @@ float-value-reference-requires-2 : (t : ℕ) → float-value-lts.Need-reference-
 ) (float-value-at t) float-value.Post
 float-value-reference-requires-2 t c κs = search needs
 
--- src/float_value.rt:145:13
 float-value-reference-requires-3 : (t : ℕ) → float-value-lts.Need-reference-requires-3 (
   kind-reads.Asked,
   kind-reads.Learnt,
@@ -284,7 +272,6 @@ float-value-reference-requires-3 : (t : ℕ) → float-value-lts.Need-reference-
 ) (float-value-at t) float-value.Post
 float-value-reference-requires-3 t c κs = search needs
 
--- src/float_value.rt:148:36
 float-value-detail-requires-2 : (t : ℕ) → float-value-lts.Need-detail-requires-2 (
   kind-reads.Asked,
   kind-reads.Learnt,
@@ -305,7 +292,6 @@ float-value-detail-requires-2 : (t : ℕ) → float-value-lts.Need-detail-requir
 ) (float-value-at t) float-value.Post
 float-value-detail-requires-2 t c κs = search needs
 
--- src/float_value.rt:148:53
 float-value-float-value-requires-2 : (t : ℕ) → float-value-lts.Need-float-value-requires-2 (
   kind-reads.Asked,
   kind-reads.Learnt,
@@ -326,7 +312,6 @@ float-value-float-value-requires-2 : (t : ℕ) → float-value-lts.Need-float-va
 ) (float-value-at t) float-value.Post
 float-value-float-value-requires-2 t c κs = search needs
 
--- src/float_value.rt:148:75
 float-value-float-value-requires-3 : (t : ℕ) → float-value-lts.Need-float-value-requires-3 (
   kind-reads.Asked,
   kind-reads.Learnt,
@@ -347,7 +332,6 @@ float-value-float-value-requires-3 : (t : ℕ) → float-value-lts.Need-float-va
 ) (float-value-at t) float-value.Post
 float-value-float-value-requires-3 t c κs = search needs
 
--- src/float_value.rt:148:17
 float-value-fold-binary-requires : (t : ℕ) → float-value-lts.Need-fold-binary-requires (
   kind-reads.Asked,
   kind-reads.Learnt,
@@ -368,7 +352,6 @@ float-value-fold-binary-requires : (t : ℕ) → float-value-lts.Need-fold-binar
 ) (float-value-at t) float-value.Post
 float-value-fold-binary-requires t c κs = search needs
 
--- src/float_value.rt:148:17
 float-value-returns-4 : (t : ℕ) → float-value-lts.Need-returns-4 (
   kind-reads.Asked,
   kind-reads.Learnt,
@@ -390,7 +373,6 @@ float-value-returns-4 : (t : ℕ) → float-value-lts.Need-returns-4 (
 float-value-returns-4 t c text =
     float-binary _ text _ _ (c .before .before .before .before .before .before .before .before .before .before .before .kind .ensures) (c .before .before .before .before .before .before .before .before .if4 .taken) _ (c .before .before .before .before .before .before .before .reference2 .ensures) _ (c .before .before .before .before .before .before .reference3 .ensures) (c .before .before .before .before .before .if5 .taken) (c .before .before .before .before .if6 .taken) _ (c .before .before .before .detail2 .ensures) _ _ _ (c .before .before .float-value2 .ensures text) (c .before .float-value3 .ensures text) (c .fold-binary .ensures)
 
--- src/float_value.rt:151:9
 float-value-returns-5 : (t : ℕ) → float-value-lts.Need-returns-5 (
   kind-reads.Asked,
   kind-reads.Learnt,
@@ -412,7 +394,6 @@ float-value-returns-5 : (t : ℕ) → float-value-lts.Need-returns-5 (
 float-value-returns-5 t c text =
     float-right-out _ text _ _ (c .before .before .before .before .before .before .before .kind .ensures) (c .before .before .before .before .if4 .taken) _ (c .before .before .before .reference2 .ensures) _ (c .before .before .reference3 .ensures) (c .if6 .left)
 
--- src/float_value.rt:151:9
 float-value-returns-6 : (t : ℕ) → float-value-lts.Need-returns-6 (
   kind-reads.Asked,
   kind-reads.Learnt,
@@ -434,7 +415,6 @@ float-value-returns-6 : (t : ℕ) → float-value-lts.Need-returns-6 (
 float-value-returns-6 t c text =
     float-left-out _ text _ _ (c .before .before .before .before .before .before .kind .ensures) (c .before .before .before .if4 .taken) _ (c .before .before .reference2 .ensures) _ (c .before .reference3 .ensures) (c .if5 .left)
 
--- src/float_value.rt:128:1
 float-value-returns-7 : (t : ℕ) → float-value-lts.Need-returns-7 (
   kind-reads.Asked,
   kind-reads.Learnt,

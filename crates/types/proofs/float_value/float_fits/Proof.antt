@@ -9,23 +9,18 @@ use Rattle.types.proofs.float_value.float_fits.Lts as lts
 use Rattle.types.proofs.float_value.is_finite.Reads as is-finite-reads
 use Rattle.types.proofs.float_value.is_small.Reads as is-small-reads
 
--- src/float_value.rt:174:8
 is-finite-requires : tie.Need-is-finite-requires
 is-finite-requires c κs = search needs
 
--- src/float_value.rt:176:13
 is-small-requires : tie.Need-is-small-requires
 is-small-requires c κs = search needs
 
--- src/float_value.rt:176:13
 returns : tie.Need-returns
 returns c = c .is-small .ensures ∙ fits-small _ _ (sym (c .before .before .before .is-finite .ensures) ∙ c .before .before .if1 .taken) (c .before .if2 .taken)
 
--- src/float_value.rt:178:9
 returns-2 : tie.Need-returns-2
 returns-2 c = fits-long _ _ (sym (c .before .before .is-finite .ensures) ∙ c .before .if1 .taken) (c .if2 .left)
 
--- src/float_value.rt:171:1
 returns-3 : tie.Need-returns-3
 returns-3 c = fits-not _ _ (sym (c .before .is-finite .ensures) ∙ c .if1 .left)
 

@@ -8,59 +8,45 @@ use Rattle.types.proofs.float_value.fold_binary.Lts as lts
 use Rattle.types.proofs.float_value.fold_nan.Reads as fold-nan-reads
 use Rattle.types.proofs.float_value.fold_right.Reads as fold-right-reads
 
--- src/float_value.rt:117:27
 enum-known-left : tie.Need-enum-known-left
 enum-known-left c = search needs
 
--- src/float_value.rt:117:33
 fold-right-requires : tie.Need-fold-right-requires
 fold-right-requires c κs = search needs
 
--- src/float_value.rt:118:28
 enum-told : tie.Need-enum-told
 enum-told c = search needs
 
--- src/float_value.rt:119:37
 enum-told-2 : tie.Need-enum-told-2
 enum-told-2 c = search needs
 
--- src/float_value.rt:119:37
 fold-nan-requires : tie.Need-fold-nan-requires
 fold-nan-requires c κs = search needs
 
--- src/float_value.rt:120:32
 enum-told-3 : tie.Need-enum-told-3
 enum-told-3 c = search needs
 
--- src/float_value.rt:120:32
 fold-nan-requires-2 : tie.Need-fold-nan-requires-2
 fold-nan-requires-2 c κs = search needs
 
--- src/float_value.rt:121:36
 enum-told-4 : tie.Need-enum-told-4
 enum-told-4 c = search needs
 
--- src/float_value.rt:123:32
 enum-told-5 : tie.Need-enum-told-5
 enum-told-5 c = search needs
 
--- src/float_value.rt:113:1
 returns : tie.Need-returns
 returns c = search left-value
 
--- src/float_value.rt:113:1
 returns-2 : tie.Need-returns-2
 returns-2 c = nan-value (c .before .before .before .before .before .args .op) _ _ (c .before .before .before .enum-told .given .1) _ (c .fold-nan .ensures .0) _ (c .before .enum-told2 .given .1)
 
--- src/float_value.rt:113:1
 returns-3 : tie.Need-returns-3
 returns-3 c = nan-nan (c .before .before .before .before .before .args .op) _ _ (c .before .before .before .enum-told .given .1) _ (c .fold-nan2 .ensures .0) (c .before .enum-told3 .given .1)
 
--- src/float_value.rt:113:1
 returns-4 : tie.Need-returns-4
 returns-4 c = search nan-nothing
 
--- src/float_value.rt:113:1
 returns-5 : tie.Need-returns-5
 returns-5 c = search left-nothing
 

@@ -6,17 +6,14 @@ use Rattle.types.proofs.float_value.fold_nan.Tie as tie
 use Rattle.types.proofs.float_value.fold_nan.Reads as reads
 use Rattle.types.proofs.float_value.fold_nan.Lts as lts
 
--- src/float_value.rt:97:13
 returns : tie.Need-returns
 unfolding floatOf
 returns c = (nan-left _ (c .before .if1 .taken) (c .if2 .taken), nan-right _ (c .before .if1 .taken) (c .if2 .taken))
 
--- src/float_value.rt:91:1
 returns-2 : tie.Need-returns-2
 unfolding floatOf
 returns-2 c = (float-none-high _ (c .if2 .left) _, λ x. float-none-high _ (c .if2 .left) x _)
 
--- src/float_value.rt:91:1
 returns-3 : tie.Need-returns-3
 unfolding floatOf
 returns-3 c = (float-none-low _ (c .if1 .left) _, λ x. float-none-low _ (c .if1 .left) x _)

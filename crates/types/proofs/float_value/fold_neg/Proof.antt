@@ -6,35 +6,27 @@ use Rattle.types.proofs.float_value.fold_neg.Tie as tie
 use Rattle.types.proofs.float_value.fold_neg.Reads as reads
 use Rattle.types.proofs.float_value.fold_neg.Lts as lts
 
--- src/float_value.rt:59:9
 returns : tie.Need-returns
 returns c = search neg-not
 
--- src/float_value.rt:62:9
 returns-2 : tie.Need-returns-2
 returns-2 c = search neg-not-2
 
--- src/float_value.rt:65:27
 enum-known-value : tie.Need-enum-known-value
 enum-known-value c = search needs
 
--- src/float_value.rt:66:28
 enum-told : tie.Need-enum-told
 enum-told c = search needs
 
--- src/float_value.rt:67:32
 enum-told-2 : tie.Need-enum-told-2
 enum-told-2 c = search needs
 
--- src/float_value.rt:55:1
 returns-3 : tie.Need-returns-3
 returns-3 c = search neg-value
 
--- src/float_value.rt:55:1
 returns-4 : tie.Need-returns-4
 returns-4 c = search neg-nan
 
--- src/float_value.rt:55:1
 returns-5 : tie.Need-returns-5
 returns-5 c = search neg-nothing
 

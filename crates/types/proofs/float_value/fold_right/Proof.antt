@@ -8,35 +8,27 @@ use Rattle.types.proofs.float_value.fold_right.Lts as lts
 use Rattle.types.proofs.float_value.fold_nan.Reads as fold-nan-reads
 use Rattle.types.proofs.float_value.fold_two.Reads as fold-two-reads
 
--- src/float_value.rt:107:27
 enum-known-right : tie.Need-enum-known-right
 enum-known-right c = search needs
 
--- src/float_value.rt:107:33
 fold-two-requires : tie.Need-fold-two-requires
 fold-two-requires c κs = search needs
 
--- src/float_value.rt:108:28
 enum-told : tie.Need-enum-told
 enum-told c = search needs
 
--- src/float_value.rt:108:28
 fold-nan-requires : tie.Need-fold-nan-requires
 fold-nan-requires c κs = search needs
 
--- src/float_value.rt:109:32
 enum-told-2 : tie.Need-enum-told-2
 enum-told-2 c = search needs
 
--- src/float_value.rt:103:1
 returns : tie.Need-returns
 returns c = search right-value
 
--- src/float_value.rt:103:1
 returns-2 : tie.Need-returns-2
 returns-2 c = right-nan (c .before .before .before .args .op) (c .before .before .before .args .left) _ (c .before .enum-told .given .1) _ (c .fold-nan .ensures .1)
 
--- src/float_value.rt:103:1
 returns-3 : tie.Need-returns-3
 returns-3 c = search right-nothing
 

@@ -11,19 +11,15 @@ use Rattle.types.proofs.float_value.from_bits.Reads as reads
 use Rattle.types.proofs.float_value.from_bits.Lts as lts
 use Rattle.records.proofs.words.nan_bits.Reads as nan-bits-reads
 
--- src/float_value.rt:38:8
 nan-bits-requires : tie.Need-nan-bits-requires
 nan-bits-requires c κs = search needs
 
--- src/float_value.rt:39:9
 returns : tie.Need-returns
 returns c = bits-nan _ (sym (c .before .nan-bits .ensures) ∙ c .if1 .taken)
 
--- src/float_value.rt:41:23
 float-from-bits-t3 : tie.Need-float-from-bits-t3
 float-from-bits-t3 c = passes _ (ap not (sym (c .before .nan-bits .ensures) ∙ c .if1 .left))
 
--- src/float_value.rt:35:1
 returns-2 : tie.Need-returns-2
 unfolding floatOf
 returns-2 c = refl

@@ -5,7 +5,6 @@ use Rattle.types.proofs.float_value.is_finite.Tie as tie
 use Rattle.types.proofs.float_value.is_finite.Reads as reads
 use Rattle.types.proofs.float_value.is_finite.Lts as lts
 
--- src/float_value.rt:157:1
 returns : tie.Need-returns
 returns c = finite-is (c .args .x)
 

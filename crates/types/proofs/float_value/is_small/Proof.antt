@@ -5,12 +5,10 @@ use Rattle.types.proofs.float_value.is_small.Tie as tie
 use Rattle.types.proofs.float_value.is_small.Reads as reads
 use Rattle.types.proofs.float_value.is_small.Lts as lts
 
--- src/float_value.rt:165:1
 returns : tie.Need-returns
 unfolding small
 returns c = simp (c .if1 .taken)
 
--- src/float_value.rt:165:1
 returns-2 : tie.Need-returns-2
 unfolding small
 returns-2 c = simp (c .if1 .left)

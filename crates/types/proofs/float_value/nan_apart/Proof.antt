@@ -7,12 +7,10 @@ use Rattle.types.proofs.float_value.nan_apart.Tie as tie
 use Rattle.types.proofs.float_value.nan_apart.Reads as reads
 use Rattle.types.proofs.float_value.nan_apart.Lts as lts
 
--- src/float_value.rt:49:9
 returns : tie.Need-returns
 unfolding floatOf
 returns c = refl
 
--- src/float_value.rt:45:1
 returns-2 : tie.Need-returns-2
 returns-2 c = told-nan _ (c .if1 .left)
 

@@ -6,15 +6,12 @@ use Rattle.types.proofs.form.is_number.Reads as reads
 use Rattle.types.proofs.form.is_number.Lts as lts
 use Rattle.types.proofs.form.form.Reads as form-reads
 
--- src/form.rt:48:9
 form-requires : tie.Need-form-requires
 form-requires c κs = search needs
 
--- src/form.rt:50:9
 returns : tie.Need-returns
 returns c text = search number-int
 
--- src/form.rt:44:1
 returns-2 : tie.Need-returns-2
 returns-2 c text = search number-float
 

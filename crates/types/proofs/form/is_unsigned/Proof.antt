@@ -10,11 +10,9 @@ use Rattle.types.proofs.form.is_unsigned.Reads as reads
 use Rattle.types.proofs.form.is_unsigned.Lts as lts
 use Rattle.records.proofs.words.detail.Reads as detail-reads
 
--- src/form.rt:41:5
 detail-requires : tie.Need-detail-requires
 detail-requires c κs = search needs
 
--- src/form.rt:37:1
 returns : tie.Need-returns
 unfolding bit
 returns c = ap (λ (d : ℕ). eqb (d / 32 % 2) 1) (c .detail .ensures)

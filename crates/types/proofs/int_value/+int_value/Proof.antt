@@ -28,7 +28,6 @@ abbrev int-value-below : ℕ → In 1 int-value-kinds.ps
 int-value-below t =
     and 1 int-value-kinds.ps (falls 1 int-value-kinds.ps _<_ μ-int-value t) int-value.Pre
 
--- src/int_value.rt:99:9
 int-value-kind-requires : (t : ℕ) → int-value-lts.Need-kind-requires (
   kind-reads.Asked,
   kind-reads.Learnt,
@@ -49,7 +48,6 @@ int-value-kind-requires : (t : ℕ) → int-value-lts.Need-kind-requires (
 ) (int-value-at t) int-value.Post
 int-value-kind-requires t c κs = search needs
 
--- src/int_value.rt:101:53
 int-value-two-words-requires : (t : ℕ) → int-value-lts.Need-two-words-requires (
   kind-reads.Asked,
   kind-reads.Learnt,
@@ -70,7 +68,6 @@ int-value-two-words-requires : (t : ℕ) → int-value-lts.Need-two-words-requir
 ) (int-value-at t) int-value.Post
 int-value-two-words-requires t c κs = search needs
 
--- src/int_value.rt:101:31
 int-value-from-i64-bits-requires : (t : ℕ) → int-value-lts.Need-from-i64-bits-requires (
   kind-reads.Asked,
   kind-reads.Learnt,
@@ -91,7 +88,6 @@ int-value-from-i64-bits-requires : (t : ℕ) → int-value-lts.Need-from-i64-bit
 ) (int-value-at t) int-value.Post
 int-value-from-i64-bits-requires t c κs = search needs
 
--- src/int_value.rt:101:9
 int-value-returns : (t : ℕ) → int-value-lts.Need-returns (
   kind-reads.Asked,
   kind-reads.Learnt,
@@ -113,7 +109,6 @@ int-value-returns : (t : ℕ) → int-value-lts.Need-returns (
 int-value-returns t c text =
     int-is _ text _ _ (c .before .before .before .kind .ensures) (c .before .before .if1 .taken) _ (c .before .two-words .ensures) (c .from-i64-bits .result) (c .from-i64-bits .ensures)
 
--- src/int_value.rt:104:13
 int-value-reference-requires : (t : ℕ) → int-value-lts.Need-reference-requires (
   kind-reads.Asked,
   kind-reads.Learnt,
@@ -134,7 +129,6 @@ int-value-reference-requires : (t : ℕ) → int-value-lts.Need-reference-requir
 ) (int-value-at t) int-value.Post
 int-value-reference-requires t c κs = search needs
 
--- src/int_value.rt:106:31
 int-value-detail-requires : (t : ℕ) → int-value-lts.Need-detail-requires (
   kind-reads.Asked,
   kind-reads.Learnt,
@@ -155,7 +149,6 @@ int-value-detail-requires : (t : ℕ) → int-value-lts.Need-detail-requires (
 ) (int-value-at t) int-value.Post
 int-value-detail-requires t c κs = search needs
 
--- src/int_value.rt:106:48
 int-value-int-value-requires : (t : ℕ) → int-value-lts.Need-int-value-requires (
   kind-reads.Asked,
   kind-reads.Learnt,
@@ -176,7 +169,6 @@ int-value-int-value-requires : (t : ℕ) → int-value-lts.Need-int-value-requir
 ) (int-value-at t) int-value.Post
 int-value-int-value-requires t c κs = search needs
 
--- src/int_value.rt:106:13
 int-value-fold-unary-requires : (t : ℕ) → int-value-lts.Need-fold-unary-requires (
   kind-reads.Asked,
   kind-reads.Learnt,
@@ -197,7 +189,6 @@ int-value-fold-unary-requires : (t : ℕ) → int-value-lts.Need-fold-unary-requ
 ) (int-value-at t) int-value.Post
 int-value-fold-unary-requires t c κs = search needs
 
--- src/int_value.rt:106:13
 int-value-returns-2 : (t : ℕ) → int-value-lts.Need-returns-2 (
   kind-reads.Asked,
   kind-reads.Learnt,
@@ -219,7 +210,6 @@ int-value-returns-2 : (t : ℕ) → int-value-lts.Need-returns-2 (
 int-value-returns-2 t c text =
     int-unary _ text _ _ (c .before .before .before .before .before .before .before .kind .ensures) (c .before .before .before .before .before .if2 .taken) _ (c .before .before .before .before .reference .ensures) (c .before .before .before .if3 .taken) _ (c .before .before .detail .ensures) (c .before .int-value .result) (c .fold-unary .result) (c .before .int-value .ensures text) (c .fold-unary .ensures)
 
--- src/int_value.rt:108:9
 int-value-returns-3 : (t : ℕ) → int-value-lts.Need-returns-3 (
   kind-reads.Asked,
   kind-reads.Learnt,
@@ -241,7 +231,6 @@ int-value-returns-3 : (t : ℕ) → int-value-lts.Need-returns-3 (
 int-value-returns-3 t c text =
     int-unary-out _ text _ _ (c .before .before .before .before .kind .ensures) (c .before .before .if2 .taken) _ (c .before .reference .ensures) (c .if3 .left)
 
--- src/int_value.rt:111:13
 int-value-reference-requires-2 : (t : ℕ) → int-value-lts.Need-reference-requires-2 (
   kind-reads.Asked,
   kind-reads.Learnt,
@@ -262,7 +251,6 @@ int-value-reference-requires-2 : (t : ℕ) → int-value-lts.Need-reference-requ
 ) (int-value-at t) int-value.Post
 int-value-reference-requires-2 t c κs = search needs
 
--- src/int_value.rt:112:13
 int-value-reference-requires-3 : (t : ℕ) → int-value-lts.Need-reference-requires-3 (
   kind-reads.Asked,
   kind-reads.Learnt,
@@ -283,7 +271,6 @@ int-value-reference-requires-3 : (t : ℕ) → int-value-lts.Need-reference-requ
 ) (int-value-at t) int-value.Post
 int-value-reference-requires-3 t c κs = search needs
 
--- src/int_value.rt:115:36
 int-value-detail-requires-2 : (t : ℕ) → int-value-lts.Need-detail-requires-2 (
   kind-reads.Asked,
   kind-reads.Learnt,
@@ -304,7 +291,6 @@ int-value-detail-requires-2 : (t : ℕ) → int-value-lts.Need-detail-requires-2
 ) (int-value-at t) int-value.Post
 int-value-detail-requires-2 t c κs = search needs
 
--- src/int_value.rt:115:53
 int-value-int-value-requires-2 : (t : ℕ) → int-value-lts.Need-int-value-requires-2 (
   kind-reads.Asked,
   kind-reads.Learnt,
@@ -325,7 +311,6 @@ int-value-int-value-requires-2 : (t : ℕ) → int-value-lts.Need-int-value-requ
 ) (int-value-at t) int-value.Post
 int-value-int-value-requires-2 t c κs = search needs
 
--- src/int_value.rt:115:73
 int-value-int-value-requires-3 : (t : ℕ) → int-value-lts.Need-int-value-requires-3 (
   kind-reads.Asked,
   kind-reads.Learnt,
@@ -346,7 +331,6 @@ int-value-int-value-requires-3 : (t : ℕ) → int-value-lts.Need-int-value-requ
 ) (int-value-at t) int-value.Post
 int-value-int-value-requires-3 t c κs = search needs
 
--- src/int_value.rt:115:17
 int-value-fold-binary-requires : (t : ℕ) → int-value-lts.Need-fold-binary-requires (
   kind-reads.Asked,
   kind-reads.Learnt,
@@ -367,7 +351,6 @@ int-value-fold-binary-requires : (t : ℕ) → int-value-lts.Need-fold-binary-re
 ) (int-value-at t) int-value.Post
 int-value-fold-binary-requires t c κs = search needs
 
--- src/int_value.rt:115:17
 int-value-returns-4 : (t : ℕ) → int-value-lts.Need-returns-4 (
   kind-reads.Asked,
   kind-reads.Learnt,
@@ -389,7 +372,6 @@ int-value-returns-4 : (t : ℕ) → int-value-lts.Need-returns-4 (
 int-value-returns-4 t c text =
     int-binary _ text _ _ (c .before .before .before .before .before .before .before .before .before .before .before .kind .ensures) (c .before .before .before .before .before .before .before .before .if4 .taken) _ (c .before .before .before .before .before .before .before .reference2 .ensures) _ (c .before .before .before .before .before .before .reference3 .ensures) (c .before .before .before .before .before .if5 .taken) (c .before .before .before .before .if6 .taken) _ (c .before .before .before .detail2 .ensures) (c .before .before .int-value2 .result) (c .before .int-value3 .result) (c .fold-binary .result) (c .before .before .int-value2 .ensures text) (c .before .int-value3 .ensures text) (c .fold-binary .ensures)
 
--- src/int_value.rt:118:9
 int-value-returns-5 : (t : ℕ) → int-value-lts.Need-returns-5 (
   kind-reads.Asked,
   kind-reads.Learnt,
@@ -411,7 +393,6 @@ int-value-returns-5 : (t : ℕ) → int-value-lts.Need-returns-5 (
 int-value-returns-5 t c text =
     int-right-out _ text _ _ (c .before .before .before .before .before .before .before .kind .ensures) (c .before .before .before .before .if4 .taken) _ (c .before .before .before .reference2 .ensures) _ (c .before .before .reference3 .ensures) (c .if6 .left)
 
--- src/int_value.rt:118:9
 int-value-returns-6 : (t : ℕ) → int-value-lts.Need-returns-6 (
   kind-reads.Asked,
   kind-reads.Learnt,
@@ -433,7 +414,6 @@ int-value-returns-6 : (t : ℕ) → int-value-lts.Need-returns-6 (
 int-value-returns-6 t c text =
     int-left-out _ text _ _ (c .before .before .before .before .before .before .kind .ensures) (c .before .before .before .if4 .taken) _ (c .before .before .reference2 .ensures) _ (c .before .reference3 .ensures) (c .if5 .left)
 
--- src/int_value.rt:95:1
 int-value-returns-7 : (t : ℕ) → int-value-lts.Need-returns-7 (
   kind-reads.Asked,
   kind-reads.Learnt,

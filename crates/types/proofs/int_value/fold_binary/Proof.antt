@@ -7,35 +7,27 @@ use Rattle.types.proofs.int_value.fold_binary.Reads as reads
 use Rattle.types.proofs.int_value.fold_binary.Lts as lts
 use Rattle.types.proofs.int_value.fold_two.Reads as fold-two-reads
 
--- src/int_value.rt:86:29
 enum-told : tie.Need-enum-told
 enum-told c = search needs
 
--- src/int_value.rt:87:24
 enum-known-left : tie.Need-enum-known-left
 enum-known-left c = search needs
 
--- src/int_value.rt:88:33
 enum-told-2 : tie.Need-enum-told-2
 enum-told-2 c = search needs
 
--- src/int_value.rt:89:28
 enum-known-right : tie.Need-enum-known-right
 enum-known-right c = search needs
 
--- src/int_value.rt:89:34
 fold-two-requires : tie.Need-fold-two-requires
 fold-two-requires c κs = search needs
 
--- src/int_value.rt:82:1
 returns : tie.Need-returns
 returns c = search binary-left
 
--- src/int_value.rt:82:1
 returns-2 : tie.Need-returns-2
 returns-2 c = search binary-right
 
--- src/int_value.rt:82:1
 returns-3 : tie.Need-returns-3
 returns-3 c = search binary-two
 

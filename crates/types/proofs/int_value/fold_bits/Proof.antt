@@ -9,27 +9,21 @@ use Rattle.int128.proofs.Int128.bitand.Reads as bitand-reads
 use Rattle.int128.proofs.Int128.bitor.Reads as bitor-reads
 use Rattle.int128.proofs.Int128.bitxor.Reads as bitxor-reads
 
--- src/int_value.rt:42:9
 bitor-requires : tie.Need-bitor-requires
 bitor-requires c κs = search needs
 
--- src/int_value.rt:42:9
 returns : tie.Need-returns
 returns c = two-or _ _ _ (c .before .if1 .taken) _ (c .bitor .ensures)
 
--- src/int_value.rt:45:9
 bitxor-requires : tie.Need-bitxor-requires
 bitxor-requires c κs = search needs
 
--- src/int_value.rt:45:9
 returns-2 : tie.Need-returns-2
 returns-2 c = two-xor _ _ _ (c .before .if2 .taken) _ (c .bitxor .ensures)
 
--- src/int_value.rt:47:5
 bitand-requires : tie.Need-bitand-requires
 bitand-requires c κs = search needs
 
--- src/int_value.rt:37:1
 returns-3 : tie.Need-returns-3
 returns-3 c = two-and _ _ _ (c .before .before .before .pre .0) (c .before .before .before .pre .1) (c .before .before .if1 .left) (c .before .if2 .left) _ (c .bitand .ensures)
 

@@ -11,47 +11,36 @@ use Rattle.int128.proofs.Int128.checked_shl_by.Reads as checked-shl-by-reads
 use Rattle.int128.proofs.Int128.checked_shr_by.Reads as checked-shr-by-reads
 use Rattle.int128.proofs.Int128.eq.Reads as eq-reads
 
--- src/int_value.rt:70:29
 checked-shl-by-requires : tie.Need-checked-shl-by-requires
 checked-shl-by-requires c κs = search needs
 
--- src/int_value.rt:70:24
 enum-known-v : tie.Need-enum-known-v
 enum-known-v c = search needs
 
--- src/int_value.rt:71:9
 enum-told : tie.Need-enum-told
 enum-told c = search needs
 
--- src/int_value.rt:71:9
 returns : tie.Need-returns
 returns c = shift-nothing _ _ _ (c .before .before .checked-shl-by .ensures) (c .enum-told .given .1)
 
--- src/int_value.rt:73:32
 checked-shr-by-requires : tie.Need-checked-shr-by-requires
 checked-shr-by-requires c κs = search needs
 
--- src/int_value.rt:73:24
 enum-known-back : tie.Need-enum-known-back
 enum-known-back c = search needs
 
--- src/int_value.rt:74:9
 enum-told-2 : tie.Need-enum-told-2
 enum-told-2 c = search needs
 
--- src/int_value.rt:74:9
 returns-2 : tie.Need-returns-2
 returns-2 c = back-nothing _ _ _ (c .before .before .before .before .before .before .checked-shl-by .ensures) _ (c .before .before .before .before .v .given .1) _ (c .before .before .checked-shr-by .ensures) (c .enum-told2 .given .1)
 
--- src/int_value.rt:76:8
 eq-requires : tie.Need-eq-requires
 eq-requires c κs = search needs
 
--- src/int_value.rt:77:9
 returns-3 : tie.Need-returns-3
 returns-3 c = back-same _ _ _ (c .before .before .before .before .before .before .before .before .before .checked-shl-by .ensures) _ (c .before .before .before .before .before .before .before .v .given .1) _ (c .before .before .before .before .before .checked-shr-by .ensures) _ (c .before .before .before .back .given .1) (c .before .eq .ensures .0 (c .if1 .taken))
 
--- src/int_value.rt:67:1
 returns-4 : tie.Need-returns-4
 returns-4 c = back-other _ _ _ (c .before .before .before .before .before .before .before .before .before .checked-shl-by .ensures) _ (c .before .before .before .before .before .before .before .v .given .1) _ (c .before .before .before .before .before .checked-shr-by .ensures) _ (c .before .before .before .back .given .1) (λ e. true-false (sym (c .before .eq .ensures .1 e) ∙ c .if1 .left))
 

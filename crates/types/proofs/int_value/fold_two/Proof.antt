@@ -8,27 +8,21 @@ use Rattle.types.proofs.int_value.fold_two.Lts as lts
 use Rattle.types.proofs.int_value.fold_bits.Reads as fold-bits-reads
 use Rattle.types.proofs.int_value.fold_checked.Reads as fold-checked-reads
 
--- src/int_value.rt:71:9
 fold-checked-requires : tie.Need-fold-checked-requires
 fold-checked-requires c κs = search needs
 
--- src/int_value.rt:71:9
 returns : tie.Need-returns
 returns c = search needs
 
--- src/int_value.rt:74:9
 returns-2 : tie.Need-returns-2
 returns-2 c = two-middle _ _ _ (c .if2 .taken) (c .before .if1 .left)
 
--- src/int_value.rt:77:31
 fold-bits-requires : tie.Need-fold-bits-requires
 fold-bits-requires c κs = search needs
 
--- src/int_value.rt:77:9
 returns-3 : tie.Need-returns-3
 returns-3 c = search needs
 
--- src/int_value.rt:67:1
 returns-4 : tie.Need-returns-4
 returns-4 c = two-low _ _ _ (c .if3 .left)
 

@@ -8,35 +8,27 @@ use Rattle.types.proofs.int_value.fold_unary.Lts as lts
 use Rattle.int128.proofs.Int128.checked_neg.Reads as checked-neg-reads
 use Rattle.int128.proofs.Int128.not.Reads as not-reads
 
--- src/int_value.rt:23:29
 enum-told : tie.Need-enum-told
 enum-told c = search needs
 
--- src/int_value.rt:24:24
 enum-known-value : tie.Need-enum-known-value
 enum-known-value c = search needs
 
--- src/int_value.rt:26:39
 not-requires : tie.Need-not-requires
 not-requires c κs = search needs
 
--- src/int_value.rt:26:17
 returns : tie.Need-returns
 returns c = search unary-not
 
--- src/int_value.rt:29:17
 returns-2 : tie.Need-returns-2
 returns-2 c = search unary-none
 
--- src/int_value.rt:31:13
 checked-neg-requires : tie.Need-checked-neg-requires
 checked-neg-requires c κs = search needs
 
--- src/int_value.rt:19:1
 returns-3 : tie.Need-returns-3
 returns-3 c = search unary-nothing
 
--- src/int_value.rt:19:1
 returns-4 : tie.Need-returns-4
 returns-4 c = search unary-neg
 

@@ -15,15 +15,12 @@ use Rattle.types.proofs.operators.operator_of.Tie as tie
 use Rattle.types.proofs.operators.operator_of.Reads as reads
 use Rattle.types.proofs.operators.operator_of.Lts as lts
 
--- src/operators.rt:50:5
 mul-result : tie.Need-mul-result
 mul-result c = search needs
 
--- src/operators.rt:50:5
 array-copy-out-result : tie.Need-array-copy-out-result
 array-copy-out-result c = search needs
 
--- src/operators.rt:46:1
 entry : ℕ → ℕ → Operator
 entry a r = record { operands = a; result = r }
 

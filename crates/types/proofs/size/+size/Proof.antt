@@ -25,7 +25,6 @@ size-at t = and 1 size-kinds.ps (is 1 size-kinds.ps μ-size t) size.Pre
 abbrev size-below : ℕ → In 1 size-kinds.ps
 size-below t = and 1 size-kinds.ps (falls 1 size-kinds.ps _<_ μ-size t) size.Pre
 
--- src/size.rt:83:8
 size-form-requires : (t : ℕ) → size-lts.Need-form-requires (
   form-reads.Asked,
   form-reads.Learnt,
@@ -42,7 +41,6 @@ size-form-requires : (t : ℕ) → size-lts.Need-form-requires (
 ) (size-at t) size.Post
 size-form-requires t c κs = search needs
 
--- src/size.rt:84:13
 size-reference-requires : (t : ℕ) → size-lts.Need-reference-requires (
   form-reads.Asked,
   form-reads.Learnt,
@@ -59,7 +57,6 @@ size-reference-requires : (t : ℕ) → size-lts.Need-reference-requires (
 ) (size-at t) size.Post
 size-reference-requires t c κs = search needs
 
--- src/size.rt:86:26
 size-size-requires : (t : ℕ) → size-lts.Need-size-requires (
   form-reads.Asked,
   form-reads.Learnt,
@@ -76,7 +73,6 @@ size-size-requires : (t : ℕ) → size-lts.Need-size-requires (
 ) (size-at t) size.Post
 size-size-requires t c κs = search needs
 
--- src/size.rt:86:47
 size-two-words-requires : (t : ℕ) → size-lts.Need-two-words-requires (
   form-reads.Asked,
   form-reads.Learnt,
@@ -93,7 +89,6 @@ size-two-words-requires : (t : ℕ) → size-lts.Need-two-words-requires (
 ) (size-at t) size.Post
 size-two-words-requires t c κs = search needs
 
--- src/size.rt:86:13
 size-times-requires : (t : ℕ) → size-lts.Need-times-requires (
   form-reads.Asked,
   form-reads.Learnt,
@@ -110,7 +105,6 @@ size-times-requires : (t : ℕ) → size-lts.Need-times-requires (
 ) (size-at t) size.Post
 size-times-requires t c κs = search needs
 
--- src/size.rt:86:13
 size-returns : (t : ℕ) → size-lts.Need-returns (
   form-reads.Asked,
   form-reads.Learnt,
@@ -129,7 +123,6 @@ size-returns t c =
     promised _ _ _
     (λ text. array-in _ text _ _ (c .before .before .before .before .before .before .form .ensures) (c .before .before .before .before .before .if1 .taken) _ (c .before .before .before .before .reference .ensures) (c .before .before .before .if2 .taken) _ (c .before .two-words .ensures) _ _ (c .before .before .size .ensures .0 text) (c .times .ensures))
 
--- src/size.rt:88:9
 size-returns-2 : (t : ℕ) → size-lts.Need-returns-2 (
   form-reads.Asked,
   form-reads.Learnt,
@@ -146,7 +139,6 @@ size-returns-2 : (t : ℕ) → size-lts.Need-returns-2 (
 ) (size-at t) size.Post
 size-returns-2 t c = promised _ _ _ (λ text. search array-out)
 
--- src/size.rt:90:5
 size-plain-size-requires : (t : ℕ) → size-lts.Need-plain-size-requires (
   form-reads.Asked,
   form-reads.Learnt,
@@ -163,7 +155,6 @@ size-plain-size-requires : (t : ℕ) → size-lts.Need-plain-size-requires (
 ) (size-at t) size.Post
 size-plain-size-requires t c κs = search needs
 
--- src/size.rt:78:1
 size-returns-3 : (t : ℕ) → size-lts.Need-returns-3 (
   form-reads.Asked,
   form-reads.Learnt,

@@ -8,35 +8,27 @@ use Rattle.types.proofs.size.plain_size.Lts as lts
 use Rattle.types.proofs.form.form.Reads as form-reads
 use Rattle.types.proofs.form.is_short.Reads as is-short-reads
 
--- src/size.rt:58:9
 form-requires : tie.Need-form-requires
 form-requires c κs = search needs
 
--- src/size.rt:60:9
 returns : tie.Need-returns
 returns c text = search plain-none
 
--- src/size.rt:63:12
 is-short-requires : tie.Need-is-short-requires
 is-short-requires c κs = search needs
 
--- src/size.rt:64:13
 returns-2 : tie.Need-returns-2
 returns-2 c text = search plain-short
 
--- src/size.rt:66:9
 returns-3 : tie.Need-returns-3
 returns-3 c text = search plain-long
 
--- src/size.rt:69:9
 returns-4 : tie.Need-returns-4
 returns-4 c text = search plain-byte
 
--- src/size.rt:72:9
 returns-5 : tie.Need-returns-5
 returns-5 c text = search plain-address
 
--- src/size.rt:53:1
 returns-6 : tie.Need-returns-6
 returns-6 c text = search plain-rest
 

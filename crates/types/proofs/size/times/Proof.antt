@@ -9,47 +9,36 @@ use Rattle.types.proofs.size.times.Tie as tie
 use Rattle.types.proofs.size.times.Reads as reads
 use Rattle.types.proofs.size.times.Lts as lts
 
--- src/size.rt:33:27
 enum-told : tie.Need-enum-told
 enum-told c = search needs
 
--- src/size.rt:35:16
 enum-told-2 : tie.Need-enum-told-2
 enum-told-2 c = search needs
 
--- src/size.rt:36:17
 returns : tie.Need-returns
 returns c o h = over-zero _ (c .if1 .taken) o (sym (c .before .enum-told2 .given .1) ∙ h)
 
--- src/size.rt:40:24
 enum-known-element : tie.Need-enum-known-element
 enum-known-element c = search needs
 
--- src/size.rt:42:17
 returns-2 : tie.Need-returns-2
 returns-2 c o h = exactly-zero _ _ (c .if2 .taken) o (sym (c .before .before .element .given .1) ∙ h)
 
--- src/size.rt:44:21
 div-if3 : tie.Need-div-if3
 div-if3 c = search needs
 
--- src/size.rt:45:39
 mul-t8 : tie.Need-mul-t8
 mul-t8 c = record { fits = omega (arith, product-fits _ _ (c .before .if2 .left) (c .if3 .taken)) }
 
--- src/size.rt:45:17
 returns-3 : tie.Need-returns-3
 returns-3 c o h = exactly-fits _ _ (c .before .if2 .left) (c .if3 .taken) o (sym (c .before .before .before .element .given .1) ∙ h)
 
--- src/size.rt:29:1
 returns-4 : tie.Need-returns-4
 returns-4 c o h = times-nothing _ o (sym (c .enum-told .given .1) ∙ h)
 
--- src/size.rt:29:1
 returns-5 : tie.Need-returns-5
 returns-5 c o h = over-more _ (c .if1 .left) o (sym (c .before .enum-told2 .given .1) ∙ h)
 
--- src/size.rt:29:1
 returns-6 : tie.Need-returns-6
 returns-6 c o h = exactly-over _ _ (c .before .if2 .left) (c .if3 .left) o (sym (c .before .before .before .element .given .1) ∙ h)
 
