@@ -4,6 +4,8 @@
 // A case in the list: 26 words (length of the tree, length of the text, 1 if `main` is needed; how many bytes of each of the seven buffers are lent;
 // the byte that fills them before the call, and the byte behind the tables afterwards; the eight words of the answer; the lengths of the six tables),
 // then the bytes of the tree, of the text and of the tables. Where nothing is converted the tables are empty.
+#![tactic(auto)]
+
 ghost use Rattle.std.specs.Prelude.{◌≡◌, ◌+◌, ◌*◌, ◌≤◌, ◌<◌, length};
 
 use libc::STDOUT_FILENO;
@@ -30,14 +32,14 @@ const BODY_ROOM: usize = 620000;
 const MOST_CASES: usize = 1000000;
 
 // What came of the next case: whether it was read whole, or else that the list ended, and whether it came out the same.
-#[derive(Drop)]
+#[derive(Clone, Copy)]
 struct Came {
     read: bool,
     ended: bool,
     same: bool,
 }
 
-#[derive(Drop)]
+#[derive(Clone, Copy)]
 struct Tally {
     cases: usize,
     differ: usize,

@@ -1,4 +1,6 @@
 // Converts tree.bin and text.bin of its folder, no `main` needed, and prints the answer as one line.
+#![tactic(auto)]
+
 use converter::{Answer, Counts};
 use libc::STDOUT_FILENO;
 use records::convert_error::{AnswerWords, words_of};

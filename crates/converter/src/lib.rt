@@ -1,4 +1,6 @@
 // The call: a tree of any bytes is judged, and a good one is converted. Krc's converter/converter.rs.
+#![tactic(auto)]
+
 ghost use Rattle.std.specs.Prelude.{◌≡◌, ◌*◌, ◌≤◌, ◌<◌, length};
 ghost use Rattle.records.specs.Layout.{scratch_each};
 ghost use Rattle.records.specs.Words.{records};
@@ -26,7 +28,7 @@ use statements::answers::Finished;
 use texts::number_texts;
 
 // How many entries each table has, and how often the type of an expression was worked out.
-#[derive(Drop)]
+#[derive(Clone, Copy)]
 pub struct Counts {
     pub functions: usize,
     pub instructions: usize,
@@ -37,7 +39,7 @@ pub struct Counts {
     pub visits: usize,
 }
 
-#[derive(Drop)]
+#[derive(Clone, Copy)]
 pub enum Answer {
     Converted(Counts),
     Refused(ConvertError),

@@ -2,21 +2,21 @@
 use records::convert_error::ConvertError;
 
 // Fine, or a refusal.
-#[derive(Drop)]
+#[derive(Clone, Copy)]
 pub enum Outcome {
     Done,
     Refused(ConvertError),
 }
 
 // The type of an expression.
-#[derive(Drop)]
+#[derive(Clone, Copy)]
 pub enum ExprType {
     Is(usize),
     Refused(ConvertError),
 }
 
 // The type that both sides of an operator take.
-#[derive(Drop)]
+#[derive(Clone, Copy)]
 pub enum Common {
     Is(usize),
     Neither,
@@ -24,7 +24,7 @@ pub enum Common {
 }
 
 // What a call runs: the Rust's Callee, or a refusal.
-#[derive(Drop)]
+#[derive(Clone, Copy)]
 pub enum Resolved {
     Function(usize),
     Cast(usize),
@@ -32,7 +32,7 @@ pub enum Resolved {
 }
 
 // The type that a cast goes to, where the call is a cast.
-#[derive(Drop)]
+#[derive(Clone, Copy)]
 pub enum Cast {
     Not,
     To(usize),
@@ -40,7 +40,7 @@ pub enum Cast {
 }
 
 // The functions that fit a call.
-#[derive(Drop)]
+#[derive(Clone, Copy)]
 pub enum Candidates {
     Nobody,
     One(usize),

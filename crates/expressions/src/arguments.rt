@@ -21,14 +21,14 @@ use records::words::{Found, NONE, RECORD_BYTES, WORD_A, WORD_B, WORD_D, kind, lo
 pub const END: usize = NONE as usize;
 
 // An expression, or a type.
-#[derive(Drop)]
+#[derive(Clone, Copy)]
 pub enum Argument {
     Expr(usize),
     ToType(usize),
 }
 
 // A call: its verb's number and where the verb stands, its first cell (or END), and how many arguments it has.
-#[derive(Drop)]
+#[derive(Clone, Copy)]
 pub struct Call {
     pub verb: usize,
     pub offset: usize,

@@ -84,7 +84,7 @@ pub(crate) fn unary_type(tree: &[u8], text: &[u8], e: usize, ty: usize) -> ExprT
 }
 
 // Two operands, expressions with their types.
-#[derive(Drop)]
+#[derive(Clone, Copy)]
 pub struct Sides {
     pub left: usize,
     pub left_type: usize,

@@ -22,7 +22,7 @@ use records::words::{Found, NONE, RECORD_BYTES, WORD_D, kind, put_word, referenc
 use types::form::form;
 
 // How many functions there are.
-#[derive(Drop)]
+#[derive(Clone, Copy)]
 pub enum AllFunctions {
     Done(usize),
     Refused(ConvertError),

@@ -17,7 +17,7 @@ use records::words::{NONE, RECORD_BYTES, WORD_A, WORD_C, reference, word};
 use scope::{Declared, Scope};
 
 // The scope with the parameters, or AlreadyDeclared at the one whose name is taken.
-#[derive(Drop)]
+#[derive(Clone, Copy)]
 pub enum Parameters {
     Done(Scope),
     Refused(ConvertError),

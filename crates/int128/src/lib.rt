@@ -1,5 +1,7 @@
 // Signed integers of 128 bits, as two halves of 64 bits in two's complement. The operations are those of Rust's i128, under its names; each
 // contract gives the exact whole number, or nothing where that does not fit.
+#![tactic(auto)]
+
 pub mod bits;
 pub mod magnitude;
 pub mod order;
@@ -13,14 +15,14 @@ pub use order::int_fits;
 pub use words::{CheckedI64, CheckedU64};
 
 // hi * 2^64 + lo, less 2^128 where hi is 2^63 or more.
-#[derive(Drop)]
+#[derive(Clone, Copy)]
 pub struct Int128 {
     pub hi: u64,
     pub lo: u64,
 }
 
 // An answer, or nothing where there is none.
-#[derive(Drop)]
+#[derive(Clone, Copy)]
 pub enum Checked {
     Value(Int128),
     Nothing,

@@ -8,7 +8,7 @@ use super::magnitude::{magnitude, negative, signed};
 use super::{Checked, Int128};
 
 // A magnitude, or that it is 2^128 or more.
-#[derive(Drop)]
+#[derive(Clone, Copy)]
 pub(crate) enum Product {
     Fits(Int128),
     Over,

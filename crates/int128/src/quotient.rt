@@ -12,14 +12,14 @@ use super::shifts::{shl_bits, shr_bits};
 use super::{Checked, Int128};
 
 // Of magnitudes.
-#[derive(Drop)]
+#[derive(Clone, Copy)]
 pub(crate) struct Division {
     quotient: Int128,
     remainder: Int128,
 }
 
 // Of words.
-#[derive(Drop)]
+#[derive(Clone, Copy)]
 struct WordDivision {
     quotient: u64,
     remainder: u64,

@@ -6,7 +6,7 @@ ghost use Rattle.int128.specs.Ops.{exact, add_of, sub_of, neg_of, not_of};
 use super::{Checked, Int128, SIGN};
 
 // A sum of two halves: 64 bits, and 1 where it carries.
-#[derive(Drop)]
+#[derive(Clone, Copy)]
 struct Half {
     sum: u64,
     carry: u64,

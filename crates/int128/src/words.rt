@@ -9,13 +9,13 @@ ghost use Rattle.int128.specs.Ops.{to_u64_of, to_i64_of};
 use super::{Int128, SIGN};
 
 // A number of 64 bits, or nothing where it does not fit.
-#[derive(Drop)]
+#[derive(Clone, Copy)]
 pub enum CheckedI64 {
     Value(i64),
     Nothing,
 }
 
-#[derive(Drop)]
+#[derive(Clone, Copy)]
 pub enum CheckedU64 {
     Value(u64),
     Nothing,

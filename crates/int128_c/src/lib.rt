@@ -1,5 +1,7 @@
 // The operations of int128 for C and Rust: numbers as two halves. An answer is true with its halves in the two words that the caller lends,
 // or false with zeros there.
+#![tactic(auto)]
+
 ghost use Rattle.int128.specs.Ops.{add_of, sub_of, mul_of, div_of, rem_of, neg_of, not_of, and_of, or_of, xor_of, shl_of, shr_of, by_count, int_fits};
 ghost use Rattle.std.specs.Int.Signed.{lt_z};
 ghost use Rattle.std.proofs.Math.Option.{some};

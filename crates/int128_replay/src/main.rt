@@ -1,5 +1,7 @@
 // Runs the cases of standard input through int128. A case is a line: the operation, and the halves of two numbers as 16 hexadecimal digits
 // each. For each it writes a line: 1 and the halves of the answer, or 0. The file stdout has what Rust's i128 answers.
+#![tactic(auto)]
+
 ghost use Rattle.std.specs.Prelude.{◌+◌, ◌≤◌, ◌<◌};
 
 use int128::{Checked, Int128};

@@ -4,20 +4,20 @@ ghost use Rattle.ir.specs.Floats.{bits_of_float, entry_of_float, entry};
 
 use records::words::nan_bits;
 
-#[derive(Drop)]
+#[derive(Clone, Copy)]
 pub struct FloatEntry {
     pub value: f64,
     pub short: bool,
 }
 
-#[derive(Drop)]
+#[derive(Clone, Copy)]
 pub enum FloatBits {
     Number(FloatEntry),
     Nan(u64, bool),
 }
 
 // An entry by its bits, by which it is found.
-#[derive(Drop)]
+#[derive(Clone, Copy)]
 pub struct EntryBits {
     pub bits: u64,
     pub short: bool,

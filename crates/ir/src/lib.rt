@@ -1,4 +1,6 @@
 // The emitter: the six tables while converting, and what a function's conversion adds to them. The definitions stand in specs/.
+#![tactic(auto)]
+
 pub mod arena;
 pub mod counter;
 pub mod cut;

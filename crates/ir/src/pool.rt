@@ -21,7 +21,7 @@ use records::words::{
 };
 
 // An entry's number, and the counters that count it.
-#[derive(Drop)]
+#[derive(Clone, Copy)]
 pub struct PoolNumber {
     pub number: u32,
     pub counters: Counters,

@@ -70,14 +70,14 @@ pub const TAG_STRING: u8 = 8;
 pub const TAG_NULL: u8 = 9;
 
 // A label's number in its function.
-#[derive(Drop)]
+#[derive(Clone, Copy)]
 pub struct Label(pub u32);
 
 // A variable: its number in its function, and its type's record.
-#[derive(Drop)]
+#[derive(Clone, Copy)]
 pub struct VarId(pub u32, pub u32);
 
-#[derive(Drop)]
+#[derive(Clone, Copy)]
 pub enum Operand {
     Var(VarId),
     // The 64 bits, short, unsigned.
@@ -91,14 +91,14 @@ pub enum Operand {
 }
 
 // An operand as it is written.
-#[derive(Drop)]
+#[derive(Clone, Copy)]
 pub struct WrittenOperand {
     pub tag: u8,
     pub value: u64,
 }
 
 // An instruction as it is written; the last of its bytes are zero.
-#[derive(Drop)]
+#[derive(Clone, Copy)]
 pub struct Fields {
     pub kind: u8,
     pub operator: u8,
@@ -110,7 +110,7 @@ pub struct Fields {
 
 // How many entries each table has, for a tree of so many records, and how many instructions, variables and labels there were before
 // the function at hand began.
-#[derive(Drop)]
+#[derive(Clone, Copy)]
 pub struct Counters {
     pub records: usize,
     pub instructions: usize,
@@ -125,14 +125,14 @@ pub struct Counters {
 }
 
 // A new variable, and the counters that count it.
-#[derive(Drop)]
+#[derive(Clone, Copy)]
 pub struct NewVariable {
     pub var: VarId,
     pub counters: Counters,
 }
 
 // A label's number, and the counters that count it.
-#[derive(Drop)]
+#[derive(Clone, Copy)]
 pub struct LabelNumber {
     pub label: Label,
     pub counters: Counters,

@@ -1,4 +1,6 @@
 // A tree of any bytes is judged, exactly as document 01's rows 'lengths', 'buffers', 'records' and 'nesting' say.
+#![tactic(auto)]
+
 ghost use Rattle.std.specs.Prelude.{◌≡◌, ◌*◌, ◌≤◌, [], length};
 ghost use Rattle.records.specs.Layout.{scratch_each};
 ghost use Rattle.records.specs.Words.{record_bytes, most_records};
@@ -31,7 +33,7 @@ const STRINGS_EACH: usize = 8;
 const FLOATS_EACH: usize = 32;
 
 // How long the lent outputs are.
-#[derive(Drop)]
+#[derive(Clone, Copy)]
 pub struct Lengths {
     pub instructions: usize,
     pub variables: usize,
@@ -41,7 +43,7 @@ pub struct Lengths {
     pub floats: usize,
 }
 
-#[derive(Drop)]
+#[derive(Clone, Copy)]
 pub enum Judged {
     Accepted,
     Refused(ConvertError),

@@ -28,7 +28,7 @@ use records::words::{
 const DEEPEST: u8 = 64;
 
 // The words A to E of a record.
-#[derive(Drop)]
+#[derive(Clone, Copy)]
 pub struct Words {
     pub a: u32,
     pub b: u32,
@@ -38,7 +38,7 @@ pub struct Words {
 }
 
 // The lowest record that breaks a rule, and the lowest that is too deep.
-#[derive(Drop)]
+#[derive(Clone, Copy)]
 pub struct Lowests {
     pub fault: usize,
     pub deep: usize,

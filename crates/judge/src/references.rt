@@ -21,7 +21,7 @@ const ONE_KIND: u32 = 16777216;
 const BYTE_VALUES: u32 = 256;
 
 // What a word, or a whole record, was found to be: right, and so deep, up to 65.
-#[derive(Drop)]
+#[derive(Clone, Copy)]
 pub struct Told {
     pub ok: bool,
     pub depth: u8,

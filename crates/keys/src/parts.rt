@@ -10,7 +10,7 @@ use records::texts::same_run;
 use records::words::reference;
 
 // An offset and a length.
-#[derive(Drop)]
+#[derive(Clone, Copy)]
 pub struct Part {
     pub offset: usize,
     pub len: usize,

@@ -1,1 +1,2 @@
 // Laws that every crate above cites. Definitions stand in specs/, lemmas in proofs/; there is no code here.
+#![tactic(auto)]

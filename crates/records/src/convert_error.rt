@@ -4,7 +4,7 @@ ghost use Rattle.records.specs.Answer.{number_of, span_word, words_of};
 
 use crate::words::{RECORD_BYTES, SPAN_END, SPAN_START, word};
 
-#[derive(Drop)]
+#[derive(Clone, Copy)]
 pub enum ConvertErrorKind {
     SameSignature,
     SameSymbol,
@@ -43,14 +43,14 @@ const BAD_TREE: u32 = 24;
 const SHORT_BUFFER: u32 = 26;
 
 // A refusal and the record where it happened, NONE where it has no place.
-#[derive(Drop)]
+#[derive(Clone, Copy)]
 pub struct ConvertError {
     pub kind: ConvertErrorKind,
     pub place: u32,
 }
 
 // An answer in document 01's words.
-#[derive(Drop)]
+#[derive(Clone, Copy)]
 pub struct AnswerWords {
     pub number: u32,
     pub place: u32,

@@ -61,7 +61,7 @@ pub fn least(x: usize, y: usize) -> usize
 }
 
 // How far two texts agree, and whether they are the same.
-#[derive(Drop)]
+#[derive(Clone, Copy)]
 pub struct Agreement {
     pub bytes: u32,
     pub whole: bool,
@@ -111,7 +111,7 @@ fn records_agree(tree: &[u8], text: &[u8], k: usize, r: usize, from: u32) -> Agr
 
 // Where a record belongs in a chain: the entry that has its text, or itself; and then where the link that is to lead to it stands, and how far its text agrees
 // with that of the entry before. Beside it, how many entries were passed, of which no more than so many are counted.
-#[derive(Drop)]
+#[derive(Clone, Copy)]
 pub struct ChainPlace {
     pub number: usize,
     pub at: usize,

@@ -10,7 +10,7 @@ use crate::numbers::{
 };
 
 // What a word of a record is for. Text is an offset and Length the length beside it; from Expr on a word refers to a record.
-#[derive(Drop)]
+#[derive(Clone, Copy)]
 pub enum Role {
     Unused,
     Number,
@@ -29,7 +29,7 @@ pub enum Role {
 }
 
 // A row of the table: details stay below `limit`, and what the words A to E are for.
-#[derive(Drop)]
+#[derive(Clone, Copy)]
 pub struct Row {
     pub limit: u8,
     pub a: Role,

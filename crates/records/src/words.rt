@@ -140,7 +140,7 @@ pub fn put_pair(buf: &mut [u8], at: usize, a: u32, b: u32)
 }
 
 // Four words, to be written at once; what each is for its writer says.
-#[derive(Drop)]
+#[derive(Clone, Copy)]
 pub struct Four(pub u32, pub u32, pub u32, pub u32);
 
 pub fn put_four(buf: &mut [u8], at: usize, w: Four)
@@ -153,7 +153,7 @@ pub fn put_four(buf: &mut [u8], at: usize, w: Four)
 }
 
 // What a search answers: the number of the entry, or that there is none.
-#[derive(Drop)]
+#[derive(Clone, Copy)]
 pub enum Found {
     At(usize),
     Nothing,

@@ -1,4 +1,6 @@
 // The comparison of texts for C and Rust, so that it can be timed by itself.
+#![tactic(auto)]
+
 ghost use Rattle.std.specs.Prelude.{◌≡◌};
 ghost use Rattle.records.specs.Words.{text_at, same_text};
 

@@ -1,4 +1,6 @@
 // The library that C and Rust link: each call lends its buffers, and the answer comes back as words in a buffer too.
+#![tactic(auto)]
+
 ghost use Rattle.std.specs.Prelude.{◌≡◌, ◌++◌, ◌%◌, ◌≤◌, length};
 ghost use Rattle.laws.specs.Splice.{splice};
 ghost use Rattle.records.specs.Answer.{words_of};

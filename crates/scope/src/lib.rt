@@ -2,6 +2,8 @@
 // many are open. Leaving a block is going on with the scope from before it. Names are told apart by two words, offset and length: callers take
 // those of the lowest record with the text, so no text is compared. The number of that record has a slot, which says where the text was declared
 // last, so no name is searched for.
+#![tactic(auto)]
+
 ghost use Rattle.std.specs.Prelude.{◌≡◌, ◌+◌, ◌*◌, ◌≤◌, ◌<◌, length};
 ghost use Rattle.records.specs.Layout.{open_names, scratch_each};
 ghost use Rattle.ir.specs.Search.{found_of};
@@ -14,7 +16,7 @@ use records::words::{
 };
 
 // For a tree of so many records: how many names are open, the record of the innermost loop (or NONE), and the function's record.
-#[derive(Drop)]
+#[derive(Clone, Copy)]
 pub struct Scope {
     pub records: usize,
     pub names: usize,
@@ -22,14 +24,14 @@ pub struct Scope {
     pub function: u32,
 }
 
-#[derive(Drop)]
+#[derive(Clone, Copy)]
 pub enum Known {
     // The variable, and whether it is constant.
     Is(VarId, bool),
     Unknown,
 }
 
-#[derive(Drop)]
+#[derive(Clone, Copy)]
 pub enum Declared {
     // The scope with one name more.
     Done(Scope),
@@ -37,7 +39,7 @@ pub enum Declared {
     Taken,
 }
 
-#[derive(Drop)]
+#[derive(Clone, Copy)]
 pub enum InLoop {
     Of(u32),
     Outside,

@@ -1,2 +1,4 @@
 // Sorting.
+#![tactic(auto)]
+
 pub mod sorted;

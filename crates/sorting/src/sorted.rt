@@ -42,7 +42,7 @@ fn comes_first(text: &[u8], i: usize, x: usize, j: usize, y: usize, shared: usiz
 }
 
 // Which of two is next, and how far their texts or keys agree.
-#[derive(Drop)]
+#[derive(Clone, Copy)]
 struct Choice {
     left: bool,
     shared: u32,
@@ -175,7 +175,7 @@ fn choose(
 }
 
 // Two runs, of the entries from lo to mid and from mid to hi: they stand from `at` on, and are merged from `to` on.
-#[derive(Drop)]
+#[derive(Clone, Copy)]
 struct Runs {
     at: usize,
     to: usize,
@@ -185,7 +185,7 @@ struct Runs {
 }
 
 // The entry of each that is next, and how far its key agrees with that of the last one put out.
-#[derive(Drop)]
+#[derive(Clone, Copy)]
 struct Heads {
     left: usize,
     right: usize,

@@ -7,7 +7,7 @@ use scope::Scope;
 
 // The names known, how many operands wait in scratch for the calls around (the values of the call at hand stand behind them), and the turn in which
 // types are remembered. How far the tables are written is lent beside it, as words.
-#[derive(Drop)]
+#[derive(Clone, Copy)]
 pub struct Converter {
     pub scope: Scope,
     pub operands: usize,
@@ -15,42 +15,42 @@ pub struct Converter {
 }
 
 // An expression: its operand.
-#[derive(Drop)]
+#[derive(Clone, Copy)]
 pub enum Converted {
     Is(Operand),
     Refused(ConvertError),
 }
 
 // The arguments of a call: how many values were put on the stack.
-#[derive(Drop)]
+#[derive(Clone, Copy)]
 pub enum ConvertedArgs {
     Done(usize),
     Refused(ConvertError),
 }
 
 // A statement: the scope for what follows it.
-#[derive(Drop)]
+#[derive(Clone, Copy)]
 pub enum Stated {
     Done(Scope),
     Refused(ConvertError),
 }
 
 // A block, or what leaves the scope as it was.
-#[derive(Drop)]
+#[derive(Clone, Copy)]
 pub enum Finished {
     Done,
     Refused(ConvertError),
 }
 
 // The variable of a For, and the scope of its body.
-#[derive(Drop)]
+#[derive(Clone, Copy)]
 pub(crate) enum ForVariable {
     Is(VarId, Scope),
     Refused(ConvertError),
 }
 
 // A value of a call: the parameter at its position, and the arguments behind it. Each is a cell, or END.
-#[derive(Drop)]
+#[derive(Clone, Copy)]
 pub(crate) struct AtValue {
     pub parameter: usize,
     pub rest: usize,

@@ -2,6 +2,8 @@
 // the arena, and the operands of a call wait on a stack in scratch until the call is written. Every function takes and leaves the same (`answers`,
 // specs/Converting.antt); expressions are in `exprs` with what they need, statements without a block in `statements`, what stands around blocks in
 // `loops`, and statements with blocks in `blocks`.
+#![tactic(auto)]
+
 pub mod answers;
 pub mod blocks;
 mod exprs;

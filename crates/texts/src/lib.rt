@@ -1,4 +1,6 @@
 // Texts by number: each record that has a text gets the lowest record with the same one, so that a look-up need not compare bytes.
+#![tactic(auto)]
+
 ghost use Rattle.std.specs.Prelude.{◌≡◌, true, ◌+◌, ◌*◌, ◌≤◌, ◌<◌, length};
 ghost use Rattle.records.specs.Layout.{scratch_each};
 ghost use Rattle.records.specs.Good.{Good};
@@ -33,7 +35,7 @@ fn has_text(k: u8) -> bool
 }
 
 // A text's number, and how many entries of its chain were passed to find it.
-#[derive(Drop)]
+#[derive(Clone, Copy)]
 struct Walk {
     number: u32,
     passed: u32,
@@ -69,7 +71,7 @@ fn number_text(tree: &[u8], text: &[u8], r: usize, b: usize, scratch: &mut [u8])
 
 // What the pass knows of long texts: how far the samples of the text lie apart, 0 where it is not sampled yet; and how many bytes the long texts have in all, up to
 // the sampling.
-#[derive(Drop)]
+#[derive(Clone, Copy)]
 struct Reading {
     stride: usize,
     long: usize,
@@ -126,7 +128,7 @@ fn roll_read(text: &[u8], scratch: &[u8], n: usize, stride: usize, offset: u32, 
 }
 
 // What is known of long texts, and how many entries the record passed.
-#[derive(Drop)]
+#[derive(Clone, Copy)]
 struct Step {
     reading: Reading,
     passed: u32,

@@ -15,7 +15,7 @@ use records::words::{WORD_A, WORD_B, detail, kind, nan_bits, reference};
 
 // A number or an infinity, a NaN, or nothing where the expression is no float constant. A NaN stands apart because its bits are not
 // an f64 that code may make.
-#[derive(Drop)]
+#[derive(Clone, Copy)]
 pub enum FloatValue {
     Value(f64),
     Nan,

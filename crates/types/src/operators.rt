@@ -18,7 +18,7 @@ pub const COMMON: u8 = 0;
 
 pub const BOOL: u8 = 1;
 
-#[derive(Drop)]
+#[derive(Clone, Copy)]
 pub struct Operator {
     pub operands: u8,
     pub result: u8,

@@ -11,7 +11,7 @@ use records::numbers::{FORM_ADDRESS, FORM_ARRAY, FORM_FLOAT, FORM_INT};
 use records::words::{WORD_A, WORD_B, reference};
 
 // A number below 2^63, or that it is 2^63 or more, or nothing: Custom, Null and arrays of these have no size.
-#[derive(Drop)]
+#[derive(Clone, Copy)]
 pub enum Bytes {
     Exactly(u64),
     Over,
