@@ -29,6 +29,10 @@ class Fn:
         for p, a in zip(d["places"], d["arms"]):
             if a:
                 self.arm[norm(p[0])] = a
+        self.clause = {}
+        for p, a in zip(d["places"], d["clauses"]):
+            if a:
+                self.clause[norm(p[0])] = a
         self.needs = {}
         for (old, new), (po, pn) in zip(d["needs"], d["asked_at"]):
             self.needs[norm(old)] = (new, norm(po))
@@ -72,6 +76,7 @@ START = ("requires", "args", "ranges", "type_inv", "well_formed", "lifetimes", "
 class Turn:
     def __init__(self, fn, where, said):
         self.fn, self.where, self.said = fn, where, said
+        self.goals = []
 
     def path(self, pl, befores, rest):
         """c.before^n.rest at place pl -> new path without the leading c, and None where it is a context"""
@@ -81,6 +86,9 @@ class Turn:
             return None
         lab = rest[0]
         if norm(lab) in START:
+            pre = fn.d.get("pre")
+            if pre and norm(lab) == "requires" and len(rest) > 1 and rest[1].isdigit():
+                return [lab, pre["fields"][int(rest[1])]] + rest[2:]
             return rest
         q, new = fn.label(pl, lab)
         if q is None:
@@ -92,7 +100,15 @@ class Turn:
                 if norm(oldlab) == norm(lab) and [norm(x) for x in rest[1:1 + len(oldpath)]] == [norm(x) for x in oldpath]:
                     return [arm[0], newfield] + rest[1 + len(oldpath):]
             self.said("arm %s: %s" % (json.dumps(arm), ".".join(rest)))
-        return [new] + rest[1:]
+        cl = fn.clause.get(q)
+        if cl and len(rest) > 2 and rest[1] == "ensures" and rest[2].isdigit():
+            names = cl if isinstance(cl, list) else cl.get("fields", cl)
+            if int(rest[2]) < len(names):
+                return [new, "ensures", names[int(rest[2])]] + rest[3:]
+        tail = rest[1:]
+        if tail and tail[0] in ("taken", "left") and new.startswith("if-"):
+            tail = [{"taken": "true", "left": "false"}[tail[0]]] + tail[1:]
+        return [new] + tail
 
     def body(self, text, var, pl):
         """the text with each path from the context `var`, at place pl, respelled; a let of a context is `c`"""
@@ -132,7 +148,83 @@ class Turn:
                 out.append("c." + ".".join(new))
             pos = m.end()
         out.append(text[pos:])
-        return "".join(out)
+        text = "".join(out)
+        test = r"not[-_](?:true|false) (?:_|\([^()]*\)|[^\s()]+) (c\.(?:if-|loop-)[\w\-]+\.(?:true|false))"
+        text = re.sub(r"\(" + test + r"\)", r"\1", text)
+        text = re.sub(test, r"\1", text)
+        return self.branches(text)
+
+    def chain(self, first):
+        """the places from `first` down to the last one of its branch"""
+        fn = self.fn
+        inside = []
+        for p in fn.d["places"]:
+            q = norm(p[0])
+            r = q
+            while r is not None and r != first:
+                r = fn.parent(r)
+            if r == first:
+                inside.append(q)
+        last, up = inside[-1], []
+        while last != first:
+            up.append(last)
+            last = fn.parent(last)
+        return [first] + up[::-1]
+
+    def branches(self, text):
+        """a case split on the branch of a join, of two lambdas, by the branches' names"""
+        rx = re.compile(r"⊎_elim\s+\(λ (\w+)\. ")
+        while True:
+            found = None
+            for m in rx.finditer(text):
+                i, parts = m.start() + len("⊎_elim"), []
+                for _ in range(2):
+                    while i < len(text) and text[i].isspace():
+                        i += 1
+                    if i >= len(text) or text[i] != "(":
+                        break
+                    depth, j = 0, i
+                    while j < len(text):
+                        if text[j] == "(":
+                            depth += 1
+                        elif text[j] == ")":
+                            depth -= 1
+                            if depth == 0:
+                                break
+                        j += 1
+                    parts.append(text[i + 1:j])
+                    i = j + 1
+                tail = re.match(r"\s+c\.(if-[\w\-+.]*?|match[\w\-+]*)\.branch", text[i:])
+                if len(parts) == 2 and tail:
+                    found = (m.start(), i + tail.end(), parts, tail.group(1))
+                    break
+            if not found:
+                return text
+            a, b, parts, lab = found
+            arms = []
+            sides = [norm(p[0]) for p, n in zip(self.fn.d["places"], self.fn.d["places_by_name"]) if p[2][1] == lab and not n.startswith("Joined")]
+            if len(sides) != 2:
+                self.said("branch of %s: %s" % (lab, sides))
+                return text
+            for part, side in zip(parts, sides):
+                ch = self.chain(side)
+                w, bod = re.match(r"λ (\w+)\. (.*)$", part, re.S).groups()
+                name = "+".join(self.fn.newplace[q][0].lower() + self.fn.newplace[q][1:] for q in ch if re.match(r"(Then|Else|In)-", self.fn.newplace[q]))
+                steps = [q for q in ch]
+
+                def field(m, steps=steps, w=w):
+                    k, rest = int(m.group(1)), m.group(2)
+                    if k < len(steps):
+                        q = steps[k]
+                        new = self.fn.place[q][2][1]
+                        rest = {".taken": ".true", ".left": ".false"}.get(rest, rest)
+                        return w + "." + new + rest
+                    return "%s.VAR%d-is%s" % (w, k - len(steps), rest)
+
+                bod = re.sub(r"(?<![\w.\-'])" + w + r"\.(\d+)((?:\.\w+)*)", field, bod)
+                arms.append("%s %s ↦ %s" % (name, w, bod))
+                self.goals.append(name)
+            text = text[:a] + "elim c.%s.branch [ %s ]" % (lab, " | ".join(arms)) + text[b:]
 
 
 def blocks(text):
@@ -179,6 +271,76 @@ def split_decls(block):
     return ds
 
 
+def as_record(body, fields, said, name):
+    """the last tuple of an answer, as a record of the clauses"""
+    b = body.rstrip()
+    if not b.endswith(")"):
+        said("a record is asked: %s %s" % (name, fields))
+        return body
+    depth, i = 0, len(b) - 1
+    while i >= 0:
+        if b[i] == ")":
+            depth += 1
+        elif b[i] == "(":
+            depth -= 1
+            if depth == 0:
+                break
+        i -= 1
+    before, inner = b[:i], b[i + 1:-1]
+    if before.strip() and not before.rstrip().endswith("in"):
+        said("a record is asked: %s %s" % (name, fields))
+        return body
+    parts, depth, cur = [], 0, ""
+    for ch in inner:
+        if ch in "([{":
+            depth += 1
+        if ch in ")]}":
+            depth -= 1
+        if ch == "," and depth == 0:
+            parts.append(cur)
+            cur = ""
+        else:
+            cur += ch
+    parts.append(cur)
+    n = len(fields)
+    if len(parts) < n:
+        said("a record is asked: %s %s" % (name, fields))
+        return body
+    parts = parts[:n - 1] + ([",".join(parts[n - 1:])] if len(parts) == n else ["(" + ",".join(parts[n - 1:]).strip() + ")"])
+    return before + "record { " + "; ".join("%s = %s" % (f, q.strip()) for f, q in zip(fields, parts)) + " }"
+
+
+def with_lets(body, unf, ctx_helpers):
+    """the helpers of a context that the body calls, as lets before it"""
+    need, todo = set(), [body]
+    while todo:
+        x = todo.pop()
+        for h in ctx_helpers:
+            if h[0] not in need and re.search(r"(?<![\w.\-'])" + re.escape(h[0]) + r"(?![\w\-'])", x):
+                need.add(h[0])
+                todo += [h[1], h[2]]
+
+    def strip(x):
+        for h in ctx_helpers:
+            call = re.escape(h[0]) + r" (?!in\b)[a-z]\w*(?:\.before)*"
+            x = re.sub(r"\(" + call + r"\)|(?<![\w.\-'])" + call + r"(?![\w.\-'])", h[0], x)
+        return x
+
+    lets = ""
+    for h in ctx_helpers:
+        if h[0] in need:
+            lets += "\n    let %s : %s = %s in" % (h[0], strip(h[1]), strip(h[2]))
+            unf = unf + [u for u in h[3] if u not in unf]
+    if unf:
+        words = []
+        for u in unf:
+            for w in u.split()[1:]:
+                if w not in words and w not in [h[0] for h in ctx_helpers]:
+                    words.append(w)
+        unf = ["unfolding " + " ".join(words)] if words else []
+    return (lets + "\n    " + strip(body)) if lets else body, unf
+
+
 def main():
     folder, names = sys.argv[1:3]
     crate = os.path.basename(os.path.normpath(folder))
@@ -201,6 +363,7 @@ def turn_file(crate, path, pf, fn):
     text = open(pf, encoding="utf-8").read().rstrip("\n")
     own = "Rattle.%s.proofs.%s." % (crate, path)
     head, uses, inv, ans, helpers = [], [], [], [], []
+    ctx_helpers = []
     t = Turn(fn, pf, said)
     first = True
     loops = {}
@@ -288,7 +451,7 @@ def turn_file(crate, path, pf, fn):
                 got = fn.need(mn.group(1))
                 if got is None:
                     n = norm(mn.group(1))
-                    if clause.rstrip().endswith("search rules"):
+                    if re.search(r"=\s*(search rules|omega arith)$", clause.rstrip()):
                         continue
                     said("no goal for %s (settled: %s)" % (mn.group(1), " ".join(fn.d["settled"])))
                     continue
@@ -299,26 +462,32 @@ def turn_file(crate, path, pf, fn):
                     helpers.append("\n".join(coms + dcl))
                     continue
                 args, body = mc.group(1).split(), mc.group(2)
-                if body.strip() in ("search rules", "omega arith") :
+                if body.strip() in ("search rules", "omega arith") and not unf:
                     continue
                 if args and args[-1] in ("κs", "κ"):
                     args = args[:-1]
                 var = args[0] if args else "c"
                 body = t.body(body, var, pl)
+                asked = {norm(k): v for k, v in fn.d["asked"].items()}
+                if norm(mn.group(1)) in asked:
+                    body = as_record(body, asked[norm(mn.group(1))], said, nn)
+                body, unf = with_lets(body, unf, ctx_helpers)
                 ans.append("\n".join(coms + ["pub %s : goal.%s" % (nn, nn)] + unf + ["%s %s = %s" % (nn, " ".join(args), body)]))
                 continue
             # a helper: contexts in its type
-            mt = re.findall(r"\((\S+)\s*:\s*tie\.(\S+?)\)", sig)
+            mt = re.findall(r":\s*\((\S+)\s*:\s*tie\.([^\s()]+)[^()]*\)\s*→", sig)
             if mt:
                 var, pl = mt[0][0], norm(mt[0][1])
-                if pl not in fn.place:
-                    said("no place " + mt[0][1])
+                mc = re.match(re.escape(name) + r"\s+(" + TOK + r")((?:\s+" + TOK + r")*)\s*=\s*(.*)$", clause, re.S)
+                if pl not in fn.place or not mc:
+                    said("helper of a context, by hand: " + name)
                 else:
-                    sig2 = sig.replace("tie." + mt[0][1], "goal." + fn.newplace[pl])
-                    k0, r0 = sig2.split("→", 1)
-                    sig2 = k0 + "→" + t.body(r0, var, pl)
-                    dcl = [sig2] + unf + [t.body(clause, var, pl)]
-                    said("helper of a context: " + name)
+                    typ2 = t.body(sig[sig.index("→") + 1:].strip(), var, pl)
+                    bod = t.body(mc.group(3), mc.group(1), pl)
+                    if mc.group(2).strip():
+                        bod = "λ" + mc.group(2) + ". " + bod
+                    ctx_helpers.append((name, typ2, bod, unf))
+                    continue
             elif re.search(r"\b(tie|lts|reads)\.", "\n".join(dcl)):
                 said("cites tie: " + name)
             helpers.append("\n".join(coms + dcl))
@@ -347,6 +516,10 @@ def turn_file(crate, path, pf, fn):
             uses.append("use %sInvariants.{%s}" % (own, ", ".join(pubs)))
     if ans:
         with open(os.path.join(folder, "Answers.antt"), "w", encoding="utf-8") as f:
+            arms = sorted(set(t.goals))
+            if arms:
+                uses = [re.sub(r"^use mathlib.Core.Logic.\{⊎_elim\}$", "", u) for u in uses]
+                uses = [u for u in uses if u] + ["use %sGoals.{%s}" % (own, ", ".join(arms))]
             f.write((hd + "\n" if hd else "") + "\n".join(uses + ["use %sGoals as goal" % own]) + "\n\n" + "\n\n".join(helpers + ans) + "\n")
     os.remove(pf)
 

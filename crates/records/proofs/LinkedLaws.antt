@@ -1,6 +1,6 @@
 -- Chains in bytes: a link leads to one chain, which stays where its entries do; with a number placed in the chain of its bucket, the others are as they were.
 -- By induction on the chain, over the words that the writing of an entry leaves. Assumes nothing.
-use mathlib.Core.Path.{◌≡◌, refl, sym, ap, ap₂, ◌∙◌}
+use mathlib.Core.Path.{◌≡◌, refl, sym, ap, ap₂, subst, ◌∙◌}
 use mathlib.Core.Bool.{Bool, true, false}
 use mathlib.Core.List.{List, [], ◌∷◌}
 use mathlib.Core.Logic.{◌⊎◌, inl, inr, ⊎_elim}
@@ -109,7 +109,7 @@ module _ (t : ℕ → List ℕ) (n : ℕ) where
           tested (ltb (common before (t e)) (common before (t r)))
           (λ y.
           let q : place ≡ at = ep ∙ place_here t r before e l n at y in
-          let st : All (Stays s s') (e ∷ l) = entries_stay (e ∷ l) a (rw q x) in
+          let st : All (Stays s s') (e ∷ l) = entries_stay (e ∷ l) a (subst (λ (p : ℕ). All (Apart p) (e ∷ l)) (sym q) x) in
           rw (placed-here t r before e l none.0 y) (
             rw q at there,
             its_shared ∙ es ∙ ap (λ (u : List ℕ). common u (t r)) (text-here t r before e l y),
