@@ -46,6 +46,23 @@ class Fn:
                 return self.needs[n[len(p):]]
         return None
 
+    def armclause(self, q):
+        """the clauses of the call whose answer an arm matches, where they have names"""
+        while q is not None:
+            if q in self.clause:
+                return self.clause[q]["fields"]
+            if self.place[q][3]:
+                return None
+            q = self.parent(q)
+        return None
+
+    def params_own(self, cycle, f):
+        for g in cycle.values():
+            for k, v in g.d["params"].items():
+                if k.split("::")[-1] == f:
+                    return v
+        return []
+
     def parent(self, pl):
         p = self.place.get(pl)
         return norm(p[1]) if p and p[1] else None
@@ -70,6 +87,10 @@ class Fn:
         return None, None
 
 
+LABELS = {
+    "has_its_text": "has_text", "names_open": "open_names", "functions_listed": "functions_in", "none_found": "no_function",
+    "main_checked": "check_main", "call_converted": "convert_call",
+}
 START = ("requires", "args", "ranges", "type_inv", "well_formed", "lifetimes", "utf8")
 
 
@@ -77,34 +98,64 @@ class Turn:
     def __init__(self, fn, where, said):
         self.fn, self.where, self.said = fn, where, said
         self.goals = []
+        self.cyclic = False
 
-    def path(self, pl, befores, rest):
-        """c.before^n.rest at place pl -> new path without the leading c, and None where it is a context"""
+    def by_fields(self, head, fields, rest):
+        """the path below `head` to what stood at `rest` while the clauses were one product; a tuple where that is several"""
+        i = 0
+        while i < len(fields) - 1:
+            if not rest:
+                parts = ["c." + ".".join(head + [f]) for f in fields[i:]]
+                text = parts[-1]
+                for q in parts[-2::-1]:
+                    text = "(%s, %s)" % (q, text)
+                return text
+            if rest[0] == "0":
+                return head + [fields[i]] + rest[1:]
+            if rest[0] != "1":
+                self.said("a clause of %s: %s" % (".".join(head), ".".join(rest)))
+                return head + rest
+            i, rest = i + 1, rest[1:]
+        return head + [fields[i]] + rest
+
+    def path(self, rest):
+        """c.before^n.rest -> the new path without the leading c (a list, or a text where it is no path)"""
         fn = self.fn
-        pl = fn.up(pl, befores)
-        if not rest:
-            return None
+        pl = self.goal_place
         lab = rest[0]
         if norm(lab) in START:
+            if norm(lab) != "requires":
+                return rest
+            more = rest[1:]
+            if self.cyclic and more and more[0] == "0":
+                return ["decreases"] + more[1:]
+            if self.cyclic and more and more[0] == "1":
+                more = more[1:]
+            elif self.cyclic and not more:
+                self.said("requires of a cycle, whole")
             pre = fn.d.get("pre")
-            if pre and norm(lab) == "requires" and len(rest) > 1 and rest[1].isdigit():
-                return [lab, pre["fields"][int(rest[1])]] + rest[2:]
-            return rest
-        q, new = fn.label(pl, lab)
+            if pre:
+                return self.by_fields([lab], pre["fields"], more)
+            return [lab] + more
+        for name in (lab, lab[:-4] if lab.endswith("_lem") else lab, LABELS.get(lab, lab)):
+            q, new = fn.label(pl, name)
+            if q is not None:
+                break
         if q is None:
             self.said("no step %s at %s" % (lab, pl))
             return rest
         arm = fn.arm.get(q)
         if arm:
             for newfield, oldlab, oldpath in arm[2]:
-                if norm(oldlab) == norm(lab) and [norm(x) for x in rest[1:1 + len(oldpath)]] == [norm(x) for x in oldpath]:
-                    return [arm[0], newfield] + rest[1 + len(oldpath):]
+                if norm(oldlab) == norm(lab) and [norm(x) for x in rest[1:1 + len(oldpath)]] == [norm(x) for x in oldpath] and (oldpath or len(rest) == 1):
+                    more = rest[1 + len(oldpath):]
+                    if newfield == "ensures" and fn.armclause(q):
+                        return self.by_fields([arm[0], "ensures"], fn.armclause(q), more)
+                    return [arm[0], newfield] + more
             self.said("arm %s: %s" % (json.dumps(arm), ".".join(rest)))
         cl = fn.clause.get(q)
-        if cl and len(rest) > 2 and rest[1] == "ensures" and rest[2].isdigit():
-            names = cl if isinstance(cl, list) else cl.get("fields", cl)
-            if int(rest[2]) < len(names):
-                return [new, "ensures", names[int(rest[2])]] + rest[3:]
+        if cl and len(rest) > 1 and rest[1] == "ensures":
+            return self.by_fields([new, "ensures"], cl["fields"], rest[2:])
         tail = rest[1:]
         if tail and tail[0] in ("taken", "left") and new.startswith("if-"):
             tail = [{"taken": "true", "left": "false"}[tail[0]]] + tail[1:]
@@ -113,39 +164,48 @@ class Turn:
     def body(self, text, var, pl):
         """the text with each path from the context `var`, at place pl, respelled; a let of a context is `c`"""
         at = {var: pl}
+        self.goal_place = pl
         out, i = [], 0
         rx = re.compile(r"(?<![\w.\-'])(" + TOK + r")((?:\.[\w\-'\u2080-\u2089]+)*)")
         pos = 0
-        # lets in order of the text
+        # lets in order of the text: of contexts, and of what stood for several clauses
+        known = {}
         for m in rx.finditer(text):
             name, rest = m.group(1), m.group(2)
-            if name not in at:
+            if name not in at and name not in known:
                 continue
             if m.start() < pos:
                 continue
-            # a binding of that name hides it, but for a let of a context
             parts = rest.split(".")[1:]
-            n = 0
-            while parts and parts[0] == "before":
-                n += 1
+            while name in at and parts and parts[0] == "before":
                 parts = parts[1:]
+            before, after = text[:m.start()], text[m.end():].lstrip()
+            let = re.search(r"let\s+(" + TOK + r")\s*=\s*$", before)
+            let = let.group(1) if let and re.match(r"in\b", after) else None
             out.append(text[pos:m.start()])
-            new = self.path(at[name], n, parts)
-            if new is None:
-                before = text[:m.start()]
-                let = re.search(r"let\s+(" + TOK + r")\s*=\s*$", before)
-                after = text[m.end():].lstrip()
-                if let and after.startswith("in"):
-                    at[let.group(1)] = self.fn.up(at[name], n)
+            if name in at and not parts:
+                if let:
+                    at[let] = pl
                     out.append("c")
-                elif n == 0 and name != var and before.rstrip().endswith("let"):
+                elif before.rstrip().endswith("let"):
                     out.append(name)
                 else:
-                    if n or name != "c":
+                    if rest or name != var:
                         self.said("a context is passed: %s%s" % (name, rest))
-                    out.append(name + rest if name != "c" or n else "c")
+                    out.append(name + rest)
+            elif name in known and before.rstrip().endswith("let"):
+                out.append(name)
             else:
-                out.append("c." + ".".join(new))
+                full = parts if name in at else known[name] + parts
+                new = self.path(full)
+                if let and isinstance(new, str):
+                    known[let] = full
+                    out.append("c")
+                elif let and name in known:
+                    known[let] = full
+                    out.append("c." + ".".join(new))
+                else:
+                    out.append(new if isinstance(new, str) else "c." + ".".join(new))
             pos = m.end()
         out.append(text[pos:])
         text = "".join(out)
@@ -271,12 +331,42 @@ def split_decls(block):
     return ds
 
 
+def top(text):
+    """a text cut at its outermost commas; empty where brackets do not match"""
+    parts, depth, cur = [], 0, ""
+    for ch in text:
+        if ch in "([{":
+            depth += 1
+        if ch in ")]}":
+            depth -= 1
+            if depth < 0:
+                return []
+        if ch == "," and depth == 0:
+            parts.append(cur)
+            cur = ""
+        else:
+            cur += ch
+    return parts + [cur]
+
+
 def as_record(body, fields, said, name):
     """the last tuple of an answer, as a record of the clauses"""
     b = body.rstrip()
+
+    def by_parts():
+        pos = [m.end() for m in re.finditer(r"\bin(?=\s)", b)]
+        pos = [p for p in pos if b[:p].count("(") == b[:p].count(")") and b[:p].count("[") == b[:p].count("]")]
+        if pos and b.lstrip().startswith("let"):
+            last = b[pos[-1]:].strip()
+            said("by parts of what is made: %s" % name)
+            return b[:pos[-1]] + " let made = " + last + " in record { " + "; ".join("%s = made%s" % (f, ".1" * i + (".0" if i < len(fields) - 1 else "")) for i, f in enumerate(fields)) + " }"
+        if re.search(r"\blet\b|^search|^omega|^grind", b):
+            said("a record is asked: %s %s" % (name, fields))
+            return body
+        return "record { " + "; ".join("%s = (%s)%s" % (f, b, ".1" * i + (".0" if i < len(fields) - 1 else "")) for i, f in enumerate(fields)) + " }"
+
     if not b.endswith(")"):
-        said("a record is asked: %s %s" % (name, fields))
-        return body
+        return by_parts()
     depth, i = 0, len(b) - 1
     while i >= 0:
         if b[i] == ")":
@@ -287,9 +377,8 @@ def as_record(body, fields, said, name):
                 break
         i -= 1
     before, inner = b[:i], b[i + 1:-1]
-    if before.strip() and not before.rstrip().endswith("in"):
-        said("a record is asked: %s %s" % (name, fields))
-        return body
+    if before.strip() and not before.rstrip().endswith(" in"):
+        return by_parts()
     parts, depth, cur = [], 0, ""
     for ch in inner:
         if ch in "([{":
@@ -303,6 +392,8 @@ def as_record(body, fields, said, name):
             cur += ch
     parts.append(cur)
     n = len(fields)
+    while len(parts) < n and parts[-1].strip().startswith("(") and top(parts[-1].strip()[1:-1]) and len(top(parts[-1].strip()[1:-1])) > 1:
+        parts = parts[:-1] + top(parts[-1].strip()[1:-1])
     if len(parts) < n:
         said("a record is asked: %s %s" % (name, fields))
         return body
@@ -346,6 +437,15 @@ def main():
     crate = os.path.basename(os.path.normpath(folder))
     d = json.load(open(names, encoding="utf-8"))
     pre = "Rattle-%s-proofs." % crate
+    cycles = {}
+    for key in sorted(d):
+        m = re.match(re.escape(pre) + r"(.*\+[^.]*)\.Lts-(.+)$", key)
+        if m:
+            cycles.setdefault(m.group(1), {})[m.group(2)] = Fn(key, d[key])
+    for path in cycles:
+        pf = os.path.join(folder, "proofs", path.replace(".", "/"), "Proof.antt")
+        if os.path.isfile(pf):
+            turn_file(crate, path, pf, None, cycles[path])
     for key in sorted(d):
         if not key.startswith(pre) or not key.endswith(".Lts"):
             continue
@@ -356,7 +456,7 @@ def main():
         turn_file(crate, path, pf, Fn(key, d[key]))
 
 
-def turn_file(crate, path, pf, fn):
+def turn_file(crate, path, pf, fn, cycle=None):
     def said(t):
         print("look: %s: %s" % (pf, t))
 
@@ -364,12 +464,23 @@ def turn_file(crate, path, pf, fn):
     own = "Rattle.%s.proofs.%s." % (crate, path)
     head, uses, inv, ans, helpers = [], [], [], [], []
     ctx_helpers = []
-    t = Turn(fn, pf, said)
+    aliases = {}
+    if cycle is None:
+        aliases["tie"] = fn
+    else:
+        for m in re.finditer(r"^use \S*\.Lts-(\S+) as (\S+)$", text, re.M):
+            for f in cycle:
+                if norm(f) == norm(m.group(1)):
+                    aliases[m.group(2)] = cycle[f]
+                    cycle[f].name = f
+        order = re.findall(r"^use \S*\.Lts-(\S+) as (\S+)$", text, re.M)
+    goals = []
     first = True
-    loops = {}
-    # loops: old label -> (new label, vars, changed)
-    for (lab, vs), ch in zip(fn.d["loops"], fn.d["changed"]):
-        loops[norm(lab[0])] = (lab[1], vs, ch)
+    every = {}
+    for al, f in aliases.items():
+        # loops: old label -> (new label, vars, changed)
+        for (lab, vs), ch in zip(f.d["loops"], f.d["changed"]):
+            every[(al, norm(lab[0]))] = (lab[1], vs, ch)
     for b in blocks(text):
         if all(l.startswith("--") for l in b):
             if first:
@@ -383,7 +494,7 @@ def turn_file(crate, path, pf, fn):
         rest = []
         for l in b:
             if l.startswith("use "):
-                if re.search(r"\.(Statement\.\{statement\}|Tie as \S+|Reads as \S+|Lts as \S+|Kinds as \S+|Tie|Reads|Lts)$", l):
+                if re.search(r"\.(Statement\.\{statement\}|Tie as \S+|Reads as \S+|Lts as \S+|Kinds as \S+|Tie|Reads|Lts|Lts-\S+ as \S+|Tie\.\{close\}|\{statement\})$", l) or re.match(r"use borrow\.Fn\.", l):
                     continue
                 uses.append(l)
             else:
@@ -398,6 +509,8 @@ def turn_file(crate, path, pf, fn):
                 helpers += coms
                 continue
             # the signature: up to the line 'unfolding' or the first clause
+            if re.match(r"pub \+\S+-spec :", dcl[0]):
+                continue
             m = SIG.match(dcl[0])
             if not m:
                 said("not read: " + dcl[0])
@@ -405,7 +518,7 @@ def turn_file(crate, path, pf, fn):
                 continue
             name = m.group(2)
             k = 1
-            while k < len(dcl) and dcl[k].startswith((" ", "\t")):
+            while k < len(dcl) and not dcl[k].startswith("unfolding") and not re.match(re.escape(name) + r"(\s|$)", dcl[k]):
                 k += 1
             sig = " ".join(x.strip() for x in dcl[:k])
             unf = []
@@ -416,10 +529,30 @@ def turn_file(crate, path, pf, fn):
             typ = SIG.match(sig).group(3)
             if re.search(r"\bstatement\b", typ) and "spec" in name:
                 continue
-            mi = re.match(r"tie\.(invariant|decreases)-(\S+)", typ)
-            mn = re.match(r"tie\.Need-(\S+)", typ)
+            al = "|".join(re.escape(a) for a in aliases)
+            mi = re.match(r"(%s)\.(invariant|decreases)-(\S+)" % al, typ)
+            mn = re.match(r"(?:\(t : [^()]*\)\s*→\s*)?(%s)\.Need-([^\s()]+)" % al, typ)
+            mm = re.match(r"Measures \d+ (\S+)-kinds\.ps (.*)$", typ)
+            if mm and cycle is not None:
+                f = [g for g in cycle if norm(g) == norm(mm.group(1))][0]
+                mc = re.match(re.escape(name) + r"\s+\S+\s+(\w+)\s*=\s*(.*)$", clause, re.S)
+                ps = cycle[f].params_own(cycle, f)
+                bod = mc.group(2)
+                rx = r"(?<![\w.\-'])%s((?:\.1)*)\.0(\.now)?" % mc.group(1)
+
+                def arg(q, ps=ps):
+                    k = q.group(1).count(".1")
+                    return "l." + (ps[k] if k < len(ps) else "ARG%d" % k) + (q.group(2) or "")
+
+                bod = re.sub(rx, arg, bod)
+                nn = "decreases-" + f
+                inv.append("\n".join(coms + ["abbrev pub %s : goal.%s" % (nn, nn)] + unf + ["%s l = %s" % (nn, bod)]))
+                continue
+            if cycle is not None and re.search(r"-kinds\.ps", sig):
+                continue
             if mi:
-                lab = loops.get(norm(mi.group(2)))
+                lab = every.get((mi.group(1), norm(mi.group(3))))
+                mi = re.match(r"(?:%s)\.(invariant|decreases)-(\S+)" % al, typ)
                 if not lab:
                     said("no loop " + typ)
                     continue
@@ -448,6 +581,11 @@ def turn_file(crate, path, pf, fn):
                 inv.append("\n".join(coms + ["abbrev pub %s : goal.%s" % (nn, nn)] + unf + ["%s l = %s" % (nn, body)]))
                 continue
             if mn:
+                fn = aliases[mn.group(1)]
+                t = Turn(fn, pf, said)
+                t.goals = goals
+                t.cyclic = cycle is not None
+                mn = re.match(r"(?:\(t : [^()]*\)\s*→\s*)?(?:%s)\.Need-([^\s()]+)" % al, typ)
                 got = fn.need(mn.group(1))
                 if got is None:
                     n = norm(mn.group(1))
@@ -466,7 +604,7 @@ def turn_file(crate, path, pf, fn):
                     continue
                 if args and args[-1] in ("κs", "κ"):
                     args = args[:-1]
-                var = args[0] if args else "c"
+                var = args[-1] if args else "c"
                 body = t.body(body, var, pl)
                 asked = {norm(k): v for k, v in fn.d["asked"].items()}
                 if norm(mn.group(1)) in asked:
@@ -482,6 +620,8 @@ def turn_file(crate, path, pf, fn):
                 if pl not in fn.place or not mc:
                     said("helper of a context, by hand: " + name)
                 else:
+                    t = Turn(fn, pf, said)
+                    t.goals = goals
                     typ2 = t.body(sig[sig.index("→") + 1:].strip(), var, pl)
                     bod = t.body(mc.group(3), mc.group(1), pl)
                     if mc.group(2).strip():
@@ -516,7 +656,7 @@ def turn_file(crate, path, pf, fn):
             uses.append("use %sInvariants.{%s}" % (own, ", ".join(pubs)))
     if ans:
         with open(os.path.join(folder, "Answers.antt"), "w", encoding="utf-8") as f:
-            arms = sorted(set(t.goals))
+            arms = sorted(set(goals))
             if arms:
                 uses = [re.sub(r"^use mathlib.Core.Logic.\{⊎_elim\}$", "", u) for u in uses]
                 uses = [u for u in uses if u] + ["use %sGoals.{%s}" % (own, ", ".join(arms))]

@@ -20,7 +20,7 @@ use Rattle.conversion.specs.Statements.{name_operand, size_operand, cast_operand
 use Rattle.tables.proofs.Exists.{Word, VarIn, OperandIn, DestinationIn, KnownLabel}
 use Rattle.tables.proofs.SyntaxFits.{OptIs, none_is, some_is, held, ExprFits, ArgsFit, SignatureFits, CalleeFits, KeyedFit, TreeFits}
 use Rattle.tables.proofs.Typing.{TypeFits, unwrap_is, float_type-word, find-is, type-word, resolve_fits, common_type-word}
-use Rattle.tables.proofs.Keeps.{known_label, all_map, var_up, operand_up, Up, Always, Named, Keeps, then, and_then, from, gives, fails, emits, new-variable, label_number, string_number, float_number, float_bits_lem, knowing, lift_then}
+use Rattle.tables.proofs.Keeps.{◌&◌, known_label, all_map, var_up, operand_up, Up, Always, Named, Keeps, then, and_then, from, gives, fails, emits, new-variable, label_number, string_number, float_number, float_bits_lem, knowing, lift_then}
 
 -- ---- facts
 
@@ -115,8 +115,8 @@ module _ (text : Text) where
       → ((s : State) → G.holds s → All (OperandIn s) os) → Keeps text G NamedAll (fit_from P k os l f)
   unfolding fit_from expected_type
   fit_from_lem P k [] l f h n = gives text [] (λ s g. tt)
-  fit_from_lem P k (o ∷ os) l f h n = then text (fit_keeps P o (expected_type f.params l k) (parameter_word P f.params (value_position l k) h.params) (λ s g. (n s g).0)) λ a.
-      then text (fit_from_lem P (suc k) os l f h (λ s g. (n s g.0).1)) λ b.
+  fit_from_lem {G = G} P k (o ∷ os) l f h n = then text (fit_keeps P o (expected_type f.params l k) (parameter_word P f.params (value_position l k) h.params) (λ s g. (n s g).0)) λ a.
+      then text (fit_from_lem {G = G & Named a} P (suc k) os l f h (λ s g. (n s g.0).1)) λ b.
       gives text (a ∷ b) (λ s g. (g.0.1, g.1))
 
   emit_args_lem : {G : Up} (l : List Operand) → ((s : State) → G.holds s → All (OperandIn s) l) → Keeps text G Done (emit_args l)

@@ -1,0 +1,16 @@
+-- As much as a rule says.
+-- A byte bounds the product. Assumes nothing.
+use borrow.Author.Rules.{rules}
+use mathlib.Core.Path.{ap, ◌∙◌}
+use Prim.Native.Nat.{ℕ, ◌*◌, ◌<◌}
+use native.Mathlib.Omega.{arith}
+use Rattle.judge.proofs.PlainLaws.{scaled_small}
+use Rattle.judge.proofs.plain.scaled.Goals as goal
+
+pub overflow_mul-result : goal.overflow_mul-result
+overflow_mul-result c = let b : c.index.result < 256 = omega (arith, c.index.ensures, c.wide.ensures.1) in
+    record { fits = omega (arith, scaled_small _ _ c.requires b) }
+
+pub returns : goal.returns
+returns c = let b : c.index.result < 256 = omega (arith, c.index.ensures, c.wide.ensures.1) in
+    (ap (λ (y : ℕ). c.args.x * y) (c.index.ensures ∙ c.wide.ensures.0), scaled_small _ _ c.requires b)
