@@ -77,11 +77,11 @@ class Fn:
 
     def label(self, pl, lab):
         """the new step and what is left of the path, for old label `lab` at place pl or above"""
-        lab = norm(lab)
+        lab = norm(lab).lower()
         q = pl
         while q is not None:
             p = self.place[q]
-            if norm(p[2][0]) == lab:
+            if norm(p[2][0]).lower() == lab:
                 return q, p[2][1]
             q = self.parent(q)
         return None, None
@@ -137,7 +137,7 @@ class Turn:
             if pre:
                 return self.by_fields([lab], pre["fields"], more)
             return [lab] + more
-        for name in (lab, lab[:-4] if lab.endswith("_lem") else lab, LABELS.get(lab, lab)):
+        for name in (lab, re.sub(r"\d+$", "", lab), lab[:-4] if lab.endswith("_lem") else lab, LABELS.get(lab, lab)):
             q, new = fn.label(pl, name)
             if q is not None:
                 break
@@ -152,6 +152,9 @@ class Turn:
                     if newfield == "ensures" and fn.armclause(q):
                         return self.by_fields([arm[0], "ensures"], fn.armclause(q), more)
                     return [arm[0], newfield] + more
+            for newfield, oldlab, oldpath in arm[2]:
+                if norm(oldlab) == norm(lab) and not oldpath:
+                    return [arm[0], newfield] + rest[1:]
             self.said("arm %s: %s" % (json.dumps(arm), ".".join(rest)))
         cl = fn.clause.get(q)
         if cl and len(rest) > 1 and rest[1] == "ensures":
@@ -209,7 +212,7 @@ class Turn:
             pos = m.end()
         out.append(text[pos:])
         text = "".join(out)
-        test = r"not[-_](?:true|false) (?:_|\([^()]*\)|[^\s()]+) (c\.(?:if-|loop-)[\w\-]+\.(?:true|false))"
+        test = r"not[-_](?:true|false) (?:_|\((?:[^()]|\([^()]*\))*\)|[^\s()]+) (c\.(?:if-|loop-)[\w\-]+\.(?:true|false))"
         text = re.sub(r"\(" + test + r"\)", r"\1", text)
         text = re.sub(test, r"\1", text)
         return self.branches(text)
@@ -346,7 +349,7 @@ def top(text):
             cur = ""
         else:
             cur += ch
-    return parts + [cur]
+    return [q for q in parts + [cur] if q.strip()]
 
 
 def as_record(body, fields, said, name):
@@ -391,6 +394,7 @@ def as_record(body, fields, said, name):
         else:
             cur += ch
     parts.append(cur)
+    parts = [q for q in parts if q.strip()]
     n = len(fields)
     while len(parts) < n and parts[-1].strip().startswith("(") and top(parts[-1].strip()[1:-1]) and len(top(parts[-1].strip()[1:-1])) > 1:
         parts = parts[:-1] + top(parts[-1].strip()[1:-1])
@@ -604,7 +608,7 @@ def turn_file(crate, path, pf, fn, cycle=None):
                     continue
                 if args and args[-1] in ("κs", "κ"):
                     args = args[:-1]
-                var = args[-1] if args else "c"
+                var = (args[1] if cycle is not None and len(args) > 1 else args[0]) if args else "c"
                 body = t.body(body, var, pl)
                 asked = {norm(k): v for k, v in fn.d["asked"].items()}
                 if norm(mn.group(1)) in asked:

@@ -6,7 +6,7 @@ ghost use Rattle.records.specs.Layout.{scratch_each};
 ghost use Rattle.records.specs.Words.{records};
 ghost use Rattle.records.specs.Good.{Good};
 ghost use Rattle.ir.specs.Arena.{arena_each};
-ghost use Rattle.ir.specs.Counted.{counted, was, is};
+ghost use Rattle.ir.specs.Counted.{counted};
 ghost use Rattle.keys.specs.Keys.{function_places, Keyed};
 ghost use Rattle.statements.specs.Lent.{finished_with};
 ghost use Rattle.statements.specs.Turns.{Turns};
@@ -70,7 +70,7 @@ fn convert_all(
 ) -> Finished
     requires keyed { Keyed tree.now text.now scratch.old × (count ≡ length (function_places tree.now)) × (arena_each * records tree.now ≤ length arena.old) }
     requires turns { Turns tree.now scratch.old (empty_counters (records tree.now)) × (counted k.old ≡ empty_counters (records tree.now)) }
-    ensures { AllConvertTo (was tree) (was text) (was arena) (was scratch) (finished_with (is k) result) (is arena) (is scratch) }
+    ensures { AllConvertTo tree.now text.now arena.old scratch.old (finished_with k.new result) arena.new scratch.new }
 {
     let mut j = 0;
     while j < count {
@@ -96,7 +96,7 @@ fn convert_program(
 ) -> Finished
     requires good { Good tree.now text.now × (arena_each * records tree.now ≤ length arena.old) × (scratch_each * records tree.now ≤ length scratch.old) × (0 < records tree.now) }
     requires k_value { counted k.old ≡ empty_counters (records tree.now) }
-    ensures { ProgramConvertsTo (was tree) (was text) needs_main (was arena) (was scratch) (finished_with (is k) result) (is arena) (is scratch) }
+    ensures { ProgramConvertsTo tree.now text.now needs_main arena.old scratch.old (finished_with k.new result) arena.new scratch.new }
 {
     number_texts(tree, text, scratch);
     match get_all_functions(tree, text, scratch) {
@@ -127,7 +127,7 @@ fn finish(
     floats: &mut [u8],
 ) -> Answer
     requires { CutAfforded (finished_with k.now done) (outputs instructions.old variables.old labels.old functions.old strings.old floats.old) }
-    ensures { FinishesIn (finished_with (was k) done) visits result (outputs (was instructions) (was variables) (was labels) (was functions) (was strings) (was floats)) (outputs (is instructions) (is variables) (is labels) (is functions) (is strings) (is floats)) }
+    ensures { FinishesIn (finished_with k.now done) visits result (outputs instructions.old variables.old labels.old functions.old strings.old floats.old) (outputs instructions.new variables.new labels.new functions.new strings.new floats.new) }
 {
     match done {
         Finished::Refused(e) => {

@@ -8,7 +8,7 @@ ghost use Rattle.syntax.specs.Places.{FunctionAt, function_of};
 ghost use Rattle.conversion.specs.Types.{is_some};
 ghost use Rattle.ir.specs.Amounts.{amount};
 ghost use Rattle.ir.specs.Arena.{Room};
-ghost use Rattle.ir.specs.Counted.{counted, was, is};
+ghost use Rattle.ir.specs.Counted.{counted};
 ghost use Rattle.keys.specs.Keys.{Keyed};
 ghost use Rattle.statements.specs.Converting.{Converting, RoomFor, BlockAfforded};
 ghost use Rattle.statements.specs.Lent.{at, finished_with};
@@ -28,7 +28,7 @@ use statements::blocks::convert_block;
 // A function's detail has 4 where it has a body.
 fn has_body(tree: &[u8], text: &[u8], f: usize) -> bool
     requires { Good tree.now text.now × FunctionAt tree.now f }
-    ensures { result ≡ is_some (function_of (was tree) (was text) f).body }
+    ensures { result ≡ is_some (function_of tree.now text.now f).body }
 {
     detail(tree, f) / 4 % 2 == 1
 }
@@ -37,7 +37,7 @@ fn has_body(tree: &[u8], text: &[u8], f: usize) -> bool
 fn parameter_variables(tree: &[u8], text: &[u8], arena: &mut [u8], k: &mut [usize], f: usize)
     requires good { Good tree.now text.now × FunctionAt tree.now f }
     requires room_for { RoomFor (counted k.old) arena.old (amount 0 (length (function_of tree.now text.now f).params) 0 0 0) }
-    ensures { ParametersAdd (function_of (was tree) (was text) f).params (counted (was k)) (was arena) (counted (is k)) (is arena) }
+    ensures { ParametersAdd (function_of tree.now text.now f).params (counted k.old) arena.old (counted k.new) arena.new }
 {
     let mut cell = parameters_of(tree, text, f);
     while cell != END {
@@ -49,7 +49,7 @@ fn parameter_variables(tree: &[u8], text: &[u8], arena: &mut [u8], k: &mut [usiz
 // f has a type to return, and a path through its body that returns nothing.
 fn misses_return(tree: &[u8], text: &[u8], f: usize) -> bool
     requires { Good tree.now text.now × FunctionAt tree.now f }
-    ensures { result ≡ misses_return (was tree) (was text) f }
+    ensures { result ≡ misses_return tree.now text.now f }
 {
     if reference(tree, f, WORD_D) == NONE as usize {
         return false;
@@ -70,8 +70,8 @@ fn convert_body(
     requires converting { Converting tree.now text.now arena.old scratch.old (at c k.old) × BlockAfforded tree.now text.now (at c k.old) (word_of tree.now f Words.E) }
     requires function_at { FunctionAt tree.now f × ((counted k.old).functions < (counted k.old).records) }
     requires turns { Turns tree.now scratch.old (counted k.old) }
-    ensures body_as { BodyAs (at c (was k)) f (was tree) (was text) (was arena) (was scratch) (finished_with (is k) result) (is arena) (is scratch) }
-    ensures visits { BlockVisited (word_of (was tree) f Words.E) (was tree) (was text) (was scratch) (finished_with (is k) result) (is scratch) }
+    ensures body_as { BodyAs (at c k.old) f tree.now text.now arena.old scratch.old (finished_with k.new result) arena.new scratch.new }
+    ensures visits { BlockVisited (word_of tree.now f Words.E) tree.now text.now scratch.old (finished_with k.new result) scratch.new }
 {
     let body = reference(tree, f, WORD_E);
     match convert_block(tree, text, arena, scratch, k, c, body) {
@@ -101,8 +101,8 @@ pub fn convert_func(
     requires keyed { Keyed tree.now text.now scratch.old × FunctionAt tree.now f }
     requires room { Room (counted k.old) arena.old × ((counted k.old).records ≡ records tree.now) × FunctionsAfforded (counted k.old) (function_records (function_of tree.now text.now f)) }
     requires turns { Turns tree.now scratch.old (counted k.old) }
-    ensures converts_function { ConvertsFunction (was tree) (was text) f (counted (was k)) (was arena) (was scratch) (finished_with (is k) result) (is arena) (is scratch) }
-    ensures visits { FunctionVisited f (was tree) (was text) (was scratch) (finished_with (is k) result) (is scratch) }
+    ensures converts_function { ConvertsFunction tree.now text.now f (counted k.old) arena.old scratch.old (finished_with k.new result) arena.new scratch.new }
+    ensures visits { FunctionVisited f tree.now text.now scratch.old (finished_with k.new result) scratch.new }
 {
     if !has_body(tree, text, f) {
         add_function(arena, k, f as u32, false);

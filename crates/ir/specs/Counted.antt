@@ -1,7 +1,5 @@
--- What lies in something lent, and the counters as they are lent: ten words, one behind the other, which everything that converts is lent and changes in place. Assumes nothing: these are definitions.
+-- The counters as they are lent: ten words, one behind the other, which everything that converts is lent and changes in place. Assumes nothing: these are definitions.
 use Rattle.std.specs.Prelude.{ℕ, ◌^◌, List, get_or}
-use Rattle.std.specs.Borrow.{Bor}
-use denote.Triple.Both.{Both}
 use Rattle.ir.specs.declared.structs.Counters.{Counters}
 
 -- which word is which: the records of the tree, the entries of each table, and how many there were before the function at hand began
@@ -54,11 +52,3 @@ counted k =
       variables_before = get_or k variables_before_word 0;
       labels_before = get_or k labels_before_word (2 ^ 32);
     }
-
--- ---- in a contract: what a lent list holds when a function is entered, and when it is left
-
-abbrev pub was : {B : Type 0} → Both (Bor (List ℕ)) B → List ℕ
-was x = x.entry.now
-
-abbrev pub is : {A : Type 0} → Both A (Bor (List ℕ)) → List ℕ
-is x = x.exit.now

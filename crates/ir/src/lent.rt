@@ -3,7 +3,7 @@
 ghost use Rattle.std.specs.Prelude.{◌≡◌, ◌*◌, ◌≤◌, ◌<◌, length};
 ghost use Rattle.conversion.specs.Ir.{float_bits};
 ghost use Rattle.ir.specs.Arena.{HasSlot, Room};
-ghost use Rattle.ir.specs.Counted.{counter_words, counted, was, is};
+ghost use Rattle.ir.specs.Counted.{counter_words, counted};
 ghost use Rattle.ir.specs.Floats.{entry_of_float};
 ghost use Rattle.ir.specs.Steps.{named, AddsVar, NumbersLabel, NumbersString, NumbersFloat, Closes, Next};
 
@@ -38,7 +38,7 @@ pub const COUNTERS: usize = 10;
 // The words as a struct.
 pub fn counters_of(k: &[usize]) -> Counters
     requires { counter_words ≤ length k.now }
-    ensures { result ≡ counted (was k) }
+    ensures { result ≡ counted k.now }
 {
     Counters {
         records: k[COUNT_RECORDS],
@@ -57,7 +57,7 @@ pub fn counters_of(k: &[usize]) -> Counters
 // A new variable of this type.
 pub fn new_var(arena: &mut [u8], k: &mut [usize], ty: u32) -> VarId
     requires { Room (counted k.old) arena.old × ((counted k.old).variables < 3 * (counted k.old).records) }
-    ensures { AddsVar ty (counted (was k)) (was arena) (record { var = result; counters = counted (is k) }) (is arena) }
+    ensures { AddsVar ty (counted k.old) arena.old (record { var = result; counters = counted k.new }) arena.new }
 {
     let c = counters_of(k);
     let made = structs::new_var(arena, c, ty);
@@ -69,7 +69,7 @@ pub fn new_var(arena: &mut [u8], k: &mut [usize], ty: u32) -> VarId
 // The label of this kind that this record opens.
 pub fn label_id(arena: &mut [u8], k: &mut [usize], kind: u32, opener: u32) -> Label
     requires { Room (counted k.old) arena.old × ((counted k.old).labels < 3 * (counted k.old).records) × HasSlot (counted k.old).records (named kind opener) }
-    ensures { NumbersLabel kind opener (counted (was k)) (was arena) (record { label = result; counters = counted (is k) }) (is arena) }
+    ensures { NumbersLabel kind opener (counted k.old) arena.old (record { label = result; counters = counted k.new }) arena.new }
 {
     let c = counters_of(k);
     let found = structs::label_id(arena, c, kind, opener);
@@ -81,7 +81,7 @@ pub fn label_id(arena: &mut [u8], k: &mut [usize], kind: u32, opener: u32) -> La
 // The string at this place, whose text has the number o.
 pub fn string_id(arena: &mut [u8], k: &mut [usize], o: usize, offset: u32, len: u32) -> u32
     requires { Room (counted k.old) arena.old × ((counted k.old).strings < (counted k.old).records) × (o < (counted k.old).records) }
-    ensures { NumbersString o offset len (counted (was k)) (was arena) (record { number = result; counters = counted (is k) }) (is arena) }
+    ensures { NumbersString o offset len (counted k.old) arena.old (record { number = result; counters = counted k.new }) arena.new }
 {
     let c = counters_of(k);
     let found = pool::string_id(arena, c, o, offset, len);
@@ -93,7 +93,7 @@ pub fn string_id(arena: &mut [u8], k: &mut [usize], o: usize, offset: u32, len: 
 // The float with these bits and this mark.
 pub fn float_id(arena: &mut [u8], k: &mut [usize], f: FloatBits) -> u32
     requires { Room (counted k.old) arena.old × ((counted k.old).floats < 2 * (counted k.old).records) }
-    ensures { NumbersFloat (entry_of_float f) (counted (was k)) (was arena) (record { number = result; counters = counted (is k) }) (is arena) }
+    ensures { NumbersFloat (entry_of_float f) (counted k.old) arena.old (record { number = result; counters = counted k.new }) arena.new }
 {
     let c = counters_of(k);
     let found = pool::float_id(arena, c, f);
@@ -105,7 +105,7 @@ pub fn float_id(arena: &mut [u8], k: &mut [usize], f: FloatBits) -> u32
 // The bits of a float that was numbered; 0 for a number that none has.
 pub fn float_bits(arena: &[u8], k: &[usize], i: u32) -> u64
     requires { Room (counted k.now) arena.now }
-    ensures { Next (float_bits i) (counted (was k)) (was arena) result (counted (was k)) (was arena) }
+    ensures { Next (float_bits i) (counted k.now) arena.now result (counted k.now) arena.now }
 {
     pool::float_bits(arena, counters_of(k), i)
 }
@@ -113,7 +113,7 @@ pub fn float_bits(arena: &[u8], k: &[usize], i: u32) -> u64
 // The function at hand is done: its entry, and the next one begins.
 pub fn add_function(arena: &mut [u8], k: &mut [usize], owner: u32, body: bool)
     requires { Room (counted k.old) arena.old × ((counted k.old).functions < (counted k.old).records) }
-    ensures { Closes owner body (counted (was k)) (was arena) (counted (is k)) (is arena) }
+    ensures { Closes owner body (counted k.old) arena.old (counted k.new) arena.new }
 {
     let c = counters_of(k);
     let next = structs::add_function(arena, c, owner, body);

@@ -8,7 +8,7 @@ ghost use Rattle.conversion.specs.Ir as Ir;
 ghost use Rattle.conversion.specs.Written.{tag, operand_value, encode_instr, instruction_bytes};
 ghost use Rattle.ir.specs.Instructions.{var_of, operand_of, field_bytes, one_bytes, none_bytes, two_bytes};
 ghost use Rattle.ir.specs.Arena.{HasSlot, Room};
-ghost use Rattle.ir.specs.Counted.{counted, was, is};
+ghost use Rattle.ir.specs.Counted.{counted};
 ghost use Rattle.ir.specs.Steps.{named, Emits, AddsVar, NumbersLabel, Closes};
 
 use crate::arena::{FUNCTION_BYTES, FUNCTIONS, INSTRUCTION_BYTES};
@@ -250,7 +250,7 @@ fn with_two(operator: u8, target: u32, o: Operand, p: Operand) -> Fields
 // The bytes of an instruction.
 fn put_fields(arena: &mut [u8], at: usize, f: Fields)
     requires { at + instruction_bytes ≤ length arena.old }
-    ensures { is arena ≡ splice (was arena) at (field_bytes f) }
+    ensures { arena.new ≡ splice arena.old at (field_bytes f) }
 {
     let one = f.first;
     let two = f.second;
@@ -268,7 +268,7 @@ fn put_fields(arena: &mut [u8], at: usize, f: Fields)
 // `instrs.push` of the instruction that is written so.
 fn push(arena: &mut [u8], k: &mut [usize], f: Fields)
     requires { Room (counted k.old) arena.old × ((counted k.old).instructions < 4 * (counted k.old).records) }
-    ensures { (i : Ir.Instr) → field_bytes f ≡ encode_instr i → Emits i (counted (was k)) (was arena) (counted (is k)) (is arena) }
+    ensures { (i : Ir.Instr) → field_bytes f ≡ encode_instr i → Emits i (counted k.old) arena.old (counted k.new) arena.new }
 {
     let n = k[COUNT_INSTRUCTIONS];
     k[COUNT_INSTRUCTIONS] = n + 1;
@@ -278,7 +278,7 @@ fn push(arena: &mut [u8], k: &mut [usize], f: Fields)
 // `instrs.push(Instr::..)`, a function for each kind: where one is called its kind is known, so that no `Instr` is made and taken apart again.
 pub fn emit_copy(arena: &mut [u8], k: &mut [usize], dest: VarId, src: Operand)
     requires { Room (counted k.old) arena.old × ((counted k.old).instructions < 4 * (counted k.old).records) }
-    ensures { Emits (Ir.Copy (var_of dest) (operand_of src)) (counted (was k)) (was arena) (counted (is k)) (is arena) }
+    ensures { Emits (Ir.Copy (var_of dest) (operand_of src)) (counted k.old) arena.old (counted k.new) arena.new }
 {
     push(arena, k, with_one(COPY, NO_OPERATOR, dest.0, src));
 }
@@ -286,7 +286,7 @@ pub fn emit_copy(arena: &mut [u8], k: &mut [usize], dest: VarId, src: Operand)
 // An operator is its number.
 pub fn emit_unary(arena: &mut [u8], k: &mut [usize], dest: VarId, op: u8, src: Operand)
     requires { Room (counted k.old) arena.old × ((counted k.old).instructions < 4 * (counted k.old).records) }
-    ensures { Emits (Ir.Unary (var_of dest) (get_or unary_ops op Neg) (operand_of src)) (counted (was k)) (was arena) (counted (is k)) (is arena) }
+    ensures { Emits (Ir.Unary (var_of dest) (get_or unary_ops op Neg) (operand_of src)) (counted k.old) arena.old (counted k.new) arena.new }
 {
     push(arena, k, with_one(UNARY, unary_number(op), dest.0, src));
 }
@@ -300,28 +300,28 @@ pub fn emit_binary(
     right: Operand,
 )
     requires { Room (counted k.old) arena.old × ((counted k.old).instructions < 4 * (counted k.old).records) }
-    ensures { Emits (Ir.Binary (var_of dest) (get_or binary_ops op Or) (operand_of left) (operand_of right)) (counted (was k)) (was arena) (counted (is k)) (is arena) }
+    ensures { Emits (Ir.Binary (var_of dest) (get_or binary_ops op Or) (operand_of left) (operand_of right)) (counted k.old) arena.old (counted k.new) arena.new }
 {
     push(arena, k, with_two(binary_number(op), dest.0, left, right));
 }
 
 pub fn emit_cast(arena: &mut [u8], k: &mut [usize], dest: VarId, src: Operand)
     requires { Room (counted k.old) arena.old × ((counted k.old).instructions < 4 * (counted k.old).records) }
-    ensures { Emits (Ir.Cast (var_of dest) (operand_of src)) (counted (was k)) (was arena) (counted (is k)) (is arena) }
+    ensures { Emits (Ir.Cast (var_of dest) (operand_of src)) (counted k.old) arena.old (counted k.new) arena.new }
 {
     push(arena, k, with_one(CAST, NO_OPERATOR, dest.0, src));
 }
 
 pub fn emit_zero(arena: &mut [u8], k: &mut [usize], dest: VarId)
     requires { Room (counted k.old) arena.old × ((counted k.old).instructions < 4 * (counted k.old).records) }
-    ensures { Emits (Ir.Zero (var_of dest)) (counted (was k)) (was arena) (counted (is k)) (is arena) }
+    ensures { Emits (Ir.Zero (var_of dest)) (counted k.old) arena.old (counted k.new) arena.new }
 {
     push(arena, k, with_none(ZERO, dest.0, 0));
 }
 
 pub fn emit_arg(arena: &mut [u8], k: &mut [usize], arg: Operand)
     requires { Room (counted k.old) arena.old × ((counted k.old).instructions < 4 * (counted k.old).records) }
-    ensures { Emits (Ir.Arg (operand_of arg)) (counted (was k)) (was arena) (counted (is k)) (is arena) }
+    ensures { Emits (Ir.Arg (operand_of arg)) (counted k.old) arena.old (counted k.new) arena.new }
 {
     push(arena, k, with_one(ARG, NO_OPERATOR, 0, arg));
 }
@@ -329,7 +329,7 @@ pub fn emit_arg(arena: &mut [u8], k: &mut [usize], arg: Operand)
 // A call names its function's record.
 pub fn emit_call(arena: &mut [u8], k: &mut [usize], dest: VarId, func: u32)
     requires { Room (counted k.old) arena.old × ((counted k.old).instructions < 4 * (counted k.old).records) }
-    ensures { Emits (Ir.Call (some (var_of dest)) func) (counted (was k)) (was arena) (counted (is k)) (is arena) }
+    ensures { Emits (Ir.Call (some (var_of dest)) func) (counted k.old) arena.old (counted k.new) arena.new }
 {
     push(arena, k, with_none(CALL, dest.0, func));
 }
@@ -337,35 +337,35 @@ pub fn emit_call(arena: &mut [u8], k: &mut [usize], dest: VarId, func: u32)
 // A call whose value nothing takes.
 pub fn emit_call_only(arena: &mut [u8], k: &mut [usize], func: u32)
     requires { Room (counted k.old) arena.old × ((counted k.old).instructions < 4 * (counted k.old).records) }
-    ensures { Emits (Ir.Call none func) (counted (was k)) (was arena) (counted (is k)) (is arena) }
+    ensures { Emits (Ir.Call none func) (counted k.old) arena.old (counted k.new) arena.new }
 {
     push(arena, k, with_none(CALL, NONE, func));
 }
 
 pub fn emit_label(arena: &mut [u8], k: &mut [usize], here: Label)
     requires { Room (counted k.old) arena.old × ((counted k.old).instructions < 4 * (counted k.old).records) }
-    ensures { Emits (Ir.Label here.0) (counted (was k)) (was arena) (counted (is k)) (is arena) }
+    ensures { Emits (Ir.Label here.0) (counted k.old) arena.old (counted k.new) arena.new }
 {
     push(arena, k, with_none(LABEL, here.0, 0));
 }
 
 pub fn emit_jump(arena: &mut [u8], k: &mut [usize], target: Label)
     requires { Room (counted k.old) arena.old × ((counted k.old).instructions < 4 * (counted k.old).records) }
-    ensures { Emits (Ir.Jump target.0) (counted (was k)) (was arena) (counted (is k)) (is arena) }
+    ensures { Emits (Ir.Jump target.0) (counted k.old) arena.old (counted k.new) arena.new }
 {
     push(arena, k, with_none(JUMP, target.0, 0));
 }
 
 pub fn emit_jump_if_not(arena: &mut [u8], k: &mut [usize], cond: Operand, target: Label)
     requires { Room (counted k.old) arena.old × ((counted k.old).instructions < 4 * (counted k.old).records) }
-    ensures { Emits (Ir.JumpIfNot (operand_of cond) target.0) (counted (was k)) (was arena) (counted (is k)) (is arena) }
+    ensures { Emits (Ir.JumpIfNot (operand_of cond) target.0) (counted k.old) arena.old (counted k.new) arena.new }
 {
     push(arena, k, with_one(JUMP_IF_NOT, NO_OPERATOR, target.0, cond));
 }
 
 pub fn emit_return(arena: &mut [u8], k: &mut [usize], value: Operand)
     requires { Room (counted k.old) arena.old × ((counted k.old).instructions < 4 * (counted k.old).records) }
-    ensures { Emits (Ir.Return (operand_of value)) (counted (was k)) (was arena) (counted (is k)) (is arena) }
+    ensures { Emits (Ir.Return (operand_of value)) (counted k.old) arena.old (counted k.new) arena.new }
 {
     push(arena, k, with_one(RETURN, NO_OPERATOR, 0, value));
 }
@@ -373,7 +373,7 @@ pub fn emit_return(arena: &mut [u8], k: &mut [usize], value: Operand)
 // A comment names its statement's record.
 pub fn emit_comment(arena: &mut [u8], k: &mut [usize], statement: u32)
     requires { Room (counted k.old) arena.old × ((counted k.old).instructions < 4 * (counted k.old).records) }
-    ensures { Emits (Ir.Comment statement) (counted (was k)) (was arena) (counted (is k)) (is arena) }
+    ensures { Emits (Ir.Comment statement) (counted k.old) arena.old (counted k.new) arena.new }
 {
     push(arena, k, with_none(COMMENT, 0, statement));
 }
@@ -381,7 +381,7 @@ pub fn emit_comment(arena: &mut [u8], k: &mut [usize], statement: u32)
 // A new variable of this type: its number is its index among its function's variables.
 pub fn new_var(arena: &mut [u8], k: Counters, ty: u32) -> NewVariable
     requires { Room k arena.old × (k.variables < 3 * k.records) }
-    ensures { AddsVar ty k (was arena) result (is arena) }
+    ensures { AddsVar ty k arena.old result arena.new }
 {
     let mut f = k;
     let var = counter::new_var(arena, &mut f, ty);
@@ -391,7 +391,7 @@ pub fn new_var(arena: &mut [u8], k: Counters, ty: u32) -> NewVariable
 // The label of this kind that this record opens: its number is its index among its function's labels, added the first time it is asked.
 pub fn label_id(arena: &mut [u8], k: Counters, kind: u32, opener: u32) -> LabelNumber
     requires { Room k arena.old × (k.labels < 3 * k.records) × HasSlot k.records (named kind opener) }
-    ensures { NumbersLabel kind opener k (was arena) result (is arena) }
+    ensures { NumbersLabel kind opener k arena.old result arena.new }
 {
     let mut f = k;
     let label = counter::label_id(arena, &mut f, kind, opener);
@@ -401,7 +401,7 @@ pub fn label_id(arena: &mut [u8], k: Counters, kind: u32, opener: u32) -> LabelN
 // The function at hand is done: its entry, and the next one begins.
 pub fn add_function(arena: &mut [u8], k: Counters, owner: u32, body: bool) -> Counters
     requires { Room k arena.old × (k.functions < k.records) }
-    ensures { Closes owner body k (was arena) result (is arena) }
+    ensures { Closes owner body k arena.old result arena.new }
 {
     let n = k.functions;
     let at = FUNCTIONS * k.records + FUNCTION_BYTES * n;

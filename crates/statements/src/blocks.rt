@@ -4,7 +4,7 @@ ghost use Rattle.std.specs.Prelude.{◌≡◌, List, ℕ, ◌≤◌};
 ghost use Rattle.records.specs.Words.{kind_of};
 ghost use Rattle.records.specs.Kinds.{kind_call_statement, kind_if, kind_while, kind_for, kind_break};
 ghost use Rattle.syntax.specs.Places.{IsKind, IsStatement, BodyAt};
-ghost use Rattle.ir.specs.Counted.{counted, was, is};
+ghost use Rattle.ir.specs.Counted.{counted};
 ghost use Rattle.statements.specs.Converting.{Converting, BehindAfforded, StatementAfforded, BlockAfforded};
 ghost use Rattle.statements.specs.Lent.{at, stated, finished_with};
 ghost use Rattle.statements.specs.Answers.{StatesAs, StatementAs, BlockAs, FinishesAs, stated_with, plain_steps, jump_steps, statement_steps, block_steps, if_steps, while_steps, for_steps};
@@ -37,8 +37,8 @@ fn convert_plain(
     requires converting { Converting tree.now text.now arena.old scratch.old (at c k.old) × BehindAfforded tree.now text.now (at c k.old) r }
     requires statement { IsStatement tree.now r × (kind_of tree.now r ≤ kind_call_statement) }
     requires in_turn { InTurn tree.now text.now scratch.old (at c k.old) }
-    ensures states_as { StatesAs plain_steps (at c (was k)) r (was tree) (was text) (was arena) (was scratch) (stated (is k) result) (is arena) (is scratch) }
-    ensures types { StatesTyped own_types (at c (was k)) r (was tree) (was text) (was scratch) (stated (is k) result) (is scratch) }
+    ensures states_as { StatesAs plain_steps (at c k.old) r tree.now text.now arena.old scratch.old (stated k.new result) arena.new scratch.new }
+    ensures types { StatesTyped own_types (at c k.old) r tree.now text.now scratch.old (stated k.new result) scratch.new }
 {
     let node = kind(tree, r);
     if node == KIND_DECLARE {
@@ -65,7 +65,7 @@ fn convert_jump(
 ) -> Stated
     requires converting { Converting tree.now text.now arena.old scratch.now (at c k.old) × BehindAfforded tree.now text.now (at c k.old) r }
     requires statement { IsStatement tree.now r × (kind_break ≤ kind_of tree.now r) }
-    ensures { StatesAs jump_steps (at c (was k)) r (was tree) (was text) (was arena) (was scratch) (stated (is k) result) (is arena) (was scratch) }
+    ensures { StatesAs jump_steps (at c k.old) r tree.now text.now arena.old scratch.now (stated k.new result) arena.new scratch.now }
 {
     if kind(tree, r) == KIND_BREAK {
         return convert_break(tree, text, arena, scratch, k, c, r);
@@ -97,8 +97,8 @@ fn convert_statement(
     requires converting { Converting tree.now text.now arena.old scratch.old (at c k.old) × StatementAfforded tree.now text.now (at c k.old) r }
     requires statement { IsStatement tree.now r }
     requires turns { Turns tree.now scratch.old (counted k.old) }
-    ensures statement_as { StatementAs statement_steps (at c (was k)) r (was tree) (was text) (was arena) (was scratch) (stated (is k) result) (is arena) (is scratch) }
-    ensures visits { StatementVisited r (was tree) (was text) (was scratch) (stated (is k) result) (is scratch) }
+    ensures statement_as { StatementAs statement_steps (at c k.old) r tree.now text.now arena.old scratch.old (stated k.new result) arena.new scratch.new }
+    ensures visits { StatementVisited r tree.now text.now scratch.old (stated k.new result) scratch.new }
 {
     let scope = c.scope;
     let node = kind(tree, r);
@@ -140,8 +140,8 @@ pub fn convert_block(
     requires converting { Converting tree.now text.now arena.old scratch.old (at c k.old) × BlockAfforded tree.now text.now (at c k.old) first }
     requires body_at { BodyAt tree.now first }
     requires turns { Turns tree.now scratch.old (counted k.old) }
-    ensures block_as { BlockAs block_steps (at c (was k)) first (was tree) (was text) (was arena) (was scratch) (finished_with (is k) result) (is arena) (is scratch) }
-    ensures visits { BlockVisited first (was tree) (was text) (was scratch) (finished_with (is k) result) (is scratch) }
+    ensures block_as { BlockAs block_steps (at c k.old) first tree.now text.now arena.old scratch.old (finished_with k.new result) arena.new scratch.new }
+    ensures visits { BlockVisited first tree.now text.now scratch.old (finished_with k.new result) scratch.new }
 {
     let mut cell = first;
     let mut at = c;
@@ -170,8 +170,8 @@ fn convert_if(
     requires converting { Converting tree.now text.now arena.old scratch.old (at c k.old) × BehindAfforded tree.now text.now (at c k.old) r }
     requires kind { IsKind tree.now kind_if r }
     requires fresh { Fresh tree.now scratch.old (at c k.old) }
-    ensures finishes_as { FinishesAs if_steps (at c (was k)) r (was tree) (was text) (was arena) (was scratch) (finished_with (is k) result) (is arena) (is scratch) }
-    ensures visits { FinishedVisited r (was tree) (was text) (was scratch) (finished_with (is k) result) (is scratch) }
+    ensures finishes_as { FinishesAs if_steps (at c k.old) r tree.now text.now arena.old scratch.old (finished_with k.new result) arena.new scratch.new }
+    ensures visits { FinishedVisited r tree.now text.now scratch.old (finished_with k.new result) scratch.new }
 {
     let then = reference(tree, r, WORD_B);
     let otherwise = reference(tree, r, WORD_C);
@@ -212,8 +212,8 @@ fn convert_while_loop(
     requires converting { Converting tree.now text.now arena.old scratch.old (at c k.old) × BehindAfforded tree.now text.now (at c k.old) r }
     requires kind { IsKind tree.now kind_while r }
     requires fresh { Fresh tree.now scratch.old (at c k.old) }
-    ensures finishes_as { FinishesAs while_steps (at c (was k)) r (was tree) (was text) (was arena) (was scratch) (finished_with (is k) result) (is arena) (is scratch) }
-    ensures visits { FinishedVisited r (was tree) (was text) (was scratch) (finished_with (is k) result) (is scratch) }
+    ensures finishes_as { FinishesAs while_steps (at c k.old) r tree.now text.now arena.old scratch.old (finished_with k.new result) arena.new scratch.new }
+    ensures visits { FinishedVisited r tree.now text.now scratch.old (finished_with k.new result) scratch.new }
 {
     let scope = c.scope;
     let inner = scope.with_loop(r as u32);
@@ -248,8 +248,8 @@ fn convert_for_loop(
     requires converting { Converting tree.now text.now arena.old scratch.old (at c k.old) × BehindAfforded tree.now text.now (at c k.old) r }
     requires kind { IsKind tree.now kind_for r }
     requires fresh { Fresh tree.now scratch.old (at c k.old) }
-    ensures finishes_as { FinishesAs for_steps (at c (was k)) r (was tree) (was text) (was arena) (was scratch) (finished_with (is k) result) (is arena) (is scratch) }
-    ensures visits { FinishedVisited r (was tree) (was text) (was scratch) (finished_with (is k) result) (is scratch) }
+    ensures finishes_as { FinishesAs for_steps (at c k.old) r tree.now text.now arena.old scratch.old (finished_with k.new result) arena.new scratch.new }
+    ensures visits { FinishedVisited r tree.now text.now scratch.old (finished_with k.new result) scratch.new }
 {
     let body = reference(tree, r, WORD_D);
     match for_head(tree, text, arena, scratch, k, c, r) {

@@ -5,7 +5,7 @@ ghost use Rattle.records.specs.Words as Words;
 ghost use Rattle.records.specs.Words.{word_of};
 ghost use Rattle.records.specs.Kinds.{kind_unary, kind_binary, kind_call};
 ghost use Rattle.syntax.specs.Places.{IsExpr, IsKind, TypeAt};
-ghost use Rattle.ir.specs.Counted.{was, is};
+
 ghost use Rattle.statements.specs.Converting.{Converting, ExprAfforded, ArgsAfforded};
 ghost use Rattle.statements.specs.Lent.{at, converted, converted_args};
 ghost use Rattle.statements.specs.Answers.{givens, given, expr_steps, unary_steps, logic_steps, other_steps, binary_steps, call_steps, args_steps, ConvertsAs, CallArgsAs};
@@ -36,8 +36,8 @@ pub(crate) fn convert_expr(
     requires converting { Converting tree.now text.now arena.old scratch.old (at c k.old) × ExprAfforded tree.now text.now (at c k.old) e }
     requires expr { IsExpr tree.now e }
     requires in_turn { InTurn tree.now text.now scratch.old (at c k.old) }
-    ensures converts_as { ConvertsAs expr_steps (at c (was k)) e (was tree) (was text) (was arena) (was scratch) (converted (is k) result) (is arena) (is scratch) }
-    ensures types { ConvertsTyped expr_types (at c (was k)) e (was tree) (was text) (was scratch) (converted (is k) result) (is scratch) }
+    ensures converts_as { ConvertsAs expr_steps (at c k.old) e tree.now text.now arena.old scratch.old (converted k.new result) arena.new scratch.new }
+    ensures types { ConvertsTyped expr_types (at c k.old) e tree.now text.now scratch.old (converted k.new result) scratch.new }
 {
     let scope = c.scope;
     let node = kind(tree, e);
@@ -73,8 +73,8 @@ fn convert_unary(
     requires converting { Converting tree.now text.now arena.old scratch.old (at c k.old) × ExprAfforded tree.now text.now (at c k.old) e }
     requires kind { IsKind tree.now kind_unary e × TypeAt tree.now y }
     requires in_turn { InTurn tree.now text.now scratch.old (at c k.old) }
-    ensures converts_as { ConvertsAs (given unary_steps y) (at c (was k)) e (was tree) (was text) (was arena) (was scratch) (converted (is k) result) (is arena) (is scratch) }
-    ensures types { ConvertsTyped unary_types (at c (was k)) e (was tree) (was text) (was scratch) (converted (is k) result) (is scratch) }
+    ensures converts_as { ConvertsAs (given unary_steps y) (at c k.old) e tree.now text.now arena.old scratch.old (converted k.new result) arena.new scratch.new }
+    ensures types { ConvertsTyped unary_types (at c k.old) e tree.now text.now scratch.old (converted k.new result) scratch.new }
 {
     let op = detail(tree, e);
     let part = reference(tree, e, WORD_A);
@@ -99,8 +99,8 @@ fn convert_binary(
     requires converting { Converting tree.now text.now arena.old scratch.old (at c k.old) × ExprAfforded tree.now text.now (at c k.old) e }
     requires kind { IsKind tree.now kind_binary e × TypeAt tree.now y }
     requires in_turn { InTurn tree.now text.now scratch.old (at c k.old) }
-    ensures converts_as { ConvertsAs (given binary_steps y) (at c (was k)) e (was tree) (was text) (was arena) (was scratch) (converted (is k) result) (is arena) (is scratch) }
-    ensures types { ConvertsTyped binary_types (at c (was k)) e (was tree) (was text) (was scratch) (converted (is k) result) (is scratch) }
+    ensures converts_as { ConvertsAs (given binary_steps y) (at c k.old) e tree.now text.now arena.old scratch.old (converted k.new result) arena.new scratch.new }
+    ensures types { ConvertsTyped binary_types (at c k.old) e tree.now text.now scratch.old (converted k.new result) scratch.new }
 {
     match operand_type_lem(tree, text, scratch, c, e, y) {
         ExprType::Refused(x) => Converted::Refused(x),
@@ -128,8 +128,8 @@ fn convert_logic(
     requires converting { Converting tree.now text.now arena.old scratch.old (at c k.old) × ExprAfforded tree.now text.now (at c k.old) e }
     requires kind { IsKind tree.now kind_binary e × TypeAt tree.now y }
     requires in_turn { InTurn tree.now text.now scratch.old (at c k.old) }
-    ensures converts_as { ConvertsAs (given logic_steps y) (at c (was k)) e (was tree) (was text) (was arena) (was scratch) (converted (is k) result) (is arena) (is scratch) }
-    ensures types { ConvertsTyped sides_types (at c (was k)) e (was tree) (was text) (was scratch) (converted (is k) result) (is scratch) }
+    ensures converts_as { ConvertsAs (given logic_steps y) (at c k.old) e tree.now text.now arena.old scratch.old (converted k.new result) arena.new scratch.new }
+    ensures types { ConvertsTyped sides_types (at c k.old) e tree.now text.now scratch.old (converted k.new result) scratch.new }
 {
     let left = reference(tree, e, WORD_A);
     let right = reference(tree, e, WORD_B);
@@ -162,8 +162,8 @@ fn convert_other(
     requires converting { Converting tree.now text.now arena.old scratch.old (at c k.old) × ExprAfforded tree.now text.now (at c k.old) e }
     requires kind { IsKind tree.now kind_binary e × TypeAt tree.now y × TypeAt tree.now q }
     requires in_turn { InTurn tree.now text.now scratch.old (at c k.old) }
-    ensures converts_as { ConvertsAs (givens other_steps y q) (at c (was k)) e (was tree) (was text) (was arena) (was scratch) (converted (is k) result) (is arena) (is scratch) }
-    ensures types { ConvertsTyped sides_types (at c (was k)) e (was tree) (was text) (was scratch) (converted (is k) result) (is scratch) }
+    ensures converts_as { ConvertsAs (givens other_steps y q) (at c k.old) e tree.now text.now arena.old scratch.old (converted k.new result) arena.new scratch.new }
+    ensures types { ConvertsTyped sides_types (at c k.old) e tree.now text.now scratch.old (converted k.new result) scratch.new }
 {
     let op = detail(tree, e);
     let left = reference(tree, e, WORD_A);
@@ -192,8 +192,8 @@ fn convert_call_value(
     requires converting { Converting tree.now text.now arena.old scratch.old (at c k.old) × ExprAfforded tree.now text.now (at c k.old) e }
     requires kind { IsKind tree.now kind_call e × TypeAt tree.now y }
     requires in_turn { InTurn tree.now text.now scratch.old (at c k.old) }
-    ensures converts_as { ConvertsAs (given call_steps y) (at c (was k)) e (was tree) (was text) (was arena) (was scratch) (converted (is k) result) (is arena) (is scratch) }
-    ensures types { ConvertsTyped call_types (at c (was k)) e (was tree) (was text) (was scratch) (converted (is k) result) (is scratch) }
+    ensures converts_as { ConvertsAs (given call_steps y) (at c k.old) e tree.now text.now arena.old scratch.old (converted k.new result) arena.new scratch.new }
+    ensures types { ConvertsTyped call_types (at c k.old) e tree.now text.now scratch.old (converted k.new result) scratch.new }
 {
     let scope = c.scope;
     let callee = resolve_call(tree, text, scratch, scope, c.turn, e);
@@ -222,8 +222,8 @@ pub(crate) fn convert_args(
     requires converting { Converting tree.now text.now arena.old scratch.old (at c k.old) × ArgsAfforded tree.now text.now (at c k.old) (word_of tree.now e Words.C) }
     requires kind { IsKind tree.now kind_call e }
     requires in_turn { InTurn tree.now text.now scratch.old (at c k.old) }
-    ensures call_args_as { CallArgsAs args_steps (at c (was k)) e (was tree) (was text) (was arena) (was scratch) (converted_args (is k) result) (is arena) (is scratch) }
-    ensures types { ArgumentsTyped args_types (at c (was k)) (word_of (was tree) e Words.C) (was tree) (was text) (was scratch) (converted_args (is k) result) (is scratch) }
+    ensures call_args_as { CallArgsAs args_steps (at c k.old) e tree.now text.now arena.old scratch.old (converted_args k.new result) arena.new scratch.new }
+    ensures types { ArgumentsTyped args_types (at c k.old) (word_of tree.now e Words.C) tree.now text.now scratch.old (converted_args k.new result) scratch.new }
 {
     let n = tree.len() / RECORD_BYTES;
     let first = c.operands;

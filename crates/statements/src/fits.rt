@@ -12,7 +12,7 @@ ghost use Rattle.conversion.specs.Expressions.{Functions};
 ghost use Rattle.conversion.specs.Statements.{refloat, cast_operand, emit_args, check_fits, parameter_type};
 ghost use Rattle.types.specs.Fits.{IsType};
 ghost use Rattle.ir.specs.Amounts.{amount};
-ghost use Rattle.ir.specs.Counted.{counted, was, is};
+ghost use Rattle.ir.specs.Counted.{counted};
 ghost use Rattle.ir.specs.Instructions.{operand_of, var_of};
 ghost use Rattle.expressions.specs.Answers.{outcome_of};
 ghost use Rattle.statements.specs.Converting.{Converting, Afforded, RoomFor, OperandIn, StackIn, StaysFor, NamesStay};
@@ -38,7 +38,7 @@ use types::form::{form, is_short, is_unsigned};
 // The float of number i with this mark.
 fn refloat(arena: &mut [u8], k: &mut [usize], i: u32, short: bool) -> Operand
     requires { RoomFor (counted k.old) arena.old (amount 0 0 0 0 1) }
-    ensures { (tree : List ℕ) → FitAdds tree (refloat i short) (amount 0 0 0 0 1) (counted (was k)) (was arena) (fitted (is k) result) (is arena) }
+    ensures { (tree : List ℕ) → FitAdds tree (refloat i short) (amount 0 0 0 0 1) (counted k.old) arena.old (fitted k.new result) arena.new }
 {
     let f = float_entry(float_bits(arena, k, i), short);
     Operand::Float(float_id(arena, k, f))
@@ -47,7 +47,7 @@ fn refloat(arena: &mut [u8], k: &mut [usize], i: u32, short: bool) -> Operand
 // The variable cast to a new one of this type.
 fn cast_operand(arena: &mut [u8], k: &mut [usize], v: VarId, expected: usize) -> Operand
     requires { RoomFor (counted k.old) arena.old (amount 1 1 0 0 0) × (expected < 4294967296) }
-    ensures { (tree : List ℕ) → TypeAt tree expected → FitAdds tree (cast_operand true (var_of v) expected) (amount 1 1 0 0 0) (counted (was k)) (was arena) (fitted (is k) result) (is arena) }
+    ensures { (tree : List ℕ) → TypeAt tree expected → FitAdds tree (cast_operand true (var_of v) expected) (amount 1 1 0 0 0) (counted k.old) arena.old (fitted k.new result) arena.new }
 {
     let dest = new_var(arena, k, expected as u32);
     emit_cast(arena, k, dest, Operand::Var(v));
@@ -63,7 +63,7 @@ fn fit_variable(
     expected: usize,
 ) -> Operand
     requires { RoomFor (counted k.old) arena.old (amount 1 1 0 0 0) × (expected < 4294967296) × TypeAt tree.now expected × TypeAt tree.now v.1 }
-    ensures { OperandFits (was tree) (OVar (var_of v)) expected (amount 1 1 0 0 0) (counted (was k)) (was arena) (fitted (is k) result) (is arena) }
+    ensures { OperandFits tree.now (OVar (var_of v)) expected (amount 1 1 0 0 0) (counted k.old) arena.old (fitted k.new result) arena.new }
 {
     let ty = v.1 as usize;
     let floats = (form(tree, expected) == FORM_FLOAT) & (form(tree, ty) == FORM_FLOAT);
@@ -75,7 +75,7 @@ fn fit_variable(
 
 fn fit_float(tree: &[u8], arena: &mut [u8], k: &mut [usize], i: u32, expected: usize) -> Operand
     requires { RoomFor (counted k.old) arena.old (amount 0 0 0 0 1) × TypeAt tree.now expected }
-    ensures { OperandFits (was tree) (OFloat i) expected (amount 0 0 0 0 1) (counted (was k)) (was arena) (fitted (is k) result) (is arena) }
+    ensures { OperandFits tree.now (OFloat i) expected (amount 0 0 0 0 1) (counted k.old) arena.old (fitted k.new result) arena.new }
 {
     if form(tree, expected) == FORM_FLOAT {
         return refloat(arena, k, i, is_short(tree, expected));
@@ -86,7 +86,7 @@ fn fit_float(tree: &[u8], arena: &mut [u8], k: &mut [usize], i: u32, expected: u
 // An Int at the expected Int type; at any other as it is.
 fn fit_int(tree: &[u8], o: Operand, bits: u64, expected: usize) -> Operand
     requires { TypeAt tree.now expected }
-    ensures { (k : List ℕ) → IntFits (was tree) o bits expected (counted k) (fitted k result) }
+    ensures { (k : List ℕ) → IntFits tree.now o bits expected (counted k) (fitted k result) }
 {
     if form(tree, expected) == FORM_INT {
         return Operand::Int(bits, is_short(tree, expected), is_unsigned(tree, expected));
@@ -104,7 +104,7 @@ pub(crate) fn fit_operand(
 ) -> Operand
     requires room_for { RoomFor (counted k.old) arena.old (amount 1 1 0 0 1) × (expected < 4294967296) }
     requires type_at { TypeAt tree.now expected × OperandIn tree.now (operand_of o) }
-    ensures { OperandFits (was tree) (operand_of o) expected (amount 1 1 0 0 1) (counted (was k)) (was arena) (fitted (is k) result) (is arena) }
+    ensures { OperandFits tree.now (operand_of o) expected (amount 1 1 0 0 1) (counted k.old) arena.old (fitted k.new result) arena.new }
 {
     match o {
         Operand::Var(v) => fit_variable(tree, arena, k, v, expected),
@@ -119,7 +119,7 @@ pub(crate) fn fit_operand(
 // The type of the parameter in a cell; behind the parameters long Float.
 fn parameter_type(tree: &[u8], text: &[u8], parameter: usize) -> usize
     requires { Good tree.now text.now × ParamsAt tree.now parameter × TypeAt tree.now (float_type false) }
-    ensures { (result ≡ parameter_type (params_at (was tree) (was text) parameter) 0) × TypeAt (was tree) result }
+    ensures { (result ≡ parameter_type (params_at tree.now text.now parameter) 0) × TypeAt tree.now result }
 {
     if parameter == END {
         return FLOAT_LONG;
@@ -129,7 +129,7 @@ fn parameter_type(tree: &[u8], text: &[u8], parameter: usize) -> usize
 
 fn next_parameter(tree: &[u8], text: &[u8], parameter: usize) -> usize
     requires { Good tree.now text.now × ParamsAt tree.now parameter }
-    ensures { ParameterBehind (was tree) (was text) parameter result }
+    ensures { ParameterBehind tree.now text.now parameter result }
 {
     if parameter == END {
         return END;
@@ -140,7 +140,7 @@ fn next_parameter(tree: &[u8], text: &[u8], parameter: usize) -> usize
 // The first value from this argument on, beside the parameters from this one on. A type gives no Arg, and takes a parameter's place.
 fn first_value(tree: &[u8], text: &[u8], argument: usize, parameter: usize) -> AtValue
     requires { Good tree.now text.now × ArgsAt tree.now argument × ParamsAt tree.now parameter }
-    ensures { FirstValue (was tree) (was text) argument parameter result }
+    ensures { FirstValue tree.now text.now argument parameter result }
 {
     let mut cell = argument;
     let mut beside = parameter;
@@ -175,8 +175,8 @@ fn fit_args(
 )
     requires converting { Converting tree.now text.now arena.old scratch.old (at c k.old) × FunctionAt tree.now f × IsKind tree.now kind_call e }
     requires afforded { Afforded tree.now (at c k.old) (amount count count 0 0 count) count 0 × StackIn tree.now scratch.old c.operands count }
-    ensures fits_as { FitsAs e f count (at c (was k)) (was tree) (was text) (was arena) (was scratch) (counted (is k)) (is arena) (is scratch) }
-    ensures turns { TurnsStay (was tree) (was scratch) (is scratch) }
+    ensures fits_as { FitsAs e f count (at c k.old) tree.now text.now arena.old scratch.old (counted k.new) arena.new scratch.new }
+    ensures turns { TurnsStay tree.now scratch.old scratch.new }
 {
     let first = c.operands;
     let n = tree.len() / RECORD_BYTES;
@@ -206,7 +206,7 @@ fn emit_args(
 )
     requires room_for { RoomFor (counted k.old) arena.old (amount count 0 0 0 0) }
     requires count_bound { (c.operands + count ≤ records tree.now) × (scratch_each * records tree.now ≤ length scratch.now) }
-    ensures { Adds (emit_args (waiting (was tree) (was scratch) (at c (was k)) count)) (amount count 0 0 0 0) (counted (was k)) (was arena) tt (counted (is k)) (is arena) }
+    ensures { Adds (emit_args (waiting tree.now scratch.now (at c k.old) count)) (amount count 0 0 0 0) (counted k.old) arena.old tt (counted k.new) arena.new }
 {
     let first = c.operands;
     let n = tree.len() / RECORD_BYTES;
@@ -232,9 +232,9 @@ pub(crate) fn pass_args(
 )
     requires converting { Converting tree.now text.now arena.old scratch.old (at c k.old) × FunctionAt tree.now f × IsKind tree.now kind_call e }
     requires afforded { Afforded tree.now (at c k.old) (amount (2 * count) count 0 0 count) count 0 × StackIn tree.now scratch.old c.operands count }
-    ensures adds { PassesAs e f count (at c (was k)) (was tree) (was text) (was arena) (was scratch) (counted (is k)) (is arena) }
-    ensures stays { StaysFor (was tree) (at c (was k)) (was scratch) (is scratch) × NamesStay (was tree) (was scratch) (is scratch) }
-    ensures turns { TurnsStay (was tree) (was scratch) (is scratch) }
+    ensures adds { PassesAs e f count (at c k.old) tree.now text.now arena.old scratch.old (counted k.new) arena.new }
+    ensures stays { StaysFor tree.now (at c k.old) scratch.old scratch.new × NamesStay tree.now scratch.old scratch.new }
+    ensures turns { TurnsStay tree.now scratch.old scratch.new }
 {
     fit_args(tree, text, arena, scratch, k, c, e, f, count);
     emit_args(tree, arena, scratch, k, c, count);
@@ -250,7 +250,7 @@ pub(crate) fn check_fits(
     place: usize,
 ) -> Outcome
     requires { IsExpr tree.now e × IsType tree.now y × IsType tree.now expected × (e < 4294967296) × (place < 4294967296) }
-    ensures { (text : List ℕ) (F : Functions) → check_fits (program (was tree) text) F (expr_at (was tree) text e) y expected kind place ≡ lift (outcome_of result) }
+    ensures { (text : List ℕ) (F : Functions) → check_fits (program tree.now text) F (expr_at tree.now text e) y expected kind place ≡ lift (outcome_of result) }
 {
     if fits(tree, e, y, expected) {
         return Outcome::Done;

@@ -8,7 +8,7 @@ ghost use Rattle.syntax.specs.Decode.{program, bit};
 ghost use Rattle.syntax.specs.Places.{IsExpr, IsKind, TypeAt};
 ghost use Rattle.conversion.specs.Ir.{condition_end, otherwise_label};
 ghost use Rattle.ir.specs.Amounts.{amount};
-ghost use Rattle.ir.specs.Counted.{counted, was, is};
+ghost use Rattle.ir.specs.Counted.{counted};
 ghost use Rattle.ir.specs.Instructions.{operand_of, var_of};
 ghost use Rattle.expressions.specs.Slots.{Ready};
 ghost use Rattle.statements.specs.Converting.{Converting, RoomFor, OperandIn, BehindAfforded, BoundAfforded};
@@ -39,7 +39,7 @@ use types::form::{form, is_short, is_unsigned};
 pub(crate) fn has_otherwise(tree: &[u8], r: usize) -> bool
     requires record_bytes_in_bounds { r * record_bytes + record_bytes ≤ length tree.now }
     requires r_bound { detail_of tree.now r ≤ 1 }
-    ensures { result ≡ bit 1 (detail_of (was tree) r) }
+    ensures { result ≡ bit 1 (detail_of tree.now r) }
 {
     detail(tree, r) == 1
 }
@@ -48,7 +48,7 @@ pub(crate) fn has_otherwise(tree: &[u8], r: usize) -> bool
 fn if_not_label(tree: &[u8], r: usize) -> u32
     requires record_bytes_in_bounds { r * record_bytes + record_bytes ≤ length tree.now }
     requires r_bound { detail_of tree.now r ≤ 1 }
-    ensures { result ≡ pick (bit 1 (detail_of (was tree) r)) (otherwise_label r).kind (condition_end r).kind }
+    ensures { result ≡ pick (bit 1 (detail_of tree.now r)) (otherwise_label r).kind (condition_end r).kind }
 {
     if has_otherwise(tree, r) {
         return OTHERWISE;
@@ -69,8 +69,8 @@ pub(crate) fn if_head(
     requires converting { Converting tree.now text.now arena.old scratch.old (at c k.old) × BehindAfforded tree.now text.now (at c k.old) r }
     requires kind { IsKind tree.now kind_if r }
     requires in_turn { InTurn tree.now text.now scratch.old (at c k.old) }
-    ensures head_as { HeadAs if_head_steps (at c (was k)) r (was tree) (was text) (was arena) (was scratch) (finished_with (is k) result) (is arena) (is scratch) }
-    ensures types { FinishesTyped head_types (at c (was k)) r (was tree) (was text) (was scratch) (finished_with (is k) result) (is scratch) }
+    ensures head_as { HeadAs if_head_steps (at c k.old) r tree.now text.now arena.old scratch.old (finished_with k.new result) arena.new scratch.new }
+    ensures types { FinishesTyped head_types (at c k.old) r tree.now text.now scratch.old (finished_with k.new result) scratch.new }
 {
     let e = reference(tree, r, WORD_A);
     let label = if_not_label(tree, r);
@@ -86,7 +86,7 @@ pub(crate) fn if_head(
 // Between the blocks of the If r.
 pub(crate) fn if_middle(arena: &mut [u8], k: &mut [usize], r: usize)
     requires { RoomFor (counted k.old) arena.old (amount 2 0 2 0 0) × (r < (counted k.old).records) }
-    ensures { Adds (if_middle r) (amount 2 0 2 0 0) (counted (was k)) (was arena) tt (counted (is k)) (is arena) }
+    ensures { Adds (if_middle r) (amount 2 0 2 0 0) (counted k.old) arena.old tt (counted k.new) arena.new }
 {
     jump(arena, k, CONDITION_END, r);
     place_label(arena, k, OTHERWISE, r);
@@ -95,7 +95,7 @@ pub(crate) fn if_middle(arena: &mut [u8], k: &mut [usize], r: usize)
 // Behind the last block of the If r.
 pub(crate) fn if_end(arena: &mut [u8], k: &mut [usize], r: usize)
     requires { RoomFor (counted k.old) arena.old (amount 1 0 1 0 0) × (r < (counted k.old).records) }
-    ensures { Adds (place_label (condition_end r)) (amount 1 0 1 0 0) (counted (was k)) (was arena) tt (counted (is k)) (is arena) }
+    ensures { Adds (place_label (condition_end r)) (amount 1 0 1 0 0) (counted k.old) arena.old tt (counted k.new) arena.new }
 {
     place_label(arena, k, CONDITION_END, r);
 }
@@ -113,8 +113,8 @@ pub(crate) fn while_head(
     requires converting { Converting tree.now text.now arena.old scratch.old (at c k.old) × BehindAfforded tree.now text.now (at c k.old) r }
     requires kind { IsKind tree.now kind_while r }
     requires in_turn { InTurn tree.now text.now scratch.old (at c k.old) }
-    ensures head_as { HeadAs while_head_steps (at c (was k)) r (was tree) (was text) (was arena) (was scratch) (finished_with (is k) result) (is arena) (is scratch) }
-    ensures types { FinishesTyped head_types (at c (was k)) r (was tree) (was text) (was scratch) (finished_with (is k) result) (is scratch) }
+    ensures head_as { HeadAs while_head_steps (at c k.old) r tree.now text.now arena.old scratch.old (finished_with k.new result) arena.new scratch.new }
+    ensures types { FinishesTyped head_types (at c k.old) r tree.now text.now scratch.old (finished_with k.new result) scratch.new }
 {
     let e = reference(tree, r, WORD_A);
     place_label(arena, k, LOOP_START, r);
@@ -130,7 +130,7 @@ pub(crate) fn while_head(
 // Behind the body of the While or For r.
 pub(crate) fn loop_end(arena: &mut [u8], k: &mut [usize], r: usize)
     requires { RoomFor (counted k.old) arena.old (amount 2 0 2 0 0) × (r < (counted k.old).records) }
-    ensures { Adds (loop_back r) (amount 2 0 2 0 0) (counted (was k)) (was arena) tt (counted (is k)) (is arena) }
+    ensures { Adds (loop_back r) (amount 2 0 2 0 0) (counted k.old) arena.old tt (counted k.new) arena.new }
 {
     jump(arena, k, LOOP_START, r);
     place_label(arena, k, LOOP_END, r);
@@ -150,8 +150,8 @@ fn for_declared(
     requires converting { Converting tree.now text.now arena.old scratch.old (at c k.old) × BehindAfforded tree.now text.now (at c k.old) r }
     requires kind { IsKind tree.now kind_for r × (v ≡ word_of tree.now r Words.A) × TypeAt tree.now (word_of tree.now v Words.C) }
     requires in_turn { InTurn tree.now text.now scratch.old (at c k.old) }
-    ensures variable_as { VariableAs for_variable_steps (at c (was k)) r (was tree) (was text) (was arena) (was scratch) (found_variable (is k) result) (is arena) (is scratch) }
-    ensures types { VariableTyped (at c (was k)) (was tree) (was text) (was scratch) (found_variable (is k) result) (is scratch) }
+    ensures variable_as { VariableAs for_variable_steps (at c k.old) r tree.now text.now arena.old scratch.old (found_variable k.new result) arena.new scratch.new }
+    ensures types { VariableTyped (at c k.old) tree.now text.now scratch.old (found_variable k.new result) scratch.new }
 {
     let scope = c.scope;
     let x = new_var(arena, k, word(tree, v, WORD_C));
@@ -172,7 +172,7 @@ fn for_known(
 ) -> ForVariable
     requires ready { Ready tree.now text.now scratch.now c.scope }
     requires kind { IsKind tree.now kind_for r × (v ≡ word_of tree.now r Words.A) × (word_of tree.now v Words.C ≡ Words.none) }
-    ensures { VariableStays for_variable_steps c r (was tree) (was text) (was scratch) result }
+    ensures { VariableStays for_variable_steps c r tree.now text.now scratch.now result }
 {
     let scope = c.scope;
     match find_name(tree, text, scratch, scope, v) {
@@ -199,8 +199,8 @@ fn for_variable(
     requires converting { Converting tree.now text.now arena.old scratch.old (at c k.old) × BehindAfforded tree.now text.now (at c k.old) r }
     requires kind { IsKind tree.now kind_for r }
     requires in_turn { InTurn tree.now text.now scratch.old (at c k.old) }
-    ensures variable_as { VariableAs for_variable_steps (at c (was k)) r (was tree) (was text) (was arena) (was scratch) (found_variable (is k) result) (is arena) (is scratch) }
-    ensures types { VariableTyped (at c (was k)) (was tree) (was text) (was scratch) (found_variable (is k) result) (is scratch) }
+    ensures variable_as { VariableAs for_variable_steps (at c k.old) r tree.now text.now arena.old scratch.old (found_variable k.new result) arena.new scratch.new }
+    ensures types { VariableTyped (at c k.old) tree.now text.now scratch.old (found_variable k.new result) scratch.new }
 {
     let v = reference(tree, r, WORD_A);
     if word(tree, v, WORD_C) == NONE {
@@ -220,8 +220,8 @@ fn check_bound(
 ) -> Outcome
     requires ready { Ready tree.now text.now scratch.old c.scope × IsExpr tree.now e × TypeAt tree.now y }
     requires by_index { (k : List ℕ) → InTurn tree.now text.now scratch.old (at c k) }
-    ensures by_index_2 { (k : List ℕ) → Checks (was tree) (bound_steps (was tree) (was text) (was scratch) (at c k) e y) (was scratch) result (is scratch) }
-    ensures types { (k : List ℕ) → ChecksTyped bound_types (at c k) e (was tree) (was text) (was scratch) result (is scratch) }
+    ensures by_index_2 { (k : List ℕ) → Checks tree.now (bound_steps tree.now text.now scratch.old (at c k) e y) scratch.old result scratch.new }
+    ensures types { (k : List ℕ) → ChecksTyped bound_types (at c k) e tree.now text.now scratch.old result scratch.new }
 {
     let scope = c.scope;
     match get_type(tree, text, scratch, scope, c.turn, e) {
@@ -241,8 +241,8 @@ fn for_bounds(
 ) -> Outcome
     requires ready { Ready tree.now text.now scratch.old c.scope × IsKind tree.now kind_for r × TypeAt tree.now y }
     requires by_index { (k : List ℕ) → InTurn tree.now text.now scratch.old (at c k) }
-    ensures by_index_2 { (k : List ℕ) → Checks (was tree) (for_bounds_steps (was tree) (was text) (was scratch) (at c k) r y) (was scratch) result (is scratch) }
-    ensures types { (k : List ℕ) → ChecksTyped bounds_types (at c k) r (was tree) (was text) (was scratch) result (is scratch) }
+    ensures by_index_2 { (k : List ℕ) → Checks tree.now (for_bounds_steps tree.now text.now scratch.old (at c k) r y) scratch.old result scratch.new }
+    ensures types { (k : List ℕ) → ChecksTyped bounds_types (at c k) r tree.now text.now scratch.old result scratch.new }
 {
     let from = reference(tree, r, WORD_B);
     let until = reference(tree, r, WORD_C);
@@ -255,7 +255,7 @@ fn for_bounds(
 // Where the For r counts on: at its start, which the first turn passes by, and then the check.
 fn count_on(tree: &[u8], arena: &mut [u8], k: &mut [usize], r: usize, x: VarId)
     requires { RoomFor (counted k.old) arena.old (amount 4 0 3 0 0) × (r < (counted k.old).records) × TypeAt tree.now x.1 }
-    ensures { Adds (count_on_steps (was tree) r x) (amount 4 0 3 0 0) (counted (was k)) (was arena) tt (counted (is k)) (is arena) }
+    ensures { Adds (count_on_steps tree.now r x) (amount 4 0 3 0 0) (counted k.old) arena.old tt (counted k.new) arena.new }
 {
     let y = x.1 as usize;
     let one = Operand::Int(1, is_short(tree, y), is_unsigned(tree, y));
@@ -279,8 +279,8 @@ fn for_begin(
     requires converting { Converting tree.now text.now arena.old scratch.old (at c k.old) × BoundAfforded tree.now text.now (at c k.old) r Words.B }
     requires kind { IsKind tree.now kind_for r × TypeAt tree.now x.1 }
     requires in_turn { InTurn tree.now text.now scratch.old (at c k.old) }
-    ensures bound_as { BoundAs (of_var for_begin_steps x) Words.B (at c (was k)) r (was tree) (was text) (was arena) (was scratch) (finished_with (is k) result) (is arena) (is scratch) }
-    ensures types { FinishesTyped for_begin_types (at c (was k)) r (was tree) (was text) (was scratch) (finished_with (is k) result) (is scratch) }
+    ensures bound_as { BoundAs (of_var for_begin_steps x) Words.B (at c k.old) r tree.now text.now arena.old scratch.old (finished_with k.new result) arena.new scratch.new }
+    ensures types { FinishesTyped for_begin_types (at c k.old) r tree.now text.now scratch.old (finished_with k.new result) scratch.new }
 {
     let from = reference(tree, r, WORD_B);
     match convert_expr(tree, text, arena, scratch, k, c, from) {
@@ -296,7 +296,7 @@ fn for_begin(
 // Whether the variable is below the bound, or the For r ends.
 fn test_bound(tree: &[u8], arena: &mut [u8], k: &mut [usize], r: usize, x: VarId, until: Operand)
     requires { RoomFor (counted k.old) arena.old (amount 3 2 1 0 1) × (r < (counted k.old).records) × TypeAt tree.now x.1 × OperandIn tree.now (operand_of until) }
-    ensures { (text : List ℕ) → Adds (test_bound (program (was tree) text) r (var_of x) (operand_of until)) (amount 3 2 1 0 1) (counted (was k)) (was arena) tt (counted (is k)) (is arena) }
+    ensures { (text : List ℕ) → Adds (test_bound (program tree.now text) r (var_of x) (operand_of until)) (amount 3 2 1 0 1) (counted k.old) arena.old tt (counted k.new) arena.new }
 {
     let bound = fit_operand(tree, arena, k, until, x.1 as usize);
     let cond = new_var(arena, k, BOOL_TYPE as u32);
@@ -318,8 +318,8 @@ fn for_test(
     requires converting { Converting tree.now text.now arena.old scratch.old (at c k.old) × BoundAfforded tree.now text.now (at c k.old) r Words.C }
     requires kind { IsKind tree.now kind_for r × TypeAt tree.now x.1 }
     requires in_turn { InTurn tree.now text.now scratch.old (at c k.old) }
-    ensures bound_as { BoundAs (of_var for_test_steps x) Words.C (at c (was k)) r (was tree) (was text) (was arena) (was scratch) (finished_with (is k) result) (is arena) (is scratch) }
-    ensures types { FinishesTyped for_test_types (at c (was k)) r (was tree) (was text) (was scratch) (finished_with (is k) result) (is scratch) }
+    ensures bound_as { BoundAs (of_var for_test_steps x) Words.C (at c k.old) r tree.now text.now arena.old scratch.old (finished_with k.new result) arena.new scratch.new }
+    ensures types { FinishesTyped for_test_types (at c k.old) r tree.now text.now scratch.old (finished_with k.new result) scratch.new }
 {
     let until = reference(tree, r, WORD_C);
     match convert_expr(tree, text, arena, scratch, k, c, until) {
@@ -345,8 +345,8 @@ fn for_turns(
     requires converting { Converting tree.now text.now arena.old scratch.old (at c k.old) × TurnsAfforded tree.now text.now (at c k.old) r }
     requires kind { IsKind tree.now kind_for r × TypeAt tree.now x.1 }
     requires in_turn { InTurn tree.now text.now scratch.old (at c k.old) }
-    ensures turns_as { TurnsAs (of_var for_turns_steps x) (at c (was k)) r (was tree) (was text) (was arena) (was scratch) (finished_with (is k) result) (is arena) (is scratch) }
-    ensures types { FinishesTyped for_types (at c (was k)) r (was tree) (was text) (was scratch) (finished_with (is k) result) (is scratch) }
+    ensures turns_as { TurnsAs (of_var for_turns_steps x) (at c k.old) r tree.now text.now arena.old scratch.old (finished_with k.new result) arena.new scratch.new }
+    ensures types { FinishesTyped for_types (at c k.old) r tree.now text.now scratch.old (finished_with k.new result) scratch.new }
 {
     let y = x.1 as usize;
     if form(tree, y) != FORM_INT {
@@ -374,8 +374,8 @@ pub(crate) fn for_head(
     requires converting { Converting tree.now text.now arena.old scratch.old (at c k.old) × BehindAfforded tree.now text.now (at c k.old) r }
     requires kind { IsKind tree.now kind_for r }
     requires in_turn { InTurn tree.now text.now scratch.old (at c k.old) }
-    ensures for_head_as { ForHeadAs for_head_steps (at c (was k)) r (was tree) (was text) (was arena) (was scratch) (stated (is k) result) (is arena) (is scratch) }
-    ensures types { StatesTyped for_types (at c (was k)) r (was tree) (was text) (was scratch) (stated (is k) result) (is scratch) }
+    ensures for_head_as { ForHeadAs for_head_steps (at c k.old) r tree.now text.now arena.old scratch.old (stated k.new result) arena.new scratch.new }
+    ensures types { StatesTyped for_types (at c k.old) r tree.now text.now scratch.old (stated k.new result) scratch.new }
 {
     match for_variable(tree, text, arena, scratch, k, c, r) {
         ForVariable::Refused(e) => Stated::Refused(e),

@@ -14,7 +14,7 @@ ghost use Rattle.syntax.specs.Places.{IsExpr, IsKind};
 ghost use Rattle.conversion.specs.Ir.{OInt};
 ghost use Rattle.conversion.specs.Written.{word};
 ghost use Rattle.ir.specs.Amounts.{amount, Affords};
-ghost use Rattle.ir.specs.Counted.{counted, was, is};
+ghost use Rattle.ir.specs.Counted.{counted};
 ghost use Rattle.ir.specs.Instructions.{operand_of};
 ghost use Rattle.expressions.specs.Slots.{Ready};
 ghost use Rattle.statements.specs.Stack.{operand_bytes, operand_from, stack_entry_at, operand_at};
@@ -90,8 +90,8 @@ fn operand_of(w: Four) -> Operand
 // Writes the operand at place j of the stack, for a tree of so many records.
 pub(crate) fn push_operand(scratch: &mut [u8], records: usize, j: usize, o: Operand)
     requires { stack_entry_at records j + operands.each ≤ length scratch.old }
-    ensures written { is scratch ≡ splice (was scratch) (stack_entry_at records j) (operand_bytes (operand_of o)) }
-    ensures back { operand_at (is scratch) records j ≡ operand_of o }
+    ensures written { scratch.new ≡ splice scratch.old (stack_entry_at records j) (operand_bytes (operand_of o)) }
+    ensures back { operand_at scratch.new records j ≡ operand_of o }
 {
     let w = operand_words(o);
     put_four(scratch, OPERANDS * records + OPERAND_BYTES * j, w);
@@ -100,7 +100,7 @@ pub(crate) fn push_operand(scratch: &mut [u8], records: usize, j: usize, o: Oper
 // The operand at place j of the stack.
 pub(crate) fn operand_at(scratch: &[u8], records: usize, j: usize) -> Operand
     requires { stack_entry_at records j + operands.each ≤ length scratch.now }
-    ensures { operand_of result ≡ operand_at (was scratch) records j }
+    ensures { operand_of result ≡ operand_at scratch.now records j }
 {
     let at = OPERANDS * records + OPERAND_BYTES * j;
     let a = load(scratch, at);
@@ -113,7 +113,7 @@ pub(crate) fn operand_at(scratch: &[u8], records: usize, j: usize) -> Operand
 // Detail 1 is short, 2 unsigned.
 fn int_operand(tree: &[u8], e: usize) -> Operand
     requires { e * record_bytes + record_bytes ≤ length tree.now }
-    ensures { (text : List ℕ) → operand_of result ≡ OInt (to_z w64 (wide_of (was tree) text e Words.A)) (bit 1 (detail_of (was tree) e)) (bit 2 (detail_of (was tree) e)) }
+    ensures { (text : List ℕ) → operand_of result ≡ OInt (to_z w64 (wide_of tree.now text e Words.A)) (bit 1 (detail_of tree.now e)) (bit 2 (detail_of tree.now e)) }
 {
     let marks = detail(tree, e);
     let bits = two_words(tree, e, WORD_A);
@@ -122,7 +122,7 @@ fn int_operand(tree: &[u8], e: usize) -> Operand
 
 fn float_operand(tree: &[u8], text: &[u8], arena: &mut [u8], k: &mut [usize], e: usize) -> Operand
     requires { RoomFor (counted k.old) arena.old (amount 0 0 0 0 1) × Good tree.now text.now × IsKind tree.now kind_float e }
-    ensures { LeafAdds (was tree) (was text) e (amount 0 0 0 0 1) (counted (was k)) (was arena) (fitted (is k) result) (is arena) }
+    ensures { LeafAdds tree.now text.now e (amount 0 0 0 0 1) (counted k.old) arena.old (fitted k.new result) arena.new }
 {
     let f = float_entry(two_words(tree, e, WORD_A), detail(tree, e) == 1);
     Operand::Float(float_id(arena, k, f))
@@ -140,7 +140,7 @@ fn string_operand(
 ) -> Operand
     requires converting { Converting tree.now text.now arena.old scratch.now (at c k.old) }
     requires affords { Affords (counted k.old) (amount 0 0 0 1 0) × IsKind tree.now kind_str e }
-    ensures { LeafAdds (was tree) (was text) e (amount 0 0 0 1 0) (counted (was k)) (was arena) (fitted (is k) result) (is arena) }
+    ensures { LeafAdds tree.now text.now e (amount 0 0 0 1 0) (counted k.old) arena.old (fitted k.new result) arena.new }
 {
     let scope = c.scope;
     let o = original(scratch, scope.records, e);
@@ -152,7 +152,7 @@ fn string_operand(
 // The variable of the Name e.
 fn name_operand(tree: &[u8], text: &[u8], scratch: &[u8], c: Converter, e: usize) -> Converted
     requires { Ready tree.now text.now scratch.now c.scope × IsKind tree.now kind_name e }
-    ensures { LeafStays c e (was tree) (was text) (was scratch) result }
+    ensures { LeafStays c e tree.now text.now scratch.now result }
 {
     let scope = c.scope;
     match find_name(tree, text, scratch, scope, e) {
@@ -164,7 +164,7 @@ fn name_operand(tree: &[u8], text: &[u8], scratch: &[u8], c: Converter, e: usize
 // The operand is tagged signed, though a SizeOf's type is unsigned.
 fn size_operand(tree: &[u8], text: &[u8], e: usize) -> Converted
     requires { Good tree.now text.now × IsKind tree.now kind_size_of e }
-    ensures { LeafAnywhere e (was tree) (was text) result }
+    ensures { LeafAnywhere e tree.now text.now result }
 {
     match size(tree, reference(tree, e, WORD_A)) {
         Bytes::Exactly(n) => Converted::Is(Operand::Int(n, false, false)),
@@ -186,7 +186,7 @@ pub(crate) fn operand(
     requires converting { Converting tree.now text.now arena.old scratch.now (at c k.old) }
     requires affords { Affords (counted k.old) (expr_amount 0) }
     requires expr { IsExpr tree.now e × (kind_of tree.now e ≤ kind_size_of) }
-    ensures { LeafConverts (expr_amount 0) (at c (was k)) e (was tree) (was text) (was arena) (was scratch) (converted (is k) result) (is arena) }
+    ensures { LeafConverts (expr_amount 0) (at c k.old) e tree.now text.now arena.old scratch.now (converted k.new result) arena.new }
 {
     let leaf = kind(tree, e);
     if leaf == KIND_INT {

@@ -5,7 +5,7 @@ ghost use Rattle.records.specs.Kinds.{kind_binary, kind_call};
 ghost use Rattle.syntax.specs.Syntax.{unary_ops, binary_ops, Neg, Or};
 ghost use Rattle.syntax.specs.Places.{IsKind, TypeAt, FunctionAt};
 ghost use Rattle.ir.specs.Amounts.{amount};
-ghost use Rattle.ir.specs.Counted.{counted, was, is};
+ghost use Rattle.ir.specs.Counted.{counted};
 ghost use Rattle.ir.specs.Instructions.{operand_of, var_of};
 ghost use Rattle.expressions.specs.Slots.{Ready};
 ghost use Rattle.expressions.specs.Answers.{IsCallee};
@@ -37,7 +37,7 @@ pub(crate) fn finish_unary(
     y: usize,
 ) -> Operand
     requires { RoomFor (counted k.old) arena.old (amount 1 1 0 0 0) × (y < 4294967296) }
-    ensures { (t : List ℕ) → TypeAt t y → FitAdds t (finish_unary (get_or unary_ops op Neg) y (operand_of src)) (amount 1 1 0 0 0) (counted (was k)) (was arena) (fitted (is k) result) (is arena) }
+    ensures { (t : List ℕ) → TypeAt t y → FitAdds t (finish_unary (get_or unary_ops op Neg) y (operand_of src)) (amount 1 1 0 0 0) (counted k.old) arena.old (fitted k.new result) arena.new }
 {
     let dest = new_var(arena, k, y as u32);
     emit_unary(arena, k, dest, op, src);
@@ -47,7 +47,7 @@ pub(crate) fn finish_unary(
 // The variable of the And or Or e, of type y. Both labels are numbered now: one inside a side takes later numbers.
 pub(crate) fn begin_logic(arena: &mut [u8], k: &mut [usize], e: usize, y: usize) -> VarId
     requires { RoomFor (counted k.old) arena.old (amount 0 1 2 0 0) × (e < (counted k.old).records) × (y < 4294967296) }
-    ensures adds { Adds (begin_logic e y) (amount 0 1 2 0 0) (counted (was k)) (was arena) (var_of (result)) (counted (is k)) (is arena) }
+    ensures adds { Adds (begin_logic e y) (amount 0 1 2 0 0) (counted k.old) arena.old (var_of (result)) (counted k.new) arena.new }
     ensures typed { result.1 ≡ y }
 {
     let dest = new_var(arena, k, y as u32);
@@ -59,7 +59,7 @@ pub(crate) fn begin_logic(arena: &mut [u8], k: &mut [usize], e: usize, y: usize)
 // Between the sides of And: the right one is skipped where the left one decides.
 pub(crate) fn join_and(arena: &mut [u8], k: &mut [usize], e: usize, dest: VarId, left: Operand)
     requires { RoomFor (counted k.old) arena.old (amount 2 0 1 0 0) × (e < (counted k.old).records) }
-    ensures { Adds (join_and e (var_of dest) (operand_of left)) (amount 2 0 1 0 0) (counted (was k)) (was arena) tt (counted (is k)) (is arena) }
+    ensures { Adds (join_and e (var_of dest) (operand_of left)) (amount 2 0 1 0 0) (counted k.old) arena.old tt (counted k.new) arena.new }
 {
     emit_copy(arena, k, dest, left);
     jump_if_not(arena, k, Operand::Var(dest), LOGIC_END, e);
@@ -68,7 +68,7 @@ pub(crate) fn join_and(arena: &mut [u8], k: &mut [usize], e: usize, dest: VarId,
 // Between the sides of Or.
 pub(crate) fn join_or(arena: &mut [u8], k: &mut [usize], e: usize, dest: VarId, left: Operand)
     requires { RoomFor (counted k.old) arena.old (amount 4 0 3 0 0) × (e < (counted k.old).records) }
-    ensures { Adds (join_or e (var_of dest) (operand_of left)) (amount 4 0 3 0 0) (counted (was k)) (was arena) tt (counted (is k)) (is arena) }
+    ensures { Adds (join_or e (var_of dest) (operand_of left)) (amount 4 0 3 0 0) (counted k.old) arena.old tt (counted k.new) arena.new }
 {
     emit_copy(arena, k, dest, left);
     jump_if_not(arena, k, Operand::Var(dest), LOGIC_RHS, e);
@@ -86,7 +86,7 @@ pub(crate) fn join_logic(
     left: Operand,
 )
     requires { RoomFor (counted k.old) arena.old (amount 4 0 3 0 0) × (e < (counted k.old).records) × (e * record_bytes + record_bytes ≤ length tree.now) }
-    ensures { Adds (join_steps (was tree) e dest left) (amount 4 0 3 0 0) (counted (was k)) (was arena) tt (counted (is k)) (is arena) }
+    ensures { Adds (join_steps tree.now e dest left) (amount 4 0 3 0 0) (counted k.old) arena.old tt (counted k.new) arena.new }
 {
     if detail(tree, e) == AND {
         return join_and(arena, k, e, dest, left);
@@ -102,7 +102,7 @@ pub(crate) fn end_logic(
     right: Operand,
 ) -> Operand
     requires { RoomFor (counted k.old) arena.old (amount 2 0 1 0 0) × (e < (counted k.old).records) }
-    ensures { (tree : List ℕ) → TypeAt tree dest.1 → FitAdds tree (end_logic e (var_of dest) (operand_of right)) (amount 2 0 1 0 0) (counted (was k)) (was arena) (fitted (is k) result) (is arena) }
+    ensures { (tree : List ℕ) → TypeAt tree dest.1 → FitAdds tree (end_logic e (var_of dest) (operand_of right)) (amount 2 0 1 0 0) (counted k.old) arena.old (fitted k.new result) arena.new }
 {
     emit_copy(arena, k, dest, right);
     place_label(arena, k, LOGIC_END, e);
@@ -121,8 +121,8 @@ pub(crate) fn operand_type_lem(
     requires ready { Ready tree.now text.now scratch.old c.scope }
     requires kind { IsKind tree.now kind_binary e × TypeAt tree.now y }
     requires by_index { (k : List ℕ) → InTurn tree.now text.now scratch.old (at c k) }
-    ensures by_index_2 { (k : List ℕ) → OperandTyped (was tree) (was text) (was scratch) (at c k) e y result (is scratch) }
-    ensures types { (k : List ℕ) → CommonTyped (at c k) e (was tree) (was text) (was scratch) result (is scratch) }
+    ensures by_index_2 { (k : List ℕ) → OperandTyped tree.now text.now scratch.old (at c k) e y result scratch.new }
+    ensures types { (k : List ℕ) → CommonTyped (at c k) e tree.now text.now scratch.old result scratch.new }
 {
     let scope = c.scope;
     match common_type(tree, text, scratch, scope, c.turn, e) {
@@ -146,7 +146,7 @@ pub(crate) fn finish_binary(
     requires room_for { RoomFor (counted k.old) arena.old (amount 3 3 0 0 2) × (y < 4294967296) × (q < 4294967296) }
     requires type_at { TypeAt tree.now y × TypeAt tree.now q }
     requires operand_in { OperandIn tree.now (operand_of left) × OperandIn tree.now (operand_of right) }
-    ensures { BinaryFinishes (was tree) (get_or binary_ops op Or) y q left right (counted (was k)) (was arena) (fitted (is k) result) (is arena) }
+    ensures { BinaryFinishes tree.now (get_or binary_ops op Or) y q left right (counted k.old) arena.old (fitted k.new result) arena.new }
 {
     let a = fit_operand(tree, arena, k, left, q);
     let b = fit_operand(tree, arena, k, right, q);
@@ -169,7 +169,7 @@ pub(crate) fn cast_first(
 ) -> Converted
     requires converting { Converting tree.now text.now arena.old scratch.now (at c k.old) × Afforded tree.now (at c k.old) (amount 1 0 0 0 0) count 0 }
     requires e_bound { (e < 4294967296) × TypeAt tree.now dest.1 }
-    ensures { CastsAs e dest count (at c (was k)) (was tree) (was text) (was arena) (was scratch) (converted (is k) result) (is arena) }
+    ensures { CastsAs e dest count (at c k.old) tree.now text.now arena.old scratch.now (converted k.new result) arena.new }
 {
     if count == 0 {
         return Converted::Refused(error_at(ConvertErrorKind::WouldPanic, e));
@@ -195,8 +195,8 @@ pub(crate) fn call_function(
 ) -> Converted
     requires converting { Converting tree.now text.now arena.old scratch.old (at c k.old) × Afforded tree.now (at c k.old) (amount (2 * count + 1) count 0 0 count) count 0 }
     requires function_at { FunctionAt tree.now f × IsKind tree.now kind_call e × TypeAt tree.now dest.1 × StackIn tree.now scratch.old c.operands count }
-    ensures calls_as { CallsAs e f dest count (at c (was k)) (was tree) (was text) (was arena) (was scratch) (converted (is k) result) (is arena) (is scratch) }
-    ensures turns { TurnsStay (was tree) (was scratch) (is scratch) }
+    ensures calls_as { CallsAs e f dest count (at c k.old) tree.now text.now arena.old scratch.old (converted k.new result) arena.new scratch.new }
+    ensures turns { TurnsStay tree.now scratch.old scratch.new }
 {
     pass_args(tree, text, arena, scratch, k, c, e, f, count);
     emit_call(arena, k, dest, f as u32);
@@ -218,8 +218,8 @@ pub(crate) fn finish_call(
 ) -> Converted
     requires converting { Converting tree.now text.now arena.old scratch.old (at c k.old) × Afforded tree.now (at c k.old) (amount (2 * count + 1) (count + 1) 0 0 count) count 0 }
     requires kind { IsKind tree.now kind_call e × TypeAt tree.now y × IsCallee tree.now callee × StackIn tree.now scratch.old c.operands count }
-    ensures call_ends_as { CallEndsAs e y callee count (at c (was k)) (was tree) (was text) (was arena) (was scratch) (converted (is k) result) (is arena) (is scratch) }
-    ensures turns { TurnsStay (was tree) (was scratch) (is scratch) }
+    ensures call_ends_as { CallEndsAs e y callee count (at c k.old) tree.now text.now arena.old scratch.old (converted k.new result) arena.new scratch.new }
+    ensures turns { TurnsStay tree.now scratch.old scratch.new }
 {
     let dest = new_var(arena, k, y as u32);
     match callee {

@@ -9,7 +9,7 @@ ghost use Rattle.syntax.specs.Decode.{program};
 ghost use Rattle.syntax.specs.Places.{IsExpr, IsKind, TypeAt, FunctionAt};
 ghost use Rattle.types.specs.Fits.{IsType};
 ghost use Rattle.ir.specs.Amounts.{amount};
-ghost use Rattle.ir.specs.Counted.{counted, was, is};
+ghost use Rattle.ir.specs.Counted.{counted};
 ghost use Rattle.ir.specs.Instructions.{operand_of, var_of};
 ghost use Rattle.statements.specs.Converting.{Converting, RoomFor, OperandIn, Afforded, ExprAfforded, BehindAfforded};
 ghost use Rattle.statements.specs.Lent.{at, converted, stated, finished_with};
@@ -51,8 +51,8 @@ pub(crate) fn convert_cond(
     requires converting { Converting tree.now text.now arena.old scratch.old (at c k.old) × ExprAfforded tree.now text.now (at c k.old) e }
     requires expr { IsExpr tree.now e }
     requires in_turn { InTurn tree.now text.now scratch.old (at c k.old) }
-    ensures converts_as { ConvertsAs cond_steps (at c (was k)) e (was tree) (was text) (was arena) (was scratch) (converted (is k) result) (is arena) (is scratch) }
-    ensures types { ConvertsTyped value_types (at c (was k)) e (was tree) (was text) (was scratch) (converted (is k) result) (is scratch) }
+    ensures converts_as { ConvertsAs cond_steps (at c k.old) e tree.now text.now arena.old scratch.old (converted k.new result) arena.new scratch.new }
+    ensures types { ConvertsTyped value_types (at c k.old) e tree.now text.now scratch.old (converted k.new result) scratch.new }
 {
     let scope = c.scope;
     match get_type(tree, text, scratch, scope, c.turn, e) {
@@ -68,7 +68,7 @@ pub(crate) fn convert_cond(
 
 fn zero_float(arena: &mut [u8], k: &mut [usize], v: VarId, short: bool)
     requires { RoomFor (counted k.old) arena.old (amount 1 0 0 0 1) }
-    ensures { Adds (zero_float (var_of v) short) (amount 1 0 0 0 1) (counted (was k)) (was arena) tt (counted (is k)) (is arena) }
+    ensures { Adds (zero_float (var_of v) short) (amount 1 0 0 0 1) (counted k.old) arena.old tt (counted k.new) arena.new }
 {
     let zero = float_id(arena, k, float_entry(0, short));
     emit_copy(arena, k, v, Operand::Float(zero));
@@ -87,7 +87,7 @@ fn zero_operand(f: u8) -> Operand
 // The zero value that the Declare r writes; of a Custom the Rust would panic.
 fn zero_value(tree: &[u8], arena: &mut [u8], k: &mut [usize], r: usize, v: VarId) -> Finished
     requires { RoomFor (counted k.old) arena.old (amount 1 0 0 0 1) × IsType tree.now v.1 × (r < 4294967296) }
-    ensures { ZeroMeets (was tree) r v (counted (was k)) (was arena) (finished_with (is k) result) (is arena) }
+    ensures { ZeroMeets tree.now r v (counted k.old) arena.old (finished_with k.new result) arena.new }
 {
     let y = v.1 as usize;
     let f = form(tree, y);
@@ -125,8 +125,8 @@ pub(crate) fn convert_declare(
     requires converting { Converting tree.now text.now arena.old scratch.old (at c k.old) × BehindAfforded tree.now text.now (at c k.old) r }
     requires kind { IsKind tree.now kind_declare r }
     requires in_turn { InTurn tree.now text.now scratch.old (at c k.old) }
-    ensures states_as { StatesAs declare_steps (at c (was k)) r (was tree) (was text) (was arena) (was scratch) (stated (is k) result) (is arena) (is scratch) }
-    ensures types { StatesTyped no_types (at c (was k)) r (was tree) (was text) (was scratch) (stated (is k) result) (is scratch) }
+    ensures states_as { StatesAs declare_steps (at c k.old) r tree.now text.now arena.old scratch.old (stated k.new result) arena.new scratch.new }
+    ensures types { StatesTyped no_types (at c k.old) r tree.now text.now scratch.old (stated k.new result) scratch.new }
 {
     let scope = c.scope;
     let v = new_var(arena, k, word(tree, r, WORD_C));
@@ -142,7 +142,7 @@ pub(crate) fn convert_declare(
 // The operand, fitted to the variable's type, is copied into it.
 pub(crate) fn copy_fitted(tree: &[u8], arena: &mut [u8], k: &mut [usize], v: VarId, src: Operand)
     requires { RoomFor (counted k.old) arena.old (amount 2 1 0 0 1) × TypeAt tree.now v.1 × OperandIn tree.now (operand_of src) }
-    ensures { (text : List ℕ) → Adds (copy_fitted (program (was tree) text) (var_of v) (operand_of src)) (amount 2 1 0 0 1) (counted (was k)) (was arena) tt (counted (is k)) (is arena) }
+    ensures { (text : List ℕ) → Adds (copy_fitted (program tree.now text) (var_of v) (operand_of src)) (amount 2 1 0 0 1) (counted k.old) arena.old tt (counted k.new) arena.new }
 {
     let fitted = fit_operand(tree, arena, k, src, v.1 as usize);
     emit_copy(arena, k, v, fitted);
@@ -162,8 +162,8 @@ fn assign_to(
     requires converting { Converting tree.now text.now arena.old scratch.old (at c k.old) × BehindAfforded tree.now text.now (at c k.old) r }
     requires kind { IsKind tree.now kind_init r × TypeAt tree.now v.1 }
     requires in_turn { InTurn tree.now text.now scratch.old (at c k.old) }
-    ensures states_as { StatesAs (given assign_to_steps v) (at c (was k)) r (was tree) (was text) (was arena) (was scratch) (stated (is k) result) (is arena) (is scratch) }
-    ensures types { StatesTyped assign_types (at c (was k)) r (was tree) (was text) (was scratch) (stated (is k) result) (is scratch) }
+    ensures states_as { StatesAs (given assign_to_steps v) (at c k.old) r tree.now text.now arena.old scratch.old (stated k.new result) arena.new scratch.new }
+    ensures types { StatesTyped assign_types (at c k.old) r tree.now text.now scratch.old (stated k.new result) scratch.new }
 {
     let scope = c.scope;
     let e = reference(tree, r, WORD_C);
@@ -199,8 +199,8 @@ fn convert_assign(
     requires converting { Converting tree.now text.now arena.old scratch.old (at c k.old) × BehindAfforded tree.now text.now (at c k.old) r }
     requires kind { IsKind tree.now kind_init r × TypeAt tree.now v.1 }
     requires in_turn { InTurn tree.now text.now scratch.old (at c k.old) }
-    ensures states_as { StatesAs (givens assign_steps v constant) (at c (was k)) r (was tree) (was text) (was arena) (was scratch) (stated (is k) result) (is arena) (is scratch) }
-    ensures types { StatesTyped assign_types (at c (was k)) r (was tree) (was text) (was scratch) (stated (is k) result) (is scratch) }
+    ensures states_as { StatesAs (givens assign_steps v constant) (at c k.old) r tree.now text.now arena.old scratch.old (stated k.new result) arena.new scratch.new }
+    ensures types { StatesTyped assign_types (at c k.old) r tree.now text.now scratch.old (stated k.new result) scratch.new }
 {
     if constant {
         return Stated::Refused(error_at(ConvertErrorKind::AssignToConstant, r));
@@ -233,8 +233,8 @@ fn declare_init(
     requires converting { Converting tree.now text.now arena.old scratch.old (at c k.old) × Afforded tree.now (at c k.old) (amount 1 1 0 0 0) 0 1 }
     requires kind { IsKind tree.now kind_init r × TypeAt tree.now y }
     requires in_turn { InTurn tree.now text.now scratch.old (at c k.old) }
-    ensures declares_as { DeclaresAs (givens declare_init_steps y src) (at c (was k)) r (was tree) (was text) (was arena) (was scratch) (stated (is k) result) (is arena) (is scratch) }
-    ensures types { StatesTyped no_types (at c (was k)) r (was tree) (was text) (was scratch) (stated (is k) result) (is scratch) }
+    ensures declares_as { DeclaresAs (givens declare_init_steps y src) (at c k.old) r tree.now text.now arena.old scratch.old (stated k.new result) arena.new scratch.new }
+    ensures types { StatesTyped no_types (at c k.old) r tree.now text.now scratch.old (stated k.new result) scratch.new }
 {
     let scope = c.scope;
     let constant = detail(tree, r) == 1;
@@ -261,8 +261,8 @@ fn init_new(
     requires converting { Converting tree.now text.now arena.old scratch.old (at c k.old) × BehindAfforded tree.now text.now (at c k.old) r }
     requires kind { IsKind tree.now kind_init r }
     requires in_turn { InTurn tree.now text.now scratch.old (at c k.old) }
-    ensures states_as { StatesAs init_new_steps (at c (was k)) r (was tree) (was text) (was arena) (was scratch) (stated (is k) result) (is arena) (is scratch) }
-    ensures types { StatesTyped init_types (at c (was k)) r (was tree) (was text) (was scratch) (stated (is k) result) (is scratch) }
+    ensures states_as { StatesAs init_new_steps (at c k.old) r tree.now text.now arena.old scratch.old (stated k.new result) arena.new scratch.new }
+    ensures types { StatesTyped init_types (at c k.old) r tree.now text.now scratch.old (stated k.new result) scratch.new }
 {
     let scope = c.scope;
     let e = reference(tree, r, WORD_C);
@@ -288,8 +288,8 @@ pub(crate) fn convert_init(
     requires converting { Converting tree.now text.now arena.old scratch.old (at c k.old) × BehindAfforded tree.now text.now (at c k.old) r }
     requires kind { IsKind tree.now kind_init r }
     requires in_turn { InTurn tree.now text.now scratch.old (at c k.old) }
-    ensures states_as { StatesAs init_steps (at c (was k)) r (was tree) (was text) (was arena) (was scratch) (stated (is k) result) (is arena) (is scratch) }
-    ensures types { StatesTyped init_types (at c (was k)) r (was tree) (was text) (was scratch) (stated (is k) result) (is scratch) }
+    ensures states_as { StatesAs init_steps (at c k.old) r tree.now text.now arena.old scratch.old (stated k.new result) arena.new scratch.new }
+    ensures types { StatesTyped init_types (at c k.old) r tree.now text.now scratch.old (stated k.new result) scratch.new }
 {
     let scope = c.scope;
     if detail(tree, r) == 1 {
@@ -318,8 +318,8 @@ fn return_as(
     requires converting { Converting tree.now text.now arena.old scratch.old (at c k.old) × BehindAfforded tree.now text.now (at c k.old) r }
     requires kind { IsKind tree.now kind_return r × TypeAt tree.now y × TypeAt tree.now expected }
     requires in_turn { InTurn tree.now text.now scratch.old (at c k.old) }
-    ensures states_as { StatesAs (givens return_as_steps y expected) (at c (was k)) r (was tree) (was text) (was arena) (was scratch) (stated (is k) result) (is arena) (is scratch) }
-    ensures types { StatesTyped return_as_types (at c (was k)) r (was tree) (was text) (was scratch) (stated (is k) result) (is scratch) }
+    ensures states_as { StatesAs (givens return_as_steps y expected) (at c k.old) r tree.now text.now arena.old scratch.old (stated k.new result) arena.new scratch.new }
+    ensures types { StatesTyped return_as_types (at c k.old) r tree.now text.now scratch.old (stated k.new result) scratch.new }
 {
     let scope = c.scope;
     let e = reference(tree, r, WORD_A);
@@ -349,8 +349,8 @@ pub(crate) fn convert_return(
     requires converting { Converting tree.now text.now arena.old scratch.old (at c k.old) × BehindAfforded tree.now text.now (at c k.old) r }
     requires kind { IsKind tree.now kind_return r }
     requires in_turn { InTurn tree.now text.now scratch.old (at c k.old) }
-    ensures states_as { StatesAs return_steps (at c (was k)) r (was tree) (was text) (was arena) (was scratch) (stated (is k) result) (is arena) (is scratch) }
-    ensures types { StatesTyped head_types (at c (was k)) r (was tree) (was text) (was scratch) (stated (is k) result) (is scratch) }
+    ensures states_as { StatesAs return_steps (at c k.old) r tree.now text.now arena.old scratch.old (stated k.new result) arena.new scratch.new }
+    ensures types { StatesTyped head_types (at c k.old) r tree.now text.now scratch.old (stated k.new result) scratch.new }
 {
     let scope = c.scope;
     let e = reference(tree, r, WORD_A);
@@ -380,8 +380,8 @@ fn call_only(
     requires converting { Converting tree.now text.now arena.old scratch.old (at c k.old) × ExprAfforded tree.now text.now (at c k.old) e }
     requires kind { IsKind tree.now kind_call e × FunctionAt tree.now f }
     requires in_turn { InTurn tree.now text.now scratch.old (at c k.old) }
-    ensures call_only_as { CallOnlyAs (given call_only_steps f) (at c (was k)) e (was tree) (was text) (was arena) (was scratch) (stated (is k) result) (is arena) (is scratch) }
-    ensures types { StatesTyped call_only_types (at c (was k)) e (was tree) (was text) (was scratch) (stated (is k) result) (is scratch) }
+    ensures call_only_as { CallOnlyAs (given call_only_steps f) (at c k.old) e tree.now text.now arena.old scratch.old (stated k.new result) arena.new scratch.new }
+    ensures types { StatesTyped call_only_types (at c k.old) e tree.now text.now scratch.old (stated k.new result) scratch.new }
 {
     let scope = c.scope;
     match convert_args(tree, text, arena, scratch, k, c, e) {
@@ -408,8 +408,8 @@ fn call_statement(
     requires converting { Converting tree.now text.now arena.old scratch.old (at c k.old) × BehindAfforded tree.now text.now (at c k.old) r }
     requires kind { IsKind tree.now kind_call_statement r × IsKind tree.now kind_call e × (e ≡ word_of tree.now r Words.A) }
     requires in_turn { InTurn tree.now text.now scratch.old (at c k.old) }
-    ensures states_as { StatesAs call_statement_steps (at c (was k)) r (was tree) (was text) (was arena) (was scratch) (stated (is k) result) (is arena) (is scratch) }
-    ensures types { StatesTyped own_types (at c (was k)) r (was tree) (was text) (was scratch) (stated (is k) result) (is scratch) }
+    ensures states_as { StatesAs call_statement_steps (at c k.old) r tree.now text.now arena.old scratch.old (stated k.new result) arena.new scratch.new }
+    ensures types { StatesTyped own_types (at c k.old) r tree.now text.now scratch.old (stated k.new result) scratch.new }
 {
     let scope = c.scope;
     match resolve_call(tree, text, scratch, scope, c.turn, e) {
@@ -432,8 +432,8 @@ pub(crate) fn convert_call(
     requires converting { Converting tree.now text.now arena.old scratch.old (at c k.old) × BehindAfforded tree.now text.now (at c k.old) r }
     requires kind { IsKind tree.now kind_call_statement r }
     requires in_turn { InTurn tree.now text.now scratch.old (at c k.old) }
-    ensures states_as { StatesAs call_statement_steps (at c (was k)) r (was tree) (was text) (was arena) (was scratch) (stated (is k) result) (is arena) (is scratch) }
-    ensures types { StatesTyped own_types (at c (was k)) r (was tree) (was text) (was scratch) (stated (is k) result) (is scratch) }
+    ensures states_as { StatesAs call_statement_steps (at c k.old) r tree.now text.now arena.old scratch.old (stated k.new result) arena.new scratch.new }
+    ensures types { StatesTyped own_types (at c k.old) r tree.now text.now scratch.old (stated k.new result) scratch.new }
 {
     let scope = c.scope;
     let e = reference(tree, r, WORD_A);
@@ -458,7 +458,7 @@ pub(crate) fn convert_break(
 ) -> Stated
     requires converting { Converting tree.now text.now arena.old scratch.now (at c k.old) × BehindAfforded tree.now text.now (at c k.old) r }
     requires kind { IsKind tree.now kind_break r }
-    ensures { StatesAs break_steps (at c (was k)) r (was tree) (was text) (was arena) (was scratch) (stated (is k) result) (is arena) (was scratch) }
+    ensures { StatesAs break_steps (at c k.old) r tree.now text.now arena.old scratch.now (stated k.new result) arena.new scratch.now }
 {
     let scope = c.scope;
     match scope.in_loop() {
@@ -482,7 +482,7 @@ pub(crate) fn convert_continue(
 ) -> Stated
     requires converting { Converting tree.now text.now arena.old scratch.now (at c k.old) × BehindAfforded tree.now text.now (at c k.old) r }
     requires kind { IsKind tree.now kind_continue r }
-    ensures { StatesAs continue_steps (at c (was k)) r (was tree) (was text) (was arena) (was scratch) (stated (is k) result) (is arena) (was scratch) }
+    ensures { StatesAs continue_steps (at c k.old) r tree.now text.now arena.old scratch.now (stated k.new result) arena.new scratch.now }
 {
     let scope = c.scope;
     match scope.in_loop() {

@@ -40,10 +40,11 @@ returns c = let room = c.requires.leading.1 in
     let digest = c.type_digest-d.ensures in
     let at-bucket = c.bucket-b.ensures in
     let is-entered = c.enter.ensures in
-    let long = entered-long _ _ _ _ _ _ room r-below at-bucket.1 (search rules) (search rules) _ is-entered in record { r_value = c.may_have_alike-again.ensures; digests_passed_2 = (
-        record {
-          chained = chained_more _ _ _ _ _ _ room r-below at-bucket.1 (search rules) (search rules) _ _ _ is-entered c.requires.digests_passed.chained digest (bucket_told _ _ _ _ _ _ refl digest at-bucket.0) c.load-head.ensures;
-          sampled = sampled-kept _ _ _ _ _ (entered-behind _ _ _ _ _ _ room r-below at-bucket.1 (search rules) (search rules) _ is-entered) long c.requires.digests_passed.sampled;
-        },
-        long,
-      ); scratch_len_unchanged =  }
+    let long = entered-long _ _ _ _ _ _ room r-below at-bucket.1 (search rules) (search rules) _ is-entered in record {
+      r_value = c.may_have_alike-again.ensures;
+      digests_passed_2 = record {
+        chained = chained_more _ _ _ _ _ _ room r-below at-bucket.1 (search rules) (search rules) _ _ _ is-entered c.requires.digests_passed.chained digest (bucket_told _ _ _ _ _ _ refl digest at-bucket.0) c.load-head.ensures;
+        sampled = sampled-kept _ _ _ _ _ (entered-behind _ _ _ _ _ _ room r-below at-bucket.1 (search rules) (search rules) _ is-entered) long c.requires.digests_passed.sampled;
+      };
+      scratch_len_unchanged = long;
+    }

@@ -18,18 +18,18 @@ pub returns-then-found-rules : goal.returns-then-found-rules
 returns-then-found-rules c h = absurd (false≢true h)
 
 pub returns : goal.returns
-returns c h = let za : c.before.before.before.before.before.before.before.before.before.before.before.before.before.before.before.before.scaled.result ≡ 0 = omega (arith, c.before.before.before.before.if1.false) in
-    let zb : c.before.before.before.before.before.before.before.before.before.before.before.before.before.before.scaled2.result ≡ 0 = omega (arith, c.before.before.before.before.if1.false) in
-    let zc : c.before.before.before.before.before.before.before.before.before.before.before.before.scaled3.result ≡ 0 = omega (arith, c.before.before.before.before.if1.false) in
-    let e : c.before.before.before.before.before.before.scaled4.result ≡ (c.before.before.before.before.before.before.before.before.before.before.before.before.before.before.before.before.before.before.before.before.before.before.args.words.a + c.before.before.before.before.before.before.before.before.before.before.before.before.before.before.before.before.before.before.before.before.before.before.args.words.b) * get_or c.before.before.before.before.before.before.before.before.before.before.before.before.before.before.before.before.before.before.before.before.before.before.args.rules.now (c.before.before.before.before.before.before.before.before.before.before.before.before.before.before.before.before.before.before.before.before.before.before.args.k * 20 + 15) 0 = c.before.before.before.before.before.before.scaled4.ensures.0 ∙ rw (c.before.before.before.before.before.before.before.before.before.before.before.before.before.before.before.before.before.before.before.before.index.ensures, c.before.before.before.before.before.before.before.before.before.before.before.before.before.before.before.before.before.before.before.index2.ensures) refl in
+returns c h = let za : c.scaled-za.result ≡ 0 = omega (arith, c.if-zero-ne0.false) in
+    let zb : c.scaled-zb.result ≡ 0 = omega (arith, c.if-zero-ne0.false) in
+    let zc : c.scaled-zc.result ≡ 0 = omega (arith, c.if-zero-ne0.false) in
+    let e : c.scaled-text.result ≡ (c.args.words.a + c.args.words.b) * get_or c.args.rules.now (c.args.k * 20 + 15) 0 = c.scaled-text.ensures.0 ∙ rw (c.index-a.ensures, c.index-b.ensures) refl in
     record {
-      zero_a = sym (c.before.before.before.before.before.before.before.before.before.before.before.before.before.before.before.before.scaled.ensures.0 ∙ rw c.before.before.before.before.before.before.before.before.before.before.before.before.before.before.before.before.before.before.before.before.index.ensures refl) ∙ za;
-      zero_b = sym (c.before.before.before.before.before.before.before.before.before.before.before.before.before.before.scaled2.ensures.0 ∙ rw c.before.before.before.before.before.before.before.before.before.before.before.before.before.before.before.before.before.before.before.index2.ensures refl) ∙ zb;
-      zero_c = sym (c.before.before.before.before.before.before.before.before.before.before.before.before.scaled3.ensures.0 ∙ rw c.before.before.before.before.before.before.before.before.before.before.before.before.before.before.before.before.before.before.index3.ensures refl) ∙ zc;
-      zero_d = omega (arith, c.before.before.before.before.if1.false, c.before.before.before.before.before.before.before.before.before.before.before.index4.ensures);
-      zero_e = omega (arith, c.before.before.before.before.if1.false, c.before.before.before.before.before.before.before.before.before.before.index5.ensures);
-      pad = omega (arith, c.before.before.before.before.if1.false, c.before.before.before.before.before.before.before.before.index6.ensures, c.before.before.before.before.before.before.before.before.before.pad.ensures);
-      text = rw e at c.before.before.before.if2.false;
-      limit = omega (arith, c.before.if3.false, c.before.before.before.before.before.detail.ensures);
-      marks = rw c.before.before.before.before.before.detail.ensures at (sym c.otherwise-ok.ensures ∙ h);
+      zero_a = sym (c.scaled-za.ensures.0 ∙ rw c.index-a.ensures refl) ∙ za;
+      zero_b = sym (c.scaled-zb.ensures.0 ∙ rw c.index-b.ensures refl) ∙ zb;
+      zero_c = sym (c.scaled-zc.ensures.0 ∙ rw c.index-c.ensures refl) ∙ zc;
+      zero_d = omega (arith, c.if-zero-ne0.false, c.index.ensures);
+      zero_e = omega (arith, c.if-zero-ne0.false, c.index-2.ensures);
+      pad = omega (arith, c.if-zero-ne0.false, c.index-3.ensures, c.pad.ensures);
+      text = rw e at c.if-text-bytes.false;
+      limit = omega (arith, c.if-found-rules.false, c.detail-found.ensures);
+      marks = rw c.detail-found.ensures at (sym c.otherwise_ok.ensures ∙ h);
     }

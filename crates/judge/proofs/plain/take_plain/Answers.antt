@@ -9,7 +9,7 @@ pub returns-then-not-form-placed : goal.returns-then-not-form-placed
 returns-then-not-form-placed c = plain_left _ _ _ _ (c.requires.known, c.requires.counting)
 
 pub take_slots-requires : goal.take_slots-requires
-take_slots-requires c = slots-ready _ _ _ _ _ _ _ _ _ c.requires c.five_words-words.ensures c.place_of-pa.ensures c.place_of-pb.ensures c.place_of-pc.ensures c.form_ok-form.result _ _ _ c.Place-ok.ensures c.place_ok-2.ensures c.place_ok-3.ensures c.if-not-form-placed.false
+take_slots-requires c = slots-ready _ _ _ _ _ _ _ _ _ c.requires c.five_words-words.ensures c.place_of-pa.ensures c.place_of-pb.ensures c.place_of-pc.ensures c.form_ok-form.result _ _ _ c.place_ok.ensures c.place_ok-2.ensures c.place_ok-3.ensures c.if-not-form-placed.false
 
 pub returns : goal.returns
-returns c = plain_took _ _ _ _ _ _ _ _ _ _ c.form_ok-form.result (c.Place-ok.result && c.place_ok-2.result && c.place_ok-3.result) c.if-not-form-placed.false c.form_ok-form.ensures c.take_slots.ensures
+returns c = plain_took _ _ _ _ _ _ _ _ _ _ c.form_ok-form.result (c.place_ok.result && c.place_ok-2.result && c.place_ok-3.result) c.if-not-form-placed.false c.form_ok-form.ensures c.take_slots.ensures

@@ -7,10 +7,10 @@ use borrow.Author.Rules.{rules}
 use Rattle.judge.proofs.types.same_words.Goals as goal
 
 pub returns-then-detail : goal.returns-then-detail
-returns-then-detail c text = type_detail _ text _ _ (λ e. c.if1.true (c.before.before.detail.ensures ∙ e ∙ sym c.before.detail2.ensures))
+returns-then-detail c text = type_detail _ text _ _ (λ e. c.if-detail.true (c.detail.ensures ∙ e ∙ sym c.detail-2.ensures))
 
 pub returns : goal.returns
-returns c text = let told = c.before.before.before.before.before.before in
-    rw (c.word6.ensures, c.before.word5.ensures, c.before.before.word4.ensures, c.before.before.before.word3.ensures, c.before.before.before.before.word2.ensures, c.before.before.before.before.before.word.ensures)
-    (type-words _ text _ _ (sym told.before.before.detail.ensures ∙ told.if1.false ∙ told.before.detail2.ensures)
-    (not_custom _ _ told.before.before.before.before.requires.1))
+returns c text = let told = c in
+    rw (c.word-6.ensures, c.word-5.ensures, c.word-4.ensures, c.word-3.ensures, c.word-2.ensures, c.word.ensures)
+    (type-words _ text _ _ (sym c.detail.ensures ∙ c.if-detail.false ∙ c.detail-2.ensures)
+    (not_custom _ _ c.requires.r_value))

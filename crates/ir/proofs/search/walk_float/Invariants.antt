@@ -1,0 +1,17 @@
+-- The first entry that is these words, of those that a chain leads through.
+-- What is left of the walk gives what was asked. Assumes nothing.
+use mathlib.Core.Path.{refl, sym, ◌∙◌}
+use Prim.Native.Nat.{ℕ, ◌+◌, ◌*◌, ◌≤◌}
+use native.Mathlib.Omega.{arith}
+use borrow.Author.Rules.{rules}
+use Rattle.records.specs.Words.{word_at}
+use Rattle.records.specs.declared.words.Found.{Found}
+use Rattle.ir.specs.Search.{float_words_at, Walks}
+use Rattle.ir.proofs.LinkLaws.{walk_end, walk_here, walk_further, walk_astray}
+use Rattle.ir.proofs.search.walk_float.Given as goal
+
+abbrev pub invariant-loop-u : goal.invariant-loop-u
+invariant-loop-u l = (l.u ≤ l.v) × ((r : Found) → Walks (λ (j : ℕ). word_at l.s (l.links + 4 * j)) (float_words_at l.s l.at l.w.0 l.w.1 l.w.2) l.u r → Walks (λ (j : ℕ). word_at l.s (l.links + 4 * j)) (float_words_at l.s l.at l.w.0 l.w.1 l.w.2) l.v r)
+
+abbrev pub decreases-loop-u : goal.decreases-loop-u
+decreases-loop-u l = l.u

@@ -1,0 +1,11 @@
+-- Whether a function is neither external nor `main`.
+-- By what its mark and its name ensure. Assumes nothing.
+use Rattle.keys.proofs.KeySearch.{external_plain, mangled_by_name}
+use borrow.Author.Rules.{rules}
+use Rattle.keys.proofs.keys.is_mangled.Goals as goal
+
+pub returns-then-is_external : goal.returns-then-is_external
+returns-then-is_external c = external_plain _ _ c.is_external.ensures c.if-is_external.true
+
+pub returns : goal.returns
+returns c = mangled_by_name _ _ _ _ c.is_external.ensures c.if-is_external.false c.name_of.ensures.is c.is_main.ensures

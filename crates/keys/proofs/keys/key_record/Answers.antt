@@ -1,0 +1,11 @@
+-- The record of the mangled name, or of the name.
+-- By what `is_mangled` ensures. Assumes nothing.
+use Rattle.keys.proofs.SlotLaws.{record_mangled, record_plain}
+use borrow.Author.Rules.{rules}
+use Rattle.keys.proofs.keys.key_record.Goals as goal
+
+pub returns-then-is_mangled : goal.returns-then-is_mangled
+returns-then-is_mangled c = record_mangled _ _ _ _ c.is_mangled.ensures _ c.if-is_mangled.true c.reference.ensures
+
+pub returns : goal.returns
+returns c = record_plain _ _ _ _ c.is_mangled.ensures _ c.if-is_mangled.false c.reference-2.ensures

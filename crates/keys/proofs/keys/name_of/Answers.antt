@@ -1,0 +1,13 @@
+-- The text of a function: its name.
+-- By the law of the record that its word refers to. Assumes nothing.
+use native.Mathlib.Omega.{arith}
+use Rattle.keys.proofs.FunctionLaws.{name-inside}
+use Rattle.keys.proofs.KeySearch.{name-read}
+use borrow.Author.Rules.{rules}
+use Rattle.keys.proofs.keys.name_of.Goals as goal
+
+pub text_part-requires : goal.text_part-requires
+text_part-requires c = record { record_bytes_in_bounds = omega (arith, c.reference.ensures, name-inside _ _ c.requires.good _ c.requires.function_at); k_bound = omega arith }
+
+pub returns : goal.returns
+returns c = name-read _ _ c.requires.good _ c.requires.function_at c.text_part.result c.reference.result c.reference.ensures c.text_part.ensures

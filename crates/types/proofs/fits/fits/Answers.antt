@@ -1,0 +1,10 @@
+-- Equal types always; else by their forms. Each answer is a case of `FitsCases`. Assumes nothing.
+use Rattle.types.proofs.FitsCases.{fits-same, fits-other}
+use borrow.Author.Rules.{rules}
+use Rattle.types.proofs.fits.fits.Goals as goal
+
+pub returns-then-ty-expected : goal.returns-then-ty-expected
+returns-then-ty-expected c text = fits-same _ text _ _ _ c.if-ty-expected.true
+
+pub returns : goal.returns
+returns c text = fits-other _ text _ _ _ c.if-ty-expected.false _ (c.fits_into.ensures text)

@@ -1,0 +1,11 @@
+-- The mark of weight 32 is the bit that the definition reads. What `detail` ensures, under the test. Assumes nothing.
+use mathlib.Core.Path.{ap}
+use Prim.Native.Nat.{ℕ, ◌/◌, ◌%◌}
+use lib.Dec.{eqb}
+use Rattle.syntax.specs.Decode.{bit}
+use borrow.Author.Rules.{rules}
+use Rattle.types.proofs.form.is_unsigned.Goals as goal
+
+pub returns : goal.returns
+unfolding bit
+returns c = ap (λ (d : ℕ). eqb (d / 32 % 2) 1) c.detail.ensures
