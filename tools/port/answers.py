@@ -213,8 +213,10 @@ class Turn:
         out.append(text[pos:])
         text = "".join(out)
         test = r"not[-_](?:true|false) (?:_|\((?:[^()]|\([^()]*\))*\)|[^\s()]+) (c\.(?:if-|loop-)[\w\-]+\.(?:true|false))"
-        text = re.sub(r"\(" + test + r"\)", r"\1", text)
-        text = re.sub(test, r"\1", text)
+        text = re.sub(r"\(" + test + r"\)", "\x01\\1\x02", text)
+        text = re.sub(test, "\x01\\1\x02", text)
+        text = re.sub(r"(?<!\x01)(?<![\w.])(c\.if-not-[\w\-]+\.(?:true|false))(?!\x02|[\w\-.])", r"(ap not \1)", text)
+        text = text.replace("\x01", "").replace("\x02", "")
         return self.branches(text)
 
     def chain(self, first):

@@ -30,22 +30,22 @@ abbrev others : List ℕ
 others = 3 ∷ 4 ∷ 5 ∷ 6 ∷ 7 ∷ 8 ∷ 9 ∷ 10 ∷ 11 ∷ 12 ∷ 13 ∷ []
 
 -- a role that refers to nothing, and is neither Unused nor Text
-pub plain_other : (tree : List ℕ) (bytes r : ℕ) (role : Role) (w next : ℕ) → OneOf (1 ∷ others) (tag_of the_type role) → refers role ≡ false → true ≡ word_ok tree bytes r role w next
-unfolding word_ok is_key
-plain_other tree bytes r Number w next h e = refl
-plain_other tree bytes r Length w next h e = refl
-plain_other tree bytes r Unused w next h e = absurd (false≢true (key 1 others 0 h))
-plain_other tree bytes r Text w next h e = absurd (false≢true (key 1 others 2 h))
-plain_other tree bytes r Expr w next h e = absurd (false≢true (sym e))
-plain_other tree bytes r TypeRef w next h e = absurd (false≢true (sym e))
-plain_other tree bytes r TypeOrNone w next h e = absurd (false≢true (sym e))
-plain_other tree bytes r Name w next h e = absurd (false≢true (sym e))
-plain_other tree bytes r Variable w next h e = absurd (false≢true (sym e))
-plain_other tree bytes r Arguments w next h e = absurd (false≢true (sym e))
-plain_other tree bytes r Parameters w next h e = absurd (false≢true (sym e))
-plain_other tree bytes r Body w next h e = absurd (false≢true (sym e))
-plain_other tree bytes r Item w next h e = absurd (false≢true (sym e))
-plain_other tree bytes r Rest w next h e = absurd (false≢true (sym e))
+pub plain_other : (tree : List ℕ) (bytes r : ℕ) (role : Role) (w next : ℕ) → (role ≡ Unused → ⊥) → (role ≡ Text → ⊥) → refers role ≡ false → true ≡ word_ok tree bytes r role w next
+unfolding word_ok
+plain_other tree bytes r Number w next g h e = refl
+plain_other tree bytes r Length w next g h e = refl
+plain_other tree bytes r Unused w next g h e = absurd (g refl)
+plain_other tree bytes r Text w next g h e = absurd (h refl)
+plain_other tree bytes r Expr w next g h e = absurd (false≢true (sym e))
+plain_other tree bytes r TypeRef w next g h e = absurd (false≢true (sym e))
+plain_other tree bytes r TypeOrNone w next g h e = absurd (false≢true (sym e))
+plain_other tree bytes r Name w next g h e = absurd (false≢true (sym e))
+plain_other tree bytes r Variable w next g h e = absurd (false≢true (sym e))
+plain_other tree bytes r Arguments w next g h e = absurd (false≢true (sym e))
+plain_other tree bytes r Parameters w next g h e = absurd (false≢true (sym e))
+plain_other tree bytes r Body w next g h e = absurd (false≢true (sym e))
+plain_other tree bytes r Item w next g h e = absurd (false≢true (sym e))
+plain_other tree bytes r Rest w next g h e = absurd (false≢true (sym e))
 
 pub unused_role : (role : Role) → is_unused role ≡ true → role ≡ Unused
 unused_role Unused e = refl

@@ -14,4 +14,4 @@ unfolding word_ok
 returns-in-Text c = λ e tree r. rw (c.in-Text.is, c.index.ensures, c.index-in-Text.ensures)
 
 pub returns-in_default : goal.returns-in_default
-returns-in_default c = λ e tree r. plain_other tree _ r _ _ _ c.in_default.in_default-own.keys3 e
+returns-in_default c = λ e tree r. plain_other tree _ r _ _ _ c.in_default.not-Unused c.in_default.not-Text e

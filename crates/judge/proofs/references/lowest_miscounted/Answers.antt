@@ -17,10 +17,10 @@ pub loop-r-init : goal.loop-r-init
 loop-r-init c = (omega arith, λ k h. absurd (omega arith))
 
 pub returns-then-not-k-count : goal.returns-then-not-k-count
-returns-then-not-k-count c = record { within = omega arith; before = c.loop-r.invariant.1; found = λ h. sym (ap not (once-told _ _ _ _ _ c.requires.2 h c.kind-k.ensures)) ∙ c.if-not-k-count.true }
+returns-then-not-k-count c = record { within = omega arith; before = c.loop-r.invariant.1; found = λ h. sym (ap not (once-told _ _ _ _ _ c.requires.2 h c.kind-k.ensures)) ∙ ap not c.if-not-k-count.true }
 
 pub loop-r-preserved : goal.loop-r-preserved
-loop-r-preserved c = (omega arith, below_more _ _ c.loop-r.invariant.1 (sym (ap not (once-told _ _ _ _ _ c.requires.2 c.loop-r-test.true c.kind-k.ensures)) ∙ c.if-not-k-count.false))
+loop-r-preserved c = (omega arith, below_more _ _ c.loop-r.invariant.1 (sym (ap not (once-told _ _ _ _ _ c.requires.2 c.loop-r-test.true c.kind-k.ensures)) ∙ ap not c.if-not-k-count.false))
 
 pub returns : goal.returns
 returns c = record { within = omega arith; before = λ k h. c.loop-r.invariant.1 k (omega arith); found = λ h. absurd (omega arith) }

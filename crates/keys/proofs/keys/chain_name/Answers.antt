@@ -26,4 +26,4 @@ put_before-requires c = let start = c in
 
 pub returns : goal.returns
 returns c = let start = c in
-    let number = name-number _ _ c.requires.0.good _ c.requires.1 _ _ c.reference.ensures c.requires.0.numbered _ c.original-name.ensures in record { chaining = chained-name _ _ _ _ _ _ c.requires.0 c.requires.1 c.requires.2 number.0 number.1 c.put_before.ensures; chain_keeps = (keeps_name _ _ _ _ _ _ c.requires.0 c.requires.1 c.requires.2 number.0 number.1 c.put_before.ensures,) }
+    let number = name-number _ _ c.requires.0.good _ c.requires.1 _ _ c.reference.ensures c.requires.0.numbered _ c.original-name.ensures in record { chaining = chained-name _ _ _ _ _ _ c.requires.0 c.requires.1 c.requires.2 number.0 number.1 c.put_before.ensures; chain_keeps = (keeps_name _ _ _ _ _ _ c.requires.0 c.requires.1 c.requires.2 number.0 number.1 c.put_before.ensures) }
