@@ -95,10 +95,12 @@ START = ("requires", "args", "ranges", "type_inv", "well_formed", "lifetimes", "
 
 
 class Turn:
-    def __init__(self, fn, where, said):
+    def __init__(self, fn, where, said, by_place=False, counted=None):
         self.fn, self.where, self.said = fn, where, said
         self.goals = []
         self.cyclic = False
+        self.by_place = by_place
+        self.counted = counted
 
     def by_fields(self, head, fields, rest):
         """the path below `head` to what stood at `rest` while the clauses were one product; a tuple where that is several"""
@@ -118,7 +120,13 @@ class Turn:
             i, rest = i + 1, rest[1:]
         return head + [fields[i]] + rest
 
-    def path(self, rest):
+    def here(self, n, lab):
+        """the place n steps up, where its step has this label but for a number at the end"""
+        q = self.fn.up(self.goal_place, n)
+        base = lambda x: re.sub(r"\d+$", "", norm(x).lower())
+        return q if base(self.fn.place[q][2][0]) == base(lab) else None
+
+    def path(self, rest, n=None):
         """c.before^n.rest -> the new path without the leading c (a list, or a text where it is no path)"""
         fn = self.fn
         pl = self.goal_place
@@ -137,10 +145,15 @@ class Turn:
             if pre:
                 return self.by_fields([lab], pre["fields"], more)
             return [lab] + more
-        for name in (lab, re.sub(r"\d+$", "", lab), lab[:-4] if lab.endswith("_lem") else lab, LABELS.get(lab, lab)):
+        q = self.here(n, lab) if n is not None and self.by_place else None
+        if self.counted is not None and n is not None:
+            self.counted.append(self.here(n, lab) is not None)
+        for name in () if q else (lab, re.sub(r"\d+$", "", lab), lab[:-4] if lab.endswith("_lem") else lab, LABELS.get(lab, lab)):
             q, new = fn.label(pl, name)
             if q is not None:
                 break
+        if q is not None:
+            new = fn.place[q][2][1]
         if q is None:
             self.said("no step %s at %s" % (lab, pl))
             return rest
@@ -166,7 +179,7 @@ class Turn:
 
     def body(self, text, var, pl):
         """the text with each path from the context `var`, at place pl, respelled; a let of a context is `c`"""
-        at = {var: pl}
+        at = {var: 0}
         self.goal_place = pl
         out, i = [], 0
         rx = re.compile(r"(?<![\w.\-'])(" + TOK + r")((?:\.[\w\-'\u2080-\u2089]+)*)")
@@ -180,15 +193,16 @@ class Turn:
             if m.start() < pos:
                 continue
             parts = rest.split(".")[1:]
+            n = at[name] if name in at else None
             while name in at and parts and parts[0] == "before":
-                parts = parts[1:]
+                parts, n = parts[1:], n + 1
             before, after = text[:m.start()], text[m.end():].lstrip()
             let = re.search(r"let\s+(" + TOK + r")\s*=\s*$", before)
             let = let.group(1) if let and re.match(r"in\b", after) else None
             out.append(text[pos:m.start()])
             if name in at and not parts:
                 if let:
-                    at[let] = pl
+                    at[let] = n
                     out.append("c")
                 elif before.rstrip().endswith("let"):
                     out.append(name)
@@ -200,7 +214,7 @@ class Turn:
                 out.append(name)
             else:
                 full = parts if name in at else known[name] + parts
-                new = self.path(full)
+                new = self.path(full, n)
                 if let and isinstance(new, str):
                     known[let] = full
                     out.append("c")
@@ -267,26 +281,37 @@ class Turn:
                 return text
             a, b, parts, lab = found
             arms = []
-            sides = [norm(p[0]) for p, n in zip(self.fn.d["places"], self.fn.d["places_by_name"]) if p[2][1] == lab and not n.startswith("Joined")]
+            joins = [norm(p[0]) for p, n in zip(self.fn.d["places"], self.fn.d["places_by_name"]) if p[2][1] == lab and n.startswith("Joined")]
+            over = self.fn.parent(joins[0]) if joins else None
+            sides = [norm(p[0]) for p, n in zip(self.fn.d["places"], self.fn.d["places_by_name"]) if over and self.fn.parent(norm(p[0])) == over and re.match(r"(Then|Else|In)[-_]", n)]
             if len(sides) != 2:
                 self.said("branch of %s: %s" % (lab, sides))
                 return text
             for part, side in zip(parts, sides):
                 ch = self.chain(side)
                 w, bod = re.match(r"λ (\w+)\. (.*)$", part, re.S).groups()
-                name = "+".join(self.fn.newplace[q][0].lower() + self.fn.newplace[q][1:] for q in ch if re.match(r"(Then|Else|In)-", self.fn.newplace[q]))
+                name = "+".join(self.fn.place[q][2][1] if self.fn.newplace[q].startswith("In") else self.fn.newplace[q][0].lower() + self.fn.newplace[q][1:] for q in ch if re.match(r"(Then|Else|In)[-_]", self.fn.newplace[q]) and not (self.fn.place[q][2][0] != "match" and self.fn.newplace[q].startswith("In")))
+                name = self.fn.d.get("stem", "") + name
                 steps = [q for q in ch]
 
                 def field(m, steps=steps, w=w):
                     k, rest = int(m.group(1)), m.group(2)
                     if k < len(steps):
                         q = steps[k]
+                        arm = self.fn.arm.get(q)
+                        if arm:
+                            more = rest.split(".")[1:]
+                            for newfield, oldlab, oldpath in arm[2]:
+                                if norm(oldlab) == norm(self.fn.place[q][2][0]) and [norm(x) for x in more[:len(oldpath)]] == [norm(x) for x in oldpath] and (oldpath or not more):
+                                    return "%s.%s.%s" % (w, arm[0], ".".join([newfield] + more[len(oldpath):]))
                         new = self.fn.place[q][2][1]
                         rest = {".taken": ".true", ".left": ".false"}.get(rest, rest)
                         return w + "." + new + rest
                     return "%s.VAR%d-is%s" % (w, k - len(steps), rest)
 
                 bod = re.sub(r"(?<![\w.\-'])" + w + r"\.(\d+)((?:\.\w+)*)", field, bod)
+                if len(steps) == 1:
+                    bod = re.sub(r"(?<![\w.\-'])" + w + r"\.(left|taken)(?![\w.\-'])", lambda m: "%s.%s.%s" % (w, self.fn.place[steps[0]][2][1], {"left": "false", "taken": "true"}[m.group(1)]), bod)
                 arms.append("%s %s ↦ %s" % (name, w, bod))
                 self.goals.append(name)
             text = text[:a] + "elim c.%s.branch [ %s ]" % (lab, " | ".join(arms)) + text[b:]
@@ -438,6 +463,17 @@ def with_lets(body, unf, ctx_helpers):
     return (lets + "\n    " + strip(body)) if lets else body, unf
 
 
+def with_name(uses, module, name):
+    for i, u in enumerate(uses):
+        m = re.match(r"use %s\.\{(.*)\}$" % re.escape(module), u)
+        if m:
+            names = [n.strip() for n in m.group(1).split(",")]
+            if name in names:
+                return uses
+            return uses[:i] + ["use %s.{%s}" % (module, ", ".join(names + [name]))] + uses[i + 1:]
+    return ["use %s.{%s}" % (module, name)] + uses
+
+
 def main():
     folder, names = sys.argv[1:3]
     crate = os.path.basename(os.path.normpath(folder))
@@ -463,10 +499,22 @@ def main():
 
 
 def turn_file(crate, path, pf, fn, cycle=None):
+    """in two passes: whether each step stands as many places up as the file counts is seen in the first"""
+    counted, kept, out = [], sys.stdout, open(os.devnull, "w")
+    sys.stdout = out
+    try:
+        turned(crate, path, pf, fn, cycle, False, counted, False)
+    finally:
+        sys.stdout = kept
+    turned(crate, path, pf, fn, cycle, bool(counted) and all(counted), None, True)
+
+
+def turned(crate, path, pf, fn, cycle, by_place, counted, write):
     def said(t):
         print("look: %s: %s" % (pf, t))
 
     text = open(pf, encoding="utf-8").read().rstrip("\n")
+    text = re.sub(r"^use [^\n{]*\{[^}\n]*\n[^}]*\}", lambda m: re.sub(r",?\s*\}", "}", re.sub(r"\{\s*", "{", re.sub(r"\s*\n\s*", " ", m.group(0)))), text, flags=re.M)
     own = "Rattle.%s.proofs.%s." % (crate, path)
     head, uses, inv, ans, helpers = [], [], [], [], []
     ctx_helpers = []
@@ -557,6 +605,7 @@ def turn_file(crate, path, pf, fn, cycle=None):
             if cycle is not None and re.search(r"-kinds\.ps", sig):
                 continue
             if mi:
+                al_of = mi.group(1)
                 lab = every.get((mi.group(1), norm(mi.group(3))))
                 mi = re.match(r"(?:%s)\.(invariant|decreases)-(\S+)" % al, typ)
                 if not lab:
@@ -583,12 +632,12 @@ def turn_file(crate, path, pf, fn, cycle=None):
                 for v in binders & set(sub):
                     said("bound again in %s: %s" % (name, v))
                 body = re.sub(r"(?<![\w.\-'])(" + TOK + r")", lambda q: sub.get(q.group(1), q.group(1)), body)
-                nn = "%s-%s" % (mi.group(1), new)
+                nn = "%s-%s%s" % (mi.group(1), aliases[al_of].d.get("stem", ""), new)
                 inv.append("\n".join(coms + ["abbrev pub %s : goal.%s" % (nn, nn)] + unf + ["%s l = %s" % (nn, body)]))
                 continue
             if mn:
                 fn = aliases[mn.group(1)]
-                t = Turn(fn, pf, said)
+                t = Turn(fn, pf, said, by_place, counted)
                 t.goals = goals
                 t.cyclic = cycle is not None
                 mn = re.match(r"(?:\(t : [^()]*\)\s*→\s*)?(?:%s)\.Need-([^\s()]+)" % al, typ)
@@ -600,6 +649,7 @@ def turn_file(crate, path, pf, fn, cycle=None):
                     said("no goal for %s (settled: %s)" % (mn.group(1), " ".join(fn.d["settled"])))
                     continue
                 nn, pl = got
+                nn = fn.d.get("stem", "") + nn
                 mc = re.match(re.escape(name) + r"((?:\s+" + TOK + r")*)\s*=\s*(.*)$", clause, re.S)
                 if not mc:
                     said("clause of " + name)
@@ -626,7 +676,7 @@ def turn_file(crate, path, pf, fn, cycle=None):
                 if pl not in fn.place or not mc:
                     said("helper of a context, by hand: " + name)
                 else:
-                    t = Turn(fn, pf, said)
+                    t = Turn(fn, pf, said, by_place, counted)
                     t.goals = goals
                     typ2 = t.body(sig[sig.index("→") + 1:].strip(), var, pl)
                     bod = t.body(mc.group(3), mc.group(1), pl)
@@ -637,6 +687,8 @@ def turn_file(crate, path, pf, fn, cycle=None):
             elif re.search(r"\b(tie|lts|reads)\.", "\n".join(dcl)):
                 said("cites tie: " + name)
             helpers.append("\n".join(coms + dcl))
+    if not write:
+        return
     folder = os.path.dirname(pf)
     hd = "\n".join(head)
     if inv:
@@ -660,6 +712,8 @@ def turn_file(crate, path, pf, fn, cycle=None):
             f.write((hd + "\n" if hd else "") + "\n".join(uses + ["use %sGiven as goal" % own]) + "\n\n" + "\n\n".join(hs2 + inv) + "\n")
         if pubs:
             uses.append("use %sInvariants.{%s}" % (own, ", ".join(pubs)))
+    if any("(ap not " in x for x in ans):
+        uses = with_name(with_name(uses, "mathlib.Core.Path", "ap"), "mathlib.Core.Bool", "not")
     if ans:
         with open(os.path.join(folder, "Answers.antt"), "w", encoding="utf-8") as f:
             arms = sorted(set(goals))

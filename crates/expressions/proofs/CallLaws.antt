@@ -244,13 +244,12 @@ module _ (tree text s : List ℕ) (K : Keyed tree text s) (c : Call) (h : Called
         so_far = so;
       }
 
-      pub first_one : (new : Candidates) → OneOf (0 ∷ 2 ∷ []) (tag_of the_type found) → b ≡ true → new ≡ Candidates.One k → NameWalk tree text s c u new
+      pub first_one : (new : Candidates) → ((x : ℕ) → found ≡ Candidates.One x → ⊥) → b ≡ true → new ≡ Candidates.One k → NameWalk tree text s c u new
       first_one new o t n = walks new (go found w.so_far o)
         where
-          go : (found : Candidates) → SoFar tree text every (before v) found → OneOf (0 ∷ 2 ∷ []) (tag_of the_type found) → SoFar tree text every (before u) new
+          go : (found : Candidates) → SoFar tree text every (before v) found → ((x : ℕ) → found ≡ Candidates.One x → ⊥) → SoFar tree text every (before u) new
           go found (nobody_yet q) o = rw n (one_yet name-function (q ∙ this b e t ∙ ap (λ (x : List Function). x ++ (function_of tree text k ∷ [])) next))
-          go found (one_yet a q) (inl o) = absurd (let y : ◌≡◌ {A = ℕ} 1 0 = o in omega arith)
-          go found (one_yet a q) (inr o) = absurd (let y : ◌≡◌ {A = ℕ} 1 2 = o in omega arith)
+          go found (one_yet a q) o = absurd (o _ refl)
 
       pub passed-one : (new : Candidates) → b ≡ false → new ≡ found → NameWalk tree text s c u new
       passed-one new t n = walks new (rw n (go found w.so_far))

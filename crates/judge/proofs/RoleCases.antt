@@ -1,33 +1,19 @@
 -- The last arm of a match on roles: its keys leave out the roles of the arms before it; and what an unused role is. By the cases of the role. Assumes nothing.
 use mathlib.Core.Path.{◌≡◌, refl, sym, ◌∙◌}
 use Prim.Native.Nat.{ℕ}
-use mathlib.Core.Bool.{Bool, true, false, ◌||◌, ◌&&◌, or-true, false≢true}
-use mathlib.Core.Logic.{inl, inr}
+use mathlib.Core.Bool.{Bool, true, false, ◌&&◌, false≢true}
+
 use mathlib.Core.List.{List, [], ◌∷◌}
 use lib.Dec.{eqb}
-use borrow.Author.Tests.{eq-eqb}
+
 use Rattle.laws.proofs.Tests.{and_left, and_right}
-use types.Run.{OneOf}
-use denote.Enum.Declared.{tag_of}
+
 use Rattle.records.specs.declared.shape.Role.{Role}
 use Rattle.records.specs.declared.shape.Role.TheVariants.{Unused, Number, Text, Length, Expr, TypeRef, TypeOrNone, Name, Variable, Arguments, Parameters, Body, Item, Rest}
-use Rattle.records.specs.contracts.shape.Role.{the_type}
+
 use Rattle.records.specs.Shapes.{refers}
 use Rattle.records.specs.Rules.{word_ok}
 use Rattle.judge.specs.Inner.{is_unused}
-
-is_key : ℕ → List ℕ → ℕ → Bool
-is_key k [] x = eqb x k
-is_key k (j ∷ ks) x = eqb x k || is_key j ks x
-
-key : (k : ℕ) (ks : List ℕ) (x : ℕ) → OneOf (k ∷ ks) x → is_key k ks x ≡ true
-unfolding is_key
-key k [] x e = eq-eqb x k e
-key k (j ∷ ks) x (inl e) = rw (eq-eqb x k e) refl
-key k (j ∷ ks) x (inr t) = rw (key j ks x t) (or-true (eqb x k))
-
-abbrev others : List ℕ
-others = 3 ∷ 4 ∷ 5 ∷ 6 ∷ 7 ∷ 8 ∷ 9 ∷ 10 ∷ 11 ∷ 12 ∷ 13 ∷ []
 
 -- a role that refers to nothing, and is neither Unused nor Text
 pub plain_other : (tree : List ℕ) (bytes r : ℕ) (role : Role) (w next : ℕ) → (role ≡ Unused → ⊥) → (role ≡ Text → ⊥) → refers role ≡ false → true ≡ word_ok tree bytes r role w next

@@ -1,0 +1,31 @@
+-- What is counted and what is left make the whole, cell by cell.
+-- The laws of cells, and a number that falls with each. Assumes nothing.
+use mathlib.Core.Path.{◌≡◌}
+use mathlib.Core.List.{List}
+use Prim.Native.Nat.{ℕ, ◌+◌, ◌≤◌}
+use native.Mathlib.Omega.{arith}
+use lib.ListN.{length}
+use Rattle.records.specs.Words.{records}
+use Rattle.syntax.specs.Places.{ArgsAt}
+use Rattle.expressions.specs.Calls.{typed_at}
+use Rattle.syntax.proofs.Lists.{left, left-most, cell_below, next-list, next_falls}
+use Rattle.expressions.proofs.ArgumentLaws.{count-more, count_end}
+use Rattle.expressions.proofs.arguments.count_arguments.Goals as goal
+
+pub loop-cell-init : goal.loop-cell-init
+loop-cell-init c = (c.requires.args_at, omega (arith, left-most _ _ c.requires.good _ _ c.requires.args_at), λ s. omega arith)
+
+pub overflow_add-n : goal.overflow_add-n
+overflow_add-n c = omega (arith, c.loop-cell.invariant.1, c.requires.good.few)
+
+pub next_cell-cell-requires : goal.next_cell-cell-requires
+next_cell-cell-requires c = cell_below _ _ c.requires.good _ _ c.loop-cell.invariant.0 c.loop-cell-test.true
+
+pub loop-cell-smaller : goal.loop-cell-smaller
+loop-cell-smaller c = next_falls _ _ c.requires.good _ _ _ c.loop-cell.invariant.0 c.loop-cell-test.true c.next_cell-cell.ensures
+
+pub loop-cell-preserved : goal.loop-cell-preserved
+loop-cell-preserved c = (next-list _ _ c.requires.good _ _ _ c.loop-cell.invariant.0 c.loop-cell-test.true c.next_cell-cell.ensures, omega (arith, c.loop-cell.invariant.1, next_falls _ _ c.requires.good _ _ _ c.loop-cell.invariant.0 c.loop-cell-test.true c.next_cell-cell.ensures), λ s. count-more _ _ c.requires.good s _ _ _ _ c.loop-cell.invariant.0 c.loop-cell-test.true c.next_cell-cell.ensures (c.loop-cell.invariant.2 s))
+
+pub returns : goal.returns
+returns c = λ s. count_end _ _ c.requires.good s _ _ _ c.loop-cell-test.false (c.loop-cell.invariant.2 s)

@@ -1,0 +1,19 @@
+-- What is counted and what is left make the whole, cell by cell.
+-- The laws of cells, and a number that falls with each. Assumes nothing.
+use mathlib.Core.Path.{◌≡◌}
+use mathlib.Core.List.{List}
+use Prim.Native.Nat.{ℕ, ◌+◌, ◌≤◌}
+use native.Mathlib.Omega.{arith}
+use lib.ListN.{length}
+use Rattle.records.specs.Words.{records}
+use Rattle.syntax.specs.Places.{ArgsAt}
+use Rattle.expressions.specs.Calls.{typed_at}
+use Rattle.syntax.proofs.Lists.{left, left-most, cell_below, next-list, next_falls}
+use Rattle.expressions.proofs.ArgumentLaws.{count-more, count_end}
+use Rattle.expressions.proofs.arguments.count_arguments.Given as goal
+
+abbrev pub invariant-loop-cell : goal.invariant-loop-cell
+invariant-loop-cell l = ArgsAt l.tree l.cell × (l.n + left l.cell ≤ records l.tree) × ((s : List ℕ) → length (typed_at l.tree l.text s l.first) ≡ l.n + length (typed_at l.tree l.text s l.cell))
+
+abbrev pub decreases-loop-cell : goal.decreases-loop-cell
+decreases-loop-cell l = left l.cell

@@ -1,0 +1,17 @@
+-- The function of the exact key, or the only one that literals fit.
+-- Each answer is a case of the definition. Assumes nothing.
+use Rattle.expressions.proofs.CallLaws.{exact_one, choice_one, choice_nobody, choice_several}
+use borrow.Author.Rules.{rules}
+use Rattle.expressions.proofs.calls.resolve_function.Goals as goal
+
+pub returns-in-At : goal.returns-in-At
+returns-in-At c = exact_one _ _ _ _ _ _ c.find_exact_function.ensures.is c.find_exact_function.ensures.function _ c.in-At.is
+
+pub returns-in-One : goal.returns-in-One
+returns-in-One c = choice_one _ _ _ _ _ _ c.find_exact_function.ensures.is c.in_default.is _ c.find_functions_by_literals.ensures.are c.find_functions_by_literals.ensures.function _ c.in-One.is
+
+pub returns-in-Nobody : goal.returns-in-Nobody
+returns-in-Nobody c = choice_nobody _ _ _ _ _ _ c.find_exact_function.ensures.is c.in_default.is _ c.find_functions_by_literals.ensures.are c.in-Nobody.is _ c.refuse_call.ensures
+
+pub returns-in-Several : goal.returns-in-Several
+returns-in-Several c = choice_several _ _ _ _ _ _ c.find_exact_function.ensures.is c.in_default.is _ c.find_functions_by_literals.ensures.are c.in-Several.is _ c.refuse_call-in-Several.ensures

@@ -1,0 +1,55 @@
+-- The function whose key is a prefix with `$...`, where it is mangled: the chain of its digest is walked. The invariant: no function met so far has it as its key.
+-- By the laws of a walk along a chain of keys; the measure is the place. Assumes nothing.
+use mathlib.Core.List.{◌++◌}
+use native.Mathlib.Omega.{arith}
+use Rattle.conversion.specs.Expressions.{variadic_mark}
+use Rattle.keys.proofs.FoundLaws.{KeyWalk, key_start, key_end, key_function, hit_is, key_skip, key_next, key_less, key_here}
+use Rattle.expressions.specs.Calls.{name_of}
+use Rattle.expressions.proofs.ExactLaws.{verb-below, key_told, name-found, name_nowhere}
+use Rattle.expressions.proofs.exact.by_marked.Goals.{else-kept_digest-digest, then-kept_digest-digest+else-is_marked}
+use Rattle.expressions.proofs.exact.by_marked.Goals as goal
+
+pub key_head-at-requires : goal.key_head-at-requires
+key_head-at-requires c = let start = c in
+    (omega (arith, verb-below _ _ _ _ c.requires.called), c.requires.keyed.good.few, c.requires.keyed.listed.room)
+
+pub loop-at-init : goal.loop-at-init
+loop-at-init c = let start = c in
+    key_start _ _ _ c.requires.keyed _ _ c.requires.k_le_count.2 _ (omega (arith, verb-below _ _ _ _ c.requires.called)) c.key_head-at.ensures
+
+pub kept_digest-requires : goal.kept_digest-requires
+kept_digest-requires c = omega (arith, c.loop-at.invariant.within, c.loop-at-test.true, c.requires.keyed.listed.room)
+
+pub key_of-key-requires : goal.key_of-key-requires
+key_of-key-requires c = record { good = c.requires.keyed.good; function_at = key_function _ _ _ c.requires.keyed _ _ c.requires.k_le_count.2 _ _ c.loop-at.invariant (omega (arith, c.loop-at-test.true)) }
+
+pub is_marked-requires : goal.is_marked-requires
+is_marked-requires c = let start = c in
+    record { called = c.requires.called; k_le_count = (c.requires.k_le_count.0, c.requires.k_le_count.1, c.key_of-key.ensures.inside) }
+
+pub mangled_only-requires : goal.mangled_only-requires
+mangled_only-requires c = record { good = c.requires.keyed.good; function_at = key_function _ _ _ c.requires.keyed _ _ c.requires.k_le_count.2 _ _ c.loop-at.invariant (omega (arith, c.loop-at-test.true)) }
+
+pub returns-then-is_marked : goal.returns-then-is_marked
+returns-then-is_marked c = let same = key_told _ _ _ _ _ c.key_of-key.ensures _ _ c.is_marked.ensures c.if-is_marked.true in
+    name-found _ _ _ _ _
+    (key_here _ _ _ c.requires.keyed _ _ c.requires.k_le_count.2 _ _ c.loop-at.invariant (omega (arith, c.loop-at-test.true)) same)
+    c.mangled_only.ensures
+
+pub key_before-at-requires : goal.key_before-at-requires
+key_before-at-requires c = omega (arith, c.loop-at.invariant.within, c.loop-at-test.true, c.requires.keyed.listed.room)
+
+pub loop-at-smaller : goal.loop-at-smaller
+loop-at-smaller c = key_less _ _ _ c.requires.keyed _ _ c.requires.k_le_count.2 _ _ c.loop-at.invariant (omega (arith, c.loop-at-test.true)) _ c.key_before-at.ensures
+
+pub loop-at-preserved : goal.loop-at-preserved
+loop-at-preserved c = let keyed = c.requires.keyed in
+    let digest = c.requires.k_le_count.2 in
+    let walked = c.loop-at.invariant in
+    let some = c.loop-at-test.true in
+    key_next _ _ _ keyed _ _ digest _ _ walked (omega (arith, some)) _
+    (elim c.if-kept_digest-digest.branch [ then-kept_digest-digest+else-is_marked w ↦ hit_is _ _ _ keyed _ _ digest _ _ walked (omega (arith, some)) _ (key_told _ _ _ _ _ w.key_of-key.ensures _ _ w.is_marked.ensures w.if-is_marked.false) | else-kept_digest-digest w ↦ key_skip _ _ _ keyed _ _ digest _ _ walked (omega (arith, some)) _ c.kept_digest.ensures w.if-kept_digest-digest.false ])
+    c.key_before-at.ensures
+
+pub returns : goal.returns
+returns c = name_nowhere _ _ _ (key_end _ _ _ c.requires.keyed _ _ c.requires.k_le_count.2 _ c.loop-at-test.false c.loop-at.invariant)

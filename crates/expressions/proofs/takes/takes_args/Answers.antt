@@ -1,0 +1,40 @@
+-- Whether what was asked takes all is whether what is left does, a parameter and an argument at a time.
+-- The laws of the first of both lists, and a number that falls with each parameter. Assumes nothing.
+use mathlib.Core.Bool.{not}
+use mathlib.Core.Path.{◌≡◌, refl, ap}
+use Rattle.syntax.specs.Decode.{program}
+use Rattle.conversion.specs.Expressions.{takes_args}
+use Rattle.syntax.specs.Places.{ArgsAt, ParamsAt, args_at, params_at}
+use Rattle.keys.specs.Keys.{all_keys}
+use Rattle.expressions.specs.Slots.{ArgsTyped}
+use Rattle.expressions.specs.Calls.{typed_at}
+use Rattle.syntax.proofs.Lists.{left, cell_below, next-list, next_falls}
+use Rattle.expressions.proofs.TakeLaws.{all-no, all_more, arguments_end, params_end_all, next-args-typed}
+use Rattle.expressions.proofs.takes.takes_args.Goals as goal
+
+pub loop-parameter-init : goal.loop-parameter-init
+loop-parameter-init c = (c.requires.params_at, c.requires.argued.cells, c.requires.argued.typed, refl)
+
+pub returns-then-cell-eq-END : goal.returns-then-cell-eq-END
+returns-then-cell-eq-END c = arguments_end _ _ _ _ c.requires.argued.good _ _ c.loop-parameter.invariant.3 c.if-cell-eq-END.true
+
+pub takes_arg-requires : goal.takes_arg-requires
+takes_arg-requires c = record { argued = record { good = c.requires.argued.good; room = c.requires.argued.room; cells = c.loop-parameter.invariant.1; typed = c.loop-parameter.invariant.2 }; params_at = c.loop-parameter.invariant.0; fact = (c.if-cell-eq-END.false, c.loop-parameter-test.true) }
+
+pub returns-then-not-takes_arg : goal.returns-then-not-takes_arg
+returns-then-not-takes_arg c = all-no _ _ _ _ _ _ _ c.loop-parameter.invariant.3 c.takes_arg.ensures (ap not c.if-not-takes_arg.true)
+
+pub next_cell-parameter-requires : goal.next_cell-parameter-requires
+next_cell-parameter-requires c = cell_below _ _ c.requires.argued.good _ _ c.loop-parameter.invariant.0 c.loop-parameter-test.true
+
+pub next_cell-cell-requires : goal.next_cell-cell-requires
+next_cell-cell-requires c = cell_below _ _ c.requires.argued.good _ _ c.loop-parameter.invariant.1 c.if-cell-eq-END.false
+
+pub loop-parameter-smaller : goal.loop-parameter-smaller
+loop-parameter-smaller c = next_falls _ _ c.requires.argued.good _ _ _ c.loop-parameter.invariant.0 c.loop-parameter-test.true c.next_cell-parameter.ensures
+
+pub loop-parameter-preserved : goal.loop-parameter-preserved
+loop-parameter-preserved c = (next-list _ _ c.requires.argued.good _ _ _ c.loop-parameter.invariant.0 c.loop-parameter-test.true c.next_cell-parameter.ensures, next-list _ _ c.requires.argued.good _ _ _ c.loop-parameter.invariant.1 c.if-cell-eq-END.false c.next_cell-cell.ensures, next-args-typed _ _ _ c.requires.argued.good _ _ c.loop-parameter.invariant.1 c.if-cell-eq-END.false c.next_cell-cell.ensures c.loop-parameter.invariant.2, all_more _ _ _ _ c.requires.argued.good _ _ _ _ c.loop-parameter.invariant.0 c.loop-parameter-test.true c.loop-parameter.invariant.1 c.if-cell-eq-END.false c.next_cell-parameter.ensures c.next_cell-cell.ensures _ c.loop-parameter.invariant.3 c.takes_arg.ensures (ap not c.if-not-takes_arg.false))
+
+pub returns : goal.returns
+returns c = params_end_all _ _ _ c.requires.argued.good _ _ c.loop-parameter.invariant.3 c.loop-parameter-test.false
