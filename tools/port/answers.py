@@ -131,6 +131,8 @@ class Turn:
         fn = self.fn
         pl = self.goal_place
         lab = rest[0]
+        if norm(lab) == "pre":
+            lab, rest = "requires", ["requires"] + (["1"] if self.cyclic and len(rest) > 1 and rest[1] != "0" else []) + rest[1:]
         if norm(lab) in START:
             if norm(lab) != "requires":
                 return rest
@@ -305,6 +307,10 @@ class Turn:
                                 if norm(oldlab) == norm(self.fn.place[q][2][0]) and [norm(x) for x in more[:len(oldpath)]] == [norm(x) for x in oldpath] and (oldpath or not more):
                                     return "%s.%s.%s" % (w, arm[0], ".".join([newfield] + more[len(oldpath):]))
                         new = self.fn.place[q][2][1]
+                        cl = self.fn.clause.get(q)
+                        if cl and rest.startswith(".ensures."):
+                            got = self.by_fields([new, "ensures"], cl["fields"], rest.split(".")[2:])
+                            return w + "." + ".".join(got) if isinstance(got, list) else got.replace("c.", w + ".")
                         rest = {".taken": ".true", ".left": ".false"}.get(rest, rest)
                         return w + "." + new + rest
                     return "%s.VAR%d-is%s" % (w, k - len(steps), rest)

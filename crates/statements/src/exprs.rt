@@ -5,7 +5,6 @@ ghost use Rattle.records.specs.Words as Words;
 ghost use Rattle.records.specs.Words.{word_of};
 ghost use Rattle.records.specs.Kinds.{kind_unary, kind_binary, kind_call};
 ghost use Rattle.syntax.specs.Places.{IsExpr, IsKind, TypeAt};
-
 ghost use Rattle.statements.specs.Converting.{Converting, ExprAfforded, ArgsAfforded};
 ghost use Rattle.statements.specs.Lent.{at, converted, converted_args};
 ghost use Rattle.statements.specs.Answers.{givens, given, expr_steps, unary_steps, logic_steps, other_steps, binary_steps, call_steps, args_steps, ConvertsAs, CallArgsAs};
@@ -14,7 +13,7 @@ ghost use Rattle.statements.specs.Turns.{InTurn, expr_types, unary_types, sides_
 use crate::answers::{Converted, ConvertedArgs, Converter};
 use crate::operands::{operand, push_operand};
 use crate::parts::{
-    begin_logic, end_logic, finish_binary, finish_call, finish_unary, join_logic, operand_type_lem,
+    begin_logic, end_logic, finish_binary, finish_call, finish_unary, join_logic, operand_type,
 };
 use expressions::answers::{ExprType, Resolved};
 use expressions::arguments::{Argument, END, argument_at, next_cell};
@@ -102,7 +101,7 @@ fn convert_binary(
     ensures converts_as { ConvertsAs (given binary_steps y) (at c k.old) e tree.now text.now arena.old scratch.old (converted k.new result) arena.new scratch.new }
     ensures types { ConvertsTyped binary_types (at c k.old) e tree.now text.now scratch.old (converted k.new result) scratch.new }
 {
-    match operand_type_lem(tree, text, scratch, c, e, y) {
+    match operand_type(tree, text, scratch, c, e, y) {
         ExprType::Refused(x) => Converted::Refused(x),
         ExprType::Is(q) => {
             if detail(tree, e) <= AND {

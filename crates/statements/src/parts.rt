@@ -110,7 +110,7 @@ pub(crate) fn end_logic(
 }
 
 // The type that both sides of the Binary e are fitted to; where they have none in common, its own type y.
-pub(crate) fn operand_type_lem(
+pub(crate) fn operand_type(
     tree: &[u8],
     text: &[u8],
     scratch: &mut [u8],

@@ -1,0 +1,27 @@
+-- The functions' records stand in scratch. The invariant: those of the records passed are listed, and counted. The measure is what is left.
+-- The laws of the list, one record at a time. Assumes nothing.
+use mathlib.Core.Path.{refl, sym, ◌∙◌}
+use Prim.Native.Nat.{◌-◌}
+use native.Mathlib.Omega.{arith}
+use Rattle.functions.proofs.Listing.{Listing, listing_start, listing_skip, listing_put, listing_end}
+use Rattle.functions.proofs.functions.list_functions.Goals.{else-kind-eq-KIND_FUNCTION, then-kind-eq-KIND_FUNCTION}
+use Rattle.functions.proofs.functions.list_functions.Goals as goal
+
+pub loop-r-init : goal.loop-r-init
+loop-r-init c = listing_start _ _ _ refl
+
+pub loop-r-preserved : goal.loop-r-preserved
+loop-r-preserved c = let loop = c in
+    let first = c in
+    elim c.if-kind-eq-KIND_FUNCTION.branch [
+      | then-kind-eq-KIND_FUNCTION w ↦ rw w.VAR1-is
+          (listing_put _ _ _ _ _ _ c.loop-r.invariant c.loop-r-test.true c.requires.tree_in_bounds _ (w.VAR0-is ∙ w.put_word.ensures) (sym c.kind.ensures ∙ w.if-kind-eq-KIND_FUNCTION.true))
+      | else-kind-eq-KIND_FUNCTION w ↦ rw (w.VAR0-is, w.VAR1-is)
+          (listing_skip _ _ _ _ _ _ c.loop-r.invariant c.loop-r-test.true (λ e. w.if-kind-eq-KIND_FUNCTION.false (c.kind.ensures ∙ e)))
+    ]
+
+pub shape_of-scratch : goal.shape_of-scratch
+shape_of-scratch c = c.loop-r.invariant.same
+
+pub returns : goal.returns
+returns c = listing_end _ _ _ _ _ _ c.loop-r.invariant c.loop-r-test.false

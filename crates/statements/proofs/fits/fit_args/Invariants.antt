@@ -1,0 +1,20 @@
+-- Each value is fitted to its parameter, in place: what is left owes what the whole owes, and the rest has room.
+-- By one turn, and the end. Assumes nothing.
+use lib.ListN.{length}
+use Rattle.ir.specs.Counted.{counted}
+use Rattle.statements.specs.Lent.{fitted}
+use Rattle.statements.proofs.StayLaws.{names_of}
+use mathlib.Core.Path.{◌≡◌, refl, sym, ap}
+use Prim.Native.Nat.{◌-◌}
+use native.Mathlib.Omega.{arith}
+use Rattle.records.specs.Words.{word_of, C}
+use Rattle.syntax.specs.Places.{args_at, function_of}
+use Rattle.expressions.proofs.OperandLaws.{first-type}
+use Rattle.statements.proofs.FitTurns.{first-cells, FitLeft, fit_start, operand_in, fit-turn, fit_end}
+use Rattle.statements.proofs.fits.fit_args.Given as goal
+
+abbrev pub invariant-loop-j : goal.invariant-loop-j
+invariant-loop-j l = FitLeft l.tree l.text l.initial.scratch (args_at l.tree l.text (word_of l.tree l.e C)) (function_of l.tree l.text l.f) l.first l.count (counted l.initial.k) l.initial.arena l.j (counted l.k) l.arena l.scratch l.argument l.parameter × (length l.k ≡ length l.initial.k)
+
+abbrev pub decreases-loop-j : goal.decreases-loop-j
+decreases-loop-j l = l.count - l.j

@@ -1,0 +1,39 @@
+-- The While before its body.
+-- A label, the condition and then a jump. Assumes nothing.
+use native.Mathlib.Omega.{arith}
+use mathlib.Core.Path.{ap}
+use Rattle.statements.specs.Turns.{value_types}
+use Rattle.statements.proofs.HeadLaws.{while_cond_requires, while_jump_requires, while_refused, while_done, refused-finished, operand-typed}
+use Rattle.statements.specs.Lent.{at, converted}
+use borrow.Author.Rules.{rules}
+use Rattle.statements.proofs.loops.while_head.Goals as goal
+
+pub convert_cond-requires : goal.convert_cond-requires
+convert_cond-requires c = let h = while_cond_requires _ c.requires.converting.0 c.requires.converting.1 c.reference-e.ensures c.place_label.ensures c.requires.kind in record { converting = h.0; expr = h.1; in_turn = c.requires.in_turn }
+
+pub jump_if_not-requires : goal.jump_if_not-requires
+jump_if_not-requires c = while_jump_requires _ c.requires.converting.0 c.requires.converting.1 c.reference-e.ensures c.place_label.ensures c.convert_cond.ensures.converts_as c.requires.kind (ap (converted _) c.in-Is.is)
+
+pub shape_of-arena-in-Refused : goal.shape_of-arena-in-Refused
+shape_of-arena-in-Refused c = omega (arith, c.arena-1.given, c.arena-2-1.given)
+
+pub shape_of-scratch-in-Refused : goal.shape_of-scratch-in-Refused
+shape_of-scratch-in-Refused c = omega (arith, c.scratch-1.given)
+
+pub shape_of-k-in-Refused : goal.shape_of-k-in-Refused
+shape_of-k-in-Refused c = omega (arith, c.k-1.given, c.k-2-1.given)
+
+pub returns-in-Refused : goal.returns-in-Refused
+returns-in-Refused c = record { head_as = while_refused _ c.reference-e.ensures c.place_label.ensures c.convert_cond.ensures.converts_as (ap (converted _) c.in-Refused.is); types = refused-finished }
+
+pub shape_of-arena-in-Is : goal.shape_of-arena-in-Is
+shape_of-arena-in-Is c = omega (arith, c.arena-1.given, c.arena-2-1.given, c.arena-in-Is-1.given)
+
+pub shape_of-scratch-in-Is : goal.shape_of-scratch-in-Is
+shape_of-scratch-in-Is c = omega (arith, c.scratch-1.given)
+
+pub shape_of-k-in-Is : goal.shape_of-k-in-Is
+shape_of-k-in-Is c = omega (arith, c.k-1.given, c.k-2-1.given, c.k-in-Is-1.given)
+
+pub returns-in-Is : goal.returns-in-Is
+returns-in-Is c = record { head_as = while_done _ c.reference-e.ensures c.place_label.ensures c.convert_cond.ensures.converts_as (ap (converted _) c.in-Is.is) c.jump_if_not.ensures; types = operand-typed value_types (at c.args.c c.args.k.now) c.reference-e.ensures c.convert_cond.ensures.types (ap (converted _) c.in-Is.is) }

@@ -1,0 +1,20 @@
+-- The variable of an And or Or, and its two labels.
+-- Three steps in a row. Assumes nothing.
+use Rattle.statements.proofs.AroundLaws.{begin_adds}
+use native.Mathlib.Omega.{arith}
+use borrow.Author.Rules.{rules}
+use Rattle.statements.proofs.parts.begin_logic.Goals as goal
+
+pub label_id-requires-2 : goal.label_id-requires-2
+label_id-requires-2 c = let p = c.label_id.ensures in
+    let v = c.new_var-dest.ensures in
+    (p.next.room, omega (arith, c.requires.0.affords, v.spent, p.spent), omega (arith, c.requires.1, v.spent, p.spent))
+
+pub shape_of-arena : goal.shape_of-arena
+shape_of-arena c = omega (arith, c.arena-3-1.given, c.arena-2-1.given, c.arena-1.given)
+
+pub shape_of-k : goal.shape_of-k
+shape_of-k c = omega (arith, c.k-3-1.given, c.k-2-1.given, c.k-1.given)
+
+pub returns : goal.returns
+returns c = record { adds = begin_adds (omega arith) c.new_var-dest.ensures (omega arith) c.label_id.ensures (omega arith) c.label_id-2.ensures; typed = c.new_var-dest.ensures.typed }
