@@ -14,9 +14,9 @@ pub loop-r-preserved : goal.loop-r-preserved
 loop-r-preserved c = let loop = c in
     let first = c in
     elim c.if-kind-eq-KIND_FUNCTION.branch [
-      | then-kind-eq-KIND_FUNCTION w ↦ rw w.VAR1-is
-          (listing_put _ _ _ _ _ _ c.loop-r.invariant c.loop-r-test.true c.requires.tree_in_bounds _ (w.VAR0-is ∙ w.put_word.ensures) (sym c.kind.ensures ∙ w.if-kind-eq-KIND_FUNCTION.true))
-      | else-kind-eq-KIND_FUNCTION w ↦ rw (w.VAR0-is, w.VAR1-is)
+      | then-kind-eq-KIND_FUNCTION w ↦ rw w.count-is
+          (listing_put _ _ _ _ _ _ c.loop-r.invariant c.loop-r-test.true c.requires.tree_in_bounds _ (w.scratch-is ∙ w.put_word.ensures) (sym c.kind.ensures ∙ w.if-kind-eq-KIND_FUNCTION.true))
+      | else-kind-eq-KIND_FUNCTION w ↦ rw (w.scratch-is, w.count-is)
           (listing_skip _ _ _ _ _ _ c.loop-r.invariant c.loop-r-test.true (λ e. w.if-kind-eq-KIND_FUNCTION.false (c.kind.ensures ∙ e)))
     ]
 
